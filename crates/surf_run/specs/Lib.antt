@@ -1,2 +1,4 @@
 pub mod Asks
+pub mod Kept
+pub mod Puts
 pub mod Spoken

@@ -3,3 +3,4 @@
 
 mod lines;
 mod reply;
+mod store;

@@ -5,8 +5,8 @@ ghost use Rattle.surf_run.specs.Spoken.{spoken, IsShort};
 
 use crate::lines::VALUE_BYTES;
 
-/// The longest reply, in bytes: `val `, two digits for each byte of a value, and the newline.
-pub const REPLY_BYTES: usize = 4 + 2 * VALUE_BYTES + 1;
+/// Room for each reply, in bytes: `val `, a dash or two digits for each byte of a value, and the newline.
+pub const REPLY_BYTES: usize = 4 + 1 + 2 * VALUE_BYTES + 1;
 
 /// What a line is answered.
 #[derive(Clone, Copy)]
@@ -21,7 +21,7 @@ pub enum Reply<'a> {
 }
 
 // Puts a text behind what stands in the buffer, and answers where it ends.
-fn put_text(into: &mut [u8], at: usize, text: &[u8]) -> usize
+pub fn put_text(into: &mut [u8], at: usize, text: &[u8]) -> usize
     requires { at + length text.now ≤ length into.old }
     ensures end { result ≡ at + length text.now }
     ensures text { take result into.new ≡ take at into.old ++ text.now }
@@ -58,10 +58,10 @@ fn put_hex(into: &mut [u8], at: usize, bytes: &[u8]) -> usize
 
 // Writes a reply's words, and answers how many bytes they are.
 fn put_words(into: &mut [u8], reply: Reply<'_>) -> usize
-    requires room { length into.old ≡ 131077 }
+    requires room { length into.old ≡ 131078 }
     requires short { IsShort reply }
     ensures end { result + 1 ≤ length into.old }
-    ensures text { take result into.new ≡ words_of (spoken reply) }
+    ensures text { take result into.new ≡ words_of (spoken reply.entry) }
 {
     match reply {
         Reply::Done => put_text(into, 0, b"ok"),
@@ -81,7 +81,7 @@ fn put_words(into: &mut [u8], reply: Reply<'_>) -> usize
 }
 
 fn put_full(into: &mut [u8], need: u64, gap: u64) -> usize
-    requires { length into.old ≡ 131077 }
+    requires { length into.old ≡ 131078 }
     ensures end { result + 1 ≤ length into.old }
     ensures text { take result into.new ≡ codes "full need " ++ (decimal need ++ (codes " gap " ++ decimal gap)) }
 {
@@ -93,10 +93,10 @@ fn put_full(into: &mut [u8], need: u64, gap: u64) -> usize
 
 /// Writes a reply with its newline, and answers how many bytes it is.
 pub fn put_reply(into: &mut [u8], reply: Reply<'_>) -> usize
-    requires room { length into.old ≡ 131077 }
+    requires room { length into.old ≡ 131078 }
     requires short { IsShort reply }
     ensures end { result ≤ length into.old }
-    ensures text { take result into.new ≡ text_of (spoken reply) }
+    ensures text { take result into.new ≡ text_of (spoken reply.entry) }
 {
     let at = put_words(into, reply);
     put_text(into, at, b"\n")
