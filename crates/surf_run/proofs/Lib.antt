@@ -1,3 +1,6 @@
+pub mod Causes
 pub mod Cuts
 pub mod Decoding
 pub mod Keeping
+pub mod Run
+pub mod Steps

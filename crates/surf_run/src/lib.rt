@@ -2,5 +2,7 @@
 #![tactic(auto)]
 
 mod lines;
+mod pending;
 mod reply;
+mod serve;
 mod store;

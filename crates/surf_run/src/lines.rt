@@ -1,7 +1,8 @@
 // Lines, read word by word.
-ghost use Rattle.std.specs.Prelude.{◌≡◌, ◌≤◌, ◌*◌, ◌==◌, ◌∷◌, Some, IfSome, IfNone, MatchOption, length, take, option_map, None};
+ghost use Rattle.std.specs.Prelude.{◌≡◌, ◌≤◌, ◌*◌, ◌==◌, ◌++◌, ◌∷◌, Some, IfSome, IfNone, MatchOption, length, take, option_map, None};
 ghost use Rattle.std.specs.List.{slice_split};
 ghost use Rattle.store_model.specs.Lines.{command_of, key_of, value_of, get_of, put_of, sized};
+ghost use Rattle.surf_run.specs.Holding.{NoNewline};
 ghost use Rattle.surf_run.specs.Asks.{Asks, AreWords, words_after};
 ghost use Rattle.hex.specs.Hex.{decode_of};
 
@@ -26,6 +27,17 @@ pub enum Line<'a> {
     Get { key: &'a [u8] },
     Quit,
     Bad,
+}
+
+/// The first line of a text, without its newline, and what stands behind it; `None` where the text has no newline.
+pub fn next_line(text: &[u8]) -> Option<(&[u8], &[u8])>
+    ensures found { IfSome result (λ cut. (text.now ≡ cut.0.now ++ 10 ∷ cut.1.now) × NoNewline cut.0.now) }
+    ensures none { IfNone result (NoNewline text.now) }
+{
+    match memchr(b'\n', text) {
+        Some(at) => Some((&text[..at], &text[at + 1..])),
+        None => None,
+    }
 }
 
 // The first word, and what stands behind the space after it.
@@ -94,7 +106,11 @@ fn parse_value<'a>(value: &[u8], room: &'a mut [u8]) -> Option<&'a [u8]>
     requires { length room.old ≡ 65536 }
     ensures { option_map (λ bytes. bytes.now) result ≡ value_of value.now }
 {
-    if value == b"-".as_slice() { Some(&[]) } else { decoded(value, room) }
+    if value == b"-".as_slice() {
+        Some(&[])
+    } else {
+        decoded(value, room)
+    }
 }
 
 fn parse_put<'a>(key: &[u8], value: &[u8], room: &'a mut [u8]) -> Line<'a>

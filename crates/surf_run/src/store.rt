@@ -41,8 +41,11 @@ impl Model for Store {
     ghost use Rattle.std.specs.Prelude.{List, vec_len};
     ghost use Rattle.store_model.specs.Entries.{Entry};
     ghost use Rattle.surf_run.specs.Kept.{entries_of, IsSound};
+
     ghost Value = { List Entry };
+
     ghost view = { λ s. entries_of s.kept.items };
+
     ghost invariant = { λ s. IsSound s.kept.items s.gate (vec_len s.buffer) };
 }
 
@@ -128,7 +131,12 @@ impl Store {
         ensures { IfOk result (λ s. s ≡ []) }
     {
         let buffer = vec![in alloc; 0; RECORD_BYTES]?;
-        Ok(Store { alloc, kept: Vec::new(alloc), gate: 0, buffer })
+        Ok(Store {
+            alloc,
+            kept: Vec::new(alloc),
+            gate: 0,
+            buffer,
+        })
     }
 
     /// Puts a value: its memory is taken first, then its record is written, and then it stands in memory.
@@ -142,7 +150,10 @@ impl Store {
         ensures refused { IfErr result (RefusedFor self.old (put_entry key.now value.now) (D.world disk.old) (D.world disk.new)) }
         ensures moves { WriteMoves 262144 262144 (D.world disk.old) (D.world disk.new) }
     {
-        let kept = Kept { key: Vec::from_slice(self.alloc, key)?, value: Vec::from_slice(self.alloc, value)? };
+        let kept = Kept {
+            key: Vec::from_slice(self.alloc, key)?,
+            value: Vec::from_slice(self.alloc, value)?,
+        };
         self.kept.reserve(1)?;
         let length = put_record(&mut self.buffer, key, value);
         let need = length as u64 + 1;

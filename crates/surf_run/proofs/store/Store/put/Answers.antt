@@ -27,7 +27,7 @@ invariant_of-self-2 g c =
     short
 
 pub returns-clause-fits : goal.returns-clause-fits
-returns-clause-fits g c = 
+returns-clause-fits g c =
     let size = length_body c.args.key.now c.args.value.now in
     let room : 262144 - c.self.inside.gate ≡ gap c.args.self.now = room_is _ _ _ _ c.self.invariant (sym c.self.view_is) in
     omega (arith, size, room, c.put_record-length.ensures.end)
