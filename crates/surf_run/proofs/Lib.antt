@@ -2,5 +2,5 @@ pub mod Causes
 pub mod Cuts
 pub mod Decoding
 pub mod Keeping
-pub mod Run
+pub mod Progress
 pub mod Steps

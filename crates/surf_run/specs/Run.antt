@@ -35,3 +35,11 @@ pub record StatusCause (status : ℕ) (old new : World) : Type 0 where
 -- the one word that this program knows
 abbrev pub serve_words : List Bytes
 serve_words = codes "serve" ∷ []
+
+-- the line that wrong words get
+abbrev pub usage_text : Bytes
+usage_text = codes "usage: surfstore PATH format|serve|load" ++ 10 ∷ []
+
+-- the first gate of the log area is open
+abbrev pub GateIsOpen : World → Type 0
+GateIsOpen w = w.seen.held 262144 ≡ 1

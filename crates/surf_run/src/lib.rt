@@ -6,3 +6,6 @@ mod pending;
 mod reply;
 mod serve;
 mod store;
+mod top;
+
+pub use top::run;

@@ -22,7 +22,7 @@ use std::alloc::{AllocError, Global};
 const INPUT_BYTES: u64 = 1 << 40;
 
 /// What is taken at once, in bytes.
-const PIECE_BYTES: usize = 65_536;
+pub const PIECE_BYTES: usize = 65_536;
 
 /// How a line ends.
 #[derive(Clone, Copy, Debug, PartialEq, Eq)]
@@ -185,7 +185,7 @@ fn room_for(left: u64, most: usize) -> usize
 }
 
 // Takes the input piece by piece, and answers its lines, to its end or to the first line that ends the run.
-fn serve<W: Outside>(
+pub fn serve<W: Outside>(
     store: &mut Store,
     pending: &mut Pending,
     room: &mut [u8],

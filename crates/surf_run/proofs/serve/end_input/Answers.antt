@@ -1,6 +1,6 @@
 use Rattle.std.proofs.Common.{◌≡◌, ◌≢◌, ◌∙◌, sym, arith, length, ap}
 use Rattle.std.proofs.lemmas.Bool.{eqb-true, eqb-false}
-use Rattle.surf_run.proofs.Run.{ended_empty, ended_next, ended_quit, served_as}
+use Rattle.surf_run.proofs.Progress.{ended_empty, ended_next, ended_quit, served_as}
 use Rattle.surf_run.proofs.serve.end_input.Goals as goal
 
 pub returns-then-is_empty-clause-script : goal.returns-then-is_empty-clause-script

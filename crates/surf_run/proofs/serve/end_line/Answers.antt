@@ -1,7 +1,7 @@
 use Rattle.std.proofs.Common.{◌≡◌, ◌∙◌, ◌++◌, ap, sym, List, ℕ, [], arith, length}
 use Rattle.std.proofs.lemmas.Bool.{eqb-true}
 use Rattle.store_model.specs.Lines.{command_of}
-use Rattle.surf_run.proofs.Run.{line_end, command_held, held_none, nothing}
+use Rattle.surf_run.proofs.Progress.{line_end, command_held, held_none, nothing}
 use Rattle.surf_run.proofs.serve.end_line.Goals as goal
 
 pub returns-then-is_empty-clause-after : goal.returns-then-is_empty-clause-after

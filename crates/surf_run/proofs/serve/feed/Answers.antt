@@ -1,7 +1,7 @@
 use Rattle.std.proofs.Common.{◌≡◌, ◌∙◌, ◌++◌, ◌∷◌, [], append_assoc, ap, sym, subst, List, ℕ}
 use Rattle.surf_run.specs.Serving.{Served, After}
 use Rattle.surf_run.specs.Holding.{NoNewline}
-use Rattle.surf_run.proofs.Run.{none_here, piece_split, line_more, all_more, after_more, part_more}
+use Rattle.surf_run.proofs.Progress.{none_here, piece_split, line_more, all_more, after_more, part_more}
 use Rattle.surf_run.proofs.Causes.{cause_since, takes_on}
 use Rattle.surf_run.proofs.serve.feed.Goals as goal
 
@@ -26,8 +26,8 @@ loop-line-preserved g c = record {
         so_far.0 ++ (c.in-Some.line.now ++ 10 ∷ []),
         piece_split bytes c.args.piece.now so_far.0 _ c.in-Some.line.now c.in-Some.more.now so_far.1 found.0,
         subst (λ (l : List ℕ). Served start before l (g.W.Disk.world c.end_line.new.out).beside.said c.end_line.new.pending c.end_line.new.store)
-        (sym (line_more bytes c.args.piece.now so_far.0 _ c.in-Some.line.now c.in-Some.more.now so_far.1 found.0))
-        (c.in-Next.ensures.after start before _ tells found.1 so_far.2),
+            (sym (line_more bytes c.args.piece.now so_far.0 _ c.in-Some.line.now c.in-Some.more.now so_far.1 found.0))
+            (c.in-Next.ensures.after start before _ tells found.1 so_far.2),
       );
   moves = takes_on _ _ _ c.loop-line.invariant.moves c.end_line.ensures.moves;
 }
