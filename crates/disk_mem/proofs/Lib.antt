@@ -1,0 +1,4 @@
+pub mod Ends
+pub mod Logs
+pub mod Worlds
+pub mod Written
