@@ -1,5 +1,5 @@
 -- How causes and counts go on.
-use Rattle.std.proofs.Common.{◌≡◌, ◌∙◌, ap, inl, inr, ◌≤◌, ℕ, arith}
+use Rattle.std.proofs.Common.{◌∙◌, ap, inl, inr, ◌≤◌, ℕ, arith}
 use Rattle.disk_trait.specs.World.{World, Seen, Rose}
 use Rattle.outside.specs.Streams.{TakeMoves}
 use Rattle.surf_run.specs.Serving.{EndCause, NoFall, TakesNothing}

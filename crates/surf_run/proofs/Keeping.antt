@@ -1,12 +1,11 @@
 -- The entries in memory: the newest of a key, and where a record more ends.
-use Rattle.std.proofs.Common.{◌≡◌, ◌≢◌, ℕ, zero, suc, ◌+◌, ◌-◌, ◌<◌, ◌≤◌, List, [], ◌∷◌, ◌++◌, length, drop, get_or, refl, sym, ap, ◌∙◌, subst, arith, Bool, true, false, cond, length-append}
-use Rattle.std.specs.Prelude.{Option, Some, None, map, flat_map, bytes_eq}
+use Rattle.std.proofs.Common.{◌≡◌, ◌≢◌, ℕ, zero, suc, ◌+◌, ◌-◌, ◌<◌, ◌≤◌, List, [], ◌∷◌, ◌++◌, length, drop, get_or, refl, sym, ap, ◌∙◌, arith, Bool, true, false, cond, length-append}
+use Rattle.std.specs.Prelude.{Option, Some, None, flat_map, bytes_eq}
 use Rattle.std.proofs.lemmas.Slice.Eq.{bytes_eq-Decides}
 use Rattle.std.proofs.lemmas.List.{append-nil, drop_more, map-append}
 use Rattle.std.proofs.lemmas.List.Elements.{All-same, All-push}
 use Rattle.std.proofs.lemmas.Grind.{flat_map-append}
-use Rattle.byteorder.specs.Endian.{little_bytes}
-use Rattle.store_model.specs.Entries.{Entry, put_entry, newest, or_else, live, body, record_bytes, filled, need, gap}
+use Rattle.store_model.specs.Entries.{Entry, put_entry, newest, or_else, body, record_bytes, filled, gap}
 use Rattle.surf_run.specs.Kept.{entry_of, entries_of, IsSound}
 use Rattle.surf_run.specs.declared.store.Kept.{Kept}
 

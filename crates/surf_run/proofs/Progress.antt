@@ -1,6 +1,6 @@
 -- How a run goes on, piece by piece and line by line.
-use Rattle.std.proofs.Common.{◌≡◌, ◌≢◌, ◌⊎◌, inl, inr, ◌<◌, ◌≤◌, ◌+◌, ◌++◌, ℕ, zero, suc, List, [], ◌∷◌, length, take, drop, refl, sym, ap, ◌∙◌, subst, arith, append_assoc, length-append, true, false, Bool, cond}
-use Rattle.std.specs.Prelude.{flat_map, All, nat_le, ◌==◌, Option, Some, None, IfNone}
+use Rattle.std.proofs.Common.{◌≡◌, ◌≢◌, inl, inr, ◌<◌, ◌≤◌, ◌++◌, ℕ, zero, List, [], ◌∷◌, length, take, refl, sym, ap, ◌∙◌, subst, arith, append_assoc, false, Bool, cond}
+use Rattle.std.specs.Prelude.{flat_map, All, ◌==◌, Option, Some, None, IfNone}
 use Rattle.std.specs.List.{slice_split}
 use Rattle.std.proofs.lemmas.Bool.{cases_lt, lt-leb}
 use Rattle.std.proofs.lemmas.Grind.{flat_map-append}

@@ -1,9 +1,9 @@
 -- A reply that was said is a step.
 use Rattle.std.proofs.Common.{◌≡◌, ◌⊎◌, inl, inr, ◌<◌, ◌≤◌, ◌++◌, ◌∷◌, [], List, ℕ, refl, sym, ap, ◌∙◌, subst}
-use Rattle.std.specs.Prelude.{Option, Some, None, option_map}
+use Rattle.std.specs.Prelude.{Option}
 use Rattle.disk_trait.specs.World.{Streams, World}
-use Rattle.store_model.specs.SortedMap.{Bytes, get}
-use Rattle.store_model.specs.Entries.{Entry, put_entry, map_of, newest, live, need, gap}
+use Rattle.store_model.specs.SortedMap.{Bytes}
+use Rattle.store_model.specs.Entries.{Entry, put_entry, newest, live, need, gap}
 use Rattle.store_model.specs.Lines.{Command, Put, Get}
 use Rattle.store_model.specs.Lines as asks
 use Rattle.store_model.specs.Replies.{Reply, Done, Bye, BadLine, Full, Memory, text_of, got}

@@ -1,5 +1,5 @@
 -- What a line that was read asks.
-use Rattle.std.specs.Prelude.{◌≡◌, ℕ, List, [], ◌∷◌, ◌<◌, length, Option, Some, None, ◌==◌}
+use Rattle.std.specs.Prelude.{◌≡◌, List, [], ◌∷◌, ◌<◌, length, Option, Some, None, ◌==◌}
 use Rattle.std.specs.List.{slice_split}
 use Rattle.store_model.specs.SortedMap.{Bytes}
 use Rattle.store_model.specs.Lines as line

@@ -1,5 +1,5 @@
 -- How far a run has come.
-use Rattle.std.specs.Prelude.{◌≡◌, ◌==◌, false, ◌⊎◌, ℕ, ◌<◌, ◌≤◌, List, [], ◌∷◌, ◌++◌, length, flat_map, All}
+use Rattle.std.specs.Prelude.{◌≡◌, ◌⊎◌, ℕ, ◌≤◌, List, [], ◌∷◌, ◌++◌, flat_map, All}
 use Rattle.disk_trait.specs.World.{World, Rose}
 use Rattle.store_model.specs.SortedMap.{Bytes}
 use Rattle.store_model.specs.Entries.{Entry}

@@ -1,4 +1,4 @@
-use Rattle.std.proofs.Common.{◌≡◌, ◌≢◌, ◌∙◌, sym, arith, length, ap}
+use Rattle.std.proofs.Common.{◌≢◌, ◌∙◌, sym, length, ap}
 use Rattle.std.proofs.lemmas.Bool.{eqb-true, eqb-false}
 use Rattle.surf_run.proofs.Progress.{ended_empty, ended_next, ended_quit, served_as}
 use Rattle.surf_run.proofs.serve.end_input.Goals as goal

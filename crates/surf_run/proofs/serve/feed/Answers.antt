@@ -1,4 +1,4 @@
-use Rattle.std.proofs.Common.{◌≡◌, ◌∙◌, ◌++◌, ◌∷◌, [], append_assoc, ap, sym, subst, List, ℕ}
+use Rattle.std.proofs.Common.{◌∙◌, ◌++◌, ◌∷◌, [], append_assoc, ap, sym, subst, List, ℕ}
 use Rattle.surf_run.specs.Serving.{Served, After}
 use Rattle.surf_run.specs.Holding.{NoNewline}
 use Rattle.surf_run.proofs.Progress.{none_here, piece_split, line_more, all_more, after_more, part_more}

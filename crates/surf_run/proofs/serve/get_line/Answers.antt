@@ -1,5 +1,4 @@
-use Rattle.std.proofs.Common.{ap, sym, ◌∙◌}
-use Rattle.std.specs.Prelude.{Some, None, option_map}
+use Rattle.std.specs.Prelude.{Some, None}
 use Rattle.store_model.specs.Lines.{Get}
 use Rattle.surf_run.proofs.Steps.{answered, get_step}
 use Rattle.surf_run.proofs.serve.get_line.Goals as goal

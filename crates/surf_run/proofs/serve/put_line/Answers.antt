@@ -1,4 +1,3 @@
-use Rattle.std.proofs.Common.{refl}
 use Rattle.store_model.specs.Entries.{put_entry}
 use Rattle.store_model.specs.Lines.{Put}
 use Rattle.store_model.specs.Replies.{Done, Memory, Full, text_of}

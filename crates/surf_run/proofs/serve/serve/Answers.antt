@@ -1,5 +1,5 @@
-use Rattle.std.proofs.Common.{◌≡◌, ◌++◌, ◌∙◌, List, ℕ, sym, ap, refl, arith, take, drop}
-use Rattle.surf_run.proofs.Progress.{served_none, served_as, front_of, taken_more, taken_all, replied_to_end, replied_to_quit}
+use Rattle.std.proofs.Common.{◌++◌, ◌∙◌, List, ℕ, sym, ap, refl, arith, take, drop}
+use Rattle.surf_run.proofs.Progress.{served_as, front_of, taken_more, taken_all, replied_to_end, replied_to_quit}
 use Rattle.surf_run.proofs.Causes.{no_fall_on, no_fall_take}
 use Rattle.surf_run.proofs.serve.serve.Goals as goal
 

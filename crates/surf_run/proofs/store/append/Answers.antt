@@ -1,9 +1,7 @@
-use Rattle.std.proofs.Common.{◌≡◌, ◌+◌, ◌∙◌, ◌∷◌, [], ap, inr, ℕ, length, arith, refl}
-use Rattle.std.specs.Prelude.{OnOk}
-use Rattle.disk_trait.specs.World.{Image, window, overwritten}
+use Rattle.std.proofs.Common.{◌≡◌, ◌+◌, ◌∙◌, ◌∷◌, [], ap, inr, length, arith}
+use Rattle.disk_trait.specs.World.{Image, window}
 use Rattle.disk_trait.proofs.Images.{overwritten_at, window_overwritten, window_kept, whole}
 use Rattle.disk_trait.proofs.Calls.{on_ok_one}
-use Rattle.surf_run.specs.Puts.{OpensAt}
 use Rattle.surf_run.proofs.store.append.Goals as goal
 
 pub returns-clause-stands : goal.returns-clause-stands

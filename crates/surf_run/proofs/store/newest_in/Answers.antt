@@ -1,11 +1,11 @@
-use Rattle.std.proofs.Common.{◌≡◌, ◌∙◌, ◌+◌, ◌-◌, ap, sym, arith, ℕ, List, drop, get_or}
-use Rattle.std.specs.Prelude.{Option, Some, None}
+use Rattle.std.proofs.Common.{◌≡◌, ◌∙◌, ◌+◌, ◌-◌, ap, sym, arith, ℕ, drop, get_or}
+use Rattle.std.specs.Prelude.{Some}
 use Rattle.std.proofs.lemmas.List.{get_or_default}
 use Rattle.std.proofs.lemmas.Slice.Eq.{bytes_eq-Decides}
 use Rattle.surf_run.specs.declared.store.Kept.{Kept}
 use Rattle.store_model.specs.Entries.{live, newest}
 use Rattle.surf_run.specs.Kept.{entries_of}
-use Rattle.surf_run.proofs.Keeping.{newest_found, newest_passed}
+use Rattle.surf_run.proofs.Keeping.{newest_found}
 use Rattle.surf_run.proofs.store.newest_in.Goals as goal
 
 pub returns-then-eq-clause-value : goal.returns-then-eq-clause-value

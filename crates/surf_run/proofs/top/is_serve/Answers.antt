@@ -1,4 +1,4 @@
-use Rattle.std.proofs.Common.{◌≡◌, List, ℕ, [], ◌∷◌, length, map, get_or, refl, sym, ap, ◌∙◌, arith, String, Global, Bool, true, false}
+use Rattle.std.proofs.Common.{◌≡◌, List, ℕ, [], ◌∷◌, length, map, get_or, sym, ap, ◌∙◌, arith, String, Global, Bool}
 use Rattle.std.specs.Prelude.{string_bytes, Decides, IsTrue}
 use Rattle.std.proofs.lemmas.Slice.Eq.{slice_eq-Decides}
 use Rattle.std.proofs.lemmas.Bool.Decides.{Decides-eqb}

@@ -1,4 +1,4 @@
-use Rattle.std.proofs.Common.{◌≡◌, ◌∙◌, ap, sym, arith, length, ℕ, ◌≤◌, List}
+use Rattle.std.proofs.Common.{◌∙◌, ap, sym, arith, length, ◌≤◌, List}
 use Rattle.std.proofs.lemmas.List.Elements.{All-same, All-nil}
 use Rattle.store_model.specs.Entries.{filled}
 use Rattle.surf_run.specs.Kept.{entries_of}

@@ -1,4 +1,4 @@
-use Rattle.std.proofs.Common.{◌≡◌, ◌+◌, ◌-◌, ◌<◌, ◌≤◌, ◌++◌, ◌∷◌, [], ℕ, List, length, arith, ap, ◌∙◌, sym, subst}
+use Rattle.std.proofs.Common.{◌≡◌, ◌+◌, ◌-◌, ◌≤◌, ◌++◌, ◌∷◌, [], List, length, arith, ap, ◌∙◌, sym}
 use Rattle.store_model.specs.Entries.{gap}
 use Rattle.surf_run.specs.declared.store.Kept.{Kept}
 use Rattle.surf_run.proofs.Keeping.{length_body, room_is, sound_more}
