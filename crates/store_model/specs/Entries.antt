@@ -11,6 +11,9 @@ pub record Entry : Type 0 where
 abbrev pub put_entry : Bytes → Bytes → Entry
 put_entry key value = record { key = key; value = Some value }
 
+abbrev pub del_entry : Bytes → Entry
+del_entry key = record { key = key; value = None }
+
 abbrev pub change_by : Map → Bytes → Option Bytes → Map
 change_by map key (Some value) = put map key value
 change_by map key None = del map key
