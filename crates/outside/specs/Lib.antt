@@ -1,0 +1,2 @@
+pub mod During
+pub mod Streams
