@@ -1,0 +1,8 @@
+/// What a record says of its key.
+#[derive(Clone, Copy, Debug, PartialEq, Eq)]
+pub enum Kind {
+    /// It has a value.
+    Put = 1,
+    /// It has none any more.
+    Delete = 2,
+}
