@@ -8,7 +8,7 @@ use Rattle.disk_trait.proofs.Images.{window_kept, byte_kept, overwritten_at, who
 use Rattle.store_model.specs.Entries.{Entry, body, record_bytes, filled, need}
 use Rattle.gate_log.specs.Records.{IsSound}
 use Rattle.gate_log.specs.Area.{start_of, LogIs, WithOrWithout}
-use Rattle.gate_log.proofs.Logs.{Stands, stands, logged, none_filled, filled_more, records_more, all_push}
+use Rattle.gate_log.proofs.Logs.{Stands, stands, logged, none_filled, filled_more, records_more, all_push, same_parts}
 
 -- a closed first gate is a log of no entry
 pub empty : (area : ℕ) (image : Image) → image (start_of area) ≡ 0 → LogIs area [] image
@@ -19,12 +19,6 @@ empty area image zero_there = logged area [] image (record {
   closed = λ now. let first : start_of area + filled [] ≡ start_of area = omega (arith, none_filled) in
       let same : image (start_of area) ≡ 1 = ap image (sym first) ∙ now in omega arith;
 })
-
-same_parts : (xs ys more others : List ℕ) → length xs ≡ length ys → xs ++ more ≡ ys ++ others → (xs ≡ ys) × (more ≡ others)
-same_parts xs ys more others same e = (
-  sym (take_at xs more (length ys) same) ∙ ap (take (length ys)) e ∙ take_at ys others (length ys) refl,
-  sym (drop_at xs more (length ys) same) ∙ ap (drop (length ys)) e ∙ drop_at ys others (length ys) refl,
-)
 
 -- an entry's body and a closed gate stand behind the log's closed gate
 pub record Staged (area : ℕ) (entries : List Entry) (entry : Entry) (image : Image) : Type 0 where

@@ -1,13 +1,13 @@
 -- What an image says in a log area, byte by byte.
-use Rattle.std.proofs.Common.{◌≡◌, ◌≢◌, ◌+◌, ◌<◌, ℕ, List, [], ◌∷◌, ◌++◌, length, refl, sym, ap, ◌∙◌, arith, length-append}
+use Rattle.std.proofs.Common.{◌≡◌, ◌≢◌, ◌+◌, ◌<◌, ◌≤◌, ℕ, List, [], ◌∷◌, ◌++◌, length, refl, sym, ap, ◌∙◌, subst, arith, length-append, take, drop, ◌⊎◌, inl, inr}
 use Rattle.std.specs.Prelude.{flat_map}
 use Rattle.std.specs.List.{AllByRecursion}
-use Rattle.std.proofs.lemmas.List.{append-nil}
+use Rattle.std.proofs.lemmas.List.{append-nil, take_at, drop_at}
 use Rattle.std.proofs.lemmas.List.Concat.{flat_map-append}
-use Rattle.disk_trait.specs.Image.{Image, window}
-use Rattle.disk_trait.proofs.Images.{window_size}
+use Rattle.disk_trait.specs.Image.{Image, window, Torn}
+use Rattle.disk_trait.proofs.Images.{window_size, window_kept}
 use Rattle.store_model.specs.Entries.{Entry, body, record_bytes, filled}
-use Rattle.gate_log.specs.Records.{IsSound}
+use Rattle.gate_log.specs.Records.{IsSound, Spells}
 use Rattle.gate_log.specs.Area.{area_size, start_of, LogIs}
 use Rattle.gate_log.proofs.Windows.{take_window, byte_of_window}
 
@@ -34,6 +34,13 @@ filled_more entries entry =
   where
     one : length (record_bytes entry) ≡ 1 + length (body entry)
     one = omega arith
+
+-- two pieces of the same lengths
+pub same_parts : (xs ys more others : List ℕ) → length xs ≡ length ys → xs ++ more ≡ ys ++ others → (xs ≡ ys) × (more ≡ others)
+same_parts xs ys more others same e = (
+  sym (take_at xs more (length ys) same) ∙ ap (take (length ys)) e ∙ take_at ys others (length ys) refl,
+  sym (drop_at xs more (length ys) same) ∙ ap (drop (length ys)) e ∙ drop_at ys others (length ys) refl,
+)
 
 pub all_push : (P : Entry → Type 0) (entries : List Entry) (entry : Entry) → AllByRecursion P entries → P entry → AllByRecursion P (entries ++ entry ∷ [])
 all_push P [] entry all here = (here, tt)
@@ -67,3 +74,9 @@ logged area entries image s =
       };
       closed = λ now. s.closed (sym (byte_of_window image (start_of area) (filled entries) area_size inside) ∙ now);
     }
+
+-- what is written apart from the area changes nothing in it
+pub log_kept : (area : ℕ) (entries : List Entry) (at n : ℕ) (f g : Image) → (start_of area + 262144 ≤ at) ⊎ (at + n ≤ start_of area) → Torn at n f g → LogIs area entries f → LogIs area entries g
+log_kept area entries at n f g apart torn log =
+    let sized : (start_of area + area_size ≤ at) ⊎ (at + n ≤ start_of area) = elim apart [ inl below ↦ inl (omega (arith, size_is)) | inr above ↦ inr above ] in
+    subst (Spells entries) (sym (window_kept at n f g (start_of area) area_size sized torn)) log

@@ -33,6 +33,9 @@ key_length_in body = little_number 2 (drop 1 body)
 abbrev pub value_length_in : Bytes → ℕ
 value_length_in body = little_number 4 (drop 3 body)
 
+abbrev pub body_length_in : Bytes → ℕ
+body_length_in body = 7 + key_length_in body + value_length_in body
+
 -- a key of no byte or of too many, a value of too many, or a delete with one
 abbrev pub breaks_a_limit : ℕ → ℕ → ℕ → Bool
 breaks_a_limit kind key value = key == 0 || nat_lt 1024 key || nat_lt 65536 value || (kind == 2 && not (value == 0))
@@ -47,10 +50,13 @@ broken_rule body =
     refuse (nat_lt (length body) 7) 1
     (refuse (not (kind_in body == 1) && not (kind_in body == 2)) 2
     (refuse (breaks_a_limit (kind_in body) (key_length_in body) (value_length_in body)) 3
-    (refuse (nat_le (length body) (7 + key_length_in body + value_length_in body)) 1
+    (refuse (nat_le (length body) (body_length_in body)) 1
     None)))
 
--- the entry that a body begins with
+abbrev pub entry_as : Bytes → Option Bytes → Entry
+entry_as key value = record { key = key; value = value }
+
+-- the entry whose body the bytes begin with
 abbrev pub entry_in : Bytes → Entry
 entry_in body = record {
   key = take (key_length_in body) (drop 7 body);

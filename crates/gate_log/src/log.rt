@@ -1,14 +1,18 @@
 // The log over its device.
-ghost use Rattle.std.specs.Prelude.{◌≡◌, ◌+◌, ◌*◌, ◌≤◌, ◌<◌, ◌++◌, ◌^◌, ◌↔◌, [], ◌∷◌, List, ℕ, length, IsTrue, IfOk, IfErr, OnOk, OnErr};
+ghost use Rattle.std.specs.Prelude.{◌≡◌, ◌+◌, ◌*◌, ◌≤◌, ◌<◌, ◌++◌, ◌^◌, ◌↔◌, [], ◌∷◌, List, ℕ, length, vec_len, IsTrue, IfOk, IfErr, OnOk, OnErr, MatchResult};
 ghost use Rattle.disk_trait.specs.Fault.{IsWriteThroughFault};
-ghost use Rattle.disk_trait.specs.World.{Now, Leads, WriteMoves, Rose};
+ghost use Rattle.disk_trait.specs.World.{Now, Leads, ReadMoves, WriteMoves, Rose};
 ghost use Rattle.store_model.specs.Entries.{Entry, filled, need};
-ghost use Rattle.gate_log.specs.Area.{Position, LogIs, WithOrWithout, IsAppendFault, IsNextRecord, start_of};
+ghost use Rattle.gate_log.specs.Area.{Position, LogIs, WithOrWithout, IsAppendFault, IsNextRecord, start_of, area_in};
+ghost use Rattle.gate_log.specs.Faults.{IsShapeIn, HasReadCause, IsNoShape};
 ghost use Rattle.gate_log.specs.Kinds.{KeepsRules, entry_of};
 
-use crate::entry::Kind;
+use crate::entry::{Kind, LogEntry};
+use crate::fault::{AreaFault, LogFault};
+use crate::reading::entries_in;
 use crate::writing::put_record;
 use disk_trait::{Disk, DiskFault, write_through};
+use std::alloc::Global;
 use std::marker::Model;
 
 /// The bytes of a log area.
@@ -61,6 +65,35 @@ impl Log {
         Ok(Log { area, filled: 0 })
     }
 
+    /// Reads the log of an area, 0 or 1: the entries of its records, in the order of writing, up to the first gate that
+    /// is not open. One read of the whole area, whose memory is taken first.
+    ///
+    /// `Ok` exactly where the area keeps the rules of the format, but for want of memory and faults of the device, else
+    /// the first rule that is broken and the device byte of its record's gate.
+    pub fn replay<D: Disk>(
+        alloc: Global,
+        disk: &mut D,
+        area: u8,
+    ) -> Result<(Log, Vec<LogEntry>), LogFault>
+        requires { area ≤ 1 }
+        ensures log { IfOk result (λ found. found.0 ≡ record { area = area; filled = filled found.1.items }) }
+        ensures entries { IsTrue D.tells → IfOk result (λ found. LogIs area found.1.items (D.world disk.old).seen.held) }
+        ensures exact { (entries : List Entry) → IsTrue D.tells → LogIs area entries (D.world disk.old).seen.held → MatchResult result (λ found. found.1.items ≡ entries) IsNoShape }
+        ensures shape { IsTrue D.tells → IfErr result (IsShapeIn area (D.world disk.old).seen.held) }
+        ensures cause { IfErr result (HasReadCause area (D.world disk.old) (D.world disk.new)) }
+        ensures moves { ReadMoves 1 (D.world disk.old) (D.world disk.new) }
+    {
+        let bytes = read_area(alloc, disk, area)?;
+        match entries_in(alloc, &bytes) {
+            Ok((entries, filled)) => Ok((Log { area, filled }, entries)),
+            Err(AreaFault::Memory) => Err(LogFault::Memory),
+            Err(AreaFault::Shape { place, rule }) => Err(LogFault::Shape {
+                at: area_start(area) + place as u64,
+                rule,
+            }),
+        }
+    }
+
     /// The bytes that are left in the area.
     pub fn gap(&self) -> usize
         ensures { result + self.now.filled ≡ 262144 }
@@ -106,6 +139,21 @@ impl Log {
         self.filled += length;
         Ok(())
     }
+}
+
+// All bytes of an area.
+fn read_area<D: Disk>(alloc: Global, disk: &mut D, area: u8) -> Result<Vec<u8>, LogFault>
+    requires { area ≤ 1 }
+    ensures bytes { IsTrue D.tells → IfOk result (λ bytes. bytes.items ≡ area_in area (D.world disk.old).seen.held) }
+    ensures size { IfOk result (λ bytes. vec_len bytes ≡ 262144) }
+    ensures exact { IfErr result IsNoShape }
+    ensures shape { IfErr result (IsShapeIn area (D.world disk.old).seen.held) }
+    ensures cause { IfErr result (HasReadCause area (D.world disk.old) (D.world disk.new)) }
+    ensures moves { ReadMoves 1 (D.world disk.old) (D.world disk.new) }
+{
+    let mut bytes = vec![in alloc; 0; AREA_BYTES]?;
+    disk.read(area_start(area), &mut bytes)?;
+    Ok(bytes)
 }
 
 // Writes a body with the closed gate behind it and makes them last, and then opens the gate before them.
