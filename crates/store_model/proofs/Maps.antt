@@ -19,20 +19,20 @@ other_key a b other = elim (bytes_eq a b) as (λ t. bytes_eq a b ≡ t → t ≡
   | false ↦ λ e. refl
 ] refl
 
-order_same : (a b : Bytes) → a ≡ b → byte_order a b ≡ Equal
+pub order_same : (a b : Bytes) → a ≡ b → byte_order a b ≡ Equal
 order_same a b e = subst (λ (c : Bytes). byte_order a c ≡ Equal) e (tied_itself nat_list_cmp_total a)
 
-equal_keys : (a b : Bytes) → byte_order a b ≡ Equal → a ≡ b
+pub equal_keys : (a b : Bytes) → byte_order a b ≡ Equal → a ≡ b
 equal_keys a b e = (bytes_eq-Decides a b).0 (texts_ties a b ∙ ap is_eq e)
 
-greater_keys : (a b : Bytes) → byte_order a b ≡ Greater → b ≢ a
+pub greater_keys : (a b : Bytes) → byte_order a b ≡ Greater → b ≢ a
 greater_keys a b greater e = let same = order_same a b (sym e) in cc
 
-less_of_greater : (a b : Bytes) → byte_order a b ≡ Greater → byte_order b a ≡ Less
+pub less_of_greater : (a b : Bytes) → byte_order a b ≡ Greater → byte_order b a ≡ Less
 less_of_greater a b greater = nat_list_cmp_total.antisymm b a ∙ ap ordering_reverse greater
 
 -- the case that an order falls into
-by_order : (P : Ordering → Type 0) (a b : Bytes) → (byte_order a b ≡ Less → P Less) → (byte_order a b ≡ Equal → P Equal) → (byte_order a b ≡ Greater → P Greater) → P (byte_order a b)
+pub by_order : (P : Ordering → Type 0) (a b : Bytes) → (byte_order a b ≡ Less → P Less) → (byte_order a b ≡ Equal → P Equal) → (byte_order a b ≡ Greater → P Greater) → P (byte_order a b)
 by_order P a b less equal greater = elim (byte_order a b) as (λ o. byte_order a b ≡ o → P o) [ Less ↦ less | Equal ↦ equal | Greater ↦ greater ] refl
 
 -- ---- put

@@ -1,0 +1,73 @@
+// Fields: unsigned numbers at a place of a byte string, lowest byte first.
+ghost use Rattle.std.specs.Prelude.{◌≡◌, ◌≤◌, ◌+◌, length, drop};
+ghost use Rattle.std.specs.List.{splice};
+ghost use Rattle.byteorder.specs.Endian.{little_bytes, little_number};
+
+use byteorder::{ByteOrder, LittleEndian};
+
+/// The number in the two bytes from place `at`.
+pub fn get_u16(bytes: &[u8], at: usize) -> u16
+    requires { at + 2 ≤ length bytes.now }
+    ensures { result ≡ little_number 2 (drop at bytes.now) }
+{
+    LittleEndian::read_u16(&bytes[at..at + 2])
+}
+
+/// The number in the four bytes from place `at`.
+pub fn get_u32(bytes: &[u8], at: usize) -> u32
+    requires { at + 4 ≤ length bytes.now }
+    ensures { result ≡ little_number 4 (drop at bytes.now) }
+{
+    LittleEndian::read_u32(&bytes[at..at + 4])
+}
+
+/// The number in the eight bytes from place `at`.
+pub fn get_u64(bytes: &[u8], at: usize) -> u64
+    requires { at + 8 ≤ length bytes.now }
+    ensures { result ≡ little_number 8 (drop at bytes.now) }
+{
+    LittleEndian::read_u64(&bytes[at..at + 8])
+}
+
+/// Writes `n` into the two bytes from place `at`, and nothing else.
+pub fn put_u16(bytes: &mut [u8], at: usize, n: u16)
+    requires { at + 2 ≤ length bytes.old }
+    ensures { bytes.new ≡ splice bytes.old at (at + 2) (little_bytes 2 n) }
+{
+    LittleEndian::write_u16(&mut bytes[at..at + 2], n);
+}
+
+/// Writes `n` into the four bytes from place `at`, and nothing else.
+pub fn put_u32(bytes: &mut [u8], at: usize, n: u32)
+    requires { at + 4 ≤ length bytes.old }
+    ensures { bytes.new ≡ splice bytes.old at (at + 4) (little_bytes 4 n) }
+{
+    LittleEndian::write_u32(&mut bytes[at..at + 4], n);
+}
+
+/// Writes `n` into the eight bytes from place `at`, and nothing else.
+pub fn put_u64(bytes: &mut [u8], at: usize, n: u64)
+    requires { at + 8 ≤ length bytes.old }
+    ensures { bytes.new ≡ splice bytes.old at (at + 8) (little_bytes 8 n) }
+{
+    LittleEndian::write_u64(&mut bytes[at..at + 8], n);
+}
+
+#[cfg(test)]
+mod tests {
+    use super::*;
+
+    #[test]
+    fn fields_stand_lowest_byte_first(rt: HostRuntime) {
+        let mut bytes = [9; 10];
+        put_u16(&mut bytes, 1, 0x0102);
+        assert_eq!(rt; bytes, [9, 2, 1, 9, 9, 9, 9, 9, 9, 9]);
+        put_u32(&mut bytes, 3, 0x01020304);
+        assert_eq!(rt; bytes, [9, 2, 1, 4, 3, 2, 1, 9, 9, 9]);
+        assert_eq!(rt; get_u16(&bytes, 1), 0x0102);
+        assert_eq!(rt; get_u32(&bytes, 3), 0x01020304);
+        put_u64(&mut bytes, 2, 0x0102030405060708);
+        assert_eq!(rt; bytes, [9, 2, 8, 7, 6, 5, 4, 3, 2, 1]);
+        assert_eq!(rt; get_u64(&bytes, 2), 0x0102030405060708);
+    }
+}

@@ -1,0 +1,23 @@
+//! Numbers in bytes, lowest byte first, with one spelling each; the sum that parts are kept with; and the plain
+//! types in which several crates name a part and what is wrong with it.
+//!
+//! A field is read and written where it lies, at no cost but its bytes. The sum is FNV-1a of 64 bits: it tells a
+//! damaged part from a whole one, and it is no defence against someone who writes both the part and its sum.
+//!
+//! ```text
+//! let mut page = [0; 8];
+//! put_u32(&mut page, 4, 0x01020304);
+//! page == [0, 0, 0, 0, 4, 3, 2, 1]
+//! get_u32(&page, 4) == 0x01020304
+//! ```
+#![tactic(auto)]
+
+mod fields;
+mod laws;
+mod parts;
+mod sums;
+
+pub use fields::{get_u16, get_u32, get_u64, put_u16, put_u32, put_u64};
+pub use laws::{fields_have_one_spelling, numbers_have_one_spelling};
+pub use parts::{Damage, Part, Row};
+pub use sums::{Summer, fnv1a};

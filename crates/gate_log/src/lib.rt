@@ -1,0 +1,13 @@
+//! The log.
+#![tactic(auto)]
+
+mod entry;
+mod fault;
+mod log;
+mod reading;
+mod writing;
+
+pub use entry::{Kind, LogEntry};
+pub use fault::{AreaFault, LogFault};
+pub use log::{AREA_BYTES, Log};
+pub use reading::entries_in;

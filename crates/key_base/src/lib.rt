@@ -1,0 +1,25 @@
+//! Byte strings and their order, the longest common prefix, lists of keys, and the limits of the store.
+//!
+//! Byte strings compare byte by byte, a proper prefix first. Every crate that speaks of keys stands on this one.
+//! A [`KeyList`] keeps each key in memory of its own; it is a list to build from, and no index: finding a key in it
+//! is the caller's loop.
+//!
+//! ```text
+//! let mut keys = KeyList::new(alloc);
+//! keys.push(b"far")?;
+//! keys.push(b"fast")?;
+//! shared(keys.get(0), keys.get(1)) == 2
+//! ```
+#![tactic(auto)]
+
+mod key_list;
+mod limits;
+mod order;
+
+pub use key_list::KeyList;
+pub use limits::{
+    CACHE_BLOCKS, LOG_PAGES, MAX_BLOCK_ENTRIES, MAX_BOUND_BYTES, MAX_DEVICE_PAGES, MAX_HASH_BITS,
+    MAX_INPUT_BYTES, MAX_KEY_BYTES, MAX_LINE_BYTES, MAX_LOAD_COUNT, MAX_RANGE_PAIRS, MAX_RATIO,
+    MAX_REAL_BITS, MAX_TABLES, MAX_VALUE_BYTES, MERGE_DATA_PAGES, MIN_DEVICE_PAGES, PAGE_BYTES,
+};
+pub use order::{compare, shared};

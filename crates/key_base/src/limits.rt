@@ -1,0 +1,55 @@
+// The limits of the store. Each stands here once, and every crate that keeps one reads it from here.
+
+/// The bytes of the longest key; the shortest has one.
+pub const MAX_KEY_BYTES: usize = 1_024;
+
+/// The bytes of the longest bound of a range; the shortest has none.
+pub const MAX_BOUND_BYTES: usize = 1_024;
+
+/// The bytes of the longest value; the shortest has none.
+pub const MAX_VALUE_BYTES: usize = 65_536;
+
+/// The bytes of the longest line, without its newline.
+pub const MAX_LINE_BYTES: usize = 140_000;
+
+/// The bytes of input that one run takes at most: 2^40.
+pub const MAX_INPUT_BYTES: u64 = 1_099_511_627_776;
+
+/// How many tables a version has at most.
+pub const MAX_TABLES: usize = 1_024;
+
+/// The bytes of a page.
+pub const PAGE_BYTES: usize = 4_096;
+
+/// The pages of the smallest device.
+pub const MIN_DEVICE_PAGES: u32 = 512;
+
+/// The pages of the largest device: 2^24.
+pub const MAX_DEVICE_PAGES: u32 = 16_777_216;
+
+/// The most hash bits of a leaf; the fewest are none.
+pub const MAX_HASH_BITS: u8 = 32;
+
+/// The most real bits of a leaf; the fewest are none.
+pub const MAX_REAL_BITS: u8 = 32;
+
+/// The greatest ratio of sparse to dense bits.
+pub const MAX_RATIO: u16 = 65_535;
+
+/// The most entries of a block; the fewest is one.
+pub const MAX_BLOCK_ENTRIES: usize = 255;
+
+/// The pages of a log area, of which there are two.
+pub const LOG_PAGES: u32 = 64;
+
+/// The data pages at which a merge closes an output table.
+pub const MERGE_DATA_PAGES: u32 = 1_024;
+
+/// How many blocks the cache keeps at most.
+pub const CACHE_BLOCKS: usize = 64;
+
+/// The most pairs that one range may ask for.
+pub const MAX_RANGE_PAIRS: u32 = 1_000_000;
+
+/// The greatest count of one load; the least is 1.
+pub const MAX_LOAD_COUNT: u32 = 1_000_000;
