@@ -17,6 +17,7 @@
 mod as_disk;
 mod call_log;
 mod choice;
+mod crash;
 mod device;
 mod mem_disk;
 
