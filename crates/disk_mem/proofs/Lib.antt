@@ -1,3 +1,4 @@
+pub mod Crashes
 pub mod Ends
 pub mod Logs
 pub mod Numbers

@@ -19,7 +19,9 @@ mod call_log;
 mod choice;
 mod crash;
 mod device;
+mod laws;
 mod mem_disk;
 
 pub use choice::Choice;
+pub use laws::crash_laws;
 pub use mem_disk::MemDisk;
