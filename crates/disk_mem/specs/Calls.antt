@@ -58,6 +58,17 @@ no_call = record { op = Sync; at = 0; bytes = []; done = false }
 abbrev pub call_at : List Call → ℕ → Call
 call_at calls number = slice_index_or calls (length calls - (number + 1)) no_call
 
+-- how many calls there are up to the last sync that succeeded, that sync among them
+abbrev pub last_sync_by : Op → Bool → ℕ → ℕ → ℕ
+last_sync_by Sync true count before = count
+last_sync_by Sync false count before = before
+last_sync_by Read done count before = before
+last_sync_by Write done count before = before
+
+abbrev pub last_sync : List Call → ℕ
+last_sync [] = 0
+last_sync (call ∷ earlier) = last_sync_by call.op call.done (length earlier + 1) (last_sync earlier)
+
 abbrev pub one_if_read : Op → ℕ
 one_if_read Read = 1
 one_if_read Write = 0

@@ -1,5 +1,5 @@
 -- The list of calls as a log keeps it: entries, the first call first, and all the bytes that they moved in one row.
-use Rattle.std.specs.Prelude.{ℕ, ◌+◌, ◌≤◌, List, length, map, reverse, slice_range, All}
+use Rattle.std.specs.Prelude.{ℕ, ◌+◌, ◌^◌, ◌≤◌, List, length, map, reverse, slice_range, All}
 use Rattle.disk_mem.specs.declared.call_log.Entry.{Entry}
 use Rattle.disk_mem.specs.Calls.{Call}
 
@@ -15,6 +15,10 @@ call_of moved e = record { op = e.op; at = e.at; bytes = slice_range moved e.fro
 abbrev pub calls_of : List ℕ → List Entry → List Call
 calls_of moved entries = reverse (map (call_of moved) entries)
 
--- each entry's bytes are there
-abbrev pub AreWithin : List ℕ → List Entry → Type 0
-AreWithin moved entries = All (λ e. e.from + e.len ≤ length moved) entries
+-- each entry's bytes are there, and its range is one of a disk
+pub record IsKept (moved : List ℕ) (e : Entry) : Type 0 where
+  pub within : e.from + e.len ≤ length moved
+  pub in_range : e.at + e.len ≤ 2 ^ 48
+
+abbrev pub AreKept : List ℕ → List Entry → Type 0
+AreKept moved entries = All (IsKept moved) entries

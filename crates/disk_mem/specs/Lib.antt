@@ -4,3 +4,4 @@ pub mod Choices
 pub mod Current
 pub mod History
 pub mod Kept
+pub mod Laws

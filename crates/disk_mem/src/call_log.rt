@@ -1,7 +1,7 @@
 // The calls of a disk, with the bytes that they moved: one list of entries, and one row of bytes for all of them, so
 // that room for many calls is asked for at once.
-ghost use Rattle.std.specs.Prelude.{◌≡◌, ◌+◌, ◌≤◌, ◌<◌, [], ◌∷◌, length, OnOk, IsOk};
-ghost use Rattle.disk_mem.specs.Calls.{call_at};
+ghost use Rattle.std.specs.Prelude.{◌≡◌, ◌+◌, ◌^◌, ◌≤◌, ◌<◌, ◌↔◌, [], ◌∷◌, length, IsTrue, OnOk, IsOk};
+ghost use Rattle.disk_mem.specs.Calls.{call_at, last_sync};
 
 use disk_trait::Op;
 use std::alloc::{AllocError, Global};
@@ -25,13 +25,13 @@ pub struct CallLog {
 
 impl Model for CallLog {
     ghost use Rattle.std.specs.Prelude.{◌-◌, vec_len, vec_capacity};
-    ghost use Rattle.disk_mem.specs.Kept.{Log, calls_of, AreWithin};
+    ghost use Rattle.disk_mem.specs.Kept.{Log, calls_of, AreKept};
 
     ghost Value = { Log };
 
     ghost view = { λ c. record { calls = calls_of c.moved.items c.entries.items; room_calls = vec_capacity c.entries - vec_len c.entries; room_bytes = vec_capacity c.moved - vec_len c.moved } };
 
-    ghost invariant = { λ c. AreWithin c.moved.items c.entries.items };
+    ghost invariant = { λ c. AreKept c.moved.items c.entries.items };
 }
 
 impl CallLog {
@@ -69,6 +69,7 @@ impl CallLog {
     pub fn add(&mut self, op: Op, at: u64, bytes: &[u8], done: bool)
         requires room { 1 ≤ self.old.room_calls }
         requires room_bytes { length bytes.now ≤ self.old.room_bytes }
+        requires in_range { at + length bytes.now ≤ 2 ^ 48 }
         ensures calls { self.new.calls ≡ record { op = op; at = at; bytes = bytes.now; done = done } ∷ self.old.calls }
         ensures room { self.old.room_calls ≤ self.new.room_calls + 1 }
         ensures room_bytes { self.old.room_bytes ≤ self.new.room_bytes + length bytes.now }
@@ -87,12 +88,36 @@ impl CallLog {
         });
     }
 
+    /// How many calls there are up to the last sync that succeeded, that sync among them.
+    pub fn last_sync(&self) -> usize
+        ensures { result ≡ last_sync self.now.calls }
+    {
+        let mut last = 0;
+        for number in 0..self.len() {
+            if self.op(number) == Op::Sync && self.is_done(number) {
+                last = number + 1;
+            }
+        }
+        last
+    }
+
     /// What the call of this number was asked for.
     pub fn op(&self, number: usize) -> Op
         requires { number < length self.now.calls }
         ensures { result ≡ (call_at self.now.calls number).op }
     {
         self.entries[number].op
+    }
+
+    /// Whether the call of this number was a write.
+    pub fn is_write(&self, number: usize) -> bool
+        requires { number < length self.now.calls }
+        ensures { IsTrue result ↔ ((call_at self.now.calls number).op ≡ Op.Write) }
+    {
+        match self.op(number) {
+            Op::Write => true,
+            Op::Read | Op::Sync => false,
+        }
     }
 
     /// The place of the call of this number.
@@ -106,7 +131,8 @@ impl CallLog {
     /// The bytes that the call of this number moved.
     pub fn bytes(&self, number: usize) -> &[u8]
         requires { number < length self.now.calls }
-        ensures { result.now ≡ (call_at self.now.calls number).bytes }
+        ensures bytes { result.now ≡ (call_at self.now.calls number).bytes }
+        ensures in_range { (call_at self.now.calls number).at + length result.now ≤ 2 ^ 48 }
     {
         let entry = self.entries[number];
         &self.moved[entry.from..entry.from + entry.len]

@@ -17,8 +17,14 @@
 mod as_disk;
 mod call_log;
 mod choice;
+mod crash;
 mod device;
+mod laws;
 mod mem_disk;
 
 pub use choice::Choice;
+pub use laws::crash_laws;
 pub use mem_disk::MemDisk;
+
+#[cfg(test)]
+mod tests;

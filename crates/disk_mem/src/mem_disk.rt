@@ -1,12 +1,15 @@
-ghost use Rattle.std.specs.Prelude.{◌≡◌, ◌+◌, ◌^◌, ◌≤◌, ◌↔◌, length, IsTrue, IsOk, OnOk, IfOk, IfErr, Contains, vec_len, vec_capacity};
+ghost use Rattle.std.specs.Prelude.{◌≡◌, ◌+◌, ◌^◌, ◌≤◌, ◌↔◌, length, map, IsTrue, IsOk, OnOk, IfOk, IfErr, Contains, vec_len, vec_capacity};
 ghost use Rattle.disk_trait.specs.World.{window};
 ghost use Rattle.disk_trait.specs.Fault.{IsFaultOf};
 ghost use Rattle.disk_trait.specs.declared.fault.Op.TheVariants.{Read, Write, Sync};
 ghost use Rattle.disk_mem.specs.Bytes.{image_of};
 ghost use Rattle.disk_mem.specs.Calls.{bytes_after, reads_in};
+ghost use Rattle.disk_mem.specs.Choices.{crash_bytes, pick_of};
 ghost use Rattle.disk_mem.specs.History.{IsNew, ReadEnds, WriteEnds, SyncEnds, Lasts, moved_by, raised, starved_in};
 
 use crate::call_log::CallLog;
+use crate::choice::Choice;
+use crate::crash::crashed;
 use crate::device::{fill, put};
 use disk_trait::{DiskFault, Op};
 use std::alloc::{AllocError, Global};
@@ -86,6 +89,30 @@ impl MemDisk {
         ensures { result ≡ starved_in self.now }
     {
         self.starved_reads.saturating_add(self.starved_writes)
+    }
+
+    /// A new disk with what a crash now leaves: each write, done or failed, since the last sync that succeeded is what
+    /// the choices say, the first choice for the first of them. A write without a choice is lost; choices past the last
+    /// write are not read.
+    pub fn crash(&self, choice: &[Choice]) -> Result<MemDisk, AllocError>
+        ensures { IfOk result (IsNew (crash_bytes self.now.first self.now.calls (map pick_of choice.now))) }
+    {
+        let alloc = *self.first.allocator();
+        let bytes = crashed(alloc, &self.first, &self.log, choice)?;
+        MemDisk::new(alloc, &bytes)
+    }
+
+    /// How many reads had a number.
+    pub fn reads(&self) -> u64
+        ensures { result ≡ reads_in self.now.calls }
+    {
+        let mut reads = 0;
+        for number in 0..self.log.len() {
+            if self.log.op(number) == Op::Read {
+                reads += 1;
+            }
+        }
+        reads
     }
 
     /// What a read of all would give: its bytes up to the end of the furthest write.
