@@ -1,0 +1,10 @@
+pub mod Order
+pub mod Fronts
+pub mod Fits
+pub mod Ranges
+pub mod Shared
+pub mod Stubs
+pub mod Counts
+pub mod Crowds
+pub mod Validity
+pub mod Tallies
