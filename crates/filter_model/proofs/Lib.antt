@@ -8,3 +8,5 @@ pub mod Counts
 pub mod Crowds
 pub mod Validity
 pub mod Tallies
+pub mod Pairs
+pub mod Levels

@@ -1,11 +1,12 @@
 -- What the definitions keep, whatever the leaves and the keys.
-use Rattle.std.specs.Prelude.{◌≡◌, ◌↔◌, ℕ, ◌+◌, ◌≤◌, true, false, List}
-use Rattle.std.specs.List.{Contains, list_any}
+use Rattle.std.specs.Prelude.{◌≡◌, ◌==◌, ◌↔◌, ℕ, ◌+◌, ◌≤◌, nat_lt, Bool, true, false, ◌&&◌, ◌||◌, List, length}
+use Rattle.std.specs.List.{All, AllPairs, Contains, list_any}
 use Rattle.byte_fields.specs.Spelling.{IsBytes}
-use Rattle.filter_model.specs.Strings.{is_below}
+use Rattle.filter_model.specs.Strings.{extends, is_below, same}
 use Rattle.filter_model.specs.Keys.{IsKeyList}
 use Rattle.filter_model.specs.Leaves.{Leaf, leaves_of}
 use Rattle.filter_model.specs.Answers.{fits, point, ranged, tally, is_within, true_count}
+use Rattle.filter_model.specs.Trie.{nodes}
 use Rattle.filter_model.specs.Valid.{IsValid}
 
 -- the leaves of every list of keys are valid
@@ -48,3 +49,23 @@ TallyIsNear =
     (hash_bits real_bits : ℕ) (keys : List (List ℕ)) (lo hi : List ℕ) → real_bits ≤ 32 → IsKeyList keys → AreBounds lo hi
     → (true_count keys lo hi ≤ tally real_bits (leaves_of hash_bits real_bits keys) lo hi)
     × (tally real_bits (leaves_of hash_bits real_bits keys) lo hi ≤ true_count keys lo hi + 2)
+
+-- the leaves' stubs are byte strings
+abbrev pub AreByteStubs : List Leaf → Type 0
+AreByteStubs ls = All (λ l. IsBytes l.stub) ls
+
+-- some stub properly extends p, or some leaf ends with the stub p
+abbrev pub is_inner : List Leaf → List ℕ → Bool
+is_inner ls p = list_any (λ l. extends p l.stub || (l.ends && same l.stub p)) ls
+
+-- a prefix is among the nodes exactly where some stub properly extends it or some leaf ends with it
+abbrev pub NodesAreThePrefixes : Type 0
+NodesAreThePrefixes = (ls : List Leaf) (p : List ℕ) → AreByteStubs ls → Contains (nodes ls) p ↔ (is_inner ls p ≡ true)
+
+-- by length, and then in byte order
+abbrev pub stands_before : List ℕ → List ℕ → Bool
+stands_before p q = nat_lt (length p) (length q) || ((length p == length q) && is_below p q)
+
+-- nodes stand by length, and then in byte order
+abbrev pub NodesStandInOrder : Type 0
+NodesStandInOrder = (ls : List Leaf) → AreByteStubs ls → AllPairs (λ p q. stands_before p q ≡ true) (nodes ls)

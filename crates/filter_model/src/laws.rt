@@ -1,5 +1,5 @@
 // Laws of the definitions. They are proved and never called.
-ghost use Rattle.filter_model.specs.Laws.{LeavesAreValid, NoHeldRangeIsDenied, NoKeyIsDenied, RangeIsExact, TallyIsNear};
+ghost use Rattle.filter_model.specs.Laws.{LeavesAreValid, NodesAreThePrefixes, NodesStandInOrder, NoHeldRangeIsDenied, NoKeyIsDenied, RangeIsExact, TallyIsNear};
 
 /// A range answers yes exactly where some byte string in it fits a leaf, hash bits apart.
 pub fn range_is_exact()
@@ -20,4 +20,10 @@ pub fn tally_is_near()
 /// The leaves of a list of keys are a valid leaf list.
 pub fn leaves_are_valid()
     ensures { LeavesAreValid }
+{}
+
+/// The nodes are the prefixes that some stub properly extends or some leaf ends with, by length and then in byte order.
+pub fn nodes_are_the_prefixes()
+    ensures prefixes { NodesAreThePrefixes }
+    ensures order { NodesStandInOrder }
 {}
