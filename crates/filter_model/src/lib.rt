@@ -16,9 +16,11 @@
 //! ```
 #![tactic(auto)]
 
+mod keys;
 mod laws;
 mod rows;
 
+pub use keys::are_keys;
 pub use laws::{
     leaves_are_valid, nodes_are_the_prefixes, nothing_held_is_denied, range_is_exact, tally_is_near,
 };
