@@ -10,3 +10,4 @@ pub mod Validity
 pub mod Tallies
 pub mod Pairs
 pub mod Levels
+pub mod KeyLists

@@ -119,3 +119,15 @@ Lt-or-Leq (a ∷ x) (b ∷ y) = elim (thirds a b) [
 pub Leq-append : (p x y : List ℕ) → Leq x y → Leq (p ++ x) (p ++ y)
 Leq-append [] x y h = h
 Leq-append (a ∷ p) x y h = inr (refl, Leq-append p x y h)
+
+pub Lt-trans : (x y z : List ℕ) → Lt x y → Lt y z → Lt x z
+Lt-trans x y [] h k = k
+Lt-trans x [] (c ∷ z) h k = absurd h
+Lt-trans [] (b ∷ y) (c ∷ z) h k = tt
+Lt-trans (a ∷ x) (b ∷ y) (c ∷ z) (inl h) (inl k) = inl (omega arith)
+Lt-trans (a ∷ x) (b ∷ y) (c ∷ z) (inl h) (inr (k, l)) = inl (omega arith)
+Lt-trans (a ∷ x) (b ∷ y) (c ∷ z) (inr (h, i)) (inl k) = inl (omega arith)
+Lt-trans (a ∷ x) (b ∷ y) (c ∷ z) (inr (h, i)) (inr (k, l)) = inr (h ∙ k, Lt-trans x y z i l)
+
+pub is_below-trans : (x y z : List ℕ) → is_below x y ≡ true → is_below y z ≡ true → is_below x z ≡ true
+is_below-trans x y z h k = Lt-to x z (Lt-trans x y z (Lt-from x y h) (Lt-from y z k))
