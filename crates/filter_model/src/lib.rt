@@ -5,8 +5,8 @@
 //! definitions stand in `specs/`, one file a noun: `Strings`, `Leaves`, `Answers`, `Trie`, `Valid`, `Nodes`, `Image`.
 //! They say what every filter answers, a plain list and a succinct trie alike, and look like neither.
 //!
-//! The functions here have no body. Each has a law or some rows as its contract, so that the crate is proved only
-//! where the law holds; none needs to be called.
+//! [`are_keys`] tests whether a filter can be built from a list of keys. The other functions have no body: each has a
+//! law or some rows as its contract, so that the crate is proved only where the law holds. None needs to be called.
 //!
 //! ```text
 //! keys            far   fast   s   top   toy

@@ -1,5 +1,5 @@
 -- The stub of a key, as its length and whether the key ends with it.
-use Rattle.std.specs.Prelude.{ℕ, ◌+◌, ◌-◌, ◌==◌, nat_lt, min, cond, List, [], map, length, slice_index_or}
+use Rattle.std.specs.Prelude.{ℕ, zero, suc, ◌+◌, ◌==◌, nat_lt, min, cond, List, [], map, length, slice_index_or}
 use Rattle.key_truncate.specs.declared.Stub.{Stub}
 use Rattle.filter_model.specs.Leaves.{shared_most, ends_of}
 use Rattle.filter_model.specs.Strings.{shared}
@@ -16,4 +16,5 @@ abbrev pub shared_next : List (List ℕ) → ℕ → ℕ
 shared_next keys i = cond (nat_lt (i + 1) (length keys)) (shared (slice_index_or keys i []) (slice_index_or keys (i + 1) [])) 0
 
 abbrev pub shared_before : List (List ℕ) → ℕ → ℕ
-shared_before keys i = cond (i == 0) 0 (shared_next keys (i - 1))
+shared_before keys zero = 0
+shared_before keys (suc i) = shared_next keys i

@@ -29,7 +29,7 @@ pub fn truncate(alloc: Global, keys: &KeyList) -> Result<Vec<Stub>, AllocError>
     ensures { IfOk result (λ stubs. stubs.items ≡ stubs_in keys.now) }
 {
     let mut stubs = Vec::with_capacity(alloc, keys.len())?;
-    let mut before = 0;
+    let mut before: usize = 0;
     for i in 0..keys.len() {
         let after = shared_with_next(keys, i);
         stubs.push(stub_after(keys.get(i), before.max(after)))?;
@@ -43,7 +43,8 @@ fn shared_with_next(keys: &KeyList, i: usize) -> usize
     requires { i < length keys.now }
     ensures { result ≡ shared_next keys.now i }
 {
-    if i + 1 < keys.len() {
+    let count = keys.len();
+    if i + 1 < count {
         shared(keys.get(i), keys.get(i + 1))
     } else {
         0
@@ -65,6 +66,7 @@ fn stub_after(key: &[u8], most: usize) -> Stub
 #[cfg(test)]
 mod tests {
     use super::*;
+    use filter_model::are_keys;
     use std::test::Fail;
 
     #[test]
@@ -83,7 +85,8 @@ mod tests {
             for word in words {
                 keys.push(word)?;
             }
-            let found = truncate_any(&rt, &keys)?;
+            assert!(rt; are_keys(&keys));
+            let found = truncate(rt.alloc(), &keys)?;
             assert_eq!(rt; found.len(), stubs.len());
             for (stub, want) in found.iter().zip(stubs) {
                 assert_eq!(rt; (stub.len, stub.ends), *want);
