@@ -2,20 +2,12 @@
 use Rattle.std.specs.Prelude.{ℕ, ◌+◌, ◌*◌, ◌/◌, ◌^◌, ◌==◌, Bool, true, false, cond, ◌&&◌, ◌||◌, List, [], ◌∷◌, ◌++◌, map, length, take, drop, filter, flat_map}
 use Rattle.std.specs.List.{range_with_len}
 use Rattle.std.specs.Int.{bit_at}
+use Rattle.bit_words.specs.Packed.{packed}
 use Rattle.byteorder.specs.Endian.{little_bytes}
 use Rattle.filter_model.specs.Strings.{same}
 use Rattle.filter_model.specs.Leaves.{Leaf}
 use Rattle.filter_model.specs.Trie.{END, path, height, nodes_to, slots}
 use Rattle.filter_model.specs.Nodes.{Branch, Node, all, trie_of}
-
--- eight bits or fewer as a byte, the lowest bit first
-abbrev pub byte_of : List Bool → ℕ
-byte_of [] = 0
-byte_of (b ∷ bs) = cond b 1 0 + 2 * byte_of bs
-
--- bits in bytes: bit i is bit i % 8 of byte i / 8, and the last byte is filled with zero bits
-unfoldable pub packed : List Bool → List ℕ
-packed bs = map (λ i. byte_of (take 8 (drop (8 * i) bs))) (range_with_len 0 ((length bs + 7) / 8))
 
 -- the node has a branch by c
 abbrev pub has_letter : Node → ℕ → Bool
@@ -84,6 +76,6 @@ image hash_bits real_bits cutoff ls =
     let dense = take (length (nodes_to ls cutoff)) (trie_of ls) in
     let sparse = drop (length (nodes_to ls cutoff)) (trie_of ls) in
     header hash_bits real_bits cutoff ls dense sparse
-    ++ packed (dense_labels dense) ++ packed (dense_children dense) ++ packed (dense_ends dense)
-    ++ sparse_labels sparse ++ packed (sparse_children sparse) ++ packed (sparse_louds sparse)
-    ++ packed (suffixes hash_bits real_bits ls)
+    ++ packed 8 (dense_labels dense) ++ packed 8 (dense_children dense) ++ packed 8 (dense_ends dense)
+    ++ sparse_labels sparse ++ packed 8 (sparse_children sparse) ++ packed 8 (sparse_louds sparse)
+    ++ packed 8 (suffixes hash_bits real_bits ls)

@@ -1,14 +1,13 @@
 -- Of a rising list, a key shares most with one of its neighbours.
-use Rattle.std.proofs.Common.{◌≡◌, ◌<◌, ◌≤◌, ◌+◌, ◌-◌, ◌==◌, nat_lt, ℕ, zero, suc, max, List, [], ◌∷◌, ◌++◌, ◌⊎◌, Bool, true, false, cond, length, get_or, take, map, min, refl, sym, ap, subst, ◌∙◌, arith, inl, inr}
-use Rattle.std.specs.List.{Contains}
-use Rattle.std.proofs.lemmas.Bool.{cases_lt, cases_eq, cond-true, cond-false, lt-ltb, le-ltb, eq-eqb, ne_eqb}
+use Rattle.std.proofs.Common.{◌≡◌, ◌<◌, ◌≤◌, ◌+◌, ◌==◌, nat_lt, ℕ, zero, suc, max, List, [], ◌∷◌, ◌++◌, length, get_or, take, map, min, sym, ap, ◌∙◌, arith, inl, inr}
+use Rattle.std.proofs.lemmas.Bool.{cases_lt, cond-true, cond-false, lt-ltb, le-ltb}
 use Rattle.std.proofs.lemmas.List.{get_or_default, map-append, take_more}
 use Rattle.std.proofs.lemmas.List.Elements.{Contains-get_or}
 use Rattle.filter_model.specs.Keys.{IsKeyList}
 use Rattle.filter_model.specs.Leaves.{shared_most}
 use Rattle.filter_model.specs.Strings.{shared}
 use Rattle.filter_model.proofs.Order.{Lt, Lt-from}
-use Rattle.filter_model.proofs.Shared.{shared-same, shared-other, shared-nil, shared_sym}
+use Rattle.filter_model.proofs.Shared.{shared-same, shared-other, shared_sym}
 use Rattle.filter_model.proofs.Stubs.{nearest_or_none, shared_most-ge, shared_most-le, different}
 use Rattle.key_truncate.specs.declared.Stub.{Stub}
 use Rattle.key_truncate.specs.Stubs.{shared_next, shared_before, stub_in}

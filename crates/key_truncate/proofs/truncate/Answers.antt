@@ -18,6 +18,7 @@ loop-i-preserved c =
     let most : c.max.result ≡ max (shared_before keys i) (shared_next keys i) =
     c.max.ensures ∙ (λ j. max (c.loop-i.invariant.1 j) (c.shared_with_next-after.ensures j)) in
     let stub : c.stub_after.result ≡ record { len = min (max (shared_before keys i) (shared_next keys i) + 1) (length (slice_index_or keys i [])); ends = length (slice_index_or keys i []) == max (shared_before keys i) (shared_next keys i) } =
-    c.stub_after.ensures ∙ (λ j. record { len = min (most j + 1) (length (c.get.ensures j)); ends = length (c.get.ensures j) == most j }) in
-    (c.in_ok-push.ensures.items ∙ ap (λ l. l ++ c.stub_after.result ∷ []) c.loop-i.invariant.0 ∙ stub_next keys c.requires i within c.stub_after.result stub,
-     c.shared_with_next-after.ensures ∙ ap (shared_before keys) (sym (add-one i)))
+    c.stub_after.ensures ∙ (λ j. record { len = min (most j + 1) (length (c.get.ensures j)); ends = length (c.get.ensures j) == most j }) in (
+      c.in_ok-push.ensures.items ∙ ap (λ l. l ++ c.stub_after.result ∷ []) c.loop-i.invariant.0 ∙ stub_next keys c.requires i within c.stub_after.result stub,
+      c.shared_with_next-after.ensures ∙ ap (shared_before keys) (sym (add-one i)),
+    )

@@ -1,5 +1,6 @@
 use Rattle.std.proofs.Common.{refl}
-use Rattle.filter_model.specs.Image.{header, image, in_slots, packed, row}
+use Rattle.bit_words.specs.Packed.{packed}
+use Rattle.filter_model.specs.Image.{header, image, in_slots, row}
 use Rattle.filter_model.specs.Nodes.{node_of, trie_of}
 use Rattle.filter_model.specs.Trie.{branches, height, is_node, is_reached, letters, level, nodes, nodes_to, path, places, slots}
 use Rattle.filter_model.proofs.rows.image_of_a_and_ab.Goals as goal
