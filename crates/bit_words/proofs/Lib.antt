@@ -1,0 +1,4 @@
+pub mod Packing
+pub mod Growing
+pub mod Bytes
+pub mod Counting

@@ -1,0 +1,144 @@
+//! The list of truth values.
+ghost use Rattle.std.specs.Prelude.{◌≡◌, ◌*◌, ◌≤◌, ◌<◌, [], ◌∷◌, ◌++◌, false, length, slice_index_or, IfOk, OnOk, OnErr, IsTrue, ◌↔◌};
+ghost use Rattle.bit_words.specs.Packed.{packed, unpacked};
+
+use super::word::{MAX_BITS, byte_of, low_bits, make_room, set_bit, word_at};
+use std::alloc::{AllocError, Allocator};
+use std::marker::Model;
+
+/// A list of truth values in words of 64 bits: bit `i` is bit `i mod 64` of word `i / 64`, and the rest of the last
+/// word is 0.
+#[derive(Drop)]
+pub struct Bits<A: Allocator> {
+    words: Vec<u64, A>,
+    len: usize,
+}
+
+impl<A: Allocator> Model for Bits<A> {
+    ghost use Rattle.std.specs.Prelude.{◌≡◌, ◌-◌, ◌^◌, ◌≤◌, Bool, List};
+    ghost use Rattle.bit_words.specs.Packed.{packed, unpacked};
+
+    ghost Value = { List Bool };
+
+    ghost view = { λ b. unpacked 64 b.words.items b.len };
+
+    ghost invariant = { λ b. (b.words.items ≡ packed 64 (unpacked 64 b.words.items b.len)) × (b.len ≤ 2 ^ 64 - 64) };
+}
+
+impl<A: Allocator> Bits<A> {
+    /// An empty list, which grows from `alloc`. Takes no memory.
+    pub fn new(alloc: A) -> Bits<A>
+        ensures { result ≡ [] }
+    {
+        Bits {
+            words: Vec::new(alloc),
+            len: 0,
+        }
+    }
+
+    /// The first `len` bits of `bytes`, where bit `i` is bit `i mod 8` of byte `i / 8`. Bits past `len` are ignored.
+    ///
+    /// Takes one block of memory, and fails where that is refused or `len` is above 2^64 - 64.
+    pub fn from_bytes(alloc: A, bytes: &[u8], len: usize) -> Result<Bits<A>, AllocError>
+        requires { len ≤ 8 * length bytes.now }
+        ensures { IfOk result (λ bits. bits ≡ unpacked 8 bytes.now len) }
+    {
+        if len > MAX_BITS {
+            return Err(AllocError);
+        }
+        let count = len.div_ceil(64);
+        let mut words = Vec::with_capacity(alloc, count)?;
+        for k in 0..count {
+            words.push_reserved(low_bits(word_at(bytes, 8 * k), len - 64 * k));
+        }
+        Ok(Bits { words, len })
+    }
+
+    /// Adds a bit at the end. After an `Err` the list is as it was.
+    pub fn push(&mut self, bit: bool) -> Result<(), AllocError>
+        ensures added { OnOk result (self.new ≡ self.old ++ bit ∷ []) }
+        ensures unchanged { OnErr result (self.new ≡ self.old) }
+    {
+        make_room(&mut self.words, self.len)?;
+        set_bit(&mut self.words, self.len, bit);
+        self.len += 1;
+        Ok(())
+    }
+
+    /// Bit `i`.
+    pub fn get(&self, i: usize) -> bool
+        requires { i < length self.now }
+        ensures { result ≡ slice_index_or self.now i false }
+    {
+        self.words[i / 64] >> (i % 64) & 1 == 1
+    }
+
+    /// The number of bits.
+    pub fn len(&self) -> usize
+        ensures { result ≡ length self.now }
+    {
+        self.len
+    }
+
+    /// Whether there is no bit.
+    pub fn is_empty(&self) -> bool
+        ensures { IsTrue result ↔ (self.now ≡ []) }
+    {
+        self.len == 0
+    }
+
+    /// Appends the bits to `out`, eight a byte: bit `i` is bit `i mod 8` of byte `i / 8`, and the rest of the last
+    /// byte is 0. After an `Err` `out` is as it was.
+    pub fn to_bytes(&self, out: &mut Vec<u8>) -> Result<(), AllocError>
+        ensures written { OnOk result (out.new.items ≡ out.old.items ++ packed 8 self.now) }
+        ensures unchanged { OnErr result (out.new.items ≡ out.old.items) }
+    {
+        let count = self.len.div_ceil(8);
+        out.try_reserve(count)?;
+        for k in 0..count {
+            out.push_reserved(byte_of(self.words[k / 8], k % 8));
+        }
+        Ok(())
+    }
+
+    /// The words that hold the bits: bit `i` is bit `i mod 64` of word `i / 64`, and the rest of the last word is 0.
+    pub fn words(&self) -> &[u64]
+        ensures { result.now ≡ packed 64 self.now }
+    {
+        self.words.as_slice()
+    }
+}
+
+#[cfg(test)]
+mod tests {
+    use super::*;
+    use std::test::Fail;
+
+    #[test]
+    fn bits_past_the_end_are_ignored_and_written_as_zero(rt: HostRuntime) -> Result<(), Fail> {
+        let bits = Bits::from_bytes(rt.alloc(), &[0xB9, 0xFE, 0xFF], 9)?;
+        assert_eq!(rt; bits.len(), 9);
+        assert_eq!(rt; bits.words(), [0xB9].as_slice());
+        let mut out = Vec::new(rt.alloc());
+        bits.to_bytes(&mut out)?;
+        assert_eq!(rt; out.as_slice(), [0xB9, 0x00].as_slice());
+        Ok(())
+    }
+
+    #[test]
+    fn pushed_bits_stand_lowest_first(rt: HostRuntime) -> Result<(), Fail> {
+        let mut bits = Bits::new(rt.alloc());
+        assert!(rt; bits.is_empty());
+        for bit in [true, false, false, true, true, true, false, true] {
+            bits.push(bit)?;
+        }
+        assert_eq!(rt; bits.words(), [0xB9].as_slice());
+        for i in 8..65 {
+            bits.push(i == 64)?;
+        }
+        assert_eq!(rt; bits.words(), [0xB9, 1].as_slice());
+        assert!(rt; bits.len() == 65);
+        assert!(rt; bits.get(64) && !bits.get(63));
+        Ok(())
+    }
+}

@@ -1,0 +1,3 @@
+pub mod Seen
+pub mod Ranges
+pub mod Spellings

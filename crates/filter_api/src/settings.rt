@@ -1,0 +1,71 @@
+// The settings of a filter.
+ghost use Rattle.std.specs.Prelude.{◌≡◌, ◌<◌, ◌≤◌, ◌↔◌, IsOk};
+
+use key_base::{MAX_HASH_BITS, MAX_REAL_BITS};
+
+/// How many suffix bits each leaf has, and how many sparse bits a dense bit may cost.
+#[derive(Clone, Copy, Debug, PartialEq, Eq)]
+pub struct Settings {
+    /// Bits of the key's hash, 0 to 32.
+    pub hash_bits: u8,
+    /// Bits of the key after its stub, 0 to 32.
+    pub real_bits: u8,
+    /// The ratio by which the cutoff is chosen; each number is in range.
+    pub ratio: u16,
+}
+
+/// A number that a command sets.
+#[derive(Clone, Copy, Debug, PartialEq, Eq)]
+pub enum Field {
+    Pages,
+    Variant,
+    HashBits,
+    RealBits,
+    Ratio,
+    Count,
+}
+
+/// Settings of which this field is out of range.
+#[derive(Clone, Copy, Debug, PartialEq, Eq)]
+pub struct BadSettings(pub Field);
+
+impl Settings {
+    ghost use Rattle.filter_api.specs.Ranges.{InRange};
+
+    /// Whether the settings are in range; else the first field that is not, in the order of the fields.
+    pub fn check(&self) -> Result<(), BadSettings>
+        ensures in_range { IsOk result ↔ InRange self.now }
+        ensures hash_bits { (result ≡ Err (record { 0 = Field.HashBits })) ↔ (32 < self.now.hash_bits) }
+        ensures real_bits { (result ≡ Err (record { 0 = Field.RealBits })) ↔ ((self.now.hash_bits ≤ 32) × (32 < self.now.real_bits)) }
+    {
+        if self.hash_bits > MAX_HASH_BITS {
+            return Err(BadSettings(Field::HashBits));
+        }
+        if self.real_bits > MAX_REAL_BITS {
+            return Err(BadSettings(Field::RealBits));
+        }
+        Ok(())
+    }
+}
+
+#[cfg(test)]
+mod tests {
+    use super::*;
+
+    #[test]
+    fn the_first_field_out_of_range_is_named(rt: HostRuntime) {
+        let rows = [
+            (32, 32, Ok(())),
+            (33, 33, Err(BadSettings(Field::HashBits))),
+            (0, 33, Err(BadSettings(Field::RealBits))),
+        ];
+        for (hash_bits, real_bits, answer) in rows {
+            let settings = Settings {
+                hash_bits,
+                real_bits,
+                ratio: 64,
+            };
+            assert_eq!(rt; settings.check(), answer);
+        }
+    }
+}

@@ -1,0 +1,13 @@
+pub mod Order
+pub mod Fronts
+pub mod Fits
+pub mod Ranges
+pub mod Shared
+pub mod Stubs
+pub mod Counts
+pub mod Crowds
+pub mod Validity
+pub mod Tallies
+pub mod Pairs
+pub mod Levels
+pub mod KeyLists

@@ -1,0 +1,10 @@
+pub mod Strings
+pub mod Leaves
+pub mod Answers
+pub mod Trie
+pub mod Valid
+pub mod Nodes
+pub mod Image
+pub mod Keys
+pub mod Laws
+pub mod Rows

@@ -1,0 +1,33 @@
+-- The leaf lists that a filter may stand for, without mention of keys.
+use Rattle.std.specs.Prelude.{◌≡◌, ℕ, ◌<◌, ◌≤◌, ◌^◌, true, List, length}
+use Rattle.std.specs.List.{All, AllPairs, list_any}
+use Rattle.byte_fields.specs.Spelling.{IsBytes}
+use Rattle.filter_model.specs.Strings.{is_below, extends}
+use Rattle.filter_model.specs.Leaves.{Leaf}
+use Rattle.filter_model.specs.Trie.{branches, parent}
+
+-- a leaf by itself: a stub of 1 to 1,024 bytes, hash and real bits of their widths, no real bits where it ends
+pub record IsLeaf (hash_bits real_bits : ℕ) (l : Leaf) : Type 0 where
+  pub bytes : IsBytes l.stub
+  pub filled : 0 < length l.stub
+  pub short : length l.stub ≤ 1024
+  pub hash_fits : l.hash < 2 ^ hash_bits
+  pub real_fits : l.real < 2 ^ real_bits
+  pub end_without_real : l.ends ≡ true → l.real ≡ 0
+
+-- the stub is a proper prefix of another exactly where the leaf ends
+abbrev pub EndsRightly : List Leaf → Leaf → Type 0
+EndsRightly ls l = l.ends ≡ list_any (λ o. extends l.stub o.stub) ls
+
+-- the leaf is a branch of a node of two branches or more
+abbrev pub IsCrowded : List Leaf → Leaf → Type 0
+IsCrowded ls l = 2 ≤ length (branches ls (parent l))
+
+pub record IsValid (hash_bits real_bits : ℕ) (ls : List Leaf) : Type 0 where
+  pub some : 0 < length ls
+  pub few : length ls < 2 ^ 32
+  pub leaves : All (IsLeaf hash_bits real_bits) ls
+  pub rising : AllPairs (λ a b. is_below a.stub b.stub ≡ true) ls
+  pub ends : All (EndsRightly ls) ls
+  pub single : length ls ≡ 1 → All (λ l. length l.stub ≡ 1) ls
+  pub crowded : 1 < length ls → All (IsCrowded ls) ls

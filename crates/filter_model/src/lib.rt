@@ -1,0 +1,29 @@
+//! What a filter answers: the definitions, their worked rows, and the laws that they keep.
+//!
+//! A filter stands for a list of leaves, one for each key: as much of the key as tells it from all others (its stub),
+//! whether the key ends there, and some bits of a hash or of the key itself (SuRF: Zhang et al., SIGMOD 2018). The
+//! definitions stand in `specs/`, one file a noun: `Strings`, `Leaves`, `Answers`, `Trie`, `Valid`, `Nodes`, `Image`.
+//! They say what every filter answers, a plain list and a succinct trie alike, and look like neither.
+//!
+//! [`are_keys`] tests whether a filter can be built from a list of keys. The other functions have no body: each has a
+//! law or some rows as its contract, so that the crate is proved only where the law holds. None needs to be called.
+//!
+//! ```text
+//! keys            far   fast   s   top   toy
+//! stubs           far   fas    s   top   toy
+//! point(fasten)   yes: fas is its prefix            point(fa)       no
+//! range(fat, s)   yes: s lies there                 range(fat, r)   no
+//! ```
+#![tactic(auto)]
+
+mod keys;
+mod laws;
+mod rows;
+
+pub use keys::are_keys;
+pub use laws::{
+    leaves_are_valid, nodes_are_the_prefixes, nothing_held_is_denied, range_is_exact, tally_is_near,
+};
+pub use rows::{
+    far_to_toy_answers, far_to_toy_leaves, far_to_toy_trie, image_of_a_and_ab, other_rows,
+};
