@@ -76,3 +76,12 @@ counted (line ∷ next ∷ more) = line ∷ counted (next ∷ more)
 -- the lines of an input that was read to its end
 abbrev pub lines_of : Bytes → List Bytes
 lines_of bytes = counted (slice_split (λ b. b == 10) bytes)
+
+abbrev pub but_last : List Bytes → List Bytes
+but_last [] = []
+but_last (part ∷ []) = []
+but_last (part ∷ next ∷ more) = part ∷ but_last (next ∷ more)
+
+-- the lines of an input that went on, each ended by its newline: a rest without one is no line
+abbrev pub whole_lines : Bytes → List Bytes
+whole_lines bytes = but_last (slice_split (λ b. b == 10) bytes)

@@ -43,6 +43,12 @@ Step old (Bad code) reply new = (reply ≡ BadLine code) × (new ≡ old)
 
 -- ---- one line after another
 
+-- the lines are answered in order with this text, and leave these entries
+abbrev pub Answers : List Entry → List Bytes → Bytes → List Entry → Type 0
+Answers old [] text new = (text ≡ []) × (new ≡ old)
+Answers old (line ∷ more) text new =
+    (reply : Reply) × (rest : Bytes) × (mid : List Entry) × (text ≡ text_of reply ++ rest) × Step old (command_of line) reply mid × Answers mid more rest new
+
 -- how the lines came to their end
 pub data Ending : Type 0 where
   ToLast : Ending

@@ -1,6 +1,10 @@
-pub mod Causes
-pub mod Cuts
-pub mod Decoding
-pub mod Keeping
+pub mod Answering
+pub mod EndCauses
+pub mod History
+pub mod Moments
+pub mod Outcomes
+pub mod Pieces
 pub mod Progress
 pub mod Steps
+pub mod Texts
+pub mod Writes

@@ -1,283 +1,173 @@
--- How a run goes on, piece by piece and line by line.
-use Rattle.std.proofs.Common.{◌≡◌, ◌≢◌, inl, inr, ◌<◌, ◌≤◌, ◌++◌, ℕ, zero, List, [], ◌∷◌, length, take, refl, sym, ap, ◌∙◌, subst, arith, append_assoc, false, Bool, cond}
-use Rattle.std.specs.Prelude.{flat_map, All, ◌==◌, Option, Some, None, IfNone}
+-- How a run goes on, line by line.
+use Rattle.std.proofs.Common.{◌≡◌, ◌≢◌, ◌⊎◌, inl, inr, ◌<◌, ◌≤◌, ◌+◌, ◌++◌, ℕ, zero, List, [], ◌∷◌, length, refl, sym, ap, ◌∙◌, subst, arith, append_assoc, length-append, true, false, Bool, cond}
+use Rattle.std.specs.Prelude.{flat_map, All, nat_le, ◌==◌, Option, Some, None, IfNone}
 use Rattle.std.specs.List.{slice_split}
 use Rattle.std.proofs.lemmas.Bool.{cases_lt, lt-leb}
 use Rattle.std.proofs.lemmas.Grind.{flat_map-append}
-use Rattle.std.proofs.lemmas.List.{append-nil, take-append-le}
-use Rattle.std.proofs.lemmas.List.Elements.{All-push, All-nil, All-head, All-tail, All-append}
-use Rattle.std.proofs.lemmas.List.Splits.{slice_split_at, slice_split_none, length-slice_split}
-use Rattle.disk_trait.specs.World.{Streams}
+use Rattle.std.proofs.lemmas.List.{append-nil}
+use Rattle.std.proofs.lemmas.List.Elements.{All-push, All-nil, All-append}
+use Rattle.disk_trait.specs.World.{Image, World, Now}
+use Rattle.outside.specs.During.{During}
+use Rattle.outside.specs.Streams.{SaidByNow, SaysFront}
+use Rattle.outside.proofs.Crossing.{during_then, during_weaker}
+use Rattle.gate_log.specs.Area.{LogIs}
+use Rattle.store_commands.specs.Cutting.{NoNewline}
 use Rattle.store_model.specs.SortedMap.{Bytes}
 use Rattle.store_model.specs.Entries.{Entry}
-use Rattle.store_model.specs.Lines.{Command, Bad, command_of, asked_by, counted, lines_of}
-use Rattle.store_model.specs.Replies.{Reply, text_of}
-use Rattle.store_model.specs.Script.{Step, Quits, Script}
-use Rattle.surf_run.specs.Holding.{Held, NoNewline}
-use Rattle.surf_run.specs.Run.{Replied}
-use Rattle.surf_run.specs.Serving.{Answered, Ran, with_newline, Served, Finished, Ended, After}
-use Rattle.surf_run.specs.declared.serve.LineEnd.{LineEnd}
-use Rattle.surf_run.specs.declared.serve.LineEnd.TheVariants.{Next, Quit, End}
+use Rattle.store_model.specs.Lines.{Command, Bad, command_of, lines_of}
+use Rattle.store_model.specs.Replies.{Reply, Bye, Device, text_of}
+use Rattle.store_model.specs.Script.{Step, Answers, Script, Ending, ToLast, AtQuit, AtDevice}
+use Rattle.surf_run.specs.Crash.{Reached, Acknowledged}
+use Rattle.surf_run.specs.Holding.{Held}
+use Rattle.surf_run.specs.Holds.{Holds}
+use Rattle.surf_run.specs.Serving.{InLine, LineAnswer, GoesOn, Whole, Answered, Ran, with_newline, Served, AreFirst, Closed, Broken, EndedBy, After}
+use Rattle.surf_run.specs.declared.store.Store.{Store}
+use Rattle.surf_run.specs.declared.end.LineEnd.{LineEnd}
+use Rattle.surf_run.specs.declared.end.LineEnd.TheVariants.{Next, Quit, End}
+use Rattle.surf_run.proofs.Texts.{lines_first, command_held, held_none, held_same}
+use Rattle.surf_run.proofs.Answering.{answers_on, answers_of, ran_on, ran_weaker, script_of, script_ends, IsLast}
+use Rattle.surf_run.proofs.History.{reached_on, ack_more, line_ack, reached_here}
 
--- ---- lines that were answered, and the script
+pub device_last : (reply : Reply) → reply ≡ Device → IsLast reply AtDevice
+device_last reply is = subst (λ (r : Reply). IsLast r AtDevice) (sym is) (refl, refl)
 
--- one line more
-pub ran_on : (a : List Entry) (lines : List Bytes) (text : Bytes) (b : List Entry) (line : Bytes) (reply : Reply) (c : List Entry)
-    → Ran a lines text b → Step b (command_of line) reply c → (Quits (command_of line) → ⊥) → Ran a (lines ++ line ∷ []) (text ++ text_of reply) c
-ran_on a [] text b line reply c ran step goes =
-    (reply, [], c, ap (λ (l : Bytes). l ++ text_of reply) ran.0 ∙ sym (append-nil (text_of reply)), subst (λ (e : List Entry). Step e (command_of line) reply c) ran.1 step, goes, (refl, refl))
-ran_on a (first ∷ lines) text b line reply c ran step goes =
-    (ran.0, ran.1 ++ text_of reply, ran.2, ap (λ (l : Bytes). l ++ text_of reply) ran.3 ∙ append_assoc (text_of ran.0) ran.1 (text_of reply), ran.4, ran.5, ran_on ran.2 lines ran.1 b line reply c ran.6 step goes)
+module _ (start : List Entry) (bytes kept : Bytes) (store : Store) (first w : World) (served : Served start bytes kept store first w) (part : Bytes) (no_newline : NoNewline part) where
+  line : Bytes
+  line = served.rest ++ part
 
-pub script_of : (a : List Entry) (lines : List Bytes) (text : Bytes) (b : List Entry) → Ran a lines text b → Script a lines text
-script_of a [] text b ran = ran.0
-script_of a (first ∷ lines) text b ran = (ran.0, ran.1, ran.2, ran.3, ran.4, inr (ran.5, script_of ran.2 lines ran.1 b ran.6))
-
-pub script_quits : (a : List Entry) (lines : List Bytes) (text : Bytes) (b : List Entry) (line : Bytes) (reply : Reply) (c : List Entry) (more : List Bytes)
-    → Ran a lines text b → Step b (command_of line) reply c → Quits (command_of line) → Script a (lines ++ line ∷ more) (text ++ text_of reply)
-script_quits a [] text b line reply c more ran step quits =
-    (reply, [], c, ap (λ (l : Bytes). l ++ text_of reply) ran.0 ∙ sym (append-nil (text_of reply)), subst (λ (e : List Entry). Step e (command_of line) reply c) ran.1 step, inl (quits, refl))
-script_quits a (first ∷ lines) text b line reply c more ran step quits =
-    (ran.0, ran.1 ++ text_of reply, ran.2, ap (λ (l : Bytes). l ++ text_of reply) ran.3 ∙ append_assoc (text_of ran.0) ran.1 (text_of reply), ran.4, inr (ran.5, script_quits ran.2 lines ran.1 b line reply c more ran.6 step quits))
-
--- ---- the lines of an input
-
-counted-cons : (line : Bytes) (parts : List Bytes) → zero < length parts → counted (line ∷ parts) ≡ line ∷ counted parts
-counted-cons line [] some = absurd (omega arith)
-counted-cons [] (next ∷ parts) some = refl
-counted-cons (b ∷ line) (next ∷ parts) some = refl
-
--- the whole lines come first
-pub lines_first : (lines : List Bytes) (more : Bytes) → All NoNewline lines → lines_of (flat_map with_newline lines ++ more) ≡ lines ++ lines_of more
-lines_first [] more whole = refl
-lines_first (line ∷ lines) more whole =
-    let p = λ (b : ℕ). b == 10 in
-    let here : flat_map with_newline (line ∷ lines) ++ more ≡ line ++ 10 ∷ (flat_map with_newline lines ++ more) =
-    append_assoc (with_newline line) (flat_map with_newline lines) more ∙ append_assoc line (10 ∷ []) (flat_map with_newline lines ++ more) in
-    let cut = slice_split_at p line 10 (flat_map with_newline lines ++ more) (All-head NoNewline line lines whole) refl in
-    ap lines_of here ∙ ap counted cut
-    ∙ counted-cons line (slice_split p (flat_map with_newline lines ++ more)) (omega (arith, length-slice_split p (flat_map with_newline lines ++ more)))
-    ∙ ap (λ (l : List Bytes). line ∷ l) (lines_first lines more (All-tail NoNewline line lines whole))
-
--- a last line without its newline
-last_line : (rest : Bytes) → NoNewline rest → zero < length rest → lines_of rest ≡ rest ∷ []
-last_line [] none some = absurd (omega arith)
-last_line (b ∷ rest) none some = ap counted (slice_split_none (λ (b : ℕ). b == 10) (b ∷ rest) none)
-
--- ---- what is kept of a line says what the line says
-
-too_long : (line : Bytes) → 140000 < length line → command_of line ≡ Bad 2
-too_long line long = ap (λ (t : Bool). cond t (asked_by (slice_split (λ b. b == 32) line)) (Bad 2)) (lt-leb (length line) 140000 long)
-
-pub command_held : (rest kept : Bytes) → Held rest kept → command_of kept ≡ command_of rest
-command_held rest kept held = elim (cases_lt 140000 (length rest)) [
-  | inl long ↦ too_long kept (held.long long) ∙ sym (too_long rest long)
-  | inr short ↦ ap command_of (held.short short)
-]
-
-pub nothing : (l : Bytes) → length l ≡ 0 → l ≡ []
-nothing [] is = refl
-nothing (b ∷ l) is = absurd (omega arith)
-
--- where nothing is kept, nothing is there
-pub held_none : (rest kept : Bytes) → Held rest kept → length kept ≡ 0 → rest ≡ []
-held_none rest kept held none = elim (cases_lt 140000 (length rest)) [
-  | inl long ↦ absurd (let h = held.long long in omega arith)
-  | inr short ↦ nothing rest (let h = ap length (held.short short) in omega arith)
-]
-
-pub held_same : (rest kept : Bytes) → kept ≡ rest → length rest ≤ 140000 → Held rest kept
-held_same rest kept same short = record { short = λ _. same; long = λ long. absurd (omega arith) }
-
--- ---- a part that ends no line, and one that does
-
-module _ (start : List Entry) (before bytes said kept : Bytes) (now : List Entry) (served : Served start before bytes said kept now) (part : Bytes) (no_newline : NoNewline part) where
   open_end : NoNewline (served.rest ++ part)
   open_end = All-append (λ (b : ℕ). (b == 10) ≡ false) served.rest part served.open_end no_newline
 
-  pub part_more : (kept' : Bytes) → Held (served.rest ++ part) kept' → Served start before (bytes ++ part) said kept' now
+  -- a part that ends no line
+  pub part_more : (kept' : Bytes) → Held (served.rest ++ part) kept' → Served start (bytes ++ part) kept' store first w
   part_more kept' held = record {
     lines = served.lines;
     rest = served.rest ++ part;
     text = served.text;
+    now = served.now;
     split = ap (λ (l : Bytes). l ++ part) served.split ∙ append_assoc (flat_map with_newline served.lines) served.rest part;
     whole = served.whole;
     open_end = open_end;
     ran = served.ran;
     told = served.told;
     held = held;
+    history = served.history;
+    stand = served.stand;
+    holds = served.holds;
   }
 
   line_split : bytes ++ part ++ 10 ∷ [] ≡ flat_map with_newline (served.lines ++ (served.rest ++ part) ∷ [])
   line_split =
-      let line = served.rest ++ part in
       ap (λ (l : Bytes). l ++ part ++ 10 ∷ []) served.split
       ∙ ap (λ (l : Bytes). l ++ 10 ∷ []) (append_assoc (flat_map with_newline served.lines) served.rest part)
-      ∙ append_assoc (flat_map with_newline served.lines) line (10 ∷ [])
-      ∙ sym (flat_map-append with_newline served.lines (line ∷ []) ∙ ap (λ (l : Bytes). flat_map with_newline served.lines ++ l) (append-nil (with_newline line)))
+      ∙ append_assoc (flat_map with_newline served.lines) (served.rest ++ part) (10 ∷ [])
+      ∙ sym (flat_map-append with_newline served.lines ((served.rest ++ part) ∷ []) ∙ ap (λ (l : Bytes). flat_map with_newline served.lines ++ l) (append-nil (with_newline (served.rest ++ part))))
 
-  whole : All NoNewline (served.lines ++ (served.rest ++ part) ∷ [])
-  whole = All-push NoNewline served.lines (served.rest ++ part) served.whole open_end
+  whole_now : All NoNewline (served.lines ++ (served.rest ++ part) ∷ [])
+  whole_now = All-push NoNewline served.lines (served.rest ++ part) served.whole open_end
 
-  module _ (line : Bytes) (same : command_of line ≡ command_of (served.rest ++ part)) (new : List Entry) (said' : Bytes) (reply : Reply) (step : Step now (command_of line) reply new) (says : said' ≡ said ++ text_of reply) where
-    there : Step now (command_of (served.rest ++ part)) reply new
-    there = subst (λ (c : Command). Step now c reply new) same step
+  cut : (more : Bytes) → lines_of (bytes ++ part ++ 10 ∷ [] ++ more) ≡ (served.lines ++ (served.rest ++ part) ∷ []) ++ lines_of more
+  cut more = ap (λ (l : Bytes). lines_of (l ++ more)) line_split ∙ lines_first (served.lines ++ (served.rest ++ part) ∷ []) more whole_now
 
-    told : said' ≡ before ++ (served.text ++ text_of reply)
-    told = says ∙ ap (λ (l : Bytes). l ++ text_of reply) served.told ∙ append_assoc before served.text (text_of reply)
+  first_lines : AreFirst (bytes ++ part ++ 10 ∷ []) (served.lines ++ (served.rest ++ part) ∷ [])
+  first_lines more = (lines_of more, cut more)
 
-    next_line : (kept' : Bytes) → (Quits (command_of line) → ⊥) → kept' ≡ [] → Served start before (bytes ++ part ++ 10 ∷ []) said' kept' new
-    next_line kept' goes cleared = record {
+  module _ (w' : World) (reply : Reply) (new : List Entry) (answer : LineAnswer served.now (Step served.now (command_of (served.rest ++ part))) reply new w w') where
+    history : During (Acknowledged start (served.lines ++ (served.rest ++ part) ∷ []) (length first.beside.said)) first w'
+    history =
+        during_then _ first w w' (during_weaker _ _ first w served.history (λ k image. ack_more start served.lines ((served.rest ++ part) ∷ []) (length first.beside.said) k image))
+        (during_weaker _ _ w w' answer.each (line_ack start served.lines (served.rest ++ part) served.text served.now reply first w w' (answers_of (Reached w) (length first.beside.said) start served.lines served.text served.now served.ran) served.told answer.front))
+
+    ran_then : Ran (Reached w') (length first.beside.said) start served.lines served.text served.now
+    ran_then = ran_weaker (Reached w) (Reached w') (reached_on _ w w' answer.each) (length first.beside.said) start served.lines served.text served.now served.ran
+
+    module _ (all : Whole reply w w') where
+      told : w'.beside.said ≡ first.beside.said ++ (served.text ++ text_of reply)
+      told = all ∙ ap (λ (l : Bytes). l ++ text_of reply) served.told ∙ append_assoc first.beside.said served.text (text_of reply)
+
+      pub next_line : (kept' : Bytes) (store' : Store) → GoesOn reply → Now (LogIs 0 new) w' → Holds new store' → SaidByNow w' → kept' ≡ [] → Served start (bytes ++ part ++ 10 ∷ []) kept' store' first w'
+      next_line kept' store' goes now holds said_now cleared = record {
+        lines = served.lines ++ (served.rest ++ part) ∷ [];
+        rest = [];
+        text = served.text ++ text_of reply;
+        now = new;
+        split = line_split ∙ sym (append-nil _);
+        whole = whole_now;
+        open_end = All-nil (λ (b : ℕ). (b == 10) ≡ false);
+        ran = ran_on (Reached w') (length first.beside.said) start served.lines served.text served.now (served.rest ++ part) reply new ran_then answer.step goes
+            (length first.beside.said + length served.text + length (text_of reply)) refl
+            (reached_here w' new (length first.beside.said + length served.text + length (text_of reply)) said_now (omega (arith, ap length told, length-append first.beside.said (served.text ++ text_of reply), length-append served.text (text_of reply))) now);
+        told = told;
+        held = held_same [] kept' cleared (omega arith);
+        history = history;
+        stand = now;
+        holds = holds;
+      }
+
+      pub last_line : (ending : Ending) → IsLast reply ending → Closed ending start (bytes ++ part ++ 10 ∷ []) first w'
+      last_line ending last = record {
+        lines = served.lines ++ (served.rest ++ part) ∷ [];
+        first_lines = first_lines;
+        text = served.text ++ text_of reply;
+        told = told;
+        script = λ more. subst (λ (ls : List Bytes). Script (Reached w') (length first.beside.said) start ls (served.text ++ text_of reply) ending) (sym (cut more ∙ append_assoc served.lines ((served.rest ++ part) ∷ []) (lines_of more)))
+            (script_ends (Reached w') (length first.beside.said) start served.lines served.text served.now (served.rest ++ part) reply new (lines_of more) ending ran_then answer.step last);
+        history = history;
+      }
+
+    pub broken_line : Broken start (bytes ++ part ++ 10 ∷ []) first w'
+    broken_line = record {
       lines = served.lines ++ (served.rest ++ part) ∷ [];
-      rest = [];
-      text = served.text ++ text_of reply;
-      split = line_split ∙ sym (append-nil _);
-      whole = whole;
-      open_end = All-nil (λ (b : ℕ). (b == 10) ≡ false);
-      ran = ran_on start served.lines served.text now (served.rest ++ part) reply new served.ran there (subst (λ (c : Command). Quits c → ⊥) same goes);
-      told = told;
-      held = held_same [] kept' cleared (omega arith);
+      first_lines = first_lines;
+      text = served.text ++ answer.front.done;
+      rest = answer.front.rest;
+      told = answer.front.said ∙ ap (λ (l : Bytes). l ++ answer.front.done) served.told ∙ append_assoc first.beside.said served.text answer.front.done;
+      last = new;
+      answered = subst (λ (l : Bytes). Answers start (served.lines ++ (served.rest ++ part) ∷ []) l new) (ap (λ (l : Bytes). served.text ++ l) answer.front.split ∙ sym (append_assoc served.text answer.front.done answer.front.rest))
+          (answers_on start served.lines served.text served.now (served.rest ++ part) reply new (answers_of (Reached w) (length first.beside.said) start served.lines served.text served.now served.ran) answer.step);
+      history = history;
     }
 
-    quit_line : Quits (command_of line) → Finished start before (bytes ++ part ++ 10 ∷ []) said'
-    quit_line quits = record {
-      text = served.text ++ text_of reply;
-      told = told;
-      script = λ more.
-          let cut : lines_of (bytes ++ part ++ 10 ∷ [] ++ more) ≡ served.lines ++ (served.rest ++ part) ∷ lines_of more =
-          ap (λ (l : Bytes). lines_of (l ++ more)) line_split
-          ∙ lines_first (served.lines ++ (served.rest ++ part) ∷ []) more whole
-          ∙ append_assoc served.lines ((served.rest ++ part) ∷ []) (lines_of more) in
-          subst (λ (ls : List Bytes). Script start ls (served.text ++ text_of reply)) (sym cut)
-          (script_quits start served.lines served.text now (served.rest ++ part) reply new (lines_of more) served.ran there (subst Quits same quits));
-    }
+  pub line_end : (w' : World) (end : LineEnd) (store' : Store) (kept' : Bytes) → SaidByNow w' → Answered end served.now (Step served.now (command_of (served.rest ++ part))) store' w w' → kept' ≡ []
+      → After end start (bytes ++ part ++ 10 ∷ []) kept' store' first w'
+  line_end w' Next store' kept' said_now a cleared = next_line w' a.0 a.1 a.2 a.4 kept' store' a.3 a.5 a.6 said_now cleared
+  line_end w' Quit store' kept' said_now a cleared = last_line w' Bye a.0 a.1 a.2 AtQuit (refl, refl)
+  line_end w' (End status) store' kept' said_now a cleared = elim a.3 [
+    | inl device ↦ inl (device.0, last_line w' a.0 a.1 a.2 device.2 AtDevice (device_last a.0 device.1))
+    | inr six ↦ inr (six, broken_line w' a.0 a.1 a.2)
+  ]
 
-  pub line_end : (line : Bytes) → command_of line ≡ command_of (served.rest ++ part) → (end : LineEnd) (new : List Entry) (said' kept' : Bytes) → Answered end now (command_of line) new said said' → kept' ≡ []
-      → After end start before (bytes ++ part ++ 10 ∷ []) said' kept' new
-  line_end line same Next new said' kept' answered cleared = next_line line same new said' answered.1.0 answered.1.1 answered.1.2 kept' answered.0 cleared
-  line_end line same Quit new said' kept' answered cleared = quit_line line same new said' answered.1.0 answered.1.1 answered.1.2 answered.0
-  line_end line same (End status) new said' kept' answered cleared = tt
+-- ---- what follows an end counts for nothing
 
--- what was finished stays so, and what follows an end counts for nothing
-finished_more : (start : List Entry) (before bytes more said : Bytes) → Finished start before bytes said → Finished start before (bytes ++ more) said
-finished_more start before bytes more said finished = record {
-  text = finished.text;
-  told = finished.told;
-  script = λ rest. subst (λ (l : Bytes). Script start (lines_of l) finished.text) (sym (append_assoc bytes more rest)) (finished.script (more ++ rest));
+first_more : (bytes more : Bytes) (lines : List Bytes) → AreFirst bytes lines → AreFirst (bytes ++ more) lines
+first_more bytes more lines are rest = let more_lines = are (more ++ rest) in (more_lines.0, ap lines_of (append_assoc bytes more rest) ∙ more_lines.1)
+
+closed_more : (ending : Ending) (start : List Entry) (bytes more : Bytes) (first w : World) → Closed ending start bytes first w → Closed ending start (bytes ++ more) first w
+closed_more ending start bytes more first w closed = record {
+  lines = closed.lines;
+  first_lines = first_more bytes more closed.lines closed.first_lines;
+  text = closed.text;
+  told = closed.told;
+  script = λ rest. subst (λ (l : Bytes). Script (Reached w) (length first.beside.said) start (lines_of l) closed.text ending) (sym (append_assoc bytes more rest)) (closed.script (more ++ rest));
+  history = closed.history;
 }
 
-pub after_more : (end : LineEnd) (start : List Entry) (before bytes more said kept : Bytes) (now : List Entry) → (end ≡ Next → ⊥) → After end start before bytes said kept now → After end start before (bytes ++ more) said kept now
-after_more Next start before bytes more said kept now not_next after = absurd (not_next refl)
-after_more Quit start before bytes more said kept now not_next after = finished_more start before bytes more said after
-after_more (End status) start before bytes more said kept now not_next after = tt
-
--- ---- the end of the input
-
-pub ended_empty : (start : List Entry) (before bytes said kept : Bytes) (now : List Entry) → Served start before bytes said kept now → length kept ≡ 0 → Ended start before bytes said
-ended_empty start before bytes said kept now served none =
-    let empty = held_none served.rest kept served.held none in
-    let lines : lines_of bytes ≡ served.lines =
-    ap lines_of (served.split ∙ ap (λ (l : Bytes). flat_map with_newline served.lines ++ l) empty) ∙ lines_first served.lines [] served.whole ∙ append-nil served.lines in
-    record { text = served.text; told = served.told; script = subst (λ (ls : List Bytes). Script start ls served.text) (sym lines) (script_of start served.lines served.text now served.ran) }
-
-module _ (start : List Entry) (before bytes said kept : Bytes) (now new : List Entry) (said' : Bytes) (served : Served start before bytes said kept now) (some : length kept ≢ 0) where
-  same : command_of kept ≡ command_of served.rest
-  same = command_held served.rest kept served.held
-
-  last : lines_of bytes ≡ served.lines ++ served.rest ∷ []
-  last =
-      let open_line : zero < length served.rest = elim (cases_lt 140000 (length served.rest)) [
-        | inl long ↦ omega arith
-        | inr short ↦ let h = ap length (served.held.short short) in omega arith
-      ] in
-      ap lines_of served.split ∙ lines_first served.lines served.rest served.whole ∙ ap (λ (ls : List Bytes). served.lines ++ ls) (last_line served.rest served.open_end open_line)
-
-  module _ (reply : Reply) (step : Step now (command_of kept) reply new) (says : said' ≡ said ++ text_of reply) where
-    told_last : said' ≡ before ++ (served.text ++ text_of reply)
-    told_last = says ∙ ap (λ (l : Bytes). l ++ text_of reply) served.told ∙ append_assoc before served.text (text_of reply)
-
-    there_last : Step now (command_of served.rest) reply new
-    there_last = subst (λ (c : Command). Step now c reply new) same step
-
-    next : (Quits (command_of kept) → ⊥) → Ended start before bytes said'
-    next goes = record {
-      text = served.text ++ text_of reply;
-      told = told_last;
-      script = subst (λ (ls : List Bytes). Script start ls (served.text ++ text_of reply)) (sym last)
-          (script_of start (served.lines ++ served.rest ∷ []) (served.text ++ text_of reply) new (ran_on start served.lines served.text now served.rest reply new served.ran there_last (subst (λ (c : Command). Quits c → ⊥) same goes)));
-    }
-
-    quit : Quits (command_of kept) → Ended start before bytes said'
-    quit quits = record {
-      text = served.text ++ text_of reply;
-      told = told_last;
-      script = subst (λ (ls : List Bytes). Script start ls (served.text ++ text_of reply)) (sym last)
-          (script_quits start served.lines served.text now served.rest reply new [] served.ran there_last (subst Quits same quits));
-    }
-
-  pub ended_next : Answered Next now (command_of kept) new said said' → Ended start before bytes said'
-  ended_next a = next a.1.0 a.1.1 a.1.2 a.0
-
-  pub ended_quit : Answered Quit now (command_of kept) new said said' → Ended start before bytes said'
-  ended_quit a = quit a.1.0 a.1.1 a.1.2 a.0
-
--- ---- the whole run
-
--- before anything was taken
-pub served_none : (start : List Entry) (said kept : Bytes) → kept ≡ [] → Served start said [] said kept start
-served_none start said kept none = record {
-  lines = [];
-  rest = [];
-  text = [];
-  split = refl;
-  whole = All-nil NoNewline;
-  open_end = All-nil (λ (b : ℕ). (b == 10) ≡ false);
-  ran = (refl, refl);
-  told = sym (append-nil said);
-  held = held_same [] kept none (omega arith);
+broken_more : (start : List Entry) (bytes more : Bytes) (first w : World) → Broken start bytes first w → Broken start (bytes ++ more) first w
+broken_more start bytes more first w broken = record {
+  lines = broken.lines;
+  first_lines = first_more bytes more broken.lines broken.first_lines;
+  text = broken.text;
+  rest = broken.rest;
+  told = broken.told;
+  last = broken.last;
+  answered = broken.answered;
+  history = broken.history;
 }
 
-pub taken_more : (first mid last taken piece : Bytes) → first ≡ taken ++ mid → mid ≡ piece ++ last → first ≡ taken ++ piece ++ last
-taken_more first mid last taken piece so_far then = so_far ∙ ap (λ (l : Bytes). taken ++ l) then ∙ sym (append_assoc taken piece last)
-
-pub replied_to_end : (start : List Entry) (old new : Streams) (taken : Bytes) → old.to_take ≡ taken ++ new.to_take → new.to_take ≡ [] → Ended start old.said taken new.said → Replied start old new
-replied_to_end start old new taken input none ended = record { taken = taken; text = ended.text; input = input; output = ended.told; script = ended.script; ended = inl none }
-
-pub replied_to_quit : (start : List Entry) (old new : Streams) (taken : Bytes) → old.to_take ≡ taken ++ new.to_take → Finished start old.said taken new.said → Replied start old new
-replied_to_quit start old new taken input finished = record {
-  taken = taken;
-  text = finished.text;
-  input = input;
-  output = finished.told;
-  script = subst (λ (l : Bytes). Script start (lines_of l) finished.text) (append-nil taken) (finished.script []);
-  ended = inr finished.script;
-}
-
-pub served_as : (start : List Entry) (before bytes said said' kept kept' : Bytes) (now : List Entry) → said' ≡ said → kept' ≡ kept → Served start before bytes said kept now → Served start before bytes said' kept' now
-served_as start before bytes said said' kept kept' now same as_before served =
-    subst (λ (l : Bytes). Served start before bytes l kept' now) (sym same) (subst (λ (l : Bytes). Served start before bytes said l now) (sym as_before) served)
-
--- what stands in the buffer is what was taken
-pub front_of : (n : ℕ) (into rest : Bytes) → n ≤ length into → take n (into ++ rest) ≡ take n into
-front_of n into rest le = take-append-le n into rest le
-
--- ---- the parts of a piece
-
-module _ (bytes piece done rest line more : Bytes) (so_far : piece ≡ done ++ rest) (cut : rest ≡ line ++ 10 ∷ more) where
-  pub piece_split : piece ≡ (done ++ (line ++ 10 ∷ [])) ++ more
-  piece_split = so_far ∙ ap (λ (l : Bytes). done ++ l) (cut ∙ sym (append_assoc line (10 ∷ []) more)) ∙ sym (append_assoc done (line ++ 10 ∷ []) more)
-
-  pub line_more : bytes ++ (done ++ (line ++ 10 ∷ [])) ≡ bytes ++ done ++ line ++ 10 ∷ []
-  line_more = sym (append_assoc bytes done (line ++ 10 ∷ [])) ∙ sym (append_assoc (bytes ++ done) line (10 ∷ []))
-
-  pub all_more : bytes ++ piece ≡ bytes ++ done ++ line ++ 10 ∷ [] ++ more
-  all_more = ap (λ (l : Bytes). bytes ++ l) piece_split ∙ sym (append_assoc bytes (done ++ (line ++ 10 ∷ [])) more) ∙ ap (λ (l : Bytes). l ++ more) line_more
-
-pub none_here : {X : Type 0} (r : Option X) (P : Type 0) → ((x : X) → r ≡ Some x → ⊥) → IfNone r P → P
-none_here (Some x) P not_some p = absurd (not_some x refl)
-none_here None P not_some p = p
-
--- the end of the input was met
-pub taken_all : (first mid last taken piece : Bytes) → first ≡ taken ++ mid → mid ≡ piece ++ last → mid ≡ [] → (first ≡ taken ++ last) × (last ≡ [])
-taken_all first mid last taken [] so_far then none = (so_far ∙ ap (λ (l : Bytes). taken ++ l) then, sym then ∙ none)
-taken_all first mid last taken (p ∷ piece) so_far then none = absurd (cc (then, none))
+pub after_more : (end : LineEnd) (start : List Entry) (bytes more kept : Bytes) (store : Store) (first w : World) → (end ≡ Next → ⊥) → After end start bytes kept store first w → After end start (bytes ++ more) kept store first w
+after_more Next start bytes more kept store first w not_next after = absurd (not_next refl)
+after_more Quit start bytes more kept store first w not_next after = closed_more AtQuit start bytes more first w after
+after_more (End status) start bytes more kept store first w not_next after = elim after [
+  | inl device ↦ inl (device.0, closed_more AtDevice start bytes more first w device.1)
+  | inr six ↦ inr (six.0, broken_more start bytes more first w six.1)
+]

@@ -1,60 +1,94 @@
--- A reply that was said is a step.
-use Rattle.std.proofs.Common.{◌≡◌, ◌⊎◌, inl, inr, ◌<◌, ◌≤◌, ◌++◌, ◌∷◌, [], List, ℕ, refl, sym, ap, ◌∙◌, subst}
-use Rattle.std.specs.Prelude.{Option}
-use Rattle.disk_trait.specs.World.{Streams, World}
-use Rattle.store_model.specs.SortedMap.{Bytes}
-use Rattle.store_model.specs.Entries.{Entry, put_entry, newest, live, need, gap}
-use Rattle.store_model.specs.Lines.{Command, Put, Get}
+-- Replies that no call of the disk goes before, and the steps that they are.
+use Rattle.std.proofs.Common.{◌≡◌, ◌≢◌, inl, inr, ◌<◌, ◌≤◌, ◌++◌, ◌∷◌, [], List, ℕ, length, refl, sym, ap, ◌∙◌, subst, Bool, true, false, cond, arith}
+use Rattle.std.specs.Prelude.{Option, Some, None, ◌||◌, ◌==◌, nat_lt, bytes_eq}
+use Rattle.std.specs.List.{AllByRecursion}
+use Rattle.disk_trait.specs.World.{Image, World, Now}
+use Rattle.disk_trait.proofs.Moments.{started}
+use Rattle.outside.specs.Streams.{SayMoves, SaysFront, SaidByNow}
+use Rattle.gate_log.specs.Records.{IsSound}
+use Rattle.gate_log.specs.Area.{LogIs}
+use Rattle.store_model.specs.SortedMap.{Bytes, get}
+use Rattle.store_model.specs.Entries.{Entry, bytes_of, map_of, newest, or_else, live}
+use Rattle.store_model.specs.Lines.{Command, Put, Del, Get}
 use Rattle.store_model.specs.Lines as asks
-use Rattle.store_model.specs.Replies.{Reply, Done, Bye, BadLine, Full, Memory, text_of, got}
-use Rattle.store_model.specs.Script.{Step, PutStep, done, full, memory, Quits}
+use Rattle.store_model.specs.Replies.{Reply, Bye, BadLine, LongKey, LongValue, text_of, got}
+use Rattle.store_model.specs.Script.{Step, Unless, Write, key_limit, value_limit, first_limit}
 use Rattle.store_model.proofs.Maps.{newest_counts}
-use Rattle.surf_run.specs.Serving.{Answered}
-use Rattle.surf_run.specs.Puts.{RefusedFor}
-use Rattle.surf_run.specs.declared.store.PutError.{PutError}
-use Rattle.surf_run.specs.declared.store.PutError.TheVariants as error
-use Rattle.surf_run.specs.declared.serve.LineEnd.{LineEnd}
-use Rattle.surf_run.specs.declared.serve.LineEnd.TheVariants.{Next, Quit, End}
+use Rattle.surf_run.specs.Holds.{Holds}
+use Rattle.surf_run.specs.Saying.{Says}
+use Rattle.surf_run.specs.Serving.{Leaves, LineAnswer, GoesOn, Answered}
+use Rattle.surf_run.specs.declared.store.Store.{Store}
+use Rattle.surf_run.specs.declared.end.LineEnd.{LineEnd}
+use Rattle.surf_run.specs.declared.end.LineEnd.TheVariants.{Next, Quit, End}
+use Rattle.surf_run.proofs.Moments.{now_still, line_answer, answered_next, answered_quit}
 
--- a line that does not quit, with its reply said or not
-pub answered : (P : Type 0) (end : LineEnd) (old : List Entry) (command : Command) (reply : Reply) (new : List Entry) (before said : Bytes)
-    → (end ≡ Next) ⊎ ((end ≡ End 6) × P) → (end ≡ Next → said ≡ before ++ text_of reply) → (Quits command → ⊥) → Step old command reply new → Answered end old command new before said
-answered P Next old command reply new before said ends says goes step = (goes, (reply, step, says refl))
-answered P Quit old command reply new before said (inl next) says goes step = absurd cc
-answered P Quit old command reply new before said (inr ended) says goes step = let six = ended.0 in absurd cc
-answered P (End status) old command reply new before said ends says goes step = tt
+module _ (old : List Entry) (S : Leaves) (a b : World) (now : SaidByNow a) (moves : SayMoves a b) (here : Now (LogIs 0 old) a) where
+  quiet : (reply : Reply) → S reply old → SaysFront (text_of reply) a.beside.said b.beside.said → LineAnswer old S reply old a b
+  quiet reply step front = line_answer old S reply old (LogIs 0 old) a a b (started (LogIs 0 old) a here) refl now now moves step front (λ image before. inl before) (λ image left. (old, step, here image left))
 
-pub done_step : (old new : List Entry) (key value : Bytes) → need (put_entry key value) ≤ gap old → new ≡ old ++ put_entry key value ∷ [] → Step old (Put key value) Done new
-done_step old new key value fits is = subst (λ (es : List Entry). PutStep old (put_entry key value) Done es) (sym is) (done fits)
+  pub quiet_next : (store : Store) (reply : Reply) (result : LineEnd) → Holds old store → S reply old → GoesOn reply → Says Next reply result a b → Answered result old S store a b
+  quiet_next store reply result holds step goes says = answered_next old S old store a a b refl reply result (quiet reply step says.0) says goes (now_still (LogIs 0 old) a b moves.time here) holds
 
-pub memory_step : (old new : List Entry) (key value : Bytes) → new ≡ old → Step old (Put key value) Memory new
-memory_step old new key value is = subst (λ (es : List Entry). PutStep old (put_entry key value) Memory es) (sym is) memory
+  pub quiet_quit : (store : Store) (result : LineEnd) → S Bye old → Says Quit Bye result a b → Answered result old S store a b
+  quiet_quit store result step says = answered_quit old S old store a a b refl result (quiet Bye step says.0) says
 
-pub full_step : (old new : List Entry) (key value : Bytes) (n g : ℕ) → new ≡ old → (n ≡ need (put_entry key value)) × (g ≡ gap old) × (gap old < need (put_entry key value)) → Step old (Put key value) (Full n g) new
-full_step old new key value n g is why =
-    subst (λ (es : List Entry). PutStep old (put_entry key value) (Full n g) es) (sym is)
-    (subst (λ (k : ℕ). PutStep old (put_entry key value) (Full k g) old) (sym why.0)
-    (subst (λ (k : ℕ). PutStep old (put_entry key value) (Full (need (put_entry key value)) k) old) (sym why.1) (full why.2)))
+-- ---- limits
 
-pub get_step : (old : List Entry) (key : Bytes) (value : Option Bytes) → value ≡ live (newest old key) → Step old (Get key) (got value) old
-get_step old key value is = (ap got (is ∙ sym (newest_counts old key)), refl)
+by_test : (test : Bool) (limit reply : Reply) → GoesOn limit → Some reply ≡ cond test (Some limit) None → GoesOn reply
+by_test true limit reply goes is = let same : reply ≡ limit = cc in subst GoesOn (sym same) goes
+by_test false limit reply goes is = absurd cc
 
--- what a call of the disk leaves beside it
-pub said_after : (end : LineEnd) (text : Bytes) (old mid : Streams) (said : Bytes) → mid ≡ old → (end ≡ Next → said ≡ mid.said ++ text) → end ≡ Next → said ≡ old.said ++ text
-said_after end text old mid said same says next = says next ∙ ap (λ (s : Streams). s.said ++ text) same
+pub key_goes : (key : Bytes) (reply : Reply) → Some reply ≡ key_limit key → GoesOn reply
+key_goes key reply is = by_test (length key == 0 || nat_lt 1024 (length key)) (LongKey (length key)) reply tt is
 
--- what a refusal for want of room says
-pub full_for : (old : List Entry) (entry : Entry) (before after : World) (e : PutError) (n g : ℕ) → e ≡ error.Full n g → RefusedFor old entry before after e → (n ≡ need entry) × (g ≡ gap old) × (gap old < need entry)
-full_for old entry before after e n g is why = subst (RefusedFor old entry before after) is why
+pub value_goes : (value : Bytes) (reply : Reply) → Some reply ≡ value_limit value → GoesOn reply
+value_goes value reply is = by_test (nat_lt 65536 (length value)) (LongValue (length value)) reply tt is
 
--- `quit` is answered with `bye`
-pub quit_answered : (end : LineEnd) (old : List Entry) (command : Command) (before said : Bytes) → command ≡ asks.Quit → end ≡ Next → (end ≡ Next → said ≡ before ++ text_of Bye)
-    → Quits command × ((reply : Reply) × Step old command reply old × (said ≡ before ++ text_of reply))
-quit_answered end old command before said is next says =
-    subst (λ (c : Command). Quits c × ((reply : Reply) × Step old c reply old × (said ≡ before ++ text_of reply))) (sym is) (tt, (Bye, (refl, refl), says next))
+limited : (old : List Entry) (reply : Reply) (limit : Option Reply) (Within : Type 0) → Some reply ≡ limit → Unless limit old reply old Within
+limited old reply limit Within is = subst (λ (l : Option Reply). Unless l old reply old Within) is (refl, refl)
 
--- a bad line is answered with its code
-pub bad_answered : (P : Type 0) (end : LineEnd) (old : List Entry) (command : Command) (code : ℕ) (before said : Bytes) → command ≡ asks.Bad code
-    → (end ≡ Next) ⊎ ((end ≡ End 6) × P) → (end ≡ Next → said ≡ before ++ text_of (BadLine code)) → Answered end old command old before said
-bad_answered P end old command code before said is ends says =
-    subst (λ (c : Command). Answered end old c old before said) (sym is) (answered P end old (asks.Bad code) (BadLine code) old before said ends says (λ q. q) (refl, refl))
+pub key_limited_put : (old : List Entry) (key value : Bytes) (reply : Reply) → Some reply ≡ key_limit key → Step old (Put key value) reply old
+key_limited_put old key value reply is = limited old reply (first_limit (key_limit key) (value_limit value)) _ (ap (λ (l : Option Reply). first_limit l (value_limit value)) is)
+
+pub value_limited_put : (old : List Entry) (key value : Bytes) (reply : Reply) → None ≡ key_limit key → Some reply ≡ value_limit value → Step old (Put key value) reply old
+value_limited_put old key value reply none is =
+    limited old reply (first_limit (key_limit key) (value_limit value)) _ (is ∙ ap (λ (l : Option Reply). first_limit l (value_limit value)) none)
+
+pub key_limited_del : (old : List Entry) (key : Bytes) (reply : Reply) → Some reply ≡ key_limit key → Step old (Del key) reply old
+key_limited_del old key reply is = limited old reply (key_limit key) _ is
+
+pub key_limited_get : (old : List Entry) (key : Bytes) (reply : Reply) → Some reply ≡ key_limit key → Step old (Get key) reply old
+key_limited_get old key reply is = limited old reply (key_limit key) _ is
+
+-- ---- get
+
+pub get_step : (old : List Entry) (key : Bytes) (value : Option Bytes) → None ≡ key_limit key → value ≡ live (newest old key) → Step old (Get key) (got value) old
+get_step old key value none is =
+    subst (λ (l : Option Reply). Unless l old (got value) old ((got value ≡ got (get (map_of old) key)) × (old ≡ old))) none (ap got (is ∙ sym (newest_counts old key)), refl)
+
+found_sound : (entries : List Entry) (key value : Bytes) → AllByRecursion IsSound entries → newest entries key ≡ Some (Some value) → length value ≤ 65536
+found_sound [] key value sound is = absurd cc
+found_sound (entry ∷ later) key value sound is =
+    elim (newest later key) as (λ found. newest later key ≡ found → or_else found (cond (bytes_eq entry.key key) (Some entry.value) None) ≡ Some (Some value) → length value ≤ 65536) [
+      | Some said ↦ λ there then. found_sound later key value sound.1 (there ∙ then)
+      | None ↦ λ there then. here (bytes_eq entry.key key) then
+    ] refl is
+  where
+    here : (t : Bool) → cond t (Some entry.value) None ≡ Some (Some value) → length value ≤ 65536
+    here true then = let said : entry.value ≡ Some value = cc in subst (λ (v : Option Bytes). length (bytes_of v) ≤ 65536) said sound.0.short_value
+    here false then = absurd cc
+
+live_some : (found : Option (Option Bytes)) (value : Bytes) → Some value ≡ live found → found ≡ Some (Some value)
+live_some None value is = absurd cc
+live_some (Some said) value is = ap Some (sym is)
+
+pub short_value : (entries : List Entry) (key value : Bytes) (image : Image) → LogIs 0 entries image → Some value ≡ live (newest entries key) → length value ≤ 65536
+short_value entries key value image log is = found_sound entries key value log.begins.sound (live_some (newest entries key) value is)
+
+-- ---- quit and bad lines
+
+pub quit_step : (old : List Entry) (command : Command) → command ≡ asks.Quit → Step old command Bye old
+quit_step old command is = subst (λ (c : Command). Step old c Bye old) (sym is) (refl, refl)
+
+pub bad_step : (old : List Entry) (command : Command) (code : ℕ) → command ≡ asks.Bad code → Step old command (BadLine code) old
+bad_step old command code is = subst (λ (c : Command). Step old c (BadLine code) old) (sym is) (refl, refl)

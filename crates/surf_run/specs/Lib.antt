@@ -1,7 +1,8 @@
-pub mod Asks
+pub mod Causes
+pub mod Crash
 pub mod Holding
-pub mod Kept
-pub mod Puts
-pub mod Run
+pub mod Holds
+pub mod Outcome
+pub mod Refusals
+pub mod Saying
 pub mod Serving
-pub mod Spoken

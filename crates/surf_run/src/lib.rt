@@ -1,11 +1,10 @@
 //! The top call.
 #![tactic(auto)]
 
-mod lines;
+mod end;
+mod line;
 mod pending;
-mod reply;
+mod saying;
 mod serve;
 mod store;
-mod top;
-
-pub use top::run;
+mod writing;

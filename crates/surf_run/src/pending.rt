@@ -2,7 +2,7 @@
 ghost use Rattle.std.specs.Prelude.{◌≡◌, ◌==◌, ◌++◌, ℕ, List, [], IfOk, length};
 ghost use Rattle.surf_run.specs.Holding.{Held};
 
-use crate::lines::LINE_BYTES;
+use store_commands::LINE_BYTES;
 use std::alloc::{AllocError, Global};
 use std::marker::Model;
 

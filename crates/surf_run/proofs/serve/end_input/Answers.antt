@@ -1,17 +1,37 @@
-use Rattle.std.proofs.Common.{◌≢◌, ◌∙◌, sym, length, ap}
+use Rattle.std.proofs.Common.{◌≡◌, ◌≢◌, ◌<◌, ◌∙◌, sym, subst, arith, length, ap, ℕ, List}
 use Rattle.std.proofs.lemmas.Bool.{eqb-true, eqb-false}
-use Rattle.surf_run.proofs.Progress.{ended_empty, ended_next, ended_quit, served_as}
+use Rattle.store_model.specs.Lines.{command_of, Command}
+use Rattle.store_model.specs.Script.{Step}
+use Rattle.surf_run.specs.Serving.{Answered}
+use Rattle.surf_run.specs.declared.end.LineEnd.TheVariants.{Next, Quit, End}
+use Rattle.surf_run.proofs.Texts.{command_held}
+use Rattle.surf_run.proofs.Outcomes.{settled_empty, settled_next, settled_bye, settled_status}
 use Rattle.surf_run.proofs.serve.end_input.Goals as goal
 
-pub returns-then-is_empty-clause-script : goal.returns-then-is_empty-clause-script
-returns-then-is_empty-clause-script g c start before bytes tells zero served = ended_empty start before bytes _ _ _ served (eqb-true _ 0 (sym c.if-is_empty.ensures))
+pub returns-then-is_empty-clause-settled : goal.returns-then-is_empty-clause-settled
+returns-then-is_empty-clause-settled g c start first taken tells output none served =
+    settled_empty start taken c.args.pending.now c.args.store.now _ _ none served (eqb-true _ 0 (sym c.if-is_empty.ensures))
 
-pub returns-in-Next-clause-script : goal.returns-in-Next-clause-script
-returns-in-Next-clause-script g c start before bytes tells zero served =
-    let some : length c.as_slice.result.now ≢ 0 = λ none. eqb-false _ 0 (sym c.if-is_empty.ensures) (sym (ap length c.as_slice.ensures) ∙ none) in
-    ended_next start before bytes _ _ _ _ _ (served_as start before bytes _ _ _ _ _ (λ i. (g.W.Disk.world c.args.out.now).beside.said) c.as_slice.ensures served) some (c.in-Next.ensures.reply tells)
+pub returns-in-Next-clause-settled : goal.returns-in-Next-clause-settled
+returns-in-Next-clause-settled g c start first taken tells output none served =
+    let some : 0 < length c.args.pending.now = let not = eqb-false _ 0 (sym c.if-is_empty.ensures) in omega arith in
+    let same : command_of c.as_slice.result.now ≡ command_of served.rest = ap command_of c.as_slice.ensures ∙ command_held served.rest c.args.pending.now served.held in
+    settled_next start taken c.args.pending.now c.args.store.now _ _ _ served some (c.answer.ensures.moves.input ∙ none) c.answer.new.store (g.met.W.Outside.said_now _)
+    (subst (λ (k : Command). Answered Next served.now (Step served.now k) c.answer.new.store (g.W.Disk.world c.args.out.now) (g.W.Disk.world c.answer.new.out)) same
+    (c.in-Next.ensures.answered served.now tells output served.holds served.stand))
 
-pub returns-in-Quit-clause-script : goal.returns-in-Quit-clause-script
-returns-in-Quit-clause-script g c start before bytes tells zero served =
-    let some : length c.as_slice.result.now ≢ 0 = λ none. eqb-false _ 0 (sym c.if-is_empty.ensures) (sym (ap length c.as_slice.ensures) ∙ none) in
-    ended_quit start before bytes _ _ _ _ _ (served_as start before bytes _ _ _ _ _ (λ i. (g.W.Disk.world c.args.out.now).beside.said) c.as_slice.ensures served) some (c.in-Quit.ensures.reply tells)
+pub returns-in-Quit-clause-settled : goal.returns-in-Quit-clause-settled
+returns-in-Quit-clause-settled g c start first taken tells output none served =
+    let some : 0 < length c.args.pending.now = let not = eqb-false _ 0 (sym c.if-is_empty.ensures) in omega arith in
+    let same : command_of c.as_slice.result.now ≡ command_of served.rest = ap command_of c.as_slice.ensures ∙ command_held served.rest c.args.pending.now served.held in
+    settled_bye start taken c.args.pending.now c.args.store.now _ _ _ served some (c.answer.ensures.moves.input ∙ none) c.answer.new.store
+    (subst (λ (k : Command). Answered Quit served.now (Step served.now k) c.answer.new.store (g.W.Disk.world c.args.out.now) (g.W.Disk.world c.answer.new.out)) same
+    (c.in-Quit.ensures.answered served.now tells output served.holds served.stand))
+
+pub returns-in-End-clause-settled : goal.returns-in-End-clause-settled
+returns-in-End-clause-settled g c start first taken tells output none served =
+    let some : 0 < length c.args.pending.now = let not = eqb-false _ 0 (sym c.if-is_empty.ensures) in omega arith in
+    let same : command_of c.as_slice.result.now ≡ command_of served.rest = ap command_of c.as_slice.ensures ∙ command_held served.rest c.args.pending.now served.held in
+    settled_status start taken c.args.pending.now c.args.store.now _ _ _ served some (c.answer.ensures.moves.input ∙ none) c.in-End.status c.answer.new.store
+    (subst (λ (k : Command). Answered (End c.in-End.status) served.now (Step served.now k) c.answer.new.store (g.W.Disk.world c.args.out.now) (g.W.Disk.world c.answer.new.out)) same
+    (c.in-End.ensures.answered served.now tells output served.holds served.stand))

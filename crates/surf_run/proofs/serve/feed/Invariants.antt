@@ -1,14 +1,16 @@
 use Rattle.std.proofs.Common.{◌≡◌, ◌++◌, List, ℕ, length}
 use Rattle.std.specs.Prelude.{IsTrue}
 use Rattle.store_model.specs.Entries.{Entry}
-use Rattle.surf_run.specs.Serving.{Served, TakesNothing}
+use Rattle.surf_run.specs.Causes.{TakesNothing}
+use Rattle.surf_run.specs.Serving.{Served}
 use Rattle.surf_run.proofs.serve.feed.Given as goal
 
 abbrev pub invariant-loop-line : goal.invariant-loop-line
 invariant-loop-line g l = record {
   served :
-      (start : List Entry) (before bytes : List ℕ) → IsTrue g.W.Outside.tells_output → Served start before bytes (g.W.Disk.world l.fn.out).beside.said l.fn.pending l.fn.store
-      → (done : List ℕ) × (l.fn.piece ≡ done ++ l.rest) × Served start before (bytes ++ done) (g.W.Disk.world l.out).beside.said l.pending l.store;
+      (start : List Entry) (first : g.row.W.Denot) (bytes : List ℕ) → IsTrue g.W.Disk.tells → IsTrue g.W.Outside.tells_output
+      → Served start bytes l.fn.pending l.fn.store (g.W.Disk.world first) (g.W.Disk.world l.fn.out)
+      → (done : List ℕ) × (l.fn.piece ≡ done ++ l.rest) × Served start (bytes ++ done) l.pending l.store (g.W.Disk.world first) (g.W.Disk.world l.out);
   moves : TakesNothing (g.W.Disk.world l.fn.out) (g.W.Disk.world l.out);
 }
 
