@@ -1,2 +1,5 @@
+pub mod Clocks
 pub mod Crossing
+pub mod Endings
 pub mod Pieces
+pub mod Sessions

@@ -15,8 +15,12 @@
 //! ```
 #![tactic(auto)]
 
+mod mark;
+mod mem_calls;
+mod mem_outside;
 mod saying;
 mod stream;
 
+pub use mem_outside::MemOutside;
 pub use saying::say_all;
 pub use stream::{Outside, SayFault, TakeFault};
