@@ -24,3 +24,6 @@ mod stream;
 pub use mem_outside::MemOutside;
 pub use saying::say_all;
 pub use stream::{Outside, SayFault, TakeFault};
+
+#[cfg(test)]
+mod tests;
