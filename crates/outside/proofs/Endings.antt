@@ -1,9 +1,9 @@
 -- How a take or a say ends, as what any outside promises.
-use Rattle.std.proofs.Common.{◌≡◌, ◌≤◌, ◌<◌, ◌+◌, ◌++◌, ℕ, List, length, take, sym, ◌∙◌, subst, arith, inl, inr, take-append-drop}
-use Rattle.std.specs.Prelude.{Result, Ok, Err, IfOk}
+use Rattle.std.proofs.Common.{◌↔◌, ◌⊎◌, ◌≡◌, ◌≤◌, ◌<◌, ◌+◌, ◌++◌, ℕ, List, length, take, refl, sym, ap, ◌∙◌, subst, arith, inl, inr, take-append-drop}
+use Rattle.std.specs.Prelude.{Result, Ok, Err, IfOk, IsErr, Contains}
 use Rattle.std.proofs.lemmas.List.{nil_from_length}
 use Rattle.disk_mem.specs.History.{raised}
-use Rattle.outside.specs.Session.{Session, TakeEnds, SayEnds, IsClock, session_world}
+use Rattle.outside.specs.Session.{Session, TakeEnds, SayEnds, StarvesSay, IsClock, session_world}
 use Rattle.outside.specs.Streams.{Takes, SayMoves}
 use Rattle.outside.proofs.Sessions.{say_done, say_failed}
 
@@ -24,3 +24,15 @@ pub say_moves : {E : Type 0} (from : List ℕ) (result : Result ℕ E) (old new 
 say_moves from (Ok n) old new clock ends = subst (λ (s : Session). SayMoves (session_world old) (session_world s)) (sym ends.2) (say_done old (take n from) (length old.said + n) (raised old.says) clock)
 say_moves from (Err e) old new clock (inl listed) = subst (λ (s : Session). SayMoves (session_world old) (session_world s)) (sym listed.1) (say_failed old (raised old.says) (raised old.say_faults) clock (omega arith))
 say_moves from (Err e) old new clock (inr starved) = subst (λ (s : Session). SayMoves (session_world old) (session_world s)) (sym starved) (say_failed old old.says (raised old.say_faults) clock (omega arith))
+
+-- a say fails exactly where its number is listed, or it was without memory
+pub say_fails : {E : Type 0} (from : List ℕ) (result : Result ℕ E) (old new : Session) → SayEnds from result old new → IsErr result ↔ (Contains old.failing_says old.says ⊎ StarvesSay old new)
+say_fails from (Ok n) old new ends = (
+  λ failed. absurd cc,
+  elim [
+    | inl listed ↦ absurd (ends.0 listed)
+    | inr starved ↦ absurd (omega (arith, ap (λ (s : Session). length s.marks) ends.2, ap (λ (s : Session). length s.marks) starved))
+  ],
+)
+say_fails from (Err e) old new (inl listed) = (λ failed. inl listed.0, λ cause. refl)
+say_fails from (Err e) old new (inr starved) = (λ failed. inr starved, λ cause. refl)

@@ -90,10 +90,14 @@ TakeEnds room result old new = MatchResult result
     × (new ≡ record old { to_take = drop n old.to_take; takes = raised old.takes }))
     (λ _. Contains old.failing_takes old.takes × (new ≡ record old { takes = raised old.takes; take_faults = raised old.take_faults }))
 
+-- a say without memory: it does nothing and has no number
+abbrev pub StarvesSay : Session → Session → Type 0
+StarvesSay old new = new ≡ record old { say_faults = raised old.say_faults }
+
 -- a say of these bytes: as many as it may; or its number is listed; or it is without memory, and has none
 abbrev pub SayEnds : {E : Type 0} → List ℕ → Result ℕ E → Session → Session → Type 0
 SayEnds from result old new = MatchResult result
     (λ n. ¬ Contains old.failing_says old.says × (n ≡ min old.pace (length from))
     × (new ≡ record old { said = old.said ++ take n from; marks = record { calls = length old.disk.calls; said = length old.said + n } ∷ old.marks; says = raised old.says }))
     (λ _. (Contains old.failing_says old.says × (new ≡ record old { says = raised old.says; say_faults = raised old.say_faults }))
-    ⊎ (new ≡ record old { say_faults = raised old.say_faults }))
+    ⊎ StarvesSay old new)

@@ -4,7 +4,7 @@ ghost use Rattle.disk_trait.specs.World.{window, overwritten, ReadMoves, WriteMo
 ghost use Rattle.disk_trait.specs.Fault.{IsFaultOf};
 ghost use Rattle.disk_trait.specs.declared.fault.Op.TheVariants.{Read, Write, Sync};
 ghost use Rattle.disk_mem.specs.History.{ReadEnds, WriteEnds, SyncEnds};
-ghost use Rattle.outside.specs.Session.{session_world, TakeEnds, SayEnds};
+ghost use Rattle.outside.specs.Session.{session_world, TakeEnds, SayEnds, StarvesSay};
 ghost use Rattle.outside.specs.Streams.{Takes, TakeMoves, SayMoves};
 
 use crate::mem_outside::MemOutside;
@@ -97,6 +97,7 @@ impl Outside for MemOutside {
         ensures cause { OnErr result (Rose self.old.say_faults self.new.say_faults) }
 
         ensures ends { SayEnds from.now result self.old self.new }
+        ensures fails { IsErr result ↔ (Contains self.old.failing_says self.old.says ⊎ StarvesSay self.old self.new) }
     {
         self.number_say(from)
     }
