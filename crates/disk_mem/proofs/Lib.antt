@@ -3,6 +3,7 @@ pub mod Ends
 pub mod Logs
 pub mod Numbers
 pub mod Picks
+pub mod Rows
 pub mod Synced
 pub mod Worlds
 pub mod Written

@@ -1,6 +1,6 @@
 -- A disk in memory as contracts see it: its bytes at the start and its calls since.
 use Rattle.std.specs.Prelude.{◌≡◌, ◌⊎◌, ℕ, ◌+◌, ◌-◌, ◌^◌, ◌≤◌, min, max, Bool, true, false, List, [], ◌∷◌, length, Contains, Result, MatchResult}
-use Rattle.disk_trait.specs.World.{World, Image}
+use Rattle.disk_trait.specs.World.{World, Image, Rose}
 use Rattle.disk_trait.specs.declared.fault.Op.TheVariants.{Read, Write, Sync}
 use Rattle.disk_mem.specs.Bytes.{image_of}
 use Rattle.disk_mem.specs.Calls.{Call, bytes_after, Left, calls_by, reads_in, failed_reads, failed_writes}
@@ -64,6 +64,7 @@ pub record StarvesRead (old new : History) : Type 0 where
   pub faults : new.faults ≡ old.faults
   pub starved_reads : new.starved_reads ≡ raised old.starved_reads
   pub starved_writes : new.starved_writes ≡ old.starved_writes
+  pub rose : Rose (starved_in old) (starved_in new)
 
 -- a write or a sync without memory, alike
 pub record StarvesWrite (old new : History) : Type 0 where
@@ -72,6 +73,7 @@ pub record StarvesWrite (old new : History) : Type 0 where
   pub faults : new.faults ≡ old.faults
   pub starved_reads : new.starved_reads ≡ old.starved_reads
   pub starved_writes : new.starved_writes ≡ raised old.starved_writes
+  pub rose : Rose (starved_in old) (starved_in new)
 
 -- a read of these bytes ends: done; or failed, since its number is listed; or without memory
 abbrev pub ReadEnds : {T E : Type 0} → ℕ → List ℕ → Result T E → History → History → Type 0

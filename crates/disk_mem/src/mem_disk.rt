@@ -102,6 +102,13 @@ impl MemDisk {
         MemDisk::new(alloc, &bytes)
     }
 
+    /// How many calls have a number: that of the next one.
+    pub fn calls(&self) -> usize
+        ensures { result ≡ length self.now.calls }
+    {
+        self.log.len()
+    }
+
     /// How many reads had a number.
     pub fn reads(&self) -> u64
         ensures { result ≡ reads_in self.now.calls }
