@@ -1,8 +1,7 @@
 -- What a crash leaves in each of the two steps of an append.
-use Rattle.std.proofs.Common.{◌≡◌, inl, inr, ◌≤◌, ◌+◌, ℕ, suc, List, [], ◌∷◌, ◌++◌, length, take, drop, get_or, refl, sym, ap, ◌∙◌, subst, arith, length-append}
+use Rattle.std.proofs.Common.{◌≡◌, inl, inr, ◌≤◌, ◌+◌, ℕ, suc, List, [], ◌∷◌, ◌++◌, length, get_or, sym, ap, ◌∙◌, subst, arith, length-append}
 use Rattle.std.specs.Prelude.{flat_map}
 use Rattle.std.proofs.lemmas.Bool.{cases_eq}
-use Rattle.std.proofs.lemmas.List.{take_at, drop_at}
 use Rattle.disk_trait.specs.Image.{Image, window, overwritten, Torn}
 use Rattle.disk_trait.proofs.Images.{window_kept, byte_kept, overwritten_at, whole, window_overwritten, window_split, window_size}
 use Rattle.store_model.specs.Entries.{Entry, body, record_bytes, filled, need}

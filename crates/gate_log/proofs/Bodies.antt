@@ -1,15 +1,15 @@
 -- A body is read as it was spelled, and one that breaks no rule is spelled as it was read.
-use Rattle.std.proofs.Common.{◌≡◌, ◌⊎◌, inl, inr, ◌+◌, ◌-◌, ◌<◌, ◌≤◌, ℕ, suc, zero, List, [], ◌∷◌, ◌++◌, Bool, true, false, not, cond, length, take, drop, get_or, refl, sym, ap, ◌∙◌, subst, arith, append_assoc, length-append, length-take-le, length-drop}
+use Rattle.std.proofs.Common.{◌≡◌, ◌⊎◌, inl, inr, ◌+◌, ◌<◌, ◌≤◌, ℕ, suc, [], ◌∷◌, ◌++◌, Bool, true, false, not, cond, length, take, drop, refl, sym, ap, ◌∙◌, arith, append_assoc, length-append, length-take-le, length-drop}
 use Rattle.std.specs.Prelude.{Option, Some, None, ◌==◌, ◌&&◌, ◌||◌, nat_lt, nat_le}
 use Rattle.std.proofs.lemmas.Bool.{eqb-true, eqb-false, eq-eqb, ne_eqb, ltb-false, leb-false, le-ltb, lt-leb, or_parts, and_cases, not-false}
 use Rattle.std.proofs.lemmas.List.{take_at, drop_at, drop-drop}
 use Rattle.std.proofs.Math.Seq.{take-add}
-use Rattle.byteorder.specs.Endian.{little_bytes, little_number}
+use Rattle.byteorder.specs.Endian.{little_bytes}
 use Rattle.byte_fields.specs.Spelling.{IsBytes}
 use Rattle.byte_fields.proofs.NumberLemmas.{IsBytes-drop, number_again, number_back}
 use Rattle.store_model.specs.SortedMap.{Bytes}
 use Rattle.store_model.specs.Entries.{Entry, kind_of, bytes_of, body}
-use Rattle.gate_log.specs.Records.{IsSound, kind_in, key_length_in, value_length_in, body_length_in, breaks_a_limit, refuse, broken_rule, entry_in, entry_as}
+use Rattle.gate_log.specs.Records.{IsSound, kind_in, key_length_in, value_length_in, body_length_in, breaks_a_limit, refuse, broken_rule, entry_in}
 
 -- ---- as it was spelled
 
@@ -73,10 +73,10 @@ entry_again entry rest sound =
     let k = key_again entry rest sound in
     let key : take (key_length_in w) (drop 7 w) ≡ entry.key = ap (λ (n : ℕ). take n (drop 7 w)) k ∙ key_taken entry rest in
     let value : valued (kind_in w) (take (value_length_in w) (drop (7 + key_length_in w) w)) ≡ entry.value =
-        ap (λ (n : ℕ). valued (kind_of entry.value) (take (value_length_in w) (drop (7 + n) w))) k
-        ∙ ap (λ (n : ℕ). valued (kind_of entry.value) (take n (drop (7 + length entry.key) w))) (value_again entry rest sound)
-        ∙ ap (valued (kind_of entry.value)) (value_taken entry rest)
-        ∙ valued_again entry.value in
+    ap (λ (n : ℕ). valued (kind_of entry.value) (take (value_length_in w) (drop (7 + n) w))) k
+    ∙ ap (λ (n : ℕ). valued (kind_of entry.value) (take n (drop (7 + length entry.key) w))) (value_again entry rest sound)
+    ∙ ap (valued (kind_of entry.value)) (value_taken entry rest)
+    ∙ valued_again entry.value in
     λ i. record { key = key i; value = value i }
 
 -- ---- as it was read
@@ -181,9 +181,9 @@ module _ (bytes : Bytes) (is_bytes : IsBytes bytes) (unbroken : broken_rule byte
       let e = entry_in bytes in
       let kind_is : kind_of e.value ≡ kind_in bytes = kind_again (kind_in bytes) (take value (drop (7 + key) bytes)) rules.kind in
       let key_spelled : little_bytes 2 (length e.key) ≡ take 2 (drop 1 bytes) =
-          ap (little_bytes 2) key_size ∙ number_back 2 (drop 1 bytes) (IsBytes-drop 1 bytes is_bytes) (omega (arith, rules.head, length-drop 1 bytes)) in
+      ap (little_bytes 2) key_size ∙ number_back 2 (drop 1 bytes) (IsBytes-drop 1 bytes is_bytes) (omega (arith, rules.head, length-drop 1 bytes)) in
       let value_spelled : little_bytes 4 (length (bytes_of e.value)) ≡ take 4 (drop 3 bytes) =
-          ap (little_bytes 4) value_size ∙ number_back 4 (drop 3 bytes) (IsBytes-drop 3 bytes is_bytes) (omega (arith, rules.head, length-drop 3 bytes)) in
+      ap (little_bytes 4) value_size ∙ number_back 4 (drop 3 bytes) (IsBytes-drop 3 bytes is_bytes) (omega (arith, rules.head, length-drop 3 bytes)) in
       let all : ℕ = 6 + (key + value) in
       let count : suc (2 + (4 + (key + value))) ≡ body_length_in bytes = omega arith in
       (λ i. kind_is i ∷ (key_spelled i ++ (value_spelled i ++ (e.key ++ value_is i))))

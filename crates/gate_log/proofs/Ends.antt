@@ -1,13 +1,12 @@
 -- Bytes begin with the records of one list of entries only, and reading them comes to one end.
-use Rattle.std.proofs.Common.{◌≡◌, ◌+◌, ◌-◌, ◌<◌, ◌≤◌, ℕ, suc, zero, List, [], ◌∷◌, ◌++◌, Bool, true, false, cond, length, take, drop, get_or, refl, sym, ap, ◌∙◌, subst, arith, append_assoc, length-append, length-drop, take-append-drop, length-take-le}
+use Rattle.std.proofs.Common.{◌≡◌, ◌+◌, ℕ, List, [], ◌∷◌, ◌++◌, Bool, true, false, cond, length, take, drop, get_or, refl, sym, ap, ◌∙◌, subst, arith, length-append, length-drop, take-append-drop, length-take-le}
 use Rattle.std.specs.Prelude.{Option, Some, None, ◌==◌, flat_map, option_map}
-use Rattle.std.specs.List.{AllByRecursion}
 use Rattle.std.proofs.lemmas.Bool.{eq-eqb, ne_eqb}
 use Rattle.std.proofs.lemmas.List.{drop-drop, get_or-drop}
 use Rattle.std.proofs.Math.Seq.{take-add}
 use Rattle.store_model.specs.SortedMap.{Bytes}
 use Rattle.store_model.specs.Entries.{Entry, body, record_bytes, filled}
-use Rattle.gate_log.specs.Records.{IsSound, BeginsWith, Spells, Breaks, broken_rule, entry_in}
+use Rattle.gate_log.specs.Records.{BeginsWith, Spells, Breaks, broken_rule, entry_in}
 use Rattle.gate_log.proofs.Logs.{filled_is, none_filled, same_parts}
 use Rattle.gate_log.proofs.Bodies.{unbroken, entry_again}
 
@@ -73,7 +72,7 @@ one_end (entry ∷ later) [] why reason bytes s t = let on : Some reason ≡ Non
 one_end (entry ∷ later) (other ∷ more) why reason bytes s t =
     let same : entry ≡ other = sym (first_read entry later bytes s.begins) ∙ first_read other more bytes t.begins in
     let tails = one_end later more why reason (drop (1 + length (body entry)) bytes) (stops_later entry later why bytes s)
-        (subst (λ (e : Entry). Stops more reason (drop (1 + length (body e)) bytes)) (sym same) (stops_later other more reason bytes t)) in
+    (subst (λ (e : Entry). Stops more reason (drop (1 + length (body e)) bytes)) (sym same) (stops_later other more reason bytes t)) in
     ((λ i. same i ∷ tails.0 i), tails.1)
 
 -- ---- of a log, and of one that is broken

@@ -1,17 +1,15 @@
 -- Reading goes on from record to record, and comes to one end.
-use Rattle.std.proofs.Common.{◌≡◌, ◌≢◌, ◌+◌, ◌-◌, ◌<◌, ◌≤◌, ℕ, suc, zero, List, [], ◌∷◌, ◌++◌, Bool, true, false, cond, length, take, drop, get_or, refl, sym, ap, ◌∙◌, subst, arith, append_assoc, length-append, length-drop}
-use Rattle.std.specs.Prelude.{Option, Some, None, ◌==◌, flat_map}
-use Rattle.std.specs.List.{AllByRecursion}
-use Rattle.std.proofs.lemmas.Bool.{eq-eqb, ne_eqb}
-use Rattle.std.proofs.lemmas.List.{drop-drop, drop_more, drop_at, take_at, get_or-drop}
+use Rattle.std.proofs.Common.{◌≡◌, ◌+◌, ◌<◌, ℕ, suc, List, [], ◌∷◌, ◌++◌, length, take, drop, get_or, sym, ap, ◌∙◌, arith, length-drop}
+use Rattle.std.specs.Prelude.{None}
+use Rattle.std.proofs.lemmas.List.{drop_more}
 use Rattle.std.proofs.Math.Seq.{take-add}
 use Rattle.byte_fields.specs.Spelling.{IsBytes}
 use Rattle.byte_fields.proofs.NumberLemmas.{IsBytes-drop}
 use Rattle.store_model.specs.SortedMap.{Bytes}
-use Rattle.store_model.specs.Entries.{Entry, body, record_bytes, filled}
-use Rattle.gate_log.specs.Records.{IsSound, BeginsWith, Spells, Breaks, body_length_in, broken_rule, entry_in}
-use Rattle.gate_log.proofs.Logs.{filled_is, none_filled, filled_more, records_more, all_push}
-use Rattle.gate_log.proofs.Bodies.{kept, unbroken, entry_again, sound_read, size_read, body_read}
+use Rattle.store_model.specs.Entries.{Entry, record_bytes, filled}
+use Rattle.gate_log.specs.Records.{IsSound, BeginsWith, body_length_in, broken_rule, entry_in}
+use Rattle.gate_log.proofs.Logs.{none_filled, filled_more, records_more, all_push}
+use Rattle.gate_log.proofs.Bodies.{kept, sound_read, size_read, body_read}
 
 pub begins_with_none : (bytes : Bytes) → 0 < length bytes → BeginsWith [] bytes
 begins_with_none bytes some = record { sound = tt; within = omega (arith, none_filled); records = ap (λ (n : ℕ). take n bytes) none_filled }

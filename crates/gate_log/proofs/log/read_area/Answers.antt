@@ -1,4 +1,4 @@
-use Rattle.std.proofs.Common.{◌≡◌, ℕ, ◌∙◌, sym, ap, length, drop}
+use Rattle.std.proofs.Common.{◌≡◌, ◌∙◌, sym, ap, length, drop}
 use Rattle.std.proofs.lemmas.List.{take_at}
 use Rattle.disk_trait.specs.Image.{window}
 use Rattle.disk_trait.proofs.Images.{window_size}

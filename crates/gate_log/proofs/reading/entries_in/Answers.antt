@@ -1,9 +1,9 @@
-use Rattle.std.proofs.Common.{◌≡◌, ◌+◌, ℕ, List, [], ◌∷◌, ◌++◌, ◌∙◌, length, drop, ap, sym, subst, arith, refl}
+use Rattle.std.proofs.Common.{◌≡◌, ◌+◌, ℕ, List, [], ◌∷◌, ◌++◌, ◌∙◌, drop, ap, sym, subst}
 use Rattle.std.proofs.lemmas.List.{take_rest}
-use Rattle.std.specs.Prelude.{Option, Some, None, get_or}
+use Rattle.std.specs.Prelude.{Some, None, get_or}
 use Rattle.byte_fields.specs.Spelling.{IsBytes}
 use Rattle.store_model.specs.Entries.{Entry, filled}
-use Rattle.gate_log.specs.Records.{BeginsWith, Breaks, broken_rule, entry_in, body_length_in}
+use Rattle.gate_log.specs.Records.{BeginsWith, broken_rule, entry_in, body_length_in}
 use Rattle.gate_log.proofs.Ends.{one_list, not_both}
 use Rattle.gate_log.proofs.Logs.{none_filled}
 use Rattle.gate_log.proofs.Walks.{begins_with_none, begins_next, filled_next}
