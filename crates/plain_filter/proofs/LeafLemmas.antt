@@ -1,18 +1,18 @@
 -- What one leaf answers: the tests of the code against the definitions.
-use Rattle.std.proofs.Common.{Fits, w8, ◌≡◌, ◌<◌, ◌≤◌, ◌+◌, ◌-◌, ◌*◌, ◌/◌, ◌%◌, ◌^◌, ◌==◌, nat_lt, ℕ, zero, suc, List, [], ◌∷◌, ◌++◌, ◌⊎◌, Bool, true, false, cond, ◌&&◌, ◌||◌, length, take, drop, get_or, slice_index, Ordering, refl, sym, ap, subst, ◌∙◌, arith, inl, inr, add-one}
+use Rattle.std.proofs.Common.{Fits, w8, ◌≡◌, ◌<◌, ◌≤◌, ◌+◌, ◌-◌, ◌*◌, ◌^◌, ◌==◌, nat_lt, ℕ, zero, suc, List, [], ◌∷◌, ◌++◌, Bool, true, false, ◌&&◌, ◌||◌, length, take, drop, get_or, slice_index, Ordering, refl, sym, ap, subst, ◌∙◌, arith, inl, inr, add-one}
 use Rattle.std.specs.declared.cmp.Ordering.TheVariants.{Less, Equal, Greater}
 use Rattle.std.specs.Ordering.{nat_cmp, is_lt, ordering_then}
 use Rattle.std.specs.Cmp.Lexicographic.{pointwise, slice_cmp}
-use Rattle.std.proofs.lemmas.Bool.{cases_Bool, cases_lt, eqb-true, eqb-false, eq-eqb, ne_eqb, lt-ltb, le-ltb, and_parts, false≢true, cond-true, cond-false}
-use Rattle.std.proofs.lemmas.List.{append-nil, get_or-drop, drop_at}
+use Rattle.std.proofs.lemmas.Bool.{cases_Bool, eqb-true, eq-eqb, ne_eqb, lt-ltb, le-ltb, and_parts, false≢true, cond-true, cond-false}
+use Rattle.std.proofs.lemmas.List.{append-nil, get_or-drop}
 use Rattle.std.proofs.lemmas.Nat.{pow-add}
 use native.Mathlib.Nat.{mul-le-mul_right, mul-lt-mul_of_pos_right}
 use Rattle.byte_fields.specs.Spelling.{IsBytes}
 use Rattle.filter_model.specs.Answers.{begins, is_past}
 use Rattle.filter_model.specs.Leaves.{Leaf}
 use Rattle.filter_model.specs.Strings.{bits, extends, front, is_below, is_prefix, same, shortest}
-use Rattle.filter_model.proofs.Order.{nat_cmp-less, nat_cmp-same, nat_cmp-more, thirds, Leq, Lt, Lt-from, Lt-to, Lt-or-Leq, Leq-to}
-use Rattle.filter_model.proofs.Fronts.{IsBytes-drop, front_below, pow_pos, prefix_parts}
+use Rattle.filter_model.proofs.Order.{nat_cmp-less, nat_cmp-same, nat_cmp-more, thirds}
+use Rattle.filter_model.proofs.Fronts.{IsBytes-drop, front_below, pow_pos}
 
 -- what a slice says of its numbers
 pub bytes_of : (x : List ℕ) → ((i : ℕ) → Fits w8 (get_or x i 0)) → IsBytes x

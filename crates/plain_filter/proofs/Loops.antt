@@ -1,12 +1,12 @@
 -- A loop over a list: what is left to look at.
-use Rattle.std.proofs.Common.{◌≡◌, ◌<◌, ◌≤◌, ◌+◌, ◌-◌, ℕ, zero, suc, List, [], ◌∷◌, ◌++◌, ◌||◌, Bool, true, false, cond, Option, Some, None, length, take, drop, get_or, map, refl, sym, ap, append_assoc, ◌∙◌, arith, add-one}
+use Rattle.std.proofs.Common.{◌≡◌, ◌<◌, ◌+◌, ◌-◌, ℕ, zero, suc, List, [], ◌∷◌, ◌++◌, ◌||◌, Bool, true, false, cond, Option, Some, None, length, take, drop, refl, sym, ap, append_assoc, ◌∙◌, arith, add-one}
 use Rattle.std.specs.Prelude.{count_by, flat_map, slice_get}
 use Rattle.std.specs.List.{list_any, position_from}
 use Rattle.std.specs.Option.{option_and_then, option_map}
 use Rattle.std.proofs.lemmas.Bool.{cond-true, cond-false}
 use Rattle.filter_model.specs.Leaves.{Leaf}
 use Rattle.plain_filter.specs.Reading.{after_leaf, leaf_in, leaves_in}
-use Rattle.std.proofs.lemmas.List.{append-nil, drop_all, map-append, take_all, take_more}
+use Rattle.std.proofs.lemmas.List.{append-nil, take_more}
 use Rattle.std.proofs.lemmas.List.Concat.{flat_map-append}
 use Rattle.std.proofs.lemmas.List.Sums.{sum_by-cons}
 use Rattle.std.proofs.lemmas.Option.{get_or_from_slice_get}

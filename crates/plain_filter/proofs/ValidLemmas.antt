@@ -1,16 +1,16 @@
 -- A leaf list is valid exactly where each leaf stands rightly between its neighbours.
-use Rattle.std.proofs.Common.{◌≡◌, ◌<◌, ◌≤◌, ◌+◌, ◌-◌, ◌==◌, nat_lt, ◌^◌, ℕ, zero, suc, List, [], ◌∷◌, ◌⊎◌, Bool, true, false, not, cond, ◌&&◌, ◌||◌, length, take, get_or, refl, sym, ap, subst, ◌∙◌, arith, inl, inr, add-one}
-use Rattle.std.specs.List.{All, AllPairs, list_any}
-use Rattle.std.proofs.lemmas.Bool.{cases_lt, cases_Bool, and_parts, and_from, or_cases, or_left, or_right, eqb-true, eqb-false, eq-eqb, ne_eqb, lt-ltb, ltb-true, not-true, not_from_false, false≢true, false_from_ne_true, cond-true, cond-false}
+use Rattle.std.proofs.Common.{◌≡◌, ◌<◌, ◌≤◌, ◌+◌, ◌-◌, ◌==◌, nat_lt, ◌^◌, ℕ, zero, suc, List, [], ◌∷◌, Bool, true, false, not, ◌||◌, length, take, get_or, refl, sym, ap, subst, ◌∙◌, arith, inl, inr}
+use Rattle.std.specs.List.{All, list_any}
+use Rattle.std.proofs.lemmas.Bool.{cases_lt, cases_Bool, and_parts, and_from, or_cases, or_left, or_right, eqb-true, eqb-false, eq-eqb, ne_eqb, lt-ltb, ltb-true, not-true, not_from_false, false≢true, cond-true, cond-false}
 use Rattle.std.proofs.lemmas.List.{get_or_default}
 use Rattle.filter_model.specs.Leaves.{Leaf}
 use Rattle.filter_model.specs.Strings.{extends, is_below, is_prefix, same}
 use Rattle.filter_model.specs.Valid.{EndsRightly, IsCrowded, IsLeaf, IsValid, joins, node}
-use Rattle.filter_model.proofs.Order.{Leq, Lt, Lt-from, Lt-to, Lt-trans, Lt-Leq, Lt-not_back, Leq-itself}
-use Rattle.filter_model.proofs.Fronts.{is_prefix-append, same-itself, same-true}
+use Rattle.filter_model.proofs.Order.{Leq, Lt, Lt-from, Lt-to, Lt-trans, Lt-Leq, Lt-not_back}
+use Rattle.filter_model.proofs.Fronts.{same-itself}
 use Rattle.filter_model.proofs.Shared.{extends-itself, extends-prefix, is_prefix-take, is_prefix_Leq, prefixes_of_one}
 use Rattle.filter_model.proofs.Stubs.{different, same-false}
-use Rattle.plain_filter.specs.Neighbours.{StandsAt, at, has_company, joins_before, joins_next, next_extends, none, rises}
+use Rattle.plain_filter.specs.Neighbours.{StandsAt, at, joins_before, joins_next, next_extends, none, rises}
 
 bool_iff : (a b : Bool) → (a ≡ true → b ≡ true) → (b ≡ true → a ≡ true) → a ≡ b
 bool_iff true b h k = sym (h refl)

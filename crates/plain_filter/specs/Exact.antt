@@ -2,8 +2,8 @@
 use Rattle.std.specs.Prelude.{◌≡◌, ◌<◌, ◌≤◌, ◌+◌, ◌==◌, ◌^◌, nat_le, ℕ, zero, suc, min, Bool, true, false, cond, ◌&&◌, List, [], ◌∷◌, ◌++◌, length, take, drop, flat_map, slice_index, Option, Some, None}
 use Rattle.std.specs.Option.{option_and_then, option_map}
 use Rattle.std.specs.List.{All}
-use Rattle.std.proofs.Common.{refl, sym, ap, subst, ◌∙◌, arith, append_assoc, length-append, length-drop, inl, inr, get_or}
-use Rattle.std.proofs.lemmas.Bool.{cases_Bool, and_parts, and_from, leb-true, le-leb, eqb-true, eqb-false, eq-eqb, cond-true, cond-false, false≢true}
+use Rattle.std.proofs.Common.{refl, sym, ap, subst, ◌∙◌, arith, append_assoc, length-append, length-drop, inl, inr}
+use Rattle.std.proofs.lemmas.Bool.{cases_Bool, and_parts, and_from, leb-true, le-leb, eqb-true, eqb-false, cond-true, cond-false}
 use Rattle.std.proofs.lemmas.List.{drop-drop, drop_at, get_or-drop, length-take, take-append-drop, take_at}
 use Rattle.std.proofs.Math.Seq.{drop-cons}
 use Rattle.std.proofs.lemmas.List.Elements.{All-head, All-tail, All-weaker}
@@ -11,10 +11,10 @@ use native.Mathlib.Nat.{pow-le-pow_right}
 use Rattle.filter_model.specs.Strings.{is_prefix}
 use Rattle.byteorder.specs.Endian.{little_bytes, little_number}
 use Rattle.byte_fields.specs.Spelling.{IsBytes}
-use Rattle.byte_fields.proofs.NumberLemmas.{length-little_bytes, number_again, number_back}
+use Rattle.byte_fields.proofs.NumberLemmas.{number_again, number_back}
 use Rattle.filter_model.specs.Leaves.{Leaf}
-use Rattle.filter_model.specs.Valid.{IsLeaf, IsValid}
-use Rattle.filter_api.specs.Spellings.{AreAlike, IsSpelling, SpellsOne}
+use Rattle.filter_model.specs.Valid.{IsLeaf}
+use Rattle.filter_api.specs.Spellings.{IsSpelling, SpellsOne}
 use Rattle.plain_filter.specs.Reading.{after_leaf, leaf_at, leaf_in, leaves_in, stub_len}
 use Rattle.plain_filter.specs.Spelling.{leaf_bytes, plain_spelling}
 

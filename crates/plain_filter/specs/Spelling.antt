@@ -1,5 +1,5 @@
 -- The bytes that spell a leaf list plainly.
-use Rattle.std.specs.Prelude.{ℕ, Bool, cond, List, [], ◌∷◌, ◌++◌, length, flat_map}
+use Rattle.std.specs.Prelude.{ℕ, cond, List, ◌∷◌, ◌++◌, length, flat_map}
 use Rattle.byteorder.specs.Endian.{little_bytes}
 use Rattle.filter_model.specs.Leaves.{Leaf}
 

@@ -1,4 +1,4 @@
-use Rattle.std.proofs.Common.{arith, cond, ℕ, sym, ◌∙◌}
+use Rattle.std.proofs.Common.{arith, ℕ, sym, ◌∙◌}
 use Rattle.filter_model.specs.Answers.{meets}
 use Rattle.std.proofs.lemmas.Bool.{cond-true, cond-false}
 use Rattle.filter_api.specs.Seen.{seen}

@@ -1,6 +1,5 @@
-use Rattle.std.proofs.Common.{◌≡◌, ◌<◌, ◌++◌, ◌-◌, ◌+◌, ◌∙◌, Some, List, ap, arith, sym}
+use Rattle.std.proofs.Common.{◌≡◌, ◌<◌, ◌++◌, ◌-◌, ◌+◌, ◌∙◌, Some, ap, arith, sym}
 use Rattle.std.specs.Option.{option_map}
-use Rattle.filter_model.specs.Leaves.{Leaf}
 use Rattle.filter_api.specs.Seen.{seen}
 use Rattle.plain_filter.specs.Reading.{leaf_in, leaves_in}
 use Rattle.plain_filter.proofs.Loops.{read-more}

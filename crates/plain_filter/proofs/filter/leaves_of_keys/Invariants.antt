@@ -1,5 +1,4 @@
 use Rattle.std.proofs.Common.{◌≡◌, map, take}
-use Rattle.key_truncate.specs.Stubs.{stubs_in}
 use Rattle.filter_model.specs.Leaves.{leaf_of}
 use Rattle.plain_filter.proofs.filter.leaves_of_keys.Given as goal
 

@@ -1,8 +1,7 @@
-use Rattle.std.proofs.Common.{◌≡◌, ◌≤◌, ◌-◌, ◌+◌, true, false, List, ℕ, Some, length, take, drop, length-drop, slice_index, sym, ap, subst, arith, ◌∙◌}
+use Rattle.std.proofs.Common.{◌≡◌, ◌≤◌, ◌-◌, true, List, ℕ, Some, length, take, drop, length-drop, slice_index, sym, subst, arith, ◌∙◌}
 use Rattle.std.proofs.lemmas.Bool.{false≢true}
 use Rattle.std.proofs.lemmas.List.{take_all}
 use Rattle.byteorder.specs.Endian.{little_number}
-use Rattle.filter_model.specs.Leaves.{Leaf}
 use Rattle.filter_model.specs.Strings.{is_prefix}
 use Rattle.filter_model.specs.Valid.{IsValid}
 use Rattle.plain_filter.proofs.LeafLemmas.{bytes_of}

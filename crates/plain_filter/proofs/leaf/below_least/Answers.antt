@@ -1,9 +1,6 @@
 use Rattle.std.proofs.Common.{◌≡◌, ◌-◌, ◌*◌, ◌^◌, ℕ, List, true, false, ap, arith, sym, ◌∙◌, length, length-drop, drop, take}
 use Rattle.std.proofs.lemmas.List.{take_all}
 use Rattle.std.specs.Ordering.{is_lt}
-use Rattle.std.specs.Ordering.{nat_cmp}
-use Rattle.std.specs.Cmp.Lexicographic.{slice_cmp}
-use Rattle.filter_model.specs.Answers.{begins}
 use Rattle.filter_model.specs.Strings.{is_below, is_prefix, shortest}
 use Rattle.filter_api.specs.Seen.{seen}
 use Rattle.plain_filter.proofs.LeafLemmas.{below_after, below_stub, least_end, least_open}

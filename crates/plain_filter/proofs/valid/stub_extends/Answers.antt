@@ -1,4 +1,4 @@
-use Rattle.std.proofs.Common.{sym, arith, ap, ◌∙◌}
+use Rattle.std.proofs.Common.{sym, arith, ◌∙◌}
 use Rattle.filter_model.specs.Strings.{is_prefix}
 use Rattle.filter_api.specs.Seen.{seen}
 use Rattle.plain_filter.proofs.LeafLemmas.{extends-longer, extends-shorter}
