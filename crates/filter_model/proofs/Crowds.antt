@@ -1,19 +1,20 @@
 -- Each leaf's node has another branch. A key with END behind it is never a prefix of another such string.
-use Rattle.std.proofs.Common.{◌≡◌, ◌<◌, ◌≤◌, ◌+◌, ◌-◌, ◌==◌, ℕ, zero, suc, min, List, [], ◌∷◌, ◌++◌, true, length, take, get_or, map, refl, sym, ap, subst, ◌∙◌, arith, inl, inr, add-one, length-append}
+use Rattle.std.proofs.Common.{false, not, ◌≡◌, ◌<◌, ◌≤◌, ◌+◌, ◌-◌, ◌==◌, ℕ, zero, suc, min, List, [], ◌∷◌, ◌++◌, true, length, take, get_or, map, refl, sym, ap, subst, ◌∙◌, arith, inl, inr, add-one, length-append}
 use Rattle.std.specs.List.{Contains, range_with_len}
 use Rattle.std.proofs.Math.Seq.{take-suc}
-use Rattle.std.proofs.lemmas.Bool.{cases_lt, cases_eq, cases_Bool, eqb-false, eq-eqb, and_from, cond-true, cond-false}
+use Rattle.std.proofs.lemmas.Bool.{not_from_false, cases_lt, cases_eq, cases_Bool, eqb-false, eq-eqb, and_from, cond-true, cond-false}
 use Rattle.std.proofs.lemmas.List.{append-nil, take_all, take-take, take-append-le, length-take, length-map, get_or-map}
 use Rattle.std.proofs.lemmas.List.FromFn.{length-range_with_len, get_or-range_with_len}
 use Rattle.byte_fields.specs.Spelling.{IsBytes}
-use Rattle.filter_model.specs.Strings.{is_prefix, shared}
+use Rattle.filter_model.specs.Strings.{is_prefix, same, shared}
 use Rattle.filter_model.specs.Keys.{IsKey}
 use Rattle.filter_model.specs.Leaves.{Leaf, shared_most, stub_of, ends_of, leaf_of, leaves_of}
 use Rattle.filter_model.specs.Trie.{END, letters, path, parent, is_reached, branches}
-use Rattle.filter_model.specs.Valid.{IsCrowded}
+use Rattle.filter_model.specs.Valid.{IsCrowded, joins, node}
 use Rattle.filter_model.proofs.Fronts.{IsBytes-tail}
-use Rattle.filter_model.proofs.Shared.{shared-same, shared-other, shared_sym, differ_after, take-shared}
-use Rattle.filter_model.proofs.Stubs.{nearest, any_at, ends-length, stub-ends, shared_most-le, shared_most-ge}
+use Rattle.filter_model.proofs.Order.{Leq, Lt, Lt-or-Leq}
+use Rattle.filter_model.proofs.Shared.{extends-prefix, goes_on, shared-same, shared-other, shared_sym, differ_after, take-shared}
+use Rattle.filter_model.proofs.Stubs.{any_at, different, ends-length, nearest, same-false, shared_most-ge, shared_most-le, stub-ends, stub_suc, stubs_rise}
 use Rattle.filter_model.proofs.Counts.{two_kept}
 
 -- a key and END behind it
@@ -136,9 +137,9 @@ letter_small (a ∷ k) zero h = omega (arith, h 0)
 letter_small (a ∷ k) (suc i) h = letter_small k i (IsBytes-tail a k h)
 
 -- the node of a leaf has two branches or more, where there is another key
-pub crowded : (hash_bits n : ℕ) (keys : List (List ℕ)) (k x : List ℕ) → ((y : List ℕ) → Contains keys y → IsKey y) → Contains keys k → Contains keys x → (k ≡ x → ⊥)
-    → IsCrowded (leaves_of hash_bits n keys) (leaf_of hash_bits n keys k)
-crowded hash_bits n keys k x each h i ne =
+pub two_at_node : (hash_bits n : ℕ) (keys : List (List ℕ)) (k x : List ℕ) → ((y : List ℕ) → Contains keys y → IsKey y) → Contains keys k → Contains keys x → (k ≡ x → ⊥)
+    → 2 ≤ length (branches (leaves_of hash_bits n keys) (parent (leaf_of hash_bits n keys k)))
+two_at_node hash_bits n keys k x each h i ne =
     let m = shared_most keys k in
     let ls = leaves_of hash_bits n keys in
     let near = nearest keys k x i ne in
@@ -160,3 +161,56 @@ crowded hash_bits n keys k x each h i ne =
     let others = ap (is_reached ls) (sym y_step) ∙ reached-key hash_bits n keys y m near.here (omega (arith, up, shared_sym y k, near.most)) in
     let two = two_branches ls (take m (ended k)) c d (letter_small k m k_bytes) (letter_small y m y_bytes) apart own others in
     subst (λ (p : List ℕ). 2 ≤ length (branches ls p)) (sym (parent-leaf hash_bits n keys k)) two
+
+Leq-cases : (x y : List ℕ) → Leq x y → (x ≡ y → ⊥) → Lt x y
+Leq-cases [] [] h ne = ne refl
+Leq-cases [] (b ∷ y) h ne = tt
+Leq-cases (a ∷ x) [] h ne = h
+Leq-cases (a ∷ x) (b ∷ y) (inl less) ne = inl less
+Leq-cases (a ∷ x) (b ∷ y) (inr (e, h)) ne = inr (e, Leq-cases x y h (λ s. ne (λ i. e i ∷ s i)))
+
+-- two keys have two stubs
+stubs_differ : (keys : List (List ℕ)) (x y : List ℕ) → Contains keys x → Contains keys y → (x ≡ y → ⊥) → same (stub_of keys y) (stub_of keys x) ≡ false
+stubs_differ keys x y h i ne = elim (Lt-or-Leq x y) [
+  | inl before ↦ same-false (stub_of keys y) (stub_of keys x) (λ e. different (stub_of keys x) (stub_of keys y) (stubs_rise keys x y h i before) (sym e))
+  | inr after ↦ same-false (stub_of keys y) (stub_of keys x) (different (stub_of keys y) (stub_of keys x) (stubs_rise keys y x i h (Leq-cases y x after (λ e. ne (sym e)))))
+]
+
+-- another stub goes on from the node of a leaf, where there is another key
+pub crowded : (hash_bits n : ℕ) (keys : List (List ℕ)) (k x : List ℕ) → Contains keys k → Contains keys x → (k ≡ x → ⊥)
+    → IsCrowded (leaves_of hash_bits n keys) (leaf_of hash_bits n keys k)
+crowded hash_bits n keys k x h i ne =
+    let m = shared_most keys k in
+    let near = nearest keys k x i ne in
+    let y = near.key in
+    let l = leaf_of hash_bits n keys k in
+    let ne' : y ≡ k → ⊥ = λ s. near.other (sym s) in
+    let up = shared_most-ge keys y k h ne' in
+    let turned = shared_sym y k in
+    let begun : is_prefix (node l) (stub_of keys y) ≡ true = elim (cases_Bool (ends_of keys k)) [
+      | inl e ↦
+          let whole = ends-length keys k e in
+          ap (λ (p : List ℕ). is_prefix p (stub_of keys y)) (cond-true (ends_of keys k) (stub_of keys k) (take (length (stub_of keys k) - 1) (stub_of keys k)) e ∙ stub-ends keys k e)
+          ∙ ap (is_prefix k) (stub_suc keys y)
+          ∙ extends-prefix k (take (suc (shared_most keys y)) y) (goes_on k y (shared_most keys y) near.other (omega (arith, near.most, whole)) (omega (arith, up, turned, near.most, whole)))
+      | inr e ↦
+          let inner = ended_before k m (eqb-false (length k) m e) (shared_most-le keys k) in
+          let size : length (stub_of keys k) ≡ m + 1 = length-take (m + 1) k ∙ lesser (m + 1) (length k) inner in
+          let front : take (length (stub_of keys k) - 1) (stub_of keys k) ≡ take m y =
+          (λ j. take (size j - 1) (stub_of keys k)) ∙ ap (λ j. take j (stub_of keys k)) (less_one m) ∙ take-take m (m + 1) k (omega arith)
+          ∙ subst (λ j. take j k ≡ take j y) near.most (take-shared k y) in
+          ap (λ (p : List ℕ). is_prefix p (stub_of keys y)) (cond-false (ends_of keys k) (stub_of keys k) (take (length (stub_of keys k) - 1) (stub_of keys k)) e ∙ front)
+          ∙ is_prefix-takes m (shared_most keys y + 1) y (omega (arith, up, turned, near.most))
+    ] in
+    any_at (joins l) (leaf_of hash_bits n keys) keys y near.here
+    (and_from (is_prefix (node l) (stub_of keys y)) (not (same (stub_of keys y) (stub_of keys k))) begun
+    (not_from_false (same (stub_of keys y) (stub_of keys k)) (stubs_differ keys k y h near.here near.other)))
+  where
+    lesser : (a b : ℕ) → a ≤ b → min a b ≡ a
+    lesser a b h = omega arith
+
+    less_one : (m : ℕ) → m + 1 - 1 ≡ m
+    less_one m = omega arith
+
+    ended_before : (k : List ℕ) (m : ℕ) → (length k ≡ m → ⊥) → m ≤ length k → m + 1 ≤ length k
+    ended_before k m ne le = elim (cases_lt m (length k)) [ inl less ↦ omega arith | inr more ↦ absurd (ne (omega arith)) ]

@@ -8,11 +8,12 @@ use Rattle.filter_model.specs.Strings.{is_below, extends, same, shared}
 use Rattle.filter_model.specs.Keys.{IsKey, IsKeyList}
 use Rattle.filter_model.specs.Leaves.{Leaf, shared_most, stub_of, ends_of, leaf_of, leaves_of}
 use Rattle.filter_model.specs.Valid.{IsLeaf, EndsRightly, IsCrowded}
-use Rattle.filter_model.specs.Laws.{LeavesAreValid}
+use Rattle.filter_model.specs.Laws.{LeavesAreValid, NodesBranch}
+use Rattle.filter_model.specs.Trie.{branches, parent}
 use Rattle.filter_model.proofs.Order.{Lt-from, Lt-to}
 use Rattle.filter_model.proofs.Fronts.{same-itself}
 use Rattle.filter_model.proofs.Stubs.{any_at, passing_from_any, leaf_of_key, different, stubs_rise, ends_from_extends, extends_from_ends}
-use Rattle.filter_model.proofs.Crowds.{crowded}
+use Rattle.filter_model.proofs.Crowds.{crowded, two_at_node}
 
 pub key_of : (keys : List (List ℕ)) → IsKeyList keys → (k : List ℕ) → Contains keys k → IsKey k
 key_of keys h k c = All-contains IsKey keys k h.each c
@@ -69,10 +70,10 @@ single hash_bits n keys h one k c =
 
 crowds : (hash_bits n : ℕ) (keys : List (List ℕ)) → IsKeyList keys → 1 < length keys → All (λ k. IsCrowded (leaves_of hash_bits n keys) (leaf_of hash_bits n keys k)) keys
 crowds hash_bits n keys h more zero d l =
-    crowded hash_bits n keys (get_or keys 0 d) (get_or keys 1 d) (key_of keys h) (Contains-get_or keys 0 d l) (Contains-get_or keys 1 d more)
+    crowded hash_bits n keys (get_or keys 0 d) (get_or keys 1 d) (Contains-get_or keys 0 d l) (Contains-get_or keys 1 d more)
     (apart keys h 0 1 d l more (λ e. omega arith))
 crowds hash_bits n keys h more (suc i) d l =
-    crowded hash_bits n keys (get_or keys (suc i) d) (get_or keys 0 d) (key_of keys h) (Contains-get_or keys (suc i) d l) (Contains-get_or keys 0 d (omega arith))
+    crowded hash_bits n keys (get_or keys (suc i) d) (get_or keys 0 d) (Contains-get_or keys (suc i) d l) (Contains-get_or keys 0 d (omega arith))
     (apart keys h (suc i) 0 d l (omega arith) (λ e. omega arith))
 
 pub leaves_are_valid : LeavesAreValid
@@ -89,3 +90,13 @@ leaves_are_valid hash_bits n keys nh h =
       single = λ one. All-map (λ (l : Leaf). length l.stub ≡ 1) f keys (λ i d l. single hash_bits n keys h (sym size ∙ one) (get_or keys i d) (Contains-get_or keys i d l));
       crowded = λ more. All-map (IsCrowded ls) f keys (crowds hash_bits n keys h (omega (arith, size)));
     }
+
+-- at each place there is another key
+other_key : (keys : List (List ℕ)) → IsKeyList keys → 1 < length keys → (i : ℕ) (d : List ℕ) → i < length keys → (x : List ℕ) × Contains keys x × (get_or keys i d ≡ x → ⊥)
+other_key keys h more zero d l = (get_or keys 1 d, Contains-get_or keys 1 d more, apart keys h 0 1 d l more (λ e. omega arith))
+other_key keys h more (suc i) d l = (get_or keys 0 d, Contains-get_or keys 0 d (omega arith), apart keys h (suc i) 0 d l (omega arith) (λ e. omega arith))
+
+pub nodes_branch : NodesBranch
+nodes_branch hash_bits n keys h more =
+    All-map (λ (l : Leaf). 2 ≤ length (branches (leaves_of hash_bits n keys) (parent l))) (leaf_of hash_bits n keys) keys
+    (λ i d l. let other = other_key keys h more i d l in two_at_node hash_bits n keys (get_or keys i d) other.0 (key_of keys h) (Contains-get_or keys i d l) other.1 other.2)

@@ -1,12 +1,12 @@
 -- What the definitions keep, whatever the leaves and the keys.
-use Rattle.std.specs.Prelude.{◌≡◌, ◌==◌, ◌↔◌, ℕ, ◌+◌, ◌≤◌, nat_lt, Bool, true, false, ◌&&◌, ◌||◌, List, length}
+use Rattle.std.specs.Prelude.{◌≡◌, ◌==◌, ◌↔◌, ◌<◌, ℕ, ◌+◌, ◌≤◌, nat_lt, Bool, true, false, ◌&&◌, ◌||◌, List, length}
 use Rattle.std.specs.List.{All, AllPairs, Contains, list_any}
 use Rattle.byte_fields.specs.Spelling.{IsBytes}
 use Rattle.filter_model.specs.Strings.{extends, is_below, same}
 use Rattle.filter_model.specs.Keys.{IsKeyList}
 use Rattle.filter_model.specs.Leaves.{Leaf, leaves_of}
 use Rattle.filter_model.specs.Answers.{fits, point, ranged, tally, is_within, true_count}
-use Rattle.filter_model.specs.Trie.{nodes}
+use Rattle.filter_model.specs.Trie.{branches, nodes, parent}
 use Rattle.filter_model.specs.Valid.{IsValid}
 
 -- the leaves of every list of keys are valid
@@ -69,3 +69,9 @@ stands_before p q = nat_lt (length p) (length q) || ((length p == length q) && i
 -- nodes stand by length, and then in byte order
 abbrev pub NodesStandInOrder : Type 0
 NodesStandInOrder = (ls : List Leaf) → AreByteStubs ls → AllPairs (λ p q. stands_before p q ≡ true) (nodes ls)
+
+-- each leaf of two keys or more is a branch of a node of two branches or more, in the trie too
+abbrev pub NodesBranch : Type 0
+NodesBranch =
+    (hash_bits real_bits : ℕ) (keys : List (List ℕ)) → IsKeyList keys → 1 < length keys
+    → All (λ l. 2 ≤ length (branches (leaves_of hash_bits real_bits keys) (parent l))) (leaves_of hash_bits real_bits keys)

@@ -1,10 +1,9 @@
 -- The leaf lists that a filter may stand for, without mention of keys.
-use Rattle.std.specs.Prelude.{◌≡◌, ℕ, ◌<◌, ◌≤◌, ◌^◌, true, List, length}
+use Rattle.std.specs.Prelude.{◌≡◌, ℕ, ◌-◌, ◌<◌, ◌≤◌, ◌^◌, Bool, true, cond, not, ◌&&◌, List, length, take}
 use Rattle.std.specs.List.{All, AllPairs, list_any}
 use Rattle.byte_fields.specs.Spelling.{IsBytes}
-use Rattle.filter_model.specs.Strings.{is_below, extends}
+use Rattle.filter_model.specs.Strings.{is_below, extends, is_prefix, same}
 use Rattle.filter_model.specs.Leaves.{Leaf}
-use Rattle.filter_model.specs.Trie.{branches, parent}
 
 -- a leaf by itself: a stub of 1 to 1,024 bytes, hash and real bits of their widths, no real bits where it ends
 pub record IsLeaf (hash_bits real_bits : ℕ) (l : Leaf) : Type 0 where
@@ -19,9 +18,17 @@ pub record IsLeaf (hash_bits real_bits : ℕ) (l : Leaf) : Type 0 where
 abbrev pub EndsRightly : List Leaf → Leaf → Type 0
 EndsRightly ls l = l.ends ≡ list_any (λ o. extends l.stub o.stub) ls
 
+-- the node of which the leaf is a branch: its stub where it ends, else the stub without its last byte
+abbrev pub node : Leaf → List ℕ
+node l = cond l.ends l.stub (take (length l.stub - 1) l.stub)
+
+-- another stub goes on from the leaf's node
+abbrev pub joins : Leaf → Leaf → Bool
+joins l o = is_prefix (node l) o.stub && not (same o.stub l.stub)
+
 -- the leaf is a branch of a node of two branches or more
 abbrev pub IsCrowded : List Leaf → Leaf → Type 0
-IsCrowded ls l = 2 ≤ length (branches ls (parent l))
+IsCrowded ls l = list_any (joins l) ls ≡ true
 
 pub record IsValid (hash_bits real_bits : ℕ) (ls : List Leaf) : Type 0 where
   pub some : 0 < length ls

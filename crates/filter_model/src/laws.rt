@@ -1,5 +1,5 @@
 // Laws of the definitions. They are proved and never called.
-ghost use Rattle.filter_model.specs.Laws.{LeavesAreValid, NodesAreThePrefixes, NodesStandInOrder, NoHeldRangeIsDenied, NoKeyIsDenied, RangeIsExact, TallyIsNear};
+ghost use Rattle.filter_model.specs.Laws.{LeavesAreValid, NodesAreThePrefixes, NodesBranch, NodesStandInOrder, NoHeldRangeIsDenied, NoKeyIsDenied, RangeIsExact, TallyIsNear};
 
 /// A range answers yes exactly where some byte string in it fits a leaf, hash bits apart.
 pub fn range_is_exact()
@@ -17,9 +17,10 @@ pub fn tally_is_near()
     ensures { TallyIsNear }
 {}
 
-/// The leaves of a list of keys are a valid leaf list.
+/// The leaves of a list of keys are a valid leaf list, and each is a branch of a node of two branches or more.
 pub fn leaves_are_valid()
-    ensures { LeavesAreValid }
+    ensures valid { LeavesAreValid }
+    ensures branches { NodesBranch }
 {}
 
 /// The nodes are the prefixes that some stub properly extends or some leaf ends with, by length and then in byte order.

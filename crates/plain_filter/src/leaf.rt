@@ -1,0 +1,137 @@
+// What one leaf answers.
+ghost use Rattle.std.specs.Prelude.{◌≡◌, ◌==◌, ◌&&◌, ◌*◌, ◌-◌, ◌<◌, ◌≤◌, ◌^◌, length, slice_index, take, IsTrue};
+ghost use Rattle.std.specs.Ordering.{nat_cmp};
+ghost use Rattle.filter_model.specs.Answers.{begins, fits, is_past, meets};
+ghost use Rattle.filter_model.specs.Strings.{front, is_below, is_prefix, same, shortest};
+ghost use Rattle.filter_api.specs.Seen.{seen};
+
+use filter_api::Leaf;
+use key_base::compare;
+use std::cmp::Ordering;
+use suffix_bits::real_bits_of;
+
+// Whether `key` fits the leaf, hash apart.
+fn leaf_fits(leaf: &Leaf, key: &[u8], real_bits: u8) -> bool
+    requires { real_bits ≤ 32 }
+    ensures { result ≡ fits real_bits key.now (seen leaf.now) }
+{
+    let stub = leaf.stub.as_slice();
+    if leaf.ends {
+        are_same(stub, key)
+    } else {
+        begins_with(key, stub) && real_bits_of(key, stub.len(), real_bits) == leaf.real
+    }
+}
+
+// Whether `key`, whose hash bits are `hash`, fits the leaf as a point.
+pub(crate) fn leaf_fits_point(leaf: &Leaf, key: &[u8], hash: u32, real_bits: u8) -> bool
+    requires { real_bits ≤ 32 }
+    ensures { result ≡ (fits real_bits key.now (seen leaf.now) && (hash == leaf.now.hash)) }
+{
+    leaf_fits(leaf, key, real_bits) && hash == leaf.hash
+}
+
+// Whether the leaf may stand for a key from `lo` to `hi`.
+pub(crate) fn leaf_meets(leaf: &Leaf, lo: &[u8], hi: &[u8], real_bits: u8) -> bool
+    requires width { real_bits ≤ 32 }
+    requires real { leaf.now.real < 2 ^ real_bits }
+    ensures { result ≡ meets real_bits lo.now hi.now (seen leaf.now) }
+{
+    !below_least(hi, leaf, real_bits) && !leaf_is_past(leaf, lo, real_bits)
+}
+
+// Whether every string that fits the leaf is below `lo`.
+pub(crate) fn leaf_is_past(leaf: &Leaf, lo: &[u8], real_bits: u8) -> bool
+    requires { real_bits ≤ 32 }
+    ensures { result ≡ is_past real_bits lo.now (seen leaf.now) }
+{
+    let stub = leaf.stub.as_slice();
+    if leaf.ends {
+        return compare(stub, lo).is_lt();
+    }
+    match compare_padded(stub, lo) {
+        Ordering::Less => true,
+        Ordering::Equal => leaf.real < real_bits_of(lo, stub.len(), real_bits),
+        Ordering::Greater => false,
+    }
+}
+
+// Whether `hi` is below the least string that fits the leaf.
+fn below_least(hi: &[u8], leaf: &Leaf, real_bits: u8) -> bool
+    requires width { real_bits ≤ 32 }
+    requires real { leaf.now.real < 2 ^ real_bits }
+    ensures { result ≡ is_below hi.now (begins real_bits (seen leaf.now)) }
+{
+    let stub = leaf.stub.as_slice();
+    if leaf.ends {
+        return compare(hi, stub).is_lt();
+    }
+    if !begins_with(hi, stub) {
+        return compare(hi, stub).is_lt();
+    }
+    let (tail, len) = shortest_bytes(filled(leaf.real, real_bits));
+    compare(&hi[stub.len()..], &tail[..len]).is_lt()
+}
+
+// The real bits, filled with zero bits to 32.
+#[tactic(auto, using(crate::proofs::LeafLemmas::filled_fits))]
+pub(crate) fn filled(real: u32, real_bits: u8) -> u32
+    requires width { real_bits ≤ 32 }
+    requires real { real < 2 ^ real_bits }
+    ensures { result ≡ real * 2 ^ (32 - real_bits) }
+{
+    (u64::from(real) * 2u64.pow(32 - u32::from(real_bits))) as u32
+}
+
+// The four bytes of `number`, the highest first, and how many of them stand before the zero bytes at the end.
+pub(crate) fn shortest_bytes(number: u32) -> ([u8; 4], usize)
+    ensures len { result.1 ≤ 4 }
+    ensures bytes { take result.1 result.0 ≡ shortest 4 number }
+{
+    let a = (number / 0x100_0000) as u8;
+    let b = (number / 0x1_0000 % 0x100) as u8;
+    let c = (number / 0x100 % 0x100) as u8;
+    let d = (number % 0x100) as u8;
+    let len = match (a, b, c, d) {
+        (0, 0, 0, 0) => 0,
+        (_, 0, 0, 0) => 1,
+        (_, _, 0, 0) => 2,
+        (_, _, _, 0) => 3,
+        _ => 4,
+    };
+    ([a, b, c, d], len)
+}
+
+// How the stub compares with as many first bytes of `lo`, zero bytes where `lo` has no more.
+fn compare_padded(stub: &[u8], lo: &[u8]) -> Ordering
+    ensures { result ≡ nat_cmp (front (length stub.now) stub.now) (front (length stub.now) lo.now) }
+{
+    for i in 0..stub.len() {
+        let other = byte_at(lo, i);
+        if stub[i] != other {
+            return stub[i].cmp(&other);
+        }
+    }
+    Ordering::Equal
+}
+
+fn byte_at(bytes: &[u8], i: usize) -> u8
+    ensures { result ≡ slice_index bytes.now i }
+{
+    if i < bytes.len() { bytes[i] } else { 0 }
+}
+
+// Whether the two are one byte string.
+pub(crate) fn are_same(a: &[u8], b: &[u8]) -> bool
+    ensures { result ≡ same a.now b.now }
+{
+    a == b
+}
+
+// Whether `bytes` begin with `stub`.
+pub(crate) fn begins_with(bytes: &[u8], stub: &[u8]) -> bool
+    ensures value { result ≡ is_prefix stub.now bytes.now }
+    ensures bound { IsTrue result → length stub.now ≤ length bytes.now }
+{
+    bytes.starts_with(stub)
+}
