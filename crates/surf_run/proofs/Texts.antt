@@ -1,9 +1,9 @@
 -- The lines of a text, and what is kept of one.
-use Rattle.std.proofs.Common.{◌≡◌, ◌<◌, ◌≤◌, ◌+◌, ◌++◌, inl, inr, ℕ, zero, List, [], ◌∷◌, length, refl, sym, ap, ◌∙◌, arith, append_assoc, true, false, Bool, cond}
+use Rattle.std.proofs.Common.{◌≡◌, ◌<◌, ◌≤◌, ◌+◌, ◌++◌, inl, inr, ℕ, zero, List, [], ◌∷◌, length, refl, sym, ap, ◌∙◌, arith, append_assoc, true, false, Bool, cond, take}
 use Rattle.std.specs.Prelude.{flat_map, All, ◌==◌, Option, Some, None, IfNone}
 use Rattle.std.specs.List.{slice_split}
 use Rattle.std.proofs.lemmas.Bool.{cases_lt, lt-leb}
-use Rattle.std.proofs.lemmas.List.{append-nil}
+use Rattle.std.proofs.lemmas.List.{append-nil, take-append-le}
 use Rattle.std.proofs.lemmas.List.Elements.{All-head, All-tail}
 use Rattle.std.proofs.lemmas.List.Splits.{slice_split_at, slice_split_none, length-slice_split}
 use Rattle.store_commands.specs.Cutting.{NoNewline}
@@ -94,3 +94,18 @@ module _ (bytes piece done rest line more : Bytes) (so_far : piece ≡ done ++ r
 
   pub all_more : bytes ++ piece ≡ bytes ++ done ++ line ++ 10 ∷ [] ++ more
   all_more = ap (λ (l : Bytes). bytes ++ l) piece_split ∙ sym (append_assoc bytes (done ++ (line ++ 10 ∷ [])) more) ∙ ap (λ (l : Bytes). l ++ more) line_more
+
+-- ---- what was taken
+
+-- what stands in the buffer is what was taken
+pub front_of : (n : ℕ) (into rest : Bytes) → n ≤ length into → take n (into ++ rest) ≡ take n into
+front_of n into rest le = take-append-le n into rest le
+
+-- a piece more
+pub taken_more : (first mid last taken piece : Bytes) → first ≡ taken ++ mid → mid ≡ piece ++ last → first ≡ (taken ++ piece) ++ last
+taken_more first mid last taken piece so_far then = so_far ∙ ap (λ (l : Bytes). taken ++ l) then ∙ sym (append_assoc taken piece last)
+
+-- the end of the input was met
+pub taken_all : (first mid last taken piece : Bytes) → first ≡ taken ++ mid → mid ≡ piece ++ last → mid ≡ [] → (first ≡ taken ++ last) × (last ≡ [])
+taken_all first mid last taken [] so_far then none = (so_far ∙ ap (λ (l : Bytes). taken ++ l) then, sym then ∙ none)
+taken_all first mid last taken (p ∷ piece) so_far then none = absurd (cc (then, none))
