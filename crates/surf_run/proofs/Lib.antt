@@ -1,5 +1,6 @@
 pub mod Answering
 pub mod EndCauses
+pub mod Filling
 pub mod History
 pub mod Moments
 pub mod Outcomes

@@ -2,6 +2,7 @@ pub mod Causes
 pub mod Crash
 pub mod Holding
 pub mod Holds
+pub mod Open
 pub mod Outcome
 pub mod Refusals
 pub mod Saying

@@ -3,6 +3,7 @@
 
 mod end;
 mod line;
+mod opening;
 mod pending;
 mod saying;
 mod serve;
