@@ -5,5 +5,6 @@ pub mod Holds
 pub mod Open
 pub mod Outcome
 pub mod Refusals
+pub mod Run
 pub mod Saying
 pub mod Serving

@@ -8,4 +8,5 @@ mod pending;
 mod saying;
 mod serve;
 mod store;
+mod top;
 mod writing;
