@@ -1,0 +1,4 @@
+pub mod Fault
+pub mod Image
+pub mod Laws
+pub mod World

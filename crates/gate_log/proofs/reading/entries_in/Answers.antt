@@ -1,0 +1,50 @@
+use Rattle.std.proofs.Common.{◌≡◌, ◌+◌, ℕ, List, [], ◌∷◌, ◌++◌, ◌∙◌, drop, ap, sym, subst}
+use Rattle.std.proofs.lemmas.List.{take_rest}
+use Rattle.std.specs.Prelude.{Some, None, get_or}
+use Rattle.byte_fields.specs.Spelling.{IsBytes}
+use Rattle.store_model.specs.Entries.{Entry, filled}
+use Rattle.gate_log.specs.Records.{BeginsWith, broken_rule, entry_in, body_length_in}
+use Rattle.gate_log.proofs.Ends.{one_list, not_both}
+use Rattle.gate_log.proofs.Logs.{none_filled}
+use Rattle.gate_log.proofs.Walks.{begins_with_none, begins_next, filled_next}
+use Rattle.gate_log.proofs.reading.entries_in.Goals as goal
+
+pub loop-at-init : goal.loop-at-init
+loop-at-init c = record {
+  begins = subst (λ (es : List Entry). BeginsWith es c.args.bytes.now) (sym c.new-entries.ensures.items) (begins_with_none c.args.bytes.now c.requires);
+  here = sym (ap filled c.new-entries.ensures.items ∙ none_filled);
+}
+
+pub loop-at-preserved : goal.loop-at-preserved
+loop-at-preserved c =
+    let bytes = c.args.bytes.now in
+    let at = c.loop-at.at in
+    let entries = c.loop-at.entries.items in
+    let rest = take_rest bytes (at + 1) in
+    let whole : broken_rule (drop (at + 1) bytes) ≡ None = ap broken_rule (sym rest) ∙ c.in-Ok.ensures.whole in
+    let entry : c.in_ok-entry.entry ≡ entry_in (drop (at + 1) bytes) = c.in_ok-entry.ensures ∙ c.in-Ok.ensures.entry ∙ ap entry_in rest in
+    let size : c.in-Ok.body.length ≡ body_length_in (drop (at + 1) bytes) = c.in-Ok.ensures.size ∙ ap body_length_in rest in
+    let items : c.push.new.self.items ≡ entries ++ entry_in (drop (at + 1) bytes) ∷ [] = c.in_ok-push.ensures.items ∙ ap (λ (e : Entry). entries ++ e ∷ []) entry in
+    let is_bytes : IsBytes bytes = λ i. (c.type_inv.bytes i).fits in
+    record {
+      begins = subst (λ (es : List Entry). BeginsWith es bytes) (sym items) (begins_next bytes is_bytes entries at c.loop-at.invariant.begins c.loop-at.invariant.here c.loop-at-test.true whole);
+      here = ap (λ (n : ℕ). at + (1 + n)) size ∙ filled_next bytes is_bytes entries at c.loop-at.invariant.begins c.loop-at.invariant.here c.loop-at-test.true whole ∙ ap filled (sym items);
+    }
+
+pub returns-in-Err-clause-exact : goal.returns-in-Err-clause-exact
+returns-in-Err-clause-exact c entries spelled =
+    let bytes = c.args.bytes.now in
+    let at = c.loop-at.at in
+    let broken : broken_rule (drop (at + 1) bytes) ≡ Some c.in-Err.rule = ap broken_rule (sym (take_rest bytes (at + 1))) ∙ c.in-Err.ensures.broken in
+    absurd (not_both entries at c.in-Err.rule bytes spelled (record {
+      before = c.loop-at.entries.items;
+      begins = c.loop-at.invariant.begins;
+      here = c.loop-at.invariant.here;
+      opened = c.loop-at-test.true;
+      broken = broken;
+    }))
+
+pub returns-clause-exact : goal.returns-clause-exact
+returns-clause-exact c entries spelled =
+    one_list c.loop-at.entries.items entries c.args.bytes.now
+    (record { begins = c.loop-at.invariant.begins; closed = λ now. c.loop-at-test.false (ap (λ (k : ℕ). get_or c.args.bytes.now k 0) c.loop-at.invariant.here ∙ now) }) spelled

@@ -1,0 +1,170 @@
+// The log over its device.
+ghost use Rattle.std.specs.Prelude.{◌≡◌, ◌+◌, ◌*◌, ◌≤◌, ◌<◌, ◌++◌, ◌^◌, ◌↔◌, [], ◌∷◌, List, ℕ, length, vec_len, IsTrue, IfOk, IfErr, OnOk, OnErr, MatchResult};
+ghost use Rattle.disk_trait.specs.Fault.{IsWriteThroughFault};
+ghost use Rattle.disk_trait.specs.World.{Now, Leads, ReadMoves, WriteMoves, Rose};
+ghost use Rattle.store_model.specs.Entries.{Entry, filled, need};
+ghost use Rattle.gate_log.specs.Area.{Position, LogIs, WithOrWithout, IsAppendFault, IsNextRecord, start_of, area_in};
+ghost use Rattle.gate_log.specs.Faults.{IsShapeIn, HasReadCause, IsNoShape};
+ghost use Rattle.gate_log.specs.Kinds.{KeepsRules, entry_of};
+
+use crate::entry::{Kind, LogEntry};
+use crate::fault::{AreaFault, LogFault};
+use crate::reading::entries_in;
+use crate::writing::put_record;
+use disk_trait::{Disk, DiskFault, write_through};
+use std::alloc::Global;
+use std::marker::Model;
+
+/// The bytes of a log area.
+pub const AREA_BYTES: usize = 262_144;
+
+/// What a gate reads that is open. Every other byte is a closed one.
+pub(crate) const OPEN: u8 = 1;
+
+const CLOSED: u8 = 0;
+
+/// A log in one of the two areas of a device: where its next record goes.
+#[derive(Drop)]
+pub struct Log {
+    area: u8,
+    filled: usize,
+}
+
+impl Model for Log {
+    ghost use Rattle.std.specs.Prelude.{◌<◌, ◌≤◌};
+    ghost use Rattle.gate_log.specs.Area.{Position};
+
+    ghost Value = { Position };
+
+    ghost view = { λ l. record { area = l.area; filled = l.filled } };
+
+    ghost invariant = { λ l. (l.area ≤ 1) × (l.filled < 262144) };
+}
+
+/// The first byte of a log area on its device.
+pub(crate) fn area_start(area: u8) -> u64
+    requires { area ≤ 1 }
+    ensures { result ≡ start_of area }
+{
+    AREA_BYTES as u64 * (u64::from(area) + 1)
+}
+
+impl Log {
+    /// Begins an empty log in an area, 0 or 1: one write and one sync. Takes no memory.
+    ///
+    /// At `Ok` each image that a crash may leave has an empty log there, whatever stood there before.
+    pub fn start<D: Disk>(disk: &mut D, area: u8) -> Result<Log, DiskFault>
+        requires { area ≤ 1 }
+        ensures log { IfOk result (λ log. log ≡ record { area = area; filled = 0 }) }
+        ensures stands { IsTrue D.tells → OnOk result (Now (LogIs area []) (D.world disk.new)) }
+        ensures moves { WriteMoves (start_of area) 1 (D.world disk.old) (D.world disk.new) }
+        ensures fault { IfErr result (IsWriteThroughFault (start_of area)) }
+        ensures cause { OnErr result (Rose (D.world disk.old).seen.write_faults (D.world disk.new).seen.write_faults) }
+    {
+        write_through(disk, area_start(area), &[CLOSED])?;
+        Ok(Log { area, filled: 0 })
+    }
+
+    /// Reads the log of an area, 0 or 1: the entries of its records, in the order of writing, up to the first gate that
+    /// is not open. One read of the whole area, whose memory is taken first.
+    ///
+    /// `Ok` exactly where the area keeps the rules of the format, but for want of memory and faults of the device, else
+    /// the first rule that is broken and the device byte of its record's gate.
+    pub fn replay<D: Disk>(
+        alloc: Global,
+        disk: &mut D,
+        area: u8,
+    ) -> Result<(Log, Vec<LogEntry>), LogFault>
+        requires { area ≤ 1 }
+        ensures log { IfOk result (λ found. found.0 ≡ record { area = area; filled = filled found.1.items }) }
+        ensures entries { IsTrue D.tells → IfOk result (λ found. LogIs area found.1.items (D.world disk.old).seen.held) }
+        ensures exact { (entries : List Entry) → IsTrue D.tells → LogIs area entries (D.world disk.old).seen.held → MatchResult result (λ found. found.1.items ≡ entries) IsNoShape }
+        ensures shape { IsTrue D.tells → IfErr result (IsShapeIn area (D.world disk.old).seen.held) }
+        ensures cause { IfErr result (HasReadCause area (D.world disk.old) (D.world disk.new)) }
+        ensures moves { ReadMoves 1 (D.world disk.old) (D.world disk.new) }
+    {
+        let bytes = read_area(alloc, disk, area)?;
+        match entries_in(alloc, &bytes) {
+            Ok((entries, filled)) => Ok((Log { area, filled }, entries)),
+            Err(AreaFault::Memory) => Err(LogFault::Memory),
+            Err(AreaFault::Shape { place, rule }) => Err(LogFault::Shape {
+                at: area_start(area) + place as u64,
+                rule,
+            }),
+        }
+    }
+
+    /// The bytes that are left in the area.
+    pub fn gap(&self) -> usize
+        ensures { result + self.now.filled ≡ 262144 }
+    {
+        AREA_BYTES - self.filled
+    }
+
+    /// Whether a record whose body has `n` bytes fits: its gate, its body and the gate behind it.
+    pub fn fits(&self, n: usize) -> bool
+        ensures { IsTrue result ↔ (self.now.filled + 1 + n + 1 ≤ 262144) }
+    {
+        n < AREA_BYTES - self.filled - 1
+    }
+
+    /// Adds a record: its body with the closed gate behind it, and, once these are synced, the open gate.
+    ///
+    /// At `Ok` each image that a crash may leave has the record; meanwhile, and after an `Err`, it is there or not, never
+    /// in part. Two writes and two syncs, no read and no memory: `buf` has room for the body and one byte more.
+    pub fn append<D: Disk>(
+        &mut self,
+        disk: &mut D,
+        buf: &mut [u8],
+        kind: Kind,
+        key: &[u8],
+        value: &[u8],
+    ) -> Result<(), DiskFault>
+        requires rules { KeepsRules kind key.now value.now }
+        requires fits { self.old.filled + need (entry_of kind key.now value.now) ≤ 262144 }
+        requires room { need (entry_of kind key.now value.now) ≤ length buf.old + 1 }
+        ensures crash { (entries : List Entry) → IsTrue D.tells → self.old.filled ≡ filled entries
+            → Leads (LogIs self.old.area entries) (WithOrWithout self.old.area entries (entry_of kind key.now value.now)) (LogIs self.old.area (entries ++ entry_of kind key.now value.now ∷ []))
+            result (D.world disk.old) (D.world disk.new) }
+        ensures area { self.new.area ≡ self.old.area }
+        ensures filled { OnOk result (self.new.filled + 1 ≡ self.old.filled + need (entry_of kind key.now value.now)) }
+        ensures stays { OnErr result (self.new ≡ self.old) }
+        ensures moves { WriteMoves (start_of self.old.area + self.old.filled) (need (entry_of kind key.now value.now)) (D.world disk.old) (D.world disk.new) }
+        ensures fault { IfErr result (IsAppendFault (start_of self.old.area + self.old.filled)) }
+        ensures cause { OnErr result (Rose (D.world disk.old).seen.write_faults (D.world disk.new).seen.write_faults) }
+    {
+        let gate = area_start(self.area) + self.filled as u64;
+        let length = put_record(buf, kind, key, value);
+        write_record(disk, gate, &buf[..length])?;
+        self.filled += length;
+        Ok(())
+    }
+}
+
+// All bytes of an area.
+fn read_area<D: Disk>(alloc: Global, disk: &mut D, area: u8) -> Result<Vec<u8>, LogFault>
+    requires { area ≤ 1 }
+    ensures bytes { IsTrue D.tells → IfOk result (λ bytes. bytes.items ≡ area_in area (D.world disk.old).seen.held) }
+    ensures size { IfOk result (λ bytes. vec_len bytes ≡ 262144) }
+    ensures exact { IfErr result IsNoShape }
+    ensures shape { IfErr result (IsShapeIn area (D.world disk.old).seen.held) }
+    ensures cause { IfErr result (HasReadCause area (D.world disk.old) (D.world disk.new)) }
+    ensures moves { ReadMoves 1 (D.world disk.old) (D.world disk.new) }
+{
+    let mut bytes = vec![in alloc; 0; AREA_BYTES]?;
+    disk.read(area_start(area), &mut bytes)?;
+    Ok(bytes)
+}
+
+// Writes a body with the closed gate behind it and makes them last, and then opens the gate before them.
+fn write_record<D: Disk>(disk: &mut D, gate: u64, bytes: &[u8]) -> Result<(), DiskFault>
+    requires { gate + 1 + length bytes.now ≤ 2 ^ 48 }
+    ensures crash { (area : ℕ) (entries : List Entry) (entry : Entry) → IsTrue D.tells → IsNextRecord area entries entry gate bytes.now
+        → Leads (LogIs area entries) (WithOrWithout area entries entry) (LogIs area (entries ++ entry ∷ [])) result (D.world disk.old) (D.world disk.new) }
+    ensures moves { WriteMoves gate (length bytes.now + 1) (D.world disk.old) (D.world disk.new) }
+    ensures fault { IfErr result (IsAppendFault gate) }
+    ensures cause { OnErr result (Rose (D.world disk.old).seen.write_faults (D.world disk.new).seen.write_faults) }
+{
+    write_through(disk, gate + 1, bytes)?;
+    write_through(disk, gate, &[OPEN])
+}

@@ -1,0 +1,94 @@
+// A log area's bytes, record by record.
+ghost use Rattle.std.specs.Prelude.{◌≡◌, ◌+◌, ◌<◌, List, length, Some, None, IfOk, IfErr, MatchResult};
+ghost use Rattle.store_model.specs.Entries.{Entry, filled};
+ghost use Rattle.std.specs.Option.{option_map};
+ghost use Rattle.gate_log.specs.Records.{Spells, broken_rule, entry_in, entry_as, body_length_in};
+ghost use Rattle.gate_log.specs.Faults.{IsFaultIn};
+
+use crate::entry::{Kind, LogEntry};
+use crate::fault::AreaFault;
+use crate::log::OPEN;
+use crate::writing::HEAD_BYTES;
+use byte_fields::{get_u16, get_u32};
+use key_base::{MAX_KEY_BYTES, MAX_VALUE_BYTES};
+use std::alloc::Global;
+
+/// The body, or the gate behind it, runs past the area.
+const PAST_THE_AREA: u8 = 1;
+
+/// The kind is none.
+const NO_KIND: u8 = 2;
+
+/// A length is out of its limits, or a delete has a value.
+const OUT_OF_LIMITS: u8 = 3;
+
+// The key and the value of a body, as they stand in its area.
+#[derive(Clone, Copy)]
+struct Body<'a> {
+    key: &'a [u8],
+    value: Option<&'a [u8]>,
+    length: usize,
+}
+
+// The body behind an open gate, or the first rule that it breaks.
+fn body_in(bytes: &[u8]) -> Result<Body<'_>, u8>
+    ensures broken { IfErr result (λ rule. broken_rule bytes.now ≡ Some rule) }
+    ensures whole { IfOk result (λ _. broken_rule bytes.now ≡ None) }
+    ensures entry { IfOk result (λ b. entry_as b.key.now (option_map (λ v. v.now) b.value) ≡ entry_in bytes.now) }
+    ensures size { IfOk result (λ b. b.length ≡ body_length_in bytes.now) }
+    ensures within { IfOk result (λ b. b.length < length bytes.now) }
+{
+    if bytes.len() < HEAD_BYTES {
+        return Err(PAST_THE_AREA);
+    }
+    let kind = match bytes[0] {
+        1 => Kind::Put,
+        2 => Kind::Delete,
+        _ => return Err(NO_KIND),
+    };
+    let key_bytes = usize::from(get_u16(bytes, 1));
+    let value_bytes = get_u32(bytes, 3) as usize;
+    if key_bytes == 0 || key_bytes > MAX_KEY_BYTES || value_bytes > MAX_VALUE_BYTES {
+        return Err(OUT_OF_LIMITS);
+    }
+    if kind == Kind::Delete && value_bytes > 0 {
+        return Err(OUT_OF_LIMITS);
+    }
+    let value_at = HEAD_BYTES + key_bytes;
+    let length = value_at + value_bytes;
+    if bytes.len() <= length {
+        return Err(PAST_THE_AREA);
+    }
+    let key = &bytes[HEAD_BYTES..value_at];
+    let value = match kind {
+        Kind::Put => Some(&bytes[value_at..length]),
+        Kind::Delete => None,
+    };
+    Ok(Body { key, value, length })
+}
+
+/// The entries whose records stand at the start of a log area's bytes, up to the first gate that is not open, and the
+/// place of that gate.
+///
+/// One pass, and memory for the entries alone. `Ok` exactly where the bytes keep the rules of the format, else the first
+/// rule that is broken and the place of its record's gate.
+pub fn entries_in(alloc: Global, bytes: &[u8]) -> Result<(Vec<LogEntry>, usize), AreaFault>
+    requires { 0 < length bytes.now }
+    ensures entries { IfOk result (λ found. Spells found.0.items bytes.now) }
+    ensures end { IfOk result (λ found. found.1 ≡ filled found.0.items) }
+    ensures fault { IfErr result (IsFaultIn bytes.now) }
+    ensures exact { (entries : List Entry) → Spells entries bytes.now → MatchResult result (λ found. found.0.items ≡ entries) (λ fault. fault ≡ AreaFault.Memory) }
+{
+    let mut entries = Vec::new(alloc);
+    let mut at = 0;
+    while bytes[at] == OPEN {
+        let body = match body_in(&bytes[at + 1..]) {
+            Ok(body) => body,
+            Err(rule) => return Err(AreaFault::Shape { place: at, rule }),
+        };
+        let entry = LogEntry::new(alloc, body.key, body.value)?;
+        entries.push(entry)?;
+        at += 1 + body.length;
+    }
+    Ok((entries, at))
+}

@@ -1,0 +1,6 @@
+use Rattle.std.proofs.Common.{◌≡◌}
+use Rattle.lane_scan.specs.Ones.{ones_before}
+use Rattle.lane_scan.proofs.words.ones.Given as goal
+
+abbrev pub invariant-loop-i : goal.invariant-loop-i
+invariant-loop-i l = l.total ≡ ones_before l.words l.i

@@ -1,0 +1,97 @@
+//! Set bits in words.
+ghost use Rattle.std.specs.Prelude.{◌≡◌, ◌≤◌, ◌<◌, ◌+◌, ◌*◌, ◌/◌, ◌^◌, length, count_ones, MatchOption};
+ghost use Rattle.std.specs.List.{sum_by};
+ghost use Rattle.lane_scan.specs.Ones.{IsWordOfOne, ones_before};
+
+use std::simd::u64x4;
+
+/// How many words are counted in lanes.
+const LANES: usize = 4;
+
+/// How many words make a group.
+const GROUP: usize = 16;
+
+/// How many bits are set in `words`, of which there are fewer than 2^58.
+///
+/// Counts 16 words at a time, and a rest of fewer word by word. Takes no memory.
+pub fn ones(words: &[u64]) -> u64
+    requires { length words.now < 2 ^ 58 }
+    ensures { result ≡ sum_by count_ones words.now }
+{
+    let mut total = ones_in_groups(words);
+    for i in words.len() / GROUP * GROUP..words.len() {
+        total += u64::from(words[i].count_ones());
+    }
+    total
+}
+
+/// The word that holds the nth set bit, from 0, and `n` less the set bits of the words before it; `None` where at most
+/// `n` bits are set.
+///
+/// Counts four words at a time up to the four that hold the bit, and these and a rest of fewer word by word. Takes no
+/// memory.
+pub fn word_with_nth_one(words: &[u64], n: u64) -> Option<(usize, u64)>
+    ensures { MatchOption result (sum_by count_ones words.now ≤ n) (λ found. IsWordOfOne words.now n found.0 found.1) }
+{
+    let (start, mut left) = skip_lanes(words, n);
+    for i in start..words.len() {
+        let count = u64::from(words[i].count_ones());
+        if left < count {
+            return Some((i, left));
+        }
+        left -= count;
+    }
+    None
+}
+
+/// How many bits are set in the four words from `at` on.
+fn ones_in_lanes(words: &[u64], at: usize) -> u64
+    requires { at + LANES ≤ length words.now }
+    ensures { ones_before words.now at + result ≡ ones_before words.now (at + LANES) }
+{
+    u64x4::from_slice(&words[at..])
+        .count_ones()
+        .strict_reduce_sum()
+}
+
+/// How many bits are set in the sixteen words from `at` on.
+///
+/// Four are counted in lanes and the others by the processor's count of a word, which go on side by side.
+fn ones_in_group(words: &[u64], at: usize) -> u64
+    requires { at + GROUP ≤ length words.now }
+    ensures { ones_before words.now at + result ≡ ones_before words.now (at + GROUP) }
+{
+    let mut total = ones_in_lanes(words, at);
+    for i in at + LANES..at + GROUP {
+        total += u64::from(words[i].count_ones());
+    }
+    total
+}
+
+/// How many bits are set in the whole groups.
+fn ones_in_groups(words: &[u64]) -> u64
+    requires { length words.now < 2 ^ 58 }
+    ensures { result ≡ ones_before words.now (length words.now / GROUP * GROUP) }
+{
+    let mut total = 0;
+    for i in 0..words.len() / GROUP {
+        total += ones_in_group(words, GROUP * i);
+    }
+    total
+}
+
+/// A word at or before the one with the nth set bit, and `n` less the set bits before it.
+fn skip_lanes(words: &[u64], n: u64) -> (usize, u64)
+    ensures place { result.0 ≤ length words.now }
+    ensures left { ones_before words.now result.0 + result.1 ≡ n }
+{
+    let mut left = n;
+    for i in 0..words.len() / LANES {
+        let count = ones_in_lanes(words, LANES * i);
+        if left < count {
+            return (LANES * i, left);
+        }
+        left -= count;
+    }
+    (words.len() / LANES * LANES, left)
+}

@@ -1,0 +1,263 @@
+use disk_mem::{Choice, MemDisk};
+use disk_trait::{Disk, DiskFault, Op};
+use gate_log::{Kind, Log, LogEntry, LogFault};
+use mem_table::MemTable;
+use std::alloc::{AllocError, Global};
+use std::test::Fail;
+
+/// The longest body, and the gate behind it.
+const BUFFER_BYTES: usize = 7 + 1_024 + 65_536 + 1;
+
+// Puts a value, where key and value keep their limits and the record fits. Answers whether the record is there.
+fn put<D: Disk>(log: &mut Log, disk: &mut D, buf: &mut [u8], key: &[u8], value: &[u8]) -> bool {
+    let short = !key.is_empty() && key.len() <= 1_024 && value.len() <= 65_536;
+    if !short || buf.len() < BUFFER_BYTES || !log.fits(7 + key.len() + value.len()) {
+        return false;
+    }
+    log.append(disk, buf, Kind::Put, key, value).is_ok()
+}
+
+fn delete<D: Disk>(log: &mut Log, disk: &mut D, buf: &mut [u8], key: &[u8]) -> bool {
+    let short = !key.is_empty() && key.len() <= 1_024;
+    if !short || buf.len() < BUFFER_BYTES || !log.fits(7 + key.len()) {
+        return false;
+    }
+    log.append(disk, buf, Kind::Delete, key, &[]).is_ok()
+}
+
+// The table of the entries that were read.
+fn table_of(alloc: Global, entries: &[LogEntry]) -> Result<MemTable, AllocError> {
+    let mut table = MemTable::new(alloc);
+    for entry in entries {
+        let prepared = table.reserve_for(entry.key(), entry.value())?;
+        table.set(prepared);
+    }
+    Ok(table)
+}
+
+// Five appends, a put or a delete each, up to the first that fails. Answers how many were done.
+fn five_appends(disk: &mut MemDisk, buf: &mut [u8]) -> usize {
+    let Ok(mut log) = Log::start(disk, 0) else {
+        return 0;
+    };
+    if !put(&mut log, disk, buf, b"b", b"1") {
+        return 0;
+    }
+    if !put(&mut log, disk, buf, b"a", b"") {
+        return 1;
+    }
+    if !delete(&mut log, disk, buf, b"b") {
+        return 2;
+    }
+    if !put(&mut log, disk, buf, b"b", b"22") {
+        return 3;
+    }
+    if !delete(&mut log, disk, buf, b"a") {
+        return 4;
+    }
+    5
+}
+
+// What a crash makes of one write: all of it, none of it, or bytes 07.
+fn choice_of(alloc: Global, number: usize, length: usize) -> Result<Choice, AllocError> {
+    match number {
+        0 => Ok(Choice::Whole),
+        1 => Ok(Choice::Lost),
+        _ => {
+            let bytes = vec![in alloc; 7; length]?;
+            Ok(Choice::Bytes(bytes))
+        }
+    }
+}
+
+// No entry is 0, a tombstone 1, and a value its length and 2.
+fn seen(found: Option<Option<&[u8]>>) -> usize {
+    match found {
+        None => 0,
+        Some(None) => 1,
+        Some(Some(value)) => 2usize.saturating_add(value.len()),
+    }
+}
+
+// What is read of a disk: how many entries, and what the table of them says of two keys.
+fn read_of(
+    alloc: Global,
+    disk: &mut MemDisk,
+    one: &[u8],
+    other: &[u8],
+) -> Result<(usize, usize, usize), Fail> {
+    match Log::replay(alloc, disk, 0) {
+        Ok((_, entries)) => {
+            let table = table_of(alloc, &entries)?;
+            Ok((entries.len(), seen(table.get(one)), seen(table.get(other))))
+        }
+        Err(_) => Err(Fail::from("no log")),
+    }
+}
+
+// Five appends, of which the sync after the write of this number fails, and then a crash, which makes this of that write.
+fn after_a_stop(
+    alloc: Global,
+    buf: &mut [u8],
+    stop: usize,
+    length: usize,
+    choice: usize,
+) -> Result<(usize, usize, usize), Fail> {
+    // The calls are those of the start, 0 and 1, and for each append a write, a sync, a write and a sync.
+    let faults = Vec::from_slice(alloc, &[2u64.saturating_mul(stop as u64).saturating_add(3)])?;
+    let mut disk = MemDisk::new(alloc, &[])?.with_faults(faults);
+    five_appends(&mut disk, buf);
+    let mut left = disk.crash(&[choice_of(alloc, choice, length)?])?;
+    read_of(alloc, &mut left, b"b", b"a")
+}
+
+#[test]
+fn every_crash_choice_at_every_write_of_five_appends(rt: HostRuntime) -> Result<(), Fail> {
+    let alloc = rt.alloc();
+    let mut buf = vec![in alloc; 0; BUFFER_BYTES]?;
+    // The bytes of each write, and what is read where it is lost or left as 07, and where it is whole.
+    let rows = [
+        (10, (0, 0, 0), (0, 0, 0)),
+        (1, (0, 0, 0), (1, 3, 0)),
+        (9, (1, 3, 0), (1, 3, 0)),
+        (1, (1, 3, 0), (2, 3, 2)),
+        (9, (2, 3, 2), (2, 3, 2)),
+        (1, (2, 3, 2), (3, 1, 2)),
+        (11, (3, 1, 2), (3, 1, 2)),
+        (1, (3, 1, 2), (4, 4, 2)),
+        (9, (4, 4, 2), (4, 4, 2)),
+        (1, (4, 4, 2), (5, 4, 1)),
+    ];
+    for (stop, (length, without, with)) in rows.iter().copied().enumerate() {
+        assert_eq!(rt;
+            after_a_stop(alloc, &mut buf, stop, length, 0)?,
+            with,
+            "whole, stopped at write {stop}"
+        );
+        assert_eq!(rt;
+            after_a_stop(alloc, &mut buf, stop, length, 1)?,
+            without,
+            "lost, stopped at write {stop}"
+        );
+        assert_eq!(rt;
+            after_a_stop(alloc, &mut buf, stop, length, 2)?,
+            without,
+            "07, stopped at write {stop}"
+        );
+    }
+    Ok(())
+}
+
+// Two puts, and a third whose gate was being opened when the device stopped, its byte left as 07.
+fn stopped_at_the_third_gate(alloc: Global, buf: &mut [u8]) -> Result<MemDisk, Fail> {
+    let mut disk = MemDisk::new(alloc, &[])?.with_faults(Vec::from_slice(alloc, &[13])?);
+    if let Ok(mut log) = Log::start(&mut disk, 0) {
+        put(&mut log, &mut disk, buf, b"far", b"1");
+        put(&mut log, &mut disk, buf, b"fast", b"2");
+        put(&mut log, &mut disk, buf, b"top", b"3");
+    }
+    Ok(disk.crash(&[choice_of(alloc, 2, 1)?])?)
+}
+
+// Another put, after the log was read again.
+fn put_again(alloc: Global, disk: &mut MemDisk, buf: &mut [u8]) -> bool {
+    let Ok((mut log, _entries)) = Log::replay(alloc, disk, 0) else {
+        return false;
+    };
+    put(&mut log, disk, buf, b"top", b"44")
+}
+
+#[test]
+fn a_gate_left_as_07_is_closed(rt: HostRuntime) -> Result<(), Fail> {
+    let alloc = rt.alloc();
+    let mut buf = vec![in alloc; 0; BUFFER_BYTES]?;
+    let mut disk = stopped_at_the_third_gate(alloc, &mut buf)?;
+    assert_eq!(rt; read_of(alloc, &mut disk, b"far", b"top")?, (2, 3, 0));
+    assert_eq!(rt; read_of(alloc, &mut disk, b"fast", b"top")?, (2, 3, 0));
+    assert!(rt; put_again(alloc, &mut disk, &mut buf));
+    let mut again = disk.crash(&[])?;
+    assert_eq!(rt; read_of(alloc, &mut again, b"fast", b"top")?, (3, 3, 4));
+    Ok(())
+}
+
+// So many of a byte. No test knows more of them than it reads.
+fn repeated(alloc: Global, byte: u8, count: usize) -> Result<Vec<u8>, AllocError> {
+    vec![in alloc; byte; count]
+}
+
+// A log of three records of the longest key and value, and one of a short key that leaves so many bytes.
+fn filled_to(alloc: Global, disk: &mut MemDisk, buf: &mut [u8], left: usize) -> Result<bool, Fail> {
+    let key = repeated(alloc, b'k', 1_024)?;
+    let value = repeated(alloc, b'x', 65_536)?;
+    let Ok(mut log) = Log::start(disk, 0) else {
+        return Ok(false);
+    };
+    for _ in 0..3 {
+        put(&mut log, disk, buf, &key, &value);
+    }
+    // A gate, the head of a body and the key.
+    let rest = log.gap().saturating_sub(1 + 7 + 1).saturating_sub(left);
+    Ok(rest <= value.len() && put(&mut log, disk, buf, b"k", &value[..rest]) && log.gap() == left)
+}
+
+#[test]
+fn a_log_filled_to_its_last_byte(rt: HostRuntime) -> Result<(), Fail> {
+    let alloc = rt.alloc();
+    let mut buf = vec![in alloc; 0; BUFFER_BYTES]?;
+    let mut disk = MemDisk::new(alloc, &[])?;
+    assert!(rt; filled_to(alloc, &mut disk, &mut buf, 1)?);
+    let (entries, of_k, _) = read_of(alloc, &mut disk, b"k", b"j")?;
+    assert_eq!(rt; entries, 4);
+    assert_eq!(rt; of_k, 62_432);
+    assert!(rt; !filled_to(alloc, &mut disk, &mut buf, 0)?);
+    Ok(())
+}
+
+#[test]
+fn a_fault_names_the_byte_of_the_device(rt: HostRuntime) -> Result<(), Fail> {
+    let alloc = rt.alloc();
+    let mut disk = MemDisk::new(alloc, &[])?;
+    assert!(rt; disk.write(262_144, &[1, 3, 1, 0, 0, 0, 0, 0, 107]).is_ok());
+    assert!(rt;
+        disk.write(524_288, &[1, 2, 1, 0, 0, 0, 0, 0, 107, 1, 1, 0, 0])
+            .is_ok()
+    );
+    assert_eq!(rt;
+        fault_of(alloc, &mut disk, 0),
+        Some(LogFault::Shape {
+            at: 262_144,
+            rule: 2
+        })
+    );
+    assert_eq!(rt;
+        fault_of(alloc, &mut disk, 1),
+        Some(LogFault::Shape {
+            at: 524_297,
+            rule: 3
+        })
+    );
+    assert_eq!(rt; disk.reads(), 2);
+    Ok(())
+}
+
+fn fault_of(alloc: Global, disk: &mut MemDisk, area: u8) -> Option<LogFault> {
+    if area > 1 {
+        return None;
+    }
+    Log::replay(alloc, disk, area).err()
+}
+
+#[test]
+fn a_read_that_fails_is_named(rt: HostRuntime) -> Result<(), Fail> {
+    let alloc = rt.alloc();
+    let mut disk = MemDisk::new(alloc, &[])?.with_faults(Vec::from_slice(alloc, &[0])?);
+    let fault = DiskFault {
+        op: Op::Read,
+        at: 524_288,
+    };
+    assert_eq!(rt;
+        fault_of(alloc, &mut disk, 1),
+        Some(LogFault::Device(fault))
+    );
+    Ok(())
+}

@@ -1,0 +1,6 @@
+pub mod Clocks
+pub mod Crossing
+pub mod Endings
+pub mod Pieces
+pub mod Rows
+pub mod Sessions

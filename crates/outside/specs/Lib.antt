@@ -1,0 +1,4 @@
+pub mod During
+pub mod Present
+pub mod Session
+pub mod Streams

@@ -1,0 +1,22 @@
+//! The lines that a store reads, and the replies that it gives.
+//!
+//! [`parse_line`] reads one line, exactly as the grammar says, and [`piece`] writes a reply into a buffer of any size, as
+//! many bytes of it as fit. Neither takes memory: the key and the value of a line are laid out in a [`Scratch`] that is
+//! made once. Not for lines of other shapes, and not for streams: cutting an input into lines is the caller's
+//! ([`next_line`] finds the first one).
+//!
+//! ```text
+//! let mut scratch = Scratch::new(alloc)?;
+//! match parse_line(b"put 61 62", &mut scratch) {
+//!     Ok(Request::Put { key, value }) => ..        // b"a", b"b"
+//!     Ok(other) => ..
+//!     Err(BadLine(code)) => ..
+//! }
+//! ```
+#![tactic(auto)]
+
+mod parse;
+mod reply;
+
+pub use parse::{BadLine, LINE_BYTES, Request, Scratch, next_line, parse_line};
+pub use reply::{Reply, piece};

@@ -1,0 +1,11 @@
+pub mod Answering
+pub mod EndCauses
+pub mod Filling
+pub mod History
+pub mod Moments
+pub mod Outcomes
+pub mod Pieces
+pub mod Progress
+pub mod Steps
+pub mod Texts
+pub mod Writes

@@ -1,0 +1,14 @@
+use Rattle.std.proofs.Common.{◌≡◌, ◌∙◌, ap, sym, List}
+use Rattle.std.specs.Prelude.{Option, Some, None}
+use Rattle.store_model.specs.Entries.{Entry, live}
+use Rattle.mem_table.specs.Table.{lookup}
+use Rattle.mem_table.proofs.Newest.{lookup_newest}
+use Rattle.surf_run.proofs.store.Store.get.Goals as goal
+
+pub returns-in-Some : goal.returns-in-Some
+returns-in-Some c entries holds =
+    ap live (c.in-Some.ensures ∙ ap (λ (es : List Entry). lookup es c.args.key.now) holds.table ∙ lookup_newest entries c.args.key.now)
+
+pub returns-in-None : goal.returns-in-None
+returns-in-None c entries holds =
+    ap live (c.in-None.ensures ∙ ap (λ (es : List Entry). lookup es c.args.key.now) holds.table ∙ lookup_newest entries c.args.key.now)

@@ -1,0 +1,46 @@
+use Rattle.std.proofs.Common.{◌≡◌, ◌≤◌, ◌<◌, ◌+◌, ◌∙◌, ◌++◌, ◌∷◌, [], ap, sym, arith, ℕ, List, inl, inr}
+use Rattle.std.specs.Prelude.{Ok, Err}
+use Rattle.std.proofs.lemmas.Bool.{cases_lt}
+use Rattle.gate_log.specs.Kinds.{entry_of}
+use Rattle.gate_log.specs.Area.{LogIs, WithOrWithout}
+use Rattle.mem_table.specs.Table.{newest_entries}
+use Rattle.store_model.specs.Entries.{Entry, need, gap}
+use Rattle.surf_run.proofs.Writes.{need_is, filled_more, gap_is, room_is, in_area, leads_in, leads_ok, leads_err}
+use Rattle.surf_run.proofs.store.Store.write.Goals as goal
+
+pub returns-then-not-fits-clause-refused : goal.returns-then-not-fits-clause-refused
+returns-then-not-fits-clause-refused g c entries holds =
+    let size = need_is c.args.kind c.args.key.now c.args.value.now c.requires.fits in
+    let room = room_is entries c.gap.result c.args.self.now.log.filled c.gap.ensures holds.place in
+    let small : gap entries < need (entry_of c.args.kind c.args.key.now c.args.value.now) =
+    elim (cases_lt (gap entries) (need (entry_of c.args.kind c.args.key.now c.args.value.now))) [
+      | inl lt ↦ lt
+      | inr le ↦ absurd (let no = c.if-not-fits.ensures.1 (omega (arith, size, room, c.gap.ensures)) in cc)
+    ] in
+    (sym size, room, small)
+
+pub returns-in-Ok-clause-done : goal.returns-in-Ok-clause-done
+returns-in-Ok-clause-done g c entries holds =
+    let entry = entry_of c.args.kind c.args.key.now c.args.value.now in
+    record {
+      place = omega (arith, c.in-Ok.ensures.filled, filled_more entries entry, holds.place);
+      table = c.set.ensures.newest entries (c.prepared.ensures.kept ∙ holds.table) ∙ ap (λ (e : Entry). newest_entries (entries ++ e ∷ [])) c.in_ok-kept.ensures.entry;
+    }
+
+pub returns-in-Ok-clause-fits : goal.returns-in-Ok-clause-fits
+returns-in-Ok-clause-fits g c entries holds = omega (arith, need_is c.args.kind c.args.key.now c.args.value.now c.requires.fits, gap_is entries, holds.place, c.if-not-fits.ensures.0)
+
+pub returns-in-Ok-clause-crash : goal.returns-in-Ok-clause-crash
+returns-in-Ok-clause-crash g c entries tells holds =
+    let entry = entry_of c.args.kind c.args.key.now c.args.value.now in
+    leads_ok (LogIs 0 entries) (WithOrWithout 0 entries entry) (LogIs 0 (entries ++ entry ∷ [])) _ _ _ _
+    (leads_in c.args.self.now.log.area entries entry _ _ _ c.args.self.now.place (c.in-Ok.ensures.crash entries tells holds.place))
+
+pub returns-in-Err-clause-refused : goal.returns-in-Err-clause-refused
+returns-in-Err-clause-refused g c entries holds =
+    omega (arith, need_is c.args.kind c.args.key.now c.args.value.now c.requires.fits, gap_is entries, holds.place, c.if-not-fits.ensures.0)
+
+pub returns-in-Err-clause-moves : goal.returns-in-Err-clause-moves
+returns-in-Err-clause-moves g c =
+    in_area c.args.self.now.log.area c.args.self.now.log.filled _ _ _ c.args.self.now.place
+    (omega (arith, need_is c.args.kind c.args.key.now c.args.value.now c.requires.fits, c.if-not-fits.ensures.0)) c.append.ensures.moves

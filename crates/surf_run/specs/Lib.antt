@@ -1,0 +1,9 @@
+pub mod Causes
+pub mod Crash
+pub mod Holding
+pub mod Holds
+pub mod Open
+pub mod Outcome
+pub mod Refusals
+pub mod Saying
+pub mod Serving

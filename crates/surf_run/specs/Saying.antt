@@ -1,0 +1,28 @@
+-- How the saying of a reply ended.
+use Rattle.std.specs.Prelude.{◌≡◌, ◌⊎◌, ◌++◌, ◌<◌, ◌≤◌, ◌^◌, length}
+use Rattle.disk_trait.specs.World.{World}
+use Rattle.outside.specs.Streams.{SaysFront}
+use Rattle.store_model.specs.Replies.{Reply, text_of}
+use Rattle.store_commands.specs.declared.reply.Reply.{Reply as Spoken}
+use Rattle.store_commands.specs.declared.reply.Reply.TheVariants as spoken
+use Rattle.surf_run.specs.declared.end.LineEnd.{LineEnd}
+use Rattle.surf_run.specs.declared.end.LineEnd.TheVariants.{Next, Quit, End}
+
+-- a value of at most 65,536 bytes, and numbers below 2^64
+abbrev pub IsShort : Spoken → Type 0
+IsShort spoken.Done = Unit {0}
+IsShort (spoken.Value value) = length value.now ≤ 65536
+IsShort spoken.Missing = Unit {0}
+IsShort spoken.Bye = Unit {0}
+IsShort (spoken.BadLine code) = code < 2 ^ 64
+IsShort (spoken.LongKey size) = size < 2 ^ 64
+IsShort (spoken.LongValue size) = size < 2 ^ 64
+IsShort (spoken.Full need gap) = (need < 2 ^ 64) × (gap < 2 ^ 64)
+IsShort spoken.Memory = Unit {0}
+IsShort spoken.Device = Unit {0}
+IsShort (spoken.DamagedLog at rule) = (at < 2 ^ 64) × (rule < 2 ^ 64)
+
+-- the reply was said whole, and this is the end; or only a front of it was said, and the run ends with 6
+abbrev pub Says : LineEnd → Reply → LineEnd → World → World → Type 0
+Says end reply result a b =
+    SaysFront (text_of reply) a.beside.said b.beside.said × (((result ≡ end) × (b.beside.said ≡ a.beside.said ++ text_of reply)) ⊎ (result ≡ End 6))

@@ -1,0 +1,127 @@
+-- How far a run has come.
+use Rattle.std.specs.Prelude.{◌≡◌, ◌⊎◌, ◌<◌, ◌≤◌, ◌+◌, ℕ, List, [], ◌∷◌, ◌++◌, length, flat_map, All}
+use Rattle.disk_trait.specs.World.{Image, World, Now, Rose}
+use Rattle.outside.specs.During.{During}
+use Rattle.outside.specs.Streams.{SaysFront}
+use Rattle.gate_log.specs.Area.{LogIs}
+use Rattle.store_commands.specs.Cutting.{NoNewline}
+use Rattle.store_model.specs.SortedMap.{Bytes}
+use Rattle.store_model.specs.Entries.{Entry}
+use Rattle.store_model.specs.Lines.{Command, command_of, lines_of}
+use Rattle.store_model.specs.Replies.{Reply, Done, Value, Missing, Bye, BadLine, LongKey, LongValue, Full, Memory, Device, DamagedLog, text_of}
+use Rattle.store_model.specs.Script.{Step, Answers, Script, Ending, AtQuit, AtDevice}
+use Rattle.surf_run.specs.Holding.{Held}
+use Rattle.surf_run.specs.Holds.{Holds}
+use Rattle.surf_run.specs.Crash.{Reached, Acknowledged}
+use Rattle.surf_run.specs.declared.end.LineEnd.{LineEnd}
+use Rattle.surf_run.specs.declared.end.LineEnd.TheVariants.{Next, Quit, End}
+use Rattle.surf_run.specs.declared.store.Store.{Store}
+
+-- ---- one line
+
+-- a reply that is not the last
+abbrev pub GoesOn : Reply → Type 0
+GoesOn Done = Unit {0}
+GoesOn (Value value) = Unit {0}
+GoesOn Missing = Unit {0}
+GoesOn Bye = ⊥
+GoesOn (BadLine code) = Unit {0}
+GoesOn (LongKey size) = Unit {0}
+GoesOn (LongValue size) = Unit {0}
+GoesOn (Full need gap) = Unit {0}
+GoesOn Memory = Unit {0}
+GoesOn Device = ⊥
+GoesOn (DamagedLog at rule) = ⊥
+
+-- what a reply may leave
+abbrev pub Leaves : Type 1
+Leaves = Reply → List Entry → Type 0
+
+-- the image has entries that this reply may leave
+abbrev pub LogAfter : Leaves → Reply → Image → Type 0
+LogAfter S reply image = (new : List Entry) × S reply new × LogIs 0 new image
+
+-- Before the reply's first byte an image has the old entries, or those after the line; from then on those after it.
+abbrev pub InLine : List Entry → Leaves → Reply → ℕ → ℕ → ℕ → Image → Type 0
+InLine old S reply low high n image = ((n ≡ low) × LogIs 0 old image) ⊎ ((low ≤ n) × (n ≤ high) × LogAfter S reply image)
+
+-- the line was answered so, with a front of the reply said
+pub record LineAnswer (old : List Entry) (S : Leaves) (reply : Reply) (new : List Entry) (a b : World) : Type 0 where
+  pub step : S reply new
+  pub front : SaysFront (text_of reply) a.beside.said b.beside.said
+  pub each : During (InLine old S reply (length a.beside.said) (length b.beside.said)) a b
+
+-- all of the reply was said
+abbrev pub Whole : Reply → World → World → Type 0
+Whole reply a b = b.beside.said ≡ a.beside.said ++ text_of reply
+
+-- how a line ends the run: with its reply `device` said, or with its reply not said whole
+abbrev pub EndsBy : ℕ → Reply → World → World → Type 0
+EndsBy status reply a b = ((status ≡ 4) × (reply ≡ Device) × Whole reply a b) ⊎ (status ≡ 6)
+
+-- how the line was answered
+abbrev pub Answered : LineEnd → List Entry → Leaves → Store → World → World → Type 0
+Answered Next old S store a b =
+    (reply : Reply) × (new : List Entry) × LineAnswer old S reply new a b × GoesOn reply × Whole reply a b × Now (LogIs 0 new) b × Holds new store
+Answered Quit old S store a b = (new : List Entry) × LineAnswer old S Bye new a b × Whole Bye a b
+Answered (End status) old S store a b = (reply : Reply) × (new : List Entry) × LineAnswer old S reply new a b × EndsBy status reply a b
+
+-- ---- one line after another
+
+abbrev pub with_newline : Bytes → Bytes
+with_newline line = line ++ 10 ∷ []
+
+-- these lines were answered with this text, and none of the replies was the last; as each had been said, R held
+abbrev pub Ran : (ℕ → List Entry → Type 0) → ℕ → List Entry → List Bytes → Bytes → List Entry → Type 0
+Ran R said old [] text new = (text ≡ []) × (new ≡ old)
+Ran R said old (line ∷ more) text new =
+    (reply : Reply) × (rest : Bytes) × (mid : List Entry) × (text ≡ text_of reply ++ rest) × Step old (command_of line) reply mid
+    × GoesOn reply × R (said + length (text_of reply)) mid × Ran R (said + length (text_of reply)) mid more rest new
+
+-- since the first world, of these bytes the whole lines were answered, and the rest is kept
+pub record Served (start : List Entry) (bytes kept : Bytes) (store : Store) (first w : World) : Type 0 where
+  pub lines : List Bytes
+  pub rest : Bytes
+  pub text : Bytes
+  pub now : List Entry
+  pub split : bytes ≡ flat_map with_newline lines ++ rest
+  pub whole : All NoNewline lines
+  pub open_end : NoNewline rest
+  pub ran : Ran (Reached w) (length first.beside.said) start lines text now
+  pub told : w.beside.said ≡ first.beside.said ++ text
+  pub held : Held rest kept
+  pub history : During (Acknowledged start lines (length first.beside.said)) first w
+  pub stand : Now (LogIs 0 now) w
+  pub holds : Holds now store
+
+-- the first lines of an input that begins with these bytes
+abbrev pub AreFirst : Bytes → List Bytes → Type 0
+AreFirst bytes lines = (more : Bytes) → (later : List Bytes) × (lines_of (bytes ++ more) ≡ lines ++ later)
+
+-- all that is to be said was said, whatever may follow these bytes
+pub record Closed (ending : Ending) (start : List Entry) (bytes : Bytes) (first w : World) : Type 0 where
+  pub lines : List Bytes
+  pub first_lines : AreFirst bytes lines
+  pub text : Bytes
+  pub told : w.beside.said ≡ first.beside.said ++ text
+  pub script : (more : Bytes) → Script (Reached w) (length first.beside.said) start (lines_of (bytes ++ more)) text ending
+  pub history : During (Acknowledged start lines (length first.beside.said)) first w
+
+-- a front of what the first lines are answered was said
+pub record Broken (start : List Entry) (bytes : Bytes) (first w : World) : Type 0 where
+  pub lines : List Bytes
+  pub first_lines : AreFirst bytes lines
+  pub text : Bytes
+  pub rest : Bytes
+  pub told : w.beside.said ≡ first.beside.said ++ text
+  pub last : List Entry
+  pub answered : Answers start lines (text ++ rest) last
+  pub history : During (Acknowledged start lines (length first.beside.said)) first w
+
+abbrev pub EndedBy : ℕ → List Entry → Bytes → World → World → Type 0
+EndedBy status start bytes first w = ((status ≡ 4) × Closed AtDevice start bytes first w) ⊎ ((status ≡ 6) × Broken start bytes first w)
+
+abbrev pub After : LineEnd → List Entry → Bytes → Bytes → Store → World → World → Type 0
+After Next start bytes kept store first w = Served start bytes kept store first w
+After Quit start bytes kept store first w = Closed AtQuit start bytes first w
+After (End status) start bytes kept store first w = EndedBy status start bytes first w

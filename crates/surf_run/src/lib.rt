@@ -1,0 +1,11 @@
+//! The top call.
+#![tactic(auto)]
+
+mod end;
+mod line;
+mod opening;
+mod pending;
+mod saying;
+mod serve;
+mod store;
+mod writing;

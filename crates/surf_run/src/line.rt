@@ -1,0 +1,167 @@
+// A line, answered.
+ghost use Rattle.std.specs.Prelude.{◌≡◌, ◌<◌, ◌≤◌, ◌++◌, [], ◌∷◌, List, length, IsTrue, IfSome, None, Some};
+ghost use Rattle.disk_trait.specs.World.{Now};
+ghost use Rattle.gate_log.specs.Area.{LogIs};
+ghost use Rattle.gate_log.specs.Kinds.{KeepsRules, entry_of};
+ghost use Rattle.store_model.specs.Entries.{Entry};
+ghost use Rattle.store_model.specs.Lines.{command_of, Put, Del, Get, Bad};
+ghost use Rattle.store_model.specs.Script.{Step, Write, key_limit, value_limit};
+ghost use Rattle.std.specs.Option.{option_map};
+ghost use Rattle.store_commands.specs.Spoken.{spoken};
+ghost use Rattle.surf_run.specs.Holds.{Holds};
+ghost use Rattle.surf_run.specs.Causes.{EndCause, TakesNothing};
+ghost use Rattle.surf_run.specs.Saying.{IsShort};
+ghost use Rattle.surf_run.specs.Serving.{Answered};
+
+use crate::end::LineEnd;
+use crate::saying::say_reply;
+use crate::store::{Store, WriteError};
+use gate_log::Kind;
+use outside::Outside;
+use store_commands::{BadLine, Reply, Request, Scratch, parse_line};
+
+/// The longest key, in bytes.
+const KEY_BYTES: usize = 1_024;
+
+/// The longest value, in bytes.
+const VALUE_BYTES: usize = 65_536;
+
+// Writes an entry that keeps the limits.
+fn write_line<W: Outside>(
+    store: &mut Store,
+    buffer: &mut [u8],
+    out: &mut W,
+    kind: Kind,
+    key: &[u8],
+    value: &[u8],
+) -> LineEnd
+    requires rules { KeepsRules kind key.now value.now }
+    requires room { 0 < length buffer.old }
+    ensures answered { (entries : List Entry) → IsTrue W.tells → IsTrue W.tells_output → Holds entries store.old → Now (LogIs 0 entries) (W.world out.old)
+        → Answered result entries (Write entries (entry_of kind key.now value.now)) store.new (W.world out.old) (W.world out.new) }
+    ensures cause { EndCause result (W.world out.old) (W.world out.new) }
+    ensures moves { TakesNothing (W.world out.old) (W.world out.new) }
+{
+    let error = match store.write(out, kind, key, value) {
+        Ok(()) => return say_reply(out, buffer, &Reply::Done, LineEnd::Next),
+        Err(error) => error,
+    };
+    match error {
+        WriteError::Memory => say_reply(out, buffer, &Reply::Memory, LineEnd::Next),
+        WriteError::Full { need, gap } => say_reply(
+            out,
+            buffer,
+            &Reply::Full { need, gap },
+            LineEnd::Next,
+        ),
+        WriteError::Device(_) => say_reply(out, buffer, &Reply::Device, LineEnd::End(4)),
+    }
+}
+
+// Why a key is refused.
+fn key_refusal<'a>(key: &[u8]) -> Option<Reply<'a>>
+    ensures limit { option_map spoken result ≡ key_limit key.now }
+    ensures short { IfSome result IsShort }
+{
+    if key.is_empty() || key.len() > KEY_BYTES {
+        Some(Reply::LongKey(key.len() as u64))
+    } else {
+        None
+    }
+}
+
+// Why a value is refused.
+fn value_refusal<'a>(value: &[u8]) -> Option<Reply<'a>>
+    ensures limit { option_map spoken result ≡ value_limit value.now }
+    ensures short { IfSome result IsShort }
+{
+    if value.len() > VALUE_BYTES {
+        Some(Reply::LongValue(value.len() as u64))
+    } else {
+        None
+    }
+}
+
+fn put_line<W: Outside>(
+    store: &mut Store,
+    buffer: &mut [u8],
+    out: &mut W,
+    key: &[u8],
+    value: &[u8],
+) -> LineEnd
+    requires { 0 < length buffer.old }
+    ensures answered { (entries : List Entry) → IsTrue W.tells → IsTrue W.tells_output → Holds entries store.old → Now (LogIs 0 entries) (W.world out.old)
+        → Answered result entries (Step entries (Put key.now value.now)) store.new (W.world out.old) (W.world out.new) }
+    ensures cause { EndCause result (W.world out.old) (W.world out.new) }
+    ensures moves { TakesNothing (W.world out.old) (W.world out.new) }
+{
+    if let Some(limit) = key_refusal(key) {
+        return say_reply(out, buffer, &limit, LineEnd::Next);
+    }
+    if let Some(limit) = value_refusal(value) {
+        return say_reply(out, buffer, &limit, LineEnd::Next);
+    }
+    write_line(store, buffer, out, Kind::Put, key, value)
+}
+
+fn del_line<W: Outside>(store: &mut Store, buffer: &mut [u8], out: &mut W, key: &[u8]) -> LineEnd
+    requires { 0 < length buffer.old }
+    ensures answered { (entries : List Entry) → IsTrue W.tells → IsTrue W.tells_output → Holds entries store.old → Now (LogIs 0 entries) (W.world out.old)
+        → Answered result entries (Step entries (Del key.now)) store.new (W.world out.old) (W.world out.new) }
+    ensures cause { EndCause result (W.world out.old) (W.world out.new) }
+    ensures moves { TakesNothing (W.world out.old) (W.world out.new) }
+{
+    if let Some(limit) = key_refusal(key) {
+        return say_reply(out, buffer, &limit, LineEnd::Next);
+    }
+    write_line(store, buffer, out, Kind::Delete, key, &[])
+}
+
+fn get_line<W: Outside>(store: &Store, buffer: &mut [u8], out: &mut W, key: &[u8]) -> LineEnd
+    requires { 0 < length buffer.old }
+    ensures answered { (entries : List Entry) → IsTrue W.tells → IsTrue W.tells_output → Holds entries store.now → Now (LogIs 0 entries) (W.world out.old)
+        → Answered result entries (Step entries (Get key.now)) store.now (W.world out.old) (W.world out.new) }
+    ensures cause { EndCause result (W.world out.old) (W.world out.new) }
+    ensures moves { TakesNothing (W.world out.old) (W.world out.new) }
+{
+    if let Some(limit) = key_refusal(key) {
+        return say_reply(out, buffer, &limit, LineEnd::Next);
+    }
+    match store.get(key) {
+        Some(value) => say_reply(out, buffer, &Reply::Value(value), LineEnd::Next),
+        None => say_reply(out, buffer, &Reply::Missing, LineEnd::Next),
+    }
+}
+
+fn bad_line<W: Outside>(store: &Store, buffer: &mut [u8], out: &mut W, code: u8) -> LineEnd
+    requires { 0 < length buffer.old }
+    ensures answered { (entries : List Entry) → IsTrue W.tells → IsTrue W.tells_output → Holds entries store.now → Now (LogIs 0 entries) (W.world out.old)
+        → Answered result entries (Step entries (Bad code)) store.now (W.world out.old) (W.world out.new) }
+    ensures cause { EndCause result (W.world out.old) (W.world out.new) }
+    ensures moves { TakesNothing (W.world out.old) (W.world out.new) }
+{
+    say_reply(out, buffer, &Reply::BadLine(code), LineEnd::Next)
+}
+
+/// Answers a line: its reply is said whole before it returns, or the run ends.
+pub fn answer<W: Outside>(
+    store: &mut Store,
+    scratch: &mut Scratch,
+    buffer: &mut [u8],
+    out: &mut W,
+    line: &[u8],
+) -> LineEnd
+    requires { 0 < length buffer.old }
+    ensures answered { (entries : List Entry) → IsTrue W.tells → IsTrue W.tells_output → Holds entries store.old → Now (LogIs 0 entries) (W.world out.old)
+        → Answered result entries (Step entries (command_of line.now)) store.new (W.world out.old) (W.world out.new) }
+    ensures cause { EndCause result (W.world out.old) (W.world out.new) }
+    ensures moves { TakesNothing (W.world out.old) (W.world out.new) }
+{
+    match parse_line(line, scratch) {
+        Ok(Request::Put { key, value }) => put_line(store, buffer, out, key, value),
+        Ok(Request::Del { key }) => del_line(store, buffer, out, key),
+        Ok(Request::Get { key }) => get_line(store, buffer, out, key),
+        Ok(Request::Quit) => say_reply(out, buffer, &Reply::Bye, LineEnd::Quit),
+        Err(BadLine(code)) => bad_line(store, buffer, out, code),
+    }
+}

@@ -1,0 +1,46 @@
+// The store that stands on a device.
+ghost use Rattle.std.specs.Prelude.{◌≡◌, List, ℕ, [], IsTrue, IfOk, IfErr, OnOk, MatchResult};
+ghost use Rattle.disk_trait.specs.World.{Now};
+ghost use Rattle.gate_log.specs.Area.{LogIs};
+ghost use Rattle.gate_log.specs.Faults.{IsShapeIn, IsNoShape};
+ghost use Rattle.mem_table.specs.Table.{newest_entries};
+ghost use Rattle.store_model.specs.Entries.{Entry};
+ghost use Rattle.surf_run.specs.Holds.{Holds};
+ghost use Rattle.surf_run.specs.Open.{OpenMoves, OpenCause, StoreOf};
+
+use crate::store::{AREA, RECORD_BYTES, Store};
+use disk_trait::Disk;
+use gate_log::{Log, LogEntry, LogFault};
+use mem_table::MemTable;
+use std::alloc::{AllocError, Global};
+
+// Sets entries in an empty table, in their order.
+fn fill(table: &mut MemTable, entries: &[LogEntry]) -> Result<(), AllocError>
+    requires { table.old.entries ≡ [] }
+    ensures { OnOk result (table.new.entries ≡ newest_entries entries.now) }
+{
+    for i in 0..entries.len() {
+        let entry = &entries[i];
+        let prepared = table.reserve_for(entry.key(), entry.value())?;
+        table.set(prepared);
+    }
+    Ok(())
+}
+
+/// Opens the store that stands on a device: what was written before is made to last, and the log is replayed.
+///
+/// One sync and one read. Nothing is written.
+pub fn open_store<D: Disk>(alloc: Global, disk: &mut D) -> Result<Store, LogFault>
+    ensures found { IsTrue D.tells → IfOk result (StoreOf (D.world disk.old).seen.held) }
+    ensures exact { (start : List Entry) → IsTrue D.tells → Now (LogIs 0 start) (D.world disk.old) → MatchResult result (Holds start) IsNoShape }
+    ensures shape { IsTrue D.tells → IfErr result (IsShapeIn 0 (D.world disk.old).seen.held) }
+    ensures cause { IfErr result (OpenCause (D.world disk.old) (D.world disk.new)) }
+    ensures moves { OpenMoves (D.world disk.old) (D.world disk.new) }
+{
+    disk.sync()?;
+    let (log, entries) = Log::replay(alloc, disk, AREA)?;
+    let mut table = MemTable::new(alloc);
+    fill(&mut table, &entries)?;
+    let buffer = vec![in alloc; 0; RECORD_BYTES]?;
+    Ok(Store { log, table, buffer })
+}

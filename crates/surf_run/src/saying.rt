@@ -1,0 +1,53 @@
+// Replies, said whole.
+ghost use Rattle.std.specs.Prelude.{◌≡◌, ◌≢◌, ◌⊎◌, ◌<◌, ◌++◌, length, IsTrue, OnOk, OnErr};
+ghost use Rattle.disk_trait.specs.World.{Rose};
+ghost use Rattle.outside.specs.Streams.{SayMoves, SaysFront};
+ghost use Rattle.store_model.specs.Replies.{text_of};
+ghost use Rattle.store_commands.specs.Spoken.{spoken};
+ghost use Rattle.surf_run.specs.declared.end.LineEnd.TheVariants.{End};
+ghost use Rattle.surf_run.specs.Causes.{SayFailed};
+ghost use Rattle.surf_run.specs.Saying.{IsShort, Says};
+
+use crate::end::LineEnd;
+use outside::{Outside, SayFault, say_all};
+use store_commands::{Reply, piece};
+
+// Says a reply in as many pieces as the buffer wants.
+fn say_pieces<W: Outside>(out: &mut W, buffer: &mut [u8], reply: &Reply<'_>) -> Result<(), SayFault>
+    requires { 0 < length buffer.old }
+    ensures said { IsTrue W.tells_output → IsShort reply.now → OnOk result ((W.world out.new).beside.said ≡ (W.world out.old).beside.said ++ text_of (spoken reply.now)) }
+    ensures front { IsTrue W.tells_output → SaysFront (text_of (spoken reply.now)) (W.world out.old).beside.said (W.world out.new).beside.said }
+    ensures moves { SayMoves (W.world out.old) (W.world out.new) }
+    ensures cause { OnErr result (SayFailed (W.world out.old) (W.world out.new)) }
+{
+    let mut from = 0;
+    let mut n = piece(reply, from, buffer);
+    while n > 0 {
+        say_all(out, &buffer[..n])?;
+        // No reply is that long.
+        let Some(next) = from.checked_add(n) else {
+            return Ok(());
+        };
+        from = next;
+        n = piece(reply, from, buffer);
+    }
+    Ok(())
+}
+
+/// Says a reply, and answers this end, or 6 where it cannot be said whole.
+pub fn say_reply<W: Outside>(
+    out: &mut W,
+    buffer: &mut [u8],
+    reply: &Reply<'_>,
+    end: LineEnd,
+) -> LineEnd
+    requires { 0 < length buffer.old }
+    ensures says { IsTrue W.tells_output → IsShort reply.now → Says end (spoken reply.now) result (W.world out.old) (W.world out.new) }
+    ensures cause { (result ≡ end) ⊎ ((result ≡ End 6) × SayFailed (W.world out.old) (W.world out.new)) }
+    ensures moves { SayMoves (W.world out.old) (W.world out.new) }
+{
+    match say_pieces(out, buffer, reply) {
+        Ok(()) => end,
+        Err(_) => LineEnd::End(6),
+    }
+}

@@ -1,0 +1,82 @@
+// Entries in and out of the store.
+ghost use Rattle.std.specs.Prelude.{◌≡◌, ◌≤◌, ◌+◌, ◌++◌, [], ◌∷◌, List, length, OnOk, OnErr, IfOk, IfErr, IsTrue};
+ghost use Rattle.std.specs.Option.{option_map};
+ghost use Rattle.disk_trait.specs.World.{Leads, WriteMoves};
+ghost use Rattle.gate_log.specs.Area.{LogIs, WithOrWithout};
+ghost use Rattle.gate_log.specs.Kinds.{KeepsRules, entry_of};
+ghost use Rattle.store_model.specs.Entries.{Entry, need, gap, live, newest};
+ghost use Rattle.surf_run.specs.Refusals.{RefusedFor, WriteCause, UnlessDevice};
+ghost use Rattle.surf_run.specs.Holds.{Holds};
+
+use crate::store::{Store, WriteError};
+use disk_trait::Disk;
+use gate_log::Kind;
+use mem_table::{MemTable, Prepared};
+use std::alloc::AllocError;
+
+// All the memory of an entry.
+fn prepared(
+    table: &mut MemTable,
+    kind: Kind,
+    key: &[u8],
+    value: &[u8],
+) -> Result<Prepared, AllocError>
+    ensures entry { IfOk result (λ p. p ≡ entry_of kind key.now value.now) }
+    ensures spare { OnOk result (1 ≤ table.new.spare) }
+    ensures kept { table.new.entries ≡ table.old.entries }
+{
+    match kind {
+        Kind::Put => table.reserve_for(key, Some(value)),
+        Kind::Delete => table.reserve_for(key, None),
+    }
+}
+
+impl Store {
+    /// Writes an entry. Its memory is taken first; then it goes to the log by two writes, each made to last; then it
+    /// stands in memory.
+    pub fn write<D: Disk>(
+        &mut self,
+        disk: &mut D,
+        kind: Kind,
+        key: &[u8],
+        value: &[u8],
+    ) -> Result<(), WriteError>
+        requires { KeepsRules kind key.now value.now }
+        ensures done { (entries : List Entry) → Holds entries self.old → OnOk result (Holds (entries ++ entry_of kind key.now value.now ∷ []) self.new) }
+        ensures unchanged { (entries : List Entry) → Holds entries self.old → OnErr result (Holds entries self.new) }
+        ensures fits { (entries : List Entry) → Holds entries self.old → OnOk result (need (entry_of kind key.now value.now) ≤ gap entries) }
+        ensures refused { (entries : List Entry) → Holds entries self.old → IfErr result (RefusedFor entries (entry_of kind key.now value.now)) }
+        ensures cause { IfErr result (WriteCause (D.world disk.old) (D.world disk.new)) }
+        ensures crash { (entries : List Entry) → IsTrue D.tells → Holds entries self.old
+            → Leads (LogIs 0 entries) (WithOrWithout 0 entries (entry_of kind key.now value.now)) (LogIs 0 (entries ++ entry_of kind key.now value.now ∷ []))
+            result (D.world disk.old) (D.world disk.new) }
+        ensures untouched { IfErr result (UnlessDevice (disk.new ≡ disk.old)) }
+        ensures moves { WriteMoves 262144 262144 (D.world disk.old) (D.world disk.new) }
+    {
+        let kept = prepared(&mut self.table, kind, key, value)?;
+        let n = 7 + key.len() + value.len();
+        if !self.log.fits(n) {
+            return Err(WriteError::Full {
+                need: n as u64 + 2,
+                gap: self.log.gap() as u64,
+            });
+        }
+        match self.log.append(disk, &mut self.buffer, kind, key, value) {
+            Ok(()) => {
+                self.table.set(kept);
+                Ok(())
+            }
+            Err(fault) => Err(WriteError::Device(fault)),
+        }
+    }
+
+    /// The value of a key. Takes no memory and makes no call of the device.
+    pub fn get(&self, key: &[u8]) -> Option<&[u8]>
+        ensures { (entries : List Entry) → Holds entries self.now → option_map (λ value. value.now) result ≡ live (newest entries key.now) }
+    {
+        match self.table.get(key) {
+            Some(value) => value,
+            None => None,
+        }
+    }
+}
