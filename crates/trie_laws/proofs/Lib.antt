@@ -1,0 +1,4 @@
+pub mod Lists
+pub mod NodeLists
+pub mod Places
+pub mod Louds

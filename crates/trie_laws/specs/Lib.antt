@@ -1,0 +1,2 @@
+pub mod Louds
+pub mod Laws
