@@ -1,12 +1,12 @@
 -- What an image says in a log area, byte by byte.
-use Rattle.std.proofs.Common.{◌≡◌, ◌≢◌, ◌+◌, ◌<◌, ◌≤◌, ℕ, List, [], ◌∷◌, ◌++◌, length, refl, sym, ap, ◌∙◌, subst, arith, length-append, take, drop, ◌⊎◌, inl, inr}
+use Rattle.std.proofs.Common.{◌≡◌, ◌≢◌, ◌+◌, ◌<◌, ◌≤◌, ℕ, List, [], ◌∷◌, ◌++◌, length, refl, sym, ap, ◌∙◌, subst, arith, length-append, take, drop, ◌⊎◌, inl, inr, get_or, take-append-drop}
 use Rattle.std.specs.Prelude.{flat_map}
 use Rattle.std.specs.List.{AllByRecursion}
-use Rattle.std.proofs.lemmas.List.{append-nil, take_at, drop_at}
+use Rattle.std.proofs.lemmas.List.{append-nil, take_at, drop_at, take_more}
 use Rattle.std.proofs.lemmas.List.Concat.{flat_map-append}
 use Rattle.disk_trait.specs.Image.{Image, window, Torn}
 use Rattle.disk_trait.proofs.Images.{window_size, window_kept}
-use Rattle.store_model.specs.Entries.{Entry, body, record_bytes, filled}
+use Rattle.store_model.specs.Entries.{Entry, body, record_bytes, filled, need}
 use Rattle.gate_log.specs.Records.{IsSound, Spells}
 use Rattle.gate_log.specs.Area.{area_size, start_of, LogIs}
 use Rattle.gate_log.proofs.Windows.{take_window, byte_of_window}
@@ -80,3 +80,26 @@ pub log_kept : (area : ℕ) (entries : List Entry) (at n : ℕ) (f g : Image) �
 log_kept area entries at n f g apart torn log =
     let sized : (start_of area + area_size ≤ at) ⊎ (at + n ≤ start_of area) = elim apart [ inl below ↦ inl (omega (arith, size_is)) | inr above ↦ inr above ] in
     subst (Spells entries) (sym (window_kept at n f g (start_of area) area_size sized torn)) log
+
+-- ---- the first of some entries
+
+pub filled_take : (entries : List Entry) (n : ℕ) → filled (take n entries) ≤ filled entries
+filled_take entries n =
+    let split : filled entries ≡ filled (take n entries) + length (flat_map record_bytes (drop n entries)) =
+    ap filled (sym (take-append-drop n entries))
+    ∙ filled_is (take n entries ++ drop n entries)
+    ∙ ap length (flat_map-append record_bytes (take n entries) (drop n entries))
+    ∙ length-append (flat_map record_bytes (take n entries)) (flat_map record_bytes (drop n entries))
+    ∙ ap (λ (k : ℕ). k + length (flat_map record_bytes (drop n entries))) (sym (filled_is (take n entries))) in
+    omega (arith, split)
+
+module _ (entries : List Entry) (i : ℕ) (entry : Entry) (lt : i < length entries) (is : entry ≡ get_or entries i entry) where
+  pub take_next : take (i + 1) entries ≡ take i entries ++ entry ∷ []
+  take_next = take_more entries i entry lt ∙ ap (λ (e : Entry). take i entries ++ e ∷ []) (sym is)
+
+  pub filled_next_take : filled (take (i + 1) entries) + 1 ≡ filled (take i entries) + need entry
+  filled_next_take = let more = ap filled take_next ∙ filled_more (take i entries) entry in omega (arith, more)
+
+  -- the next record fits where all of them do
+  pub next_fits : filled entries < 262144 → filled (take i entries) + need entry ≤ 262144
+  next_fits room = omega (arith, filled_next_take, filled_take entries (i + 1), room)

@@ -5,6 +5,8 @@ ghost use Rattle.disk_trait.specs.World.{Now, Leads, ReadMoves, WriteMoves, Rose
 ghost use Rattle.store_model.specs.Entries.{Entry, filled, need};
 ghost use Rattle.gate_log.specs.Area.{Position, LogIs, WithOrWithout, IsAppendFault, IsNextRecord, start_of, area_in};
 ghost use Rattle.gate_log.specs.Faults.{IsShapeIn, HasReadCause, IsNoShape};
+ghost use Rattle.std.specs.List.{AllByRecursion};
+ghost use Rattle.gate_log.specs.Records.{IsSound};
 ghost use Rattle.gate_log.specs.Kinds.{KeepsRules, entry_of};
 
 use crate::entry::{Kind, LogEntry};
@@ -65,6 +67,32 @@ impl Log {
         Ok(Log { area, filled: 0 })
     }
 
+    /// Begins a log in an area, 0 or 1, and adds these entries in order: a start and an append each.
+    ///
+    /// At `Ok` each image that a crash may leave has these entries in the area, so that replaying it gives them again. At
+    /// `Err` some of them may stand, from the first on. `buf` has room for each body and one byte more.
+    pub fn rewrite<D: Disk>(
+        disk: &mut D,
+        area: u8,
+        buf: &mut [u8],
+        entries: &[LogEntry],
+    ) -> Result<Log, DiskFault>
+        requires area { area ≤ 1 }
+        requires sound { AllByRecursion IsSound entries.now }
+        requires fits { filled entries.now < 262144 }
+        requires room { 66568 ≤ length buf.old }
+        ensures log { IfOk result (λ log. log ≡ record { area = area; filled = filled entries.now }) }
+        ensures stands { IsTrue D.tells → OnOk result (Now (LogIs area entries.now) (D.world disk.new)) }
+        ensures moves { WriteMoves (start_of area) 262144 (D.world disk.old) (D.world disk.new) }
+        ensures cause { OnErr result (Rose (D.world disk.old).seen.write_faults (D.world disk.new).seen.write_faults) }
+    {
+        let mut log = Log::start(disk, area)?;
+        for entry in entries {
+            log.add(disk, buf, entry)?;
+        }
+        Ok(log)
+    }
+
     /// Reads the log of an area, 0 or 1: the entries of its records, in the order of writing, up to the first gate that
     /// is not open. One read of the whole area, whose memory is taken first.
     ///
@@ -78,6 +106,8 @@ impl Log {
         requires { area ≤ 1 }
         ensures log { IfOk result (λ found. found.0 ≡ record { area = area; filled = filled found.1.items }) }
         ensures entries { IsTrue D.tells → IfOk result (λ found. LogIs area found.1.items (D.world disk.old).seen.held) }
+        ensures sound { IfOk result (λ found. AllByRecursion IsSound found.1.items) }
+        ensures within { IfOk result (λ found. filled found.1.items < 262144) }
         ensures exact { (entries : List Entry) → IsTrue D.tells → LogIs area entries (D.world disk.old).seen.held → MatchResult result (λ found. found.1.items ≡ entries) IsNoShape }
         ensures shape { IsTrue D.tells → IfErr result (IsShapeIn area (D.world disk.old).seen.held) }
         ensures cause { IfErr result (HasReadCause area (D.world disk.old) (D.world disk.new)) }
@@ -138,6 +168,30 @@ impl Log {
         write_record(disk, gate, &buf[..length])?;
         self.filled += length;
         Ok(())
+    }
+
+    // Adds an entry that was read from a log.
+    fn add<D: Disk>(
+        &mut self,
+        disk: &mut D,
+        buf: &mut [u8],
+        entry: &LogEntry,
+    ) -> Result<(), DiskFault>
+        requires sound { IsSound entry.now }
+        requires fits { self.old.filled + need entry.now ≤ 262144 }
+        requires room { 66568 ≤ length buf.old }
+        ensures crash { (entries : List Entry) → IsTrue D.tells → self.old.filled ≡ filled entries
+            → Leads (LogIs self.old.area entries) (WithOrWithout self.old.area entries entry.now) (LogIs self.old.area (entries ++ entry.now ∷ []))
+            result (D.world disk.old) (D.world disk.new) }
+        ensures area { self.new.area ≡ self.old.area }
+        ensures filled { OnOk result (self.new.filled + 1 ≡ self.old.filled + need entry.now) }
+        ensures moves { WriteMoves (start_of self.old.area + self.old.filled) (need entry.now) (D.world disk.old) (D.world disk.new) }
+        ensures cause { OnErr result (Rose (D.world disk.old).seen.write_faults (D.world disk.new).seen.write_faults) }
+    {
+        match entry.value() {
+            Some(value) => self.append(disk, buf, Kind::Put, entry.key(), value),
+            None => self.append(disk, buf, Kind::Delete, entry.key(), &[]),
+        }
     }
 }
 

@@ -180,6 +180,30 @@ fn a_gate_left_as_07_is_closed(rt: HostRuntime) -> Result<(), Fail> {
     Ok(())
 }
 
+// The entries of the log of area 0, written into area 1 and read there: how many.
+fn moved(alloc: Global, disk: &mut MemDisk, buf: &mut [u8]) -> Result<usize, Fail> {
+    let Ok((_log, entries)) = Log::replay(alloc, disk, 0) else {
+        return Err(Fail::from("no log"));
+    };
+    if buf.len() < BUFFER_BYTES || Log::rewrite(disk, 1, buf, &entries).is_err() {
+        return Err(Fail::from("no copy"));
+    }
+    match Log::replay(alloc, disk, 1) {
+        Ok((_, again)) => Ok(again.len()),
+        Err(_) => Err(Fail::from("no log there")),
+    }
+}
+
+#[test]
+fn entries_move_to_the_other_area(rt: HostRuntime) -> Result<(), Fail> {
+    let alloc = rt.alloc();
+    let mut buf = vec![in alloc; 0; BUFFER_BYTES]?;
+    let mut disk = MemDisk::new(alloc, &[])?;
+    assert_eq!(rt; five_appends(&mut disk, &mut buf), 5);
+    assert_eq!(rt; moved(alloc, &mut disk, &mut buf)?, 5);
+    Ok(())
+}
+
 // So many of a byte. No test knows more of them than it reads.
 fn repeated(alloc: Global, byte: u8, count: usize) -> Result<Vec<u8>, AllocError> {
     vec![in alloc; byte; count]
