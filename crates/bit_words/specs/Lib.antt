@@ -1,3 +1,4 @@
+pub mod Counts
 pub mod Packed
 pub mod Rows
 pub mod Laws

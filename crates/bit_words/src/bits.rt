@@ -1,5 +1,5 @@
 //! The list of truth values.
-ghost use Rattle.std.specs.Prelude.{◌≡◌, ◌*◌, ◌≤◌, ◌<◌, [], ◌∷◌, ◌++◌, false, length, slice_index_or, IfOk, OnOk, OnErr, IsTrue, ◌↔◌};
+ghost use Rattle.std.specs.Prelude.{◌≡◌, ◌^◌, ◌*◌, ◌≤◌, ◌<◌, [], ◌∷◌, ◌++◌, false, length, slice_index_or, IfOk, OnOk, OnErr, IsTrue, ◌↔◌};
 ghost use Rattle.bit_words.specs.Packed.{packed, unpacked};
 
 use super::word::{MAX_BITS, byte_of, low_bits, make_room, set_bit, word_at};
@@ -102,8 +102,11 @@ impl<A: Allocator> Bits<A> {
     }
 
     /// The words that hold the bits: bit `i` is bit `i mod 64` of word `i / 64`, and the rest of the last word is 0.
+    ///
+    /// They are few enough for their set bits to be counted in a `u64`.
     pub fn words(&self) -> &[u64]
-        ensures { result.now ≡ packed 64 self.now }
+        ensures value { result.now ≡ packed 64 self.now }
+        ensures limit { length result.now < 2 ^ 58 }
     {
         self.words.as_slice()
     }

@@ -6,15 +6,21 @@ ghost use Rattle.lane_scan.specs.Places.{IsFirst, NoneBelow};
 
 use std::simd::u8x16;
 
+/// How many bytes are looked at in one step.
+const GROUP: usize = 16;
+
 /// The first place in `bytes` that holds `label`, or `None` where none does.
 ///
 /// Looks at 16 bytes at a time, and at a rest of fewer byte by byte. Takes no memory.
 pub fn find_label(bytes: &[u8], label: u8) -> Option<usize>
     ensures { result ≡ position (λ byte. byte == label) bytes.now }
 {
+    if bytes.len() < GROUP {
+        return label_from(bytes, 0, label);
+    }
     match label_in_groups(bytes, label) {
         Some(place) => Some(place),
-        None => label_from(bytes, bytes.len() / 16 * 16, label),
+        None => label_from(bytes, bytes.len() / GROUP * GROUP, label),
     }
 }
 
@@ -24,9 +30,12 @@ pub fn find_label(bytes: &[u8], label: u8) -> Option<usize>
 pub fn first_at_least(bytes: &[u8], label: u8) -> Option<usize>
     ensures { result ≡ position (λ byte. nat_le label byte) bytes.now }
 {
+    if bytes.len() < GROUP {
+        return least_from(bytes, 0, label);
+    }
     match least_in_groups(bytes, label) {
         Some(place) => Some(place),
-        None => least_from(bytes, bytes.len() / 16 * 16, label),
+        None => least_from(bytes, bytes.len() / GROUP * GROUP, label),
     }
 }
 
@@ -63,10 +72,10 @@ fn lesser_in(bytes: &[u8], at: usize, label: u8) -> usize
 fn label_in_groups(bytes: &[u8], label: u8) -> Option<usize>
     ensures { MatchOption result (NoneBelow (λ byte. byte == label) bytes.now (16 * (length bytes.now / 16))) (IsFirst (λ byte. byte == label) bytes.now) }
 {
-    for i in 0..bytes.len() / 16 {
-        let before = others_in(bytes, 16 * i, label);
-        if before < 16 {
-            return Some(16 * i + before);
+    for i in 0..bytes.len() / GROUP {
+        let before = others_in(bytes, GROUP * i, label);
+        if before < GROUP {
+            return Some(GROUP * i + before);
         }
     }
     None
@@ -76,10 +85,10 @@ fn label_in_groups(bytes: &[u8], label: u8) -> Option<usize>
 fn least_in_groups(bytes: &[u8], label: u8) -> Option<usize>
     ensures { MatchOption result (NoneBelow (λ byte. nat_le label byte) bytes.now (16 * (length bytes.now / 16))) (IsFirst (λ byte. nat_le label byte) bytes.now) }
 {
-    for i in 0..bytes.len() / 16 {
-        let before = lesser_in(bytes, 16 * i, label);
-        if before < 16 {
-            return Some(16 * i + before);
+    for i in 0..bytes.len() / GROUP {
+        let before = lesser_in(bytes, GROUP * i, label);
+        if before < GROUP {
+            return Some(GROUP * i + before);
         }
     }
     None

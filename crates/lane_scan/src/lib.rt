@@ -18,7 +18,7 @@ mod labels;
 mod words;
 
 pub use labels::{find_label, first_at_least};
-pub use words::{ones, word_with_nth_one};
+pub use words::{ones, ones_below, word_with_nth_one};
 
 #[cfg(test)]
 mod tests {
@@ -28,7 +28,8 @@ mod tests {
     fn ones_of_two_words_are_ten(rt: HostRuntime) {
         assert_eq!(rt; ones(&[0xFF, 0x8000000000000001]), 10);
         assert_eq!(rt; ones(&[]), 0);
-        assert_eq!(rt; ones(&[u64::MAX; 19]), 19 * 64);
+        assert_eq!(rt; ones(&[u64::MAX; 67]), 67 * 64);
+        assert_eq!(rt; ones_below(0xB9, 4), 2);
     }
 
     #[test]

@@ -1,5 +1,5 @@
 //! Set bits in words.
-ghost use Rattle.std.specs.Prelude.{◌≡◌, ◌≤◌, ◌<◌, ◌+◌, ◌*◌, ◌/◌, ◌^◌, length, count_ones, MatchOption};
+ghost use Rattle.std.specs.Prelude.{◌≡◌, ◌≤◌, ◌<◌, ◌+◌, ◌*◌, ◌/◌, ◌%◌, ◌^◌, length, count_ones, MatchOption};
 ghost use Rattle.std.specs.List.{sum_by};
 ghost use Rattle.lane_scan.specs.Ones.{IsWordOfOne, ones_before};
 
@@ -9,11 +9,11 @@ use std::simd::u64x4;
 const LANES: usize = 4;
 
 /// How many words make a group.
-const GROUP: usize = 16;
+const GROUP: usize = 32;
 
 /// How many bits are set in `words`, of which there are fewer than 2^58.
 ///
-/// Counts 16 words at a time, and a rest of fewer word by word. Takes no memory.
+/// Counts 32 words at a time, and a rest of fewer word by word. Takes no memory.
 pub fn ones(words: &[u64]) -> u64
     requires { length words.now < 2 ^ 58 }
     ensures { result ≡ sum_by count_ones words.now }
@@ -44,6 +44,14 @@ pub fn word_with_nth_one(words: &[u64], n: u64) -> Option<(usize, u64)>
     None
 }
 
+/// How many bits of `word` are set below `place`.
+pub fn ones_below(word: u64, place: usize) -> u64
+    requires { place < 64 }
+    ensures { result ≡ count_ones (word % 2 ^ place) }
+{
+    u64::from((word & ((1 << place) - 1)).count_ones())
+}
+
 /// How many bits are set in the four words from `at` on.
 fn ones_in_lanes(words: &[u64], at: usize) -> u64
     requires { at + LANES ≤ length words.now }
@@ -54,7 +62,7 @@ fn ones_in_lanes(words: &[u64], at: usize) -> u64
         .strict_reduce_sum()
 }
 
-/// How many bits are set in the sixteen words from `at` on.
+/// How many bits are set in the thirty-two words from `at` on.
 ///
 /// Four are counted in lanes and the others by the processor's count of a word, which go on side by side.
 fn ones_in_group(words: &[u64], at: usize) -> u64
