@@ -5,9 +5,8 @@
 //! moment: a promise such as "what was acknowledged outlasts a crash" is a fact of these bytes and of each image that
 //! a crash at that moment may leave (`During`).
 //!
-//! Each call takes or says one piece, of any size; [`say_all`] says a whole text. Not for more than one input or output.
-//! [`MemOutside`] is an outside in memory, for tests: a [`MemDisk`](disk_mem::MemDisk) with an input, an output, and
-//! lists of the takes and says that fail. It keeps all that was said, and a mark for each say.
+//! Each call takes or says one piece, of any size; [`say_all`] says a whole text. Not for random access, and not for
+//! more than one input or output.
 //!
 //! ```text
 //! fn greet<W: Outside>(out: &mut W) -> Result<(), SayFault> {
