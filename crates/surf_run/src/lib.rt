@@ -10,3 +10,5 @@ mod serve;
 mod store;
 mod top;
 mod writing;
+
+pub use top::run;

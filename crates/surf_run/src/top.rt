@@ -9,7 +9,7 @@ ghost use Rattle.store_model.specs.Entries.{Entry};
 ghost use Rattle.store_model.specs.Replies.{text_of, DamagedLog};
 ghost use Rattle.surf_run.specs.Causes.{IsServing, NoFall, StatusCause, DiskFailed, SayFailed};
 ghost use Rattle.surf_run.specs.Holds.{Holds};
-ghost use Rattle.surf_run.specs.Open.{OpenCause};
+ghost use Rattle.surf_run.specs.Open.{reply_to, status_of};
 ghost use Rattle.surf_run.specs.Run.{Ends, Damaged, serve_words, usage_text};
 ghost use Rattle.surf_run.specs.Saying.{IsShort};
 
@@ -70,4 +70,109 @@ fn say_damage<W: Outside>(out: &mut W, at: u64, rule: u8) -> u8
     ensures moves { SayMoves (W.world out.old) (W.world out.new) }
 {
     last_line(out, &Reply::DamagedLog { at, rule }, 5)
+}
+
+// Ends a run whose store was not opened.
+fn not_opened<W: Outside>(out: &mut W, fault: LogFault) -> u8
+    ensures said { IsTrue W.tells_output → result ≢ 6 → (W.world out.new).beside.said ≡ (W.world out.old).beside.said ++ text_of (reply_to fault) }
+    ensures ends { (result ≡ status_of fault) ⊎ ((result ≡ 6) × SayFailed (W.world out.old) (W.world out.new)) }
+    ensures moves { SayMoves (W.world out.old) (W.world out.new) }
+{
+    match fault {
+        LogFault::Memory => last_line(out, &Reply::Memory, 7),
+        LogFault::Device(_) => last_line(out, &Reply::Device, 4),
+        LogFault::Shape { at, rule } => say_damage(out, at, rule),
+    }
+}
+
+// What serving keeps in memory beside the store.
+#[derive(Drop)]
+struct Buffers {
+    pending: Pending,
+    scratch: Scratch,
+    reply: Vec<u8>,
+    piece: Vec<u8>,
+}
+
+fn new_buffers(alloc: Global) -> Result<Buffers, AllocError>
+    ensures pending { IfOk result (λ b. b.pending ≡ []) }
+    ensures reply { IfOk result (λ b. vec_len b.reply ≡ 65536) }
+    ensures piece { IfOk result (λ b. vec_len b.piece ≡ 65536) }
+{
+    let pending = Pending::new(alloc)?;
+    let scratch = Scratch::new(alloc)?;
+    let reply = vec![in alloc; 0; PIECE_BYTES]?;
+    let piece = vec![in alloc; 0; PIECE_BYTES]?;
+    Ok(Buffers {
+        pending,
+        scratch,
+        reply,
+        piece,
+    })
+}
+
+// Serves an opened store, with all memory that is not a line's taken first.
+fn serve_store<W: Outside>(alloc: Global, store: Store, out: &mut W) -> u8
+    ensures ends { (start : List Entry) → IsTrue W.tells → IsTrue W.tells_input → IsTrue W.tells_output → Holds start store → Now (LogIs 0 start) (W.world out.old)
+        → Ends result start (W.world out.old) (W.world out.new) }
+    ensures statuses { IsServing result ⊎ (result ≡ 7) }
+    ensures causes { StatusCause result (W.world out.old) (W.world out.new) }
+    ensures counts { NoFall (W.world out.old) (W.world out.new) }
+{
+    match new_buffers(alloc) {
+        Ok(buffers) => {
+            let mut store = store;
+            let mut buffers = buffers;
+            serve(
+                &mut store,
+                &mut buffers.pending,
+                &mut buffers.scratch,
+                &mut buffers.reply,
+                &mut buffers.piece,
+                out,
+            )
+        }
+        Err(_) => last_line(out, &Reply::Memory, 7),
+    }
+}
+
+/// Does what the words say over a device, an input and an output, and answers the exit status.
+///
+/// The one word `serve` opens the store on the device and answers the lines of the input, each reply said before the
+/// next line is begun. Other words get the usage line.
+///
+/// | status | comes |
+/// |---|---|
+/// | 0 | the input was read to its end or to `quit`, every reply said |
+/// | 2 | the words are not the one word `serve` |
+/// | 3, 4, 6 | the input, the device, the output failed |
+/// | 5 | the log is damaged |
+/// | 7 | want of memory before the first line |
+/// | 9 | 2^40 bytes were taken |
+pub fn run<W: Outside>(alloc: Global, words: &[String], out: &mut W) -> u8
+    // Over a log with these entries on each image that a crash might have left: the lines that were taken got the replies of
+    // one sorted map, and what a crash may leave at each moment has every line that was acknowledged by then.
+    ensures outcome { (start : List Entry) → IsTrue W.tells → IsTrue W.tells_input → IsTrue W.tells_output → Now (LogIs 0 start) (W.world out.old)
+        → Ends result start (W.world out.old) (W.world out.new) }
+    // Statuses 3, 4 and 6 come only where the count of such faults rose in this call.
+    ensures causes { StatusCause result (W.world out.old) (W.world out.new) }
+    ensures counts { NoFall (W.world out.old) (W.world out.new) }
+    // Status 2 comes exactly where the words are wrong, but for a last line that cannot be said.
+    ensures only_at_wrong_words { result ≡ 2 → map string_bytes words.now ≢ serve_words }
+    ensures told_of_wrong_words { map string_bytes words.now ≢ serve_words → (result ≡ 2) ⊎ ((result ≡ 6) × SayFailed (W.world out.old) (W.world out.new)) }
+    ensures usage { IsTrue W.tells_output → result ≡ 2 → (W.world out.new).beside.said ≡ (W.world out.old).beside.said ++ usage_text }
+    // Status 5 comes only where the log breaks a rule, and says where and which.
+    ensures only_at_damage { IsTrue W.tells → IsTrue W.tells_output → result ≡ 5 → Damaged (W.world out.old).seen.held (W.world out.old) (W.world out.new) }
+    // Where the log breaks a rule, no line is served.
+    ensures told_of_damage { (at rule : ℕ) → IsTrue W.tells → map string_bytes words.now ≡ serve_words → LogBreaks 0 at rule (W.world out.old).seen.held
+        → (result ≡ 5) ⊎ (result ≡ 4) ⊎ (result ≡ 6) ⊎ (result ≡ 7) }
+    ensures statuses { IsServing result ⊎ (result ≡ 2) ⊎ (result ≡ 5) ⊎ (result ≡ 7) }
+{
+    if !is_serve(words) {
+        return say_usage(out);
+    }
+    match open_store(alloc, out) {
+        Ok(store) => serve_store(alloc, store, out),
+        Err(fault) => not_opened(out, fault),
+    }
 }

@@ -1,0 +1,115 @@
+-- A run from before its opening on.
+use Rattle.std.proofs.Common.{◌≡◌, ◌⊎◌, ◌∙◌, ◌++◌, inl, inr, sym, ap, subst, refl, arith, ℕ, List, length}
+use Rattle.disk_trait.specs.World.{Image, World, Streams, Now, Meanwhile, Same}
+use Rattle.disk_trait.proofs.Moments.{in_call}
+use Rattle.outside.specs.During.{During}
+use Rattle.outside.specs.Streams.{SayMoves, SaidByNow}
+use Rattle.outside.proofs.Crossing.{during_disk, during_say, during_weaker, during_then}
+use Rattle.gate_log.specs.Area.{LogIs, LogBreaks}
+use Rattle.gate_log.specs.Faults.{IsShapeIn}
+use Rattle.gate_log.specs.declared.fault.LogFault.{LogFault}
+use Rattle.gate_log.specs.declared.fault.LogFault.TheVariants.{Memory, Device, Shape}
+use Rattle.store_model.specs.SortedMap.{Bytes}
+use Rattle.store_model.specs.Entries.{Entry}
+use Rattle.store_model.specs.Lines.{lines_of, whole_lines}
+use Rattle.store_model.specs.Replies.{text_of}
+use Rattle.store_model.specs.Script.{Script, Ending, ToLast}
+use Rattle.surf_run.specs.Causes.{NoFall, SayFailed}
+use Rattle.surf_run.specs.Crash.{Reached, Acknowledged}
+use Rattle.surf_run.specs.Open.{OpenMoves, reply_to, status_of}
+use Rattle.surf_run.specs.Outcome.{Said, CutOff, SaidInPart, Settled, Outcome}
+use Rattle.surf_run.specs.Run.{Unserved, Ends, Damaged}
+use Rattle.surf_run.proofs.History.{ack_none}
+
+module _ (start : List Entry) (old mid new : World) (opened : OpenMoves old mid) (now_old : SaidByNow old) (here : Now (LogIs 0 start) old) where
+  said_same : mid.beside.said ≡ old.beside.said
+  said_same = ap (λ (s : Streams). s.said) opened.beside
+
+  out_same : (text : Bytes) → new.beside.said ≡ mid.beside.said ++ text → new.beside.said ≡ old.beside.said ++ text
+  out_same text is = is ∙ ap (λ (s : Bytes). s ++ text) said_same
+
+  script_same : (ending : Ending) (lines : List Bytes) (text : Bytes) → Script (Reached new) (length mid.beside.said) start lines text ending → Script (Reached new) (length old.beside.said) start lines text ending
+  script_same ending lines text = subst (λ (s : Bytes). Script (Reached new) (length s) start lines text ending) said_same
+
+  said_since : (ending : Ending) (taken : Bytes) → Said ending start taken mid new → Said ending start taken old new
+  said_since ending taken said = record {
+    text = said.text;
+    output = out_same said.text said.output;
+    script = script_same ending (lines_of taken) said.text said.script;
+    settled = elim said.settled [
+      | inl none ↦ inl none
+      | inr on ↦ inr (λ more. script_same ending (lines_of (taken ++ more)) said.text (on more))
+    ];
+  }
+
+  cut_since : (taken : Bytes) → CutOff start taken mid new → CutOff start taken old new
+  cut_since taken cut = record { text = cut.text; output = out_same cut.text cut.output; script = script_same ToLast (whole_lines taken) cut.text cut.script }
+
+  part_since : (taken : Bytes) → SaidInPart start taken mid new → SaidInPart start taken old new
+  part_since taken part = record {
+    lines = part.lines;
+    later = part.later;
+    first = part.first;
+    text = part.text;
+    rest = part.rest;
+    output = out_same part.text part.output;
+    last = part.last;
+    answered = part.answered;
+  }
+
+  -- what a crash may leave while the store is opened
+  meanwhile_open : Meanwhile (LogIs 0 start) old mid
+  meanwhile_open = in_call (LogIs 0 start) Same old mid here opened.time (λ was image left same. subst (LogIs 0 start) (sym same) (here was left))
+
+  open_then : (Q : ℕ → Image → Type 0) → ((k : ℕ) (image : Image) → k ≡ length old.beside.said → LogIs 0 start image → Q k image) → During Q mid new → During Q old new
+  open_then Q first then = during_then Q old mid new
+      (during_weaker (λ k image. (k ≡ length old.beside.said) × LogIs 0 start image) Q old mid (during_disk (LogIs 0 start) old mid meanwhile_open opened.beside now_old) (λ k image at. first k image at.0 at.1))
+      then
+
+  crash_since : (lines : List Bytes) → During (Acknowledged start lines (length mid.beside.said)) mid new → During (Acknowledged start lines (length old.beside.said)) old new
+  crash_since lines then = open_then (Acknowledged start lines (length old.beside.said))
+      (λ k image is log. ack_none start lines (length old.beside.said) k image is log)
+      (subst (λ (s : Bytes). During (Acknowledged start lines (length s)) mid new) said_same then)
+
+  settled_since : (status : ℕ) (taken : Bytes) → Settled status start taken mid new → Settled status start taken old new
+  settled_since status taken settled = record {
+    ended = λ zero. elim (settled.ended zero) [
+      | inl last ↦ inl (said_since _ taken last)
+      | inr quit ↦ inr (said_since _ taken quit)
+    ];
+    device = λ four. said_since _ taken (settled.device four);
+    cut = λ is. cut_since taken (settled.cut is);
+    output = λ six. part_since taken (settled.output six);
+    crash = crash_since (lines_of taken) settled.crash;
+  }
+
+  outcome_since : (status : ℕ) → Outcome status start mid new → Outcome status start old new
+  outcome_since status outcome = record {
+    taken = outcome.taken;
+    input = ap (λ (s : Streams). s.to_take) (sym opened.beside) ∙ outcome.input;
+    settled = settled_since status outcome.taken outcome.settled;
+    limit = outcome.limit;
+  }
+
+  unserved_since : (status : ℕ) → Unserved status start mid new → Unserved status start old new
+  unserved_since status unserved = record {
+    input = unserved.input ∙ ap (λ (s : Streams). s.to_take) opened.beside;
+    line = elim unserved.line [
+      | inl line ↦ inl (line.0, line.1, out_same line.0 line.2)
+      | inr six ↦ inr six
+    ];
+    crash = open_then (λ n image. LogIs 0 start image) (λ k image is log. log) unserved.crash;
+  }
+
+  pub ends_since : (status : ℕ) → Ends status start mid new → Ends status start old new
+  ends_since status ends = elim ends [
+    | inl served ↦ inl (served.0, outcome_since status served.1)
+    | inr unserved ↦ inr (unserved_since status unserved)
+  ]
+
+-- a last line says that the log is damaged only where it is
+pub damage_told : (fault : LogFault) (image : Image) (status : ℕ) (old mid new : World) → IsShapeIn 0 image fault → mid.beside ≡ old.beside → (status ≡ status_of fault) ⊎ ((status ≡ 6) × SayFailed mid new)
+    → new.beside.said ≡ mid.beside.said ++ text_of (reply_to fault) → status ≡ 5 → Damaged image old new
+damage_told Memory image status old mid new shape same ends said five = absurd (elim ends [ inl is ↦ let e : 7 ≡ 5 = sym is ∙ five in cc | inr six ↦ let e : 6 ≡ 5 = sym six.0 ∙ five in cc ])
+damage_told (Device fault) image status old mid new shape same ends said five = absurd (elim ends [ inl is ↦ let e : 4 ≡ 5 = sym is ∙ five in cc | inr six ↦ let e : 6 ≡ 5 = sym six.0 ∙ five in cc ])
+damage_told (Shape at rule) image status old mid new shape same ends said five = (at, rule, shape, said ∙ ap (λ (s : Streams). s.said ++ text_of (reply_to (Shape at rule))) same)
