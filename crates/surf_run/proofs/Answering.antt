@@ -5,16 +5,21 @@ use Rattle.store_model.specs.SortedMap.{Bytes}
 use Rattle.store_model.specs.Entries.{Entry}
 use Rattle.store_model.specs.Lines.{command_of}
 use Rattle.store_model.specs.Replies.{Reply, Done, Value, Missing, Bye, BadLine, LongKey, LongValue, Full, Memory, Device, DamagedLog, text_of}
-use Rattle.store_model.specs.Script.{Step, Answers, Script, Then, Ending, ToLast, AtQuit, AtDevice}
+use Rattle.store_model.specs.Script.{Step, Answers, Script, Then, Ending, ToLast}
 use Rattle.surf_run.specs.Serving.{GoesOn, Ran}
 
 pub answers_on : (a : List Entry) (lines : List Bytes) (text : Bytes) (b : List Entry) (line : Bytes) (reply : Reply) (c : List Entry)
     → Answers a lines text b → Step b (command_of line) reply c → Answers a (lines ++ line ∷ []) (text ++ text_of reply) c
 answers_on a [] text b line reply c answered step =
     (reply, [], c, ap (λ (l : Bytes). l ++ text_of reply) answered.0 ∙ sym (append-nil (text_of reply)), subst (λ (e : List Entry). Step e (command_of line) reply c) answered.1 step, (refl, refl))
-answers_on a (first ∷ lines) text b line reply c answered step =
-    (answered.0, answered.1 ++ text_of reply, answered.2, ap (λ (l : Bytes). l ++ text_of reply) answered.3 ∙ append_assoc (text_of answered.0) answered.1 (text_of reply), answered.4,
-    answers_on answered.2 lines answered.1 b line reply c answered.5 step)
+answers_on a (first ∷ lines) text b line reply c answered step = (
+  answered.0,
+  answered.1 ++ text_of reply,
+  answered.2,
+  ap (λ (l : Bytes). l ++ text_of reply) answered.3 ∙ append_assoc (text_of answered.0) answered.1 (text_of reply),
+  answered.4,
+  answers_on answered.2 lines answered.1 b line reply c answered.5 step,
+)
 
 -- this reply is the last, and the end is this
 abbrev pub IsLast : Reply → Ending → Type 0
@@ -44,9 +49,16 @@ module _ (R : ℕ → List Entry → Type 0) where
   ran_on said a [] text b line reply c ran step goes at is reached =
       let here : at ≡ said + length (text_of reply) = omega (arith, is, ap length ran.0) in
       (reply, [], c, ap (λ (l : Bytes). l ++ text_of reply) ran.0 ∙ sym (append-nil (text_of reply)), subst (λ (e : List Entry). Step e (command_of line) reply c) ran.1 step, goes, subst (λ (k : ℕ). R k c) here reached, (refl, refl))
-  ran_on said a (first ∷ lines) text b line reply c ran step goes at is reached =
-      (ran.0, ran.1 ++ text_of reply, ran.2, ap (λ (l : Bytes). l ++ text_of reply) ran.3 ∙ append_assoc (text_of ran.0) ran.1 (text_of reply), ran.4, ran.5, ran.6,
-      ran_on (said + length (text_of ran.0)) ran.2 lines ran.1 b line reply c ran.7 step goes at (omega (arith, is, ap length ran.3, length-append (text_of ran.0) ran.1)) reached)
+  ran_on said a (first ∷ lines) text b line reply c ran step goes at is reached = (
+    ran.0,
+    ran.1 ++ text_of reply,
+    ran.2,
+    ap (λ (l : Bytes). l ++ text_of reply) ran.3 ∙ append_assoc (text_of ran.0) ran.1 (text_of reply),
+    ran.4,
+    ran.5,
+    ran.6,
+    ran_on (said + length (text_of ran.0)) ran.2 lines ran.1 b line reply c ran.7 step goes at (omega (arith, is, ap length ran.3, length-append (text_of ran.0) ran.1)) reached,
+  )
 
   then_goes : (reply : Reply) (rest : Bytes) (ending : Ending) (X : Type 0) → GoesOn reply → X → Then reply rest ending X
   then_goes Done rest ending X goes x = x
@@ -70,9 +82,14 @@ module _ (R : ℕ → List Entry → Type 0) where
       → Ran R said a lines text b → Step b (command_of line) reply c → IsLast reply ending → Script R said a (lines ++ line ∷ more) (text ++ text_of reply) ending
   script_ends said a [] text b line reply c more ending ran step last =
       (reply, [], c, ap (λ (l : Bytes). l ++ text_of reply) ran.0 ∙ sym (append-nil (text_of reply)), subst (λ (e : List Entry). Step e (command_of line) reply c) ran.1 step, then_last reply ending _ last)
-  script_ends said a (first ∷ lines) text b line reply c more ending ran step last =
-      (ran.0, ran.1 ++ text_of reply, ran.2, ap (λ (l : Bytes). l ++ text_of reply) ran.3 ∙ append_assoc (text_of ran.0) ran.1 (text_of reply), ran.4,
-      then_goes ran.0 (ran.1 ++ text_of reply) ending _ ran.5 (ran.6, script_ends (said + length (text_of ran.0)) ran.2 lines ran.1 b line reply c more ending ran.7 step last))
+  script_ends said a (first ∷ lines) text b line reply c more ending ran step last = (
+    ran.0,
+    ran.1 ++ text_of reply,
+    ran.2,
+    ap (λ (l : Bytes). l ++ text_of reply) ran.3 ∙ append_assoc (text_of ran.0) ran.1 (text_of reply),
+    ran.4,
+    then_goes ran.0 (ran.1 ++ text_of reply) ending _ ran.5 (ran.6, script_ends (said + length (text_of ran.0)) ran.2 lines ran.1 b line reply c more ending ran.7 step last),
+  )
 
 pub ran_weaker : (R Q : ℕ → List Entry → Type 0) → ((n : ℕ) (es : List Entry) → R n es → Q n es) → (said : ℕ) (a : List Entry) (lines : List Bytes) (text : Bytes) (b : List Entry) → Ran R said a lines text b → Ran Q said a lines text b
 ran_weaker R Q weaker said a [] text b ran = ran

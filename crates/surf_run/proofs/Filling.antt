@@ -1,5 +1,5 @@
 -- A table from the entries of a log.
-use Rattle.std.proofs.Common.{◌≡◌, ◌∙◌, ◌+◌, ap, sym, ℕ, List, ◌∷◌, drop, length, get_or}
+use Rattle.std.proofs.Common.{◌≡◌, ◌∙◌, ◌+◌, ap, sym, ℕ, List, drop, length, get_or}
 use Rattle.std.specs.Prelude.{fold, ◌<◌, Option}
 use Rattle.std.proofs.lemmas.List.{drop_more}
 use Rattle.mem_table.specs.Table.{with_entry, entry_of}

@@ -1,11 +1,11 @@
 -- A run from before its opening on.
-use Rattle.std.proofs.Common.{◌≡◌, ◌⊎◌, ◌∙◌, ◌++◌, inl, inr, sym, ap, subst, refl, arith, ℕ, List, length}
+use Rattle.std.proofs.Common.{◌≡◌, ◌⊎◌, ◌∙◌, ◌++◌, inl, inr, sym, ap, subst, ℕ, List, length}
 use Rattle.disk_trait.specs.World.{Image, World, Streams, Now, Meanwhile, Same}
 use Rattle.disk_trait.proofs.Moments.{in_call}
 use Rattle.outside.specs.During.{During}
-use Rattle.outside.specs.Streams.{SayMoves, SaidByNow}
-use Rattle.outside.proofs.Crossing.{during_disk, during_say, during_weaker, during_then}
-use Rattle.gate_log.specs.Area.{LogIs, LogBreaks}
+use Rattle.outside.specs.Streams.{SaidByNow}
+use Rattle.outside.proofs.Crossing.{during_disk, during_weaker, during_then}
+use Rattle.gate_log.specs.Area.{LogIs}
 use Rattle.gate_log.specs.Faults.{IsShapeIn}
 use Rattle.gate_log.specs.declared.fault.LogFault.{LogFault}
 use Rattle.gate_log.specs.declared.fault.LogFault.TheVariants.{Memory, Device, Shape}
@@ -14,7 +14,7 @@ use Rattle.store_model.specs.Entries.{Entry}
 use Rattle.store_model.specs.Lines.{lines_of, whole_lines}
 use Rattle.store_model.specs.Replies.{text_of}
 use Rattle.store_model.specs.Script.{Script, Ending, ToLast}
-use Rattle.surf_run.specs.Causes.{NoFall, SayFailed}
+use Rattle.surf_run.specs.Causes.{SayFailed}
 use Rattle.surf_run.specs.Crash.{Reached, Acknowledged}
 use Rattle.surf_run.specs.Open.{OpenMoves, reply_to, status_of}
 use Rattle.surf_run.specs.Outcome.{Said, CutOff, SaidInPart, Settled, Outcome}

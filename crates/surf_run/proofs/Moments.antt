@@ -1,8 +1,7 @@
 -- What a line leads to at each moment.
-use Rattle.std.proofs.Common.{◌≡◌, ◌⊎◌, inl, inr, ◌≤◌, ◌++◌, ◌∷◌, [], ℕ, List, length, refl, sym, ap, ◌∙◌, subst, arith}
-use Rattle.disk_trait.specs.World.{Image, World, Streams, Now, Meanwhile, Passes, Same, Rose}
+use Rattle.std.proofs.Common.{◌≡◌, ◌⊎◌, inl, inr, ◌≤◌, ◌++◌, ℕ, List, length, refl, sym, ap, ◌∙◌, subst, arith}
+use Rattle.disk_trait.specs.World.{Image, World, Streams, Now, Meanwhile, Passes, Same}
 use Rattle.disk_trait.proofs.Moments.{now_at, in_call, started}
-use Rattle.outside.specs.During.{During}
 use Rattle.outside.specs.Streams.{SayMoves, SaysFront, SaidByNow}
 use Rattle.outside.proofs.Crossing.{during_disk, during_say, during_weaker, during_then}
 use Rattle.gate_log.specs.Area.{LogIs}

@@ -1,27 +1,25 @@
 -- How a run ends.
-use Rattle.std.proofs.Common.{◌≡◌, ◌≢◌, ◌⊎◌, inl, inr, ◌<◌, ◌≤◌, ◌+◌, ◌++◌, ℕ, zero, List, [], ◌∷◌, length, refl, sym, ap, ◌∙◌, subst, arith, append_assoc, length-append}
-use Rattle.std.specs.Prelude.{flat_map, All}
+use Rattle.std.proofs.Common.{◌≡◌, ◌⊎◌, inl, inr, ◌<◌, ◌+◌, ◌++◌, ℕ, zero, List, [], ◌∷◌, length, refl, sym, ap, ◌∙◌, subst, arith, append_assoc, length-append}
+use Rattle.std.specs.Prelude.{flat_map}
 use Rattle.std.proofs.lemmas.List.{append-nil}
 use Rattle.std.proofs.lemmas.List.Elements.{All-nil}
 use Rattle.std.specs.Prelude.{◌==◌, false}
-use Rattle.disk_trait.specs.World.{Image, World, Streams, Now}
+use Rattle.disk_trait.specs.World.{World, Now}
 use Rattle.outside.specs.During.{During}
-use Rattle.outside.specs.Streams.{SaidByNow, SaysFront, TakeMoves}
+use Rattle.outside.specs.Streams.{SaidByNow, TakeMoves}
 use Rattle.outside.proofs.Crossing.{during_then, during_weaker, during_take, during_none}
 use Rattle.gate_log.specs.Area.{LogIs}
 use Rattle.store_commands.specs.Cutting.{NoNewline}
 use Rattle.store_model.specs.SortedMap.{Bytes}
 use Rattle.store_model.specs.Entries.{Entry}
-use Rattle.store_model.specs.Lines.{Command, command_of, lines_of, whole_lines}
-use Rattle.store_model.specs.Replies.{Reply, Bye, Device, text_of}
+use Rattle.store_model.specs.Lines.{command_of, lines_of, whole_lines}
+use Rattle.store_model.specs.Replies.{Reply, Bye, text_of}
 use Rattle.store_model.specs.Script.{Step, Answers, Script, Ending, ToLast, AtQuit, AtDevice}
 use Rattle.surf_run.specs.Crash.{Reached, Acknowledged}
-use Rattle.surf_run.specs.Holding.{Held}
 use Rattle.surf_run.specs.Holds.{Holds}
-use Rattle.surf_run.specs.Outcome.{Said, CutOff, SaidInPart, Settled}
-use Rattle.surf_run.specs.Serving.{LineAnswer, GoesOn, Whole, Answered, Ran, with_newline, Served, Closed, Broken, EndedBy}
+use Rattle.surf_run.specs.Outcome.{Said, SaidInPart, Settled}
+use Rattle.surf_run.specs.Serving.{LineAnswer, GoesOn, Whole, Answered, Ran, with_newline, Served, Closed, EndedBy}
 use Rattle.surf_run.specs.declared.store.Store.{Store}
-use Rattle.surf_run.specs.declared.end.LineEnd.{LineEnd}
 use Rattle.surf_run.specs.declared.end.LineEnd.TheVariants.{Next, Quit, End}
 use Rattle.surf_run.proofs.Moments.{now_still}
 use Rattle.surf_run.proofs.Texts.{lines_first, whole_first, last_line, held_none, held_some, held_same}
@@ -119,7 +117,14 @@ settled_end status start taken first w ended = elim ended [
         device = λ is. absurd (let e = six.0 in omega arith);
         cut = λ is. absurd (let e = six.0 in elim is [ inl three ↦ omega arith | inr nine ↦ omega arith ]);
         output = λ _. record {
-          lines = broken.lines; later = first_lines.0; first = lines_now taken broken.lines first_lines.0 first_lines.1; text = broken.text; rest = broken.rest; output = broken.told; last = broken.last; answered = broken.answered;
+          lines = broken.lines;
+          later = first_lines.0;
+          first = lines_now taken broken.lines first_lines.0 first_lines.1;
+          text = broken.text;
+          rest = broken.rest;
+          output = broken.told;
+          last = broken.last;
+          answered = broken.answered;
         };
         crash = more_lines start taken broken.lines first_lines.0 first w (lines_now taken broken.lines first_lines.0 first_lines.1) broken.history;
       }
@@ -148,7 +153,7 @@ pub settled_empty : (start : List Entry) (taken kept : Bytes) (store : Store) (f
 settled_empty start taken kept store first w none served nothing_kept =
     let empty = held_none served.rest kept served.held nothing_kept in
     let lines : lines_of taken ≡ served.lines =
-        ap lines_of (served.split ∙ ap (λ (l : Bytes). flat_map with_newline served.lines ++ l) empty) ∙ lines_first served.lines [] served.whole ∙ append-nil served.lines in
+    ap lines_of (served.split ∙ ap (λ (l : Bytes). flat_map with_newline served.lines ++ l) empty) ∙ lines_first served.lines [] served.whole ∙ append-nil served.lines in
     record {
       ended = λ _. inl (record {
         text = served.text;

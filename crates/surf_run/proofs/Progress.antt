@@ -1,31 +1,29 @@
 -- How a run goes on, line by line.
-use Rattle.std.proofs.Common.{◌≡◌, ◌≢◌, ◌⊎◌, inl, inr, ◌<◌, ◌≤◌, ◌+◌, ◌++◌, ℕ, zero, List, [], ◌∷◌, length, refl, sym, ap, ◌∙◌, subst, arith, append_assoc, length-append, true, false, Bool, cond}
-use Rattle.std.specs.Prelude.{flat_map, All, nat_le, ◌==◌, Option, Some, None, IfNone}
-use Rattle.std.specs.List.{slice_split}
-use Rattle.std.proofs.lemmas.Bool.{cases_lt, lt-leb}
+use Rattle.std.proofs.Common.{◌≡◌, inl, inr, ◌+◌, ◌++◌, ℕ, List, [], ◌∷◌, length, refl, sym, ap, ◌∙◌, subst, arith, append_assoc, length-append, false}
+use Rattle.std.specs.Prelude.{flat_map, All, ◌==◌}
 use Rattle.std.proofs.lemmas.Grind.{flat_map-append}
 use Rattle.std.proofs.lemmas.List.{append-nil}
 use Rattle.std.proofs.lemmas.List.Elements.{All-push, All-nil, All-append}
-use Rattle.disk_trait.specs.World.{Image, World, Now}
+use Rattle.disk_trait.specs.World.{World, Now}
 use Rattle.outside.specs.During.{During}
-use Rattle.outside.specs.Streams.{SaidByNow, SaysFront}
+use Rattle.outside.specs.Streams.{SaidByNow}
 use Rattle.outside.proofs.Crossing.{during_then, during_weaker}
 use Rattle.gate_log.specs.Area.{LogIs}
 use Rattle.store_commands.specs.Cutting.{NoNewline}
 use Rattle.store_model.specs.SortedMap.{Bytes}
 use Rattle.store_model.specs.Entries.{Entry}
-use Rattle.store_model.specs.Lines.{Command, Bad, command_of, lines_of}
+use Rattle.store_model.specs.Lines.{command_of, lines_of}
 use Rattle.store_model.specs.Replies.{Reply, Bye, Device, text_of}
-use Rattle.store_model.specs.Script.{Step, Answers, Script, Ending, ToLast, AtQuit, AtDevice}
+use Rattle.store_model.specs.Script.{Step, Answers, Script, Ending, AtQuit, AtDevice}
 use Rattle.surf_run.specs.Crash.{Reached, Acknowledged}
 use Rattle.surf_run.specs.Holding.{Held}
 use Rattle.surf_run.specs.Holds.{Holds}
-use Rattle.surf_run.specs.Serving.{InLine, LineAnswer, GoesOn, Whole, Answered, Ran, with_newline, Served, AreFirst, Closed, Broken, EndedBy, After}
+use Rattle.surf_run.specs.Serving.{LineAnswer, GoesOn, Whole, Answered, Ran, with_newline, Served, AreFirst, Closed, Broken, After}
 use Rattle.surf_run.specs.declared.store.Store.{Store}
 use Rattle.surf_run.specs.declared.end.LineEnd.{LineEnd}
 use Rattle.surf_run.specs.declared.end.LineEnd.TheVariants.{Next, Quit, End}
-use Rattle.surf_run.proofs.Texts.{lines_first, command_held, held_none, held_same}
-use Rattle.surf_run.proofs.Answering.{answers_on, answers_of, ran_on, ran_weaker, script_of, script_ends, IsLast}
+use Rattle.surf_run.proofs.Texts.{lines_first, held_same}
+use Rattle.surf_run.proofs.Answering.{answers_on, answers_of, ran_on, ran_weaker, script_ends, IsLast}
 use Rattle.surf_run.proofs.History.{reached_on, ack_more, line_ack, reached_here}
 
 pub device_last : (reply : Reply) → reply ≡ Device → IsLast reply AtDevice

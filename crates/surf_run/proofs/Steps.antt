@@ -1,5 +1,5 @@
 -- Replies that no call of the disk goes before, and the steps that they are.
-use Rattle.std.proofs.Common.{◌≡◌, ◌≢◌, inl, inr, ◌<◌, ◌≤◌, ◌++◌, ◌∷◌, [], List, ℕ, length, refl, sym, ap, ◌∙◌, subst, Bool, true, false, cond, arith}
+use Rattle.std.proofs.Common.{◌≡◌, inl, ◌≤◌, ◌∷◌, [], List, ℕ, length, refl, sym, ap, ◌∙◌, subst, Bool, true, false, cond}
 use Rattle.std.specs.Prelude.{Option, Some, None, ◌||◌, ◌==◌, nat_lt, bytes_eq}
 use Rattle.std.specs.List.{AllByRecursion}
 use Rattle.disk_trait.specs.World.{Image, World, Now}
@@ -12,14 +12,14 @@ use Rattle.store_model.specs.Entries.{Entry, bytes_of, map_of, newest, or_else, 
 use Rattle.store_model.specs.Lines.{Command, Put, Del, Get}
 use Rattle.store_model.specs.Lines as asks
 use Rattle.store_model.specs.Replies.{Reply, Bye, BadLine, LongKey, LongValue, text_of, got}
-use Rattle.store_model.specs.Script.{Step, Unless, Write, key_limit, value_limit, first_limit}
+use Rattle.store_model.specs.Script.{Step, Unless, key_limit, value_limit, first_limit}
 use Rattle.store_model.proofs.Maps.{newest_counts}
 use Rattle.surf_run.specs.Holds.{Holds}
 use Rattle.surf_run.specs.Saying.{Says}
 use Rattle.surf_run.specs.Serving.{Leaves, LineAnswer, GoesOn, Answered}
 use Rattle.surf_run.specs.declared.store.Store.{Store}
 use Rattle.surf_run.specs.declared.end.LineEnd.{LineEnd}
-use Rattle.surf_run.specs.declared.end.LineEnd.TheVariants.{Next, Quit, End}
+use Rattle.surf_run.specs.declared.end.LineEnd.TheVariants.{Next, Quit}
 use Rattle.surf_run.proofs.Moments.{now_still, line_answer, answered_next, answered_quit}
 
 module _ (old : List Entry) (S : Leaves) (a b : World) (now : SaidByNow a) (moves : SayMoves a b) (here : Now (LogIs 0 old) a) where

@@ -1,9 +1,9 @@
 -- The lines of a text, and what is kept of one.
-use Rattle.std.proofs.Common.{◌≡◌, ◌<◌, ◌≤◌, ◌+◌, ◌++◌, inl, inr, ℕ, zero, List, [], ◌∷◌, length, refl, sym, ap, ◌∙◌, arith, append_assoc, true, false, Bool, cond, take}
+use Rattle.std.proofs.Common.{◌≡◌, ◌<◌, ◌≤◌, ◌++◌, inl, inr, ℕ, zero, List, [], ◌∷◌, length, refl, sym, ap, ◌∙◌, arith, append_assoc, Bool, cond, take}
 use Rattle.std.specs.Prelude.{flat_map, All, ◌==◌, Option, Some, None, IfNone}
 use Rattle.std.specs.List.{slice_split}
 use Rattle.std.proofs.lemmas.Bool.{cases_lt, lt-leb}
-use Rattle.std.proofs.lemmas.List.{append-nil, take-append-le}
+use Rattle.std.proofs.lemmas.List.{take-append-le}
 use Rattle.std.proofs.lemmas.List.Elements.{All-head, All-tail}
 use Rattle.std.proofs.lemmas.List.Splits.{slice_split_at, slice_split_none, length-slice_split}
 use Rattle.store_commands.specs.Cutting.{NoNewline}

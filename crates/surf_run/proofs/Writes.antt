@@ -13,7 +13,7 @@ use Rattle.disk_trait.proofs.Calls.{moves_wider}
 use Rattle.store_model.specs.SortedMap.{Bytes}
 use Rattle.store_model.specs.Replies.{Full}
 use Rattle.store_model.specs.Script.{Write, full}
-use Rattle.store_model.specs.Entries.{Entry, bytes_of, body, record_bytes, filled, need, gap}
+use Rattle.store_model.specs.Entries.{Entry, bytes_of, record_bytes, filled, need, gap}
 
 pub need_is : (kind : Kind) (key value : Bytes) → FitsKind kind value → need (entry_of kind key value) ≡ 7 + length key + length value + 2
 need_is Put key value fits = omega (arith, length-append key value)

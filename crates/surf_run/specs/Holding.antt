@@ -1,5 +1,5 @@
 -- Lines and what is kept of one that has not ended.
-use Rattle.std.specs.Prelude.{◌≡◌, ◌==◌, false, All, ◌<◌, ◌≤◌, length}
+use Rattle.std.specs.Prelude.{◌≡◌, ◌<◌, ◌≤◌, length}
 use Rattle.store_model.specs.SortedMap.{Bytes}
 
 -- what is kept of a line that has not ended: all of it, or, of one that is too long already, too much

@@ -1,7 +1,7 @@
 -- What opening does, and why it fails.
-use Rattle.std.specs.Prelude.{◌≡◌, ◌⊎◌, ℕ, List}
+use Rattle.std.specs.Prelude.{◌≡◌, ℕ, List}
 use Rattle.disk_trait.specs.World.{Image, World, Passes, Same}
-use Rattle.gate_log.specs.Area.{LogIs, LogBreaks}
+use Rattle.gate_log.specs.Area.{LogIs}
 use Rattle.gate_log.specs.declared.fault.LogFault.{LogFault}
 use Rattle.gate_log.specs.declared.fault.LogFault.TheVariants.{Memory, Device, Shape}
 use Rattle.store_model.specs.Entries.{Entry}

@@ -2,7 +2,6 @@
 use Rattle.std.specs.Prelude.{◌≡◌, ◌⊎◌, ◌++◌, ℕ, List, [], ◌∷◌, codes}
 use Rattle.disk_trait.specs.World.{World, Image}
 use Rattle.outside.specs.During.{During}
-use Rattle.outside.specs.Streams.{SaysFront}
 use Rattle.gate_log.specs.Area.{LogIs, LogBreaks}
 use Rattle.store_model.specs.SortedMap.{Bytes}
 use Rattle.store_model.specs.Entries.{Entry}

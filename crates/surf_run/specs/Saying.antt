@@ -6,7 +6,7 @@ use Rattle.store_model.specs.Replies.{Reply, text_of}
 use Rattle.store_commands.specs.declared.reply.Reply.{Reply as Spoken}
 use Rattle.store_commands.specs.declared.reply.Reply.TheVariants as spoken
 use Rattle.surf_run.specs.declared.end.LineEnd.{LineEnd}
-use Rattle.surf_run.specs.declared.end.LineEnd.TheVariants.{Next, Quit, End}
+use Rattle.surf_run.specs.declared.end.LineEnd.TheVariants.{End}
 
 -- a value of at most 65,536 bytes, and numbers below 2^64
 abbrev pub IsShort : Spoken → Type 0

@@ -1,13 +1,13 @@
 -- How far a run has come.
-use Rattle.std.specs.Prelude.{◌≡◌, ◌⊎◌, ◌<◌, ◌≤◌, ◌+◌, ℕ, List, [], ◌∷◌, ◌++◌, length, flat_map, All}
-use Rattle.disk_trait.specs.World.{Image, World, Now, Rose}
+use Rattle.std.specs.Prelude.{◌≡◌, ◌⊎◌, ◌≤◌, ◌+◌, ℕ, List, [], ◌∷◌, ◌++◌, length, flat_map, All}
+use Rattle.disk_trait.specs.World.{Image, World, Now}
 use Rattle.outside.specs.During.{During}
 use Rattle.outside.specs.Streams.{SaysFront}
 use Rattle.gate_log.specs.Area.{LogIs}
 use Rattle.store_commands.specs.Cutting.{NoNewline}
 use Rattle.store_model.specs.SortedMap.{Bytes}
 use Rattle.store_model.specs.Entries.{Entry}
-use Rattle.store_model.specs.Lines.{Command, command_of, lines_of}
+use Rattle.store_model.specs.Lines.{command_of, lines_of}
 use Rattle.store_model.specs.Replies.{Reply, Done, Value, Missing, Bye, BadLine, LongKey, LongValue, Full, Memory, Device, DamagedLog, text_of}
 use Rattle.store_model.specs.Script.{Step, Answers, Script, Ending, AtQuit, AtDevice}
 use Rattle.surf_run.specs.Holding.{Held}

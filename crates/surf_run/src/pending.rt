@@ -2,9 +2,9 @@
 ghost use Rattle.std.specs.Prelude.{◌≡◌, ◌==◌, ◌++◌, ℕ, List, [], IfOk, length};
 ghost use Rattle.surf_run.specs.Holding.{Held};
 
-use store_commands::LINE_BYTES;
 use std::alloc::{AllocError, Global};
 use std::marker::Model;
+use store_commands::LINE_BYTES;
 
 /// What is kept of a line that has not ended: its first bytes, one more of them than a line may have.
 #[derive(Drop)]

@@ -13,7 +13,11 @@ use outside::{Outside, SayFault, say_all};
 use store_commands::{Reply, piece};
 
 /// Says a reply in as many pieces as the buffer wants.
-pub fn say_pieces<W: Outside>(out: &mut W, buffer: &mut [u8], reply: &Reply<'_>) -> Result<(), SayFault>
+pub fn say_pieces<W: Outside>(
+    out: &mut W,
+    buffer: &mut [u8],
+    reply: &Reply<'_>,
+) -> Result<(), SayFault>
     requires { 0 < length buffer.old }
     ensures said { IsTrue W.tells_output → IsShort reply.now → OnOk result ((W.world out.new).beside.said ≡ (W.world out.old).beside.said ++ text_of (spoken reply.now)) }
     ensures front { IsTrue W.tells_output → SaysFront (text_of (spoken reply.now)) (W.world out.old).beside.said (W.world out.new).beside.said }

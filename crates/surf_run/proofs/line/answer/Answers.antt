@@ -1,4 +1,4 @@
-use Rattle.std.proofs.Common.{subst, arith, ◌<◌, ◌^◌}
+use Rattle.std.proofs.Common.{subst}
 use Rattle.std.specs.Prelude.{Ok}
 use Rattle.store_commands.specs.Asks.{Asks}
 use Rattle.store_commands.specs.declared.parse.Request.{Request}

@@ -1,12 +1,12 @@
-use Rattle.std.proofs.Common.{◌≡◌, ◌⊎◌, ◌≤◌, ◌++◌, ◌∷◌, [], inl, inr, List, ℕ, sym, subst, refl, arith}
-use Rattle.disk_trait.specs.World.{Image, Meanwhile}
-use Rattle.disk_trait.proofs.Moments.{started, now_at}
+use Rattle.std.proofs.Common.{◌≡◌, ◌≤◌, ◌++◌, ◌∷◌, [], inl, inr, subst, arith}
+use Rattle.disk_trait.specs.World.{Image}
+use Rattle.disk_trait.proofs.Moments.{now_at}
 use Rattle.gate_log.specs.Area.{LogIs, WithOrWithout}
 use Rattle.gate_log.specs.Kinds.{entry_of}
-use Rattle.store_model.specs.Entries.{Entry, need, gap}
+use Rattle.store_model.specs.Entries.{need, gap}
 use Rattle.store_model.specs.Replies.{Done, Memory, Full, Device}
-use Rattle.store_model.specs.Script.{Write, done, memory, full, failed_before, failed_after}
-use Rattle.surf_run.specs.Refusals.{RefusedFor, WriteCause, UnlessDevice}
+use Rattle.store_model.specs.Script.{Write, done, memory, failed_before, failed_after}
+use Rattle.surf_run.specs.Refusals.{RefusedFor, UnlessDevice}
 use Rattle.surf_run.specs.Serving.{LogAfter}
 use Rattle.surf_run.proofs.Writes.{full_for, small_need, small_gap}
 use Rattle.surf_run.proofs.Moments.{still, now_still, line_answer, answered_next, answered_device}

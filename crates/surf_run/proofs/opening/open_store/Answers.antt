@@ -1,8 +1,7 @@
-use Rattle.std.proofs.Common.{◌≡◌, ◌∙◌, subst, refl, arith, List, ap, sym}
-use Rattle.disk_trait.specs.World.{Image, Seen}
+use Rattle.std.proofs.Common.{◌≡◌, ◌∙◌, subst, arith, ap}
 use Rattle.disk_trait.proofs.Moments.{same_then}
 use Rattle.gate_log.proofs.Ends.{one_list}
-use Rattle.store_model.specs.Entries.{Entry, filled}
+use Rattle.store_model.specs.Entries.{filled}
 use Rattle.mem_table.specs.Table.{newest_entries}
 use Rattle.disk_trait.specs.World.{Streams}
 use Rattle.gate_log.specs.Area.{LogIs, Position}
@@ -20,7 +19,7 @@ returns-clause-exact g c start tells now =
 
 pub returns-clause-moves : goal.returns-clause-moves
 returns-clause-moves g c = record {
-  counts = record { 
+  counts = record {
     read = omega (arith, c.sync.ensures.moves.read_faults, c.replay.ensures.moves.read_faults);
     write = omega (arith, c.sync.ensures.moves.write_faults, c.replay.ensures.moves.write_faults);
     take = omega (arith, ap (λ (s : Streams). s.take_faults) c.sync.ensures.moves.beside, ap (λ (s : Streams). s.take_faults) c.replay.ensures.moves.beside);

@@ -1,4 +1,4 @@
-use Rattle.std.proofs.Common.{◌≡◌, ◌≤◌, ◌-◌, ◌++◌, ℕ, length, take, min}
+use Rattle.std.proofs.Common.{◌≡◌, ◌≤◌, ◌-◌, ◌++◌, length, take, min}
 use Rattle.std.specs.Prelude.{IsTrue, drop}
 use Rattle.outside.specs.Streams.{SayMoves}
 use Rattle.store_model.specs.Replies.{text_of}

@@ -1,4 +1,4 @@
-use Rattle.std.proofs.Common.{◌≡◌, ◌∙◌, ◌++◌, ◌∷◌, [], append_assoc, ap, refl, sym, subst, List, ℕ}
+use Rattle.std.proofs.Common.{◌∙◌, ◌++◌, ◌∷◌, [], append_assoc, ap, refl, sym, subst, List, ℕ}
 use Rattle.std.proofs.lemmas.List.{append-nil}
 use Rattle.store_commands.specs.Cutting.{NoNewline}
 use Rattle.surf_run.specs.Serving.{Served, After}
@@ -28,8 +28,8 @@ loop-line-preserved g c = record {
         so_far.0 ++ (c.in-Some.line.now ++ 10 ∷ []),
         piece_split bytes c.args.piece.now so_far.0 _ c.in-Some.line.now c.in-Some.more.now so_far.1 found.0,
         subst (λ (l : List ℕ). Served start l c.end_line.new.pending c.end_line.new.store (g.W.Disk.world first) (g.W.Disk.world c.end_line.new.out))
-        (sym (line_more bytes c.args.piece.now so_far.0 _ c.in-Some.line.now c.in-Some.more.now so_far.1 found.0))
-        (c.in-Next.ensures.after start first _ tells output found.1 so_far.2),
+            (sym (line_more bytes c.args.piece.now so_far.0 _ c.in-Some.line.now c.in-Some.more.now so_far.1 found.0))
+            (c.in-Next.ensures.after start first _ tells output found.1 so_far.2),
       );
   moves = takes_on _ _ _ c.loop-line.invariant.moves c.end_line.ensures.moves;
 }

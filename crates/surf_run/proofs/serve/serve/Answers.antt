@@ -1,4 +1,4 @@
-use Rattle.std.proofs.Common.{◌≡◌, ◌++◌, ◌∙◌, [], List, ℕ, sym, ap, refl, arith, take, drop, length, inl, inr}
+use Rattle.std.proofs.Common.{◌++◌, ◌∙◌, [], List, ℕ, sym, ap, refl, arith, take, drop, length, inl, inr}
 use Rattle.std.proofs.lemmas.List.{length-append, length-take}
 use Rattle.surf_run.proofs.Texts.{front_of, taken_more, taken_all}
 use Rattle.surf_run.proofs.Outcomes.{served_none, served_take, settled_quit, settled_end, settled_cut}

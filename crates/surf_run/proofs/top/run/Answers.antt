@@ -1,6 +1,4 @@
-use Rattle.std.proofs.Common.{◌≡◌, ap}
 use Rattle.gate_log.proofs.Ends.{not_both}
-use Rattle.disk_trait.proofs.Moments.{same_then}
 use Rattle.surf_run.proofs.Lifting.{ends_since, damage_told}
 use Rattle.surf_run.proofs.Moments.{now_still}
 use Rattle.surf_run.proofs.top.run.Goals as goal

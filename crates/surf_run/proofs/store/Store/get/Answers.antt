@@ -1,5 +1,4 @@
-use Rattle.std.proofs.Common.{◌≡◌, ◌∙◌, ap, sym, List}
-use Rattle.std.specs.Prelude.{Option, Some, None}
+use Rattle.std.proofs.Common.{◌∙◌, ap, List}
 use Rattle.store_model.specs.Entries.{Entry, live}
 use Rattle.mem_table.specs.Table.{lookup}
 use Rattle.mem_table.proofs.Newest.{lookup_newest}

@@ -1,11 +1,10 @@
-use Rattle.std.proofs.Common.{◌≡◌, ◌≤◌, ◌<◌, ◌+◌, ◌∙◌, ◌++◌, ◌∷◌, [], ap, sym, arith, ℕ, List, inl, inr}
-use Rattle.std.specs.Prelude.{Ok, Err}
+use Rattle.std.proofs.Common.{◌<◌, ◌∙◌, ◌++◌, ◌∷◌, [], ap, sym, arith, inl, inr}
 use Rattle.std.proofs.lemmas.Bool.{cases_lt}
 use Rattle.gate_log.specs.Kinds.{entry_of}
 use Rattle.gate_log.specs.Area.{LogIs, WithOrWithout}
 use Rattle.mem_table.specs.Table.{newest_entries}
 use Rattle.store_model.specs.Entries.{Entry, need, gap}
-use Rattle.surf_run.proofs.Writes.{need_is, filled_more, gap_is, room_is, in_area, leads_in, leads_ok, leads_err}
+use Rattle.surf_run.proofs.Writes.{need_is, filled_more, gap_is, room_is, in_area, leads_in, leads_ok}
 use Rattle.surf_run.proofs.store.Store.write.Goals as goal
 
 pub returns-then-not-fits-clause-refused : goal.returns-then-not-fits-clause-refused
