@@ -2,6 +2,7 @@ pub mod Answering
 pub mod EndCauses
 pub mod Filling
 pub mod History
+pub mod LastLines
 pub mod Lifting
 pub mod Moments
 pub mod Outcomes

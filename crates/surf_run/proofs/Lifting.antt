@@ -3,7 +3,7 @@ use Rattle.std.proofs.Common.{◌≡◌, ◌⊎◌, ◌∙◌, ◌++◌, inl, in
 use Rattle.disk_trait.specs.World.{Image, World, Streams, Now, Meanwhile, Same}
 use Rattle.disk_trait.proofs.Moments.{in_call}
 use Rattle.outside.specs.During.{During}
-use Rattle.outside.specs.Streams.{SaidByNow}
+use Rattle.outside.specs.Streams.{SaidByNow, SaysFront}
 use Rattle.outside.proofs.Crossing.{during_disk, during_weaker, during_then}
 use Rattle.gate_log.specs.Area.{LogIs}
 use Rattle.gate_log.specs.Faults.{IsShapeIn}
@@ -94,10 +94,15 @@ module _ (start : List Entry) (old mid new : World) (opened : OpenMoves old mid)
   unserved_since : (status : ℕ) → Unserved status start mid new → Unserved status start old new
   unserved_since status unserved = record {
     input = unserved.input ∙ ap (λ (s : Streams). s.to_take) opened.beside;
-    line = elim unserved.line [
-      | inl line ↦ inl (line.0, line.1, out_same line.0 line.2)
-      | inr six ↦ inr six
-    ];
+    line = (
+      unserved.line.0,
+      unserved.line.1,
+      unserved.line.2,
+      elim unserved.line.3 [
+        | inl all ↦ inl (all.0, out_same unserved.line.1 all.1)
+        | inr part ↦ inr (part.0, subst (λ (s : Bytes). SaysFront unserved.line.1 s new.beside.said) said_same part.1)
+      ],
+    );
     crash = open_then (λ n image. LogIs 0 start image) (λ k image is log. log) unserved.crash;
   }
 

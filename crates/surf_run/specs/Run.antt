@@ -2,11 +2,12 @@
 use Rattle.std.specs.Prelude.{◌≡◌, ◌⊎◌, ◌++◌, ℕ, List, [], ◌∷◌, codes}
 use Rattle.disk_trait.specs.World.{World, Image}
 use Rattle.outside.specs.During.{During}
+use Rattle.outside.specs.Streams.{SaysFront}
 use Rattle.gate_log.specs.Area.{LogIs, LogBreaks}
 use Rattle.store_model.specs.SortedMap.{Bytes}
 use Rattle.store_model.specs.Entries.{Entry}
 use Rattle.store_model.specs.Replies.{Device, Memory, DamagedLog, text_of}
-use Rattle.surf_run.specs.Causes.{IsServing}
+use Rattle.surf_run.specs.Causes.{IsServing, TakeFailed, DiskFailed, SayFailed}
 use Rattle.surf_run.specs.Outcome.{Outcome}
 
 -- the one word that this program knows
@@ -17,16 +18,19 @@ serve_words = codes "serve" ∷ []
 abbrev pub usage_text : Bytes
 usage_text = codes "usage: surfstore PATH format|serve|load" ++ 10 ∷ []
 
--- the line of a run that answers no line, by its status; at 6 a front of some line was said
+-- the last line of a run that answers no line, by its status
+abbrev pub IsLastText : ℕ → Bytes → Type 0
+IsLastText status text = ((status ≡ 2) × (text ≡ usage_text)) ⊎ ((status ≡ 4) × (text ≡ text_of Device)) ⊎ ((status ≡ 7) × (text ≡ text_of Memory))
+
+-- it was said whole, or a front of it at 6
 abbrev pub LastLine : ℕ → World → World → Type 0
-LastLine status old new = (text : Bytes)
-    × (((status ≡ 2) × (text ≡ usage_text)) ⊎ ((status ≡ 4) × (text ≡ text_of Device)) ⊎ ((status ≡ 7) × (text ≡ text_of Memory)))
-    × (new.beside.said ≡ old.beside.said ++ text)
+LastLine status old new = (meant : ℕ) × (text : Bytes) × IsLastText meant text
+    × (((status ≡ meant) × (new.beside.said ≡ old.beside.said ++ text)) ⊎ ((status ≡ 6) × SaysFront text old.beside.said new.beside.said))
 
 -- No line was answered: nothing was taken, and each image that a crash may leave at any moment has the entries of the start.
 pub record Unserved (status : ℕ) (start : List Entry) (old new : World) : Type 0 where
   pub input : new.beside.to_take ≡ old.beside.to_take
-  pub line : LastLine status old new ⊎ (status ≡ 6)
+  pub line : LastLine status old new
   pub crash : During (λ n image. LogIs 0 start image) old new
 
 -- the lines were answered, or none was
@@ -36,3 +40,11 @@ Ends status start old new = (IsServing status × Outcome status start old new) �
 -- the log of an image is damaged, and the last line says where and how
 abbrev pub Damaged : Image → World → World → Type 0
 Damaged image old new = (at : ℕ) × (rule : ℕ) × LogBreaks 0 at rule image × (new.beside.said ≡ old.beside.said ++ text_of (DamagedLog at rule))
+
+-- some call failed
+abbrev pub SomeFailed : World → World → Type 0
+SomeFailed old new = TakeFailed old new ⊎ DiskFailed old new ⊎ SayFailed old new
+
+-- the input was read to its end or to `quit`, or 2^40 bytes of it were; or there was no memory, and nothing was taken
+abbrev pub Completed : ℕ → World → World → Type 0
+Completed status old new = (status ≡ 0) ⊎ (status ≡ 9) ⊎ ((status ≡ 7) × (new.beside.to_take ≡ old.beside.to_take))

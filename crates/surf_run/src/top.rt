@@ -10,7 +10,7 @@ ghost use Rattle.store_model.specs.Replies.{text_of, DamagedLog};
 ghost use Rattle.surf_run.specs.Causes.{IsServing, NoFall, StatusCause, DiskFailed, SayFailed};
 ghost use Rattle.surf_run.specs.Holds.{Holds};
 ghost use Rattle.surf_run.specs.Open.{reply_to, status_of};
-ghost use Rattle.surf_run.specs.Run.{Ends, Damaged, serve_words, usage_text};
+ghost use Rattle.surf_run.specs.Run.{Ends, Damaged, SomeFailed, Completed, serve_words, usage_text};
 ghost use Rattle.surf_run.specs.Saying.{IsShort};
 
 use crate::opening::open_store;
@@ -41,6 +41,7 @@ fn is_serve(words: &[String]) -> bool
 // Says the line that wrong words get.
 fn say_usage<W: Outside>(out: &mut W) -> u8
     ensures said { IsTrue W.tells_output → result ≡ 2 → (W.world out.new).beside.said ≡ (W.world out.old).beside.said ++ usage_text }
+    ensures front { IsTrue W.tells_output → SaysFront usage_text (W.world out.old).beside.said (W.world out.new).beside.said }
     ensures ends { (result ≡ 2) ⊎ ((result ≡ 6) × SayFailed (W.world out.old) (W.world out.new)) }
     ensures moves { SayMoves (W.world out.old) (W.world out.new) }
 {
@@ -54,6 +55,7 @@ fn say_usage<W: Outside>(out: &mut W) -> u8
 fn last_line<W: Outside>(out: &mut W, reply: &Reply<'_>, status: u8) -> u8
     requires { status ≢ 6 }
     ensures said { IsTrue W.tells_output → IsShort reply.now → result ≡ status → (W.world out.new).beside.said ≡ (W.world out.old).beside.said ++ text_of (spoken reply.now) }
+    ensures front { IsTrue W.tells_output → SaysFront (text_of (spoken reply.now)) (W.world out.old).beside.said (W.world out.new).beside.said }
     ensures ends { (result ≡ status) ⊎ ((result ≡ 6) × SayFailed (W.world out.old) (W.world out.new)) }
     ensures moves { SayMoves (W.world out.old) (W.world out.new) }
 {
@@ -66,6 +68,7 @@ fn last_line<W: Outside>(out: &mut W, reply: &Reply<'_>, status: u8) -> u8
 // Says where and how the log is damaged.
 fn say_damage<W: Outside>(out: &mut W, at: u64, rule: u8) -> u8
     ensures said { IsTrue W.tells_output → result ≡ 5 → (W.world out.new).beside.said ≡ (W.world out.old).beside.said ++ text_of (DamagedLog at rule) }
+    ensures front { IsTrue W.tells_output → SaysFront (text_of (DamagedLog at rule)) (W.world out.old).beside.said (W.world out.new).beside.said }
     ensures ends { (result ≡ 5) ⊎ ((result ≡ 6) × SayFailed (W.world out.old) (W.world out.new)) }
     ensures moves { SayMoves (W.world out.old) (W.world out.new) }
 {
@@ -75,6 +78,7 @@ fn say_damage<W: Outside>(out: &mut W, at: u64, rule: u8) -> u8
 // Ends a run whose store was not opened.
 fn not_opened<W: Outside>(out: &mut W, fault: LogFault) -> u8
     ensures said { IsTrue W.tells_output → result ≢ 6 → (W.world out.new).beside.said ≡ (W.world out.old).beside.said ++ text_of (reply_to fault) }
+    ensures front { IsTrue W.tells_output → SaysFront (text_of (reply_to fault)) (W.world out.old).beside.said (W.world out.new).beside.said }
     ensures ends { (result ≡ status_of fault) ⊎ ((result ≡ 6) × SayFailed (W.world out.old) (W.world out.new)) }
     ensures moves { SayMoves (W.world out.old) (W.world out.new) }
 {
@@ -136,6 +140,22 @@ fn serve_store<W: Outside>(alloc: Global, store: Store, out: &mut W) -> u8
     }
 }
 
+// Opens the store and serves it.
+fn open_and_serve<W: Outside>(alloc: Global, out: &mut W) -> u8
+    ensures ends { (start : List Entry) → IsTrue W.tells → IsTrue W.tells_input → IsTrue W.tells_output → Now (LogIs 0 start) (W.world out.old)
+        → Ends result start (W.world out.old) (W.world out.new) }
+    ensures causes { StatusCause result (W.world out.old) (W.world out.new) }
+    ensures counts { NoFall (W.world out.old) (W.world out.new) }
+    ensures only_at_damage { IsTrue W.tells → IsTrue W.tells_output → result ≡ 5 → Damaged (W.world out.old).seen.held (W.world out.old) (W.world out.new) }
+    ensures told_of_damage { (at rule : ℕ) → IsTrue W.tells → LogBreaks 0 at rule (W.world out.old).seen.held → (result ≡ 5) ⊎ (result ≡ 4) ⊎ (result ≡ 6) ⊎ (result ≡ 7) }
+    ensures statuses { IsServing result ⊎ (result ≡ 5) ⊎ (result ≡ 7) }
+{
+    match open_store(alloc, out) {
+        Ok(store) => serve_store(alloc, store, out),
+        Err(fault) => not_opened(out, fault),
+    }
+}
+
 /// Does what the words say over a device, an input and an output, and answers the exit status.
 ///
 /// The one word `serve` opens the store on the device and answers the lines of the input, each reply said before the
@@ -154,6 +174,9 @@ pub fn run<W: Outside>(alloc: Global, words: &[String], out: &mut W) -> u8
     // one sorted map, and what a crash may leave at each moment has every line that was acknowledged by then.
     ensures outcome { (start : List Entry) → IsTrue W.tells → IsTrue W.tells_input → IsTrue W.tells_output → Now (LogIs 0 start) (W.world out.old)
         → Ends result start (W.world out.old) (W.world out.new) }
+    // Over such a log, where no call fails, each line is answered, to the end of the input, to `quit` or to 2^40 bytes.
+    ensures complete { (start : List Entry) → IsTrue W.tells → IsTrue W.tells_input → IsTrue W.tells_output → map string_bytes words.now ≡ serve_words → Now (LogIs 0 start) (W.world out.old)
+        → (SomeFailed (W.world out.old) (W.world out.new) → ⊥) → Completed result (W.world out.old) (W.world out.new) }
     // Statuses 3, 4 and 6 come only where the count of such faults rose in this call.
     ensures causes { StatusCause result (W.world out.old) (W.world out.new) }
     ensures counts { NoFall (W.world out.old) (W.world out.new) }
@@ -171,8 +194,5 @@ pub fn run<W: Outside>(alloc: Global, words: &[String], out: &mut W) -> u8
     if !is_serve(words) {
         return say_usage(out);
     }
-    match open_store(alloc, out) {
-        Ok(store) => serve_store(alloc, store, out),
-        Err(fault) => not_opened(out, fault),
-    }
+    open_and_serve(alloc, out)
 }

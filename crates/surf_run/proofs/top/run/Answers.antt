@@ -1,19 +1,15 @@
-use Rattle.gate_log.proofs.Ends.{not_both}
-use Rattle.surf_run.proofs.Lifting.{ends_since, damage_told}
-use Rattle.surf_run.proofs.Moments.{now_still}
+use Rattle.std.proofs.Common.{inl, inr, refl}
+use Rattle.surf_run.proofs.LastLines.{unserved, completed, not_two}
 use Rattle.surf_run.proofs.top.run.Goals as goal
 
-pub returns-in-Ok-clause-outcome : goal.returns-in-Ok-clause-outcome
-returns-in-Ok-clause-outcome g c start tells input output now =
-    let opened = c.open_store.ensures.moves in
-    ends_since start _ _ _ opened (g.met.W.Outside.said_now _) now _
-    (c.serve_store.ensures.ends start tells input output (c.in-Ok.ensures.exact start tells now) (now_still _ _ _ opened.time now))
+pub returns-then-not-is_serve-clause-outcome : goal.returns-then-not-is_serve-clause-outcome
+returns-then-not-is_serve-clause-outcome g c start tells input output now =
+    inr (unserved start _ _ (g.met.W.Outside.said_now _) now c.say_usage.ensures.moves _ 2 _ (inl (refl, refl)) (c.say_usage.ensures.front output) (c.say_usage.ensures.said output) c.say_usage.ensures.ends)
 
-pub returns-in-Ok-clause-told_of_damage : goal.returns-in-Ok-clause-told_of_damage
-returns-in-Ok-clause-told_of_damage g c at rule tells words breaks =
-    let found = c.in-Ok.ensures.found tells in
-    absurd (not_both found.0 breaks.0 rule _ found.1 breaks.2)
+pub returns-clause-complete : goal.returns-clause-complete
+returns-clause-complete g c start tells input output words now none =
+    let ensures = c.open_and_serve.ensures in
+    completed _ start _ _ (ensures.ends start tells input output now) ensures.causes (not_two _ ensures.statuses) none
 
-pub returns-in-Err-clause-only_at_damage : goal.returns-in-Err-clause-only_at_damage
-returns-in-Err-clause-only_at_damage g c tells output five =
-    damage_told c.in-Err.fault _ _ (g.W.Disk.world c.args.out.now) (g.W.Disk.world c.open_store.new.disk) (g.W.Disk.world c.not_opened.new.out) (c.in-Err.ensures.shape tells) c.open_store.ensures.moves.beside c.not_opened.ensures.ends (c.not_opened.ensures.said output (λ six. cc)) five
+pub returns-clause-told_of_damage : goal.returns-clause-told_of_damage
+returns-clause-told_of_damage g c at rule tells words breaks = c.open_and_serve.ensures.told_of_damage at rule tells breaks
