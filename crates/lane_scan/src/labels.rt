@@ -15,9 +15,6 @@ const GROUP: usize = 16;
 pub fn find_label(bytes: &[u8], label: u8) -> Option<usize>
     ensures { result ≡ position (λ byte. byte == label) bytes.now }
 {
-    if bytes.len() < GROUP {
-        return label_from(bytes, 0, label);
-    }
     match label_in_groups(bytes, label) {
         Some(place) => Some(place),
         None => label_from(bytes, bytes.len() / GROUP * GROUP, label),
@@ -30,9 +27,6 @@ pub fn find_label(bytes: &[u8], label: u8) -> Option<usize>
 pub fn first_at_least(bytes: &[u8], label: u8) -> Option<usize>
     ensures { result ≡ position (λ byte. nat_le label byte) bytes.now }
 {
-    if bytes.len() < GROUP {
-        return least_from(bytes, 0, label);
-    }
     match least_in_groups(bytes, label) {
         Some(place) => Some(place),
         None => least_from(bytes, bytes.len() / GROUP * GROUP, label),

@@ -1,0 +1,99 @@
+//! The bits with the places of some of them.
+ghost use Rattle.std.specs.Prelude.{◌≡◌, ◌≤◌, ◌<◌, ◌*◌, length, count_by, IfOk, MatchOption};
+ghost use Rattle.bit_words.specs.Packed.{packed};
+
+use super::word::nth_one_in;
+use bit_words::Bits;
+use lane_scan::{ones, ones_below, word_with_nth_one};
+use std::alloc::{AllocError, Allocator};
+use std::marker::Model;
+
+/// How many set bits stand from one kept place to the next.
+const STEP: u64 = 64;
+
+/// A list of truth values that finds its set bits by their numbers.
+#[derive(Drop)]
+pub struct Selected<A: Allocator> {
+    bits: Bits<A>,
+    samples: Vec<usize, A>,
+}
+
+impl<A: Allocator> Model for Selected<A> {
+    ghost use Rattle.std.specs.Prelude.{Bool, List, length};
+
+    ghost Value = { List Bool };
+
+    ghost use Rattle.bit_select.specs.Place.{IsSampled};
+
+    ghost view = { λ s. s.bits };
+
+    ghost invariant = { λ s. IsSampled 64 s.bits (length s.bits) s.samples.items };
+}
+
+impl<A: Allocator> Selected<A> {
+    ghost use Rattle.bit_select.specs.Place.{IsPlaceOfOne};
+
+    /// Finds every 64th set bit. Takes one block of memory from `alloc`.
+    pub fn new(alloc: A, bits: Bits<A>) -> Result<Selected<A>, AllocError>
+        ensures { IfOk result (λ selected. selected ≡ bits) }
+    {
+        let words = bits.words();
+        let mut samples = Vec::with_capacity(alloc, ones(words).div_ceil(STEP) as usize)?;
+        let mut before = 0;
+        let mut next = 0;
+        for i in 0..words.len() {
+            let count = u64::from(words[i].count_ones());
+            if next < before + count {
+                samples.push_reserved(64 * i + nth_one_in(words[i], next - before));
+                next += STEP;
+            }
+            before += count;
+        }
+        Ok(Selected { bits, samples })
+    }
+
+    /// The place of the nth set bit, from 0, or `None` where at most `n` bits are set.
+    pub fn select(&self, n: usize) -> Option<usize>
+        ensures { MatchOption result (count_by (λ bit. bit) self.now ≤ n) (IsPlaceOfOne self.now n) }
+    {
+        if n / 64 >= self.samples.len() {
+            return None;
+        }
+        let sample = self.samples[n / 64];
+        let first = sample / 64;
+        let words = &self.bits.words()[first..];
+        let number = (n % 64) as u64 + ones_below(words[0], sample % 64);
+        let (word, left) = word_with_nth_one(words, number)?;
+        Some(64 * (first + word) + nth_one_in(words[word], left))
+    }
+
+    /// The words that hold the bits: bit `i` is bit `i mod 64` of word `i / 64`, and the rest of the last word is 0.
+    pub fn words(&self) -> &[u64]
+        ensures { result.now ≡ packed 64 self.now }
+    {
+        self.bits.words()
+    }
+}
+
+#[cfg(test)]
+mod tests {
+    use super::*;
+    use std::test::Fail;
+
+    #[test]
+    fn the_fifth_and_last_of_nine_bits_is_at_seven(rt: HostRuntime) -> Result<(), Fail> {
+        let bits = Bits::from_bytes(rt.alloc(), &[0xB9, 0x00], 9)?;
+        let selected = Selected::new(rt.alloc(), bits)?;
+        for (n, want) in [
+            (0, Some(0)),
+            (1, Some(3)),
+            (4, Some(7)),
+            (5, None),
+            (64, None),
+        ] {
+            assert_eq!(rt; selected.select(n), want, "number {n}");
+        }
+        assert_eq!(rt; selected.words(), [0xB9].as_slice());
+        Ok(())
+    }
+}
