@@ -1,6 +1,7 @@
 -- What each image of each moment has, as a run goes on.
-use Rattle.std.proofs.Common.{◌≡◌, inl, inr, ◌+◌, ◌++◌, ℕ, List, [], ◌∷◌, length, refl, sym, ap, ◌∙◌, arith, append_assoc, length-append}
-use Rattle.std.proofs.lemmas.List.{append-nil}
+use Rattle.std.proofs.Common.{◌≡◌, inl, inr, ◌+◌, ◌++◌, ℕ, List, [], ◌∷◌, length, refl, sym, ap, ◌∙◌, arith, append_assoc, length-append, subst, take, drop, ◌-◌, ◌≤◌}
+use Rattle.std.proofs.Math.Seq.{take-append-add}
+use Rattle.std.proofs.lemmas.List.{append-nil, take-append-le, take_all, take-append-drop}
 use Rattle.disk_trait.specs.World.{Image, World, Now}
 use Rattle.outside.specs.During.{During}
 use Rattle.outside.specs.Streams.{SaidByNow, SaysFront}
@@ -22,101 +23,110 @@ reached_on Q a b run n entries reached =
 pub reached_here : (w : World) (entries : List Entry) (n : ℕ) → SaidByNow w → length w.beside.said ≡ n → Now (LogIs 0 entries) w → Reached w n entries
 reached_here w entries n now is stand = (w.moment, omega arith, now w.moment (omega arith) ∙ is, stand)
 
--- more lines
-pub ack_more : (start : List Entry) (lines more : List Bytes) (low n : ℕ) (image : Image) → Acknowledged start lines low n image → Acknowledged start (lines ++ more) low n image
-ack_more start lines more low n image ack = record {
-  front = ack.front;
-  later = ack.later ++ more;
-  split = ap (λ (l : List Bytes). l ++ more) ack.split ∙ append_assoc ack.front ack.later more;
-  text = ack.text;
-  now = ack.now;
-  answered = ack.answered;
-  stands = ack.stands;
-  most = ack.most;
-  earlier = ack.earlier;
-  said = ack.said;
-  before = ack.before;
-  answered_before = ack.answered_before;
-  last = ack.last;
-  least = ack.least;
-}
+-- more lines, and more is said
+pub ack_more : (start : List Entry) (lines more : List Bytes) (before told told' done : Bytes) → told' ≡ told ++ done → (n : ℕ) (image : Image) → Acknowledged start lines before told n image
+    → Acknowledged start (lines ++ more) before told' n image
+ack_more start lines more before told told' done on n image ack =
+    let same : take n told' ≡ take n told = ap (take n) on ∙ take-append-le n told done ack.within in
+    record {
+      front = ack.front;
+      later = ack.later ++ more;
+      split = ap (λ (l : List Bytes). l ++ more) ack.split ∙ append_assoc ack.front ack.later more;
+      text = ack.text;
+      now = ack.now;
+      answered = ack.answered;
+      stands = ack.stands;
+      within = omega (arith, ack.within, ap length on, length-append told done);
+      most = (ack.most.0, ack.most.1 ∙ ap (λ (l : Bytes). l ++ ack.most.0) (sym same));
+      earlier = ack.earlier;
+      said = ack.said;
+      was = ack.was;
+      answered_before = ack.answered_before;
+      last = ack.last;
+      least = (ack.least.0, same ∙ ack.least.1);
+    }
+
+-- where all of a front had been said
+take_all_of : (n : ℕ) (told front more : Bytes) → told ≡ front ++ more → n ≡ length front → take n told ≡ front
+take_all_of n told front more is size = ap (take n) is ∙ take-append-le n front more (omega (arith, size)) ∙ take_all n front (omega (arith, size))
+
+-- after these lines, with their replies said whole and nothing else
+ack_whole : (start : List Entry) (lines later : List Bytes) (text : Bytes) (now : List Entry) (before told more : Bytes) (n : ℕ) (image : Image) → Answers start lines text now
+    → told ≡ (before ++ text) ++ more → n ≡ length (before ++ text) → LogIs 0 now image → Acknowledged start (lines ++ later) before told n image
+ack_whole start lines later text now before told more n image answered is size stands =
+    let all = take_all_of n told (before ++ text) more is size in
+    record {
+      front = lines;
+      later = later;
+      split = refl;
+      text = text;
+      now = now;
+      answered = answered;
+      stands = stands;
+      within = omega (arith, size, ap length is, length-append (before ++ text) more);
+      most = ([], sym (ap (λ (l : Bytes). l ++ []) all ∙ append-nil (before ++ text)));
+      earlier = lines;
+      said = text;
+      was = now;
+      answered_before = answered;
+      last = inl refl;
+      least = ([], all ∙ sym (append-nil (before ++ text)));
+    }
 
 -- before the first line
-pub ack_none : (start : List Entry) (lines : List Bytes) (low n : ℕ) (image : Image) → n ≡ low → LogIs 0 start image → Acknowledged start lines low n image
-ack_none start lines low n image is stands = record {
-  front = [];
-  later = lines;
-  split = refl;
-  text = [];
-  now = start;
-  answered = (refl, refl);
-  stands = stands;
-  most = omega arith;
-  earlier = [];
-  said = [];
-  before = start;
-  answered_before = (refl, refl);
-  last = inl refl;
-  least = omega arith;
-}
+pub ack_none : (start : List Entry) (lines : List Bytes) (before told more : Bytes) → told ≡ before ++ more → (n : ℕ) (image : Image) → n ≡ length before → LogIs 0 start image
+    → Acknowledged start lines before told n image
+ack_none start lines before told more is n image size stands =
+    ack_whole start [] lines [] start before told more n image (refl, refl) (is ∙ ap (λ (l : Bytes). l ++ more) (sym (append-nil before))) (size ∙ ap length (sym (append-nil before))) stands
 
 module _ (start : List Entry) (lines : List Bytes) (line text : Bytes) (now : List Entry) (reply : Reply) (first w w' : World)
     (answered : Answers start lines text now) (told : w.beside.said ≡ first.beside.said ++ text) (front : SaysFront (text_of reply) w.beside.said w'.beside.said) where
+  -- what had been said within the reply
+  part : (n : ℕ) → length w.beside.said ≤ n → take n w'.beside.said ≡ w.beside.said ++ take (n - length w.beside.said) front.done
+  part n le =
+      let size : n ≡ length w.beside.said + (n - length w.beside.said) = omega (arith, le) in
+      ap (λ (k : ℕ). take k w'.beside.said) size ∙ ap (take (length w.beside.said + (n - length w.beside.said))) front.said ∙ take-append-add w.beside.said front.done (n - length w.beside.said)
+
   -- in a line
-  pub line_ack : (n : ℕ) (image : Image) → InLine now (Step now (command_of line)) reply (length w.beside.said) (length w'.beside.said) n image → Acknowledged start (lines ++ line ∷ []) (length first.beside.said) n image
+  pub line_ack : (n : ℕ) (image : Image) → InLine now (Step now (command_of line)) reply (length w.beside.said) (length w'.beside.said) n image
+      → Acknowledged start (lines ++ line ∷ []) first.beside.said w'.beside.said n image
   line_ack n image at =
-      let low = length first.beside.said in
-      let here : length w.beside.said ≡ low + length text = ap length told ∙ length-append first.beside.said text in
+      let before = first.beside.said in
       elim at [
-        | inl before ↦ record {
-          front = lines;
-          later = line ∷ [];
-          split = refl;
-          text = text;
-          now = now;
-          answered = answered;
-          stands = before.1;
-          most = omega (arith, before.0, here);
-          earlier = lines;
-          said = text;
-          before = now;
-          answered_before = answered;
-          last = inl refl;
-          least = omega (arith, before.0, here);
-        }
-        | inr after ↦ record {
-          front = lines ++ line ∷ [];
-          later = [];
-          split = sym (append-nil (lines ++ line ∷ []));
-          text = text ++ text_of reply;
-          now = after.2.0;
-          answered = answers_on start lines text now line reply after.2.0 answered after.2.1;
-          stands = after.2.2;
-          most = omega (arith, after.1, here, ap length front.said, ap length front.split, length-append w.beside.said front.done, length-append front.done front.rest, length-append text (text_of reply));
-          earlier = lines;
-          said = text;
-          before = now;
-          answered_before = answered;
-          last = inr (line, refl);
-          least = omega (arith, after.0, here);
-        }
+        | inl before_it ↦ ack_whole start lines (line ∷ []) text now before w'.beside.said front.done n image answered (front.said ∙ ap (λ (l : Bytes). l ++ front.done) told) (before_it.0 ∙ ap length told) before_it.1
+        | inr after ↦
+            let k = n - length w.beside.said in
+            let done = take k front.done in
+            let here : take n w'.beside.said ≡ before ++ text ++ done = part n after.0 ∙ ap (λ (l : Bytes). l ++ done) told in
+            let whole : text ++ text_of reply ≡ (text ++ done) ++ (drop k front.done ++ front.rest) =
+            ap (λ (l : Bytes). text ++ l) (front.split ∙ ap (λ (l : Bytes). l ++ front.rest) (sym (take-append-drop k front.done)) ∙ append_assoc done (drop k front.done) front.rest)
+            ∙ sym (append_assoc text done (drop k front.done ++ front.rest)) in
+            record {
+              front = lines ++ line ∷ [];
+              later = [];
+              split = sym (append-nil (lines ++ line ∷ []));
+              text = text ++ text_of reply;
+              now = after.2.0;
+              answered = answers_on start lines text now line reply after.2.0 answered after.2.1;
+              stands = after.2.2;
+              within = after.1;
+              most = (
+                drop k front.done ++ front.rest,
+                ap (λ (l : Bytes). before ++ l) whole ∙ sym (append_assoc before (text ++ done) (drop k front.done ++ front.rest))
+                    ∙ ap (λ (l : Bytes). l ++ (drop k front.done ++ front.rest)) (sym (append_assoc before text done) ∙ sym here),
+              );
+              earlier = lines;
+              said = text;
+              was = now;
+              answered_before = answered;
+              last = inr (line, refl);
+              least = (done, here);
+            }
       ]
 
 -- between two lines
-pub ack_here : (start : List Entry) (lines : List Bytes) (text : Bytes) (now : List Entry) (low n : ℕ) (image : Image) → Answers start lines text now → n ≡ low + length text → LogIs 0 now image → Acknowledged start lines low n image
-ack_here start lines text now low n image answered is stands = record {
-  front = lines;
-  later = [];
-  split = sym (append-nil lines);
-  text = text;
-  now = now;
-  answered = answered;
-  stands = stands;
-  most = omega arith;
-  earlier = lines;
-  said = text;
-  before = now;
-  answered_before = answered;
-  last = inl refl;
-  least = omega arith;
-}
+pub ack_here : (start : List Entry) (lines : List Bytes) (text : Bytes) (now : List Entry) (before told : Bytes) → told ≡ before ++ text → (n : ℕ) (image : Image) → Answers start lines text now → n ≡ length told
+    → LogIs 0 now image → Acknowledged start lines before told n image
+ack_here start lines text now before told is n image answered size stands =
+    subst (λ (ls : List Bytes). Acknowledged start ls before told n image) (append-nil lines)
+    (ack_whole start lines [] text now before told [] n image answered (is ∙ sym (append-nil (before ++ text))) (size ∙ ap length is) stands)

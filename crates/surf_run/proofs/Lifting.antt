@@ -66,10 +66,11 @@ module _ (start : List Entry) (old mid new : World) (opened : OpenMoves old mid)
       (during_weaker (λ k image. (k ≡ length old.beside.said) × LogIs 0 start image) Q old mid (during_disk (LogIs 0 start) old mid meanwhile_open opened.beside now_old) (λ k image at. first k image at.0 at.1))
       then
 
-  crash_since : (lines : List Bytes) → During (Acknowledged start lines (length mid.beside.said)) mid new → During (Acknowledged start lines (length old.beside.said)) old new
-  crash_since lines then = open_then (Acknowledged start lines (length old.beside.said))
-      (λ k image is log. ack_none start lines (length old.beside.said) k image is log)
-      (subst (λ (s : Bytes). During (Acknowledged start lines (length s)) mid new) said_same then)
+  crash_since : (lines : List Bytes) (text : Bytes) → new.beside.said ≡ old.beside.said ++ text → During (Acknowledged start lines mid.beside.said new.beside.said) mid new
+      → During (Acknowledged start lines old.beside.said new.beside.said) old new
+  crash_since lines text grown then = open_then (Acknowledged start lines old.beside.said new.beside.said)
+      (ack_none start lines old.beside.said new.beside.said text grown)
+      (subst (λ (s : Bytes). During (Acknowledged start lines s new.beside.said) mid new) said_same then)
 
   settled_since : (status : ℕ) (taken : Bytes) → Settled status start taken mid new → Settled status start taken old new
   settled_since status taken settled = record {
@@ -80,7 +81,8 @@ module _ (start : List Entry) (old mid new : World) (opened : OpenMoves old mid)
     device = λ four. said_since _ taken (settled.device four);
     cut = λ is. cut_since taken (settled.cut is);
     output = λ six. part_since taken (settled.output six);
-    crash = crash_since (lines_of taken) settled.crash;
+    said = (settled.said.0, out_same settled.said.0 settled.said.1);
+    crash = crash_since (lines_of taken) settled.said.0 (out_same settled.said.0 settled.said.1) settled.crash;
   }
 
   outcome_since : (status : ℕ) → Outcome status start mid new → Outcome status start old new

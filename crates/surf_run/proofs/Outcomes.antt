@@ -40,7 +40,7 @@ served_none start kept store w none now holds stand = record {
   ran = (refl, refl);
   told = sym (append-nil w.beside.said);
   held = held_same [] kept none (omega arith);
-  history = during_weaker (λ k image. (k ≡ length w.beside.said) × LogIs 0 start image) _ w w (during_none (LogIs 0 start) w stand now) (λ k image at. ack_none start [] (length w.beside.said) k image at.0 at.1);
+  history = during_weaker (λ k image. (k ≡ length w.beside.said) × LogIs 0 start image) _ w w (during_none (LogIs 0 start) w stand now) (λ k image at. ack_none start [] w.beside.said w.beside.said [] (sym (append-nil w.beside.said)) k image at.0 at.1);
   stand = stand;
   holds = holds;
 }
@@ -62,9 +62,11 @@ served_take start bytes kept store first w w' moves now served =
       ran = ran_weaker (Reached w) (Reached w') (reached_on _ w w' taking) low start served.lines served.text served.now served.ran;
       told = moves.said ∙ served.told;
       held = served.held;
-      history = during_then _ first w w' served.history
+      history =
+          let told = moves.said ∙ served.told in
+          during_then (Acknowledged start served.lines first.beside.said w'.beside.said) first w w' (subst (λ (s : Bytes). During (Acknowledged start served.lines first.beside.said s) first w) (sym moves.said) served.history)
           (during_weaker (λ k image. (k ≡ length w.beside.said) × LogIs 0 served.now image) _ w w' taking
-          (λ k image at. ack_here start served.lines served.text served.now low k image answered (omega (arith, at.0, ap length served.told, length-append first.beside.said served.text)) at.1));
+          (λ k image at. ack_here start served.lines served.text served.now first.beside.said w'.beside.said told k image answered (at.0 ∙ ap length (sym moves.said)) at.1));
       stand = now_still (LogIs 0 served.now) w w' moves.time served.stand;
       holds = served.holds;
     }
@@ -82,10 +84,11 @@ said_closed ending start taken first w closed = record {
   settled = inr closed.script;
 }
 
-more_lines : (start : List Entry) (taken : Bytes) (lines later : List Bytes) (first w : World) → lines_of taken ≡ lines ++ later → During (Acknowledged start lines (length first.beside.said)) first w
-    → During (Acknowledged start (lines_of taken) (length first.beside.said)) first w
+more_lines : (start : List Entry) (taken : Bytes) (lines later : List Bytes) (first w : World) → lines_of taken ≡ lines ++ later → During (Acknowledged start lines first.beside.said w.beside.said) first w
+    → During (Acknowledged start (lines_of taken) first.beside.said w.beside.said) first w
 more_lines start taken lines later first w is history =
-    subst (λ (ls : List Bytes). During (Acknowledged start ls (length first.beside.said)) first w) (sym is) (during_weaker _ _ first w history (λ k image. ack_more start lines later (length first.beside.said) k image))
+    subst (λ (ls : List Bytes). During (Acknowledged start ls first.beside.said w.beside.said) first w) (sym is)
+    (during_weaker _ _ first w history (ack_more start lines later first.beside.said w.beside.said w.beside.said [] (sym (append-nil w.beside.said))))
 
 pub settled_quit : (start : List Entry) (taken : Bytes) (first w : World) → Closed AtQuit start taken first w → Settled 0 start taken first w
 settled_quit start taken first w closed =
@@ -95,6 +98,7 @@ settled_quit start taken first w closed =
       device = λ is. absurd (omega arith);
       cut = λ is. absurd (elim is [ inl three ↦ omega arith | inr nine ↦ omega arith ]);
       output = λ is. absurd (omega arith);
+      said = (closed.text, closed.told);
       crash = more_lines start taken closed.lines first_lines.0 first w (lines_now taken closed.lines first_lines.0 first_lines.1) closed.history;
     }
 
@@ -107,6 +111,7 @@ settled_end status start taken first w ended = elim ended [
         device = λ _. said_closed AtDevice start taken first w four.1;
         cut = λ is. absurd (let e = four.0 in elim is [ inl three ↦ omega arith | inr nine ↦ omega arith ]);
         output = λ is. absurd (let e = four.0 in omega arith);
+        said = (four.1.text, four.1.told);
         crash = more_lines start taken four.1.lines first_lines.0 first w (lines_now taken four.1.lines first_lines.0 first_lines.1) four.1.history;
       }
   | inr six ↦
@@ -126,6 +131,7 @@ settled_end status start taken first w ended = elim ended [
           last = broken.last;
           answered = broken.answered;
         };
+        said = (broken.text, broken.told);
         crash = more_lines start taken broken.lines first_lines.0 first w (lines_now taken broken.lines first_lines.0 first_lines.1) broken.history;
       }
 ]
@@ -144,6 +150,7 @@ settled_cut status start taken kept store first w is served = record {
         subst (λ (ls : List Bytes). Script (Reached w) (length first.beside.said) start ls served.text ToLast) (sym lines) (script_of (Reached w) (length first.beside.said) start served.lines served.text served.now served.ran);
   };
   output = λ e. absurd (elim is [ inl three ↦ omega arith | inr nine ↦ omega arith ]);
+  said = (served.text, served.told);
   crash = more_lines start taken served.lines (lines_of served.rest) first w (ap lines_of served.split ∙ lines_first served.lines served.rest served.whole) served.history;
 }
 
@@ -164,7 +171,8 @@ settled_empty start taken kept store first w none served nothing_kept =
       device = λ e. absurd (omega arith);
       cut = λ is. absurd (elim is [ inl three ↦ omega arith | inr nine ↦ omega arith ]);
       output = λ e. absurd (omega arith);
-      crash = subst (λ (ls : List Bytes). During (Acknowledged start ls (length first.beside.said)) first w) (sym lines) served.history;
+      said = (served.text, served.told);
+      crash = subst (λ (ls : List Bytes). During (Acknowledged start ls first.beside.said w.beside.said) first w) (sym lines) served.history;
     }
 
 module _ (start : List Entry) (taken kept : Bytes) (store : Store) (first w w' : World) (served : Served start taken kept store first w) (some : zero < length kept) (none : w'.beside.to_take ≡ []) where
@@ -176,9 +184,13 @@ module _ (start : List Entry) (taken kept : Bytes) (store : Store) (first w w' :
     answered_before : Answers start served.lines served.text served.now
     answered_before = answers_of (Reached w) (length first.beside.said) start served.lines served.text served.now served.ran
 
-    crash : During (Acknowledged start (lines_of taken) (length first.beside.said)) first w'
-    crash = subst (λ (ls : List Bytes). During (Acknowledged start ls (length first.beside.said)) first w') (sym last)
-        (during_then _ first w w' (during_weaker _ _ first w served.history (λ k image. ack_more start served.lines (served.rest ∷ []) (length first.beside.said) k image))
+    grown : (text : Bytes) × (w'.beside.said ≡ first.beside.said ++ text)
+    grown = (served.text ++ answer.front.done, answer.front.said ∙ ap (λ (l : Bytes). l ++ answer.front.done) served.told ∙ append_assoc first.beside.said served.text answer.front.done)
+
+    crash : During (Acknowledged start (lines_of taken) first.beside.said w'.beside.said) first w'
+    crash = subst (λ (ls : List Bytes). During (Acknowledged start ls first.beside.said w'.beside.said) first w') (sym last)
+        (during_then _ first w w'
+        (during_weaker _ _ first w served.history (ack_more start served.lines (served.rest ∷ []) first.beside.said w.beside.said w'.beside.said answer.front.done answer.front.said))
         (during_weaker _ _ w w' answer.each (line_ack start served.lines served.rest served.text served.now reply first w w' answered_before served.told answer.front)))
 
     ran_then : Ran (Reached w') (length first.beside.said) start served.lines served.text served.now
@@ -227,6 +239,7 @@ module _ (start : List Entry) (taken kept : Bytes) (store : Store) (first w w' :
     device = λ e. absurd (omega arith);
     cut = λ is. absurd (elim is [ inl three ↦ omega arith | inr nine ↦ omega arith ]);
     output = λ e. absurd (omega arith);
+    said = grown a.0 a.1 a.2;
     crash = crash a.0 a.1 a.2;
   }
 
@@ -236,6 +249,7 @@ module _ (start : List Entry) (taken kept : Bytes) (store : Store) (first w w' :
     device = λ e. absurd (omega arith);
     cut = λ is. absurd (elim is [ inl three ↦ omega arith | inr nine ↦ omega arith ]);
     output = λ e. absurd (omega arith);
+    said = grown Bye a.0 a.1;
     crash = crash Bye a.0 a.1;
   }
 
@@ -246,13 +260,15 @@ module _ (start : List Entry) (taken kept : Bytes) (store : Store) (first w w' :
       device = λ _. said_last a.0 a.1 a.2 AtDevice (device_last a.0 four.1) four.2;
       cut = λ is. absurd (let f = four.0 in elim is [ inl three ↦ omega arith | inr nine ↦ omega arith ]);
       output = λ e. absurd (let f = four.0 in omega arith);
-      crash = crash a.0 a.1 a.2;
+      said = grown a.0 a.1 a.2;
+    crash = crash a.0 a.1 a.2;
     }
     | inr six ↦ record {
       ended = λ e. absurd (omega arith);
       device = λ e. absurd (omega arith);
       cut = λ is. absurd (elim is [ inl three ↦ omega arith | inr nine ↦ omega arith ]);
       output = λ _. said_in_part a.0 a.1 a.2;
-      crash = crash a.0 a.1 a.2;
+      said = grown a.0 a.1 a.2;
+    crash = crash a.0 a.1 a.2;
     }
   ]

@@ -71,9 +71,9 @@ module _ (start : List Entry) (bytes kept : Bytes) (store : Store) (first w : Wo
   first_lines more = (lines_of more, cut more)
 
   module _ (w' : World) (reply : Reply) (new : List Entry) (answer : LineAnswer served.now (Step served.now (command_of (served.rest ++ part))) reply new w w') where
-    history : During (Acknowledged start (served.lines ++ (served.rest ++ part) ∷ []) (length first.beside.said)) first w'
+    history : During (Acknowledged start (served.lines ++ (served.rest ++ part) ∷ []) first.beside.said w'.beside.said) first w'
     history =
-        during_then _ first w w' (during_weaker _ _ first w served.history (λ k image. ack_more start served.lines ((served.rest ++ part) ∷ []) (length first.beside.said) k image))
+        during_then _ first w w' (during_weaker _ _ first w served.history (ack_more start served.lines ((served.rest ++ part) ∷ []) first.beside.said w.beside.said w'.beside.said answer.front.done answer.front.said))
         (during_weaker _ _ w w' answer.each (line_ack start served.lines (served.rest ++ part) served.text served.now reply first w w' (answers_of (Reached w) (length first.beside.said) start served.lines served.text served.now served.ran) served.told answer.front))
 
     ran_then : Ran (Reached w') (length first.beside.said) start served.lines served.text served.now

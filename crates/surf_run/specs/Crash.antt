@@ -1,5 +1,5 @@
 -- What an image that a crash may leave stands for, beside how many bytes had been said by its moment.
-use Rattle.std.specs.Prelude.{◌≡◌, ◌⊎◌, ◌+◌, ◌≤◌, ℕ, List, [], ◌∷◌, ◌++◌, length}
+use Rattle.std.specs.Prelude.{◌≡◌, ◌⊎◌, ◌+◌, ◌≤◌, ℕ, List, [], ◌∷◌, ◌++◌, length, take}
 use Rattle.disk_trait.specs.World.{Image, World}
 use Rattle.gate_log.specs.Area.{LogIs}
 use Rattle.store_model.specs.SortedMap.{Bytes}
@@ -10,10 +10,10 @@ use Rattle.store_model.specs.Script.{Answers}
 abbrev pub Reached : World → ℕ → List Entry → Type 0
 Reached w n entries = (m : ℕ) × (m ≤ w.moment) × (w.beside.said_by m ≡ n) × ((image : Image) → w.leaves m image → LogIs 0 entries image)
 
--- Where n bytes had been said, `low` of them before the run, the image has the entries after some first lines. Each byte
--- said by then is of their replies, and the replies of all of these lines but the last had been said whole: so they are as
--- many as the whole replies said by then, or one more.
-pub record Acknowledged (start : List Entry) (lines : List Bytes) (low n : ℕ) (image : Image) : Type 0 where
+-- Of all that was said at the end, `told`, n bytes had been said; `before` was said before the run. The image has the
+-- entries after some first lines. What had been said is a front of the replies to these, and all replies but the last had
+-- been said whole: so they are as many as the whole replies said by then, or one more.
+pub record Acknowledged (start : List Entry) (lines : List Bytes) (before told : Bytes) (n : ℕ) (image : Image) : Type 0 where
   pub front : List Bytes
   pub later : List Bytes
   pub split : lines ≡ front ++ later
@@ -21,10 +21,11 @@ pub record Acknowledged (start : List Entry) (lines : List Bytes) (low n : ℕ) 
   pub now : List Entry
   pub answered : Answers start front text now
   pub stands : LogIs 0 now image
-  pub most : n ≤ low + length text
+  pub within : n ≤ length told
+  pub most : (rest : Bytes) × (before ++ text ≡ take n told ++ rest)
   pub earlier : List Bytes
   pub said : Bytes
-  pub before : List Entry
-  pub answered_before : Answers start earlier said before
+  pub was : List Entry
+  pub answered_before : Answers start earlier said was
   pub last : (front ≡ earlier) ⊎ ((line : Bytes) × (front ≡ earlier ++ line ∷ []))
-  pub least : low + length said ≤ n
+  pub least : (rest : Bytes) × (take n told ≡ before ++ said ++ rest)

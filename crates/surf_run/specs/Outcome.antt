@@ -40,7 +40,8 @@ pub record Settled (status : ℕ) (start : List Entry) (taken : Bytes) (old new 
   pub device : status ≡ 4 → Said AtDevice start taken old new
   pub cut : (status ≡ 3) ⊎ (status ≡ 9) → CutOff start taken old new
   pub output : status ≡ 6 → SaidInPart start taken old new
-  pub crash : During (Acknowledged start (lines_of taken) (length old.beside.said)) old new
+  pub said : (text : Bytes) × (new.beside.said ≡ old.beside.said ++ text)
+  pub crash : During (Acknowledged start (lines_of taken) old.beside.said new.beside.said) old new
 
 -- with what was taken
 pub record Outcome (status : ℕ) (start : List Entry) (old new : World) : Type 0 where

@@ -90,7 +90,7 @@ pub record Served (start : List Entry) (bytes kept : Bytes) (store : Store) (fir
   pub ran : Ran (Reached w) (length first.beside.said) start lines text now
   pub told : w.beside.said ≡ first.beside.said ++ text
   pub held : Held rest kept
-  pub history : During (Acknowledged start lines (length first.beside.said)) first w
+  pub history : During (Acknowledged start lines first.beside.said w.beside.said) first w
   pub stand : Now (LogIs 0 now) w
   pub holds : Holds now store
 
@@ -105,7 +105,7 @@ pub record Closed (ending : Ending) (start : List Entry) (bytes : Bytes) (first 
   pub text : Bytes
   pub told : w.beside.said ≡ first.beside.said ++ text
   pub script : (more : Bytes) → Script (Reached w) (length first.beside.said) start (lines_of (bytes ++ more)) text ending
-  pub history : During (Acknowledged start lines (length first.beside.said)) first w
+  pub history : During (Acknowledged start lines first.beside.said w.beside.said) first w
 
 -- a front of what the first lines are answered was said
 pub record Broken (start : List Entry) (bytes : Bytes) (first w : World) : Type 0 where
@@ -116,7 +116,7 @@ pub record Broken (start : List Entry) (bytes : Bytes) (first w : World) : Type 
   pub told : w.beside.said ≡ first.beside.said ++ text
   pub last : List Entry
   pub answered : Answers start lines (text ++ rest) last
-  pub history : During (Acknowledged start lines (length first.beside.said)) first w
+  pub history : During (Acknowledged start lines first.beside.said w.beside.said) first w
 
 abbrev pub EndedBy : ℕ → List Entry → Bytes → World → World → Type 0
 EndedBy status start bytes first w = ((status ≡ 4) × Closed AtDevice start bytes first w) ⊎ ((status ≡ 6) × Broken start bytes first w)
