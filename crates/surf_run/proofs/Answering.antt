@@ -6,6 +6,7 @@ use Rattle.store_model.specs.Entries.{Entry}
 use Rattle.store_model.specs.Lines.{command_of}
 use Rattle.store_model.specs.Replies.{Reply, Done, Value, Missing, Bye, BadLine, LongKey, LongValue, Full, Memory, Device, DamagedLog, text_of}
 use Rattle.store_model.specs.Script.{Step, Answers, Script, Then, Ending, ToLast}
+use Rattle.surf_run.specs.Crash.{WentOn}
 use Rattle.surf_run.specs.Serving.{GoesOn, Ran}
 
 pub answers_on : (a : List Entry) (lines : List Bytes) (text : Bytes) (b : List Entry) (line : Bytes) (reply : Reply) (c : List Entry)
@@ -38,7 +39,15 @@ then_last (Full need gap) ending X last = absurd last
 then_last Memory ending X last = absurd last
 then_last (DamagedLog at rule) ending X last = absurd last
 
+pub answers_gone : (a : List Entry) (lines : List Bytes) (text : Bytes) (b : List Entry) → WentOn a lines text b → Answers a lines text b
+answers_gone a [] text b went = went
+answers_gone a (first ∷ lines) text b went = (went.0, went.1, went.2, went.3, went.4, answers_gone went.2 lines went.1 b went.6)
+
 module _ (R : ℕ → List Entry → Type 0) where
+  pub went_of : (said : ℕ) (a : List Entry) (lines : List Bytes) (text : Bytes) (b : List Entry) → Ran R said a lines text b → WentOn a lines text b
+  went_of said a [] text b ran = ran
+  went_of said a (first ∷ lines) text b ran = (ran.0, ran.1, ran.2, ran.3, ran.4, ran.5, went_of (said + length (text_of ran.0)) ran.2 lines ran.1 b ran.7)
+
   pub answers_of : (said : ℕ) (a : List Entry) (lines : List Bytes) (text : Bytes) (b : List Entry) → Ran R said a lines text b → Answers a lines text b
   answers_of said a [] text b ran = ran
   answers_of said a (first ∷ lines) text b ran = (ran.0, ran.1, ran.2, ran.3, ran.4, answers_of (said + length (text_of ran.0)) ran.2 lines ran.1 b ran.7)

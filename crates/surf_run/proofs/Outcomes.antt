@@ -15,7 +15,7 @@ use Rattle.store_model.specs.Entries.{Entry}
 use Rattle.store_model.specs.Lines.{command_of, lines_of, whole_lines}
 use Rattle.store_model.specs.Replies.{Reply, Bye, text_of}
 use Rattle.store_model.specs.Script.{Step, Answers, Script, Ending, ToLast, AtQuit, AtDevice}
-use Rattle.surf_run.specs.Crash.{Reached, Acknowledged}
+use Rattle.surf_run.specs.Crash.{Reached, WentOn, Acknowledged}
 use Rattle.surf_run.specs.Holds.{Holds}
 use Rattle.surf_run.specs.Outcome.{Said, SaidInPart, Settled}
 use Rattle.surf_run.specs.Serving.{LineAnswer, GoesOn, Whole, Answered, Ran, with_newline, Served, Closed, EndedBy}
@@ -23,7 +23,7 @@ use Rattle.surf_run.specs.declared.store.Store.{Store}
 use Rattle.surf_run.specs.declared.end.LineEnd.TheVariants.{Next, Quit, End}
 use Rattle.surf_run.proofs.Moments.{now_still}
 use Rattle.surf_run.proofs.Texts.{lines_first, whole_first, last_line, held_none, held_some, held_same}
-use Rattle.surf_run.proofs.Answering.{answers_of, answers_on, ran_on, ran_weaker, script_of, script_ends, IsLast}
+use Rattle.surf_run.proofs.Answering.{answers_of, went_of, answers_on, ran_on, ran_weaker, script_of, script_ends, IsLast}
 use Rattle.surf_run.proofs.History.{reached_on, reached_here, ack_more, ack_none, ack_here, line_ack}
 use Rattle.surf_run.proofs.Progress.{device_last}
 
@@ -50,7 +50,7 @@ pub served_take : (start : List Entry) (bytes kept : Bytes) (store : Store) (fir
 served_take start bytes kept store first w w' moves now served =
     let low = length first.beside.said in
     let taking = during_take (LogIs 0 served.now) w w' served.stand moves now in
-    let answered = answers_of (Reached w) low start served.lines served.text served.now served.ran in
+    let went = went_of (Reached w) low start served.lines served.text served.now served.ran in
     record {
       lines = served.lines;
       rest = served.rest;
@@ -66,7 +66,7 @@ served_take start bytes kept store first w w' moves now served =
           let told = moves.said ∙ served.told in
           during_then (Acknowledged start served.lines first.beside.said w'.beside.said) first w w' (subst (λ (s : Bytes). During (Acknowledged start served.lines first.beside.said s) first w) (sym moves.said) served.history)
           (during_weaker (λ k image. (k ≡ length w.beside.said) × LogIs 0 served.now image) _ w w' taking
-          (λ k image at. ack_here start served.lines served.text served.now first.beside.said w'.beside.said told k image answered (at.0 ∙ ap length (sym moves.said)) at.1));
+          (λ k image at. ack_here start served.lines served.text served.now first.beside.said w'.beside.said told k image went (at.0 ∙ ap length (sym moves.said)) at.1));
       stand = now_still (LogIs 0 served.now) w w' moves.time served.stand;
       holds = served.holds;
     }
@@ -187,11 +187,14 @@ module _ (start : List Entry) (taken kept : Bytes) (store : Store) (first w w' :
     grown : (text : Bytes) × (w'.beside.said ≡ first.beside.said ++ text)
     grown = (served.text ++ answer.front.done, answer.front.said ∙ ap (λ (l : Bytes). l ++ answer.front.done) served.told ∙ append_assoc first.beside.said served.text answer.front.done)
 
+    went_before : WentOn start served.lines served.text served.now
+    went_before = went_of (Reached w) (length first.beside.said) start served.lines served.text served.now served.ran
+
     crash : During (Acknowledged start (lines_of taken) first.beside.said w'.beside.said) first w'
     crash = subst (λ (ls : List Bytes). During (Acknowledged start ls first.beside.said w'.beside.said) first w') (sym last)
         (during_then _ first w w'
         (during_weaker _ _ first w served.history (ack_more start served.lines (served.rest ∷ []) first.beside.said w.beside.said w'.beside.said answer.front.done answer.front.said))
-        (during_weaker _ _ w w' answer.each (line_ack start served.lines served.rest served.text served.now reply first w w' answered_before served.told answer.front)))
+        (during_weaker _ _ w w' answer.each (line_ack start served.lines served.rest served.text served.now reply first w w' went_before served.told answer.front)))
 
     ran_then : Ran (Reached w') (length first.beside.said) start served.lines served.text served.now
     ran_then = ran_weaker (Reached w) (Reached w') (reached_on _ w w' answer.each) (length first.beside.said) start served.lines served.text served.now served.ran
@@ -261,7 +264,7 @@ module _ (start : List Entry) (taken kept : Bytes) (store : Store) (first w w' :
       cut = λ is. absurd (let f = four.0 in elim is [ inl three ↦ omega arith | inr nine ↦ omega arith ]);
       output = λ e. absurd (let f = four.0 in omega arith);
       said = grown a.0 a.1 a.2;
-    crash = crash a.0 a.1 a.2;
+      crash = crash a.0 a.1 a.2;
     }
     | inr six ↦ record {
       ended = λ e. absurd (omega arith);
@@ -269,6 +272,6 @@ module _ (start : List Entry) (taken kept : Bytes) (store : Store) (first w w' :
       cut = λ is. absurd (elim is [ inl three ↦ omega arith | inr nine ↦ omega arith ]);
       output = λ _. said_in_part a.0 a.1 a.2;
       said = grown a.0 a.1 a.2;
-    crash = crash a.0 a.1 a.2;
+      crash = crash a.0 a.1 a.2;
     }
   ]

@@ -23,7 +23,7 @@ use Rattle.surf_run.specs.declared.store.Store.{Store}
 use Rattle.surf_run.specs.declared.end.LineEnd.{LineEnd}
 use Rattle.surf_run.specs.declared.end.LineEnd.TheVariants.{Next, Quit, End}
 use Rattle.surf_run.proofs.Texts.{lines_first, held_same}
-use Rattle.surf_run.proofs.Answering.{answers_on, answers_of, ran_on, ran_weaker, script_ends, IsLast}
+use Rattle.surf_run.proofs.Answering.{answers_on, answers_of, went_of, ran_on, ran_weaker, script_ends, IsLast}
 use Rattle.surf_run.proofs.History.{reached_on, ack_more, line_ack, reached_here}
 
 pub device_last : (reply : Reply) → reply ≡ Device → IsLast reply AtDevice
@@ -74,7 +74,7 @@ module _ (start : List Entry) (bytes kept : Bytes) (store : Store) (first w : Wo
     history : During (Acknowledged start (served.lines ++ (served.rest ++ part) ∷ []) first.beside.said w'.beside.said) first w'
     history =
         during_then _ first w w' (during_weaker _ _ first w served.history (ack_more start served.lines ((served.rest ++ part) ∷ []) first.beside.said w.beside.said w'.beside.said answer.front.done answer.front.said))
-        (during_weaker _ _ w w' answer.each (line_ack start served.lines (served.rest ++ part) served.text served.now reply first w w' (answers_of (Reached w) (length first.beside.said) start served.lines served.text served.now served.ran) served.told answer.front))
+        (during_weaker _ _ w w' answer.each (line_ack start served.lines (served.rest ++ part) served.text served.now reply first w w' (went_of (Reached w) (length first.beside.said) start served.lines served.text served.now served.ran) served.told answer.front))
 
     ran_then : Ran (Reached w') (length first.beside.said) start served.lines served.text served.now
     ran_then = ran_weaker (Reached w) (Reached w') (reached_on _ w w' answer.each) (length first.beside.said) start served.lines served.text served.now served.ran

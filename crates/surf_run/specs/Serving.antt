@@ -8,30 +8,17 @@ use Rattle.store_commands.specs.Cutting.{NoNewline}
 use Rattle.store_model.specs.SortedMap.{Bytes}
 use Rattle.store_model.specs.Entries.{Entry}
 use Rattle.store_model.specs.Lines.{command_of, lines_of}
-use Rattle.store_model.specs.Replies.{Reply, Done, Value, Missing, Bye, BadLine, LongKey, LongValue, Full, Memory, Device, DamagedLog, text_of}
+use Rattle.store_model.specs.Replies.{Reply, Bye, Device, text_of}
 use Rattle.store_model.specs.Script.{Step, Answers, Script, Ending, AtQuit, AtDevice}
 use Rattle.surf_run.specs.Holding.{Held}
 use Rattle.surf_run.specs.Holds.{Holds}
+pub use Rattle.surf_run.specs.Crash.{GoesOn}
 use Rattle.surf_run.specs.Crash.{Reached, Acknowledged}
 use Rattle.surf_run.specs.declared.end.LineEnd.{LineEnd}
 use Rattle.surf_run.specs.declared.end.LineEnd.TheVariants.{Next, Quit, End}
 use Rattle.surf_run.specs.declared.store.Store.{Store}
 
 -- ---- one line
-
--- a reply that is not the last
-abbrev pub GoesOn : Reply → Type 0
-GoesOn Done = Unit {0}
-GoesOn (Value value) = Unit {0}
-GoesOn Missing = Unit {0}
-GoesOn Bye = ⊥
-GoesOn (BadLine code) = Unit {0}
-GoesOn (LongKey size) = Unit {0}
-GoesOn (LongValue size) = Unit {0}
-GoesOn (Full need gap) = Unit {0}
-GoesOn Memory = Unit {0}
-GoesOn Device = ⊥
-GoesOn (DamagedLog at rule) = ⊥
 
 -- what a reply may leave
 abbrev pub Leaves : Type 1
