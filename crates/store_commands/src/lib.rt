@@ -1,9 +1,9 @@
 //! The lines that a store reads, and the replies that it gives.
 //!
 //! [`parse_line`] reads one line, exactly as the grammar says, and [`piece`] writes a reply into a buffer of any size, as
-//! many bytes of it as fit. Neither takes memory: the key and the value of a line are laid out in a [`Scratch`] that is
-//! made once. Not for lines of other shapes, and not for streams: cutting an input into lines is the caller's
-//! ([`next_line`] finds the first one).
+//! many bytes of it as fit. Each costs the length of what it reads or writes, and neither takes memory: the key and the
+//! value of a line are laid out in a [`Scratch`] that is made once. Not for lines of other shapes, and not for streams:
+//! cutting an input into lines is the caller's ([`next_line`] finds the first one).
 //!
 //! ```text
 //! let mut scratch = Scratch::new(alloc)?;
@@ -12,6 +12,7 @@
 //!     Ok(other) => ..
 //!     Err(BadLine(code)) => ..
 //! }
+//! let n = piece(&Reply::Value(b"b"), 0, &mut buffer);   // buffer[..n] is b"val 62\n"
 //! ```
 #![tactic(auto)]
 
@@ -20,3 +21,6 @@ mod reply;
 
 pub use parse::{BadLine, LINE_BYTES, Request, Scratch, next_line, parse_line};
 pub use reply::{Reply, piece};
+
+#[cfg(test)]
+mod tests;

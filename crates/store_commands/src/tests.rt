@@ -1,0 +1,154 @@
+use super::*;
+use std::test::Fail;
+
+// The code that a line is refused with, 0 where it is none.
+fn code(line: &[u8], scratch: &mut Scratch) -> u8 {
+    match parse_line(line, scratch) {
+        Ok(_) => 0,
+        Err(BadLine(code)) => code,
+    }
+}
+
+#[test]
+fn lines_that_ask(rt: HostRuntime) -> Result<(), Fail> {
+    let mut scratch = Scratch::new(rt.alloc())?;
+    let s = &mut scratch;
+    assert!(rt;
+        matches!(
+            parse_line(b"put 61 62", s),
+            Ok(Request::Put {
+                key: b"a",
+                value: b"b"
+            })
+        )
+    );
+    assert!(rt;
+        matches!(
+            parse_line(b"put 61 -", s),
+            Ok(Request::Put {
+                key: b"a",
+                value: b""
+            })
+        )
+    );
+    assert!(rt;
+        matches!(
+            parse_line(b"put - 62", s),
+            Ok(Request::Put {
+                key: b"",
+                value: b"b"
+            })
+        )
+    );
+    assert!(rt; matches!(parse_line(b"get 6F6f", s), Ok(Request::Get { key: b"oo" })));
+    assert!(rt; matches!(parse_line(b"del 7a", s), Ok(Request::Del { key: b"z" })));
+    assert!(rt; matches!(parse_line(b"quit", s), Ok(Request::Quit)));
+    Ok(())
+}
+
+#[test]
+fn the_first_rule_that_a_line_breaks(rt: HostRuntime) -> Result<(), Fail> {
+    let mut scratch = Scratch::new(rt.alloc())?;
+    let rows = [
+        ("", 2),
+        (" ", 2),
+        ("PUT 61 62", 2),
+        (" put 61 62", 2),
+        ("put\r 61 62", 2),
+        ("put 6", 3),
+        ("put 61 62 ", 3),
+        ("get  61", 3),
+        ("del", 3),
+        ("quit ", 3),
+        ("put 6 62", 4),
+        ("put 61 6", 4),
+        ("put  62", 4),
+        ("del ", 4),
+        ("get 6g", 4),
+        ("get --", 4),
+        ("get 61\r", 4),
+    ];
+    for (line, want) in rows {
+        assert_eq!(rt; code(line.as_bytes(), &mut scratch), want, "of '{line}'");
+    }
+    Ok(())
+}
+
+#[test]
+fn the_longest_line(rt: HostRuntime) -> Result<(), Fail> {
+    let mut scratch = Scratch::new(rt.alloc())?;
+    let mut line = [b'6'; 140_001];
+    assert_eq!(rt; code(&line, &mut scratch), 1);
+    assert_eq!(rt; code(&line[..140_000], &mut scratch), 2);
+    line[..4].copy_from_slice(b"get ");
+    assert_eq!(rt; code(&line, &mut scratch), 1);
+    assert_eq!(rt; code(&line[..139_999], &mut scratch), 4);
+    match parse_line(&line[..140_000], &mut scratch) {
+        Ok(Request::Get { key }) => assert_eq!(rt; key.len(), 69_998),
+        _ => assert!(rt; false),
+    }
+    Ok(())
+}
+
+#[test]
+fn lines_are_cut_at_newlines(rt: HostRuntime) {
+    assert!(rt; matches!(next_line(b"get 61\n\nquit"), Some((b"get 61", b"\nquit"))));
+    assert!(rt; matches!(next_line(b"\nquit"), Some((b"", b"quit"))));
+    assert!(rt; next_line(b"quit").is_none());
+    assert!(rt; next_line(b"").is_none());
+}
+
+#[test]
+fn replies_in_buffers_of_every_size(rt: HostRuntime) {
+    let rows = [
+        (Reply::Done, "ok\n"),
+        (Reply::Value(b"b"), "val 62\n"),
+        (Reply::Value(b""), "val -\n"),
+        (Reply::Value(b"\xff\x0a"), "val ff0a\n"),
+        (Reply::Missing, "none\n"),
+        (Reply::Bye, "bye\n"),
+        (Reply::BadLine(4), "bad 4\n"),
+        (Reply::LongKey(1_025), "limit key 1025\n"),
+        (Reply::LongValue(65_537), "limit value 65537\n"),
+        (Reply::Full { need: 53, gap: 2 }, "full need 53 gap 2\n"),
+        (Reply::Memory, "memory\n"),
+        (Reply::Device, "device\n"),
+        (
+            Reply::DamagedLog {
+                at: 262_145,
+                rule: 1,
+            },
+            "damaged log 262145 rule 1\n",
+        ),
+    ];
+    for (reply, text) in rows {
+        for size in [1, 7, 64] {
+            assert!(rt; is_said_alike(&reply, text.as_bytes(), size), "{text}");
+        }
+    }
+}
+
+// Whether a buffer of this size, up to 64 bytes, gets its part of a text from each place on.
+fn is_said_alike(reply: &Reply<'_>, text: &[u8], size: usize) -> bool {
+    let mut buffer = [0; 64];
+    let size = size.min(64);
+    for from in 0..=text.len() {
+        let n = piece(reply, from, &mut buffer[..size]);
+        let rest = &text[from..];
+        if &buffer[..n] != &rest[..rest.len().min(size)] {
+            return false;
+        }
+    }
+    true
+}
+
+#[test]
+fn the_longest_value(rt: HostRuntime) {
+    let reply = Reply::Value(&[b'z'; 65_536]);
+    let mut text = [0; 131_100];
+    assert_eq!(rt; piece(&reply, 0, &mut text), 131_077);
+    assert!(rt; &text[..8] == b"val 7a7a".as_slice());
+    assert!(rt; &text[131_072..131_077] == b"7a7a\n".as_slice());
+    assert_eq!(rt; piece(&reply, 131_076, &mut text), 1);
+    assert_eq!(rt; piece(&reply, 131_077, &mut text), 0);
+}
