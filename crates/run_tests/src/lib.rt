@@ -1,0 +1,7 @@
+//! Tests of whole runs over a disk, an input and an output in memory, each of which fails on command.
+//!
+//! Nothing is exported. What the tests show at some values `surf_run` proves of any; here the layers come together.
+#![tactic(auto)]
+
+#[cfg(test)]
+mod tests;
