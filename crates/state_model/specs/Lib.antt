@@ -3,11 +3,7 @@ pub mod View
 pub mod Pages
 pub mod Gaps
 pub mod Merges
-pub mod Changes
-pub mod Sound
-pub mod Tends
-pub mod Bounds
-pub mod Requests
 pub mod Replies
-pub mod Steps
-pub mod Script
+pub mod Requests
+pub mod Changes
+pub mod Bounds

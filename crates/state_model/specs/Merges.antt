@@ -1,16 +1,15 @@
 -- Which tables are merged, and into what.
-use Rattle.std.specs.Prelude.{ℕ, ◌+◌, ◌-◌, ◌*◌, ◌^◌, ◌==◌, nat_le, nat_lt, Bool, not, ◌&&◌, if◌then◌else◌, List, [], ◌∷◌, ◌++◌, take, filter, fold, length, map, Option, Some, None, Result, Ok, Err}
+use Rattle.std.specs.Prelude.{ℕ, zero, suc, ◌+◌, ◌-◌, ◌*◌, ◌^◌, ◌==◌, nat_le, nat_lt, Bool, true, false, not, ◌&&◌, if◌then◌else◌, List, [], ◌∷◌, ◌++◌, take, filter, fold, length, Option, Some, None, Result, Ok, Err}
 use Rattle.std.specs.List.{list_any, sum_by}
-use Rattle.filter_api.specs.declared.settings.Settings.{Settings}
 use Rattle.store_model.specs.SortedMap.{Bytes}
 use Rattle.store_model.specs.Entries.{Entry}
 use Rattle.mem_table.specs.Table.{newest_entries}
 use Rattle.block_model.specs.Pages.{data_pages, first_key, last_key}
 use Rattle.map_model.specs.Slices.{is_before}
-use Rattle.state_model.specs.State.{State, Table, Job}
+use Rattle.state_model.specs.State.{State, Table}
 use Rattle.state_model.specs.View.{oldest_first}
 use Rattle.state_model.specs.Pages.{Spells, table_pages, table_of}
-use Rattle.state_model.specs.Gaps.{Extent, extent_of, first_gap, largest_gap}
+use Rattle.state_model.specs.Gaps.{Extent, first_gap, largest_gap}
 
 -- ---- which tables
 
@@ -73,7 +72,66 @@ choose s = if nat_le 4 (length (on_level 0 s.tables)) then Some (plan_of s (on_l
 abbrev pub is_deepest : State → ℕ → Bool
 is_deepest s level = not (list_any (λ (t : Table). nat_lt level t.level) s.tables)
 
-abbrev pub is_live : Entry → Bool
-is_live entry with entry.value
-  | Some value = true
-  | None = false
+abbrev pub has_value : Option Bytes → Bool
+has_value None = false
+has_value (Some value) = true
+
+-- the entries that a merge keeps: without tombstones where nothing older can lie below them
+abbrev pub lasting : Bool → List Entry → List Entry
+lasting is_last entries = if is_last then filter (λ (e : Entry). has_value e.value) entries else entries
+
+-- the newest entry of each key of some tables, the newest table first
+abbrev pub newest_of : List Table → List Entry
+newest_of tables = newest_entries (oldest_first tables)
+
+-- an output is closed by the entry with which it has this many data pages
+abbrev pub output_pages : ℕ
+output_pages = 1024
+
+-- the first output and what is left, after some entries that it has already
+abbrev pub split_output : List Entry → List Entry → List Entry × List Entry
+split_output output [] = (output, [])
+split_output output (entry ∷ more) =
+    if nat_le output_pages (data_pages (output ++ (entry ∷ []))) then (output ++ (entry ∷ []), more) else split_output (output ++ (entry ∷ [])) more
+
+-- the outputs: each but the last is closed as soon as it is full, and at most so many come beside one. None is empty.
+abbrev pub outputs_of : ℕ → List Entry → List (List Entry)
+outputs_of beside [] = []
+outputs_of zero (entry ∷ more) = (entry ∷ more) ∷ []
+outputs_of (suc beside) (entry ∷ more) =
+    let split = split_output [] (entry ∷ more) in
+    split.0 ∷ outputs_of beside split.1
+
+-- never more outputs than inputs; with no input, one
+abbrev pub cut : List Table → List Entry → List (List Entry)
+cut inputs entries = outputs_of (length inputs - 1) entries
+
+-- the outputs of a plan
+abbrev pub planned : State → Plan → List (List Entry)
+planned s plan = cut plan.inputs (lasting (is_deepest s plan.output) (newest_of plan.inputs))
+
+-- ---- and where
+
+-- a table that needs more pages than the largest gap has
+pub record NoRoom : Type 0 where
+  pub need : ℕ
+  pub gap : ℕ
+
+-- a table before those that are placed after it
+abbrev pub before : Table → Result (List Table) NoRoom → Result (List Table) NoRoom
+before t (Ok tables) = Ok (t ∷ tables)
+before t (Err refusal) = Err refusal
+
+-- what stands at the page, where there is one
+abbrev pub at_page : Option ℕ → (ℕ → Result (List Table) NoRoom) → NoRoom → Result (List Table) NoRoom
+at_page (Some page) there refusal = there page
+at_page None there refusal = Err refusal
+
+-- Some outputs become tables of a level, each in the first gap that holds it beside what is taken and those before it.
+abbrev pub placed : Spells → State → List Extent → ℕ → List (List Entry) → Result (List Table) NoRoom
+placed spells s taken level [] = Ok []
+placed spells s taken level (output ∷ more) =
+    let need = table_pages spells s.settings output in
+    at_page (first_gap s.pages taken need)
+        (λ page. before (table_of spells s.settings level page output) (placed spells s ((page, need) ∷ taken) level more))
+        (record { need = need; gap = largest_gap s.pages taken })

@@ -1,5 +1,5 @@
 -- What a state says of a key, and the sorted map that it is.
-use Rattle.std.specs.Prelude.{List, [], ◌∷◌, ◌++◌, map, flat_map, reverse, Option, Some, None}
+use Rattle.std.specs.Prelude.{List, [], ◌∷◌, ◌++◌, map, flat_map, reverse, Option, None}
 use Rattle.store_model.specs.SortedMap.{Bytes, Map}
 use Rattle.store_model.specs.Entries.{Entry, map_of as map_of_entries, or_else}
 use Rattle.mem_table.specs.Table.{newest_entries, lookup}
