@@ -7,3 +7,9 @@ pub mod Replies
 pub mod Requests
 pub mod Changes
 pub mod Bounds
+pub mod Sound
+pub mod Tends
+pub mod Steps
+pub mod Script
+pub mod Play
+pub mod Rows
