@@ -27,14 +27,14 @@ abbrev pub has_room : List Entry → Entry → Bool
 has_room block entry = nat_le (block_length (block ++ (entry ∷ []))) page_bytes && nat_lt (length block) block_entries
 
 -- the blocks with one entry more: in the last block where that has room, else in a new one
-abbrev pub with_entry : List (List Entry) → Entry → List (List Entry)
-with_entry [] entry = (entry ∷ []) ∷ []
-with_entry (block ∷ []) entry = if has_room block entry then (block ++ (entry ∷ [])) ∷ [] else block ∷ (entry ∷ []) ∷ []
-with_entry (block ∷ next ∷ more) entry = block ∷ with_entry (next ∷ more) entry
+abbrev pub blocks_with : List (List Entry) → Entry → List (List Entry)
+blocks_with [] entry = (entry ∷ []) ∷ []
+blocks_with (block ∷ []) entry = if has_room block entry then (block ++ (entry ∷ [])) ∷ [] else block ∷ (entry ∷ []) ∷ []
+blocks_with (block ∷ next ∷ more) entry = block ∷ blocks_with (next ∷ more) entry
 
 -- the entries cut into blocks, one entry after the other; so an entry that needs more than a page stands alone
 unfoldable pub blocks_of : List Entry → List (List Entry)
-blocks_of entries = fold with_entry [] entries
+blocks_of entries = fold blocks_with [] entries
 
 -- the pages of all blocks
 unfoldable pub data_pages : List Entry → ℕ

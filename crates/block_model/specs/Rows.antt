@@ -1,6 +1,8 @@
 -- Entries by which the definitions are tried.
-use Rattle.std.specs.Prelude.{ℕ, List, [], ◌∷◌, replicate, codes}
+use Rattle.std.specs.Prelude.{ℕ, List, [], ◌∷◌, replicate, set, codes}
+use Rattle.store_model.specs.SortedMap.{Bytes}
 use Rattle.store_model.specs.Entries.{Entry, put_entry, del_entry}
+use Rattle.block_model.specs.Block.{block_bytes}
 
 -- a with the value b
 abbrev pub a_b : Entry
@@ -13,3 +15,11 @@ no_ab = del_entry (codes "ab")
 -- a key of one byte with a value of so many zero bytes
 abbrev pub wide : ℕ → ℕ → Entry
 wide key bytes = put_entry (key ∷ []) (replicate bytes 0)
+
+-- both of them
+abbrev pub a_and_ab : List Entry
+a_and_ab = a_b ∷ no_ab ∷ []
+
+-- the block of both, with another byte at a place
+unfoldable pub broken : ℕ → ℕ → Bytes
+broken place byte = set (block_bytes a_and_ab) place byte

@@ -1,6 +1,8 @@
 //! The bytes of a table's blocks and of its index: the definitions, and plain programs that write what they say.
 #![tactic(auto)]
 
-mod rows;
+mod block_rows;
+mod page_rows;
 
-pub use rows::{full_blocks, small_blocks, whole_pages};
+pub use block_rows::{broken_blocks, small_block_bytes, small_block_is_read};
+pub use page_rows::{full_blocks, small_blocks, whole_pages};
