@@ -133,5 +133,5 @@ placed spells s taken level [] = Ok []
 placed spells s taken level (output ∷ more) =
     let need = table_pages spells s.settings output in
     at_page (first_gap s.pages taken need)
-        (λ page. before (table_of spells s.settings level page output) (placed spells s ((page, need) ∷ taken) level more))
-        (record { need = need; gap = largest_gap s.pages taken })
+    (λ page. before (table_of spells s.settings level page output) (placed spells s ((page, need) ∷ taken) level more))
+    (record { need = need; gap = largest_gap s.pages taken })

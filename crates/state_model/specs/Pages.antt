@@ -21,4 +21,9 @@ table_pages spells settings entries =
 -- the table that is made of some entries
 abbrev pub table_of : Spells → Settings → ℕ → ℕ → List Entry → Table
 table_of spells settings level first_page entries = record {
-    level = level; first_page = first_page; pages = table_pages spells settings entries; blocks = length (blocks_of entries); entries = entries }
+  level = level;
+  first_page = first_page;
+  pages = table_pages spells settings entries;
+  blocks = length (blocks_of entries);
+  entries = entries;
+}

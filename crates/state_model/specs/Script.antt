@@ -58,5 +58,5 @@ Script Cause spells R said s (line ∷ more) text ending =
     (reply : Reply) × (rest : Bytes) × (new : State) × (text ≡ text_of reply ++ rest) × Step Cause spells s (request_of line) reply new
     × AsSaid (turn_of reply) (R (said + length (text_of reply)) new)
     × Ends (turn_of reply) rest ending
-        ((turn : Turn) × (after : State) × Between Cause spells (request_of line) new turn after
-            × Ends turn rest ending (Script Cause spells R (said + length (text_of reply)) after more rest ending))
+    ((turn : Turn) × (after : State) × Between Cause spells (request_of line) new turn after
+    × Ends turn rest ending (Script Cause spells R (said + length (text_of reply)) after more rest ending))

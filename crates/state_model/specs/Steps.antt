@@ -107,8 +107,8 @@ pub data Step (Cause : Reply → Type 0) (spells : Spells) (s : State) (request 
   answers : Step Cause spells s request (answer spells s request).0 (answer spells s request).1
   no_memory : limit_of request ≡ None → TakesMemory request → Cause Memory → Step Cause spells s request Memory (left_by request s)
   read_failed : (reply : Reply) → limit_of request ≡ None → Reads request → Cause Device → said_before s request Device reply
-    → Step Cause spells s request reply (left_by request s)
+      → Step Cause spells s request reply (left_by request s)
   damage_met : (damage : Damage) (reply : Reply) → limit_of request ≡ None → Reads request → Cause (Damaged damage)
-    → said_before s request (Damaged damage) reply → Step Cause spells s request reply (left_by request s)
+      → said_before s request (Damaged damage) reply → Step Cause spells s request reply (left_by request s)
   write_failed : (after : State) → limit_of request ≡ None → Writes request → Cause Device → IsSound spells after
-    → (map_of after ≡ map_of s) ⊎ (map_of after ≡ map_of (answer spells s request).1) → Step Cause spells s request Device after
+      → (map_of after ≡ map_of s) ⊎ (map_of after ≡ map_of (answer spells s request).1) → Step Cause spells s request Device after

@@ -80,12 +80,12 @@ pub data Tend (Cause : Reply → Type 0) (spells : Spells) (s : State) : Tended 
   idle : s.job ≡ None → choose s ≡ None → Tend Cause spells s Idle s
   works : (job later : Job) → Runs s job → GoesOn spells s job later → later ≢ job → Tend Cause spells s Worked (with_job s later)
   installs : (job later : Job) → Runs s job → GoesOn spells s job later → IsDone s later → s.epoch ≢ last_epoch
-    → Tend Cause spells s Worked (installed s later)
+      → Tend Cause spells s Worked (installed s later)
   last_epoch_reached : (job later : Job) → Runs s job → GoesOn spells s job later → IsDone s later → s.epoch ≡ last_epoch
-    → Tend Cause spells s (Refused LastEpoch) (without_job s)
+      → Tend Cause spells s (Refused LastEpoch) (without_job s)
   no_room : (job later : Job) (refusal : NoRoom) → Runs s job → GoesOn spells s job later → next_placed spells s later 1 ≡ Err refusal
-    → Tend Cause spells s (Refused (Full refusal.need refusal.gap)) (without_job s)
+      → Tend Cause spells s (Refused (Full refusal.need refusal.gap)) (without_job s)
   no_memory : (job : Job) → Runs s job → Cause Memory → Tend Cause spells s (Refused Memory) (without_job s)
   damage_met : (job : Job) (damage : Damage) → Runs s job → Cause (Damaged damage) → Tend Cause spells s (Refused (Damaged damage)) (without_job s)
   device_failed : (job : Job) (after : State) → Runs s job → Cause Device → IsSound spells after → map_of after ≡ map_of s
-    → Tend Cause spells s (Refused Device) after
+      → Tend Cause spells s (Refused Device) after
