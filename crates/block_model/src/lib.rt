@@ -2,7 +2,9 @@
 #![tactic(auto)]
 
 mod block_rows;
+mod index_rows;
 mod page_rows;
 
 pub use block_rows::{broken_blocks, small_block_bytes, small_block_is_read};
+pub use index_rows::{broken_indexes, small_index_bytes, small_index_is_read};
 pub use page_rows::{full_blocks, small_blocks, whole_pages};
