@@ -4,18 +4,13 @@ use Rattle.std.specs.List.{AllByRecursion, AllPairs, sum_by}
 use Rattle.std.specs.declared.cmp.Ordering.TheVariants.{Less}
 use Rattle.filter_api.specs.Ranges.{InRange}
 use Rattle.store_model.specs.SortedMap.{Bytes, byte_order}
-use Rattle.store_model.specs.Entries.{Entry, filled, bytes_of}
+use Rattle.store_model.specs.Entries.{Entry, filled}
+use Rattle.block_model.specs.Block.{IsEntry, AreEntries}
 use Rattle.state_model.specs.State.{State, Table, Job, last_epoch}
 use Rattle.state_model.specs.Pages.{Spells, table_of}
 use Rattle.state_model.specs.Gaps.{Extent, taken, end_of, first_table_page}
 use Rattle.state_model.specs.Changes.{most_tables}
 use Rattle.state_model.specs.Merges.{Plan, choose, planned, on_level, least_key, greatest_key}
-
--- an entry whose key has 1 to 1,024 bytes, and its value at most 65,536
-pub record IsEntry (e : Entry) : Type 0 where
-  pub some_key : 0 < length e.key
-  pub short_key : length e.key ≤ 1024
-  pub short_value : length (bytes_of e.value) ≤ 65536
 
 abbrev pub IsBefore : Bytes → Bytes → Type 0
 IsBefore x y = byte_order x y ≡ Less
@@ -24,8 +19,7 @@ IsBefore x y = byte_order x y ≡ Less
 pub record IsTable (t : Table) : Type 0 where
   pub level : t.level ≤ 6
   pub some : 0 < length t.entries
-  pub entries : AllByRecursion IsEntry t.entries
-  pub rising : AllPairs (λ (a : Entry) (b : Entry). IsBefore a.key b.key) t.entries
+  pub entries : AreEntries t.entries
 
 -- The one stands before the other: it is of a lesser level, or of the same one and then, below level 0, its keys come
 -- before those of the other.
