@@ -1,5 +1,5 @@
 -- The bytes of a block: a header, the entries one after the other, and zero bytes to the end of the last page.
-use Rattle.std.specs.Prelude.{◌≡◌, ℕ, ◌-◌, ◌*◌, ◌<◌, ◌≤◌, List, [], ◌∷◌, ◌++◌, length, replicate, map, flat_map}
+use Rattle.std.specs.Prelude.{◌≡◌, ℕ, ◌-◌, ◌*◌, ◌^◌, ◌<◌, ◌≤◌, List, [], ◌∷◌, ◌++◌, length, replicate, map, flat_map}
 use Rattle.std.specs.List.{AllByRecursion}
 use Rattle.store_model.specs.SortedMap.{Bytes}
 use Rattle.store_model.specs.Entries.{Entry, body, bytes_of}
@@ -34,14 +34,21 @@ pub record IsEntry (entry : Entry) : Type 0 where
 abbrev pub keys_of : List Entry → List Bytes
 keys_of entries = map (λ e. e.key) entries
 
--- entries with rising keys
+-- as many entries as a table takes
 pub record AreEntries (entries : List Entry) : Type 0 where
   pub each : AllByRecursion IsEntry entries
+  pub few : length entries < 2 ^ 32
+
+-- the entries of a table: one or more, by rising keys
+pub record IsTable (entries : List Entry) : Type 0 where
+  pub sound : AreEntries entries
+  pub some : 1 ≤ length entries
   pub rising : Follow is_any (keys_of entries)
 
--- what a block has: 1 to 255 entries, and one alone where it takes more than a page
+-- the entries of a block: 1 to 255 by rising keys, and one alone where it takes more than a page
 pub record IsBlock (block : List Entry) : Type 0 where
-  pub entries : AreEntries block
+  pub each : AllByRecursion IsEntry block
+  pub rising : Follow is_any (keys_of block)
   pub some : 1 ≤ length block
   pub few : length block ≤ block_entries
   pub small : 1 < length block → block_length block ≤ page_bytes

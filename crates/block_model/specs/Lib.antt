@@ -5,4 +5,5 @@ pub mod Block
 pub mod BlockReading
 pub mod Index
 pub mod IndexReading
+pub mod Laws
 pub mod Rows

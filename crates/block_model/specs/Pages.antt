@@ -1,5 +1,5 @@
 -- How the entries of a table are cut into blocks, and how many bytes and pages its blocks and its index take.
-use Rattle.std.specs.Prelude.{ℕ, ◌+◌, ◌/◌, nat_le, nat_lt, ◌&&◌, Bool, List, [], ◌∷◌, ◌++◌, length, fold, flat_map, sum_by, if◌then◌else◌}
+use Rattle.std.specs.Prelude.{ℕ, ◌+◌, ◌/◌, nat_le, nat_lt, ◌&&◌, Bool, false, List, [], ◌∷◌, ◌++◌, length, fold, flat_map, sum_by, if◌then◌else◌}
 use Rattle.store_model.specs.SortedMap.{Bytes}
 use Rattle.store_model.specs.Entries.{Entry, body}
 
@@ -31,6 +31,12 @@ abbrev pub blocks_with : List (List Entry) → Entry → List (List Entry)
 blocks_with [] entry = (entry ∷ []) ∷ []
 blocks_with (block ∷ []) entry = if has_room block entry then (block ++ (entry ∷ [])) ∷ [] else block ∷ (entry ∷ []) ∷ []
 blocks_with (block ∷ next ∷ more) entry = block ∷ blocks_with (next ∷ more) entry
+
+-- whether the last of some blocks has room
+abbrev pub last_has_room : List (List Entry) → Entry → Bool
+last_has_room [] entry = false
+last_has_room (block ∷ []) entry = has_room block entry
+last_has_room (block ∷ next ∷ more) entry = last_has_room (next ∷ more) entry
 
 -- the entries cut into blocks, one entry after the other; so an entry that needs more than a page stands alone
 unfoldable pub blocks_of : List Entry → List (List Entry)
