@@ -10,7 +10,7 @@ use Rattle.filter_model.specs.Leaves.{leaves_of}
 use Rattle.store_model.specs.SortedMap.{Bytes}
 use Rattle.store_model.specs.Entries.{Entry}
 use Rattle.block_model.specs.Pages.{page_bytes, block_pages, first_key}
-use Rattle.block_model.specs.Block.{IsBlock, AreEntries, block_bytes, keys_of}
+use Rattle.block_model.specs.Block.{IsBlock, IsTable, block_bytes, keys_of}
 use Rattle.block_model.specs.Index.{Index, IsIndex, index_row_of, index_bytes}
 use Rattle.manifest_model.specs.Reading.{table_pages}
 use Rattle.state_model.specs.State.{Table}
@@ -47,7 +47,7 @@ index_of_blocks blocks = record { least = first_key (flat_map (λ (b : List Entr
 -- and a filter that stands for the leaves of the table's keys, with any cutoff.
 pub record IsTableAt (spelling : Spelling) (settings : Settings) (row : Row) (blocks : List (List Entry)) (image : Image) : Type 0 where
   pub each : AllByRecursion IsBlock blocks
-  pub rising : AreEntries (flat_map (λ (b : List Entry). b) blocks)
+  pub table : IsTable (flat_map (λ (b : List Entry). b) blocks)
   pub blocks_shown : Shows (byte_of_page row.first_page) (flat_map block_bytes blocks) image
   pub data_pages : sum_by block_pages blocks ≡ row.data_pages
   pub index_sound : IsIndex row.data_pages (index_of_blocks blocks)

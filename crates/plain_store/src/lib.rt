@@ -5,11 +5,14 @@ mod filters;
 mod gaps;
 mod lists;
 mod merges;
+mod outputs;
+mod pages;
 mod state;
 mod table;
 mod view;
 
 pub use gaps::{Extent, first_gap, largest_gap};
 pub use merges::{Plan, choose};
+pub use outputs::planned;
 pub use state::State;
 pub use table::Table;

@@ -5,7 +5,7 @@ use Rattle.std.specs.declared.cmp.Ordering.TheVariants.{Less}
 use Rattle.filter_api.specs.Ranges.{InRange}
 use Rattle.store_model.specs.SortedMap.{Bytes, byte_order}
 use Rattle.store_model.specs.Entries.{Entry, filled}
-use Rattle.block_model.specs.Block.{IsEntry, AreEntries}
+use Rattle.block_model.specs.Block.{IsEntry, IsTable}
 use Rattle.state_model.specs.State.{State, Table, Job, last_epoch}
 use Rattle.state_model.specs.Pages.{Spells, table_of}
 use Rattle.state_model.specs.Gaps.{Extent, taken, end_of, first_table_page}
@@ -15,11 +15,10 @@ use Rattle.state_model.specs.Merges.{Plan, choose, planned, on_level, least_key,
 abbrev pub IsBefore : Bytes → Bytes → Type 0
 IsBefore x y = byte_order x y ≡ Less
 
--- a table has entries, with strictly rising keys
-pub record IsTable (t : Table) : Type 0 where
+-- a table has one entry or more, with strictly rising keys
+pub record IsSoundTable (t : Table) : Type 0 where
   pub level : t.level ≤ 6
-  pub some : 0 < length t.entries
-  pub entries : AreEntries t.entries
+  pub entries : IsTable t.entries
 
 -- The one stands before the other: it is of a lesser level, or of the same one and then, below level 0, its keys come
 -- before those of the other.
@@ -65,7 +64,7 @@ pub record IsSound (spells : Spells) (s : State) : Type 0 where
   pub log : AllByRecursion IsEntry s.log
   pub log_fits : filled s.log < 262144
   pub few : length s.tables ≤ most_tables
-  pub tables : AllByRecursion IsTable s.tables
+  pub tables : AllByRecursion IsSoundTable s.tables
   pub order : AllPairs StandsBefore s.tables
   pub on_device : AllByRecursion (IsOnDevice s.pages) (taken s)
   pub apart : AllPairs AreApart (taken s)
