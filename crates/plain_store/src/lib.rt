@@ -1,18 +1,23 @@
 //! The store played in memory.
 #![tactic(auto)]
 
+mod changes;
 mod filters;
 mod gaps;
 mod lists;
 mod merges;
 mod outputs;
 mod pages;
+mod placing;
 mod state;
 mod table;
 mod view;
 
+pub use changes::{Refusal, compacted, flushed, written};
 pub use gaps::{Extent, first_gap, largest_gap};
 pub use merges::{Plan, choose};
 pub use outputs::planned;
+pub use placing::NoRoom;
 pub use state::State;
 pub use table::Table;
+pub use view::newest_entries;

@@ -3,9 +3,10 @@ ghost use Rattle.std.specs.Prelude.{◌≡◌, ◌≤◌, IfOk};
 ghost use Rattle.state_model.specs.State.{new_state};
 
 use crate::table::Table;
-use entry_list::Entry;
+use crate::lists::push_tables;
+use entry_list::{Entry, copied};
 use filter_api::Settings;
-use std::alloc::Global;
+use std::alloc::{AllocError, Global};
 use std::marker::Model;
 
 /// What a store holds: its log's entries in the order of writing, and its tables, those of level 0 first and the newest
@@ -40,5 +41,21 @@ impl State {
             log: Vec::new(alloc),
             tables: Vec::new(alloc),
         }
+    }
+
+    /// The same state again.
+    pub fn copy(&self, alloc: Global) -> Result<State, AllocError>
+        ensures { IfOk result (λ s. s ≡ self.now) }
+    {
+        let log = copied(alloc, self.log.as_slice())?;
+        let mut tables = Vec::new(alloc);
+        push_tables(self.tables.as_slice(), &mut tables)?;
+        Ok(State {
+            settings: self.settings,
+            pages: self.pages,
+            epoch: self.epoch,
+            log,
+            tables,
+        })
     }
 }

@@ -1,0 +1,184 @@
+// What a put, a flush and a compaction make of a state.
+ghost use Rattle.std.specs.Prelude.{◌≡◌, ◌+◌, map, vec_items, IfOk};
+ghost use Rattle.store_model.specs.Entries.{need, gap, body, filled};
+ghost use Rattle.state_model.specs.Changes as model;
+ghost use Rattle.state_model.specs.Gaps.{taken};
+ghost use Rattle.state_model.specs.Merges.{cut, placed};
+ghost use Rattle.plain_store.specs.Filters.{spells_of};
+ghost use Rattle.plain_store.specs.Refusals.{seen};
+
+use crate::lists::{push_entries, push_tables};
+use crate::outputs::{live_entries, outputs_of};
+use crate::placing::{placed, taken};
+use crate::state::State;
+use crate::table::Table;
+use crate::view::newest_entries;
+use entry_list::{Entry, copied, push_copy};
+use filter_api::RangeFilter;
+use std::alloc::{AllocError, Global};
+
+/// Why a change is refused.
+#[derive(Clone, Copy, Debug, PartialEq, Eq)]
+pub enum Refusal {
+    /// The version has 1,024 tables.
+    ManyTables,
+    /// The epoch is the last one.
+    LastEpoch,
+    /// A table needs more pages than the largest gap has.
+    Full { need: u64, gap: u64 },
+}
+
+/// The state with one epoch more, an empty log and other tables.
+#[tactic(auto, unfolding(state_model::specs::State::last_epoch))]
+fn with_tables(alloc: Global, state: &State, tables: Vec<Table>) -> Result<Result<State, Refusal>, AllocError>
+    ensures { IfOk result (λ changed. seen changed ≡ model.with_tables state.now tables.items) }
+{
+    let Some(epoch) = state.epoch.checked_add(1) else {
+        return Ok(Err(Refusal::LastEpoch));
+    };
+    Ok(Ok(State {
+        settings: state.settings,
+        pages: state.pages,
+        epoch,
+        log: Vec::new(alloc),
+        tables,
+    }))
+}
+
+/// The memory entries become one table, the first of level 0, in the first gap that holds it, and the log is empty. Where
+/// there are none nothing changes.
+pub fn flushed<F: RangeFilter>(alloc: Global, state: &State) -> Result<Result<State, Refusal>, AllocError>
+    ensures { IfOk result (λ changed. seen changed ≡ model.flushed (spells_of F.spelling F.built_cutoff) state.now) }
+{
+    let memory = state.memory(alloc)?;
+    if memory.is_empty() {
+        let same = state.copy(alloc)?;
+        return Ok(Ok(same));
+    }
+    if state.tables.len() >= 1024 {
+        return Ok(Err(Refusal::ManyTables));
+    }
+    let mut outputs = Vec::new(alloc);
+    outputs.push(memory)?;
+    let taken = taken(alloc, state)?;
+    match placed::<F>(alloc, state, taken.as_slice(), 0, outputs.as_slice())? {
+        Ok(made) => {
+            let mut tables = made;
+            push_tables(state.tables.as_slice(), &mut tables)?;
+            with_tables(alloc, state, tables)
+        }
+        Err(refusal) => Ok(Err(Refusal::Full {
+            need: refusal.need,
+            gap: refusal.gap,
+        })),
+    }
+}
+
+/// The state with an entry more in its log.
+fn logged(state: State, entry: &Entry) -> Result<State, AllocError>
+    ensures { IfOk result (λ s. s ≡ model.logged state entry.now) }
+{
+    let mut state = state;
+    push_copy(entry, &mut state.log)?;
+    Ok(state)
+}
+
+/// The entry is logged, after a flush exactly where its record does not fit the log area.
+pub fn written<F: RangeFilter>(alloc: Global, state: &State, entry: &Entry) -> Result<Result<State, Refusal>, AllocError>
+    ensures { IfOk result (λ changed. seen changed ≡ model.written (spells_of F.spelling F.built_cutoff) state.now entry.now) }
+{
+    if record_bytes(entry)?.checked_add(1).ok_or(AllocError)? <= log_gap(state)? {
+        let same = state.copy(alloc)?;
+        let state = logged(same, entry)?;
+        return Ok(Ok(state));
+    }
+    match flushed::<F>(alloc, state)? {
+        Ok(state) => {
+            let state = logged(state, entry)?;
+            Ok(Ok(state))
+        }
+        Err(refusal) => Ok(Err(refusal)),
+    }
+}
+
+/// The bytes of an entry's record, with its gate.
+fn record_bytes(entry: &Entry) -> Result<u64, AllocError>
+    ensures { IfOk result (λ n. n + 1 ≡ need entry.now) }
+{
+    let value = match entry.value() {
+        Some(bytes) => bytes.len(),
+        None => 0,
+    };
+    let bytes = value.checked_add(entry.key().len()).ok_or(AllocError)?;
+    Ok(bytes.checked_add(8).ok_or(AllocError)? as u64)
+}
+
+/// The bytes that the log's records take.
+#[tactic(auto, unfolding(store_model::specs::Entries::filled))]
+fn log_bytes(entries: &[Entry]) -> Result<u64, AllocError>
+    ensures { IfOk result (λ n. n ≡ filled entries.now) }
+{
+    let mut bytes = 0u64;
+    for entry in entries {
+        bytes = bytes.checked_add(record_bytes(entry)?).ok_or(AllocError)?;
+    }
+    Ok(bytes)
+}
+
+/// The bytes that are left in the log area.
+#[tactic(auto, unfolding(store_model::specs::Entries::gap))]
+fn log_gap(state: &State) -> Result<u64, AllocError>
+    ensures { IfOk result (λ n. n ≡ gap state.now.log) }
+{
+    let filled = log_bytes(state.log.as_slice())?;
+    Ok(262_144u64.saturating_sub(filled))
+}
+
+/// The live pairs alone stand in tables of level 6, and the log is empty. An empty store stays as it is.
+#[tactic(auto, unfolding(state_model::specs::State::last_epoch))]
+pub fn compacted<F: RangeFilter>(alloc: Global, state: &State) -> Result<Result<State, Refusal>, AllocError>
+    ensures { IfOk result (λ changed. seen changed ≡ model.compacted (spells_of F.spelling F.built_cutoff) state.now) }
+{
+    let entries = state.entries(alloc)?;
+    if entries.is_empty() {
+        let same = state.copy(alloc)?;
+        return Ok(Ok(same));
+    }
+    let Some(epoch) = state.epoch.checked_add(1) else {
+        return Ok(Err(Refusal::LastEpoch));
+    };
+    compacted_at::<F>(alloc, state, epoch)
+}
+
+/// The live pairs of a store that is not empty, cut into outputs.
+fn live_outputs(alloc: Global, state: &State) -> Result<Vec<Vec<Entry>>, AllocError>
+    ensures { IfOk result (λ outputs. map vec_items outputs.items ≡ cut state.now.tables (model.live_entries state.now)) }
+{
+    let entries = state.entries(alloc)?;
+    let newest = newest_entries(alloc, entries.as_slice())?;
+    let live = live_entries(alloc, newest.as_slice())?;
+    outputs_of(alloc, state.tables.len().saturating_sub(1), live.as_slice())
+}
+
+/// They are placed, and stand alone in the state of the next epoch.
+fn compacted_at<F: RangeFilter>(alloc: Global, state: &State, epoch: u64) -> Result<Result<State, Refusal>, AllocError>
+    requires { epoch ≡ state.now.epoch + 1 }
+    ensures { IfOk result (λ changed. seen changed ≡ model.compact_placed state.now
+        (placed (spells_of F.spelling F.built_cutoff) state.now (taken state.now) 6 (cut state.now.tables (model.live_entries state.now)))) }
+{
+    let outputs = live_outputs(alloc, state)?;
+    let taken = taken(alloc, state)?;
+    match placed::<F>(alloc, state, taken.as_slice(), 6, outputs.as_slice())? {
+        Ok(tables) => Ok(Ok(State {
+            settings: state.settings,
+            pages: state.pages,
+            epoch,
+            log: Vec::new(alloc),
+            tables,
+        })),
+        Err(refusal) => Ok(Err(Refusal::Full {
+            need: refusal.need,
+            gap: refusal.gap,
+        })),
+    }
+}

@@ -1,0 +1,79 @@
+// Outputs that become tables.
+ghost use Rattle.std.specs.Prelude.{◌≡◌, [], ◌∷◌, ◌++◌, map, vec_items, IfOk, OnOk};
+ghost use Rattle.std.specs.Result.{result_map_both};
+ghost use Rattle.state_model.specs.Gaps.{taken};
+ghost use Rattle.state_model.specs.Merges as model;
+ghost use Rattle.plain_store.specs.Filters.{spells_of};
+
+use crate::gaps::{Extent, first_gap, largest_gap};
+use crate::lists::extents;
+use crate::pages::{table_of, table_pages};
+use crate::state::State;
+use crate::table::Table;
+use entry_list::Entry;
+use filter_api::RangeFilter;
+use std::alloc::{AllocError, Global};
+use std::marker::Model;
+
+/// A table that needs more pages than the largest gap has.
+#[derive(Drop)]
+pub struct NoRoom {
+    pub need: u64,
+    pub gap: u64,
+}
+
+impl Model for NoRoom {
+    ghost use Rattle.state_model.specs.Merges as model;
+
+    ghost Value = { model.NoRoom };
+
+    ghost view = { λ r. record { need = r.need; gap = r.gap } };
+}
+
+/// The extents that the tables take.
+pub(crate) fn taken(alloc: Global, state: &State) -> Result<Vec<Extent>, AllocError>
+    ensures { IfOk result (λ list. list.items ≡ taken state.now) }
+{
+    extents(alloc, state.tables.as_slice())
+}
+
+fn with_extent(alloc: Global, extent: Extent, taken: &[Extent]) -> Result<Vec<Extent>, AllocError>
+    ensures { IfOk result (λ list. list.items ≡ extent ∷ taken.now) }
+{
+    let mut list = Vec::with_capacity(alloc, taken.len() + 1)?;
+    list.push(extent)?;
+    list.extend_from_slice(taken)?;
+    Ok(list)
+}
+
+fn with_table(table: Table, tables: Vec<Table>) -> Result<Vec<Table>, AllocError>
+    ensures { IfOk result (λ list. list.items ≡ table ∷ tables.items) }
+{
+    let mut list = tables;
+    list.insert(0, table)?;
+    Ok(list)
+}
+
+/// Some outputs become tables of a level, each in the first gap that holds it beside what is taken and those before it.
+pub(crate) fn placed<F: RangeFilter>(alloc: Global, state: &State, taken: &[Extent], level: u8, outputs: &[Vec<Entry>]) -> Result<Result<Vec<Table>, NoRoom>, AllocError>
+    ensures { IfOk result (λ made. result_map_both vec_items (λ r. r) made
+        ≡ model.placed (spells_of F.spelling F.built_cutoff) state.now taken.now level (map vec_items outputs.now)) }
+{
+    let Some((output, more)) = outputs.split_first() else {
+        return Ok(Ok(Vec::new(alloc)));
+    };
+    let need = table_pages::<F>(alloc, state.settings, output.as_slice())?;
+    let Some(page) = first_gap(alloc, state.pages, taken, need)? else {
+        let gap = largest_gap(alloc, state.pages, taken)?;
+        return Ok(Err(NoRoom { need, gap }));
+    };
+    let table = table_of::<F>(alloc, state.settings, level, page, output.as_slice())?;
+    let taken = with_extent(alloc, (page, need), taken)?;
+    match placed::<F>(alloc, state, taken.as_slice(), level, more)? {
+        Ok(later) => {
+            let tables = with_table(table, later)?;
+            Ok(Ok(tables))
+        }
+        Err(refusal) => Ok(Err(refusal)),
+    }
+}
