@@ -1,17 +1,18 @@
 -- The pairs of a map between two keys.
-use Rattle.std.proofs.Common.{◌≡◌, ◌≢◌, ◌↔◌, ◌≤◌, ◌<◌, ℕ, zero, suc, List, [], ◌∷◌, length, take, refl, sym, ap, ◌∙◌, subst, Bool, true, false, cond, not, ◌&&◌, ⊥, arith}
-use Rattle.std.specs.Prelude.{Option, Some, None, bytes_eq, filter, count_by}
+use Rattle.std.proofs.Common.{◌≡◌, ◌≢◌, ◌↔◌, ◌≤◌, ℕ, zero, suc, [], ◌∷◌, length, take, refl, sym, ap, ◌∙◌, subst, Bool, true, false, cond, not, ◌&&◌, arith}
+use Rattle.std.specs.Prelude.{Option, Some, None, bytes_eq, count_by}
 use Rattle.std.specs.List.{All, AllByRecursion}
 use Rattle.std.specs.Ordering.{is_lt, ordering_reverse}
 use Rattle.std.specs.Cmp.Lexicographic.{nat_list_cmp_total}
 use Rattle.std.specs.declared.cmp.Ordering.{Ordering}
-use Rattle.std.specs.declared.cmp.Ordering.TheVariants.{Less, Equal, Greater}
+use Rattle.std.specs.declared.cmp.Ordering.TheVariants.{Less}
 use Rattle.std.proofs.lemmas.List.{take_all, length-take}
+use Rattle.std.proofs.lemmas.List.Sums.{length-filter}
 use Rattle.std.proofs.lemmas.List.Elements.{All-from_recursion, recursion_from_All}
 use Rattle.std.proofs.lemmas.Slice.Eq.{bytes_eq-Decides}
 use Rattle.store_model.specs.SortedMap.{Bytes, Map, byte_order, get, Rises}
 use Rattle.store_model.proofs.Maps.{other_key, order_same, equal_keys, less_of_greater, by_order}
-use Rattle.map_model.specs.Slices.{is_before, is_up_to, is_between, between, slice, first_pair, seek, count}
+use Rattle.map_model.specs.Slices.{is_before, is_between, between, slice, first_pair, seek, count}
 
 true-false : true ≡ false → ⊥
 true-false e = cc
@@ -42,14 +43,14 @@ crossed_key lo hi key crossed =
 -- ---- the first pair and those behind it
 
 kept : (pair : Bytes × Bytes) (more : Map) (lo : Bytes) (hi : Option Bytes) → is_between lo hi pair.0 ≡ true → between (pair ∷ more) lo hi ≡ pair ∷ between more lo hi
-kept pair more lo hi yes = ap (λ (t : Bool). cond t (pair ∷ between more lo hi) (between more lo hi)) yes
+kept pair more lo hi here = ap (λ (t : Bool). cond t (pair ∷ between more lo hi) (between more lo hi)) here
 
 left_out : (pair : Bytes × Bytes) (more : Map) (lo : Bytes) (hi : Option Bytes) → is_between lo hi pair.0 ≡ false → between (pair ∷ more) lo hi ≡ between more lo hi
-left_out pair more lo hi no = ap (λ (t : Bool). cond t (pair ∷ between more lo hi) (between more lo hi)) no
+left_out pair more lo hi away = ap (λ (t : Bool). cond t (pair ∷ between more lo hi) (between more lo hi)) away
 
 by_test : (P : Map → Type 0) (pair : Bytes × Bytes) (more : Map) (lo : Bytes) (hi : Option Bytes)
     → (is_between lo hi pair.0 ≡ true → P (pair ∷ between more lo hi)) → (is_between lo hi pair.0 ≡ false → P (between more lo hi)) → P (between (pair ∷ more) lo hi)
-by_test P pair more lo hi yes no = elim (is_between lo hi pair.0) as (λ t. is_between lo hi pair.0 ≡ t → P (cond t (pair ∷ between more lo hi) (between more lo hi))) [ true ↦ yes | false ↦ no ] refl
+by_test P pair more lo hi here away = elim (is_between lo hi pair.0) as (λ t. is_between lo hi pair.0 ≡ t → P (cond t (pair ∷ between more lo hi) (between more lo hi))) [ true ↦ here | false ↦ away ] refl
 
 same_bytes : (a b : Bytes) → bytes_eq a b ≡ true → a ≡ b
 same_bytes a b e = (bytes_eq-Decides a b).0 e
@@ -60,17 +61,17 @@ pub within : (map : Map) (lo : Bytes) (hi : Option Bytes) (key : Bytes) → is_b
 within [] lo hi key inside = refl
 within (pair ∷ more) lo hi key inside =
     by_test (λ (m : Map). get m key ≡ get (pair ∷ more) key) pair more lo hi
-    (λ yes. ap (λ (o : Option Bytes). cond (bytes_eq pair.0 key) (Some pair.1) o) (within more lo hi key inside))
-    (λ no. within more lo hi key inside
-    ∙ sym (ap (λ (t : Bool). cond t (Some pair.1) (get more key)) (other_key pair.0 key (λ e. absurd (true-false (sym inside ∙ ap (is_between lo hi) (sym e) ∙ no))))))
+    (λ here. ap (λ (o : Option Bytes). cond (bytes_eq pair.0 key) (Some pair.1) o) (within more lo hi key inside))
+    (λ away. within more lo hi key inside
+    ∙ sym (ap (λ (t : Bool). cond t (Some pair.1) (get more key)) (other_key pair.0 key (λ e. absurd (true-false (sym inside ∙ ap (is_between lo hi) (sym e) ∙ away))))))
 
 pub outside : (map : Map) (lo : Bytes) (hi : Option Bytes) (key : Bytes) → is_between lo hi key ≡ false → get (between map lo hi) key ≡ None
 outside [] lo hi key apart = refl
 outside (pair ∷ more) lo hi key apart =
     by_test (λ (m : Map). get m key ≡ None) pair more lo hi
-    (λ yes. ap (λ (t : Bool). cond t (Some pair.1) (get (between more lo hi) key)) (other_key pair.0 key (λ e. absurd (true-false (sym yes ∙ ap (is_between lo hi) e ∙ apart))))
+    (λ here. ap (λ (t : Bool). cond t (Some pair.1) (get (between more lo hi) key)) (other_key pair.0 key (λ e. absurd (true-false (sym here ∙ ap (is_between lo hi) e ∙ apart))))
     ∙ outside more lo hi key apart)
-    (λ no. outside more lo hi key apart)
+    (λ away. outside more lo hi key apart)
 
 pub short : (map : Map) (lo : Bytes) (hi : Option Bytes) (n : ℕ) → length (slice map lo hi n) ≤ n
 short map lo hi n = omega (arith, length-take n (between map lo hi))
@@ -102,15 +103,15 @@ rises_with pair (next ∷ more) after rises = (after.0, rises)
 between_after : (key : Bytes) (map : Map) (lo : Bytes) (hi : Option Bytes) → IsAfter key map → IsAfter key (between map lo hi)
 between_after key [] lo hi after = tt
 between_after key (pair ∷ more) lo hi after =
-    by_test (IsAfter key) pair more lo hi (λ yes. (after.0, between_after key more lo hi after.1)) (λ no. between_after key more lo hi after.1)
+    by_test (IsAfter key) pair more lo hi (λ here. (after.0, between_after key more lo hi after.1)) (λ away. between_after key more lo hi after.1)
 
 between_rises : (map : Map) (lo : Bytes) (hi : Option Bytes) → Rises map → Rises (between map lo hi)
 between_rises [] lo hi rises = tt
 between_rises (pair ∷ more) lo hi rises =
     let rest = between_rises more lo hi (rest_rises pair more rises) in
     by_test Rises pair more lo hi
-    (λ yes. rises_with pair (between more lo hi) (between_after pair.0 more lo hi (rest_after pair more rises)) rest)
-    (λ no. rest)
+    (λ here. rises_with pair (between more lo hi) (between_after pair.0 more lo hi (rest_after pair more rises)) rest)
+    (λ away. rest)
 
 take_after : (key : Bytes) (n : ℕ) (map : Map) → IsAfter key map → IsAfter key (take n map)
 take_after key zero map after = tt
@@ -149,8 +150,8 @@ seek_none : (map : Map) (lo : Bytes) (hi : Option Bytes) → seek map lo hi ≡ 
 seek_none [] lo hi none = tt
 seek_none (pair ∷ more) lo hi none =
     by_test (λ (m : Map). first_pair m ≡ None → (is_between lo hi pair.0 ≡ false) × AllByRecursion (λ (other : Bytes × Bytes). is_between lo hi other.0 ≡ false) more) pair more lo hi
-    (λ yes e. absurd (some-none pair e))
-    (λ no e. (no, seek_none more lo hi e))
+    (λ here e. absurd (some-none pair e))
+    (λ away e. (away, seek_none more lo hi e))
     none
 
 none_sought : (map : Map) (lo : Bytes) (hi : Option Bytes) → AllByRecursion (λ (pair : Bytes × Bytes). is_between lo hi pair.0 ≡ false) map → seek map lo hi ≡ None
@@ -158,9 +159,10 @@ none_sought [] lo hi apart = refl
 none_sought (pair ∷ more) lo hi apart = ap first_pair (left_out pair more lo hi apart.0) ∙ none_sought more lo hi apart.1
 
 pub none_exactly : (map : Map) (lo : Bytes) (hi : Option Bytes) → (seek map lo hi ≡ None) ↔ All (λ (pair : Bytes × Bytes). is_between lo hi pair.0 ≡ false) map
-none_exactly map lo hi =
-    (λ none. All-from_recursion (λ (pair : Bytes × Bytes). is_between lo hi pair.0 ≡ false) map (seek_none map lo hi none),
-      λ apart. none_sought map lo hi (recursion_from_All (λ (pair : Bytes × Bytes). is_between lo hi pair.0 ≡ false) map apart))
+none_exactly map lo hi = (
+  λ none. All-from_recursion (λ (pair : Bytes × Bytes). is_between lo hi pair.0 ≡ false) map (seek_none map lo hi none),
+  λ apart. none_sought map lo hi (recursion_from_All (λ (pair : Bytes × Bytes). is_between lo hi pair.0 ≡ false) map apart),
+)
 
 same_pair : (a b : Bytes × Bytes) → Some a ≡ Some b → a ≡ b
 same_pair a b e = cc
@@ -169,8 +171,8 @@ pub sought_between : (map : Map) (lo : Bytes) (hi : Option Bytes) (pair : Bytes 
 sought_between [] lo hi pair found = absurd (some-none pair (sym found))
 sought_between (first ∷ more) lo hi pair found =
     by_test (λ (m : Map). first_pair m ≡ Some pair → is_between lo hi pair.0 ≡ true) first more lo hi
-    (λ yes e. ap (λ (p : Bytes × Bytes). is_between lo hi p.0) (sym (same_pair first pair e)) ∙ yes)
-    (λ no e. sought_between more lo hi pair e)
+    (λ here e. ap (λ (p : Bytes × Bytes). is_between lo hi p.0) (sym (same_pair first pair e)) ∙ here)
+    (λ away e. sought_between more lo hi pair e)
     found
 
 none-some : (value : Bytes) → None ≡ Some value → ⊥
@@ -201,13 +203,12 @@ pub sought_least : (map : Map) (lo : Bytes) (hi : Option Bytes) (pair : Bytes ×
 sought_least [] lo hi pair key value rises found got inside = absurd (some-none pair (sym found))
 sought_least (first ∷ more) lo hi pair key value rises found got inside =
     by_test (λ (m : Map). first_pair m ≡ Some pair → is_before key pair.0 ≡ false) first more lo hi
-    (λ yes e. subst (λ (p : Bytes × Bytes). is_before key p.0 ≡ false) (same_pair first pair e) (got_from first more key value rises got))
-    (λ no e. sought_least more lo hi pair key value (rest_rises first more rises) e
-    (got_behind first more key value (λ same. absurd (true-false (sym inside ∙ ap (is_between lo hi) (sym same) ∙ no))) got) inside)
+    (λ here e. subst (λ (p : Bytes × Bytes). is_before key p.0 ≡ false) (same_pair first pair e) (got_from first more key value rises got))
+    (λ away e. sought_least more lo hi pair key value (rest_rises first more rises) e
+    (got_behind first more key value (λ same. absurd (true-false (sym inside ∙ ap (is_between lo hi) (sym same) ∙ away))) got) inside)
     found
 
 -- ---- count
 
 pub counted : (map : Map) (lo : Bytes) (hi : Option Bytes) → count map lo hi ≡ count_by (λ (pair : Bytes × Bytes). is_between lo hi pair.0) map
-counted [] lo hi = refl
-counted (pair ∷ more) lo hi = counted_more pair more lo hi
+counted map lo hi = length-filter (λ (pair : Bytes × Bytes). is_between lo hi pair.0) map

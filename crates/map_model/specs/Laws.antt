@@ -1,5 +1,5 @@
 -- Laws of what is read between two keys.
-use Rattle.std.specs.Prelude.{◌≡◌, ◌↔◌, ◌≤◌, ℕ, true, false, List, [], length, count_by, Option, Some, None}
+use Rattle.std.specs.Prelude.{◌≡◌, ◌↔◌, ◌≤◌, ℕ, true, false, [], length, count_by, Option, Some, None}
 use Rattle.std.specs.List.{All}
 use Rattle.store_model.specs.SortedMap.{Bytes, Map, get, Rises}
 use Rattle.map_model.specs.Slices.{is_before, is_between, between, slice, seek, count}
@@ -19,8 +19,8 @@ pub record SeekLaws : Type 0 where
   pub none : (map : Map) (lo : Bytes) (hi : Option Bytes) → (seek map lo hi ≡ None) ↔ All (λ (pair : Bytes × Bytes). is_between lo hi pair.0 ≡ false) map
   pub between : (map : Map) (lo : Bytes) (hi : Option Bytes) (pair : Bytes × Bytes) → seek map lo hi ≡ Some pair → is_between lo hi pair.0 ≡ true
   pub least :
-    (map : Map) (lo : Bytes) (hi : Option Bytes) (pair : Bytes × Bytes) (key value : Bytes) → Rises map
-    → seek map lo hi ≡ Some pair → get map key ≡ Some value → is_between lo hi key ≡ true → is_before key pair.0 ≡ false
+      (map : Map) (lo : Bytes) (hi : Option Bytes) (pair : Bytes × Bytes) (key value : Bytes) → Rises map
+      → seek map lo hi ≡ Some pair → get map key ≡ Some value → is_between lo hi key ≡ true → is_before key pair.0 ≡ false
 
 -- a count counts the pairs whose keys lie between, none where lo is above hi
 pub record CountLaws : Type 0 where
