@@ -1,5 +1,5 @@
 -- What is read of a sorted map between two keys.
-use Rattle.std.specs.Prelude.{ℕ, Bool, true, not, ◌&&◌, List, [], ◌∷◌, length, take, filter, Option, Some, None}
+use Rattle.std.specs.Prelude.{ℕ, Bool, true, not, ◌&&◌, [], ◌∷◌, length, take, filter, Option, Some, None}
 use Rattle.std.specs.Ordering.{is_lt}
 use Rattle.store_model.specs.SortedMap.{Bytes, Map, byte_order}
 
