@@ -1,9 +1,12 @@
 //! The store played in memory.
 #![tactic(auto)]
 
+mod bounds;
 mod changes;
 mod filters;
 mod gaps;
+mod keys;
+mod limits;
 mod lists;
 mod merges;
 mod outputs;
@@ -11,8 +14,10 @@ mod pages;
 mod placing;
 mod state;
 mod table;
+mod talk;
 mod view;
 
+pub use bounds::{admitted, blocks_read, estimate, get_bound, seek_bound};
 pub use changes::{Refusal, compacted, flushed, written};
 pub use gaps::{Extent, first_gap, largest_gap};
 pub use merges::{Plan, choose};
@@ -20,4 +25,5 @@ pub use outputs::planned;
 pub use placing::NoRoom;
 pub use state::State;
 pub use table::Table;
+pub use talk::{Reply, Request};
 pub use view::newest_entries;

@@ -2,9 +2,9 @@
 ghost use Rattle.std.specs.Prelude.{◌≡◌, ◌+◌, ◌≤◌, [], ◌∷◌, ◌++◌, filter, take, length, sum_by, IfOk, OnOk};
 ghost use Rattle.std.specs.List.{list_any};
 ghost use Rattle.std.specs.Option.{option_map};
-ghost use Rattle.map_model.specs.Slices.{is_before};
 ghost use Rattle.state_model.specs.Merges as model;
 
+use crate::keys::is_before;
 use crate::lists::{on_level, push_table, push_tables};
 use crate::state::State;
 use crate::table::Table;
@@ -24,12 +24,6 @@ impl Model for Plan {
     ghost Value = { model.Plan };
 
     ghost view = { λ p. record { inputs = p.inputs.items; output = p.output } };
-}
-
-fn is_before(x: &[u8], y: &[u8]) -> bool
-    ensures { result ≡ is_before x.now y.now }
-{
-    x.cmp(y).is_lt()
 }
 
 fn lesser<'a>(x: &'a [u8], y: &'a [u8]) -> &'a [u8]

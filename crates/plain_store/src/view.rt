@@ -1,11 +1,13 @@
 // What a state says of a key.
 ghost use Rattle.std.specs.Prelude.{◌≡◌, [], ◌∷◌, ◌++◌, IfOk, OnOk};
 ghost use Rattle.mem_table.specs.Table.{newest_entries, with_entry};
+ghost use Rattle.store_model.specs.Entries.{changed};
 ghost use Rattle.state_model.specs.View as model;
 
 use crate::lists::{oldest_first, push_entries};
 use crate::state::State;
 use entry_list::{Entry, push_copy};
+use plain_map::PlainMap;
 use std::alloc::{AllocError, Global};
 use std::cmp::Ordering;
 
@@ -59,5 +61,29 @@ impl State {
         let mut list = oldest_first(alloc, self.tables.as_slice())?;
         push_entries(self.log.as_slice(), &mut list)?;
         Ok(list)
+    }
+
+    /// The sorted map that the state is.
+    pub fn map(&self, alloc: Global) -> Result<PlainMap, AllocError>
+        ensures { IfOk result (λ map. map ≡ model.map_of self.now) }
+    {
+        let entries = self.entries(alloc)?;
+        let mut map = PlainMap::new(alloc);
+        for entry in entries.as_slice() {
+            change(&mut map, entry)?;
+        }
+        Ok(map)
+    }
+}
+
+fn change(map: &mut PlainMap, entry: &Entry) -> Result<(), AllocError>
+    ensures { OnOk result (map.new ≡ changed map.old entry.now) }
+{
+    match entry.value() {
+        Some(value) => map.put(entry.key(), value),
+        None => {
+            map.del(entry.key())?;
+            Ok(())
+        }
     }
 }

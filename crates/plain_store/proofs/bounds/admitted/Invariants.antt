@@ -1,0 +1,7 @@
+use Rattle.std.proofs.Common.{◌≡◌, ◌++◌, ◌+◌, ◌&&◌, suc, fold, filter, drop, length, count_by, sum_by, Some}
+use Rattle.state_model.specs.Bounds as model
+use Rattle.plain_store.proofs.bounds.admitted.Given as goal
+
+-- those so far and those among what is left
+abbrev pub invariant-loop-table : goal.invariant-loop-table
+invariant-loop-table g l = l.count + count_by (model.admits l.state l.key) (drop l.table-index l.table-items) ≡ count_by (model.admits l.state l.key) l.table-items

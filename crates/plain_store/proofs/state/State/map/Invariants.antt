@@ -1,0 +1,7 @@
+use Rattle.std.proofs.Common.{◌≡◌, ◌++◌, ◌+◌, ◌&&◌, suc, fold, filter, drop, length, count_by, sum_by, Some}
+use Rattle.store_model.specs.Entries.{changed, map_of}
+use Rattle.plain_store.proofs.state.State.map.Given as goal
+
+-- what is left goes into the map so far
+abbrev pub invariant-loop-entry : goal.invariant-loop-entry
+invariant-loop-entry l = fold changed l.map (drop l.entry-index l.entry-items) ≡ map_of l.entry-items
