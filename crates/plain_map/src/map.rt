@@ -158,8 +158,20 @@ mod tests {
         Ok(map)
     }
 
-    fn key_of(pair: Option<&Pair>) -> Option<&[u8]> {
-        pair.map(Pair::key)
+    // Whether the pair is there, with this key, or is not where none is wanted.
+    fn has_key(pair: Option<&Pair>, want: Option<&[u8]>) -> bool {
+        match (pair, want) {
+            (Some(pair), Some(key)) => pair.has_key(key),
+            (None, None) => true,
+            _ => false,
+        }
+    }
+
+    fn has_value(map: &PlainMap, key: &[u8], want: &[u8]) -> bool {
+        match map.get(key) {
+            Some(value) => value == want,
+            None => false,
+        }
     }
 
     #[test]
@@ -167,7 +179,7 @@ mod tests {
         let map = two(rt.alloc())?;
         let one = map.slice(b"", Some(b"z"), 1)?;
         assert_eq!(rt; one.len(), 1);
-        assert_eq!(rt; one.get(b"a"), Some(b"".as_slice()));
+        assert!(rt; has_value(&one, b"a", b""));
         assert!(rt; map.slice(b"", Some(b"z"), 0)?.is_empty());
         assert_eq!(rt; map.slice(b"a", Some(b"b"), 9)?.len(), 2);
         assert!(rt; map.slice(b"b", Some(b"a"), 9)?.is_empty());
@@ -185,7 +197,7 @@ mod tests {
             (b"b", Some(b"b"), Some(b"b")),
         ];
         for (lo, hi, want) in rows {
-            assert_eq!(rt; key_of(map.seek(lo, hi)), want);
+            assert!(rt; has_key(map.seek(lo, hi), want));
         }
         Ok(())
     }
@@ -212,11 +224,11 @@ mod tests {
         let mut map = two(rt.alloc())?;
         map.put(b"b", b"\x02")?;
         assert_eq!(rt; map.len(), 2);
-        assert_eq!(rt; map.get(b"b"), Some(b"\x02".as_slice()));
+        assert!(rt; has_value(&map, b"b", b"\x02"));
         map.del(b"a");
         map.del(b"c");
-        assert_eq!(rt; map.get(b"a"), None);
-        assert_eq!(rt; key_of(map.seek(b"", None)), Some(b"b".as_slice()));
+        assert!(rt; map.get(b"a").is_none());
+        assert!(rt; has_key(map.seek(b"", None), Some(b"b")));
         Ok(())
     }
 }
