@@ -42,10 +42,10 @@ crossed_key lo hi key crossed =
 
 -- ---- the first pair and those behind it
 
-kept : (pair : Bytes × Bytes) (more : Map) (lo : Bytes) (hi : Option Bytes) → is_between lo hi pair.0 ≡ true → between (pair ∷ more) lo hi ≡ pair ∷ between more lo hi
+pub kept : (pair : Bytes × Bytes) (more : Map) (lo : Bytes) (hi : Option Bytes) → is_between lo hi pair.0 ≡ true → between (pair ∷ more) lo hi ≡ pair ∷ between more lo hi
 kept pair more lo hi here = ap (λ (t : Bool). cond t (pair ∷ between more lo hi) (between more lo hi)) here
 
-left_out : (pair : Bytes × Bytes) (more : Map) (lo : Bytes) (hi : Option Bytes) → is_between lo hi pair.0 ≡ false → between (pair ∷ more) lo hi ≡ between more lo hi
+pub left_out : (pair : Bytes × Bytes) (more : Map) (lo : Bytes) (hi : Option Bytes) → is_between lo hi pair.0 ≡ false → between (pair ∷ more) lo hi ≡ between more lo hi
 left_out pair more lo hi away = ap (λ (t : Bool). cond t (pair ∷ between more lo hi) (between more lo hi)) away
 
 by_test : (P : Map → Type 0) (pair : Bytes × Bytes) (more : Map) (lo : Bytes) (hi : Option Bytes)
