@@ -19,7 +19,7 @@ blocks_step entries e = fold-append blocks_with [] entries (e ∷ [])
 
 -- ---- the blocks with one entry more are these, or these with a block more
 
-in_room : (P : List (List Entry) → Type 0) (block : List Entry) (e : Entry)
+pub in_room : (P : List (List Entry) → Type 0) (block : List Entry) (e : Entry)
     → (has_room block e ≡ true → P ((block ++ (e ∷ [])) ∷ [])) → (has_room block e ≡ false → P (block ∷ (e ∷ []) ∷ [])) → P (blocks_with (block ∷ []) e)
 in_room P block e room none = elim (has_room block e) as (λ t. has_room block e ≡ t → P (cond t ((block ++ (e ∷ [])) ∷ []) (block ∷ (e ∷ []) ∷ []))) [
   | true ↦ room

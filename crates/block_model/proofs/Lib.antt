@@ -2,3 +2,4 @@ pub mod Cutting
 pub mod Lengths
 pub mod Sizes
 pub mod LastBlocks
+pub mod Bounds
