@@ -3,3 +3,5 @@ pub mod Lengths
 pub mod Sizes
 pub mod LastBlocks
 pub mod Bounds
+pub mod Refusals
+pub mod EntriesRead
