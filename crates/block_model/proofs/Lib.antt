@@ -5,3 +5,4 @@ pub mod LastBlocks
 pub mod Bounds
 pub mod Refusals
 pub mod EntriesRead
+pub mod EntriesWritten
