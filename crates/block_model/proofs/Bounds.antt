@@ -31,7 +31,7 @@ alone : (block : List Entry) → AllByRecursion IsEntry block → length block �
 unfolding block_length
 alone block each le = omega (arith, bodies_bound block each, le)
 
-length_bound : (block : List Entry) → IsPart block → block_length block ≤ 66575
+pub length_bound : (block : List Entry) → IsPart block → block_length block ≤ 66575
 length_bound [] part = alone [] part.each (omega arith)
 length_bound (e ∷ []) part = alone (e ∷ []) part.each (omega arith)
 length_bound (e ∷ next ∷ more) part = omega (arith, part.small (omega arith))

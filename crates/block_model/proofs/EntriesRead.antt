@@ -66,7 +66,7 @@ kind_kept : (value : Option Bytes) (v : ℕ) → v ≡ length (bytes_of value) �
 kind_kept (Some bytes) v e = refl
 kind_kept None v e = le-ltb 0 v (omega (arith, e))
 
-eqb_zero : (n : ℕ) → 1 ≤ n → (n == 0) ≡ false
+pub eqb_zero : (n : ℕ) → 1 ≤ n → (n == 0) ≡ false
 eqb_zero n le = ne_eqb n 0 (λ e. omega (arith, e, le))
 
 pub key_length_kept : (n : ℕ) → 1 ≤ n → n ≤ 1024 → is_no_key_length n ≡ false

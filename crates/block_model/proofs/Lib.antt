@@ -6,3 +6,5 @@ pub mod Bounds
 pub mod Refusals
 pub mod EntriesRead
 pub mod EntriesWritten
+pub mod BlocksRead
+pub mod BlocksWritten
