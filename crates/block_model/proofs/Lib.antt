@@ -8,3 +8,5 @@ pub mod EntriesRead
 pub mod EntriesWritten
 pub mod BlocksRead
 pub mod BlocksWritten
+pub mod RowsRead
+pub mod IndexesRead
