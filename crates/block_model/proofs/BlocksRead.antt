@@ -97,7 +97,7 @@ header_kept block is =
     let sixteen = long_enough block is in
     let zeros = zeros_again block in
     passed _ _ _ _ (or_from _ _ (or_from _ _ (le-ltb (length bytes) 8 (omega (arith, enough, sixteen))) (le-ltb (used_in bytes) 16 (omega (arith, used, sixteen))))
-      (not_true _ (eq-eqb _ _ pages)))
+    (not_true _ (eq-eqb _ _ pages)))
     (passed _ _ _ _ (many_kept block (count_in bytes) (used_in bytes) is (count_again block is) used)
     (passed _ _ _ _ (not_true _ (eq-eqb _ _ zeros.0))
     (passed _ _ _ _ (not_true _ (eq-eqb _ _ zeros.1))
@@ -108,6 +108,7 @@ unfolding block_fault block_in
 block_again block is =
     let bytes = block_bytes block in
     let entries : entries_fault (count_in bytes) 8 is_any (entries_part bytes) ≡ None =
-    ap₂ (λ (n : ℕ) (l : Bytes). entries_fault n 8 is_any l) (count_again block is) (part_again block is) ∙ entries_kept 8 is_any block is.each is.rising in
-    (none_of _ _ (header_kept block is) (none_of _ _ entries (tail_again block is)),
-      ap₂ entries_in (count_again block is) (part_again block is) ∙ entries_again block is.each)
+    ap₂ (λ (n : ℕ) (l : Bytes). entries_fault n 8 is_any l) (count_again block is) (part_again block is) ∙ entries_kept 8 is_any block is.each is.rising in (
+      none_of _ _ (header_kept block is) (none_of _ _ entries (tail_again block is)),
+      ap₂ entries_in (count_again block is) (part_again block is) ∙ entries_again block is.each,
+    )

@@ -146,11 +146,13 @@ block_written bytes is none =
     let head = header_was_kept bytes a.0 in
     let block = entries_in (count_in bytes) (entries_part bytes) in
     let were = entries_written (count_in bytes) 8 is_any (entries_part bytes) (part_bytes bytes is) b.0 in
-    let low = is 4 in
-    (record {
-      each = were.each;
-      rising = were.follow;
-      some = omega (arith, were.many, head.some);
-      few = omega (arith, were.many, low);
-      small = small_block bytes block head were.written were.many;
-    }, together bytes block is head were.written were.many b.1)
+    let low = is 4 in (
+      record {
+        each = were.each;
+        rising = were.follow;
+        some = omega (arith, were.many, head.some);
+        few = omega (arith, were.many, low);
+        small = small_block bytes block head were.written were.many;
+      },
+      together bytes block is head were.written were.many b.1,
+    )

@@ -82,7 +82,7 @@ entry_kept place test e rest is passes =
     passed _ _ _ _ (le-ltb (length (body e ++ rest)) 7 (omega (arith, long, n)))
     (passed _ _ _ _ (kind_kept e.value (value_length_in (body e ++ rest)) v)
     (passed _ _ _ _ (or_from _ _ (key_length_kept (key_length_in (body e ++ rest)) (omega (arith, k, is.some_key)) (omega (arith, k, is.short_key)))
-      (le-ltb 65536 (value_length_in (body e ++ rest)) (omega (arith, v, is.short_value))))
+    (le-ltb 65536 (value_length_in (body e ++ rest)) (omega (arith, v, is.short_value))))
     (passed _ _ _ _ (le-ltb (length (body e ++ rest)) (width_in (body e ++ rest)) (omega (arith, long, width_again e rest is)))
     (passed _ _ _ _ (not_true (test (key_in (body e ++ rest))) (ap test (key_again e rest is) ∙ passes)) refl))))
 

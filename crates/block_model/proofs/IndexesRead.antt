@@ -158,13 +158,15 @@ index_written pages bytes is none =
     let rows = rows_written (rows_count_in bytes) w (is_from (least_in bytes)) (drop w bytes) (IsBytes-drop w bytes is) b.0 in
     let long = least_long bytes head in
     let sum = kept _ _ _ _ b.1 in
-    let count = number_below 4 (drop 4 bytes) (IsBytes-drop 4 bytes is) (omega (arith, head.within, length-drop 4 bytes)) in
-    (record {
-      some_key = omega (arith, long, head.some_key);
-      short_key = omega (arith, long, head.short_key);
-      some = omega (arith, rows.many, head.some);
-      few = omega (arith, rows.many, count);
-      each = rows.each;
-      rising = rows.follow;
-      all_pages = eqb-true _ _ (not_false _ sum.0);
-    }, ap₂ (λ (p q : Bytes). p ++ q) (head_written bytes (rows_in (rows_count_in bytes) (drop w bytes)) is head rows.many) rows.written ∙ take-append-drop w bytes)
+    let count = number_below 4 (drop 4 bytes) (IsBytes-drop 4 bytes is) (omega (arith, head.within, length-drop 4 bytes)) in (
+      record {
+        some_key = omega (arith, long, head.some_key);
+        short_key = omega (arith, long, head.short_key);
+        some = omega (arith, rows.many, head.some);
+        few = omega (arith, rows.many, count);
+        each = rows.each;
+        rising = rows.follow;
+        all_pages = eqb-true _ _ (not_false _ sum.0);
+      },
+      ap₂ (λ (p q : Bytes). p ++ q) (head_written bytes (rows_in (rows_count_in bytes) (drop w bytes)) is head rows.many) rows.written ∙ take-append-drop w bytes,
+    )

@@ -10,3 +10,4 @@ pub mod BlocksRead
 pub mod BlocksWritten
 pub mod RowsRead
 pub mod IndexesRead
+pub mod TableIndex

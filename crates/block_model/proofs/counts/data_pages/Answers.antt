@@ -11,9 +11,11 @@ use Rattle.block_model.proofs.counts.data_pages.Goals as goal
 
 pub loop-block-init : goal.loop-block-init
 loop-block-init c =
-    let blocks = ap (map vec_items) c.as_slice-block-items.ensures.value ∙ c.in_ok-blocks.ensures in
-    (omega arith, subst (λ (bs : List (List Entry)). sum_by block_pages bs < 2 ^ 60) (sym blocks) (data_bound c.args.entries.now c.requires),
-      subst (AllByRecursion AreEntries) (sym blocks) (cut_sound c.args.entries.now c.requires.each))
+    let blocks = ap (map vec_items) c.as_slice-block-items.ensures.value ∙ c.in_ok-blocks.ensures in (
+      omega arith,
+      subst (λ (bs : List (List Entry)). sum_by block_pages bs < 2 ^ 60) (sym blocks) (data_bound c.args.entries.now c.requires),
+      subst (AllByRecursion AreEntries) (sym blocks) (cut_sound c.args.entries.now c.requires.each),
+    )
 
 pub overflow_add-pages : goal.overflow_add-pages
 unfolding block_pages
