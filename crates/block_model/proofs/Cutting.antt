@@ -19,7 +19,7 @@ blocks_step entries e = fold-append blocks_with [] entries (e ∷ [])
 
 -- ---- the blocks with one entry more are these, or these with a block more
 
-in_room : (P : List (List Entry) → Type 0) (block : List Entry) (e : Entry)
+pub in_room : (P : List (List Entry) → Type 0) (block : List Entry) (e : Entry)
     → (has_room block e ≡ true → P ((block ++ (e ∷ [])) ∷ [])) → (has_room block e ≡ false → P (block ∷ (e ∷ []) ∷ [])) → P (blocks_with (block ∷ []) e)
 in_room P block e room none = elim (has_room block e) as (λ t. has_room block e ≡ t → P (cond t ((block ++ (e ∷ [])) ∷ []) (block ∷ (e ∷ []) ∷ []))) [
   | true ↦ room
@@ -109,7 +109,6 @@ follow_front test (e ∷ a) b f = (f.0, follow_front (is_above e.key) a b f.1)
 follow_back : (test : Bytes → Bool) (a b : List Entry) → Follow test (keys_of (a ++ b)) → Follow is_any (keys_of b)
 follow_back test [] b f = any_follow test (keys_of b) f
 follow_back test (e ∷ a) b f = follow_back (is_above e.key) a b f.1
-
 
 each_rises : (blocks : List (List Entry)) → Follow is_any (keys_of (joined blocks)) → AllByRecursion (λ b. Follow is_any (keys_of b)) blocks
 each_rises [] f = tt

@@ -53,8 +53,13 @@ unfolding index_row_of
 rows_length [] = refl
 rows_length (block ∷ more) =
     let row = index_row_of block in
-    omega (arith, length-append (index_row_bytes row) (flat_map index_row_bytes (map index_row_of more)), length-row row, rows_length more,
-      sum_by-cons (λ (b : List Entry). 14 + length (last_key b)) block more)
+    omega (
+      arith,
+      length-append (index_row_bytes row) (flat_map index_row_bytes (map index_row_of more)),
+      length-row row,
+      rows_length more,
+      sum_by-cons (λ (b : List Entry). 14 + length (last_key b)) block more,
+    )
 
 pub index_long : IndexHasItsLength
 unfolding index_bytes index_of index_length

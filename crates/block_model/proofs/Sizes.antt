@@ -20,7 +20,7 @@ entry_at block i d is lt = all_at IsEntry block i d is.each lt
 body_bound : (e : Entry) → IsEntry e → length (body e) ≤ 66567
 body_bound e is = omega (arith, length-body e, is.short_key, is.short_value)
 
-bodies_bound : (block : List Entry) → AllByRecursion IsEntry block → length (flat_map body block) ≤ 66567 * length block
+pub bodies_bound : (block : List Entry) → AllByRecursion IsEntry block → length (flat_map body block) ≤ 66567 * length block
 bodies_bound [] all = omega arith
 bodies_bound (e ∷ more) all = omega (arith, length-append (body e) (flat_map body more), body_bound e all.0, bodies_bound more all.1)
 

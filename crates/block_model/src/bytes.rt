@@ -84,7 +84,11 @@ pub fn push_body(entry: &Entry, out: &mut Vec<u8>) -> Result<(), AllocError>
     let key = entry.key();
     match entry.value() {
         Some(value) => {
-            push_fields(&ENTRY_WIDTHS, &[1, key.len() as u64, value.len() as u64], out)?;
+            push_fields(
+                &ENTRY_WIDTHS,
+                &[1, key.len() as u64, value.len() as u64],
+                out,
+            )?;
             out.extend_from_slice(key)?;
             out.extend_from_slice(value)
         }
@@ -103,7 +107,11 @@ pub fn index_bytes(alloc: Global, entries: &[Entry]) -> Result<Vec<u8>, AllocErr
     let blocks = cut(alloc, entries)?;
     let least = first_key(entries);
     let mut out = Vec::new(alloc);
-    push_fields(&INDEX_HEAD_WIDTHS, &[INDEX_MAGIC, blocks.len() as u64, least.len() as u64], &mut out)?;
+    push_fields(
+        &INDEX_HEAD_WIDTHS,
+        &[INDEX_MAGIC, blocks.len() as u64, least.len() as u64],
+        &mut out,
+    )?;
     out.extend_from_slice(least)?;
     for block in blocks.as_slice() {
         push_index_row(alloc, block.as_slice(), &mut out)?;
@@ -118,7 +126,11 @@ fn push_index_row(alloc: Global, block: &[Entry], out: &mut Vec<u8>) -> Result<(
 {
     let sum = fnv1a(block_bytes(alloc, block)?.as_slice());
     let last = last_key(block);
-    push_fields(&INDEX_ROW_WIDTHS, &[pages_for(block_length(block)), sum, last.len() as u64], out)?;
+    push_fields(
+        &INDEX_ROW_WIDTHS,
+        &[pages_for(block_length(block)), sum, last.len() as u64],
+        out,
+    )?;
     out.extend_from_slice(last)
 }
 

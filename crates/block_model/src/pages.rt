@@ -5,8 +5,8 @@ ghost use Rattle.store_model.specs.Entries.{body};
 ghost use Rattle.block_model.specs.Block.{AreEntries, IsEntry};
 ghost use Rattle.block_model.specs.Pages.{pages_for, block_length, block_pages, blocks_of, blocks_with, data_pages, has_room, last_has_room};
 
-use key_base::{MAX_BLOCK_ENTRIES, PAGE_BYTES};
 use entry_list::{Entry, push_copy};
+use key_base::{MAX_BLOCK_ENTRIES, PAGE_BYTES};
 use std::alloc::{AllocError, Global};
 
 /// So many bytes in whole pages, rounded up.
@@ -88,5 +88,6 @@ fn has_room(block: &[Entry], entry: &Entry) -> bool
     requires entry { IsEntry entry.now }
     ensures { result ≡ has_room block.now entry.now }
 {
-    block_length(block) + entry_length(entry) <= PAGE_BYTES as u64 && block.len() < MAX_BLOCK_ENTRIES
+    block_length(block) + entry_length(entry) <= PAGE_BYTES as u64
+        && block.len() < MAX_BLOCK_ENTRIES
 }

@@ -10,5 +10,5 @@ use Rattle.block_model.proofs.bytes.index_bytes.Given as goal
 abbrev pub invariant-loop-block : goal.invariant-loop-block
 invariant-loop-block l =
     (l.out.items ++ flat_map (λ (b : List Entry). index_row_bytes (index_row_of b)) (map vec_items (drop l.block-index l.block-items))
-      ≡ l.initial.out.items ++ flat_map (λ (b : List Entry). index_row_bytes (index_row_of b)) (map vec_items l.block-items))
+    ≡ l.initial.out.items ++ flat_map (λ (b : List Entry). index_row_bytes (index_row_of b)) (map vec_items l.block-items))
     × AllByRecursion AreEntries (map vec_items (drop l.block-index l.block-items))
