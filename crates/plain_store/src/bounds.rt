@@ -1,11 +1,12 @@
 // How many blocks a get and a closed seek may read, and what `estimate` and `explain` tell.
-ghost use Rattle.std.specs.Prelude.{◌≡◌, ◌&&◌, false, count_by, Some, IfOk};
+ghost use Rattle.std.specs.Prelude.{◌≡◌, ◌&&◌, false, suc, filter, count_by, sum_by, Some, IfOk};
 ghost use Rattle.std.specs.Option.{option_map};
 ghost use Rattle.filter_model.specs.Strings.{is_below};
 ghost use Rattle.filter_model.specs.Answers.{tally};
-ghost use Rattle.map_model.specs.Slices.{is_between};
+ghost use Rattle.map_model.specs.Slices.{is_between, seek};
 ghost use Rattle.mem_table.specs.Table.{lookup};
 ghost use Rattle.state_model.specs.Bounds as model;
+ghost use Rattle.state_model.specs.View.{map_of};
 
 use crate::filters::filter_of;
 use crate::keys::{is_before, is_between};
@@ -123,14 +124,24 @@ pub fn seek_bound<F: RangeFilter>(alloc: Global, state: &State, lo: &[u8], hi: &
     }
     let map = state.map(alloc)?;
     let answer = map.seek(lo, Some(hi));
-    let mut blocks = 0u64;
-    for table in state.tables.as_slice() {
-        if admits_range::<F>(alloc, state, lo, hi, table)? {
-            let stepped = stepped(lo, hi, answer, table.entries.as_slice())?;
-            blocks = blocks.checked_add(stepped.checked_add(1).ok_or(AllocError)?).ok_or(AllocError)?;
-        }
+    seek_blocks::<F>(alloc, state, lo, hi, answer, state.tables.as_slice())
+}
+
+/// The blocks of these tables that a seek with this answer may read.
+fn seek_blocks<F: RangeFilter>(alloc: Global, state: &State, lo: &[u8], hi: &[u8], answer: Option<&Pair>, tables: &[Table]) -> Result<u64, AllocError>
+    requires order { is_below hi.now lo.now ≡ false }
+    requires answer { option_map (λ pair. pair.now) answer ≡ seek (map_of state.now) lo.now (Some hi.now) }
+    ensures { IfOk result (λ n. n ≡ sum_by (λ t. suc (model.stepped state.now lo.now hi.now t)) (filter (model.admits_range state.now lo.now hi.now) tables.now)) }
+{
+    let Some((table, older)) = tables.split_first() else {
+        return Ok(0);
+    };
+    let more = seek_blocks::<F>(alloc, state, lo, hi, answer, older)?;
+    if !admits_range::<F>(alloc, state, lo, hi, table)? {
+        return Ok(more);
     }
-    Ok(blocks)
+    let stepped = stepped(lo, hi, answer, table.entries.as_slice())?;
+    more.checked_add(stepped.checked_add(1).ok_or(AllocError)?).ok_or(AllocError)
 }
 
 /// The entries whose keys lie from `lo` to `hi`.

@@ -12,6 +12,7 @@ mod merges;
 mod outputs;
 mod pages;
 mod placing;
+mod play;
 mod state;
 mod table;
 mod talk;

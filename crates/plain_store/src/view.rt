@@ -82,7 +82,7 @@ fn change(map: &mut PlainMap, entry: &Entry) -> Result<(), AllocError>
     match entry.value() {
         Some(value) => map.put(entry.key(), value),
         None => {
-            map.del(entry.key())?;
+            map.del(entry.key());
             Ok(())
         }
     }
