@@ -6,6 +6,8 @@ use Rattle.state_model.specs.Requests as asked
 use Rattle.state_model.specs.Replies as reply
 use Rattle.plain_store.specs.declared.talk.Request.{Request}
 use Rattle.plain_store.specs.declared.talk.Request.TheVariants.{Put, Del, Get, Seek, Range, Count, Estimate, Explain, Flush, Compact, Quit, Bad}
+use Rattle.state_model.specs.Steps as steps
+use Rattle.plain_store.specs.declared.play.Answer.{Answer}
 use Rattle.plain_store.specs.declared.talk.Reply.{Reply}
 use Rattle.plain_store.specs.declared.talk.Reply.TheVariants.{Done, Value, Missing, At, Pairs, Counted, About, Explained, Bye, BadLine, LongKey, LongValue, ManyTables, LastEpoch, Full}
 
@@ -39,3 +41,7 @@ says (LongValue size) = reply.LongValue size
 says ManyTables = reply.ManyTables
 says LastEpoch = reply.LastEpoch
 says (Full need gap) = reply.Full need gap
+
+-- the code's answer: a reply, and the state behind it
+abbrev pub answered : Answer → steps.Answer
+answered a = (says a.reply, a.state)

@@ -115,6 +115,14 @@ fn stepped(lo: &[u8], hi: &[u8], answer: Option<&Pair>, entries: &[Entry]) -> Re
     Ok(count)
 }
 
+/// The table's entries that a seek steps over, where this is its answer.
+fn stepped_in(state: &State, lo: &[u8], hi: &[u8], answer: Option<&Pair>, table: &Table) -> Result<u64, AllocError>
+    requires { option_map (λ pair. pair.now) answer ≡ seek (map_of state.now) lo.now (Some hi.now) }
+    ensures { IfOk result (λ n. n ≡ model.stepped state.now lo.now hi.now table.now) }
+{
+    stepped(lo, hi, answer, table.entries.as_slice())
+}
+
 /// The blocks that a closed seek may read: one of each table that admits the range, and one for each entry stepped over.
 pub fn seek_bound<F: RangeFilter>(alloc: Global, state: &State, lo: &[u8], hi: &[u8]) -> Result<u64, AllocError>
     ensures { IfOk result (λ n. n ≡ model.seek_bound state.now lo.now hi.now) }
@@ -140,7 +148,7 @@ fn seek_blocks<F: RangeFilter>(alloc: Global, state: &State, lo: &[u8], hi: &[u8
     if !admits_range::<F>(alloc, state, lo, hi, table)? {
         return Ok(more);
     }
-    let stepped = stepped(lo, hi, answer, table.entries.as_slice())?;
+    let stepped = stepped_in(state, lo, hi, answer, table)?;
     more.checked_add(stepped.checked_add(1).ok_or(AllocError)?).ok_or(AllocError)
 }
 

@@ -5,7 +5,7 @@ ghost use Rattle.state_model.specs.Play.{merged, tended, played};
 ghost use Rattle.state_model.specs.Replies as reply;
 ghost use Rattle.plain_store.specs.Filters.{spells_of};
 ghost use Rattle.plain_store.specs.Refusals.{seen, reply_to};
-ghost use Rattle.plain_store.specs.Talk.{asks, says};
+ghost use Rattle.plain_store.specs.Talk.{asks, says, answered};
 
 use crate::bounds::{admitted, blocks_read, estimate};
 use crate::changes::{Refusal, compacted, flushed, written};
@@ -16,22 +16,12 @@ use entry_list::Entry;
 use filter_api::RangeFilter;
 use plain_map::PlainMap;
 use std::alloc::{AllocError, Global};
-use std::marker::Model;
 
 /// A reply, and the state behind it.
 #[derive(Drop)]
 pub struct Answer {
     pub reply: Reply,
     pub state: State,
-}
-
-impl Model for Answer {
-    ghost use Rattle.state_model.specs.Steps as model;
-    ghost use Rattle.plain_store.specs.Talk.{says};
-
-    ghost Value = { model.Answer };
-
-    ghost view = { λ a. (says a.reply, a.state) };
 }
 
 fn refusal_reply(refusal: Refusal) -> Reply
@@ -46,7 +36,7 @@ fn refusal_reply(refusal: Refusal) -> Reply
 
 /// The answer to a change that was done or refused.
 fn changed(alloc: Global, old: &State, new: Result<State, Refusal>) -> Result<Answer, AllocError>
-    ensures { IfOk result (λ a. a ≡ model.changed old.now (seen new)) }
+    ensures { IfOk result (λ a. answered a ≡ model.changed old.now (seen new)) }
 {
     match new {
         Ok(state) => Ok(Answer {
