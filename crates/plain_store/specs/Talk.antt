@@ -1,5 +1,5 @@
 -- The code's requests and replies as the definitions see them.
-use Rattle.std.specs.Prelude.{Option, Some, None, length, vec_items}
+use Rattle.std.specs.Prelude.{List, length, map}
 use Rattle.std.specs.Option.{option_map}
 use Rattle.state_model.specs.State.{State}
 use Rattle.state_model.specs.Requests as asked
@@ -7,7 +7,8 @@ use Rattle.state_model.specs.Replies as reply
 use Rattle.plain_store.specs.declared.talk.Request.{Request}
 use Rattle.plain_store.specs.declared.talk.Request.TheVariants.{Put, Del, Get, Seek, Range, Count, Estimate, Explain, Flush, Compact, Quit, Bad}
 use Rattle.state_model.specs.Steps as steps
-use Rattle.plain_store.specs.declared.play.Answer.{Answer}
+use Rattle.plain_store.specs.declared.answering.Answer.{Answer}
+use Rattle.plain_store.specs.declared.answering.Played.{Played}
 use Rattle.plain_store.specs.declared.talk.Reply.{Reply}
 use Rattle.plain_store.specs.declared.talk.Reply.TheVariants.{Done, Value, Missing, At, Pairs, Counted, About, Explained, Bye, BadLine, LongKey, LongValue, ManyTables, LastEpoch, Full}
 
@@ -45,3 +46,7 @@ says (Full need gap) = reply.Full need gap
 -- the code's answer: a reply, and the state behind it
 abbrev pub answered : Answer → steps.Answer
 answered a = (says a.reply, a.state)
+
+-- the code's replies to some requests, and the state that they leave
+abbrev pub played_as : Played → List reply.Reply × State
+played_as p = (map says p.replies.items, p.state)

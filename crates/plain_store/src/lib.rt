@@ -1,10 +1,12 @@
 //! The store played in memory.
 #![tactic(auto)]
 
+mod answering;
 mod bounds;
 mod changes;
 mod filters;
 mod gaps;
+mod installing;
 mod keys;
 mod limits;
 mod lists;
@@ -12,7 +14,8 @@ mod merges;
 mod outputs;
 mod pages;
 mod placing;
-mod play;
+
+mod reads;
 mod state;
 mod table;
 mod talk;
@@ -21,9 +24,11 @@ mod view;
 pub use bounds::{admitted, blocks_read, estimate, get_bound, seek_bound};
 pub use changes::{Refusal, compacted, flushed, written};
 pub use gaps::{Extent, first_gap, largest_gap};
+pub use installing::merged;
 pub use merges::{Plan, choose};
 pub use outputs::planned;
 pub use placing::NoRoom;
+pub use answering::{Answer, Played, ask, play, tend};
 pub use state::State;
 pub use table::Table;
 pub use talk::{Reply, Request};

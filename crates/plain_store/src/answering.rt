@@ -1,0 +1,199 @@
+// A store that is played in memory.
+ghost use Rattle.std.specs.Prelude.{◌≡◌, ◌∷◌, [], map, IfOk};
+ghost use Rattle.std.specs.Option.{option_map};
+ghost use Rattle.state_model.specs.Changes.{written};
+ghost use Rattle.state_model.specs.Play.{tended, played};
+ghost use Rattle.state_model.specs.Replies.{Bye};
+ghost use Rattle.state_model.specs.Requests.{Estimate, Flush, Compact};
+ghost use Rattle.state_model.specs.Steps as model;
+ghost use Rattle.plain_store.specs.Filters.{spells_of};
+ghost use Rattle.plain_store.specs.Refusals.{seen, reply_to};
+ghost use Rattle.plain_store.specs.Talk.{asks, says, answered, played_as};
+
+use crate::changes::{Refusal, compacted, flushed, written};
+use crate::installing::merged;
+use crate::limits::limit_of;
+use crate::reads::{reply_to_count, reply_to_estimate, reply_to_explain, reply_to_get, reply_to_range, reply_to_seek};
+use crate::state::State;
+use crate::talk::{Reply, Request};
+use entry_list::Entry;
+use filter_api::RangeFilter;
+use std::alloc::{AllocError, Global};
+
+/// A reply, and the state behind it.
+#[derive(Drop)]
+pub struct Answer {
+    pub reply: Reply,
+    pub state: State,
+}
+
+/// The replies to some requests, and the state that they leave.
+#[derive(Drop)]
+pub struct Played {
+    pub replies: Vec<Reply>,
+    pub state: State,
+}
+
+fn refusal_reply(refusal: Refusal) -> Reply
+    ensures { says result ≡ reply_to refusal }
+{
+    match refusal {
+        Refusal::ManyTables => Reply::ManyTables,
+        Refusal::LastEpoch => Reply::LastEpoch,
+        Refusal::Full { need, gap } => Reply::Full { need, gap },
+    }
+}
+
+/// The answer to a change that was done or refused.
+fn changed(alloc: Global, old: &State, new: Result<State, Refusal>) -> Result<Answer, AllocError>
+    ensures { IfOk result (λ a. answered a ≡ model.changed old.now (seen new)) }
+{
+    match new {
+        Ok(state) => Ok(Answer {
+            reply: Reply::Done,
+            state,
+        }),
+        Err(refusal) => {
+            let state = old.copy(alloc)?;
+            Ok(Answer {
+                reply: refusal_reply(refusal),
+                state,
+            })
+        }
+    }
+}
+
+/// The answer that leaves the state as it is.
+fn unchanged(alloc: Global, state: &State, reply: Reply) -> Result<Answer, AllocError>
+    ensures { IfOk result (λ a. answered a ≡ (says reply, state.now)) }
+{
+    let state = state.copy(alloc)?;
+    Ok(Answer { reply, state })
+}
+
+fn write<F: RangeFilter>(alloc: Global, state: &State, key: &[u8], value: Option<&[u8]>) -> Result<Answer, AllocError>
+    ensures { IfOk result (λ a. answered a ≡ model.changed state.now (written (spells_of F.spelling F.built_cutoff) state.now (record { key = key.now; value = option_map (λ v. v.now) value.entry }))) }
+{
+    let entry = Entry::new(alloc, key, value)?;
+    changed(alloc, state, written::<F>(alloc, state, &entry)?)
+}
+
+fn flush<F: RangeFilter>(alloc: Global, state: &State) -> Result<Answer, AllocError>
+    ensures { IfOk result (λ a. answered a ≡ model.answer_within (spells_of F.spelling F.built_cutoff) state.now Flush) }
+{
+    changed(alloc, state, flushed::<F>(alloc, state)?)
+}
+
+fn compact<F: RangeFilter>(alloc: Global, state: &State) -> Result<Answer, AllocError>
+    ensures { IfOk result (λ a. answered a ≡ model.answer_within (spells_of F.spelling F.built_cutoff) state.now Compact) }
+{
+    changed(alloc, state, compacted::<F>(alloc, state)?)
+}
+
+fn estimated<F: RangeFilter>(alloc: Global, state: &State, lo: &[u8], hi: &[u8]) -> Result<Answer, AllocError>
+    ensures { IfOk result (λ a. answered a ≡ model.answer_within (spells_of F.spelling F.built_cutoff) state.now (Estimate lo.now hi.now)) }
+{
+    let reply = reply_to_estimate::<F>(alloc, state, lo, hi)?;
+    let state = state.copy(alloc)?;
+    Ok(Answer { reply, state })
+}
+
+/// The answer to a request that breaks no limit.
+fn answer_within<F: RangeFilter>(alloc: Global, state: &State, request: Request<'_>) -> Result<Answer, AllocError>
+    ensures { IfOk result (λ a. answered a ≡ model.answer_within (spells_of F.spelling F.built_cutoff) state.now (asks request.entry)) }
+{
+    match request {
+        Request::Put { key, value } => write::<F>(alloc, state, key, Some(value)),
+        Request::Del { key } => write::<F>(alloc, state, key, None),
+        Request::Flush => flush::<F>(alloc, state),
+        Request::Compact => compact::<F>(alloc, state),
+        Request::Get { key } => unchanged(alloc, state, reply_to_get(alloc, state, key)?),
+        Request::Seek { lo, hi } => unchanged(alloc, state, reply_to_seek(alloc, state, lo, hi)?),
+        Request::Range { lo, hi, n } => unchanged(alloc, state, reply_to_range(alloc, state, lo, hi, n)?),
+        Request::Count { lo, hi } => unchanged(alloc, state, reply_to_count(alloc, state, lo, hi)?),
+        Request::Estimate { lo, hi } => estimated::<F>(alloc, state, lo, hi),
+        Request::Explain { key } => unchanged(alloc, state, reply_to_explain::<F>(alloc, state, key)?),
+        Request::Quit => unchanged(alloc, state, Reply::Bye),
+        Request::Bad { code } => unchanged(alloc, state, Reply::BadLine(code)),
+    }
+}
+
+/// The answer to a request.
+pub fn ask<F: RangeFilter>(alloc: Global, state: &State, request: Request<'_>) -> Result<Answer, AllocError>
+    ensures { IfOk result (λ a. answered a ≡ model.answer (spells_of F.spelling F.built_cutoff) state.now (asks request.entry)) }
+{
+    match limit_of(request) {
+        Some(reply) => unchanged(alloc, state, reply),
+        None => answer_within::<F>(alloc, state, request),
+    }
+}
+
+/// The state after the merge that comes behind a put or a del.
+pub fn tend<F: RangeFilter>(alloc: Global, request: Request<'_>, state: State) -> Result<State, AllocError>
+    ensures { IfOk result (λ s. s ≡ tended (spells_of F.spelling F.built_cutoff) (asks request.entry) state) }
+{
+    match request {
+        Request::Put { .. } => merged::<F>(alloc, &state),
+        Request::Del { .. } => merged::<F>(alloc, &state),
+        Request::Get { .. } => Ok(state),
+        Request::Seek { .. } => Ok(state),
+        Request::Range { .. } => Ok(state),
+        Request::Count { .. } => Ok(state),
+        Request::Estimate { .. } => Ok(state),
+        Request::Explain { .. } => Ok(state),
+        Request::Flush => Ok(state),
+        Request::Compact => Ok(state),
+        Request::Quit => Ok(state),
+        Request::Bad { .. } => Ok(state),
+    }
+}
+
+/// A reply before those to what comes behind it.
+fn with_first(reply: Reply, later: Vec<Reply>) -> Result<Vec<Reply>, AllocError>
+    ensures { IfOk result (λ list. map says list.items ≡ says reply ∷ map says later.items) }
+{
+    let mut list = later;
+    list.insert(0, reply)?;
+    Ok(list)
+}
+
+/// The replies to some requests, a merge behind each put and del, and the state that they leave. Nothing comes behind
+/// `quit`.
+pub fn play<F: RangeFilter>(alloc: Global, state: &State, requests: &[Request<'_>]) -> Result<Played, AllocError>
+    ensures { IfOk result (λ p. played_as p ≡ played (spells_of F.spelling F.built_cutoff) state.now (map asks requests.now)) }
+{
+    let Some((request, more)) = requests.split_first() else {
+        return nothing(alloc, state);
+    };
+    let answer = ask::<F>(alloc, state, *request)?;
+    match answer.reply {
+        Reply::Bye => last(alloc, answer.state),
+        reply => {
+            let state = tend::<F>(alloc, *request, answer.state)?;
+            let later = play::<F>(alloc, &state, more)?;
+            let replies = with_first(reply, later.replies)?;
+            Ok(Played {
+                replies,
+                state: later.state,
+            })
+        }
+    }
+}
+
+fn nothing(alloc: Global, state: &State) -> Result<Played, AllocError>
+    ensures { IfOk result (λ p. played_as p ≡ ([], state.now)) }
+{
+    let state = state.copy(alloc)?;
+    Ok(Played {
+        replies: Vec::new(alloc),
+        state,
+    })
+}
+
+fn last(alloc: Global, state: State) -> Result<Played, AllocError>
+    ensures { IfOk result (λ p. played_as p ≡ (Bye ∷ [], state)) }
+{
+    let mut replies = Vec::new(alloc);
+    replies.push(Reply::Bye)?;
+    Ok(Played { replies, state })
+}
