@@ -1,5 +1,5 @@
 // Outputs that become tables.
-ghost use Rattle.std.specs.Prelude.{◌≡◌, [], ◌∷◌, ◌++◌, map, vec_items, IfOk, OnOk};
+ghost use Rattle.std.specs.Prelude.{◌≡◌, ◌∷◌, map, vec_items, None, IfOk};
 ghost use Rattle.std.specs.Result.{result_map_both};
 ghost use Rattle.state_model.specs.Gaps.{taken};
 ghost use Rattle.state_model.specs.Merges as model;
@@ -32,7 +32,8 @@ impl Model for NoRoom {
 
 /// The extents that the tables take.
 pub(crate) fn taken(alloc: Global, state: &State) -> Result<Vec<Extent>, AllocError>
-    ensures { IfOk result (λ list. list.items ≡ taken state.now) }
+    ensures taken { IfOk result (λ list. list.items ≡ taken state.now) }
+    ensures no_job { state.now.job ≡ None }
 {
     extents(alloc, state.tables.as_slice())
 }
