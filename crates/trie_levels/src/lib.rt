@@ -11,8 +11,12 @@
 //! ```
 #![tactic(auto)]
 
+mod laws;
 mod levels;
+mod planning;
 mod rule;
 
+pub use laws::levels_follow;
 pub use levels::Levels;
+pub use planning::plan;
 pub use rule::cutoff;

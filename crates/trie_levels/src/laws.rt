@@ -1,0 +1,8 @@
+// Laws of the levels. They are proved and never called.
+ghost use Rattle.trie_levels.specs.Neighbours.{BranchesAreNodesAndEndings, BranchesAreNodesAndPartings};
+
+/// The branches of a level are its nodes and its partings, and they are the nodes of the next level and the leaves.
+pub fn levels_follow()
+    ensures partings { BranchesAreNodesAndPartings }
+    ensures endings { BranchesAreNodesAndEndings }
+{}
