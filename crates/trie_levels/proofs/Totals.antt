@@ -11,7 +11,8 @@ use Rattle.filter_model.proofs.Counts.{count_by-cons}
 use Rattle.filter_model.proofs.Order.{Lt-from}
 use Rattle.filter_model.proofs.Pairs.{Contains-cases, Contains-nil}
 use Rattle.trie_levels.specs.Neighbours.{BranchesAreNodesAndEndings, BranchesAreNodesAndPartings, endings, level_branches, partings}
-use Rattle.trie_levels.specs.Tries.{HasTrie, IsStub}
+use Rattle.trie_levels.specs.Tries.{HasTrie, IsStub, ValidListsHaveTries}
+use Rattle.filter_model.specs.Valid.{IsLeaf}
 use Rattle.trie_levels.proofs.Growth.{AreInOrder, branches_more, in_order-tail, leaves_rest, nodes_more, path_filled}
 use Rattle.trie_levels.proofs.LevelSets.{level_branches-none, level-none}
 
@@ -160,3 +161,12 @@ partings_law ls n h = branches_by_partings ls n (in_order ls h) h.some
 
 pub endings_law : BranchesAreNodesAndEndings
 endings_law ls n h = branches_by_endings ls n (in_order ls h)
+
+pub valid_lists_have_tries : ValidListsHaveTries
+valid_lists_have_tries hash_bits real_bits ls h = record {
+  some = h.some;
+  few = h.few;
+  stubs = All-weaker (IsLeaf hash_bits real_bits) IsStub (λ l leaf. record { bytes = leaf.bytes; filled = leaf.filled; short = leaf.short }) ls h.leaves;
+  rising = h.rising;
+  ends = h.ends;
+}
