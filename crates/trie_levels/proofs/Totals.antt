@@ -6,7 +6,9 @@ use Rattle.std.proofs.lemmas.List.Elements.{All-head, All-weaker, Contains-get_o
 use Rattle.byte_fields.specs.Spelling.{IsBytes}
 use Rattle.filter_model.specs.Leaves.{Leaf}
 use Rattle.filter_model.specs.Strings.{extends, shared}
-use Rattle.filter_model.specs.Trie.{level, path}
+use Rattle.filter_model.specs.Trie.{branches, height, level, level_labels, level_nodes, path}
+use Rattle.std.specs.Prelude.{flat_map}
+use Rattle.std.proofs.lemmas.List.FromFn.{length-map-range_with_len}
 use Rattle.filter_model.proofs.Counts.{count_by-cons}
 use Rattle.filter_model.proofs.Order.{Lt-from}
 use Rattle.filter_model.proofs.Pairs.{Contains-cases, Contains-nil}
@@ -170,3 +172,12 @@ valid_lists_have_tries hash_bits real_bits ls h = record {
   rising = h.rising;
   ends = h.ends;
 }
+
+-- there are as many counts as levels
+pub level_nodes-long : (ls : List Leaf) → length (level_nodes ls) ≡ height ls
+unfolding level_nodes
+level_nodes-long ls = length-map-range_with_len (λ n. length (level ls n)) 0 (height ls)
+
+pub level_labels-long : (ls : List Leaf) → length (level_labels ls) ≡ height ls
+unfolding level_labels
+level_labels-long ls = length-map-range_with_len (λ n. length (flat_map (branches ls) (level ls n))) 0 (height ls)
