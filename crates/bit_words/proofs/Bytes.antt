@@ -10,10 +10,10 @@ use Rattle.std.proofs.lemmas.Bool.{cases_lt}
 use Rattle.bit_words.specs.Packed.{packed, unpacked}
 use Rattle.bit_words.proofs.Packing.{packed-lt, packed_bit-packed, same_bit, two_pos, first_bit-lt, bit_number-lt, length-unpacked, get_or-unpacked, length-packed}
 
-bit_at-shr : (n j i : ℕ) → bit_at (n / 2 ^ j) i ≡ bit_at n (j + i)
+pub bit_at-shr : (n j i : ℕ) → bit_at (n / 2 ^ j) i ≡ bit_at n (j + i)
 bit_at-shr n j i = ap (λ (x : ℕ). x % 2) (shr-shr n j i)
 
-bit_at-low : (n m i : ℕ) → i < m → bit_at (n % 2 ^ m) i ≡ bit_at n i
+pub bit_at-low : (n m i : ℕ) → i < m → bit_at (n % 2 ^ m) i ≡ bit_at n i
 bit_at-low n m i h = sym (ap (λ (x : ℕ). bit_at x i) (sym (shr_split n m)) ∙ bit_at_cat_low (n / 2 ^ m) m (n % 2 ^ m) i h)
 
 -- ---- a byte of the words

@@ -64,7 +64,7 @@ get_or-packed w bits k h =
           get_or_past (packed w bits) k 0 (omega (arith, length-packed w bits)) ∙ sym (ap (λ (bs : List Bool). mask_l (take w bs)) (drop_all (w * k) bits front) ∙ ap mask_l (take-nil w))
     ]
 
-eqb_cond : (b : Bool) → eqb (cond b 1 0) 1 ≡ b
+pub eqb_cond : (b : Bool) → eqb (cond b 1 0) 1 ≡ b
 eqb_cond true = refl
 eqb_cond false = refl
 

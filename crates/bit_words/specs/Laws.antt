@@ -1,7 +1,8 @@
 -- Laws of packing, at every width.
-use Rattle.std.specs.Prelude.{◌≡◌, ◌<◌, ◌*◌, ◌^◌, ℕ, Bool, false, List, length, take, slice_index, slice_index_or, count_ones}
+use Rattle.std.specs.Prelude.{◌≡◌, ◌<◌, ◌+◌, ◌*◌, ◌%◌, ◌^◌, ◌++◌, ℕ, Bool, false, List, length, take, slice_index, slice_index_or, count_ones}
 use Rattle.std.specs.List.{sum_by, count_by}
-use Rattle.bit_words.specs.Packed.{packed, unpacked, packed_bit, numbers_for}
+use Rattle.bit_words.specs.Packed.{number_of, packed, unpacked, packed_bit, numbers_for}
+use Rattle.bit_words.specs.Numbers.{bits_of}
 
 -- what was packed reads back
 abbrev pub ReadsBack : Type 0
@@ -23,3 +24,17 @@ abbrev pub KeepsCounts : Type 0
 KeepsCounts =
     (width : ℕ) (bits : List Bool) (k : ℕ) → 0 < width
     → sum_by count_ones (take k (packed width bits)) ≡ count_by (λ bit. bit) (take (width * k) bits)
+
+-- the bits of a number spell what of it is below 2 ^ count
+abbrev pub NumberReadsBack : Type 0
+NumberReadsBack = (count number : ℕ) → number_of (bits_of count number) ≡ number % 2 ^ count
+
+-- bits are those of the number that they spell
+abbrev pub BitsReadBack : Type 0
+BitsReadBack = (bits : List Bool) → bits_of (length bits) (number_of bits) ≡ bits
+
+-- two numbers one after the other are one number
+abbrev pub NumbersJoin : Type 0
+NumbersJoin =
+    (low_count high_count low high : ℕ) → low < 2 ^ low_count
+    → bits_of low_count low ++ bits_of high_count high ≡ bits_of (low_count + high_count) (low + 2 ^ low_count * high)

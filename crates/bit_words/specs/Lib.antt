@@ -1,4 +1,5 @@
 pub mod Counts
 pub mod Packed
+pub mod Numbers
 pub mod Rows
 pub mod Laws

@@ -1,8 +1,11 @@
 //! The list of truth values.
-ghost use Rattle.std.specs.Prelude.{◌≡◌, ◌^◌, ◌*◌, ◌≤◌, ◌<◌, [], ◌∷◌, ◌++◌, false, length, slice_index_or, IfOk, OnOk, OnErr, IsTrue, ◌↔◌};
+ghost use Rattle.std.specs.Prelude.{◌≡◌, ◌^◌, ◌+◌, ◌*◌, ◌≤◌, ◌<◌, [], ◌∷◌, ◌++◌, false, length, slice_index_or, IfOk, OnOk, OnErr, IsTrue, ◌↔◌};
+ghost use Rattle.bit_words.specs.Numbers.{bits_of, number_at};
 ghost use Rattle.bit_words.specs.Packed.{packed, unpacked};
 
-use super::word::{MAX_BITS, byte_of, low_bits, make_room, set_bit, word_at};
+use super::word::{
+    MAX_BITS, byte_of, low_bits, make_room, make_room_for, number_from, set_bit, set_bits, word_at,
+};
 use std::alloc::{AllocError, Allocator};
 use std::marker::Model;
 
@@ -63,6 +66,38 @@ impl<A: Allocator> Bits<A> {
         set_bit(&mut self.words, self.len, bit);
         self.len += 1;
         Ok(())
+    }
+
+    /// Adds the lowest `count` bits of `number` at the end, the lowest first. `count` is at most 64. After an `Err` the
+    /// list is as it was.
+    ///
+    /// Writes two words at most, and takes memory only where a new word begins and the room is used up.
+    pub fn push_number(&mut self, number: u64, count: usize) -> Result<(), AllocError>
+        requires { count ≤ 64 }
+        ensures added { OnOk result (self.new ≡ self.old ++ bits_of count number) }
+        ensures unchanged { OnErr result (self.new ≡ self.old) }
+    {
+        if count == 0 {
+            return Ok(());
+        }
+        make_room_for(&mut self.words, self.len, count)?;
+        set_bits(&mut self.words, self.len, low_bits(number, count), count);
+        self.len += count;
+        Ok(())
+    }
+
+    /// The number that the `count` bits from place `i` on make, the lowest first. `count` is at most 64.
+    ///
+    /// Reads two words at most.
+    pub fn number(&self, i: usize, count: usize) -> u64
+        requires width { count ≤ 64 }
+        requires there { i + count ≤ length self.now }
+        ensures { result ≡ number_at self.now i count }
+    {
+        if count == 0 {
+            return 0;
+        }
+        low_bits(number_from(&self.words, i, count), count)
     }
 
     /// Bit `i`.
@@ -142,6 +177,51 @@ mod tests {
         assert_eq!(rt; bits.words(), [0xB9, 1].as_slice());
         assert!(rt; bits.len() == 65);
         assert!(rt; bits.get(64) && !bits.get(63));
+        Ok(())
+    }
+
+    #[test]
+    fn numbers_stand_one_after_the_other(rt: HostRuntime) -> Result<(), Fail> {
+        let mut bits = Bits::new(rt.alloc());
+        for (number, count) in [
+            (0xB9, 9),
+            (0, 0),
+            (0x1_2345_6789, 33),
+            (5, 3),
+            (0xFEDC_BA98_7654_3210, 64),
+            (u64::MAX, 19),
+        ] {
+            bits.push_number(number, count)?;
+        }
+        assert_eq!(rt;
+            bits.words(),
+            [0x8642_1646_8ACF_12B9, 0xFFFF_FFDB_9753_0ECA].as_slice()
+        );
+        assert!(rt; bits.len() == 128);
+        for (i, count, want) in [
+            (0, 9, 0xB9),
+            (9, 33, 0x1_2345_6789),
+            (42, 3, 5),
+            (45, 64, 0xFEDC_BA98_7654_3210),
+            (109, 19, 0x7_FFFF),
+            (128, 0, 0),
+            (64, 64, 0xFFFF_FFDB_9753_0ECA),
+            (63, 2, 1),
+        ] {
+            assert!(rt; i + count <= bits.len());
+            assert_eq!(rt; bits.number(i, count), want, "{count} bits at {i}");
+        }
+        Ok(())
+    }
+
+    #[test]
+    fn the_bits_of_a_number_past_its_count_are_dropped(rt: HostRuntime) -> Result<(), Fail> {
+        let mut bits = Bits::new(rt.alloc());
+        bits.push_number(u64::MAX, 3)?;
+        bits.push_number(0, 61)?;
+        assert_eq!(rt; bits.words(), [7].as_slice());
+        bits.push_number(u64::MAX, 1)?;
+        assert_eq!(rt; bits.words(), [7, 1].as_slice());
         Ok(())
     }
 }

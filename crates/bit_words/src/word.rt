@@ -1,5 +1,7 @@
 //! Words out of bytes and bytes out of words.
-ghost use Rattle.std.specs.Prelude.{◌≡◌, ◌-◌, ◌%◌, ◌/◌, ◌*◌, ◌^◌, ◌<◌, ◌≤◌, ◌==◌, [], ◌∷◌, ◌++◌, length, drop, min, if◌then◌else◌, slice_index, slice_set, bit_or, OnOk, OnErr};
+ghost use Rattle.std.specs.Prelude.{◌≡◌, ℕ, ◌+◌, ◌-◌, ◌||◌, ◌%◌, ◌/◌, ◌*◌, ◌^◌, ◌<◌, ◌≤◌, ◌==◌, [], ◌∷◌, ◌++◌, length, drop, min, if◌then◌else◌, slice_index, slice_set, bit_or, OnOk, OnErr};
+ghost use Rattle.std.specs.Int.{bit_at, div_ceil};
+ghost use Rattle.bit_words.specs.Packed.{packed_bit};
 ghost use Rattle.byteorder.specs.Endian.{little_number};
 
 use byteorder::{ByteOrder, LittleEndian};
@@ -32,6 +34,63 @@ pub(crate) fn set_bit<A: Allocator>(words: &mut Vec<u64, A>, i: usize, bit: bool
 {
     if bit {
         words[i / 64] |= 1 << (i % 64);
+    }
+}
+
+/// Adds a word where the words are too few for `count` bits after the `len` that they hold.
+pub(crate) fn make_room_for<A: Allocator>(
+    words: &mut Vec<u64, A>,
+    len: usize,
+    count: usize,
+) -> Result<(), AllocError>
+    requires limit { len ≤ MAX_BITS }
+    requires full { length words.old.items ≡ div_ceil len 64 }
+    requires width { count ≤ 64 }
+    ensures room { OnOk result (length words.new.items ≡ div_ceil (len + count) 64) }
+    ensures same { (k : ℕ) → slice_index words.new.items k ≡ slice_index words.old.items k }
+    ensures below { OnOk result (len + count ≤ MAX_BITS) }
+    ensures unchanged { OnErr result (words.new.items ≡ words.old.items) }
+{
+    if MAX_BITS - len < count {
+        return Err(AllocError);
+    }
+    if words.len() < (len + count).div_ceil(64) {
+        words.push(0)?;
+    }
+    Ok(())
+}
+
+/// Sets the bits from place `i` on, which are 0, to those of `number`, which is below 2^count.
+pub(crate) fn set_bits<A: Allocator>(words: &mut Vec<u64, A>, i: usize, number: u64, count: usize)
+    requires some { 0 < count }
+    requires width { count ≤ 64 }
+    requires fits { number < 2 ^ count }
+    requires there { i + count ≤ 64 * length words.old.items }
+    ensures long { length words.new.items ≡ length words.old.items }
+    ensures fit { (k : ℕ) → slice_index words.new.items k < 2 ^ 64 }
+    ensures before { (j : ℕ) → j < i → packed_bit 64 words.new.items j ≡ packed_bit 64 words.old.items j }
+    ensures set { (j : ℕ) → packed_bit 64 words.new.items (i + j) ≡ (packed_bit 64 words.old.items (i + j) || bit_at number j == 1) }
+{
+    let (k, shift) = (i / 64, i % 64);
+    words[k] |= number << shift;
+    if shift + count > 64 {
+        words[k + 1] |= number >> (64 - shift);
+    }
+}
+
+/// The `count` bits from place `i` on as the lowest of a number. Any stand above them.
+pub(crate) fn number_from(words: &[u64], i: usize, count: usize) -> u64
+    requires some { 0 < count }
+    requires width { count ≤ 64 }
+    requires there { i + count ≤ 64 * length words.now }
+    ensures { (j : ℕ) → j < count → bit_at result j ≡ bit_at (slice_index words.now ((i + j) / 64)) ((i + j) % 64) }
+{
+    let (k, shift) = (i / 64, i % 64);
+    let low = words[k] >> shift;
+    if shift + count > 64 {
+        low | words[k + 1] << (64 - shift)
+    } else {
+        low
     }
 }
 

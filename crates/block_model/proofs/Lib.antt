@@ -1,0 +1,4 @@
+pub mod Cutting
+pub mod Lengths
+pub mod Sizes
+pub mod LastBlocks

@@ -1,0 +1,54 @@
+-- The bytes of a block: a header, the entries one after the other, and zero bytes to the end of the last page.
+use Rattle.std.specs.Prelude.{◌≡◌, ℕ, ◌-◌, ◌*◌, ◌^◌, ◌<◌, ◌≤◌, List, [], ◌∷◌, ◌++◌, length, replicate, map, flat_map}
+use Rattle.std.specs.List.{AllByRecursion}
+use Rattle.store_model.specs.SortedMap.{Bytes}
+use Rattle.store_model.specs.Entries.{Entry, body, bytes_of}
+use Rattle.byte_fields.specs.Fields.{fields}
+use Rattle.block_model.specs.Order.{Follow, is_any}
+use Rattle.block_model.specs.Pages.{page_bytes, block_entries, pages_for, block_length, blocks_of}
+
+-- zero bytes to the end of the last page
+unfoldable pub padding : ℕ → Bytes
+padding bytes = replicate (page_bytes * pages_for bytes - bytes) 0
+
+-- the header: the length that is used, how many entries, and three bytes 0
+abbrev pub header_widths : List ℕ
+header_widths = 4 ∷ 1 ∷ 3 ∷ []
+
+unfoldable pub header_bytes : List Entry → Bytes
+header_bytes block = fields header_widths (block_length block ∷ length block ∷ 0 ∷ [])
+
+unfoldable pub block_bytes : List Entry → Bytes
+block_bytes block = header_bytes block ++ (flat_map body block ++ padding (block_length block))
+
+-- the blocks of a table, one after the other
+unfoldable pub data_bytes : List Entry → Bytes
+data_bytes entries = flat_map block_bytes (blocks_of entries)
+
+-- a key of 1 to 1,024 bytes, and a value of at most 65,536
+pub record IsEntry (entry : Entry) : Type 0 where
+  pub some_key : 1 ≤ length entry.key
+  pub short_key : length entry.key ≤ 1024
+  pub short_value : length (bytes_of entry.value) ≤ 65536
+
+abbrev pub keys_of : List Entry → List Bytes
+keys_of entries = map (λ e. e.key) entries
+
+-- as many entries as a table takes
+pub record AreEntries (entries : List Entry) : Type 0 where
+  pub each : AllByRecursion IsEntry entries
+  pub few : length entries < 2 ^ 32
+
+-- the entries of a table: one or more, by rising keys
+pub record IsTable (entries : List Entry) : Type 0 where
+  pub sound : AreEntries entries
+  pub some : 1 ≤ length entries
+  pub rising : Follow is_any (keys_of entries)
+
+-- the entries of a block: 1 to 255 by rising keys, and one alone where it takes more than a page
+pub record IsBlock (block : List Entry) : Type 0 where
+  pub each : AllByRecursion IsEntry block
+  pub rising : Follow is_any (keys_of block)
+  pub some : 1 ≤ length block
+  pub few : length block ≤ block_entries
+  pub small : 1 < length block → block_length block ≤ page_bytes

@@ -1,0 +1,101 @@
+-- What is read from the bytes of a block, and the first rule that they break.
+use Rattle.std.specs.Prelude.{ℕ, zero, suc, ◌+◌, ◌*◌, nat_lt, ◌==◌, Bool, not, ◌&&◌, ◌||◌, List, [], ◌∷◌, length, take, drop, slice_index, position, Option, Some, None, if◌then◌else◌}
+use Rattle.std.specs.Option.{option_map}
+use Rattle.byteorder.specs.Endian.{little_number}
+use Rattle.store_model.specs.SortedMap.{Bytes}
+use Rattle.store_model.specs.Entries.{Entry}
+use Rattle.block_model.specs.Faults.{Fault, fault, refuse, or_fault}
+use Rattle.block_model.specs.Order.{is_above, is_any}
+use Rattle.block_model.specs.Pages.{page_bytes, pages_for}
+
+-- ---- an entry, of the bytes that begin with it
+
+abbrev pub kind_in : Bytes → ℕ
+kind_in rest = slice_index rest 0
+
+abbrev pub key_length_in : Bytes → ℕ
+key_length_in rest = little_number 2 (drop 1 rest)
+
+abbrev pub value_length_in : Bytes → ℕ
+value_length_in rest = little_number 4 (drop 3 rest)
+
+-- the bytes that the entry takes
+unfoldable pub width_in : Bytes → ℕ
+width_in rest = 7 + key_length_in rest + value_length_in rest
+
+unfoldable pub key_in : Bytes → Bytes
+key_in rest = take (key_length_in rest) (drop 7 rest)
+
+unfoldable pub entry_in : Bytes → Entry
+entry_in rest = record {
+  key = key_in rest;
+  value = if kind_in rest == 1 then Some (take (value_length_in rest) (drop (7 + key_length_in rest) rest)) else None;
+}
+
+-- neither a value nor a tombstone, or a tombstone with a value
+abbrev pub has_no_kind : Bytes → Bool
+has_no_kind rest = not (kind_in rest == 1) && (not (kind_in rest == 2) || nat_lt 0 (value_length_in rest))
+
+-- a key of no byte or of too many
+abbrev pub is_no_key_length : ℕ → Bool
+is_no_key_length bytes = bytes == 0 || nat_lt 1024 bytes
+
+-- The first rule that the entry at a place breaks, by the bytes from there to the length. 3: it runs past the length, tried
+-- on the seven first bytes and then on the whole; 4: the kind; 5: the lengths; 6: the key does not pass the test.
+unfoldable pub entry_fault : ℕ → (Bytes → Bool) → Bytes → Option Fault
+entry_fault place test rest =
+    refuse (nat_lt (length rest) 7) place 3
+    (refuse (has_no_kind rest) place 4
+    (refuse (is_no_key_length (key_length_in rest) || nat_lt 65536 (value_length_in rest)) place 5
+    (refuse (nat_lt (length rest) (width_in rest)) place 3
+    (refuse (not (test (key_in rest))) place 6
+    None))))
+
+-- ---- entries, one after the other
+
+-- entry by entry; behind the last, 7: bytes are left before the length
+unfoldable pub entries_fault : ℕ → ℕ → (Bytes → Bool) → Bytes → Option Fault
+entries_fault zero place test rest = refuse (nat_lt 0 (length rest)) place 7 None
+entries_fault (suc more) place test rest =
+    or_fault (entry_fault place test rest) (entries_fault more (place + width_in rest) (is_above (key_in rest)) (drop (width_in rest) rest))
+
+unfoldable pub entries_in : ℕ → Bytes → List Entry
+entries_in zero rest = []
+entries_in (suc more) rest = entry_in rest ∷ entries_in more (drop (width_in rest) rest)
+
+-- ---- the block
+
+-- the length that is used
+abbrev pub used_in : Bytes → ℕ
+used_in bytes = little_number 4 bytes
+
+abbrev pub count_in : Bytes → ℕ
+count_in bytes = slice_index bytes 4
+
+-- from the header to the length
+unfoldable pub entries_part : Bytes → Bytes
+entries_part bytes = drop 8 (take (used_in bytes) bytes)
+
+-- 1: fewer than eight bytes, a length under 16, or other pages than those that the length takes; 2: no entry, or several
+-- in more than a page; a byte that must be 0
+unfoldable pub header_fault : Bytes → Option Fault
+header_fault bytes =
+    refuse (nat_lt (length bytes) 8 || nat_lt (used_in bytes) 16 || not (length bytes == page_bytes * pages_for (used_in bytes))) 0 1
+    (refuse (count_in bytes == 0 || (nat_lt page_bytes (used_in bytes) && nat_lt 1 (count_in bytes))) 4 2
+    (refuse (not (slice_index bytes 5 == 0)) 5 2
+    (refuse (not (slice_index bytes 6 == 0)) 6 2
+    (refuse (not (slice_index bytes 7 == 0)) 7 2
+    None))))
+
+-- 8: a byte after the length is not 0
+unfoldable pub tail_fault : Bytes → Option Fault
+tail_fault bytes = option_map (λ k. fault (used_in bytes + k) 8) (position (λ b. not (b == 0)) (drop (used_in bytes) bytes))
+
+-- the first rule that the bytes break, in the order of the rules, and where
+unfoldable pub block_fault : Bytes → Option Fault
+block_fault bytes =
+    or_fault (header_fault bytes) (or_fault (entries_fault (count_in bytes) 8 is_any (entries_part bytes)) (tail_fault bytes))
+
+-- the entries of a block that breaks none
+unfoldable pub block_in : Bytes → List Entry
+block_in bytes = entries_in (count_in bytes) (entries_part bytes)

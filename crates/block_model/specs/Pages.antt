@@ -1,0 +1,61 @@
+-- How the entries of a table are cut into blocks, and how many bytes and pages its blocks and its index take.
+use Rattle.std.specs.Prelude.{ℕ, ◌+◌, ◌/◌, nat_le, nat_lt, ◌&&◌, Bool, false, List, [], ◌∷◌, ◌++◌, length, fold, flat_map, sum_by, if◌then◌else◌}
+use Rattle.store_model.specs.SortedMap.{Bytes}
+use Rattle.store_model.specs.Entries.{Entry, body}
+
+-- the bytes of a page
+abbrev pub page_bytes : ℕ
+page_bytes = 4096
+
+-- the most entries of a block
+abbrev pub block_entries : ℕ
+block_entries = 255
+
+-- so many bytes in whole pages, rounded up
+unfoldable pub pages_for : ℕ → ℕ
+pages_for bytes = (bytes + 4095) / page_bytes
+
+-- the bytes of a block that are used: its header of eight bytes and its entries
+unfoldable pub block_length : List Entry → ℕ
+block_length block = 8 + length (flat_map body block)
+
+unfoldable pub block_pages : List Entry → ℕ
+block_pages block = pages_for (block_length block)
+
+-- an entry is added to a block where that stays within a page and within 255 entries
+abbrev pub has_room : List Entry → Entry → Bool
+has_room block entry = nat_le (block_length (block ++ (entry ∷ []))) page_bytes && nat_lt (length block) block_entries
+
+-- the blocks with one entry more: in the last block where that has room, else in a new one
+abbrev pub blocks_with : List (List Entry) → Entry → List (List Entry)
+blocks_with [] entry = (entry ∷ []) ∷ []
+blocks_with (block ∷ []) entry = if has_room block entry then (block ++ (entry ∷ [])) ∷ [] else block ∷ (entry ∷ []) ∷ []
+blocks_with (block ∷ next ∷ more) entry = block ∷ blocks_with (next ∷ more) entry
+
+-- whether the last of some blocks has room
+abbrev pub last_has_room : List (List Entry) → Entry → Bool
+last_has_room [] entry = false
+last_has_room (block ∷ []) entry = has_room block entry
+last_has_room (block ∷ next ∷ more) entry = last_has_room (next ∷ more) entry
+
+-- the entries cut into blocks, one entry after the other; so an entry that needs more than a page stands alone
+unfoldable pub blocks_of : List Entry → List (List Entry)
+blocks_of entries = fold blocks_with [] entries
+
+-- the pages of all blocks
+unfoldable pub data_pages : List Entry → ℕ
+data_pages entries = sum_by block_pages (blocks_of entries)
+
+-- the key of the first entry, and of the last
+abbrev pub first_key : List Entry → Bytes
+first_key [] = []
+first_key (entry ∷ later) = entry.key
+
+abbrev pub last_key : List Entry → Bytes
+last_key [] = []
+last_key (entry ∷ []) = entry.key
+last_key (entry ∷ next ∷ later) = last_key (next ∷ later)
+
+-- the bytes of the index: its head with the least key, and for each block its pages, its sum and its last key
+unfoldable pub index_length : List Entry → ℕ
+index_length entries = 10 + length (first_key entries) + sum_by (λ block. 14 + length (last_key block)) (blocks_of entries)

@@ -1,0 +1,37 @@
+-- Entries by which the definitions are tried.
+use Rattle.std.specs.Prelude.{ℕ, List, [], ◌∷◌, replicate, set, codes}
+use Rattle.store_model.specs.SortedMap.{Bytes}
+use Rattle.store_model.specs.Entries.{Entry, put_entry, del_entry}
+use Rattle.block_model.specs.Block.{block_bytes}
+use Rattle.block_model.specs.Index.{Index, index_bytes}
+
+-- a with the value b
+abbrev pub a_b : Entry
+a_b = put_entry (codes "a") (codes "b")
+
+-- ab, of which nothing is there
+abbrev pub no_ab : Entry
+no_ab = del_entry (codes "ab")
+
+-- a key of one byte with a value of so many zero bytes
+abbrev pub wide : ℕ → ℕ → Entry
+wide key bytes = put_entry (key ∷ []) (replicate bytes 0)
+
+-- both of them
+abbrev pub a_and_ab : List Entry
+a_and_ab = a_b ∷ no_ab ∷ []
+
+-- the block of both, with another byte at a place
+unfoldable pub broken : ℕ → ℕ → Bytes
+broken place byte = set (block_bytes a_and_ab) place byte
+
+-- an index of two blocks from a on: one page up to b, two pages up to ba
+abbrev pub two_blocks : Index
+two_blocks = record {
+  least = codes "a";
+  rows = record { pages = 1; sum = 0x0102030405060708; last = codes "b" } ∷ record { pages = 2; sum = 7; last = codes "ba" } ∷ [];
+}
+
+-- its bytes, with another byte at a place
+unfoldable pub broken_index : ℕ → ℕ → Bytes
+broken_index place byte = set (index_bytes two_blocks) place byte

@@ -1,0 +1,45 @@
+// A small block: its bytes, and each rule broken once. Each row computes.
+ghost use Rattle.std.specs.Prelude.{◌≡◌, [], ◌∷◌, ◌++◌, length, take, drop, set, replicate, Some, None};
+ghost use Rattle.block_model.specs.Block.{block_bytes};
+ghost use Rattle.block_model.specs.BlockReading.{block_fault, block_in};
+ghost use Rattle.block_model.specs.Faults.{fault};
+ghost use Rattle.block_model.specs.Rows.{a_and_ab, a_b, broken, no_ab};
+
+/// The bytes of the blocks of a with the value b, and of it with a tombstone of ab.
+#[tactic(auto, unfolding(crate::specs::Pages::pages_for, crate::specs::Pages::block_length, crate::specs::Block::block_bytes, crate::specs::Block::header_bytes, crate::specs::Block::padding))]
+pub fn small_block_bytes()
+    ensures one { take 17 (block_bytes (a_b ∷ []))
+        ≡ 0x11 ∷ 0 ∷ 0 ∷ 0 ∷ 1 ∷ 0 ∷ 0 ∷ 0 ∷ 1 ∷ 1 ∷ 0 ∷ 1 ∷ 0 ∷ 0 ∷ 0 ∷ 0x61 ∷ 0x62 ∷ [] }
+    ensures a_page { length (block_bytes (a_b ∷ [])) ≡ 4096 }
+    ensures zeros { drop 17 (block_bytes (a_b ∷ [])) ≡ replicate 4079 0 }
+    ensures the_tombstone { take 9 (drop 17 (block_bytes a_and_ab)) ≡ 2 ∷ 2 ∷ 0 ∷ 0 ∷ 0 ∷ 0 ∷ 0 ∷ 0x61 ∷ 0x62 ∷ [] }
+{}
+
+/// What is read from them.
+#[tactic(auto, unfolding(crate::specs::Pages::pages_for, crate::specs::Pages::block_length, crate::specs::Block::block_bytes, crate::specs::Block::header_bytes, crate::specs::Block::padding, crate::specs::BlockReading::width_in, crate::specs::BlockReading::key_in, crate::specs::BlockReading::entry_in, crate::specs::BlockReading::entry_fault, crate::specs::BlockReading::entries_fault, crate::specs::BlockReading::entries_in, crate::specs::BlockReading::entries_part, crate::specs::BlockReading::header_fault, crate::specs::BlockReading::tail_fault, crate::specs::BlockReading::block_fault, crate::specs::BlockReading::block_in))]
+pub fn small_block_is_read()
+    ensures no_fault { block_fault (block_bytes a_and_ab) ≡ None }
+    ensures entries { block_in (block_bytes a_and_ab) ≡ a_and_ab }
+{}
+
+/// Where one byte of the block is another one, or its pages are others.
+#[tactic(auto, unfolding(crate::specs::Pages::pages_for, crate::specs::Pages::block_length, crate::specs::Block::block_bytes, crate::specs::Block::header_bytes, crate::specs::Block::padding, crate::specs::BlockReading::width_in, crate::specs::BlockReading::key_in, crate::specs::BlockReading::entry_in, crate::specs::BlockReading::entry_fault, crate::specs::BlockReading::entries_fault, crate::specs::BlockReading::entries_in, crate::specs::BlockReading::entries_part, crate::specs::BlockReading::header_fault, crate::specs::BlockReading::tail_fault, crate::specs::BlockReading::block_fault, crate::specs::BlockReading::block_in, crate::specs::Rows::broken))]
+pub fn broken_blocks()
+    ensures fewer_than_eight_bytes { block_fault (0x11 ∷ 0 ∷ 0 ∷ []) ≡ Some (fault 0 1) }
+    ensures length_under_16 { block_fault (broken 0 15) ≡ Some (fault 0 1) }
+    ensures a_page_too_many { block_fault (block_bytes a_and_ab ++ replicate 4096 0) ≡ Some (fault 0 1) }
+    ensures a_part_of_a_page { block_fault (take 20 (block_bytes a_and_ab)) ≡ Some (fault 0 1) }
+    ensures no_entry { block_fault (broken 4 0) ≡ Some (fault 4 2) }
+    ensures two_in_two_pages { block_fault (broken 1 0x10 ++ replicate 4096 0) ≡ Some (fault 4 2) }
+    ensures a_byte_of_the_header { block_fault (broken 6 1) ≡ Some (fault 6 2) }
+    ensures entry_is_cut { block_fault (broken 0 20) ≡ Some (fault 17 3) }
+    ensures key_runs_past { block_fault (broken 18 3) ≡ Some (fault 17 3) }
+    ensures kind { block_fault (broken 17 3) ≡ Some (fault 17 4) }
+    ensures tombstone_with_a_value { block_fault (broken 20 1) ≡ Some (fault 17 4) }
+    ensures no_key { block_fault (broken 18 0) ≡ Some (fault 17 5) }
+    ensures long_key { block_fault (broken 19 4) ≡ Some (fault 17 5) }
+    ensures long_value { block_fault (broken 13 2) ≡ Some (fault 8 5) }
+    ensures key_below { block_fault (broken 24 0x60) ≡ Some (fault 17 6) }
+    ensures bytes_are_left { block_fault (broken 4 1) ≡ Some (fault 17 7) }
+    ensures a_byte_after_it { block_fault (broken 4095 7) ≡ Some (fault 4095 8) }
+{}

@@ -1,0 +1,92 @@
+// Entries cut into blocks, and how many bytes and pages these take.
+ghost use Rattle.std.specs.Prelude.{◌≡◌, ◌≤◌, ◌<◌, ◌+◌, ◌++◌, [], ◌∷◌, IfOk, OnOk, IsTrue, ◌↔◌, length, map, vec_items, sum_by, flat_map, ◌^◌};
+ghost use Rattle.std.specs.List.{AllByRecursion};
+ghost use Rattle.store_model.specs.Entries.{body};
+ghost use Rattle.block_model.specs.Block.{AreEntries, IsEntry};
+ghost use Rattle.block_model.specs.Pages.{pages_for, block_length, block_pages, blocks_of, blocks_with, data_pages, has_room, last_has_room};
+
+use key_base::{MAX_BLOCK_ENTRIES, PAGE_BYTES};
+use entry_list::{Entry, push_copy};
+use std::alloc::{AllocError, Global};
+
+/// So many bytes in whole pages, rounded up.
+#[tactic(auto, unfolding(crate::specs::Pages::pages_for))]
+pub fn pages_for(bytes: u64) -> u64
+    ensures { result ≡ pages_for bytes }
+{
+    bytes.div_ceil(PAGE_BYTES as u64)
+}
+
+/// The bytes of a block that are used: its header and its entries.
+#[tactic(auto, using(crate::proofs::Sizes::entry_at, crate::proofs::Sizes::block_bound, crate::proofs::Sizes::bodies_from), unfolding(crate::specs::Pages::block_length))]
+pub fn block_length(block: &[Entry]) -> u64
+    requires { AreEntries block.now }
+    ensures length { result ≡ block_length block.now }
+    ensures small { result < 2 ^ 49 }
+{
+    let mut bytes = 8;
+    for entry in block {
+        bytes += entry_length(entry);
+    }
+    bytes
+}
+
+fn entry_length(entry: &Entry) -> u64
+    requires { IsEntry entry.now }
+    ensures length { result ≡ length (body entry.now) }
+    ensures small { result ≤ 66567 }
+{
+    let value = match entry.value() {
+        Some(bytes) => bytes.len(),
+        None => 0,
+    };
+    (7 + entry.key().len() + value) as u64
+}
+
+/// The entries cut into blocks.
+pub fn cut(alloc: Global, entries: &[Entry]) -> Result<Vec<Vec<Entry>>, AllocError>
+    requires { AreEntries entries.now }
+    ensures { IfOk result (λ blocks. map vec_items blocks.items ≡ blocks_of entries.now) }
+{
+    let mut blocks = Vec::new(alloc);
+    for entry in entries {
+        add(alloc, entry, &mut blocks)?;
+    }
+    Ok(blocks)
+}
+
+// Adds an entry to the last block where that has room, else begins a block with it.
+fn add(alloc: Global, entry: &Entry, blocks: &mut Vec<Vec<Entry>>) -> Result<(), AllocError>
+    requires entry { IsEntry entry.now }
+    requires blocks { AllByRecursion AreEntries (map vec_items blocks.old.items) }
+    ensures { OnOk result (map vec_items blocks.new.items ≡ blocks_with (map vec_items blocks.old.items) entry.now) }
+{
+    if last_has_room(blocks.as_slice(), entry) {
+        let last = blocks.len() - 1;
+        return push_copy(entry, &mut blocks[last]);
+    }
+    let mut block = Vec::new(alloc);
+    push_copy(entry, &mut block)?;
+    blocks.push(block)?;
+    Ok(())
+}
+
+fn last_has_room(blocks: &[Vec<Entry>], entry: &Entry) -> bool
+    requires entry { IsEntry entry.now }
+    requires blocks { AllByRecursion AreEntries (map vec_items blocks.now) }
+    ensures { result ≡ last_has_room (map vec_items blocks.now) entry.now }
+{
+    if blocks.is_empty() {
+        return false;
+    }
+    has_room(blocks[blocks.len() - 1].as_slice(), entry)
+}
+
+#[tactic(auto, using(crate::proofs::Sizes::length_more))]
+fn has_room(block: &[Entry], entry: &Entry) -> bool
+    requires block { AreEntries block.now }
+    requires entry { IsEntry entry.now }
+    ensures { result ≡ has_room block.now entry.now }
+{
+    block_length(block) + entry_length(entry) <= PAGE_BYTES as u64 && block.len() < MAX_BLOCK_ENTRIES
+}

@@ -1,0 +1,94 @@
+// Lists of entries.
+ghost use Rattle.std.specs.Prelude.{◌≡◌, [], ◌∷◌, ◌++◌, IfOk, OnOk, OnErr};
+ghost use Rattle.std.specs.Option.{option_map};
+ghost use Rattle.entry_list.specs.Lists.{first_of};
+ghost use Rattle.store_model.specs.Entries.{newest};
+
+use crate::entry::Entry;
+use std::alloc::{AllocError, Global};
+
+/// Appends a copy of an entry. Where memory is refused, the list is as it was.
+pub fn push_copy(entry: &Entry, list: &mut Vec<Entry>) -> Result<(), AllocError>
+    ensures pushed { OnOk result (list.new.items ≡ list.old.items ++ entry.now ∷ []) }
+    ensures refused { OnErr result (list.new.items ≡ list.old.items) }
+{
+    let copy = entry.copy(*list.allocator())?;
+    list.push(copy)?;
+    Ok(())
+}
+
+/// A copy of all entries, in their order.
+pub fn copied(alloc: Global, entries: &[Entry]) -> Result<Vec<Entry>, AllocError>
+    ensures { IfOk result (λ list. list.items ≡ entries.now) }
+{
+    let mut list = Vec::new(alloc);
+    for entry in entries {
+        push_copy(entry, &mut list)?;
+    }
+    Ok(list)
+}
+
+/// What the first entry of the key says: its value, or `Some(None)` for a tombstone. `None` where the key has none.
+pub fn first_of<'a>(entries: &'a [Entry], key: &[u8]) -> Option<Option<&'a [u8]>>
+    ensures { option_map (λ found. option_map (λ v. v.now) found) result ≡ first_of entries.now key.now }
+{
+    for entry in entries {
+        if entry.key() == key {
+            return Some(entry.value());
+        }
+    }
+    None
+}
+
+/// What the last entry of the key says, as [`first_of`] of the first.
+pub fn newest_of<'a>(entries: &'a [Entry], key: &[u8]) -> Option<Option<&'a [u8]>>
+    ensures { option_map (λ found. option_map (λ v. v.now) found) result ≡ newest entries.now key.now }
+{
+    let mut newest = None;
+    for entry in entries {
+        if entry.key() == key {
+            newest = Some(entry.value());
+        }
+    }
+    newest
+}
+
+#[cfg(test)]
+mod tests {
+    use super::*;
+    use std::test::Fail;
+
+    fn some_entries(alloc: Global) -> Result<Vec<Entry>, AllocError> {
+        let mut list = Vec::new(alloc);
+        push_copy(&Entry::new(alloc, b"a", Some(b"new"))?, &mut list)?;
+        push_copy(&Entry::new(alloc, b"b", None)?, &mut list)?;
+        push_copy(&Entry::new(alloc, b"a", Some(b"old"))?, &mut list)?;
+        Ok(list)
+    }
+
+    #[test]
+    fn the_first_and_the_last_of_a_key(rt: HostRuntime) -> Result<(), Fail> {
+        let list = some_entries(rt.alloc())?;
+        assert_eq!(rt;
+            first_of(list.as_slice(), b"a"),
+            Some(Some(b"new".as_slice()))
+        );
+        assert_eq!(rt;
+            newest_of(list.as_slice(), b"a"),
+            Some(Some(b"old".as_slice()))
+        );
+        assert_eq!(rt; first_of(list.as_slice(), b"b"), Some(None));
+        assert_eq!(rt; newest_of(list.as_slice(), b"c"), None);
+        Ok(())
+    }
+
+    #[test]
+    fn copies_are_the_same_entries(rt: HostRuntime) -> Result<(), Fail> {
+        let list = some_entries(rt.alloc())?;
+        let again = copied(rt.alloc(), list.as_slice())?;
+        assert_eq!(rt; again.len(), 3);
+        assert_eq!(rt; again[2].key(), b"a".as_slice());
+        assert_eq!(rt; again[2].value(), Some(b"old".as_slice()));
+        Ok(())
+    }
+}

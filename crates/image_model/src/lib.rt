@@ -1,0 +1,2 @@
+//! Which state an image of the device stands for.
+#![tactic(auto)]

@@ -1,0 +1,4 @@
+pub mod Version
+pub mod Reading
+pub mod Tables
+pub mod Rows

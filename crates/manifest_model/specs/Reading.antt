@@ -1,0 +1,155 @@
+-- What is read from the bytes of a body, and the first rule that they break. Bytes behind the sum are not looked at.
+use Rattle.std.specs.Prelude.{ℕ, zero, suc, ◌+◌, ◌*◌, nat_lt, ◌==◌, Bool, not, ◌&&◌, ◌||◌, List, [], ◌∷◌, take, drop, slice_index, position, Option, Some, None, if◌then◌else◌}
+use Rattle.std.specs.List.{list_any}
+use Rattle.std.specs.Option.{option_map}
+use Rattle.byteorder.specs.Endian.{little_number}
+use Rattle.byte_fields.specs.Fields.{numbers_in}
+use Rattle.byte_fields.specs.Sums.{fnv_of}
+use Rattle.byte_fields.specs.declared.parts.Row.{Row}
+use Rattle.byte_fields.specs.declared.parts.Damage.{Damage}
+use Rattle.byte_fields.specs.declared.parts.Damage.TheVariants as damage
+use Rattle.byte_fields.specs.declared.parts.Part.TheVariants as part
+use Rattle.store_model.specs.SortedMap.{Bytes}
+use Rattle.block_model.specs.Faults.{Fault, fault, refuse, or_fault}
+use Rattle.block_model.specs.Pages.{pages_for}
+use Rattle.manifest_model.specs.Version.{Version, magic, log_pages, row_widths, body_place}
+
+-- ---- the version that is read
+
+abbrev pub count_in : Bytes → ℕ
+count_in bytes = little_number 2 (drop 6 bytes)
+
+-- a row by its numbers
+abbrev pub row_of : List ℕ → Row
+row_of ns = record {
+  level = slice_index ns 0; first_page = slice_index ns 2; data_pages = slice_index ns 3; index_pages = slice_index ns 4; filter_pages = slice_index ns 5;
+  entries = slice_index ns 6; index_len = slice_index ns 7; filter_len = slice_index ns 8; index_sum = slice_index ns 9; filter_sum = slice_index ns 10;
+}
+
+unfoldable pub row_in : Bytes → Row
+row_in rest = row_of (numbers_in row_widths rest)
+
+unfoldable pub rows_in : ℕ → Bytes → List Row
+rows_in zero rest = []
+rows_in (suc more) rest = row_in rest ∷ rows_in more (drop 64 rest)
+
+unfoldable pub version_in : Bytes → Version
+version_in bytes = record {
+  epoch = little_number 8 (drop 8 bytes); pages = little_number 4 (drop 16 bytes); hash_bits = slice_index bytes 20; real_bits = slice_index bytes 21;
+  ratio = little_number 2 (drop 22 bytes); log_page = little_number 4 (drop 24 bytes); rows = rows_in (count_in bytes) (drop 64 bytes);
+}
+
+-- ---- before the sum: 1, the magic; 2, the version of the format; 3, more than 1,024 tables
+
+unfoldable pub first_fault : Bytes → Option Fault
+first_fault bytes =
+    refuse (not (little_number 4 bytes == magic)) 0 1
+    (refuse (not (little_number 2 (drop 4 bytes) == 1)) 4 2
+    (refuse (nat_lt 1024 (count_in bytes)) 6 3
+    None))
+
+-- ---- the sum: the one that is kept behind the rows, and the one of all bytes before it
+
+unfoldable pub front_length_in : Bytes → ℕ
+front_length_in bytes = 64 + 64 * count_in bytes
+
+abbrev pub kept_sum : Bytes → ℕ
+kept_sum bytes = little_number 8 (drop (front_length_in bytes) bytes)
+
+abbrev pub seen_sum : Bytes → ℕ
+seen_sum bytes = fnv_of (take (front_length_in bytes) bytes)
+
+-- ---- 4 to 6: the epoch, the pages and the settings, the log area
+
+abbrev pub are_no_pages : ℕ → Bool
+are_no_pages pages = nat_lt pages 512 || nat_lt 16777216 pages
+
+abbrev pub is_no_log_page : ℕ → Bool
+is_no_log_page page = not (page == 64) && not (page == 128)
+
+unfoldable pub numbers_fault : Bytes → Option Fault
+numbers_fault bytes =
+    refuse (little_number 8 (drop 8 bytes) == 0) 8 4
+    (refuse (are_no_pages (little_number 4 (drop 16 bytes))) 16 5
+    (refuse (nat_lt 32 (slice_index bytes 20)) 20 5
+    (refuse (nat_lt 32 (slice_index bytes 21)) 21 5
+    (refuse (is_no_log_page (little_number 4 (drop 24 bytes))) 24 6
+    (refuse (not (little_number 4 (drop 28 bytes) == log_pages)) 28 6
+    None)))))
+
+-- ---- 7: a byte that must be 0, in the head and then row by row
+
+unfoldable pub zeros_fault : ℕ → Bytes → Option Fault
+zeros_fault place bytes = option_map (λ k. fault (place + k) 7) (position (λ b. not (b == 0)) bytes)
+
+unfoldable pub row_zeros_fault : ℕ → ℕ → Bytes → Option Fault
+row_zeros_fault zero place rest = None
+row_zeros_fault (suc more) place rest =
+    or_fault (zeros_fault (place + 1) (take 3 (drop 1 rest)))
+    (or_fault (zeros_fault (place + 56) (take 8 (drop 56 rest)))
+    (row_zeros_fault more (place + 64) (drop 64 rest)))
+
+-- ---- 8: a row's level, data pages, index pages, filter pages or entries, row by row
+
+unfoldable pub row_fault : ℕ → Row → Option Fault
+row_fault place row =
+    refuse (nat_lt 6 row.level) place 8
+    (refuse (row.data_pages == 0) (place + 8) 8
+    (refuse (not (row.index_pages == pages_for row.index_len)) (place + 12) 8
+    (refuse (not (row.filter_pages == pages_for row.filter_len)) (place + 16) 8
+    (refuse (row.entries == 0) (place + 20) 8
+    None))))
+
+unfoldable pub rows_fault : ℕ → List Row → Option Fault
+rows_fault place [] = None
+rows_fault place (row ∷ later) = or_fault (row_fault place row) (rows_fault (place + 64) later)
+
+-- ---- 9: a row of a lesser level than the one before
+
+unfoldable pub levels_fault : ℕ → ℕ → List Row → Option Fault
+levels_fault place before [] = None
+levels_fault place before (row ∷ later) = refuse (nat_lt row.level before) place 9 (levels_fault (place + 64) row.level later)
+
+-- ---- 10: a table leaves the pages from 192 to the end of the device, or meets one of an earlier row
+
+-- the pages of a table: its blocks, its index and its filter, one after the other
+abbrev pub table_pages : Row → ℕ
+table_pages row = row.data_pages + row.index_pages + row.filter_pages
+
+abbrev pub end_page : Row → ℕ
+end_page row = row.first_page + table_pages row
+
+abbrev pub leaves : ℕ → Row → Bool
+leaves pages row = nat_lt row.first_page 192 || nat_lt pages (end_page row)
+
+abbrev pub meets : Row → Row → Bool
+meets row other = nat_lt row.first_page (end_page other) && nat_lt other.first_page (end_page row)
+
+unfoldable pub extents_fault : ℕ → ℕ → List Row → List Row → Option Fault
+extents_fault pages place earlier [] = None
+extents_fault pages place earlier (row ∷ later) =
+    refuse (leaves pages row || list_any (meets row) earlier) (place + 4) 10 (extents_fault pages (place + 64) (row ∷ earlier) later)
+
+-- ---- the rules, in their order
+
+abbrev pub of_version : Version → Option Fault
+of_version v = or_fault (rows_fault 64 v.rows) (or_fault (levels_fault 64 0 v.rows) (extents_fault v.pages 64 [] v.rows))
+
+-- behind the sum
+unfoldable pub later_fault : Bytes → Option Fault
+later_fault bytes =
+    or_fault (numbers_fault bytes)
+    (or_fault (zeros_fault 32 (take 32 (drop 32 bytes)))
+    (or_fault (row_zeros_fault (count_in bytes) 64 (drop 64 bytes))
+    (of_version (version_in bytes))))
+
+-- the damage of a body that stands in a slot, by its place on the device
+abbrev pub shape_at : ℕ → Option Fault → Option Damage → Option Damage
+shape_at slot (Some found) later = Some (damage.Shape part.Manifest (body_place slot + found.place) found.rule)
+shape_at slot None later = later
+
+unfoldable pub sum_damage : ℕ → Bytes → Option Damage → Option Damage
+sum_damage slot bytes later = if kept_sum bytes == seen_sum bytes then later else Some (damage.Sum part.Manifest (body_place slot) (kept_sum bytes) (seen_sum bytes))
+
+unfoldable pub body_damage : ℕ → Bytes → Option Damage
+body_damage slot bytes = shape_at slot (first_fault bytes) (sum_damage slot bytes (shape_at slot (later_fault bytes) None))

@@ -1,0 +1,41 @@
+-- Versions by which the definitions are tried.
+use Rattle.std.specs.Prelude.{ℕ, List, [], ◌∷◌, set, Option, Some}
+use Rattle.store_model.specs.SortedMap.{Bytes}
+use Rattle.byte_fields.specs.declared.parts.Row.{Row}
+use Rattle.byte_fields.specs.declared.parts.Damage.{Damage}
+use Rattle.byte_fields.specs.declared.parts.Damage.TheVariants as damage
+use Rattle.byte_fields.specs.declared.parts.Part.TheVariants as part
+use Rattle.manifest_model.specs.Version.{Version, summed, front_bytes}
+use Rattle.manifest_model.specs.Tables.{KeyRange}
+
+-- a new store on 512 pages, with filters that keep no suffix bits
+abbrev pub formatted : Version
+formatted = record { hash_bits = 0; real_bits = 0; ratio = 64; pages = 512; epoch = 1; log_page = 64; rows = [] }
+
+-- a table of four entries that takes three pages: one of a block, one of an index of 27 bytes, one of a filter of 45
+abbrev pub table : ℕ → ℕ → Row
+table level first = record {
+  level = level; first_page = first; data_pages = 1; index_pages = 1; filter_pages = 1; entries = 4;
+  index_len = 27; filter_len = 45; index_sum = 0x0102030405060708; filter_sum = 9;
+}
+
+-- the store with these tables, at epoch 6
+abbrev pub with_tables : List Row → Version
+with_tables rows = record { hash_bits = 0; real_bits = 0; ratio = 64; pages = 512; epoch = 6; log_page = 128; rows = rows }
+
+abbrev pub merged : Version
+merged = with_tables (table 1 204 ∷ [])
+
+-- the body of the merged store with another byte at a place, and the sum of that
+unfoldable pub broken : ℕ → ℕ → Bytes
+broken place byte = summed (set (front_bytes merged) place byte)
+
+abbrev pub keys_at : ℕ → ℕ → ℕ → KeyRange
+keys_at level least greatest = record { level = level; least = least ∷ []; greatest = greatest ∷ [] }
+
+-- damage of the manifest at a byte of the device
+abbrev pub shape : ℕ → ℕ → Option Damage
+shape place rule = Some (damage.Shape part.Manifest place rule)
+
+abbrev pub sums : ℕ → ℕ → ℕ → Option Damage
+sums place kept seen = Some (damage.Sum part.Manifest place kept seen)

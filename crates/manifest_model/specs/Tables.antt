@@ -1,0 +1,34 @@
+-- What the rules say of two slots, and of the keys of the tables of a version.
+use Rattle.std.specs.Prelude.{ℕ, ◌+◌, nat_lt, ◌==◌, Bool, not, ◌||◌, List, [], ◌∷◌, Option, None}
+use Rattle.store_model.specs.SortedMap.{Bytes}
+use Rattle.block_model.specs.Faults.{Fault, refuse}
+use Rattle.block_model.specs.Order.{is_above}
+use Rattle.manifest_model.specs.Version.{Version}
+
+-- 11: both slots are open, with one epoch; it is a fault of slot B
+abbrev pub epochs_fault : Version → Version → Option Fault
+epochs_fault in_a in_b = refuse (in_a.epoch == in_b.epoch) 8 11 None
+
+-- of two open slots the one of the greater epoch holds
+abbrev pub is_newer : Version → Version → Bool
+is_newer v other = nat_lt other.epoch v.epoch
+
+-- the level of a table, and its least and its greatest key
+pub record KeyRange : Type 0 where
+  pub level : ℕ
+  pub least : Bytes
+  pub greatest : Bytes
+
+-- in a deeper level a table's keys are above those of the table before it
+abbrev pub follows : KeyRange → KeyRange → Bool
+follows before range = not (before.level == range.level) || range.level == 0 || is_above before.greatest range.least
+
+-- 12: the tables of a deeper level do not rise without overlap; the ranges are in the order of the rows, and the place is
+-- the second row's
+unfoldable pub ranges_after : ℕ → KeyRange → List KeyRange → Option Fault
+ranges_after place before [] = None
+ranges_after place before (range ∷ later) = refuse (not (follows before range)) place 12 (ranges_after (place + 64) range later)
+
+unfoldable pub ranges_fault : List KeyRange → Option Fault
+ranges_fault [] = None
+ranges_fault (range ∷ later) = ranges_after 128 range later

@@ -1,0 +1,23 @@
+//! The sorted map as what is read of it between two keys.
+//!
+//! `slice` is the first n pairs whose keys lie between, both ends included, `seek` the first of them, `count` how many
+//! they are. The definitions stand in `specs/`; the functions here carry their laws and do nothing. A program over
+//! them is `plain_map`.
+#![tactic(auto)]
+
+ghost use Rattle.map_model.specs.Laws.{SliceLaws, SeekLaws, CountLaws};
+
+/// Law: what lies between two keys is the map cut to them, in its order, and nothing where the two are crossed.
+pub fn slice_laws()
+    ensures { SliceLaws }
+{}
+
+/// Law: a seek gives the least key between, and nothing exactly where there is none.
+pub fn seek_laws()
+    ensures { SeekLaws }
+{}
+
+/// Law: a count counts what lies between.
+pub fn count_laws()
+    ensures { CountLaws }
+{}

@@ -1,0 +1,7 @@
+use Rattle.std.proofs.Common.{◌≡◌, ◌++◌, map, filter, drop, flat_map, reverse, take, length, ◌-◌}
+use Rattle.state_model.specs.Pages.{keys_of}
+use Rattle.plain_store.proofs.filters.keys_of.Given as goal
+
+-- those so far and those that are left
+abbrev pub invariant-loop-entry : goal.invariant-loop-entry
+invariant-loop-entry l = l.keys ++ keys_of (drop l.entry-index l.entries) ≡ keys_of l.entries

@@ -1,0 +1,7 @@
+use Rattle.std.proofs.Common.{◌≡◌, ◌++◌, map, filter, drop, flat_map, reverse, take, length, ◌-◌}
+use Rattle.state_model.specs.Gaps.{extent_of}
+use Rattle.plain_store.proofs.lists.extents.Given as goal
+
+-- those so far and those that are left
+abbrev pub invariant-loop-table : goal.invariant-loop-table
+invariant-loop-table l = l.list.items ++ map extent_of (drop l.table-index l.tables) ≡ map extent_of l.tables

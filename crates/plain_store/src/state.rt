@@ -1,0 +1,44 @@
+// The state of a store that is played in memory.
+ghost use Rattle.std.specs.Prelude.{◌≡◌, ◌≤◌, IfOk};
+ghost use Rattle.state_model.specs.State.{new_state};
+
+use crate::table::Table;
+use entry_list::Entry;
+use filter_api::Settings;
+use std::alloc::Global;
+use std::marker::Model;
+
+/// What a store holds: its log's entries in the order of writing, and its tables, those of level 0 first and the newest
+/// of them first, then the deeper levels, each by rising keys. No merge runs: each is done whole.
+#[derive(Drop)]
+pub struct State {
+    pub settings: Settings,
+    pub pages: u64,
+    pub epoch: u64,
+    pub log: Vec<Entry>,
+    pub tables: Vec<Table>,
+}
+
+impl Model for State {
+    ghost use Rattle.std.specs.Prelude.{[], None};
+    ghost use Rattle.state_model.specs.State as model;
+
+    ghost Value = { model.State };
+
+    ghost view = { λ s. record { settings = s.settings; pages = s.pages; epoch = s.epoch; log = s.log.items; tables = s.tables.items; job = None; kept = [] } };
+}
+
+impl State {
+    /// A store as it is made, on a device of so many pages: epoch 1, and nothing in it.
+    pub fn new(alloc: Global, settings: Settings, pages: u64) -> State
+        ensures { result ≡ new_state settings pages }
+    {
+        State {
+            settings,
+            pages,
+            epoch: 1,
+            log: Vec::new(alloc),
+            tables: Vec::new(alloc),
+        }
+    }
+}

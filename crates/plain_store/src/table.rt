@@ -1,0 +1,78 @@
+// A table.
+ghost use Rattle.std.specs.Prelude.{◌≡◌, IfOk};
+ghost use Rattle.block_model.specs.Pages.{first_key, last_key};
+ghost use Rattle.state_model.specs.Gaps.{extent_of};
+ghost use Rattle.state_model.specs.Merges as model;
+
+use crate::gaps::Extent;
+use entry_list::{Entry, copied};
+use std::alloc::{AllocError, Global};
+use std::marker::Model;
+
+/// A table: its level, its first page, how many pages it takes, of how many data blocks it is made, and its entries.
+#[derive(Drop)]
+pub struct Table {
+    pub level: u8,
+    pub first_page: u64,
+    pub pages: u64,
+    pub blocks: u64,
+    pub entries: Vec<Entry>,
+}
+
+impl Model for Table {
+    ghost use Rattle.state_model.specs.State as model;
+
+    ghost Value = { model.Table };
+
+    ghost view = { λ t. record { level = t.level; first_page = t.first_page; pages = t.pages; blocks = t.blocks; entries = t.entries.items } };
+}
+
+impl Table {
+    /// The same table again.
+    pub fn copy(&self, alloc: Global) -> Result<Table, AllocError>
+        ensures { IfOk result (λ t. t ≡ self.now) }
+    {
+        let entries = copied(alloc, self.entries.as_slice())?;
+        Ok(Table {
+            level: self.level,
+            first_page: self.first_page,
+            pages: self.pages,
+            blocks: self.blocks,
+            entries,
+        })
+    }
+
+    /// Where it stands.
+    pub fn extent(&self) -> Extent
+        ensures { result ≡ extent_of self.now }
+    {
+        (self.first_page, self.pages)
+    }
+
+    /// The key of its first entry, no bytes where it has none.
+    pub fn least_key(&self) -> &[u8]
+        ensures { result.now ≡ model.least_key self.now }
+    {
+        match self.entries.as_slice() {
+            [first, ..] => first.key(),
+            [] => &[],
+        }
+    }
+
+    /// The key of its last entry, no bytes where it has none.
+    pub fn greatest_key(&self) -> &[u8]
+        ensures { result.now ≡ model.greatest_key self.now }
+    {
+        last_key(self.entries.as_slice())
+    }
+}
+
+fn last_key(entries: &[Entry]) -> &[u8]
+    ensures { result.now ≡ last_key entries.now }
+{
+    match entries {
+        [] => &[],
+        [entry] => entry.key(),
+        [_, later @ ..] => last_key(later),
+    }
+}

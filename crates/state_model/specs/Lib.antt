@@ -1,0 +1,15 @@
+pub mod State
+pub mod View
+pub mod Pages
+pub mod Gaps
+pub mod Merges
+pub mod Replies
+pub mod Requests
+pub mod Changes
+pub mod Bounds
+pub mod Sound
+pub mod Tends
+pub mod Steps
+pub mod Script
+pub mod Play
+pub mod Rows

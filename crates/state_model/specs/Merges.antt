@@ -1,0 +1,137 @@
+-- Which tables are merged, and into what.
+use Rattle.std.specs.Prelude.{ℕ, zero, suc, ◌+◌, ◌-◌, ◌*◌, ◌^◌, ◌==◌, nat_le, nat_lt, Bool, true, false, not, ◌&&◌, if◌then◌else◌, List, [], ◌∷◌, ◌++◌, take, filter, fold, length, Option, Some, None, Result, Ok, Err}
+use Rattle.std.specs.List.{list_any, sum_by}
+use Rattle.store_model.specs.SortedMap.{Bytes}
+use Rattle.store_model.specs.Entries.{Entry}
+use Rattle.mem_table.specs.Table.{newest_entries}
+use Rattle.block_model.specs.Pages.{data_pages, first_key, last_key}
+use Rattle.map_model.specs.Slices.{is_before}
+use Rattle.state_model.specs.State.{State, Table}
+use Rattle.state_model.specs.View.{oldest_first}
+use Rattle.state_model.specs.Pages.{Spells, table_pages, table_of}
+use Rattle.state_model.specs.Gaps.{Extent, first_gap, largest_gap}
+
+-- ---- which tables
+
+abbrev pub least_key : Table → Bytes
+least_key t = first_key t.entries
+
+abbrev pub greatest_key : Table → Bytes
+greatest_key t = last_key t.entries
+
+abbrev pub on_level : ℕ → List Table → List Table
+on_level level tables = filter (λ (t : Table). t.level == level) tables
+
+abbrev pub lesser : Bytes → Bytes → Bytes
+lesser x y = if is_before y x then y else x
+
+abbrev pub greater : Bytes → Bytes → Bytes
+greater x y = if is_before x y then y else x
+
+-- the least and the greatest of all their keys
+abbrev pub least_of : List Table → Bytes
+least_of [] = []
+least_of (t ∷ more) = fold (λ key (u : Table). lesser key (least_key u)) (least_key t) more
+
+abbrev pub greatest_of : List Table → Bytes
+greatest_of [] = []
+greatest_of (t ∷ more) = fold (λ key (u : Table). greater key (greatest_key u)) (greatest_key t) more
+
+-- the table's keys reach into those from lo to hi
+abbrev pub meets : Bytes → Bytes → Table → Bool
+meets lo hi t = not (is_before (greatest_key t) lo) && not (is_before hi (least_key t))
+
+-- tables that are merged, the newest first, and the level of what they become
+pub record Plan : Type 0 where
+  pub inputs : List Table
+  pub output : ℕ
+
+-- some tables with those of the level below that they meet
+abbrev pub plan_of : State → List Table → ℕ → Plan
+plan_of s tables output = record { inputs = tables ++ filter (meets (least_of tables) (greatest_of tables)) (on_level output s.tables); output = output }
+
+-- the pages that a level may have
+abbrev pub level_limit : ℕ → ℕ
+level_limit level = 256 * 8 ^ (level - 1)
+
+abbrev pub is_over : State → ℕ → Bool
+is_over s level = nat_lt (level_limit level) (sum_by (λ (t : Table). t.pages) (on_level level s.tables))
+
+-- of the first of these levels that has more, the table with the least keys
+abbrev pub first_over : State → List ℕ → Option Plan
+first_over s [] = None
+first_over s (level ∷ deeper) = if is_over s level then Some (plan_of s (take 1 (on_level level s.tables)) (level + 1)) else first_over s deeper
+
+-- what is to be merged: level 0 where it has four tables or more, else from the first level that has too many pages
+abbrev pub choose : State → Option Plan
+choose s = if nat_le 4 (length (on_level 0 s.tables)) then Some (plan_of s (on_level 0 s.tables) 1) else first_over s (1 ∷ 2 ∷ 3 ∷ 4 ∷ 5 ∷ [])
+
+-- ---- into what
+
+-- no table lies deeper than the level
+abbrev pub is_deepest : State → ℕ → Bool
+is_deepest s level = not (list_any (λ (t : Table). nat_lt level t.level) s.tables)
+
+abbrev pub has_value : Option Bytes → Bool
+has_value None = false
+has_value (Some value) = true
+
+-- the entries that a merge keeps: without tombstones where nothing older can lie below them
+abbrev pub lasting : Bool → List Entry → List Entry
+lasting is_last entries = if is_last then filter (λ (e : Entry). has_value e.value) entries else entries
+
+-- the newest entry of each key of some tables, the newest table first
+abbrev pub newest_of : List Table → List Entry
+newest_of tables = newest_entries (oldest_first tables)
+
+-- an output is closed by the entry with which it has this many data pages
+abbrev pub output_pages : ℕ
+output_pages = 1024
+
+-- the first output and what is left, after some entries that it has already
+abbrev pub split_output : List Entry → List Entry → List Entry × List Entry
+split_output output [] = (output, [])
+split_output output (entry ∷ more) =
+    if nat_le output_pages (data_pages (output ++ (entry ∷ []))) then (output ++ (entry ∷ []), more) else split_output (output ++ (entry ∷ [])) more
+
+-- the outputs: each but the last is closed as soon as it is full, and at most so many come beside one. None is empty.
+abbrev pub outputs_of : ℕ → List Entry → List (List Entry)
+outputs_of beside [] = []
+outputs_of zero (entry ∷ more) = (entry ∷ more) ∷ []
+outputs_of (suc beside) (entry ∷ more) =
+    let split = split_output [] (entry ∷ more) in
+    split.0 ∷ outputs_of beside split.1
+
+-- never more outputs than inputs; with no input, one
+abbrev pub cut : List Table → List Entry → List (List Entry)
+cut inputs entries = outputs_of (length inputs - 1) entries
+
+-- the outputs of a plan
+abbrev pub planned : State → Plan → List (List Entry)
+planned s plan = cut plan.inputs (lasting (is_deepest s plan.output) (newest_of plan.inputs))
+
+-- ---- and where
+
+-- a table that needs more pages than the largest gap has
+pub record NoRoom : Type 0 where
+  pub need : ℕ
+  pub gap : ℕ
+
+-- a table before those that are placed after it
+abbrev pub before : Table → Result (List Table) NoRoom → Result (List Table) NoRoom
+before t (Ok tables) = Ok (t ∷ tables)
+before t (Err refusal) = Err refusal
+
+-- what stands at the page, where there is one
+abbrev pub at_page : Option ℕ → (ℕ → Result (List Table) NoRoom) → NoRoom → Result (List Table) NoRoom
+at_page (Some page) there refusal = there page
+at_page None there refusal = Err refusal
+
+-- Some outputs become tables of a level, each in the first gap that holds it beside what is taken and those before it.
+abbrev pub placed : Spells → State → List Extent → ℕ → List (List Entry) → Result (List Table) NoRoom
+placed spells s taken level [] = Ok []
+placed spells s taken level (output ∷ more) =
+    let need = table_pages spells s.settings output in
+    at_page (first_gap s.pages taken need)
+    (λ page. before (table_of spells s.settings level page output) (placed spells s ((page, need) ∷ taken) level more))
+    (record { need = need; gap = largest_gap s.pages taken })

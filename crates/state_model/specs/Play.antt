@@ -1,0 +1,53 @@
+-- One run of the script that computes: memory lasts, the device holds, and each merge is done whole in its first slice.
+use Rattle.std.specs.Prelude.{◌==◌, if◌then◌else◌, List, [], ◌∷◌, ◌++◌, length, Option, Some, None, Result, Ok, Err}
+use Rattle.state_model.specs.State.{State, Table, Job, without_job, last_epoch}
+use Rattle.state_model.specs.Pages.{Spells}
+use Rattle.state_model.specs.Merges.{NoRoom, Plan, choose}
+use Rattle.state_model.specs.Tends.{started, outstanding, next_placed, installed}
+use Rattle.state_model.specs.Steps.{answer}
+use Rattle.state_model.specs.Requests.{Request, Put, Del}
+use Rattle.state_model.specs.Replies.{Reply, Bye}
+
+-- the job that runs, or a new one
+abbrev pub job_of_plan : Option Plan → Option Job
+job_of_plan None = None
+job_of_plan (Some plan) = Some (started plan)
+
+abbrev pub job_of : Option Job → Option Plan → Option Job
+job_of (Some job) plan = Some job
+job_of None plan = job_of_plan plan
+
+-- the job with all its outputs
+abbrev pub finished : Job → List Table → Job
+finished job made = record job { to_read = 0; written = job.written ++ made }
+
+-- it is installed, or dropped where there is no room or no epoch
+abbrev pub installed_or_dropped : State → Job → Result (List Table) NoRoom → State
+installed_or_dropped s job (Ok made) = if s.epoch == last_epoch then without_job s else installed s (finished job made)
+installed_or_dropped s job (Err refusal) = without_job s
+
+abbrev pub merged_by : Spells → State → Option Job → State
+merged_by spells s None = s
+merged_by spells s (Some job) = installed_or_dropped s job (next_placed spells s job (length (outstanding s job)))
+
+-- the state after a whole merge, where one runs or is to be chosen
+abbrev pub merged : Spells → State → State
+merged spells s = merged_by spells s (job_of s.job (choose s))
+
+-- a merge behind each put and del
+abbrev pub tended : Spells → Request → State → State
+tended spells (Put key value) s = merged spells s
+tended spells (Del key) s = merged spells s
+tended spells request s = s
+
+-- a reply, and those to the lines behind it; none where it is the last
+abbrev pub behind : Reply → List Reply × State → State → List Reply × State
+behind Bye later s = (Bye ∷ [], s)
+behind reply later s = (reply ∷ later.0, later.1)
+
+-- the replies to some requests, and the state that they leave
+abbrev pub played : Spells → State → List Request → List Reply × State
+played spells s [] = ([], s)
+played spells s (request ∷ more) =
+    let a = answer spells s request in
+    behind a.0 (played spells (tended spells request a.1) more) a.1

@@ -1,0 +1,62 @@
+-- What the lines are answered, one after the other, and what happens between them.
+use Rattle.std.specs.Prelude.{◌≡◌, ◌+◌, ℕ, List, [], ◌∷◌, ◌++◌, length}
+use Rattle.store_model.specs.SortedMap.{Bytes}
+use Rattle.state_model.specs.State.{State}
+use Rattle.state_model.specs.Pages.{Spells}
+use Rattle.state_model.specs.Requests.{Request, Put, Del, request_of}
+use Rattle.state_model.specs.Replies.{Reply, Pairs, Bye, Device, Damaged, text_of}
+use Rattle.state_model.specs.Tends.{Tend, Tended, Refused}
+use Rattle.state_model.specs.Steps.{Step}
+
+-- how the lines came to their end: to the last of them, at `quit`, at a fault of the device or at damage
+pub data Ending : Type 0 where
+  ToLast : Ending
+  AtQuit : Ending
+  AtDevice : Ending
+  AtDamage : Ending
+
+-- what follows a reply: the next lines, or the end of the script
+pub data Turn : Type 0 where
+  Onward : Turn
+  Over : (ending : Ending) → Turn
+
+abbrev pub turn_of : Reply → Turn
+turn_of Bye = Over AtQuit
+turn_of Device = Over AtDevice
+turn_of (Damaged damage) = Over AtDamage
+turn_of (Pairs found Device) = Over AtDevice
+turn_of (Pairs found (Damaged damage)) = Over AtDamage
+turn_of reply = Onward
+
+-- a fault or damage in a slice ends the script; want of memory, of room or of an epoch is left for the next one
+abbrev pub turn_of_slice : Tended → Turn
+turn_of_slice (Refused why) = turn_of why
+turn_of_slice tended = Onward
+
+-- Behind each `put` and `del`, refused or not, comes one slice; behind other lines none.
+abbrev pub Between : (Reply → Type 0) → Spells → Request → State → Turn → State → Type 0
+Between Cause spells (Put key value) s turn after = (tended : Tended) × Tend Cause spells s tended after × (turn ≡ turn_of_slice tended)
+Between Cause spells (Del key) s turn after = (tended : Tended) × Tend Cause spells s tended after × (turn ≡ turn_of_slice tended)
+Between Cause spells request s turn after = (turn ≡ Onward) × (after ≡ s)
+
+-- The script's text is said and ended, or goes on.
+abbrev pub Ends : Turn → Bytes → Ending → Type 0 → Type 0
+Ends Onward rest ending Next = Next
+Ends (Over why) rest ending Next = (rest ≡ []) × (ending ≡ why)
+
+-- what holds as the reply has been said, but for a fault or damage
+abbrev pub AsSaid : Turn → Type 0 → Type 0
+AsSaid (Over AtDevice) Holds = Unit {0}
+AsSaid (Over AtDamage) Holds = Unit {0}
+AsSaid turn Holds = Holds
+
+-- The lines are answered in order with this text, to the last of them, or to the first reply or slice that ends them. As
+-- each reply has been said that is no fault, with so many bytes said by then, the state has R.
+abbrev pub Script : (Reply → Type 0) → Spells → (ℕ → State → Type 0) → ℕ → State → List Bytes → Bytes → Ending → Type 0
+Script Cause spells R said s [] text ending = (text ≡ []) × (ending ≡ ToLast)
+Script Cause spells R said s (line ∷ more) text ending =
+    (reply : Reply) × (rest : Bytes) × (new : State) × (text ≡ text_of reply ++ rest) × Step Cause spells s (request_of line) reply new
+    × AsSaid (turn_of reply) (R (said + length (text_of reply)) new)
+    × Ends (turn_of reply) rest ending
+    ((turn : Turn) × (after : State) × Between Cause spells (request_of line) new turn after
+    × Ends turn rest ending (Script Cause spells R (said + length (text_of reply)) after more rest ending))

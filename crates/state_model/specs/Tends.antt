@@ -1,0 +1,91 @@
+-- What a slice of a merge makes of a state.
+use Rattle.std.specs.Prelude.{◌≡◌, ◌≢◌, ◌⊎◌, ◌≤◌, ◌+◌, ℕ, nat_lt, ◌==◌, Bool, not, ◌&&◌, ◌||◌, if◌then◌else◌, List, [], ◌∷◌, ◌++◌, length, take, drop, filter, fold, Some, None, Result, Ok, Err}
+use Rattle.std.specs.List.{list_any, sum_by}
+use Rattle.byte_fields.specs.declared.parts.Damage.{Damage}
+use Rattle.map_model.specs.Slices.{is_before}
+use Rattle.store_model.specs.Entries.{Entry}
+use Rattle.state_model.specs.State.{State, Table, Job, without_job, last_epoch}
+use Rattle.state_model.specs.View.{map_of}
+use Rattle.state_model.specs.Pages.{Spells}
+use Rattle.state_model.specs.Gaps.{taken}
+use Rattle.state_model.specs.Merges.{Plan, NoRoom, choose, planned, placed, least_key}
+use Rattle.state_model.specs.Sound.{IsSound, plan_of_job}
+use Rattle.state_model.specs.Replies.{Reply, LastEpoch, Full, Memory, Device, Damaged}
+
+-- ---- the job that a slice works on
+
+-- the job of a plan, with nothing done
+abbrev pub started : Plan → Job
+started plan = record { inputs = plan.inputs; output = plan.output; to_read = sum_by (λ (t : Table). t.blocks) plan.inputs; written = [] }
+
+-- the job that runs, or where none does a new one
+abbrev pub Runs : State → Job → Type 0
+Runs s job = (s.job ≡ Some job) ⊎ ((plan : Plan) × (s.job ≡ None) × (choose s ≡ Some plan) × (job ≡ started plan))
+
+abbrev pub with_job : State → Job → State
+with_job s job = record s { job = Some job }
+
+-- the outputs that are not written yet
+abbrev pub outstanding : State → Job → List (List Entry)
+outstanding s job = drop (length job.written) (planned s (plan_of_job job))
+
+-- the next so many of them, placed
+abbrev pub next_placed : Spells → State → Job → ℕ → Result (List Table) NoRoom
+next_placed spells s job n = placed spells s (taken (with_job s job)) job.output (take n (outstanding s job))
+
+-- the job goes on: fewer blocks are to read, more outputs are written, or both, or neither
+pub record GoesOn (spells : Spells) (s : State) (job later : Job) : Type 0 where
+  pub inputs : later.inputs ≡ job.inputs
+  pub output : later.output ≡ job.output
+  pub to_read : later.to_read ≤ job.to_read
+  pub more : ℕ
+  pub made : List Table
+  pub placed_so : next_placed spells s job more ≡ Ok made
+  pub written : later.written ≡ job.written ++ made
+
+-- nothing is to read, and all outputs are written
+pub record IsDone (s : State) (job : Job) : Type 0 where
+  pub all_read : job.to_read ≡ 0
+  pub all_written : outstanding s job ≡ []
+
+-- ---- its install
+
+-- the first is of a lesser level, or of the same one with lesser keys
+abbrev pub goes_before : Table → Table → Bool
+goes_before t u = nat_lt t.level u.level || ((t.level == u.level) && is_before (least_key t) (least_key u))
+
+abbrev pub inserted : List Table → Table → List Table
+inserted [] new = new ∷ []
+inserted (t ∷ more) new = if goes_before new t then new ∷ t ∷ more else t ∷ inserted more new
+
+-- the tables without some of them: no two begin at one page
+abbrev pub without : List Table → List Table → List Table
+without inputs tables = filter (λ (t : Table). not (list_any (λ (i : Table). i.first_page == t.first_page) inputs)) tables
+
+-- the outputs stand in the place of the inputs
+abbrev pub installed : State → Job → State
+installed s job = record s { epoch = s.epoch + 1; tables = fold inserted (without job.inputs s.tables) job.written; job = None }
+
+-- ---- the slice
+
+-- what a slice is answered; no line is said of it
+pub data Tended : Type 0 where
+  Idle : Tended
+  Worked : Tended
+  Refused : (why : Reply) → Tended
+
+-- A slice is idle where no job runs and none is to be chosen. Else it works, or is refused and drops the job. `Cause`
+-- says what must be so for what the state does not explain: want of memory, faults of the device and damage.
+pub data Tend (Cause : Reply → Type 0) (spells : Spells) (s : State) : Tended → State → Type 0 where
+  idle : s.job ≡ None → choose s ≡ None → Tend Cause spells s Idle s
+  works : (job later : Job) → Runs s job → GoesOn spells s job later → later ≢ job → Tend Cause spells s Worked (with_job s later)
+  installs : (job later : Job) → Runs s job → GoesOn spells s job later → IsDone s later → s.epoch ≢ last_epoch
+      → Tend Cause spells s Worked (installed s later)
+  last_epoch_reached : (job later : Job) → Runs s job → GoesOn spells s job later → IsDone s later → s.epoch ≡ last_epoch
+      → Tend Cause spells s (Refused LastEpoch) (without_job s)
+  no_room : (job later : Job) (refusal : NoRoom) → Runs s job → GoesOn spells s job later → next_placed spells s later 1 ≡ Err refusal
+      → Tend Cause spells s (Refused (Full refusal.need refusal.gap)) (without_job s)
+  no_memory : (job : Job) → Runs s job → Cause Memory → Tend Cause spells s (Refused Memory) (without_job s)
+  damage_met : (job : Job) (damage : Damage) → Runs s job → Cause (Damaged damage) → Tend Cause spells s (Refused (Damaged damage)) (without_job s)
+  device_failed : (job : Job) (after : State) → Runs s job → Cause Device → IsSound spells after → map_of after ≡ map_of s
+      → Tend Cause spells s (Refused Device) after

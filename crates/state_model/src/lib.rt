@@ -1,0 +1,6 @@
+//! The store's meaning: its state, what each line makes of it, and what it may read.
+#![tactic(auto)]
+
+mod rows;
+
+pub use rows::{lines_and_words, merges_and_flushes, reads_between_keys};

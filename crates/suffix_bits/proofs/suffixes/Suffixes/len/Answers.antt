@@ -1,0 +1,6 @@
+use Rattle.std.proofs.Common.{sym}
+use Rattle.suffix_bits.proofs.Packing.{length-unpacked}
+use Rattle.suffix_bits.proofs.suffixes.Suffixes.len.Goals as goal
+
+pub returns : goal.returns
+returns g c = rw (← c.self.view_is) (sym (length-unpacked c.self.inside.hash_bits c.self.inside.real_bits c.self.inside.bits c.self.inside.count))
