@@ -4,5 +4,7 @@
 mod rows;
 mod version;
 
-pub use rows::{broken_bodies, broken_places, broken_versions, small_bodies, small_bodies_are_read};
+pub use rows::{
+    broken_bodies, broken_places, broken_versions, small_bodies, small_bodies_are_read,
+};
 pub use version::{Version, body_bytes};
