@@ -1,14 +1,13 @@
 -- How entries are cut into blocks.
-use Rattle.std.proofs.Common.{◌≡◌, ◌≢◌, ◌⊎◌, inl, inr, ◌<◌, ◌≤◌, ◌+◌, ℕ, zero, suc, Bool, true, false, cond, List, [], ◌∷◌, ◌++◌, length, refl, sym, ap, subst, ◌∙◌, arith, append_assoc, length-append}
-use Rattle.std.specs.Prelude.{fold, flat_map, map, nat_le, nat_lt, ◌&&◌, IsTrue}
+use Rattle.std.proofs.Common.{◌≡◌, ◌<◌, ◌≤◌, Bool, true, false, cond, List, [], ◌∷◌, ◌++◌, length, refl, sym, ap, subst, ◌∙◌, arith, append_assoc, length-append}
+use Rattle.std.specs.Prelude.{fold, nat_le, nat_lt}
 use Rattle.std.specs.List.{AllByRecursion}
 use Rattle.std.proofs.lemmas.Bool.{and_parts, leb-true, ltb-true}
 use Rattle.std.proofs.lemmas.List.{append-nil}
-use Rattle.std.proofs.lemmas.List.Concat.{flat_map-cons}
 use Rattle.std.proofs.lemmas.List.Sums.{fold-append}
 use Rattle.store_model.specs.SortedMap.{Bytes}
 use Rattle.store_model.specs.Entries.{Entry}
-use Rattle.block_model.specs.Block.{IsBlock, IsEntry, IsTable, keys_of}
+use Rattle.block_model.specs.Block.{IsBlock, IsEntry, keys_of}
 use Rattle.block_model.specs.Laws.{joined, BlocksAreTheEntries, BlocksGrow, BlocksAreSound}
 use Rattle.block_model.specs.Order.{Follow, is_any, is_above}
 use Rattle.block_model.specs.Pages.{page_bytes, block_entries, block_length, has_room, blocks_with, blocks_of}
@@ -19,7 +18,7 @@ blocks_step entries e = fold-append blocks_with [] entries (e ∷ [])
 
 -- ---- the blocks with one entry more are these, or these with a block more
 
-in_room : (P : List (List Entry) → Type 0) (block : List Entry) (e : Entry)
+pub in_room : (P : List (List Entry) → Type 0) (block : List Entry) (e : Entry)
     → (has_room block e ≡ true → P ((block ++ (e ∷ [])) ∷ [])) → (has_room block e ≡ false → P (block ∷ (e ∷ []) ∷ [])) → P (blocks_with (block ∷ []) e)
 in_room P block e room none = elim (has_room block e) as (λ t. has_room block e ≡ t → P (cond t ((block ++ (e ∷ [])) ∷ []) (block ∷ (e ∷ []) ∷ []))) [
   | true ↦ room
@@ -109,7 +108,6 @@ follow_front test (e ∷ a) b f = (f.0, follow_front (is_above e.key) a b f.1)
 follow_back : (test : Bytes → Bool) (a b : List Entry) → Follow test (keys_of (a ++ b)) → Follow is_any (keys_of b)
 follow_back test [] b f = any_follow test (keys_of b) f
 follow_back test (e ∷ a) b f = follow_back (is_above e.key) a b f.1
-
 
 each_rises : (blocks : List (List Entry)) → Follow is_any (keys_of (joined blocks)) → AllByRecursion (λ b. Follow is_any (keys_of b)) blocks
 each_rises [] f = tt

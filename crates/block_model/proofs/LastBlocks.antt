@@ -1,12 +1,15 @@
 -- The last of some blocks, to which an entry is added.
-use Rattle.std.proofs.Common.{◌≡◌, ◌<◌, ◌≤◌, ◌+◌, ◌-◌, ◌^◌, ℕ, zero, suc, Bool, true, false, cond, List, [], ◌∷◌, ◌++◌, length, take, set, get_or, refl, sym, ap, subst, ◌∙◌, arith}
-use Rattle.std.specs.Prelude.{◌==◌, map, fold}
+use Rattle.std.proofs.Common.{◌≡◌, ◌<◌, ◌≤◌, ◌+◌, ◌-◌, ℕ, zero, suc, Bool, true, false, cond, List, [], ◌∷◌, ◌++◌, length, take, drop, set, get_or, refl, sym, ap, ap₂, subst, ◌∙◌, arith}
+use Rattle.std.specs.Prelude.{◌==◌, map, flat_map}
 use Rattle.std.specs.List.{AllByRecursion}
 use Rattle.std.proofs.Math.Seq.{take-suc}
-use Rattle.std.proofs.lemmas.List.{get_or-map, map-set, map-append, length-map}
+use Rattle.std.proofs.lemmas.List.{get_or-map, map-set, map-append, length-map, append-nil, at_drop_all}
 use Rattle.store_model.specs.Entries.{Entry}
+use Rattle.byte_fields.specs.Fields.{fields}
+use Rattle.store_model.specs.SortedMap.{Bytes}
 use Rattle.block_model.specs.Block.{AreEntries, IsEntry}
-use Rattle.block_model.specs.Pages.{blocks_of, blocks_with, has_room, last_has_room}
+use Rattle.block_model.specs.Index.{index_bytes, index_head_bytes, index_head_widths, index_magic, index_of, index_row_bytes, index_row_of}
+use Rattle.block_model.specs.Pages.{blocks_of, blocks_with, first_key, has_room, last_has_room, last_key}
 use Rattle.block_model.proofs.Cutting.{IsPart, blocks_are_parts, blocks_step}
 use Rattle.block_model.proofs.Sizes.{all_at}
 
@@ -97,3 +100,32 @@ so_far_more entries i e lt is =
     let n : i + 1 ≡ suc i = omega arith in
     sym (blocks_step (take i entries) e) ∙ ap (λ (x : Entry). blocks_of (take i entries ++ (x ∷ []))) is
     ∙ sym (ap blocks_of (ap (λ (k : ℕ). take k entries) n ∙ take-suc entries i e lt))
+
+pub last_key_at : (es : List Entry) (d : Entry) → 0 < length es → last_key es ≡ (get_or es (length es - 1) d).key
+last_key_at [] d lt = absurd (omega (arith, lt))
+last_key_at (e ∷ []) d lt = refl
+last_key_at (e ∷ next ∷ more) d lt =
+    let n : length (e ∷ next ∷ more) - 1 ≡ suc (length (next ∷ more) - 1) = omega arith in
+    last_key_at (next ∷ more) d (omega arith) ∙ sym (ap (λ (k : ℕ). (get_or (e ∷ next ∷ more) k d).key) n)
+
+-- a loop over a list that is at its end
+pub all_done : {X : Type 0} (F : List X → List ℕ) → F [] ≡ [] → (xs : List X) (i : ℕ) (out all : List ℕ) → length xs ≤ i → out ++ F (drop i xs) ≡ all → out ≡ all
+all_done F empty xs i out all le so_far =
+    sym (append-nil out) ∙ sym (ap (λ (l : List ℕ). out ++ l) (at_drop_all F xs i le ∙ empty)) ∙ so_far
+
+-- ---- the index of a table, by its blocks
+
+pub index_head_is : (entries : List Entry) (many : ℕ) (least : Bytes) → many ≡ length (blocks_of entries) → least ≡ first_key entries
+    → fields index_head_widths (index_magic ∷ many ∷ length least ∷ []) ++ least ≡ index_head_bytes (index_of entries)
+unfolding index_head_bytes index_of
+index_head_is entries many least n k =
+    let rows : many ≡ length (map index_row_of (blocks_of entries)) = n ∙ sym (length-map (blocks_of entries) index_row_of) in
+    ap₂ (λ (m : ℕ) (l : Bytes). fields index_head_widths (index_magic ∷ m ∷ length l ∷ []) ++ l) rows k
+
+pub index_rows_are : (blocks : List (List Entry)) → flat_map (λ (b : List Entry). index_row_bytes (index_row_of b)) blocks ≡ flat_map index_row_bytes (map index_row_of blocks)
+index_rows_are [] = refl
+index_rows_are (block ∷ more) = ap (λ (l : Bytes). index_row_bytes (index_row_of block) ++ l) (index_rows_are more)
+
+pub index_is : (entries : List Entry) → index_head_bytes (index_of entries) ++ flat_map (λ (b : List Entry). index_row_bytes (index_row_of b)) (blocks_of entries) ≡ index_bytes (index_of entries)
+unfolding index_bytes index_of
+index_is entries = ap (λ (l : Bytes). index_head_bytes (index_of entries) ++ l) (index_rows_are (blocks_of entries))

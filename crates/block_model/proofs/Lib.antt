@@ -2,3 +2,12 @@ pub mod Cutting
 pub mod Lengths
 pub mod Sizes
 pub mod LastBlocks
+pub mod Bounds
+pub mod Refusals
+pub mod EntriesRead
+pub mod EntriesWritten
+pub mod BlocksRead
+pub mod BlocksWritten
+pub mod RowsRead
+pub mod IndexesRead
+pub mod TableIndex

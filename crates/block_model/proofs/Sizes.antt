@@ -1,9 +1,9 @@
 -- Loops over the entries of a block, and bounds on what they add up.
-use Rattle.std.proofs.Common.{◌≡◌, ◌<◌, ◌≤◌, ◌+◌, ◌*◌, ◌^◌, ℕ, zero, suc, List, [], ◌∷◌, ◌++◌, length, drop, get_or, refl, sym, ap, ◌∙◌, arith, length-append}
+use Rattle.std.proofs.Common.{◌≡◌, ◌<◌, ◌≤◌, ◌+◌, ◌*◌, ◌^◌, ℕ, zero, suc, List, [], ◌∷◌, ◌++◌, length, drop, get_or, ap, ◌∙◌, arith, length-append}
 use Rattle.std.specs.Prelude.{flat_map}
 use Rattle.std.specs.List.{AllByRecursion}
 use Rattle.std.proofs.Math.Seq.{drop-cons}
-use Rattle.store_model.specs.Entries.{Entry, body, bytes_of}
+use Rattle.store_model.specs.Entries.{Entry, body}
 use Rattle.block_model.specs.Block.{AreEntries, IsEntry}
 use Rattle.std.proofs.lemmas.Grind.{flat_map-append}
 use Rattle.block_model.specs.Pages.{block_length}
@@ -20,7 +20,7 @@ entry_at block i d is lt = all_at IsEntry block i d is.each lt
 body_bound : (e : Entry) → IsEntry e → length (body e) ≤ 66567
 body_bound e is = omega (arith, length-body e, is.short_key, is.short_value)
 
-bodies_bound : (block : List Entry) → AllByRecursion IsEntry block → length (flat_map body block) ≤ 66567 * length block
+pub bodies_bound : (block : List Entry) → AllByRecursion IsEntry block → length (flat_map body block) ≤ 66567 * length block
 bodies_bound [] all = omega arith
 bodies_bound (e ∷ more) all = omega (arith, length-append (body e) (flat_map body more), body_bound e all.0, bodies_bound more all.1)
 

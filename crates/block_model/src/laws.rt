@@ -1,5 +1,5 @@
 // Laws of the formats. They are proved and never called.
-ghost use Rattle.block_model.specs.Laws.{BlockFillsItsPages, BlocksAreSound, BlocksAreTheEntries, BlocksFillTheirPages, BlocksGrow, IndexHasItsLength};
+ghost use Rattle.block_model.specs.Laws.{BlockFillsItsPages, BlocksAreSound, BlocksAreTheEntries, BlocksFillTheirPages, BlocksGrow, IndexHasItsLength, BlockIsReadAgain, BlockWasWrittenSo, IndexIsReadAgain, IndexIsSound, IndexWasWrittenSo};
 
 /// The blocks of a table, one after the other, are its entries; each more entry goes into the last block or behind it;
 /// and each block is one that the format has room for.
@@ -15,4 +15,18 @@ pub fn lengths_are_counted()
     ensures block { BlockFillsItsPages }
     ensures blocks { BlocksFillTheirPages }
     ensures index { IndexHasItsLength }
+{}
+
+/// A block is read as it was written, and breaks no rule; and bytes that break none are those of what is read from them.
+#[tactic(auto, using(crate::proofs::BlocksRead::block_again, crate::proofs::BlocksWritten::block_written))]
+pub fn blocks_have_one_spelling()
+    ensures again { BlockIsReadAgain }
+    ensures written { BlockWasWrittenSo }
+{}
+
+/// So is an index, and the index of a table is one.
+pub fn indexes_have_one_spelling()
+    ensures again { IndexIsReadAgain }
+    ensures written { IndexWasWrittenSo }
+    ensures sound { IndexIsSound }
 {}

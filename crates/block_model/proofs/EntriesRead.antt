@@ -1,0 +1,104 @@
+-- Entries are read as they were written, and were written as they are read.
+use Rattle.std.proofs.Common.{◌≡◌, ◌≤◌, ◌+◌, ℕ, Bool, true, false, cond, List, [], ◌∷◌, ◌++◌, length, take, drop, refl, sym, ap, ap₂, ◌∙◌, arith, append_assoc, length-append}
+use Rattle.std.specs.Prelude.{Option, Some, None, ◌==◌, ◌&&◌, ◌||◌, nat_lt, not, flat_map}
+use Rattle.std.specs.List.{AllByRecursion}
+use Rattle.std.proofs.lemmas.Bool.{ne_eqb, le-ltb, or_from}
+use Rattle.std.proofs.lemmas.List.{drop-drop, drop_at, take_at}
+use Rattle.byteorder.specs.Endian.{little_bytes}
+use Rattle.byte_fields.proofs.NumberLemmas.{number_again}
+use Rattle.store_model.specs.SortedMap.{Bytes}
+use Rattle.store_model.specs.Entries.{Entry, body, bytes_of, kind_of}
+use Rattle.block_model.specs.Block.{IsEntry, keys_of}
+use Rattle.block_model.specs.BlockReading.{entries_fault, entries_in, entry_fault, entry_in, is_no_key_length, key_in, key_length_in, value_length_in, width_in}
+use Rattle.block_model.specs.Order.{Follow, is_above}
+use Rattle.block_model.proofs.Lengths.{length-body}
+use Rattle.block_model.proofs.Refusals.{none_of, not_true, passed}
+
+-- ---- what was written of an entry is read
+
+-- what follows the seven first bytes
+abbrev behind : Entry → Bytes → Bytes
+behind e rest = (e.key ++ bytes_of e.value) ++ rest
+
+key_length_again : (e : Entry) (rest : Bytes) → IsEntry e → key_length_in (body e ++ rest) ≡ length e.key
+key_length_again e rest is = number_again 2 (length e.key) (little_bytes 4 (length (bytes_of e.value)) ++ behind e rest) (omega (arith, is.short_key))
+
+value_length_again : (e : Entry) (rest : Bytes) → IsEntry e → value_length_in (body e ++ rest) ≡ length (bytes_of e.value)
+value_length_again e rest is = number_again 4 (length (bytes_of e.value)) (behind e rest) (omega (arith, is.short_value))
+
+pub width_again : (e : Entry) (rest : Bytes) → IsEntry e → width_in (body e ++ rest) ≡ length (body e)
+unfolding width_in
+width_again e rest is = omega (arith, key_length_again e rest is, value_length_again e rest is, length-body e)
+
+key_part : (e : Entry) (rest : Bytes) → take (length e.key) (behind e rest) ≡ e.key
+key_part e rest = ap (take (length e.key)) (append_assoc e.key (bytes_of e.value) rest) ∙ take_at e.key (bytes_of e.value ++ rest) (length e.key) refl
+
+pub key_again : (e : Entry) (rest : Bytes) → IsEntry e → key_in (body e ++ rest) ≡ e.key
+unfolding key_in
+key_again e rest is = ap (λ (n : ℕ). take n (behind e rest)) (key_length_again e rest is) ∙ key_part e rest
+
+value_part : (e : Entry) (rest : Bytes) → IsEntry e → take (value_length_in (body e ++ rest)) (drop (7 + key_length_in (body e ++ rest)) (body e ++ rest)) ≡ bytes_of e.value
+value_part e rest is =
+    let k = length e.key in
+    let v = length (bytes_of e.value) in
+    let value = bytes_of e.value in
+    let from : drop (7 + k) (body e ++ rest) ≡ value ++ rest =
+    sym (drop-drop k 7 (body e ++ rest)) ∙ ap (drop k) (append_assoc e.key value rest) ∙ drop_at e.key (value ++ rest) k refl in
+    ap₂ (λ (n m : ℕ). take n (drop (7 + m) (body e ++ rest))) (value_length_again e rest is) (key_length_again e rest is)
+    ∙ ap (take v) from ∙ take_at value rest v refl
+
+value_again : (key : Bytes) (value : Option Bytes) (n : ℕ) (bytes : Bytes) → bytes ≡ bytes_of value → cond (kind_of value == 1) (Some bytes) None ≡ value
+value_again key (Some value) n bytes is = ap Some is
+value_again key None n bytes is = refl
+
+pub entry_again : (e : Entry) (rest : Bytes) → IsEntry e → entry_in (body e ++ rest) ≡ e
+unfolding entry_in
+entry_again e rest is =
+    ap₂ (λ (k : Bytes) (v : Option Bytes). record { key = k; value = v }) (key_again e rest is) (value_again e.key e.value 0 _ (value_part e rest is))
+
+-- ---- and breaks no rule
+
+kind_kept : (value : Option Bytes) (v : ℕ) → v ≡ length (bytes_of value) → (not (kind_of value == 1) && (not (kind_of value == 2) || nat_lt 0 v)) ≡ false
+kind_kept (Some bytes) v e = refl
+kind_kept None v e = le-ltb 0 v (omega (arith, e))
+
+pub eqb_zero : (n : ℕ) → 1 ≤ n → (n == 0) ≡ false
+eqb_zero n le = ne_eqb n 0 (λ e. omega (arith, e, le))
+
+pub key_length_kept : (n : ℕ) → 1 ≤ n → n ≤ 1024 → is_no_key_length n ≡ false
+key_length_kept n some few = or_from (n == 0) (nat_lt 1024 n) (eqb_zero n some) (le-ltb 1024 n few)
+
+pub entry_kept : (place : ℕ) (test : Bytes → Bool) (e : Entry) (rest : Bytes) → IsEntry e → test e.key ≡ true → entry_fault place test (body e ++ rest) ≡ None
+unfolding entry_fault
+entry_kept place test e rest is passes =
+    let k = key_length_again e rest is in
+    let v = value_length_again e rest is in
+    let long = length-append (body e) rest in
+    let n = length-body e in
+    passed _ _ _ _ (le-ltb (length (body e ++ rest)) 7 (omega (arith, long, n)))
+    (passed _ _ _ _ (kind_kept e.value (value_length_in (body e ++ rest)) v)
+    (passed _ _ _ _ (or_from _ _ (key_length_kept (key_length_in (body e ++ rest)) (omega (arith, k, is.some_key)) (omega (arith, k, is.short_key)))
+    (le-ltb 65536 (value_length_in (body e ++ rest)) (omega (arith, v, is.short_value))))
+    (passed _ _ _ _ (le-ltb (length (body e ++ rest)) (width_in (body e ++ rest)) (omega (arith, long, width_again e rest is)))
+    (passed _ _ _ _ (not_true (test (key_in (body e ++ rest))) (ap test (key_again e rest is) ∙ passes)) refl))))
+
+behind_body : (e : Entry) (rest : Bytes) → IsEntry e → drop (width_in (body e ++ rest)) (body e ++ rest) ≡ rest
+behind_body e rest is = drop_at (body e) rest (width_in (body e ++ rest)) (sym (width_again e rest is))
+
+pub entries_kept : (place : ℕ) (test : Bytes → Bool) (es : List Entry) → AllByRecursion IsEntry es → Follow test (keys_of es)
+    → entries_fault (length es) place test (flat_map body es) ≡ None
+unfolding entries_fault
+entries_kept place test [] is rises = refl
+entries_kept place test (e ∷ es) is rises =
+    let rest = flat_map body es in
+    let b = body e ++ rest in
+    let later = entries_kept (place + width_in b) (is_above e.key) es is.1 rises.1 in
+    none_of _ _ (entry_kept place test e rest is.0 rises.0)
+    (ap₂ (λ (k : Bytes) (r : Bytes). entries_fault (length es) (place + width_in b) (is_above k) r) (key_again e rest is.0) (behind_body e rest is.0) ∙ later)
+
+pub entries_again : (es : List Entry) → AllByRecursion IsEntry es → entries_in (length es) (flat_map body es) ≡ es
+unfolding entries_in
+entries_again [] is = refl
+entries_again (e ∷ es) is =
+    let rest = flat_map body es in
+    ap₂ (λ (x : Entry) (r : Bytes). x ∷ entries_in (length es) r) (entry_again e rest is.0) (behind_body e rest is.0) ∙ ap (λ (l : List Entry). e ∷ l) (entries_again es is.1)

@@ -1,0 +1,217 @@
+// The bytes of blocks and of an index.
+ghost use Rattle.std.specs.Prelude.{◌≡◌, ◌-◌, ◌*◌, ◌^◌, ◌<◌, ◌≤◌, ◌++◌, [], ◌∷◌, IfOk, OnOk, length, map, replicate, vec_items};
+ghost use Rattle.std.specs.List.{AllByRecursion};
+ghost use Rattle.store_model.specs.Entries.{body};
+ghost use Rattle.block_model.specs.Block.{AreEntries, block_bytes, data_bytes};
+ghost use Rattle.block_model.specs.Index.{index_bytes, index_of, index_row_bytes, index_row_of};
+ghost use Rattle.block_model.specs.Pages.{first_key, last_key, page_bytes, pages_for};
+
+use crate::pages::{block_length, cut, pages_for};
+use byte_fields::fnv1a;
+use entry_list::{Entry, push_fields};
+use key_base::PAGE_BYTES;
+use std::alloc::{AllocError, Global};
+
+const ENTRY_WIDTHS: [usize; 3] = [1, 2, 4];
+
+const HEADER_WIDTHS: [usize; 3] = [4, 1, 3];
+
+const INDEX_HEAD_WIDTHS: [usize; 3] = [4, 4, 2];
+
+const INDEX_ROW_WIDTHS: [usize; 3] = [4, 8, 2];
+
+/// `SRFI`.
+const INDEX_MAGIC: u64 = 0x49465253;
+
+/// The bytes of a block, in whole pages.
+pub fn block_bytes(alloc: Global, block: &[Entry]) -> Result<Vec<u8>, AllocError>
+    requires { AreEntries block.now }
+    ensures { IfOk result (λ bytes. bytes.items ≡ block_bytes block.now) }
+{
+    let mut out = Vec::new(alloc);
+    push_block(block, &mut out)?;
+    Ok(out)
+}
+
+/// The bytes of a table's blocks, one after the other.
+pub fn data_bytes(alloc: Global, entries: &[Entry]) -> Result<Vec<u8>, AllocError>
+    requires { AreEntries entries.now }
+    ensures { IfOk result (λ bytes. bytes.items ≡ data_bytes entries.now) }
+{
+    let blocks = cut(alloc, entries)?;
+    let mut out = Vec::new(alloc);
+    for block in blocks.as_slice() {
+        push_block(block.as_slice(), &mut out)?;
+    }
+    Ok(out)
+}
+
+#[tactic(auto, unfolding(crate::specs::Block::block_bytes, crate::specs::Block::header_bytes, crate::specs::Block::padding))]
+fn push_block(block: &[Entry], out: &mut Vec<u8>) -> Result<(), AllocError>
+    requires { AreEntries block.now }
+    ensures { OnOk result (out.new.items ≡ out.old.items ++ block_bytes block.now) }
+{
+    let used = block_length(block);
+    push_fields(&HEADER_WIDTHS, &[used, block.len() as u64, 0], out)?;
+    for entry in block {
+        push_body(entry, out)?;
+    }
+    push_zeros(left_in_page(used), out)
+}
+
+// How many bytes are left of the last page.
+#[tactic(auto, unfolding(crate::specs::Pages::pages_for))]
+fn left_in_page(used: u64) -> u64
+    requires { used < 2 ^ 49 }
+    ensures { result ≡ page_bytes * pages_for used - used }
+{
+    PAGE_BYTES as u64 * pages_for(used) - used
+}
+
+fn push_zeros(count: u64, out: &mut Vec<u8>) -> Result<(), AllocError>
+    ensures { OnOk result (out.new.items ≡ out.old.items ++ replicate count 0) }
+{
+    for _ in 0..count {
+        out.push(0)?;
+    }
+    Ok(())
+}
+
+/// Appends what a block and a log have of an entry: its kind, the lengths of key and value, the key and the value.
+pub fn push_body(entry: &Entry, out: &mut Vec<u8>) -> Result<(), AllocError>
+    ensures { OnOk result (out.new.items ≡ out.old.items ++ body entry.now) }
+{
+    let key = entry.key();
+    match entry.value() {
+        Some(value) => {
+            push_fields(
+                &ENTRY_WIDTHS,
+                &[1, key.len() as u64, value.len() as u64],
+                out,
+            )?;
+            out.extend_from_slice(key)?;
+            out.extend_from_slice(value)
+        }
+        None => {
+            push_fields(&ENTRY_WIDTHS, &[2, key.len() as u64, 0], out)?;
+            out.extend_from_slice(key)
+        }
+    }
+}
+
+/// The bytes of a table's index.
+pub fn index_bytes(alloc: Global, entries: &[Entry]) -> Result<Vec<u8>, AllocError>
+    requires { AreEntries entries.now }
+    ensures { IfOk result (λ bytes. bytes.items ≡ index_bytes (index_of entries.now)) }
+{
+    let blocks = cut(alloc, entries)?;
+    let least = first_key(entries);
+    let mut out = Vec::new(alloc);
+    push_fields(
+        &INDEX_HEAD_WIDTHS,
+        &[INDEX_MAGIC, blocks.len() as u64, least.len() as u64],
+        &mut out,
+    )?;
+    out.extend_from_slice(least)?;
+    for block in blocks.as_slice() {
+        push_index_row(alloc, block.as_slice(), &mut out)?;
+    }
+    Ok(out)
+}
+
+#[tactic(auto, unfolding(crate::specs::Index::index_row_bytes, crate::specs::Index::index_row_of, crate::specs::Pages::block_pages))]
+fn push_index_row(alloc: Global, block: &[Entry], out: &mut Vec<u8>) -> Result<(), AllocError>
+    requires { AreEntries block.now }
+    ensures { OnOk result (out.new.items ≡ out.old.items ++ index_row_bytes (index_row_of block.now)) }
+{
+    let sum = fnv1a(block_bytes(alloc, block)?.as_slice());
+    let last = last_key(block);
+    push_fields(
+        &INDEX_ROW_WIDTHS,
+        &[pages_for(block_length(block)), sum, last.len() as u64],
+        out,
+    )?;
+    out.extend_from_slice(last)
+}
+
+/// The key of the first entry, no byte where there is none.
+pub fn first_key(entries: &[Entry]) -> &[u8]
+    ensures { result.now ≡ first_key entries.now }
+{
+    match entries.first() {
+        Some(entry) => entry.key(),
+        None => b"",
+    }
+}
+
+/// The key of the last entry, no byte where there is none.
+pub fn last_key(entries: &[Entry]) -> &[u8]
+    ensures { result.now ≡ last_key entries.now }
+{
+    if entries.is_empty() {
+        return b"";
+    }
+    entries[entries.len() - 1].key()
+}
+
+#[cfg(test)]
+mod tests {
+    use super::*;
+    use crate::counts::{data_pages, index_length};
+    use crate::pages::are_entries;
+    use entry_list::push_copy;
+    use std::test::Fail;
+
+    fn a_and_ab(alloc: Global) -> Result<Vec<Entry>, AllocError> {
+        let mut list = Vec::new(alloc);
+        push_copy(&Entry::new(alloc, b"a", Some(b"b"))?, &mut list)?;
+        push_copy(&Entry::new(alloc, b"ab", None)?, &mut list)?;
+        Ok(list)
+    }
+
+    #[test]
+    fn a_block_of_two_entries(rt: HostRuntime) -> Result<(), Fail> {
+        let list = a_and_ab(rt.alloc())?;
+        assert!(rt; are_entries(list.as_slice()));
+        let bytes = block_bytes(rt.alloc(), list.as_slice())?;
+        let used = [
+            0x1A, 0, 0, 0, 2, 0, 0, 0, 1, 1, 0, 1, 0, 0, 0, 0x61, 0x62, 2, 2, 0, 0, 0, 0, 0, 0x61,
+            0x62,
+        ];
+        assert_eq!(rt; bytes.len(), 4096);
+        assert!(rt; bytes.as_slice().starts_with(used.as_slice()));
+        assert_eq!(rt; data_pages(rt.alloc(), list.as_slice())?, 1);
+        Ok(())
+    }
+
+    #[test]
+    fn an_index_of_one_block(rt: HostRuntime) -> Result<(), Fail> {
+        let list = a_and_ab(rt.alloc())?;
+        assert!(rt; are_entries(list.as_slice()));
+        let bytes = index_bytes(rt.alloc(), list.as_slice())?;
+        let index = [
+            0x53, 0x52, 0x46, 0x49, 1, 0, 0, 0, 1, 0, 0x61, 1, 0, 0, 0, 0xD2, 0xE6, 0x56, 0xD0,
+            0x62, 0xCC, 0xE3, 0xC5, 2, 0, 0x61, 0x62,
+        ];
+        assert_eq!(rt; bytes.as_slice(), index.as_slice());
+        assert_eq!(rt; index_length(rt.alloc(), list.as_slice())?, 27);
+        Ok(())
+    }
+
+    fn wide(alloc: Global, key: u8, bytes: usize) -> Result<Entry, AllocError> {
+        let value = vec![in alloc; 7; bytes]?;
+        Entry::new(alloc, &[key], Some(value.as_slice()))
+    }
+
+    #[test]
+    fn three_values_of_65_536_bytes(rt: HostRuntime) -> Result<(), Fail> {
+        let mut list = Vec::new(rt.alloc());
+        for key in 1..4 {
+            push_copy(&wide(rt.alloc(), key, 65_536)?, &mut list)?;
+        }
+        assert!(rt; are_entries(list.as_slice()));
+        assert_eq!(rt; data_pages(rt.alloc(), list.as_slice())?, 51);
+        assert_eq!(rt; data_bytes(rt.alloc(), list.as_slice())?.len(), 208_896);
+        Ok(())
+    }
+}
