@@ -13,7 +13,7 @@ use Rattle.store_model.specs.SortedMap.{Bytes}
 use Rattle.store_model.specs.Entries.{Entry}
 use Rattle.store_model.specs.Lines.{lines_of, whole_lines}
 use Rattle.store_model.specs.Replies.{text_of}
-use Rattle.store_model.specs.Script.{Script, Ending, ToLast}
+use Rattle.store_model.specs.Script.{Script, WentOn, Ending, ToLast}
 use Rattle.surf_run.specs.Causes.{SayFailed}
 use Rattle.surf_run.specs.Crash.{Reached, Acknowledged}
 use Rattle.surf_run.specs.Open.{OpenMoves, reply_to, status_of}
@@ -48,13 +48,16 @@ module _ (start : List Entry) (old mid new : World) (opened : OpenMoves old mid)
   part_since : (taken : Bytes) → SaidInPart start taken mid new → SaidInPart start taken old new
   part_since taken part = record {
     lines = part.lines;
+    line = part.line;
     later = part.later;
-    first = part.first;
+    split = part.split;
     text = part.text;
-    rest = part.rest;
-    output = out_same part.text part.output;
+    now = part.now;
+    went_on = subst (λ (s : Bytes). WentOn (Reached new) (length s) start part.lines part.text part.now) said_same part.went_on;
+    reply = part.reply;
     last = part.last;
-    answered = part.answered;
+    step = part.step;
+    front = subst (λ (s : Bytes). SaysFront (text_of part.reply) (s ++ part.text) new.beside.said) said_same part.front;
   }
 
   -- what a crash may leave while the store is opened

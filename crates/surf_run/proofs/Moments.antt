@@ -10,7 +10,8 @@ use Rattle.store_model.specs.Entries.{Entry}
 use Rattle.store_model.specs.Replies.{Reply, Bye, Device, text_of}
 use Rattle.surf_run.specs.Holds.{Holds}
 use Rattle.surf_run.specs.Saying.{Says}
-use Rattle.surf_run.specs.Serving.{Leaves, LogAfter, InLine, LineAnswer, GoesOn, Answered}
+use Rattle.store_model.specs.Script.{GoesOn}
+use Rattle.surf_run.specs.Serving.{Leaves, LogAfter, InLine, LineAnswer, Answered}
 use Rattle.surf_run.specs.declared.store.Store.{Store}
 use Rattle.surf_run.specs.declared.end.LineEnd.{LineEnd}
 use Rattle.surf_run.specs.declared.end.LineEnd.TheVariants.{Next, Quit, End}
@@ -73,13 +74,13 @@ module _ (old : List Entry) (S : Leaves) (new : List Entry) (store : Store) (a m
   ]
 
   -- `bye`
-  pub answered_quit : (result : LineEnd) → LineAnswer old S Bye new a b → Says Quit Bye result mid b → Answered result old S store a b
-  answered_quit Next answer says = elim says.1 [ inl all ↦ absurd (let is = all.0 in cc) | inr six ↦ absurd cc ]
-  answered_quit Quit answer says = elim says.1 [
-    | inl all ↦ (new, answer, whole (text_of Bye) all.1)
+  pub answered_quit : (result : LineEnd) → LineAnswer old S Bye new a b → Says Quit Bye result mid b → Now (LogIs 0 new) b → Answered result old S store a b
+  answered_quit Next answer says now = elim says.1 [ inl all ↦ absurd (let is = all.0 in cc) | inr six ↦ absurd cc ]
+  answered_quit Quit answer says now = elim says.1 [
+    | inl all ↦ (new, answer, whole (text_of Bye) all.1, now)
     | inr six ↦ absurd cc
   ]
-  answered_quit (End status) answer says = elim says.1 [
+  answered_quit (End status) answer says now = elim says.1 [
     | inl all ↦ absurd (let is = all.0 in cc)
     | inr six ↦ (Bye, new, answer, inr (let is : status ≡ 6 = cc in is))
   ]
@@ -101,7 +102,7 @@ module _ (old : List Entry) (S T : Leaves) (turned : (reply : Reply) (new : List
 
   pub answered_as : (result : LineEnd) (store : Store) (a b : World) → Answered result old S store a b → Answered result old T store a b
   answered_as Next store a b answered = (answered.0, answered.1, line_as answered.0 answered.1 a b answered.2, answered.3, answered.4, answered.5, answered.6)
-  answered_as Quit store a b answered = (answered.0, line_as Bye answered.0 a b answered.1, answered.2)
+  answered_as Quit store a b answered = (answered.0, line_as Bye answered.0 a b answered.1, answered.2, answered.3)
   answered_as (End status) store a b answered = (answered.0, answered.1, line_as answered.0 answered.1 a b answered.2, answered.3)
 
 -- where no call was made

@@ -6,7 +6,7 @@ use Rattle.std.proofs.lemmas.List.Elements.{All-nil}
 use Rattle.std.specs.Prelude.{◌==◌, false}
 use Rattle.disk_trait.specs.World.{World, Now}
 use Rattle.outside.specs.During.{During}
-use Rattle.outside.specs.Streams.{SaidByNow, TakeMoves}
+use Rattle.outside.specs.Streams.{SaidByNow, SaysFront, TakeMoves}
 use Rattle.outside.proofs.Crossing.{during_then, during_weaker, during_take, during_none}
 use Rattle.gate_log.specs.Area.{LogIs}
 use Rattle.store_commands.specs.Cutting.{NoNewline}
@@ -14,16 +14,16 @@ use Rattle.store_model.specs.SortedMap.{Bytes}
 use Rattle.store_model.specs.Entries.{Entry}
 use Rattle.store_model.specs.Lines.{command_of, lines_of, whole_lines}
 use Rattle.store_model.specs.Replies.{Reply, Bye, text_of}
-use Rattle.store_model.specs.Script.{Step, Answers, Script, Ending, ToLast, AtQuit, AtDevice}
-use Rattle.surf_run.specs.Crash.{Reached, WentOn, Acknowledged}
+use Rattle.store_model.specs.Script.{Step, Script, GoesOn, WentOn, Ending, ToLast, AtQuit, AtDevice}
+use Rattle.surf_run.specs.Crash.{Reached, Anything, Acknowledged}
 use Rattle.surf_run.specs.Holds.{Holds}
 use Rattle.surf_run.specs.Outcome.{Said, SaidInPart, Settled}
-use Rattle.surf_run.specs.Serving.{LineAnswer, GoesOn, Whole, Answered, Ran, with_newline, Served, Closed, EndedBy}
+use Rattle.surf_run.specs.Serving.{LineAnswer, Whole, Answered, with_newline, Served, Closed, EndedBy}
 use Rattle.surf_run.specs.declared.store.Store.{Store}
 use Rattle.surf_run.specs.declared.end.LineEnd.TheVariants.{Next, Quit, End}
 use Rattle.surf_run.proofs.Moments.{now_still}
 use Rattle.surf_run.proofs.Texts.{lines_first, whole_first, last_line, held_none, held_some, held_same}
-use Rattle.surf_run.proofs.Answering.{answers_of, went_of, answers_on, ran_on, ran_weaker, script_of, script_ends, IsLast}
+use Rattle.surf_run.proofs.Answering.{went_of, went_on, went_as, script_of, script_ends, IsLast}
 use Rattle.surf_run.proofs.History.{reached_on, reached_here, ack_more, ack_none, ack_here, line_ack}
 use Rattle.surf_run.proofs.Progress.{device_last}
 
@@ -50,7 +50,7 @@ pub served_take : (start : List Entry) (bytes kept : Bytes) (store : Store) (fir
 served_take start bytes kept store first w w' moves now served =
     let low = length first.beside.said in
     let taking = during_take (LogIs 0 served.now) w w' served.stand moves now in
-    let went = went_of (Reached w) low start served.lines served.text served.now served.ran in
+    let went = went_of (Reached w) low 0 start served.lines served.text served.now served.ran in
     record {
       lines = served.lines;
       rest = served.rest;
@@ -59,7 +59,7 @@ served_take start bytes kept store first w w' moves now served =
       split = served.split;
       whole = served.whole;
       open_end = served.open_end;
-      ran = ran_weaker (Reached w) (Reached w') (reached_on _ w w' taking) low start served.lines served.text served.now served.ran;
+      ran = went_as (Reached w) (Reached w') (reached_on _ w w' taking) low start served.lines served.text served.now served.ran;
       told = moves.said ∙ served.told;
       held = served.held;
       history =
@@ -115,24 +115,28 @@ settled_end status start taken first w ended = elim ended [
         crash = more_lines start taken four.1.lines first_lines.0 first w (lines_now taken four.1.lines first_lines.0 first_lines.1) four.1.history;
       }
   | inr six ↦
-      let first_lines = six.1.first_lines [] in
       let broken = six.1 in
+      let first_lines = broken.first_lines [] in
+      let before = broken.lines ++ broken.line ∷ [] in
       record {
         ended = λ is. absurd (let e = six.0 in omega arith);
         device = λ is. absurd (let e = six.0 in omega arith);
         cut = λ is. absurd (let e = six.0 in elim is [ inl three ↦ omega arith | inr nine ↦ omega arith ]);
         output = λ _. record {
           lines = broken.lines;
+          line = broken.line;
           later = first_lines.0;
-          first = lines_now taken broken.lines first_lines.0 first_lines.1;
+          split = lines_now taken before first_lines.0 first_lines.1 ∙ append_assoc broken.lines (broken.line ∷ []) first_lines.0;
           text = broken.text;
-          rest = broken.rest;
-          output = broken.told;
+          now = broken.now;
+          went_on = broken.ran;
+          reply = broken.reply;
           last = broken.last;
-          answered = broken.answered;
+          step = broken.step;
+          front = broken.front;
         };
-        said = (broken.text, broken.told);
-        crash = more_lines start taken broken.lines first_lines.0 first w (lines_now taken broken.lines first_lines.0 first_lines.1) broken.history;
+        said = (broken.text ++ broken.front.done, broken.front.said ∙ append_assoc first.beside.said broken.text broken.front.done);
+        crash = more_lines start taken before first_lines.0 first w (lines_now taken before first_lines.0 first_lines.1) broken.history;
       }
 ]
 
@@ -181,14 +185,11 @@ module _ (start : List Entry) (taken kept : Bytes) (store : Store) (first w w' :
       ∙ ap (λ (ls : List Bytes). served.lines ++ ls) (last_line served.rest served.open_end (held_some served.rest kept served.held some))
 
   module _ (reply : Reply) (new : List Entry) (answer : LineAnswer served.now (Step served.now (command_of served.rest)) reply new w w') where
-    answered_before : Answers start served.lines served.text served.now
-    answered_before = answers_of (Reached w) (length first.beside.said) start served.lines served.text served.now served.ran
-
     grown : (text : Bytes) × (w'.beside.said ≡ first.beside.said ++ text)
     grown = (served.text ++ answer.front.done, answer.front.said ∙ ap (λ (l : Bytes). l ++ answer.front.done) served.told ∙ append_assoc first.beside.said served.text answer.front.done)
 
-    went_before : WentOn start served.lines served.text served.now
-    went_before = went_of (Reached w) (length first.beside.said) start served.lines served.text served.now served.ran
+    went_before : WentOn Anything 0 start served.lines served.text served.now
+    went_before = went_of (Reached w) (length first.beside.said) 0 start served.lines served.text served.now served.ran
 
     crash : During (Acknowledged start (lines_of taken) first.beside.said w'.beside.said) first w'
     crash = subst (λ (ls : List Bytes). During (Acknowledged start ls first.beside.said w'.beside.said) first w') (sym last)
@@ -196,49 +197,55 @@ module _ (start : List Entry) (taken kept : Bytes) (store : Store) (first w w' :
         (during_weaker _ _ first w served.history (ack_more start served.lines (served.rest ∷ []) first.beside.said w.beside.said w'.beside.said answer.front.done answer.front.said))
         (during_weaker _ _ w w' answer.each (line_ack start served.lines served.rest served.text served.now reply first w w' went_before served.told answer.front)))
 
-    ran_then : Ran (Reached w') (length first.beside.said) start served.lines served.text served.now
-    ran_then = ran_weaker (Reached w) (Reached w') (reached_on _ w w' answer.each) (length first.beside.said) start served.lines served.text served.now served.ran
+    ran_then : WentOn (Reached w') (length first.beside.said) start served.lines served.text served.now
+    ran_then = went_as (Reached w) (Reached w') (reached_on _ w w' answer.each) (length first.beside.said) start served.lines served.text served.now served.ran
 
     told : Whole reply w w' → w'.beside.said ≡ first.beside.said ++ (served.text ++ text_of reply)
     told all = all ∙ ap (λ (l : Bytes). l ++ text_of reply) served.told ∙ append_assoc first.beside.said served.text (text_of reply)
 
-    said_next : GoesOn reply → Whole reply w w' → SaidByNow w' → Now (LogIs 0 new) w' → Said ToLast start taken first w'
-    said_next goes all now stand = record {
+    abbrev then_said : ℕ
+    then_said = length first.beside.said + length served.text + length (text_of reply)
+
+    reached : Whole reply w w' → SaidByNow w' → Now (LogIs 0 new) w' → Reached w' then_said new
+    reached all now stand = reached_here w' new then_said now (omega (arith, ap length (told all), length-append first.beside.said (served.text ++ text_of reply), length-append served.text (text_of reply))) stand
+
+    said_next : GoesOn reply → Whole reply w w' → Reached w' then_said new → Said ToLast start taken first w'
+    said_next goes all stands = record {
       text = served.text ++ text_of reply;
       output = told all;
       script = subst (λ (ls : List Bytes). Script (Reached w') (length first.beside.said) start ls (served.text ++ text_of reply) ToLast) (sym last)
           (script_of (Reached w') (length first.beside.said) start (served.lines ++ served.rest ∷ []) (served.text ++ text_of reply) new
-          (ran_on (Reached w') (length first.beside.said) start served.lines served.text served.now served.rest reply new ran_then answer.step goes
-          (length first.beside.said + length served.text + length (text_of reply)) refl
-          (reached_here w' new (length first.beside.said + length served.text + length (text_of reply)) now (omega (arith, ap length (told all), length-append first.beside.said (served.text ++ text_of reply), length-append served.text (text_of reply))) stand)));
+          (went_on (Reached w') (length first.beside.said) start served.lines served.text served.now served.rest reply new ran_then answer.step goes then_said refl stands));
       settled = inl none;
     }
 
-    said_last : (ending : Ending) → IsLast reply ending → Whole reply w w' → Said ending start taken first w'
+    said_last : (ending : Ending) → IsLast reply ending (Reached w' then_said new) → Whole reply w w' → Said ending start taken first w'
     said_last ending is_last all = record {
       text = served.text ++ text_of reply;
       output = told all;
       script = subst (λ (ls : List Bytes). Script (Reached w') (length first.beside.said) start ls (served.text ++ text_of reply) ending) (sym last)
-          (script_ends (Reached w') (length first.beside.said) start served.lines served.text served.now served.rest reply new [] ending ran_then answer.step is_last);
+          (script_ends (Reached w') (length first.beside.said) start served.lines served.text served.now served.rest reply new [] ending ran_then answer.step then_said refl is_last);
       settled = inl none;
     }
 
     said_in_part : SaidInPart start taken first w'
     said_in_part = record {
-      lines = served.lines ++ served.rest ∷ [];
+      lines = served.lines;
+      line = served.rest;
       later = [];
-      first = last ∙ sym (append-nil (served.lines ++ served.rest ∷ []));
-      text = served.text ++ answer.front.done;
-      rest = answer.front.rest;
-      output = answer.front.said ∙ ap (λ (l : Bytes). l ++ answer.front.done) served.told ∙ append_assoc first.beside.said served.text answer.front.done;
+      split = last;
+      text = served.text;
+      now = served.now;
+      went_on = ran_then;
+      reply = reply;
       last = new;
-      answered = subst (λ (l : Bytes). Answers start (served.lines ++ served.rest ∷ []) l new) (ap (λ (l : Bytes). served.text ++ l) answer.front.split ∙ sym (append_assoc served.text answer.front.done answer.front.rest))
-          (answers_on start served.lines served.text served.now served.rest reply new answered_before answer.step);
+      step = answer.step;
+      front = subst (λ (s : Bytes). SaysFront (text_of reply) s w'.beside.said) served.told answer.front;
     }
 
   pub settled_next : (store' : Store) → SaidByNow w' → Answered Next served.now (Step served.now (command_of served.rest)) store' w w' → Settled 0 start taken first w'
   settled_next store' now a = record {
-    ended = λ _. inl (said_next a.0 a.1 a.2 a.3 a.4 now a.5);
+    ended = λ _. inl (said_next a.0 a.1 a.2 a.3 a.4 (reached a.0 a.1 a.2 a.4 now a.5));
     device = λ e. absurd (omega arith);
     cut = λ is. absurd (elim is [ inl three ↦ omega arith | inr nine ↦ omega arith ]);
     output = λ e. absurd (omega arith);
@@ -246,9 +253,9 @@ module _ (start : List Entry) (taken kept : Bytes) (store : Store) (first w w' :
     crash = crash a.0 a.1 a.2;
   }
 
-  pub settled_bye : (store' : Store) → Answered Quit served.now (Step served.now (command_of served.rest)) store' w w' → Settled 0 start taken first w'
-  settled_bye store' a = record {
-    ended = λ _. inr (said_last Bye a.0 a.1 AtQuit (refl, refl) a.2);
+  pub settled_bye : (store' : Store) → SaidByNow w' → Answered Quit served.now (Step served.now (command_of served.rest)) store' w w' → Settled 0 start taken first w'
+  settled_bye store' now a = record {
+    ended = λ _. inr (said_last Bye a.0 a.1 AtQuit (refl, refl, reached Bye a.0 a.1 a.2 now a.3) a.2);
     device = λ e. absurd (omega arith);
     cut = λ is. absurd (elim is [ inl three ↦ omega arith | inr nine ↦ omega arith ]);
     output = λ e. absurd (omega arith);
@@ -260,7 +267,7 @@ module _ (start : List Entry) (taken kept : Bytes) (store : Store) (first w w' :
   settled_status status store' a = elim a.3 [
     | inl four ↦ record {
       ended = λ e. absurd (let f = four.0 in omega arith);
-      device = λ _. said_last a.0 a.1 a.2 AtDevice (device_last a.0 four.1) four.2;
+      device = λ _. said_last a.0 a.1 a.2 AtDevice (device_last a.0 _ four.1) four.2;
       cut = λ is. absurd (let f = four.0 in elim is [ inl three ↦ omega arith | inr nine ↦ omega arith ]);
       output = λ e. absurd (let f = four.0 in omega arith);
       said = grown a.0 a.1 a.2;

@@ -12,11 +12,11 @@ use Rattle.store_model.specs.Entries.{Entry, bytes_of, map_of, newest, or_else, 
 use Rattle.store_model.specs.Lines.{Command, Put, Del, Get}
 use Rattle.store_model.specs.Lines as asks
 use Rattle.store_model.specs.Replies.{Reply, Bye, BadLine, LongKey, LongValue, text_of, got}
-use Rattle.store_model.specs.Script.{Step, Unless, key_limit, value_limit, first_limit}
+use Rattle.store_model.specs.Script.{Step, GoesOn, Unless, key_limit, value_limit, first_limit}
 use Rattle.store_model.proofs.Maps.{newest_counts}
 use Rattle.surf_run.specs.Holds.{Holds}
 use Rattle.surf_run.specs.Saying.{Says}
-use Rattle.surf_run.specs.Serving.{Leaves, LineAnswer, GoesOn, Answered}
+use Rattle.surf_run.specs.Serving.{Leaves, LineAnswer, Answered}
 use Rattle.surf_run.specs.declared.store.Store.{Store}
 use Rattle.surf_run.specs.declared.end.LineEnd.{LineEnd}
 use Rattle.surf_run.specs.declared.end.LineEnd.TheVariants.{Next, Quit}
@@ -30,7 +30,7 @@ module _ (old : List Entry) (S : Leaves) (a b : World) (now : SaidByNow a) (move
   quiet_next store reply result holds step goes says = answered_next old S old store a a b refl reply result (quiet reply step says.0) says goes (now_still (LogIs 0 old) a b moves.time here) holds
 
   pub quiet_quit : (store : Store) (result : LineEnd) → S Bye old → Says Quit Bye result a b → Answered result old S store a b
-  quiet_quit store result step says = answered_quit old S old store a a b refl result (quiet Bye step says.0) says
+  quiet_quit store result step says = answered_quit old S old store a a b refl result (quiet Bye step says.0) says (now_still (LogIs 0 old) a b moves.time here)
 
 -- ---- limits
 

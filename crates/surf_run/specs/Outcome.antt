@@ -1,15 +1,17 @@
 -- What a run that served came to.
-use Rattle.std.specs.Prelude.{◌≡◌, ◌⊎◌, ◌^◌, ◌++◌, ℕ, List, [], length}
+use Rattle.std.specs.Prelude.{◌≡◌, ◌⊎◌, ◌^◌, ◌++◌, ℕ, List, [], ◌∷◌, length}
 use Rattle.disk_trait.specs.World.{World}
 use Rattle.outside.specs.During.{During}
 use Rattle.store_model.specs.SortedMap.{Bytes}
 use Rattle.store_model.specs.Entries.{Entry}
-use Rattle.store_model.specs.Lines.{lines_of, whole_lines}
-use Rattle.store_model.specs.Script.{Answers, Script, Ending, ToLast, AtQuit, AtDevice}
+use Rattle.outside.specs.Streams.{SaysFront}
+use Rattle.store_model.specs.Lines.{command_of, lines_of, whole_lines}
+use Rattle.store_model.specs.Replies.{Reply, text_of}
+use Rattle.store_model.specs.Script.{Step, Script, WentOn, Ending, ToLast, AtQuit, AtDevice}
 use Rattle.surf_run.specs.Crash.{Reached, Acknowledged}
 
 -- All of the script's text was said, for the lines of what was taken; and the input was at its end, or whatever follows
--- changes nothing. As each reply had been said that is not the last, each image that a crash may then leave had the
+-- changes nothing. As each reply had been said that is not `device`, each image that a crash may then leave had the
 -- entries then.
 pub record Said (ending : Ending) (start : List Entry) (taken : Bytes) (old new : World) : Type 0 where
   pub text : Bytes
@@ -23,16 +25,20 @@ pub record CutOff (start : List Entry) (taken : Bytes) (old new : World) : Type 
   pub output : new.beside.said ≡ old.beside.said ++ text
   pub script : Script (Reached new) (length old.beside.said) start (whole_lines taken) text ToLast
 
--- The output failed: a front was said of what some first lines are answered.
+-- The output failed: some first lines were answered whole, none of them with a last reply, and of the next line's reply
+-- a front was said.
 pub record SaidInPart (start : List Entry) (taken : Bytes) (old new : World) : Type 0 where
   pub lines : List Bytes
+  pub line : Bytes
   pub later : List Bytes
-  pub first : lines_of taken ≡ lines ++ later
+  pub split : lines_of taken ≡ lines ++ line ∷ later
   pub text : Bytes
-  pub rest : Bytes
-  pub output : new.beside.said ≡ old.beside.said ++ text
+  pub now : List Entry
+  pub went_on : WentOn (Reached new) (length old.beside.said) start lines text now
+  pub reply : Reply
   pub last : List Entry
-  pub answered : Answers start lines (text ++ rest) last
+  pub step : Step now (command_of line) reply last
+  pub front : SaysFront (text_of reply) (old.beside.said ++ text) new.beside.said
 
 -- what was said by the status, and what each image that a crash may leave at each moment stands for
 pub record Settled (status : ℕ) (start : List Entry) (taken : Bytes) (old new : World) : Type 0 where

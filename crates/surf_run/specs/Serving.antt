@@ -1,5 +1,5 @@
 -- How far a run has come.
-use Rattle.std.specs.Prelude.{◌≡◌, ◌⊎◌, ◌≤◌, ◌+◌, ℕ, List, [], ◌∷◌, ◌++◌, length, flat_map, All}
+use Rattle.std.specs.Prelude.{◌≡◌, ◌⊎◌, ◌≤◌, ℕ, List, [], ◌∷◌, ◌++◌, length, flat_map, All}
 use Rattle.disk_trait.specs.World.{Image, World, Now}
 use Rattle.outside.specs.During.{During}
 use Rattle.outside.specs.Streams.{SaysFront}
@@ -9,10 +9,9 @@ use Rattle.store_model.specs.SortedMap.{Bytes}
 use Rattle.store_model.specs.Entries.{Entry}
 use Rattle.store_model.specs.Lines.{command_of, lines_of}
 use Rattle.store_model.specs.Replies.{Reply, Bye, Device, text_of}
-use Rattle.store_model.specs.Script.{Step, Answers, Script, Ending, AtQuit, AtDevice}
+use Rattle.store_model.specs.Script.{Step, Script, GoesOn, WentOn, Ending, AtQuit, AtDevice}
 use Rattle.surf_run.specs.Holding.{Held}
 use Rattle.surf_run.specs.Holds.{Holds}
-pub use Rattle.surf_run.specs.Crash.{GoesOn}
 use Rattle.surf_run.specs.Crash.{Reached, Acknowledged}
 use Rattle.surf_run.specs.declared.end.LineEnd.{LineEnd}
 use Rattle.surf_run.specs.declared.end.LineEnd.TheVariants.{Next, Quit, End}
@@ -50,20 +49,13 @@ EndsBy status reply a b = ((status ≡ 4) × (reply ≡ Device) × Whole reply a
 abbrev pub Answered : LineEnd → List Entry → Leaves → Store → World → World → Type 0
 Answered Next old S store a b =
     (reply : Reply) × (new : List Entry) × LineAnswer old S reply new a b × GoesOn reply × Whole reply a b × Now (LogIs 0 new) b × Holds new store
-Answered Quit old S store a b = (new : List Entry) × LineAnswer old S Bye new a b × Whole Bye a b
+Answered Quit old S store a b = (new : List Entry) × LineAnswer old S Bye new a b × Whole Bye a b × Now (LogIs 0 new) b
 Answered (End status) old S store a b = (reply : Reply) × (new : List Entry) × LineAnswer old S reply new a b × EndsBy status reply a b
 
 -- ---- one line after another
 
 abbrev pub with_newline : Bytes → Bytes
 with_newline line = line ++ 10 ∷ []
-
--- these lines were answered with this text, and none of the replies was the last; as each had been said, R held
-abbrev pub Ran : (ℕ → List Entry → Type 0) → ℕ → List Entry → List Bytes → Bytes → List Entry → Type 0
-Ran R said old [] text new = (text ≡ []) × (new ≡ old)
-Ran R said old (line ∷ more) text new =
-    (reply : Reply) × (rest : Bytes) × (mid : List Entry) × (text ≡ text_of reply ++ rest) × Step old (command_of line) reply mid
-    × GoesOn reply × R (said + length (text_of reply)) mid × Ran R (said + length (text_of reply)) mid more rest new
 
 -- since the first world, of these bytes the whole lines were answered, and the rest is kept
 pub record Served (start : List Entry) (bytes kept : Bytes) (store : Store) (first w : World) : Type 0 where
@@ -74,7 +66,7 @@ pub record Served (start : List Entry) (bytes kept : Bytes) (store : Store) (fir
   pub split : bytes ≡ flat_map with_newline lines ++ rest
   pub whole : All NoNewline lines
   pub open_end : NoNewline rest
-  pub ran : Ran (Reached w) (length first.beside.said) start lines text now
+  pub ran : WentOn (Reached w) (length first.beside.said) start lines text now
   pub told : w.beside.said ≡ first.beside.said ++ text
   pub held : Held rest kept
   pub history : During (Acknowledged start lines first.beside.said w.beside.said) first w
@@ -94,16 +86,19 @@ pub record Closed (ending : Ending) (start : List Entry) (bytes : Bytes) (first 
   pub script : (more : Bytes) → Script (Reached w) (length first.beside.said) start (lines_of (bytes ++ more)) text ending
   pub history : During (Acknowledged start lines first.beside.said w.beside.said) first w
 
--- a front of what the first lines are answered was said
+-- the first lines were answered whole, none of them with a last reply, and of the next line's reply a front was said
 pub record Broken (start : List Entry) (bytes : Bytes) (first w : World) : Type 0 where
   pub lines : List Bytes
-  pub first_lines : AreFirst bytes lines
+  pub line : Bytes
+  pub first_lines : AreFirst bytes (lines ++ line ∷ [])
   pub text : Bytes
-  pub rest : Bytes
-  pub told : w.beside.said ≡ first.beside.said ++ text
+  pub now : List Entry
+  pub ran : WentOn (Reached w) (length first.beside.said) start lines text now
+  pub reply : Reply
   pub last : List Entry
-  pub answered : Answers start lines (text ++ rest) last
-  pub history : During (Acknowledged start lines first.beside.said w.beside.said) first w
+  pub step : Step now (command_of line) reply last
+  pub front : SaysFront (text_of reply) (first.beside.said ++ text) w.beside.said
+  pub history : During (Acknowledged start (lines ++ line ∷ []) first.beside.said w.beside.said) first w
 
 abbrev pub EndedBy : ℕ → List Entry → Bytes → World → World → Type 0
 EndedBy status start bytes first w = ((status ≡ 4) × Closed AtDevice start bytes first w) ⊎ ((status ≡ 6) × Broken start bytes first w)

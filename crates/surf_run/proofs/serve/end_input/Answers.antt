@@ -24,7 +24,7 @@ pub returns-in-Quit-clause-settled : goal.returns-in-Quit-clause-settled
 returns-in-Quit-clause-settled g c start first taken tells output none served =
     let some : 0 < length c.args.pending.now = let not = eqb-false _ 0 (sym c.if-is_empty.ensures) in omega arith in
     let same : command_of c.as_slice.result.now ≡ command_of served.rest = ap command_of c.as_slice.ensures ∙ command_held served.rest c.args.pending.now served.held in
-    settled_bye start taken c.args.pending.now c.args.store.now _ _ _ served some (c.answer.ensures.moves.input ∙ none) c.answer.new.store
+    settled_bye start taken c.args.pending.now c.args.store.now _ _ _ served some (c.answer.ensures.moves.input ∙ none) c.answer.new.store (g.met.W.Outside.said_now _)
     (subst (λ (k : Command). Answered Quit served.now (Step served.now k) c.answer.new.store (g.W.Disk.world c.args.out.now) (g.W.Disk.world c.answer.new.out)) same
     (c.in-Quit.ensures.answered served.now tells output served.holds served.stand))
 
