@@ -2,7 +2,8 @@
 use Rattle.std.proofs.Common.{◌≡◌, inl, inr, ◌+◌, ◌++◌, ℕ, List, [], ◌∷◌, length, refl, sym, ap, ◌∙◌, arith, append_assoc, length-append, subst, take, drop, ◌-◌, ◌≤◌}
 use Rattle.std.proofs.Math.Seq.{take-append-add}
 use Rattle.std.proofs.lemmas.List.{append-nil, take-append-le, take_all, take-append-drop}
-use Rattle.disk_trait.specs.World.{Image, World, Now}
+use Rattle.std.specs.Prelude.{Bool, IsTrue}
+use Rattle.disk_trait.specs.World.{Image, World}
 use Rattle.outside.specs.During.{During}
 use Rattle.outside.specs.Streams.{SaidByNow, SaysFront}
 use Rattle.gate_log.specs.Area.{LogIs}
@@ -11,17 +12,17 @@ use Rattle.store_model.specs.Entries.{Entry}
 use Rattle.store_model.specs.Lines.{command_of}
 use Rattle.store_model.specs.Replies.{Reply, text_of}
 use Rattle.store_model.specs.Script.{Step, WentOn}
-use Rattle.surf_run.specs.Crash.{Reached, Anything, Acknowledged}
+use Rattle.surf_run.specs.Crash.{Stands, Reached, Anything, Acknowledged}
 use Rattle.surf_run.specs.Serving.{InLine}
 use Rattle.surf_run.proofs.Answering.{answers_on, answers_of}
 
 -- what was reached stays so
-pub reached_on : (Q : ℕ → Image → Type 0) (a b : World) → During Q a b → (n : ℕ) (entries : List Entry) → Reached a n entries → Reached b n entries
-reached_on Q a b run n entries reached =
-    (reached.0, omega (arith, reached.1, run.later), run.told_kept reached.0 reached.1 ∙ reached.2, λ image left. reached.3 image (run.kept reached.0 image reached.1 left))
+pub reached_on : (tells : Bool) (Q : ℕ → Image → Type 0) (a b : World) → (IsTrue tells → During Q a b) → (n : ℕ) (entries : List Entry) → Reached tells a n entries → Reached tells b n entries
+reached_on tells Q a b runs n entries reaches t =
+    let run = runs t in let reached = reaches t in (reached.0, omega (arith, reached.1, run.later), run.told_kept reached.0 reached.1 ∙ reached.2, λ image left. reached.3 image (run.kept reached.0 image reached.1 left))
 
-pub reached_here : (w : World) (entries : List Entry) (n : ℕ) → SaidByNow w → length w.beside.said ≡ n → Now (LogIs 0 entries) w → Reached w n entries
-reached_here w entries n now is stand = (w.moment, omega arith, now w.moment (omega arith) ∙ is, stand)
+pub reached_here : (tells : Bool) (w : World) (entries : List Entry) (n : ℕ) → SaidByNow w → length w.beside.said ≡ n → Stands tells entries w → Reached tells w n entries
+reached_here tells w entries n now is stand t = (w.moment, omega arith, now w.moment (omega arith) ∙ is, stand t)
 
 -- more lines, and more is said
 pub ack_more : (start : List Entry) (lines more : List Bytes) (before told told' done : Bytes) → told' ≡ told ++ done → (n : ℕ) (image : Image) → Acknowledged start lines before told n image

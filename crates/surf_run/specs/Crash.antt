@@ -1,14 +1,19 @@
 -- What an image that a crash may leave stands for, beside how many bytes had been said by its moment.
-use Rattle.std.specs.Prelude.{◌≡◌, ◌⊎◌, ◌≤◌, ℕ, List, [], ◌∷◌, ◌++◌, length, take}
-use Rattle.disk_trait.specs.World.{Image, World}
+use Rattle.std.specs.Prelude.{◌≡◌, ◌⊎◌, ◌≤◌, ℕ, Bool, IsTrue, List, [], ◌∷◌, ◌++◌, length, take}
+use Rattle.disk_trait.specs.World.{Image, World, Now}
 use Rattle.gate_log.specs.Area.{LogIs}
 use Rattle.store_model.specs.SortedMap.{Bytes}
 use Rattle.store_model.specs.Entries.{Entry}
 use Rattle.store_model.specs.Script.{Answers, WentOn}
 
--- At some moment up to now so many bytes had been said, and each image that a crash may then leave has these entries.
-abbrev pub Reached : World → ℕ → List Entry → Type 0
-Reached w n entries = (m : ℕ) × (m ≤ w.moment) × (w.beside.said_by m ≡ n) × ((image : Image) → w.leaves m image → LogIs 0 entries image)
+-- where the device tells, each image that a crash may leave now has these entries
+abbrev pub Stands : Bool → List Entry → World → Type 0
+Stands tells entries w = IsTrue tells → Now (LogIs 0 entries) w
+
+-- Where the device tells, at some moment up to now so many bytes had been said, and each image that a crash may then leave
+-- has these entries.
+abbrev pub Reached : Bool → World → ℕ → List Entry → Type 0
+Reached tells w n entries = IsTrue tells → (m : ℕ) × (m ≤ w.moment) × (w.beside.said_by m ≡ n) × ((image : Image) → w.leaves m image → LogIs 0 entries image)
 
 -- of any entries, whatever was said
 abbrev pub Anything : ℕ → List Entry → Type 0
