@@ -1,10 +1,10 @@
 -- What opening does, and why it fails.
-use Rattle.std.specs.Prelude.{◌≡◌, ℕ, Bool, IsTrue, List}
+use Rattle.std.specs.Prelude.{◌≡◌, ◌<◌, ℕ, Bool, IsTrue, List}
 use Rattle.disk_trait.specs.World.{World, Passes, Same}
 use Rattle.gate_log.specs.Area.{LogIs}
 use Rattle.gate_log.specs.declared.fault.LogFault.{LogFault}
 use Rattle.gate_log.specs.declared.fault.LogFault.TheVariants.{Memory, Device, Shape}
-use Rattle.store_model.specs.Entries.{Entry}
+use Rattle.store_model.specs.Entries.{Entry, filled}
 use Rattle.store_model.specs.Replies.{Reply}
 use Rattle.store_model.specs.Replies as replies
 use Rattle.surf_run.specs.Causes.{NoFall, DiskFailed}
@@ -25,10 +25,14 @@ OpenCause old new Memory = Unit {0}
 OpenCause old new (Device fault) = DiskFailed old new
 OpenCause old new (Shape at rule) = Unit {0}
 
--- The store is that of some entries. Where the device tells, they are those that it held, and from now on each image that
--- a crash may leave has them.
-abbrev pub Opens : Bool → World → World → Store → Type 0
-Opens tells old new store = (entries : List Entry) × Holds entries store × (IsTrue tells → LogIs 0 entries old.seen.held) × Stands tells entries new
+-- The store is that of some entries, which fit the log area. Where the device tells, they are those that it held, and each
+-- image that a crash may leave now has them.
+pub record Opens (tells : Bool) (old new : World) (store : Store) : Type 0 where
+  pub entries : List Entry
+  pub within : filled entries < 262144
+  pub holds : Holds entries store
+  pub held : IsTrue tells → LogIs 0 entries old.seen.held
+  pub stands : Stands tells entries new
 
 -- the last line and the status of a run whose store was not opened
 abbrev pub reply_to : LogFault → Reply

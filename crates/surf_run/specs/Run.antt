@@ -1,11 +1,13 @@
 -- What a run promises.
-use Rattle.std.specs.Prelude.{◌≡◌, ◌⊎◌, ◌++◌, ℕ, Bool, IsTrue, List, [], ◌∷◌, codes}
+use Rattle.std.specs.Prelude.{◌≡◌, ◌⊎◌, ◌<◌, ◌++◌, ℕ, Bool, IsTrue, List, [], ◌∷◌, codes}
 use Rattle.disk_trait.specs.World.{World, Image}
 use Rattle.outside.specs.During.{During}
 use Rattle.outside.specs.Streams.{SaysFront}
+use Rattle.std.specs.List.{AllByRecursion}
 use Rattle.gate_log.specs.Area.{LogIs, LogBreaks}
+use Rattle.gate_log.specs.Records.{IsSound}
 use Rattle.store_model.specs.SortedMap.{Bytes}
-use Rattle.store_model.specs.Entries.{Entry}
+use Rattle.store_model.specs.Entries.{Entry, filled}
 use Rattle.store_model.specs.Replies.{Device, Memory, DamagedLog, text_of}
 use Rattle.surf_run.specs.Causes.{IsServing, TakeFailed, DiskFailed, SayFailed}
 use Rattle.surf_run.specs.Open.{OpenMoves}
@@ -45,11 +47,13 @@ pub record Unserved (tells : Bool) (status : ℕ) (old new : World) : Type 0 whe
 abbrev pub Ends : Bool → ℕ → List Entry → World → World → Type 0
 Ends tells status start old new = (IsServing status × Outcome tells status start old new) ⊎ Unserved tells status old new
 
--- The store was opened, with nothing written, taken or said by then, over the entries that the device held, where it
--- tells; and lines were answered from them.
+-- The store was opened, with nothing written, taken or said by then, over entries that keep the limits and fit the log
+-- area, where the device tells over those that it held; and lines were answered from them.
 pub record Serves (tells : Bool) (status : ℕ) (old opened new : World) : Type 0 where
   pub opens : OpenMoves old opened
   pub start : List Entry
+  pub sound : AllByRecursion IsSound start
+  pub within : filled start < 262144
   pub held : IsTrue tells → LogIs 0 start old.seen.held
   pub serving : IsServing status
   pub outcome : Outcome tells status start opened new

@@ -8,16 +8,18 @@ use Rattle.surf_run.proofs.opening.open_store.Goals as goal
 
 pub returns-clause-opens : goal.returns-clause-opens
 returns-clause-opens g c =
-    let entries = c.in_ok-log.entries.items in (
-      entries,
-      record {
+    let entries = c.in_ok-log.entries.items in
+    record {
+      entries = entries;
+      within = c.in_ok-log.ensures.within;
+      holds = record {
         place = ap (λ (p : Position). p.filled) c.in_ok-log.ensures.log;
         sound = c.in_ok-log.ensures.sound;
         table = c.in_ok-fill.ensures ∙ ap newest_entries c.deref.ensures.value;
-      },
-      λ t. subst (LogIs 0 entries) c.sync.ensures.moves.held (c.in_ok-log.ensures.entries t),
-      λ t. reads_keep (LogIs 0 entries) 1 _ _ c.replay.ensures.moves (λ image left. subst (LogIs 0 entries) (sym (c.in_ok-sync.ensures.durable image left)) (c.in_ok-log.ensures.entries t)),
-    )
+      };
+      held = λ t. subst (LogIs 0 entries) c.sync.ensures.moves.held (c.in_ok-log.ensures.entries t);
+      stands = λ t. reads_keep (LogIs 0 entries) 1 _ _ c.replay.ensures.moves (λ image left. subst (LogIs 0 entries) (sym (c.in_ok-sync.ensures.durable image left)) (c.in_ok-log.ensures.entries t));
+    }
 
 pub returns-clause-moves : goal.returns-clause-moves
 returns-clause-moves g c = record {

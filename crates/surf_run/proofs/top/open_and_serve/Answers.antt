@@ -11,15 +11,26 @@ use Rattle.surf_run.proofs.top.open_and_serve.Goals as goal
 pub returns-in-Ok-clause-answers : goal.returns-in-Ok-clause-answers
 returns-in-Ok-clause-answers g c input output =
     let opens = c.in-Ok.ensures.opens in
-    elim (c.serve_store.ensures.ends opens.0 input output opens.1 opens.3) [
-      | inl served ↦ inl (c.open_store.new.disk, record { opens = c.open_store.ensures.moves; start = opens.0; held = opens.2; serving = served.0; outcome = served.1 })
+    elim (c.serve_store.ensures.ends opens.entries input output opens.holds opens.stands) [
+      | inl served ↦ inl (
+        c.open_store.new.disk,
+        record {
+          opens = c.open_store.ensures.moves;
+          start = opens.entries;
+          sound = opens.holds.sound;
+          within = opens.within;
+          held = opens.held;
+          serving = served.0;
+          outcome = served.1;
+        },
+      )
       | inr none ↦ inr (unserved_since g.W.Disk.tells _ _ _ _ c.open_store.ensures.moves (g.met.W.Outside.said_now _) none)
     ]
 
 pub returns-in-Ok-clause-told_of_damage : goal.returns-in-Ok-clause-told_of_damage
 returns-in-Ok-clause-told_of_damage g c at rule tells breaks =
     let opens = c.in-Ok.ensures.opens in
-    absurd (not_both opens.0 breaks.0 rule _ (opens.2 tells) breaks.2)
+    absurd (not_both opens.entries breaks.0 rule _ (opens.held tells) breaks.2)
 
 pub returns-in-Err-clause-only_at_damage : goal.returns-in-Err-clause-only_at_damage
 returns-in-Err-clause-only_at_damage g c tells output five =
