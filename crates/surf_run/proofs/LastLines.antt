@@ -1,5 +1,5 @@
 -- Runs that answer no line, and runs in which no call fails.
-use Rattle.std.proofs.Common.{◌≡◌, ◌≢◌, ◌⊎◌, ◌≤◌, ◌∙◌, ◌++◌, inl, inr, refl, ℕ, List, length}
+use Rattle.std.proofs.Common.{◌≡◌, ◌≢◌, ◌⊎◌, ◌≤◌, ◌∙◌, ◌++◌, inl, inr, refl, ℕ, length}
 use Rattle.std.specs.Prelude.{Bool, IsTrue}
 use Rattle.disk_trait.specs.World.{Image, World}
 use Rattle.outside.specs.Streams.{SayMoves, SaidByNow, SaysFront}
@@ -8,11 +8,10 @@ use Rattle.gate_log.specs.Faults.{IsShapeIn}
 use Rattle.gate_log.specs.declared.fault.LogFault.{LogFault}
 use Rattle.gate_log.specs.declared.fault.LogFault.TheVariants.{Memory, Device, Shape}
 use Rattle.store_model.specs.SortedMap.{Bytes}
-use Rattle.store_model.specs.Entries.{Entry}
 use Rattle.store_model.specs.Replies.{text_of}
 use Rattle.surf_run.specs.Causes.{IsServing, StatusCause, SayFailed}
 use Rattle.surf_run.specs.Open.{reply_to, status_of}
-use Rattle.surf_run.specs.Run.{IsDamage, IsLastText, Unserved, Ends, SomeFailed, Completed}
+use Rattle.surf_run.specs.Run.{IsLastText, Unserved, SomeFailed, Completed}
 
 -- a last line was said, whole or in part
 pub unserved : (tells : Bool) (a b : World) → SaidByNow a → SayMoves a b → (status meant : ℕ) (text : Bytes) → IsLastText tells a.seen.held meant text → SaysFront text a.beside.said b.beside.said
@@ -44,10 +43,9 @@ not_two status statuses two = absurd (elim statuses [
 ])
 
 -- where no call fails
-pub completed : (tells : Bool) (status : ℕ) (start : List Entry) (old new : World) → Ends tells status start old new → StatusCause status old new → status ≢ 2 → (SomeFailed old new → ⊥)
-    → ((at rule : ℕ) → IsDamage tells old.seen.held at rule → ⊥) → Completed status old new
-completed tells status start old new ends causes not_two none undamaged = elim ends [
-  | inl served ↦ elim served.0 [
+pub completed : (tells : Bool) (status : ℕ) (old new : World) → IsServing status ⊎ Unserved tells status old new → StatusCause status old new → status ≢ 2 → (SomeFailed old new → ⊥) → Completed tells status old new
+completed tells status old new ends causes not_two none = elim ends [
+  | inl serving ↦ elim serving [
     | inl zero ↦ inl zero
     | inr more ↦ elim more [
       | inl three ↦ absurd (none (inl (causes.taking three)))
@@ -60,7 +58,7 @@ completed tells status start old new ends causes not_two none undamaged = elim e
   | inr unserved ↦ elim unserved.line.3 [
     | inl all ↦ elim unserved.line.2 [
       | inl two ↦ absurd (not_two (all.0 ∙ two.0))
-      | inr more ↦ elim more [ inl four ↦ absurd (none (inr (inl (causes.device (all.0 ∙ four.0))))) | inr more ↦ elim more [ inl seven ↦ inr (inr (all.0 ∙ seven.0, unserved.input)) | inr five ↦ absurd (undamaged five.1 five.2 five.3) ] ]
+      | inr more ↦ elim more [ inl four ↦ absurd (none (inr (inl (causes.device (all.0 ∙ four.0))))) | inr more ↦ elim more [ inl seven ↦ inr (inr (inl (all.0 ∙ seven.0, unserved.input))) | inr five ↦ inr (inr (inr (all.0 ∙ five.0, unserved.input, five.1, five.2, five.3))) ] ]
     ]
     | inr part ↦ absurd (none (inr (inr (causes.saying part.0))))
   ]

@@ -60,6 +60,7 @@ module _ (tells : Bool) (start : List Entry) (old mid new : World) (opened : Ope
     last = part.last;
     step = part.step;
     front = subst (λ (s : Bytes). SaysFront (text_of part.reply) (s ++ part.text) new.beside.said) said_same part.front;
+    stands = part.stands;
   }
 
   -- what a crash may leave while the store is opened

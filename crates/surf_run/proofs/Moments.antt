@@ -67,7 +67,7 @@ module _ (tells : Bool) (old : List Entry) (S : Leaves) (new : List Entry) (stor
   answered_next reply Quit answer says goes now holds = elim says.1 [ inl all ↦ absurd (let is = all.0 in cc) | inr six ↦ absurd cc ]
   answered_next reply (End status) answer says goes now holds = elim says.1 [
     | inl all ↦ absurd (let is = all.0 in cc)
-    | inr six ↦ (reply, new, answer, inr (let is : status ≡ 6 = cc in is))
+    | inr six ↦ (reply, new, answer, inr (let is : status ≡ 6 = cc in is, λ other. now))
   ]
 
   -- `device`
@@ -76,7 +76,7 @@ module _ (tells : Bool) (old : List Entry) (S : Leaves) (new : List Entry) (stor
   answered_device Quit answer says = elim says.1 [ inl all ↦ absurd (let is = all.0 in cc) | inr six ↦ absurd cc ]
   answered_device (End status) answer says = elim says.1 [
     | inl all ↦ (Device, new, answer, inl (let is = all.0 in let four : status ≡ 4 = cc in four, refl, whole (text_of Device) all.1))
-    | inr six ↦ (Device, new, answer, inr (let is : status ≡ 6 = cc in is))
+    | inr six ↦ (Device, new, answer, inr (let is : status ≡ 6 = cc in is, λ other. absurd (other refl)))
   ]
 
   -- `bye`
@@ -88,7 +88,7 @@ module _ (tells : Bool) (old : List Entry) (S : Leaves) (new : List Entry) (stor
   ]
   answered_quit (End status) answer says now = elim says.1 [
     | inl all ↦ absurd (let is = all.0 in cc)
-    | inr six ↦ (Bye, new, answer, inr (let is : status ≡ 6 = cc in is))
+    | inr six ↦ (Bye, new, answer, inr (let is : status ≡ 6 = cc in is, λ other. now))
   ]
 
 -- the same answer, where one relation of replies leads to another

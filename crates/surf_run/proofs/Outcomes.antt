@@ -1,5 +1,5 @@
 -- How a run ends.
-use Rattle.std.proofs.Common.{◌≡◌, ◌⊎◌, inl, inr, ◌<◌, ◌+◌, ◌++◌, ℕ, zero, List, [], ◌∷◌, length, refl, sym, ap, ◌∙◌, subst, arith, append_assoc, length-append}
+use Rattle.std.proofs.Common.{◌≡◌, ◌≢◌, ◌⊎◌, inl, inr, ◌<◌, ◌+◌, ◌++◌, ℕ, zero, List, [], ◌∷◌, length, refl, sym, ap, ◌∙◌, subst, arith, append_assoc, length-append}
 use Rattle.std.specs.Prelude.{flat_map}
 use Rattle.std.proofs.lemmas.List.{append-nil}
 use Rattle.std.proofs.lemmas.List.Elements.{All-nil}
@@ -13,7 +13,7 @@ use Rattle.store_commands.specs.Cutting.{NoNewline}
 use Rattle.store_model.specs.SortedMap.{Bytes}
 use Rattle.store_model.specs.Entries.{Entry}
 use Rattle.store_model.specs.Lines.{command_of, lines_of, whole_lines}
-use Rattle.store_model.specs.Replies.{Reply, Bye, text_of}
+use Rattle.store_model.specs.Replies.{Reply, Bye, Device, text_of}
 use Rattle.store_model.specs.Script.{Step, Script, GoesOn, WentOn, Ending, ToLast, AtQuit, AtDevice}
 use Rattle.surf_run.specs.Crash.{Stands, Reached, Anything, Acknowledged}
 use Rattle.surf_run.specs.Holds.{Holds}
@@ -134,6 +134,7 @@ settled_end tells status start taken first w ended = elim ended [
           last = broken.last;
           step = broken.step;
           front = broken.front;
+          stands = broken.stands;
         };
         said = (broken.text ++ broken.front.done, broken.front.said ∙ append_assoc first.beside.said broken.text broken.front.done);
         crash = more_lines tells start taken before first_lines.0 first w (lines_now taken before first_lines.0 first_lines.1) broken.history;
@@ -228,8 +229,8 @@ module _ (tells : Bool) (start : List Entry) (taken kept : Bytes) (store : Store
       settled = inl none;
     }
 
-    said_in_part : SaidInPart tells start taken first w'
-    said_in_part = record {
+    said_in_part : (reply ≢ Device → Stands tells new w') → SaidInPart tells start taken first w'
+    said_in_part stands = record {
       lines = served.lines;
       line = served.rest;
       later = [];
@@ -241,6 +242,7 @@ module _ (tells : Bool) (start : List Entry) (taken kept : Bytes) (store : Store
       last = new;
       step = answer.step;
       front = subst (λ (s : Bytes). SaysFront (text_of reply) s w'.beside.said) served.told answer.front;
+      stands = stands;
     }
 
   pub settled_next : (store' : Store) → SaidByNow w' → Answered tells Next served.now (Step served.now (command_of served.rest)) store' w w' → Settled tells 0 start taken first w'
@@ -277,7 +279,7 @@ module _ (tells : Bool) (start : List Entry) (taken kept : Bytes) (store : Store
       ended = λ e. absurd (omega arith);
       device = λ e. absurd (omega arith);
       cut = λ is. absurd (elim is [ inl three ↦ omega arith | inr nine ↦ omega arith ]);
-      output = λ _. said_in_part a.0 a.1 a.2;
+      output = λ _. said_in_part a.0 a.1 a.2 six.1;
       said = grown a.0 a.1 a.2;
       crash = crash a.0 a.1 a.2;
     }

@@ -1,5 +1,5 @@
 -- How a run goes on, line by line.
-use Rattle.std.proofs.Common.{◌≡◌, inl, inr, ◌+◌, ◌++◌, ℕ, List, [], ◌∷◌, length, refl, sym, ap, ◌∙◌, subst, arith, append_assoc, length-append, false}
+use Rattle.std.proofs.Common.{◌≡◌, ◌≢◌, inl, inr, ◌+◌, ◌++◌, ℕ, List, [], ◌∷◌, length, refl, sym, ap, ◌∙◌, subst, arith, append_assoc, length-append, false}
 use Rattle.std.specs.Prelude.{Bool, IsTrue, flat_map, All, ◌==◌}
 use Rattle.std.proofs.lemmas.Grind.{flat_map-append}
 use Rattle.std.proofs.lemmas.List.{append-nil}
@@ -116,8 +116,8 @@ module _ (tells : Bool) (start : List Entry) (bytes kept : Bytes) (store : Store
         history = history;
       }
 
-    pub broken_line : Broken tells start (bytes ++ part ++ 10 ∷ []) first w'
-    broken_line = record {
+    pub broken_line : (reply ≢ Device → Stands tells new w') → Broken tells start (bytes ++ part ++ 10 ∷ []) first w'
+    broken_line stands = record {
       lines = served.lines;
       line = served.rest ++ part;
       first_lines = first_lines;
@@ -128,6 +128,7 @@ module _ (tells : Bool) (start : List Entry) (bytes kept : Bytes) (store : Store
       last = new;
       step = answer.step;
       front = subst (λ (s : Bytes). SaysFront (text_of reply) s w'.beside.said) served.told answer.front;
+      stands = stands;
       history = history;
     }
 
@@ -137,7 +138,7 @@ module _ (tells : Bool) (start : List Entry) (bytes kept : Bytes) (store : Store
   line_end w' Quit store' kept' said_now a cleared = last_line w' Bye a.0 a.1 a.2 AtQuit (refl, refl, reached w' Bye a.0 a.1 a.2 said_now a.3)
   line_end w' (End status) store' kept' said_now a cleared = elim a.3 [
     | inl device ↦ inl (device.0, last_line w' a.0 a.1 a.2 device.2 AtDevice (device_last a.0 _ device.1))
-    | inr six ↦ inr (six, broken_line w' a.0 a.1 a.2)
+    | inr six ↦ inr (six.0, broken_line w' a.0 a.1 a.2 six.1)
   ]
 
 -- ---- what follows an end counts for nothing
@@ -167,6 +168,7 @@ broken_more tells start bytes more first w broken = record {
   last = broken.last;
   step = broken.step;
   front = broken.front;
+  stands = broken.stands;
   history = broken.history;
 }
 

@@ -1,14 +1,14 @@
 -- What a run that served came to.
-use Rattle.std.specs.Prelude.{◌≡◌, ◌⊎◌, ◌^◌, ◌++◌, ℕ, Bool, IsTrue, List, [], ◌∷◌, length}
+use Rattle.std.specs.Prelude.{◌≡◌, ◌≢◌, ◌⊎◌, ◌^◌, ◌++◌, ℕ, Bool, IsTrue, List, [], ◌∷◌, length}
 use Rattle.disk_trait.specs.World.{World}
 use Rattle.outside.specs.During.{During}
 use Rattle.store_model.specs.SortedMap.{Bytes}
 use Rattle.store_model.specs.Entries.{Entry}
 use Rattle.outside.specs.Streams.{SaysFront}
 use Rattle.store_model.specs.Lines.{command_of, lines_of, whole_lines}
-use Rattle.store_model.specs.Replies.{Reply, text_of}
+use Rattle.store_model.specs.Replies.{Reply, Device, text_of}
 use Rattle.store_model.specs.Script.{Step, Script, WentOn, Ending, ToLast, AtQuit, AtDevice}
-use Rattle.surf_run.specs.Crash.{Reached, Acknowledged}
+use Rattle.surf_run.specs.Crash.{Stands, Reached, Acknowledged}
 
 -- All of the script's text was said, for the lines of what was taken; and the input was at its end, or whatever follows
 -- changes nothing. As each reply had been said that is not `device`, each image that a crash may then leave had the
@@ -26,7 +26,7 @@ pub record CutOff (tells : Bool) (start : List Entry) (taken : Bytes) (old new :
   pub script : Script (Reached tells new) (length old.beside.said) start (whole_lines taken) text ToLast
 
 -- The output failed: some first lines were answered whole, none of them with a last reply, and of the next line's reply
--- a front was said.
+-- a front was said. The entries now are those after that line, but for `device`.
 pub record SaidInPart (tells : Bool) (start : List Entry) (taken : Bytes) (old new : World) : Type 0 where
   pub lines : List Bytes
   pub line : Bytes
@@ -39,6 +39,7 @@ pub record SaidInPart (tells : Bool) (start : List Entry) (taken : Bytes) (old n
   pub last : List Entry
   pub step : Step now (command_of line) reply last
   pub front : SaysFront (text_of reply) (old.beside.said ++ text) new.beside.said
+  pub stands : reply ≢ Device → Stands tells last new
 
 -- what was said by the status, and, where the device tells, what each image that a crash may leave at each moment stands for
 pub record Settled (tells : Bool) (status : ℕ) (start : List Entry) (taken : Bytes) (old new : World) : Type 0 where

@@ -66,6 +66,9 @@ Damaged image old new = (at : ℕ) × (rule : ℕ) × LogBreaks 0 at rule image 
 abbrev pub SomeFailed : World → World → Type 0
 SomeFailed old new = TakeFailed old new ⊎ DiskFailed old new ⊎ SayFailed old new
 
--- the input was read to its end or to `quit`, or 2^40 bytes of it were; or there was no memory, and nothing was taken
-abbrev pub Completed : ℕ → World → World → Type 0
-Completed status old new = (status ≡ 0) ⊎ (status ≡ 9) ⊎ ((status ≡ 7) × (new.beside.to_take ≡ old.beside.to_take))
+-- the input was read to its end or to `quit`, or 2^40 bytes of it were; or nothing was taken, since there was no memory or
+-- the log is damaged
+abbrev pub Completed : Bool → ℕ → World → World → Type 0
+Completed tells status old new =
+    (status ≡ 0) ⊎ (status ≡ 9) ⊎ ((status ≡ 7) × (new.beside.to_take ≡ old.beside.to_take))
+    ⊎ ((status ≡ 5) × (new.beside.to_take ≡ old.beside.to_take) × (at : ℕ) × (rule : ℕ) × IsDamage tells old.seen.held at rule)

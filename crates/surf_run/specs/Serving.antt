@@ -1,5 +1,5 @@
 -- How far a run has come.
-use Rattle.std.specs.Prelude.{◌≡◌, ◌⊎◌, ◌≤◌, ℕ, Bool, IsTrue, List, [], ◌∷◌, ◌++◌, length, flat_map, All}
+use Rattle.std.specs.Prelude.{◌≡◌, ◌≢◌, ◌⊎◌, ◌≤◌, ℕ, Bool, IsTrue, List, [], ◌∷◌, ◌++◌, length, flat_map, All}
 use Rattle.disk_trait.specs.World.{Image, World}
 use Rattle.outside.specs.During.{During}
 use Rattle.outside.specs.Streams.{SaysFront}
@@ -42,15 +42,15 @@ abbrev pub Whole : Reply → World → World → Type 0
 Whole reply a b = b.beside.said ≡ a.beside.said ++ text_of reply
 
 -- how a line ends the run: with its reply `device` said, or with its reply not said whole
-abbrev pub EndsBy : ℕ → Reply → World → World → Type 0
-EndsBy status reply a b = ((status ≡ 4) × (reply ≡ Device) × Whole reply a b) ⊎ (status ≡ 6)
+abbrev pub EndsBy : Bool → ℕ → Reply → List Entry → World → World → Type 0
+EndsBy tells status reply new a b = ((status ≡ 4) × (reply ≡ Device) × Whole reply a b) ⊎ ((status ≡ 6) × (reply ≢ Device → Stands tells new b))
 
 -- how the line was answered
 abbrev pub Answered : Bool → LineEnd → List Entry → Leaves → Store → World → World → Type 0
 Answered tells Next old S store a b =
     (reply : Reply) × (new : List Entry) × LineAnswer tells old S reply new a b × GoesOn reply × Whole reply a b × Stands tells new b × Holds new store
 Answered tells Quit old S store a b = (new : List Entry) × LineAnswer tells old S Bye new a b × Whole Bye a b × Stands tells new b
-Answered tells (End status) old S store a b = (reply : Reply) × (new : List Entry) × LineAnswer tells old S reply new a b × EndsBy status reply a b
+Answered tells (End status) old S store a b = (reply : Reply) × (new : List Entry) × LineAnswer tells old S reply new a b × EndsBy tells status reply new a b
 
 -- ---- one line after another
 
@@ -98,6 +98,7 @@ pub record Broken (tells : Bool) (start : List Entry) (bytes : Bytes) (first w :
   pub last : List Entry
   pub step : Step now (command_of line) reply last
   pub front : SaysFront (text_of reply) (first.beside.said ++ text) w.beside.said
+  pub stands : reply ≢ Device → Stands tells last w
   pub history : IsTrue tells → During (Acknowledged start (lines ++ line ∷ []) first.beside.said w.beside.said) first w
 
 abbrev pub EndedBy : Bool → ℕ → List Entry → Bytes → World → World → Type 0

@@ -175,12 +175,13 @@ pub fn run<W: Outside>(alloc: Global, words: &[String], out: &mut W) -> u8
     // one sorted map, and what a crash may leave at each moment has every line that was acknowledged by then.
     ensures outcome { (start : List Entry) → IsTrue W.tells → IsTrue W.tells_input → IsTrue W.tells_output → Now (LogIs 0 start) (W.world out.old)
         → Ends W.tells result start (W.world out.old) (W.world out.new) }
-    // Over any device: lines that were taken got the replies of one sorted map, from the entries that stood in the log.
+    // Over any device: lines that were taken got the replies of one sorted map, from the entries of the log. Where the device
+    // tells, these are what it held, and what a crash may leave from the opening on has every acknowledged line.
     ensures answers { IsTrue W.tells_input → IsTrue W.tells_output
         → ((opened : _) × Serves W.tells result (W.world out.old) (W.world opened) (W.world out.new)) ⊎ Unserved W.tells result (W.world out.old) (W.world out.new) }
-    // Over one log on each image, where no call fails, each line is answered, to the end of the input, to `quit` or to 2^40 bytes.
-    ensures complete { (start : List Entry) → IsTrue W.tells → IsTrue W.tells_input → IsTrue W.tells_output → map string_bytes words.now ≡ serve_words → Now (LogIs 0 start) (W.world out.old)
-        → (SomeFailed (W.world out.old) (W.world out.new) → ⊥) → Completed result (W.world out.old) (W.world out.new) }
+    // Where no call fails each line is answered, to the end of the input, to `quit` or to 2^40 bytes, unless the log is damaged.
+    ensures complete { IsTrue W.tells_input → IsTrue W.tells_output → map string_bytes words.now ≡ serve_words → (SomeFailed (W.world out.old) (W.world out.new) → ⊥)
+        → Completed W.tells result (W.world out.old) (W.world out.new) }
     // Statuses 3, 4 and 6 come only where the count of such faults rose in this call.
     ensures causes { StatusCause result (W.world out.old) (W.world out.new) }
     ensures counts { NoFall (W.world out.old) (W.world out.new) }

@@ -1,5 +1,5 @@
 use Rattle.std.proofs.Common.{◌≡◌, inl, inr, refl, subst, List}
-use Rattle.gate_log.proofs.Ends.{one_list, not_both}
+use Rattle.gate_log.proofs.Ends.{one_list}
 use Rattle.store_model.specs.Entries.{Entry}
 use Rattle.surf_run.specs.Outcome.{Outcome}
 use Rattle.surf_run.proofs.Lifting.{ends_since}
@@ -26,10 +26,9 @@ returns-clause-outcome g c start tells input output now =
     ]
 
 pub returns-clause-complete : goal.returns-clause-complete
-returns-clause-complete g c start tells input output words now none =
+returns-clause-complete g c input output words none =
     let ensures = c.open_and_serve.ensures in
-    completed g.W.Disk.tells _ start _ _ (returns-clause-outcome g c start tells input output now) ensures.causes (not_two _ ensures.statuses) none
-    (λ at rule damage. let breaks = damage tells in not_both start breaks.0 rule _ (now _ (g.met.W.Disk.current c.args.out.now tells)) breaks.2)
+    completed g.W.Disk.tells _ _ _ (elim (ensures.answers input output) [ inl served ↦ inl served.1.serving | inr unsaid ↦ inr unsaid ]) ensures.causes (not_two _ ensures.statuses) none
 
 pub returns-clause-told_of_damage : goal.returns-clause-told_of_damage
 returns-clause-told_of_damage g c at rule tells words breaks = c.open_and_serve.ensures.told_of_damage at rule tells breaks
