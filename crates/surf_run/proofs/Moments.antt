@@ -91,26 +91,6 @@ module _ (tells : Bool) (old : List Entry) (S : Leaves) (new : List Entry) (stor
     | inr six ↦ (Bye, new, answer, inr (let is : status ≡ 6 = cc in is, λ other. now))
   ]
 
--- the same answer, where one relation of replies leads to another
-module _ (tells : Bool) (old : List Entry) (S T : Leaves) (turned : (reply : Reply) (new : List Entry) → S reply new → T reply new) where
-  in_line_as : (reply : Reply) (low high k : ℕ) (image : Image) → InLine old S reply low high k image → InLine old T reply low high k image
-  in_line_as reply low high k image at = elim at [
-    | inl before ↦ inl before
-    | inr after ↦ inr (after.0, after.1, (after.2.0, turned reply after.2.0 after.2.1, after.2.2))
-  ]
-
-  line_as : (reply : Reply) (new : List Entry) (a b : World) → LineAnswer tells old S reply new a b → LineAnswer tells old T reply new a b
-  line_as reply new a b answer = record {
-    step = turned reply new answer.step;
-    front = answer.front;
-    each = λ t. during_weaker _ _ a b (answer.each t) (in_line_as reply (length a.beside.said) (length b.beside.said));
-  }
-
-  pub answered_as : (result : LineEnd) (store : Store) (a b : World) → Answered tells result old S store a b → Answered tells result old T store a b
-  answered_as Next store a b answered = (answered.0, answered.1, line_as answered.0 answered.1 a b answered.2, answered.3, answered.4, answered.5, answered.6)
-  answered_as Quit store a b answered = (answered.0, line_as Bye answered.0 a b answered.1, answered.2, answered.3)
-  answered_as (End status) store a b answered = (answered.0, answered.1, line_as answered.0 answered.1 a b answered.2, answered.3)
-
 -- where no call was made
 pub still : {D : Type 0} (world : D → World) (P : Image → Type 0) (old new : D) → new ≡ old → Now P (world old) → Meanwhile P (world old) (world new)
 still world P old new same here = subst (λ (d : _). Meanwhile P (world old) (world d)) (sym same) (started P (world old) here)

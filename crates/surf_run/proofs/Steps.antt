@@ -1,5 +1,5 @@
 -- Replies that no call of the disk goes before, and the steps that they are.
-use Rattle.std.proofs.Common.{◌≡◌, inl, ◌≤◌, ◌∷◌, [], List, ℕ, length, refl, sym, ap, ◌∙◌, subst, Bool, true, false, cond}
+use Rattle.std.proofs.Common.{◌≡◌, inl, ◌≤◌, ◌∷◌, [], List, length, refl, sym, ap, ◌∙◌, subst, Bool, true, false, cond}
 use Rattle.std.specs.Prelude.{Option, Some, None, ◌||◌, ◌==◌, nat_lt, bytes_eq}
 use Rattle.std.specs.List.{AllByRecursion}
 use Rattle.disk_trait.specs.World.{World}
@@ -11,7 +11,7 @@ use Rattle.store_model.specs.SortedMap.{Bytes, get}
 use Rattle.store_model.specs.Entries.{Entry, bytes_of, map_of, newest, or_else, live}
 use Rattle.store_model.specs.Lines.{Command, Put, Del, Get}
 use Rattle.store_model.specs.Lines as asks
-use Rattle.store_model.specs.Replies.{Reply, Bye, BadLine, LongKey, LongValue, text_of, got}
+use Rattle.store_model.specs.Replies.{Reply, Bye, LongKey, LongValue, text_of, got}
 use Rattle.store_model.specs.Script.{Step, GoesOn, Unless, key_limit, value_limit, first_limit}
 use Rattle.store_model.proofs.Maps.{newest_counts}
 use Rattle.surf_run.specs.Crash.{Stands}
@@ -90,6 +90,3 @@ short_value entries key value sound is = found_sound entries key value sound (li
 
 pub quit_step : (old : List Entry) (command : Command) → command ≡ asks.Quit → Step old command Bye old
 quit_step old command is = subst (λ (c : Command). Step old c Bye old) (sym is) (refl, refl)
-
-pub bad_step : (old : List Entry) (command : Command) (code : ℕ) → command ≡ asks.Bad code → Step old command (BadLine code) old
-bad_step old command code is = subst (λ (c : Command). Step old c (BadLine code) old) (sym is) (refl, refl)
