@@ -1,28 +1,23 @@
 -- Blocks are read as they were written, and were written as they are read.
-use Rattle.std.proofs.Common.{◌≡◌, ◌⊎◌, inl, inr, ◌<◌, ◌≤◌, ◌+◌, ◌-◌, ◌*◌, ◌%◌, ◌^◌, ℕ, zero, suc, Bool, true, false, cond, List, [], ◌∷◌, ◌++◌, length, take, drop, replicate, refl, sym, ap, ap₂, subst, ◌∙◌, arith, append_assoc, length-append, length-drop}
-use Rattle.std.specs.Prelude.{Option, Some, None, ◌==◌, ◌&&◌, ◌||◌, nat_lt, not, map, flat_map, slice_index, position}
-use Rattle.std.specs.List.{AllByRecursion}
+use Rattle.std.proofs.Common.{◌≡◌, inl, inr, ◌≤◌, ◌+◌, ◌-◌, ◌*◌, ◌%◌, ℕ, false, List, [], ◌∷◌, ◌++◌, length, take, drop, refl, sym, ap, ap₂, ◌∙◌, arith, append_assoc, length-append}
+use Rattle.std.specs.Prelude.{None, ◌==◌, ◌&&◌, ◌||◌, nat_lt, flat_map, slice_index, position}
 use Rattle.std.specs.Option.{option_map}
-use Rattle.std.proofs.lemmas.Bool.{cases_lt, and_cases, and_left, and_right, eqb-true, eq-eqb, eqb-false, ne_eqb, ltb-false, ltb-true, le-ltb, lt-ltb, or_from, or_parts}
-use Rattle.std.proofs.lemmas.List.{drop_at, length-take, length-replicate, take-append-drop, take-take, take_at}
-use Rattle.byteorder.specs.Endian.{little_bytes, little_number}
-use Rattle.byte_fields.specs.Spelling.{IsBytes}
-use Rattle.byte_fields.proofs.NumberLemmas.{IsBytes-drop, number_again, number_back}
+use Rattle.std.proofs.lemmas.Bool.{cases_lt, and_left, and_right, eq-eqb, le-ltb, or_from}
+use Rattle.std.proofs.lemmas.List.{drop_at, take_at}
+use Rattle.byte_fields.proofs.NumberLemmas.{number_again}
 use Rattle.store_model.specs.SortedMap.{Bytes}
 use Rattle.store_model.specs.Entries.{Entry, body}
-use Rattle.block_model.specs.Block.{IsBlock, IsEntry, block_bytes, header_bytes, padding}
+use Rattle.block_model.specs.Block.{IsBlock, block_bytes, header_bytes, padding}
 use Rattle.block_model.specs.BlockReading.{block_fault, block_in, count_in, entries_fault, entries_in, entries_part, header_fault, tail_fault, used_in}
-use Rattle.block_model.specs.Faults.{Fault, fault}
-use Rattle.block_model.specs.Laws.{BlockIsReadAgain, BlockWasWrittenSo}
+use Rattle.block_model.specs.Faults.{fault}
+use Rattle.block_model.specs.Laws.{BlockIsReadAgain}
 use Rattle.block_model.specs.Order.{is_any}
 use Rattle.block_model.specs.Pages.{block_length, block_pages, pages_for}
 use Rattle.block_model.proofs.Bounds.{length_bound}
 use Rattle.block_model.proofs.Cutting.{IsPart}
 use Rattle.block_model.proofs.EntriesRead.{entries_again, entries_kept, eqb_zero}
-use Rattle.block_model.proofs.EntriesWritten.{WereWritten, entries_written}
-use Rattle.block_model.proofs.LastBlocks.{positive}
 use Rattle.block_model.proofs.Lengths.{block_fills, in_pages, length-body, length-header}
-use Rattle.block_model.proofs.Refusals.{is_other, kept, neither, none_of, not_false, not_true, nowhere, passed, zeros_are, zeros_kept}
+use Rattle.block_model.proofs.Refusals.{is_other, none_of, not_true, passed, zeros_kept}
 
 -- ---- what was written is read
 

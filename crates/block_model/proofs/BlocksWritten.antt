@@ -1,6 +1,6 @@
 -- A block that breaks no rule was written as it is read.
-use Rattle.std.proofs.Common.{◌≡◌, ◌⊎◌, inl, inr, ◌<◌, ◌≤◌, ◌+◌, ◌-◌, ◌*◌, ◌%◌, ℕ, zero, suc, Bool, true, false, cond, List, [], ◌∷◌, ◌++◌, length, take, drop, replicate, refl, sym, ap, ap₂, subst, ◌∙◌, arith, append_assoc, length-append, length-drop}
-use Rattle.std.specs.Prelude.{Option, Some, None, ◌==◌, ◌&&◌, ◌||◌, nat_lt, not, map, flat_map, slice_index, position}
+use Rattle.std.proofs.Common.{◌≡◌, inl, inr, ◌<◌, ◌≤◌, ◌+◌, ◌-◌, ◌*◌, ◌%◌, ℕ, zero, suc, false, List, [], ◌∷◌, ◌++◌, length, take, drop, replicate, sym, ap, ap₂, ◌∙◌, arith, append_assoc, length-drop}
+use Rattle.std.specs.Prelude.{None, ◌&&◌, nat_lt, flat_map, slice_index, position}
 use Rattle.std.proofs.lemmas.Bool.{and_cases, eqb-true, ltb-false, or_parts}
 use Rattle.std.proofs.lemmas.List.{length-take, take-append-drop, take-take}
 use Rattle.byteorder.specs.Endian.{little_bytes, little_number}
@@ -8,13 +8,13 @@ use Rattle.byte_fields.specs.Spelling.{IsBytes}
 use Rattle.byte_fields.proofs.NumberLemmas.{IsBytes-drop, number_back}
 use Rattle.store_model.specs.SortedMap.{Bytes}
 use Rattle.store_model.specs.Entries.{Entry, body}
-use Rattle.block_model.specs.Block.{IsBlock, block_bytes, header_bytes, padding}
+use Rattle.block_model.specs.Block.{block_bytes, header_bytes, padding}
 use Rattle.block_model.specs.BlockReading.{block_fault, block_in, count_in, entries_in, entries_part, header_fault, tail_fault, used_in}
-use Rattle.block_model.specs.Faults.{Fault, fault}
+use Rattle.block_model.specs.Faults.{fault}
 use Rattle.block_model.specs.Laws.{BlockWasWrittenSo}
 use Rattle.block_model.specs.Order.{is_any}
 use Rattle.block_model.specs.Pages.{block_length, pages_for}
-use Rattle.block_model.proofs.EntriesWritten.{WereWritten, entries_written}
+use Rattle.block_model.proofs.EntriesWritten.{entries_written}
 use Rattle.block_model.proofs.LastBlocks.{positive}
 use Rattle.block_model.proofs.Refusals.{is_other, kept, neither, not_false, nowhere, zeros_are}
 

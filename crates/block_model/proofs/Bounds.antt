@@ -1,12 +1,12 @@
 -- How much the pages of blocks and the bytes of an index can be, and loops that add them.
-use Rattle.std.proofs.Common.{◌≡◌, ◌<◌, ◌≤◌, ◌+◌, ◌*◌, ◌/◌, ◌^◌, ℕ, zero, suc, Bool, true, false, cond, List, [], ◌∷◌, ◌++◌, length, drop, get_or, refl, sym, ap, subst, ◌∙◌, arith, length-append}
+use Rattle.std.proofs.Common.{◌≡◌, ◌<◌, ◌≤◌, ◌+◌, ◌*◌, ◌^◌, ℕ, suc, List, [], ◌∷◌, length, drop, get_or, ap, subst, ◌∙◌, arith}
 use Rattle.std.specs.Prelude.{fold, map, sum_by}
 use Rattle.std.specs.List.{AllByRecursion}
 use Rattle.std.proofs.Math.Seq.{drop-cons}
 use Rattle.std.proofs.lemmas.List.Sums.{sum_by-cons}
 use Rattle.store_model.specs.Entries.{Entry}
 use Rattle.block_model.specs.Block.{AreEntries, IsEntry}
-use Rattle.block_model.specs.Pages.{block_length, block_pages, blocks_of, blocks_with, data_pages, first_key, has_room, index_length, last_key, pages_for}
+use Rattle.block_model.specs.Pages.{block_length, block_pages, blocks_of, blocks_with, first_key, last_key, pages_for}
 use Rattle.block_model.proofs.Cutting.{IsPart, blocks_are_parts, in_room}
 use Rattle.block_model.proofs.Sizes.{bodies_bound}
 

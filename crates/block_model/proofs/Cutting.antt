@@ -1,14 +1,13 @@
 -- How entries are cut into blocks.
-use Rattle.std.proofs.Common.{◌≡◌, ◌≢◌, ◌⊎◌, inl, inr, ◌<◌, ◌≤◌, ◌+◌, ℕ, zero, suc, Bool, true, false, cond, List, [], ◌∷◌, ◌++◌, length, refl, sym, ap, subst, ◌∙◌, arith, append_assoc, length-append}
-use Rattle.std.specs.Prelude.{fold, flat_map, map, nat_le, nat_lt, ◌&&◌, IsTrue}
+use Rattle.std.proofs.Common.{◌≡◌, ◌<◌, ◌≤◌, Bool, true, false, cond, List, [], ◌∷◌, ◌++◌, length, refl, sym, ap, subst, ◌∙◌, arith, append_assoc, length-append}
+use Rattle.std.specs.Prelude.{fold, nat_le, nat_lt}
 use Rattle.std.specs.List.{AllByRecursion}
 use Rattle.std.proofs.lemmas.Bool.{and_parts, leb-true, ltb-true}
 use Rattle.std.proofs.lemmas.List.{append-nil}
-use Rattle.std.proofs.lemmas.List.Concat.{flat_map-cons}
 use Rattle.std.proofs.lemmas.List.Sums.{fold-append}
 use Rattle.store_model.specs.SortedMap.{Bytes}
 use Rattle.store_model.specs.Entries.{Entry}
-use Rattle.block_model.specs.Block.{IsBlock, IsEntry, IsTable, keys_of}
+use Rattle.block_model.specs.Block.{IsBlock, IsEntry, keys_of}
 use Rattle.block_model.specs.Laws.{joined, BlocksAreTheEntries, BlocksGrow, BlocksAreSound}
 use Rattle.block_model.specs.Order.{Follow, is_any, is_above}
 use Rattle.block_model.specs.Pages.{page_bytes, block_entries, block_length, has_room, blocks_with, blocks_of}

@@ -1,22 +1,18 @@
 -- Entries are read as they were written, and were written as they are read.
-use Rattle.std.proofs.Common.{◌≡◌, ◌⊎◌, inl, inr, ◌<◌, ◌≤◌, ◌+◌, ◌^◌, ℕ, zero, suc, Bool, true, false, cond, List, [], ◌∷◌, ◌++◌, length, take, drop, refl, sym, ap, ap₂, subst, ◌∙◌, arith, append_assoc, length-append, length-drop}
-use Rattle.std.specs.Prelude.{Option, Some, None, ◌==◌, ◌&&◌, ◌||◌, nat_lt, not, map, flat_map, slice_index}
+use Rattle.std.proofs.Common.{◌≡◌, ◌≤◌, ◌+◌, ℕ, Bool, true, false, cond, List, [], ◌∷◌, ◌++◌, length, take, drop, refl, sym, ap, ap₂, ◌∙◌, arith, append_assoc, length-append}
+use Rattle.std.specs.Prelude.{Option, Some, None, ◌==◌, ◌&&◌, ◌||◌, nat_lt, not, flat_map}
 use Rattle.std.specs.List.{AllByRecursion}
-use Rattle.std.proofs.lemmas.Bool.{cases_Bool, and_cases, eqb-true, eqb-false, ne_eqb, ltb-false, le-ltb, or_from, or_parts}
-use Rattle.std.proofs.lemmas.List.{drop-drop, drop_at, length-take, take-append-drop, take_at, append-nil}
-use Rattle.std.proofs.lemmas.List.Concat.{flat_map-cons}
-use Rattle.std.proofs.Math.Seq.{take-add}
-use Rattle.byteorder.specs.Endian.{little_bytes, little_number}
-use Rattle.byte_fields.specs.Spelling.{IsBytes}
-use Rattle.byte_fields.proofs.NumberLemmas.{IsBytes-drop, number_again, number_back}
+use Rattle.std.proofs.lemmas.Bool.{ne_eqb, le-ltb, or_from}
+use Rattle.std.proofs.lemmas.List.{drop-drop, drop_at, take_at}
+use Rattle.byteorder.specs.Endian.{little_bytes}
+use Rattle.byte_fields.proofs.NumberLemmas.{number_again}
 use Rattle.store_model.specs.SortedMap.{Bytes}
 use Rattle.store_model.specs.Entries.{Entry, body, bytes_of, kind_of}
 use Rattle.block_model.specs.Block.{IsEntry, keys_of}
-use Rattle.block_model.specs.BlockReading.{entries_fault, entries_in, entry_fault, entry_in, has_no_kind, is_no_key_length, key_in, key_length_in, kind_in, value_length_in, width_in}
-use Rattle.block_model.specs.Faults.{Fault, refuse, or_fault}
+use Rattle.block_model.specs.BlockReading.{entries_fault, entries_in, entry_fault, entry_in, is_no_key_length, key_in, key_length_in, value_length_in, width_in}
 use Rattle.block_model.specs.Order.{Follow, is_above}
 use Rattle.block_model.proofs.Lengths.{length-body}
-use Rattle.block_model.proofs.Refusals.{kept, neither, none_of, not_false, not_true, passed}
+use Rattle.block_model.proofs.Refusals.{none_of, not_true, passed}
 
 -- ---- what was written of an entry is read
 

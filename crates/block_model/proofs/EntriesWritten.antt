@@ -1,17 +1,17 @@
 -- Entries that break no rule were written as they are read.
-use Rattle.std.proofs.Common.{◌≡◌, ◌⊎◌, inl, inr, ◌<◌, ◌≤◌, ◌+◌, ◌-◌, ℕ, zero, suc, Bool, true, false, cond, List, [], ◌∷◌, ◌++◌, length, take, drop, refl, sym, ap, ap₂, subst, ◌∙◌, arith, length-append, length-drop}
-use Rattle.std.specs.Prelude.{Option, Some, None, ◌==◌, ◌&&◌, ◌||◌, nat_lt, not, map, flat_map, slice_index}
+use Rattle.std.proofs.Common.{◌≡◌, ◌≤◌, ◌+◌, ℕ, zero, suc, Bool, true, false, cond, [], ◌∷◌, ◌++◌, length, take, drop, refl, sym, ap, ap₂, ◌∙◌, arith, length-drop}
+use Rattle.std.specs.Prelude.{Some, None, ◌==◌, ◌&&◌, ◌||◌, nat_lt, not, flat_map, slice_index}
 use Rattle.std.specs.List.{AllByRecursion}
-use Rattle.std.proofs.lemmas.Bool.{and_cases, eqb-true, ltb-false, or_parts}
+use Rattle.std.proofs.lemmas.Bool.{eqb-true, ltb-false, or_parts}
 use Rattle.std.proofs.lemmas.List.{drop-drop, length-take, nil_from_length, take-append-drop}
 use Rattle.std.proofs.Math.Seq.{take-add}
-use Rattle.byteorder.specs.Endian.{little_bytes, little_number}
+use Rattle.byteorder.specs.Endian.{little_bytes}
 use Rattle.byte_fields.specs.Spelling.{IsBytes}
 use Rattle.byte_fields.proofs.NumberLemmas.{IsBytes-drop, number_back}
 use Rattle.store_model.specs.SortedMap.{Bytes}
-use Rattle.store_model.specs.Entries.{Entry, body, bytes_of, kind_of}
+use Rattle.store_model.specs.Entries.{body, bytes_of, kind_of}
 use Rattle.block_model.specs.Block.{IsEntry, keys_of}
-use Rattle.block_model.specs.BlockReading.{entries_fault, entries_in, entry_fault, entry_in, has_no_kind, is_no_key_length, key_in, key_length_in, kind_in, value_length_in, width_in}
+use Rattle.block_model.specs.BlockReading.{entries_fault, entries_in, entry_fault, entry_in, is_no_key_length, key_in, key_length_in, kind_in, value_length_in, width_in}
 use Rattle.block_model.specs.Order.{Follow, is_above}
 use Rattle.block_model.proofs.LastBlocks.{positive}
 use Rattle.block_model.proofs.Refusals.{kept, neither, not_false}

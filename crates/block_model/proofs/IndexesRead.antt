@@ -1,14 +1,12 @@
 -- Indexes are read as they were written, and were written as they are read.
-use Rattle.std.proofs.Common.{◌≡◌, ◌<◌, ◌≤◌, ◌+◌, ◌^◌, ℕ, zero, suc, Bool, true, false, List, [], ◌∷◌, ◌++◌, length, take, drop, refl, sym, ap, ap₂, subst, ◌∙◌, arith, length-append, length-drop}
-use Rattle.std.specs.Prelude.{Option, None, ◌==◌, ◌||◌, nat_lt, not, map, flat_map}
+use Rattle.std.proofs.Common.{◌≡◌, ◌<◌, ◌≤◌, ◌+◌, ◌^◌, ℕ, List, ◌++◌, length, take, drop, refl, sym, ap, ap₂, ◌∙◌, arith, length-append, length-drop}
+use Rattle.std.specs.Prelude.{None, flat_map}
 use Rattle.std.proofs.lemmas.Bool.{eqb-true, eq-eqb, ltb-false, le-ltb, or_from, or_parts}
 use Rattle.std.proofs.lemmas.List.{drop_at, length-take, take-append-drop, take_at}
 use Rattle.byteorder.specs.Endian.{little_bytes, little_number}
 use Rattle.byte_fields.specs.Spelling.{IsBytes}
 use Rattle.byte_fields.proofs.NumberLemmas.{IsBytes-drop, number_again, number_back, number_below}
 use Rattle.store_model.specs.SortedMap.{Bytes}
-use Rattle.block_model.specs.BlockReading.{is_no_key_length}
-use Rattle.block_model.specs.Faults.{refuse}
 use Rattle.block_model.specs.Index.{Index, IndexRow, IsIndex, index_bytes, index_head_bytes, index_magic, index_row_bytes, row_pages}
 use Rattle.block_model.specs.IndexReading.{head_width_in, index_fault, index_head_fault, index_in, least_in, least_length_in, pages_fault, rows_count_in, rows_fault, rows_in}
 use Rattle.block_model.specs.Laws.{IndexIsReadAgain, IndexWasWrittenSo}
@@ -18,7 +16,7 @@ use Rattle.block_model.proofs.EntriesWritten.{key_length_sound, next_part}
 use Rattle.block_model.proofs.LastBlocks.{positive}
 use Rattle.block_model.proofs.Lengths.{length-head}
 use Rattle.block_model.proofs.Refusals.{kept, neither, none_of, not_false, not_true, passed}
-use Rattle.block_model.proofs.RowsRead.{RowsWritten, rows_again, rows_kept, rows_written}
+use Rattle.block_model.proofs.RowsRead.{rows_again, rows_kept, rows_written}
 
 -- ---- the head, with anything behind it
 

@@ -1,16 +1,14 @@
 -- How long the bytes of entries, blocks and indexes are.
-use Rattle.std.proofs.Common.{◌≡◌, ◌<◌, ◌≤◌, ◌+◌, ◌-◌, ◌*◌, ◌/◌, ℕ, zero, suc, List, [], ◌∷◌, ◌++◌, length, refl, sym, ap, ◌∙◌, arith, length-append}
+use Rattle.std.proofs.Common.{◌≡◌, ◌≤◌, ◌+◌, ◌-◌, ◌*◌, ℕ, List, [], ◌∷◌, ◌++◌, length, refl, arith, length-append}
 use Rattle.std.specs.Prelude.{flat_map, map, sum_by, replicate}
 use Rattle.std.proofs.lemmas.List.{length-replicate}
-use Rattle.std.proofs.lemmas.List.Sums.{sum_by-cons, sum_by-append}
-use Rattle.std.proofs.lemmas.List.Concat.{flat_map-cons}
+use Rattle.std.proofs.lemmas.List.Sums.{sum_by-cons}
 use Rattle.byte_fields.specs.Fields.{fields}
-use Rattle.store_model.specs.SortedMap.{Bytes}
-use Rattle.store_model.specs.Entries.{Entry, body, kind_of, bytes_of}
+use Rattle.store_model.specs.Entries.{Entry, body, bytes_of}
 use Rattle.block_model.specs.Block.{block_bytes, data_bytes, header_bytes, padding}
 use Rattle.block_model.specs.Index.{index_head_widths, index_magic, index_row_widths, Index, IndexRow, index_bytes, index_head_bytes, index_of, index_row_bytes, index_row_of}
 use Rattle.block_model.specs.Laws.{BlockFillsItsPages, BlocksFillTheirPages, IndexHasItsLength}
-use Rattle.block_model.specs.Pages.{block_length, block_pages, blocks_of, data_pages, first_key, index_length, last_key, pages_for}
+use Rattle.block_model.specs.Pages.{block_length, block_pages, blocks_of, data_pages, index_length, last_key, pages_for}
 
 pub length-body : (e : Entry) → length (body e) ≡ 7 + (length e.key + length (bytes_of e.value))
 length-body e = omega (arith, length-append e.key (bytes_of e.value))

@@ -1,15 +1,13 @@
 -- The rows of an index are read as they were written, and were written as they are read.
-use Rattle.std.proofs.Common.{◌≡◌, ◌<◌, ◌≤◌, ◌+◌, ◌^◌, ℕ, zero, suc, Bool, true, false, List, [], ◌∷◌, ◌++◌, length, take, drop, refl, sym, ap, ap₂, ◌∙◌, arith, length-append, length-drop}
-use Rattle.std.specs.Prelude.{Option, None, ◌==◌, ◌||◌, nat_lt, not, map, flat_map}
+use Rattle.std.proofs.Common.{◌≡◌, ◌≤◌, ◌+◌, ℕ, zero, suc, Bool, true, List, [], ◌∷◌, ◌++◌, length, take, drop, refl, sym, ap, ap₂, ◌∙◌, arith, length-append, length-drop}
+use Rattle.std.specs.Prelude.{None, nat_lt, map, flat_map}
 use Rattle.std.specs.List.{AllByRecursion}
 use Rattle.std.proofs.lemmas.Bool.{ltb-false, le-ltb, or_from, or_parts}
 use Rattle.std.proofs.lemmas.List.{drop_at, length-take, nil_from_length, take-append-drop, take_at}
-use Rattle.byteorder.specs.Endian.{little_bytes, little_number}
+use Rattle.byteorder.specs.Endian.{little_bytes}
 use Rattle.byte_fields.specs.Spelling.{IsBytes}
 use Rattle.byte_fields.proofs.NumberLemmas.{IsBytes-drop, number_again, number_back, number_below}
 use Rattle.store_model.specs.SortedMap.{Bytes}
-use Rattle.block_model.specs.BlockReading.{is_no_key_length}
-use Rattle.block_model.specs.Faults.{refuse}
 use Rattle.block_model.specs.Index.{IndexRow, IsIndexRow, index_row_bytes}
 use Rattle.block_model.specs.IndexReading.{last_in, last_length_in, pages_in, row_fault, row_in, row_width_in, rows_fault, rows_in, sum_in}
 use Rattle.block_model.specs.Order.{Follow, is_above}

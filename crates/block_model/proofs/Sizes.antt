@@ -1,9 +1,9 @@
 -- Loops over the entries of a block, and bounds on what they add up.
-use Rattle.std.proofs.Common.{◌≡◌, ◌<◌, ◌≤◌, ◌+◌, ◌*◌, ◌^◌, ℕ, zero, suc, List, [], ◌∷◌, ◌++◌, length, drop, get_or, refl, sym, ap, ◌∙◌, arith, length-append}
+use Rattle.std.proofs.Common.{◌≡◌, ◌<◌, ◌≤◌, ◌+◌, ◌*◌, ◌^◌, ℕ, zero, suc, List, [], ◌∷◌, ◌++◌, length, drop, get_or, ap, ◌∙◌, arith, length-append}
 use Rattle.std.specs.Prelude.{flat_map}
 use Rattle.std.specs.List.{AllByRecursion}
 use Rattle.std.proofs.Math.Seq.{drop-cons}
-use Rattle.store_model.specs.Entries.{Entry, body, bytes_of}
+use Rattle.store_model.specs.Entries.{Entry, body}
 use Rattle.block_model.specs.Block.{AreEntries, IsEntry}
 use Rattle.std.proofs.lemmas.Grind.{flat_map-append}
 use Rattle.block_model.specs.Pages.{block_length}

@@ -1,6 +1,6 @@
 -- The index of a table is an index.
-use Rattle.std.proofs.Common.{◌≡◌, ◌≢◌, ◌<◌, ◌≤◌, ◌+◌, ◌*◌, ◌/◌, ◌%◌, ◌^◌, ℕ, zero, suc, Bool, true, false, cond, List, [], ◌∷◌, ◌++◌, length, refl, sym, ap, ap₂, subst, ◌∙◌, arith}
-use Rattle.std.specs.Prelude.{fold, map, flat_map, sum_by, not, bit_xor}
+use Rattle.std.proofs.Common.{◌≡◌, ◌<◌, ◌≤◌, ◌+◌, ◌*◌, ◌^◌, ℕ, Bool, true, List, [], ◌∷◌, ◌++◌, length, refl, sym, ap, subst, ◌∙◌, arith}
+use Rattle.std.specs.Prelude.{map, sum_by, not, bit_xor}
 use Rattle.std.specs.List.{AllByRecursion}
 use Rattle.std.specs.declared.cmp.Ordering.{Ordering}
 use Rattle.std.specs.declared.cmp.Ordering.TheVariants.{Less, Equal, Greater}
@@ -12,12 +12,12 @@ use Rattle.std.proofs.lemmas.List.Sums.{sum_by-cons}
 use Rattle.byte_fields.specs.Sums.{fnv_after, fnv_of, fnv_step}
 use Rattle.store_model.specs.SortedMap.{Bytes, byte_order}
 use Rattle.store_model.specs.Entries.{Entry}
-use Rattle.block_model.specs.Block.{IsEntry, IsTable, block_bytes, keys_of}
-use Rattle.block_model.specs.Index.{IndexRow, IsIndex, IsIndexRow, index_of, index_row_of, row_pages}
+use Rattle.block_model.specs.Block.{IsEntry, block_bytes, keys_of}
+use Rattle.block_model.specs.Index.{IndexRow, IsIndexRow, index_of, index_row_of, row_pages}
 use Rattle.block_model.specs.Laws.{IndexIsSound, joined}
 use Rattle.block_model.specs.Order.{Follow, is_above, is_any, is_from}
 use Rattle.block_model.specs.Pages.{block_length, block_pages, blocks_of, data_pages, first_key, last_key, pages_for}
-use Rattle.block_model.proofs.Bounds.{few_blocks, pages_bound, weaker}
+use Rattle.block_model.proofs.Bounds.{few_blocks, pages_bound}
 use Rattle.block_model.proofs.Cutting.{IsPart, blocks_are_parts, blocks_joined}
 
 -- ---- sums fit eight bytes
@@ -29,7 +29,7 @@ after_below : (bytes : Bytes) (sum : ℕ) → sum < 2 ^ 64 → fnv_after sum byt
 after_below [] sum lt = lt
 after_below (b ∷ bytes) sum lt = after_below bytes (fnv_step sum b) (step_below sum b)
 
-sum_below : (bytes : Bytes) → fnv_of bytes < 2 ^ 64
+pub sum_below : (bytes : Bytes) → fnv_of bytes < 2 ^ 64
 sum_below bytes = after_below bytes 0xcbf29ce484222325 (omega arith)
 
 -- ---- a row

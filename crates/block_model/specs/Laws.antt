@@ -1,6 +1,6 @@
 -- The laws of the formats: a table is cut into blocks, these have the lengths and pages that are counted, and whatever is
 -- written is read again, and whatever breaks no rule was written so.
-use Rattle.std.specs.Prelude.{◌≡◌, ℕ, ◌*◌, List, [], ◌∷◌, ◌++◌, length, flat_map, Option, None}
+use Rattle.std.specs.Prelude.{◌≡◌, ℕ, ◌*◌, List, [], ◌∷◌, ◌++◌, length, flat_map, None}
 use Rattle.std.specs.List.{AllByRecursion}
 use Rattle.byte_fields.specs.Spelling.{IsBytes}
 use Rattle.store_model.specs.SortedMap.{Bytes}

@@ -6,8 +6,30 @@ ghost use Rattle.block_model.specs.Block.{AreEntries, IsEntry};
 ghost use Rattle.block_model.specs.Pages.{pages_for, block_length, block_pages, blocks_of, blocks_with, data_pages, has_room, last_has_room};
 
 use entry_list::{Entry, push_copy};
-use key_base::{MAX_BLOCK_ENTRIES, PAGE_BYTES};
+use key_base::{MAX_BLOCK_ENTRIES, MAX_KEY_BYTES, MAX_VALUE_BYTES, PAGE_BYTES};
 use std::alloc::{AllocError, Global};
+
+/// Whether a table takes these entries: fewer than 2^32, each with a key of 1 to 1,024 bytes and a value of at most 65,536.
+pub fn are_entries(entries: &[Entry]) -> bool
+    ensures { IsTrue result ↔ AreEntries entries.now }
+{
+    for entry in entries {
+        if !is_entry(entry) {
+            return false;
+        }
+    }
+    entries.len() < 1 << 32
+}
+
+fn is_entry(entry: &Entry) -> bool
+    ensures { IsTrue result ↔ IsEntry entry.now }
+{
+    let value = match entry.value() {
+        Some(bytes) => bytes.len(),
+        None => 0,
+    };
+    !entry.key().is_empty() && entry.key().len() <= MAX_KEY_BYTES && value <= MAX_VALUE_BYTES
+}
 
 /// So many bytes in whole pages, rounded up.
 #[tactic(auto, unfolding(crate::specs::Pages::pages_for))]

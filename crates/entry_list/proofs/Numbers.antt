@@ -1,7 +1,7 @@
 -- Parts of numbers, and fields that are at their end.
-use Rattle.std.proofs.Common.{◌≡◌, ◌≤◌, ℕ, zero, suc, List, [], ◌∷◌, ◌++◌, length, take, drop, min, refl, sym, ap, ◌∙◌, arith}
+use Rattle.std.proofs.Common.{◌≡◌, ◌≤◌, ℕ, zero, suc, List, [], ◌∷◌, length, take, drop, min, refl, ap, arith}
 use Rattle.std.specs.Int.{byte_at, bytes_low_first}
-use Rattle.std.proofs.lemmas.List.{append-nil, length-drop}
+use Rattle.std.proofs.lemmas.List.{length-drop}
 use Rattle.byteorder.specs.Endian.{little_bytes}
 use Rattle.byte_fields.specs.Fields.{fields}
 

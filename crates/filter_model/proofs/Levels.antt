@@ -124,7 +124,7 @@ node-take (l ∷ ls) n p e = elim (or_cases (extends p (path l)) (list_any (λ l
   | inr there ↦ or_right (extends (take n p) (path l)) (list_any (λ l. extends (take n p) (path l)) ls) (node-take ls n p there)
 ]
 
-node_is_reached : (ls : List Leaf) (p : List ℕ) → is_node ls p ≡ true → is_reached ls p ≡ true
+pub node_is_reached : (ls : List Leaf) (p : List ℕ) → is_node ls p ≡ true → is_reached ls p ≡ true
 unfolding is_node is_reached
 node_is_reached [] p e = e
 node_is_reached (l ∷ ls) p e = elim (or_cases (extends p (path l)) (list_any (λ l. extends p (path l)) ls) e) [
@@ -132,7 +132,7 @@ node_is_reached (l ∷ ls) p e = elim (or_cases (extends p (path l)) (list_any (
   | inr there ↦ or_right (is_prefix p (path l)) (list_any (λ l. is_prefix p (path l)) ls) (node_is_reached ls p there)
 ]
 
-Contains-bytes : (c : ℕ) → c < 256 → Contains letters c
+pub Contains-bytes : (c : ℕ) → c < 256 → Contains letters c
 unfolding letters
 Contains-bytes c h = (suc c, long c h, get_or-range_with_len 0 256 c c h ∙ plain c)
   where
@@ -143,7 +143,7 @@ Contains-bytes c h = (suc c, long c h, get_or-range_with_len 0 256 c c h ∙ pla
     long c h = omega (arith, length-range_with_len 0 256)
 
 -- a node of length n is in the level n
-node_in_level : (ls : List Leaf) (n : ℕ) (p : List ℕ) → AreByteStubs ls → length p ≡ n → is_node ls p ≡ true → Contains (level ls n) p
+pub node_in_level : (ls : List Leaf) (n : ℕ) (p : List ℕ) → AreByteStubs ls → length p ≡ n → is_node ls p ≡ true → Contains (level ls n) p
 unfolding level branches
 node_in_level ls zero [] h e k = Contains-first [] []
 node_in_level ls zero (a ∷ p) h e k = absurd (omega arith)
@@ -227,7 +227,7 @@ filter-flat_map p f [] = refl
 filter-flat_map {X} {Y} p f (x ∷ xs) = filter-append p (f x) (flat_map f xs) ∙ ap (λ (l : List Y). filter p (f x) ++ l) (filter-flat_map p f xs)
 
 -- q with each letter behind it, END apart, is in order
-bytes_rise : (q : List ℕ) → AllPairs Lt (map (λ c. q ++ c ∷ []) (range_with_len 0 256))
+pub bytes_rise : (q : List ℕ) → AllPairs Lt (map (λ c. q ++ c ∷ []) (range_with_len 0 256))
 bytes_rise q i j d before within =
     let size = length-map-range_with_len (λ c. q ++ c ∷ []) 0 256 in
     let i_is = get_or-map-range_with_len (λ c. q ++ c ∷ []) 0 256 i i d (omega arith) (omega arith) in
@@ -277,7 +277,7 @@ record Beside (n : ℕ) (q r : List ℕ) : Type 0 where
   second : length r ≡ n
   order : Lt q r
 
-level_rises : (ls : List Leaf) (n : ℕ) → AreByteStubs ls → 0 < height ls → AllPairs Lt (level ls n)
+pub level_rises : (ls : List Leaf) (n : ℕ) → AreByteStubs ls → 0 < height ls → AllPairs Lt (level ls n)
 unfolding level
 level_rises ls zero h k = AllPairs-cons Lt [] [] (λ y c. absurd (Contains-nil y c)) (AllPairs-nil Lt)
 level_rises ls (suc n) h k =

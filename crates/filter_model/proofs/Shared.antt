@@ -140,3 +140,21 @@ take-shared (a ∷ x) (b ∷ y) = elim (cases_eq a b) [
   | inl here ↦ rw (shared-same a b x y here, one-add) (λ i. here i ∷ take-shared x y i)
   | inr other ↦ rw (shared-other a b x y other) refl
 ]
+
+-- of three strings in order, the outer two share no more than either does with the middle one
+pub shared_outer : (x y z : List ℕ) → Lt x y → Lt y z → (shared x z ≤ shared x y) × (shared x z ≤ shared y z)
+shared_outer x y [] h k = absurd k
+shared_outer x [] (c ∷ z) h k = absurd h
+shared_outer [] (b ∷ y) (c ∷ z) h k = (omega arith, omega arith)
+shared_outer (a ∷ x) (b ∷ y) (c ∷ z) (inl h) (inl k) =
+    let none = shared-other a c x z (λ e. omega arith) in (omega (arith, none), omega (arith, none))
+shared_outer (a ∷ x) (b ∷ y) (c ∷ z) (inl h) (inr (k, l)) =
+    let none = shared-other a c x z (λ e. omega arith) in (omega (arith, none), omega (arith, none))
+shared_outer (a ∷ x) (b ∷ y) (c ∷ z) (inr (h, i)) (inl k) =
+    let none = shared-other a c x z (λ e. omega arith) in (omega (arith, none), omega (arith, none))
+shared_outer (a ∷ x) (b ∷ y) (c ∷ z) (inr (h, i)) (inr (k, l)) =
+    let rest = shared_outer x y z i l in
+    let outer = shared-same a c x z (h ∙ k) in
+    let left = shared-same a b x y h in
+    let right = shared-same b c y z k in
+    (omega (arith, rest.0), omega (arith, rest.1))

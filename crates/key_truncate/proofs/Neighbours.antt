@@ -7,28 +7,10 @@ use Rattle.filter_model.specs.Keys.{IsKeyList}
 use Rattle.filter_model.specs.Leaves.{shared_most}
 use Rattle.filter_model.specs.Strings.{shared}
 use Rattle.filter_model.proofs.Order.{Lt, Lt-from}
-use Rattle.filter_model.proofs.Shared.{shared-same, shared-other, shared_sym}
+use Rattle.filter_model.proofs.Shared.{shared_outer, shared_sym}
 use Rattle.filter_model.proofs.Stubs.{nearest_or_none, shared_most-ge, shared_most-le, different}
 use Rattle.key_truncate.specs.declared.Stub.{Stub}
 use Rattle.key_truncate.specs.Stubs.{shared_next, shared_before, stub_in}
-
--- of three strings in order, the outer two share no more than either does with the middle one
-shared_outer : (x y z : List ℕ) → Lt x y → Lt y z → (shared x z ≤ shared x y) × (shared x z ≤ shared y z)
-shared_outer x y [] h k = absurd k
-shared_outer x [] (c ∷ z) h k = absurd h
-shared_outer [] (b ∷ y) (c ∷ z) h k = (omega arith, omega arith)
-shared_outer (a ∷ x) (b ∷ y) (c ∷ z) (inl h) (inl k) =
-    let none = shared-other a c x z (λ e. omega arith) in (omega (arith, none), omega (arith, none))
-shared_outer (a ∷ x) (b ∷ y) (c ∷ z) (inl h) (inr (k, l)) =
-    let none = shared-other a c x z (λ e. omega arith) in (omega (arith, none), omega (arith, none))
-shared_outer (a ∷ x) (b ∷ y) (c ∷ z) (inr (h, i)) (inl k) =
-    let none = shared-other a c x z (λ e. omega arith) in (omega (arith, none), omega (arith, none))
-shared_outer (a ∷ x) (b ∷ y) (c ∷ z) (inr (h, i)) (inr (k, l)) =
-    let rest = shared_outer x y z i l in
-    let outer = shared-same a c x z (h ∙ k) in
-    let left = shared-same a b x y h in
-    let right = shared-same b c y z k in
-    (omega (arith, rest.0), omega (arith, rest.1))
 
 abbrev at : List (List ℕ) → ℕ → List ℕ
 at keys i = get_or keys i []

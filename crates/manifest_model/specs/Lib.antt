@@ -1,4 +1,5 @@
 pub mod Version
 pub mod Reading
 pub mod Tables
+pub mod Laws
 pub mod Rows

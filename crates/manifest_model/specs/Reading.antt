@@ -22,8 +22,16 @@ count_in bytes = little_number 2 (drop 6 bytes)
 -- a row by its numbers
 abbrev pub row_of : List ℕ → Row
 row_of ns = record {
-  level = slice_index ns 0; first_page = slice_index ns 2; data_pages = slice_index ns 3; index_pages = slice_index ns 4; filter_pages = slice_index ns 5;
-  entries = slice_index ns 6; index_len = slice_index ns 7; filter_len = slice_index ns 8; index_sum = slice_index ns 9; filter_sum = slice_index ns 10;
+  level = slice_index ns 0;
+  first_page = slice_index ns 2;
+  data_pages = slice_index ns 3;
+  index_pages = slice_index ns 4;
+  filter_pages = slice_index ns 5;
+  entries = slice_index ns 6;
+  index_len = slice_index ns 7;
+  filter_len = slice_index ns 8;
+  index_sum = slice_index ns 9;
+  filter_sum = slice_index ns 10;
 }
 
 unfoldable pub row_in : Bytes → Row
@@ -35,8 +43,13 @@ rows_in (suc more) rest = row_in rest ∷ rows_in more (drop 64 rest)
 
 unfoldable pub version_in : Bytes → Version
 version_in bytes = record {
-  epoch = little_number 8 (drop 8 bytes); pages = little_number 4 (drop 16 bytes); hash_bits = slice_index bytes 20; real_bits = slice_index bytes 21;
-  ratio = little_number 2 (drop 22 bytes); log_page = little_number 4 (drop 24 bytes); rows = rows_in (count_in bytes) (drop 64 bytes);
+  epoch = little_number 8 (drop 8 bytes);
+  pages = little_number 4 (drop 16 bytes);
+  hash_bits = slice_index bytes 20;
+  real_bits = slice_index bytes 21;
+  ratio = little_number 2 (drop 22 bytes);
+  log_page = little_number 4 (drop 24 bytes);
+  rows = rows_in (count_in bytes) (drop 64 bytes);
 }
 
 -- ---- before the sum: 1, the magic; 2, the version of the format; 3, more than 1,024 tables

@@ -15,8 +15,16 @@ formatted = record { hash_bits = 0; real_bits = 0; ratio = 64; pages = 512; epoc
 -- a table of four entries that takes three pages: one of a block, one of an index of 27 bytes, one of a filter of 45
 abbrev pub table : ℕ → ℕ → Row
 table level first = record {
-  level = level; first_page = first; data_pages = 1; index_pages = 1; filter_pages = 1; entries = 4;
-  index_len = 27; filter_len = 45; index_sum = 0x0102030405060708; filter_sum = 9;
+  level = level;
+  first_page = first;
+  data_pages = 1;
+  index_pages = 1;
+  filter_pages = 1;
+  entries = 4;
+  index_len = 27;
+  filter_len = 45;
+  index_sum = 0x0102030405060708;
+  filter_sum = 9;
 }
 
 -- the store with these tables, at epoch 6

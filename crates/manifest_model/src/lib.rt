@@ -1,8 +1,26 @@
-//! The manifest of a store: the definitions of its bytes and of their rules, and a plain program that writes them.
+//! What the manifest of a store is: the definitions of its bytes and of their rules, worked rows and laws, and a plain
+//! program that writes a body.
+//!
+//! `specs/Version` says what a version is and how it is spelled, `specs/Reading` what is read from a body and which rule it
+//! breaks first, and where; the sum is looked at behind the first three rules. `specs/Tables` has the rules that need more
+//! than one body: two slots of one epoch, and the key ranges of tables.
+//!
+//! [`body_bytes`] is the obvious loop over the rows, and want of memory is its only error. A store reads and writes its
+//! slots on a device, and is compared with this. The functions with no parameter have no body: each has rows or laws as
+//! its contract, and none needs to be called.
+//!
+//! ```text
+//! a body        64 bytes of numbers, 64 bytes for each table, 8 bytes of their sum
+//! after a format on 512 pages      53 52 46 4D 01 00 00 00  01 00 00 00 00 00 00 00  00 02 00 00 00 00 40 00 ..
+//! ```
 #![tactic(auto)]
 
+mod laws;
 mod rows;
 mod version;
 
-pub use rows::{broken_bodies, broken_places, broken_versions, small_bodies, small_bodies_are_read};
+pub use laws::versions_have_one_spelling;
+pub use rows::{
+    broken_bodies, broken_places, broken_versions, small_bodies, small_bodies_are_read,
+};
 pub use version::{Version, body_bytes};

@@ -60,7 +60,7 @@ pub fn broken_bodies()
 /// Where tables do not stand as they must: rules 9 and 10.
 #[tactic(auto, unfolding(crate::specs::Version::head_bytes, crate::specs::Version::row_bytes, crate::specs::Version::front_bytes, crate::specs::Version::body_bytes, crate::specs::Reading::row_in, crate::specs::Reading::rows_in, crate::specs::Reading::version_in, crate::specs::Reading::first_fault, crate::specs::Reading::front_length_in, crate::specs::Reading::numbers_fault, crate::specs::Reading::zeros_fault, crate::specs::Reading::row_zeros_fault, crate::specs::Reading::row_fault, crate::specs::Reading::rows_fault, crate::specs::Reading::levels_fault, crate::specs::Reading::extents_fault, crate::specs::Reading::later_fault, crate::specs::Reading::sum_damage, crate::specs::Reading::body_damage, crate::specs::Rows::broken, block_model::specs::Pages::pages_for))]
 pub fn broken_places()
-    ensures sound { body_damage slot_a (body_bytes (with_tables (table 0 192 ∷ table 1 509 ∷ []))) ≡ None }
+    ensures side_by_side { body_damage slot_a (body_bytes (with_tables (table 0 195 ∷ table 0 192 ∷ table 1 198 ∷ table 1 509 ∷ []))) ≡ None }
     ensures levels_fall { body_damage slot_a (body_bytes (with_tables (table 1 192 ∷ table 0 195 ∷ []))) ≡ shape 136 9 }
     ensures before_the_tables { body_damage slot_a (body_bytes (with_tables (table 1 191 ∷ []))) ≡ shape 76 10 }
     ensures past_the_device { body_damage slot_a (body_bytes (with_tables (table 0 192 ∷ table 1 510 ∷ []))) ≡ shape 140 10 }

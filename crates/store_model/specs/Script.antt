@@ -55,24 +55,49 @@ pub data Ending : Type 0 where
   AtQuit : Ending
   AtDevice : Ending
 
--- `bye` and `device` are the last reply; behind any other comes what is next
-abbrev pub Then : Reply → Bytes → Ending → Type 0 → Type 0
-Then Done rest ending Next = Next
-Then (Value value) rest ending Next = Next
-Then Missing rest ending Next = Next
-Then Bye rest ending Next = (rest ≡ []) × (ending ≡ AtQuit)
-Then (BadLine code) rest ending Next = Next
-Then (LongKey size) rest ending Next = Next
-Then (LongValue size) rest ending Next = Next
-Then (Full need gap) rest ending Next = Next
-Then Memory rest ending Next = Next
-Then Device rest ending Next = (rest ≡ []) × (ending ≡ AtDevice)
-Then (DamagedLog at rule) rest ending Next = ⊥
+-- `bye` and `device` are the last reply, behind any other comes what is next; and what stands as the reply has been
+-- said, but for `device`
+abbrev pub Then : Reply → Bytes → Ending → Type 0 → Type 0 → Type 0
+Then Done rest ending Stands Next = Stands × Next
+Then (Value value) rest ending Stands Next = Stands × Next
+Then Missing rest ending Stands Next = Stands × Next
+Then Bye rest ending Stands Next = (rest ≡ []) × (ending ≡ AtQuit) × Stands
+Then (BadLine code) rest ending Stands Next = Stands × Next
+Then (LongKey size) rest ending Stands Next = Stands × Next
+Then (LongValue size) rest ending Stands Next = Stands × Next
+Then (Full need gap) rest ending Stands Next = Stands × Next
+Then Memory rest ending Stands Next = Stands × Next
+Then Device rest ending Stands Next = (rest ≡ []) × (ending ≡ AtDevice)
+Then (DamagedLog at rule) rest ending Stands Next = ⊥
 
 -- The lines are answered in order with this text, to the last of them or to the first whose reply is the last.
--- Where a reply has been said that is not the last, with so many bytes said by then, the entries have R.
+-- As a reply has been said that is not `device`, with so many bytes said by then, the entries have R.
 abbrev pub Script : (ℕ → List Entry → Type 0) → ℕ → List Entry → List Bytes → Bytes → Ending → Type 0
 Script R said old [] text ending = (text ≡ []) × (ending ≡ ToLast)
 Script R said old (line ∷ more) text ending =
     (reply : Reply) × (rest : Bytes) × (new : List Entry) × (text ≡ text_of reply ++ rest) × Step old (command_of line) reply new
-    × Then reply rest ending (R (said + length (text_of reply)) new × Script R (said + length (text_of reply)) new more rest ending)
+    × Then reply rest ending (R (said + length (text_of reply)) new) (Script R (said + length (text_of reply)) new more rest ending)
+
+-- ---- some first lines
+
+-- a reply that is not the last
+abbrev pub GoesOn : Reply → Type 0
+GoesOn Done = Unit {0}
+GoesOn (Value value) = Unit {0}
+GoesOn Missing = Unit {0}
+GoesOn Bye = ⊥
+GoesOn (BadLine code) = Unit {0}
+GoesOn (LongKey size) = Unit {0}
+GoesOn (LongValue size) = Unit {0}
+GoesOn (Full need gap) = Unit {0}
+GoesOn Memory = Unit {0}
+GoesOn Device = ⊥
+GoesOn (DamagedLog at rule) = ⊥
+
+-- The lines are answered in order with this text, which leaves these entries, and none of the replies is the last.
+-- As each has been said, with so many bytes said by then, the entries have R.
+abbrev pub WentOn : (ℕ → List Entry → Type 0) → ℕ → List Entry → List Bytes → Bytes → List Entry → Type 0
+WentOn R said old [] text new = (text ≡ []) × (new ≡ old)
+WentOn R said old (line ∷ more) text new =
+    (reply : Reply) × (rest : Bytes) × (mid : List Entry) × (text ≡ text_of reply ++ rest) × Step old (command_of line) reply mid
+    × GoesOn reply × R (said + length (text_of reply)) mid × WentOn R (said + length (text_of reply)) mid more rest new

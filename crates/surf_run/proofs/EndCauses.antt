@@ -1,16 +1,13 @@
 -- How causes and counts go on.
-use Rattle.std.proofs.Common.{◌≡◌, ◌⊎◌, ◌∙◌, refl, ap, inl, inr, ◌≤◌, ℕ, arith}
-use Rattle.disk_trait.specs.World.{World, Seen, Streams, WriteMoves, Rose}
-use Rattle.outside.specs.Streams.{TakeMoves, SayMoves}
-use Rattle.surf_run.specs.Causes.{EndCause, NoFall, TakesNothing, SayFailed}
+use Rattle.std.proofs.Common.{◌∙◌, refl, ap, inl, inr, ◌≤◌, ℕ, arith}
+use Rattle.disk_trait.specs.World.{World, Seen, Rose}
+use Rattle.outside.specs.Streams.{TakeMoves}
+use Rattle.surf_run.specs.Causes.{EndCause, NoFall, TakesNothing}
 use Rattle.surf_run.specs.declared.end.LineEnd.{LineEnd}
 use Rattle.surf_run.specs.declared.end.LineEnd.TheVariants.{Next, Quit, End}
 
 pub rose_since : (a b c : ℕ) → a ≤ b → Rose b c → Rose a c
 rose_since a b c le rose = omega arith
-
-pub rose_on : (a b c : ℕ) → b ≤ c → Rose a b → Rose a c
-rose_on a b c le rose = omega arith
 
 pub cause_since : (end : LineEnd) (a b c : World) → NoFall a b → EndCause end b c → EndCause end a c
 cause_since Next a b c none cause = tt
@@ -38,16 +35,6 @@ no_fall_take a b moves = record {
   take = moves.take_faults;
   say = omega (arith, moves.say_faults);
 }
-
--- the device failed, and `device` was said or not
-pub device_cause : (end : LineEnd) (a mid b : World) → WriteMoves 262144 262144 a mid → SayMoves mid b → Rose a.seen.write_faults mid.seen.write_faults
-    → (end ≡ End 4) ⊎ ((end ≡ End 6) × SayFailed mid b) → EndCause end a b
-device_cause Next a mid b moves says rose ends = tt
-device_cause Quit a mid b moves says rose ends = tt
-device_cause (End status) a mid b moves says rose ends = elim ends [
-  | inl four ↦ inl (let is : status ≡ 4 = cc in is, omega (arith, rose, ap (λ (s : Seen). s.write_faults) says.seen))
-  | inr six ↦ inr (let e = six.0 in let is : status ≡ 6 = cc in is, omega (arith, six.1, ap (λ (s : Streams). s.say_faults) moves.beside))
-]
 
 pub takes_none : (w : World) → TakesNothing w w
 takes_none w = record { input = refl; counts = record { read = omega arith; write = omega arith; take = omega arith; say = omega arith } }

@@ -2,7 +2,8 @@
 use Rattle.std.proofs.Common.{◌≡◌, inl, inr, ◌+◌, ◌++◌, ℕ, List, [], ◌∷◌, length, refl, sym, ap, ◌∙◌, arith, append_assoc, length-append, subst, take, drop, ◌-◌, ◌≤◌}
 use Rattle.std.proofs.Math.Seq.{take-append-add}
 use Rattle.std.proofs.lemmas.List.{append-nil, take-append-le, take_all, take-append-drop}
-use Rattle.disk_trait.specs.World.{Image, World, Now}
+use Rattle.std.specs.Prelude.{Bool, IsTrue}
+use Rattle.disk_trait.specs.World.{Image, World}
 use Rattle.outside.specs.During.{During}
 use Rattle.outside.specs.Streams.{SaidByNow, SaysFront}
 use Rattle.gate_log.specs.Area.{LogIs}
@@ -10,18 +11,18 @@ use Rattle.store_model.specs.SortedMap.{Bytes}
 use Rattle.store_model.specs.Entries.{Entry}
 use Rattle.store_model.specs.Lines.{command_of}
 use Rattle.store_model.specs.Replies.{Reply, text_of}
-use Rattle.store_model.specs.Script.{Step}
-use Rattle.surf_run.specs.Crash.{Reached, WentOn, Acknowledged}
+use Rattle.store_model.specs.Script.{Step, WentOn}
+use Rattle.surf_run.specs.Crash.{Stands, Reached, Anything, Acknowledged}
 use Rattle.surf_run.specs.Serving.{InLine}
-use Rattle.surf_run.proofs.Answering.{answers_on, answers_gone}
+use Rattle.surf_run.proofs.Answering.{answers_on, answers_of}
 
 -- what was reached stays so
-pub reached_on : (Q : ℕ → Image → Type 0) (a b : World) → During Q a b → (n : ℕ) (entries : List Entry) → Reached a n entries → Reached b n entries
-reached_on Q a b run n entries reached =
-    (reached.0, omega (arith, reached.1, run.later), run.told_kept reached.0 reached.1 ∙ reached.2, λ image left. reached.3 image (run.kept reached.0 image reached.1 left))
+pub reached_on : (tells : Bool) (Q : ℕ → Image → Type 0) (a b : World) → (IsTrue tells → During Q a b) → (n : ℕ) (entries : List Entry) → Reached tells a n entries → Reached tells b n entries
+reached_on tells Q a b runs n entries reaches t =
+    let run = runs t in let reached = reaches t in (reached.0, omega (arith, reached.1, run.later), run.told_kept reached.0 reached.1 ∙ reached.2, λ image left. reached.3 image (run.kept reached.0 image reached.1 left))
 
-pub reached_here : (w : World) (entries : List Entry) (n : ℕ) → SaidByNow w → length w.beside.said ≡ n → Now (LogIs 0 entries) w → Reached w n entries
-reached_here w entries n now is stand = (w.moment, omega arith, now w.moment (omega arith) ∙ is, stand)
+pub reached_here : (tells : Bool) (w : World) (entries : List Entry) (n : ℕ) → SaidByNow w → length w.beside.said ≡ n → Stands tells entries w → Reached tells w n entries
+reached_here tells w entries n now is stand t = (w.moment, omega arith, now w.moment (omega arith) ∙ is, stand t)
 
 -- more lines, and more is said
 pub ack_more : (start : List Entry) (lines more : List Bytes) (before told told' done : Bytes) → told' ≡ told ++ done → (n : ℕ) (image : Image) → Acknowledged start lines before told n image
@@ -51,7 +52,7 @@ take_all_of : (n : ℕ) (told front more : Bytes) → told ≡ front ++ more →
 take_all_of n told front more is size = ap (take n) is ∙ take-append-le n front more (omega (arith, size)) ∙ take_all n front (omega (arith, size))
 
 -- after these lines, with their replies said whole and nothing else
-ack_whole : (start : List Entry) (lines later : List Bytes) (text : Bytes) (now : List Entry) (before told more : Bytes) (n : ℕ) (image : Image) → WentOn start lines text now
+ack_whole : (start : List Entry) (lines later : List Bytes) (text : Bytes) (now : List Entry) (before told more : Bytes) (n : ℕ) (image : Image) → WentOn Anything 0 start lines text now
     → told ≡ (before ++ text) ++ more → n ≡ length (before ++ text) → LogIs 0 now image → Acknowledged start (lines ++ later) before told n image
 ack_whole start lines later text now before told more n image went is size stands =
     let all = take_all_of n told (before ++ text) more is size in
@@ -61,7 +62,7 @@ ack_whole start lines later text now before told more n image went is size stand
       split = refl;
       text = text;
       now = now;
-      answered = answers_gone start lines text now went;
+      answered = answers_of Anything 0 start lines text now went;
       stands = stands;
       within = omega (arith, size, ap length is, length-append (before ++ text) more);
       most = ([], sym (ap (λ (l : Bytes). l ++ []) all ∙ append-nil (before ++ text)));
@@ -80,7 +81,7 @@ ack_none start lines before told more is n image size stands =
     ack_whole start [] lines [] start before told more n image (refl, refl) (is ∙ ap (λ (l : Bytes). l ++ more) (sym (append-nil before))) (size ∙ ap length (sym (append-nil before))) stands
 
 module _ (start : List Entry) (lines : List Bytes) (line text : Bytes) (now : List Entry) (reply : Reply) (first w w' : World)
-    (went : WentOn start lines text now) (told : w.beside.said ≡ first.beside.said ++ text) (front : SaysFront (text_of reply) w.beside.said w'.beside.said) where
+    (went : WentOn Anything 0 start lines text now) (told : w.beside.said ≡ first.beside.said ++ text) (front : SaysFront (text_of reply) w.beside.said w'.beside.said) where
   -- what had been said within the reply
   part : (n : ℕ) → length w.beside.said ≤ n → take n w'.beside.said ≡ w.beside.said ++ take (n - length w.beside.said) front.done
   part n le =
@@ -107,7 +108,7 @@ module _ (start : List Entry) (lines : List Bytes) (line text : Bytes) (now : Li
               split = sym (append-nil (lines ++ line ∷ []));
               text = text ++ text_of reply;
               now = after.2.0;
-              answered = answers_on start lines text now line reply after.2.0 (answers_gone start lines text now went) after.2.1;
+              answered = answers_on start lines text now line reply after.2.0 (answers_of Anything 0 start lines text now went) after.2.1;
               stands = after.2.2;
               within = after.1;
               most = (
@@ -125,7 +126,7 @@ module _ (start : List Entry) (lines : List Bytes) (line text : Bytes) (now : Li
       ]
 
 -- between two lines
-pub ack_here : (start : List Entry) (lines : List Bytes) (text : Bytes) (now : List Entry) (before told : Bytes) → told ≡ before ++ text → (n : ℕ) (image : Image) → WentOn start lines text now → n ≡ length told
+pub ack_here : (start : List Entry) (lines : List Bytes) (text : Bytes) (now : List Entry) (before told : Bytes) → told ≡ before ++ text → (n : ℕ) (image : Image) → WentOn Anything 0 start lines text now → n ≡ length told
     → LogIs 0 now image → Acknowledged start lines before told n image
 ack_here start lines text now before told is n image went size stands =
     subst (λ (ls : List Bytes). Acknowledged start ls before told n image) (append-nil lines)

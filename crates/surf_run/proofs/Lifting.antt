@@ -1,5 +1,6 @@
 -- A run from before its opening on.
 use Rattle.std.proofs.Common.{◌≡◌, ◌⊎◌, ◌∙◌, ◌++◌, inl, inr, sym, ap, subst, ℕ, List, length}
+use Rattle.std.specs.Prelude.{Bool}
 use Rattle.disk_trait.specs.World.{Image, World, Streams, Now, Meanwhile, Same}
 use Rattle.disk_trait.proofs.Moments.{in_call}
 use Rattle.outside.specs.During.{During}
@@ -13,25 +14,26 @@ use Rattle.store_model.specs.SortedMap.{Bytes}
 use Rattle.store_model.specs.Entries.{Entry}
 use Rattle.store_model.specs.Lines.{lines_of, whole_lines}
 use Rattle.store_model.specs.Replies.{text_of}
-use Rattle.store_model.specs.Script.{Script, Ending, ToLast}
-use Rattle.surf_run.specs.Causes.{SayFailed}
+use Rattle.store_model.specs.Script.{Script, WentOn, Ending, ToLast}
+use Rattle.surf_run.specs.Causes.{IsServing, SayFailed}
 use Rattle.surf_run.specs.Crash.{Reached, Acknowledged}
 use Rattle.surf_run.specs.Open.{OpenMoves, reply_to, status_of}
 use Rattle.surf_run.specs.Outcome.{Said, CutOff, SaidInPart, Settled, Outcome}
-use Rattle.surf_run.specs.Run.{Unserved, Ends, Damaged}
+use Rattle.surf_run.specs.Run.{IsLastText, Unserved, Ends, Damaged}
+use Rattle.surf_run.proofs.Moments.{now_still}
 use Rattle.surf_run.proofs.History.{ack_none}
 
-module _ (start : List Entry) (old mid new : World) (opened : OpenMoves old mid) (now_old : SaidByNow old) (here : Now (LogIs 0 start) old) where
+module _ (tells : Bool) (start : List Entry) (old mid new : World) (opened : OpenMoves old mid) (now_old : SaidByNow old) (here : Now (LogIs 0 start) old) where
   said_same : mid.beside.said ≡ old.beside.said
   said_same = ap (λ (s : Streams). s.said) opened.beside
 
   out_same : (text : Bytes) → new.beside.said ≡ mid.beside.said ++ text → new.beside.said ≡ old.beside.said ++ text
   out_same text is = is ∙ ap (λ (s : Bytes). s ++ text) said_same
 
-  script_same : (ending : Ending) (lines : List Bytes) (text : Bytes) → Script (Reached new) (length mid.beside.said) start lines text ending → Script (Reached new) (length old.beside.said) start lines text ending
-  script_same ending lines text = subst (λ (s : Bytes). Script (Reached new) (length s) start lines text ending) said_same
+  script_same : (ending : Ending) (lines : List Bytes) (text : Bytes) → Script (Reached tells new) (length mid.beside.said) start lines text ending → Script (Reached tells new) (length old.beside.said) start lines text ending
+  script_same ending lines text = subst (λ (s : Bytes). Script (Reached tells new) (length s) start lines text ending) said_same
 
-  said_since : (ending : Ending) (taken : Bytes) → Said ending start taken mid new → Said ending start taken old new
+  said_since : (ending : Ending) (taken : Bytes) → Said tells ending start taken mid new → Said tells ending start taken old new
   said_since ending taken said = record {
     text = said.text;
     output = out_same said.text said.output;
@@ -42,19 +44,23 @@ module _ (start : List Entry) (old mid new : World) (opened : OpenMoves old mid)
     ];
   }
 
-  cut_since : (taken : Bytes) → CutOff start taken mid new → CutOff start taken old new
+  cut_since : (taken : Bytes) → CutOff tells start taken mid new → CutOff tells start taken old new
   cut_since taken cut = record { text = cut.text; output = out_same cut.text cut.output; script = script_same ToLast (whole_lines taken) cut.text cut.script }
 
-  part_since : (taken : Bytes) → SaidInPart start taken mid new → SaidInPart start taken old new
+  part_since : (taken : Bytes) → SaidInPart tells start taken mid new → SaidInPart tells start taken old new
   part_since taken part = record {
     lines = part.lines;
+    line = part.line;
     later = part.later;
-    first = part.first;
+    split = part.split;
     text = part.text;
-    rest = part.rest;
-    output = out_same part.text part.output;
+    now = part.now;
+    went_on = subst (λ (s : Bytes). WentOn (Reached tells new) (length s) start part.lines part.text part.now) said_same part.went_on;
+    reply = part.reply;
     last = part.last;
-    answered = part.answered;
+    step = part.step;
+    front = subst (λ (s : Bytes). SaysFront (text_of part.reply) (s ++ part.text) new.beside.said) said_same part.front;
+    stands = part.stands;
   }
 
   -- what a crash may leave while the store is opened
@@ -72,7 +78,7 @@ module _ (start : List Entry) (old mid new : World) (opened : OpenMoves old mid)
       (ack_none start lines old.beside.said new.beside.said text grown)
       (subst (λ (s : Bytes). During (Acknowledged start lines s new.beside.said) mid new) said_same then)
 
-  settled_since : (status : ℕ) (taken : Bytes) → Settled status start taken mid new → Settled status start taken old new
+  settled_since : (status : ℕ) (taken : Bytes) → Settled tells status start taken mid new → Settled tells status start taken old new
   settled_since status taken settled = record {
     ended = λ zero. elim (settled.ended zero) [
       | inl last ↦ inl (said_since _ taken last)
@@ -82,10 +88,10 @@ module _ (start : List Entry) (old mid new : World) (opened : OpenMoves old mid)
     cut = λ is. cut_since taken (settled.cut is);
     output = λ six. part_since taken (settled.output six);
     said = (settled.said.0, out_same settled.said.0 settled.said.1);
-    crash = crash_since (lines_of taken) settled.said.0 (out_same settled.said.0 settled.said.1) settled.crash;
+    crash = λ t. crash_since (lines_of taken) settled.said.0 (out_same settled.said.0 settled.said.1) (settled.crash t);
   }
 
-  outcome_since : (status : ℕ) → Outcome status start mid new → Outcome status start old new
+  outcome_since : (status : ℕ) → Outcome tells status start mid new → Outcome tells status start old new
   outcome_since status outcome = record {
     taken = outcome.taken;
     input = ap (λ (s : Streams). s.to_take) (sym opened.beside) ∙ outcome.input;
@@ -93,26 +99,31 @@ module _ (start : List Entry) (old mid new : World) (opened : OpenMoves old mid)
     limit = outcome.limit;
   }
 
-  unserved_since : (status : ℕ) → Unserved status start mid new → Unserved status start old new
-  unserved_since status unserved = record {
-    input = unserved.input ∙ ap (λ (s : Streams). s.to_take) opened.beside;
-    line = (
-      unserved.line.0,
-      unserved.line.1,
-      unserved.line.2,
-      elim unserved.line.3 [
-        | inl all ↦ inl (all.0, out_same unserved.line.1 all.1)
-        | inr part ↦ inr (part.0, subst (λ (s : Bytes). SaysFront unserved.line.1 s new.beside.said) said_same part.1)
-      ],
-    );
-    crash = open_then (λ n image. LogIs 0 start image) (λ k image is log. log) unserved.crash;
-  }
+  pub ends_since : (status : ℕ) → IsServing status → Outcome tells status start mid new → Ends tells status start old new
+  ends_since status serving outcome = inl (serving, outcome_since status outcome)
 
-  pub ends_since : (status : ℕ) → Ends status start mid new → Ends status start old new
-  ends_since status ends = elim ends [
-    | inl served ↦ inl (served.0, outcome_since status served.1)
-    | inr unserved ↦ inr (unserved_since status unserved)
-  ]
+-- where no line was answered, nothing was written
+pub unserved_since : (tells : Bool) (status : ℕ) (old mid new : World) → OpenMoves old mid → SaidByNow old → Unserved tells status mid new → Unserved tells status old new
+unserved_since tells status old mid new opened now_old unserved =
+    let said_same : mid.beside.said ≡ old.beside.said = ap (λ (s : Streams). s.said) opened.beside in
+    let Left = λ (image : Image). old.leaves old.moment image in
+    let left_now : Now Left old = λ image left. left in
+    record {
+      input = unserved.input ∙ ap (λ (s : Streams). s.to_take) opened.beside;
+      line = (
+        unserved.line.0,
+        unserved.line.1,
+        subst (λ (i : Image). IsLastText tells i unserved.line.0 unserved.line.1) opened.held unserved.line.2,
+        elim unserved.line.3 [
+          | inl all ↦ inl (all.0, all.1 ∙ ap (λ (s : Bytes). s ++ unserved.line.1) said_same)
+          | inr part ↦ inr (part.0, subst (λ (s : Bytes). SaysFront unserved.line.1 s new.beside.said) said_same part.1)
+        ],
+      );
+      crash = during_then (λ n image. Left image) old mid new
+          (during_weaker (λ k image. (k ≡ length old.beside.said) × Left image) (λ n image. Left image) old mid
+          (during_disk Left old mid (in_call Left Same old mid left_now opened.time (λ was image left same. subst Left (sym same) left)) opened.beside now_old) (λ k image at. at.1))
+          (during_weaker (λ n image. mid.leaves mid.moment image) (λ n image. Left image) mid new unserved.crash (λ k image at. now_still Left old mid opened.time left_now image at));
+    }
 
 -- a last line says that the log is damaged only where it is
 pub damage_told : (fault : LogFault) (image : Image) (status : ℕ) (old mid new : World) → IsShapeIn 0 image fault → mid.beside ≡ old.beside → (status ≡ status_of fault) ⊎ ((status ≡ 6) × SayFailed mid new)

@@ -1,35 +1,35 @@
 -- How a run ends.
-use Rattle.std.proofs.Common.{◌≡◌, ◌⊎◌, inl, inr, ◌<◌, ◌+◌, ◌++◌, ℕ, zero, List, [], ◌∷◌, length, refl, sym, ap, ◌∙◌, subst, arith, append_assoc, length-append}
+use Rattle.std.proofs.Common.{◌≡◌, ◌≢◌, ◌⊎◌, inl, inr, ◌<◌, ◌+◌, ◌++◌, ℕ, zero, List, [], ◌∷◌, length, refl, sym, ap, ◌∙◌, subst, arith, append_assoc, length-append}
 use Rattle.std.specs.Prelude.{flat_map}
 use Rattle.std.proofs.lemmas.List.{append-nil}
 use Rattle.std.proofs.lemmas.List.Elements.{All-nil}
-use Rattle.std.specs.Prelude.{◌==◌, false}
-use Rattle.disk_trait.specs.World.{World, Now}
+use Rattle.std.specs.Prelude.{Bool, IsTrue, ◌==◌, false}
+use Rattle.disk_trait.specs.World.{World}
 use Rattle.outside.specs.During.{During}
-use Rattle.outside.specs.Streams.{SaidByNow, TakeMoves}
+use Rattle.outside.specs.Streams.{SaidByNow, SaysFront, TakeMoves}
 use Rattle.outside.proofs.Crossing.{during_then, during_weaker, during_take, during_none}
 use Rattle.gate_log.specs.Area.{LogIs}
 use Rattle.store_commands.specs.Cutting.{NoNewline}
 use Rattle.store_model.specs.SortedMap.{Bytes}
 use Rattle.store_model.specs.Entries.{Entry}
 use Rattle.store_model.specs.Lines.{command_of, lines_of, whole_lines}
-use Rattle.store_model.specs.Replies.{Reply, Bye, text_of}
-use Rattle.store_model.specs.Script.{Step, Answers, Script, Ending, ToLast, AtQuit, AtDevice}
-use Rattle.surf_run.specs.Crash.{Reached, WentOn, Acknowledged}
+use Rattle.store_model.specs.Replies.{Reply, Bye, Device, text_of}
+use Rattle.store_model.specs.Script.{Step, Script, GoesOn, WentOn, Ending, ToLast, AtQuit, AtDevice}
+use Rattle.surf_run.specs.Crash.{Stands, Reached, Anything, Acknowledged}
 use Rattle.surf_run.specs.Holds.{Holds}
 use Rattle.surf_run.specs.Outcome.{Said, SaidInPart, Settled}
-use Rattle.surf_run.specs.Serving.{LineAnswer, GoesOn, Whole, Answered, Ran, with_newline, Served, Closed, EndedBy}
+use Rattle.surf_run.specs.Serving.{LineAnswer, Whole, Answered, with_newline, Served, Closed, EndedBy}
 use Rattle.surf_run.specs.declared.store.Store.{Store}
 use Rattle.surf_run.specs.declared.end.LineEnd.TheVariants.{Next, Quit, End}
-use Rattle.surf_run.proofs.Moments.{now_still}
+use Rattle.surf_run.proofs.Moments.{stands_still}
 use Rattle.surf_run.proofs.Texts.{lines_first, whole_first, last_line, held_none, held_some, held_same}
-use Rattle.surf_run.proofs.Answering.{answers_of, went_of, answers_on, ran_on, ran_weaker, script_of, script_ends, IsLast}
+use Rattle.surf_run.proofs.Answering.{went_of, went_on, went_as, script_of, script_ends, IsLast}
 use Rattle.surf_run.proofs.History.{reached_on, reached_here, ack_more, ack_none, ack_here, line_ack}
 use Rattle.surf_run.proofs.Progress.{device_last}
 
 -- before anything was taken
-pub served_none : (start : List Entry) (kept : Bytes) (store : Store) (w : World) → kept ≡ [] → SaidByNow w → Holds start store → Now (LogIs 0 start) w → Served start [] kept store w w
-served_none start kept store w none now holds stand = record {
+pub served_none : (tells : Bool) (start : List Entry) (kept : Bytes) (store : Store) (w : World) → kept ≡ [] → SaidByNow w → Holds start store → Stands tells start w → Served tells start [] kept store w w
+served_none tells start kept store w none now holds stand = record {
   lines = [];
   rest = [];
   text = [];
@@ -40,17 +40,17 @@ served_none start kept store w none now holds stand = record {
   ran = (refl, refl);
   told = sym (append-nil w.beside.said);
   held = held_same [] kept none (omega arith);
-  history = during_weaker (λ k image. (k ≡ length w.beside.said) × LogIs 0 start image) _ w w (during_none (LogIs 0 start) w stand now) (λ k image at. ack_none start [] w.beside.said w.beside.said [] (sym (append-nil w.beside.said)) k image at.0 at.1);
+  history = λ t. during_weaker (λ k image. (k ≡ length w.beside.said) × LogIs 0 start image) _ w w (during_none (LogIs 0 start) w (stand t) now) (λ k image at. ack_none start [] w.beside.said w.beside.said [] (sym (append-nil w.beside.said)) k image at.0 at.1);
   stand = stand;
   holds = holds;
 }
 
 -- a take, done or failed
-pub served_take : (start : List Entry) (bytes kept : Bytes) (store : Store) (first w w' : World) → TakeMoves w w' → SaidByNow w → Served start bytes kept store first w → Served start bytes kept store first w'
-served_take start bytes kept store first w w' moves now served =
+pub served_take : (tells : Bool) (start : List Entry) (bytes kept : Bytes) (store : Store) (first w w' : World) → TakeMoves w w' → SaidByNow w → Served tells start bytes kept store first w → Served tells start bytes kept store first w'
+served_take tells start bytes kept store first w w' moves now served =
     let low = length first.beside.said in
-    let taking = during_take (LogIs 0 served.now) w w' served.stand moves now in
-    let went = went_of (Reached w) low start served.lines served.text served.now served.ran in
+    let taking = λ (t : IsTrue tells). during_take (LogIs 0 served.now) w w' (served.stand t) moves now in
+    let went = went_of (Reached tells w) low 0 start served.lines served.text served.now served.ran in
     record {
       lines = served.lines;
       rest = served.rest;
@@ -59,15 +59,15 @@ served_take start bytes kept store first w w' moves now served =
       split = served.split;
       whole = served.whole;
       open_end = served.open_end;
-      ran = ran_weaker (Reached w) (Reached w') (reached_on _ w w' taking) low start served.lines served.text served.now served.ran;
+      ran = went_as (Reached tells w) (Reached tells w') (reached_on tells _ w w' taking) low start served.lines served.text served.now served.ran;
       told = moves.said ∙ served.told;
       held = served.held;
-      history =
+      history = λ t.
           let told = moves.said ∙ served.told in
-          during_then (Acknowledged start served.lines first.beside.said w'.beside.said) first w w' (subst (λ (s : Bytes). During (Acknowledged start served.lines first.beside.said s) first w) (sym moves.said) served.history)
-          (during_weaker (λ k image. (k ≡ length w.beside.said) × LogIs 0 served.now image) _ w w' taking
+          during_then (Acknowledged start served.lines first.beside.said w'.beside.said) first w w' (subst (λ (s : Bytes). During (Acknowledged start served.lines first.beside.said s) first w) (sym moves.said) (served.history t))
+          (during_weaker (λ k image. (k ≡ length w.beside.said) × LogIs 0 served.now image) _ w w' (taking t)
           (λ k image at. ack_here start served.lines served.text served.now first.beside.said w'.beside.said told k image went (at.0 ∙ ap length (sym moves.said)) at.1));
-      stand = now_still (LogIs 0 served.now) w w' moves.time served.stand;
+      stand = stands_still tells served.now w w' moves.time served.stand;
       holds = served.holds;
     }
 
@@ -76,70 +76,75 @@ served_take start bytes kept store first w w' moves now served =
 lines_now : (taken : Bytes) (lines : List Bytes) (more : List Bytes) → lines_of (taken ++ []) ≡ lines ++ more → lines_of taken ≡ lines ++ more
 lines_now taken lines more is = ap lines_of (sym (append-nil taken)) ∙ is
 
-pub said_closed : (ending : Ending) (start : List Entry) (taken : Bytes) (first w : World) → Closed ending start taken first w → Said ending start taken first w
-said_closed ending start taken first w closed = record {
+pub said_closed : (tells : Bool) (ending : Ending) (start : List Entry) (taken : Bytes) (first w : World) → Closed tells ending start taken first w → Said tells ending start taken first w
+said_closed tells ending start taken first w closed = record {
   text = closed.text;
   output = closed.told;
-  script = subst (λ (l : Bytes). Script (Reached w) (length first.beside.said) start (lines_of l) closed.text ending) (append-nil taken) (closed.script []);
+  script = subst (λ (l : Bytes). Script (Reached tells w) (length first.beside.said) start (lines_of l) closed.text ending) (append-nil taken) (closed.script []);
   settled = inr closed.script;
 }
 
-more_lines : (start : List Entry) (taken : Bytes) (lines later : List Bytes) (first w : World) → lines_of taken ≡ lines ++ later → During (Acknowledged start lines first.beside.said w.beside.said) first w
-    → During (Acknowledged start (lines_of taken) first.beside.said w.beside.said) first w
-more_lines start taken lines later first w is history =
+more_lines : (tells : Bool) (start : List Entry) (taken : Bytes) (lines later : List Bytes) (first w : World) → lines_of taken ≡ lines ++ later → (IsTrue tells → During (Acknowledged start lines first.beside.said w.beside.said) first w)
+    → IsTrue tells → During (Acknowledged start (lines_of taken) first.beside.said w.beside.said) first w
+more_lines tells start taken lines later first w is history t =
     subst (λ (ls : List Bytes). During (Acknowledged start ls first.beside.said w.beside.said) first w) (sym is)
-    (during_weaker _ _ first w history (ack_more start lines later first.beside.said w.beside.said w.beside.said [] (sym (append-nil w.beside.said))))
+    (during_weaker _ _ first w (history t) (ack_more start lines later first.beside.said w.beside.said w.beside.said [] (sym (append-nil w.beside.said))))
 
-pub settled_quit : (start : List Entry) (taken : Bytes) (first w : World) → Closed AtQuit start taken first w → Settled 0 start taken first w
-settled_quit start taken first w closed =
+pub settled_quit : (tells : Bool) (start : List Entry) (taken : Bytes) (first w : World) → Closed tells AtQuit start taken first w → Settled tells 0 start taken first w
+settled_quit tells start taken first w closed =
     let first_lines = closed.first_lines [] in
     record {
-      ended = λ _. inr (said_closed AtQuit start taken first w closed);
+      ended = λ _. inr (said_closed tells AtQuit start taken first w closed);
       device = λ is. absurd (omega arith);
       cut = λ is. absurd (elim is [ inl three ↦ omega arith | inr nine ↦ omega arith ]);
       output = λ is. absurd (omega arith);
       said = (closed.text, closed.told);
-      crash = more_lines start taken closed.lines first_lines.0 first w (lines_now taken closed.lines first_lines.0 first_lines.1) closed.history;
+      crash = more_lines tells start taken closed.lines first_lines.0 first w (lines_now taken closed.lines first_lines.0 first_lines.1) closed.history;
     }
 
-pub settled_end : (status : ℕ) (start : List Entry) (taken : Bytes) (first w : World) → EndedBy status start taken first w → Settled status start taken first w
-settled_end status start taken first w ended = elim ended [
+pub settled_end : (tells : Bool) (status : ℕ) (start : List Entry) (taken : Bytes) (first w : World) → EndedBy tells status start taken first w → Settled tells status start taken first w
+settled_end tells status start taken first w ended = elim ended [
   | inl four ↦
       let first_lines = four.1.first_lines [] in
       record {
         ended = λ is. absurd (let e = four.0 in omega arith);
-        device = λ _. said_closed AtDevice start taken first w four.1;
+        device = λ _. said_closed tells AtDevice start taken first w four.1;
         cut = λ is. absurd (let e = four.0 in elim is [ inl three ↦ omega arith | inr nine ↦ omega arith ]);
         output = λ is. absurd (let e = four.0 in omega arith);
         said = (four.1.text, four.1.told);
-        crash = more_lines start taken four.1.lines first_lines.0 first w (lines_now taken four.1.lines first_lines.0 first_lines.1) four.1.history;
+        crash = more_lines tells start taken four.1.lines first_lines.0 first w (lines_now taken four.1.lines first_lines.0 first_lines.1) four.1.history;
       }
   | inr six ↦
-      let first_lines = six.1.first_lines [] in
       let broken = six.1 in
+      let first_lines = broken.first_lines [] in
+      let before = broken.lines ++ broken.line ∷ [] in
       record {
         ended = λ is. absurd (let e = six.0 in omega arith);
         device = λ is. absurd (let e = six.0 in omega arith);
         cut = λ is. absurd (let e = six.0 in elim is [ inl three ↦ omega arith | inr nine ↦ omega arith ]);
         output = λ _. record {
           lines = broken.lines;
+          line = broken.line;
           later = first_lines.0;
-          first = lines_now taken broken.lines first_lines.0 first_lines.1;
+          split = lines_now taken before first_lines.0 first_lines.1 ∙ append_assoc broken.lines (broken.line ∷ []) first_lines.0;
           text = broken.text;
-          rest = broken.rest;
-          output = broken.told;
+          now = broken.now;
+          went_on = broken.ran;
+          reply = broken.reply;
           last = broken.last;
-          answered = broken.answered;
+          step = broken.step;
+          front = broken.front;
+          stands = broken.stands;
         };
-        said = (broken.text, broken.told);
-        crash = more_lines start taken broken.lines first_lines.0 first w (lines_now taken broken.lines first_lines.0 first_lines.1) broken.history;
+        said = (broken.text ++ broken.front.done, broken.front.said ∙ append_assoc first.beside.said broken.text broken.front.done);
+        crash = more_lines tells start taken before first_lines.0 first w (lines_now taken before first_lines.0 first_lines.1) broken.history;
       }
 ]
 
 -- ---- the input is cut off
 
-pub settled_cut : (status : ℕ) (start : List Entry) (taken kept : Bytes) (store : Store) (first w : World) → (status ≡ 3) ⊎ (status ≡ 9) → Served start taken kept store first w → Settled status start taken first w
-settled_cut status start taken kept store first w is served = record {
+pub settled_cut : (tells : Bool) (status : ℕ) (start : List Entry) (taken kept : Bytes) (store : Store) (first w : World) → (status ≡ 3) ⊎ (status ≡ 9) → Served tells start taken kept store first w → Settled tells status start taken first w
+settled_cut tells status start taken kept store first w is served = record {
   ended = λ e. absurd (elim is [ inl three ↦ omega arith | inr nine ↦ omega arith ]);
   device = λ e. absurd (elim is [ inl three ↦ omega arith | inr nine ↦ omega arith ]);
   cut = λ _. record {
@@ -147,17 +152,17 @@ settled_cut status start taken kept store first w is served = record {
     output = served.told;
     script =
         let lines : whole_lines taken ≡ served.lines = ap whole_lines served.split ∙ whole_first served.lines served.rest served.whole served.open_end in
-        subst (λ (ls : List Bytes). Script (Reached w) (length first.beside.said) start ls served.text ToLast) (sym lines) (script_of (Reached w) (length first.beside.said) start served.lines served.text served.now served.ran);
+        subst (λ (ls : List Bytes). Script (Reached tells w) (length first.beside.said) start ls served.text ToLast) (sym lines) (script_of (Reached tells w) (length first.beside.said) start served.lines served.text served.now served.ran);
   };
   output = λ e. absurd (elim is [ inl three ↦ omega arith | inr nine ↦ omega arith ]);
   said = (served.text, served.told);
-  crash = more_lines start taken served.lines (lines_of served.rest) first w (ap lines_of served.split ∙ lines_first served.lines served.rest served.whole) served.history;
+  crash = more_lines tells start taken served.lines (lines_of served.rest) first w (ap lines_of served.split ∙ lines_first served.lines served.rest served.whole) served.history;
 }
 
 -- ---- the end of the input
 
-pub settled_empty : (start : List Entry) (taken kept : Bytes) (store : Store) (first w : World) → w.beside.to_take ≡ [] → Served start taken kept store first w → length kept ≡ 0 → Settled 0 start taken first w
-settled_empty start taken kept store first w none served nothing_kept =
+pub settled_empty : (tells : Bool) (start : List Entry) (taken kept : Bytes) (store : Store) (first w : World) → w.beside.to_take ≡ [] → Served tells start taken kept store first w → length kept ≡ 0 → Settled tells 0 start taken first w
+settled_empty tells start taken kept store first w none served nothing_kept =
     let empty = held_none served.rest kept served.held nothing_kept in
     let lines : lines_of taken ≡ served.lines =
     ap lines_of (served.split ∙ ap (λ (l : Bytes). flat_map with_newline served.lines ++ l) empty) ∙ lines_first served.lines [] served.whole ∙ append-nil served.lines in
@@ -165,80 +170,84 @@ settled_empty start taken kept store first w none served nothing_kept =
       ended = λ _. inl (record {
         text = served.text;
         output = served.told;
-        script = subst (λ (ls : List Bytes). Script (Reached w) (length first.beside.said) start ls served.text ToLast) (sym lines) (script_of (Reached w) (length first.beside.said) start served.lines served.text served.now served.ran);
+        script = subst (λ (ls : List Bytes). Script (Reached tells w) (length first.beside.said) start ls served.text ToLast) (sym lines) (script_of (Reached tells w) (length first.beside.said) start served.lines served.text served.now served.ran);
         settled = inl none;
       });
       device = λ e. absurd (omega arith);
       cut = λ is. absurd (elim is [ inl three ↦ omega arith | inr nine ↦ omega arith ]);
       output = λ e. absurd (omega arith);
       said = (served.text, served.told);
-      crash = subst (λ (ls : List Bytes). During (Acknowledged start ls first.beside.said w.beside.said) first w) (sym lines) served.history;
+      crash = λ t. subst (λ (ls : List Bytes). During (Acknowledged start ls first.beside.said w.beside.said) first w) (sym lines) (served.history t);
     }
 
-module _ (start : List Entry) (taken kept : Bytes) (store : Store) (first w w' : World) (served : Served start taken kept store first w) (some : zero < length kept) (none : w'.beside.to_take ≡ []) where
+module _ (tells : Bool) (start : List Entry) (taken kept : Bytes) (store : Store) (first w w' : World) (served : Served tells start taken kept store first w) (some : zero < length kept) (none : w'.beside.to_take ≡ []) where
   last : lines_of taken ≡ served.lines ++ served.rest ∷ []
   last = ap lines_of served.split ∙ lines_first served.lines served.rest served.whole
       ∙ ap (λ (ls : List Bytes). served.lines ++ ls) (last_line served.rest served.open_end (held_some served.rest kept served.held some))
 
-  module _ (reply : Reply) (new : List Entry) (answer : LineAnswer served.now (Step served.now (command_of served.rest)) reply new w w') where
-    answered_before : Answers start served.lines served.text served.now
-    answered_before = answers_of (Reached w) (length first.beside.said) start served.lines served.text served.now served.ran
-
+  module _ (reply : Reply) (new : List Entry) (answer : LineAnswer tells served.now (Step served.now (command_of served.rest)) reply new w w') where
     grown : (text : Bytes) × (w'.beside.said ≡ first.beside.said ++ text)
     grown = (served.text ++ answer.front.done, answer.front.said ∙ ap (λ (l : Bytes). l ++ answer.front.done) served.told ∙ append_assoc first.beside.said served.text answer.front.done)
 
-    went_before : WentOn start served.lines served.text served.now
-    went_before = went_of (Reached w) (length first.beside.said) start served.lines served.text served.now served.ran
+    went_before : WentOn Anything 0 start served.lines served.text served.now
+    went_before = went_of (Reached tells w) (length first.beside.said) 0 start served.lines served.text served.now served.ran
 
-    crash : During (Acknowledged start (lines_of taken) first.beside.said w'.beside.said) first w'
-    crash = subst (λ (ls : List Bytes). During (Acknowledged start ls first.beside.said w'.beside.said) first w') (sym last)
+    crash : IsTrue tells → During (Acknowledged start (lines_of taken) first.beside.said w'.beside.said) first w'
+    crash t = subst (λ (ls : List Bytes). During (Acknowledged start ls first.beside.said w'.beside.said) first w') (sym last)
         (during_then _ first w w'
-        (during_weaker _ _ first w served.history (ack_more start served.lines (served.rest ∷ []) first.beside.said w.beside.said w'.beside.said answer.front.done answer.front.said))
-        (during_weaker _ _ w w' answer.each (line_ack start served.lines served.rest served.text served.now reply first w w' went_before served.told answer.front)))
+        (during_weaker _ _ first w (served.history t) (ack_more start served.lines (served.rest ∷ []) first.beside.said w.beside.said w'.beside.said answer.front.done answer.front.said))
+        (during_weaker _ _ w w' (answer.each t) (line_ack start served.lines served.rest served.text served.now reply first w w' went_before served.told answer.front)))
 
-    ran_then : Ran (Reached w') (length first.beside.said) start served.lines served.text served.now
-    ran_then = ran_weaker (Reached w) (Reached w') (reached_on _ w w' answer.each) (length first.beside.said) start served.lines served.text served.now served.ran
+    ran_then : WentOn (Reached tells w') (length first.beside.said) start served.lines served.text served.now
+    ran_then = went_as (Reached tells w) (Reached tells w') (reached_on tells _ w w' answer.each) (length first.beside.said) start served.lines served.text served.now served.ran
 
     told : Whole reply w w' → w'.beside.said ≡ first.beside.said ++ (served.text ++ text_of reply)
     told all = all ∙ ap (λ (l : Bytes). l ++ text_of reply) served.told ∙ append_assoc first.beside.said served.text (text_of reply)
 
-    said_next : GoesOn reply → Whole reply w w' → SaidByNow w' → Now (LogIs 0 new) w' → Said ToLast start taken first w'
-    said_next goes all now stand = record {
+    abbrev then_said : ℕ
+    then_said = length first.beside.said + length served.text + length (text_of reply)
+
+    reached : Whole reply w w' → SaidByNow w' → Stands tells new w' → Reached tells w' then_said new
+    reached all now stand = reached_here tells w' new then_said now (omega (arith, ap length (told all), length-append first.beside.said (served.text ++ text_of reply), length-append served.text (text_of reply))) stand
+
+    said_next : GoesOn reply → Whole reply w w' → Reached tells w' then_said new → Said tells ToLast start taken first w'
+    said_next goes all stands = record {
       text = served.text ++ text_of reply;
       output = told all;
-      script = subst (λ (ls : List Bytes). Script (Reached w') (length first.beside.said) start ls (served.text ++ text_of reply) ToLast) (sym last)
-          (script_of (Reached w') (length first.beside.said) start (served.lines ++ served.rest ∷ []) (served.text ++ text_of reply) new
-          (ran_on (Reached w') (length first.beside.said) start served.lines served.text served.now served.rest reply new ran_then answer.step goes
-          (length first.beside.said + length served.text + length (text_of reply)) refl
-          (reached_here w' new (length first.beside.said + length served.text + length (text_of reply)) now (omega (arith, ap length (told all), length-append first.beside.said (served.text ++ text_of reply), length-append served.text (text_of reply))) stand)));
+      script = subst (λ (ls : List Bytes). Script (Reached tells w') (length first.beside.said) start ls (served.text ++ text_of reply) ToLast) (sym last)
+          (script_of (Reached tells w') (length first.beside.said) start (served.lines ++ served.rest ∷ []) (served.text ++ text_of reply) new
+          (went_on (Reached tells w') (length first.beside.said) start served.lines served.text served.now served.rest reply new ran_then answer.step goes then_said refl stands));
       settled = inl none;
     }
 
-    said_last : (ending : Ending) → IsLast reply ending → Whole reply w w' → Said ending start taken first w'
+    said_last : (ending : Ending) → IsLast reply ending (Reached tells w' then_said new) → Whole reply w w' → Said tells ending start taken first w'
     said_last ending is_last all = record {
       text = served.text ++ text_of reply;
       output = told all;
-      script = subst (λ (ls : List Bytes). Script (Reached w') (length first.beside.said) start ls (served.text ++ text_of reply) ending) (sym last)
-          (script_ends (Reached w') (length first.beside.said) start served.lines served.text served.now served.rest reply new [] ending ran_then answer.step is_last);
+      script = subst (λ (ls : List Bytes). Script (Reached tells w') (length first.beside.said) start ls (served.text ++ text_of reply) ending) (sym last)
+          (script_ends (Reached tells w') (length first.beside.said) start served.lines served.text served.now served.rest reply new [] ending ran_then answer.step then_said refl is_last);
       settled = inl none;
     }
 
-    said_in_part : SaidInPart start taken first w'
-    said_in_part = record {
-      lines = served.lines ++ served.rest ∷ [];
+    said_in_part : (reply ≢ Device → Stands tells new w') → SaidInPart tells start taken first w'
+    said_in_part stands = record {
+      lines = served.lines;
+      line = served.rest;
       later = [];
-      first = last ∙ sym (append-nil (served.lines ++ served.rest ∷ []));
-      text = served.text ++ answer.front.done;
-      rest = answer.front.rest;
-      output = answer.front.said ∙ ap (λ (l : Bytes). l ++ answer.front.done) served.told ∙ append_assoc first.beside.said served.text answer.front.done;
+      split = last;
+      text = served.text;
+      now = served.now;
+      went_on = ran_then;
+      reply = reply;
       last = new;
-      answered = subst (λ (l : Bytes). Answers start (served.lines ++ served.rest ∷ []) l new) (ap (λ (l : Bytes). served.text ++ l) answer.front.split ∙ sym (append_assoc served.text answer.front.done answer.front.rest))
-          (answers_on start served.lines served.text served.now served.rest reply new answered_before answer.step);
+      step = answer.step;
+      front = subst (λ (s : Bytes). SaysFront (text_of reply) s w'.beside.said) served.told answer.front;
+      stands = stands;
     }
 
-  pub settled_next : (store' : Store) → SaidByNow w' → Answered Next served.now (Step served.now (command_of served.rest)) store' w w' → Settled 0 start taken first w'
+  pub settled_next : (store' : Store) → SaidByNow w' → Answered tells Next served.now (Step served.now (command_of served.rest)) store' w w' → Settled tells 0 start taken first w'
   settled_next store' now a = record {
-    ended = λ _. inl (said_next a.0 a.1 a.2 a.3 a.4 now a.5);
+    ended = λ _. inl (said_next a.0 a.1 a.2 a.3 a.4 (reached a.0 a.1 a.2 a.4 now a.5));
     device = λ e. absurd (omega arith);
     cut = λ is. absurd (elim is [ inl three ↦ omega arith | inr nine ↦ omega arith ]);
     output = λ e. absurd (omega arith);
@@ -246,9 +255,9 @@ module _ (start : List Entry) (taken kept : Bytes) (store : Store) (first w w' :
     crash = crash a.0 a.1 a.2;
   }
 
-  pub settled_bye : (store' : Store) → Answered Quit served.now (Step served.now (command_of served.rest)) store' w w' → Settled 0 start taken first w'
-  settled_bye store' a = record {
-    ended = λ _. inr (said_last Bye a.0 a.1 AtQuit (refl, refl) a.2);
+  pub settled_bye : (store' : Store) → SaidByNow w' → Answered tells Quit served.now (Step served.now (command_of served.rest)) store' w w' → Settled tells 0 start taken first w'
+  settled_bye store' now a = record {
+    ended = λ _. inr (said_last Bye a.0 a.1 AtQuit (refl, refl, reached Bye a.0 a.1 a.2 now a.3) a.2);
     device = λ e. absurd (omega arith);
     cut = λ is. absurd (elim is [ inl three ↦ omega arith | inr nine ↦ omega arith ]);
     output = λ e. absurd (omega arith);
@@ -256,11 +265,11 @@ module _ (start : List Entry) (taken kept : Bytes) (store : Store) (first w w' :
     crash = crash Bye a.0 a.1;
   }
 
-  pub settled_status : (status : ℕ) (store' : Store) → Answered (End status) served.now (Step served.now (command_of served.rest)) store' w w' → Settled status start taken first w'
+  pub settled_status : (status : ℕ) (store' : Store) → Answered tells (End status) served.now (Step served.now (command_of served.rest)) store' w w' → Settled tells status start taken first w'
   settled_status status store' a = elim a.3 [
     | inl four ↦ record {
       ended = λ e. absurd (let f = four.0 in omega arith);
-      device = λ _. said_last a.0 a.1 a.2 AtDevice (device_last a.0 four.1) four.2;
+      device = λ _. said_last a.0 a.1 a.2 AtDevice (device_last a.0 _ four.1) four.2;
       cut = λ is. absurd (let f = four.0 in elim is [ inl three ↦ omega arith | inr nine ↦ omega arith ]);
       output = λ e. absurd (let f = four.0 in omega arith);
       said = grown a.0 a.1 a.2;
@@ -270,7 +279,7 @@ module _ (start : List Entry) (taken kept : Bytes) (store : Store) (first w w' :
       ended = λ e. absurd (omega arith);
       device = λ e. absurd (omega arith);
       cut = λ is. absurd (elim is [ inl three ↦ omega arith | inr nine ↦ omega arith ]);
-      output = λ _. said_in_part a.0 a.1 a.2;
+      output = λ _. said_in_part a.0 a.1 a.2 six.1;
       said = grown a.0 a.1 a.2;
       crash = crash a.0 a.1 a.2;
     }

@@ -32,9 +32,6 @@ module _ (text buffer : Bytes) (from n : ℕ) (size : n ≡ min (length buffer) 
     said = front.said ∙ ap (λ (l : Bytes). l ++ front.done) so_far ∙ append_assoc old (take from text) front.done;
   }
 
-pub front_at : (text old new : Bytes) (from : ℕ) → new ≡ old ++ take from text → SaysFront text old new
-front_at text old new from is = record { done = take from text; rest = drop from text; split = sym (take-append-drop from text); said = is }
-
 word_size : (value : Bytes) → length (word_of value) ≤ 1 + 2 * length value
 word_size [] = omega arith
 word_size (b ∷ value) = omega (arith, length-encode_with lower_digits (b ∷ value))

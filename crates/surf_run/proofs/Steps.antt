@@ -1,8 +1,8 @@
 -- Replies that no call of the disk goes before, and the steps that they are.
-use Rattle.std.proofs.Common.{◌≡◌, inl, ◌≤◌, ◌∷◌, [], List, ℕ, length, refl, sym, ap, ◌∙◌, subst, Bool, true, false, cond}
+use Rattle.std.proofs.Common.{◌≡◌, inl, ◌≤◌, ◌∷◌, [], List, length, refl, sym, ap, ◌∙◌, subst, Bool, true, false, cond}
 use Rattle.std.specs.Prelude.{Option, Some, None, ◌||◌, ◌==◌, nat_lt, bytes_eq}
 use Rattle.std.specs.List.{AllByRecursion}
-use Rattle.disk_trait.specs.World.{Image, World, Now}
+use Rattle.disk_trait.specs.World.{World}
 use Rattle.disk_trait.proofs.Moments.{started}
 use Rattle.outside.specs.Streams.{SayMoves, SaysFront, SaidByNow}
 use Rattle.gate_log.specs.Records.{IsSound}
@@ -11,26 +11,27 @@ use Rattle.store_model.specs.SortedMap.{Bytes, get}
 use Rattle.store_model.specs.Entries.{Entry, bytes_of, map_of, newest, or_else, live}
 use Rattle.store_model.specs.Lines.{Command, Put, Del, Get}
 use Rattle.store_model.specs.Lines as asks
-use Rattle.store_model.specs.Replies.{Reply, Bye, BadLine, LongKey, LongValue, text_of, got}
-use Rattle.store_model.specs.Script.{Step, Unless, key_limit, value_limit, first_limit}
+use Rattle.store_model.specs.Replies.{Reply, Bye, LongKey, LongValue, text_of, got}
+use Rattle.store_model.specs.Script.{Step, GoesOn, Unless, key_limit, value_limit, first_limit}
 use Rattle.store_model.proofs.Maps.{newest_counts}
+use Rattle.surf_run.specs.Crash.{Stands}
 use Rattle.surf_run.specs.Holds.{Holds}
 use Rattle.surf_run.specs.Saying.{Says}
-use Rattle.surf_run.specs.Serving.{Leaves, LineAnswer, GoesOn, Answered}
+use Rattle.surf_run.specs.Serving.{Leaves, LineAnswer, Answered}
 use Rattle.surf_run.specs.declared.store.Store.{Store}
 use Rattle.surf_run.specs.declared.end.LineEnd.{LineEnd}
 use Rattle.surf_run.specs.declared.end.LineEnd.TheVariants.{Next, Quit}
-use Rattle.surf_run.proofs.Moments.{now_still, line_answer, answered_next, answered_quit}
+use Rattle.surf_run.proofs.Moments.{stands_still, line_answer, answered_next, answered_quit}
 
-module _ (old : List Entry) (S : Leaves) (a b : World) (now : SaidByNow a) (moves : SayMoves a b) (here : Now (LogIs 0 old) a) where
-  quiet : (reply : Reply) → S reply old → SaysFront (text_of reply) a.beside.said b.beside.said → LineAnswer old S reply old a b
-  quiet reply step front = line_answer old S reply old (LogIs 0 old) a a b (started (LogIs 0 old) a here) refl now now moves step front (λ image before. inl before) (λ image left. (old, step, here image left))
+module _ (tells : Bool) (old : List Entry) (S : Leaves) (a b : World) (now : SaidByNow a) (moves : SayMoves a b) (here : Stands tells old a) where
+  quiet : (reply : Reply) → S reply old → SaysFront (text_of reply) a.beside.said b.beside.said → LineAnswer tells old S reply old a b
+  quiet reply step front = line_answer tells old S reply old (LogIs 0 old) a a b (λ t. started (LogIs 0 old) a (here t)) refl now now moves step front (λ image before. inl before) (λ t image left. (old, step, here t image left))
 
-  pub quiet_next : (store : Store) (reply : Reply) (result : LineEnd) → Holds old store → S reply old → GoesOn reply → Says Next reply result a b → Answered result old S store a b
-  quiet_next store reply result holds step goes says = answered_next old S old store a a b refl reply result (quiet reply step says.0) says goes (now_still (LogIs 0 old) a b moves.time here) holds
+  pub quiet_next : (store : Store) (reply : Reply) (result : LineEnd) → Holds old store → S reply old → GoesOn reply → Says Next reply result a b → Answered tells result old S store a b
+  quiet_next store reply result holds step goes says = answered_next tells old S old store a a b refl reply result (quiet reply step says.0) says goes (stands_still tells old a b moves.time here) holds
 
-  pub quiet_quit : (store : Store) (result : LineEnd) → S Bye old → Says Quit Bye result a b → Answered result old S store a b
-  quiet_quit store result step says = answered_quit old S old store a a b refl result (quiet Bye step says.0) says
+  pub quiet_quit : (store : Store) (result : LineEnd) → S Bye old → Says Quit Bye result a b → Answered tells result old S store a b
+  quiet_quit store result step says = answered_quit tells old S old store a a b refl result (quiet Bye step says.0) says (stands_still tells old a b moves.time here)
 
 -- ---- limits
 
@@ -82,13 +83,10 @@ live_some : (found : Option (Option Bytes)) (value : Bytes) → Some value ≡ l
 live_some None value is = absurd cc
 live_some (Some said) value is = ap Some (sym is)
 
-pub short_value : (entries : List Entry) (key value : Bytes) (image : Image) → LogIs 0 entries image → Some value ≡ live (newest entries key) → length value ≤ 65536
-short_value entries key value image log is = found_sound entries key value log.begins.sound (live_some (newest entries key) value is)
+pub short_value : (entries : List Entry) (key value : Bytes) → AllByRecursion IsSound entries → Some value ≡ live (newest entries key) → length value ≤ 65536
+short_value entries key value sound is = found_sound entries key value sound (live_some (newest entries key) value is)
 
 -- ---- quit and bad lines
 
 pub quit_step : (old : List Entry) (command : Command) → command ≡ asks.Quit → Step old command Bye old
 quit_step old command is = subst (λ (c : Command). Step old c Bye old) (sym is) (refl, refl)
-
-pub bad_step : (old : List Entry) (command : Command) (code : ℕ) → command ≡ asks.Bad code → Step old command (BadLine code) old
-bad_step old command code is = subst (λ (c : Command). Step old c (BadLine code) old) (sym is) (refl, refl)

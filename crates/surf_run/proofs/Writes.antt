@@ -1,6 +1,6 @@
 -- What an entry takes of the log, and what a write of one leads to.
 use Rattle.std.proofs.Common.{◌≡◌, ◌<◌, ◌≤◌, ◌+◌, ◌-◌, ◌^◌, ◌++◌, ℕ, List, [], ◌∷◌, length, refl, sym, ap, ◌∙◌, subst, arith, length-append}
-use Rattle.std.specs.Prelude.{flat_map, Result, Ok, Err}
+use Rattle.std.specs.Prelude.{flat_map, Result, Ok}
 use Rattle.std.proofs.lemmas.List.{append-nil}
 use Rattle.std.proofs.lemmas.Grind.{flat_map-append}
 use Rattle.gate_log.specs.Kinds.{FitsKind, entry_of}
@@ -45,9 +45,6 @@ leads_in area entries entry result a b is leads = subst (λ (n : ℕ). Leads (Lo
 -- an answer of another type
 pub leads_ok : {T E U F : Type 0} (P Q R : Image → Type 0) (x : T) (y : U) (a b : World) → Leads {T = T} {E = E} P Q R (Ok x) a b → Leads {T = U} {E = F} P Q R (Ok y) a b
 leads_ok P Q R x y a b leads = record { meanwhile = leads.meanwhile; after = leads.after }
-
-pub leads_err : {T E U F : Type 0} (P Q R : Image → Type 0) (e : E) (f : F) (a b : World) → Leads {T = T} {E = E} P Q R (Err e) a b → Leads {T = U} {E = F} P Q R (Err f) a b
-leads_err P Q R e f a b leads = record { meanwhile = leads.meanwhile; after = λ _. tt }
 
 pub full_for : (old : List Entry) (entry : Entry) (n g : ℕ) → (n ≡ need entry) × (g ≡ gap old) × (gap old < need entry) → Write old entry (Full n g) old
 full_for old entry n g why =

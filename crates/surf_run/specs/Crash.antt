@@ -1,36 +1,23 @@
 -- What an image that a crash may leave stands for, beside how many bytes had been said by its moment.
-use Rattle.std.specs.Prelude.{◌≡◌, ◌⊎◌, ◌≤◌, ℕ, List, [], ◌∷◌, ◌++◌, length, take}
-use Rattle.disk_trait.specs.World.{Image, World}
+use Rattle.std.specs.Prelude.{◌≡◌, ◌⊎◌, ◌≤◌, ℕ, Bool, IsTrue, List, [], ◌∷◌, ◌++◌, length, take}
+use Rattle.disk_trait.specs.World.{Image, World, Now}
 use Rattle.gate_log.specs.Area.{LogIs}
 use Rattle.store_model.specs.SortedMap.{Bytes}
 use Rattle.store_model.specs.Entries.{Entry}
-use Rattle.store_model.specs.Lines.{command_of}
-use Rattle.store_model.specs.Replies.{Reply, Done, Value, Missing, Bye, BadLine, LongKey, LongValue, Full, Memory, Device, DamagedLog, text_of}
-use Rattle.store_model.specs.Script.{Step, Answers}
+use Rattle.store_model.specs.Script.{Answers, WentOn}
 
--- At some moment up to now so many bytes had been said, and each image that a crash may then leave has these entries.
-abbrev pub Reached : World → ℕ → List Entry → Type 0
-Reached w n entries = (m : ℕ) × (m ≤ w.moment) × (w.beside.said_by m ≡ n) × ((image : Image) → w.leaves m image → LogIs 0 entries image)
+-- where the device tells, each image that a crash may leave now has these entries
+abbrev pub Stands : Bool → List Entry → World → Type 0
+Stands tells entries w = IsTrue tells → Now (LogIs 0 entries) w
 
--- a reply that is not the last
-abbrev pub GoesOn : Reply → Type 0
-GoesOn Done = Unit {0}
-GoesOn (Value value) = Unit {0}
-GoesOn Missing = Unit {0}
-GoesOn Bye = ⊥
-GoesOn (BadLine code) = Unit {0}
-GoesOn (LongKey size) = Unit {0}
-GoesOn (LongValue size) = Unit {0}
-GoesOn (Full need gap) = Unit {0}
-GoesOn Memory = Unit {0}
-GoesOn Device = ⊥
-GoesOn (DamagedLog at rule) = ⊥
+-- Where the device tells, at some moment up to now so many bytes had been said, and each image that a crash may then leave
+-- has these entries.
+abbrev pub Reached : Bool → World → ℕ → List Entry → Type 0
+Reached tells w n entries = IsTrue tells → (m : ℕ) × (m ≤ w.moment) × (w.beside.said_by m ≡ n) × ((image : Image) → w.leaves m image → LogIs 0 entries image)
 
--- these lines were answered with this text, and none of the replies was the last
-abbrev pub WentOn : List Entry → List Bytes → Bytes → List Entry → Type 0
-WentOn old [] text new = (text ≡ []) × (new ≡ old)
-WentOn old (line ∷ more) text new =
-    (reply : Reply) × (rest : Bytes) × (mid : List Entry) × (text ≡ text_of reply ++ rest) × Step old (command_of line) reply mid × GoesOn reply × WentOn mid more rest new
+-- of any entries, whatever was said
+abbrev pub Anything : ℕ → List Entry → Type 0
+Anything n entries = Unit {0}
 
 -- Of all that was said at the end, `told`, n bytes had been said; `before` was said before the run. The image has the
 -- entries after some first lines. What had been said is a front of the replies to these, and all replies but the last had
@@ -48,6 +35,6 @@ pub record Acknowledged (start : List Entry) (lines : List Bytes) (before told :
   pub earlier : List Bytes
   pub said : Bytes
   pub was : List Entry
-  pub went_on : WentOn start earlier said was
+  pub went_on : WentOn Anything 0 start earlier said was
   pub last : (front ≡ earlier) ⊎ ((line : Bytes) × (front ≡ earlier ++ line ∷ []))
   pub least : (rest : Bytes) × (take n told ≡ before ++ said ++ rest)

@@ -1,19 +1,21 @@
 -- What opening does, and why it fails.
-use Rattle.std.specs.Prelude.{◌≡◌, ℕ, List}
-use Rattle.disk_trait.specs.World.{Image, World, Passes, Same}
+use Rattle.std.specs.Prelude.{◌≡◌, ◌<◌, ℕ, Bool, IsTrue, List}
+use Rattle.disk_trait.specs.World.{World, Passes, Same}
 use Rattle.gate_log.specs.Area.{LogIs}
 use Rattle.gate_log.specs.declared.fault.LogFault.{LogFault}
 use Rattle.gate_log.specs.declared.fault.LogFault.TheVariants.{Memory, Device, Shape}
-use Rattle.store_model.specs.Entries.{Entry}
+use Rattle.store_model.specs.Entries.{Entry, filled}
 use Rattle.store_model.specs.Replies.{Reply}
 use Rattle.store_model.specs.Replies as replies
 use Rattle.surf_run.specs.Causes.{NoFall, DiskFailed}
+use Rattle.surf_run.specs.Crash.{Stands}
 use Rattle.surf_run.specs.Holds.{Holds}
 use Rattle.surf_run.specs.declared.store.Store.{Store}
 
 -- nothing is written, and nothing changes beside the device
 pub record OpenMoves (old new : World) : Type 0 where
   pub counts : NoFall old new
+  pub held : new.seen.held ≡ old.seen.held
   pub beside : new.beside ≡ old.beside
   pub time : Passes Same old new
 
@@ -23,9 +25,14 @@ OpenCause old new Memory = Unit {0}
 OpenCause old new (Device fault) = DiskFailed old new
 OpenCause old new (Shape at rule) = Unit {0}
 
--- the store is that of the entries which the image has
-abbrev pub StoreOf : Image → Store → Type 0
-StoreOf image store = (entries : List Entry) × LogIs 0 entries image × Holds entries store
+-- The store is that of some entries, which fit the log area. Where the device tells, they are those that it held, and each
+-- image that a crash may leave now has them.
+pub record Opens (tells : Bool) (old new : World) (store : Store) : Type 0 where
+  pub entries : List Entry
+  pub within : filled entries < 262144
+  pub holds : Holds entries store
+  pub held : IsTrue tells → LogIs 0 entries old.seen.held
+  pub stands : Stands tells entries new
 
 -- the last line and the status of a run whose store was not opened
 abbrev pub reply_to : LogFault → Reply

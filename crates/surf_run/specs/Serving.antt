@@ -1,6 +1,6 @@
 -- How far a run has come.
-use Rattle.std.specs.Prelude.{◌≡◌, ◌⊎◌, ◌≤◌, ◌+◌, ℕ, List, [], ◌∷◌, ◌++◌, length, flat_map, All}
-use Rattle.disk_trait.specs.World.{Image, World, Now}
+use Rattle.std.specs.Prelude.{◌≡◌, ◌≢◌, ◌⊎◌, ◌≤◌, ℕ, Bool, IsTrue, List, [], ◌∷◌, ◌++◌, length, flat_map, All}
+use Rattle.disk_trait.specs.World.{Image, World}
 use Rattle.outside.specs.During.{During}
 use Rattle.outside.specs.Streams.{SaysFront}
 use Rattle.gate_log.specs.Area.{LogIs}
@@ -9,11 +9,10 @@ use Rattle.store_model.specs.SortedMap.{Bytes}
 use Rattle.store_model.specs.Entries.{Entry}
 use Rattle.store_model.specs.Lines.{command_of, lines_of}
 use Rattle.store_model.specs.Replies.{Reply, Bye, Device, text_of}
-use Rattle.store_model.specs.Script.{Step, Answers, Script, Ending, AtQuit, AtDevice}
+use Rattle.store_model.specs.Script.{Step, Script, GoesOn, WentOn, Ending, AtQuit, AtDevice}
 use Rattle.surf_run.specs.Holding.{Held}
 use Rattle.surf_run.specs.Holds.{Holds}
-pub use Rattle.surf_run.specs.Crash.{GoesOn}
-use Rattle.surf_run.specs.Crash.{Reached, Acknowledged}
+use Rattle.surf_run.specs.Crash.{Stands, Reached, Acknowledged}
 use Rattle.surf_run.specs.declared.end.LineEnd.{LineEnd}
 use Rattle.surf_run.specs.declared.end.LineEnd.TheVariants.{Next, Quit, End}
 use Rattle.surf_run.specs.declared.store.Store.{Store}
@@ -33,40 +32,33 @@ abbrev pub InLine : List Entry → Leaves → Reply → ℕ → ℕ → ℕ → 
 InLine old S reply low high n image = ((n ≡ low) × LogIs 0 old image) ⊎ ((low ≤ n) × (n ≤ high) × LogAfter S reply image)
 
 -- the line was answered so, with a front of the reply said
-pub record LineAnswer (old : List Entry) (S : Leaves) (reply : Reply) (new : List Entry) (a b : World) : Type 0 where
+pub record LineAnswer (tells : Bool) (old : List Entry) (S : Leaves) (reply : Reply) (new : List Entry) (a b : World) : Type 0 where
   pub step : S reply new
   pub front : SaysFront (text_of reply) a.beside.said b.beside.said
-  pub each : During (InLine old S reply (length a.beside.said) (length b.beside.said)) a b
+  pub each : IsTrue tells → During (InLine old S reply (length a.beside.said) (length b.beside.said)) a b
 
 -- all of the reply was said
 abbrev pub Whole : Reply → World → World → Type 0
 Whole reply a b = b.beside.said ≡ a.beside.said ++ text_of reply
 
 -- how a line ends the run: with its reply `device` said, or with its reply not said whole
-abbrev pub EndsBy : ℕ → Reply → World → World → Type 0
-EndsBy status reply a b = ((status ≡ 4) × (reply ≡ Device) × Whole reply a b) ⊎ (status ≡ 6)
+abbrev pub EndsBy : Bool → ℕ → Reply → List Entry → World → World → Type 0
+EndsBy tells status reply new a b = ((status ≡ 4) × (reply ≡ Device) × Whole reply a b) ⊎ ((status ≡ 6) × (reply ≢ Device → Stands tells new b))
 
 -- how the line was answered
-abbrev pub Answered : LineEnd → List Entry → Leaves → Store → World → World → Type 0
-Answered Next old S store a b =
-    (reply : Reply) × (new : List Entry) × LineAnswer old S reply new a b × GoesOn reply × Whole reply a b × Now (LogIs 0 new) b × Holds new store
-Answered Quit old S store a b = (new : List Entry) × LineAnswer old S Bye new a b × Whole Bye a b
-Answered (End status) old S store a b = (reply : Reply) × (new : List Entry) × LineAnswer old S reply new a b × EndsBy status reply a b
+abbrev pub Answered : Bool → LineEnd → List Entry → Leaves → Store → World → World → Type 0
+Answered tells Next old S store a b =
+    (reply : Reply) × (new : List Entry) × LineAnswer tells old S reply new a b × GoesOn reply × Whole reply a b × Stands tells new b × Holds new store
+Answered tells Quit old S store a b = (new : List Entry) × LineAnswer tells old S Bye new a b × Whole Bye a b × Stands tells new b
+Answered tells (End status) old S store a b = (reply : Reply) × (new : List Entry) × LineAnswer tells old S reply new a b × EndsBy tells status reply new a b
 
 -- ---- one line after another
 
 abbrev pub with_newline : Bytes → Bytes
 with_newline line = line ++ 10 ∷ []
 
--- these lines were answered with this text, and none of the replies was the last; as each had been said, R held
-abbrev pub Ran : (ℕ → List Entry → Type 0) → ℕ → List Entry → List Bytes → Bytes → List Entry → Type 0
-Ran R said old [] text new = (text ≡ []) × (new ≡ old)
-Ran R said old (line ∷ more) text new =
-    (reply : Reply) × (rest : Bytes) × (mid : List Entry) × (text ≡ text_of reply ++ rest) × Step old (command_of line) reply mid
-    × GoesOn reply × R (said + length (text_of reply)) mid × Ran R (said + length (text_of reply)) mid more rest new
-
 -- since the first world, of these bytes the whole lines were answered, and the rest is kept
-pub record Served (start : List Entry) (bytes kept : Bytes) (store : Store) (first w : World) : Type 0 where
+pub record Served (tells : Bool) (start : List Entry) (bytes kept : Bytes) (store : Store) (first w : World) : Type 0 where
   pub lines : List Bytes
   pub rest : Bytes
   pub text : Bytes
@@ -74,11 +66,11 @@ pub record Served (start : List Entry) (bytes kept : Bytes) (store : Store) (fir
   pub split : bytes ≡ flat_map with_newline lines ++ rest
   pub whole : All NoNewline lines
   pub open_end : NoNewline rest
-  pub ran : Ran (Reached w) (length first.beside.said) start lines text now
+  pub ran : WentOn (Reached tells w) (length first.beside.said) start lines text now
   pub told : w.beside.said ≡ first.beside.said ++ text
   pub held : Held rest kept
-  pub history : During (Acknowledged start lines first.beside.said w.beside.said) first w
-  pub stand : Now (LogIs 0 now) w
+  pub history : IsTrue tells → During (Acknowledged start lines first.beside.said w.beside.said) first w
+  pub stand : Stands tells now w
   pub holds : Holds now store
 
 -- the first lines of an input that begins with these bytes
@@ -86,29 +78,33 @@ abbrev pub AreFirst : Bytes → List Bytes → Type 0
 AreFirst bytes lines = (more : Bytes) → (later : List Bytes) × (lines_of (bytes ++ more) ≡ lines ++ later)
 
 -- all that is to be said was said, whatever may follow these bytes
-pub record Closed (ending : Ending) (start : List Entry) (bytes : Bytes) (first w : World) : Type 0 where
+pub record Closed (tells : Bool) (ending : Ending) (start : List Entry) (bytes : Bytes) (first w : World) : Type 0 where
   pub lines : List Bytes
   pub first_lines : AreFirst bytes lines
   pub text : Bytes
   pub told : w.beside.said ≡ first.beside.said ++ text
-  pub script : (more : Bytes) → Script (Reached w) (length first.beside.said) start (lines_of (bytes ++ more)) text ending
-  pub history : During (Acknowledged start lines first.beside.said w.beside.said) first w
+  pub script : (more : Bytes) → Script (Reached tells w) (length first.beside.said) start (lines_of (bytes ++ more)) text ending
+  pub history : IsTrue tells → During (Acknowledged start lines first.beside.said w.beside.said) first w
 
--- a front of what the first lines are answered was said
-pub record Broken (start : List Entry) (bytes : Bytes) (first w : World) : Type 0 where
+-- the first lines were answered whole, none of them with a last reply, and of the next line's reply a front was said
+pub record Broken (tells : Bool) (start : List Entry) (bytes : Bytes) (first w : World) : Type 0 where
   pub lines : List Bytes
-  pub first_lines : AreFirst bytes lines
+  pub line : Bytes
+  pub first_lines : AreFirst bytes (lines ++ line ∷ [])
   pub text : Bytes
-  pub rest : Bytes
-  pub told : w.beside.said ≡ first.beside.said ++ text
+  pub now : List Entry
+  pub ran : WentOn (Reached tells w) (length first.beside.said) start lines text now
+  pub reply : Reply
   pub last : List Entry
-  pub answered : Answers start lines (text ++ rest) last
-  pub history : During (Acknowledged start lines first.beside.said w.beside.said) first w
+  pub step : Step now (command_of line) reply last
+  pub front : SaysFront (text_of reply) (first.beside.said ++ text) w.beside.said
+  pub stands : reply ≢ Device → Stands tells last w
+  pub history : IsTrue tells → During (Acknowledged start (lines ++ line ∷ []) first.beside.said w.beside.said) first w
 
-abbrev pub EndedBy : ℕ → List Entry → Bytes → World → World → Type 0
-EndedBy status start bytes first w = ((status ≡ 4) × Closed AtDevice start bytes first w) ⊎ ((status ≡ 6) × Broken start bytes first w)
+abbrev pub EndedBy : Bool → ℕ → List Entry → Bytes → World → World → Type 0
+EndedBy tells status start bytes first w = ((status ≡ 4) × Closed tells AtDevice start bytes first w) ⊎ ((status ≡ 6) × Broken tells start bytes first w)
 
-abbrev pub After : LineEnd → List Entry → Bytes → Bytes → Store → World → World → Type 0
-After Next start bytes kept store first w = Served start bytes kept store first w
-After Quit start bytes kept store first w = Closed AtQuit start bytes first w
-After (End status) start bytes kept store first w = EndedBy status start bytes first w
+abbrev pub After : Bool → LineEnd → List Entry → Bytes → Bytes → Store → World → World → Type 0
+After tells Next start bytes kept store first w = Served tells start bytes kept store first w
+After tells Quit start bytes kept store first w = Closed tells AtQuit start bytes first w
+After tells (End status) start bytes kept store first w = EndedBy tells status start bytes first w

@@ -1,7 +1,5 @@
 // A line, answered.
 ghost use Rattle.std.specs.Prelude.{◌≡◌, ◌<◌, ◌≤◌, ◌++◌, [], ◌∷◌, List, length, IsTrue, IfSome, None, Some};
-ghost use Rattle.disk_trait.specs.World.{Now};
-ghost use Rattle.gate_log.specs.Area.{LogIs};
 ghost use Rattle.gate_log.specs.Kinds.{KeepsRules, entry_of};
 ghost use Rattle.store_model.specs.Entries.{Entry};
 ghost use Rattle.store_model.specs.Lines.{command_of, Put, Del, Get, Bad};
@@ -10,6 +8,7 @@ ghost use Rattle.std.specs.Option.{option_map};
 ghost use Rattle.store_commands.specs.Spoken.{spoken};
 ghost use Rattle.surf_run.specs.Holds.{Holds};
 ghost use Rattle.surf_run.specs.Causes.{EndCause, TakesNothing};
+ghost use Rattle.surf_run.specs.Crash.{Stands};
 ghost use Rattle.surf_run.specs.Saying.{IsShort};
 ghost use Rattle.surf_run.specs.Serving.{Answered};
 
@@ -37,8 +36,8 @@ fn write_line<W: Outside>(
 ) -> LineEnd
     requires rules { KeepsRules kind key.now value.now }
     requires room { 0 < length buffer.old }
-    ensures answered { (entries : List Entry) → IsTrue W.tells → IsTrue W.tells_output → Holds entries store.old → Now (LogIs 0 entries) (W.world out.old)
-        → Answered result entries (Write entries (entry_of kind key.now value.now)) store.new (W.world out.old) (W.world out.new) }
+    ensures answered { (entries : List Entry) → IsTrue W.tells_output → Holds entries store.old → Stands W.tells entries (W.world out.old)
+        → Answered W.tells result entries (Write entries (entry_of kind key.now value.now)) store.new (W.world out.old) (W.world out.new) }
     ensures cause { EndCause result (W.world out.old) (W.world out.new) }
     ensures moves { TakesNothing (W.world out.old) (W.world out.new) }
 {
@@ -90,8 +89,8 @@ fn put_line<W: Outside>(
     value: &[u8],
 ) -> LineEnd
     requires { 0 < length buffer.old }
-    ensures answered { (entries : List Entry) → IsTrue W.tells → IsTrue W.tells_output → Holds entries store.old → Now (LogIs 0 entries) (W.world out.old)
-        → Answered result entries (Step entries (Put key.now value.now)) store.new (W.world out.old) (W.world out.new) }
+    ensures answered { (entries : List Entry) → IsTrue W.tells_output → Holds entries store.old → Stands W.tells entries (W.world out.old)
+        → Answered W.tells result entries (Step entries (Put key.now value.now)) store.new (W.world out.old) (W.world out.new) }
     ensures cause { EndCause result (W.world out.old) (W.world out.new) }
     ensures moves { TakesNothing (W.world out.old) (W.world out.new) }
 {
@@ -106,8 +105,8 @@ fn put_line<W: Outside>(
 
 fn del_line<W: Outside>(store: &mut Store, buffer: &mut [u8], out: &mut W, key: &[u8]) -> LineEnd
     requires { 0 < length buffer.old }
-    ensures answered { (entries : List Entry) → IsTrue W.tells → IsTrue W.tells_output → Holds entries store.old → Now (LogIs 0 entries) (W.world out.old)
-        → Answered result entries (Step entries (Del key.now)) store.new (W.world out.old) (W.world out.new) }
+    ensures answered { (entries : List Entry) → IsTrue W.tells_output → Holds entries store.old → Stands W.tells entries (W.world out.old)
+        → Answered W.tells result entries (Step entries (Del key.now)) store.new (W.world out.old) (W.world out.new) }
     ensures cause { EndCause result (W.world out.old) (W.world out.new) }
     ensures moves { TakesNothing (W.world out.old) (W.world out.new) }
 {
@@ -119,8 +118,8 @@ fn del_line<W: Outside>(store: &mut Store, buffer: &mut [u8], out: &mut W, key: 
 
 fn get_line<W: Outside>(store: &Store, buffer: &mut [u8], out: &mut W, key: &[u8]) -> LineEnd
     requires { 0 < length buffer.old }
-    ensures answered { (entries : List Entry) → IsTrue W.tells → IsTrue W.tells_output → Holds entries store.now → Now (LogIs 0 entries) (W.world out.old)
-        → Answered result entries (Step entries (Get key.now)) store.now (W.world out.old) (W.world out.new) }
+    ensures answered { (entries : List Entry) → IsTrue W.tells_output → Holds entries store.now → Stands W.tells entries (W.world out.old)
+        → Answered W.tells result entries (Step entries (Get key.now)) store.now (W.world out.old) (W.world out.new) }
     ensures cause { EndCause result (W.world out.old) (W.world out.new) }
     ensures moves { TakesNothing (W.world out.old) (W.world out.new) }
 {
@@ -135,8 +134,8 @@ fn get_line<W: Outside>(store: &Store, buffer: &mut [u8], out: &mut W, key: &[u8
 
 fn bad_line<W: Outside>(store: &Store, buffer: &mut [u8], out: &mut W, code: u8) -> LineEnd
     requires { 0 < length buffer.old }
-    ensures answered { (entries : List Entry) → IsTrue W.tells → IsTrue W.tells_output → Holds entries store.now → Now (LogIs 0 entries) (W.world out.old)
-        → Answered result entries (Step entries (Bad code)) store.now (W.world out.old) (W.world out.new) }
+    ensures answered { (entries : List Entry) → IsTrue W.tells_output → Holds entries store.now → Stands W.tells entries (W.world out.old)
+        → Answered W.tells result entries (Step entries (Bad code)) store.now (W.world out.old) (W.world out.new) }
     ensures cause { EndCause result (W.world out.old) (W.world out.new) }
     ensures moves { TakesNothing (W.world out.old) (W.world out.new) }
 {
@@ -152,8 +151,8 @@ pub fn answer<W: Outside>(
     line: &[u8],
 ) -> LineEnd
     requires { 0 < length buffer.old }
-    ensures answered { (entries : List Entry) → IsTrue W.tells → IsTrue W.tells_output → Holds entries store.old → Now (LogIs 0 entries) (W.world out.old)
-        → Answered result entries (Step entries (command_of line.now)) store.new (W.world out.old) (W.world out.new) }
+    ensures answered { (entries : List Entry) → IsTrue W.tells_output → Holds entries store.old → Stands W.tells entries (W.world out.old)
+        → Answered W.tells result entries (Step entries (command_of line.now)) store.new (W.world out.old) (W.world out.new) }
     ensures cause { EndCause result (W.world out.old) (W.world out.new) }
     ensures moves { TakesNothing (W.world out.old) (W.world out.new) }
 {

@@ -1,12 +1,8 @@
 // The store that stands on a device.
-ghost use Rattle.std.specs.Prelude.{◌≡◌, List, ℕ, [], IsTrue, IfOk, IfErr, OnOk, MatchResult};
-ghost use Rattle.disk_trait.specs.World.{Now};
-ghost use Rattle.gate_log.specs.Area.{LogIs};
-ghost use Rattle.gate_log.specs.Faults.{IsShapeIn, IsNoShape};
+ghost use Rattle.std.specs.Prelude.{◌≡◌, [], IsTrue, IfOk, IfErr, OnOk};
+ghost use Rattle.gate_log.specs.Faults.{IsShapeIn};
 ghost use Rattle.mem_table.specs.Table.{newest_entries};
-ghost use Rattle.store_model.specs.Entries.{Entry};
-ghost use Rattle.surf_run.specs.Holds.{Holds};
-ghost use Rattle.surf_run.specs.Open.{OpenMoves, OpenCause, StoreOf};
+ghost use Rattle.surf_run.specs.Open.{OpenMoves, OpenCause, Opens};
 
 use crate::store::{AREA, RECORD_BYTES, Store};
 use disk_trait::Disk;
@@ -31,8 +27,7 @@ fn fill(table: &mut MemTable, entries: &[LogEntry]) -> Result<(), AllocError>
 ///
 /// One sync and one read. Nothing is written.
 pub fn open_store<D: Disk>(alloc: Global, disk: &mut D) -> Result<Store, LogFault>
-    ensures found { IsTrue D.tells → IfOk result (StoreOf (D.world disk.old).seen.held) }
-    ensures exact { (start : List Entry) → IsTrue D.tells → Now (LogIs 0 start) (D.world disk.old) → MatchResult result (Holds start) IsNoShape }
+    ensures opens { IfOk result (Opens D.tells (D.world disk.old) (D.world disk.new)) }
     ensures shape { IsTrue D.tells → IfErr result (IsShapeIn 0 (D.world disk.old).seen.held) }
     ensures cause { IfErr result (OpenCause (D.world disk.old) (D.world disk.new)) }
     ensures moves { OpenMoves (D.world disk.old) (D.world disk.new) }

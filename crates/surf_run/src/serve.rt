@@ -2,10 +2,9 @@
 ghost use Rattle.std.specs.Prelude.{◌≡◌, ◌⊎◌, ◌<◌, ◌≤◌, ◌++◌, [], ◌∷◌, List, ℕ, length, IsTrue};
 ghost use Rattle.store_commands.specs.Cutting.{NoNewline};
 ghost use Rattle.store_model.specs.Entries.{Entry};
-ghost use Rattle.gate_log.specs.Area.{LogIs};
-ghost use Rattle.disk_trait.specs.World.{Now};
 ghost use Rattle.surf_run.specs.Holds.{Holds};
 ghost use Rattle.surf_run.specs.Causes.{EndCause, StatusCause, NoFall, TakesNothing, IsServing};
+ghost use Rattle.surf_run.specs.Crash.{Stands};
 ghost use Rattle.surf_run.specs.Outcome.{Settled, Outcome};
 ghost use Rattle.surf_run.specs.Serving.{Served, After};
 
@@ -29,9 +28,9 @@ fn end_line<W: Outside>(
     part: &[u8],
 ) -> LineEnd
     requires { 0 < length buffer.old }
-    ensures after { (start : List Entry) (first : _) (bytes : List ℕ) → IsTrue W.tells → IsTrue W.tells_output → NoNewline part.now
-        → Served start bytes pending.old store.old (W.world first) (W.world out.old)
-        → After result start (bytes ++ part.now ++ 10 ∷ []) pending.new store.new (W.world first) (W.world out.new) }
+    ensures after { (start : List Entry) (first : _) (bytes : List ℕ) → IsTrue W.tells_output → NoNewline part.now
+        → Served W.tells start bytes pending.old store.old (W.world first) (W.world out.old)
+        → After W.tells result start (bytes ++ part.now ++ 10 ∷ []) pending.new store.new (W.world first) (W.world out.new) }
     ensures cause { EndCause result (W.world out.old) (W.world out.new) }
     ensures moves { TakesNothing (W.world out.old) (W.world out.new) }
 {
@@ -54,9 +53,9 @@ fn feed<W: Outside>(
     piece: &[u8],
 ) -> LineEnd
     requires { 0 < length buffer.old }
-    ensures after { (start : List Entry) (first : _) (bytes : List ℕ) → IsTrue W.tells → IsTrue W.tells_output
-        → Served start bytes pending.old store.old (W.world first) (W.world out.old)
-        → After result start (bytes ++ piece.now) pending.new store.new (W.world first) (W.world out.new) }
+    ensures after { (start : List Entry) (first : _) (bytes : List ℕ) → IsTrue W.tells_output
+        → Served W.tells start bytes pending.old store.old (W.world first) (W.world out.old)
+        → After W.tells result start (bytes ++ piece.now) pending.new store.new (W.world first) (W.world out.new) }
     ensures cause { EndCause result (W.world out.old) (W.world out.new) }
     ensures moves { TakesNothing (W.world out.old) (W.world out.new) }
 {
@@ -81,8 +80,8 @@ fn end_input<W: Outside>(
     out: &mut W,
 ) -> u8
     requires { 0 < length buffer.old }
-    ensures settled { (start : List Entry) (first : _) (taken : List ℕ) → IsTrue W.tells → IsTrue W.tells_output → (W.world out.old).beside.to_take ≡ []
-        → Served start taken pending.now store.old (W.world first) (W.world out.old) → Settled result start taken (W.world first) (W.world out.new) }
+    ensures settled { (start : List Entry) (first : _) (taken : List ℕ) → IsTrue W.tells_output → (W.world out.old).beside.to_take ≡ []
+        → Served W.tells start taken pending.now store.old (W.world first) (W.world out.old) → Settled W.tells result start taken (W.world first) (W.world out.new) }
     ensures cause { StatusCause result (W.world out.old) (W.world out.new) }
     ensures statuses { (result ≡ 0) ⊎ (result ≡ 4) ⊎ (result ≡ 6) }
     ensures moves { TakesNothing (W.world out.old) (W.world out.new) }
@@ -124,8 +123,8 @@ pub fn serve<W: Outside>(
     requires buffer { 0 < length buffer.old }
     requires piece { 0 < length piece.old }
     requires fresh { pending.old ≡ [] }
-    ensures outcome { (start : List Entry) → IsTrue W.tells → IsTrue W.tells_input → IsTrue W.tells_output → Holds start store.old → Now (LogIs 0 start) (W.world out.old)
-        → Outcome result start (W.world out.old) (W.world out.new) }
+    ensures outcome { (start : List Entry) → IsTrue W.tells_input → IsTrue W.tells_output → Holds start store.old → Stands W.tells start (W.world out.old)
+        → Outcome W.tells result start (W.world out.old) (W.world out.new) }
     ensures cause { StatusCause result (W.world out.old) (W.world out.new) }
     ensures statuses { IsServing result }
     ensures counts { NoFall (W.world out.old) (W.world out.new) }

@@ -8,9 +8,10 @@ ghost use Rattle.store_commands.specs.Spoken.{spoken};
 ghost use Rattle.store_model.specs.Entries.{Entry};
 ghost use Rattle.store_model.specs.Replies.{text_of, DamagedLog};
 ghost use Rattle.surf_run.specs.Causes.{IsServing, NoFall, StatusCause, DiskFailed, SayFailed};
+ghost use Rattle.surf_run.specs.Crash.{Stands};
 ghost use Rattle.surf_run.specs.Holds.{Holds};
 ghost use Rattle.surf_run.specs.Open.{reply_to, status_of};
-ghost use Rattle.surf_run.specs.Run.{Ends, Damaged, SomeFailed, Completed, serve_words, usage_text};
+ghost use Rattle.surf_run.specs.Run.{Ends, Serves, Unserved, Damaged, SomeFailed, Completed, serve_words, usage_text};
 ghost use Rattle.surf_run.specs.Saying.{IsShort};
 
 use crate::opening::open_store;
@@ -117,8 +118,8 @@ fn new_buffers(alloc: Global) -> Result<Buffers, AllocError>
 
 // Serves an opened store, with all memory that is not a line's taken first.
 fn serve_store<W: Outside>(alloc: Global, store: Store, out: &mut W) -> u8
-    ensures ends { (start : List Entry) → IsTrue W.tells → IsTrue W.tells_input → IsTrue W.tells_output → Holds start store → Now (LogIs 0 start) (W.world out.old)
-        → Ends result start (W.world out.old) (W.world out.new) }
+    ensures ends { (start : List Entry) → IsTrue W.tells_input → IsTrue W.tells_output → Holds start store → Stands W.tells start (W.world out.old)
+        → Ends W.tells result start (W.world out.old) (W.world out.new) }
     ensures statuses { IsServing result ⊎ (result ≡ 7) }
     ensures causes { StatusCause result (W.world out.old) (W.world out.new) }
     ensures counts { NoFall (W.world out.old) (W.world out.new) }
@@ -142,8 +143,8 @@ fn serve_store<W: Outside>(alloc: Global, store: Store, out: &mut W) -> u8
 
 // Opens the store and serves it.
 fn open_and_serve<W: Outside>(alloc: Global, out: &mut W) -> u8
-    ensures ends { (start : List Entry) → IsTrue W.tells → IsTrue W.tells_input → IsTrue W.tells_output → Now (LogIs 0 start) (W.world out.old)
-        → Ends result start (W.world out.old) (W.world out.new) }
+    ensures answers { IsTrue W.tells_input → IsTrue W.tells_output
+        → ((opened : _) × Serves W.tells result (W.world out.old) (W.world opened) (W.world out.new)) ⊎ Unserved W.tells result (W.world out.old) (W.world out.new) }
     ensures causes { StatusCause result (W.world out.old) (W.world out.new) }
     ensures counts { NoFall (W.world out.old) (W.world out.new) }
     ensures only_at_damage { IsTrue W.tells → IsTrue W.tells_output → result ≡ 5 → Damaged (W.world out.old).seen.held (W.world out.old) (W.world out.new) }
@@ -173,10 +174,14 @@ pub fn run<W: Outside>(alloc: Global, words: &[String], out: &mut W) -> u8
     // Over a log with these entries on each image that a crash might have left: the lines that were taken got the replies of
     // one sorted map, and what a crash may leave at each moment has every line that was acknowledged by then.
     ensures outcome { (start : List Entry) → IsTrue W.tells → IsTrue W.tells_input → IsTrue W.tells_output → Now (LogIs 0 start) (W.world out.old)
-        → Ends result start (W.world out.old) (W.world out.new) }
-    // Over such a log, where no call fails, each line is answered, to the end of the input, to `quit` or to 2^40 bytes.
-    ensures complete { (start : List Entry) → IsTrue W.tells → IsTrue W.tells_input → IsTrue W.tells_output → map string_bytes words.now ≡ serve_words → Now (LogIs 0 start) (W.world out.old)
-        → (SomeFailed (W.world out.old) (W.world out.new) → ⊥) → Completed result (W.world out.old) (W.world out.new) }
+        → Ends W.tells result start (W.world out.old) (W.world out.new) }
+    // Over any device: lines that were taken got the replies of one sorted map, from the entries of the log. Where the device
+    // tells, these are what it held, and what a crash may leave from the opening on has every acknowledged line.
+    ensures answers { IsTrue W.tells_input → IsTrue W.tells_output
+        → ((opened : _) × Serves W.tells result (W.world out.old) (W.world opened) (W.world out.new)) ⊎ Unserved W.tells result (W.world out.old) (W.world out.new) }
+    // Where no call fails each line is answered, to the end of the input, to `quit` or to 2^40 bytes, unless the log is damaged.
+    ensures complete { IsTrue W.tells_input → IsTrue W.tells_output → map string_bytes words.now ≡ serve_words → (SomeFailed (W.world out.old) (W.world out.new) → ⊥)
+        → Completed W.tells result (W.world out.old) (W.world out.new) }
     // Statuses 3, 4 and 6 come only where the count of such faults rose in this call.
     ensures causes { StatusCause result (W.world out.old) (W.world out.new) }
     ensures counts { NoFall (W.world out.old) (W.world out.new) }

@@ -1,9 +1,7 @@
-use Rattle.std.proofs.Common.{◌≡◌, ◌≤◌, ◌++◌, ℕ, List, length, refl, ap, sym, subst, ◌∙◌, arith}
+use Rattle.std.proofs.Common.{◌++◌, ℕ, List, refl, ap, sym, subst, ◌∙◌, arith}
 use Rattle.std.specs.Prelude.{flat_map, map, vec_items}
 use Rattle.std.specs.List.{AllByRecursion}
-use Rattle.store_model.specs.Entries.{Entry}
 use Rattle.block_model.specs.Block.{AreEntries, block_bytes, data_bytes}
-use Rattle.block_model.specs.Index.{index_bytes, index_head_bytes, index_of, index_row_bytes, index_row_of}
 use Rattle.block_model.proofs.LastBlocks.{all_done, cut_sound}
 use Rattle.block_model.proofs.bytes.data_bytes.Goals as goal
 

@@ -1,9 +1,7 @@
-use Rattle.std.proofs.Common.{◌≡◌, ◌++◌, List, drop}
+use Rattle.std.proofs.Common.{◌≡◌, ◌++◌, drop}
 use Rattle.std.specs.Prelude.{flat_map, map, vec_items}
 use Rattle.std.specs.List.{AllByRecursion}
-use Rattle.store_model.specs.Entries.{Entry}
 use Rattle.block_model.specs.Block.{AreEntries, block_bytes}
-use Rattle.block_model.specs.Index.{index_row_bytes, index_row_of}
 use Rattle.block_model.proofs.bytes.data_bytes.Given as goal
 
 -- what is written and the blocks that are left make all blocks

@@ -1,8 +1,7 @@
-use Rattle.std.proofs.Common.{◌≡◌, ◌<◌, ◌≤◌, ◌+◌, ◌^◌, ℕ, List, length, refl, ap, sym, subst, ◌∙◌, arith}
+use Rattle.std.proofs.Common.{length, refl, ap, ◌∙◌, arith}
 use Rattle.std.specs.Prelude.{map, sum_by, vec_items}
 use Rattle.std.proofs.lemmas.List.{at_drop_all}
 use Rattle.store_model.specs.SortedMap.{Bytes}
-use Rattle.store_model.specs.Entries.{Entry}
 use Rattle.block_model.specs.Pages.{index_length}
 use Rattle.block_model.proofs.Bounds.{index_bound, row_length}
 use Rattle.block_model.proofs.counts.index_length.Goals as goal

@@ -1,4 +1,4 @@
-use Rattle.std.proofs.Common.{◌≡◌, ◌-◌, ◌++◌, [], ◌∷◌, ℕ, List, length, get_or, ap, sym, ◌∙◌}
+use Rattle.std.proofs.Common.{◌-◌, ◌++◌, [], ◌∷◌, ℕ, List, length, get_or, ap, sym, ◌∙◌}
 use Rattle.std.specs.Prelude.{map, vec_items}
 use Rattle.std.proofs.lemmas.Result.{on_ok_weaker}
 use Rattle.store_model.specs.Entries.{Entry}

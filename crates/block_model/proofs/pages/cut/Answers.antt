@@ -1,4 +1,4 @@
-use Rattle.std.proofs.Common.{rules, ◌≡◌, ◌+◌, List, take, ap, sym, subst, ◌∙◌}
+use Rattle.std.proofs.Common.{rules, List, ap, sym, subst, ◌∙◌}
 use Rattle.std.specs.Prelude.{map, vec_items}
 use Rattle.std.specs.List.{AllByRecursion}
 use Rattle.store_model.specs.Entries.{Entry}

@@ -1,9 +1,9 @@
-use Rattle.std.proofs.Common.{◌≡◌, ◌<◌, ◌-◌, ◌++◌, List, length, get_or, ap, subst, sym, ◌∙◌}
-use Rattle.std.specs.Prelude.{map, vec_items}
+use Rattle.std.proofs.Common.{List, length, ap, subst, sym, ◌∙◌}
+use Rattle.std.specs.Prelude.{vec_items}
 use Rattle.store_model.specs.Entries.{Entry}
 use Rattle.block_model.specs.Block.{AreEntries}
 use Rattle.block_model.specs.Pages.{has_room}
-use Rattle.block_model.proofs.LastBlocks.{positive, seen_last, seen_none, seen_sound}
+use Rattle.block_model.proofs.LastBlocks.{positive, seen_last, seen_sound}
 use Rattle.block_model.proofs.pages.last_has_room.Goals as goal
 
 pub has_room-requires-clause-block : goal.has_room-requires-clause-block

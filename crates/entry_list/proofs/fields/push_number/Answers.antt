@@ -1,4 +1,4 @@
-use Rattle.std.proofs.Common.{rules, ◌≡◌, ◌++◌, List, ℕ, take, ap, ◌∙◌}
+use Rattle.std.proofs.Common.{rules, take, ap, ◌∙◌}
 use Rattle.entry_list.proofs.Numbers.{take-little_bytes}
 use Rattle.entry_list.proofs.fields.push_number.Goals as goal
 

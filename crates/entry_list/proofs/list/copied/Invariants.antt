@@ -1,7 +1,4 @@
 use Rattle.std.proofs.Common.{◌≡◌, ◌++◌, drop}
-use Rattle.std.specs.Option.{option_map}
-use Rattle.store_model.specs.Entries.{newest, or_else}
-use Rattle.entry_list.specs.Lists.{first_of}
 use Rattle.entry_list.proofs.list.copied.Given as goal
 
 -- the copies so far and the entries that are left make all entries

@@ -1,6 +1,4 @@
-use Rattle.std.proofs.Common.{◌≡◌, ◌++◌, drop}
-use Rattle.std.specs.Option.{option_map}
-use Rattle.store_model.specs.Entries.{newest, or_else}
+use Rattle.std.proofs.Common.{◌≡◌, drop}
 use Rattle.entry_list.specs.Lists.{first_of}
 use Rattle.entry_list.proofs.list.first_of.Given as goal
 

@@ -8,6 +8,6 @@ use Rattle.surf_run.proofs.Steps.{quiet_quit, quit_step}
 use Rattle.surf_run.proofs.line.answer.Goals as goal
 
 pub returns-in-Ok-Quit-clause-answered : goal.returns-in-Ok-Quit-clause-answered
-returns-in-Ok-Quit-clause-answered g c entries tells output holds now =
-    quiet_quit entries (Step entries (command_of c.args.line.now)) _ _ (g.met.W.Outside.said_now _) c.say_reply.ensures.moves now c.args.store.now c.say_reply.result
+returns-in-Ok-Quit-clause-answered g c entries output holds now =
+    quiet_quit g.W.Disk.tells entries (Step entries (command_of c.args.line.now)) _ _ (g.met.W.Outside.said_now _) c.say_reply.ensures.moves now c.args.store.now c.say_reply.result
     (quit_step entries (command_of c.args.line.now) (subst (λ (r : Request). Asks (Ok r) (command_of c.args.line.now)) c.in-Ok-Quit.field-0-is c.in-Ok-Quit.ensures)) (c.say_reply.ensures.says output tt)

@@ -1,20 +1,24 @@
-use Rattle.std.proofs.Common.{◌≡◌, ◌∙◌, subst, arith, ap}
+use Rattle.std.proofs.Common.{◌∙◌, subst, sym, arith, ap}
 use Rattle.disk_trait.proofs.Moments.{same_then}
-use Rattle.gate_log.proofs.Ends.{one_list}
-use Rattle.store_model.specs.Entries.{filled}
-use Rattle.mem_table.specs.Table.{newest_entries}
+use Rattle.disk_trait.proofs.Calls.{reads_keep}
 use Rattle.disk_trait.specs.World.{Streams}
 use Rattle.gate_log.specs.Area.{LogIs, Position}
+use Rattle.mem_table.specs.Table.{newest_entries}
 use Rattle.surf_run.proofs.opening.open_store.Goals as goal
 
-pub returns-clause-exact : goal.returns-clause-exact
-returns-clause-exact g c start tells now =
-    let here : LogIs 0 start (g.D.Disk.world c.args.disk.now).seen.held = now _ (g.met.D.Disk.current c.args.disk.now tells) in
-    let there = subst (LogIs 0 c.in_ok-log.entries.items) c.sync.ensures.moves.held (c.in_ok-log.ensures.entries tells) in
-    let same : c.in_ok-log.entries.items ≡ start = one_list c.in_ok-log.entries.items start _ there here in
+pub returns-clause-opens : goal.returns-clause-opens
+returns-clause-opens g c =
+    let entries = c.in_ok-log.entries.items in
     record {
-      place = ap (λ (p : Position). p.filled) c.in_ok-log.ensures.log ∙ ap filled same;
-      table = c.in_ok-fill.ensures ∙ ap newest_entries (c.deref.ensures.value ∙ same);
+      entries = entries;
+      within = c.in_ok-log.ensures.within;
+      holds = record {
+        place = ap (λ (p : Position). p.filled) c.in_ok-log.ensures.log;
+        sound = c.in_ok-log.ensures.sound;
+        table = c.in_ok-fill.ensures ∙ ap newest_entries c.deref.ensures.value;
+      };
+      held = λ t. subst (LogIs 0 entries) c.sync.ensures.moves.held (c.in_ok-log.ensures.entries t);
+      stands = λ t. reads_keep (LogIs 0 entries) 1 _ _ c.replay.ensures.moves (λ image left. subst (LogIs 0 entries) (sym (c.in_ok-sync.ensures.durable image left)) (c.in_ok-log.ensures.entries t));
     }
 
 pub returns-clause-moves : goal.returns-clause-moves
@@ -25,6 +29,7 @@ returns-clause-moves g c = record {
     take = omega (arith, ap (λ (s : Streams). s.take_faults) c.sync.ensures.moves.beside, ap (λ (s : Streams). s.take_faults) c.replay.ensures.moves.beside);
     say = omega (arith, ap (λ (s : Streams). s.say_faults) c.sync.ensures.moves.beside, ap (λ (s : Streams). s.say_faults) c.replay.ensures.moves.beside);
   };
+  held = c.replay.ensures.moves.held ∙ c.sync.ensures.moves.held;
   beside = c.replay.ensures.moves.beside ∙ c.sync.ensures.moves.beside;
   time = same_then _ _ _ c.sync.ensures.moves.time c.replay.ensures.moves.time;
 }

@@ -9,29 +9,29 @@ use Rattle.surf_run.proofs.Outcomes.{settled_empty, settled_next, settled_bye, s
 use Rattle.surf_run.proofs.serve.end_input.Goals as goal
 
 pub returns-then-is_empty-clause-settled : goal.returns-then-is_empty-clause-settled
-returns-then-is_empty-clause-settled g c start first taken tells output none served =
-    settled_empty start taken c.args.pending.now c.args.store.now _ _ none served (eqb-true _ 0 (sym c.if-is_empty.ensures))
+returns-then-is_empty-clause-settled g c start first taken output none served =
+    settled_empty g.W.Disk.tells start taken c.args.pending.now c.args.store.now _ _ none served (eqb-true _ 0 (sym c.if-is_empty.ensures))
 
 pub returns-in-Next-clause-settled : goal.returns-in-Next-clause-settled
-returns-in-Next-clause-settled g c start first taken tells output none served =
+returns-in-Next-clause-settled g c start first taken output none served =
     let some : 0 < length c.args.pending.now = let not = eqb-false _ 0 (sym c.if-is_empty.ensures) in omega arith in
     let same : command_of c.as_slice.result.now ≡ command_of served.rest = ap command_of c.as_slice.ensures ∙ command_held served.rest c.args.pending.now served.held in
-    settled_next start taken c.args.pending.now c.args.store.now _ _ _ served some (c.answer.ensures.moves.input ∙ none) c.answer.new.store (g.met.W.Outside.said_now _)
-    (subst (λ (k : Command). Answered Next served.now (Step served.now k) c.answer.new.store (g.W.Disk.world c.args.out.now) (g.W.Disk.world c.answer.new.out)) same
-    (c.in-Next.ensures.answered served.now tells output served.holds served.stand))
+    settled_next g.W.Disk.tells start taken c.args.pending.now c.args.store.now _ _ _ served some (c.answer.ensures.moves.input ∙ none) c.answer.new.store (g.met.W.Outside.said_now _)
+    (subst (λ (k : Command). Answered g.W.Disk.tells Next served.now (Step served.now k) c.answer.new.store (g.W.Disk.world c.args.out.now) (g.W.Disk.world c.answer.new.out)) same
+    (c.in-Next.ensures.answered served.now output served.holds served.stand))
 
 pub returns-in-Quit-clause-settled : goal.returns-in-Quit-clause-settled
-returns-in-Quit-clause-settled g c start first taken tells output none served =
+returns-in-Quit-clause-settled g c start first taken output none served =
     let some : 0 < length c.args.pending.now = let not = eqb-false _ 0 (sym c.if-is_empty.ensures) in omega arith in
     let same : command_of c.as_slice.result.now ≡ command_of served.rest = ap command_of c.as_slice.ensures ∙ command_held served.rest c.args.pending.now served.held in
-    settled_bye start taken c.args.pending.now c.args.store.now _ _ _ served some (c.answer.ensures.moves.input ∙ none) c.answer.new.store
-    (subst (λ (k : Command). Answered Quit served.now (Step served.now k) c.answer.new.store (g.W.Disk.world c.args.out.now) (g.W.Disk.world c.answer.new.out)) same
-    (c.in-Quit.ensures.answered served.now tells output served.holds served.stand))
+    settled_bye g.W.Disk.tells start taken c.args.pending.now c.args.store.now _ _ _ served some (c.answer.ensures.moves.input ∙ none) c.answer.new.store (g.met.W.Outside.said_now _)
+    (subst (λ (k : Command). Answered g.W.Disk.tells Quit served.now (Step served.now k) c.answer.new.store (g.W.Disk.world c.args.out.now) (g.W.Disk.world c.answer.new.out)) same
+    (c.in-Quit.ensures.answered served.now output served.holds served.stand))
 
 pub returns-in-End-clause-settled : goal.returns-in-End-clause-settled
-returns-in-End-clause-settled g c start first taken tells output none served =
+returns-in-End-clause-settled g c start first taken output none served =
     let some : 0 < length c.args.pending.now = let not = eqb-false _ 0 (sym c.if-is_empty.ensures) in omega arith in
     let same : command_of c.as_slice.result.now ≡ command_of served.rest = ap command_of c.as_slice.ensures ∙ command_held served.rest c.args.pending.now served.held in
-    settled_status start taken c.args.pending.now c.args.store.now _ _ _ served some (c.answer.ensures.moves.input ∙ none) c.in-End.status c.answer.new.store
-    (subst (λ (k : Command). Answered (End c.in-End.status) served.now (Step served.now k) c.answer.new.store (g.W.Disk.world c.args.out.now) (g.W.Disk.world c.answer.new.out)) same
-    (c.in-End.ensures.answered served.now tells output served.holds served.stand))
+    settled_status g.W.Disk.tells start taken c.args.pending.now c.args.store.now _ _ _ served some (c.answer.ensures.moves.input ∙ none) c.in-End.status c.answer.new.store
+    (subst (λ (k : Command). Answered g.W.Disk.tells (End c.in-End.status) served.now (Step served.now k) c.answer.new.store (g.W.Disk.world c.args.out.now) (g.W.Disk.world c.answer.new.out)) same
+    (c.in-End.ensures.answered served.now output served.holds served.stand))

@@ -9,42 +9,42 @@ use Rattle.surf_run.proofs.serve.feed.Goals as goal
 
 pub returns-in_default-end_line : goal.returns-in_default-end_line
 returns-in_default-end_line g c = record {
-  after = λ start first bytes tells output served.
-      let so_far = c.loop-line.invariant.served start first bytes tells output served in
+  after = λ start first bytes output served.
+      let so_far = c.loop-line.invariant.served start first bytes output served in
       let found = c.in-Some.ensures.found in
-      let after = c.end_line.ensures.after start first _ tells output found.1 so_far.2 in
-      subst (λ (l : List ℕ). After c.end_line.result start l c.end_line.new.pending c.end_line.new.store (g.W.Disk.world first) (g.W.Disk.world c.end_line.new.out))
+      let after = c.end_line.ensures.after start first _ output found.1 so_far.2 in
+      subst (λ (l : List ℕ). After g.W.Disk.tells c.end_line.result start l c.end_line.new.pending c.end_line.new.store (g.W.Disk.world first) (g.W.Disk.world c.end_line.new.out))
       (sym (all_more bytes c.args.piece.now so_far.0 _ _ c.in-Some.more.now so_far.1 found.0))
-      (after_more c.end_line.result start _ c.in-Some.more.now _ _ _ _ c.in_default-end_line.not-Next after);
+      (after_more g.W.Disk.tells c.end_line.result start _ c.in-Some.more.now _ _ _ _ c.in_default-end_line.not-Next after);
   cause = cause_since c.end_line.result _ _ _ c.loop-line.invariant.moves.counts c.end_line.ensures.cause;
   moves = takes_on _ _ _ c.loop-line.invariant.moves c.end_line.ensures.moves;
 }
 
 pub loop-line-preserved : goal.loop-line-preserved
 loop-line-preserved g c = record {
-  served = λ start first bytes tells output served.
-      let so_far = c.loop-line.invariant.served start first bytes tells output served in
+  served = λ start first bytes output served.
+      let so_far = c.loop-line.invariant.served start first bytes output served in
       let found = c.in-Some.ensures.found in (
         so_far.0 ++ (c.in-Some.line.now ++ 10 ∷ []),
         piece_split bytes c.args.piece.now so_far.0 _ c.in-Some.line.now c.in-Some.more.now so_far.1 found.0,
-        subst (λ (l : List ℕ). Served start l c.end_line.new.pending c.end_line.new.store (g.W.Disk.world first) (g.W.Disk.world c.end_line.new.out))
+        subst (λ (l : List ℕ). Served g.W.Disk.tells start l c.end_line.new.pending c.end_line.new.store (g.W.Disk.world first) (g.W.Disk.world c.end_line.new.out))
             (sym (line_more bytes c.args.piece.now so_far.0 _ c.in-Some.line.now c.in-Some.more.now so_far.1 found.0))
-            (c.in-Next.ensures.after start first _ tells output found.1 so_far.2),
+            (c.in-Next.ensures.after start first _ output found.1 so_far.2),
       );
   moves = takes_on _ _ _ c.loop-line.invariant.moves c.end_line.ensures.moves;
 }
 
 pub returns-clause-after : goal.returns-clause-after
-returns-clause-after g c start first bytes tells output served =
-    let so_far = c.loop-line.invariant.served start first bytes tells output served in
+returns-clause-after g c start first bytes output served =
+    let so_far = c.loop-line.invariant.served start first bytes output served in
     let rest = c.loop-line.rest.now in
-    subst (λ (l : List ℕ). Served start l c.keep.new.self c.loop-line.store (g.W.Disk.world first) (g.W.Disk.world c.loop-line.out))
+    subst (λ (l : List ℕ). Served g.W.Disk.tells start l c.keep.new.self c.loop-line.store (g.W.Disk.world first) (g.W.Disk.world c.loop-line.out))
     (append_assoc bytes so_far.0 rest ∙ sym (ap (λ (l : List ℕ). bytes ++ l) so_far.1))
-    (part_more start _ _ _ _ _ so_far.2 rest (none_here c.next_line.result (NoNewline rest) c.in_default.not-Some c.next_line.ensures.none) c.keep.new.self (c.keep.ensures so_far.2.rest so_far.2.held))
+    (part_more g.W.Disk.tells start _ _ _ _ _ so_far.2 rest (none_here c.next_line.result (NoNewline rest) c.in_default.not-Some c.next_line.ensures.none) c.keep.new.self (c.keep.ensures so_far.2.rest so_far.2.held))
 
 pub loop-line-init : goal.loop-line-init
 loop-line-init g c = record {
-  served = λ start first bytes tells output served.
-      ([], refl, subst (λ (l : List ℕ). Served start l c.args.pending.now c.args.store.now (g.W.Disk.world first) (g.W.Disk.world c.args.out.now)) (sym (append-nil bytes)) served);
+  served = λ start first bytes output served.
+      ([], refl, subst (λ (l : List ℕ). Served g.W.Disk.tells start l c.args.pending.now c.args.store.now (g.W.Disk.world first) (g.W.Disk.world c.args.out.now)) (sym (append-nil bytes)) served);
   moves = takes_none (g.W.Disk.world c.args.out.now);
 }

@@ -8,9 +8,9 @@ use Rattle.surf_run.proofs.serve.feed.Given as goal
 abbrev pub invariant-loop-line : goal.invariant-loop-line
 invariant-loop-line g l = record {
   served :
-      (start : List Entry) (first : g.row.W.Denot) (bytes : List ℕ) → IsTrue g.W.Disk.tells → IsTrue g.W.Outside.tells_output
-      → Served start bytes l.fn.pending l.fn.store (g.W.Disk.world first) (g.W.Disk.world l.fn.out)
-      → (done : List ℕ) × (l.fn.piece ≡ done ++ l.rest) × Served start (bytes ++ done) l.pending l.store (g.W.Disk.world first) (g.W.Disk.world l.out);
+      (start : List Entry) (first : g.row.W.Denot) (bytes : List ℕ) → IsTrue g.W.Outside.tells_output
+      → Served g.W.Disk.tells start bytes l.fn.pending l.fn.store (g.W.Disk.world first) (g.W.Disk.world l.fn.out)
+      → (done : List ℕ) × (l.fn.piece ≡ done ++ l.rest) × Served g.W.Disk.tells start (bytes ++ done) l.pending l.store (g.W.Disk.world first) (g.W.Disk.world l.out);
   moves : TakesNothing (g.W.Disk.world l.fn.out) (g.W.Disk.world l.out);
 }
 

@@ -7,80 +7,80 @@ use Rattle.surf_run.proofs.serve.serve.Goals as goal
 
 pub loop-left-init : goal.loop-left-init
 loop-left-init g c = record {
-  served = λ start tells input output holds stand. ([], refl, omega arith, served_none start _ _ _ c.requires.fresh (g.met.W.Outside.said_now _) holds stand);
+  served = λ start input output holds stand. ([], refl, omega arith, served_none g.W.Disk.tells start _ _ _ c.requires.fresh (g.met.W.Outside.said_now _) holds stand);
   counts = record { read = omega arith; write = omega arith; take = omega arith; say = omega arith };
 }
 
 pub returns-in-Err-clause-outcome : goal.returns-in-Err-clause-outcome
-returns-in-Err-clause-outcome g c start tells input output holds stand =
-    let was = c.loop-left.invariant.served start tells input output holds stand in
+returns-in-Err-clause-outcome g c start input output holds stand =
+    let was = c.loop-left.invariant.served start input output holds stand in
     record {
       taken = was.0;
       input = was.1 ∙ ap (λ (l : List ℕ). was.0 ++ l) (sym c.in-Err.ensures.refused);
-      settled = settled_cut 3 start was.0 _ _ _ _ (inl refl) (served_take start was.0 _ _ _ _ _ c.take.ensures.moves (g.met.W.Outside.said_now _) was.3);
+      settled = settled_cut g.W.Disk.tells 3 start was.0 _ _ _ _ (inl refl) (served_take g.W.Disk.tells start was.0 _ _ _ _ _ c.take.ensures.moves (g.met.W.Outside.said_now _) was.3);
       limit = λ is. absurd cc;
     }
 
 pub returns-then-taken-eq0-clause-outcome : goal.returns-then-taken-eq0-clause-outcome
-returns-then-taken-eq0-clause-outcome g c start tells input output holds stand =
-    let was = c.loop-left.invariant.served start tells input output holds stand in
+returns-then-taken-eq0-clause-outcome g c start input output holds stand =
+    let was = c.loop-left.invariant.served start input output holds stand in
     let took = c.in-Ok.ensures.taken input in
     let all = taken_all _ _ _ was.0 _ was.1 took.bytes (took.end c.if-taken-eq0.true) in
     let beside = c.end_input.ensures.moves.input in
     record {
       taken = was.0;
       input = all.0 ∙ ap (λ (l : List ℕ). was.0 ++ l) (sym beside);
-      settled = c.end_input.ensures.settled start c.args.out.now was.0 tells output all.1 (served_take start was.0 _ _ _ _ _ c.take.ensures.moves (g.met.W.Outside.said_now _) was.3);
+      settled = c.end_input.ensures.settled start c.args.out.now was.0 output all.1 (served_take g.W.Disk.tells start was.0 _ _ _ _ _ c.take.ensures.moves (g.met.W.Outside.said_now _) was.3);
       limit = λ is. absurd (elim c.end_input.ensures.statuses [ inl zero ↦ cc | inr more ↦ elim more [ inl four ↦ cc | inr six ↦ cc ] ]);
     }
 
 pub loop-left-preserved : goal.loop-left-preserved
 loop-left-preserved g c = record {
-  served = λ start tells input output holds stand.
-      let was = c.loop-left.invariant.served start tells input output holds stand in
+  served = λ start input output holds stand.
+      let was = c.loop-left.invariant.served start input output holds stand in
       let took = c.in-Ok.ensures.taken input in
       let front = front_of c.in-Ok.taken c.take.new.into (drop c.room_for-most.result c.loop-left.piece) (omega (arith, c.in-Ok.ensures.count, c.take.auto.into)) in
       let piece = take c.in-Ok.taken (c.take.new.into ++ drop c.room_for-most.result c.loop-left.piece) in (
         was.0 ++ piece,
         taken_more _ _ _ was.0 piece was.1 (took.bytes ∙ ap (λ (l : List ℕ). l ++ (g.W.Disk.world c.take.new.self).beside.to_take) (sym front)) ∙ ap (λ (l : List ℕ). (was.0 ++ piece) ++ l) (sym c.feed.ensures.moves.input),
         omega (arith, was.2, length-append was.0 piece, ap length front, length-take c.in-Ok.taken c.take.new.into, c.in-Ok.ensures.count, c.take.auto.into, c.room_for-most.ensures.left, length-take c.room_for-most.result c.loop-left.piece),
-        c.in-Next.ensures.after start c.args.out.now was.0 tells output (served_take start was.0 _ _ _ _ _ c.take.ensures.moves (g.met.W.Outside.said_now _) was.3),
+        c.in-Next.ensures.after start c.args.out.now was.0 output (served_take g.W.Disk.tells start was.0 _ _ _ _ _ c.take.ensures.moves (g.met.W.Outside.said_now _) was.3),
       );
   counts = no_fall_on _ _ _ c.loop-left.invariant.counts (no_fall_on _ _ _ (no_fall_take _ _ c.take.ensures.moves) c.feed.ensures.moves.counts);
 }
 
 pub returns-in-Quit-clause-outcome : goal.returns-in-Quit-clause-outcome
-returns-in-Quit-clause-outcome g c start tells input output holds stand =
-    let was = c.loop-left.invariant.served start tells input output holds stand in
+returns-in-Quit-clause-outcome g c start input output holds stand =
+    let was = c.loop-left.invariant.served start input output holds stand in
     let took = c.in-Ok.ensures.taken input in
     let front = front_of c.in-Ok.taken c.take.new.into (drop c.room_for-most.result c.loop-left.piece) (omega (arith, c.in-Ok.ensures.count, c.take.auto.into)) in
     let piece = take c.in-Ok.taken (c.take.new.into ++ drop c.room_for-most.result c.loop-left.piece) in
     record {
       taken = was.0 ++ piece;
       input = taken_more _ _ _ was.0 piece was.1 (took.bytes ∙ ap (λ (l : List ℕ). l ++ (g.W.Disk.world c.take.new.self).beside.to_take) (sym front)) ∙ ap (λ (l : List ℕ). (was.0 ++ piece) ++ l) (sym c.feed.ensures.moves.input);
-      settled = settled_quit start (was.0 ++ piece) _ _ (c.in-Quit.ensures.after start c.args.out.now was.0 tells output (served_take start was.0 _ _ _ _ _ c.take.ensures.moves (g.met.W.Outside.said_now _) was.3));
+      settled = settled_quit g.W.Disk.tells start (was.0 ++ piece) _ _ (c.in-Quit.ensures.after start c.args.out.now was.0 output (served_take g.W.Disk.tells start was.0 _ _ _ _ _ c.take.ensures.moves (g.met.W.Outside.said_now _) was.3));
       limit = λ is. absurd cc;
     }
 
 pub returns-in-End-clause-outcome : goal.returns-in-End-clause-outcome
-returns-in-End-clause-outcome g c start tells input output holds stand =
-    let was = c.loop-left.invariant.served start tells input output holds stand in
+returns-in-End-clause-outcome g c start input output holds stand =
+    let was = c.loop-left.invariant.served start input output holds stand in
     let took = c.in-Ok.ensures.taken input in
     let front = front_of c.in-Ok.taken c.take.new.into (drop c.room_for-most.result c.loop-left.piece) (omega (arith, c.in-Ok.ensures.count, c.take.auto.into)) in
     let piece = take c.in-Ok.taken (c.take.new.into ++ drop c.room_for-most.result c.loop-left.piece) in
     record {
       taken = was.0 ++ piece;
       input = taken_more _ _ _ was.0 piece was.1 (took.bytes ∙ ap (λ (l : List ℕ). l ++ (g.W.Disk.world c.take.new.self).beside.to_take) (sym front)) ∙ ap (λ (l : List ℕ). (was.0 ++ piece) ++ l) (sym c.feed.ensures.moves.input);
-      settled = settled_end c.in-End.status start (was.0 ++ piece) _ _ (c.in-End.ensures.after start c.args.out.now was.0 tells output (served_take start was.0 _ _ _ _ _ c.take.ensures.moves (g.met.W.Outside.said_now _) was.3));
+      settled = settled_end g.W.Disk.tells c.in-End.status start (was.0 ++ piece) _ _ (c.in-End.ensures.after start c.args.out.now was.0 output (served_take g.W.Disk.tells start was.0 _ _ _ _ _ c.take.ensures.moves (g.met.W.Outside.said_now _) was.3));
       limit = λ is. absurd (elim c.in-End.ensures.cause [ inl four ↦ let f = four.0 in cc | inr six ↦ let s = six.0 in cc ]);
     }
 
 pub returns-clause-outcome : goal.returns-clause-outcome
-returns-clause-outcome g c start tells input output holds stand =
-    let was = c.loop-left.invariant.served start tells input output holds stand in
+returns-clause-outcome g c start input output holds stand =
+    let was = c.loop-left.invariant.served start input output holds stand in
     record {
       taken = was.0;
       input = was.1;
-      settled = settled_cut 9 start was.0 _ _ _ _ (inr refl) was.3;
+      settled = settled_cut g.W.Disk.tells 9 start was.0 _ _ _ _ (inr refl) was.3;
       limit = λ is. omega (arith, was.2);
     }

@@ -1,7 +1,6 @@
 use Rattle.std.proofs.Common.{◌≡◌, ◌+◌, ◌^◌, ◌++◌, List, ℕ, length}
 use Rattle.std.specs.Prelude.{IsTrue}
-use Rattle.disk_trait.specs.World.{Now}
-use Rattle.gate_log.specs.Area.{LogIs}
+use Rattle.surf_run.specs.Crash.{Stands}
 use Rattle.store_model.specs.Entries.{Entry}
 use Rattle.surf_run.specs.Holds.{Holds}
 use Rattle.surf_run.specs.Causes.{NoFall}
@@ -11,9 +10,9 @@ use Rattle.surf_run.proofs.serve.serve.Given as goal
 abbrev pub invariant-loop-left : goal.invariant-loop-left
 invariant-loop-left g l = record {
   served :
-      (start : List Entry) → IsTrue g.W.Disk.tells → IsTrue g.W.Outside.tells_input → IsTrue g.W.Outside.tells_output → Holds start l.fn.store → Now (LogIs 0 start) (g.W.Disk.world l.fn.out)
+      (start : List Entry) → IsTrue g.W.Outside.tells_input → IsTrue g.W.Outside.tells_output → Holds start l.fn.store → Stands g.W.Disk.tells start (g.W.Disk.world l.fn.out)
       → (taken : List ℕ) × ((g.W.Disk.world l.fn.out).beside.to_take ≡ taken ++ (g.W.Disk.world l.out).beside.to_take) × (length taken + l.left ≡ 2 ^ 40)
-      × Served start taken l.pending l.store (g.W.Disk.world l.fn.out) (g.W.Disk.world l.out);
+      × Served g.W.Disk.tells start taken l.pending l.store (g.W.Disk.world l.fn.out) (g.W.Disk.world l.out);
   counts : NoFall (g.W.Disk.world l.fn.out) (g.W.Disk.world l.out);
 }
 

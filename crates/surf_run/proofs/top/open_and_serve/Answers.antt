@@ -1,33 +1,48 @@
+use Rattle.std.proofs.Common.{inl, inr, subst, sym, ◌∙◌}
+use Rattle.disk_trait.specs.World.{Image}
 use Rattle.gate_log.proofs.Ends.{not_both}
-use Rattle.surf_run.proofs.Lifting.{ends_since, damage_told}
-use Rattle.surf_run.proofs.Moments.{now_still}
 use Rattle.store_model.specs.Replies.{text_of}
 use Rattle.surf_run.specs.Open.{reply_to, status_of}
-use Rattle.surf_run.proofs.LastLines.{unserved, no_shape_text, not_six}
-use Rattle.std.proofs.Common.{inr, sym, ◌∙◌}
+use Rattle.surf_run.specs.Run.{IsLastText}
+use Rattle.surf_run.proofs.Lifting.{unserved_since, damage_told}
+use Rattle.surf_run.proofs.LastLines.{unserved, fault_text, not_six}
 use Rattle.surf_run.proofs.top.open_and_serve.Goals as goal
 
-pub returns-in-Ok-clause-ends : goal.returns-in-Ok-clause-ends
-returns-in-Ok-clause-ends g c start tells input output now =
-    let opened = c.open_store.ensures.moves in
-    ends_since start _ _ _ opened (g.met.W.Outside.said_now _) now _
-    (c.serve_store.ensures.ends start tells input output (c.in-Ok.ensures.exact start tells now) (now_still _ _ _ opened.time now))
+pub returns-in-Ok-clause-answers : goal.returns-in-Ok-clause-answers
+returns-in-Ok-clause-answers g c input output =
+    let opens = c.in-Ok.ensures.opens in
+    elim (c.serve_store.ensures.ends opens.entries input output opens.holds opens.stands) [
+      | inl served ↦ inl (
+        c.open_store.new.disk,
+        record {
+          opens = c.open_store.ensures.moves;
+          start = opens.entries;
+          sound = opens.holds.sound;
+          within = opens.within;
+          held = opens.held;
+          serving = served.0;
+          outcome = served.1;
+        },
+      )
+      | inr none ↦ inr (unserved_since g.W.Disk.tells _ _ _ _ c.open_store.ensures.moves (g.met.W.Outside.said_now _) none)
+    ]
 
 pub returns-in-Ok-clause-told_of_damage : goal.returns-in-Ok-clause-told_of_damage
 returns-in-Ok-clause-told_of_damage g c at rule tells breaks =
-    let found = c.in-Ok.ensures.found tells in
-    absurd (not_both found.0 breaks.0 rule _ found.1 breaks.2)
+    let opens = c.in-Ok.ensures.opens in
+    absurd (not_both opens.entries breaks.0 rule _ (opens.held tells) breaks.2)
 
 pub returns-in-Err-clause-only_at_damage : goal.returns-in-Err-clause-only_at_damage
 returns-in-Err-clause-only_at_damage g c tells output five =
     damage_told c.in-Err.fault _ _ (g.W.Disk.world c.args.out.now) (g.W.Disk.world c.open_store.new.disk) (g.W.Disk.world c.not_opened.new.out) (c.in-Err.ensures.shape tells) c.open_store.ensures.moves.beside c.not_opened.ensures.ends (c.not_opened.ensures.said output (λ six. cc)) five
 
-pub returns-in-Err-clause-ends : goal.returns-in-Err-clause-ends
-returns-in-Err-clause-ends g c start tells input output now =
+pub returns-in-Err-clause-answers : goal.returns-in-Err-clause-answers
+returns-in-Err-clause-answers g c input output =
     let opened = c.open_store.ensures.moves in
     let fault = c.in-Err.fault in
+    let old = g.W.Disk.world c.args.out.now in
     let mid = g.W.Disk.world c.open_store.new.disk in
-    let unsaid = unserved start mid (g.W.Disk.world c.not_opened.new.out) (g.met.W.Outside.said_now _) (now_still _ _ _ opened.time now) c.not_opened.ensures.moves c.not_opened.result (status_of fault)
-    (text_of (reply_to fault)) (no_shape_text fault (c.in-Err.ensures.exact start tells now)) (c.not_opened.ensures.front output)
-    (λ same. c.not_opened.ensures.said output (λ six. not_six fault (sym same ∙ six))) c.not_opened.ensures.ends in
-    ends_since start _ _ _ opened (g.met.W.Outside.said_now _) now _ (inr unsaid)
+    inr (unserved_since g.W.Disk.tells _ _ _ _ opened (g.met.W.Outside.said_now _)
+    (unserved g.W.Disk.tells mid (g.W.Disk.world c.not_opened.new.out) (g.met.W.Outside.said_now _) c.not_opened.ensures.moves c.not_opened.result (status_of fault) (text_of (reply_to fault))
+    (subst (λ (i : Image). IsLastText g.W.Disk.tells i (status_of fault) (text_of (reply_to fault))) (sym opened.held) (fault_text g.W.Disk.tells old.seen.held fault c.in-Err.ensures.shape))
+    (c.not_opened.ensures.front output) (λ same. c.not_opened.ensures.said output (λ six. not_six fault (sym same ∙ six))) c.not_opened.ensures.ends))

@@ -1,6 +1,8 @@
 use Rattle.std.proofs.Common.{◌<◌, ◌∙◌, ◌++◌, ◌∷◌, [], ap, sym, arith, inl, inr}
 use Rattle.std.proofs.lemmas.Bool.{cases_lt}
 use Rattle.gate_log.specs.Kinds.{entry_of}
+use Rattle.gate_log.specs.Records.{IsSound}
+use Rattle.gate_log.proofs.Logs.{all_push}
 use Rattle.gate_log.specs.Area.{LogIs, WithOrWithout}
 use Rattle.mem_table.specs.Table.{newest_entries}
 use Rattle.store_model.specs.Entries.{Entry, need, gap}
@@ -22,6 +24,7 @@ pub returns-in-Ok-clause-done : goal.returns-in-Ok-clause-done
 returns-in-Ok-clause-done g c entries holds =
     let entry = entry_of c.args.kind c.args.key.now c.args.value.now in
     record {
+      sound = all_push IsSound entries entry holds.sound c.requires.sound;
       place = omega (arith, c.in-Ok.ensures.filled, filled_more entries entry, holds.place);
       table = c.set.ensures.newest entries (c.prepared.ensures.kept ∙ holds.table) ∙ ap (λ (e : Entry). newest_entries (entries ++ e ∷ [])) c.in_ok-kept.ensures.entry;
     }

@@ -1,0 +1,2 @@
+pub mod VersionsRead
+pub mod VersionsWritten

@@ -1,0 +1,37 @@
+-- The laws of the manifest: a version is read from its bytes as it was written, and bytes that break no rule were written so.
+use Rattle.std.specs.Prelude.{◌≡◌, ◌⊎◌, ℕ, ◌+◌, ◌^◌, ◌<◌, ◌≤◌, ◌++◌, length, take, None}
+use Rattle.std.specs.List.{AllByRecursion}
+use Rattle.byte_fields.specs.Fields.{FieldsFit}
+use Rattle.byte_fields.specs.Spelling.{IsBytes}
+use Rattle.byte_fields.specs.declared.parts.Row.{Row}
+use Rattle.store_model.specs.SortedMap.{Bytes}
+use Rattle.manifest_model.specs.Reading.{body_damage, front_length_in, of_version, version_in}
+use Rattle.manifest_model.specs.Version.{Version, body_bytes, row_numbers, row_widths}
+
+-- a row whose numbers fit their fields
+abbrev pub RowFits : Row → Type 0
+RowFits row = FieldsFit row_widths (row_numbers row)
+
+-- a version that keeps the rules
+pub record IsVersion (v : Version) : Type 0 where
+  pub few_tables : length v.rows ≤ 1024
+  pub some_epoch : 1 ≤ v.epoch
+  pub epoch : v.epoch < 2 ^ 64
+  pub some_pages : 512 ≤ v.pages
+  pub few_pages : v.pages ≤ 16777216
+  pub hash_bits : v.hash_bits ≤ 32
+  pub real_bits : v.real_bits ≤ 32
+  pub ratio : v.ratio < 2 ^ 16
+  pub log_page : (v.log_page ≡ 64) ⊎ (v.log_page ≡ 128)
+  pub rows : AllByRecursion RowFits v.rows
+  pub placed : of_version v ≡ None
+
+abbrev pub VersionIsReadAgain : Type 0
+VersionIsReadAgain =
+    (slot : ℕ) (v : Version) (rest : Bytes) → IsVersion v
+    → (body_damage slot (body_bytes v ++ rest) ≡ None) × (version_in (body_bytes v ++ rest) ≡ v)
+
+abbrev pub VersionWasWrittenSo : Type 0
+VersionWasWrittenSo =
+    (slot : ℕ) (bytes : Bytes) → IsBytes bytes → front_length_in bytes + 8 ≤ length bytes → body_damage slot bytes ≡ None
+    → IsVersion (version_in bytes) × (body_bytes (version_in bytes) ≡ take (front_length_in bytes + 8) bytes)

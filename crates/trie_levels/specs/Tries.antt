@@ -1,0 +1,25 @@
+-- The leaf lists that have a trie, by their stubs alone.
+use Rattle.std.specs.Prelude.{◌≡◌, ℕ, ◌<◌, ◌≤◌, ◌^◌, true, List, length}
+use Rattle.std.specs.List.{All, AllPairs}
+use Rattle.byte_fields.specs.Spelling.{IsBytes}
+use Rattle.filter_model.specs.Leaves.{Leaf}
+use Rattle.filter_model.specs.Strings.{is_below}
+use Rattle.filter_model.specs.Valid.{EndsRightly, IsValid}
+
+-- a stub of 1 to 1,024 bytes
+pub record IsStub (l : Leaf) : Type 0 where
+  pub bytes : IsBytes l.stub
+  pub filled : 0 < length l.stub
+  pub short : length l.stub ≤ 1024
+
+-- one leaf or more, whose stubs rise strictly; one is a proper prefix of another exactly where it ends
+pub record HasTrie (ls : List Leaf) : Type 0 where
+  pub some : 0 < length ls
+  pub few : length ls < 2 ^ 32
+  pub stubs : All IsStub ls
+  pub rising : AllPairs (λ a b. is_below a.stub b.stub ≡ true) ls
+  pub ends : All (EndsRightly ls) ls
+
+-- every leaf list for which a filter may stand has a trie
+abbrev pub ValidListsHaveTries : Type 0
+ValidListsHaveTries = (hash_bits real_bits : ℕ) (ls : List Leaf) → IsValid hash_bits real_bits ls → HasTrie ls
