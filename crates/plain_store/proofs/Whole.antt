@@ -1,11 +1,11 @@
 -- A merge that is done whole, by its plan.
-use Rattle.std.specs.Prelude.{◌≡◌, ◌++◌, List, [], ◌∷◌, length, map, take, Option, Some, None}
+use Rattle.std.specs.Prelude.{◌≡◌, ◌++◌, List, map, Option, Some, None}
 use Rattle.std.proofs.Common.{sym, ap, ◌∙◌}
 use Rattle.std.proofs.Math.Seq.{take-length}
 use Rattle.store_model.specs.Entries.{Entry}
-use Rattle.state_model.specs.State.{State, Table, Job, written_by}
+use Rattle.state_model.specs.State.{State, Job, written_by}
 use Rattle.state_model.specs.Pages.{Spells}
-use Rattle.state_model.specs.Gaps.{Extent, extent_of, taken}
+use Rattle.state_model.specs.Gaps.{extent_of, taken}
 use Rattle.state_model.specs.Merges.{Plan, choose, planned, placed}
 use Rattle.state_model.specs.Tends.{started}
 use Rattle.state_model.specs.Play.{job_of, merged, merged_by, installed_or_dropped}
@@ -22,6 +22,6 @@ merged_plan spells s plan no_job chosen =
     ap (λ (o : Option Plan). merged_by spells s (job_of s.job o)) chosen
     ∙ (ap (λ (j : Option Job). merged_by spells s (job_of j (Some plan))) no_job
     ∙ (ap (λ (outputs : List (List Entry)). installed_or_dropped s (started plan) (placed spells s (map extent_of (s.tables ++ written_by None ++ s.kept)) plan.output outputs))
-        (take-length (planned s plan))
+    (take-length (planned s plan))
     ∙ ap (λ (j : Option Job). installed_or_dropped s (started plan) (placed spells s (map extent_of (s.tables ++ written_by j ++ s.kept)) plan.output (planned s plan)))
-        (sym no_job)))
+    (sym no_job)))

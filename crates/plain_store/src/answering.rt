@@ -13,7 +13,10 @@ ghost use Rattle.plain_store.specs.Talk.{asks, says, answered, played_as};
 use crate::changes::{Refusal, compacted, flushed, written};
 use crate::installing::merged;
 use crate::limits::limit_of;
-use crate::reads::{reply_to_count, reply_to_estimate, reply_to_explain, reply_to_get, reply_to_range, reply_to_seek};
+use crate::reads::{
+    reply_to_count, reply_to_estimate, reply_to_explain, reply_to_get, reply_to_range,
+    reply_to_seek,
+};
 use crate::state::State;
 use crate::talk::{Reply, Request};
 use entry_list::Entry;
@@ -71,7 +74,12 @@ fn unchanged(alloc: Global, state: &State, reply: Reply) -> Result<Answer, Alloc
     Ok(Answer { reply, state })
 }
 
-fn write<F: RangeFilter>(alloc: Global, state: &State, key: &[u8], value: Option<&[u8]>) -> Result<Answer, AllocError>
+fn write<F: RangeFilter>(
+    alloc: Global,
+    state: &State,
+    key: &[u8],
+    value: Option<&[u8]>,
+) -> Result<Answer, AllocError>
     ensures { IfOk result (λ a. answered a ≡ model.changed state.now (written (spells_of F.spelling F.built_cutoff) state.now (record { key = key.now; value = option_map (λ v. v.now) value.entry }))) }
 {
     let entry = Entry::new(alloc, key, value)?;
@@ -90,7 +98,12 @@ fn compact<F: RangeFilter>(alloc: Global, state: &State) -> Result<Answer, Alloc
     changed(alloc, state, compacted::<F>(alloc, state)?)
 }
 
-fn estimated<F: RangeFilter>(alloc: Global, state: &State, lo: &[u8], hi: &[u8]) -> Result<Answer, AllocError>
+fn estimated<F: RangeFilter>(
+    alloc: Global,
+    state: &State,
+    lo: &[u8],
+    hi: &[u8],
+) -> Result<Answer, AllocError>
     ensures { IfOk result (λ a. answered a ≡ model.answer_within (spells_of F.spelling F.built_cutoff) state.now (Estimate lo.now hi.now)) }
 {
     let reply = reply_to_estimate::<F>(alloc, state, lo, hi)?;
@@ -99,7 +112,11 @@ fn estimated<F: RangeFilter>(alloc: Global, state: &State, lo: &[u8], hi: &[u8])
 }
 
 /// The answer to a request that breaks no limit.
-fn answer_within<F: RangeFilter>(alloc: Global, state: &State, request: Request<'_>) -> Result<Answer, AllocError>
+fn answer_within<F: RangeFilter>(
+    alloc: Global,
+    state: &State,
+    request: Request<'_>,
+) -> Result<Answer, AllocError>
     ensures { IfOk result (λ a. answered a ≡ model.answer_within (spells_of F.spelling F.built_cutoff) state.now (asks request.entry)) }
 {
     match request {
@@ -109,17 +126,29 @@ fn answer_within<F: RangeFilter>(alloc: Global, state: &State, request: Request<
         Request::Compact => compact::<F>(alloc, state),
         Request::Get { key } => unchanged(alloc, state, reply_to_get(alloc, state, key)?),
         Request::Seek { lo, hi } => unchanged(alloc, state, reply_to_seek(alloc, state, lo, hi)?),
-        Request::Range { lo, hi, n } => unchanged(alloc, state, reply_to_range(alloc, state, lo, hi, n)?),
+        Request::Range { lo, hi, n } => unchanged(
+            alloc,
+            state,
+            reply_to_range(alloc, state, lo, hi, n)?,
+        ),
         Request::Count { lo, hi } => unchanged(alloc, state, reply_to_count(alloc, state, lo, hi)?),
         Request::Estimate { lo, hi } => estimated::<F>(alloc, state, lo, hi),
-        Request::Explain { key } => unchanged(alloc, state, reply_to_explain::<F>(alloc, state, key)?),
+        Request::Explain { key } => unchanged(
+            alloc,
+            state,
+            reply_to_explain::<F>(alloc, state, key)?,
+        ),
         Request::Quit => unchanged(alloc, state, Reply::Bye),
         Request::Bad { code } => unchanged(alloc, state, Reply::BadLine(code)),
     }
 }
 
 /// The answer to a request.
-pub fn ask<F: RangeFilter>(alloc: Global, state: &State, request: Request<'_>) -> Result<Answer, AllocError>
+pub fn ask<F: RangeFilter>(
+    alloc: Global,
+    state: &State,
+    request: Request<'_>,
+) -> Result<Answer, AllocError>
     ensures { IfOk result (λ a. answered a ≡ model.answer (spells_of F.spelling F.built_cutoff) state.now (asks request.entry)) }
 {
     match limit_of(request) {
@@ -129,7 +158,11 @@ pub fn ask<F: RangeFilter>(alloc: Global, state: &State, request: Request<'_>) -
 }
 
 /// The state after the merge that comes behind a put or a del.
-pub fn tend<F: RangeFilter>(alloc: Global, request: Request<'_>, state: State) -> Result<State, AllocError>
+pub fn tend<F: RangeFilter>(
+    alloc: Global,
+    request: Request<'_>,
+    state: State,
+) -> Result<State, AllocError>
     ensures { IfOk result (λ s. s ≡ tended (spells_of F.spelling F.built_cutoff) (asks request.entry) state) }
 {
     match request {
@@ -159,7 +192,11 @@ fn with_first(reply: Reply, later: Vec<Reply>) -> Result<Vec<Reply>, AllocError>
 
 /// The replies to some requests, a merge behind each put and del, and the state that they leave. Nothing comes behind
 /// `quit`.
-pub fn play<F: RangeFilter>(alloc: Global, state: &State, requests: &[Request<'_>]) -> Result<Played, AllocError>
+pub fn play<F: RangeFilter>(
+    alloc: Global,
+    state: &State,
+    requests: &[Request<'_>],
+) -> Result<Played, AllocError>
     ensures { IfOk result (λ p. played_as p ≡ played (spells_of F.spelling F.built_cutoff) state.now (map asks requests.now)) }
 {
     let Some((request, more)) = requests.split_first() else {

@@ -18,7 +18,12 @@ use plain_map::Pair;
 use std::alloc::{AllocError, Global};
 
 /// Whether the table's filter admits the key.
-fn admits<F: RangeFilter>(alloc: Global, state: &State, key: &[u8], table: &Table) -> Result<bool, AllocError>
+fn admits<F: RangeFilter>(
+    alloc: Global,
+    state: &State,
+    key: &[u8],
+    table: &Table,
+) -> Result<bool, AllocError>
     ensures { IfOk result (λ yes. yes ≡ model.admits state.now key.now table.now) }
 {
     let filter: F = filter_of(alloc, state.settings, table.entries.as_slice())?;
@@ -26,7 +31,13 @@ fn admits<F: RangeFilter>(alloc: Global, state: &State, key: &[u8], table: &Tabl
 }
 
 /// Whether it admits the keys from `lo` to `hi`.
-fn admits_range<F: RangeFilter>(alloc: Global, state: &State, lo: &[u8], hi: &[u8], table: &Table) -> Result<bool, AllocError>
+fn admits_range<F: RangeFilter>(
+    alloc: Global,
+    state: &State,
+    lo: &[u8],
+    hi: &[u8],
+    table: &Table,
+) -> Result<bool, AllocError>
     requires { is_below hi.now lo.now ≡ false }
     ensures { IfOk result (λ yes. yes ≡ model.admits_range state.now lo.now hi.now table.now) }
 {
@@ -35,7 +46,13 @@ fn admits_range<F: RangeFilter>(alloc: Global, state: &State, lo: &[u8], hi: &[u
 }
 
 /// How many keys from `lo` to `hi` it counts.
-fn tally_of<F: RangeFilter>(alloc: Global, state: &State, lo: &[u8], hi: &[u8], table: &Table) -> Result<u64, AllocError>
+fn tally_of<F: RangeFilter>(
+    alloc: Global,
+    state: &State,
+    lo: &[u8],
+    hi: &[u8],
+    table: &Table,
+) -> Result<u64, AllocError>
     requires { is_below hi.now lo.now ≡ false }
     ensures { IfOk result (λ n. n ≡ tally state.now.settings.real_bits (model.leaves_in state.now table.now) lo.now hi.now) }
 {
@@ -51,7 +68,12 @@ fn encloses(key: &[u8], table: &Table) -> bool
 }
 
 /// Whether a block of the table is read for the key.
-fn is_searched<F: RangeFilter>(alloc: Global, state: &State, key: &[u8], table: &Table) -> Result<bool, AllocError>
+fn is_searched<F: RangeFilter>(
+    alloc: Global,
+    state: &State,
+    key: &[u8],
+    table: &Table,
+) -> Result<bool, AllocError>
     ensures { IfOk result (λ yes. yes ≡ model.is_searched state.now key.now table.now) }
 {
     Ok(admits::<F>(alloc, state, key, table)? && encloses(key, table))
@@ -70,7 +92,12 @@ fn unless_found(entries: &[Entry], key: &[u8], more: u64) -> u64
 }
 
 /// The tables that are searched for the key, up to the first that has it.
-fn searched<F: RangeFilter>(alloc: Global, state: &State, key: &[u8], tables: &[Table]) -> Result<u64, AllocError>
+fn searched<F: RangeFilter>(
+    alloc: Global,
+    state: &State,
+    key: &[u8],
+    tables: &[Table],
+) -> Result<u64, AllocError>
     ensures { IfOk result (λ n. n ≡ model.searched state.now key.now tables.now) }
 {
     let Some((table, older)) = tables.split_first() else {
@@ -80,11 +107,17 @@ fn searched<F: RangeFilter>(alloc: Global, state: &State, key: &[u8], tables: &[
     if !is_searched::<F>(alloc, state, key, table)? {
         return Ok(more);
     }
-    unless_found(table.entries.as_slice(), key, more).checked_add(1).ok_or(AllocError)
+    unless_found(table.entries.as_slice(), key, more)
+        .checked_add(1)
+        .ok_or(AllocError)
 }
 
 /// The blocks that a get may read.
-pub fn get_bound<F: RangeFilter>(alloc: Global, state: &State, key: &[u8]) -> Result<u64, AllocError>
+pub fn get_bound<F: RangeFilter>(
+    alloc: Global,
+    state: &State,
+    key: &[u8],
+) -> Result<u64, AllocError>
     ensures { IfOk result (λ n. n ≡ model.get_bound state.now key.now) }
 {
     let memory = state.memory(alloc)?;
@@ -103,7 +136,12 @@ fn is_passed(answer: Option<&Pair>, key: &[u8]) -> bool
 }
 
 /// The entries that a seek with this answer steps over.
-fn stepped(lo: &[u8], hi: &[u8], answer: Option<&Pair>, entries: &[Entry]) -> Result<u64, AllocError>
+fn stepped(
+    lo: &[u8],
+    hi: &[u8],
+    answer: Option<&Pair>,
+    entries: &[Entry],
+) -> Result<u64, AllocError>
     ensures { IfOk result (λ n. n ≡ count_by (λ e. is_between lo.now (Some hi.now) e.key && model.is_passed (option_map (λ pair. pair.now) answer.entry) e.key) entries.now) }
 {
     let mut count = 0u64;
@@ -116,7 +154,13 @@ fn stepped(lo: &[u8], hi: &[u8], answer: Option<&Pair>, entries: &[Entry]) -> Re
 }
 
 /// The table's entries that a seek steps over, where this is its answer.
-fn stepped_in(state: &State, lo: &[u8], hi: &[u8], answer: Option<&Pair>, table: &Table) -> Result<u64, AllocError>
+fn stepped_in(
+    state: &State,
+    lo: &[u8],
+    hi: &[u8],
+    answer: Option<&Pair>,
+    table: &Table,
+) -> Result<u64, AllocError>
     requires { option_map (λ pair. pair.now) answer ≡ seek (map_of state.now) lo.now (Some hi.now) }
     ensures { IfOk result (λ n. n ≡ model.stepped state.now lo.now hi.now table.now) }
 {
@@ -124,7 +168,12 @@ fn stepped_in(state: &State, lo: &[u8], hi: &[u8], answer: Option<&Pair>, table:
 }
 
 /// The blocks that a closed seek may read: one of each table that admits the range, and one for each entry stepped over.
-pub fn seek_bound<F: RangeFilter>(alloc: Global, state: &State, lo: &[u8], hi: &[u8]) -> Result<u64, AllocError>
+pub fn seek_bound<F: RangeFilter>(
+    alloc: Global,
+    state: &State,
+    lo: &[u8],
+    hi: &[u8],
+) -> Result<u64, AllocError>
     ensures { IfOk result (λ n. n ≡ model.seek_bound state.now lo.now hi.now) }
 {
     if is_before(hi, lo) {
@@ -136,7 +185,14 @@ pub fn seek_bound<F: RangeFilter>(alloc: Global, state: &State, lo: &[u8], hi: &
 }
 
 /// The blocks of these tables that a seek with this answer may read.
-fn seek_blocks<F: RangeFilter>(alloc: Global, state: &State, lo: &[u8], hi: &[u8], answer: Option<&Pair>, tables: &[Table]) -> Result<u64, AllocError>
+fn seek_blocks<F: RangeFilter>(
+    alloc: Global,
+    state: &State,
+    lo: &[u8],
+    hi: &[u8],
+    answer: Option<&Pair>,
+    tables: &[Table],
+) -> Result<u64, AllocError>
     requires order { is_below hi.now lo.now ≡ false }
     requires answer { option_map (λ pair. pair.now) answer ≡ seek (map_of state.now) lo.now (Some hi.now) }
     ensures { IfOk result (λ n. n ≡ sum_by (λ t. suc (model.stepped state.now lo.now hi.now t)) (filter (model.admits_range state.now lo.now hi.now) tables.now)) }
@@ -149,7 +205,8 @@ fn seek_blocks<F: RangeFilter>(alloc: Global, state: &State, lo: &[u8], hi: &[u8
         return Ok(more);
     }
     let stepped = stepped_in(state, lo, hi, answer, table)?;
-    more.checked_add(stepped.checked_add(1).ok_or(AllocError)?).ok_or(AllocError)
+    more.checked_add(stepped.checked_add(1).ok_or(AllocError)?)
+        .ok_or(AllocError)
 }
 
 /// The entries whose keys lie from `lo` to `hi`.
@@ -166,7 +223,12 @@ fn within(lo: &[u8], hi: &[u8], entries: &[Entry]) -> Result<u64, AllocError>
 }
 
 /// About how many keys lie from `lo` to `hi`: the memory entries there, and for each table what its filter counts.
-pub fn estimate<F: RangeFilter>(alloc: Global, state: &State, lo: &[u8], hi: &[u8]) -> Result<u64, AllocError>
+pub fn estimate<F: RangeFilter>(
+    alloc: Global,
+    state: &State,
+    lo: &[u8],
+    hi: &[u8],
+) -> Result<u64, AllocError>
     ensures { IfOk result (λ n. n ≡ model.estimate state.now lo.now hi.now) }
 {
     if is_before(hi, lo) {
@@ -175,7 +237,9 @@ pub fn estimate<F: RangeFilter>(alloc: Global, state: &State, lo: &[u8], hi: &[u
     let memory = state.memory(alloc)?;
     let mut about = within(lo, hi, memory.as_slice())?;
     for table in state.tables.as_slice() {
-        about = about.checked_add(tally_of::<F>(alloc, state, lo, hi, table)?).ok_or(AllocError)?;
+        about = about
+            .checked_add(tally_of::<F>(alloc, state, lo, hi, table)?)
+            .ok_or(AllocError)?;
     }
     Ok(about)
 }
@@ -194,7 +258,11 @@ pub fn admitted<F: RangeFilter>(alloc: Global, state: &State, key: &[u8]) -> Res
 }
 
 /// The tables of which a block is read for the key.
-pub fn blocks_read<F: RangeFilter>(alloc: Global, state: &State, key: &[u8]) -> Result<u64, AllocError>
+pub fn blocks_read<F: RangeFilter>(
+    alloc: Global,
+    state: &State,
+    key: &[u8],
+) -> Result<u64, AllocError>
     ensures { IfOk result (λ n. n ≡ model.blocks_read state.now key.now) }
 {
     let mut count = 0u64;

@@ -30,7 +30,11 @@ pub enum Refusal {
 
 /// The state with one epoch more, an empty log and other tables.
 #[tactic(auto, unfolding(state_model::specs::State::last_epoch))]
-fn with_tables(alloc: Global, state: &State, tables: Vec<Table>) -> Result<Result<State, Refusal>, AllocError>
+fn with_tables(
+    alloc: Global,
+    state: &State,
+    tables: Vec<Table>,
+) -> Result<Result<State, Refusal>, AllocError>
     ensures { IfOk result (λ changed. seen changed ≡ model.with_tables state.now tables.items) }
 {
     let Some(epoch) = state.epoch.checked_add(1) else {
@@ -47,7 +51,10 @@ fn with_tables(alloc: Global, state: &State, tables: Vec<Table>) -> Result<Resul
 
 /// The memory entries become one table, the first of level 0, in the first gap that holds it, and the log is empty. Where
 /// there are none nothing changes.
-pub fn flushed<F: RangeFilter>(alloc: Global, state: &State) -> Result<Result<State, Refusal>, AllocError>
+pub fn flushed<F: RangeFilter>(
+    alloc: Global,
+    state: &State,
+) -> Result<Result<State, Refusal>, AllocError>
     ensures { IfOk result (λ changed. seen changed ≡ model.flushed (spells_of F.spelling F.built_cutoff) state.now) }
 {
     let memory = state.memory(alloc)?;
@@ -84,7 +91,11 @@ fn logged(state: State, entry: &Entry) -> Result<State, AllocError>
 }
 
 /// The entry is logged, after a flush exactly where its record does not fit the log area.
-pub fn written<F: RangeFilter>(alloc: Global, state: &State, entry: &Entry) -> Result<Result<State, Refusal>, AllocError>
+pub fn written<F: RangeFilter>(
+    alloc: Global,
+    state: &State,
+    entry: &Entry,
+) -> Result<Result<State, Refusal>, AllocError>
     ensures { IfOk result (λ changed. seen changed ≡ model.written (spells_of F.spelling F.built_cutoff) state.now entry.now) }
 {
     if record_bytes(entry)?.checked_add(1).ok_or(AllocError)? <= log_gap(state)? {
@@ -136,7 +147,10 @@ fn log_gap(state: &State) -> Result<u64, AllocError>
 
 /// The live pairs alone stand in tables of level 6, and the log is empty. An empty store stays as it is.
 #[tactic(auto, unfolding(state_model::specs::State::last_epoch))]
-pub fn compacted<F: RangeFilter>(alloc: Global, state: &State) -> Result<Result<State, Refusal>, AllocError>
+pub fn compacted<F: RangeFilter>(
+    alloc: Global,
+    state: &State,
+) -> Result<Result<State, Refusal>, AllocError>
     ensures { IfOk result (λ changed. seen changed ≡ model.compacted (spells_of F.spelling F.built_cutoff) state.now) }
 {
     let entries = state.entries(alloc)?;
@@ -161,7 +175,11 @@ fn live_outputs(alloc: Global, state: &State) -> Result<Vec<Vec<Entry>>, AllocEr
 }
 
 /// They are placed, and stand alone in the state of the next epoch.
-fn compacted_at<F: RangeFilter>(alloc: Global, state: &State, epoch: u64) -> Result<Result<State, Refusal>, AllocError>
+fn compacted_at<F: RangeFilter>(
+    alloc: Global,
+    state: &State,
+    epoch: u64,
+) -> Result<Result<State, Refusal>, AllocError>
     requires { epoch ≡ state.now.epoch + 1 }
     ensures { IfOk result (λ changed. seen changed ≡ model.compact_placed state.now
         (placed (spells_of F.spelling F.built_cutoff) state.now (taken state.now) 6 (cut state.now.tables (model.live_entries state.now)))) }

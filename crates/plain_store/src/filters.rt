@@ -22,7 +22,11 @@ fn keys_of(alloc: Global, entries: &[Entry]) -> Result<KeyList, AllocError>
 }
 
 /// The filter of the keys of some entries. It gives up where they are no keys or the settings are out of range.
-pub(crate) fn filter_of<F: RangeFilter>(alloc: Global, settings: Settings, entries: &[Entry]) -> Result<F, AllocError>
+pub(crate) fn filter_of<F: RangeFilter>(
+    alloc: Global,
+    settings: Settings,
+    entries: &[Entry],
+) -> Result<F, AllocError>
     ensures leaves { IfOk result (λ f. F.leaf_list f ≡ leaves_of settings.hash_bits settings.real_bits (keys_of entries.now)) }
     ensures hash_width { IfOk result (λ f. F.hash_bits f ≡ settings.hash_bits) }
     ensures real_width { IfOk result (λ f. F.real_bits f ≡ settings.real_bits) }
@@ -36,7 +40,11 @@ pub(crate) fn filter_of<F: RangeFilter>(alloc: Global, settings: Settings, entri
 }
 
 /// How many bytes the filter of some entries has.
-pub(crate) fn filter_length<F: RangeFilter>(alloc: Global, settings: Settings, entries: &[Entry]) -> Result<u64, AllocError>
+pub(crate) fn filter_length<F: RangeFilter>(
+    alloc: Global,
+    settings: Settings,
+    entries: &[Entry],
+) -> Result<u64, AllocError>
     ensures { IfOk result (λ n. n ≡ length (spells_of F.spelling F.built_cutoff settings (keys_of entries.now))) }
 {
     let filter: F = filter_of(alloc, settings, entries)?;

@@ -59,7 +59,12 @@ pub fn largest_gap(alloc: Global, pages: u64, extents: &[Extent]) -> Result<u64,
     ensures { IfOk result (λ gap. gap ≡ model.largest_gap pages extents.now) }
 {
     let starts = gap_starts(alloc, extents)?;
-    Ok(starts.iter().map(|start| room_at(pages, extents, *start)).fold(0, |largest, room| largest.max(room)))
+    Ok(
+        starts
+            .iter()
+            .map(|start| room_at(pages, extents, *start))
+            .fold(0, |largest, room| largest.max(room)),
+    )
 }
 
 fn least(numbers: &[u64]) -> Option<u64>
@@ -70,7 +75,12 @@ fn least(numbers: &[u64]) -> Option<u64>
 }
 
 /// The first page of the first gap that holds so many pages.
-pub fn first_gap(alloc: Global, pages: u64, extents: &[Extent], need: u64) -> Result<Option<u64>, AllocError>
+pub fn first_gap(
+    alloc: Global,
+    pages: u64,
+    extents: &[Extent],
+    need: u64,
+) -> Result<Option<u64>, AllocError>
     ensures { IfOk result (λ gap. gap ≡ model.first_gap pages extents.now need) }
 {
     let starts = gap_starts(alloc, extents)?;

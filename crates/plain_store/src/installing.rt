@@ -20,7 +20,8 @@ use std::alloc::{AllocError, Global};
 fn goes_before(table: &Table, other: &Table) -> bool
     ensures { result ≡ goes_before table.now other.now }
 {
-    table.level < other.level || (table.level == other.level && is_before(table.least_key(), other.least_key()))
+    table.level < other.level
+        || (table.level == other.level && is_before(table.least_key(), other.least_key()))
 }
 
 /// The tables with one more, before the first that it goes before.
@@ -119,7 +120,13 @@ pub fn merged<F: RangeFilter>(alloc: Global, state: &State) -> Result<State, All
     };
     let outputs = planned(alloc, state, &plan)?;
     let taken = taken(alloc, state)?;
-    match placed::<F>(alloc, state, taken.as_slice(), plan.output, outputs.as_slice())? {
+    match placed::<F>(
+        alloc,
+        state,
+        taken.as_slice(),
+        plan.output,
+        outputs.as_slice(),
+    )? {
         Ok(made) => {
             let state = installed(alloc, state, &plan, made.as_slice())?;
             Ok(state)

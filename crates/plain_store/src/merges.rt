@@ -92,7 +92,12 @@ fn plan_of(alloc: Global, state: &State, tables: &[Table], output: u8) -> Result
     let below = on_level(alloc, output, state.tables.as_slice())?;
     let mut inputs = Vec::new(alloc);
     push_tables(tables, &mut inputs)?;
-    push_met(least_of(tables), greatest_of(tables), below.as_slice(), &mut inputs)?;
+    push_met(
+        least_of(tables),
+        greatest_of(tables),
+        below.as_slice(),
+        &mut inputs,
+    )?;
     Ok(Plan { inputs, output })
 }
 
@@ -100,7 +105,9 @@ fn plan_of(alloc: Global, state: &State, tables: &[Table], output: u8) -> Result
 fn level_limit(level: u8) -> Result<u64, AllocError>
     ensures { IfOk result (λ pages. pages ≡ model.level_limit level) }
 {
-    let times = 8u64.checked_pow(u32::from(level.saturating_sub(1))).ok_or(AllocError)?;
+    let times = 8u64
+        .checked_pow(u32::from(level.saturating_sub(1)))
+        .ok_or(AllocError)?;
     times.checked_mul(256).ok_or(AllocError)
 }
 

@@ -53,7 +53,11 @@ pub(crate) fn live_entries(alloc: Global, entries: &[Entry]) -> Result<Vec<Entry
 fn lasting(alloc: Global, is_last: bool, entries: Vec<Entry>) -> Result<Vec<Entry>, AllocError>
     ensures { IfOk result (λ list. list.items ≡ model.lasting is_last entries.items) }
 {
-    if is_last { live_entries(alloc, entries.as_slice()) } else { Ok(entries) }
+    if is_last {
+        live_entries(alloc, entries.as_slice())
+    } else {
+        Ok(entries)
+    }
 }
 
 /// The newest entry of each key of some tables, the newest table first.
@@ -79,7 +83,11 @@ fn first_output(alloc: Global, entries: &[Entry]) -> Result<usize, AllocError>
 }
 
 /// The outputs: each but the last is closed as soon as it is full, and at most so many come beside one. None is empty.
-pub(crate) fn outputs_of(alloc: Global, beside: usize, entries: &[Entry]) -> Result<Vec<Vec<Entry>>, AllocError>
+pub(crate) fn outputs_of(
+    alloc: Global,
+    beside: usize,
+    entries: &[Entry],
+) -> Result<Vec<Vec<Entry>>, AllocError>
     ensures { IfOk result (λ outputs. map vec_items outputs.items ≡ model.outputs_of beside entries.now) }
 {
     let mut outputs = Vec::new(alloc);
@@ -87,7 +95,11 @@ pub(crate) fn outputs_of(alloc: Global, beside: usize, entries: &[Entry]) -> Res
     Ok(outputs)
 }
 
-fn push_outputs(beside: usize, entries: &[Entry], outputs: &mut Vec<Vec<Entry>>) -> Result<(), AllocError>
+fn push_outputs(
+    beside: usize,
+    entries: &[Entry],
+    outputs: &mut Vec<Vec<Entry>>,
+) -> Result<(), AllocError>
     ensures { OnOk result (map vec_items outputs.new.items ≡ map vec_items outputs.old.items ++ model.outputs_of beside entries.now) }
 {
     if entries.is_empty() {
@@ -116,5 +128,9 @@ pub fn planned(alloc: Global, state: &State, plan: &Plan) -> Result<Vec<Vec<Entr
 {
     let newest = newest_of(alloc, plan.inputs.as_slice())?;
     let entries = lasting(alloc, is_deepest(state, plan.output), newest)?;
-    outputs_of(alloc, plan.inputs.len().saturating_sub(1), entries.as_slice())
+    outputs_of(
+        alloc,
+        plan.inputs.len().saturating_sub(1),
+        entries.as_slice(),
+    )
 }

@@ -65,13 +65,20 @@ fn index_pages(alloc: Global, entries: &[Entry]) -> Result<u64, AllocError>
 }
 
 /// The pages of a table of some entries: its blocks, its index and its filter.
-pub(crate) fn table_pages<F: RangeFilter>(alloc: Global, settings: Settings, entries: &[Entry]) -> Result<u64, AllocError>
+pub(crate) fn table_pages<F: RangeFilter>(
+    alloc: Global,
+    settings: Settings,
+    entries: &[Entry],
+) -> Result<u64, AllocError>
     ensures { IfOk result (λ pages. pages ≡ table_pages (spells_of F.spelling F.built_cutoff) settings entries.now) }
 {
     let data = data_pages(alloc, entries)?;
     let index = index_pages(alloc, entries)?;
     let filter = pages_for(filter_length::<F>(alloc, settings, entries)?);
-    data.checked_add(index).ok_or(AllocError)?.checked_add(filter).ok_or(AllocError)
+    data.checked_add(index)
+        .ok_or(AllocError)?
+        .checked_add(filter)
+        .ok_or(AllocError)
 }
 
 /// Of how many blocks a table of some entries is made.
@@ -86,7 +93,13 @@ fn block_count(alloc: Global, entries: &[Entry]) -> Result<u64, AllocError>
 }
 
 /// The table of some entries, where it is placed.
-pub(crate) fn table_of<F: RangeFilter>(alloc: Global, settings: Settings, level: u8, first_page: u64, entries: &[Entry]) -> Result<Table, AllocError>
+pub(crate) fn table_of<F: RangeFilter>(
+    alloc: Global,
+    settings: Settings,
+    level: u8,
+    first_page: u64,
+    entries: &[Entry],
+) -> Result<Table, AllocError>
     ensures { IfOk result (λ t. t ≡ table_of (spells_of F.spelling F.built_cutoff) settings level first_page entries.now) }
 {
     let pages = table_pages::<F>(alloc, settings, entries)?;

@@ -56,7 +56,13 @@ fn with_table(table: Table, tables: Vec<Table>) -> Result<Vec<Table>, AllocError
 }
 
 /// Some outputs become tables of a level, each in the first gap that holds it beside what is taken and those before it.
-pub(crate) fn placed<F: RangeFilter>(alloc: Global, state: &State, taken: &[Extent], level: u8, outputs: &[Vec<Entry>]) -> Result<Result<Vec<Table>, NoRoom>, AllocError>
+pub(crate) fn placed<F: RangeFilter>(
+    alloc: Global,
+    state: &State,
+    taken: &[Extent],
+    level: u8,
+    outputs: &[Vec<Entry>],
+) -> Result<Result<Vec<Table>, NoRoom>, AllocError>
     ensures { IfOk result (λ made. result_map_both vec_items (λ r. r) made
         ≡ model.placed (spells_of F.spelling F.built_cutoff) state.now taken.now level (map vec_items outputs.now)) }
 {

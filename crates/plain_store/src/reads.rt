@@ -33,7 +33,12 @@ pub(crate) fn reply_to_get(alloc: Global, state: &State, key: &[u8]) -> Result<R
 }
 
 /// The first pair from `lo` on.
-pub(crate) fn reply_to_seek(alloc: Global, state: &State, lo: &[u8], hi: Option<&[u8]>) -> Result<Reply, AllocError>
+pub(crate) fn reply_to_seek(
+    alloc: Global,
+    state: &State,
+    lo: &[u8],
+    hi: Option<&[u8]>,
+) -> Result<Reply, AllocError>
     ensures { IfOk result (λ r. says r ≡ reply.found (seek (map_of state.now) lo.now (option_map (λ h. h.now) hi.entry))) }
 {
     let map = state.map(alloc)?;
@@ -48,7 +53,13 @@ pub(crate) fn reply_to_seek(alloc: Global, state: &State, lo: &[u8], hi: Option<
 }
 
 /// The first `n` pairs from `lo` to `hi`.
-pub(crate) fn reply_to_range(alloc: Global, state: &State, lo: &[u8], hi: &[u8], n: u32) -> Result<Reply, AllocError>
+pub(crate) fn reply_to_range(
+    alloc: Global,
+    state: &State,
+    lo: &[u8],
+    hi: &[u8],
+    n: u32,
+) -> Result<Reply, AllocError>
     ensures { IfOk result (λ r. says r ≡ pairs (slice (map_of state.now) lo.now (Some hi.now) n)) }
 {
     let map = state.map(alloc)?;
@@ -57,7 +68,12 @@ pub(crate) fn reply_to_range(alloc: Global, state: &State, lo: &[u8], hi: &[u8],
 }
 
 /// How many pairs lie from `lo` to `hi`.
-pub(crate) fn reply_to_count(alloc: Global, state: &State, lo: &[u8], hi: &[u8]) -> Result<Reply, AllocError>
+pub(crate) fn reply_to_count(
+    alloc: Global,
+    state: &State,
+    lo: &[u8],
+    hi: &[u8],
+) -> Result<Reply, AllocError>
     ensures { IfOk result (λ r. says r ≡ reply.Counted (count (map_of state.now) lo.now (Some hi.now))) }
 {
     let map = state.map(alloc)?;
@@ -65,7 +81,11 @@ pub(crate) fn reply_to_count(alloc: Global, state: &State, lo: &[u8], hi: &[u8])
 }
 
 /// The tables, those that admit the key, and those of which a block is read for it.
-pub(crate) fn reply_to_explain<F: RangeFilter>(alloc: Global, state: &State, key: &[u8]) -> Result<Reply, AllocError>
+pub(crate) fn reply_to_explain<F: RangeFilter>(
+    alloc: Global,
+    state: &State,
+    key: &[u8],
+) -> Result<Reply, AllocError>
     ensures { IfOk result (λ r. says r ≡ reply.Explained (length state.now.tables) (bounds.admitted state.now key.now) (bounds.blocks_read state.now key.now)) }
 {
     let tables = state.tables.len() as u64;
@@ -79,7 +99,12 @@ pub(crate) fn reply_to_explain<F: RangeFilter>(alloc: Global, state: &State, key
 }
 
 /// About how many keys lie from `lo` to `hi`.
-pub(crate) fn reply_to_estimate<F: RangeFilter>(alloc: Global, state: &State, lo: &[u8], hi: &[u8]) -> Result<Reply, AllocError>
+pub(crate) fn reply_to_estimate<F: RangeFilter>(
+    alloc: Global,
+    state: &State,
+    lo: &[u8],
+    hi: &[u8],
+) -> Result<Reply, AllocError>
     ensures { IfOk result (λ r. says r ≡ reply.About (bounds.estimate state.now lo.now hi.now)) }
 {
     let about = estimate::<F>(alloc, state, lo, hi)?;

@@ -2,8 +2,8 @@
 ghost use Rattle.std.specs.Prelude.{◌≡◌, ◌≤◌, IfOk};
 ghost use Rattle.state_model.specs.State.{new_state};
 
-use crate::table::Table;
 use crate::lists::push_tables;
+use crate::table::Table;
 use entry_list::{Entry, copied};
 use filter_api::Settings;
 use std::alloc::{AllocError, Global};

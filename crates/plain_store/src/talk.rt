@@ -26,17 +26,27 @@ pub enum Reply {
     Value(Vec<u8>),
     Missing,
     /// The pair of a seek.
-    At { key: Vec<u8>, value: Vec<u8> },
+    At {
+        key: Vec<u8>,
+        value: Vec<u8>,
+    },
     /// The pairs of a range, with their number behind them.
     Pairs(PlainMap),
     Counted(u64),
     About(u64),
-    Explained { tables: u64, admitted: u64, blocks: u64 },
+    Explained {
+        tables: u64,
+        admitted: u64,
+        blocks: u64,
+    },
     Bye,
     BadLine(u8),
     LongKey(u64),
     LongValue(u64),
     ManyTables,
     LastEpoch,
-    Full { need: u64, gap: u64 },
+    Full {
+        need: u64,
+        gap: u64,
+    },
 }

@@ -1,4 +1,4 @@
-use Rattle.std.proofs.Common.{◌≡◌, ◌++◌, ◌+◌, ◌&&◌, suc, fold, filter, drop, length, count_by, sum_by, Some}
+use Rattle.std.proofs.Common.{◌≡◌, ◌+◌, drop, count_by}
 use Rattle.state_model.specs.Bounds as model
 use Rattle.plain_store.proofs.bounds.blocks_read.Given as goal
 

@@ -1,4 +1,4 @@
-use Rattle.std.proofs.Common.{◌≡◌, ◌++◌, ◌+◌, ◌&&◌, suc, fold, filter, drop, length, count_by, sum_by, Some}
+use Rattle.std.proofs.Common.{◌≡◌, drop}
 use Rattle.mem_table.specs.Table.{lookup}
 use Rattle.state_model.specs.Bounds.{unless_found}
 use Rattle.plain_store.proofs.bounds.unless_found.Given as goal

@@ -1,4 +1,4 @@
-use Rattle.std.proofs.Common.{◌≡◌, ◌++◌, ◌+◌, ◌&&◌, suc, fold, filter, drop, length, count_by, sum_by, Some}
+use Rattle.std.proofs.Common.{◌≡◌, ◌+◌, drop, count_by, Some}
 use Rattle.map_model.specs.Slices.{is_between}
 use Rattle.plain_store.proofs.bounds.within.Given as goal
 

@@ -1,4 +1,4 @@
-use Rattle.std.proofs.Common.{◌≡◌, ◌++◌, map, filter, drop, flat_map, reverse, take, length, ◌-◌}
+use Rattle.std.proofs.Common.{◌≡◌, ◌++◌, drop}
 use Rattle.state_model.specs.Pages.{keys_of}
 use Rattle.plain_store.proofs.filters.keys_of.Given as goal
 

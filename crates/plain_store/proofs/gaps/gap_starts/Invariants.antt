@@ -1,4 +1,4 @@
-use Rattle.std.proofs.Common.{◌≡◌, ◌++◌, ◌∷◌, map, drop}
+use Rattle.std.proofs.Common.{◌≡◌, ◌++◌, map, drop}
 use Rattle.state_model.specs.Gaps.{end_of, gap_starts}
 use Rattle.plain_store.proofs.gaps.gap_starts.Given as goal
 

@@ -1,4 +1,4 @@
-use Rattle.std.proofs.Common.{◌≡◌, ◌++◌, ◌==◌, fold, drop}
+use Rattle.std.proofs.Common.{◌≡◌, ◌==◌, drop}
 use Rattle.std.specs.List.{list_any}
 use Rattle.plain_store.proofs.installing.begins_there.Given as goal
 

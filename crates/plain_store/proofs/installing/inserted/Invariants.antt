@@ -1,4 +1,4 @@
-use Rattle.std.proofs.Common.{◌≡◌, ◌++◌, ◌==◌, fold, drop}
+use Rattle.std.proofs.Common.{◌≡◌, ◌++◌, drop}
 use Rattle.state_model.specs.Tends as model
 use Rattle.plain_store.proofs.installing.inserted.Given as goal
 

@@ -1,4 +1,4 @@
-use Rattle.std.proofs.Common.{◌≡◌, ◌++◌, ◌==◌, fold, drop}
+use Rattle.std.proofs.Common.{◌≡◌, fold, drop}
 use Rattle.state_model.specs.Tends as model
 use Rattle.plain_store.proofs.installing.with_all.Given as goal
 

@@ -1,4 +1,4 @@
-use Rattle.std.proofs.Common.{◌≡◌, ◌++◌, map, filter, drop, flat_map, reverse, take, length, ◌-◌}
+use Rattle.std.proofs.Common.{◌≡◌, ◌++◌, map, drop}
 use Rattle.state_model.specs.Gaps.{extent_of}
 use Rattle.plain_store.proofs.lists.extents.Given as goal
 

@@ -1,4 +1,4 @@
-use Rattle.std.proofs.Common.{◌≡◌, ◌++◌, map, filter, drop, flat_map, reverse, take, length, ◌-◌}
+use Rattle.std.proofs.Common.{◌≡◌, drop, length, ◌-◌}
 use Rattle.state_model.specs.View.{oldest_first}
 use Rattle.plain_store.proofs.lists.oldest_first.Given as goal
 

@@ -1,4 +1,4 @@
-use Rattle.std.proofs.Common.{◌≡◌, ◌++◌, map, filter, drop, flat_map, reverse, take, length, ◌-◌}
+use Rattle.std.proofs.Common.{◌≡◌, ◌++◌, drop}
 use Rattle.state_model.specs.Merges.{on_level}
 use Rattle.plain_store.proofs.lists.on_level.Given as goal
 

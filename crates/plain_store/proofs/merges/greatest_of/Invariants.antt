@@ -1,5 +1,5 @@
-use Rattle.std.proofs.Common.{◌≡◌, ◌++◌, fold, filter, drop, ◌+◌, [], ◌∷◌}
-use Rattle.state_model.specs.Merges.{greater, greatest_key, greatest_of}
+use Rattle.std.proofs.Common.{◌≡◌, fold, drop}
+use Rattle.state_model.specs.Merges.{greater, greatest_key}
 use Rattle.plain_store.proofs.merges.greatest_of.Given as goal
 
 -- what is left goes on from the greatest so far

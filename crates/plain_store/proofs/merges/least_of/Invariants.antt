@@ -1,5 +1,5 @@
-use Rattle.std.proofs.Common.{◌≡◌, ◌++◌, fold, filter, drop, ◌+◌, [], ◌∷◌}
-use Rattle.state_model.specs.Merges.{lesser, least_key, least_of}
+use Rattle.std.proofs.Common.{◌≡◌, fold, drop}
+use Rattle.state_model.specs.Merges.{lesser, least_key}
 use Rattle.plain_store.proofs.merges.least_of.Given as goal
 
 -- what is left goes on from the least so far

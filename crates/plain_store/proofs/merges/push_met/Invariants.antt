@@ -1,4 +1,4 @@
-use Rattle.std.proofs.Common.{◌≡◌, ◌++◌, fold, filter, drop, ◌+◌, [], ◌∷◌}
+use Rattle.std.proofs.Common.{◌≡◌, ◌++◌, filter, drop}
 use Rattle.state_model.specs.Merges.{meets}
 use Rattle.plain_store.proofs.merges.push_met.Given as goal
 

@@ -1,4 +1,4 @@
-use Rattle.std.proofs.Common.{◌≡◌, ◌++◌, fold, filter, drop, take, map, ◌+◌, ◌-◌, ◌≤◌, [], ◌∷◌, length, vec_items, nat_lt}
+use Rattle.std.proofs.Common.{◌≡◌, drop, take, []}
 use Rattle.state_model.specs.Merges.{split_output}
 use Rattle.plain_store.proofs.outputs.first_output.Given as goal
 

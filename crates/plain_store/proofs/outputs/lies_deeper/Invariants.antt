@@ -1,4 +1,4 @@
-use Rattle.std.proofs.Common.{◌≡◌, ◌++◌, fold, filter, drop, take, map, ◌+◌, ◌-◌, ◌≤◌, [], ◌∷◌, length, vec_items, nat_lt}
+use Rattle.std.proofs.Common.{◌≡◌, drop, nat_lt}
 use Rattle.std.specs.List.{list_any}
 use Rattle.plain_store.proofs.outputs.lies_deeper.Given as goal
 

@@ -1,4 +1,4 @@
-use Rattle.std.proofs.Common.{◌≡◌, ◌++◌, fold, filter, drop, take, map, ◌+◌, ◌-◌, ◌≤◌, [], ◌∷◌, length, vec_items, nat_lt}
+use Rattle.std.proofs.Common.{◌≡◌, ◌++◌, filter, drop}
 use Rattle.state_model.specs.Merges.{has_value}
 use Rattle.plain_store.proofs.outputs.live_entries.Given as goal
 

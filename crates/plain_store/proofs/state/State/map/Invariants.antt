@@ -1,4 +1,4 @@
-use Rattle.std.proofs.Common.{◌≡◌, ◌++◌, ◌+◌, ◌&&◌, suc, fold, filter, drop, length, count_by, sum_by, Some}
+use Rattle.std.proofs.Common.{◌≡◌, fold, drop}
 use Rattle.store_model.specs.Entries.{changed, map_of}
 use Rattle.plain_store.proofs.state.State.map.Given as goal
 
