@@ -3,4 +3,4 @@
 
 mod rows;
 
-pub use rows::{lines_and_words, merges_and_flushes, reads_between_keys};
+pub use rows::{levels_and_gaps, limits, lines_and_words, merges_and_flushes, reads_between_keys};
