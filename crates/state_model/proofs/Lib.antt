@@ -1,0 +1,5 @@
+pub mod SameMaps
+pub mod Sayings
+pub mod Views
+pub mod Outputs
+pub mod Kept

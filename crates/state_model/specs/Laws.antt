@@ -1,0 +1,21 @@
+-- Laws of the state: which map it is, and what each change leaves of it.
+use Rattle.std.specs.Prelude.{◌≡◌, Ok, List}
+use Rattle.store_model.specs.SortedMap.{Bytes, Map, get, put, del, Rises}
+use Rattle.store_model.specs.Entries.{Entry, live, changed}
+use Rattle.state_model.specs.State.{State}
+use Rattle.state_model.specs.View.{view, map_of}
+use Rattle.state_model.specs.Pages.{Spells}
+use Rattle.state_model.specs.Changes.{flushed, written, compacted}
+use Rattle.state_model.specs.Sound.{IsSound}
+
+-- the map of a sound state has at each key what its view of the key says, and its keys rise
+pub record ViewLaws : Type 0 where
+  pub says : (spells : Spells) (s : State) (key : Bytes) → IsSound spells s → get (map_of s) key ≡ live (view s key)
+  pub rises : (s : State) → Rises (map_of s)
+
+-- A flush and a compaction that are done keep the map. An entry that is written, with a flush before it or without, makes
+-- its change of the map and no other.
+pub record ChangeLaws : Type 0 where
+  pub flush : (spells : Spells) (s t : State) → flushed spells s ≡ Ok t → map_of t ≡ map_of s
+  pub write : (spells : Spells) (s t : State) (entry : Entry) → written spells s entry ≡ Ok t → map_of t ≡ changed (map_of s) entry
+  pub compaction : (spells : Spells) (s t : State) → compacted spells s ≡ Ok t → map_of t ≡ map_of s

@@ -1,0 +1,12 @@
+// The laws of the definitions; the functions do nothing.
+ghost use Rattle.state_model.specs.Laws.{ViewLaws, ChangeLaws};
+
+/// Law: the map of a sound state has at each key what its view says: the memory first, then the tables in their order.
+pub fn view_laws()
+    ensures { ViewLaws }
+{}
+
+/// Law: a flush and a compaction keep the map, and a written entry makes its change of it.
+pub fn change_laws()
+    ensures { ChangeLaws }
+{}
