@@ -3,3 +3,4 @@ pub mod Sayings
 pub mod Views
 pub mod Outputs
 pub mod Kept
+pub mod Lines
