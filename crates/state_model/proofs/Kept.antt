@@ -1,6 +1,6 @@
 -- What a flush, an entry that is written and a compaction make of the map.
-use Rattle.std.proofs.Common.{◌≡◌, ℕ, List, [], ◌∷◌, ◌++◌, refl, sym, ap, ◌∙◌, subst, Bool, true, false, cond, map}
-use Rattle.std.specs.Prelude.{Option, Some, None, Result, Ok, Err, nat_le, length, fold, filter, ◌==◌, ◌+◌, ◌-◌}
+use Rattle.std.proofs.Common.{◌≡◌, List, [], ◌∷◌, ◌++◌, refl, sym, ap, ◌∙◌, subst, true, false, cond, map}
+use Rattle.std.specs.Prelude.{Option, Result, Ok, Err, nat_le, length, ◌==◌, ◌+◌, ◌-◌}
 use Rattle.std.proofs.lemmas.List.{append_assoc, append-nil, map-append}
 use Rattle.std.proofs.lemmas.List.Sums.{fold-append}
 use Rattle.store_model.specs.SortedMap.{Bytes, Map}
@@ -13,11 +13,11 @@ use Rattle.state_model.specs.Pages.{Spells}
 use Rattle.state_model.specs.Gaps.{taken}
 use Rattle.state_model.specs.Merges.{NoRoom, placed, cut, has_value}
 use Rattle.state_model.specs.Changes.{most_tables, with_tables, flush_placed, flushed_with, flushed, logged, logged_then, written, compact_placed, live_entries, compacted_with, compacted}
-use Rattle.state_model.specs.Replies.{Reply, ManyTables, LastEpoch, Full}
+use Rattle.state_model.specs.Replies.{Reply, ManyTables, LastEpoch}
 use Rattle.state_model.specs.Laws.{is_done}
 use Rattle.state_model.proofs.SameMaps.{same_map}
 use Rattle.state_model.proofs.Sayings.{newest-append, newest_again, newest_entries_rise, newest_backwards, oldest_first-backwards, backwards, lists_of, rises_filter, live_without_tombstones}
-use Rattle.state_model.proofs.Outputs.{joined, outputs_joined, parts_rise, lookup_joined, placed_lists}
+use Rattle.state_model.proofs.Outputs.{outputs_joined, parts_rise, lookup_joined, placed_lists}
 
 -- a change that is done has this; one that is refused is not answered as done
 abbrev pub IfDone : (State → Type 0) → Result State Reply → Type 0

@@ -1,5 +1,5 @@
 -- Outputs are their entries cut in order, and become tables of just these entries.
-use Rattle.std.proofs.Common.{◌≡◌, ℕ, zero, suc, List, [], ◌∷◌, ◌++◌, refl, sym, ap, ◌∙◌, subst, Bool, true, false, cond, map}
+use Rattle.std.proofs.Common.{◌≡◌, ℕ, zero, suc, List, [], ◌∷◌, ◌++◌, refl, sym, ap, ◌∙◌, subst, true, false, cond}
 use Rattle.std.specs.Prelude.{Option, Some, None, Result, Ok, Err, nat_le}
 use Rattle.std.proofs.lemmas.List.{append_assoc, append-nil}
 use Rattle.store_model.specs.SortedMap.{Bytes}

@@ -2,7 +2,7 @@
 use Rattle.std.proofs.Common.{◌≡◌, List, [], ◌∷◌, ◌++◌, refl, sym, ap, ◌∙◌, subst, Bool, true, false, cond, map}
 use Rattle.std.specs.Prelude.{Option, Some, None, bytes_eq, flat_map, reverse, filter}
 use Rattle.std.specs.List.{AllByRecursion}
-use Rattle.std.proofs.lemmas.List.{append_assoc, append-nil, reverse-append}
+use Rattle.std.proofs.lemmas.List.{append-nil, reverse-append}
 use Rattle.std.proofs.lemmas.Grind.{flat_map-append}
 use Rattle.std.proofs.lemmas.Slice.Eq.{bytes_eq-Decides}
 use Rattle.std.proofs.lemmas.Bool.{false≢true}
@@ -14,7 +14,7 @@ use Rattle.store_model.specs.Entries.{Entry, newest, or_else, live}
 use Rattle.mem_table.specs.Table.{IsAbove, KeysRise, newest_entries, lookup}
 use Rattle.mem_table.proofs.Newest.{none_above, above_lower, rises_after, lookup_newest}
 use Rattle.block_model.specs.Order.{Follow, is_above}
-use Rattle.block_model.specs.Block.{keys_of, IsTable}
+use Rattle.block_model.specs.Block.{keys_of}
 use Rattle.state_model.specs.State.{Table}
 use Rattle.state_model.specs.View.{first_found, oldest_first}
 use Rattle.state_model.specs.Merges.{has_value}

@@ -1,5 +1,5 @@
 -- The map of a state is its view.
-use Rattle.std.proofs.Common.{◌≡◌, List, [], ◌∷◌, ◌++◌, refl, sym, ap, ◌∙◌}
+use Rattle.std.proofs.Common.{◌≡◌, List, [], ◌∷◌, sym, ap, ◌∙◌}
 use Rattle.std.specs.Prelude.{Option}
 use Rattle.std.specs.List.{AllByRecursion}
 use Rattle.store_model.specs.SortedMap.{Bytes, get}
@@ -12,7 +12,7 @@ use Rattle.state_model.specs.State.{State, Table}
 use Rattle.state_model.specs.View.{view, first_found, oldest_first, entries_of, map_of}
 use Rattle.state_model.specs.Pages.{Spells}
 use Rattle.state_model.specs.Sound.{IsSound, IsSoundTable}
-use Rattle.state_model.proofs.Sayings.{newest-append, newest_backwards, oldest_first-backwards, lists_of, backwards, AllRise, rises_follow}
+use Rattle.state_model.proofs.Sayings.{newest-append, newest_backwards, oldest_first-backwards, lists_of, AllRise, rises_follow}
 
 pub tables_rise : (tables : List Table) → AllByRecursion IsSoundTable tables → AllRise (lists_of tables)
 tables_rise [] sound = tt

@@ -6,7 +6,8 @@ pub fn view_laws()
     ensures { ViewLaws }
 {}
 
-/// Law: a flush and a compaction keep the map, and a written entry makes its change of it.
+/// Law: a flush and a compaction keep the map, a written entry makes its change of it, and no line that is not answered
+/// as done changes it.
 pub fn change_laws()
     ensures { ChangeLaws }
 {}
