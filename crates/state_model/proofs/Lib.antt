@@ -4,3 +4,4 @@ pub mod Views
 pub mod Outputs
 pub mod Kept
 pub mod Lines
+pub mod Merged

@@ -19,11 +19,11 @@ use Rattle.state_model.specs.State.{Table}
 use Rattle.state_model.specs.View.{first_found, oldest_first}
 use Rattle.state_model.specs.Merges.{has_value}
 
-or_none : (found : Option (Option Bytes)) → or_else found None ≡ found
+pub or_none : (found : Option (Option Bytes)) → or_else found None ≡ found
 or_none None = refl
 or_none (Some value) = refl
 
-or_assoc : (a b c : Option (Option Bytes)) → or_else (or_else a b) c ≡ or_else a (or_else b c)
+pub or_assoc : (a b c : Option (Option Bytes)) → or_else (or_else a b) c ≡ or_else a (or_else b c)
 or_assoc None b c = refl
 or_assoc (Some value) b c = refl
 

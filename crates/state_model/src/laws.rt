@@ -1,5 +1,5 @@
 // The laws of the definitions; the functions do nothing.
-ghost use Rattle.state_model.specs.Laws.{ViewLaws, ChangeLaws};
+ghost use Rattle.state_model.specs.Laws.{ViewLaws, ChangeLaws, MergeLaws};
 
 /// Law: the map of a sound state has at each key what its view says: the memory first, then the tables in their order.
 pub fn view_laws()
@@ -10,4 +10,10 @@ pub fn view_laws()
 /// as done changes it.
 pub fn change_laws()
     ensures { ChangeLaws }
+{}
+
+/// Law: what a merge writes says what its inputs say, tombstones apart where no table lies deeper; it is cut in order,
+/// into no more outputs than inputs, none of them empty.
+pub fn merge_laws()
+    ensures { MergeLaws }
 {}
