@@ -13,3 +13,4 @@ pub mod Steps
 pub mod Script
 pub mod Play
 pub mod Rows
+pub mod Laws

@@ -1,10 +1,12 @@
 -- States and requests by which the definitions are tried.
-use Rattle.std.specs.Prelude.{ℕ, List, [], ◌∷◌, length, codes}
+use Rattle.std.specs.Prelude.{ℕ, List, [], ◌∷◌, length, map, Option, Some, None, codes}
 use Rattle.filter_api.specs.declared.settings.Settings.{Settings}
 use Rattle.store_model.specs.SortedMap.{Bytes}
+use Rattle.store_model.specs.Entries.{del_entry}
 use Rattle.state_model.specs.State.{State, Table, new_state}
+use Rattle.state_model.specs.Merges.{Plan}
 use Rattle.state_model.specs.Pages.{Spells}
-use Rattle.state_model.specs.Requests.{Request, Put, Del, Flush}
+use Rattle.state_model.specs.Requests.{Request, Put, Del, Flush, Compact}
 
 -- no suffix bits, and the ratio of a store that names none
 abbrev pub base : Settings
@@ -39,6 +41,34 @@ three_tables =
 -- aa1 and ab1 in one table
 abbrev pub aa1_and_ab1 : List Request
 aa1_and_ab1 = Put (codes "aa1") (1 ∷ []) ∷ Put (codes "ab1") (2 ∷ []) ∷ Flush ∷ []
+
+-- a value in level 6, then four tables in level 0, the oldest of them with the key's tombstone alone
+abbrev pub tombstone_over_a_value : List Request
+tombstone_over_a_value =
+    put_one 0x61 ∷ Compact ∷ Del (key 0x61) ∷ Flush ∷ put_one 0x62 ∷ Flush ∷ put_one 0x63 ∷ Flush ∷ put_one 0x64 ∷ Flush ∷ []
+
+-- two tables, each with another value of one key
+abbrev pub two_values : List Request
+two_values = Put (key 0x61) (1 ∷ []) ∷ Flush ∷ Put (key 0x61) (2 ∷ []) ∷ Flush ∷ []
+
+-- a table of one key and no value in so many pages
+abbrev pub table_at : ℕ → ℕ → ℕ → Bytes → Table
+table_at level first_page pages key = record {
+  level = level;
+  first_page = first_page;
+  pages = pages;
+  blocks = 1;
+  entries = del_entry key ∷ [];
+}
+
+-- a store of 4,096 pages with some tables
+abbrev pub store_with : List Table → State
+store_with tables = record (new_state base 4096) { tables = tables }
+
+-- what a plan merges, and into what: the output level, then the first pages of the inputs
+abbrev pub pages_of_plan : Option Plan → List ℕ
+pages_of_plan None = []
+pages_of_plan (Some plan) = plan.output ∷ map (λ (t : Table). t.first_page) plan.inputs
 
 -- where a table stands: level, first page, pages, data blocks, entries
 abbrev pub place_of : Table → List ℕ

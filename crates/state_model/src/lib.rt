@@ -1,6 +1,18 @@
 //! The store's meaning: its state, what each line makes of it, and what it may read.
+//!
+//! A state is the log's entries, the tables in their levels, and the merge that runs; the map that it is follows
+//! (`View`). `Changes`, `Merges` and `Tends` say what a flush, a merge and a compaction make of it, `Steps` and `Script`
+//! what lines are answered, `Bounds` how many blocks a read may cost. The functions here do nothing: they carry the
+//! laws of these definitions, and rows by which they are tried. A row computes, so it costs as much as its lists are
+//! long. Which state a device holds is said by `image_model`; a store that runs is not here.
+//!
+//! ```text
+//! played spells (new_state settings 512) (Put key value ∷ Flush ∷ Get key ∷ [])   -- the replies, and the state behind them
+//! ```
 #![tactic(auto)]
 
+mod laws;
 mod rows;
 
-pub use rows::{lines_and_words, merges_and_flushes, reads_between_keys};
+pub use laws::{change_laws, merge_laws, view_laws};
+pub use rows::{levels_and_gaps, limits, lines_and_words, merges_and_flushes, reads_between_keys};

@@ -1,0 +1,80 @@
+-- What a merge writes, against what its inputs say.
+use Rattle.std.proofs.Common.{◌≡◌, ℕ, zero, suc, ◌≤◌, List, [], ◌∷◌, ◌++◌, length, refl, ap, ◌∙◌, Bool, true, false, cond, arith}
+use Rattle.std.specs.Prelude.{nat_le, flat_map, ◌-◌, ◌+◌}
+use Rattle.std.specs.List.{AllByRecursion}
+use Rattle.std.proofs.lemmas.List.{length-append}
+use Rattle.std.proofs.lemmas.List.Concat.{flat_map-cons}
+use Rattle.store_model.specs.SortedMap.{Bytes}
+use Rattle.store_model.specs.Entries.{Entry, live}
+use Rattle.mem_table.specs.Table.{KeysRise, lookup}
+use Rattle.mem_table.proofs.Newest.{lookup_newest}
+use Rattle.block_model.specs.Pages.{data_pages}
+use Rattle.state_model.specs.State.{State, Table}
+use Rattle.state_model.specs.View.{first_found, oldest_first}
+use Rattle.state_model.specs.Merges.{Plan, planned, lasting, is_deepest, newest_of, split_output, outputs_of, output_pages}
+use Rattle.state_model.specs.Sound.{IsSoundTable}
+use Rattle.state_model.proofs.Sayings.{lists_of, newest_entries_rise, live_without_tombstones}
+use Rattle.state_model.proofs.Outputs.{joined, outputs_joined, lookup_joined}
+use Rattle.state_model.proofs.Views.{tables_rise, newest_of_tables}
+
+-- ---- what it says
+
+inputs_say : (inputs : List Table) (key : Bytes) → AllByRecursion IsSoundTable inputs → lookup (newest_of inputs) key ≡ first_found (lists_of inputs) key
+inputs_say inputs key sound = lookup_newest (oldest_first inputs) key ∙ newest_of_tables inputs key (tables_rise inputs sound)
+
+planned_say : (s : State) (plan : Plan) (key : Bytes) → first_found (planned s plan) key ≡ lookup (lasting (is_deepest s plan.output) (newest_of plan.inputs)) key
+planned_say s plan key = lookup_joined (planned s plan) key
+    ∙ ap (λ (l : List Entry). lookup l key) (outputs_joined (length plan.inputs - 1) (lasting (is_deepest s plan.output) (newest_of plan.inputs)))
+
+lasting_say : (is_last : Bool) (entries : List Entry) (key : Bytes) → KeysRise entries → live (lookup (lasting is_last entries) key) ≡ live (lookup entries key)
+lasting_say true entries key rises = live_without_tombstones entries key rises
+lasting_say false entries key rises = refl
+
+pub merge_says : (s : State) (plan : Plan) (key : Bytes) → AllByRecursion IsSoundTable plan.inputs → live (first_found (planned s plan) key) ≡ live (first_found (lists_of plan.inputs) key)
+merge_says s plan key sound = ap live (planned_say s plan key)
+    ∙ lasting_say (is_deepest s plan.output) (newest_of plan.inputs) key (newest_entries_rise (oldest_first plan.inputs))
+    ∙ ap live (inputs_say plan.inputs key sound)
+
+pub tombstones_last : (s : State) (plan : Plan) (key : Bytes) → AllByRecursion IsSoundTable plan.inputs → is_deepest s plan.output ≡ false → first_found (planned s plan) key ≡ first_found (lists_of plan.inputs) key
+tombstones_last s plan key sound deeper = planned_say s plan key
+    ∙ ap (λ (b : Bool). lookup (lasting b (newest_of plan.inputs)) key) deeper
+    ∙ inputs_say plan.inputs key sound
+
+-- ---- how it is cut
+
+flat_joined : (lists : List (List Entry)) → flat_map (λ (l : List Entry). l) lists ≡ joined lists
+flat_joined [] = refl
+flat_joined (entries ∷ more) = flat_map-cons (λ (l : List Entry). l) entries more ∙ ap (λ (l : List Entry). entries ++ l) (flat_joined more)
+
+pub merge_is_whole : (s : State) (plan : Plan) → flat_map (λ (output : List Entry). output) (planned s plan) ≡ lasting (is_deepest s plan.output) (newest_of plan.inputs)
+merge_is_whole s plan = flat_joined (planned s plan) ∙ outputs_joined (length plan.inputs - 1) (lasting (is_deepest s plan.output) (newest_of plan.inputs))
+
+-- an output is no shorter than what it has already
+split_grows : (output entries : List Entry) → length output ≤ length (split_output output entries).0
+split_grows output [] = omega arith
+split_grows output (entry ∷ more) =
+    let longer = length-append output (entry ∷ []) in
+    let rest = split_grows (output ++ (entry ∷ [])) more in
+    elim (nat_le output_pages (data_pages (output ++ (entry ∷ [])))) as (λ t. length output ≤ length (cond t (output ++ (entry ∷ []), more) (split_output (output ++ (entry ∷ [])) more)).0) [ true ↦ omega arith | false ↦ omega arith ]
+
+split_some : (entry : Entry) (more : List Entry) → 1 ≤ length (split_output [] (entry ∷ more)).0
+split_some entry more =
+    elim (nat_le output_pages (data_pages (entry ∷ []))) as (λ t. 1 ≤ length (cond t (entry ∷ [], more) (split_output (entry ∷ []) more)).0) [ true ↦ omega arith | false ↦ split_grows (entry ∷ []) more ]
+
+outputs_some : (beside : ℕ) (entries : List Entry) → AllByRecursion (λ (output : List Entry). 1 ≤ length output) (outputs_of beside entries)
+outputs_some zero [] = tt
+outputs_some (suc beside) [] = tt
+outputs_some zero (entry ∷ more) = (omega arith, tt)
+outputs_some (suc beside) (entry ∷ more) = (split_some entry more, outputs_some beside (split_output [] (entry ∷ more)).1)
+
+pub merge_some : (s : State) (plan : Plan) → AllByRecursion (λ (output : List Entry). 1 ≤ length output) (planned s plan)
+merge_some s plan = outputs_some (length plan.inputs - 1) (lasting (is_deepest s plan.output) (newest_of plan.inputs))
+
+outputs_few : (beside : ℕ) (entries : List Entry) → length (outputs_of beside entries) ≤ beside + 1
+outputs_few zero [] = omega arith
+outputs_few (suc beside) [] = omega arith
+outputs_few zero (entry ∷ more) = omega arith
+outputs_few (suc beside) (entry ∷ more) = let rest = outputs_few beside (split_output [] (entry ∷ more)).1 in omega arith
+
+pub merge_few : (s : State) (plan : Plan) → 1 ≤ length plan.inputs → length (planned s plan) ≤ length plan.inputs
+merge_few s plan some = let few = outputs_few (length plan.inputs - 1) (lasting (is_deepest s plan.output) (newest_of plan.inputs)) in omega arith

@@ -1,0 +1,139 @@
+-- What entries in the order of writing, and lists of entries with rising keys, say of a key.
+use Rattle.std.proofs.Common.{◌≡◌, List, [], ◌∷◌, ◌++◌, refl, sym, ap, ◌∙◌, subst, Bool, true, false, cond, map}
+use Rattle.std.specs.Prelude.{Option, Some, None, bytes_eq, flat_map, reverse, filter}
+use Rattle.std.specs.List.{AllByRecursion}
+use Rattle.std.proofs.lemmas.List.{append-nil, reverse-append}
+use Rattle.std.proofs.lemmas.Grind.{flat_map-append}
+use Rattle.std.proofs.lemmas.Slice.Eq.{bytes_eq-Decides}
+use Rattle.std.proofs.lemmas.Bool.{false≢true}
+use Rattle.std.specs.Ordering.{is_lt}
+use Rattle.std.specs.declared.cmp.Ordering.{Ordering}
+use Rattle.std.specs.declared.cmp.Ordering.TheVariants.{Less, Equal, Greater}
+use Rattle.store_model.specs.SortedMap.{Bytes, byte_order}
+use Rattle.store_model.specs.Entries.{Entry, newest, or_else, live}
+use Rattle.mem_table.specs.Table.{IsAbove, KeysRise, newest_entries, lookup}
+use Rattle.mem_table.proofs.Newest.{none_above, above_lower, rises_after, lookup_newest}
+use Rattle.block_model.specs.Order.{Follow, is_above}
+use Rattle.block_model.specs.Block.{keys_of}
+use Rattle.state_model.specs.State.{Table}
+use Rattle.state_model.specs.View.{first_found, oldest_first}
+use Rattle.state_model.specs.Merges.{has_value}
+
+pub or_none : (found : Option (Option Bytes)) → or_else found None ≡ found
+or_none None = refl
+or_none (Some value) = refl
+
+pub or_assoc : (a b c : Option (Option Bytes)) → or_else (or_else a b) c ≡ or_else a (or_else b c)
+or_assoc None b c = refl
+or_assoc (Some value) b c = refl
+
+-- ---- entries in the order of writing
+
+pub newest-append : (xs ys : List Entry) (key : Bytes) → newest (xs ++ ys) key ≡ or_else (newest ys key) (newest xs key)
+newest-append [] ys key = sym (or_none (newest ys key))
+newest-append (x ∷ xs) ys key = let own = cond (bytes_eq x.key key) (Some x.value) None in
+    ap (λ (o : Option (Option Bytes)). or_else o own) (newest-append xs ys key) ∙ or_assoc (newest ys key) (newest xs key) own
+
+-- where keys rise, the newest entry is the only one
+pub newest_of_rising : (entries : List Entry) (key : Bytes) → KeysRise entries → newest entries key ≡ lookup entries key
+newest_of_rising [] key rises = refl
+newest_of_rising (entry ∷ later) key rises =
+    ap (λ (o : Option (Option Bytes)). or_else o (cond (bytes_eq entry.key key) (Some entry.value) None)) (newest_of_rising later key rises.1)
+    ∙ elim (bytes_eq entry.key key) as (λ t. bytes_eq entry.key key ≡ t → or_else (lookup later key) (cond t (Some entry.value) None) ≡ cond t (Some entry.value) (lookup later key)) [
+      | true ↦ λ e. ap (λ (o : Option (Option Bytes)). or_else o (Some entry.value)) (subst (λ (k : Bytes). lookup later k ≡ None) ((bytes_eq-Decides entry.key key).0 e) (none_above entry.key later rises.0))
+      | false ↦ λ e. or_none (lookup later key)
+    ] refl
+
+pub newest_entries_rise : (entries : List Entry) → KeysRise (newest_entries entries)
+newest_entries_rise entries = rises_after [] entries tt
+
+-- the newest entries say what all of them say
+pub newest_again : (entries : List Entry) (key : Bytes) → newest (newest_entries entries) key ≡ newest entries key
+newest_again entries key = newest_of_rising (newest_entries entries) key (newest_entries_rise entries) ∙ lookup_newest entries key
+
+-- ---- lists of entries, the newest first
+
+abbrev pub AllRise : List (List Entry) → Type 0
+AllRise lists = AllByRecursion KeysRise lists
+
+-- their entries, the oldest first
+abbrev pub backwards : List (List Entry) → List Entry
+backwards [] = []
+backwards (entries ∷ older) = backwards older ++ entries
+
+pub newest_backwards : (lists : List (List Entry)) (key : Bytes) → AllRise lists → newest (backwards lists) key ≡ first_found lists key
+newest_backwards [] key rise = refl
+newest_backwards (entries ∷ older) key rise = newest-append (backwards older) entries key
+    ∙ ap (λ (o : Option (Option Bytes)). or_else o (newest (backwards older) key)) (newest_of_rising entries key rise.0)
+    ∙ ap (or_else (lookup entries key)) (newest_backwards older key rise.1)
+
+abbrev pub lists_of : List Table → List (List Entry)
+lists_of tables = map (λ (t : Table). t.entries) tables
+
+pub oldest_first-backwards : (tables : List Table) → oldest_first tables ≡ backwards (lists_of tables)
+oldest_first-backwards [] = refl
+oldest_first-backwards (t ∷ older) = ap (flat_map (λ (u : Table). u.entries)) (reverse-append (t ∷ []) older)
+    ∙ flat_map-append (λ (u : Table). u.entries) (reverse older) (t ∷ [])
+    ∙ ap (λ (l : List Entry). oldest_first older ++ l) (append-nil t.entries)
+    ∙ ap (λ (l : List Entry). l ++ t.entries) (oldest_first-backwards older)
+
+-- ---- entries with rising keys
+
+less_of : (o : Ordering) → is_lt o ≡ true → o ≡ Less
+less_of Less e = refl
+less_of Equal e = absurd (false≢true e)
+less_of Greater e = absurd (false≢true e)
+
+above_follow : (low : Bytes) (entries : List Entry) → Follow (is_above low) (keys_of entries) → AllByRecursion (IsAbove low) entries × KeysRise entries
+above_follow low [] follow = (tt, tt)
+above_follow low (entry ∷ later) follow =
+    let less = less_of (byte_order low entry.key) follow.0 in
+    let rest = above_follow entry.key later follow.1 in
+    ((less, above_lower low entry.key later less rest.0), rest)
+
+pub rises_follow : (test : Bytes → Bool) (entries : List Entry) → Follow test (keys_of entries) → KeysRise entries
+rises_follow test [] follow = tt
+rises_follow test (entry ∷ later) follow = above_follow entry.key later follow.1
+
+pub lookup-append : (xs ys : List Entry) (key : Bytes) → lookup (xs ++ ys) key ≡ or_else (lookup xs key) (lookup ys key)
+lookup-append [] ys key = refl
+lookup-append (x ∷ xs) ys key = elim (bytes_eq x.key key) as (λ t. cond t (Some x.value) (lookup (xs ++ ys) key) ≡ or_else (cond t (Some x.value) (lookup xs key)) (lookup ys key)) [
+  | true ↦ refl
+  | false ↦ lookup-append xs ys key
+]
+
+above_filter : (test : Entry → Bool) (low : Bytes) (entries : List Entry) → AllByRecursion (IsAbove low) entries → AllByRecursion (IsAbove low) (filter test entries)
+above_filter test low [] above = tt
+above_filter test low (entry ∷ later) above = elim (test entry) as (λ t. AllByRecursion (IsAbove low) (cond t (entry ∷ filter test later) (filter test later))) [
+  | true ↦ (above.0, above_filter test low later above.1)
+  | false ↦ above_filter test low later above.1
+]
+
+pub rises_filter : (test : Entry → Bool) (entries : List Entry) → KeysRise entries → KeysRise (filter test entries)
+rises_filter test [] rises = tt
+rises_filter test (entry ∷ later) rises = elim (test entry) as (λ t. KeysRise (cond t (entry ∷ filter test later) (filter test later))) [
+  | true ↦ (above_filter test entry.key later rises.0, rises_filter test later rises.1)
+  | false ↦ rises_filter test later rises.1
+]
+
+above_part : (low : Bytes) (xs ys : List Entry) → AllByRecursion (IsAbove low) (xs ++ ys) → AllByRecursion (IsAbove low) xs
+above_part low [] ys above = tt
+above_part low (x ∷ xs) ys above = (above.0, above_part low xs ys above.1)
+
+pub rises_parts : (xs ys : List Entry) → KeysRise (xs ++ ys) → KeysRise xs × KeysRise ys
+rises_parts [] ys rises = (tt, rises)
+rises_parts (x ∷ xs) ys rises = let rest = rises_parts xs ys rises.1 in ((above_part x.key xs ys rises.0, rest.0), rest.1)
+
+-- without tombstones they say the same of each key that lives, and nothing of the others
+pub live_without_tombstones : (entries : List Entry) (key : Bytes) → KeysRise entries → live (lookup (filter (λ (e : Entry). has_value e.value) entries) key) ≡ live (lookup entries key)
+live_without_tombstones [] key rises = refl
+live_without_tombstones (entry ∷ later) key rises =
+    let kept = filter (λ (e : Entry). has_value e.value) later in
+    let rest = live_without_tombstones later key rises.1 in
+    elim entry.value as (λ v. entry.value ≡ v → live (lookup (cond (has_value v) (entry ∷ kept) kept) key) ≡ live (lookup (entry ∷ later) key)) [
+      | Some value ↦ λ _. elim (bytes_eq entry.key key) as (λ t. live (cond t (Some entry.value) (lookup kept key)) ≡ live (cond t (Some entry.value) (lookup later key))) [ true ↦ refl | false ↦ rest ]
+      | None ↦ λ none. elim (bytes_eq entry.key key) as (λ t. bytes_eq entry.key key ≡ t → live (lookup kept key) ≡ live (cond t (Some entry.value) (lookup later key))) [
+        | true ↦ λ e. rest ∙ ap live (subst (λ (k : Bytes). lookup later k ≡ None) ((bytes_eq-Decides entry.key key).0 e) (none_above entry.key later rises.0)) ∙ sym none
+        | false ↦ λ e. rest
+      ] refl
+    ] refl

@@ -1,0 +1,51 @@
+-- Laws of the state: which map it is, and what each change leaves of it.
+use Rattle.std.specs.Prelude.{◌≡◌, ◌≤◌, Bool, true, false, if◌then◌else◌, List, length, map, flat_map, Ok}
+use Rattle.std.specs.List.{AllByRecursion}
+use Rattle.store_model.specs.SortedMap.{Bytes, Map, get, put, del, Rises}
+use Rattle.store_model.specs.Entries.{Entry, live, changed}
+use Rattle.state_model.specs.State.{State, Table}
+use Rattle.state_model.specs.View.{view, first_found, map_of}
+use Rattle.state_model.specs.Pages.{Spells}
+use Rattle.state_model.specs.Merges.{Plan, planned, lasting, is_deepest, newest_of}
+use Rattle.state_model.specs.Changes.{flushed, written, compacted}
+use Rattle.state_model.specs.Sound.{IsSound, IsSoundTable}
+use Rattle.state_model.specs.Requests.{Request, Put, Del}
+use Rattle.state_model.specs.Replies.{Reply, Done}
+use Rattle.state_model.specs.Steps.{answer}
+
+-- whether a line was answered as done
+abbrev pub is_done : Reply → Bool
+is_done Done = true
+is_done reply = false
+
+-- the map behind a line: that of the put or del where it was done, else the one before
+abbrev pub map_behind : Request → Reply → Map → Map
+map_behind (Put key value) reply map = if is_done reply then put map key value else map
+map_behind (Del key) reply map = if is_done reply then del map key else map
+map_behind request reply map = map
+
+-- the map of a sound state has at each key what its view of the key says, and its keys rise
+pub record ViewLaws : Type 0 where
+  pub says : (spells : Spells) (s : State) (key : Bytes) → IsSound spells s → get (map_of s) key ≡ live (view s key)
+  pub rises : (s : State) → Rises (map_of s)
+
+-- A flush and a compaction that are done keep the map. An entry that is written, with a flush before it or without, makes
+-- its change of the map and no other. So the map changes by the lines that are answered as done, and by no other.
+pub record ChangeLaws : Type 0 where
+  pub flush : (spells : Spells) (s t : State) → flushed spells s ≡ Ok t → map_of t ≡ map_of s
+  pub write : (spells : Spells) (s t : State) (entry : Entry) → written spells s entry ≡ Ok t → map_of t ≡ changed (map_of s) entry
+  pub compaction : (spells : Spells) (s t : State) → compacted spells s ≡ Ok t → map_of t ≡ map_of s
+  pub lines : (spells : Spells) (s : State) (request : Request) → map_of (answer spells s request).1 ≡ map_behind request (answer spells s request).0 (map_of s)
+
+-- What a merge writes says of each key what its inputs say, but that a tombstone may be gone where no table lies deeper.
+-- Its outputs, one after the other, are the entries that last; none is empty, and they are no more than the inputs.
+pub record MergeLaws : Type 0 where
+  pub says :
+      (s : State) (plan : Plan) (key : Bytes) → AllByRecursion IsSoundTable plan.inputs
+      → live (first_found (planned s plan) key) ≡ live (first_found (map (λ (t : Table). t.entries) plan.inputs) key)
+  pub tombstones :
+      (s : State) (plan : Plan) (key : Bytes) → AllByRecursion IsSoundTable plan.inputs → is_deepest s plan.output ≡ false
+      → first_found (planned s plan) key ≡ first_found (map (λ (t : Table). t.entries) plan.inputs) key
+  pub whole : (s : State) (plan : Plan) → flat_map (λ (output : List Entry). output) (planned s plan) ≡ lasting (is_deepest s plan.output) (newest_of plan.inputs)
+  pub some : (s : State) (plan : Plan) → AllByRecursion (λ (output : List Entry). 1 ≤ length output) (planned s plan)
+  pub few : (s : State) (plan : Plan) → 1 ≤ length plan.inputs → length (planned s plan) ≤ length plan.inputs
