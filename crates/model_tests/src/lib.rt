@@ -7,4 +7,6 @@
 #[cfg(test)]
 mod bounds;
 #[cfg(test)]
+mod limits;
+#[cfg(test)]
 mod scripts;
