@@ -34,5 +34,5 @@ pub use laws::{
     blocks_are_the_entries, blocks_have_one_spelling, indexes_have_one_spelling,
     lengths_are_counted,
 };
-pub use page_rows::{full_blocks, largest_values, small_blocks, whole_pages};
+pub use page_rows::{full_blocks, small_blocks, whole_pages};
 pub use pages::{are_entries, block_length, cut, pages_for};

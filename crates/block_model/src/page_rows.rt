@@ -38,9 +38,3 @@ pub fn full_blocks()
     ensures all_pages { data_pages (a_b ∷ wide 0x62 4200 ∷ wide 0x63 1 ∷ []) ≡ 4 }
     ensures at_most_255 { map length (blocks_of (replicate 256 a_b)) ≡ 255 ∷ 1 ∷ [] }
 {}
-
-/// Three entries with values of 65,536 bytes: three blocks of 17 pages.
-#[tactic(auto, unfolding(crate::specs::Pages::pages_for, crate::specs::Pages::block_length, crate::specs::Pages::block_pages, crate::specs::Pages::blocks_of, crate::specs::Pages::data_pages))]
-pub fn largest_values()
-    ensures { data_pages (wide 1 65536 ∷ wide 2 65536 ∷ wide 3 65536 ∷ []) ≡ 51 }
-{}
