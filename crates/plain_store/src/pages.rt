@@ -1,44 +1,15 @@
 // How many pages tables take.
-ghost use Rattle.std.specs.Prelude.{◌≡◌, ◌↔◌, IsTrue, length, sum_by, map, vec_items, IfOk};
-ghost use Rattle.std.specs.List.{AllByRecursion};
-ghost use Rattle.block_model.specs.Block.{AreEntries, IsEntry, data_bytes};
+ghost use Rattle.std.specs.Prelude.{◌≡◌, length, IfOk};
 ghost use Rattle.block_model.specs.Pages as model;
 ghost use Rattle.state_model.specs.Pages.{table_pages, table_of};
 ghost use Rattle.plain_store.specs.Filters.{spells_of};
 
 use crate::filters::filter_length;
 use crate::table::Table;
-use block_model::{cut, data_bytes, index_bytes, lengths_are_counted, pages_for};
+use block_model::{are_entries, cut, index_length, pages_for};
 use entry_list::{Entry, copied};
 use filter_api::{RangeFilter, Settings};
-use key_base::PAGE_BYTES;
 use std::alloc::{AllocError, Global};
-
-fn is_entry(entry: &Entry) -> bool
-    ensures { IsTrue result ↔ IsEntry entry.now }
-{
-    let value = match entry.value() {
-        Some(bytes) => bytes.len(),
-        None => 0,
-    };
-    !entry.key().is_empty() && entry.key().len() <= 1024 && value <= 65_536
-}
-
-/// Whether each key has 1 to 1,024 bytes and each value at most 65,536, and they are fewer than 2^32.
-pub(crate) fn are_entries(entries: &[Entry]) -> bool
-    ensures { IsTrue result ↔ AreEntries entries.now }
-{
-    entries.len() < 1 << 32 && is_each_entry(entries)
-}
-
-fn is_each_entry(entries: &[Entry]) -> bool
-    ensures { IsTrue result ↔ AllByRecursion IsEntry entries.now }
-{
-    match entries.split_first() {
-        Some((entry, later)) => is_entry(entry) && is_each_entry(later),
-        None => true,
-    }
-}
 
 /// The pages of the blocks of some entries. It gives up where they are not entries of a table.
 pub(crate) fn data_pages(alloc: Global, entries: &[Entry]) -> Result<u64, AllocError>
@@ -47,9 +18,7 @@ pub(crate) fn data_pages(alloc: Global, entries: &[Entry]) -> Result<u64, AllocE
     if !are_entries(entries) {
         return Err(AllocError);
     }
-    lengths_are_counted();
-    let bytes = data_bytes(alloc, entries)?;
-    Ok((bytes.len() / PAGE_BYTES) as u64)
+    block_model::data_pages(alloc, entries)
 }
 
 /// The pages of the index of some entries. It gives up where they are not entries of a table.
@@ -59,13 +28,12 @@ fn index_pages(alloc: Global, entries: &[Entry]) -> Result<u64, AllocError>
     if !are_entries(entries) {
         return Err(AllocError);
     }
-    lengths_are_counted();
-    let bytes = index_bytes(alloc, entries)?;
-    Ok(pages_for(bytes.len() as u64))
+    let bytes = index_length(alloc, entries)?;
+    Ok(pages_for(bytes))
 }
 
 /// The pages of a table of some entries: its blocks, its index and its filter.
-pub(crate) fn table_pages<F: RangeFilter>(
+pub fn table_pages<F: RangeFilter>(
     alloc: Global,
     settings: Settings,
     entries: &[Entry],

@@ -1,10 +1,10 @@
 // A table.
 ghost use Rattle.std.specs.Prelude.{◌≡◌, IfOk};
-ghost use Rattle.block_model.specs.Pages.{first_key, last_key};
 ghost use Rattle.state_model.specs.Gaps.{extent_of};
 ghost use Rattle.state_model.specs.Merges as model;
 
 use crate::gaps::Extent;
+use block_model::{first_key, last_key};
 use entry_list::{Entry, copied};
 use std::alloc::{AllocError, Global};
 use std::marker::Model;
@@ -53,10 +53,7 @@ impl Table {
     pub fn least_key(&self) -> &[u8]
         ensures { result.now ≡ model.least_key self.now }
     {
-        match self.entries.as_slice() {
-            [first, ..] => first.key(),
-            [] => &[],
-        }
+        first_key(self.entries.as_slice())
     }
 
     /// The key of its last entry, no bytes where it has none.
@@ -64,15 +61,5 @@ impl Table {
         ensures { result.now ≡ model.greatest_key self.now }
     {
         last_key(self.entries.as_slice())
-    }
-}
-
-fn last_key(entries: &[Entry]) -> &[u8]
-    ensures { result.now ≡ last_key entries.now }
-{
-    match entries {
-        [] => &[],
-        [entry] => entry.key(),
-        [_, later @ ..] => last_key(later),
     }
 }
