@@ -1,0 +1,4 @@
+pub mod Versions
+pub mod BlocksShown
+pub mod TablesShown
+pub mod States
