@@ -29,7 +29,7 @@ fn filled(alloc: Global, value: &[u8], count: u8) -> Result<(State, usize), Allo
         let put = Request::Put { key: &[key], value };
         let end = asked(alloc, &state, put)?;
         if let [Reply::Done] = end.replies.as_slice() {
-            done += 1;
+            done = usize::saturating_add(done, 1);
         }
         state = end.state;
     }
@@ -42,7 +42,7 @@ fn emptied(alloc: Global, state: State, count: u8) -> Result<(State, usize), All
     for key in 1..count {
         let end = asked(alloc, &state, Request::Del { key: &[key] })?;
         if let [Reply::Done] = end.replies.as_slice() {
-            done += 1;
+            done = usize::saturating_add(done, 1);
         }
         state = end.state;
     }

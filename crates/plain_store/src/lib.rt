@@ -1,4 +1,19 @@
-//! The store played in memory.
+//! A store that is played in memory: each definition of `state_model` that computes, as a plain loop over lists.
+//!
+//! A [`State`] is seen as the state of the definitions, without a job, and a kind of filter is named by the type that
+//! implements `RangeFilter`. [`play`] answers requests one after the other, with a whole merge behind each put and del,
+//! and its replies and the state that it leaves are the definitions' own. Beside it stand the parts: [`flushed`],
+//! [`written`], [`compacted`], [`choose`], [`planned`], [`merged`], the gaps, the bounds and the numbers.
+//!
+//! It has no pages, no cache and no device, it copies whatever it changes, and it builds a table's filter anew for each
+//! question: it is what the store is compared with, and no store. Each call gives up with `AllocError` for want of
+//! memory, at a number past 64 bits, and where entries or settings are out of range.
+//!
+//! ```text
+//! let state = State::new(alloc, settings, 512);
+//! let script = [Request::Put { key: b"a", value: b"b" }, Request::Flush, Request::Get { key: b"a" }];
+//! let end = play::<PlainFilter>(alloc, &state, &script)?;     // ok, ok, val 62
+//! ```
 #![tactic(auto)]
 
 mod answering;

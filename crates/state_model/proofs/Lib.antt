@@ -5,3 +5,8 @@ pub mod Outputs
 pub mod Kept
 pub mod Lines
 pub mod Merged
+pub mod Levels
+pub mod Parts
+pub mod Disjoint
+pub mod Taken
+pub mod Installs

@@ -19,10 +19,10 @@ use Rattle.state_model.proofs.Views.{tables_rise, newest_of_tables}
 
 -- ---- what it says
 
-inputs_say : (inputs : List Table) (key : Bytes) → AllByRecursion IsSoundTable inputs → lookup (newest_of inputs) key ≡ first_found (lists_of inputs) key
+pub inputs_say : (inputs : List Table) (key : Bytes) → AllByRecursion IsSoundTable inputs → lookup (newest_of inputs) key ≡ first_found (lists_of inputs) key
 inputs_say inputs key sound = lookup_newest (oldest_first inputs) key ∙ newest_of_tables inputs key (tables_rise inputs sound)
 
-planned_say : (s : State) (plan : Plan) (key : Bytes) → first_found (planned s plan) key ≡ lookup (lasting (is_deepest s plan.output) (newest_of plan.inputs)) key
+pub planned_say : (s : State) (plan : Plan) (key : Bytes) → first_found (planned s plan) key ≡ lookup (lasting (is_deepest s plan.output) (newest_of plan.inputs)) key
 planned_say s plan key = lookup_joined (planned s plan) key
     ∙ ap (λ (l : List Entry). lookup l key) (outputs_joined (length plan.inputs - 1) (lasting (is_deepest s plan.output) (newest_of plan.inputs)))
 

@@ -3,12 +3,13 @@ use Rattle.std.specs.Prelude.{◌≡◌, ◌≤◌, Bool, true, false, if◌then
 use Rattle.std.specs.List.{AllByRecursion}
 use Rattle.store_model.specs.SortedMap.{Bytes, Map, get, put, del, Rises}
 use Rattle.store_model.specs.Entries.{Entry, live, changed}
-use Rattle.state_model.specs.State.{State, Table}
+use Rattle.state_model.specs.State.{State, Table, Job}
 use Rattle.state_model.specs.View.{view, first_found, map_of}
 use Rattle.state_model.specs.Pages.{Spells}
 use Rattle.state_model.specs.Merges.{Plan, planned, lasting, is_deepest, newest_of}
 use Rattle.state_model.specs.Changes.{flushed, written, compacted}
-use Rattle.state_model.specs.Sound.{IsSound, IsSoundTable}
+use Rattle.state_model.specs.Sound.{IsSound, IsSoundTable, IsJob}
+use Rattle.state_model.specs.Tends.{IsDone, installed}
 use Rattle.state_model.specs.Requests.{Request, Put, Del}
 use Rattle.state_model.specs.Replies.{Reply, Done}
 use Rattle.state_model.specs.Steps.{answer}
@@ -36,6 +37,10 @@ pub record ChangeLaws : Type 0 where
   pub write : (spells : Spells) (s t : State) (entry : Entry) → written spells s entry ≡ Ok t → map_of t ≡ changed (map_of s) entry
   pub compaction : (spells : Spells) (s t : State) → compacted spells s ≡ Ok t → map_of t ≡ map_of s
   pub lines : (spells : Spells) (s : State) (request : Request) → map_of (answer spells s request).1 ≡ map_behind request (answer spells s request).0 (map_of s)
+
+-- An install keeps the map: the outputs of a job that is done, in the place of its inputs, among the tables of a sound state.
+pub record InstallLaws : Type 0 where
+  pub install : (spells : Spells) (s : State) (job : Job) → IsSound spells s → IsJob spells s job → IsDone s job → map_of (installed s job) ≡ map_of s
 
 -- What a merge writes says of each key what its inputs say, but that a tombstone may be gone where no table lies deeper.
 -- Its outputs, one after the other, are the entries that last; none is empty, and they are no more than the inputs.

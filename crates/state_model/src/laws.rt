@@ -1,5 +1,5 @@
 // The laws of the definitions; the functions do nothing.
-ghost use Rattle.state_model.specs.Laws.{ViewLaws, ChangeLaws, MergeLaws};
+ghost use Rattle.state_model.specs.Laws.{ViewLaws, ChangeLaws, InstallLaws, MergeLaws};
 
 /// Law: the map of a sound state has at each key what its view says: the memory first, then the tables in their order.
 pub fn view_laws()
@@ -16,4 +16,9 @@ pub fn change_laws()
 /// into no more outputs than inputs, none of them empty.
 pub fn merge_laws()
     ensures { MergeLaws }
+{}
+
+/// Law: a job that is done is installed without a change of the map.
+pub fn install_laws()
+    ensures { InstallLaws }
 {}

@@ -14,5 +14,5 @@
 mod laws;
 mod rows;
 
-pub use laws::{change_laws, merge_laws, view_laws};
+pub use laws::{change_laws, install_laws, merge_laws, view_laws};
 pub use rows::{levels_and_gaps, limits, lines_and_words, merges_and_flushes, reads_between_keys};

@@ -1,0 +1,5 @@
+use Rattle.state_model.proofs.Installs.{install_keeps}
+use Rattle.state_model.proofs.laws.install_laws.Goals as goal
+
+pub returns : goal.returns
+returns c = record { install = λ spells s job sound is done. install_keeps spells s job sound is done.all_written }
