@@ -5,6 +5,7 @@ pub mod Gaps
 pub mod Merges
 pub mod Replies
 pub mod Requests
+pub mod Causes
 pub mod Changes
 pub mod Bounds
 pub mod Sound

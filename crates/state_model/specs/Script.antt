@@ -3,6 +3,7 @@ use Rattle.std.specs.Prelude.{◌≡◌, ◌+◌, ℕ, List, [], ◌∷◌, ◌+
 use Rattle.store_model.specs.SortedMap.{Bytes}
 use Rattle.state_model.specs.State.{State}
 use Rattle.state_model.specs.Pages.{Spells}
+use Rattle.state_model.specs.Causes.{Why}
 use Rattle.state_model.specs.Requests.{Request, Put, Del, request_of}
 use Rattle.state_model.specs.Replies.{Reply, Pairs, Bye, Device, Damaged, text_of}
 use Rattle.state_model.specs.Tends.{Tend, Tended, Refused}
@@ -34,7 +35,7 @@ turn_of_slice (Refused why) = turn_of why
 turn_of_slice tended = Onward
 
 -- Behind each `put` and `del`, refused or not, comes one slice; behind other lines none.
-abbrev pub Between : (Reply → Type 0) → Spells → Request → State → Turn → State → Type 0
+abbrev pub Between : (Why → Type 0) → Spells → Request → State → Turn → State → Type 0
 Between Cause spells (Put key value) s turn after = (tended : Tended) × Tend Cause spells s tended after × (turn ≡ turn_of_slice tended)
 Between Cause spells (Del key) s turn after = (tended : Tended) × Tend Cause spells s tended after × (turn ≡ turn_of_slice tended)
 Between Cause spells request s turn after = (turn ≡ Onward) × (after ≡ s)
@@ -52,7 +53,7 @@ AsSaid turn Holds = Holds
 
 -- The lines are answered in order with this text, to the last of them, or to the first reply or slice that ends them. As
 -- each reply has been said that is no fault, with so many bytes said by then, the state has R.
-abbrev pub Script : (Reply → Type 0) → Spells → (ℕ → State → Type 0) → ℕ → State → List Bytes → Bytes → Ending → Type 0
+abbrev pub Script : (Why → Type 0) → Spells → (ℕ → State → Type 0) → ℕ → State → List Bytes → Bytes → Ending → Type 0
 Script Cause spells R said s [] text ending = (text ≡ []) × (ending ≡ ToLast)
 Script Cause spells R said s (line ∷ more) text ending =
     (reply : Reply) × (rest : Bytes) × (new : State) × (text ≡ text_of reply ++ rest) × Step Cause spells s (request_of line) reply new

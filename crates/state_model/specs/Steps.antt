@@ -10,6 +10,7 @@ use Rattle.state_model.specs.Pages.{Spells}
 use Rattle.state_model.specs.Changes.{key_limit, value_limit, bound_limit, first_limit, written, flushed, compacted}
 use Rattle.state_model.specs.Bounds.{estimate, admitted, blocks_read}
 use Rattle.state_model.specs.Sound.{IsSound}
+use Rattle.state_model.specs.Causes.{Why, NoMemory, ReadFailed, WriteFailed, DamageMet}
 use Rattle.state_model.specs.Requests.{Request, Put, Del, Get, Seek, Range, Count, Estimate, Explain, Flush, Compact, Quit, Bad}
 use Rattle.state_model.specs.Replies.{Reply, Done, Pairs, End, Counted, About, Explained, Bye, BadLine, Memory, Device, Damaged, got, found}
 
@@ -101,14 +102,13 @@ said_before s (Range lo hi n) why reply = (reply ≡ why) ⊎ ((k : ℕ) × (rep
 said_before s request why reply = reply ≡ why
 
 -- From a state a request is answered so, and leaves that state. `Cause` says what must be so for what the state does not
--- explain: want of memory, faults of the device and damage. Where the device failed in a write, the state has the map
--- before the line or behind it.
-pub data Step (Cause : Reply → Type 0) (spells : Spells) (s : State) (request : Request) : Reply → State → Type 0 where
+-- explain. Where the device failed in a write, the state has the map before the line or behind it.
+pub data Step (Cause : Why → Type 0) (spells : Spells) (s : State) (request : Request) : Reply → State → Type 0 where
   answers : Step Cause spells s request (answer spells s request).0 (answer spells s request).1
-  no_memory : limit_of request ≡ None → TakesMemory request → Cause Memory → Step Cause spells s request Memory (left_by request s)
-  read_failed : (reply : Reply) → limit_of request ≡ None → Reads request → Cause Device → said_before s request Device reply
+  no_memory : limit_of request ≡ None → TakesMemory request → Cause NoMemory → Step Cause spells s request Memory (left_by request s)
+  read_failed : (reply : Reply) → limit_of request ≡ None → Reads request → Cause ReadFailed → said_before s request Device reply
       → Step Cause spells s request reply (left_by request s)
-  damage_met : (damage : Damage) (reply : Reply) → limit_of request ≡ None → Reads request → Cause (Damaged damage)
+  damage_met : (damage : Damage) (reply : Reply) → limit_of request ≡ None → Reads request → Cause (DamageMet damage)
       → said_before s request (Damaged damage) reply → Step Cause spells s request reply (left_by request s)
-  write_failed : (after : State) → limit_of request ≡ None → Writes request → Cause Device → IsSound spells after
+  write_failed : (after : State) → limit_of request ≡ None → Writes request → Cause WriteFailed → IsSound spells after
       → (map_of after ≡ map_of s) ⊎ (map_of after ≡ map_of (answer spells s request).1) → Step Cause spells s request Device after

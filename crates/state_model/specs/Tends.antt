@@ -10,6 +10,7 @@ use Rattle.state_model.specs.Pages.{Spells}
 use Rattle.state_model.specs.Gaps.{taken}
 use Rattle.state_model.specs.Merges.{Plan, NoRoom, choose, planned, placed, least_key}
 use Rattle.state_model.specs.Sound.{IsSound, plan_of_job}
+use Rattle.state_model.specs.Causes.{Why, NoMemory, ReadFailed, WriteFailed, DamageMet}
 use Rattle.state_model.specs.Replies.{Reply, LastEpoch, Full, Memory, Device, Damaged}
 
 -- ---- the job that a slice works on
@@ -75,8 +76,8 @@ pub data Tended : Type 0 where
   Refused : (why : Reply) → Tended
 
 -- A slice is idle where no job runs and none is to be chosen. Else it works, or is refused and drops the job. `Cause`
--- says what must be so for what the state does not explain: want of memory, faults of the device and damage.
-pub data Tend (Cause : Reply → Type 0) (spells : Spells) (s : State) : Tended → State → Type 0 where
+-- says what must be so for what the state does not explain.
+pub data Tend (Cause : Why → Type 0) (spells : Spells) (s : State) : Tended → State → Type 0 where
   idle : s.job ≡ None → choose s ≡ None → Tend Cause spells s Idle s
   works : (job later : Job) → Runs s job → GoesOn spells s job later → later ≢ job → Tend Cause spells s Worked (with_job s later)
   installs : (job later : Job) → Runs s job → GoesOn spells s job later → IsDone s later → s.epoch ≢ last_epoch
@@ -85,7 +86,8 @@ pub data Tend (Cause : Reply → Type 0) (spells : Spells) (s : State) : Tended 
       → Tend Cause spells s (Refused LastEpoch) (without_job s)
   no_room : (job later : Job) (refusal : NoRoom) → Runs s job → GoesOn spells s job later → next_placed spells s later 1 ≡ Err refusal
       → Tend Cause spells s (Refused (Full refusal.need refusal.gap)) (without_job s)
-  no_memory : (job : Job) → Runs s job → Cause Memory → Tend Cause spells s (Refused Memory) (without_job s)
-  damage_met : (job : Job) (damage : Damage) → Runs s job → Cause (Damaged damage) → Tend Cause spells s (Refused (Damaged damage)) (without_job s)
-  device_failed : (job : Job) (after : State) → Runs s job → Cause Device → IsSound spells after → map_of after ≡ map_of s
+  no_memory : Cause NoMemory → Tend Cause spells s (Refused Memory) (without_job s)
+  read_failed : (job : Job) → Runs s job → Cause ReadFailed → Tend Cause spells s (Refused Device) (without_job s)
+  damage_met : (job : Job) (damage : Damage) → Runs s job → Cause (DamageMet damage) → Tend Cause spells s (Refused (Damaged damage)) (without_job s)
+  write_failed : (job : Job) (after : State) → Runs s job → Cause WriteFailed → IsSound spells after → map_of after ≡ map_of s
       → Tend Cause spells s (Refused Device) after
