@@ -1,4 +1,7 @@
+mod Rows
 pub mod Versions
 pub mod BlocksShown
 pub mod TablesShown
 pub mod States
+pub mod VersionsWritten
+pub mod TablesWritten
