@@ -1,8 +1,8 @@
 -- The definitions at worked rows: where the parts of a table and of a version stand.
-use Rattle.std.proofs.Common.{◌≡◌, [], ◌∷◌, refl}
+use Rattle.std.proofs.Common.{◌≡◌, ◌+◌, [], ◌∷◌, refl}
 use Rattle.manifest_model.specs.Rows.{formatted, table}
 use Rattle.state_model.specs.State.{new_state}
-use Rattle.image_model.specs.Slots.{body_in, body_room}
+use Rattle.image_model.specs.Slots.{body_room}
 use Rattle.image_model.specs.Stands.{settings_of, shown}
 use Rattle.image_model.specs.Tables.{Shows, byte_of_page, filter_page, index_page}
 use Rattle.image_model.specs.Written.{new_version}

@@ -1,6 +1,6 @@
 -- A table that is written stands.
 use Rattle.std.proofs.Common.{◌≡◌, ℕ, List, length, refl, sym, ap, ◌∙◌, subst}
-use Rattle.std.specs.Prelude.{map, flat_map}
+use Rattle.std.specs.Prelude.{map}
 use Rattle.disk_trait.specs.Image.{Image}
 use Rattle.byte_fields.specs.Sums.{fnv_of}
 use Rattle.filter_api.specs.Spellings.{Spelling, IsSpelling}

@@ -1,5 +1,5 @@
 -- A version that is written is held, and a new store stands.
-use Rattle.std.proofs.Common.{◌≡◌, ◌+◌, ◌-◌, ◌*◌, ◌^◌, ◌<◌, ◌≤◌, ℕ, inl, [], ◌++◌, length, refl, sym, ap, ◌∙◌, arith, length-append}
+use Rattle.std.proofs.Common.{◌≡◌, ◌+◌, ◌-◌, ◌*◌, ◌^◌, ◌<◌, ◌≤◌, ℕ, inl, ◌++◌, length, refl, sym, ap, ◌∙◌, arith, length-append}
 use Rattle.std.specs.Prelude.{None, flat_map}
 use Rattle.disk_trait.specs.Image.{Image, window}
 use Rattle.disk_trait.proofs.Images.{window_split}

@@ -4,15 +4,13 @@
 //! slot, or, of two open ones, that of the greater epoch. `specs/Tables` says which table the pages of a row spell: its
 //! blocks, its index and its filter stand at their pages, with the lengths and sums that the row keeps. `specs/Stands`
 //! puts them together: a state is what the version says, the tables of its rows, and the log of the area that it names.
-//! `StandsFor` is the relation by which a store is judged: what each image that a crash may leave stands for.
 //!
-//! Two laws, each the contract of a function that does nothing. [`one_state`]: an image stands for at most one state, so a
-//! crash leaves no choice to whoever reads it. [`what_is_written_stands`]: a body behind an open gate is a version held, the
-//! parts of a table at their pages are that table, and a formatted device is a new store; so the definitions ask no more
-//! than what a store writes.
+//! Two laws, each the contract of a function that does nothing. [`one_state`]: an image stands for at most one state, so
+//! whoever reads it has no choice. [`what_is_written_stands`]: a body behind an open gate is a version held, the parts of a
+//! table at their pages are that table, and a formatted device is a new store; so what is asked of an image can be met.
 //!
-//! A merge that runs and tables that are only kept stand nowhere on a device: a state is shown without them. Which state a
-//! store may be in, and what a line makes of it, is said by `state_model`; the bytes of each part are those of
+//! A merge that runs and tables that are only kept stand nowhere on a device: `StandsFor` takes a state without them. Which
+//! state a store may be in, and what a line makes of it, is said by `state_model`; the bytes of each part are those of
 //! `manifest_model`, `block_model` and `gate_log`. Nothing here runs, and nothing here reads a device.
 //!
 //! ```text
