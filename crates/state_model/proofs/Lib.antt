@@ -10,3 +10,4 @@ pub mod Parts
 pub mod Disjoint
 pub mod Taken
 pub mod Installs
+pub mod Reasons

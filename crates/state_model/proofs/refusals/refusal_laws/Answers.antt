@@ -1,0 +1,5 @@
+use Rattle.state_model.proofs.Reasons.{gives_reply, only_so}
+use Rattle.state_model.proofs.refusals.refusal_laws.Goals as goal
+
+pub returns : goal.returns
+returns c = record { gives = gives_reply; only = only_so }
