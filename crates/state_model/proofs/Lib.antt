@@ -11,3 +11,4 @@ pub mod Disjoint
 pub mod Taken
 pub mod Installs
 pub mod Reasons
+pub mod Limited

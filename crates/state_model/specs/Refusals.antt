@@ -1,5 +1,6 @@
 -- Why a line is refused.
-use Rattle.std.specs.Prelude.{◌≡◌, ◌≢◌, ◌<◌, ◌≤◌, Bool, true, false, List, [], ◌∷◌, length, Some, None, Result, Ok, Err}
+use Rattle.std.specs.Prelude.{◌≡◌, ◌≢◌, ◌⊎◌, ◌<◌, ◌≤◌, Bool, true, false, List, [], ◌∷◌, length, Option, Some, None, Result, Ok, Err}
+use Rattle.store_model.specs.SortedMap.{Bytes}
 use Rattle.store_model.specs.Entries.{put_entry, del_entry, need, gap}
 use Rattle.state_model.specs.State.{State, Table, without_job, last_epoch}
 use Rattle.state_model.specs.View.{memory, entries_of}
@@ -7,7 +8,7 @@ use Rattle.state_model.specs.Pages.{Spells}
 use Rattle.state_model.specs.Gaps.{taken}
 use Rattle.state_model.specs.Merges.{NoRoom, placed, cut}
 use Rattle.state_model.specs.Changes.{most_tables, live_entries}
-use Rattle.state_model.specs.Requests.{Request, Put, Del, Flush, Compact}
+use Rattle.state_model.specs.Requests.{Request, Put, Del, Get, Seek, Range, Count, Estimate, Explain, Flush, Compact}
 use Rattle.state_model.specs.Replies.{Reply, LongKey, LongValue, ManyTables, LastEpoch, Full}
 use Rattle.state_model.specs.Steps.{answer, limit_of}
 
@@ -19,6 +20,42 @@ is_refusal ManyTables = true
 is_refusal LastEpoch = true
 is_refusal (Full need gap) = true
 is_refusal reply = false
+
+-- ---- limits
+
+-- a key has 1 to 1,024 bytes
+abbrev pub IsKey : Bytes → Type 0
+IsKey key = (1 ≤ length key) × (length key ≤ 1024)
+
+abbrev pub IsNoKey : Bytes → Type 0
+IsNoKey key = (length key ≡ 0) ⊎ (1024 < length key)
+
+-- the key that a request names
+abbrev pub key_of : Request → Option Bytes
+key_of (Put key value) = Some key
+key_of (Del key) = Some key
+key_of (Get key) = Some key
+key_of (Explain key) = Some key
+key_of request = None
+
+-- the bounds between which a request reads
+abbrev pub bounds_of : Request → List Bytes
+bounds_of (Seek lo None) = lo ∷ []
+bounds_of (Seek lo (Some hi)) = lo ∷ hi ∷ []
+bounds_of (Range lo hi n) = lo ∷ hi ∷ []
+bounds_of (Count lo hi) = lo ∷ hi ∷ []
+bounds_of (Estimate lo hi) = lo ∷ hi ∷ []
+bounds_of request = []
+
+-- The limits that a request may break, and the reply: a key, and then a value of more than 65,536 bytes; a bound of more
+-- than 1,024 bytes, the lower one first. A bound may be empty.
+pub data BreaksLimit (request : Request) : Reply → Type 0 where
+  by_key : (key : Bytes) → key_of request ≡ Some key → IsNoKey key → BreaksLimit request (LongKey (length key))
+  by_value : (key value : Bytes) → request ≡ Put key value → IsKey key → 65536 < length value → BreaksLimit request (LongValue (length value))
+  by_lower : (lo : Bytes) (more : List Bytes) → bounds_of request ≡ lo ∷ more → 1024 < length lo → BreaksLimit request (LongKey (length lo))
+  by_upper : (lo hi : Bytes) → bounds_of request ≡ lo ∷ hi ∷ [] → length lo ≤ 1024 → 1024 < length hi → BreaksLimit request (LongKey (length hi))
+
+-- ---- causes
 
 -- there are memory entries, and a flush of them is asked for, or an entry whose record does not fit the log area
 abbrev pub FlushIsDue : State → Request → Type 0
@@ -52,9 +89,12 @@ pub data Refused (spells : Spells) (s : State) (request : Request) : Reply → T
   compaction_by_room : (refusal : NoRoom) → limit_of request ≡ None → CompactionIsDue s request → s.epoch ≢ last_epoch
       → compaction_places spells s ≡ Err refusal → Refused spells s request (Full refusal.need refusal.gap)
 
--- A line that has a cause is answered by its refusal, and every refusal has its cause.
+-- A line that has a cause is answered by its refusal, and every refusal has its cause. The limit of a request is the one
+-- that it breaks.
 pub record RefusalLaws : Type 0 where
   pub gives : (spells : Spells) (s : State) (request : Request) (reply : Reply) → Refused spells s request reply → (answer spells s request).0 ≡ reply
   pub only :
       (spells : Spells) (s : State) (request : Request)
       → is_refusal (answer spells s request).0 ≡ true → Refused spells s request (answer spells s request).0
+  pub limits : (request : Request) (reply : Reply) → BreaksLimit request reply → limit_of request ≡ Some reply
+  pub limits_only : (request : Request) (reply : Reply) → limit_of request ≡ Some reply → BreaksLimit request reply
