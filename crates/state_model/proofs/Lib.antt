@@ -10,3 +10,5 @@ pub mod Parts
 pub mod Disjoint
 pub mod Taken
 pub mod Installs
+pub mod Reasons
+pub mod Limited

@@ -1,0 +1,6 @@
+use Rattle.state_model.proofs.Limited.{broken_limits, limits_broken}
+use Rattle.state_model.proofs.Reasons.{gives_reply, only_so}
+use Rattle.state_model.proofs.refusals.refusal_laws.Goals as goal
+
+pub returns : goal.returns
+returns c = record { gives = gives_reply; only = only_so; limits = broken_limits; limits_only = limits_broken }

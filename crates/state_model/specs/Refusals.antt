@@ -1,0 +1,100 @@
+-- Why a line is refused.
+use Rattle.std.specs.Prelude.{◌≡◌, ◌≢◌, ◌⊎◌, ◌<◌, ◌≤◌, Bool, true, false, List, [], ◌∷◌, length, Option, Some, None, Result, Ok, Err}
+use Rattle.store_model.specs.SortedMap.{Bytes}
+use Rattle.store_model.specs.Entries.{put_entry, del_entry, need, gap}
+use Rattle.state_model.specs.State.{State, Table, without_job, last_epoch}
+use Rattle.state_model.specs.View.{memory, entries_of}
+use Rattle.state_model.specs.Pages.{Spells}
+use Rattle.state_model.specs.Gaps.{taken}
+use Rattle.state_model.specs.Merges.{NoRoom, placed, cut}
+use Rattle.state_model.specs.Changes.{most_tables, live_entries}
+use Rattle.state_model.specs.Requests.{Request, Put, Del, Get, Seek, Range, Count, Estimate, Explain, Flush, Compact}
+use Rattle.state_model.specs.Replies.{Reply, LongKey, LongValue, ManyTables, LastEpoch, Full}
+use Rattle.state_model.specs.Steps.{answer, limit_of}
+
+-- the replies that refuse a line for what the state or the line is
+abbrev pub is_refusal : Reply → Bool
+is_refusal (LongKey size) = true
+is_refusal (LongValue size) = true
+is_refusal ManyTables = true
+is_refusal LastEpoch = true
+is_refusal (Full need gap) = true
+is_refusal reply = false
+
+-- ---- limits
+
+-- a key has 1 to 1,024 bytes
+abbrev pub IsKey : Bytes → Type 0
+IsKey key = (1 ≤ length key) × (length key ≤ 1024)
+
+abbrev pub IsNoKey : Bytes → Type 0
+IsNoKey key = (length key ≡ 0) ⊎ (1024 < length key)
+
+-- the key that a request names
+abbrev pub key_of : Request → Option Bytes
+key_of (Put key value) = Some key
+key_of (Del key) = Some key
+key_of (Get key) = Some key
+key_of (Explain key) = Some key
+key_of request = None
+
+-- the bounds between which a request reads
+abbrev pub bounds_of : Request → List Bytes
+bounds_of (Seek lo None) = lo ∷ []
+bounds_of (Seek lo (Some hi)) = lo ∷ hi ∷ []
+bounds_of (Range lo hi n) = lo ∷ hi ∷ []
+bounds_of (Count lo hi) = lo ∷ hi ∷ []
+bounds_of (Estimate lo hi) = lo ∷ hi ∷ []
+bounds_of request = []
+
+-- The limits that a request may break, and the reply: a key, and then a value of more than 65,536 bytes; a bound of more
+-- than 1,024 bytes, the lower one first. A bound may be empty.
+pub data BreaksLimit (request : Request) : Reply → Type 0 where
+  by_key : (key : Bytes) → key_of request ≡ Some key → IsNoKey key → BreaksLimit request (LongKey (length key))
+  by_value : (key value : Bytes) → request ≡ Put key value → IsKey key → 65536 < length value → BreaksLimit request (LongValue (length value))
+  by_lower : (lo : Bytes) (more : List Bytes) → bounds_of request ≡ lo ∷ more → 1024 < length lo → BreaksLimit request (LongKey (length lo))
+  by_upper : (lo hi : Bytes) → bounds_of request ≡ lo ∷ hi ∷ [] → length lo ≤ 1024 → 1024 < length hi → BreaksLimit request (LongKey (length hi))
+
+-- ---- causes
+
+-- there are memory entries, and a flush of them is asked for, or an entry whose record does not fit the log area
+abbrev pub FlushIsDue : State → Request → Type 0
+FlushIsDue s (Put key value) = (gap s.log < need (put_entry key value)) × (memory s ≢ [])
+FlushIsDue s (Del key) = (gap s.log < need (del_entry key)) × (memory s ≢ [])
+FlushIsDue s Flush = memory s ≢ []
+FlushIsDue s request = ⊥
+
+-- a compaction of a store that is not empty is asked for
+abbrev pub CompactionIsDue : State → Request → Type 0
+CompactionIsDue s Compact = entries_of s ≢ []
+CompactionIsDue s request = ⊥
+
+-- where the tables of a flush are put, and those of a compaction
+abbrev pub flush_places : Spells → State → Result (List Table) NoRoom
+flush_places spells s = placed spells s (taken s) 0 (memory s ∷ [])
+
+abbrev pub compaction_places : Spells → State → Result (List Table) NoRoom
+compaction_places spells s = placed spells s (taken (without_job s)) 6 (cut s.tables (live_entries s))
+
+-- The causes for which a line is refused, and the reply by which it is. Limits come first. A flush asks for fewer tables
+-- than the most, then for room, then for a next epoch; a compaction asks for a next epoch, then for room.
+pub data Refused (spells : Spells) (s : State) (request : Request) : Reply → Type 0 where
+  by_limit : (reply : Reply) → limit_of request ≡ Some reply → Refused spells s request reply
+  flush_by_tables : limit_of request ≡ None → FlushIsDue s request → most_tables ≤ length s.tables → Refused spells s request ManyTables
+  flush_by_room : (refusal : NoRoom) → limit_of request ≡ None → FlushIsDue s request → length s.tables < most_tables
+      → flush_places spells s ≡ Err refusal → Refused spells s request (Full refusal.need refusal.gap)
+  flush_by_epoch : (made : List Table) → limit_of request ≡ None → FlushIsDue s request → length s.tables < most_tables
+      → flush_places spells s ≡ Ok made → s.epoch ≡ last_epoch → Refused spells s request LastEpoch
+  compaction_by_epoch : limit_of request ≡ None → CompactionIsDue s request → s.epoch ≡ last_epoch → Refused spells s request LastEpoch
+  compaction_by_room : (refusal : NoRoom) → limit_of request ≡ None → CompactionIsDue s request → s.epoch ≢ last_epoch
+      → compaction_places spells s ≡ Err refusal → Refused spells s request (Full refusal.need refusal.gap)
+
+-- A line that has a cause is answered by its refusal, and every refusal has its cause. The limit of a request is the one
+-- that it breaks.
+pub record RefusalLaws : Type 0 where
+  pub gives : (spells : Spells) (s : State) (request : Request) (reply : Reply) → Refused spells s request reply → (answer spells s request).0 ≡ reply
+  pub only :
+      (spells : Spells) (s : State) (request : Request)
+      → is_refusal (answer spells s request).0 ≡ true → Refused spells s request (answer spells s request).0
+  pub limits : (request : Request) (reply : Reply) → BreaksLimit request reply → limit_of request ≡ Some reply
+  pub limits_only : (request : Request) (reply : Reply) → limit_of request ≡ Some reply → BreaksLimit request reply
