@@ -10,3 +10,6 @@ pub mod Parts
 pub mod Disjoint
 pub mod Taken
 pub mod Installs
+pub mod Rooms
+pub mod Wholes
+pub mod Plays

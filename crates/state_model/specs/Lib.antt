@@ -15,3 +15,4 @@ pub mod Script
 pub mod Play
 pub mod Rows
 pub mod Laws
+pub mod PlayLaws
