@@ -12,3 +12,6 @@ pub mod Taken
 pub mod Installs
 pub mod Reasons
 pub mod Limited
+pub mod Rooms
+pub mod Wholes
+pub mod Plays

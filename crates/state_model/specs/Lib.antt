@@ -16,3 +16,4 @@ pub mod Play
 pub mod Rows
 pub mod Laws
 pub mod Refusals
+pub mod PlayLaws

@@ -12,9 +12,11 @@
 #![tactic(auto)]
 
 mod laws;
+mod playing;
 mod refusals;
 mod rows;
 
 pub use laws::{change_laws, install_laws, merge_laws, view_laws};
+pub use playing::play_laws;
 pub use refusals::refusal_laws;
 pub use rows::{levels_and_gaps, limits, lines_and_words, merges_and_flushes, reads_between_keys};
