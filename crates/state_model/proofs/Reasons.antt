@@ -175,7 +175,7 @@ flushed_with_cause spells s request (entry ∷ more) e within due =
     let some : memory s ≢ [] = λ none. cc in
     let places = ap (λ (l : List Entry). placed spells s (taken s) 0 (l ∷ [])) e in
     elim (nat_le most_tables (length s.tables)) as (λ t. nat_le most_tables (length s.tables) ≡ t
-        → HasCause spells s request (cond t (Err ManyTables) (flush_placed s (placed spells s (taken s) 0 ((entry ∷ more) ∷ []))))) [
+    → HasCause spells s request (cond t (Err ManyTables) (flush_placed s (placed spells s (taken s) 0 ((entry ∷ more) ∷ []))))) [
       | true ↦ λ many. flush_by_tables within (due some) (le_of most_tables (length s.tables) many)
       | false ↦ λ few. flush_placed_cause spells s request (placed spells s (taken s) 0 ((entry ∷ more) ∷ [])) within (due some) (not_le most_tables (length s.tables) few) places
     ] refl
