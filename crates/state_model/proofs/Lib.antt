@@ -12,3 +12,4 @@ pub mod Taken
 pub mod Installs
 pub mod Reasons
 pub mod Limited
+pub mod Rooms
