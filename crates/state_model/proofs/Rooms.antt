@@ -1,122 +1,120 @@
--- Whether there is a gap does not hang on the order of the extents.
-use Rattle.std.proofs.Common.{◌≡◌, ℕ, List, [], ◌∷◌, ◌++◌, refl, sym, ap, ap₂, ◌∙◌, subst, Bool, true, false, cond, arith, map}
-use Rattle.std.specs.Prelude.{None, nat_le, min, ◌||◌, ◌-◌, if◌then◌else◌, filter, fold}
-use Rattle.std.specs.List.{list_any}
-use Rattle.std.proofs.lemmas.List.{append_assoc, append-nil}
-use Rattle.state_model.specs.State.{Table}
-use Rattle.state_model.specs.Gaps.{Extent, end_of, extent_of, has_page, next_taken, room_at, gap_starts, first_table_page, least, first_gap}
+-- A table is refused for want of room exactly where it has more pages than the largest gap.
+use Rattle.std.proofs.Common.{◌≡◌, ℕ, zero, suc, ◌≤◌, ◌<◌, List, [], ◌∷◌, refl, ap, ◌∙◌, subst, Bool, true, false, cond, map, arith}
+use Rattle.std.specs.Prelude.{Option, Some, None, Result, Ok, Err, nat_le, max, fold, filter}
+use Rattle.store_model.specs.Entries.{Entry}
+use Rattle.state_model.specs.State.{State, Table}
+use Rattle.state_model.specs.View.{memory}
+use Rattle.state_model.specs.Pages.{Spells, table_pages, table_of}
+use Rattle.state_model.specs.Gaps.{Extent, taken, room_at, gap_starts, least, first_gap, largest_gap}
+use Rattle.state_model.specs.Merges.{NoRoom, placed, before, at_page}
+use Rattle.state_model.specs.Refusals.{flush_places}
 
--- ---- extents that leave the same room
+not_le : (m n : ℕ) → nat_le m n ≡ false → n < m
+not_le m n e = grind arith
 
--- what of some extents a gap hangs on: whether any is so, and where the next one begins
-pub record Alike (xs ys : List Extent) : Type 0 where
-  any : (is_so : Extent → Bool) → list_any is_so xs ≡ list_any is_so ys
-  next : (pages page : ℕ) → next_taken pages xs page ≡ next_taken pages ys page
+le_false : (m n : ℕ) → n < m → nat_le m n ≡ false
+le_false m n l = grind arith
 
-pub alike_self : (xs : List Extent) → Alike xs xs
-alike_self xs = record { any = λ is_so. refl; next = λ pages page. refl }
+max_less : (a b n : ℕ) → a < n → b < n → max a b < n
+max_less a b n x y = grind arith
 
-pub alike_chain : (xs ys zs : List Extent) → Alike xs ys → Alike ys zs → Alike xs zs
-alike_chain xs ys zs a b = record { any = λ is_so. a.any is_so ∙ b.any is_so; next = λ pages page. a.next pages page ∙ b.next pages page }
+max_left : (a b c : ℕ) → max a b ≤ c → a ≤ c
+max_left a b c l = grind arith
 
--- the next page before which one more extent lies
-abbrev lowered : ℕ → ℕ → Extent → ℕ
-lowered pages page e = cond (nat_le page e.0) (min pages e.0) pages
+max_right : (a b c : ℕ) → max a b ≤ c → b ≤ c
+max_right a b c l = grind arith
 
-next_cons : (pages page : ℕ) (e : Extent) (xs : List Extent) → next_taken pages (e ∷ xs) page ≡ next_taken (lowered pages page e) xs page
-next_cons pages page e xs = elim (nat_le page e.0) as (λ t.
-    fold min pages (map (λ (e : Extent). e.0) (cond t (e ∷ filter (λ (e : Extent). nat_le page e.0) xs) (filter (λ (e : Extent). nat_le page e.0) xs)))
-    ≡ next_taken (cond t (min pages e.0) pages) xs page) [ true ↦ refl | false ↦ refl ]
+le_less : (a b c : ℕ) → a ≤ b → b < c → a < c
+le_less a b c x y = grind arith
 
-pub alike_cons : (e : Extent) (xs ys : List Extent) → Alike xs ys → Alike (e ∷ xs) (e ∷ ys)
-alike_cons e xs ys a = record {
-  any = λ is_so. ap (λ (t : Bool). is_so e || t) (a.any is_so);
-  next = λ pages page. next_cons pages page e xs ∙ a.next (lowered pages page e) page ∙ sym (next_cons pages page e ys);
-}
+same_le : (a : ℕ) → a ≤ a
+same_le a = grind arith
 
-or_swap : (a b c : Bool) → (a || (b || c)) ≡ (b || (a || c))
-or_swap true true c = refl
-or_swap true false c = refl
-or_swap false true c = refl
-or_swap false false c = refl
+-- where none fits, all rooms are less
+none_fits : (room : ℕ → ℕ) (need most : ℕ) (starts : List ℕ) → most < need → filter (λ page. nat_le need (room page)) starts ≡ [] → fold max most (map room starts) < need
+none_fits room need most [] less e = less
+none_fits room need most (page ∷ more) less e =
+    elim (nat_le need (room page)) as (λ t. nat_le need (room page) ≡ t
+        → cond t (page ∷ filter (λ page. nat_le need (room page)) more) (filter (λ page. nat_le need (room page)) more) ≡ [] → fold max (max most (room page)) (map room more) < need) [
+      | true ↦ λ fits none. cc
+      | false ↦ λ wide none. none_fits room need (max most (room page)) more (max_less most (room page) need less (not_le need (room page) wide)) none
+    ] refl e
 
-min_swap : (p a b : ℕ) → min (min p a) b ≡ min (min p b) a
-min_swap p a b = omega arith
+-- the greatest is no less than those before it
+most_grows : (room : ℕ → ℕ) (most : ℕ) (starts : List ℕ) → most ≤ fold max most (map room starts)
+most_grows room most [] = same_le most
+most_grows room most (page ∷ more) = max_left most (room page) (fold max (max most (room page)) (map room more)) (most_grows room (max most (room page)) more)
 
-lowered_swap : (pages page : ℕ) (d e : Extent) → lowered (lowered pages page d) page e ≡ lowered (lowered pages page e) page d
-lowered_swap pages page d e = elim (nat_le page d.0) as (λ t. cond (nat_le page e.0) (min (cond t (min pages d.0) pages) e.0) (cond t (min pages d.0) pages) ≡ cond t (min (lowered pages page e) d.0) (lowered pages page e)) [
-  | true ↦ elim (nat_le page e.0) as (λ u. cond u (min (min pages d.0) e.0) (min pages d.0) ≡ min (cond u (min pages e.0) pages) d.0) [ true ↦ min_swap pages d.0 e.0 | false ↦ refl ]
-  | false ↦ refl
-]
+-- where all rooms are less, none fits
+none_left : (room : ℕ → ℕ) (need most : ℕ) (starts : List ℕ) → fold max most (map room starts) < need → filter (λ page. nat_le need (room page)) starts ≡ []
+none_left room need most [] less = refl
+none_left room need most (page ∷ more) less =
+    let small = le_less (room page) (fold max (max most (room page)) (map room more)) need
+        (max_right most (room page) (fold max (max most (room page)) (map room more)) (most_grows room (max most (room page)) more)) less in
+    ap (λ (t : Bool). cond t (page ∷ filter (λ page. nat_le need (room page)) more) (filter (λ page. nat_le need (room page)) more)) (le_false need (room page) small)
+    ∙ none_left room need (max most (room page)) more less
 
-alike_swap : (d e : Extent) (xs : List Extent) → Alike (d ∷ e ∷ xs) (e ∷ d ∷ xs)
-alike_swap d e xs = record {
-  any = λ is_so. or_swap (is_so d) (is_so e) (list_any is_so xs);
-  next = λ pages page. next_cons pages page d (e ∷ xs) ∙ next_cons (lowered pages page d) page e xs
-      ∙ ap (λ (n : ℕ). next_taken n xs page) (lowered_swap pages page d e)
-      ∙ sym (next_cons (lowered pages page e) page d xs) ∙ sym (next_cons pages page e (d ∷ xs));
-}
+least_none : (pages : List ℕ) → least pages ≡ None → pages ≡ []
+least_none [] e = refl
+least_none (page ∷ more) e = cc
 
--- an extent in front, and the same one further in
-pub alike_moved : (e : Extent) (xs ys : List Extent) → Alike (e ∷ (xs ++ ys)) (xs ++ (e ∷ ys))
-alike_moved e [] ys = alike_self (e ∷ ys)
-alike_moved e (x ∷ xs) ys = alike_chain (e ∷ x ∷ (xs ++ ys)) (x ∷ e ∷ (xs ++ ys)) (x ∷ (xs ++ (e ∷ ys)))
-    (alike_swap e x (xs ++ ys)) (alike_cons x (e ∷ (xs ++ ys)) (xs ++ (e ∷ ys)) (alike_moved e xs ys))
+zero_le : (n : ℕ) → nat_le 0 n ≡ true
+zero_le n = grind arith
 
--- ---- the extents of tables that are placed one after the other
+some_or_none : (o : Option ℕ) (n : ℕ) → o ≡ Some n → o ≡ None → ⊥
+some_or_none o n some none = cc
 
--- the extents of some tables in front of others, the last table first
-abbrev pub in_front : List Table → List Extent → List Extent
-in_front [] taken = taken
-in_front (t ∷ more) taken = in_front more (extent_of t ∷ taken)
+zero_fits : (room : ℕ → ℕ) (page : ℕ) (more : List ℕ) → least (filter (λ page. nat_le 0 (room page)) (page ∷ more)) ≡ None → ⊥
+zero_fits room page more e = some_or_none _ _
+    (ap (λ (t : Bool). least (cond t (page ∷ filter (λ page. nat_le 0 (room page)) more) (filter (λ page. nat_le 0 (room page)) more))) (zero_le (room page))) e
 
-in_front_alike : (made : List Table) (xs ys : List Extent) → Alike xs ys → Alike (in_front made xs) (in_front made ys)
-in_front_alike [] xs ys a = a
-in_front_alike (t ∷ more) xs ys a = in_front_alike more (extent_of t ∷ xs) (extent_of t ∷ ys) (alike_cons (extent_of t) xs ys a)
+some_need : (need : ℕ) (room : ℕ → ℕ) (page : ℕ) (more : List ℕ) → least (filter (λ page. nat_le need (room page)) (page ∷ more)) ≡ None → 0 < need
+some_need zero room page more e = absurd (zero_fits room page more e)
+some_need (suc need) room page more e = grind arith
 
-pub in_front_or_within : (made : List Table) (xs ys : List Extent) → Alike (in_front made (xs ++ ys)) (xs ++ map extent_of made ++ ys)
-in_front_or_within [] xs ys = subst (λ (l : List Extent). Alike (xs ++ ys) (l ++ ys)) (sym (append-nil xs)) (alike_self (xs ++ ys))
-in_front_or_within (t ∷ more) xs ys =
-    let e = extent_of t in
-    let moved = subst (Alike (e ∷ (xs ++ ys))) (sym (append_assoc xs (e ∷ []) ys)) (alike_moved e xs ys) in
-    let longer = subst (λ (l : List Extent). Alike (in_front more ((xs ++ e ∷ []) ++ ys)) (l ++ ys)) (append_assoc xs (e ∷ []) (map extent_of more))
-    (in_front_or_within more (xs ++ e ∷ []) ys) in
-    alike_chain (in_front more (e ∷ (xs ++ ys))) (in_front more ((xs ++ e ∷ []) ++ ys)) (xs ++ map extent_of (t ∷ more) ++ ys)
-    (in_front_alike more (e ∷ (xs ++ ys)) ((xs ++ e ∷ []) ++ ys) moved) longer
+no_gap : (pages : ℕ) (extents : List Extent) (need : ℕ) → first_gap pages extents need ≡ None → largest_gap pages extents < need
+no_gap pages extents need e =
+    none_fits (room_at pages extents) need 0 (gap_starts extents) (some_need need (room_at pages extents) _ _ e)
+    (least_none (filter (λ page. nat_le need (room_at pages extents page)) (gap_starts extents)) e)
 
--- ---- no gap
+gap_small : (pages : ℕ) (extents : List Extent) (need : ℕ) → largest_gap pages extents < need → first_gap pages extents need ≡ None
+gap_small pages extents need less = ap least (none_left (room_at pages extents) need 0 (gap_starts extents) less)
 
-none_any : (is_so : ℕ → Bool) (xs : List ℕ) → least (filter is_so xs) ≡ None → list_any is_so xs ≡ false
-none_any is_so [] e = refl
-none_any is_so (x ∷ xs) e = elim (is_so x) as (λ t. least (cond t (x ∷ filter is_so xs) (filter is_so xs)) ≡ None → (t || list_any is_so xs) ≡ false) [
-  | true ↦ λ e. absurd cc
-  | false ↦ λ e. none_any is_so xs e
-] e
+-- ---- tables that are placed
 
-any_none : (is_so : ℕ → Bool) (xs : List ℕ) → list_any is_so xs ≡ false → least (filter is_so xs) ≡ None
-any_none is_so [] e = refl
-any_none is_so (x ∷ xs) e = elim (is_so x) as (λ t. (t || list_any is_so xs) ≡ false → least (cond t (x ∷ filter is_so xs) (filter is_so xs)) ≡ None) [
-  | true ↦ λ e. absurd cc
-  | false ↦ λ e. any_none is_so xs e
-] e
+before_refused : (t : Table) (done : Result (List Table) NoRoom) (refusal : NoRoom) → before t done ≡ Err refusal → done ≡ Err refusal
+before_refused t (Ok tables) refusal e = cc
+before_refused t (Err other) refusal e = e
 
-any_map : (is_so : ℕ → Bool) (f : Extent → ℕ) (xs : List Extent) → list_any is_so (map f xs) ≡ list_any (λ (e : Extent). is_so (f e)) xs
-any_map is_so f [] = refl
-any_map is_so f (x ∷ xs) = ap (λ (t : Bool). is_so (f x) || t) (any_map is_so f xs)
+pub wants_more : (spells : Spells) (s : State) (extents : List Extent) (level : ℕ) (outputs : List (List Entry)) (refusal : NoRoom)
+    → placed spells s extents level outputs ≡ Err refusal → refusal.gap < refusal.need
+wants_more spells s extents level [] refusal e = cc
+wants_more spells s extents level (output ∷ more) refusal e =
+    let need = table_pages spells s.settings output in
+    let there = λ (page : ℕ). before (table_of spells s.settings level page output) (placed spells s ((page, need) ∷ extents) level more) in
+    let refused : NoRoom = record { need = need; gap = largest_gap s.pages extents } in
+    elim (first_gap s.pages extents need) as (λ o. first_gap s.pages extents need ≡ o → at_page o there refused ≡ Err refusal → refusal.gap < refusal.need) [
+      | Some page ↦ λ is so. wants_more spells s ((page, need) ∷ extents) level more refusal
+          (before_refused (table_of spells s.settings level page output) (placed spells s ((page, need) ∷ extents) level more) refusal so)
+      | None ↦ λ is so.
+          let same : refused ≡ refusal = cc in
+          subst (λ (r : NoRoom). r.gap < r.need) same (no_gap s.pages extents need is)
+    ] refl e
 
-any_same : (f g : Extent → Bool) (xs : List Extent) → ((e : Extent) → f e ≡ g e) → list_any f xs ≡ list_any g xs
-any_same f g [] same = refl
-any_same f g (x ∷ xs) same = ap₂ (λ (t u : Bool). t || u) (same x) (any_same f g xs same)
+pub flush_refused : (spells : Spells) (s : State) → largest_gap s.pages (taken s) < table_pages spells s.settings (memory s)
+    → flush_places spells s ≡ Err (record { need = table_pages spells s.settings (memory s); gap = largest_gap s.pages (taken s) })
+flush_refused spells s wide =
+    let need = table_pages spells s.settings (memory s) in
+    ap (λ (o : Option ℕ). at_page o (λ page. before (table_of spells s.settings 0 page (memory s)) (placed spells s ((page, need) ∷ taken s) 0 []))
+        (record { need = need; gap = largest_gap s.pages (taken s) })) (gap_small s.pages (taken s) need wide)
 
-room_alike : (pages : ℕ) (xs ys : List Extent) (page : ℕ) → Alike xs ys → room_at pages xs page ≡ room_at pages ys page
-room_alike pages xs ys page a = ap₂ (λ (t : Bool) (n : ℕ). if t then 0 else n - page) (a.any (has_page page)) (a.next pages page)
-
--- extents that are alike have no gap together
-pub no_gap_alike : (pages need : ℕ) (xs ys : List Extent) → Alike xs ys → first_gap pages xs need ≡ None → first_gap pages ys need ≡ None
-no_gap_alike pages need xs ys a e =
-    let fits = λ (l : List Extent) (page : ℕ). nat_le need (room_at pages l page) in
-    let same = λ (page : ℕ). ap (nat_le need) (room_alike pages xs ys page a) in
-    let behind = any_map (fits xs) end_of xs ∙ a.any (λ (e : Extent). fits xs (end_of e))
-    ∙ any_same (λ (e : Extent). fits xs (end_of e)) (λ (e : Extent). fits ys (end_of e)) ys (λ e. same (end_of e)) ∙ sym (any_map (fits ys) end_of ys) in
-    let starts = ap₂ (λ (t u : Bool). t || u) (same first_table_page) behind in
-    any_none (fits ys) (gap_starts ys) (sym starts ∙ none_any (fits xs) (gap_starts xs) e)
+pub flush_wants_more : (spells : Spells) (s : State) (refusal : NoRoom) → flush_places spells s ≡ Err refusal
+    → refusal ≡ record { need = table_pages spells s.settings (memory s); gap = largest_gap s.pages (taken s) }
+flush_wants_more spells s refusal e =
+    let need = table_pages spells s.settings (memory s) in
+    let there = λ (page : ℕ). before (table_of spells s.settings 0 page (memory s)) (placed spells s ((page, need) ∷ taken s) 0 []) in
+    let refused : NoRoom = record { need = need; gap = largest_gap s.pages (taken s) } in
+    elim (first_gap s.pages (taken s) need) as (λ o. at_page o there refused ≡ Err refusal → refusal ≡ refused) [
+      | Some page ↦ λ so. cc
+      | None ↦ λ so. cc
+    ] e

@@ -1,11 +1,11 @@
 -- Why a line is refused.
-use Rattle.std.specs.Prelude.{◌≡◌, ◌≢◌, ◌⊎◌, ◌<◌, ◌≤◌, Bool, true, false, List, [], ◌∷◌, length, Option, Some, None, Result, Ok, Err}
+use Rattle.std.specs.Prelude.{ℕ, ◌≡◌, ◌≢◌, ◌⊎◌, ◌<◌, ◌≤◌, Bool, true, false, List, [], ◌∷◌, length, Option, Some, None, Result, Ok, Err}
 use Rattle.store_model.specs.SortedMap.{Bytes}
-use Rattle.store_model.specs.Entries.{put_entry, del_entry, need, gap}
+use Rattle.store_model.specs.Entries.{Entry, put_entry, del_entry, need, gap}
 use Rattle.state_model.specs.State.{State, Table, without_job, last_epoch}
 use Rattle.state_model.specs.View.{memory, entries_of}
-use Rattle.state_model.specs.Pages.{Spells}
-use Rattle.state_model.specs.Gaps.{taken}
+use Rattle.state_model.specs.Pages.{Spells, table_pages}
+use Rattle.state_model.specs.Gaps.{Extent, taken, largest_gap}
 use Rattle.state_model.specs.Merges.{NoRoom, placed, cut}
 use Rattle.state_model.specs.Changes.{most_tables, live_entries}
 use Rattle.state_model.specs.Requests.{Request, Put, Del, Get, Seek, Range, Count, Estimate, Explain, Flush, Compact}
@@ -90,7 +90,7 @@ pub data Refused (spells : Spells) (s : State) (request : Request) : Reply → T
       → compaction_places spells s ≡ Err refusal → Refused spells s request (Full refusal.need refusal.gap)
 
 -- A line that has a cause is answered by its refusal, and every refusal has its cause. The limit of a request is the one
--- that it breaks.
+-- that it breaks. A flush has no room exactly where its table has more pages than the largest gap; a refusal says both.
 pub record RefusalLaws : Type 0 where
   pub gives : (spells : Spells) (s : State) (request : Request) (reply : Reply) → Refused spells s request reply → (answer spells s request).0 ≡ reply
   pub only :
@@ -98,3 +98,12 @@ pub record RefusalLaws : Type 0 where
       → is_refusal (answer spells s request).0 ≡ true → Refused spells s request (answer spells s request).0
   pub limits : (request : Request) (reply : Reply) → BreaksLimit request reply → limit_of request ≡ Some reply
   pub limits_only : (request : Request) (reply : Reply) → limit_of request ≡ Some reply → BreaksLimit request reply
+  pub room :
+      (spells : Spells) (s : State) (extents : List Extent) (level : ℕ) (outputs : List (List Entry)) (refusal : NoRoom)
+      → placed spells s extents level outputs ≡ Err refusal → refusal.gap < refusal.need
+  pub flush_room :
+      (spells : Spells) (s : State) → largest_gap s.pages (taken s) < table_pages spells s.settings (memory s)
+      → flush_places spells s ≡ Err (record { need = table_pages spells s.settings (memory s); gap = largest_gap s.pages (taken s) })
+  pub flush_room_only :
+      (spells : Spells) (s : State) (refusal : NoRoom) → flush_places spells s ≡ Err refusal
+      → refusal ≡ record { need = table_pages spells s.settings (memory s); gap = largest_gap s.pages (taken s) }
