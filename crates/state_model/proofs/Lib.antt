@@ -2,6 +2,9 @@ pub mod SameMaps
 pub mod Sayings
 pub mod Views
 pub mod Outputs
+pub mod SameRoom
+pub mod Wholes
+pub mod Plays
 pub mod Kept
 pub mod Lines
 pub mod Merged
@@ -10,6 +13,3 @@ pub mod Parts
 pub mod Disjoint
 pub mod Taken
 pub mod Installs
-pub mod Rooms
-pub mod Wholes
-pub mod Plays
