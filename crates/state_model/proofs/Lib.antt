@@ -2,6 +2,9 @@ pub mod SameMaps
 pub mod Sayings
 pub mod Views
 pub mod Outputs
+pub mod SameRoom
+pub mod Wholes
+pub mod Plays
 pub mod Kept
 pub mod Lines
 pub mod Merged
@@ -13,5 +16,3 @@ pub mod Installs
 pub mod Reasons
 pub mod Limited
 pub mod Rooms
-pub mod Wholes
-pub mod Plays

@@ -14,7 +14,7 @@ use Rattle.state_model.specs.Tends.{started, Runs, with_job, outstanding, next_p
 use Rattle.state_model.specs.Script.{Onward, turn_of_slice}
 use Rattle.state_model.specs.Play.{job_of_plan, job_of, finished, installed_or_dropped, merged_by, merged}
 use Rattle.state_model.proofs.Outputs.{placed_lists}
-use Rattle.state_model.proofs.Rooms.{Alike, in_front, in_front_or_within, no_gap_alike}
+use Rattle.state_model.proofs.SameRoom.{Alike, in_front, in_front_or_within, no_gap_alike}
 
 -- ---- the first output for which there is no room
 

@@ -13,6 +13,7 @@ pub mod Tends
 pub mod Steps
 pub mod Script
 pub mod Play
+pub mod PlayLaws
 pub mod Rows
 pub mod Laws
 pub mod Refusals

@@ -2,9 +2,10 @@
 //!
 //! A state is the log's entries, the tables in their levels, and the merge that runs; the map that it is follows
 //! (`View`). `Changes`, `Merges` and `Tends` say what a flush, a merge and a compaction make of it, `Steps` and `Script`
-//! what lines are answered, `Bounds` how many blocks a read may cost. The functions here do nothing: they carry the
-//! laws of these definitions, and rows by which they are tried. A row computes, so it costs as much as its lists are
-//! long. Which state a device holds is said by `image_model`; a store that runs is not here.
+//! what lines are answered, `Bounds` how many blocks a read may cost. `Play` computes one of the runs that `Script`
+//! allows. The functions here do nothing: they carry the laws of these definitions, and rows by which they are tried. A
+//! row computes, so it costs as much as its lists are long. Which state a device holds is said by `image_model`; a store
+//! that runs is not here.
 //!
 //! ```text
 //! played spells (new_state settings 512) (Put key value ∷ Flush ∷ Get key ∷ [])   -- the replies, and the state behind them
@@ -17,6 +18,6 @@ mod refusals;
 mod rows;
 
 pub use laws::{change_laws, install_laws, merge_laws, view_laws};
-pub use playing::play_laws;
+pub use playing::{play_laws, played_texts};
 pub use refusals::refusal_laws;
 pub use rows::{levels_and_gaps, limits, lines_and_words, merges_and_flushes, reads_between_keys};
