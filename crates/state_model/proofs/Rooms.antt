@@ -35,7 +35,7 @@ none_fits : (room : ℕ → ℕ) (need most : ℕ) (starts : List ℕ) → most 
 none_fits room need most [] less e = less
 none_fits room need most (page ∷ more) less e =
     elim (nat_le need (room page)) as (λ t. nat_le need (room page) ≡ t
-        → cond t (page ∷ filter (λ page. nat_le need (room page)) more) (filter (λ page. nat_le need (room page)) more) ≡ [] → fold max (max most (room page)) (map room more) < need) [
+    → cond t (page ∷ filter (λ page. nat_le need (room page)) more) (filter (λ page. nat_le need (room page)) more) ≡ [] → fold max (max most (room page)) (map room more) < need) [
       | true ↦ λ fits none. cc
       | false ↦ λ wide none. none_fits room need (max most (room page)) more (max_less most (room page) need less (not_le need (room page) wide)) none
     ] refl e
@@ -50,7 +50,7 @@ none_left : (room : ℕ → ℕ) (need most : ℕ) (starts : List ℕ) → fold 
 none_left room need most [] less = refl
 none_left room need most (page ∷ more) less =
     let small = le_less (room page) (fold max (max most (room page)) (map room more)) need
-        (max_right most (room page) (fold max (max most (room page)) (map room more)) (most_grows room (max most (room page)) more)) less in
+    (max_right most (room page) (fold max (max most (room page)) (map room more)) (most_grows room (max most (room page)) more)) less in
     ap (λ (t : Bool). cond t (page ∷ filter (λ page. nat_le need (room page)) more) (filter (λ page. nat_le need (room page)) more)) (le_false need (room page) small)
     ∙ none_left room need (max most (room page)) more less
 
@@ -106,7 +106,7 @@ pub flush_refused : (spells : Spells) (s : State) → largest_gap s.pages (taken
 flush_refused spells s wide =
     let need = table_pages spells s.settings (memory s) in
     ap (λ (o : Option ℕ). at_page o (λ page. before (table_of spells s.settings 0 page (memory s)) (placed spells s ((page, need) ∷ taken s) 0 []))
-        (record { need = need; gap = largest_gap s.pages (taken s) })) (gap_small s.pages (taken s) need wide)
+    (record { need = need; gap = largest_gap s.pages (taken s) })) (gap_small s.pages (taken s) need wide)
 
 pub flush_wants_more : (spells : Spells) (s : State) (refusal : NoRoom) → flush_places spells s ≡ Err refusal
     → refusal ≡ record { need = table_pages spells s.settings (memory s); gap = largest_gap s.pages (taken s) }

@@ -17,4 +17,3 @@ pub mod PlayLaws
 pub mod Rows
 pub mod Laws
 pub mod Refusals
-pub mod PlayLaws
