@@ -6,9 +6,8 @@ use Rattle.std.proofs.lemmas.Bool.{ne_eqb, le-ltb, or_from}
 use Rattle.std.proofs.lemmas.List.{drop-drop, drop_at, take_at}
 use Rattle.byteorder.specs.Endian.{little_bytes}
 use Rattle.byte_fields.proofs.NumberLemmas.{number_again}
-use Rattle.store_model.specs.SortedMap.{Bytes}
-use Rattle.store_model.specs.Entries.{Entry, body, bytes_of, kind_of}
-use Rattle.block_model.specs.Block.{IsEntry, keys_of}
+use Rattle.map_model.specs.SortedMap.{Bytes}
+use Rattle.entry_model.specs.Entries.{Entry, body, bytes_of, kind_of, IsEntry, keys_of}
 use Rattle.block_model.specs.BlockReading.{entries_fault, entries_in, entry_fault, entry_in, is_no_key_length, key_in, key_length_in, value_length_in, width_in}
 use Rattle.block_model.specs.Order.{Follow, is_above}
 use Rattle.block_model.proofs.Lengths.{length-body}

@@ -1,5 +1,5 @@
 -- Entries that break no rule were written as they are read.
-use Rattle.std.proofs.Common.{◌≡◌, ◌≤◌, ◌+◌, ℕ, zero, suc, Bool, true, false, cond, [], ◌∷◌, ◌++◌, length, take, drop, refl, sym, ap, ap₂, ◌∙◌, arith, length-drop}
+use Rattle.std.proofs.Common.{◌≡◌, ◌≤◌, ◌+◌, ℕ, zero, suc, Bool, true, false, cond, [], ◌∷◌, ◌++◌, length, take, drop, refl, sym, ap, ap₂, ◌∙◌, subst, arith, length-drop}
 use Rattle.std.specs.Prelude.{Some, None, ◌==◌, ◌&&◌, ◌||◌, nat_lt, not, flat_map, slice_index}
 use Rattle.std.specs.List.{AllByRecursion}
 use Rattle.std.proofs.lemmas.Bool.{eqb-true, ltb-false, or_parts}
@@ -7,10 +7,9 @@ use Rattle.std.proofs.lemmas.List.{drop-drop, length-take, nil_from_length, take
 use Rattle.std.proofs.Math.Seq.{take-add}
 use Rattle.byteorder.specs.Endian.{little_bytes}
 use Rattle.byte_fields.specs.Spelling.{IsBytes}
-use Rattle.byte_fields.proofs.NumberLemmas.{IsBytes-drop, number_back}
-use Rattle.store_model.specs.SortedMap.{Bytes}
-use Rattle.store_model.specs.Entries.{body, bytes_of, kind_of}
-use Rattle.block_model.specs.Block.{IsEntry, keys_of}
+use Rattle.byte_fields.proofs.NumberLemmas.{IsBytes-drop, IsBytes-take, number_back}
+use Rattle.map_model.specs.SortedMap.{Bytes}
+use Rattle.entry_model.specs.Entries.{body, bytes_of, kind_of, IsEntry, keys_of}
 use Rattle.block_model.specs.BlockReading.{entries_fault, entries_in, entry_fault, entry_in, is_no_key_length, key_in, key_length_in, kind_in, value_length_in, width_in}
 use Rattle.block_model.specs.Order.{Follow, is_above}
 use Rattle.block_model.proofs.LastBlocks.{positive}
@@ -95,6 +94,8 @@ entry_written place test rest bytes none =
         some_key = omega (arith, key_long, keys.0);
         short_key = omega (arith, key_long, keys.1);
         short_value = omega (arith, ap length value_bytes, value_long, values);
+        key_bytes = IsBytes-take k (drop 7 rest) (IsBytes-drop 7 rest bytes);
+        value_bytes = subst IsBytes (sym value_bytes) (IsBytes-take v (drop (7 + k) rest) (IsBytes-drop (7 + k) rest bytes));
       };
       passes = not_false _ f.0;
     }

@@ -6,7 +6,7 @@ use Rattle.std.proofs.lemmas.List.{drop_at, length-take, take-append-drop, take_
 use Rattle.byteorder.specs.Endian.{little_bytes, little_number}
 use Rattle.byte_fields.specs.Spelling.{IsBytes}
 use Rattle.byte_fields.proofs.NumberLemmas.{IsBytes-drop, number_again, number_back, number_below}
-use Rattle.store_model.specs.SortedMap.{Bytes}
+use Rattle.map_model.specs.SortedMap.{Bytes}
 use Rattle.block_model.specs.Index.{Index, IndexRow, IsIndex, index_bytes, index_head_bytes, index_magic, index_row_bytes, row_pages}
 use Rattle.block_model.specs.IndexReading.{head_width_in, index_fault, index_head_fault, index_in, least_in, least_length_in, pages_fault, rows_count_in, rows_fault, rows_in}
 use Rattle.block_model.specs.Laws.{IndexIsReadAgain, IndexWasWrittenSo}

@@ -7,7 +7,7 @@ use Rattle.std.proofs.lemmas.List.{drop_at, length-take, nil_from_length, take-a
 use Rattle.byteorder.specs.Endian.{little_bytes}
 use Rattle.byte_fields.specs.Spelling.{IsBytes}
 use Rattle.byte_fields.proofs.NumberLemmas.{IsBytes-drop, number_again, number_back, number_below}
-use Rattle.store_model.specs.SortedMap.{Bytes}
+use Rattle.map_model.specs.SortedMap.{Bytes}
 use Rattle.block_model.specs.Index.{IndexRow, IsIndexRow, index_row_bytes}
 use Rattle.block_model.specs.IndexReading.{last_in, last_length_in, pages_in, row_fault, row_in, row_width_in, rows_fault, rows_in, sum_in}
 use Rattle.block_model.specs.Order.{Follow, is_above}

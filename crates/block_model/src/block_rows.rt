@@ -2,7 +2,7 @@
 ghost use Rattle.std.specs.Prelude.{◌≡◌, [], ◌∷◌, ◌++◌, length, take, drop, set, replicate, Some, None};
 ghost use Rattle.block_model.specs.Block.{block_bytes};
 ghost use Rattle.block_model.specs.BlockReading.{block_fault, block_in};
-ghost use Rattle.block_model.specs.Faults.{fault};
+ghost use Rattle.byte_fields.specs.Faults.{fault};
 ghost use Rattle.block_model.specs.Rows.{a_and_ab, a_b, broken, no_ab};
 
 /// The bytes of the blocks of a with the value b, and of it with a tombstone of ab.

@@ -1,7 +1,7 @@
 -- A table is refused for want of room exactly where it has more pages than the largest gap.
 use Rattle.std.proofs.Common.{◌≡◌, ℕ, zero, suc, ◌≤◌, ◌<◌, List, [], ◌∷◌, refl, ap, ◌∙◌, subst, Bool, true, false, cond, map, arith}
 use Rattle.std.specs.Prelude.{Option, Some, None, Result, Ok, Err, nat_le, max, fold, filter}
-use Rattle.store_model.specs.Entries.{Entry}
+use Rattle.entry_model.specs.Entries.{Entry}
 use Rattle.state_model.specs.State.{State, Table}
 use Rattle.state_model.specs.View.{memory}
 use Rattle.state_model.specs.Pages.{Spells, table_pages, table_of}

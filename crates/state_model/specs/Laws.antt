@@ -1,8 +1,8 @@
 -- Laws of the state: which map it is, and what each change leaves of it.
 use Rattle.std.specs.Prelude.{◌≡◌, ◌≤◌, Bool, true, false, if◌then◌else◌, List, length, map, flat_map, Ok}
 use Rattle.std.specs.List.{AllByRecursion}
-use Rattle.store_model.specs.SortedMap.{Bytes, Map, get, put, del, Rises}
-use Rattle.store_model.specs.Entries.{Entry, live, changed}
+use Rattle.map_model.specs.SortedMap.{Bytes, Map, get, put, del, Rises}
+use Rattle.entry_model.specs.Entries.{Entry, live, changed}
 use Rattle.state_model.specs.State.{State, Table, Job}
 use Rattle.state_model.specs.View.{view, first_found, map_of}
 use Rattle.state_model.specs.Pages.{Spells}
@@ -10,8 +10,8 @@ use Rattle.state_model.specs.Merges.{Plan, planned, lasting, is_deepest, newest_
 use Rattle.state_model.specs.Changes.{flushed, written, compacted}
 use Rattle.state_model.specs.Sound.{IsSound, IsSoundTable, IsJob}
 use Rattle.state_model.specs.Tends.{IsDone, installed}
-use Rattle.state_model.specs.Requests.{Request, Put, Del}
-use Rattle.state_model.specs.Replies.{Reply, Done}
+use Rattle.line_model.specs.Requests.{Request, Put, Del}
+use Rattle.line_model.specs.Replies.{Reply, Done}
 use Rattle.state_model.specs.Steps.{answer}
 
 -- whether a line was answered as done

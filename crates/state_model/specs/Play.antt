@@ -5,8 +5,8 @@ use Rattle.state_model.specs.Pages.{Spells}
 use Rattle.state_model.specs.Merges.{NoRoom, Plan, choose}
 use Rattle.state_model.specs.Tends.{started, outstanding, next_placed, installed}
 use Rattle.state_model.specs.Steps.{answer}
-use Rattle.state_model.specs.Requests.{Request, Put, Del}
-use Rattle.state_model.specs.Replies.{Reply, Bye}
+use Rattle.line_model.specs.Requests.{Request, Put, Del}
+use Rattle.line_model.specs.Replies.{Reply, Bye}
 
 -- the job that runs, or a new one
 abbrev pub job_of_plan : Option Plan → Option Job

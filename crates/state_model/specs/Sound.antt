@@ -3,9 +3,9 @@ use Rattle.std.specs.Prelude.{◌≡◌, ◌⊎◌, ◌<◌, ◌≤◌, ℕ, Lis
 use Rattle.std.specs.List.{AllByRecursion, AllPairs, sum_by}
 use Rattle.std.specs.declared.cmp.Ordering.TheVariants.{Less}
 use Rattle.filter_api.specs.Ranges.{InRange}
-use Rattle.store_model.specs.SortedMap.{Bytes, byte_order}
-use Rattle.store_model.specs.Entries.{Entry, filled}
-use Rattle.block_model.specs.Block.{IsEntry, IsTable}
+use Rattle.map_model.specs.SortedMap.{Bytes, byte_order}
+use Rattle.entry_model.specs.Entries.{Entry, filled, IsEntry}
+use Rattle.block_model.specs.Block.{IsTable}
 use Rattle.state_model.specs.State.{State, Table, Job, last_epoch}
 use Rattle.state_model.specs.Pages.{Spells, table_of}
 use Rattle.state_model.specs.Gaps.{Extent, taken, end_of, first_table_page}

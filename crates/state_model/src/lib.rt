@@ -20,4 +20,4 @@ mod rows;
 pub use laws::{change_laws, install_laws, merge_laws, view_laws};
 pub use playing::{play_laws, played_texts};
 pub use refusals::refusal_laws;
-pub use rows::{levels_and_gaps, limits, lines_and_words, merges_and_flushes, reads_between_keys};
+pub use rows::{levels_and_gaps, merges_and_flushes, reads_between_keys};

@@ -2,11 +2,11 @@ use Rattle.std.proofs.Common.{◌≡◌, ◌+◌, ℕ, List, [], ◌∷◌, ◌+
 use Rattle.std.proofs.lemmas.List.{take_rest}
 use Rattle.std.specs.Prelude.{Some, None, get_or}
 use Rattle.byte_fields.specs.Spelling.{IsBytes}
-use Rattle.store_model.specs.Entries.{Entry, filled}
-use Rattle.gate_log.specs.Records.{BeginsWith, broken_rule, entry_in, body_length_in}
-use Rattle.gate_log.proofs.Ends.{one_list, not_both}
-use Rattle.gate_log.proofs.Logs.{none_filled}
-use Rattle.gate_log.proofs.Walks.{begins_with_none, begins_next, filled_next}
+use Rattle.entry_model.specs.Entries.{Entry, filled}
+use Rattle.log_model.specs.Records.{BeginsWith, broken_rule, entry_in, body_length_in}
+use Rattle.log_model.proofs.Ends.{one_list, not_both}
+use Rattle.log_model.proofs.Logs.{none_filled}
+use Rattle.log_model.proofs.Walks.{begins_with_none, begins_next, filled_next}
 use Rattle.gate_log.proofs.reading.entries_in.Goals as goal
 
 pub loop-at-init : goal.loop-at-init
