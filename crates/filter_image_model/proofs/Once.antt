@@ -20,22 +20,22 @@ use Rattle.filter_image_model.proofs.ReadAgain.{sections_again}
 use Rattle.filter_image_model.proofs.SameLeaves.{one_list}
 use Rattle.filter_image_model.proofs.Sizes.{few_letters, few_nodes, low_height, some_height, suffixes_counted, total_of}
 
-abbrev dense_of : ℕ → List Leaf → List Node
+abbrev pub dense_of : ℕ → List Leaf → List Node
 dense_of c ls = take (length (nodes_to ls c)) (trie_of ls)
 
-abbrev sparse_of : ℕ → List Leaf → List Node
+abbrev pub sparse_of : ℕ → List Leaf → List Node
 sparse_of c ls = drop (length (nodes_to ls c)) (trie_of ls)
 
-dense_forms : (k : ℕ) (ns : List Node) → AllByRecursion HasForm ns → AllByRecursion IsDense (take k ns)
-dense_forms zero ns w = tt
-dense_forms (suc k) [] w = tt
-dense_forms (suc k) (n ∷ ns) w = (w.0.dense, dense_forms k ns w.1)
+dense_forms : (M : Type 0) (k : ℕ) (ns : List Node) → AllByRecursion (HasForm M) ns → AllByRecursion IsDense (take k ns)
+dense_forms M zero ns w = tt
+dense_forms M (suc k) [] w = tt
+dense_forms M (suc k) (n ∷ ns) w = (w.0.dense, dense_forms M k ns w.1)
 
-sparse_forms : (k : ℕ) (ns : List Node) → AllByRecursion HasForm ns → AllByRecursion IsSparse (drop k ns)
-sparse_forms zero [] w = tt
-sparse_forms zero (n ∷ ns) w = (w.0.sparse, sparse_forms zero ns w.1)
-sparse_forms (suc k) [] w = tt
-sparse_forms (suc k) (n ∷ ns) w = sparse_forms k ns w.1
+sparse_forms : (M : Type 0) (k : ℕ) (ns : List Node) → AllByRecursion (HasForm M) ns → AllByRecursion IsSparse (drop k ns)
+sparse_forms M zero [] w = tt
+sparse_forms M zero (n ∷ ns) w = (w.0.sparse, sparse_forms M zero ns w.1)
+sparse_forms M (suc k) [] w = tt
+sparse_forms M (suc k) (n ∷ ns) w = sparse_forms M k ns w.1
 
 pub room : (h r c : ℕ) (ls : List Leaf) → MayStand h r c ls → HasRoom h r c (height ls) (length ls) (dense_of c ls) (sparse_of c ls) (suffixes h r ls)
 room h r c ls m =
@@ -66,8 +66,8 @@ room h r c ls m =
       few_dense = omega (arith, nodes, most, parts, both);
       few_sparse = omega (arith, nodes, most, parts, both);
       few_labels = omega (arith, letters, most, letters_parts, letters_both);
-      dense_nodes = dense_forms (length (nodes_to ls c)) (trie_of ls) forms;
-      sparse_nodes = sparse_forms (length (nodes_to ls c)) (trie_of ls) forms;
+      dense_nodes = dense_forms (1 < t) (length (nodes_to ls c)) (trie_of ls) forms;
+      sparse_nodes = sparse_forms (1 < t) (length (nodes_to ls c)) (trie_of ls) forms;
       suffix_bits = suffixes_counted h r ls v;
     }
   where

@@ -1,7 +1,7 @@
 // Laws of the reading. They are proved and never called.
 ghost use Rattle.filter_api.specs.Spellings.{SpellsOne};
 ghost use Rattle.filter_model.specs.Image.{image};
-ghost use Rattle.filter_image_model.specs.Laws.{BytesAreTheImage, ImageWasWrittenSo, OneListATrie, TrieIsRead};
+ghost use Rattle.filter_image_model.specs.Laws.{BytesAreTheImage, ImageIsReadAgain, ImageWasWrittenSo, OneListATrie, TrieIsRead};
 ghost use Rattle.filter_image_model.specs.Sections.{SectionsAreReadAgain, SectionsAreWritten};
 
 /// Bytes that keep the rules on the bytes alone are the image of the nodes and suffixes that are read, and such an image
@@ -27,4 +27,9 @@ pub fn the_image_was_written_so()
 pub fn an_image_has_one_list()
     ensures trie { OneListATrie }
     ensures image { SpellsOne image }
+{}
+
+/// The image of a valid list, with any cutoff from 0 to its height, breaks no rule and is read as that list.
+pub fn an_image_is_read_again()
+    ensures law { ImageIsReadAgain }
 {}
