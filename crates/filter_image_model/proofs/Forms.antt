@@ -11,9 +11,13 @@ use Rattle.filter_model.specs.Nodes.{Branch, Node, trie_of}
 use Rattle.filter_model.specs.Strings.{extends, is_prefix, same}
 use Rattle.filter_model.specs.Trie.{END, height, letters, path}
 use Rattle.filter_model.specs.Valid.{EndsRightly, IsCrowded, IsLeaf, IsValid, joins, node}
-use Rattle.filter_image_model.specs.Nodes.{AreBytes, IsDense, IsSparse}
+use Rattle.trie_laws.specs.Louds.{IsNode}
+use Rattle.filter_image_model.specs.Nodes.{IsDense}
+use Rattle.filter_image_model.proofs.SparseNodes.{AreBytes}
 use Rattle.filter_image_model.specs.Nodes.{From as Bytes}
 use Rattle.filter_image_model.specs.Reading.{is_lone_end, is_lone_leaf}
+use Rattle.filter_image_model.specs.Laws.{HasForm, NodesHaveForm}
+use Rattle.filter_image_model.proofs.Again.{all_of}
 use Rattle.filter_image_model.proofs.GroupWords.{Group, children_of, goes_on, heads, is_cons, node_of_group, tails}
 use Rattle.filter_image_model.proofs.LevelsRead.{flat}
 use Rattle.filter_image_model.proofs.Link.{any_picked, eqb_comm}
@@ -53,12 +57,12 @@ beside x y = aside or_byte x y
 abbrev pub AreAside : (ℕ → List ℕ → Bool) → Group → Group → Type 0
 AreAside last whole part = AllByRecursion (λ (x : List ℕ). list_any (aside last x) whole ≡ true) part
 
--- M where the list has more than one leaf
-pub record IsFormed (M : Type 0) (n : ℕ) (g : Group) : Type 0 where
+-- of so many leaves
+pub record IsFormed (count : ℕ) (n : ℕ) (g : Group) : Type 0 where
   pub fine : IsFine n g
   pub last : AllByRecursion EndLast g
   pub more : AreAside or_byte g g
-  pub crowded : M → AreAside another g g
+  pub crowded : 1 < count → AreAside another g g
 
 any_nil : (last : ℕ → List ℕ → Bool) (g : Group) → is_cons g ≡ true → list_any (aside last []) g ≡ true
 any_nil last [] e = absurd (false≢true e)
@@ -86,12 +90,12 @@ aside_tails last c whole ((a ∷ x) ∷ g) grow w = go (eqb a c) refl grow (λ k
     go true i k ih = (one x (eqb-true a c i) (k refl) w.0, ih (λ e. k refl))
     go false i k ih = ih k
 
-formed_kids : (M : Type 0) (n : ℕ) (g : Group) → IsFormed M (suc n) g → (cs : List ℕ) → AllByRecursion (IsFormed M n) (filter goes_on (map (λ (c : ℕ). tails c g) cs))
-formed_kids M n g f [] = tt
-formed_kids M n g f (c ∷ cs) = go (goes_on (tails c g)) refl (formed_kids M n g f cs)
+formed_kids : (count : ℕ) (n : ℕ) (g : Group) → IsFormed count (suc n) g → (cs : List ℕ) → AllByRecursion (IsFormed count n) (filter goes_on (map (λ (c : ℕ). tails c g) cs))
+formed_kids count n g f [] = tt
+formed_kids count n g f (c ∷ cs) = go (goes_on (tails c g)) refl (formed_kids count n g f cs)
   where
-    go : (t : Bool) → goes_on (tails c g) ≡ t → AllByRecursion (IsFormed M n) (filter goes_on (map (λ (d : ℕ). tails d g) cs))
-        → AllByRecursion (IsFormed M n) (cond t (tails c g ∷ filter goes_on (map (λ (d : ℕ). tails d g) cs)) (filter goes_on (map (λ (d : ℕ). tails d g) cs)))
+    go : (t : Bool) → goes_on (tails c g) ≡ t → AllByRecursion (IsFormed count n) (filter goes_on (map (λ (d : ℕ). tails d g) cs))
+        → AllByRecursion (IsFormed count n) (cond t (tails c g ∷ filter goes_on (map (λ (d : ℕ). tails d g) cs)) (filter goes_on (map (λ (d : ℕ). tails d g) cs)))
     go true i ih = (
       record {
         fine = fine_tails n c g f.fine i;
@@ -103,9 +107,9 @@ formed_kids M n g f (c ∷ cs) = go (goes_on (tails c g)) refl (formed_kids M n 
     )
     go false i ih = ih
 
-formed_children : (M : Type 0) (n : ℕ) (gs : List Group) → AllByRecursion (IsFormed M (suc n)) gs → AllByRecursion (IsFormed M n) (flat_map children_of gs)
-formed_children M n [] w = tt
-formed_children M n (g ∷ gs) w = all_append (IsFormed M n) (children_of g) (flat_map children_of gs) (formed_kids M n g w.0 (heads g)) (formed_children M n gs w.1)
+formed_children : (count : ℕ) (n : ℕ) (gs : List Group) → AllByRecursion (IsFormed count (suc n)) gs → AllByRecursion (IsFormed count n) (flat_map children_of gs)
+formed_children count n [] w = tt
+formed_children count n (g ∷ gs) w = all_append (IsFormed count n) (children_of g) (flat_map children_of gs) (formed_kids count n g w.0 (heads g)) (formed_children count n gs w.1)
 
 -- ---- the form of a node
 
@@ -154,15 +158,15 @@ all_bytes : (c : ℕ) (n : Node) → Bytes c n → AreBytes n
 all_bytes c [] w = tt
 all_bytes c (b ∷ n) w = (w.1, all_bytes (suc b.0) n w.2)
 
-sparse_of : (n : Node) → IsDense n → is_cons n ≡ true → is_lone_end n ≡ false → IsSparse n
-sparse_of n w some one = subst IsSparse (sym w.is) (go w.ends w.bytes w.rising (sym (ap is_cons w.is) ∙ some) (sym (ap is_lone_end w.is) ∙ one))
+sparse_of : (n : Node) → IsDense n → is_cons n ≡ true → is_lone_end n ≡ false → IsNode n
+sparse_of n w some one = subst IsNode (sym w.is) (go w.ends w.bytes w.rising (sym (ap is_cons w.is) ∙ some) (sym (ap is_lone_end w.is) ∙ one))
   where
-    go : (e : Bool) (m : Node) → Bytes 0 m → is_cons (cond e ((END, false) ∷ []) [] ++ m) ≡ true → is_lone_end (cond e ((END, false) ∷ []) [] ++ m) ≡ false → IsSparse (cond e ((END, false) ∷ []) [] ++ m)
+    go : (e : Bool) (m : Node) → Bytes 0 m → is_cons (cond e ((END, false) ∷ []) [] ++ m) ≡ true → is_lone_end (cond e ((END, false) ∷ []) [] ++ m) ≡ false → IsNode (cond e ((END, false) ∷ []) [] ++ m)
     go true [] b s o = absurd (true≢false o)
-    go true (x ∷ m) b s o = (omega arith, (λ i. omega (arith, i)), all_bytes 0 (x ∷ m) b)
+    go true (x ∷ m) b s o = (omega arith, (λ i. omega (arith, i)), all_of (λ (y : Branch). y.0 < 256) (x ∷ m) (all_bytes 0 (x ∷ m) b))
     go false [] b s o = absurd (false≢true s)
     go false (x ∷ []) b s o = b.1
-    go false (x ∷ y ∷ m) b s o = (omega (arith, b.1), (λ i. omega (arith, i, b.2.0, b.2.1)), all_bytes (suc x.0) (y ∷ m) b.2)
+    go false (x ∷ y ∷ m) b s o = (omega (arith, b.1), (λ i. omega (arith, i, b.2.0, b.2.1)), all_of (λ (z : Branch). z.0 < 256) (y ∷ m) (all_bytes (suc x.0) (y ∷ m) b.2))
 
 some_heads : (cs : List ℕ) (g : Group) → HeadsIn cs g → goes_on g ≡ true → is_cons cs ≡ true
 some_heads cs [] h e = absurd (false≢true e)
@@ -233,14 +237,8 @@ cons_map : (u : ℕ → Bool) (cs : List ℕ) → is_cons cs ≡ true → is_con
 cons_map u [] e = absurd (false≢true e)
 cons_map u (c ∷ cs) e = refl
 
--- the form of dense nodes and of sparse ones, and not one leaf alone
-pub record HasForm (M : Type 0) (n : Node) : Type 0 where
-  pub dense : IsDense n
-  pub sparse : IsSparse n
-  pub crowded : M → is_lone_leaf n ≡ false
-
-form : (M : Type 0) (n : ℕ) (g : Group) → IsFormed M n g → HasForm M (node_of_group g)
-form M n g f =
+form : (count : ℕ) (n : ℕ) (g : Group) → IsFormed count n g → HasForm count (node_of_group g)
+form count n g f =
     let h = heads_in g g (λ c e. e) (no_empty g f.fine.sorted f.fine.on) f.fine.small in
     let d = dense_group g f.last in
     record {
@@ -249,14 +247,14 @@ form M n g f =
       crowded = (λ m. no_lone_leaf (heads g) g h (f.crowded m) f.fine.on);
     }
 
-forms : (M : Type 0) (n : ℕ) (gs : List Group) → AllByRecursion (IsFormed M n) gs → AllByRecursion (HasForm M) (map node_of_group gs)
-forms M n [] w = tt
-forms M n (g ∷ gs) w = (form M n g w.0, forms M n gs w.1)
+forms : (count : ℕ) (n : ℕ) (gs : List Group) → AllByRecursion (IsFormed count n) gs → AllByRecursion (HasForm count) (map node_of_group gs)
+forms count n [] w = tt
+forms count n (g ∷ gs) w = (form count n g w.0, forms count n gs w.1)
 
-all_forms : (M : Type 0) (n : ℕ) (gs : List Group) → AllByRecursion (IsFormed M n) gs → AllByRecursion (HasForm M) (flat (levels_from n gs))
-all_forms M zero gs w = tt
-all_forms M (suc n) gs w =
-    all_append (HasForm M) (map node_of_group gs) (flat (levels_from n (flat_map children_of gs))) (forms M (suc n) gs w) (all_forms M n (flat_map children_of gs) (formed_children M n gs w))
+all_forms : (count : ℕ) (n : ℕ) (gs : List Group) → AllByRecursion (IsFormed count n) gs → AllByRecursion (HasForm count) (flat (levels_from n gs))
+all_forms count zero gs w = tt
+all_forms count (suc n) gs w =
+    all_append (HasForm count) (map node_of_group gs) (flat (levels_from n (flat_map children_of gs))) (forms count (suc n) gs w) (all_forms count n (flat_map children_of gs) (formed_children count n gs w))
 
 -- ---- valid lists
 
@@ -389,15 +387,18 @@ all_last [] w = tt
 all_last (l ∷ ls) w = (end_last l.stub l.ends w.0, all_last ls w.1)
 
 -- **the nodes of a valid list have the form of dense and of sparse nodes, and where there are two leaves none is one leaf alone**
-pub nodes_formed : (h r : ℕ) (ls : List Leaf) → IsValid h r ls → AllByRecursion (HasForm (1 < length ls)) (trie_of ls)
+pub nodes_formed : (h r : ℕ) (ls : List Leaf) → IsValid h r ls → AllByRecursion (HasForm (length ls)) (trie_of ls)
 nodes_formed h r ls v =
-    let M = 1 < length ls in
+    let count = length ls in
     let w = stub_bytes h r ls v.leaves in
     let f : IsFine (height ls) (map path ls) = fine_paths h r ls v (height ls) (omega arith) in
-    let g : IsFormed M (height ls) (map path ls) = record {
+    let g : IsFormed count (height ls) (map path ls) = record {
       fine = f;
       last = all_last ls w;
       more = all_more ls ls w w (λ l c. c) (λ l c. subst (EndsRightly ls) c.2 (v.ends c.0 l c.1));
       crowded = (λ m. all_crowded h r ls ls w w v.leaves (v.crowded m));
     } in
-    subst (AllByRecursion (HasForm M)) (sym (trie_flat ls (height ls) (omega arith) f)) (all_forms M (height ls) (map path ls ∷ []) (g, tt))
+    subst (AllByRecursion (HasForm count)) (sym (trie_flat ls (height ls) (omega arith) f)) (all_forms count (height ls) (map path ls ∷ []) (g, tt))
+
+pub have_form : NodesHaveForm
+have_form h r ls v = all_of (HasForm (length ls)) (trie_of ls) (nodes_formed h r ls v)

@@ -1,23 +1,23 @@
 -- The image of a valid list breaks no rule and is read as that list.
-use Rattle.std.proofs.Common.{◌≡◌, ℕ, zero, suc, ◌+◌, ◌*◌, ◌<◌, ◌≤◌, Bool, true, false, cond, List, [], ◌∷◌, ◌++◌, length, get_or, take, drop, map, refl, sym, ap, ◌∙◌, arith, subst, inl, inr, eqb}
+use Rattle.std.proofs.Common.{◌≡◌, ℕ, zero, suc, ◌+◌, ◌*◌, ◌<◌, ◌≤◌, Bool, true, false, cond, List, [], ◌∷◌, ◌++◌, length, get_or, take, drop, map, refl, sym, ap, ◌∙◌, arith, subst, inl, inr}
 use Rattle.std.specs.Prelude.{not, ◌&&◌, ◌||◌, ◌==◌, nat_le, nat_lt, filter, flat_map, None}
 use Rattle.std.specs.List.{AllByRecursion, list_any, range_with_len}
 use Rattle.std.proofs.lemmas.Bool.{and_from, cases_Bool, eq-eqb, eqb-true, le-leb, le-ltb, lt-ltb, ltb-true, ne_eqb}
 use Rattle.std.proofs.lemmas.List.{drop_at, length-append, length-take-le, take-append-drop, take_all, take_at}
-use Rattle.filter_api.specs.Spellings.{IsSpelling}
-use Rattle.filter_model.specs.Image.{has_letter, image, suffixes}
+use Rattle.filter_model.specs.Image.{has_letter, suffixes}
 use Rattle.filter_model.specs.Leaves.{Leaf}
 use Rattle.filter_model.specs.Nodes.{Branch, Node, node_of, trie_of}
 use Rattle.filter_model.specs.Trie.{END, height, letters, nodes_to, path, slots}
 use Rattle.filter_model.specs.Valid.{IsLeaf, IsValid}
+use Rattle.trie_laws.specs.Louds.{IsNode}
 use Rattle.filter_image_model.specs.Header.{Bytes, cutoff_in, dense_count_in, hash_bits_in, height_in, leaf_count_in, real_bits_in, section, section_place, suffix_bits_in}
-use Rattle.filter_image_model.specs.Laws.{ImageIsReadAgain}
+use Rattle.filter_image_model.specs.Laws.{HasForm, ImageIsReadAgain}
 use Rattle.filter_image_model.specs.Levels.{are_levels, leaves_of, nodes_above}
-use Rattle.filter_image_model.specs.Levels.{children_of as children_count, levels_from as cut_levels}
-use Rattle.filter_image_model.specs.Nodes.{From, IsDense, IsSparse, dense_in, sparse_in}
-use Rattle.filter_image_model.specs.Reading.{Image, counts_fault, ends_fault, header_fault, image_fault, image_in, is_lone_end, is_lone_leaf, is_no_node, is_no_root, length_fault, louds_fault, nodes_fault, nodes_rules, order_of, padding_fault, rises, shape_fault, slot_letters, stray_fault}
+use Rattle.filter_image_model.specs.Levels.{children_of as children_count}
+use Rattle.filter_image_model.specs.Nodes.{From, IsDense, dense_in, sparse_in}
+use Rattle.filter_image_model.specs.Reading.{counts_fault, ends_fault, header_fault, image_fault, image_in, is_lone_end, is_lone_leaf, is_no_node, is_no_root, length_fault, louds_fault, nodes_fault, nodes_rules, order_of, rises, shape_fault, slot_letters, stray_fault}
 use Rattle.filter_image_model.specs.Sections.{AreReadAgain, KeepsBytes}
-use Rattle.filter_image_model.proofs.Forms.{HasForm, nodes_formed, range_bytes}
+use Rattle.filter_image_model.proofs.Forms.{nodes_formed, range_bytes}
 use Rattle.filter_image_model.proofs.Gather.{GoOn}
 use Rattle.filter_image_model.proofs.GroupWords.{AreLevels, Group, all_children, children_of, gather, goes_on, heads, is_cons, node_of_group, raise, tails}
 use Rattle.filter_image_model.proofs.ImageWritten.{suffixes_by_number}
@@ -26,8 +26,8 @@ use Rattle.filter_image_model.proofs.Once.{dense_of, read_as, sparse_of, spells_
 use Rattle.filter_image_model.proofs.Paths.{IsFine, bytes_of_leaves, fine_children, fine_paths, kids_counted, kids_in, own_to, recut, stub_bytes, trie_flat}
 use Rattle.filter_image_model.proofs.Refusals.{none_of, passed}
 use Rattle.filter_image_model.proofs.Rising.{byte_order}
-use Rattle.filter_image_model.proofs.Sizes.{all_parts, good_all, good_levels, low_part, some_height}
-use Rattle.filter_image_model.proofs.SlotNumbers.{IsSlot, ends_none, slot_letters_are, slots_own}
+use Rattle.filter_image_model.proofs.Sizes.{all_parts, good_all, good_levels, low_part}
+use Rattle.filter_image_model.proofs.SlotNumbers.{ends_none, slot_letters_are, slots_own}
 use Rattle.filter_image_model.proofs.Slots.{entries}
 use Rattle.filter_image_model.proofs.TrieRead.{above_read, height_is, leaves_read, nodes_are, tall, tall_raise, talls}
 use Rattle.filter_image_model.proofs.Unique.{gather_own, levels_from}
@@ -48,29 +48,29 @@ all_go_on : (n : ℕ) (gs : List Group) → AllByRecursion (IsFine n) gs → GoO
 all_go_on n [] w = tt
 all_go_on n (g ∷ gs) w = (w.0.on, all_go_on n gs w.1)
 
-levels_hold : (M : Type 0) (n : ℕ) (gs : List Group) → AllByRecursion (IsFine n) gs → AllByRecursion (HasForm M) (flat (levels_from n gs)) → talls gs ≡ n
+levels_hold : (leaves : ℕ) (n : ℕ) (gs : List Group) → AllByRecursion (IsFine n) gs → AllByRecursion (HasForm leaves) (flat (levels_from n gs)) → talls gs ≡ n
     → are_levels n (length gs) (flat (levels_from n gs)) ≡ true
 unfolding talls
-levels_hold M zero gs w f t = ap (λ (hs : List Group). are_levels 0 (length hs) []) (own_to 0 gs w)
-levels_hold M (suc n) [] w f t = absurd (omega (arith, t))
-levels_hold M (suc n) (g ∷ hs) w f t =
+levels_hold leaves zero gs w f t = ap (λ (hs : List Group). are_levels 0 (length hs) []) (own_to 0 gs w)
+levels_hold leaves (suc n) [] w f t = absurd (omega (arith, t))
+levels_hold leaves (suc n) (g ∷ hs) w f t =
     let gs = g ∷ hs in
     let N = map node_of_group gs in
     let kids = flat_map children_of gs in
     let rest = flat (levels_from n kids) in
-    let cut = all_parts (HasForm M) N rest f in
+    let cut = all_parts (HasForm leaves) N rest f in
     let own = own_to (suc n) gs w in
     let below = fine_children n gs w in
     let size : length N ≡ length gs = length-map node_of_group gs in
     let count = kids_in gs in
     let raised : raise N kids ≡ gs = ap (raise N) (sym (gather_own n kids own.1)) ∙ gather_own (suc n) gs own in
     let high : talls gs ≡ suc (talls kids) =
-    ap talls (sym raised) ∙ tall_raise N kids (good_all M N cut.0) (all_go_on n kids below) (omega (arith, count)) ∙ ap (λ (ks : List Group). suc (talls ks)) (take_all (all_children N) kids (omega (arith, count))) in
+    ap talls (sym raised) ∙ tall_raise N kids (good_all leaves N cut.0) (all_go_on n kids below) (omega (arith, count)) ∙ ap (λ (ks : List Group). suc (talls ks)) (take_all (all_children N) kids (omega (arith, count))) in
     let here = take_at N rest (length gs) size in
     let gone = drop_at N rest (length gs) size in
     and_from (not (length gs == 0) && nat_le (length gs) (length (N ++ rest))) (are_levels n (children_count (take (length gs) (N ++ rest))) (drop (length gs) (N ++ rest)))
     (and_from (not (length gs == 0)) (nat_le (length gs) (length (N ++ rest))) (ap not (ne_eqb (length gs) 0 (λ e. omega (arith, e)))) (le-leb (length gs) (length (N ++ rest)) (omega (arith, size, length-append N rest))))
-    ((λ j. are_levels n (children_count (here j)) (gone j)) ∙ ap (λ k. are_levels n k rest) (kids_counted gs) ∙ levels_hold M n kids below cut.1 (omega (arith, high, t)))
+    ((λ j. are_levels n (children_count (here j)) (gone j)) ∙ ap (λ k. are_levels n k rest) (kids_counted gs) ∙ levels_hold leaves n kids below cut.1 (omega (arith, high, t)))
 
 few_above : (c : ℕ) (levels : List (List Node)) → length (flat (take c levels)) ≤ length (flat levels)
 few_above zero levels = omega arith
@@ -88,16 +88,16 @@ unfolding talls
 counted h r ls v =
     let n = height ls in
     let G = map path ls in
-    let M = 1 < length ls in
+    let leaves = length ls in
     let f = fine_paths h r ls v n (omega arith) in
     let flat_is = trie_flat ls n (omega arith) f in
     let levels = levels_from n (G ∷ []) in
     let own = own_to n (G ∷ []) (f, tt) in
-    let formed : AllByRecursion (HasForm M) (flat levels) = subst (AllByRecursion (HasForm M)) flat_is (nodes_formed h r ls v) in
-    let a : AreLevels levels = good_levels M n (G ∷ []) formed own in
+    let formed : AllByRecursion (HasForm leaves) (flat levels) = subst (AllByRecursion (HasForm leaves)) flat_is (nodes_formed h r ls v) in
+    let a : AreLevels levels = good_levels leaves n (G ∷ []) formed own in
     let g : gather levels ≡ G ∷ [] = gather_own n (G ∷ []) own in
     let one : talls (G ∷ []) ≡ tall G = omega arith in
-    let held : are_levels n 1 (flat levels) ≡ true = levels_hold M n (G ∷ []) (f, tt) formed (one ∙ sym (height_is ls)) in
+    let held : are_levels n 1 (flat levels) ≡ true = levels_hold leaves n (G ∷ []) (f, tt) formed (one ∙ sym (height_is ls)) in
     record {
       levels = ap (are_levels n 1) flat_is ∙ held;
       above = (λ c le.
@@ -136,16 +136,16 @@ dense_marks n w = ap (list_any (λ (b : Branch). (b.0 == END) && b.1)) w.is ∙ 
     go true m b = no_marks 0 m b
     go false m b = no_marks 0 m b
 
-sparse_some : (n : Node) → IsSparse n → (length n == 0) ≡ false
+sparse_some : (n : Node) → IsNode n → (length n == 0) ≡ false
 sparse_some [] w = absurd w
 sparse_some (b ∷ n) w = ne_eqb (length (b ∷ n)) 0 (λ e. omega (arith, e))
 
-sparse_lone : (n : Node) → IsSparse n → is_lone_end n ≡ false
+sparse_lone : (n : Node) → IsNode n → is_lone_end n ≡ false
 sparse_lone [] w = absurd w
 sparse_lone (b ∷ []) w = ne_eqb b.0 256 (λ e. omega (arith, e, w))
 sparse_lone (b ∷ d ∷ n) w = refl
 
-node_fine : (leaves : ℕ) (n : Node) → HasForm (1 < leaves) n → is_no_node leaves n ≡ false
+node_fine : (leaves : ℕ) (n : Node) → HasForm leaves n → is_no_node leaves n ≡ false
 node_fine leaves n f =
     (λ j. sparse_some n f.sparse j || not (dense_rises n f.dense j) || dense_marks n f.dense j || sparse_lone n f.sparse j || alone j)
   where
@@ -155,7 +155,7 @@ node_fine leaves n f =
       | inr one ↦ ap (λ (t : Bool). is_lone_leaf n && t) one ∙ never (is_lone_leaf n)
     ]
 
-nodes_fine : (width : Node → ℕ) (leaves place : ℕ) (ns : List Node) → AllByRecursion (HasForm (1 < leaves)) ns → nodes_fault width leaves place ns ≡ None
+nodes_fine : (width : Node → ℕ) (leaves place : ℕ) (ns : List Node) → AllByRecursion (HasForm leaves) ns → nodes_fault width leaves place ns ≡ None
 nodes_fine width leaves place [] f = refl
 nodes_fine width leaves place (n ∷ ns) f =
     passed (is_no_node leaves n) place 9 (nodes_fault width leaves (place + width n) ns) (node_fine leaves n f.0) (nodes_fine width leaves (place + width n) ns f.1)
@@ -229,13 +229,13 @@ module _ (bytes : Bytes) (h r c : ℕ) (ls : List Leaf) (v : IsValid h r ls) (le
   unfolding shape_fault
   shape_none =
       let L = leaf_count_in bytes in
-      let forms : AllByRecursion (HasForm (1 < L)) (trie_of ls) = subst (λ n. AllByRecursion (HasForm (1 < n)) (trie_of ls)) (sym a.leaves_are) (nodes_formed h r ls v) in
+      let forms : AllByRecursion (HasForm L) (trie_of ls) = subst (λ n. AllByRecursion (HasForm n) (trie_of ls)) (sym a.leaves_are) (nodes_formed h r ls v) in
       let root : is_no_root (height_in bytes) L (dense_in bytes ++ sparse_in bytes) ≡ false =
       (λ j. is_no_root (a.height_is j) (a.leaves_are j) (trie_is j)) ∙ root_fine h r ls v in
       passed (is_no_root (height_in bytes) L (dense_in bytes ++ sparse_in bytes)) 40 9 _ root
       (none_of (nodes_fault (λ n. 32) L 40 (dense_in bytes)) (nodes_fault length L (section_place 3 bytes) (sparse_in bytes))
-      (nodes_fine (λ n. 32) L 40 (dense_in bytes) (subst (AllByRecursion (HasForm (1 < L))) (sym a.dense_are) (all_take (HasForm (1 < L)) (length (nodes_to ls c)) (trie_of ls) forms)))
-      (nodes_fine length L (section_place 3 bytes) (sparse_in bytes) (subst (AllByRecursion (HasForm (1 < L))) (sym a.sparse_are) (all_drop (HasForm (1 < L)) (length (nodes_to ls c)) (trie_of ls) forms))))
+      (nodes_fine (λ n. 32) L 40 (dense_in bytes) (subst (AllByRecursion (HasForm L)) (sym a.dense_are) (all_take (HasForm L) (length (nodes_to ls c)) (trie_of ls) forms)))
+      (nodes_fine length L (section_place 3 bytes) (sparse_in bytes) (subst (AllByRecursion (HasForm L)) (sym a.sparse_are) (all_drop (HasForm L) (length (nodes_to ls c)) (trie_of ls) forms))))
 
   suffixes_none : ends_fault bytes 0 (slot_letters (dense_in bytes ++ sparse_in bytes)) ≡ None
   suffixes_none =

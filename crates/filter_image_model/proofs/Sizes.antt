@@ -15,10 +15,12 @@ use Rattle.filter_model.specs.Nodes.{Branch, Node, all}
 use Rattle.filter_model.specs.Strings.{extends}
 use Rattle.filter_model.specs.Trie.{END, height, path, slots}
 use Rattle.filter_model.specs.Valid.{EndsRightly, IsLeaf, IsValid}
+use Rattle.trie_laws.specs.Louds.{IsNode}
 use Rattle.filter_image_model.specs.Levels.{leaves_behind, leaves_of, root_leaves}
-use Rattle.filter_image_model.specs.Nodes.{IsDense, IsSparse}
+use Rattle.filter_image_model.specs.Nodes.{IsDense}
 use Rattle.filter_image_model.specs.Nodes.{From as Bytes}
-use Rattle.filter_image_model.proofs.Forms.{HasForm, nodes_formed}
+use Rattle.filter_image_model.specs.Laws.{HasForm}
+use Rattle.filter_image_model.proofs.Forms.{nodes_formed}
 use Rattle.filter_image_model.proofs.GroupWords.{AreLevels, Group, InOrder, IsGoodNode, children_of, gather, goes_on, heads, is_cons, join, node_of_group, tails}
 use Rattle.filter_image_model.proofs.ImageTrie.{one_group, one_root}
 use Rattle.filter_image_model.proofs.ImageWritten.{suffixes_by_number}
@@ -118,21 +120,21 @@ pub all_parts : (P : Node → Type 0) (xs ys : List Node) → AllByRecursion P (
 all_parts P [] ys w = (tt, w)
 all_parts P (x ∷ xs) ys w = let r = all_parts P xs ys w.1 in ((w.0, r.0), r.1)
 
-some_sparse : (n : Node) → IsSparse n → is_cons n ≡ true
+some_sparse : (n : Node) → IsNode n → is_cons n ≡ true
 some_sparse [] w = absurd w
 some_sparse (b ∷ n) w = refl
 
-pub good_all : (M : Type 0) (ns : List Node) → AllByRecursion (HasForm M) ns → AllByRecursion IsGoodNode ns
-good_all M [] f = tt
-good_all M (n ∷ ns) f = (good n f.0.dense (some_sparse n f.0.sparse), good_all M ns f.1)
+pub good_all : (count : ℕ) (ns : List Node) → AllByRecursion (HasForm count) ns → AllByRecursion IsGoodNode ns
+good_all count [] f = tt
+good_all count (n ∷ ns) f = (good n f.0.dense (some_sparse n f.0.sparse), good_all count ns f.1)
 
-pub good_levels : (M : Type 0) (n : ℕ) (gs : List Group) → AllByRecursion (HasForm M) (flat (levels_from n gs)) → OwnTo n gs → AreLevels (levels_from n gs)
-good_levels M zero gs f o = tt
-good_levels M (suc n) gs f o =
-    let cut = all_parts (HasForm M) (map node_of_group gs) (flat (levels_from n (flat_map children_of gs))) f in (
-      good_all M (map node_of_group gs) cut.0,
+pub good_levels : (count : ℕ) (n : ℕ) (gs : List Group) → AllByRecursion (HasForm count) (flat (levels_from n gs)) → OwnTo n gs → AreLevels (levels_from n gs)
+good_levels count zero gs f o = tt
+good_levels count (suc n) gs f o =
+    let cut = all_parts (HasForm count) (map node_of_group gs) (flat (levels_from n (flat_map children_of gs))) f in (
+      good_all count (map node_of_group gs) cut.0,
       kids_in gs ∙ ap length (sym (gather_own n (flat_map children_of gs) o.1)),
-      good_levels M n (flat_map children_of gs) cut.1 o.1,
+      good_levels count n (flat_map children_of gs) cut.1 o.1,
     )
 
 length-from : (n : ℕ) (gs : List Group) → length (levels_from n gs) ≡ n
@@ -160,9 +162,9 @@ suffixes_counted h r ls v =
     let f = fine_paths h r ls v n (omega arith) in
     let levels = levels_from n (G ∷ []) in
     let own = own_to n (G ∷ []) (f, tt) in
-    let M = 1 < length ls in
-    let formed : AllByRecursion (HasForm M) (flat levels) = subst (AllByRecursion (HasForm M)) (trie_flat ls n (omega arith) f) (nodes_formed h r ls v) in
-    let a : AreLevels levels = good_levels M n (G ∷ []) formed own in
+    let count = length ls in
+    let formed : AllByRecursion (HasForm count) (flat levels) = subst (AllByRecursion (HasForm count)) (trie_flat ls n (omega arith) f) (nodes_formed h r ls v) in
+    let a : AreLevels levels = good_levels count n (G ∷ []) formed own in
     let g : gather levels ≡ G ∷ [] = gather_own n (G ∷ []) own in
     let one : length (gather levels) ≡ 1 = ap length g in
     let ss = map (λ (i : ℕ). 0) (range_with_len 0 (leaves_of (flat levels))) in

@@ -1,6 +1,6 @@
 -- Each slot of a valid list has one leaf, and no real bits beside END: its image keeps rule 10.
-use Rattle.std.proofs.Common.{◌≡◌, ℕ, zero, suc, ◌+◌, ◌-◌, ◌*◌, ◌/◌, ◌^◌, ◌<◌, ◌≤◌, Bool, true, false, cond, List, [], ◌∷◌, ◌++◌, length, get_or, take, drop, map, refl, sym, ap, ◌∙◌, arith, subst, inl, inr, eqb, ltb}
-use Rattle.std.specs.Prelude.{not, ◌&&◌, ◌||◌, ◌==◌, filter, flat_map, None}
+use Rattle.std.proofs.Common.{◌≡◌, ℕ, suc, ◌+◌, ◌-◌, ◌*◌, ◌/◌, ◌^◌, ◌<◌, Bool, true, false, cond, List, [], ◌∷◌, ◌++◌, length, take, drop, map, refl, sym, ap, ◌∙◌, arith, subst, inl, inr, ltb}
+use Rattle.std.specs.Prelude.{not, ◌&&◌, ◌==◌, filter, flat_map, None}
 use Rattle.std.specs.List.{All, AllByRecursion, list_any}
 use Rattle.std.specs.Simd.Lanes.{mask_l}
 use Rattle.std.proofs.Math.Nat.{mod-eq_of_lt}
