@@ -26,10 +26,10 @@ use Rattle.filter_image_model.proofs.Once.{dense_of, read_as, sparse_of, spells_
 use Rattle.filter_image_model.proofs.Paths.{IsFine, bytes_of_leaves, fine_children, fine_paths, kids_counted, kids_in, own_to, recut, stub_bytes, trie_flat}
 use Rattle.filter_image_model.proofs.Refusals.{none_of, passed}
 use Rattle.filter_image_model.proofs.Rising.{byte_order}
-use Rattle.filter_image_model.proofs.Sizes.{all_parts, good_all, good_levels, low_part}
+use Rattle.filter_image_model.proofs.Sizes.{all_parts, good_all, good_levels, leaves_counted, low_part}
 use Rattle.filter_image_model.proofs.SlotNumbers.{ends_none, slot_letters_are, slots_own}
 use Rattle.filter_image_model.proofs.Slots.{entries}
-use Rattle.filter_image_model.proofs.TrieRead.{above_read, height_is, leaves_read, nodes_are, tall, tall_raise, talls}
+use Rattle.filter_image_model.proofs.TrieRead.{above_read, height_is, nodes_are, tall, tall_raise, talls}
 use Rattle.filter_image_model.proofs.Unique.{gather_own, levels_from}
 use Rattle.filter_image_model.proofs.Validity.{all_drop, all_take, was_written_so}
 use Rattle.filter_image_model.proofs.Written.{dense_count}
@@ -106,7 +106,7 @@ counted h r ls v =
           ap (nodes_above c 1) flat_is ∙ sym (above_read c n 1 (flat levels) le held)
           ∙ ap (λ (ks : List (List Node)). length (flat (take c ks))) (recut n (G ∷ [])) ∙ size
           ∙ sym (length-take-le (length (nodes_to ls c)) (trie_of ls) (omega (arith, size, few_above c levels, ap length flat_is))));
-      leaves = ap leaves_of flat_is ∙ sym (leaves_read ls levels a g);
+      leaves = leaves_counted h r ls v;
     }
 
 -- ---- 9: each node

@@ -40,7 +40,7 @@ own n = map (λ (b : Branch). b.0) (filter (λ (b : Branch). not b.1) n)
 own-append : (n m : Node) → own (n ++ m) ≡ own n ++ own m
 own-append n m = ap (map (λ (b : Branch). b.0)) (filter-append (λ (b : Branch). not b.1) n m) ∙ map-append (λ (b : Branch). b.0) (filter (λ (b : Branch). not b.1) n) (filter (λ (b : Branch). not b.1) m)
 
-length-own : (n : Node) → length (own n) ≡ count_by leaf_branch n
+pub length-own : (n : Node) → length (own n) ≡ count_by leaf_branch n
 length-own [] = refl
 length-own ((c, true) ∷ n) = omega (arith, length-own n, count_by-cons leaf_branch (c, true) n)
 length-own ((c, false) ∷ n) = omega (arith, length-own n, count_by-cons leaf_branch (c, false) n)
