@@ -8,32 +8,30 @@ use Rattle.std.proofs.lemmas.List.Concat.{flat_map-append}
 use Rattle.bit_words.specs.Numbers.{bits_of}
 use Rattle.bit_words.proofs.Numbers.{length-bits_of}
 use Rattle.filter_model.proofs.Shared.{extends_longer}
-use Rattle.filter_model.specs.Image.{suffixes}
+use Rattle.filter_model.specs.Image.{in_slots, suffixes}
 use Rattle.filter_model.specs.Leaves.{Leaf}
 use Rattle.filter_model.specs.Nodes.{Branch, Node, all, last_letter, trie_of}
 use Rattle.filter_model.specs.Strings.{extends}
-use Rattle.filter_model.specs.Trie.{END, height, path, slots}
+use Rattle.filter_model.specs.Trie.{END, height, path}
 use Rattle.filter_model.specs.Valid.{EndsRightly, IsLeaf, IsValid}
 use Rattle.trie_laws.specs.Louds.{IsNode}
 use Rattle.filter_image_model.specs.Levels.{leaves_of}
 use Rattle.filter_image_model.specs.Nodes.{IsDense}
 use Rattle.filter_image_model.specs.Nodes.{From as Bytes}
-use Rattle.filter_image_model.specs.Laws.{HasForm}
-use Rattle.filter_image_model.proofs.Forms.{nodes_formed}
-use Rattle.filter_image_model.proofs.GroupWords.{AreLevels, Group, InOrder, IsGoodNode, children_of, goes_on, heads, is_cons, join, node_of_group, tails}
-use Rattle.filter_image_model.proofs.ImageWritten.{suffixes_by_number}
+use Rattle.filter_image_model.proofs.Lists.{all_parts, length-map}
+use Rattle.filter_image_model.proofs.Forms.{HasForm}
+use Rattle.trie_model.specs.Rests.{tails}
+use Rattle.filter_image_model.proofs.GroupWords.{AreLevels, Group, InOrder, IsGoodNode, children_of, goes_on, heads, is_cons, join, node_of_group}
 use Rattle.filter_image_model.proofs.LevelsRead.{Bytes_from, flat, in_order}
-use Rattle.filter_image_model.proofs.Paths.{IsFine, fine_children, fine_paths, heads_some, kids_in, own_group, own_to, trie_flat}
-use Rattle.filter_image_model.proofs.SlotNumbers.{IsSlot, slot_letters_are, slots_own}
+use Rattle.filter_image_model.proofs.Paths.{IsFine, fine_children, heads_some, kids_in, own_group}
+use Rattle.filter_image_model.proofs.SlotNumbers.{slot_letters_are, suffixes_by_slots}
+use Rattle.trie_laws.proofs.Slots.{leaves_have_slots}
+use Rattle.trie_levels.proofs.Totals.{valid_lists_have_tries}
 use Rattle.filter_image_model.proofs.Reals.{length-own}
-use Rattle.filter_image_model.proofs.Slots.{Entry, entries, picks}
+use Rattle.filter_image_model.proofs.Slots.{number}
 use Rattle.filter_image_model.proofs.Sorted.{join_over}
-use Rattle.filter_image_model.proofs.TrieRead.{leaves_read, total, total-append}
+use Rattle.filter_image_model.proofs.TrieRead.{total, total-append}
 use Rattle.filter_image_model.proofs.Unique.{OwnTo, gather_own, levels_from}
-
-length-map : {X Y : Type 0} (f : X → Y) (xs : List X) → length (map f xs) ≡ length xs
-length-map f [] = refl
-length-map f (x ∷ xs) = omega (arith, length-map f xs)
 
 -- ---- a level has no more nodes and branches than there are leaves
 
@@ -114,10 +112,6 @@ good n w some = record { filled = some; order = subst (λ (m : Node). InOrder (m
     go true m b = in_order true (map (λ (x : Branch). x.0) m) (letters_from 0 m b)
     go false m b = in_order false (map (λ (x : Branch). x.0) m) (letters_from 0 m b)
 
-pub all_parts : (P : Node → Type 0) (xs ys : List Node) → AllByRecursion P (xs ++ ys) → AllByRecursion P xs × AllByRecursion P ys
-all_parts P [] ys w = (tt, w)
-all_parts P (x ∷ xs) ys w = let r = all_parts P xs ys w.1 in ((w.0, r.0), r.1)
-
 some_sparse : (n : Node) → IsNode n → is_cons n ≡ true
 some_sparse [] w = absurd w
 some_sparse (b ∷ n) w = refl
@@ -142,32 +136,20 @@ length-bits w [] = sym (nothing w)
     nothing w = omega arith
 length-bits w (n ∷ ns) = length-append (bits_of w n) (flat_map (bits_of w) ns) ∙ omega (arith, length-bits w ns, length-bits_of w n, suc_times (length ns) w)
 
--- as many slots as branches that are leaves
-slots_counted : (ls : List Leaf) → length (slots ls) ≡ leaves_of (trie_of ls)
-slots_counted ls = sym (length-map last_letter (slots ls)) ∙ ap length (sym (slot_letters_are ls)) ∙ length-own (all (trie_of ls))
-
-picks_counted : (h w : ℕ) (E : List Entry) (qs : List (List ℕ)) → AllByRecursion (IsSlot h w E) qs → length (flat_map (λ (q : List ℕ). picks q E) qs) ≡ length qs
-picks_counted h w E [] s = refl
-picks_counted h w E (q ∷ qs) s = ap (λ (ns : List ℕ). length (ns ++ flat_map (λ (p : List ℕ). picks p E) qs)) s.0.only ∙ ap suc (picks_counted h w E qs s.1)
+in_slots_counted : (h r : ℕ) (ls : List Leaf) → IsValid h r ls → length (in_slots ls) ≡ length ls
+in_slots_counted h r ls v =
+    let s = leaves_have_slots ls (valid_lists_have_tries h r ls v) in
+    sym (length-map path (in_slots ls)) ∙ ap length s.leaf_of_slot ∙ s.as_many
 
 -- as many leaves as branches that are leaves
 pub leaves_counted : (h r : ℕ) (ls : List Leaf) → IsValid h r ls → leaves_of (trie_of ls) ≡ length ls
 leaves_counted h r ls v =
-    let n = height ls in
-    let G = map path ls in
-    let f = fine_paths h r ls v n (omega arith) in
-    let flat_is = trie_flat ls n (omega arith) f in
-    let levels = levels_from n (G ∷ []) in
-    let own = own_to n (G ∷ []) (f, tt) in
-    let formed : AllByRecursion (HasForm (length ls)) (flat levels) = subst (AllByRecursion (HasForm (length ls))) flat_is (nodes_formed h r ls v) in
-    ap leaves_of flat_is ∙ sym (leaves_read ls levels (good_levels (length ls) n (G ∷ []) formed own) (gather_own n (G ∷ []) own))
+    sym (length-own (all (trie_of ls))) ∙ ap length (slot_letters_are h r ls v) ∙ length-map (λ l. last_letter (path l)) (in_slots ls) ∙ in_slots_counted h r ls v
 
 pub suffixes_counted : (h r : ℕ) (ls : List Leaf) → IsValid h r ls → length (suffixes h r ls) ≡ length ls * (h + r)
 suffixes_counted h r ls v =
-    let E = entries h ls in
-    let numbers = flat_map (λ (q : List ℕ). picks q E) (slots ls) in
-    let count : length numbers ≡ length ls = picks_counted h (h + r) E (slots ls) (slots_own h r ls v) ∙ slots_counted ls ∙ leaves_counted h r ls v in
-    ap length (suffixes_by_number h r ls) ∙ length-bits (h + r) numbers ∙ ap (λ k. k * (h + r)) count
+    ap length (suffixes_by_slots h r ls) ∙ length-bits (h + r) (map (number h) (in_slots ls))
+    ∙ ap (λ k. k * (h + r)) (length-map (number h) (in_slots ls) ∙ in_slots_counted h r ls v)
 
 -- ---- the height
 
