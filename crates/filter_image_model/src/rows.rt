@@ -74,7 +74,7 @@ pub fn count_faults()
     ensures no_child { image_fault (changed ((43, 0) ∷ (41, 0x62) ∷ []) a_ab_sparse) ≡ Some (fault 8 8) }
     ensures one_level_less { image_fault (changed ((10, 1) ∷ []) a_ab_sparse) ≡ Some (fault 8 8) }
     ensures one_level_more { image_fault (changed ((10, 3) ∷ []) a_ab_sparse) ≡ Some (fault 8 8) }
-    ensures children_behind_the_last_level { image_fault (changed ((43, 3) ∷ []) a_ab_sparse) ≡ Some (fault 8 8) }
+    ensures children_behind_the_last_level { image_fault (changed ((43, 3) ∷ (12, 1) ∷ []) a_ab_sparse) ≡ Some (fault 8 8) }
     ensures cutoff { image_fault (changed ((8, 1) ∷ []) a_ab_dense) ≡ Some (fault 8 8) }
 {}
 
