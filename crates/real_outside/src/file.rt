@@ -1,5 +1,6 @@
 // The file at a path, and whole reads and writes of its ranges, over system calls that may be cut short or interrupted.
 ghost use Rattle.std.specs.Prelude.{◌+◌, ◌^◌, ◌≤◌, length, IfOk};
+ghost use Rattle.real_outside.specs.Numbers.{IsNoStream};
 
 use std::fs::{self, File, OpenOptions, TryLockError};
 use std::io::{self, ErrorKind};
@@ -16,7 +17,9 @@ const AFTER_STANDARD_STREAMS: i32 = 3;
 ///
 /// It fails where another opening has the file locked, and where the file would be a standard stream. An empty file may
 /// be new, so its directory is synced.
-pub fn open_file(rt: &HostRuntime, path: &str) -> io::Result<File> {
+pub fn open_file(rt: &HostRuntime, path: &str) -> io::Result<File>
+    ensures { IfOk result IsNoStream }
+{
     let file = OpenOptions::new()
         .read(true)
         .write(true)

@@ -1,8 +1,10 @@
 ghost use Rattle.std.specs.Prelude.{◌≡◌, ◌≤◌, ◌<◌, ◌+◌, ◌^◌, length, IfOk, IfErr, OnOk, OnErr};
+ghost use Rattle.std.specs.Option.{ForSome};
 ghost use Rattle.disk_trait.specs.World.{ReadMoves, WriteMoves, SyncMoves, Rose};
 ghost use Rattle.disk_trait.specs.Fault.{IsFaultOf};
 ghost use Rattle.disk_trait.specs.declared.fault.Op.TheVariants.{Read, Write, Sync};
 ghost use Rattle.outside.specs.Streams.{TakeMoves, SayMoves};
+ghost use Rattle.real_outside.specs.Numbers.{IsNoStream};
 ghost use Rattle.real_outside.specs.Untold.{CountsStay};
 
 use crate::file::{TRIES, open_file, read_all, write_all};
@@ -26,6 +28,7 @@ pub struct FileOutside {
     write_faults: u64,
     take_faults: u64,
     say_faults: u64,
+    ghost no_stream: { ForSome file IsNoStream },
 }
 
 impl FileOutside {
@@ -47,14 +50,15 @@ impl FileOutside {
     }
 }
 
-fn opened<'a>(rt: &HostRuntime, path: &String, file: &'a mut Option<File>) -> io::Result<&'a File> {
+// Opens the file where it is not open yet.
+fn open_once(rt: &HostRuntime, path: &String, file: &mut Option<File>) -> io::Result<()>
+    requires { ForSome file.old IsNoStream }
+    ensures { ForSome file.new IsNoStream }
+{
     if file.is_none() {
         *file = Some(open_file(rt, path.as_str())?);
     }
-    match file {
-        Some(file) => Ok(file),
-        None => Err(io::Error::from(ErrorKind::NotFound)),
-    }
+    Ok(())
 }
 
 impl Disk for FileOutside {
@@ -75,11 +79,12 @@ impl Disk for FileOutside {
         // Beside what any disk promises: a call that is done moves no count, here and in each call below.
         ensures still { OnOk result (CountsStay (shown self.old) (shown self.new)) }
     {
-        let answer = match opened(&self.rt, &self.path, &mut self.file) {
-            Ok(file) => read_all(file, at, into),
-            Err(error) => Err(error),
+        let opening = open_once(&self.rt, &self.path, &mut self.file);
+        let done = match (opening, &self.file) {
+            (Ok(()), Some(file)) => read_all(file, at, into).is_ok(),
+            _ => false,
         };
-        if answer.is_ok() {
+        if done {
             return Ok(());
         }
         self.read_faults = self.read_faults.saturating_add(1);
@@ -93,11 +98,12 @@ impl Disk for FileOutside {
         ensures cause { OnErr result (Rose self.old.write_faults self.new.write_faults) }
         ensures still { OnOk result (CountsStay (shown self.old) (shown self.new)) }
     {
-        let answer = match opened(&self.rt, &self.path, &mut self.file) {
-            Ok(file) => write_all(file, at, from),
-            Err(error) => Err(error),
+        let opening = open_once(&self.rt, &self.path, &mut self.file);
+        let done = match (opening, &self.file) {
+            (Ok(()), Some(file)) => write_all(file, at, from).is_ok(),
+            _ => false,
         };
-        if answer.is_ok() {
+        if done {
             return Ok(());
         }
         self.write_faults = self.write_faults.saturating_add(1);
@@ -111,11 +117,12 @@ impl Disk for FileOutside {
         ensures cause { OnErr result (Rose self.old.write_faults self.new.write_faults) }
         ensures still { OnOk result (CountsStay (shown self.old) (shown self.new)) }
     {
-        let answer = match opened(&self.rt, &self.path, &mut self.file) {
-            Ok(file) => file.sync_all(),
-            Err(error) => Err(error),
+        let opening = open_once(&self.rt, &self.path, &mut self.file);
+        let done = match (opening, &self.file) {
+            (Ok(()), Some(file)) => file.sync_all().is_ok(),
+            _ => false,
         };
-        if answer.is_ok() {
+        if done {
             return Ok(());
         }
         self.write_faults = self.write_faults.saturating_add(1);
