@@ -15,7 +15,7 @@ use Rattle.filter_model.proofs.Fronts.{IsBytes-nil, IsBytes-cons, IsBytes-append
 use Rattle.filter_model.specs.Image.{row, has_letter, has_child, label_of, opening, dense_labels, dense_children, sparse_labels, sparse_louds}
 use Rattle.filter_model.specs.Nodes.{Branch, Node, all}
 use Rattle.filter_image_model.specs.Header.{Bytes, hash_bits_in, real_bits_in, cutoff_in, height_in, leaf_count_in, dense_count_in, sparse_count_in, label_count_in}
-use Rattle.filter_image_model.specs.Nodes.{IsSparse, AreBytes}
+use Rattle.filter_image_model.proofs.SparseNodes.{AreBytes, by_recursion}
 use Rattle.std.proofs.lemmas.List.Elements.{All-nil, All-cons}
 use Rattle.std.specs.List.{All}
 use Rattle.trie_laws.specs.Louds.{IsNode}
@@ -79,12 +79,12 @@ first_label c l = elim (c == 256) as (λ t. (c == 256) ≡ t → cond {A = ℕ} 
         differs : false ≡ true → ⊥
         differs x = cc
 
-node_labels : (n : Node) → IsSparse n → IsBytes (map (λ (b : Branch). label_of b.0) n)
+node_labels : (n : Node) → IsNode n → IsBytes (map (λ (b : Branch). label_of b.0) n)
 node_labels [] w = IsBytes-nil
 node_labels (a ∷ []) w = label_bytes (a ∷ []) (w, tt)
-node_labels (a ∷ b ∷ n) w = IsBytes-cons (label_of a.0) (map (λ (x : Branch). label_of x.0) (b ∷ n)) (first_label a.0 w.0) (label_bytes (b ∷ n) w.2)
+node_labels (a ∷ b ∷ n) w = IsBytes-cons (label_of a.0) (map (λ (x : Branch). label_of x.0) (b ∷ n)) (first_label a.0 w.0) (label_bytes (b ∷ n) (by_recursion (λ (x : Branch). x.0 < 256) (b ∷ n) w.2))
 
-pub labels-IsBytes : (ns : List Node) → AllByRecursion IsSparse ns → IsBytes (sparse_labels ns)
+pub labels-IsBytes : (ns : List Node) → AllByRecursion IsNode ns → IsBytes (sparse_labels ns)
 labels-IsBytes [] w = IsBytes-nil
 labels-IsBytes (n ∷ ns) w = rw (map-append (λ (b : Branch). label_of b.0) n (all ns)) (IsBytes-append (map (λ (b : Branch). label_of b.0) n) (sparse_labels ns) (node_labels n w.0) (labels-IsBytes ns w.1))
 
@@ -163,20 +163,11 @@ nowhere_found p xs w =
 
 -- ---- opening bits
 
-all_of : {X : Type 0} (P : X → Type 0) (xs : List X) → AllByRecursion P xs → All P xs
+pub all_of : {X : Type 0} (P : X → Type 0) (xs : List X) → AllByRecursion P xs → All P xs
 all_of P [] w = All-nil P
 all_of P (x ∷ xs) w = All-cons P x xs w.0 (all_of P xs w.1)
 
-is_node : (n : Node) → IsSparse n → IsNode n
-is_node [] w = w
-is_node (a ∷ []) w = w
-is_node (a ∷ b ∷ n) w = (w.0, w.1, all_of (λ (x : Branch). x.0 < 256) (b ∷ n) w.2)
-
-pub are_nodes : (ns : List Node) → AllByRecursion IsSparse ns → All IsNode ns
-are_nodes [] w = All-nil IsNode
-are_nodes (n ∷ ns) w = All-cons IsNode n ns (is_node n w.0) (are_nodes ns w.1)
-
-pub begins_set : (ns : List Node) → AllByRecursion IsSparse ns → begins_clear (sparse_louds ns) ≡ false
+pub begins_set : (ns : List Node) → AllByRecursion IsNode ns → begins_clear (sparse_louds ns) ≡ false
 begins_set [] w = refl
 begins_set ([] ∷ ns) w = absurd w.0
 begins_set ((b ∷ n) ∷ ns) w = refl

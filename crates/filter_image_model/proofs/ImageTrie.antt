@@ -11,7 +11,8 @@ use Rattle.filter_model.specs.Trie.{END, height, nodes, nodes_to, path}
 use Rattle.byte_fields.specs.Spelling.{IsBytes}
 use Rattle.filter_image_model.specs.Header.{Bytes, hash_bits_in, cutoff_in, height_in, leaf_count_in, dense_count_in, section_bits, section_bytes, section}
 use Rattle.filter_image_model.specs.Levels.{are_levels, levels_from, leaves_of, nodes_above, leaves_behind, root_leaves}
-use Rattle.filter_image_model.specs.Nodes.{From, IsDense, AreBytes, cut, named, dense_in, sparse_in}
+use Rattle.filter_image_model.specs.Nodes.{From, IsDense, cut, named, dense_in, sparse_in}
+use Rattle.filter_image_model.proofs.SparseNodes.{AreBytes}
 use Rattle.filter_image_model.specs.Reading.{rises, is_no_node, is_no_root, is_lone_end, is_lone_leaf, nodes_fault, header_fault, length_fault, padding_fault, stray_fault, louds_fault, counts_fault, shape_fault, ends_fault, nodes_rules, image_fault, suffix_in, leaves_in, slot_letters}
 use Rattle.filter_image_model.specs.Sections.{KeepsBytes}
 use Rattle.filter_image_model.specs.Laws.{IsReadTrie, TrieIsRead}

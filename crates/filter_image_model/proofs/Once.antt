@@ -10,32 +10,34 @@ use Rattle.filter_model.specs.Leaves.{Leaf}
 use Rattle.filter_model.specs.Nodes.{Node, all, trie_of}
 use Rattle.filter_model.specs.Trie.{height, nodes_to, path}
 use Rattle.filter_model.specs.Valid.{IsValid}
+use Rattle.trie_laws.specs.Louds.{IsNode}
 use Rattle.filter_image_model.specs.Header.{Bytes}
-use Rattle.filter_image_model.specs.Nodes.{IsDense, IsSparse}
+use Rattle.filter_image_model.specs.Nodes.{IsDense}
 use Rattle.filter_image_model.specs.Sections.{AreReadAgain, HasRoom, KeepsBytes}
-use Rattle.filter_image_model.proofs.Forms.{HasForm, nodes_formed}
+use Rattle.filter_image_model.specs.Laws.{HasForm}
+use Rattle.filter_image_model.proofs.Forms.{nodes_formed}
 use Rattle.filter_image_model.proofs.ImageWritten.{same_image}
 use Rattle.filter_image_model.proofs.Paths.{fine_paths, trie_flat}
 use Rattle.filter_image_model.proofs.ReadAgain.{sections_again}
 use Rattle.filter_image_model.proofs.SameLeaves.{one_list}
 use Rattle.filter_image_model.proofs.Sizes.{few_letters, few_nodes, low_height, some_height, suffixes_counted, total_of}
 
-abbrev dense_of : ℕ → List Leaf → List Node
+abbrev pub dense_of : ℕ → List Leaf → List Node
 dense_of c ls = take (length (nodes_to ls c)) (trie_of ls)
 
-abbrev sparse_of : ℕ → List Leaf → List Node
+abbrev pub sparse_of : ℕ → List Leaf → List Node
 sparse_of c ls = drop (length (nodes_to ls c)) (trie_of ls)
 
-dense_forms : (k : ℕ) (ns : List Node) → AllByRecursion HasForm ns → AllByRecursion IsDense (take k ns)
-dense_forms zero ns w = tt
-dense_forms (suc k) [] w = tt
-dense_forms (suc k) (n ∷ ns) w = (w.0.dense, dense_forms k ns w.1)
+dense_forms : (count : ℕ) (k : ℕ) (ns : List Node) → AllByRecursion (HasForm count) ns → AllByRecursion IsDense (take k ns)
+dense_forms count zero ns w = tt
+dense_forms count (suc k) [] w = tt
+dense_forms count (suc k) (n ∷ ns) w = (w.0.dense, dense_forms count k ns w.1)
 
-sparse_forms : (k : ℕ) (ns : List Node) → AllByRecursion HasForm ns → AllByRecursion IsSparse (drop k ns)
-sparse_forms zero [] w = tt
-sparse_forms zero (n ∷ ns) w = (w.0.sparse, sparse_forms zero ns w.1)
-sparse_forms (suc k) [] w = tt
-sparse_forms (suc k) (n ∷ ns) w = sparse_forms k ns w.1
+sparse_forms : (count : ℕ) (k : ℕ) (ns : List Node) → AllByRecursion (HasForm count) ns → AllByRecursion IsNode (drop k ns)
+sparse_forms count zero [] w = tt
+sparse_forms count zero (n ∷ ns) w = (w.0.sparse, sparse_forms count zero ns w.1)
+sparse_forms count (suc k) [] w = tt
+sparse_forms count (suc k) (n ∷ ns) w = sparse_forms count k ns w.1
 
 pub room : (h r c : ℕ) (ls : List Leaf) → MayStand h r c ls → HasRoom h r c (height ls) (length ls) (dense_of c ls) (sparse_of c ls) (suffixes h r ls)
 room h r c ls m =
@@ -66,8 +68,8 @@ room h r c ls m =
       few_dense = omega (arith, nodes, most, parts, both);
       few_sparse = omega (arith, nodes, most, parts, both);
       few_labels = omega (arith, letters, most, letters_parts, letters_both);
-      dense_nodes = dense_forms (length (nodes_to ls c)) (trie_of ls) forms;
-      sparse_nodes = sparse_forms (length (nodes_to ls c)) (trie_of ls) forms;
+      dense_nodes = dense_forms t (length (nodes_to ls c)) (trie_of ls) forms;
+      sparse_nodes = sparse_forms t (length (nodes_to ls c)) (trie_of ls) forms;
       suffix_bits = suffixes_counted h r ls v;
     }
   where

@@ -208,7 +208,7 @@ pub kids_in : (gs : List Group) → all_children (map node_of_group gs) ≡ leng
 kids_in [] = refl
 kids_in (g ∷ gs) = omega (arith, children_own (λ c. tails c g) (heads g), kids_in gs, length-append (children_of g) (flat_map children_of gs))
 
-kids_counted : (gs : List Group) → children_count (map node_of_group gs) ≡ length (flat_map children_of gs)
+pub kids_counted : (gs : List Group) → children_count (map node_of_group gs) ≡ length (flat_map children_of gs)
 kids_counted gs = sym (all_children_is (map node_of_group gs)) ∙ kids_in gs
 
 pub recut : (n : ℕ) (gs : List Group) → cut_levels n (length gs) (flat (levels_from n gs)) ≡ levels_from n gs

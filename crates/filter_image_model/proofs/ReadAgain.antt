@@ -15,8 +15,9 @@ use Rattle.filter_model.specs.Image.{has_letter, has_child, label_of, dense_labe
 use Rattle.filter_model.specs.Nodes.{Branch, Node, all}
 use Rattle.filter_model.specs.Trie.{END}
 use Rattle.trie_laws.proofs.Louds.{louds_count}
+use Rattle.trie_laws.specs.Louds.{IsNode}
 use Rattle.filter_image_model.specs.Header.{Bytes, cutoff_in, height_in, leaf_count_in, dense_count_in, sparse_count_in, label_count_in, suffix_bits_in, place_after, section_bits, section_place, end_place, section_bytes, section}
-use Rattle.filter_image_model.specs.Nodes.{IsSparse, dense_nodes, sparse_nodes, dense_in, sparse_in}
+use Rattle.filter_image_model.specs.Nodes.{dense_nodes, sparse_nodes, dense_in, sparse_in}
 use Rattle.filter_image_model.specs.Reading.{is_stray, begins_clear, header_fault, length_fault, padding_fault, stray_fault, louds_fault}
 use Rattle.filter_image_model.specs.Sections.{head_bytes, sections, nodes_image, KeepsBytes, HasRoom, AreReadAgain, SectionsAreReadAgain}
 use Rattle.filter_image_model.proofs.Refusals.{passed, not_true}
@@ -25,7 +26,7 @@ use Rattle.filter_image_model.proofs.DenseNodes.{dense_again}
 use Rattle.filter_image_model.proofs.SparseNodes.{sparse_again, length-map}
 use Rattle.filter_image_model.proofs.Written.{join}
 use Rattle.filter_image_model.proofs.Laid.{IsLaid, laid, widths, bits_again, next_section, first_section, ends_at, padding_clear}
-use Rattle.filter_image_model.proofs.Again.{length-rows, length-louds, labels-IsBytes, little-IsBytes, packed-IsBytes, cutoff_again, height_again, leaves_again, dense_again_is, sparse_again_is, labels_again, dense_strays, nowhere_found, are_nodes, begins_set}
+use Rattle.filter_image_model.proofs.Again.{length-rows, length-louds, labels-IsBytes, little-IsBytes, packed-IsBytes, cutoff_again, height_again, leaves_again, dense_again_is, sparse_again_is, labels_again, dense_strays, nowhere_found, all_of, begins_set}
 
 -- the bits of the seven sections
 abbrev bit_lists : List Node → List Node → List Bool → List (List Bool)
@@ -33,7 +34,7 @@ bit_lists dense sparse suffixes =
     dense_labels dense ∷ dense_children dense ∷ dense_ends dense ∷ unpacked 8 (sparse_labels sparse) (8 * length (all sparse))
     ∷ sparse_children sparse ∷ sparse_louds sparse ∷ suffixes ∷ []
 
-labels_packed : (ns : List Node) → AllByRecursion IsSparse ns → sparse_labels ns ≡ packed 8 (unpacked 8 (sparse_labels ns) (8 * length (all ns)))
+labels_packed : (ns : List Node) → AllByRecursion IsNode ns → sparse_labels ns ≡ packed 8 (unpacked 8 (sparse_labels ns) (8 * length (all ns)))
 labels_packed ns w =
     let m = length (all ns) in
     let size : length (sparse_labels ns) ≡ m = length-map (λ (b : Branch). label_of b.0) (all ns) in
@@ -41,7 +42,7 @@ labels_packed ns w =
     let clear : (8 * m) % 8 ≡ 0 = omega arith in
     section_is (8 * m) (sparse_labels ns) (labels-IsBytes ns w) (size ∙ whole) (inl clear)
 
-sections_laid : (dense sparse : List Node) (suffixes : List Bool) → AllByRecursion IsSparse sparse → sections dense sparse suffixes ≡ laid (bit_lists dense sparse suffixes)
+sections_laid : (dense sparse : List Node) (suffixes : List Bool) → AllByRecursion IsNode sparse → sections dense sparse suffixes ≡ laid (bit_lists dense sparse suffixes)
 unfolding sections
 sections_laid dense sparse suffixes w =
     join (packed 8 (dense_labels dense)) (packed 8 (dense_children dense)) (packed 8 (dense_ends dense)) (sparse_labels sparse) (packed 8 (sparse_children sparse)) (packed 8 (sparse_louds sparse)) (packed 8 suffixes)
@@ -231,7 +232,7 @@ module _ (h r c ht lv : ℕ) (dense sparse : List Node) (suffixes : List Bool) (
   unfolding louds_fault
   no_louds_fault =
       passed (not (count_by (λ b. b) (section 5 bytes) == sparse_count_in bytes) || begins_clear (section 5 bytes)) _ _ _
-      (false_or _ _ (not_true _ (eq-eqb _ _ (ap (count_by (λ b. b)) section_5 ∙ louds_count sparse (are_nodes sparse room.sparse_nodes) ∙ sym sparse_is)))
+      (false_or _ _ (not_true _ (eq-eqb _ _ (ap (count_by (λ b. b)) section_5 ∙ louds_count sparse (all_of IsNode sparse room.sparse_nodes) ∙ sym sparse_is)))
       (ap begins_clear section_5 ∙ begins_set sparse room.sparse_nodes)) refl
 
   kept_bytes : KeepsBytes bytes

@@ -255,17 +255,18 @@ same_path (a ∷ x) (b ∷ y) e f v w i =
     let r = same_path x y e f v.1 w.1 (rest_of _ _ _ _ i) in
     ((λ j. k j ∷ r.0 j), r.1)
 
+-- the real bits of a number, above its hash bits
+pub high_part : (h a b : ℕ) → a < 2 ^ h → (a + 2 ^ h * b) / 2 ^ h ≡ b
+high_part h a b lt = let z = div-eq_of_lt lt in add-mul-div_left a b (pow_pos h) ∙ omega (arith, z)
+
 same_parts : (h a b c d : ℕ) → a < 2 ^ h → c < 2 ^ h → a + 2 ^ h * b ≡ c + 2 ^ h * d → (a ≡ c) × (b ≡ d)
 same_parts h a b c d al cl e = (
   low a b al ∙ ap (λ n. n % 2 ^ h) e ∙ sym (low c d cl),
-  high a b al ∙ ap (λ n. n / 2 ^ h) e ∙ sym (high c d cl),
+  sym (high_part h a b al) ∙ ap (λ n. n / 2 ^ h) e ∙ high_part h c d cl,
 )
   where
     low : (a b : ℕ) → a < 2 ^ h → a ≡ (a + 2 ^ h * b) % 2 ^ h
     low a b lt = sym (add-mul-mod_self_left a (2 ^ h) b ∙ mod-eq_of_lt lt)
-
-    high : (a b : ℕ) → a < 2 ^ h → b ≡ (a + 2 ^ h * b) / 2 ^ h
-    high a b lt = let z = div-eq_of_lt lt in sym (add-mul-div_left a b (pow_pos h) ∙ omega (arith, z))
 
 same_leaf : (h r : ℕ) (l o : Leaf) → IsLeaf h r l → IsLeaf h r o → AreBytes_of l.stub → AreBytes_of o.stub → path l ≡ path o → number h l ≡ number h o → l ≡ o
 unfolding path
@@ -285,7 +286,7 @@ same_list h r (l ∷ ls) (o ∷ os) v w bl bo e =
 
 -- ---- valid lists
 
-number_fits : (h r a b : ℕ) → a < 2 ^ h → b < 2 ^ r → a + 2 ^ h * b < 2 ^ (h + r)
+pub number_fits : (h r a b : ℕ) → a < 2 ^ h → b < 2 ^ r → a + 2 ^ h * b < 2 ^ (h + r)
 number_fits h r a b al bl = let m = step (2 ^ h) b (2 ^ r) bl in let w = pow-add 2 h r in omega (arith, al, m, w)
   where
     step : (k b n : ℕ) → b < n → k * b + k ≤ k * n

@@ -15,10 +15,12 @@ use Rattle.filter_model.specs.Nodes.{Branch, Node, all}
 use Rattle.filter_model.specs.Strings.{extends}
 use Rattle.filter_model.specs.Trie.{END, height, path, slots}
 use Rattle.filter_model.specs.Valid.{EndsRightly, IsLeaf, IsValid}
+use Rattle.trie_laws.specs.Louds.{IsNode}
 use Rattle.filter_image_model.specs.Levels.{leaves_behind, leaves_of, root_leaves}
-use Rattle.filter_image_model.specs.Nodes.{IsDense, IsSparse}
+use Rattle.filter_image_model.specs.Nodes.{IsDense}
 use Rattle.filter_image_model.specs.Nodes.{From as Bytes}
-use Rattle.filter_image_model.proofs.Forms.{HasForm, nodes_formed}
+use Rattle.filter_image_model.specs.Laws.{HasForm}
+use Rattle.filter_image_model.proofs.Forms.{nodes_formed}
 use Rattle.filter_image_model.proofs.GroupWords.{AreLevels, Group, InOrder, IsGoodNode, children_of, gather, goes_on, heads, is_cons, join, node_of_group, tails}
 use Rattle.filter_image_model.proofs.ImageTrie.{one_group, one_root}
 use Rattle.filter_image_model.proofs.ImageWritten.{suffixes_by_number}
@@ -114,25 +116,25 @@ good n w some = record { filled = some; order = subst (λ (m : Node). InOrder (m
     go true m b = in_order true (map (λ (x : Branch). x.0) m) (letters_from 0 m b)
     go false m b = in_order false (map (λ (x : Branch). x.0) m) (letters_from 0 m b)
 
-all_parts : (xs ys : List Node) → AllByRecursion HasForm (xs ++ ys) → AllByRecursion HasForm xs × AllByRecursion HasForm ys
-all_parts [] ys w = (tt, w)
-all_parts (x ∷ xs) ys w = let r = all_parts xs ys w.1 in ((w.0, r.0), r.1)
+pub all_parts : (P : Node → Type 0) (xs ys : List Node) → AllByRecursion P (xs ++ ys) → AllByRecursion P xs × AllByRecursion P ys
+all_parts P [] ys w = (tt, w)
+all_parts P (x ∷ xs) ys w = let r = all_parts P xs ys w.1 in ((w.0, r.0), r.1)
 
-some_sparse : (n : Node) → IsSparse n → is_cons n ≡ true
+some_sparse : (n : Node) → IsNode n → is_cons n ≡ true
 some_sparse [] w = absurd w
 some_sparse (b ∷ n) w = refl
 
-good_all : (ns : List Node) → AllByRecursion HasForm ns → AllByRecursion IsGoodNode ns
-good_all [] f = tt
-good_all (n ∷ ns) f = (good n f.0.dense (some_sparse n f.0.sparse), good_all ns f.1)
+pub good_all : (count : ℕ) (ns : List Node) → AllByRecursion (HasForm count) ns → AllByRecursion IsGoodNode ns
+good_all count [] f = tt
+good_all count (n ∷ ns) f = (good n f.0.dense (some_sparse n f.0.sparse), good_all count ns f.1)
 
-good_levels : (n : ℕ) (gs : List Group) → AllByRecursion HasForm (flat (levels_from n gs)) → OwnTo n gs → AreLevels (levels_from n gs)
-good_levels zero gs f o = tt
-good_levels (suc n) gs f o =
-    let cut = all_parts (map node_of_group gs) (flat (levels_from n (flat_map children_of gs))) f in (
-      good_all (map node_of_group gs) cut.0,
+pub good_levels : (count : ℕ) (n : ℕ) (gs : List Group) → AllByRecursion (HasForm count) (flat (levels_from n gs)) → OwnTo n gs → AreLevels (levels_from n gs)
+good_levels count zero gs f o = tt
+good_levels count (suc n) gs f o =
+    let cut = all_parts (HasForm count) (map node_of_group gs) (flat (levels_from n (flat_map children_of gs))) f in (
+      good_all count (map node_of_group gs) cut.0,
       kids_in gs ∙ ap length (sym (gather_own n (flat_map children_of gs) o.1)),
-      good_levels n (flat_map children_of gs) cut.1 o.1,
+      good_levels count n (flat_map children_of gs) cut.1 o.1,
     )
 
 length-from : (n : ℕ) (gs : List Group) → length (levels_from n gs) ≡ n
@@ -160,8 +162,9 @@ suffixes_counted h r ls v =
     let f = fine_paths h r ls v n (omega arith) in
     let levels = levels_from n (G ∷ []) in
     let own = own_to n (G ∷ []) (f, tt) in
-    let formed : AllByRecursion HasForm (flat levels) = subst (AllByRecursion HasForm) (trie_flat ls n (omega arith) f) (nodes_formed h r ls v) in
-    let a : AreLevels levels = good_levels n (G ∷ []) formed own in
+    let count = length ls in
+    let formed : AllByRecursion (HasForm count) (flat levels) = subst (AllByRecursion (HasForm count)) (trie_flat ls n (omega arith) f) (nodes_formed h r ls v) in
+    let a : AreLevels levels = good_levels count n (G ∷ []) formed own in
     let g : gather levels ≡ G ∷ [] = gather_own n (G ∷ []) own in
     let one : length (gather levels) ≡ 1 = ap length g in
     let ss = map (λ (i : ℕ). 0) (range_with_len 0 (leaves_of (flat levels))) in
@@ -194,25 +197,26 @@ any_stub x m (o ∷ os) w e = elim (or_cases (extends x o.stub) (list_any (λ (p
   | inr there ↦ any_stub x m os w.1 there
 ]
 
-low_path : (ls : List Leaf) (l : Leaf) → AllByRecursion (λ (o : Leaf). length o.stub ≤ 1024) ls → length l.stub ≤ 1024 → EndsRightly ls l → length (path l) ≤ 1024
+low_path : (m : ℕ) (ls : List Leaf) (l : Leaf) → AllByRecursion (λ (o : Leaf). length o.stub ≤ m) ls → length l.stub ≤ m → EndsRightly ls l → length (path l) ≤ m
 unfolding path
-low_path ls l w le e = go l.ends refl
+low_path m ls l w le e = go l.ends refl
   where
-    go : (t : Bool) → l.ends ≡ t → length (l.stub ++ cond t (END ∷ []) []) ≤ 1024
-    go true i = omega (arith, any_stub l.stub 1024 ls w (sym e ∙ i), length-append l.stub (END ∷ []))
+    go : (t : Bool) → l.ends ≡ t → length (l.stub ++ cond t (END ∷ []) []) ≤ m
+    go true i = omega (arith, any_stub l.stub m ls w (sym e ∙ i), length-append l.stub (END ∷ []))
     go false i = omega (arith, le, length-append l.stub [])
 
-low_part : (ls part : List Leaf) → AllByRecursion (λ (o : Leaf). length o.stub ≤ 1024) ls → AllByRecursion (λ (o : Leaf). length o.stub ≤ 1024) part → All (EndsRightly ls) part → height part ≤ 1024
+-- no path is longer than the longest stub
+pub low_part : (m : ℕ) (ls part : List Leaf) → AllByRecursion (λ (o : Leaf). length o.stub ≤ m) ls → AllByRecursion (λ (o : Leaf). length o.stub ≤ m) part → All (EndsRightly ls) part → height part ≤ m
 unfolding height
-low_part ls [] w v e = omega arith
-low_part ls (l ∷ part) w v e = omega (arith, low_path ls l w v.0 (e 0 l (omega arith)), low_part ls part w v.1 (λ k d lt. e (suc k) d (omega (arith, lt))))
+low_part m ls [] w v e = omega arith
+low_part m ls (l ∷ part) w v e = omega (arith, low_path m ls l w v.0 (e 0 l (omega arith)), low_part m ls part w v.1 (λ k d lt. e (suc k) d (omega (arith, lt))))
 
 short_stubs : (h r : ℕ) (ls : List Leaf) → All (IsLeaf h r) ls → AllByRecursion (λ (o : Leaf). length o.stub ≤ 1024) ls
 short_stubs h r [] v = tt
 short_stubs h r (l ∷ ls) v = ((v 0 l (omega arith)).short, short_stubs h r ls (λ k d lt. v (suc k) d (omega (arith, lt))))
 
 pub low_height : (h r : ℕ) (ls : List Leaf) → IsValid h r ls → height ls ≤ 1024
-low_height h r ls v = let s = short_stubs h r ls v.leaves in low_part ls ls s s v.ends
+low_height h r ls v = let s = short_stubs h r ls v.leaves in low_part 1024 ls ls s s v.ends
 
 path_long : (l : Leaf) → 0 < length l.stub → 0 < length (path l)
 unfolding path

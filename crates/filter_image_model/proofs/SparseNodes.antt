@@ -1,15 +1,25 @@
 -- Sparse nodes and the sections that spell them.
 use Rattle.std.proofs.Common.{◌≡◌, ℕ, suc, ◌<◌, ◌≤◌, List, [], ◌∷◌, ◌++◌, length, refl, ap, sym, ◌∙◌, arith, map, Bool, true, false, cond, inl, inr}
 use Rattle.std.specs.Prelude.{◌==◌, count_by, zip}
-use Rattle.std.specs.List.{AllByRecursion}
+use Rattle.std.specs.List.{All, AllByRecursion}
+use Rattle.std.proofs.lemmas.List.Elements.{All-head, All-tail}
 use Rattle.std.proofs.lemmas.Bool.{cases_Bool, cases_eq, ne_eqb, eq-eqb, eqb-true}
 use Rattle.std.proofs.lemmas.List.{map-append, append-nil}
 use Rattle.filter_model.proofs.Counts.{count_by-cons}
 use Rattle.filter_model.specs.Image.{label_of, opening, sparse_labels, sparse_children, sparse_louds}
 use Rattle.filter_model.specs.Nodes.{Branch, Node, all}
 use Rattle.filter_model.specs.Trie.{END}
-use Rattle.filter_image_model.specs.Nodes.{AreBytes, IsSparse, cut, named, sparse_nodes}
+use Rattle.trie_laws.specs.Louds.{IsNode}
+use Rattle.filter_image_model.specs.Nodes.{cut, named, sparse_nodes}
 use Rattle.filter_image_model.specs.Reading.{begins_clear}
+
+-- bytes
+abbrev pub AreBytes : Node → Type 0
+AreBytes n = AllByRecursion (λ (b : Branch). b.0 < 256) n
+
+pub by_recursion : {X : Type 0} (P : X → Type 0) (xs : List X) → All P xs → AllByRecursion P xs
+by_recursion P [] w = tt
+by_recursion P (x ∷ xs) w = (All-head P x xs w, by_recursion P xs (All-tail P x xs w))
 
 -- ---- what is written is read so
 
@@ -25,7 +35,7 @@ cut_rest : (n : Node) (louds : List Bool) (bs : List Branch) → cut (map (λ (x
 cut_rest [] louds bs = refl
 cut_rest (b ∷ n) louds bs = ap (λ (r : Node × List Node). (written b ∷ r.0, r.1)) (cut_rest n louds bs)
 
-cut_all : (ns : List Node) → AllByRecursion IsSparse ns → cut (sparse_louds ns) (map written (all ns)) ≡ ([], map (map written) ns)
+cut_all : (ns : List Node) → AllByRecursion IsNode ns → cut (sparse_louds ns) (map written (all ns)) ≡ ([], map (map written) ns)
 cut_all [] w = refl
 cut_all ([] ∷ ns) w = absurd w.0
 cut_all ((b ∷ n) ∷ ns) w =
@@ -53,18 +63,18 @@ first_named a l plain = elim (cases_eq a.0 256) [
       ap (λ (c : ℕ). cond {A = Branch} (c == 255) (END, a.1) (c, a.1)) e ∙ ap (λ (t : Bool). cond {A = Branch} t (END, a.1) (a.0, a.1)) (ne_eqb a.0 255 plain)
 ]
 
-named-written : (n : Node) → IsSparse n → named (map written n) ≡ n
+named-written : (n : Node) → IsNode n → named (map written n) ≡ n
 named-written [] w = absurd w
 named-written (a ∷ []) w = ap (λ (x : Branch). x ∷ []) (written-byte a w)
 named-written (a ∷ b ∷ n) w =
-    ap (λ (m : Node). cond (label_of a.0 == 255) (END, a.1) (written a) ∷ m) (written-bytes (b ∷ n) w.2)
+    ap (λ (m : Node). cond (label_of a.0 == 255) (END, a.1) (written a) ∷ m) (written-bytes (b ∷ n) (by_recursion (λ (x : Branch). x.0 < 256) (b ∷ n) w.2))
     ∙ ap (λ (x : Branch). x ∷ b ∷ n) (first_named a w.0 w.1)
 
-named-all : (ns : List Node) → AllByRecursion IsSparse ns → map named (map (map written) ns) ≡ ns
+named-all : (ns : List Node) → AllByRecursion IsNode ns → map named (map (map written) ns) ≡ ns
 named-all [] w = refl
 named-all (n ∷ ns) w = (λ j. named-written n w.0 j ∷ named-all ns w.1 j)
 
-pub sparse_again : (ns : List Node) → AllByRecursion IsSparse ns → sparse_nodes (sparse_labels ns) (sparse_children ns) (sparse_louds ns) ≡ ns
+pub sparse_again : (ns : List Node) → AllByRecursion IsNode ns → sparse_nodes (sparse_labels ns) (sparse_children ns) (sparse_louds ns) ≡ ns
 sparse_again ns w =
     ap (λ (bs : List Branch). map named (cut (sparse_louds ns) bs).1) (zip-written (all ns))
     ∙ ap (λ (r : Node × List Node). map named r.1) (cut_all ns w)

@@ -39,7 +39,7 @@ pub tall : Group → ℕ
 tall [] = 0
 tall (x ∷ g) = max (length x) (tall g)
 
-talls : List Group → ℕ
+unfoldable pub talls : List Group → ℕ
 talls [] = 0
 talls (g ∷ gs) = max (tall g) (talls gs)
 
@@ -102,7 +102,7 @@ unfolding talls
 talls-append [] h = omega arith
 talls-append (x ∷ g) h = omega (arith, talls-append g h)
 
-tall_raise : (ns : List Node) (gs : List Group) → AllByRecursion IsGoodNode ns → GoOn gs → all_children ns ≤ length gs
+pub tall_raise : (ns : List Node) (gs : List Group) → AllByRecursion IsGoodNode ns → GoOn gs → all_children ns ≤ length gs
     → talls (raise ns gs) ≡ cond (is_cons ns) (suc (talls (take (all_children ns) gs))) 0
 unfolding talls
 tall_raise [] gs good w le = refl

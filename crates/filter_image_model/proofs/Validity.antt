@@ -76,12 +76,12 @@ shape_kept bytes k =
 
 -- ---- level by level
 
-all_take : {X : Type 0} (P : X → Type 0) (k : ℕ) (xs : List X) → AllByRecursion P xs → AllByRecursion P (take k xs)
+pub all_take : {X : Type 0} (P : X → Type 0) (k : ℕ) (xs : List X) → AllByRecursion P xs → AllByRecursion P (take k xs)
 all_take P zero xs w = tt
 all_take P (suc k) [] w = tt
 all_take P (suc k) (x ∷ xs) w = (w.0, all_take P k xs w.1)
 
-all_drop : {X : Type 0} (P : X → Type 0) (k : ℕ) (xs : List X) → AllByRecursion P xs → AllByRecursion P (drop k xs)
+pub all_drop : {X : Type 0} (P : X → Type 0) (k : ℕ) (xs : List X) → AllByRecursion P xs → AllByRecursion P (drop k xs)
 all_drop P zero xs w = w
 all_drop P (suc k) [] w = tt
 all_drop P (suc k) (x ∷ xs) w = all_drop P k xs w.1

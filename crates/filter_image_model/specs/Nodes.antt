@@ -1,7 +1,6 @@
 -- The nodes that the sections spell, whether or not they are those of a trie. A node is the list of its branches; END
 -- stands first, and keeps the bit that says whether a branch leads to a node.
 use Rattle.std.specs.Prelude.{◌≡◌, ℕ, suc, ◌<◌, ◌≤◌, ◌==◌, Bool, true, false, cond, List, [], ◌∷◌, ◌++◌, map, take, drop, zip}
-use Rattle.std.specs.List.{AllByRecursion}
 use Rattle.filter_model.specs.Nodes.{Branch, Node}
 use Rattle.filter_model.specs.Trie.{END}
 use Rattle.filter_image_model.specs.Header.{Bytes, section_bytes, section}
@@ -57,19 +56,9 @@ abbrev pub From : ℕ → Node → Type 0
 From c [] = Unit {0}
 From c (b ∷ n) = (c ≤ b.0) × (b.0 < 256) × From (suc b.0) n
 
--- a dense node: END without a child, then bytes
+-- a dense node: END, which leads to no node, and then bytes. (A sparse one is `trie_laws`' IsNode.)
 pub record IsDense (n : Node) : Type 0 where
   pub ends : Bool
   pub bytes : Node
   pub rising : From 0 bytes
   pub is : n ≡ cond ends ((END, false) ∷ []) [] ++ bytes
-
--- bytes
-abbrev pub AreBytes : Node → Type 0
-AreBytes n = AllByRecursion (λ (b : Branch). b.0 < 256) n
-
--- a sparse node: a byte alone, or END or another byte than 255 and then bytes
-abbrev pub IsSparse : Node → Type 0
-IsSparse [] = ⊥
-IsSparse (a ∷ []) = a.0 < 256
-IsSparse (a ∷ b ∷ n) = (a.0 ≤ 256) × (a.0 ≡ 255 → ⊥) × AreBytes (b ∷ n)

@@ -6,8 +6,9 @@ use Rattle.byte_fields.specs.Spelling.{IsBytes}
 use Rattle.byteorder.specs.Endian.{little_bytes}
 use Rattle.filter_model.specs.Image.{dense_labels, dense_children, dense_ends, sparse_labels, sparse_children, sparse_louds}
 use Rattle.filter_model.specs.Nodes.{Node, all}
+use Rattle.trie_laws.specs.Louds.{IsNode}
 use Rattle.filter_image_model.specs.Header.{Bytes, hash_bits_in, real_bits_in, cutoff_in, height_in, leaf_count_in, section_bits, section}
-use Rattle.filter_image_model.specs.Nodes.{IsDense, IsSparse, dense_in, sparse_in}
+use Rattle.filter_image_model.specs.Nodes.{IsDense, dense_in, sparse_in}
 use Rattle.filter_image_model.specs.Reading.{header_fault, length_fault, padding_fault, stray_fault, louds_fault}
 
 -- the header of these numbers
@@ -56,7 +57,7 @@ pub record HasRoom (hash_bits real_bits cutoff height leaves : ℕ) (dense spars
   pub few_sparse : length sparse < 2 ^ 64
   pub few_labels : length (all sparse) < 2 ^ 64
   pub dense_nodes : AllByRecursion IsDense dense
-  pub sparse_nodes : AllByRecursion IsSparse sparse
+  pub sparse_nodes : AllByRecursion IsNode sparse
   pub suffix_bits : length suffixes ≡ leaves * (hash_bits + real_bits)
 
 -- what is read of their image

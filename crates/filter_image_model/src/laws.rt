@@ -1,7 +1,7 @@
 // Laws of the reading. They are proved and never called.
 ghost use Rattle.filter_api.specs.Spellings.{SpellsOne};
 ghost use Rattle.filter_model.specs.Image.{image};
-ghost use Rattle.filter_image_model.specs.Laws.{BytesAreTheImage, ImageWasWrittenSo, OneListATrie, TrieIsRead};
+ghost use Rattle.filter_image_model.specs.Laws.{BytesAreTheImage, ImageIsReadAgain, ImageWasWrittenSo, NodesHaveForm, OneListATrie, TrieIsRead};
 ghost use Rattle.filter_image_model.specs.Sections.{SectionsAreReadAgain, SectionsAreWritten};
 
 /// Bytes that keep the rules on the bytes alone are the image of the nodes and suffixes that are read, and such an image
@@ -23,8 +23,19 @@ pub fn the_image_was_written_so()
     ensures law { ImageWasWrittenSo }
 {}
 
+/// The nodes of a valid list's trie have the form of nodes that are read: END first, which leads to no node, then rising
+/// bytes; neither END alone nor, where there are two leaves or more, one leaf alone.
+pub fn nodes_have_form()
+    ensures law { NodesHaveForm }
+{}
+
 /// No two valid lists of leaves have one trie and the same suffixes, and no two have one image.
 pub fn an_image_has_one_list()
     ensures trie { OneListATrie }
     ensures image { SpellsOne image }
+{}
+
+/// The image of a valid list, with any cutoff from 0 to its height, breaks no rule and is read as that list.
+pub fn an_image_is_read_again()
+    ensures law { ImageIsReadAgain }
 {}
