@@ -7,6 +7,7 @@ ghost use Rattle.filter_model.specs.Trie.{END};
 ghost use Rattle.louds_sparse.specs.Cuts.{IsCut, StandBytes};
 ghost use Rattle.trie_model.specs.Halves.{HasNode, begin_of, branch_place, byte_at, child_at, end_slot, first_below, next_place, places_in, prev_place, slot_at};
 
+use super::sections::END_LABEL;
 use bit_rank::Ranked;
 use bit_select::Selected;
 use lane_scan::{find_label_between, first_at_least_between};
@@ -14,16 +15,13 @@ use std::alloc::Allocator;
 use std::marker::Model;
 use trie_model::Before;
 
-/// How END is written, in a node of two labels or more.
-const END_LABEL: u8 = 0xFF;
-
 /// The nodes of the lower levels of a trie: a label, a bit for a child and a bit for a first label for each branch.
 #[derive(Drop)]
 pub struct Sparse<A: Allocator> {
-    before: Before,
-    labels: Vec<u8, A>,
-    has_child: Ranked<A>,
-    louds: Selected<A>,
+    pub(crate) before: Before,
+    pub(crate) labels: Vec<u8, A>,
+    pub(crate) has_child: Ranked<A>,
+    pub(crate) louds: Selected<A>,
 }
 
 impl<A: Allocator> Model for Sparse<A> {
