@@ -3,7 +3,7 @@
 
 ghost use Rattle.std.specs.Prelude.{◌≡◌, [], ◌∷◌, ◌++◌, false, take, codes, Some, None};
 ghost use Rattle.filter_model.specs.Rows.{a_ab_dense, a_ab_root_dense, a_ab_sparse, far_to_toy, far_to_toy_sparse, real};
-ghost use Rattle.filter_image_model.specs.Faults.{fault};
+ghost use Rattle.byte_fields.specs.Faults.{fault};
 ghost use Rattle.filter_image_model.specs.Reading.{image_fault, image_in};
 ghost use Rattle.filter_image_model.specs.Rows.{a_ab_ac_with_real, a_and_ab, a_leaf, a_with_hash, ab_alone, changed, mark_leads_on, plain};
 

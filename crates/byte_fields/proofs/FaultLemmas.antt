@@ -2,8 +2,7 @@
 use Rattle.std.proofs.Common.{◌≡◌, ℕ, Bool, true, false, refl}
 use Rattle.std.specs.Prelude.{Option, Some, None, not}
 use Rattle.std.specs.Option.{option_map}
-use Rattle.filter_api.specs.declared.errors.FilterFault.{FilterFault as Fault}
-use Rattle.filter_image_model.specs.Faults.{refuse, or_fault}
+use Rattle.byte_fields.specs.Faults.{Fault, refuse, or_fault}
 
 pub kept : (bad : Bool) (place rule : ℕ) (later : Option Fault) → refuse bad place rule later ≡ None → (bad ≡ false) × (later ≡ None)
 kept true place rule later e = absurd cc
