@@ -24,7 +24,7 @@ use Rattle.filter_image_model.proofs.Gather.{GoOn}
 use Rattle.trie_model.specs.Rests.{tails}
 use Rattle.filter_image_model.proofs.GroupWords.{AreLevels, Group, all_children, children_of, gather, goes_on, heads, is_cons, node_of_group, raise}
 use Rattle.filter_image_model.proofs.LevelsRead.{flat}
-use Rattle.filter_image_model.proofs.Once.{dense_of, read_as, sparse_of, spells_one}
+use Rattle.filter_image_model.proofs.OneImage.{dense_of, read_as, sparse_of, spells_one}
 use Rattle.filter_image_model.proofs.Paths.{IsFine, bytes_of_leaves, fine_children, fine_paths, kids_counted, kids_in, own_to, recut, stub_bytes, trie_flat}
 use Rattle.byte_fields.proofs.FaultLemmas.{none_of, passed}
 use Rattle.filter_image_model.proofs.Rising.{byte_order}
