@@ -23,7 +23,7 @@ use Rattle.state_model.proofs.Parts.{Pairs}
 abbrev pub Upto : Bytes → Bytes → Type 0
 Upto x y = (x ≡ y) ⊎ IsBefore x y
 
-upto_then : (x y z : Bytes) → Upto x y → Upto y z → Upto x z
+pub upto_then : (x y z : Bytes) → Upto x y → Upto y z → Upto x z
 upto_then x y z (inl e) yz = subst (λ (w : Bytes). Upto w z) (sym e) yz
 upto_then x y z (inr less) (inl e) = subst (λ (w : Bytes). Upto x w) e (inr less)
 upto_then x y z (inr less) (inr more) = inr (nat_list_cmp_total.trans x y z less more)
@@ -32,19 +32,19 @@ not_before : (x y : Bytes) → Upto x y → is_before y x ≡ false
 not_before x y (inl e) = ap is_lt (order_same y x (sym e))
 not_before x y (inr less) = ap is_lt (greater_of_less x y less)
 
-crossed : (x y : Bytes) → Upto x y → IsBefore y x → ⊥
+pub crossed : (x y : Bytes) → Upto x y → IsBefore y x → ⊥
 crossed x y upto less = let e = sym (not_before x y upto) ∙ ap is_lt less in cc
 
-lesser_first : (x y : Bytes) → Upto (lesser x y) x
+pub lesser_first : (x y : Bytes) → Upto (lesser x y) x
 lesser_first x y = by_order (λ o. Upto (cond (is_lt o) y x) x) y x (λ less. inr less) (λ _. inl refl) (λ _. inl refl)
 
-lesser_second : (x y : Bytes) → Upto (lesser x y) y
+pub lesser_second : (x y : Bytes) → Upto (lesser x y) y
 lesser_second x y = by_order (λ o. Upto (cond (is_lt o) y x) y) y x (λ _. inl refl) (λ equal. inl (sym (equal_keys y x equal))) (λ more. inr (less_of_greater y x more))
 
-greater_first : (x y : Bytes) → Upto x (greater x y)
+pub greater_first : (x y : Bytes) → Upto x (greater x y)
 greater_first x y = by_order (λ o. Upto x (cond (is_lt o) y x)) x y (λ less. inr less) (λ _. inl refl) (λ _. inl refl)
 
-greater_second : (x y : Bytes) → Upto y (greater x y)
+pub greater_second : (x y : Bytes) → Upto y (greater x y)
 greater_second x y = by_order (λ o. Upto y (cond (is_lt o) y x)) x y (λ _. inl refl) (λ equal. inl (sym (equal_keys x y equal))) (λ more. inr (less_of_greater x y more))
 
 -- ---- a key that a table has
@@ -126,10 +126,10 @@ one_of_level level (t ∷ more) key some at rise order = (none_of_all (lookup t.
 
 -- ---- the hull of some tables
 
-abbrev lower_of : Bytes → List Table → Bytes
+abbrev pub lower_of : Bytes → List Table → Bytes
 lower_of start tables = fold (λ key (u : Table). lesser key (least_key u)) start tables
 
-abbrev upper_of : Bytes → List Table → Bytes
+abbrev pub upper_of : Bytes → List Table → Bytes
 upper_of start tables = fold (λ key (u : Table). greater key (greatest_key u)) start tables
 
 -- some table of them has the key

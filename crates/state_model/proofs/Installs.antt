@@ -60,19 +60,19 @@ live_behind (Some v) w i same = refl
 -- ---- what is chosen
 
 -- the tables of a level that are merged, between those that are not
-record Shape (x0 tables : List Table) (key : Bytes) : Type 0 where
-  front : List Table
-  back : List Table
-  parts : x0 ≡ front ++ (tables ++ back)
-  apart : EitherNone (says tables key) (says back key)
+pub record Shape (x0 tables : List Table) (key : Bytes) : Type 0 where
+  pub front : List Table
+  pub back : List Table
+  pub parts : x0 ≡ front ++ (tables ++ back)
+  pub apart : EitherNone (says tables key) (says back key)
 
 -- a plan merges some tables of a level with those of the next that they meet
-record Chosen (plan : Plan) (all : List Table) (key : Bytes) : Type 0 where
-  level : ℕ
-  tables : List Table
-  output : plan.output ≡ level + 1
-  inputs : plan.inputs ≡ tables ++ filter (meets (least_of tables) (greatest_of tables)) (on_level (level + 1) all)
-  shape : Shape (on_level level all) tables key
+pub record Chosen (plan : Plan) (all : List Table) (key : Bytes) : Type 0 where
+  pub level : ℕ
+  pub tables : List Table
+  pub output : plan.output ≡ level + 1
+  pub inputs : plan.inputs ≡ tables ++ filter (meets (least_of tables) (greatest_of tables)) (on_level (level + 1) all)
+  pub shape : Shape (on_level level all) tables key
 
 data IsPlan (s : State) (plan : Plan) : Type 0 where
   of_level_0 : plan ≡ plan_of s (on_level 0 s.tables) 1 → IsPlan s plan
@@ -95,7 +95,7 @@ first_apart : (tables : List Table) (key : Bytes) → AtMostOne key tables → E
 first_apart [] key one = inl refl
 first_apart (t ∷ more) key one = subst (λ (o : Says). EitherNone o (says more key)) (sym (or_none (lookup t.entries key))) one.0
 
-on_level_at : (level : ℕ) (tables : List Table) → AllAt level (on_level level tables)
+pub on_level_at : (level : ℕ) (tables : List Table) → AllAt level (on_level level tables)
 on_level_at level tables = weaker (λ (t : Table). (t.level == level) ≡ true) (λ (t : Table). t.level ≡ level) (λ t e. grind arith) (on_level level tables) (all_pass (λ (t : Table). t.level == level) tables)
 
 one_on : (level : ℕ) (tables : List Table) (key : Bytes) → 1 ≤ level → Rise tables → Pairs StandsBefore tables → AtMostOne key (on_level level tables)
@@ -103,7 +103,7 @@ one_on level tables key some rise order = one_of_level level (on_level level tab
     (all_kept (λ (t : Table). KeysRise t.entries) (λ (t : Table). t.level == level) tables rise)
     (pairs_kept StandsBefore (λ (t : Table). t.level == level) tables order)
 
-chosen : (s : State) (few : ℕ) (plan : Plan) (key : Bytes) → few ≤ length (on_level 0 s.tables) → choose (record s { tables = drop few s.tables }) ≡ Some plan → Rise s.tables → Pairs StandsBefore s.tables → Chosen plan s.tables key
+pub chosen : (s : State) (few : ℕ) (plan : Plan) (key : Bytes) → few ≤ length (on_level 0 s.tables) → choose (record s { tables = drop few s.tables }) ≡ Some plan → Rise s.tables → Pairs StandsBefore s.tables → Chosen plan s.tables key
 chosen s few plan key within e rise order =
     let later = record s { tables = drop few s.tables } in
     let same = dropped 0 few s.tables (levels_of s.tables order) within in
@@ -143,7 +143,7 @@ chosen s few plan key within e rise order =
 
 -- ---- what is left
 
-abbrev five : List Table → List Table → List Table → List Table → List Table → List Table
+abbrev pub five : List Table → List Table → List Table → List Table → List Table → List Table
 five b p s x d = b ++ ((p ++ s) ++ (x ++ d))
 
 filter_five : (test : Table → Bool) (b p s x d b' p' s' x' d' : List Table) → filter test b ≡ b' → filter test p ≡ p' → filter test s ≡ s' → filter test x ≡ x' → filter test d ≡ d' → filter test (five b p s x d) ≡ five b' p' s' x' d'
@@ -154,7 +154,7 @@ filter_five test b p s x d b' p' s' x' d' eb ep es ex ed =
     ∙ ap (λ (l : List Table). (filter test p ++ filter test s) ++ l) (filter-append test x d))
     ∙ (λ i. eb i ++ ((ep i ++ es i) ++ (ex i ++ ed i)))
 
-left : (all b p i s x d : List Table) (test : Table → Bool) → all ≡ b ++ ((p ++ (i ++ s)) ++ (x ++ d)) → Pairs Apart all
+pub left : (all b p i s x d : List Table) (test : Table → Bool) → all ≡ b ++ ((p ++ (i ++ s)) ++ (x ++ d)) → Pairs Apart all
     → without (i ++ filter test x) all ≡ five b p s (filter (λ (t : Table). not (test t)) x) d
 left all b p i s x d test parts pairs =
     let inputs = i ++ filter test x in
@@ -192,7 +192,7 @@ says_five b p s x d key = says-append b ((p ++ s) ++ (x ++ d)) key
 
 -- ---- the outputs
 
-made_lists : (spells : Spells) (s : State) (level : ℕ) (outputs : List (List Entry)) (made : List Table) → AreMade spells s level outputs made → drop (length made) outputs ≡ [] → (lists_of made ≡ outputs) × AllAt level made
+pub made_lists : (spells : Spells) (s : State) (level : ℕ) (outputs : List (List Entry)) (made : List Table) → AreMade spells s level outputs made → drop (length made) outputs ≡ [] → (lists_of made ≡ outputs) × AllAt level made
 made_lists spells s level [] [] made rest = (refl, tt)
 made_lists spells s level (output ∷ outputs) [] made rest = (sym rest, tt)
 made_lists spells s level [] (t ∷ more) made rest = absurd made
@@ -215,7 +215,7 @@ at_most (w ∷ more) key rises = (
   at_most more key (rises_parts w.entries (joined (lists_of more)) rises).1,
 )
 
-lasting_rises : (is_last : Bool) (entries : List Entry) → KeysRise entries → KeysRise (lasting is_last entries)
+pub lasting_rises : (is_last : Bool) (entries : List Entry) → KeysRise entries → KeysRise (lasting is_last entries)
 lasting_rises true entries rises = rises_filter (λ (e : Entry). has_value e.value) entries rises
 lasting_rises false entries rises = rises
 
@@ -255,7 +255,7 @@ pages_apart : (pages : ℕ) (tables rest : List Table) → Pairs AreApart (map e
 pages_apart pages [] rest pairs on = tt
 pages_apart pages (t ∷ more) rest pairs on = (all_apart pages t more rest on.0.some pairs.0 on.1, pages_apart pages more rest pairs.1 on.1)
 
-state_apart : (spells : Spells) (s : State) → IsSound spells s → Pairs Apart s.tables
+pub state_apart : (spells : Spells) (s : State) → IsSound spells s → Pairs Apart s.tables
 state_apart spells s sound = let e = append_assoc s.tables (written_by s.job) s.kept in
     pages_apart s.pages s.tables (written_by s.job ++ s.kept)
     (subst (λ (l : List Table). Pairs AreApart (map extent_of l)) e (pairs_of AreApart (taken s) sound.apart))
@@ -263,10 +263,10 @@ state_apart spells s sound = let e = append_assoc s.tables (written_by s.job) s.
 
 -- ---- levels and their tests
 
-lt_of : (l a : ℕ) → nat_lt l a ≡ true → l < a
+pub lt_of : (l a : ℕ) → nat_lt l a ≡ true → l < a
 lt_of l a e = grind arith
 
-over_of : (l b : ℕ) → not (nat_le l b) ≡ true → b < l
+pub over_of : (l b : ℕ) → not (nat_le l b) ≡ true → b < l
 over_of l b e = grind arith
 
 low_le : (a l : ℕ) → l < a → nat_le l (a + 1) ≡ true
@@ -405,11 +405,11 @@ install_says spells s job key sound is done =
 
 -- ---- the map
 
-insert_all : (P : Table → Type 0) (w : Table) (tables : List Table) → P w → AllByRecursion P tables → AllByRecursion P (inserted tables w)
+pub insert_all : (P : Table → Type 0) (w : Table) (tables : List Table) → P w → AllByRecursion P tables → AllByRecursion P (inserted tables w)
 insert_all P w [] own all = (own, tt)
 insert_all P w (t ∷ more) own all = elim (goes_before w t) as (λ b. AllByRecursion P (cond b (w ∷ t ∷ more) (t ∷ inserted more w))) [ true ↦ (own, all) | false ↦ (all.0, insert_all P w more own all.1) ]
 
-fold_all : (P : Table → Type 0) (new tables : List Table) → AllByRecursion P new → AllByRecursion P tables → AllByRecursion P (fold inserted tables new)
+pub fold_all : (P : Table → Type 0) (new tables : List Table) → AllByRecursion P new → AllByRecursion P tables → AllByRecursion P (fold inserted tables new)
 fold_all P [] tables own all = all
 fold_all P (w ∷ new) tables own all = fold_all P new (inserted tables w) own.1 (insert_all P w tables own.0 all)
 

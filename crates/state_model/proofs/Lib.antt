@@ -16,3 +16,17 @@ pub mod Installs
 pub mod Reasons
 pub mod Limited
 pub mod Rooms
+pub mod Orders
+pub mod Places
+pub mod SoundLogs
+pub mod SoundChanges
+pub mod SoundJobs
+pub mod Steps
+pub mod SoundOutputs
+pub mod SoundCompaction
+pub mod Inserted
+pub mod Hulls
+pub mod SoundInstalls
+pub mod SoundLines
+pub mod AnyCause
+pub mod OfBytes

@@ -61,7 +61,7 @@ split_some : (entry : Entry) (more : List Entry) → 1 ≤ length (split_output 
 split_some entry more =
     elim (nat_le output_pages (data_pages (entry ∷ []))) as (λ t. 1 ≤ length (cond t (entry ∷ [], more) (split_output (entry ∷ []) more)).0) [ true ↦ omega arith | false ↦ split_grows (entry ∷ []) more ]
 
-outputs_some : (beside : ℕ) (entries : List Entry) → AllByRecursion (λ (output : List Entry). 1 ≤ length output) (outputs_of beside entries)
+pub outputs_some : (beside : ℕ) (entries : List Entry) → AllByRecursion (λ (output : List Entry). 1 ≤ length output) (outputs_of beside entries)
 outputs_some zero [] = tt
 outputs_some (suc beside) [] = tt
 outputs_some zero (entry ∷ more) = (omega arith, tt)
@@ -70,7 +70,7 @@ outputs_some (suc beside) (entry ∷ more) = (split_some entry more, outputs_som
 pub merge_some : (s : State) (plan : Plan) → AllByRecursion (λ (output : List Entry). 1 ≤ length output) (planned s plan)
 merge_some s plan = outputs_some (length plan.inputs - 1) (lasting (is_deepest s plan.output) (newest_of plan.inputs))
 
-outputs_few : (beside : ℕ) (entries : List Entry) → length (outputs_of beside entries) ≤ beside + 1
+pub outputs_few : (beside : ℕ) (entries : List Entry) → length (outputs_of beside entries) ≤ beside + 1
 outputs_few zero [] = omega arith
 outputs_few (suc beside) [] = omega arith
 outputs_few zero (entry ∷ more) = omega arith

@@ -16,4 +16,5 @@ pub mod Play
 pub mod PlayLaws
 pub mod Rows
 pub mod Laws
+pub mod SoundLaws
 pub mod Refusals

@@ -3,8 +3,9 @@ use Rattle.std.specs.Prelude.{◌≡◌, ◌⊎◌, ◌<◌, ◌≤◌, ℕ, Lis
 use Rattle.std.specs.List.{AllByRecursion, AllPairs, sum_by}
 use Rattle.std.specs.declared.cmp.Ordering.TheVariants.{Less}
 use Rattle.filter_api.specs.Ranges.{InRange}
+use Rattle.byte_fields.specs.Spelling.{IsBytes}
 use Rattle.store_model.specs.SortedMap.{Bytes, byte_order}
-use Rattle.store_model.specs.Entries.{Entry, filled}
+use Rattle.store_model.specs.Entries.{Entry, bytes_of, filled}
 use Rattle.block_model.specs.Block.{IsEntry, IsTable}
 use Rattle.state_model.specs.State.{State, Table, Job, last_epoch}
 use Rattle.state_model.specs.Pages.{Spells, table_of}
@@ -15,10 +16,17 @@ use Rattle.state_model.specs.Merges.{Plan, choose, planned, on_level, least_key,
 abbrev pub IsBefore : Bytes → Bytes → Type 0
 IsBefore x y = byte_order x y ≡ Less
 
--- a table has one entry or more, with strictly rising keys
+-- key and value are bytes
+pub record IsOfBytes (entry : Entry) : Type 0 where
+  pub key : IsBytes entry.key
+  pub value : IsBytes (bytes_of entry.value)
+
+-- a table has one entry or more, with strictly rising keys, and one block or more, each of a page or more
 pub record IsSoundTable (t : Table) : Type 0 where
   pub level : t.level ≤ 6
   pub entries : IsTable t.entries
+  pub bytes : AllByRecursion IsOfBytes t.entries
+  pub blocks : (1 ≤ t.blocks) × (t.blocks ≤ t.pages)
 
 -- The one stands before the other: it is of a lesser level, or of the same one and then, below level 0, its keys come
 -- before those of the other.
@@ -59,9 +67,11 @@ MayRun spells s (Some job) = IsJob spells s job
 
 pub record IsSound (spells : Spells) (s : State) : Type 0 where
   pub settings : InRange s.settings
+  pub ratio : s.settings.ratio < 65536
   pub device : (512 ≤ s.pages) × (s.pages ≤ 16777216)
   pub epoch : (1 ≤ s.epoch) × (s.epoch ≤ last_epoch)
   pub log : AllByRecursion IsEntry s.log
+  pub log_bytes : AllByRecursion IsOfBytes s.log
   pub log_fits : filled s.log < 262144
   pub few : length s.tables ≤ most_tables
   pub tables : AllByRecursion IsSoundTable s.tables

@@ -16,8 +16,13 @@ mod laws;
 mod playing;
 mod refusals;
 mod rows;
+mod soundness;
 
 pub use laws::{change_laws, install_laws, merge_laws, view_laws};
 pub use playing::{play_laws, played_texts};
 pub use refusals::refusal_laws;
 pub use rows::{levels_and_gaps, limits, lines_and_words, merges_and_flushes, reads_between_keys};
+pub use soundness::{
+    any_cause, changes_keep_sound, compaction_keeps_sound, jobs_end, jobs_keep_sound,
+    lines_keep_sound, new_is_sound, places_are_free, slices_keep_sound,
+};

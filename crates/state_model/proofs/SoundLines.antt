@@ -1,0 +1,145 @@
+-- Whatever a line is answered leaves a sound state.
+use Rattle.std.proofs.Common.{◌≡◌, ◌≤◌, List, [], ◌∷◌, length, refl, true, false, cond, arith}
+use Rattle.std.specs.List.{AllByRecursion}
+use Rattle.std.specs.Prelude.{Option, Some, None, Result, Ok, Err, nat_lt, ◌==◌, ◌||◌}
+use Rattle.store_model.specs.SortedMap.{Bytes}
+use Rattle.store_model.specs.Entries.{put_entry, del_entry}
+use Rattle.block_model.specs.Block.{IsEntry}
+use Rattle.state_model.specs.State.{State, without_job}
+use Rattle.state_model.specs.Pages.{Spells}
+use Rattle.state_model.specs.Changes.{key_limit, value_limit, first_limit, written, flushed, compacted}
+use Rattle.state_model.specs.Requests.{Request, Put, Del, Get, Seek, Range, Count, Estimate, Explain, Flush, Compact, Quit, Bad}
+use Rattle.state_model.specs.Replies.{Reply, Done, Value, Missing, At, Pairs, End, Counted, About, Explained, Bye, BadLine, LongKey, LongValue, ManyTables, LastEpoch, Full, Memory, Device, Damaged}
+use Rattle.state_model.specs.Steps.{answer, answer_within, changed, limit_of, unless_limit, left_by, Step, answers, no_memory, read_failed, damage_met, write_failed}
+use Rattle.state_model.specs.Play.{merged, tended, behind, played}
+use Rattle.state_model.specs.Sound.{IsSound}
+use Rattle.state_model.proofs.Wholes.{merged_is_a_slice}
+use Rattle.state_model.proofs.Plays.{answer_is_calm, tended_between}
+use Rattle.state_model.proofs.SoundInstalls.{slice_sound}
+use Rattle.state_model.specs.SoundLaws.{AsksOfBytes, Ever}
+use Rattle.state_model.proofs.SoundChanges.{IfSound, flushed_done, written_done}
+use Rattle.state_model.proofs.SoundCompaction.{compacted_done}
+use Rattle.state_model.proofs.SoundJobs.{drop_sound}
+
+-- ---- within the limits
+
+key_within : (key : Bytes) → key_limit key ≡ None → (1 ≤ length key) × (length key ≤ 1024)
+key_within key e = elim (length key == 0 || nat_lt 1024 (length key)) as (λ b. (length key == 0 || nat_lt 1024 (length key)) ≡ b → cond b (Some (LongKey (length key))) None ≡ None → (1 ≤ length key) × (length key ≤ 1024)) [
+  | true ↦ λ _ bad. absurd cc
+  | false ↦ λ off _. (grind arith, grind arith)
+] refl e
+
+value_within : (value : Bytes) → value_limit value ≡ None → length value ≤ 65536
+value_within value e = elim (nat_lt 65536 (length value)) as (λ b. nat_lt 65536 (length value) ≡ b → cond b (Some (LongValue (length value))) None ≡ None → length value ≤ 65536) [
+  | true ↦ λ _ bad. absurd cc
+  | false ↦ λ off _. grind arith
+] refl e
+
+first_within : (a b : Option Reply) → first_limit a b ≡ None → (a ≡ None) × (b ≡ None)
+first_within (Some limit) b e = absurd cc
+first_within None b e = (refl, e)
+
+put_within : (key value : Bytes) → first_limit (key_limit key) (value_limit value) ≡ None → IsEntry (put_entry key value)
+put_within key value e =
+    let both = first_within (key_limit key) (value_limit value) e in
+    let keys = key_within key both.0 in
+    record { some_key = keys.0; short_key = keys.1; short_value = value_within value both.1 }
+
+del_within : (key : Bytes) → key_limit key ≡ None → IsEntry (del_entry key)
+del_within key e = let keys = key_within key e in record { some_key = keys.0; short_key = keys.1; short_value = omega arith }
+
+-- ---- the answer
+
+changed_sound : (spells : Spells) (old : State) (done : Result State Reply) → IsSound spells old → IfSound spells done → IsSound spells (changed old done).1
+changed_sound spells old (Ok t) sound new = new
+changed_sound spells old (Err refusal) sound new = sound
+
+within_sound : (spells : Spells) (s : State) (request : Request) → IsSound spells s → AsksOfBytes request → limit_of request ≡ None → IsSound spells (answer_within spells s request).1
+within_sound spells s (Put key value) sound asks e = changed_sound spells s (written spells s (put_entry key value)) sound (written_done spells s (put_entry key value) sound (put_within key value e) (record { key = asks.0; value = asks.1 }))
+within_sound spells s (Del key) sound asks e = changed_sound spells s (written spells s (del_entry key)) sound (written_done spells s (del_entry key) sound (del_within key e) (record { key = asks; value = λ i. omega arith }))
+within_sound spells s Flush sound asks e = changed_sound spells s (flushed spells s) sound (flushed_done spells s sound)
+within_sound spells s Compact sound asks e = changed_sound spells (without_job s) (compacted spells s) (drop_sound spells s sound) (compacted_done spells s sound)
+within_sound spells s (Get key) sound asks e = sound
+within_sound spells s (Seek lo hi) sound asks e = sound
+within_sound spells s (Range lo hi n) sound asks e = sound
+within_sound spells s (Count lo hi) sound asks e = sound
+within_sound spells s (Estimate lo hi) sound asks e = sound
+within_sound spells s (Explain key) sound asks e = sound
+within_sound spells s Quit sound asks e = sound
+within_sound spells s (Bad code) sound asks e = sound
+
+answer_sound : (spells : Spells) (s : State) (request : Request) → IsSound spells s → AsksOfBytes request → IsSound spells (answer spells s request).1
+answer_sound spells s request sound asks = by_limit (limit_of request) refl
+  where
+    by_limit : (limit : Option Reply) → limit_of request ≡ limit → IsSound spells (unless_limit limit s (answer_within spells s request)).1
+    by_limit (Some limit) e = sound
+    by_limit None e = within_sound spells s request sound asks e
+
+left_sound : (spells : Spells) (s : State) (request : Request) → IsSound spells s → IsSound spells (left_by request s)
+left_sound spells s Compact sound = drop_sound spells s sound
+left_sound spells s (Put key value) sound = sound
+left_sound spells s (Del key) sound = sound
+left_sound spells s Flush sound = sound
+left_sound spells s (Get key) sound = sound
+left_sound spells s (Seek lo hi) sound = sound
+left_sound spells s (Range lo hi n) sound = sound
+left_sound spells s (Count lo hi) sound = sound
+left_sound spells s (Estimate lo hi) sound = sound
+left_sound spells s (Explain key) sound = sound
+left_sound spells s Quit sound = sound
+left_sound spells s (Bad code) sound = sound
+
+pub step_sound : (spells : Spells) (s after : State) (request : Request) (reply : Reply) → IsSound spells s → AsksOfBytes request → Step Ever spells s request reply after → IsSound spells after
+step_sound spells s after request reply sound asks d = elim d as (λ _ new _. IsSound spells new) [
+  | answers ↦ answer_sound spells s request sound asks
+  | no_memory within takes cause ↦ left_sound spells s request sound
+  | read_failed said within reads cause so ↦ left_sound spells s request sound
+  | damage_met damage said within reads cause so ↦ left_sound spells s request sound
+  | write_failed new within writes cause left same ↦ left
+]
+
+-- ---- lines that are played
+
+tended_sound : (spells : Spells) (s : State) (request : Request) → IsSound spells s → s.job ≡ None → IsSound spells (tended spells request s)
+tended_sound spells s (Put key value) sound none = let slice = merged_is_a_slice Ever spells s none in slice_sound spells s (merged spells s) slice.0.0 sound slice.0.1
+tended_sound spells s (Del key) sound none = let slice = merged_is_a_slice Ever spells s none in slice_sound spells s (merged spells s) slice.0.0 sound slice.0.1
+tended_sound spells s Flush sound none = sound
+tended_sound spells s Compact sound none = sound
+tended_sound spells s (Get key) sound none = sound
+tended_sound spells s (Seek lo hi) sound none = sound
+tended_sound spells s (Range lo hi n) sound none = sound
+tended_sound spells s (Count lo hi) sound none = sound
+tended_sound spells s (Estimate lo hi) sound none = sound
+tended_sound spells s (Explain key) sound none = sound
+tended_sound spells s Quit sound none = sound
+tended_sound spells s (Bad code) sound none = sound
+
+behind_sound : (spells : Spells) (reply : Reply) (later : List Reply × State) (s : State) → IsSound spells later.1 → IsSound spells s → IsSound spells (behind reply later s).1
+behind_sound spells Bye later s after here = here
+behind_sound spells Done later s after here = after
+behind_sound spells (Value value) later s after here = after
+behind_sound spells Missing later s after here = after
+behind_sound spells (At key value) later s after here = after
+behind_sound spells (Pairs map last) later s after here = after
+behind_sound spells (End count) later s after here = after
+behind_sound spells (Counted count) later s after here = after
+behind_sound spells (About count) later s after here = after
+behind_sound spells (Explained tables admitted blocks) later s after here = after
+behind_sound spells (BadLine code) later s after here = after
+behind_sound spells (LongKey size) later s after here = after
+behind_sound spells (LongValue size) later s after here = after
+behind_sound spells ManyTables later s after here = after
+behind_sound spells LastEpoch later s after here = after
+behind_sound spells (Full need gap) later s after here = after
+behind_sound spells Memory later s after here = after
+behind_sound spells Device later s after here = after
+behind_sound spells (Damaged damage) later s after here = after
+
+pub played_sound : (spells : Spells) (s : State) (requests : List Request) → IsSound spells s → AllByRecursion AsksOfBytes requests → s.job ≡ None → IsSound spells (played spells s requests).1
+played_sound spells s [] sound asks none = sound
+played_sound spells s (request ∷ more) sound asks none =
+    let a = answer spells s request in
+    let calm = answer_is_calm spells s request none in
+    let here = answer_sound spells s request sound asks.0 in
+    behind_sound spells a.0 (played spells (tended spells request a.1) more) a.1
+    (played_sound spells (tended spells request a.1) more (tended_sound spells a.1 request here calm.1) asks.1 (tended_between Ever spells a.1 request calm.1).1) here
