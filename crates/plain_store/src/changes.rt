@@ -182,7 +182,7 @@ fn compacted_at<F: RangeFilter>(
 ) -> Result<Result<State, Refusal>, AllocError>
     requires { epoch ≡ state.now.epoch + 1 }
     ensures { IfOk result (λ changed. seen changed ≡ model.compact_placed state.now
-        (placed (spells_of F.spelling F.built_cutoff) state.now (taken state.now) 6 (cut state.now.tables (model.live_entries state.now)))) }
+        (placed (spells_of F.spelling F.built_cutoff) state.now.settings state.now.pages (taken state.now) 6 (cut state.now.tables (model.live_entries state.now)))) }
 {
     let outputs = live_outputs(alloc, state)?;
     let taken = taken(alloc, state)?;

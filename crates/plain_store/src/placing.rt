@@ -64,7 +64,7 @@ pub(crate) fn placed<F: RangeFilter>(
     outputs: &[Vec<Entry>],
 ) -> Result<Result<Vec<Table>, NoRoom>, AllocError>
     ensures { IfOk result (λ made. result_map_both vec_items (λ r. r) made
-        ≡ model.placed (spells_of F.spelling F.built_cutoff) state.now taken.now level (map vec_items outputs.now)) }
+        ≡ model.placed (spells_of F.spelling F.built_cutoff) state.now.settings state.now.pages taken.now level (map vec_items outputs.now)) }
 {
     let Some((output, more)) = outputs.split_first() else {
         return Ok(Ok(Vec::new(alloc)));

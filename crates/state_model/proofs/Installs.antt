@@ -74,21 +74,21 @@ pub record Chosen (plan : Plan) (all : List Table) (key : Bytes) : Type 0 where
   pub inputs : plan.inputs ≡ tables ++ filter (meets (least_of tables) (greatest_of tables)) (on_level (level + 1) all)
   pub shape : Shape (on_level level all) tables key
 
-data IsPlan (s : State) (plan : Plan) : Type 0 where
-  of_level_0 : plan ≡ plan_of s (on_level 0 s.tables) 1 → IsPlan s plan
-  of_level : (level : ℕ) → 1 ≤ level → plan ≡ plan_of s (take 1 (on_level level s.tables)) (level + 1) → IsPlan s plan
+data IsPlan (all : List Table) (plan : Plan) : Type 0 where
+  of_level_0 : plan ≡ plan_of all (on_level 0 all) 1 → IsPlan all plan
+  of_level : (level : ℕ) → 1 ≤ level → plan ≡ plan_of all (take 1 (on_level level all)) (level + 1) → IsPlan all plan
 
-first_over_is : (s : State) (levels : List ℕ) (plan : Plan) → AllByRecursion (λ level. 1 ≤ level) levels → first_over s levels ≡ Some plan → IsPlan s plan
-first_over_is s [] plan some e = absurd cc
-first_over_is s (level ∷ more) plan some e = elim (is_over s level) as (λ b. cond b (Some (plan_of s (take 1 (on_level level s.tables)) (level + 1))) (first_over s more) ≡ Some plan → IsPlan s plan) [
+first_over_is : (all : List Table) (levels : List ℕ) (plan : Plan) → AllByRecursion (λ level. 1 ≤ level) levels → first_over all levels ≡ Some plan → IsPlan all plan
+first_over_is all [] plan some e = absurd cc
+first_over_is all (level ∷ more) plan some e = elim (is_over all level) as (λ b. cond b (Some (plan_of all (take 1 (on_level level all)) (level + 1))) (first_over all more) ≡ Some plan → IsPlan all plan) [
   | true ↦ λ e. of_level level some.0 cc
-  | false ↦ λ e. first_over_is s more plan some.1 e
+  | false ↦ λ e. first_over_is all more plan some.1 e
 ] e
 
-choose_is : (s : State) (plan : Plan) → choose s ≡ Some plan → IsPlan s plan
-choose_is s plan e = elim (nat_le 4 (length (on_level 0 s.tables))) as (λ b. cond b (Some (plan_of s (on_level 0 s.tables) 1)) (first_over s (1 ∷ 2 ∷ 3 ∷ 4 ∷ 5 ∷ [])) ≡ Some plan → IsPlan s plan) [
+choose_is : (all : List Table) (plan : Plan) → choose all ≡ Some plan → IsPlan all plan
+choose_is all plan e = elim (nat_le 4 (length (on_level 0 all))) as (λ b. cond b (Some (plan_of all (on_level 0 all) 1)) (first_over all (1 ∷ 2 ∷ 3 ∷ 4 ∷ 5 ∷ [])) ≡ Some plan → IsPlan all plan) [
   | true ↦ λ e. of_level_0 cc
-  | false ↦ λ e. first_over_is s (1 ∷ 2 ∷ 3 ∷ 4 ∷ 5 ∷ []) plan (omega arith, (omega arith, (omega arith, (omega arith, (omega arith, tt))))) e
+  | false ↦ λ e. first_over_is all (1 ∷ 2 ∷ 3 ∷ 4 ∷ 5 ∷ []) plan (omega arith, (omega arith, (omega arith, (omega arith, (omega arith, tt))))) e
 ] e
 
 first_apart : (tables : List Table) (key : Bytes) → AtMostOne key tables → EitherNone (says (take 1 tables) key) (says (drop 1 tables) key)
@@ -103,40 +103,39 @@ one_on level tables key some rise order = one_of_level level (on_level level tab
     (all_kept (λ (t : Table). KeysRise t.entries) (λ (t : Table). t.level == level) tables rise)
     (pairs_kept StandsBefore (λ (t : Table). t.level == level) tables order)
 
-pub chosen : (s : State) (few : ℕ) (plan : Plan) (key : Bytes) → few ≤ length (on_level 0 s.tables) → choose (record s { tables = drop few s.tables }) ≡ Some plan → Rise s.tables → Pairs StandsBefore s.tables → Chosen plan s.tables key
-chosen s few plan key within e rise order =
-    let later = record s { tables = drop few s.tables } in
-    let same = dropped 0 few s.tables (levels_of s.tables order) within in
-    elim (choose_is later plan e) [
+pub chosen : (all : List Table) (few : ℕ) (plan : Plan) (key : Bytes) → few ≤ length (on_level 0 all) → choose (drop few all) ≡ Some plan → Rise all → Pairs StandsBefore all → Chosen plan all key
+chosen all few plan key within e rise order =
+    let same = dropped 0 few all (levels_of all order) within in
+    elim (choose_is (drop few all) plan e) [
       | of_level_0 is ↦
-          let tables = on_level 0 (drop few s.tables) in
+          let tables = on_level 0 (drop few all) in
           record {
             level = 0;
             tables = tables;
             output = ap (λ (p : Plan). p.output) is;
             inputs = ap (λ (p : Plan). p.inputs) is ∙ ap (λ (l : List Table). tables ++ filter (meets (least_of tables) (greatest_of tables)) l) (same.1 1 (omega arith));
             shape = record {
-              front = take few (on_level 0 s.tables);
+              front = take few (on_level 0 all);
               back = [];
-              parts = sym (take-append-drop few (on_level 0 s.tables)) ∙ ap (λ (l : List Table). take few (on_level 0 s.tables) ++ l) (sym (append-nil tables ∙ same.0));
+              parts = sym (take-append-drop few (on_level 0 all)) ∙ ap (λ (l : List Table). take few (on_level 0 all) ++ l) (sym (append-nil tables ∙ same.0));
               apart = inr refl;
             };
           }
       | of_level level some is ↦
-          let tables = take 1 (on_level level s.tables) in
-          let there : take 1 (on_level level (drop few s.tables)) ≡ tables = ap (take 1) (same.1 level some) in
+          let tables = take 1 (on_level level all) in
+          let there : take 1 (on_level level (drop few all)) ≡ tables = ap (take 1) (same.1 level some) in
           record {
             level = level;
             tables = tables;
             output = ap (λ (p : Plan). p.output) is;
             inputs = ap (λ (p : Plan). p.inputs) is
-                ∙ ap (λ (l : List Table). l ++ filter (meets (least_of l) (greatest_of l)) (on_level (level + 1) (drop few s.tables))) there
+                ∙ ap (λ (l : List Table). l ++ filter (meets (least_of l) (greatest_of l)) (on_level (level + 1) (drop few all))) there
                 ∙ ap (λ (l : List Table). tables ++ filter (meets (least_of tables) (greatest_of tables)) l) (same.1 (level + 1) (omega arith));
             shape = record {
               front = [];
-              back = drop 1 (on_level level s.tables);
-              parts = sym (take-append-drop 1 (on_level level s.tables));
-              apart = first_apart (on_level level s.tables) key (one_on level s.tables key some rise order);
+              back = drop 1 (on_level level all);
+              parts = sym (take-append-drop 1 (on_level level all));
+              apart = first_apart (on_level level all) key (one_on level all key some rise order);
             };
           }
     ]
@@ -192,7 +191,7 @@ says_five b p s x d key = says-append b ((p ++ s) ++ (x ++ d)) key
 
 -- ---- the outputs
 
-pub made_lists : (spells : Spells) (s : State) (level : ℕ) (outputs : List (List Entry)) (made : List Table) → AreMade spells s level outputs made → drop (length made) outputs ≡ [] → (lists_of made ≡ outputs) × AllAt level made
+pub made_lists : (spells : Spells) (s : State) (level : ℕ) (outputs : List (List Entry)) (made : List Table) → AreMade spells s.settings level outputs made → drop (length made) outputs ≡ [] → (lists_of made ≡ outputs) × AllAt level made
 made_lists spells s level [] [] made rest = (refl, tt)
 made_lists spells s level (output ∷ outputs) [] made rest = (sym rest, tt)
 made_lists spells s level [] (t ∷ more) made rest = absurd made
@@ -299,26 +298,26 @@ next_some a = omega arith
 -- ---- the install
 
 same_rest : (spells : Spells) (s : State) (plan : Plan) (key : Bytes) (u : Says) → AllByRecursion IsSoundTable plan.inputs
-    → live (or_else u (or_else (first_found (planned s plan) key) (says (deeper plan.output s.tables) key))) ≡ live (or_else u (or_else (says plan.inputs key) (says (deeper plan.output s.tables) key)))
+    → live (or_else u (or_else (first_found (planned s.tables plan) key) (says (deeper plan.output s.tables) key))) ≡ live (or_else u (or_else (says plan.inputs key) (says (deeper plan.output s.tables) key)))
 same_rest spells s plan key u sound =
-    let w = first_found (planned s plan) key in
+    let w = first_found (planned s.tables plan) key in
     let d = says (deeper plan.output s.tables) key in
     elim (list_any (λ (t : Table). nat_lt plan.output t.level) s.tables) as (λ b. list_any (λ (t : Table). nat_lt plan.output t.level) s.tables ≡ b → live (or_else u (or_else w d)) ≡ live (or_else u (or_else (says plan.inputs key) d))) [
-      | true ↦ λ e. ap (λ (o : Says). live (or_else u (or_else o d))) (tombstones_last s plan key sound (ap not e))
+      | true ↦ λ e. ap (λ (o : Says). live (or_else u (or_else o d))) (tombstones_last s.tables plan key sound (ap not e))
       | false ↦ λ e.
           let none : d ≡ None = ap (λ (l : List Table). says l key) (deeper_none plan.output s.tables e) in
           live_behind u (or_else w d) (or_else (says plan.inputs key) d)
-          (ap (λ (o : Says). live (or_else w o)) none ∙ ap live (or_none w) ∙ merge_says s plan key sound ∙ sym (ap (λ (o : Says). live (or_else (says plan.inputs key) o)) none ∙ ap live (or_none (says plan.inputs key))))
+          (ap (λ (o : Says). live (or_else w o)) none ∙ ap live (or_none w) ∙ merge_says s.tables plan key sound ∙ sym (ap (λ (o : Says). live (or_else (says plan.inputs key) o)) none ∙ ap live (or_none (says plan.inputs key))))
     ] refl
 
-install_says : (spells : Spells) (s : State) (job : Job) (key : Bytes) → IsSound spells s → IsJob spells s job → outstanding s job ≡ []
+install_says : (spells : Spells) (s : State) (job : Job) (key : Bytes) → IsSound spells s → IsJob spells s.settings s.tables job → outstanding s.tables job ≡ []
     → live (says (fold inserted (without job.inputs s.tables) job.written) key) ≡ live (says s.tables key)
 install_says spells s job key sound is done =
     let plan = plan_of_job job in
     let all = s.tables in
     let order = pairs_of StandsBefore all sound.order in
     let rise : Rise all = weaker IsSoundTable (λ (t : Table). KeysRise t.entries) (λ t st. rises_follow is_any t.entries st.entries.rising) all sound.tables in
-    let c = chosen s is.flushes plan key is.few is.chosen rise order in
+    let c = chosen s.tables is.flushes plan key is.few is.chosen rise order in
     let a = c.level in
     let i = c.tables in
     let p = c.shape.front in
@@ -369,22 +368,22 @@ install_says spells s job key sound is done =
     let x_parts = part_says m x key (one_on (a + 1) all key (next_some a) rise order) in
     let i_n = hull_apart i x key rise_i rise_x in
     let ins : says job.inputs key ≡ or_else (says i key) (says j key) = ap (λ (l : List Table). says l key) c.inputs ∙ says-append i j key in
-    let made = made_lists spells s job.output (planned s plan) job.written is.written done in
-    let w : says job.written key ≡ first_found (planned s plan) key = ap (λ (l : List (List Entry)). first_found l key) made.0 in
-    let lasts = is_deepest s job.output in
+    let made = made_lists spells s job.output (planned s.tables plan) job.written is.written done in
+    let w : says job.written key ≡ first_found (planned s.tables plan) key = ap (λ (l : List (List Entry)). first_found l key) made.0 in
+    let lasts = is_deepest s.tables job.output in
     let whole = ap joined made.0 ∙ outputs_joined (length job.inputs - 1) (lasting lasts (newest_of job.inputs)) in
     let one = at_most job.written key (subst KeysRise (sym whole) (lasting_rises lasts (newest_of job.inputs) (newest_entries_rise (oldest_first job.inputs)))) in
     let at = subst (λ (l : ℕ). AllAt l job.written) c.output made.1 in
     let n_on : says (on_level (a + 1) rest) key ≡ says n key = ap (λ (l : List Table). says l key) (on ∙ append-nil n) in
     let either : EitherNone (says job.written key) (says (on_level (a + 1) rest) key) = elim (either_joined (says i key) (says j key) (says n key) i_n x_parts.1) [
-      | inl none ↦ inl (w ∙ planned_say s plan key ∙ lasting_none lasts (newest_of job.inputs) key (inputs_say job.inputs key sound_in ∙ ins ∙ none))
+      | inl none ↦ inl (w ∙ planned_say s.tables plan key ∙ lasting_none lasts (newest_of job.inputs) key (inputs_say job.inputs key sound_in ∙ ins ∙ none))
       | inr none ↦ inr (n_on ∙ none)
     ] in
     let u = or_else (says b key) (or_else (or_else (says p key) (says k key)) (says n key)) in
     let up_says : says (upto (a + 1) rest) key ≡ u = ap (λ (l : List Table). says l key) up ∙ says_five b p k n [] key
     ∙ ap (λ (o : Says). or_else (says b key) (or_else (or_else (says p key) (says k key)) o)) (or_none (says n key)) in
     let down_says : says (deeper (a + 1) rest) key ≡ says d key = ap (λ (l : List Table). says l key) down in
-    let new_says : says (fold inserted (without job.inputs all) job.written) key ≡ or_else u (or_else (first_found (planned s plan) key) (says d key)) =
+    let new_says : says (fold inserted (without job.inputs all) job.written) key ≡ or_else u (or_else (first_found (planned s.tables plan) key) (says d key)) =
     ap (λ (l : List Table). says (fold inserted l job.written) key) remain
     ∙ fold_says (a + 1) job.written rest key levels at one either
     ∙ (λ z. or_else (up_says z) (or_else (w z) (down_says z))) in
@@ -398,7 +397,7 @@ install_says spells s job key sound is done =
     ∙ sym (ap (λ (o : Says). or_else u (or_else o (says d key))) ins) in
     let deep : says (deeper job.output all) key ≡ says d key = ap (λ (l : ℕ). says (deeper l all) key) c.output in
     ap live new_says
-    ∙ ap (λ (o : Says). live (or_else u (or_else (first_found (planned s plan) key) o))) (sym deep)
+    ∙ ap (λ (o : Says). live (or_else u (or_else (first_found (planned s.tables plan) key) o))) (sym deep)
     ∙ same_rest spells s plan key u sound_in
     ∙ ap (λ (o : Says). live (or_else u (or_else (says job.inputs key) o))) deep
     ∙ sym (ap live old_says)
@@ -421,13 +420,13 @@ rise_of_lists : (tables : List Table) → AllRise (lists_of tables) → Rise tab
 rise_of_lists [] rise = tt
 rise_of_lists (t ∷ more) rise = (rise.0, rise_of_lists more rise.1)
 
-pub install_keeps : (spells : Spells) (s : State) (job : Job) → IsSound spells s → IsJob spells s job → outstanding s job ≡ [] → map_of (installed s job) ≡ map_of s
+pub install_keeps : (spells : Spells) (s : State) (job : Job) → IsSound spells s → IsJob spells s.settings s.tables job → outstanding s.tables job ≡ [] → map_of (installed s job) ≡ map_of s
 install_keeps spells s job sound is done =
     let all = s.tables in
     let new = fold inserted (without job.inputs all) job.written in
     let rise : Rise all = weaker IsSoundTable (λ (t : Table). KeysRise t.entries) (λ t st. rises_follow is_any t.entries st.entries.rising) all sound.tables in
-    let made = made_lists spells s job.output (planned s (plan_of_job job)) job.written is.written done in
-    let lasts = is_deepest s job.output in
+    let made = made_lists spells s job.output (planned s.tables (plan_of_job job)) job.written is.written done in
+    let lasts = is_deepest s.tables job.output in
     let whole = ap joined made.0 ∙ outputs_joined (length job.inputs - 1) (lasting lasts (newest_of job.inputs)) in
     let made_rise = rise_of_lists job.written (parts_rise (lists_of job.written) (subst KeysRise (sym whole) (lasting_rises lasts (newest_of job.inputs) (newest_entries_rise (oldest_first job.inputs))))) in
     let out = λ (t : Table). not (list_any (λ (u : Table). u.first_page == t.first_page) job.inputs) in

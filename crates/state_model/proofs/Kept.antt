@@ -49,15 +49,15 @@ with_tables_keeps s made lists = elim (s.epoch == last_epoch) as (λ t. IfDone (
   | false ↦ same_map (oldest_first (made ++ s.tables) ++ []) (entries_of s) (λ key. ap live (flush_says s made key lists))
 ]
 
-flush_placed_keeps : (spells : Spells) (s : State) (done : Result (List Table) NoRoom) → placed spells s (taken s) 0 (memory s ∷ []) ≡ done → IfDone (KeepsMap s) (flush_placed s done)
+flush_placed_keeps : (spells : Spells) (s : State) (done : Result (List Table) NoRoom) → placed spells s.settings s.pages (taken s) 0 (memory s ∷ []) ≡ done → IfDone (KeepsMap s) (flush_placed s done)
 flush_placed_keeps spells s (Ok made) e = with_tables_keeps s made (placed_lists spells s (taken s) 0 (memory s ∷ []) made e)
 flush_placed_keeps spells s (Err refusal) e = refl
 
 flushed_with_keeps : (spells : Spells) (s : State) (entries : List Entry) → memory s ≡ entries → IfDone (KeepsMap s) (flushed_with spells s entries)
 flushed_with_keeps spells s [] e = refl
-flushed_with_keeps spells s (entry ∷ more) e = elim (nat_le most_tables (length s.tables)) as (λ t. IfDone (KeepsMap s) (cond t (Err ManyTables) (flush_placed s (placed spells s (taken s) 0 ((entry ∷ more) ∷ []))))) [
+flushed_with_keeps spells s (entry ∷ more) e = elim (nat_le most_tables (length s.tables)) as (λ t. IfDone (KeepsMap s) (cond t (Err ManyTables) (flush_placed s (placed spells s.settings s.pages (taken s) 0 ((entry ∷ more) ∷ []))))) [
   | true ↦ refl
-  | false ↦ flush_placed_keeps spells s (placed spells s (taken s) 0 ((entry ∷ more) ∷ [])) (ap (λ (l : List Entry). placed spells s (taken s) 0 (l ∷ [])) e)
+  | false ↦ flush_placed_keeps spells s (placed spells s.settings s.pages (taken s) 0 ((entry ∷ more) ∷ [])) (ap (λ (l : List Entry). placed spells s.settings s.pages (taken s) 0 (l ∷ [])) e)
 ]
 
 pub flushed_done : (spells : Spells) (s : State) → IfDone (KeepsMap s) (flushed spells s)
@@ -101,7 +101,7 @@ compact_says s made key lists =
     ∙ lookup_joined (cut s.tables (live_entries s)) key
     ∙ ap (λ (l : List Entry). lookup l key) whole
 
-compact_placed_keeps : (spells : Spells) (s : State) (done : Result (List Table) NoRoom) → placed spells s (taken (without_job s)) 6 (cut s.tables (live_entries s)) ≡ done → IfDone (KeepsMap s) (compact_placed s done)
+compact_placed_keeps : (spells : Spells) (s : State) (done : Result (List Table) NoRoom) → placed spells s.settings s.pages (taken (without_job s)) 6 (cut s.tables (live_entries s)) ≡ done → IfDone (KeepsMap s) (compact_placed s done)
 compact_placed_keeps spells s (Ok made) e = same_map (oldest_first made ++ []) (entries_of s)
     (λ key. ap live (compact_says s made key (placed_lists spells s (taken (without_job s)) 6 (cut s.tables (live_entries s)) made e)) ∙ live_says s key)
 compact_placed_keeps spells s (Err refusal) e = refl
@@ -109,7 +109,7 @@ compact_placed_keeps spells s (Err refusal) e = refl
 compacted_with_keeps : (spells : Spells) (s : State) (entries : List Entry) → IfDone (KeepsMap s) (compacted_with spells s entries)
 compacted_with_keeps spells s [] = refl
 compacted_with_keeps spells s (entry ∷ more) =
-    let done = placed spells s (taken (without_job s)) 6 (cut s.tables (live_entries s)) in
+    let done = placed spells s.settings s.pages (taken (without_job s)) 6 (cut s.tables (live_entries s)) in
     elim (s.epoch == last_epoch) as (λ t. IfDone (KeepsMap s) (cond t (Err LastEpoch) (compact_placed s done))) [
       | true ↦ refl
       | false ↦ compact_placed_keeps spells s done refl

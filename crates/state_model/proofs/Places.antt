@@ -12,7 +12,7 @@ use Rattle.block_model.specs.Laws.{joined}
 use Rattle.block_model.specs.Pages.{pages_for, block_length, block_pages, blocks_of, data_pages, has_room, block_entries, page_bytes}
 use Rattle.block_model.proofs.Cutting.{each_block, blocks_joined}
 use Rattle.std.proofs.lemmas.Bool.{and_parts, ltb-true}
-use Rattle.state_model.specs.State.{State, Table}
+use Rattle.state_model.specs.State.{Table}
 use Rattle.state_model.specs.Pages.{Spells, table_pages, table_of}
 use Rattle.state_model.specs.Gaps.{Extent, end_of, extent_of, has_page, next_taken, room_at, gap_starts, least, first_gap, largest_gap, first_table_page}
 use Rattle.state_model.specs.Merges.{NoRoom, placed, before, at_page}
@@ -87,8 +87,8 @@ pub table_is_sound : (spells : Spells) (settings : Settings) (level page : ℕ) 
 table_is_sound spells settings level page entries deep is bytes =
     record { level = deep; entries = is; bytes = bytes; blocks = blocks_have_pages spells settings entries is.some }
 
-pub has_pages : (spells : Spells) (s : State) (entries : List Entry) → 1 ≤ length entries → 0 < table_pages spells s.settings entries
-has_pages spells s entries some = omega (arith, entries_in_pages entries)
+pub has_pages : (spells : Spells) (settings : Settings) (entries : List Entry) → 1 ≤ length entries → 0 < table_pages spells settings entries
+has_pages spells settings entries some = omega (arith, entries_in_pages entries)
 
 -- ---- a gap is free
 
@@ -189,26 +189,26 @@ front_of t (Ok tables) made e = record { rest = tables; first = cc; later = refl
 front_of t (Err refusal) made e = absurd cc
 
 -- Outputs that are placed beside laid extents are laid with them, and made as they should be.
-pub placed_laid : (spells : Spells) (s : State) (xs : List Extent) (level : ℕ) (outputs : List (List Entry)) (made : List Table)
-    → AllByRecursion (λ (output : List Entry). 1 ≤ length output) outputs → Laid s.pages xs
-    → placed spells s xs level outputs ≡ Ok made → Laid s.pages (map extent_of made ++ xs) × AreMade spells s level outputs made
-placed_laid spells s xs level [] made some laid e =
-    subst (λ (l : List Table). Laid s.pages (map extent_of l ++ xs) × AreMade spells s level [] l) (let same : [] ≡ made = cc in same) (laid, tt)
-placed_laid spells s xs level (output ∷ more) made some laid e =
-    let need = table_pages spells s.settings output in
-    let there = λ (page : ℕ). before (table_of spells s.settings level page output) (placed spells s ((page, need) ∷ xs) level more) in
-    let refused : NoRoom = record { need = need; gap = largest_gap s.pages xs } in
-    elim (first_gap s.pages xs need) as (λ o. first_gap s.pages xs need ≡ o → at_page o there refused ≡ Ok made
-    → Laid s.pages (map extent_of made ++ xs) × AreMade spells s level (output ∷ more) made) [
+pub placed_laid : (spells : Spells) (settings : Settings) (pages : ℕ) (xs : List Extent) (level : ℕ) (outputs : List (List Entry)) (made : List Table)
+    → AllByRecursion (λ (output : List Entry). 1 ≤ length output) outputs → Laid pages xs
+    → placed spells settings pages xs level outputs ≡ Ok made → Laid pages (map extent_of made ++ xs) × AreMade spells settings level outputs made
+placed_laid spells settings pages xs level [] made some laid e =
+    subst (λ (l : List Table). Laid pages (map extent_of l ++ xs) × AreMade spells settings level [] l) (let same : [] ≡ made = cc in same) (laid, tt)
+placed_laid spells settings pages xs level (output ∷ more) made some laid e =
+    let need = table_pages spells settings output in
+    let there = λ (page : ℕ). before (table_of spells settings level page output) (placed spells settings pages ((page, need) ∷ xs) level more) in
+    let refused : NoRoom = record { need = need; gap = largest_gap pages xs } in
+    elim (first_gap pages xs need) as (λ o. first_gap pages xs need ≡ o → at_page o there refused ≡ Ok made
+    → Laid pages (map extent_of made ++ xs) × AreMade spells settings level (output ∷ more) made) [
       | None ↦ λ is so. absurd cc
       | Some page ↦ λ is so.
-          let t = table_of spells s.settings level page output in
-          let free = gap_is_free s.pages xs need page (has_pages spells s output some.0) laid.0 is in
-          let front = front_of t (placed spells s ((page, need) ∷ xs) level more) made so in
-          let rest = placed_laid spells s ((page, need) ∷ xs) level more front.rest some.1 ((free.0, laid.0), (free.1, laid.1)) front.later in
-          subst (λ (l : List Table). Laid s.pages (map extent_of l ++ xs) × AreMade spells s level (output ∷ more) l) (sym front.first) (
+          let t = table_of spells settings level page output in
+          let free = gap_is_free pages xs need page (has_pages spells settings output some.0) laid.0 is in
+          let front = front_of t (placed spells settings pages ((page, need) ∷ xs) level more) made so in
+          let rest = placed_laid spells settings pages ((page, need) ∷ xs) level more front.rest some.1 ((free.0, laid.0), (free.1, laid.1)) front.later in
+          subst (λ (l : List Table). Laid pages (map extent_of l ++ xs) × AreMade spells settings level (output ∷ more) l) (sym front.first) (
             (
-              all_out (IsOnDevice s.pages) (map extent_of front.rest) (page, need) xs rest.0.0,
+              all_out (IsOnDevice pages) (map extent_of front.rest) (page, need) xs rest.0.0,
               pairs_out AreApart apart_mutual (map extent_of front.rest) (page, need) xs rest.0.1,
             ),
             (refl, rest.1),
@@ -237,9 +237,9 @@ pub laid_tables : (pages : ℕ) (tables : List Table) → Stand pages tables →
 laid_tables pages tables stand = (all_to_map (IsOnDevice pages) extent_of tables stand.0, pairs_to_map AreApart extent_of tables stand.1)
 
 -- placed beside tables that stand, they stand with them
-pub placed_stand : (spells : Spells) (s : State) (beside : List Table) (level : ℕ) (outputs : List (List Entry)) (made : List Table)
-    → AllByRecursion (λ (output : List Entry). 1 ≤ length output) outputs → Stand s.pages beside
-    → placed spells s (map extent_of beside) level outputs ≡ Ok made → Stand s.pages (made ++ beside) × AreMade spells s level outputs made
-placed_stand spells s beside level outputs made some stand e =
-    let laid = placed_laid spells s (map extent_of beside) level outputs made some (laid_tables s.pages beside stand) e in
-    (stand_of s.pages (made ++ beside) (subst (Laid s.pages) (sym (map-append extent_of made beside)) laid.0), laid.1)
+pub placed_stand : (spells : Spells) (settings : Settings) (pages : ℕ) (beside : List Table) (level : ℕ) (outputs : List (List Entry)) (made : List Table)
+    → AllByRecursion (λ (output : List Entry). 1 ≤ length output) outputs → Stand pages beside
+    → placed spells settings pages (map extent_of beside) level outputs ≡ Ok made → Stand pages (made ++ beside) × AreMade spells settings level outputs made
+placed_stand spells settings pages beside level outputs made some stand e =
+    let laid = placed_laid spells settings pages (map extent_of beside) level outputs made some (laid_tables pages beside stand) e in
+    (stand_of pages (made ++ beside) (subst (Laid pages) (sym (map-append extent_of made beside)) laid.0), laid.1)

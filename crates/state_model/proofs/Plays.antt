@@ -58,9 +58,9 @@ flush_placed_calm s (Err refusal) none = refl
 
 flushed_with_calm : (spells : Spells) (s : State) (entries : List Entry) → s.job ≡ None → CalmResult (flushed_with spells s entries)
 flushed_with_calm spells s [] none = none
-flushed_with_calm spells s (entry ∷ more) none = elim (nat_le most_tables (length s.tables)) as (λ t. CalmResult (cond t (Err ManyTables) (flush_placed s (placed spells s (taken s) 0 ((entry ∷ more) ∷ []))))) [
+flushed_with_calm spells s (entry ∷ more) none = elim (nat_le most_tables (length s.tables)) as (λ t. CalmResult (cond t (Err ManyTables) (flush_placed s (placed spells s.settings s.pages (taken s) 0 ((entry ∷ more) ∷ []))))) [
   | true ↦ refl
-  | false ↦ flush_placed_calm s (placed spells s (taken s) 0 ((entry ∷ more) ∷ [])) none
+  | false ↦ flush_placed_calm s (placed spells s.settings s.pages (taken s) 0 ((entry ∷ more) ∷ [])) none
 ]
 
 flushed_calm : (spells : Spells) (s : State) → s.job ≡ None → CalmResult (flushed spells s)
@@ -83,7 +83,7 @@ compact_placed_calm s (Err refusal) = refl
 compacted_with_calm : (spells : Spells) (s : State) (entries : List Entry) → s.job ≡ None → CalmResult (compacted_with spells s entries)
 compacted_with_calm spells s [] none = none
 compacted_with_calm spells s (entry ∷ more) none =
-    let done = placed spells s (taken (without_job s)) 6 (cut s.tables (live_entries s)) in
+    let done = placed spells s.settings s.pages (taken (without_job s)) 6 (cut s.tables (live_entries s)) in
     elim (s.epoch == last_epoch) as (λ t. CalmResult (cond t (Err LastEpoch) (compact_placed s done))) [ true ↦ refl | false ↦ compact_placed_calm s done ]
 
 changed_calm : (old : State) (done : Result State Reply) → old.job ≡ None → CalmResult done → Calm (changed old done)

@@ -43,7 +43,7 @@ not_eq m n e = grind arith
 -- ---- a flush and a compaction are refused so
 
 some_flushed : (spells : Spells) (s : State) (entries : List Entry) → entries ≢ []
-    → flushed_with spells s entries ≡ cond (nat_le most_tables (length s.tables)) (Err ManyTables) (flush_placed s (placed spells s (taken s) 0 (entries ∷ [])))
+    → flushed_with spells s entries ≡ cond (nat_le most_tables (length s.tables)) (Err ManyTables) (flush_placed s (placed spells s.settings s.pages (taken s) 0 (entries ∷ [])))
 some_flushed spells s [] some = absurd (some refl)
 some_flushed spells s (entry ∷ more) some = refl
 
@@ -173,11 +173,11 @@ flushed_with_cause : (spells : Spells) (s : State) (request : Request) (entries 
 flushed_with_cause spells s request [] e within due = tt
 flushed_with_cause spells s request (entry ∷ more) e within due =
     let some : memory s ≢ [] = λ none. cc in
-    let places = ap (λ (l : List Entry). placed spells s (taken s) 0 (l ∷ [])) e in
+    let places = ap (λ (l : List Entry). placed spells s.settings s.pages (taken s) 0 (l ∷ [])) e in
     elim (nat_le most_tables (length s.tables)) as (λ t. nat_le most_tables (length s.tables) ≡ t
-    → HasCause spells s request (cond t (Err ManyTables) (flush_placed s (placed spells s (taken s) 0 ((entry ∷ more) ∷ []))))) [
+    → HasCause spells s request (cond t (Err ManyTables) (flush_placed s (placed spells s.settings s.pages (taken s) 0 ((entry ∷ more) ∷ []))))) [
       | true ↦ λ many. flush_by_tables within (due some) (le_of most_tables (length s.tables) many)
-      | false ↦ λ few. flush_placed_cause spells s request (placed spells s (taken s) 0 ((entry ∷ more) ∷ [])) within (due some) (not_le most_tables (length s.tables) few) places
+      | false ↦ λ few. flush_placed_cause spells s request (placed spells s.settings s.pages (taken s) 0 ((entry ∷ more) ∷ [])) within (due some) (not_le most_tables (length s.tables) few) places
     ] refl
 
 flushed_cause : (spells : Spells) (s : State) (request : Request) → limit_of request ≡ None → (memory s ≢ [] → FlushIsDue s request) → HasCause spells s request (flushed spells s)

@@ -55,14 +55,6 @@ new_sound spells settings pages ranges ratio least most = record {
 
 -- ---- a job of a state with the same settings
 
-pub made_same : (spells : Spells) (s t : State) (level : ℕ) (outputs : List (List Entry)) (made : List Table) → s.settings ≡ t.settings
-    → AreMade spells s level outputs made → AreMade spells t level outputs made
-made_same spells s t level [] [] same are = tt
-made_same spells s t level (output ∷ outputs) [] same are = tt
-made_same spells s t level [] (u ∷ more) same are = absurd are
-made_same spells s t level (output ∷ outputs) (u ∷ more) same are =
-    (are.0 ∙ ap (λ (settings : Settings). table_of spells settings level u.first_page output) same, made_same spells s t level outputs more same are.1)
-
 -- ---- flush
 
 -- what is made where the change is done is sound
@@ -94,25 +86,24 @@ first_of_all t (u ∷ more) zero_level = (
 abbrev in_front : State → Table → State
 in_front s t = record s { epoch = s.epoch + 1; log = []; tables = t ∷ s.tables }
 
-planned_again : (s : State) (t : Table) (plan : Plan) → t.level ≡ 0 → planned s plan ≡ planned (in_front s t) plan
-planned_again s t plan zero_level =
+planned_again : (tables : List Table) (t : Table) (plan : Plan) → t.level ≡ 0 → planned tables plan ≡ planned (t ∷ tables) plan
+planned_again tables t plan zero_level =
     let shallow : nat_lt plan.output t.level ≡ false = ap (nat_lt plan.output) zero_level ∙ level_0 plan.output in
-    ap (λ (b : Bool). cut plan.inputs (lasting (not (b || list_any (λ (u : Table). nat_lt plan.output u.level) s.tables)) (newest_of plan.inputs))) (sym shallow)
+    ap (λ (b : Bool). cut plan.inputs (lasting (not (b || list_any (λ (u : Table). nat_lt plan.output u.level) tables)) (newest_of plan.inputs))) (sym shallow)
 
-job_behind : (spells : Spells) (s : State) (t : Table) (job : Job) → t.level ≡ 0 → IsJob spells s job → IsJob spells (in_front s t) job
-job_behind spells s t job zero_level is = record {
+job_behind : (spells : Spells) (settings : Settings) (tables : List Table) (t : Table) (job : Job) → t.level ≡ 0 → IsJob spells settings tables job → IsJob spells settings (t ∷ tables) job
+job_behind spells settings tables t job zero_level is = record {
   flushes = suc is.flushes;
   few = let first : (t.level == 0) ≡ true = grind arith in
-      subst (λ (b : Bool). suc is.flushes ≤ length (cond b (t ∷ on_level 0 s.tables) (on_level 0 s.tables))) (sym first) (omega (arith, is.few));
+      subst (λ (b : Bool). suc is.flushes ≤ length (cond b (t ∷ on_level 0 tables) (on_level 0 tables))) (sym first) (omega (arith, is.few));
   chosen = is.chosen;
   to_read = is.to_read;
-  written = subst (λ (outputs : List (List Entry)). AreMade spells (in_front s t) job.output outputs job.written) (planned_again s t (plan_of_job job) zero_level)
-      (made_same spells s (in_front s t) job.output (planned s (plan_of_job job)) job.written refl is.written);
+  written = subst (λ (outputs : List (List Entry)). AreMade spells settings job.output outputs job.written) (planned_again tables t (plan_of_job job) zero_level) is.written;
 }
 
-may_run_behind : (spells : Spells) (s : State) (t : Table) (job : Option Job) → t.level ≡ 0 → MayRun spells s job → MayRun spells (in_front s t) job
-may_run_behind spells s t None zero_level may = tt
-may_run_behind spells s t (Some job) zero_level is = job_behind spells s t job zero_level is
+may_run_behind : (spells : Spells) (settings : Settings) (tables : List Table) (t : Table) (job : Option Job) → t.level ≡ 0 → MayRun spells settings tables job → MayRun spells settings (t ∷ tables) job
+may_run_behind spells settings tables t None zero_level may = tt
+may_run_behind spells settings tables t (Some job) zero_level is = job_behind spells settings tables t job zero_level is
 
 -- one more table in front of a sound state
 front_sound : (spells : Spells) (s : State) (t : Table) → IsSound spells s → t.level ≡ 0 → IsSoundTable t → s.epoch ≢ last_epoch → length s.tables < most_tables
@@ -130,11 +121,11 @@ front_sound spells s t sound zero_level table other few laid = record {
   order = all_pairs StandsBefore (t ∷ s.tables) (first_of_all t s.tables zero_level, pairs_of StandsBefore s.tables sound.order);
   on_device = laid.0;
   apart = all_pairs AreApart (extent_of t ∷ taken s) laid.1;
-  job = may_run_behind spells s t s.job zero_level sound.job;
+  job = may_run_behind spells s.settings s.tables t s.job zero_level sound.job;
 }
 
 with_tables_sound : (spells : Spells) (s : State) (made : List Table) → IsSound spells s → IsTable (memory s) → length s.tables < most_tables
-    → Laid s.pages (map extent_of made ++ taken s) → AreMade spells s 0 (memory s ∷ []) made → length made ≡ 1 → IfSound spells (with_tables s (made ++ s.tables))
+    → Laid s.pages (map extent_of made ++ taken s) → AreMade spells s.settings 0 (memory s ∷ []) made → length made ≡ 1 → IfSound spells (with_tables s (made ++ s.tables))
 with_tables_sound spells s [] sound table few laid are one = absurd (omega arith)
 with_tables_sound spells s (t ∷ u ∷ more) sound table few laid are one = absurd (omega arith)
 with_tables_sound spells s (t ∷ []) sound table few laid are one =
@@ -146,10 +137,10 @@ with_tables_sound spells s (t ∷ []) sound table few laid are one =
     ] refl
 
 flush_placed_sound : (spells : Spells) (s : State) (done : Result (List Table) NoRoom) → IsSound spells s → IsTable (memory s) → length s.tables < most_tables
-    → placed spells s (taken s) 0 (memory s ∷ []) ≡ done → IfSound spells (flush_placed s done)
+    → placed spells s.settings s.pages (taken s) 0 (memory s ∷ []) ≡ done → IfSound spells (flush_placed s done)
 flush_placed_sound spells s (Err refusal) sound table few e = tt
 flush_placed_sound spells s (Ok made) sound table few e =
-    let laid = placed_laid spells s (taken s) 0 (memory s ∷ []) made (table.some, tt) (sound.on_device, pairs_of AreApart (taken s) sound.apart) e in
+    let laid = placed_laid spells s.settings s.pages (taken s) 0 (memory s ∷ []) made (table.some, tt) (sound.on_device, pairs_of AreApart (taken s) sound.apart) e in
     let one = sym (length-map made (λ (t : Table). t.entries)) ∙ ap (λ (l : List (List Entry)). length l) (placed_lists spells s (taken s) 0 (memory s ∷ []) made e) in
     with_tables_sound spells s made sound table few laid.0 laid.1 one
 
@@ -158,10 +149,10 @@ flushed_with_sound spells s [] sound e = sound
 flushed_with_sound spells s (entry ∷ more) sound e =
     let some : 1 ≤ length (memory s) = subst (λ (l : List Entry). 1 ≤ length l) (sym e) (omega arith) in
     let table = memory_is_table s.log sound.log sound.log_fits some in
-    let done = placed spells s (taken s) 0 ((entry ∷ more) ∷ []) in
+    let done = placed spells s.settings s.pages (taken s) 0 ((entry ∷ more) ∷ []) in
     elim (nat_le most_tables (length s.tables)) as (λ b. nat_le most_tables (length s.tables) ≡ b → IfSound spells (cond b (Err ManyTables) (flush_placed s done))) [
       | true ↦ λ _. tt
-      | false ↦ λ few. flush_placed_sound spells s done sound table (not_le most_tables (length s.tables) few) (ap (λ (l : List Entry). placed spells s (taken s) 0 (l ∷ [])) e)
+      | false ↦ λ few. flush_placed_sound spells s done sound table (not_le most_tables (length s.tables) few) (ap (λ (l : List Entry). placed spells s.settings s.pages (taken s) 0 (l ∷ [])) e)
     ] refl
 
 pub flushed_done : (spells : Spells) (s : State) → IsSound spells s → IfSound spells (flushed spells s)
@@ -186,19 +177,19 @@ flush_placed_empty s (Err refusal) = tt
 flushed_with_empty : (spells : Spells) (s : State) (entries : List Entry) → memory s ≡ entries → IfEmpty (flushed_with spells s entries)
 flushed_with_empty spells s [] e = newest_none s.log e
 flushed_with_empty spells s (entry ∷ more) e =
-    let done = placed spells s (taken s) 0 ((entry ∷ more) ∷ []) in
+    let done = placed spells s.settings s.pages (taken s) 0 ((entry ∷ more) ∷ []) in
     elim (nat_le most_tables (length s.tables)) as (λ b. IfEmpty (cond b (Err ManyTables) (flush_placed s done))) [ true ↦ tt | false ↦ flush_placed_empty s done ]
 
 -- ---- an entry more
 
-job_logged : (spells : Spells) (s : State) (entry : Entry) (job : Option Job) → MayRun spells s job → MayRun spells (logged s entry) job
+job_logged : (spells : Spells) (s : State) (entry : Entry) (job : Option Job) → MayRun spells s.settings s.tables job → MayRun spells s.settings s.tables job
 job_logged spells s entry None may = tt
 job_logged spells s entry (Some job) is = record {
   flushes = is.flushes;
   few = is.few;
   chosen = is.chosen;
   to_read = is.to_read;
-  written = made_same spells s (logged s entry) job.output (planned s (plan_of_job job)) job.written refl is.written;
+  written = is.written;
 }
 
 logged_sound : (spells : Spells) (s : State) (entry : Entry) → IsSound spells s → IsEntry entry → IsOfBytes entry → filled s.log + length (body entry) + 1 < 262144 → IsSound spells (logged s entry)

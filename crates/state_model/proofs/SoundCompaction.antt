@@ -41,7 +41,7 @@ live_are_bytes spells s sound =
     (newest_all IsOfBytes (entries_of s) (all_join IsOfBytes (oldest_first s.tables) s.log (oldest_all IsOfBytes s.tables each) sound.log_bytes))
 
 compact_placed_sound : (spells : Spells) (s : State) (done : Result (List Table) NoRoom) → IsSound spells s → s.epoch ≢ last_epoch
-    → placed spells s (taken (without_job s)) 6 (cut s.tables (live_entries s)) ≡ done → IfSound spells (compact_placed s done)
+    → placed spells s.settings s.pages (taken (without_job s)) 6 (cut s.tables (live_entries s)) ≡ done → IfSound spells (compact_placed s done)
 compact_placed_sound spells s (Err refusal) sound other e = tt
 compact_placed_sound spells s (Ok made) sound other e =
     let live = live_entries s in
@@ -51,14 +51,14 @@ compact_placed_sound spells s (Ok made) sound other e =
     let rises = rises_filter (λ (x : Entry). has_value x.value) (newest_entries (entries_of s)) (newest_entries_rise (entries_of s)) in
     let whole = outputs_joined beside live in
     let rise = parts_rise outputs (subst KeysRise (sym whole) rises) in
-    let put = placed_stand spells s (taken_tables (without_job s)) 6 outputs made some (sound_stand spells (without_job s) (drop_sound spells s sound)) e in
+    let put = placed_stand spells s.settings s.pages (taken_tables (without_job s)) 6 outputs made some (sound_stand spells (without_job s) (drop_sound spells s sound)) e in
     let lists = placed_lists spells s (taken (without_job s)) 6 outputs made e in
     let many : length made ≡ length outputs = sym (length-map made (λ (t : Table). t.entries)) ∙ ap (λ (l : List (List Entry)). length l) lists in
     let stand = subst (Stand s.pages) (sym (append_assoc made (s.tables ++ []) s.kept)) put.0 in
     let left : Stand s.pages ((made ++ []) ++ s.kept) = (all_out_of (OnDevice s.pages) made (s.tables ++ []) s.kept stand.0, pairs_out_of Clear made (s.tables ++ []) s.kept stand.1) in
     let laid = laid_tables s.pages ((made ++ []) ++ s.kept) left in
     let on = (all_front (OnDevice s.pages) made (taken_tables (without_job s)) put.0.0) in
-    let order = rising_order 6 made (made_at spells s 6 outputs made put.1) (made_have (λ (l : List Entry). 1 ≤ length l) spells s 6 outputs made put.1 some)
+    let order = rising_order 6 made (made_at spells s.settings 6 outputs made put.1) (made_have (λ (l : List Entry). 1 ≤ length l) spells s.settings 6 outputs made put.1 some)
     (subst KeysRise (sym (ap joined lists ∙ whole)) rises) in
     record {
       settings = sound.settings;
@@ -69,7 +69,7 @@ compact_placed_sound spells s (Ok made) sound other e =
       log_bytes = tt;
       log_fits = omega (arith, filled_none);
       few = omega (arith, many, outputs_few beside live, sound.few);
-      tables = made_sound spells s 6 s.pages outputs made (omega arith) sound.device.1 put.1 on (outputs_all IsEntry beside live (live_are_entries spells s sound)) (outputs_all IsOfBytes beside live (live_are_bytes spells s sound)) some rise;
+      tables = made_sound spells s.settings 6 s.pages outputs made (omega arith) sound.device.1 put.1 on (outputs_all IsEntry beside live (live_are_entries spells s sound)) (outputs_all IsOfBytes beside live (live_are_bytes spells s sound)) some rise;
       order = all_pairs StandsBefore made order;
       on_device = laid.0;
       apart = all_pairs AreApart _ laid.1;
@@ -83,7 +83,7 @@ compact_placed_sound spells s (Ok made) sound other e =
 compacted_with_sound : (spells : Spells) (s : State) (entries : List Entry) → IsSound spells s → IfSound spells (compacted_with spells s entries)
 compacted_with_sound spells s [] sound = sound
 compacted_with_sound spells s (entry ∷ more) sound =
-    let done = placed spells s (taken (without_job s)) 6 (cut s.tables (live_entries s)) in
+    let done = placed spells s.settings s.pages (taken (without_job s)) 6 (cut s.tables (live_entries s)) in
     elim (s.epoch == last_epoch) as (λ b. (s.epoch == last_epoch) ≡ b → IfSound spells (cond b (Err LastEpoch) (compact_placed s done))) [
       | true ↦ λ _. tt
       | false ↦ λ e. compact_placed_sound spells s done sound (eqb-false s.epoch last_epoch e) refl

@@ -33,17 +33,17 @@ use Rattle.state_model.proofs.SoundOutputs.{planned_all, made_have, made_sound, 
 
 -- ---- the level of the outputs
 
-first_over_deep : (s : State) (levels : List ℕ) (plan : Plan) → AllByRecursion (λ level. level ≤ 5) levels → first_over s levels ≡ Some plan → plan.output ≤ 6
-first_over_deep s [] plan few e = absurd cc
-first_over_deep s (level ∷ more) plan few e = elim (is_over s level) as (λ b. cond b (Some (plan_of s (take 1 (on_level level s.tables)) (level + 1))) (first_over s more) ≡ Some plan → plan.output ≤ 6) [
-  | true ↦ λ e. let same : plan_of s (take 1 (on_level level s.tables)) (level + 1) ≡ plan = cc in let deep : level + 1 ≤ 6 = omega (arith, few.0) in subst (λ (p : Plan). p.output ≤ 6) same deep
-  | false ↦ λ e. first_over_deep s more plan few.1 e
+first_over_deep : (tables : List Table) (levels : List ℕ) (plan : Plan) → AllByRecursion (λ level. level ≤ 5) levels → first_over tables levels ≡ Some plan → plan.output ≤ 6
+first_over_deep tables [] plan few e = absurd cc
+first_over_deep tables (level ∷ more) plan few e = elim (is_over tables level) as (λ b. cond b (Some (plan_of tables (take 1 (on_level level tables)) (level + 1))) (first_over tables more) ≡ Some plan → plan.output ≤ 6) [
+  | true ↦ λ e. let same : plan_of tables (take 1 (on_level level tables)) (level + 1) ≡ plan = cc in let deep : level + 1 ≤ 6 = omega (arith, few.0) in subst (λ (p : Plan). p.output ≤ 6) same deep
+  | false ↦ λ e. first_over_deep tables more plan few.1 e
 ] e
 
-pub chosen_deep : (s : State) (plan : Plan) → choose s ≡ Some plan → plan.output ≤ 6
-chosen_deep s plan e = elim (nat_le 4 (length (on_level 0 s.tables))) as (λ b. cond b (Some (plan_of s (on_level 0 s.tables) 1)) (first_over s (1 ∷ 2 ∷ 3 ∷ 4 ∷ 5 ∷ [])) ≡ Some plan → plan.output ≤ 6) [
-  | true ↦ λ e. let same : plan_of s (on_level 0 s.tables) 1 ≡ plan = cc in let deep : 1 ≤ 6 = omega arith in subst (λ (p : Plan). p.output ≤ 6) same deep
-  | false ↦ λ e. first_over_deep s (1 ∷ 2 ∷ 3 ∷ 4 ∷ 5 ∷ []) plan (omega arith, (omega arith, (omega arith, (omega arith, (omega arith, tt))))) e
+pub chosen_deep : (tables : List Table) (plan : Plan) → choose tables ≡ Some plan → plan.output ≤ 6
+chosen_deep tables plan e = elim (nat_le 4 (length (on_level 0 tables))) as (λ b. cond b (Some (plan_of tables (on_level 0 tables) 1)) (first_over tables (1 ∷ 2 ∷ 3 ∷ 4 ∷ 5 ∷ [])) ≡ Some plan → plan.output ≤ 6) [
+  | true ↦ λ e. let same : plan_of tables (on_level 0 tables) 1 ≡ plan = cc in let deep : 1 ≤ 6 = omega arith in subst (λ (p : Plan). p.output ≤ 6) same deep
+  | false ↦ λ e. first_over_deep tables (1 ∷ 2 ∷ 3 ∷ 4 ∷ 5 ∷ []) plan (omega arith, (omega arith, (omega arith, (omega arith, (omega arith, tt))))) e
 ] e
 
 -- ---- how many outputs
@@ -53,12 +53,12 @@ lasting_none true = refl
 lasting_none false = refl
 
 -- no more than the inputs, also where there is none
-planned_few : (s : State) (plan : Plan) → length (planned s plan) ≤ length plan.inputs
-planned_few s plan = by_inputs plan.inputs plan.output
+planned_few : (tables : List Table) (plan : Plan) → length (planned tables plan) ≤ length plan.inputs
+planned_few tables plan = by_inputs plan.inputs plan.output
   where
-    by_inputs : (inputs : List Table) (output : ℕ) → length (planned s (record { inputs = inputs; output = output })) ≤ length inputs
-    by_inputs [] output = elim (is_deepest s output) as (λ b. length (Rattle.state_model.specs.Merges.cut [] (lasting b (newest_of []))) ≤ 0) [ true ↦ omega arith | false ↦ omega arith ]
-    by_inputs (t ∷ more) output = let few = outputs_few (length (t ∷ more) - 1) (lasting (is_deepest s output) (newest_of (t ∷ more))) in omega arith
+    by_inputs : (inputs : List Table) (output : ℕ) → length (planned tables (record { inputs = inputs; output = output })) ≤ length inputs
+    by_inputs [] output = elim (is_deepest tables output) as (λ b. length (Rattle.state_model.specs.Merges.cut [] (lasting b (newest_of []))) ≤ 0) [ true ↦ omega arith | false ↦ omega arith ]
+    by_inputs (t ∷ more) output = let few = outputs_few (length (t ∷ more) - 1) (lasting (is_deepest tables output) (newest_of (t ∷ more))) in omega arith
 
 -- ---- the tables that stay, and the new ones
 
@@ -90,14 +90,14 @@ own_separate level (w ∷ more) some at order = (own_level level w more some at.
 
 -- ---- the install
 
-install_order : (spells : Spells) (s : State) (job : Job) → IsSound spells s → IsJob spells s job → outstanding s job ≡ [] → AllByRecursion IsSoundTable job.written
+install_order : (spells : Spells) (s : State) (job : Job) → IsSound spells s → IsJob spells s.settings s.tables job → outstanding s.tables job ≡ [] → AllByRecursion IsSoundTable job.written
     → Pairs StandsBefore (fold inserted (without job.inputs s.tables) job.written) × (length (without job.inputs s.tables) + length job.inputs ≡ length s.tables)
 install_order spells s job sound is done new =
     let plan = plan_of_job job in
     let all = s.tables in
     let order = pairs_of StandsBefore all sound.order in
     let rise : Rise all = weaker IsSoundTable (λ (t : Table). KeysRise t.entries) rises_of all sound.tables in
-    let c = chosen s is.flushes plan [] is.few is.chosen rise order in
+    let c = chosen s.tables is.flushes plan [] is.few is.chosen rise order in
     let a = c.level in
     let i = c.tables in
     let p = c.shape.front in
@@ -113,10 +113,10 @@ install_order spells s job sound is done new =
     let parts = parted a 0 all (levels_of all order) ∙ ap (λ (l : List Table). b ++ (l ++ (x ++ d))) c.shape.parts in
     let remain = ap (λ (l : List Table). without l all) c.inputs ∙ left all b p i k x d m parts (state_apart spells s sound) in
     let out = λ (t : Table). not (list_any (λ (u : Table). u.first_page == t.first_page) job.inputs) in
-    let made = made_lists spells s job.output (planned s plan) job.written is.written done in
+    let made = made_lists spells s job.output (planned s.tables plan) job.written is.written done in
     let at : AllAt (a + 1) job.written = subst (λ (l : ℕ). AllAt l job.written) c.output made.1 in
     let some_made = weaker IsSoundTable (λ (t : Table). 1 ≤ length t.entries) (λ t st. st.entries.some) job.written new in
-    let lasts = is_deepest s job.output in
+    let lasts = is_deepest s.tables job.output in
     let whole = ap joined made.0 ∙ outputs_joined (length job.inputs - 1) (lasting lasts (newest_of job.inputs)) in
     let own = rising_order (a + 1) job.written at some_made (subst KeysRise (sym whole) (lasting_rises lasts (newest_of job.inputs) (newest_entries_rise (oldest_first job.inputs)))) in
     let deep : 1 ≤ a + 1 = omega arith in
@@ -166,14 +166,14 @@ install_order spells s job sound is done new =
     on_level_apart [] t all = tt
     on_level_apart (w ∷ more) t all = (λ _. all.0, on_level_apart more t all.1)
 
-    separate_all : (spells : Spells) (s : State) (job : Job) (t : Table) → IsJob spells s job → outstanding s job ≡ [] → AllByRecursion (λ (w : Table). 1 ≤ length w.entries) job.written
+    separate_all : (spells : Spells) (s : State) (job : Job) (t : Table) → IsJob spells s.settings s.tables job → outstanding s.tables job ≡ [] → AllByRecursion (λ (w : Table). 1 ≤ length w.entries) job.written
         → Beside job.inputs t → AllByRecursion (λ (w : Table). Separate w t) job.written
     separate_all spells s job t is done some (inl below) =
         let P = λ (e : Entry). Rattle.state_model.specs.Sound.IsBefore (greatest_key t) e.key in
-        separate_below t job.written some (made_have (λ (l : List Entry). AllByRecursion P l) spells s job.output (planned s (plan_of_job job)) job.written is.written (planned_all P s (plan_of_job job) below))
+        separate_below t job.written some (made_have (λ (l : List Entry). AllByRecursion P l) spells s.settings job.output (planned s.tables (plan_of_job job)) job.written is.written (planned_all P s.tables (plan_of_job job) below))
     separate_all spells s job t is done some (inr over) =
         let P = λ (e : Entry). Rattle.state_model.specs.Sound.IsBefore e.key (least_key t) in
-        separate_above t job.written some (made_have (λ (l : List Entry). AllByRecursion P l) spells s job.output (planned s (plan_of_job job)) job.written is.written (planned_all P s (plan_of_job job) over))
+        separate_above t job.written some (made_have (λ (l : List Entry). AllByRecursion P l) spells s.settings job.output (planned s.tables (plan_of_job job)) job.written is.written (planned_all P s.tables (plan_of_job job) over))
 
     counted : (all b p i k x d : List Table) (m : Table → Bool) (inputs remain : List Table) → all ≡ b ++ ((p ++ (i ++ k)) ++ (x ++ d)) → inputs ≡ i ++ filter m x
         → remain ≡ five b p k (filter (λ (t : Table). not (m t)) x) d → length remain + length inputs ≡ length all
@@ -198,23 +198,23 @@ install_order spells s job sound is done new =
           length-append n d,
         )
 
-written_sound : (spells : Spells) (s : State) (job : Job) → IsSound spells s → IsJob spells s job → outstanding s job ≡ [] → AllByRecursion IsSoundTable job.inputs
+written_sound : (spells : Spells) (s : State) (job : Job) → IsSound spells s → IsJob spells s.settings s.tables job → outstanding s.tables job ≡ [] → AllByRecursion IsSoundTable job.inputs
     → AllByRecursion (OnDevice s.pages) job.written → AllByRecursion IsSoundTable job.written
 written_sound spells s job sound is done inputs on =
     let plan = plan_of_job job in
-    let outputs = planned s plan in
-    let lasts = is_deepest s job.output in
+    let outputs = planned s.tables plan in
+    let lasts = is_deepest s.tables job.output in
     let whole = outputs_joined (length job.inputs - 1) (lasting lasts (newest_of job.inputs)) in
     let rise = parts_rise outputs (subst KeysRise (sym whole) (lasting_rises lasts (newest_of job.inputs) (newest_entries_rise (oldest_first job.inputs)))) in
-    let each = planned_all IsEntry s plan (weaker IsSoundTable (λ (t : Table). AllByRecursion IsEntry t.entries) (λ t st. st.entries.sound.each) job.inputs inputs) in
-    let bytes = planned_all IsOfBytes s plan (weaker IsSoundTable (λ (t : Table). AllByRecursion IsOfBytes t.entries) (λ t st. st.bytes) job.inputs inputs) in
-    made_sound spells s job.output s.pages outputs job.written (chosen_deep (record s { tables = drop is.flushes s.tables }) plan is.chosen) sound.device.1 is.written on each bytes (merge_some s plan) rise
+    let each = planned_all IsEntry s.tables plan (weaker IsSoundTable (λ (t : Table). AllByRecursion IsEntry t.entries) (λ t st. st.entries.sound.each) job.inputs inputs) in
+    let bytes = planned_all IsOfBytes s.tables plan (weaker IsSoundTable (λ (t : Table). AllByRecursion IsOfBytes t.entries) (λ t st. st.bytes) job.inputs inputs) in
+    made_sound spells s.settings job.output s.pages outputs job.written (chosen_deep (drop is.flushes s.tables) plan is.chosen) sound.device.1 is.written on each bytes (merge_some s.tables plan) rise
 
-inputs_sound : (spells : Spells) (s : State) (job : Job) → IsSound spells s → IsJob spells s job → AllByRecursion IsSoundTable job.inputs
+inputs_sound : (spells : Spells) (s : State) (job : Job) → IsSound spells s → IsJob spells s.settings s.tables job → AllByRecursion IsSoundTable job.inputs
 inputs_sound spells s job sound is =
     let order = pairs_of StandsBefore s.tables sound.order in
     let rise : Rise s.tables = weaker IsSoundTable (λ (t : Table). KeysRise t.entries) rises_of s.tables sound.tables in
-    let c = chosen s is.flushes (plan_of_job job) [] is.few is.chosen rise order in
+    let c = chosen s.tables is.flushes (plan_of_job job) [] is.few is.chosen rise order in
     let sound_0 = all_parts IsSoundTable c.shape.front (c.tables ++ c.shape.back) (subst (AllByRecursion IsSoundTable) c.shape.parts (all_kept IsSoundTable (λ (t : Table). t.level == c.level) s.tables sound.tables)) in
     let sound_i = (all_parts IsSoundTable c.tables c.shape.back sound_0.1).0 in
     let m = meets (least_of c.tables) (greatest_of c.tables) in
@@ -222,11 +222,11 @@ inputs_sound spells s job sound is =
     let sound_j = all_kept IsSoundTable m x (all_kept IsSoundTable (λ (t : Table). t.level == (c.level + 1)) s.tables sound.tables) in
     subst (AllByRecursion IsSoundTable) (sym c.inputs) (all_join IsSoundTable c.tables (filter m x) sound_i sound_j)
 
-pub install_sound : (spells : Spells) (s : State) (job : Job) → IsSound spells (with_job s job) → outstanding s job ≡ [] → s.epoch ≢ last_epoch → IsSound spells (installed s job)
+pub install_sound : (spells : Spells) (s : State) (job : Job) → IsSound spells (with_job s job) → outstanding s.tables job ≡ [] → s.epoch ≢ last_epoch → IsSound spells (installed s job)
 install_sound spells s job sound done other =
     let here = with_job s job in
     let all = s.tables in
-    let is : IsJob spells here job = sound.job in
+    let is : IsJob spells here.settings here.tables job = sound.job in
     let stand = sound_stand spells here sound in
     let out = λ (t : Table). not (list_any (λ (u : Table). u.first_page == t.first_page) job.inputs) in
     let first : Stand s.pages (all ++ (job.written ++ s.kept)) = subst (Stand s.pages) (append_assoc all job.written s.kept) stand in
@@ -239,8 +239,8 @@ install_sound spells s job sound done other =
       pairs_fold Clear clear_mutual job.written (without job.inputs all) s.kept (pairs_sift Clear out all (job.written ++ s.kept) first.1),
     ) in
     let laid = laid_tables s.pages ((tables ++ []) ++ s.kept) (subst (λ (l : List Table). Stand s.pages (l ++ s.kept)) (sym (append-nil tables)) moved) in
-    let made = made_lists spells here job.output (planned here (plan_of_job job)) job.written is.written done in
-    let many : length job.written ≡ length (planned here (plan_of_job job)) = sym (length-map job.written (λ (t : Table). t.entries)) ∙ ap (λ (l : List (List Entry)). length l) made.0 in
+    let made = made_lists spells here job.output (planned here.tables (plan_of_job job)) job.written is.written done in
+    let many : length job.written ≡ length (planned here.tables (plan_of_job job)) = sym (length-map job.written (λ (t : Table). t.entries)) ∙ ap (λ (l : List (List Entry)). length l) made.0 in
     record {
       settings = sound.settings;
       ratio = sound.ratio;
@@ -249,7 +249,7 @@ install_sound spells s job sound done other =
       log = sound.log;
       log_bytes = sound.log_bytes;
       log_fits = sound.log_fits;
-      few = omega (arith, fold_length job.written (without job.inputs all), stay.1, many, planned_few here (plan_of_job job), sound.few);
+      few = omega (arith, fold_length job.written (without job.inputs all), stay.1, many, planned_few here.tables (plan_of_job job), sound.few);
       tables = fold_all IsSoundTable job.written (without job.inputs all) new (all_kept IsSoundTable out all sound.tables);
       order = all_pairs StandsBefore tables stay.0;
       on_device = laid.0;

@@ -2,6 +2,7 @@
 use Rattle.std.proofs.Common.{◌≡◌, inl, inr, ℕ, zero, suc, ◌≤◌, List, [], ◌∷◌, ◌++◌, length, refl, sym, ap, subst, arith}
 use Rattle.std.specs.Prelude.{Option, Some, None, Ok, take, drop}
 use Rattle.std.proofs.lemmas.List.{append_assoc}
+use Rattle.filter_api.specs.declared.settings.Settings.{Settings}
 use Rattle.store_model.specs.Entries.{Entry}
 use Rattle.state_model.specs.State.{State, Table, Job, without_job, written_by}
 use Rattle.state_model.specs.Pages.{Spells}
@@ -13,7 +14,6 @@ use Rattle.state_model.proofs.Parts.{pairs_of}
 use Rattle.state_model.proofs.Merged.{merge_some}
 use Rattle.state_model.proofs.Orders.{all_pairs, all_in, pairs_in, all_out_of, pairs_out_of, all_take, all_drop}
 use Rattle.state_model.proofs.Places.{Stand, OnDevice, Clear, clear_mutual, stand_of, laid_tables, placed_stand}
-use Rattle.state_model.proofs.SoundChanges.{made_same}
 
 -- what is taken in a sound state
 abbrev pub taken_tables : State → List Table
@@ -48,7 +48,7 @@ drop_sound spells s sound =
 -- ---- a job
 
 -- a sound state with another job
-pub job_sound : (spells : Spells) (s : State) (job : Job) → IsSound spells s → Stand s.pages (taken_tables (with_job s job)) → IsJob spells (with_job s job) job → IsSound spells (with_job s job)
+pub job_sound : (spells : Spells) (s : State) (job : Job) → IsSound spells s → Stand s.pages (taken_tables (with_job s job)) → IsJob spells s.settings s.tables job → IsSound spells (with_job s job)
 job_sound spells s job sound stand is =
     let laid = laid_tables s.pages (taken_tables (with_job s job)) stand in
     record {
@@ -67,14 +67,14 @@ job_sound spells s job sound stand is =
       job = is;
     }
 
-none_made : (spells : Spells) (s : State) (level : ℕ) (outputs : List (List Entry)) → AreMade spells s level outputs []
-none_made spells s level [] = tt
-none_made spells s level (output ∷ more) = tt
+none_made : (spells : Spells) (settings : Settings) (level : ℕ) (outputs : List (List Entry)) → AreMade spells settings level outputs []
+none_made spells settings level [] = tt
+none_made spells settings level (output ∷ more) = tt
 
-started_sound : (spells : Spells) (s : State) (plan : Plan) → IsSound spells s → s.job ≡ None → choose s ≡ Some plan → IsSound spells (with_job s (started plan))
+started_sound : (spells : Spells) (s : State) (plan : Plan) → IsSound spells s → s.job ≡ None → choose s.tables ≡ Some plan → IsSound spells (with_job s (started plan))
 started_sound spells s plan sound none chosen = job_sound spells s (started plan) sound
     (subst (λ (o : Option Job). Stand s.pages (s.tables ++ written_by o ++ s.kept)) none (sound_stand spells s sound))
-    (record { flushes = 0; few = omega arith; chosen = chosen; to_read = omega arith; written = none_made spells (with_job s (started plan)) plan.output (planned s plan) })
+    (record { flushes = 0; few = omega arith; chosen = chosen; to_read = omega arith; written = none_made spells s.settings plan.output (planned s.tables plan) })
 
 pub runs_sound : (spells : Spells) (s : State) (job : Job) → IsSound spells s → Runs s job → IsSound spells (with_job s job)
 runs_sound spells s job sound (inl same) = subst (IsSound spells) (ap (λ (o : Option Job). record s { job = o }) same) sound
@@ -82,17 +82,17 @@ runs_sound spells s job sound (inr (plan, none, chosen, same)) = subst (λ (j : 
 
 -- ---- the job goes on
 
-made_first : (spells : Spells) (s : State) (level n : ℕ) (outputs : List (List Entry)) (made : List Table) → AreMade spells s level (take n outputs) made → AreMade spells s level outputs made
-made_first spells s level n outputs [] are = none_made spells s level outputs
-made_first spells s level zero outputs (t ∷ more) are = absurd are
-made_first spells s level (suc n) [] (t ∷ more) are = absurd are
-made_first spells s level (suc n) (output ∷ outputs) (t ∷ more) are = (are.0, made_first spells s level n outputs more are.1)
+made_first : (spells : Spells) (settings : Settings) (level n : ℕ) (outputs : List (List Entry)) (made : List Table) → AreMade spells settings level (take n outputs) made → AreMade spells settings level outputs made
+made_first spells settings level n outputs [] are = none_made spells settings level outputs
+made_first spells settings level zero outputs (t ∷ more) are = absurd are
+made_first spells settings level (suc n) [] (t ∷ more) are = absurd are
+made_first spells settings level (suc n) (output ∷ outputs) (t ∷ more) are = (are.0, made_first spells settings level n outputs more are.1)
 
-made_join : (spells : Spells) (s : State) (level : ℕ) (outputs : List (List Entry)) (first later : List Table)
-    → AreMade spells s level outputs first → AreMade spells s level (drop (length first) outputs) later → AreMade spells s level outputs (first ++ later)
-made_join spells s level outputs [] later are then = then
-made_join spells s level [] (t ∷ more) later are then = absurd are
-made_join spells s level (output ∷ outputs) (t ∷ more) later are then = (are.0, made_join spells s level outputs more later are.1 then)
+made_join : (spells : Spells) (settings : Settings) (level : ℕ) (outputs : List (List Entry)) (first later : List Table)
+    → AreMade spells settings level outputs first → AreMade spells settings level (drop (length first) outputs) later → AreMade spells settings level outputs (first ++ later)
+made_join spells settings level outputs [] later are then = then
+made_join spells settings level [] (t ∷ more) later are then = absurd are
+made_join spells settings level (output ∷ outputs) (t ∷ more) later are then = (are.0, made_join spells settings level outputs more later are.1 then)
 
 pub same_job : (a b : Job) → a.inputs ≡ b.inputs → a.output ≡ b.output → a.to_read ≡ b.to_read → a.written ≡ b.written → a ≡ b
 same_job a b inputs output to_read written i = record { inputs = inputs i; output = output i; to_read = to_read i; written = written i }
@@ -102,14 +102,14 @@ abbrev pub on_with : Job → ℕ → List Table → Job
 on_with job to_read made = record job { to_read = to_read; written = job.written ++ made }
 
 on_sound : (spells : Spells) (s : State) (job : Job) (n to_read : ℕ) (made : List Table) → IsSound spells (with_job s job) → to_read ≤ job.to_read
-    → placed spells s (taken (with_job s job)) job.output (take n (outstanding s job)) ≡ Ok made → IsSound spells (with_job s (on_with job to_read made))
+    → placed spells s.settings s.pages (taken (with_job s job)) job.output (take n (outstanding s.tables job)) ≡ Ok made → IsSound spells (with_job s (on_with job to_read made))
 on_sound spells s job n to_read made sound less e =
     let later = on_with job to_read made in
-    let is : IsJob spells (with_job s job) job = sound.job in
-    let outputs = planned s (plan_of_job job) in
-    let some = all_take (λ (output : List Entry). 1 ≤ length output) n (outstanding s job)
-    (all_drop (λ (output : List Entry). 1 ≤ length output) (length job.written) outputs (merge_some s (plan_of_job job))) in
-    let put = placed_stand spells s (taken_tables (with_job s job)) job.output (take n (outstanding s job)) made some (sound_stand spells (with_job s job) sound) e in
+    let is : IsJob spells s.settings s.tables job = sound.job in
+    let outputs = planned s.tables (plan_of_job job) in
+    let some = all_take (λ (output : List Entry). 1 ≤ length output) n (outstanding s.tables job)
+    (all_drop (λ (output : List Entry). 1 ≤ length output) (length job.written) outputs (merge_some s.tables (plan_of_job job))) in
+    let put = placed_stand spells s.settings s.pages (taken_tables (with_job s job)) job.output (take n (outstanding s.tables job)) made some (sound_stand spells (with_job s job) sound) e in
     let moved : Stand s.pages (((s.tables ++ job.written) ++ made) ++ s.kept) =
     (all_in (OnDevice s.pages) made (s.tables ++ job.written) s.kept put.0.0, pairs_in Clear clear_mutual made (s.tables ++ job.written) s.kept put.0.1) in
     let stand : Stand s.pages (taken_tables (with_job s later)) = subst (λ (l : List Table). Stand s.pages (l ++ s.kept)) (append_assoc s.tables job.written made) moved in
@@ -118,9 +118,7 @@ on_sound spells s job n to_read made sound less e =
       few = is.few;
       chosen = is.chosen;
       to_read = omega (arith, is.to_read, less);
-      written = made_same spells s (with_job s later) job.output outputs (job.written ++ made) refl
-          (made_join spells s job.output outputs job.written made (made_same spells (with_job s job) s job.output outputs job.written refl is.written)
-          (made_first spells s job.output n (outstanding s job) made put.1));
+      written = made_join spells s.settings job.output outputs job.written made is.written (made_first spells s.settings job.output n (outstanding s.tables job) made put.1);
     })
 
 pub goes_sound : (spells : Spells) (s : State) (job later : Job) → IsSound spells (with_job s job) → GoesOn spells s job later → IsSound spells (with_job s later)

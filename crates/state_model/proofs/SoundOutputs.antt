@@ -2,12 +2,13 @@
 use Rattle.std.proofs.Common.{◌≡◌, inr, ℕ, ◌≤◌, ◌<◌, ◌+◌, ◌^◌, List, [], ◌∷◌, ◌++◌, length, sym, ap, ◌∙◌, subst, Bool, true, false, arith}
 use Rattle.std.specs.Prelude.{◌-◌}
 use Rattle.std.specs.List.{AllByRecursion}
+use Rattle.filter_api.specs.declared.settings.Settings.{Settings}
 use Rattle.store_model.specs.SortedMap.{Bytes}
 use Rattle.store_model.specs.Entries.{Entry}
 use Rattle.mem_table.specs.Table.{IsAbove, KeysRise}
 use Rattle.block_model.specs.Block.{IsEntry}
 use Rattle.block_model.specs.Pages.{first_key, last_key}
-use Rattle.state_model.specs.State.{State, Table}
+use Rattle.state_model.specs.State.{Table}
 use Rattle.state_model.specs.View.{oldest_first}
 use Rattle.state_model.specs.Pages.{Spells, table_of, table_pages}
 use Rattle.state_model.specs.Merges.{Plan, planned, lasting, is_deepest, newest_of, has_value, greatest_key, outputs_of}
@@ -45,43 +46,43 @@ lasting_all P true entries all = all_kept P (λ (e : Entry). has_value e.value) 
 lasting_all P false entries all = all
 
 -- what each entry of the inputs has, each entry of the outputs has
-pub planned_all : (P : Entry → Type 0) (s : State) (plan : Plan) → EachEntry P plan.inputs → AllByRecursion (λ (l : List Entry). AllByRecursion P l) (planned s plan)
-planned_all P s plan all = outputs_all P (length plan.inputs - 1) (lasting (is_deepest s plan.output) (newest_of plan.inputs))
-    (lasting_all P (is_deepest s plan.output) (newest_of plan.inputs) (newest_all P (oldest_first plan.inputs) (oldest_all P plan.inputs all)))
+pub planned_all : (P : Entry → Type 0) (tables : List Table) (plan : Plan) → EachEntry P plan.inputs → AllByRecursion (λ (l : List Entry). AllByRecursion P l) (planned tables plan)
+planned_all P tables plan all = outputs_all P (length plan.inputs - 1) (lasting (is_deepest tables plan.output) (newest_of plan.inputs))
+    (lasting_all P (is_deepest tables plan.output) (newest_of plan.inputs) (newest_all P (oldest_first plan.inputs) (oldest_all P plan.inputs all)))
 
 -- what each output has, the tables that are made of them have
-pub made_have : (Q : List Entry → Type 0) (spells : Spells) (s : State) (level : ℕ) (outputs : List (List Entry)) (made : List Table)
-    → AreMade spells s level outputs made → AllByRecursion Q outputs → AllByRecursion (λ (t : Table). Q t.entries) made
-made_have Q spells s level [] [] are all = tt
-made_have Q spells s level (output ∷ outputs) [] are all = tt
-made_have Q spells s level [] (t ∷ more) are all = absurd are
-made_have Q spells s level (output ∷ outputs) (t ∷ more) are all =
-    (subst Q (sym (ap (λ (u : Table). u.entries) are.0)) all.0, made_have Q spells s level outputs more are.1 all.1)
+pub made_have : (Q : List Entry → Type 0) (spells : Spells) (settings : Settings) (level : ℕ) (outputs : List (List Entry)) (made : List Table)
+    → AreMade spells settings level outputs made → AllByRecursion Q outputs → AllByRecursion (λ (t : Table). Q t.entries) made
+made_have Q spells settings level [] [] are all = tt
+made_have Q spells settings level (output ∷ outputs) [] are all = tt
+made_have Q spells settings level [] (t ∷ more) are all = absurd are
+made_have Q spells settings level (output ∷ outputs) (t ∷ more) are all =
+    (subst Q (sym (ap (λ (u : Table). u.entries) are.0)) all.0, made_have Q spells settings level outputs more are.1 all.1)
 
-pub made_at : (spells : Spells) (s : State) (level : ℕ) (outputs : List (List Entry)) (made : List Table) → AreMade spells s level outputs made → AllAt level made
-made_at spells s level [] [] are = tt
-made_at spells s level (output ∷ outputs) [] are = tt
-made_at spells s level [] (t ∷ more) are = absurd are
-made_at spells s level (output ∷ outputs) (t ∷ more) are = (ap (λ (u : Table). u.level) are.0, made_at spells s level outputs more are.1)
+pub made_at : (spells : Spells) (settings : Settings) (level : ℕ) (outputs : List (List Entry)) (made : List Table) → AreMade spells settings level outputs made → AllAt level made
+made_at spells settings level [] [] are = tt
+made_at spells settings level (output ∷ outputs) [] are = tt
+made_at spells settings level [] (t ∷ more) are = absurd are
+made_at spells settings level (output ∷ outputs) (t ∷ more) are = (ap (λ (u : Table). u.level) are.0, made_at spells settings level outputs more are.1)
 
 -- ---- each is sound
 
 -- so many entries have room on a device
-few_entries : (spells : Spells) (s : State) (pages page : ℕ) (entries : List Entry) → pages ≤ 16777216 → page + table_pages spells s.settings entries ≤ pages → length entries < 2 ^ 32
-few_entries spells s pages page entries most to = omega (arith, entries_in_pages entries)
+few_entries : (spells : Spells) (settings : Settings) (pages page : ℕ) (entries : List Entry) → pages ≤ 16777216 → page + table_pages spells settings entries ≤ pages → length entries < 2 ^ 32
+few_entries spells settings pages page entries most to = omega (arith, entries_in_pages entries)
 
-pub made_sound : (spells : Spells) (s : State) (level pages : ℕ) (outputs : List (List Entry)) (made : List Table) → level ≤ 6 → pages ≤ 16777216
-    → AreMade spells s level outputs made → AllByRecursion (OnDevice pages) made → AllByRecursion (λ (l : List Entry). AllByRecursion IsEntry l) outputs → AllByRecursion (λ (l : List Entry). AllByRecursion IsOfBytes l) outputs
+pub made_sound : (spells : Spells) (settings : Settings) (level pages : ℕ) (outputs : List (List Entry)) (made : List Table) → level ≤ 6 → pages ≤ 16777216
+    → AreMade spells settings level outputs made → AllByRecursion (OnDevice pages) made → AllByRecursion (λ (l : List Entry). AllByRecursion IsEntry l) outputs → AllByRecursion (λ (l : List Entry). AllByRecursion IsOfBytes l) outputs
     → AllByRecursion (λ (l : List Entry). 1 ≤ length l) outputs → AllByRecursion KeysRise outputs → AllByRecursion IsSoundTable made
-made_sound spells s level pages [] [] deep most are on each bytes some rise = tt
-made_sound spells s level pages (output ∷ outputs) [] deep most are on each bytes some rise = tt
-made_sound spells s level pages [] (t ∷ more) deep most are on each bytes some rise = absurd are
-made_sound spells s level pages (output ∷ outputs) (t ∷ more) deep most are on each bytes some rise =
+made_sound spells settings level pages [] [] deep most are on each bytes some rise = tt
+made_sound spells settings level pages (output ∷ outputs) [] deep most are on each bytes some rise = tt
+made_sound spells settings level pages [] (t ∷ more) deep most are on each bytes some rise = absurd are
+made_sound spells settings level pages (output ∷ outputs) (t ∷ more) deep most are on each bytes some rise =
     let within : t.first_page + t.pages ≤ pages = on.0.to in
-    let size : t.pages ≡ table_pages spells s.settings output = ap (λ (u : Table). u.pages) are.0 in
-    let few = few_entries spells s pages t.first_page output most (subst (λ (n : ℕ). t.first_page + n ≤ pages) size within) in
-    let made : IsSoundTable (table_of spells s.settings level t.first_page output) = table_is_sound spells s.settings level t.first_page output deep (is_table output each.0 few some.0 rise.0) bytes.0 in
-    (subst IsSoundTable (sym are.0) made, made_sound spells s level pages outputs more deep most are.1 on.1 each.1 bytes.1 some.1 rise.1)
+    let size : t.pages ≡ table_pages spells settings output = ap (λ (u : Table). u.pages) are.0 in
+    let few = few_entries spells settings pages t.first_page output most (subst (λ (n : ℕ). t.first_page + n ≤ pages) size within) in
+    let made : IsSoundTable (table_of spells settings level t.first_page output) = table_is_sound spells settings level t.first_page output deep (is_table output each.0 few some.0 rise.0) bytes.0 in
+    (subst IsSoundTable (sym are.0) made, made_sound spells settings level pages outputs more deep most are.1 on.1 each.1 bytes.1 some.1 rise.1)
 
 -- ---- their order
 

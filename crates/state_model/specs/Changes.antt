@@ -45,7 +45,7 @@ flush_placed s (Err refusal) = Err (Full refusal.need refusal.gap)
 abbrev pub flushed_with : Spells → State → List Entry → Result State Reply
 flushed_with spells s [] = Ok s
 flushed_with spells s (entry ∷ more) =
-    if nat_le most_tables (length s.tables) then Err ManyTables else flush_placed s (placed spells s (taken s) 0 ((entry ∷ more) ∷ []))
+    if nat_le most_tables (length s.tables) then Err ManyTables else flush_placed s (placed spells s.settings s.pages (taken s) 0 ((entry ∷ more) ∷ []))
 
 -- The memory entries become one table, the first of level 0, in the first gap that holds it, and the log is empty. Where
 -- there are none nothing changes.
@@ -80,7 +80,7 @@ abbrev pub compacted_with : Spells → State → List Entry → Result State Rep
 compacted_with spells s [] = Ok s
 compacted_with spells s (entry ∷ more) =
     if s.epoch == last_epoch then Err LastEpoch
-    else compact_placed s (placed spells s (taken (without_job s)) 6 (cut s.tables (live_entries s)))
+    else compact_placed s (placed spells s.settings s.pages (taken (without_job s)) 6 (cut s.tables (live_entries s)))
 
 -- The live pairs alone stand in tables of level 6, the log is empty and no job runs. An empty store stays as it is.
 abbrev pub compacted : Spells → State → Result State Reply

@@ -40,17 +40,17 @@ pub record ChangeLaws : Type 0 where
 
 -- An install keeps the map: the outputs of a job that is done, in the place of its inputs, among the tables of a sound state.
 pub record InstallLaws : Type 0 where
-  pub install : (spells : Spells) (s : State) (job : Job) → IsSound spells s → IsJob spells s job → IsDone s job → map_of (installed s job) ≡ map_of s
+  pub install : (spells : Spells) (s : State) (job : Job) → IsSound spells s → IsJob spells s.settings s.tables job → IsDone s.tables job → map_of (installed s job) ≡ map_of s
 
 -- What a merge writes says of each key what its inputs say, but that a tombstone may be gone where no table lies deeper.
 -- Its outputs, one after the other, are the entries that last; none is empty, and they are no more than the inputs.
 pub record MergeLaws : Type 0 where
   pub says :
-      (s : State) (plan : Plan) (key : Bytes) → AllByRecursion IsSoundTable plan.inputs
-      → live (first_found (planned s plan) key) ≡ live (first_found (map (λ (t : Table). t.entries) plan.inputs) key)
+      (tables : List Table) (plan : Plan) (key : Bytes) → AllByRecursion IsSoundTable plan.inputs
+      → live (first_found (planned tables plan) key) ≡ live (first_found (map (λ (t : Table). t.entries) plan.inputs) key)
   pub tombstones :
-      (s : State) (plan : Plan) (key : Bytes) → AllByRecursion IsSoundTable plan.inputs → is_deepest s plan.output ≡ false
-      → first_found (planned s plan) key ≡ first_found (map (λ (t : Table). t.entries) plan.inputs) key
-  pub whole : (s : State) (plan : Plan) → flat_map (λ (output : List Entry). output) (planned s plan) ≡ lasting (is_deepest s plan.output) (newest_of plan.inputs)
-  pub some : (s : State) (plan : Plan) → AllByRecursion (λ (output : List Entry). 1 ≤ length output) (planned s plan)
-  pub few : (s : State) (plan : Plan) → 1 ≤ length plan.inputs → length (planned s plan) ≤ length plan.inputs
+      (tables : List Table) (plan : Plan) (key : Bytes) → AllByRecursion IsSoundTable plan.inputs → is_deepest tables plan.output ≡ false
+      → first_found (planned tables plan) key ≡ first_found (map (λ (t : Table). t.entries) plan.inputs) key
+  pub whole : (tables : List Table) (plan : Plan) → flat_map (λ (output : List Entry). output) (planned tables plan) ≡ lasting (is_deepest tables plan.output) (newest_of plan.inputs)
+  pub some : (tables : List Table) (plan : Plan) → AllByRecursion (λ (output : List Entry). 1 ≤ length output) (planned tables plan)
+  pub few : (tables : List Table) (plan : Plan) → 1 ≤ length plan.inputs → length (planned tables plan) ≤ length plan.inputs

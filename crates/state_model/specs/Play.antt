@@ -28,11 +28,11 @@ installed_or_dropped s job (Err refusal) = without_job s
 
 abbrev pub merged_by : Spells → State → Option Job → State
 merged_by spells s None = s
-merged_by spells s (Some job) = installed_or_dropped s job (next_placed spells s job (length (outstanding s job)))
+merged_by spells s (Some job) = installed_or_dropped s job (next_placed spells s job (length (outstanding s.tables job)))
 
 -- the state after a whole merge, where one runs or is to be chosen
 abbrev pub merged : Spells → State → State
-merged spells s = merged_by spells s (job_of s.job (choose s))
+merged spells s = merged_by spells s (job_of s.job (choose s.tables))
 
 -- a merge behind each put and del
 abbrev pub tended : Spells → Request → State → State

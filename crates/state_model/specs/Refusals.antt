@@ -1,5 +1,6 @@
 -- Why a line is refused.
 use Rattle.std.specs.Prelude.{ℕ, ◌≡◌, ◌≢◌, ◌⊎◌, ◌<◌, ◌≤◌, Bool, true, false, List, [], ◌∷◌, length, Option, Some, None, Result, Ok, Err}
+use Rattle.filter_api.specs.declared.settings.Settings.{Settings}
 use Rattle.store_model.specs.SortedMap.{Bytes}
 use Rattle.store_model.specs.Entries.{Entry, put_entry, del_entry, need, gap}
 use Rattle.state_model.specs.State.{State, Table, without_job, last_epoch}
@@ -71,10 +72,10 @@ CompactionIsDue s request = ⊥
 
 -- where the tables of a flush are put, and those of a compaction
 abbrev pub flush_places : Spells → State → Result (List Table) NoRoom
-flush_places spells s = placed spells s (taken s) 0 (memory s ∷ [])
+flush_places spells s = placed spells s.settings s.pages (taken s) 0 (memory s ∷ [])
 
 abbrev pub compaction_places : Spells → State → Result (List Table) NoRoom
-compaction_places spells s = placed spells s (taken (without_job s)) 6 (cut s.tables (live_entries s))
+compaction_places spells s = placed spells s.settings s.pages (taken (without_job s)) 6 (cut s.tables (live_entries s))
 
 -- The causes for which a line is refused, and the reply by which it is. Limits come first. A flush asks for fewer tables
 -- than the most, then for room, then for a next epoch; a compaction asks for a next epoch, then for room.
@@ -99,8 +100,8 @@ pub record RefusalLaws : Type 0 where
   pub limits : (request : Request) (reply : Reply) → BreaksLimit request reply → limit_of request ≡ Some reply
   pub limits_only : (request : Request) (reply : Reply) → limit_of request ≡ Some reply → BreaksLimit request reply
   pub room :
-      (spells : Spells) (s : State) (extents : List Extent) (level : ℕ) (outputs : List (List Entry)) (refusal : NoRoom)
-      → placed spells s extents level outputs ≡ Err refusal → refusal.gap < refusal.need
+      (spells : Spells) (settings : Settings) (pages : ℕ) (extents : List Extent) (level : ℕ) (outputs : List (List Entry)) (refusal : NoRoom)
+      → placed spells settings pages extents level outputs ≡ Err refusal → refusal.gap < refusal.need
   pub flush_room :
       (spells : Spells) (s : State) → largest_gap s.pages (taken s) < table_pages spells s.settings (memory s)
       → flush_places spells s ≡ Err (record { need = table_pages spells s.settings (memory s); gap = largest_gap s.pages (taken s) })

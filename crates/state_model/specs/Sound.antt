@@ -2,6 +2,7 @@
 use Rattle.std.specs.Prelude.{◌≡◌, ◌⊎◌, ◌<◌, ◌≤◌, ℕ, List, [], ◌∷◌, length, drop, Option, Some, None}
 use Rattle.std.specs.List.{AllByRecursion, AllPairs, sum_by}
 use Rattle.std.specs.declared.cmp.Ordering.TheVariants.{Less}
+use Rattle.filter_api.specs.declared.settings.Settings.{Settings}
 use Rattle.filter_api.specs.Ranges.{InRange}
 use Rattle.byte_fields.specs.Spelling.{IsBytes}
 use Rattle.store_model.specs.SortedMap.{Bytes, byte_order}
@@ -44,26 +45,28 @@ abbrev pub AreApart : Extent → Extent → Type 0
 AreApart a b = (end_of a ≤ b.0) ⊎ (end_of b ≤ a.0)
 
 -- these tables are made of the first of some outputs, one of each
-abbrev pub AreMade : Spells → State → ℕ → List (List Entry) → List Table → Type 0
-AreMade spells s level outputs [] = Unit {0}
-AreMade spells s level [] (t ∷ more) = ⊥
-AreMade spells s level (output ∷ outputs) (t ∷ more) = (t ≡ table_of spells s.settings level t.first_page output) × AreMade spells s level outputs more
+abbrev pub AreMade : Spells → Settings → ℕ → List (List Entry) → List Table → Type 0
+AreMade spells settings level outputs [] = Unit {0}
+AreMade spells settings level [] (t ∷ more) = ⊥
+AreMade spells settings level (output ∷ outputs) (t ∷ more) =
+    (t ≡ table_of spells settings level t.first_page output) × AreMade spells settings level outputs more
 
 -- the plan of a job
 abbrev pub plan_of_job : Job → Plan
 plan_of_job job = record { inputs = job.inputs; output = job.output }
 
--- A job merges what was chosen before some later flushes, and what it has written are the first of its outputs.
-pub record IsJob (spells : Spells) (s : State) (job : Job) : Type 0 where
+-- A job merges what was chosen of a version's tables before some later flushes, and what it has written are the first of
+-- its outputs.
+pub record IsJob (spells : Spells) (settings : Settings) (tables : List Table) (job : Job) : Type 0 where
   pub flushes : ℕ
-  pub few : flushes ≤ length (on_level 0 s.tables)
-  pub chosen : choose (record s { tables = drop flushes s.tables }) ≡ Some (plan_of_job job)
+  pub few : flushes ≤ length (on_level 0 tables)
+  pub chosen : choose (drop flushes tables) ≡ Some (plan_of_job job)
   pub to_read : job.to_read ≤ sum_by (λ (t : Table). t.blocks) job.inputs
-  pub written : AreMade spells s job.output (planned s (plan_of_job job)) job.written
+  pub written : AreMade spells settings job.output (planned tables (plan_of_job job)) job.written
 
-abbrev pub MayRun : Spells → State → Option Job → Type 0
-MayRun spells s None = Unit {0}
-MayRun spells s (Some job) = IsJob spells s job
+abbrev pub MayRun : Spells → Settings → List Table → Option Job → Type 0
+MayRun spells settings tables None = Unit {0}
+MayRun spells settings tables (Some job) = IsJob spells settings tables job
 
 pub record IsSound (spells : Spells) (s : State) : Type 0 where
   pub settings : InRange s.settings
@@ -78,4 +81,4 @@ pub record IsSound (spells : Spells) (s : State) : Type 0 where
   pub order : AllPairs StandsBefore s.tables
   pub on_device : AllByRecursion (IsOnDevice s.pages) (taken s)
   pub apart : AllPairs AreApart (taken s)
-  pub job : MayRun spells s s.job
+  pub job : MayRun spells s.settings s.tables s.job

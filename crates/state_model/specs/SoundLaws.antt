@@ -30,9 +30,9 @@ pub record AreLaid (pages : ℕ) (extents : List Extent) : Type 0 where
 -- Outputs that are placed beside laid extents are laid with them.
 abbrev pub PlacedAreLaid : Type 0
 PlacedAreLaid =
-    (spells : Spells) (s : State) (extents : List Extent) (level : ℕ) (outputs : List (List Entry)) (made : List Table)
-    → AllByRecursion (λ (output : List Entry). 1 ≤ length output) outputs → AreLaid s.pages extents
-    → placed spells s extents level outputs ≡ Ok made → AreLaid s.pages (map extent_of made ++ extents)
+    (spells : Spells) (settings : Settings) (pages : ℕ) (extents : List Extent) (level : ℕ) (outputs : List (List Entry)) (made : List Table)
+    → AllByRecursion (λ (output : List Entry). 1 ≤ length output) outputs → AreLaid pages extents
+    → placed spells settings pages extents level outputs ≡ Ok made → AreLaid pages (map extent_of made ++ extents)
 
 -- a store as it is made is sound
 abbrev pub NewIsSound : Type 0
@@ -100,11 +100,11 @@ PlayedIsSound = (spells : Spells) (s : State) (requests : List Request) → IsSo
 -- the answers Worked that a job may still see: one for each block to read, one for each output to write, one for its install
 abbrev pub steps_of : State → Option Job → ℕ
 steps_of s None = 0
-steps_of s (Some job) = job.to_read + length (outstanding s job) + 1
+steps_of s (Some job) = job.to_read + length (outstanding s.tables job) + 1
 
 -- A job that begins may see as many as the blocks of its inputs, its outputs and one more.
 abbrev pub StepsAtFirst : Type 0
-StepsAtFirst = (s : State) (plan : Plan) → steps_of s (Some (started plan)) ≡ sum_by (λ (t : Table). t.blocks) plan.inputs + length (planned s plan) + 1
+StepsAtFirst = (s : State) (plan : Plan) → steps_of s (Some (started plan)) ≡ sum_by (λ (t : Table). t.blocks) plan.inputs + length (planned s.tables plan) + 1
 
 -- Each answer Worked leaves fewer than before it.
 abbrev pub WorkedLowersSteps : Type 0
@@ -135,5 +135,5 @@ slices_in (Slice ∷ more) = slices_in more + 1
 -- that follow while it runs.
 abbrev pub JobEnds : Type 0
 JobEnds =
-    (spells : Spells) (s after t : State) (plan : Plan) (moves : List Move) → s.job ≡ None → choose s ≡ Some plan → Tend Ever spells s Worked after
-    → Moves spells moves after t → 1 + slices_in moves ≤ sum_by (λ (u : Table). u.blocks) plan.inputs + length (planned s plan) + 1
+    (spells : Spells) (s after t : State) (plan : Plan) (moves : List Move) → s.job ≡ None → choose s.tables ≡ Some plan → Tend Ever spells s Worked after
+    → Moves spells moves after t → 1 + slices_in moves ≤ sum_by (λ (u : Table). u.blocks) plan.inputs + length (planned s.tables plan) + 1

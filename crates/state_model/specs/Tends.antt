@@ -21,18 +21,18 @@ started plan = record { inputs = plan.inputs; output = plan.output; to_read = su
 
 -- the job that runs, or where none does a new one
 abbrev pub Runs : State → Job → Type 0
-Runs s job = (s.job ≡ Some job) ⊎ ((plan : Plan) × (s.job ≡ None) × (choose s ≡ Some plan) × (job ≡ started plan))
+Runs s job = (s.job ≡ Some job) ⊎ ((plan : Plan) × (s.job ≡ None) × (choose s.tables ≡ Some plan) × (job ≡ started plan))
 
 abbrev pub with_job : State → Job → State
 with_job s job = record s { job = Some job }
 
 -- the outputs that are not written yet
-abbrev pub outstanding : State → Job → List (List Entry)
-outstanding s job = drop (length job.written) (planned s (plan_of_job job))
+abbrev pub outstanding : List Table → Job → List (List Entry)
+outstanding tables job = drop (length job.written) (planned tables (plan_of_job job))
 
 -- the next so many of them, placed
 abbrev pub next_placed : Spells → State → Job → ℕ → Result (List Table) NoRoom
-next_placed spells s job n = placed spells s (taken (with_job s job)) job.output (take n (outstanding s job))
+next_placed spells s job n = placed spells s.settings s.pages (taken (with_job s job)) job.output (take n (outstanding s.tables job))
 
 -- the job goes on: fewer blocks are to read, more outputs are written, or both, or neither
 pub record GoesOn (spells : Spells) (s : State) (job later : Job) : Type 0 where
@@ -45,9 +45,9 @@ pub record GoesOn (spells : Spells) (s : State) (job later : Job) : Type 0 where
   pub written : later.written ≡ job.written ++ made
 
 -- nothing is to read, and all outputs are written
-pub record IsDone (s : State) (job : Job) : Type 0 where
+pub record IsDone (tables : List Table) (job : Job) : Type 0 where
   pub all_read : job.to_read ≡ 0
-  pub all_written : outstanding s job ≡ []
+  pub all_written : outstanding tables job ≡ []
 
 -- ---- its install
 
@@ -64,8 +64,11 @@ abbrev pub without : List Table → List Table → List Table
 without inputs tables = filter (λ (t : Table). not (list_any (λ (i : Table). i.first_page == t.first_page) inputs)) tables
 
 -- the outputs stand in the place of the inputs
+abbrev pub installed_tables : List Table → Job → List Table
+installed_tables tables job = fold inserted (without job.inputs tables) job.written
+
 abbrev pub installed : State → Job → State
-installed s job = record s { epoch = s.epoch + 1; tables = fold inserted (without job.inputs s.tables) job.written; job = None }
+installed s job = record s { epoch = s.epoch + 1; tables = installed_tables s.tables job; job = None }
 
 -- ---- the slice
 
@@ -78,11 +81,11 @@ pub data Tended : Type 0 where
 -- A slice is idle where no job runs and none is to be chosen. Else it works, or is refused and drops the job. `Cause`
 -- says what must be so for what the state does not explain.
 pub data Tend (Cause : Why → Type 0) (spells : Spells) (s : State) : Tended → State → Type 0 where
-  idle : s.job ≡ None → choose s ≡ None → Tend Cause spells s Idle s
+  idle : s.job ≡ None → choose s.tables ≡ None → Tend Cause spells s Idle s
   works : (job later : Job) → Runs s job → GoesOn spells s job later → later ≢ job → Tend Cause spells s Worked (with_job s later)
-  installs : (job later : Job) → Runs s job → GoesOn spells s job later → IsDone s later → s.epoch ≢ last_epoch
+  installs : (job later : Job) → Runs s job → GoesOn spells s job later → IsDone s.tables later → s.epoch ≢ last_epoch
       → Tend Cause spells s Worked (installed s later)
-  last_epoch_reached : (job later : Job) → Runs s job → GoesOn spells s job later → IsDone s later → s.epoch ≡ last_epoch
+  last_epoch_reached : (job later : Job) → Runs s job → GoesOn spells s job later → IsDone s.tables later → s.epoch ≡ last_epoch
       → Tend Cause spells s (Refused LastEpoch) (without_job s)
   no_room : (job later : Job) (refusal : NoRoom) → Runs s job → GoesOn spells s job later → next_placed spells s later 1 ≡ Err refusal
       → Tend Cause spells s (Refused (Full refusal.need refusal.gap)) (without_job s)

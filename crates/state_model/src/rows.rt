@@ -32,9 +32,9 @@ pub fn levels_and_gaps()
     ensures a_flush_of_nothing_changes_nothing { (played one_byte small_store (Flush ∷ Compact ∷ [])).1 ≡ small_store }
     ensures a_flush_empties_the_log { (played one_byte small_store (put_one 0x61 ∷ Flush ∷ [])).1.log ≡ [] }
     ensures a_compaction_too { (played one_byte small_store (put_one 0x61 ∷ Compact ∷ [])).1.log ≡ [] }
-    ensures a_table_that_touches_is_merged { pages_of_plan (choose (store_with (table_at 0 192 3 (key 3) ∷ table_at 0 195 3 (key 5) ∷ table_at 0 198 3 (key 4) ∷ table_at 0 201 3 (key 4) ∷ table_at 1 204 3 (key 2) ∷ table_at 1 207 3 (key 3) ∷ table_at 1 210 3 (key 5) ∷ table_at 1 213 3 (key 6) ∷ []))) ≡ 1 ∷ 192 ∷ 195 ∷ 198 ∷ 201 ∷ 207 ∷ 210 ∷ [] }
-    ensures a_level_may_be_full { pages_of_plan (choose (store_with (table_at 1 192 255 (key 2) ∷ table_at 1 447 1 (key 3) ∷ []))) ≡ [] }
-    ensures and_has_one_page_too_many { pages_of_plan (choose (store_with (table_at 1 192 255 (key 2) ∷ table_at 1 447 2 (key 3) ∷ table_at 2 500 9 (key 2) ∷ table_at 2 509 9 (key 3) ∷ []))) ≡ 2 ∷ 192 ∷ 500 ∷ [] }
+    ensures a_table_that_touches_is_merged { pages_of_plan (choose (store_with (table_at 0 192 3 (key 3) ∷ table_at 0 195 3 (key 5) ∷ table_at 0 198 3 (key 4) ∷ table_at 0 201 3 (key 4) ∷ table_at 1 204 3 (key 2) ∷ table_at 1 207 3 (key 3) ∷ table_at 1 210 3 (key 5) ∷ table_at 1 213 3 (key 6) ∷ [])).tables) ≡ 1 ∷ 192 ∷ 195 ∷ 198 ∷ 201 ∷ 207 ∷ 210 ∷ [] }
+    ensures a_level_may_be_full { pages_of_plan (choose (store_with (table_at 1 192 255 (key 2) ∷ table_at 1 447 1 (key 3) ∷ [])).tables) ≡ [] }
+    ensures and_has_one_page_too_many { pages_of_plan (choose (store_with (table_at 1 192 255 (key 2) ∷ table_at 1 447 2 (key 3) ∷ table_at 2 500 9 (key 2) ∷ table_at 2 509 9 (key 3) ∷ [])).tables) ≡ 2 ∷ 192 ∷ 500 ∷ [] }
     ensures limits_of_the_levels { map level_limit (1 ∷ 2 ∷ 3 ∷ 4 ∷ 5 ∷ []) ≡ 256 ∷ 2048 ∷ 16384 ∷ 131072 ∷ 1048576 ∷ [] }
 {}
 
