@@ -12,9 +12,9 @@ use Rattle.mem_table.specs.Table.{KeysRise, lookup}
 use Rattle.mem_table.proofs.Newest.{none_above}
 use Rattle.block_model.specs.Order.{is_any}
 use Rattle.state_model.specs.State.{State, Table, Job, written_by}
-use Rattle.state_model.specs.View.{first_found, oldest_first, map_of}
-use Rattle.state_model.specs.Pages.{Spells}
-use Rattle.state_model.specs.Merges.{Plan, plan_of, on_level, meets, least_of, greatest_of, is_over, first_over, choose, is_deepest, lasting, newest_of, planned, has_value}
+use Rattle.state_model.specs.View.{first_found, oldest_first, state_map}
+use Rattle.state_model.specs.Pages.{FilterBytes}
+use Rattle.state_model.specs.Merges.{Plan, plan_of, on_level, reaches, least_of, greatest_of, is_over, first_over, choose, is_deepest, lasting, newest_of, planned, has_value}
 use Rattle.state_model.specs.Tends.{without, inserted, goes_before, outstanding, installed}
 use Rattle.state_model.specs.Gaps.{extent_of, taken}
 use Rattle.state_model.specs.Sound.{IsSound, IsSoundTable, StandsBefore, AreMade, AreApart, IsOnDevice, IsJob, plan_of_job}
@@ -71,7 +71,7 @@ pub record Chosen (plan : Plan) (all : List Table) (key : Bytes) : Type 0 where
   pub level : ℕ
   pub tables : List Table
   pub output : plan.output ≡ level + 1
-  pub inputs : plan.inputs ≡ tables ++ filter (meets (least_of tables) (greatest_of tables)) (on_level (level + 1) all)
+  pub inputs : plan.inputs ≡ tables ++ filter (reaches (least_of tables) (greatest_of tables)) (on_level (level + 1) all)
   pub shape : Shape (on_level level all) tables key
 
 data IsPlan (all : List Table) (plan : Plan) : Type 0 where
@@ -113,7 +113,7 @@ chosen all few plan key within e rise order =
             level = 0;
             tables = tables;
             output = ap (λ (p : Plan). p.output) is;
-            inputs = ap (λ (p : Plan). p.inputs) is ∙ ap (λ (l : List Table). tables ++ filter (meets (least_of tables) (greatest_of tables)) l) (same.1 1 (omega arith));
+            inputs = ap (λ (p : Plan). p.inputs) is ∙ ap (λ (l : List Table). tables ++ filter (reaches (least_of tables) (greatest_of tables)) l) (same.1 1 (omega arith));
             shape = record {
               front = take few (on_level 0 all);
               back = [];
@@ -129,8 +129,8 @@ chosen all few plan key within e rise order =
             tables = tables;
             output = ap (λ (p : Plan). p.output) is;
             inputs = ap (λ (p : Plan). p.inputs) is
-                ∙ ap (λ (l : List Table). l ++ filter (meets (least_of l) (greatest_of l)) (on_level (level + 1) (drop few all))) there
-                ∙ ap (λ (l : List Table). tables ++ filter (meets (least_of tables) (greatest_of tables)) l) (same.1 (level + 1) (omega arith));
+                ∙ ap (λ (l : List Table). l ++ filter (reaches (least_of l) (greatest_of l)) (on_level (level + 1) (drop few all))) there
+                ∙ ap (λ (l : List Table). tables ++ filter (reaches (least_of tables) (greatest_of tables)) l) (same.1 (level + 1) (omega arith));
             shape = record {
               front = [];
               back = drop 1 (on_level level all);
@@ -191,12 +191,12 @@ says_five b p s x d key = says-append b ((p ++ s) ++ (x ++ d)) key
 
 -- ---- the outputs
 
-pub made_lists : (spells : Spells) (s : State) (level : ℕ) (outputs : List (List Entry)) (made : List Table) → AreMade spells s.settings level outputs made → drop (length made) outputs ≡ [] → (lists_of made ≡ outputs) × AllAt level made
-made_lists spells s level [] [] made rest = (refl, tt)
-made_lists spells s level (output ∷ outputs) [] made rest = (sym rest, tt)
-made_lists spells s level [] (t ∷ more) made rest = absurd made
-made_lists spells s level (output ∷ outputs) (t ∷ more) made rest =
-    let tail = made_lists spells s level outputs more made.1 rest in
+pub made_lists : (filter_bytes : FilterBytes) (s : State) (level : ℕ) (outputs : List (List Entry)) (made : List Table) → AreMade filter_bytes s.settings level outputs made → drop (length made) outputs ≡ [] → (lists_of made ≡ outputs) × AllAt level made
+made_lists filter_bytes s level [] [] made rest = (refl, tt)
+made_lists filter_bytes s level (output ∷ outputs) [] made rest = (sym rest, tt)
+made_lists filter_bytes s level [] (t ∷ more) made rest = absurd made
+made_lists filter_bytes s level (output ∷ outputs) (t ∷ more) made rest =
+    let tail = made_lists filter_bytes s level outputs more made.1 rest in
     let head = ap (λ (u : Table). u.entries) made.0 in
     ((λ i. head i ∷ tail.0 i), (ap (λ (u : Table). u.level) made.0, tail.1))
 
@@ -254,8 +254,8 @@ pages_apart : (pages : ℕ) (tables rest : List Table) → Pairs AreApart (map e
 pages_apart pages [] rest pairs on = tt
 pages_apart pages (t ∷ more) rest pairs on = (all_apart pages t more rest on.0.some pairs.0 on.1, pages_apart pages more rest pairs.1 on.1)
 
-pub state_apart : (spells : Spells) (s : State) → IsSound spells s → Pairs Apart s.tables
-state_apart spells s sound = let e = append_assoc s.tables (written_by s.job) s.kept in
+pub state_apart : (filter_bytes : FilterBytes) (s : State) → IsSound filter_bytes s → Pairs Apart s.tables
+state_apart filter_bytes s sound = let e = append_assoc s.tables (written_by s.job) s.kept in
     pages_apart s.pages s.tables (written_by s.job ++ s.kept)
     (subst (λ (l : List Table). Pairs AreApart (map extent_of l)) e (pairs_of AreApart (taken s) sound.apart))
     (subst (λ (l : List Table). AllByRecursion (IsOnDevice s.pages) (map extent_of l)) e sound.on_device)
@@ -297,9 +297,9 @@ next_some a = omega arith
 
 -- ---- the install
 
-same_rest : (spells : Spells) (s : State) (plan : Plan) (key : Bytes) (u : Says) → AllByRecursion IsSoundTable plan.inputs
+same_rest : (filter_bytes : FilterBytes) (s : State) (plan : Plan) (key : Bytes) (u : Says) → AllByRecursion IsSoundTable plan.inputs
     → live (or_else u (or_else (first_found (planned s.tables plan) key) (says (deeper plan.output s.tables) key))) ≡ live (or_else u (or_else (says plan.inputs key) (says (deeper plan.output s.tables) key)))
-same_rest spells s plan key u sound =
+same_rest filter_bytes s plan key u sound =
     let w = first_found (planned s.tables plan) key in
     let d = says (deeper plan.output s.tables) key in
     elim (list_any (λ (t : Table). nat_lt plan.output t.level) s.tables) as (λ b. list_any (λ (t : Table). nat_lt plan.output t.level) s.tables ≡ b → live (or_else u (or_else w d)) ≡ live (or_else u (or_else (says plan.inputs key) d))) [
@@ -310,9 +310,9 @@ same_rest spells s plan key u sound =
           (ap (λ (o : Says). live (or_else w o)) none ∙ ap live (or_none w) ∙ merge_says s.tables plan key sound ∙ sym (ap (λ (o : Says). live (or_else (says plan.inputs key) o)) none ∙ ap live (or_none (says plan.inputs key))))
     ] refl
 
-install_says : (spells : Spells) (s : State) (job : Job) (key : Bytes) → IsSound spells s → IsJob spells s.settings s.tables job → outstanding s.tables job ≡ []
+install_says : (filter_bytes : FilterBytes) (s : State) (job : Job) (key : Bytes) → IsSound filter_bytes s → IsJob filter_bytes s.settings s.tables job → outstanding s.tables job ≡ []
     → live (says (fold inserted (without job.inputs s.tables) job.written) key) ≡ live (says s.tables key)
-install_says spells s job key sound is done =
+install_says filter_bytes s job key sound is done =
     let plan = plan_of_job job in
     let all = s.tables in
     let order = pairs_of StandsBefore all sound.order in
@@ -322,7 +322,7 @@ install_says spells s job key sound is done =
     let i = c.tables in
     let p = c.shape.front in
     let k = c.shape.back in
-    let m = meets (least_of i) (greatest_of i) in
+    let m = reaches (least_of i) (greatest_of i) in
     let b = above a all in
     let x0 = on_level a all in
     let x = on_level (a + 1) all in
@@ -331,7 +331,7 @@ install_says spells s job key sound is done =
     let n = filter (λ (t : Table). not (m t)) x in
     let rest = five b p k n d in
     let parts = parted a 0 all (levels_of all order) ∙ ap (λ (l : List Table). b ++ (l ++ (x ++ d))) c.shape.parts in
-    let remain = ap (λ (l : List Table). without l all) c.inputs ∙ left all b p i k x d m parts (state_apart spells s sound) in
+    let remain = ap (λ (l : List Table). without l all) c.inputs ∙ left all b p i k x d m parts (state_apart filter_bytes s sound) in
     let out = λ (t : Table). not (list_any (λ (u : Table). u.first_page == t.first_page) job.inputs) in
     let levels = subst (Levels 0) remain (levels_of (without job.inputs all) (pairs_kept StandsBefore out all order)) in
     let b_low = weaker (λ (t : Table). nat_lt t.level a ≡ true) (λ (t : Table). t.level < a) (λ t e. lt_of t.level a e) b (all_pass (λ (t : Table). nat_lt t.level a) all) in
@@ -368,7 +368,7 @@ install_says spells s job key sound is done =
     let x_parts = part_says m x key (one_on (a + 1) all key (next_some a) rise order) in
     let i_n = hull_apart i x key rise_i rise_x in
     let ins : says job.inputs key ≡ or_else (says i key) (says j key) = ap (λ (l : List Table). says l key) c.inputs ∙ says-append i j key in
-    let made = made_lists spells s job.output (planned s.tables plan) job.written is.written done in
+    let made = made_lists filter_bytes s job.output (planned s.tables plan) job.written is.written done in
     let w : says job.written key ≡ first_found (planned s.tables plan) key = ap (λ (l : List (List Entry)). first_found l key) made.0 in
     let lasts = is_deepest s.tables job.output in
     let whole = ap joined made.0 ∙ outputs_joined (length job.inputs - 1) (lasting lasts (newest_of job.inputs)) in
@@ -398,7 +398,7 @@ install_says spells s job key sound is done =
     let deep : says (deeper job.output all) key ≡ says d key = ap (λ (l : ℕ). says (deeper l all) key) c.output in
     ap live new_says
     ∙ ap (λ (o : Says). live (or_else u (or_else (first_found (planned s.tables plan) key) o))) (sym deep)
-    ∙ same_rest spells s plan key u sound_in
+    ∙ same_rest filter_bytes s plan key u sound_in
     ∙ ap (λ (o : Says). live (or_else u (or_else (says job.inputs key) o))) deep
     ∙ sym (ap live old_says)
 
@@ -420,12 +420,12 @@ rise_of_lists : (tables : List Table) → AllRise (lists_of tables) → Rise tab
 rise_of_lists [] rise = tt
 rise_of_lists (t ∷ more) rise = (rise.0, rise_of_lists more rise.1)
 
-pub install_keeps : (spells : Spells) (s : State) (job : Job) → IsSound spells s → IsJob spells s.settings s.tables job → outstanding s.tables job ≡ [] → map_of (installed s job) ≡ map_of s
-install_keeps spells s job sound is done =
+pub install_keeps : (filter_bytes : FilterBytes) (s : State) (job : Job) → IsSound filter_bytes s → IsJob filter_bytes s.settings s.tables job → outstanding s.tables job ≡ [] → state_map (installed s job) ≡ state_map s
+install_keeps filter_bytes s job sound is done =
     let all = s.tables in
     let new = fold inserted (without job.inputs all) job.written in
     let rise : Rise all = weaker IsSoundTable (λ (t : Table). KeysRise t.entries) (λ t st. rises_follow is_any t.entries st.entries.rising) all sound.tables in
-    let made = made_lists spells s job.output (planned s.tables (plan_of_job job)) job.written is.written done in
+    let made = made_lists filter_bytes s job.output (planned s.tables (plan_of_job job)) job.written is.written done in
     let lasts = is_deepest s.tables job.output in
     let whole = ap joined made.0 ∙ outputs_joined (length job.inputs - 1) (lasting lasts (newest_of job.inputs)) in
     let made_rise = rise_of_lists job.written (parts_rise (lists_of job.written) (subst KeysRise (sym whole) (lasting_rises lasts (newest_of job.inputs) (newest_entries_rise (oldest_first job.inputs))))) in
@@ -434,5 +434,5 @@ install_keeps spells s job sound is done =
     same_map (oldest_first new ++ s.log) (oldest_first all ++ s.log) (λ key.
     ap live (newest-append (oldest_first new) s.log key)
     ∙ live_behind (newest s.log key) (newest (oldest_first new) key) (newest (oldest_first all) key)
-    (ap live (newest_of_tables new key (lists_rise new new_rise)) ∙ install_says spells s job key sound is done ∙ sym (ap live (newest_of_tables all key (lists_rise all rise))))
+    (ap live (newest_of_tables new key (lists_rise new new_rise)) ∙ install_says filter_bytes s job key sound is done ∙ sym (ap live (newest_of_tables all key (lists_rise all rise))))
     ∙ sym (ap live (newest-append (oldest_first all) s.log key)))

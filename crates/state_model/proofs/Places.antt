@@ -13,7 +13,7 @@ use Rattle.block_model.specs.Pages.{pages_for, block_length, block_pages, blocks
 use Rattle.block_model.proofs.Cutting.{each_block, blocks_joined}
 use Rattle.std.proofs.lemmas.Bool.{and_parts, ltb-true}
 use Rattle.state_model.specs.State.{Table}
-use Rattle.state_model.specs.Pages.{Spells, table_pages, table_of}
+use Rattle.state_model.specs.Pages.{FilterBytes, table_pages, table_of}
 use Rattle.state_model.specs.Gaps.{Extent, end_of, extent_of, has_page, next_taken, room_at, gap_starts, least, first_gap, largest_gap, first_table_page}
 use Rattle.state_model.specs.Merges.{NoRoom, placed, before, at_page}
 use Rattle.state_model.specs.Sound.{IsOfBytes, IsSoundTable, IsOnDevice, AreApart, AreMade}
@@ -73,22 +73,22 @@ blocks_within [] = omega arith
 blocks_within (block ∷ more) = omega (arith, sum_by-cons block_pages block more, some_block_pages block, blocks_within more)
 
 -- a table of one entry or more has one block or more, each of a page or more
-pub blocks_have_pages : (spells : Spells) (settings : Settings) (entries : List Entry) → 1 ≤ length entries
-    → (1 ≤ length (blocks_of entries)) × (length (blocks_of entries) ≤ table_pages spells settings entries)
+pub blocks_have_pages : (filter_bytes : FilterBytes) (settings : Settings) (entries : List Entry) → 1 ≤ length entries
+    → (1 ≤ length (blocks_of entries)) × (length (blocks_of entries) ≤ table_pages filter_bytes settings entries)
 unfolding data_pages
-blocks_have_pages spells settings entries some =
+blocks_have_pages filter_bytes settings entries some =
     let small = each_block (λ (_ : Entry). Unit {0}) IsSmall (λ e _. omega arith) (λ block e is _ room. small_more block e is room) entries (all_unit entries) in
     let many = subst (λ (l : List Entry). length l ≤ 255 * length (blocks_of entries)) (blocks_joined entries) (blocks_joined_small (blocks_of entries) small) in
     (omega (arith, many, some), omega (arith, blocks_within (blocks_of entries)))
 
 -- the table that is made of a table's entries is sound
-pub table_is_sound : (spells : Spells) (settings : Settings) (level page : ℕ) (entries : List Entry) → level ≤ 6 → IsTable entries → AllByRecursion IsOfBytes entries
-    → IsSoundTable (table_of spells settings level page entries)
-table_is_sound spells settings level page entries deep is bytes =
-    record { level = deep; entries = is; bytes = bytes; blocks = blocks_have_pages spells settings entries is.some }
+pub table_is_sound : (filter_bytes : FilterBytes) (settings : Settings) (level page : ℕ) (entries : List Entry) → level ≤ 6 → IsTable entries → AllByRecursion IsOfBytes entries
+    → IsSoundTable (table_of filter_bytes settings level page entries)
+table_is_sound filter_bytes settings level page entries deep is bytes =
+    record { level = deep; entries = is; bytes = bytes; blocks = blocks_have_pages filter_bytes settings entries is.some }
 
-pub has_pages : (spells : Spells) (settings : Settings) (entries : List Entry) → 1 ≤ length entries → 0 < table_pages spells settings entries
-has_pages spells settings entries some = omega (arith, entries_in_pages entries)
+pub has_pages : (filter_bytes : FilterBytes) (settings : Settings) (entries : List Entry) → 1 ≤ length entries → 0 < table_pages filter_bytes settings entries
+has_pages filter_bytes settings entries some = omega (arith, entries_in_pages entries)
 
 -- ---- a gap is free
 
@@ -189,24 +189,24 @@ front_of t (Ok tables) made e = record { rest = tables; first = cc; later = refl
 front_of t (Err refusal) made e = absurd cc
 
 -- Outputs that are placed beside laid extents are laid with them, and made as they should be.
-pub placed_laid : (spells : Spells) (settings : Settings) (pages : ℕ) (xs : List Extent) (level : ℕ) (outputs : List (List Entry)) (made : List Table)
+pub placed_laid : (filter_bytes : FilterBytes) (settings : Settings) (pages : ℕ) (xs : List Extent) (level : ℕ) (outputs : List (List Entry)) (made : List Table)
     → AllByRecursion (λ (output : List Entry). 1 ≤ length output) outputs → Laid pages xs
-    → placed spells settings pages xs level outputs ≡ Ok made → Laid pages (map extent_of made ++ xs) × AreMade spells settings level outputs made
-placed_laid spells settings pages xs level [] made some laid e =
-    subst (λ (l : List Table). Laid pages (map extent_of l ++ xs) × AreMade spells settings level [] l) (let same : [] ≡ made = cc in same) (laid, tt)
-placed_laid spells settings pages xs level (output ∷ more) made some laid e =
-    let need = table_pages spells settings output in
-    let there = λ (page : ℕ). before (table_of spells settings level page output) (placed spells settings pages ((page, need) ∷ xs) level more) in
+    → placed filter_bytes settings pages xs level outputs ≡ Ok made → Laid pages (map extent_of made ++ xs) × AreMade filter_bytes settings level outputs made
+placed_laid filter_bytes settings pages xs level [] made some laid e =
+    subst (λ (l : List Table). Laid pages (map extent_of l ++ xs) × AreMade filter_bytes settings level [] l) (let same : [] ≡ made = cc in same) (laid, tt)
+placed_laid filter_bytes settings pages xs level (output ∷ more) made some laid e =
+    let need = table_pages filter_bytes settings output in
+    let there = λ (page : ℕ). before (table_of filter_bytes settings level page output) (placed filter_bytes settings pages ((page, need) ∷ xs) level more) in
     let refused : NoRoom = record { need = need; gap = largest_gap pages xs } in
     elim (first_gap pages xs need) as (λ o. first_gap pages xs need ≡ o → at_page o there refused ≡ Ok made
-    → Laid pages (map extent_of made ++ xs) × AreMade spells settings level (output ∷ more) made) [
+    → Laid pages (map extent_of made ++ xs) × AreMade filter_bytes settings level (output ∷ more) made) [
       | None ↦ λ is so. absurd cc
       | Some page ↦ λ is so.
-          let t = table_of spells settings level page output in
-          let free = gap_is_free pages xs need page (has_pages spells settings output some.0) laid.0 is in
-          let front = front_of t (placed spells settings pages ((page, need) ∷ xs) level more) made so in
-          let rest = placed_laid spells settings pages ((page, need) ∷ xs) level more front.rest some.1 ((free.0, laid.0), (free.1, laid.1)) front.later in
-          subst (λ (l : List Table). Laid pages (map extent_of l ++ xs) × AreMade spells settings level (output ∷ more) l) (sym front.first) (
+          let t = table_of filter_bytes settings level page output in
+          let free = gap_is_free pages xs need page (has_pages filter_bytes settings output some.0) laid.0 is in
+          let front = front_of t (placed filter_bytes settings pages ((page, need) ∷ xs) level more) made so in
+          let rest = placed_laid filter_bytes settings pages ((page, need) ∷ xs) level more front.rest some.1 ((free.0, laid.0), (free.1, laid.1)) front.later in
+          subst (λ (l : List Table). Laid pages (map extent_of l ++ xs) × AreMade filter_bytes settings level (output ∷ more) l) (sym front.first) (
             (
               all_out (IsOnDevice pages) (map extent_of front.rest) (page, need) xs rest.0.0,
               pairs_out AreApart apart_mutual (map extent_of front.rest) (page, need) xs rest.0.1,
@@ -237,9 +237,9 @@ pub laid_tables : (pages : ℕ) (tables : List Table) → Stand pages tables →
 laid_tables pages tables stand = (all_to_map (IsOnDevice pages) extent_of tables stand.0, pairs_to_map AreApart extent_of tables stand.1)
 
 -- placed beside tables that stand, they stand with them
-pub placed_stand : (spells : Spells) (settings : Settings) (pages : ℕ) (beside : List Table) (level : ℕ) (outputs : List (List Entry)) (made : List Table)
+pub placed_stand : (filter_bytes : FilterBytes) (settings : Settings) (pages : ℕ) (beside : List Table) (level : ℕ) (outputs : List (List Entry)) (made : List Table)
     → AllByRecursion (λ (output : List Entry). 1 ≤ length output) outputs → Stand pages beside
-    → placed spells settings pages (map extent_of beside) level outputs ≡ Ok made → Stand pages (made ++ beside) × AreMade spells settings level outputs made
-placed_stand spells settings pages beside level outputs made some stand e =
-    let laid = placed_laid spells settings pages (map extent_of beside) level outputs made some (laid_tables pages beside stand) e in
+    → placed filter_bytes settings pages (map extent_of beside) level outputs ≡ Ok made → Stand pages (made ++ beside) × AreMade filter_bytes settings level outputs made
+placed_stand filter_bytes settings pages beside level outputs made some stand e =
+    let laid = placed_laid filter_bytes settings pages (map extent_of beside) level outputs made some (laid_tables pages beside stand) e in
     (stand_of pages (made ++ beside) (subst (Laid pages) (sym (map-append extent_of made beside)) laid.0), laid.1)

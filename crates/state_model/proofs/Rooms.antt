@@ -5,7 +5,7 @@ use Rattle.filter_api.specs.declared.settings.Settings.{Settings}
 use Rattle.store_model.specs.Entries.{Entry}
 use Rattle.state_model.specs.State.{State, Table}
 use Rattle.state_model.specs.View.{memory}
-use Rattle.state_model.specs.Pages.{Spells, table_pages, table_of}
+use Rattle.state_model.specs.Pages.{FilterBytes, table_pages, table_of}
 use Rattle.state_model.specs.Gaps.{Extent, taken, room_at, gap_starts, least, first_gap, largest_gap}
 use Rattle.state_model.specs.Merges.{NoRoom, placed, before, at_page}
 use Rattle.state_model.specs.Refusals.{flush_places}
@@ -87,33 +87,33 @@ before_refused : (t : Table) (done : Result (List Table) NoRoom) (refusal : NoRo
 before_refused t (Ok tables) refusal e = cc
 before_refused t (Err other) refusal e = e
 
-pub wants_more : (spells : Spells) (settings : Settings) (pages : ℕ) (extents : List Extent) (level : ℕ) (outputs : List (List Entry)) (refusal : NoRoom)
-    → placed spells settings pages extents level outputs ≡ Err refusal → refusal.gap < refusal.need
-wants_more spells settings pages extents level [] refusal e = cc
-wants_more spells settings pages extents level (output ∷ more) refusal e =
-    let need = table_pages spells settings output in
-    let there = λ (page : ℕ). before (table_of spells settings level page output) (placed spells settings pages ((page, need) ∷ extents) level more) in
+pub wants_more : (filter_bytes : FilterBytes) (settings : Settings) (pages : ℕ) (extents : List Extent) (level : ℕ) (outputs : List (List Entry)) (refusal : NoRoom)
+    → placed filter_bytes settings pages extents level outputs ≡ Err refusal → refusal.gap < refusal.need
+wants_more filter_bytes settings pages extents level [] refusal e = cc
+wants_more filter_bytes settings pages extents level (output ∷ more) refusal e =
+    let need = table_pages filter_bytes settings output in
+    let there = λ (page : ℕ). before (table_of filter_bytes settings level page output) (placed filter_bytes settings pages ((page, need) ∷ extents) level more) in
     let refused : NoRoom = record { need = need; gap = largest_gap pages extents } in
     elim (first_gap pages extents need) as (λ o. first_gap pages extents need ≡ o → at_page o there refused ≡ Err refusal → refusal.gap < refusal.need) [
-      | Some page ↦ λ is so. wants_more spells settings pages ((page, need) ∷ extents) level more refusal
-          (before_refused (table_of spells settings level page output) (placed spells settings pages ((page, need) ∷ extents) level more) refusal so)
+      | Some page ↦ λ is so. wants_more filter_bytes settings pages ((page, need) ∷ extents) level more refusal
+          (before_refused (table_of filter_bytes settings level page output) (placed filter_bytes settings pages ((page, need) ∷ extents) level more) refusal so)
       | None ↦ λ is so.
           let same : refused ≡ refusal = cc in
           subst (λ (r : NoRoom). r.gap < r.need) same (no_gap pages extents need is)
     ] refl e
 
-pub flush_refused : (spells : Spells) (s : State) → largest_gap s.pages (taken s) < table_pages spells s.settings (memory s)
-    → flush_places spells s ≡ Err (record { need = table_pages spells s.settings (memory s); gap = largest_gap s.pages (taken s) })
-flush_refused spells s wide =
-    let need = table_pages spells s.settings (memory s) in
-    ap (λ (o : Option ℕ). at_page o (λ page. before (table_of spells s.settings 0 page (memory s)) (placed spells s.settings s.pages ((page, need) ∷ taken s) 0 []))
+pub flush_refused : (filter_bytes : FilterBytes) (s : State) → largest_gap s.pages (taken s) < table_pages filter_bytes s.settings (memory s)
+    → flush_places filter_bytes s ≡ Err (record { need = table_pages filter_bytes s.settings (memory s); gap = largest_gap s.pages (taken s) })
+flush_refused filter_bytes s wide =
+    let need = table_pages filter_bytes s.settings (memory s) in
+    ap (λ (o : Option ℕ). at_page o (λ page. before (table_of filter_bytes s.settings 0 page (memory s)) (placed filter_bytes s.settings s.pages ((page, need) ∷ taken s) 0 []))
     (record { need = need; gap = largest_gap s.pages (taken s) })) (gap_small s.pages (taken s) need wide)
 
-pub flush_wants_more : (spells : Spells) (s : State) (refusal : NoRoom) → flush_places spells s ≡ Err refusal
-    → refusal ≡ record { need = table_pages spells s.settings (memory s); gap = largest_gap s.pages (taken s) }
-flush_wants_more spells s refusal e =
-    let need = table_pages spells s.settings (memory s) in
-    let there = λ (page : ℕ). before (table_of spells s.settings 0 page (memory s)) (placed spells s.settings s.pages ((page, need) ∷ taken s) 0 []) in
+pub flush_wants_more : (filter_bytes : FilterBytes) (s : State) (refusal : NoRoom) → flush_places filter_bytes s ≡ Err refusal
+    → refusal ≡ record { need = table_pages filter_bytes s.settings (memory s); gap = largest_gap s.pages (taken s) }
+flush_wants_more filter_bytes s refusal e =
+    let need = table_pages filter_bytes s.settings (memory s) in
+    let there = λ (page : ℕ). before (table_of filter_bytes s.settings 0 page (memory s)) (placed filter_bytes s.settings s.pages ((page, need) ∷ taken s) 0 []) in
     let refused : NoRoom = record { need = need; gap = largest_gap s.pages (taken s) } in
     elim (first_gap s.pages (taken s) need) as (λ o. at_page o there refused ≡ Err refusal → refusal ≡ refused) [
       | Some page ↦ λ so. cc

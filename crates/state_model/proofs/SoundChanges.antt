@@ -13,7 +13,7 @@ use Rattle.store_model.specs.Entries.{Entry, body, filled, need, gap}
 use Rattle.block_model.specs.Block.{IsEntry, IsTable}
 use Rattle.state_model.specs.State.{State, Table, Job, new_state, last_epoch}
 use Rattle.state_model.specs.View.{memory}
-use Rattle.state_model.specs.Pages.{Spells, table_of}
+use Rattle.state_model.specs.Pages.{FilterBytes, table_of}
 use Rattle.state_model.specs.Gaps.{extent_of, taken}
 use Rattle.state_model.specs.Merges.{NoRoom, Plan, placed, planned, on_level, cut, lasting, newest_of}
 use Rattle.state_model.specs.Changes.{most_tables, with_tables, flush_placed, flushed_with, flushed, logged, logged_then, written}
@@ -36,8 +36,8 @@ le_last : (n : ℕ) → n < 18446744073709551616 → n ≤ last_epoch
 unfolding last_epoch
 le_last n l = omega arith
 
-pub new_sound : (spells : Spells) (settings : Settings) (pages : ℕ) → InRange settings → settings.ratio < 65536 → 512 ≤ pages → pages ≤ 16777216 → IsSound spells (new_state settings pages)
-new_sound spells settings pages ranges ratio least most = record {
+pub new_sound : (filter_bytes : FilterBytes) (settings : Settings) (pages : ℕ) → InRange settings → settings.ratio < 65536 → 512 ≤ pages → pages ≤ 16777216 → IsSound filter_bytes (new_state settings pages)
+new_sound filter_bytes settings pages ranges ratio least most = record {
   settings = ranges;
   ratio = ratio;
   device = (least, most);
@@ -58,12 +58,12 @@ new_sound spells settings pages ranges ratio least most = record {
 -- ---- flush
 
 -- what is made where the change is done is sound
-abbrev pub IfSound : Spells → Result State Reply → Type 0
-IfSound spells (Ok t) = IsSound spells t
-IfSound spells (Err refusal) = Unit {0}
+abbrev pub IfSound : FilterBytes → Result State Reply → Type 0
+IfSound filter_bytes (Ok t) = IsSound filter_bytes t
+IfSound filter_bytes (Err refusal) = Unit {0}
 
-pub if_sound : (spells : Spells) (done : Result State Reply) (t : State) → IfSound spells done → done ≡ Ok t → IsSound spells t
-if_sound spells done t so e = subst (IfSound spells) e so
+pub if_sound : (filter_bytes : FilterBytes) (done : Result State Reply) (t : State) → IfSound filter_bytes done → done ≡ Ok t → IsSound filter_bytes t
+if_sound filter_bytes done t so e = subst (IfSound filter_bytes) e so
 
 pub next_epoch : (n : ℕ) → n ≤ last_epoch → n ≢ last_epoch → (1 ≤ n + 1) × (n + 1 ≤ last_epoch)
 next_epoch n l other = (omega arith, omega (arith, other))
@@ -91,24 +91,24 @@ planned_again tables t plan zero_level =
     let shallow : nat_lt plan.output t.level ≡ false = ap (nat_lt plan.output) zero_level ∙ level_0 plan.output in
     ap (λ (b : Bool). cut plan.inputs (lasting (not (b || list_any (λ (u : Table). nat_lt plan.output u.level) tables)) (newest_of plan.inputs))) (sym shallow)
 
-job_behind : (spells : Spells) (settings : Settings) (tables : List Table) (t : Table) (job : Job) → t.level ≡ 0 → IsJob spells settings tables job → IsJob spells settings (t ∷ tables) job
-job_behind spells settings tables t job zero_level is = record {
+job_behind : (filter_bytes : FilterBytes) (settings : Settings) (tables : List Table) (t : Table) (job : Job) → t.level ≡ 0 → IsJob filter_bytes settings tables job → IsJob filter_bytes settings (t ∷ tables) job
+job_behind filter_bytes settings tables t job zero_level is = record {
   flushes = suc is.flushes;
   few = let first : (t.level == 0) ≡ true = grind arith in
       subst (λ (b : Bool). suc is.flushes ≤ length (cond b (t ∷ on_level 0 tables) (on_level 0 tables))) (sym first) (omega (arith, is.few));
   chosen = is.chosen;
   to_read = is.to_read;
-  written = subst (λ (outputs : List (List Entry)). AreMade spells settings job.output outputs job.written) (planned_again tables t (plan_of_job job) zero_level) is.written;
+  written = subst (λ (outputs : List (List Entry)). AreMade filter_bytes settings job.output outputs job.written) (planned_again tables t (plan_of_job job) zero_level) is.written;
 }
 
-may_run_behind : (spells : Spells) (settings : Settings) (tables : List Table) (t : Table) (job : Option Job) → t.level ≡ 0 → MayRun spells settings tables job → MayRun spells settings (t ∷ tables) job
-may_run_behind spells settings tables t None zero_level may = tt
-may_run_behind spells settings tables t (Some job) zero_level is = job_behind spells settings tables t job zero_level is
+may_run_behind : (filter_bytes : FilterBytes) (settings : Settings) (tables : List Table) (t : Table) (job : Option Job) → t.level ≡ 0 → MayRun filter_bytes settings tables job → MayRun filter_bytes settings (t ∷ tables) job
+may_run_behind filter_bytes settings tables t None zero_level may = tt
+may_run_behind filter_bytes settings tables t (Some job) zero_level is = job_behind filter_bytes settings tables t job zero_level is
 
 -- one more table in front of a sound state
-front_sound : (spells : Spells) (s : State) (t : Table) → IsSound spells s → t.level ≡ 0 → IsSoundTable t → s.epoch ≢ last_epoch → length s.tables < most_tables
-    → Laid s.pages (extent_of t ∷ taken s) → IsSound spells (in_front s t)
-front_sound spells s t sound zero_level table other few laid = record {
+front_sound : (filter_bytes : FilterBytes) (s : State) (t : Table) → IsSound filter_bytes s → t.level ≡ 0 → IsSoundTable t → s.epoch ≢ last_epoch → length s.tables < most_tables
+    → Laid s.pages (extent_of t ∷ taken s) → IsSound filter_bytes (in_front s t)
+front_sound filter_bytes s t sound zero_level table other few laid = record {
   settings = sound.settings;
   ratio = sound.ratio;
   device = sound.device;
@@ -121,45 +121,45 @@ front_sound spells s t sound zero_level table other few laid = record {
   order = all_pairs StandsBefore (t ∷ s.tables) (first_of_all t s.tables zero_level, pairs_of StandsBefore s.tables sound.order);
   on_device = laid.0;
   apart = all_pairs AreApart (extent_of t ∷ taken s) laid.1;
-  job = may_run_behind spells s.settings s.tables t s.job zero_level sound.job;
+  job = may_run_behind filter_bytes s.settings s.tables t s.job zero_level sound.job;
 }
 
-with_tables_sound : (spells : Spells) (s : State) (made : List Table) → IsSound spells s → IsTable (memory s) → length s.tables < most_tables
-    → Laid s.pages (map extent_of made ++ taken s) → AreMade spells s.settings 0 (memory s ∷ []) made → length made ≡ 1 → IfSound spells (with_tables s (made ++ s.tables))
-with_tables_sound spells s [] sound table few laid are one = absurd (omega arith)
-with_tables_sound spells s (t ∷ u ∷ more) sound table few laid are one = absurd (omega arith)
-with_tables_sound spells s (t ∷ []) sound table few laid are one =
-    elim (s.epoch == last_epoch) as (λ b. (s.epoch == last_epoch) ≡ b → IfSound spells (cond b (Err LastEpoch) (Ok (in_front s t)))) [
+with_tables_sound : (filter_bytes : FilterBytes) (s : State) (made : List Table) → IsSound filter_bytes s → IsTable (memory s) → length s.tables < most_tables
+    → Laid s.pages (map extent_of made ++ taken s) → AreMade filter_bytes s.settings 0 (memory s ∷ []) made → length made ≡ 1 → IfSound filter_bytes (with_tables s (made ++ s.tables))
+with_tables_sound filter_bytes s [] sound table few laid are one = absurd (omega arith)
+with_tables_sound filter_bytes s (t ∷ u ∷ more) sound table few laid are one = absurd (omega arith)
+with_tables_sound filter_bytes s (t ∷ []) sound table few laid are one =
+    elim (s.epoch == last_epoch) as (λ b. (s.epoch == last_epoch) ≡ b → IfSound filter_bytes (cond b (Err LastEpoch) (Ok (in_front s t)))) [
       | true ↦ λ _. tt
-      | false ↦ λ e. front_sound spells s t sound (ap (λ (u : Table). u.level) are.0) (subst IsSoundTable (sym are.0)
-          (table_is_sound spells s.settings 0 t.first_page (memory s) (omega arith) table (newest_all IsOfBytes s.log sound.log_bytes)))
+      | false ↦ λ e. front_sound filter_bytes s t sound (ap (λ (u : Table). u.level) are.0) (subst IsSoundTable (sym are.0)
+          (table_is_sound filter_bytes s.settings 0 t.first_page (memory s) (omega arith) table (newest_all IsOfBytes s.log sound.log_bytes)))
           (eqb-false s.epoch last_epoch e) few laid
     ] refl
 
-flush_placed_sound : (spells : Spells) (s : State) (done : Result (List Table) NoRoom) → IsSound spells s → IsTable (memory s) → length s.tables < most_tables
-    → placed spells s.settings s.pages (taken s) 0 (memory s ∷ []) ≡ done → IfSound spells (flush_placed s done)
-flush_placed_sound spells s (Err refusal) sound table few e = tt
-flush_placed_sound spells s (Ok made) sound table few e =
-    let laid = placed_laid spells s.settings s.pages (taken s) 0 (memory s ∷ []) made (table.some, tt) (sound.on_device, pairs_of AreApart (taken s) sound.apart) e in
-    let one = sym (length-map made (λ (t : Table). t.entries)) ∙ ap (λ (l : List (List Entry)). length l) (placed_lists spells s (taken s) 0 (memory s ∷ []) made e) in
-    with_tables_sound spells s made sound table few laid.0 laid.1 one
+flush_placed_sound : (filter_bytes : FilterBytes) (s : State) (done : Result (List Table) NoRoom) → IsSound filter_bytes s → IsTable (memory s) → length s.tables < most_tables
+    → placed filter_bytes s.settings s.pages (taken s) 0 (memory s ∷ []) ≡ done → IfSound filter_bytes (flush_placed s done)
+flush_placed_sound filter_bytes s (Err refusal) sound table few e = tt
+flush_placed_sound filter_bytes s (Ok made) sound table few e =
+    let laid = placed_laid filter_bytes s.settings s.pages (taken s) 0 (memory s ∷ []) made (table.some, tt) (sound.on_device, pairs_of AreApart (taken s) sound.apart) e in
+    let one = sym (length-map made (λ (t : Table). t.entries)) ∙ ap (λ (l : List (List Entry)). length l) (placed_lists filter_bytes s (taken s) 0 (memory s ∷ []) made e) in
+    with_tables_sound filter_bytes s made sound table few laid.0 laid.1 one
 
-flushed_with_sound : (spells : Spells) (s : State) (entries : List Entry) → IsSound spells s → memory s ≡ entries → IfSound spells (flushed_with spells s entries)
-flushed_with_sound spells s [] sound e = sound
-flushed_with_sound spells s (entry ∷ more) sound e =
+flushed_with_sound : (filter_bytes : FilterBytes) (s : State) (entries : List Entry) → IsSound filter_bytes s → memory s ≡ entries → IfSound filter_bytes (flushed_with filter_bytes s entries)
+flushed_with_sound filter_bytes s [] sound e = sound
+flushed_with_sound filter_bytes s (entry ∷ more) sound e =
     let some : 1 ≤ length (memory s) = subst (λ (l : List Entry). 1 ≤ length l) (sym e) (omega arith) in
     let table = memory_is_table s.log sound.log sound.log_fits some in
-    let done = placed spells s.settings s.pages (taken s) 0 ((entry ∷ more) ∷ []) in
-    elim (nat_le most_tables (length s.tables)) as (λ b. nat_le most_tables (length s.tables) ≡ b → IfSound spells (cond b (Err ManyTables) (flush_placed s done))) [
+    let done = placed filter_bytes s.settings s.pages (taken s) 0 ((entry ∷ more) ∷ []) in
+    elim (nat_le most_tables (length s.tables)) as (λ b. nat_le most_tables (length s.tables) ≡ b → IfSound filter_bytes (cond b (Err ManyTables) (flush_placed s done))) [
       | true ↦ λ _. tt
-      | false ↦ λ few. flush_placed_sound spells s done sound table (not_le most_tables (length s.tables) few) (ap (λ (l : List Entry). placed spells s.settings s.pages (taken s) 0 (l ∷ [])) e)
+      | false ↦ λ few. flush_placed_sound filter_bytes s done sound table (not_le most_tables (length s.tables) few) (ap (λ (l : List Entry). placed filter_bytes s.settings s.pages (taken s) 0 (l ∷ [])) e)
     ] refl
 
-pub flushed_done : (spells : Spells) (s : State) → IsSound spells s → IfSound spells (flushed spells s)
-flushed_done spells s sound = flushed_with_sound spells s (memory s) sound refl
+pub flushed_done : (filter_bytes : FilterBytes) (s : State) → IsSound filter_bytes s → IfSound filter_bytes (flushed filter_bytes s)
+flushed_done filter_bytes s sound = flushed_with_sound filter_bytes s (memory s) sound refl
 
-pub flushed_sound : (spells : Spells) (s t : State) → IsSound spells s → flushed spells s ≡ Ok t → IsSound spells t
-flushed_sound spells s t sound e = if_sound spells (flushed spells s) t (flushed_done spells s sound) e
+pub flushed_sound : (filter_bytes : FilterBytes) (s t : State) → IsSound filter_bytes s → flushed filter_bytes s ≡ Ok t → IsSound filter_bytes t
+flushed_sound filter_bytes s t sound e = if_sound filter_bytes (flushed filter_bytes s) t (flushed_done filter_bytes s sound) e
 
 -- ---- the log behind a flush
 
@@ -174,17 +174,17 @@ flush_placed_empty : (s : State) (done : Result (List Table) NoRoom) → IfEmpty
 flush_placed_empty s (Ok made) = with_tables_empty s (made ++ s.tables)
 flush_placed_empty s (Err refusal) = tt
 
-flushed_with_empty : (spells : Spells) (s : State) (entries : List Entry) → memory s ≡ entries → IfEmpty (flushed_with spells s entries)
-flushed_with_empty spells s [] e = newest_none s.log e
-flushed_with_empty spells s (entry ∷ more) e =
-    let done = placed spells s.settings s.pages (taken s) 0 ((entry ∷ more) ∷ []) in
+flushed_with_empty : (filter_bytes : FilterBytes) (s : State) (entries : List Entry) → memory s ≡ entries → IfEmpty (flushed_with filter_bytes s entries)
+flushed_with_empty filter_bytes s [] e = newest_none s.log e
+flushed_with_empty filter_bytes s (entry ∷ more) e =
+    let done = placed filter_bytes s.settings s.pages (taken s) 0 ((entry ∷ more) ∷ []) in
     elim (nat_le most_tables (length s.tables)) as (λ b. IfEmpty (cond b (Err ManyTables) (flush_placed s done))) [ true ↦ tt | false ↦ flush_placed_empty s done ]
 
 -- ---- an entry more
 
-job_logged : (spells : Spells) (s : State) (entry : Entry) (job : Option Job) → MayRun spells s.settings s.tables job → MayRun spells s.settings s.tables job
-job_logged spells s entry None may = tt
-job_logged spells s entry (Some job) is = record {
+job_logged : (filter_bytes : FilterBytes) (s : State) (entry : Entry) (job : Option Job) → MayRun filter_bytes s.settings s.tables job → MayRun filter_bytes s.settings s.tables job
+job_logged filter_bytes s entry None may = tt
+job_logged filter_bytes s entry (Some job) is = record {
   flushes = is.flushes;
   few = is.few;
   chosen = is.chosen;
@@ -192,8 +192,8 @@ job_logged spells s entry (Some job) is = record {
   written = is.written;
 }
 
-logged_sound : (spells : Spells) (s : State) (entry : Entry) → IsSound spells s → IsEntry entry → IsOfBytes entry → filled s.log + length (body entry) + 1 < 262144 → IsSound spells (logged s entry)
-logged_sound spells s entry sound is bytes room = record {
+logged_sound : (filter_bytes : FilterBytes) (s : State) (entry : Entry) → IsSound filter_bytes s → IsEntry entry → IsOfBytes entry → filled s.log + length (body entry) + 1 < 262144 → IsSound filter_bytes (logged s entry)
+logged_sound filter_bytes s entry sound is bytes room = record {
   settings = sound.settings;
   ratio = sound.ratio;
   device = sound.device;
@@ -206,7 +206,7 @@ logged_sound spells s entry sound is bytes room = record {
   order = sound.order;
   on_device = sound.on_device;
   apart = sound.apart;
-  job = job_logged spells s entry s.job sound.job;
+  job = job_logged filter_bytes s entry s.job sound.job;
 }
 
 body_bound : (entry : Entry) → IsEntry entry → length (body entry) ≤ 66567
@@ -216,15 +216,15 @@ room_left : (s : State) (entry : Entry) → need entry ≤ gap s.log → filled 
 unfolding gap
 room_left s entry fits = omega arith
 
-logged_then_sound : (spells : Spells) (entry : Entry) (done : Result State Reply) → IsEntry entry → IsOfBytes entry → IfSound spells done → IfEmpty done → IfSound spells (logged_then entry done)
-logged_then_sound spells entry (Err refusal) is bytes sound empty = tt
-logged_then_sound spells entry (Ok t) is bytes sound empty = logged_sound spells t entry sound is bytes (omega (arith, ap filled empty, filled_none, body_bound entry is))
+logged_then_sound : (filter_bytes : FilterBytes) (entry : Entry) (done : Result State Reply) → IsEntry entry → IsOfBytes entry → IfSound filter_bytes done → IfEmpty done → IfSound filter_bytes (logged_then entry done)
+logged_then_sound filter_bytes entry (Err refusal) is bytes sound empty = tt
+logged_then_sound filter_bytes entry (Ok t) is bytes sound empty = logged_sound filter_bytes t entry sound is bytes (omega (arith, ap filled empty, filled_none, body_bound entry is))
 
-pub written_done : (spells : Spells) (s : State) (entry : Entry) → IsSound spells s → IsEntry entry → IsOfBytes entry → IfSound spells (written spells s entry)
-written_done spells s entry sound is bytes = elim (nat_le (need entry) (gap s.log)) as (λ b. nat_le (need entry) (gap s.log) ≡ b → IfSound spells (cond b (Ok (logged s entry)) (logged_then entry (flushed spells s)))) [
-  | true ↦ λ e. logged_sound spells s entry sound is bytes (room_left s entry (le_of (need entry) (gap s.log) e))
-  | false ↦ λ _. logged_then_sound spells entry (flushed spells s) is bytes (flushed_done spells s sound) (flushed_with_empty spells s (memory s) refl)
+pub written_done : (filter_bytes : FilterBytes) (s : State) (entry : Entry) → IsSound filter_bytes s → IsEntry entry → IsOfBytes entry → IfSound filter_bytes (written filter_bytes s entry)
+written_done filter_bytes s entry sound is bytes = elim (nat_le (need entry) (gap s.log)) as (λ b. nat_le (need entry) (gap s.log) ≡ b → IfSound filter_bytes (cond b (Ok (logged s entry)) (logged_then entry (flushed filter_bytes s)))) [
+  | true ↦ λ e. logged_sound filter_bytes s entry sound is bytes (room_left s entry (le_of (need entry) (gap s.log) e))
+  | false ↦ λ _. logged_then_sound filter_bytes entry (flushed filter_bytes s) is bytes (flushed_done filter_bytes s sound) (flushed_with_empty filter_bytes s (memory s) refl)
 ] refl
 
-pub written_sound : (spells : Spells) (s t : State) (entry : Entry) → IsSound spells s → IsEntry entry → IsOfBytes entry → written spells s entry ≡ Ok t → IsSound spells t
-written_sound spells s t entry sound is bytes e = if_sound spells (written spells s entry) t (written_done spells s entry sound is bytes) e
+pub written_sound : (filter_bytes : FilterBytes) (s t : State) (entry : Entry) → IsSound filter_bytes s → IsEntry entry → IsOfBytes entry → written filter_bytes s entry ≡ Ok t → IsSound filter_bytes t
+written_sound filter_bytes s t entry sound is bytes e = if_sound filter_bytes (written filter_bytes s entry) t (written_done filter_bytes s entry sound is bytes) e

@@ -8,10 +8,10 @@ use Rattle.store_model.specs.Entries.{Entry}
 use Rattle.mem_table.specs.Table.{KeysRise}
 use Rattle.block_model.specs.Block.{IsEntry}
 use Rattle.state_model.specs.State.{State, Table, Job, last_epoch}
-use Rattle.state_model.specs.View.{oldest_first, map_of}
-use Rattle.state_model.specs.Pages.{Spells}
+use Rattle.state_model.specs.View.{oldest_first, state_map}
+use Rattle.state_model.specs.Pages.{FilterBytes}
 use Rattle.state_model.specs.Gaps.{taken}
-use Rattle.state_model.specs.Merges.{Plan, plan_of, on_level, meets, least_of, greatest_of, is_over, first_over, choose, is_deepest, lasting, newest_of, planned, least_key, greatest_key}
+use Rattle.state_model.specs.Merges.{Plan, plan_of, on_level, reaches, least_of, greatest_of, is_over, first_over, choose, is_deepest, lasting, newest_of, planned, least_key, greatest_key}
 use Rattle.state_model.specs.Tends.{with_job, outstanding, installed, inserted, without, Tended, Tend, idle, works, installs, last_epoch_reached, no_room, no_memory, read_failed, damage_met, write_failed}
 use Rattle.state_model.specs.Sound.{IsOfBytes, IsSound, IsSoundTable, StandsBefore, AreMade, AreApart, IsJob, plan_of_job}
 use Rattle.state_model.specs.SoundLaws.{Ever}
@@ -90,9 +90,9 @@ own_separate level (w ∷ more) some at order = (own_level level w more some at.
 
 -- ---- the install
 
-install_order : (spells : Spells) (s : State) (job : Job) → IsSound spells s → IsJob spells s.settings s.tables job → outstanding s.tables job ≡ [] → AllByRecursion IsSoundTable job.written
+install_order : (filter_bytes : FilterBytes) (s : State) (job : Job) → IsSound filter_bytes s → IsJob filter_bytes s.settings s.tables job → outstanding s.tables job ≡ [] → AllByRecursion IsSoundTable job.written
     → Pairs StandsBefore (fold inserted (without job.inputs s.tables) job.written) × (length (without job.inputs s.tables) + length job.inputs ≡ length s.tables)
-install_order spells s job sound is done new =
+install_order filter_bytes s job sound is done new =
     let plan = plan_of_job job in
     let all = s.tables in
     let order = pairs_of StandsBefore all sound.order in
@@ -102,7 +102,7 @@ install_order spells s job sound is done new =
     let i = c.tables in
     let p = c.shape.front in
     let k = c.shape.back in
-    let m = meets (least_of i) (greatest_of i) in
+    let m = reaches (least_of i) (greatest_of i) in
     let b = above a all in
     let x0 = on_level a all in
     let x = on_level (a + 1) all in
@@ -111,9 +111,9 @@ install_order spells s job sound is done new =
     let n = filter (λ (t : Table). not (m t)) x in
     let rest = five b p k n d in
     let parts = parted a 0 all (levels_of all order) ∙ ap (λ (l : List Table). b ++ (l ++ (x ++ d))) c.shape.parts in
-    let remain = ap (λ (l : List Table). without l all) c.inputs ∙ left all b p i k x d m parts (state_apart spells s sound) in
+    let remain = ap (λ (l : List Table). without l all) c.inputs ∙ left all b p i k x d m parts (state_apart filter_bytes s sound) in
     let out = λ (t : Table). not (list_any (λ (u : Table). u.first_page == t.first_page) job.inputs) in
-    let made = made_lists spells s job.output (planned s.tables plan) job.written is.written done in
+    let made = made_lists filter_bytes s job.output (planned s.tables plan) job.written is.written done in
     let at : AllAt (a + 1) job.written = subst (λ (l : ℕ). AllAt l job.written) c.output made.1 in
     let some_made = weaker IsSoundTable (λ (t : Table). 1 ≤ length t.entries) (λ t st. st.entries.some) job.written new in
     let lasts = is_deepest s.tables job.output in
@@ -139,7 +139,7 @@ install_order spells s job sound is done new =
     (all_kept (λ (t : Table). t.level ≡ a + 1) not_m x x_at) (all_kept IsSoundTable not_m x sound_x)
     (pairs_parted StandsBefore m x (pairs_kept StandsBefore (λ (t : Table). t.level == (a + 1)) all order))) in
     let one_apart = λ (t : Table) (facts : (not_m t ≡ true) × ((t.level ≡ a + 1) × IsSoundTable t × AllByRecursion (Either StandsBefore t) j)).
-    on_level_apart job.written t (separate_all spells s job t is done some_made
+    on_level_apart job.written t (separate_all filter_bytes s job t is done some_made
     (subst (λ (l : List Table). Beside l t) (sym c.inputs) (stands_beside (a + 1) i j t deep facts.1.0 (fit_of t facts.1.1) (off_of (m t) facts.0) sound_i joins facts.1.2))) in
     let New : Table → Type 0 = λ (t : Table). AllByRecursion (λ (w : Table). SeparateOnLevel w t) job.written in
     let n_new = weaker (λ (t : Table). (not_m t ≡ true) × ((t.level ≡ a + 1) × IsSoundTable t × AllByRecursion (Either StandsBefore t) j)) New one_apart n n_facts in
@@ -166,14 +166,14 @@ install_order spells s job sound is done new =
     on_level_apart [] t all = tt
     on_level_apart (w ∷ more) t all = (λ _. all.0, on_level_apart more t all.1)
 
-    separate_all : (spells : Spells) (s : State) (job : Job) (t : Table) → IsJob spells s.settings s.tables job → outstanding s.tables job ≡ [] → AllByRecursion (λ (w : Table). 1 ≤ length w.entries) job.written
+    separate_all : (filter_bytes : FilterBytes) (s : State) (job : Job) (t : Table) → IsJob filter_bytes s.settings s.tables job → outstanding s.tables job ≡ [] → AllByRecursion (λ (w : Table). 1 ≤ length w.entries) job.written
         → Beside job.inputs t → AllByRecursion (λ (w : Table). Separate w t) job.written
-    separate_all spells s job t is done some (inl below) =
+    separate_all filter_bytes s job t is done some (inl below) =
         let P = λ (e : Entry). Rattle.state_model.specs.Sound.IsBefore (greatest_key t) e.key in
-        separate_below t job.written some (made_have (λ (l : List Entry). AllByRecursion P l) spells s.settings job.output (planned s.tables (plan_of_job job)) job.written is.written (planned_all P s.tables (plan_of_job job) below))
-    separate_all spells s job t is done some (inr over) =
+        separate_below t job.written some (made_have (λ (l : List Entry). AllByRecursion P l) filter_bytes s.settings job.output (planned s.tables (plan_of_job job)) job.written is.written (planned_all P s.tables (plan_of_job job) below))
+    separate_all filter_bytes s job t is done some (inr over) =
         let P = λ (e : Entry). Rattle.state_model.specs.Sound.IsBefore e.key (least_key t) in
-        separate_above t job.written some (made_have (λ (l : List Entry). AllByRecursion P l) spells s.settings job.output (planned s.tables (plan_of_job job)) job.written is.written (planned_all P s.tables (plan_of_job job) over))
+        separate_above t job.written some (made_have (λ (l : List Entry). AllByRecursion P l) filter_bytes s.settings job.output (planned s.tables (plan_of_job job)) job.written is.written (planned_all P s.tables (plan_of_job job) over))
 
     counted : (all b p i k x d : List Table) (m : Table → Bool) (inputs remain : List Table) → all ≡ b ++ ((p ++ (i ++ k)) ++ (x ++ d)) → inputs ≡ i ++ filter m x
         → remain ≡ five b p k (filter (λ (t : Table). not (m t)) x) d → length remain + length inputs ≡ length all
@@ -198,9 +198,9 @@ install_order spells s job sound is done new =
           length-append n d,
         )
 
-written_sound : (spells : Spells) (s : State) (job : Job) → IsSound spells s → IsJob spells s.settings s.tables job → outstanding s.tables job ≡ [] → AllByRecursion IsSoundTable job.inputs
+written_sound : (filter_bytes : FilterBytes) (s : State) (job : Job) → IsSound filter_bytes s → IsJob filter_bytes s.settings s.tables job → outstanding s.tables job ≡ [] → AllByRecursion IsSoundTable job.inputs
     → AllByRecursion (OnDevice s.pages) job.written → AllByRecursion IsSoundTable job.written
-written_sound spells s job sound is done inputs on =
+written_sound filter_bytes s job sound is done inputs on =
     let plan = plan_of_job job in
     let outputs = planned s.tables plan in
     let lasts = is_deepest s.tables job.output in
@@ -208,38 +208,38 @@ written_sound spells s job sound is done inputs on =
     let rise = parts_rise outputs (subst KeysRise (sym whole) (lasting_rises lasts (newest_of job.inputs) (newest_entries_rise (oldest_first job.inputs)))) in
     let each = planned_all IsEntry s.tables plan (weaker IsSoundTable (λ (t : Table). AllByRecursion IsEntry t.entries) (λ t st. st.entries.sound.each) job.inputs inputs) in
     let bytes = planned_all IsOfBytes s.tables plan (weaker IsSoundTable (λ (t : Table). AllByRecursion IsOfBytes t.entries) (λ t st. st.bytes) job.inputs inputs) in
-    made_sound spells s.settings job.output s.pages outputs job.written (chosen_deep (drop is.flushes s.tables) plan is.chosen) sound.device.1 is.written on each bytes (merge_some s.tables plan) rise
+    made_sound filter_bytes s.settings job.output s.pages outputs job.written (chosen_deep (drop is.flushes s.tables) plan is.chosen) sound.device.1 is.written on each bytes (merge_some s.tables plan) rise
 
-inputs_sound : (spells : Spells) (s : State) (job : Job) → IsSound spells s → IsJob spells s.settings s.tables job → AllByRecursion IsSoundTable job.inputs
-inputs_sound spells s job sound is =
+inputs_sound : (filter_bytes : FilterBytes) (s : State) (job : Job) → IsSound filter_bytes s → IsJob filter_bytes s.settings s.tables job → AllByRecursion IsSoundTable job.inputs
+inputs_sound filter_bytes s job sound is =
     let order = pairs_of StandsBefore s.tables sound.order in
     let rise : Rise s.tables = weaker IsSoundTable (λ (t : Table). KeysRise t.entries) rises_of s.tables sound.tables in
     let c = chosen s.tables is.flushes (plan_of_job job) [] is.few is.chosen rise order in
     let sound_0 = all_parts IsSoundTable c.shape.front (c.tables ++ c.shape.back) (subst (AllByRecursion IsSoundTable) c.shape.parts (all_kept IsSoundTable (λ (t : Table). t.level == c.level) s.tables sound.tables)) in
     let sound_i = (all_parts IsSoundTable c.tables c.shape.back sound_0.1).0 in
-    let m = meets (least_of c.tables) (greatest_of c.tables) in
+    let m = reaches (least_of c.tables) (greatest_of c.tables) in
     let x = on_level (c.level + 1) s.tables in
     let sound_j = all_kept IsSoundTable m x (all_kept IsSoundTable (λ (t : Table). t.level == (c.level + 1)) s.tables sound.tables) in
     subst (AllByRecursion IsSoundTable) (sym c.inputs) (all_join IsSoundTable c.tables (filter m x) sound_i sound_j)
 
-pub install_sound : (spells : Spells) (s : State) (job : Job) → IsSound spells (with_job s job) → outstanding s.tables job ≡ [] → s.epoch ≢ last_epoch → IsSound spells (installed s job)
-install_sound spells s job sound done other =
+pub install_sound : (filter_bytes : FilterBytes) (s : State) (job : Job) → IsSound filter_bytes (with_job s job) → outstanding s.tables job ≡ [] → s.epoch ≢ last_epoch → IsSound filter_bytes (installed s job)
+install_sound filter_bytes s job sound done other =
     let here = with_job s job in
     let all = s.tables in
-    let is : IsJob spells here.settings here.tables job = sound.job in
-    let stand = sound_stand spells here sound in
+    let is : IsJob filter_bytes here.settings here.tables job = sound.job in
+    let stand = sound_stand filter_bytes here sound in
     let out = λ (t : Table). not (list_any (λ (u : Table). u.first_page == t.first_page) job.inputs) in
     let first : Stand s.pages (all ++ (job.written ++ s.kept)) = subst (Stand s.pages) (append_assoc all job.written s.kept) stand in
     let on = (all_parts (OnDevice s.pages) job.written s.kept (all_parts (OnDevice s.pages) all (job.written ++ s.kept) first.0).1).0 in
-    let new = written_sound spells here job sound is done (inputs_sound spells here job sound is) on in
-    let stay = install_order spells here job sound is done new in
+    let new = written_sound filter_bytes here job sound is done (inputs_sound filter_bytes here job sound is) on in
+    let stay = install_order filter_bytes here job sound is done new in
     let tables = fold inserted (without job.inputs all) job.written in
     let moved : Stand s.pages (tables ++ s.kept) = (
       all_fold (OnDevice s.pages) job.written (without job.inputs all) s.kept (all_sift (OnDevice s.pages) out all (job.written ++ s.kept) first.0),
       pairs_fold Clear clear_mutual job.written (without job.inputs all) s.kept (pairs_sift Clear out all (job.written ++ s.kept) first.1),
     ) in
     let laid = laid_tables s.pages ((tables ++ []) ++ s.kept) (subst (λ (l : List Table). Stand s.pages (l ++ s.kept)) (sym (append-nil tables)) moved) in
-    let made = made_lists spells here job.output (planned here.tables (plan_of_job job)) job.written is.written done in
+    let made = made_lists filter_bytes here job.output (planned here.tables (plan_of_job job)) job.written is.written done in
     let many : length job.written ≡ length (planned here.tables (plan_of_job job)) = sym (length-map job.written (λ (t : Table). t.entries)) ∙ ap (λ (l : List (List Entry)). length l) made.0 in
     record {
       settings = sound.settings;
@@ -259,24 +259,24 @@ install_sound spells s job sound done other =
 
 -- ---- the slice
 
-pub slice_sound : (spells : Spells) (s after : State) (tended : Tended) → IsSound spells s → Tend Ever spells s tended after → IsSound spells after
-slice_sound spells s after tended sound d = elim d as (λ _ new _. IsSound spells new) [
+pub slice_sound : (filter_bytes : FilterBytes) (s after : State) (tended : Tended) → IsSound filter_bytes s → Tend Ever filter_bytes s tended after → IsSound filter_bytes after
+slice_sound filter_bytes s after tended sound d = elim d as (λ _ new _. IsSound filter_bytes new) [
   | idle none chosen ↦ sound
-  | works job later runs goes other ↦ works_sound spells s job later sound runs goes
-  | installs job later runs goes done other ↦ install_sound spells s later (works_sound spells s job later sound runs goes) done.all_written other
-  | last_epoch_reached job later runs goes done last ↦ drop_sound spells s sound
-  | no_room job later refusal runs goes refused ↦ drop_sound spells s sound
-  | no_memory cause ↦ drop_sound spells s sound
-  | read_failed job runs cause ↦ drop_sound spells s sound
-  | damage_met job damage runs cause ↦ drop_sound spells s sound
-  | write_failed job new runs cause left same ↦ left
+  | works job later runs goes other ↦ works_sound filter_bytes s job later sound runs goes
+  | installs job later runs goes done other ↦ install_sound filter_bytes s later (works_sound filter_bytes s job later sound runs goes) done.all_written other
+  | last_epoch_reached job later runs goes done last ↦ drop_sound filter_bytes s sound
+  | no_room job later refusal runs goes refused ↦ drop_sound filter_bytes s sound
+  | no_memory cause ↦ drop_sound filter_bytes s sound
+  | read_failed job runs cause ↦ drop_sound filter_bytes s sound
+  | damage_met job damage runs cause ↦ drop_sound filter_bytes s sound
+  | write_failed job new runs cause left same ↦ left.sound
 ]
 
-pub slice_keeps : (spells : Spells) (s after : State) (tended : Tended) → IsSound spells s → Tend Ever spells s tended after → map_of after ≡ map_of s
-slice_keeps spells s after tended sound d = elim d as (λ _ new _. map_of new ≡ map_of s) [
+pub slice_keeps : (filter_bytes : FilterBytes) (s after : State) (tended : Tended) → IsSound filter_bytes s → Tend Ever filter_bytes s tended after → state_map after ≡ state_map s
+slice_keeps filter_bytes s after tended sound d = elim d as (λ _ new _. state_map new ≡ state_map s) [
   | idle none chosen ↦ refl
   | works job later runs goes other ↦ refl
-  | installs job later runs goes done other ↦ let here = works_sound spells s job later sound runs goes in install_keeps spells (with_job s later) later here here.job done.all_written
+  | installs job later runs goes done other ↦ let here = works_sound filter_bytes s job later sound runs goes in install_keeps filter_bytes (with_job s later) later here here.job done.all_written
   | last_epoch_reached job later runs goes done last ↦ refl
   | no_room job later refusal runs goes refused ↦ refl
   | no_memory cause ↦ refl

@@ -6,7 +6,7 @@ use Rattle.store_model.specs.SortedMap.{Bytes}
 use Rattle.store_model.specs.Entries.{put_entry, del_entry}
 use Rattle.block_model.specs.Block.{IsEntry}
 use Rattle.state_model.specs.State.{State, without_job}
-use Rattle.state_model.specs.Pages.{Spells}
+use Rattle.state_model.specs.Pages.{FilterBytes}
 use Rattle.state_model.specs.Changes.{key_limit, value_limit, first_limit, written, flushed, compacted}
 use Rattle.state_model.specs.Requests.{Request, Put, Del, Get, Seek, Range, Count, Estimate, Explain, Flush, Compact, Quit, Bad}
 use Rattle.state_model.specs.Replies.{Reply, Done, Value, Missing, At, Pairs, End, Counted, About, Explained, Bye, BadLine, LongKey, LongValue, ManyTables, LastEpoch, Full, Memory, Device, Damaged}
@@ -50,96 +50,96 @@ del_within key e = let keys = key_within key e in record { some_key = keys.0; sh
 
 -- ---- the answer
 
-changed_sound : (spells : Spells) (old : State) (done : Result State Reply) → IsSound spells old → IfSound spells done → IsSound spells (changed old done).1
-changed_sound spells old (Ok t) sound new = new
-changed_sound spells old (Err refusal) sound new = sound
+changed_sound : (filter_bytes : FilterBytes) (old : State) (done : Result State Reply) → IsSound filter_bytes old → IfSound filter_bytes done → IsSound filter_bytes (changed old done).1
+changed_sound filter_bytes old (Ok t) sound new = new
+changed_sound filter_bytes old (Err refusal) sound new = sound
 
-within_sound : (spells : Spells) (s : State) (request : Request) → IsSound spells s → AsksOfBytes request → limit_of request ≡ None → IsSound spells (answer_within spells s request).1
-within_sound spells s (Put key value) sound asks e = changed_sound spells s (written spells s (put_entry key value)) sound (written_done spells s (put_entry key value) sound (put_within key value e) (record { key = asks.0; value = asks.1 }))
-within_sound spells s (Del key) sound asks e = changed_sound spells s (written spells s (del_entry key)) sound (written_done spells s (del_entry key) sound (del_within key e) (record { key = asks; value = λ i. omega arith }))
-within_sound spells s Flush sound asks e = changed_sound spells s (flushed spells s) sound (flushed_done spells s sound)
-within_sound spells s Compact sound asks e = changed_sound spells (without_job s) (compacted spells s) (drop_sound spells s sound) (compacted_done spells s sound)
-within_sound spells s (Get key) sound asks e = sound
-within_sound spells s (Seek lo hi) sound asks e = sound
-within_sound spells s (Range lo hi n) sound asks e = sound
-within_sound spells s (Count lo hi) sound asks e = sound
-within_sound spells s (Estimate lo hi) sound asks e = sound
-within_sound spells s (Explain key) sound asks e = sound
-within_sound spells s Quit sound asks e = sound
-within_sound spells s (Bad code) sound asks e = sound
+within_sound : (filter_bytes : FilterBytes) (s : State) (request : Request) → IsSound filter_bytes s → AsksOfBytes request → limit_of request ≡ None → IsSound filter_bytes (answer_within filter_bytes s request).1
+within_sound filter_bytes s (Put key value) sound asks e = changed_sound filter_bytes s (written filter_bytes s (put_entry key value)) sound (written_done filter_bytes s (put_entry key value) sound (put_within key value e) (record { key = asks.0; value = asks.1 }))
+within_sound filter_bytes s (Del key) sound asks e = changed_sound filter_bytes s (written filter_bytes s (del_entry key)) sound (written_done filter_bytes s (del_entry key) sound (del_within key e) (record { key = asks; value = λ i. omega arith }))
+within_sound filter_bytes s Flush sound asks e = changed_sound filter_bytes s (flushed filter_bytes s) sound (flushed_done filter_bytes s sound)
+within_sound filter_bytes s Compact sound asks e = changed_sound filter_bytes (without_job s) (compacted filter_bytes s) (drop_sound filter_bytes s sound) (compacted_done filter_bytes s sound)
+within_sound filter_bytes s (Get key) sound asks e = sound
+within_sound filter_bytes s (Seek lo hi) sound asks e = sound
+within_sound filter_bytes s (Range lo hi n) sound asks e = sound
+within_sound filter_bytes s (Count lo hi) sound asks e = sound
+within_sound filter_bytes s (Estimate lo hi) sound asks e = sound
+within_sound filter_bytes s (Explain key) sound asks e = sound
+within_sound filter_bytes s Quit sound asks e = sound
+within_sound filter_bytes s (Bad code) sound asks e = sound
 
-answer_sound : (spells : Spells) (s : State) (request : Request) → IsSound spells s → AsksOfBytes request → IsSound spells (answer spells s request).1
-answer_sound spells s request sound asks = by_limit (limit_of request) refl
+answer_sound : (filter_bytes : FilterBytes) (s : State) (request : Request) → IsSound filter_bytes s → AsksOfBytes request → IsSound filter_bytes (answer filter_bytes s request).1
+answer_sound filter_bytes s request sound asks = by_limit (limit_of request) refl
   where
-    by_limit : (limit : Option Reply) → limit_of request ≡ limit → IsSound spells (unless_limit limit s (answer_within spells s request)).1
+    by_limit : (limit : Option Reply) → limit_of request ≡ limit → IsSound filter_bytes (unless_limit limit s (answer_within filter_bytes s request)).1
     by_limit (Some limit) e = sound
-    by_limit None e = within_sound spells s request sound asks e
+    by_limit None e = within_sound filter_bytes s request sound asks e
 
-left_sound : (spells : Spells) (s : State) (request : Request) → IsSound spells s → IsSound spells (left_by request s)
-left_sound spells s Compact sound = drop_sound spells s sound
-left_sound spells s (Put key value) sound = sound
-left_sound spells s (Del key) sound = sound
-left_sound spells s Flush sound = sound
-left_sound spells s (Get key) sound = sound
-left_sound spells s (Seek lo hi) sound = sound
-left_sound spells s (Range lo hi n) sound = sound
-left_sound spells s (Count lo hi) sound = sound
-left_sound spells s (Estimate lo hi) sound = sound
-left_sound spells s (Explain key) sound = sound
-left_sound spells s Quit sound = sound
-left_sound spells s (Bad code) sound = sound
+left_sound : (filter_bytes : FilterBytes) (s : State) (request : Request) → IsSound filter_bytes s → IsSound filter_bytes (left_by request s)
+left_sound filter_bytes s Compact sound = drop_sound filter_bytes s sound
+left_sound filter_bytes s (Put key value) sound = sound
+left_sound filter_bytes s (Del key) sound = sound
+left_sound filter_bytes s Flush sound = sound
+left_sound filter_bytes s (Get key) sound = sound
+left_sound filter_bytes s (Seek lo hi) sound = sound
+left_sound filter_bytes s (Range lo hi n) sound = sound
+left_sound filter_bytes s (Count lo hi) sound = sound
+left_sound filter_bytes s (Estimate lo hi) sound = sound
+left_sound filter_bytes s (Explain key) sound = sound
+left_sound filter_bytes s Quit sound = sound
+left_sound filter_bytes s (Bad code) sound = sound
 
-pub step_sound : (spells : Spells) (s after : State) (request : Request) (reply : Reply) → IsSound spells s → AsksOfBytes request → Step Ever spells s request reply after → IsSound spells after
-step_sound spells s after request reply sound asks d = elim d as (λ _ new _. IsSound spells new) [
-  | answers ↦ answer_sound spells s request sound asks
-  | no_memory within takes cause ↦ left_sound spells s request sound
-  | read_failed said within reads cause so ↦ left_sound spells s request sound
-  | damage_met damage said within reads cause so ↦ left_sound spells s request sound
-  | write_failed new within writes cause left same ↦ left
+pub step_sound : (filter_bytes : FilterBytes) (s after : State) (request : Request) (reply : Reply) → IsSound filter_bytes s → AsksOfBytes request → Step Ever filter_bytes s request reply after → IsSound filter_bytes after
+step_sound filter_bytes s after request reply sound asks d = elim d as (λ _ new _. IsSound filter_bytes new) [
+  | answers ↦ answer_sound filter_bytes s request sound asks
+  | no_memory within takes cause ↦ left_sound filter_bytes s request sound
+  | read_failed said within reads cause so ↦ left_sound filter_bytes s request sound
+  | damage_met damage said within reads cause so ↦ left_sound filter_bytes s request sound
+  | write_failed new within writes cause left same ↦ left.sound
 ]
 
 -- ---- lines that are played
 
-tended_sound : (spells : Spells) (s : State) (request : Request) → IsSound spells s → s.job ≡ None → IsSound spells (tended spells request s)
-tended_sound spells s (Put key value) sound none = let slice = merged_is_a_slice Ever spells s none in slice_sound spells s (merged spells s) slice.0.0 sound slice.0.1
-tended_sound spells s (Del key) sound none = let slice = merged_is_a_slice Ever spells s none in slice_sound spells s (merged spells s) slice.0.0 sound slice.0.1
-tended_sound spells s Flush sound none = sound
-tended_sound spells s Compact sound none = sound
-tended_sound spells s (Get key) sound none = sound
-tended_sound spells s (Seek lo hi) sound none = sound
-tended_sound spells s (Range lo hi n) sound none = sound
-tended_sound spells s (Count lo hi) sound none = sound
-tended_sound spells s (Estimate lo hi) sound none = sound
-tended_sound spells s (Explain key) sound none = sound
-tended_sound spells s Quit sound none = sound
-tended_sound spells s (Bad code) sound none = sound
+tended_sound : (filter_bytes : FilterBytes) (s : State) (request : Request) → IsSound filter_bytes s → s.job ≡ None → IsSound filter_bytes (tended filter_bytes request s)
+tended_sound filter_bytes s (Put key value) sound none = let slice = merged_is_a_slice Ever filter_bytes s none in slice_sound filter_bytes s (merged filter_bytes s) slice.0.0 sound slice.0.1
+tended_sound filter_bytes s (Del key) sound none = let slice = merged_is_a_slice Ever filter_bytes s none in slice_sound filter_bytes s (merged filter_bytes s) slice.0.0 sound slice.0.1
+tended_sound filter_bytes s Flush sound none = sound
+tended_sound filter_bytes s Compact sound none = sound
+tended_sound filter_bytes s (Get key) sound none = sound
+tended_sound filter_bytes s (Seek lo hi) sound none = sound
+tended_sound filter_bytes s (Range lo hi n) sound none = sound
+tended_sound filter_bytes s (Count lo hi) sound none = sound
+tended_sound filter_bytes s (Estimate lo hi) sound none = sound
+tended_sound filter_bytes s (Explain key) sound none = sound
+tended_sound filter_bytes s Quit sound none = sound
+tended_sound filter_bytes s (Bad code) sound none = sound
 
-behind_sound : (spells : Spells) (reply : Reply) (later : List Reply × State) (s : State) → IsSound spells later.1 → IsSound spells s → IsSound spells (behind reply later s).1
-behind_sound spells Bye later s after here = here
-behind_sound spells Done later s after here = after
-behind_sound spells (Value value) later s after here = after
-behind_sound spells Missing later s after here = after
-behind_sound spells (At key value) later s after here = after
-behind_sound spells (Pairs map last) later s after here = after
-behind_sound spells (End count) later s after here = after
-behind_sound spells (Counted count) later s after here = after
-behind_sound spells (About count) later s after here = after
-behind_sound spells (Explained tables admitted blocks) later s after here = after
-behind_sound spells (BadLine code) later s after here = after
-behind_sound spells (LongKey size) later s after here = after
-behind_sound spells (LongValue size) later s after here = after
-behind_sound spells ManyTables later s after here = after
-behind_sound spells LastEpoch later s after here = after
-behind_sound spells (Full need gap) later s after here = after
-behind_sound spells Memory later s after here = after
-behind_sound spells Device later s after here = after
-behind_sound spells (Damaged damage) later s after here = after
+behind_sound : (filter_bytes : FilterBytes) (reply : Reply) (later : List Reply × State) (s : State) → IsSound filter_bytes later.1 → IsSound filter_bytes s → IsSound filter_bytes (behind reply later s).1
+behind_sound filter_bytes Bye later s after here = here
+behind_sound filter_bytes Done later s after here = after
+behind_sound filter_bytes (Value value) later s after here = after
+behind_sound filter_bytes Missing later s after here = after
+behind_sound filter_bytes (At key value) later s after here = after
+behind_sound filter_bytes (Pairs map last) later s after here = after
+behind_sound filter_bytes (End count) later s after here = after
+behind_sound filter_bytes (Counted count) later s after here = after
+behind_sound filter_bytes (About count) later s after here = after
+behind_sound filter_bytes (Explained tables admitted blocks) later s after here = after
+behind_sound filter_bytes (BadLine code) later s after here = after
+behind_sound filter_bytes (LongKey size) later s after here = after
+behind_sound filter_bytes (LongValue size) later s after here = after
+behind_sound filter_bytes ManyTables later s after here = after
+behind_sound filter_bytes LastEpoch later s after here = after
+behind_sound filter_bytes (Full need gap) later s after here = after
+behind_sound filter_bytes Memory later s after here = after
+behind_sound filter_bytes Device later s after here = after
+behind_sound filter_bytes (Damaged damage) later s after here = after
 
-pub played_sound : (spells : Spells) (s : State) (requests : List Request) → IsSound spells s → AllByRecursion AsksOfBytes requests → s.job ≡ None → IsSound spells (played spells s requests).1
-played_sound spells s [] sound asks none = sound
-played_sound spells s (request ∷ more) sound asks none =
-    let a = answer spells s request in
-    let calm = answer_is_calm spells s request none in
-    let here = answer_sound spells s request sound asks.0 in
-    behind_sound spells a.0 (played spells (tended spells request a.1) more) a.1
-    (played_sound spells (tended spells request a.1) more (tended_sound spells a.1 request here calm.1) asks.1 (tended_between Ever spells a.1 request calm.1).1) here
+pub played_sound : (filter_bytes : FilterBytes) (s : State) (requests : List Request) → IsSound filter_bytes s → AllByRecursion AsksOfBytes requests → s.job ≡ None → IsSound filter_bytes (played filter_bytes s requests).1
+played_sound filter_bytes s [] sound asks none = sound
+played_sound filter_bytes s (request ∷ more) sound asks none =
+    let a = answer filter_bytes s request in
+    let calm = answer_is_calm filter_bytes s request none in
+    let here = answer_sound filter_bytes s request sound asks.0 in
+    behind_sound filter_bytes a.0 (played filter_bytes (tended filter_bytes request a.1) more) a.1
+    (played_sound filter_bytes (tended filter_bytes request a.1) more (tended_sound filter_bytes a.1 request here calm.1) asks.1 (tended_between Ever filter_bytes a.1 request calm.1).1) here

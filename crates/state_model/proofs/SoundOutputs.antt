@@ -10,7 +10,7 @@ use Rattle.block_model.specs.Block.{IsEntry}
 use Rattle.block_model.specs.Pages.{first_key, last_key}
 use Rattle.state_model.specs.State.{Table}
 use Rattle.state_model.specs.View.{oldest_first}
-use Rattle.state_model.specs.Pages.{Spells, table_of, table_pages}
+use Rattle.state_model.specs.Pages.{FilterBytes, table_of, table_pages}
 use Rattle.state_model.specs.Merges.{Plan, planned, lasting, is_deepest, newest_of, has_value, greatest_key, outputs_of}
 use Rattle.state_model.specs.Sound.{IsOfBytes, IsSoundTable, IsBefore, StandsBefore, AreMade}
 use Rattle.state_model.proofs.Levels.{AllAt}
@@ -51,38 +51,38 @@ planned_all P tables plan all = outputs_all P (length plan.inputs - 1) (lasting 
     (lasting_all P (is_deepest tables plan.output) (newest_of plan.inputs) (newest_all P (oldest_first plan.inputs) (oldest_all P plan.inputs all)))
 
 -- what each output has, the tables that are made of them have
-pub made_have : (Q : List Entry → Type 0) (spells : Spells) (settings : Settings) (level : ℕ) (outputs : List (List Entry)) (made : List Table)
-    → AreMade spells settings level outputs made → AllByRecursion Q outputs → AllByRecursion (λ (t : Table). Q t.entries) made
-made_have Q spells settings level [] [] are all = tt
-made_have Q spells settings level (output ∷ outputs) [] are all = tt
-made_have Q spells settings level [] (t ∷ more) are all = absurd are
-made_have Q spells settings level (output ∷ outputs) (t ∷ more) are all =
-    (subst Q (sym (ap (λ (u : Table). u.entries) are.0)) all.0, made_have Q spells settings level outputs more are.1 all.1)
+pub made_have : (Q : List Entry → Type 0) (filter_bytes : FilterBytes) (settings : Settings) (level : ℕ) (outputs : List (List Entry)) (made : List Table)
+    → AreMade filter_bytes settings level outputs made → AllByRecursion Q outputs → AllByRecursion (λ (t : Table). Q t.entries) made
+made_have Q filter_bytes settings level [] [] are all = tt
+made_have Q filter_bytes settings level (output ∷ outputs) [] are all = tt
+made_have Q filter_bytes settings level [] (t ∷ more) are all = absurd are
+made_have Q filter_bytes settings level (output ∷ outputs) (t ∷ more) are all =
+    (subst Q (sym (ap (λ (u : Table). u.entries) are.0)) all.0, made_have Q filter_bytes settings level outputs more are.1 all.1)
 
-pub made_at : (spells : Spells) (settings : Settings) (level : ℕ) (outputs : List (List Entry)) (made : List Table) → AreMade spells settings level outputs made → AllAt level made
-made_at spells settings level [] [] are = tt
-made_at spells settings level (output ∷ outputs) [] are = tt
-made_at spells settings level [] (t ∷ more) are = absurd are
-made_at spells settings level (output ∷ outputs) (t ∷ more) are = (ap (λ (u : Table). u.level) are.0, made_at spells settings level outputs more are.1)
+pub made_at : (filter_bytes : FilterBytes) (settings : Settings) (level : ℕ) (outputs : List (List Entry)) (made : List Table) → AreMade filter_bytes settings level outputs made → AllAt level made
+made_at filter_bytes settings level [] [] are = tt
+made_at filter_bytes settings level (output ∷ outputs) [] are = tt
+made_at filter_bytes settings level [] (t ∷ more) are = absurd are
+made_at filter_bytes settings level (output ∷ outputs) (t ∷ more) are = (ap (λ (u : Table). u.level) are.0, made_at filter_bytes settings level outputs more are.1)
 
 -- ---- each is sound
 
 -- so many entries have room on a device
-few_entries : (spells : Spells) (settings : Settings) (pages page : ℕ) (entries : List Entry) → pages ≤ 16777216 → page + table_pages spells settings entries ≤ pages → length entries < 2 ^ 32
-few_entries spells settings pages page entries most to = omega (arith, entries_in_pages entries)
+few_entries : (filter_bytes : FilterBytes) (settings : Settings) (pages page : ℕ) (entries : List Entry) → pages ≤ 16777216 → page + table_pages filter_bytes settings entries ≤ pages → length entries < 2 ^ 32
+few_entries filter_bytes settings pages page entries most to = omega (arith, entries_in_pages entries)
 
-pub made_sound : (spells : Spells) (settings : Settings) (level pages : ℕ) (outputs : List (List Entry)) (made : List Table) → level ≤ 6 → pages ≤ 16777216
-    → AreMade spells settings level outputs made → AllByRecursion (OnDevice pages) made → AllByRecursion (λ (l : List Entry). AllByRecursion IsEntry l) outputs → AllByRecursion (λ (l : List Entry). AllByRecursion IsOfBytes l) outputs
+pub made_sound : (filter_bytes : FilterBytes) (settings : Settings) (level pages : ℕ) (outputs : List (List Entry)) (made : List Table) → level ≤ 6 → pages ≤ 16777216
+    → AreMade filter_bytes settings level outputs made → AllByRecursion (OnDevice pages) made → AllByRecursion (λ (l : List Entry). AllByRecursion IsEntry l) outputs → AllByRecursion (λ (l : List Entry). AllByRecursion IsOfBytes l) outputs
     → AllByRecursion (λ (l : List Entry). 1 ≤ length l) outputs → AllByRecursion KeysRise outputs → AllByRecursion IsSoundTable made
-made_sound spells settings level pages [] [] deep most are on each bytes some rise = tt
-made_sound spells settings level pages (output ∷ outputs) [] deep most are on each bytes some rise = tt
-made_sound spells settings level pages [] (t ∷ more) deep most are on each bytes some rise = absurd are
-made_sound spells settings level pages (output ∷ outputs) (t ∷ more) deep most are on each bytes some rise =
+made_sound filter_bytes settings level pages [] [] deep most are on each bytes some rise = tt
+made_sound filter_bytes settings level pages (output ∷ outputs) [] deep most are on each bytes some rise = tt
+made_sound filter_bytes settings level pages [] (t ∷ more) deep most are on each bytes some rise = absurd are
+made_sound filter_bytes settings level pages (output ∷ outputs) (t ∷ more) deep most are on each bytes some rise =
     let within : t.first_page + t.pages ≤ pages = on.0.to in
-    let size : t.pages ≡ table_pages spells settings output = ap (λ (u : Table). u.pages) are.0 in
-    let few = few_entries spells settings pages t.first_page output most (subst (λ (n : ℕ). t.first_page + n ≤ pages) size within) in
-    let made : IsSoundTable (table_of spells settings level t.first_page output) = table_is_sound spells settings level t.first_page output deep (is_table output each.0 few some.0 rise.0) bytes.0 in
-    (subst IsSoundTable (sym are.0) made, made_sound spells settings level pages outputs more deep most are.1 on.1 each.1 bytes.1 some.1 rise.1)
+    let size : t.pages ≡ table_pages filter_bytes settings output = ap (λ (u : Table). u.pages) are.0 in
+    let few = few_entries filter_bytes settings pages t.first_page output most (subst (λ (n : ℕ). t.first_page + n ≤ pages) size within) in
+    let made : IsSoundTable (table_of filter_bytes settings level t.first_page output) = table_is_sound filter_bytes settings level t.first_page output deep (is_table output each.0 few some.0 rise.0) bytes.0 in
+    (subst IsSoundTable (sym are.0) made, made_sound filter_bytes settings level pages outputs more deep most are.1 on.1 each.1 bytes.1 some.1 rise.1)
 
 -- ---- their order
 

@@ -4,8 +4,8 @@ use Rattle.std.specs.List.{AllByRecursion}
 use Rattle.store_model.specs.SortedMap.{Bytes, Map, get, put, del, Rises}
 use Rattle.store_model.specs.Entries.{Entry, live, changed}
 use Rattle.state_model.specs.State.{State, Table, Job}
-use Rattle.state_model.specs.View.{view, first_found, map_of}
-use Rattle.state_model.specs.Pages.{Spells}
+use Rattle.state_model.specs.View.{view, first_found, state_map}
+use Rattle.state_model.specs.Pages.{FilterBytes}
 use Rattle.state_model.specs.Merges.{Plan, planned, lasting, is_deepest, newest_of}
 use Rattle.state_model.specs.Changes.{flushed, written, compacted}
 use Rattle.state_model.specs.Sound.{IsSound, IsSoundTable, IsJob}
@@ -27,20 +27,20 @@ map_behind request reply map = map
 
 -- the map of a sound state has at each key what its view of the key says, and its keys rise
 pub record ViewLaws : Type 0 where
-  pub says : (spells : Spells) (s : State) (key : Bytes) → IsSound spells s → get (map_of s) key ≡ live (view s key)
-  pub rises : (s : State) → Rises (map_of s)
+  pub says : (filter_bytes : FilterBytes) (s : State) (key : Bytes) → IsSound filter_bytes s → get (state_map s) key ≡ live (view s key)
+  pub rises : (s : State) → Rises (state_map s)
 
 -- A flush and a compaction that are done keep the map. An entry that is written, with a flush before it or without, makes
 -- its change of the map and no other. So the map changes by the lines that are answered as done, and by no other.
 pub record ChangeLaws : Type 0 where
-  pub flush : (spells : Spells) (s t : State) → flushed spells s ≡ Ok t → map_of t ≡ map_of s
-  pub write : (spells : Spells) (s t : State) (entry : Entry) → written spells s entry ≡ Ok t → map_of t ≡ changed (map_of s) entry
-  pub compaction : (spells : Spells) (s t : State) → compacted spells s ≡ Ok t → map_of t ≡ map_of s
-  pub lines : (spells : Spells) (s : State) (request : Request) → map_of (answer spells s request).1 ≡ map_behind request (answer spells s request).0 (map_of s)
+  pub flush : (filter_bytes : FilterBytes) (s t : State) → flushed filter_bytes s ≡ Ok t → state_map t ≡ state_map s
+  pub write : (filter_bytes : FilterBytes) (s t : State) (entry : Entry) → written filter_bytes s entry ≡ Ok t → state_map t ≡ changed (state_map s) entry
+  pub compaction : (filter_bytes : FilterBytes) (s t : State) → compacted filter_bytes s ≡ Ok t → state_map t ≡ state_map s
+  pub lines : (filter_bytes : FilterBytes) (s : State) (request : Request) → state_map (answer filter_bytes s request).1 ≡ map_behind request (answer filter_bytes s request).0 (state_map s)
 
 -- An install keeps the map: the outputs of a job that is done, in the place of its inputs, among the tables of a sound state.
 pub record InstallLaws : Type 0 where
-  pub install : (spells : Spells) (s : State) (job : Job) → IsSound spells s → IsJob spells s.settings s.tables job → IsDone s.tables job → map_of (installed s job) ≡ map_of s
+  pub install : (filter_bytes : FilterBytes) (s : State) (job : Job) → IsSound filter_bytes s → IsJob filter_bytes s.settings s.tables job → IsDone s.tables job → state_map (installed s job) ≡ state_map s
 
 -- What a merge writes says of each key what its inputs say, but that a tombstone may be gone where no table lies deeper.
 -- Its outputs, one after the other, are the entries that last; none is empty, and they are no more than the inputs.

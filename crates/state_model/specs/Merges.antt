@@ -9,7 +9,7 @@ use Rattle.block_model.specs.Pages.{data_pages, first_key, last_key}
 use Rattle.map_model.specs.Slices.{is_before}
 use Rattle.state_model.specs.State.{Table}
 use Rattle.state_model.specs.View.{oldest_first}
-use Rattle.state_model.specs.Pages.{Spells, table_pages, table_of}
+use Rattle.state_model.specs.Pages.{FilterBytes, table_pages, table_of}
 use Rattle.state_model.specs.Gaps.{Extent, first_gap, largest_gap}
 
 -- ---- which tables
@@ -39,8 +39,8 @@ greatest_of [] = []
 greatest_of (t ∷ more) = fold (λ key (u : Table). greater key (greatest_key u)) (greatest_key t) more
 
 -- the table's keys reach into those from lo to hi
-abbrev pub meets : Bytes → Bytes → Table → Bool
-meets lo hi t = not (is_before (greatest_key t) lo) && not (is_before hi (least_key t))
+abbrev pub reaches : Bytes → Bytes → Table → Bool
+reaches lo hi t = not (is_before (greatest_key t) lo) && not (is_before hi (least_key t))
 
 -- tables that are merged, the newest first, and the level of what they become
 pub record Plan : Type 0 where
@@ -49,7 +49,7 @@ pub record Plan : Type 0 where
 
 -- some of all tables, with those of the level below that they meet
 abbrev pub plan_of : List Table → List Table → ℕ → Plan
-plan_of all tables output = record { inputs = tables ++ filter (meets (least_of tables) (greatest_of tables)) (on_level output all); output = output }
+plan_of all tables output = record { inputs = tables ++ filter (reaches (least_of tables) (greatest_of tables)) (on_level output all); output = output }
 
 -- the pages that a level may have
 abbrev pub level_limit : ℕ → ℕ
@@ -130,10 +130,10 @@ at_page None there refusal = Err refusal
 
 -- On a device of so many pages, some outputs become tables of a level, each in the first gap that holds it beside what is
 -- taken and those before it.
-abbrev pub placed : Spells → Settings → ℕ → List Extent → ℕ → List (List Entry) → Result (List Table) NoRoom
-placed spells settings pages taken level [] = Ok []
-placed spells settings pages taken level (output ∷ more) =
-    let need = table_pages spells settings output in
+abbrev pub placed : FilterBytes → Settings → ℕ → List Extent → ℕ → List (List Entry) → Result (List Table) NoRoom
+placed filter_bytes settings pages taken level [] = Ok []
+placed filter_bytes settings pages taken level (output ∷ more) =
+    let need = table_pages filter_bytes settings output in
     at_page (first_gap pages taken need)
-    (λ page. before (table_of spells settings level page output) (placed spells settings pages ((page, need) ∷ taken) level more))
+    (λ page. before (table_of filter_bytes settings level page output) (placed filter_bytes settings pages ((page, need) ∷ taken) level more))
     (record { need = need; gap = largest_gap pages taken })

@@ -1,7 +1,7 @@
--- One run of the script that computes: memory lasts, the device holds, and each merge is done whole in its first slice.
+-- One run of the script that computes: memory lasts, the device holds, and each merge is done whole in its first merge slice.
 use Rattle.std.specs.Prelude.{◌==◌, if◌then◌else◌, List, [], ◌∷◌, ◌++◌, length, Option, Some, None, Result, Ok, Err}
 use Rattle.state_model.specs.State.{State, Table, Job, without_job, last_epoch}
-use Rattle.state_model.specs.Pages.{Spells}
+use Rattle.state_model.specs.Pages.{FilterBytes}
 use Rattle.state_model.specs.Merges.{NoRoom, Plan, choose}
 use Rattle.state_model.specs.Tends.{started, outstanding, next_placed, installed}
 use Rattle.state_model.specs.Steps.{answer}
@@ -26,19 +26,19 @@ abbrev pub installed_or_dropped : State → Job → Result (List Table) NoRoom �
 installed_or_dropped s job (Ok made) = if s.epoch == last_epoch then without_job s else installed s (finished job made)
 installed_or_dropped s job (Err refusal) = without_job s
 
-abbrev pub merged_by : Spells → State → Option Job → State
-merged_by spells s None = s
-merged_by spells s (Some job) = installed_or_dropped s job (next_placed spells s job (length (outstanding s.tables job)))
+abbrev pub merged_by : FilterBytes → State → Option Job → State
+merged_by filter_bytes s None = s
+merged_by filter_bytes s (Some job) = installed_or_dropped s job (next_placed filter_bytes s job (length (outstanding s.tables job)))
 
 -- the state after a whole merge, where one runs or is to be chosen
-abbrev pub merged : Spells → State → State
-merged spells s = merged_by spells s (job_of s.job (choose s.tables))
+abbrev pub merged : FilterBytes → State → State
+merged filter_bytes s = merged_by filter_bytes s (job_of s.job (choose s.tables))
 
 -- a merge behind each put and del
-abbrev pub tended : Spells → Request → State → State
-tended spells (Put key value) s = merged spells s
-tended spells (Del key) s = merged spells s
-tended spells request s = s
+abbrev pub tended : FilterBytes → Request → State → State
+tended filter_bytes (Put key value) s = merged filter_bytes s
+tended filter_bytes (Del key) s = merged filter_bytes s
+tended filter_bytes request s = s
 
 -- a reply, and those to the lines behind it; none where it is the last
 abbrev pub behind : Reply → List Reply × State → State → List Reply × State
@@ -46,8 +46,8 @@ behind Bye later s = (Bye ∷ [], s)
 behind reply later s = (reply ∷ later.0, later.1)
 
 -- the replies to some requests, and the state that they leave
-abbrev pub played : Spells → State → List Request → List Reply × State
-played spells s [] = ([], s)
-played spells s (request ∷ more) =
-    let a = answer spells s request in
-    behind a.0 (played spells (tended spells request a.1) more) a.1
+abbrev pub played : FilterBytes → State → List Request → List Reply × State
+played filter_bytes s [] = ([], s)
+played filter_bytes s (request ∷ more) =
+    let a = answer filter_bytes s request in
+    behind a.0 (played filter_bytes (tended filter_bytes request a.1) more) a.1

@@ -5,7 +5,7 @@ use Rattle.store_model.specs.SortedMap.{Bytes}
 use Rattle.store_model.specs.Entries.{del_entry}
 use Rattle.state_model.specs.State.{State, Table, new_state}
 use Rattle.state_model.specs.Merges.{Plan}
-use Rattle.state_model.specs.Pages.{Spells}
+use Rattle.state_model.specs.Pages.{FilterBytes}
 use Rattle.state_model.specs.Requests.{Request, Put, Del, Flush, Compact}
 
 -- no suffix bits, and the ratio of a store that names none
@@ -17,7 +17,7 @@ abbrev pub small_store : State
 small_store = new_state base 512
 
 -- a filter in one byte: its pages are all that the rows ask of it
-abbrev pub one_byte : Spells
+abbrev pub one_byte : FilterBytes
 one_byte settings keys = 0 ∷ []
 
 -- a key of one byte

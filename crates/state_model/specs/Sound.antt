@@ -9,7 +9,7 @@ use Rattle.store_model.specs.SortedMap.{Bytes, byte_order}
 use Rattle.store_model.specs.Entries.{Entry, bytes_of, filled}
 use Rattle.block_model.specs.Block.{IsEntry, IsTable}
 use Rattle.state_model.specs.State.{State, Table, Job, last_epoch}
-use Rattle.state_model.specs.Pages.{Spells, table_of}
+use Rattle.state_model.specs.Pages.{FilterBytes, table_of}
 use Rattle.state_model.specs.Gaps.{Extent, taken, end_of, first_table_page}
 use Rattle.state_model.specs.Changes.{most_tables}
 use Rattle.state_model.specs.Merges.{Plan, choose, planned, on_level, least_key, greatest_key}
@@ -45,11 +45,11 @@ abbrev pub AreApart : Extent → Extent → Type 0
 AreApart a b = (end_of a ≤ b.0) ⊎ (end_of b ≤ a.0)
 
 -- these tables are made of the first of some outputs, one of each
-abbrev pub AreMade : Spells → Settings → ℕ → List (List Entry) → List Table → Type 0
-AreMade spells settings level outputs [] = Unit {0}
-AreMade spells settings level [] (t ∷ more) = ⊥
-AreMade spells settings level (output ∷ outputs) (t ∷ more) =
-    (t ≡ table_of spells settings level t.first_page output) × AreMade spells settings level outputs more
+abbrev pub AreMade : FilterBytes → Settings → ℕ → List (List Entry) → List Table → Type 0
+AreMade filter_bytes settings level outputs [] = Unit {0}
+AreMade filter_bytes settings level [] (t ∷ more) = ⊥
+AreMade filter_bytes settings level (output ∷ outputs) (t ∷ more) =
+    (t ≡ table_of filter_bytes settings level t.first_page output) × AreMade filter_bytes settings level outputs more
 
 -- the plan of a job
 abbrev pub plan_of_job : Job → Plan
@@ -57,18 +57,18 @@ plan_of_job job = record { inputs = job.inputs; output = job.output }
 
 -- A job merges what was chosen of a version's tables before some later flushes, and what it has written are the first of
 -- its outputs.
-pub record IsJob (spells : Spells) (settings : Settings) (tables : List Table) (job : Job) : Type 0 where
+pub record IsJob (filter_bytes : FilterBytes) (settings : Settings) (tables : List Table) (job : Job) : Type 0 where
   pub flushes : ℕ
   pub few : flushes ≤ length (on_level 0 tables)
   pub chosen : choose (drop flushes tables) ≡ Some (plan_of_job job)
   pub to_read : job.to_read ≤ sum_by (λ (t : Table). t.blocks) job.inputs
-  pub written : AreMade spells settings job.output (planned tables (plan_of_job job)) job.written
+  pub written : AreMade filter_bytes settings job.output (planned tables (plan_of_job job)) job.written
 
-abbrev pub MayRun : Spells → Settings → List Table → Option Job → Type 0
-MayRun spells settings tables None = Unit {0}
-MayRun spells settings tables (Some job) = IsJob spells settings tables job
+abbrev pub MayRun : FilterBytes → Settings → List Table → Option Job → Type 0
+MayRun filter_bytes settings tables None = Unit {0}
+MayRun filter_bytes settings tables (Some job) = IsJob filter_bytes settings tables job
 
-pub record IsSound (spells : Spells) (s : State) : Type 0 where
+pub record IsSound (filter_bytes : FilterBytes) (s : State) : Type 0 where
   pub settings : InRange s.settings
   pub ratio : s.settings.ratio < 65536
   pub device : (512 ≤ s.pages) × (s.pages ≤ 16777216)
@@ -81,4 +81,11 @@ pub record IsSound (spells : Spells) (s : State) : Type 0 where
   pub order : AllPairs StandsBefore s.tables
   pub on_device : AllByRecursion (IsOnDevice s.pages) (taken s)
   pub apart : AllPairs AreApart (taken s)
-  pub job : MayRun spells s.settings s.tables s.job
+  pub job : MayRun filter_bytes s.settings s.tables s.job
+
+-- What a failed write leaves: a sound state of the same settings and pages, in which no job runs.
+pub record IsLeft (filter_bytes : FilterBytes) (s after : State) : Type 0 where
+  pub settings : after.settings ≡ s.settings
+  pub pages : after.pages ≡ s.pages
+  pub no_job : after.job ≡ None
+  pub sound : IsSound filter_bytes after

@@ -8,8 +8,8 @@ use Rattle.store_model.specs.SortedMap.{Bytes}
 use Rattle.store_model.specs.Entries.{Entry}
 use Rattle.block_model.specs.Block.{IsEntry}
 use Rattle.state_model.specs.State.{State, Table, Job, new_state, without_job}
-use Rattle.state_model.specs.View.{map_of}
-use Rattle.state_model.specs.Pages.{Spells}
+use Rattle.state_model.specs.View.{state_map}
+use Rattle.state_model.specs.Pages.{FilterBytes}
 use Rattle.state_model.specs.Gaps.{Extent, extent_of}
 use Rattle.state_model.specs.Merges.{Plan, choose, placed, planned}
 use Rattle.state_model.specs.Changes.{flushed, written, compacted}
@@ -19,7 +19,7 @@ use Rattle.state_model.specs.Replies.{Reply}
 use Rattle.state_model.specs.Steps.{Step, answer}
 use Rattle.state_model.specs.Play.{played}
 use Rattle.state_model.specs.PlayLaws.{Never}
-use Rattle.state_model.specs.Tends.{Runs, GoesOn, started, with_job, outstanding, Tended, Worked, Tend}
+use Rattle.state_model.specs.Tends.{Runs, Progresses, started, with_job, outstanding, Tended, Worked, Tend}
 use Rattle.state_model.specs.Sound.{IsOfBytes, IsSound, IsOnDevice, AreApart}
 
 -- these extents are on the device, and no two of them meet
@@ -30,51 +30,51 @@ pub record AreLaid (pages : ℕ) (extents : List Extent) : Type 0 where
 -- Outputs that are placed beside laid extents are laid with them.
 abbrev pub PlacedAreLaid : Type 0
 PlacedAreLaid =
-    (spells : Spells) (settings : Settings) (pages : ℕ) (extents : List Extent) (level : ℕ) (outputs : List (List Entry)) (made : List Table)
+    (filter_bytes : FilterBytes) (settings : Settings) (pages : ℕ) (extents : List Extent) (level : ℕ) (outputs : List (List Entry)) (made : List Table)
     → AllByRecursion (λ (output : List Entry). 1 ≤ length output) outputs → AreLaid pages extents
-    → placed spells settings pages extents level outputs ≡ Ok made → AreLaid pages (map extent_of made ++ extents)
+    → placed filter_bytes settings pages extents level outputs ≡ Ok made → AreLaid pages (map extent_of made ++ extents)
 
 -- a store as it is made is sound
 abbrev pub NewIsSound : Type 0
-NewIsSound = (spells : Spells) (settings : Settings) (pages : ℕ) → InRange settings → settings.ratio < 65536 → 512 ≤ pages → pages ≤ 16777216 → IsSound spells (new_state settings pages)
+NewIsSound = (filter_bytes : FilterBytes) (settings : Settings) (pages : ℕ) → InRange settings → settings.ratio < 65536 → 512 ≤ pages → pages ≤ 16777216 → IsSound filter_bytes (new_state settings pages)
 
 -- a flush that is done keeps soundness, whether a job runs or none
 abbrev pub FlushKeepsSound : Type 0
-FlushKeepsSound = (spells : Spells) (s t : State) → IsSound spells s → flushed spells s ≡ Ok t → IsSound spells t
+FlushKeepsSound = (filter_bytes : FilterBytes) (s t : State) → IsSound filter_bytes s → flushed filter_bytes s ≡ Ok t → IsSound filter_bytes t
 
 -- so does an entry that is written
 abbrev pub WriteKeepsSound : Type 0
-WriteKeepsSound = (spells : Spells) (s t : State) (entry : Entry) → IsSound spells s → IsEntry entry → IsOfBytes entry → written spells s entry ≡ Ok t → IsSound spells t
+WriteKeepsSound = (filter_bytes : FilterBytes) (s t : State) (entry : Entry) → IsSound filter_bytes s → IsEntry entry → IsOfBytes entry → written filter_bytes s entry ≡ Ok t → IsSound filter_bytes t
 
 -- and a compaction
 abbrev pub CompactionKeepsSound : Type 0
-CompactionKeepsSound = (spells : Spells) (s t : State) → IsSound spells s → compacted spells s ≡ Ok t → IsSound spells t
+CompactionKeepsSound = (filter_bytes : FilterBytes) (s t : State) → IsSound filter_bytes s → compacted filter_bytes s ≡ Ok t → IsSound filter_bytes t
 
 -- A job that runs, and goes on, leaves a sound state; and a job may be dropped.
 abbrev pub WorkKeepsSound : Type 0
-WorkKeepsSound = (spells : Spells) (s : State) (job later : Job) → IsSound spells s → Runs s job → GoesOn spells s job later → IsSound spells (with_job s later)
+WorkKeepsSound = (filter_bytes : FilterBytes) (s : State) (job later : Job) → IsSound filter_bytes s → Runs s job → Progresses filter_bytes s job later → IsSound filter_bytes (with_job s later)
 
 abbrev pub DropKeepsSound : Type 0
-DropKeepsSound = (spells : Spells) (s : State) → IsSound spells s → IsSound spells (without_job s)
+DropKeepsSound = (filter_bytes : FilterBytes) (s : State) → IsSound filter_bytes s → IsSound filter_bytes (without_job s)
 
 -- any cause may be
 abbrev pub Ever : Why → Type 0
 Ever why = Unit {0}
 
--- Whatever a slice is answered, the state behind it is sound.
+-- Whatever a merge slice is answered, the state behind it is sound.
 abbrev pub SliceKeepsSound : Type 0
-SliceKeepsSound = (spells : Spells) (s after : State) (tended : Tended) → IsSound spells s → Tend Ever spells s tended after → IsSound spells after
+SliceKeepsSound = (filter_bytes : FilterBytes) (s after : State) (tended : Tended) → IsSound filter_bytes s → Tend Ever filter_bytes s tended after → IsSound filter_bytes after
 
 -- And it is the same map.
 abbrev pub SliceKeepsMap : Type 0
-SliceKeepsMap = (spells : Spells) (s after : State) (tended : Tended) → IsSound spells s → Tend Ever spells s tended after → map_of after ≡ map_of s
+SliceKeepsMap = (filter_bytes : FilterBytes) (s after : State) (tended : Tended) → IsSound filter_bytes s → Tend Ever filter_bytes s tended after → state_map after ≡ state_map s
 
 -- What needs no cause is allowed where any may be.
 abbrev pub NeverTends : Type 0
-NeverTends = (spells : Spells) (s after : State) (tended : Tended) → Tend Never spells s tended after → Tend Ever spells s tended after
+NeverTends = (filter_bytes : FilterBytes) (s after : State) (tended : Tended) → Tend Never filter_bytes s tended after → Tend Ever filter_bytes s tended after
 
 abbrev pub NeverSteps : Type 0
-NeverSteps = (spells : Spells) (s after : State) (request : Request) (reply : Reply) → Step Never spells s request reply after → Step Ever spells s request reply after
+NeverSteps = (filter_bytes : FilterBytes) (s after : State) (request : Request) (reply : Reply) → Step Never filter_bytes s request reply after → Step Ever filter_bytes s request reply after
 
 -- what is put or deleted is bytes
 abbrev pub AsksOfBytes : Request → Type 0
@@ -89,11 +89,11 @@ LinesAreOfBytes = (line : Bytes) → AsksOfBytes (request_of line)
 -- The state behind a line is sound too.
 abbrev pub LineKeepsSound : Type 0
 LineKeepsSound =
-    (spells : Spells) (s after : State) (request : Request) (reply : Reply) → IsSound spells s → AsksOfBytes request → Step Ever spells s request reply after → IsSound spells after
+    (filter_bytes : FilterBytes) (s after : State) (request : Request) (reply : Reply) → IsSound filter_bytes s → AsksOfBytes request → Step Ever filter_bytes s request reply after → IsSound filter_bytes after
 
 -- And so is the state behind all lines that are played.
 abbrev pub PlayedIsSound : Type 0
-PlayedIsSound = (spells : Spells) (s : State) (requests : List Request) → IsSound spells s → AllByRecursion AsksOfBytes requests → s.job ≡ None → IsSound spells (played spells s requests).1
+PlayedIsSound = (filter_bytes : FilterBytes) (s : State) (requests : List Request) → IsSound filter_bytes s → AllByRecursion AsksOfBytes requests → s.job ≡ None → IsSound filter_bytes (played filter_bytes s requests).1
 
 -- ---- how many slices a job takes
 
@@ -109,22 +109,22 @@ StepsAtFirst = (s : State) (plan : Plan) → steps_of s (Some (started plan)) �
 -- Each answer Worked leaves fewer than before it.
 abbrev pub WorkedLowersSteps : Type 0
 WorkedLowersSteps =
-    (spells : Spells) (s after : State) → Tend Ever spells s Worked after → (job : Job) × Runs s job × (steps_of after after.job < steps_of s (Some job))
+    (filter_bytes : FilterBytes) (s after : State) → Tend Ever filter_bytes s Worked after → (job : Job) × Runs s job × (steps_of after after.job < steps_of s (Some job))
 
 -- No line leaves more.
 abbrev pub LinesRaiseNoSteps : Type 0
-LinesRaiseNoSteps = (spells : Spells) (s : State) (request : Request) → steps_of (answer spells s request).1 (answer spells s request).1.job ≤ steps_of s s.job
+LinesRaiseNoSteps = (filter_bytes : FilterBytes) (s : State) (request : Request) → steps_of (answer filter_bytes s request).1 (answer filter_bytes s request).1.job ≤ steps_of s s.job
 
--- a line, or a slice of the job that runs
+-- a line, or a merge slice of the job that runs
 pub data Move : Type 0 where
   Line : (request : Request) → Move
   Slice : Move
 
--- From the one state these moves lead to the other: the lines are answered, and each slice is answered as worked.
-abbrev pub Moves : Spells → List Move → State → State → Type 0
-Moves spells [] s t = s ≡ t
-Moves spells (Line request ∷ more) s t = Moves spells more (answer spells s request).1 t
-Moves spells (Slice ∷ more) s t = (after : State) × (job : Job) × (s.job ≡ Some job) × Tend Ever spells s Worked after × Moves spells more after t
+-- From the one state these moves lead to the other: the lines are answered, and each merge slice is answered as worked.
+abbrev pub Moves : FilterBytes → List Move → State → State → Type 0
+Moves filter_bytes [] s t = s ≡ t
+Moves filter_bytes (Line request ∷ more) s t = Moves filter_bytes more (answer filter_bytes s request).1 t
+Moves filter_bytes (Slice ∷ more) s t = (after : State) × (job : Job) × (s.job ≡ Some job) × Tend Ever filter_bytes s Worked after × Moves filter_bytes more after t
 
 abbrev pub slices_in : List Move → ℕ
 slices_in [] = 0
@@ -135,5 +135,5 @@ slices_in (Slice ∷ more) = slices_in more + 1
 -- that follow while it runs.
 abbrev pub JobEnds : Type 0
 JobEnds =
-    (spells : Spells) (s after t : State) (plan : Plan) (moves : List Move) → s.job ≡ None → choose s.tables ≡ Some plan → Tend Ever spells s Worked after
-    → Moves spells moves after t → 1 + slices_in moves ≤ sum_by (λ (u : Table). u.blocks) plan.inputs + length (planned s.tables plan) + 1
+    (filter_bytes : FilterBytes) (s after t : State) (plan : Plan) (moves : List Move) → s.job ≡ None → choose s.tables ≡ Some plan → Tend Ever filter_bytes s Worked after
+    → Moves filter_bytes moves after t → 1 + slices_in moves ≤ sum_by (λ (u : Table). u.blocks) plan.inputs + length (planned s.tables plan) + 1

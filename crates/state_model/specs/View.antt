@@ -31,5 +31,5 @@ abbrev pub entries_of : State → List Entry
 entries_of s = oldest_first s.tables ++ s.log
 
 -- the sorted map that the state is
-abbrev pub map_of : State → Map
-map_of s = map_of_entries (entries_of s)
+abbrev pub state_map : State → Map
+state_map s = map_of_entries (entries_of s)

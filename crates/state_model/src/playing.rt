@@ -3,7 +3,7 @@ ghost use Rattle.std.specs.Prelude.{◌≡◌, [], ◌∷◌, ◌++◌, codes};
 ghost use Rattle.state_model.specs.PlayLaws.{PlayLaws, played_text};
 ghost use Rattle.state_model.specs.Rows.{small_store, one_byte};
 
-/// Law: a whole merge is one slice, and the lines that are played from a state without a job are a script in which memory
+/// Law: a whole merge is one merge slice, and the lines that are played from a state without a job are a script in which memory
 /// lasts and the device holds.
 pub fn play_laws()
     ensures { PlayLaws }

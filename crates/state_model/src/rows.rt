@@ -1,7 +1,7 @@
 // The definitions, tried on rows whose answers are known. Each row computes.
 ghost use Rattle.std.specs.Prelude.{◌≡◌, [], ◌∷◌, ◌++◌, map, replicate, Some, None, codes};
 ghost use Rattle.store_model.specs.SortedMap.{get};
-ghost use Rattle.state_model.specs.View.{map_of};
+ghost use Rattle.state_model.specs.View.{state_map};
 ghost use Rattle.state_model.specs.Changes.{key_limit, bound_limit};
 ghost use Rattle.state_model.specs.Merges.{choose, level_limit};
 ghost use Rattle.state_model.specs.Bounds.{get_bound, seek_bound};
@@ -24,7 +24,7 @@ pub fn merges_and_flushes()
 #[tactic(auto, unfolding(block_model::specs::Pages::pages_for, block_model::specs::Pages::block_length, block_model::specs::Pages::block_pages, block_model::specs::Pages::blocks_of, block_model::specs::Pages::data_pages, block_model::specs::Pages::index_length, store_model::specs::Entries::filled, store_model::specs::Entries::gap, crate::specs::State::last_epoch))]
 pub fn levels_and_gaps()
     ensures a_merge_keeps_a_tombstone_over_a_deeper_value { map place_of (played one_byte small_store (tombstone_over_a_value ++ put_one 0x65 ∷ [])).1.tables ≡ (1 ∷ 207 ∷ 3 ∷ 1 ∷ 4 ∷ []) ∷ (6 ∷ 192 ∷ 3 ∷ 1 ∷ 1 ∷ []) ∷ [] }
-    ensures it_still_hides_it { get (map_of (played one_byte small_store (tombstone_over_a_value ++ put_one 0x65 ∷ [])).1) (key 0x61) ≡ None }
+    ensures it_still_hides_it { get (state_map (played one_byte small_store (tombstone_over_a_value ++ put_one 0x65 ∷ [])).1) (key 0x61) ≡ None }
     ensures the_newest_table_counts { (played one_byte small_store (two_values ++ Get (key 0x61) ∷ Put (key 0x61) (3 ∷ []) ∷ Get (key 0x61) ∷ [])).0 ≡ Done ∷ Done ∷ Done ∷ Done ∷ Value (2 ∷ []) ∷ Done ∷ Value (3 ∷ []) ∷ [] }
     ensures its_block_alone_is_read { get_bound (played one_byte small_store two_values).1 (key 0x61) ≡ 1 }
     ensures none_is_read_where_the_memory_has_it { get_bound (played one_byte small_store (two_values ++ put_one 0x61 ∷ [])).1 (key 0x61) ≡ 0 }

@@ -28,7 +28,7 @@ pub fn jobs_keep_sound()
     ensures drop { DropKeepsSound }
 {}
 
-/// Law: whatever a slice is answered leaves a sound state, which is the same map.
+/// Law: whatever a merge slice is answered leaves a sound state, which is the same map.
 pub fn slices_keep_sound()
     ensures sound { SliceKeepsSound }
     ensures map { SliceKeepsMap }
@@ -47,7 +47,7 @@ pub fn lines_keep_sound()
     ensures bytes { LinesAreOfBytes }
 {}
 
-/// Law: a job of so many blocks and so many outputs sees at most these and one more answers of a slice that worked.
+/// Law: a job of so many blocks and so many outputs sees at most these and one more answers of a merge slice that worked.
 pub fn jobs_end()
     ensures first { StepsAtFirst }
     ensures lower { WorkedLowersSteps }
