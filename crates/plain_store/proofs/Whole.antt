@@ -5,7 +5,7 @@ use Rattle.std.proofs.Math.Seq.{take-length}
 use Rattle.store_model.specs.Entries.{Entry}
 use Rattle.state_model.specs.State.{State, Job, written_by}
 use Rattle.state_model.specs.Pages.{FilterBytes}
-use Rattle.state_model.specs.Gaps.{extent_of, taken}
+use Rattle.state_model.specs.Taken.{extent_of, taken}
 use Rattle.state_model.specs.Merges.{Plan, choose, planned, placed}
 use Rattle.state_model.specs.Tends.{started}
 use Rattle.state_model.specs.Play.{job_of, merged, merged_by, installed_or_dropped}

@@ -2,7 +2,7 @@
 ghost use Rattle.std.specs.Prelude.{◌≡◌, ◌+◌, map, vec_items, IfOk};
 ghost use Rattle.store_model.specs.Entries.{need, gap, body, filled};
 ghost use Rattle.state_model.specs.Changes as model;
-ghost use Rattle.state_model.specs.Gaps.{taken};
+ghost use Rattle.state_model.specs.Taken.{taken};
 ghost use Rattle.state_model.specs.Merges.{cut, placed};
 ghost use Rattle.plain_store.specs.Filters.{filter_bytes_of};
 ghost use Rattle.plain_store.specs.Refusals.{seen};

@@ -1,7 +1,7 @@
 // Outputs that become tables.
 ghost use Rattle.std.specs.Prelude.{◌≡◌, ◌∷◌, map, vec_items, None, IfOk};
 ghost use Rattle.std.specs.Result.{result_map_both};
-ghost use Rattle.state_model.specs.Gaps.{taken};
+ghost use Rattle.state_model.specs.Taken.{taken};
 ghost use Rattle.state_model.specs.Merges as model;
 ghost use Rattle.plain_store.specs.Filters.{filter_bytes_of};
 

@@ -16,7 +16,7 @@ use Rattle.state_model.specs.State.{Table}
 use Rattle.state_model.specs.Merges.{least_key, greatest_key, lesser, greater, least_of, greatest_of, reaches}
 use Rattle.state_model.specs.Sound.{IsBefore, StandsBefore}
 use Rattle.state_model.proofs.Levels.{says, EitherNone, AtMostOne}
-use Rattle.state_model.proofs.Parts.{Pairs}
+use Rattle.extent_model.proofs.Lists.{Pairs}
 
 -- ---- order
 

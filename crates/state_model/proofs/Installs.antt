@@ -16,15 +16,17 @@ use Rattle.state_model.specs.View.{first_found, oldest_first, state_map}
 use Rattle.state_model.specs.Pages.{FilterBytes}
 use Rattle.state_model.specs.Merges.{Plan, plan_of, on_level, reaches, least_of, greatest_of, is_over, first_over, choose, is_deepest, lasting, newest_of, planned, has_value}
 use Rattle.state_model.specs.Tends.{without, inserted, goes_before, outstanding, installed}
-use Rattle.state_model.specs.Gaps.{extent_of, taken}
-use Rattle.state_model.specs.Sound.{IsSound, IsSoundTable, StandsBefore, AreMade, AreApart, IsOnDevice, IsJob, plan_of_job}
+use Rattle.state_model.specs.Taken.{extent_of, taken}
+use Rattle.extent_model.specs.Extents.{AreApart, IsOnDevice}
+use Rattle.state_model.specs.Sound.{IsSound, IsSoundTable, StandsBefore, AreMade, IsJob, plan_of_job}
 use Rattle.state_model.proofs.Sayings.{AllRise, lists_of, lookup-append, newest-append, or_none, rises_filter, rises_parts, newest_entries_rise, rises_follow}
 use Rattle.state_model.proofs.SameMaps.{same_map}
 use Rattle.state_model.proofs.Views.{newest_of_tables}
 use Rattle.state_model.proofs.Outputs.{joined, outputs_joined, parts_rise, lookup_joined}
 use Rattle.state_model.proofs.Merged.{merge_says, tombstones_last, planned_say, inputs_say}
 use Rattle.state_model.proofs.Levels.{says, says-append, EitherNone, AtMostOne, AllAt, Levels, upto, deeper, fold_says, none_behind}
-use Rattle.state_model.proofs.Parts.{Pairs, pairs_of, above, all_kept, all_pass, keep_all, keep_none, pairs_kept, pairs_front, levels_of, parted, dropped}
+use Rattle.extent_model.proofs.Lists.{Pairs, pairs_of, all_kept, all_pass}
+use Rattle.state_model.proofs.Parts.{above, keep_all, keep_none, pairs_kept, pairs_front, levels_of, parted, dropped}
 use Rattle.state_model.proofs.Disjoint.{Rise, hull_apart, one_of_level}
 use Rattle.state_model.proofs.Taken.{Apart, Cross, all_parts, all_join, cross_of, pairs_back, cross_flip, cross_parts, cross_join, cross_filter, stays, goes, parts_stay, part_says}
 

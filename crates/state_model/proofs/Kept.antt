@@ -10,7 +10,7 @@ use Rattle.mem_table.proofs.Newest.{lookup_newest}
 use Rattle.state_model.specs.State.{State, Table, last_epoch, without_job}
 use Rattle.state_model.specs.View.{memory, entries_of, oldest_first, state_map}
 use Rattle.state_model.specs.Pages.{FilterBytes}
-use Rattle.state_model.specs.Gaps.{taken}
+use Rattle.state_model.specs.Taken.{taken}
 use Rattle.state_model.specs.Merges.{NoRoom, placed, cut, has_value}
 use Rattle.state_model.specs.Changes.{most_tables, with_tables, flush_placed, flushed_with, flushed, logged, logged_then, written, compact_placed, live_entries, compacted_with, compacted}
 use Rattle.state_model.specs.Replies.{Reply, ManyTables, LastEpoch}

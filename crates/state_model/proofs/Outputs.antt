@@ -9,7 +9,8 @@ use Rattle.block_model.specs.Pages.{data_pages}
 use Rattle.state_model.specs.State.{State, Table}
 use Rattle.state_model.specs.View.{first_found}
 use Rattle.state_model.specs.Pages.{FilterBytes, table_pages, table_of}
-use Rattle.state_model.specs.Gaps.{Extent, first_gap, largest_gap}
+use Rattle.extent_model.specs.Extents.{Extent}
+use Rattle.extent_model.specs.Gaps.{first_gap, largest_gap}
 use Rattle.state_model.specs.Merges.{NoRoom, before, at_page, placed, split_output, outputs_of, output_pages}
 use Rattle.state_model.proofs.Sayings.{lists_of, lookup-append, rises_parts, AllRise}
 

@@ -6,7 +6,7 @@ use Rattle.store_model.specs.Entries.{Entry, put_entry, del_entry, need, gap}
 use Rattle.state_model.specs.State.{State, Table, last_epoch, without_job}
 use Rattle.state_model.specs.View.{memory, entries_of}
 use Rattle.state_model.specs.Pages.{FilterBytes}
-use Rattle.state_model.specs.Gaps.{taken}
+use Rattle.state_model.specs.Taken.{taken}
 use Rattle.state_model.specs.Merges.{NoRoom, placed}
 use Rattle.state_model.specs.Changes.{most_tables, with_tables, flush_placed, flushed_with, flushed, logged, logged_then, written, compact_placed, compacted_with, compacted}
 use Rattle.state_model.specs.Requests.{Request, Put, Del, Get, Seek, Range, Count, Estimate, Explain, Flush, Compact, Quit, Bad}

@@ -14,14 +14,15 @@ use Rattle.block_model.specs.Block.{IsEntry, IsTable}
 use Rattle.state_model.specs.State.{State, Table, Job, new_state, last_epoch}
 use Rattle.state_model.specs.View.{memory}
 use Rattle.state_model.specs.Pages.{FilterBytes, table_of}
-use Rattle.state_model.specs.Gaps.{extent_of, taken}
+use Rattle.state_model.specs.Taken.{extent_of, taken}
 use Rattle.state_model.specs.Merges.{NoRoom, Plan, placed, planned, on_level, cut, lasting, newest_of}
 use Rattle.state_model.specs.Changes.{most_tables, with_tables, flush_placed, flushed_with, flushed, logged, logged_then, written}
 use Rattle.state_model.specs.Replies.{Reply, ManyTables, LastEpoch}
-use Rattle.state_model.specs.Sound.{IsOfBytes, IsSoundTable, IsSound, StandsBefore, AreApart, AreMade, IsJob, MayRun, plan_of_job}
-use Rattle.state_model.proofs.Parts.{pairs_of}
-use Rattle.state_model.proofs.Orders.{all_pairs}
-use Rattle.state_model.proofs.Places.{table_is_sound, Laid, placed_laid}
+use Rattle.extent_model.specs.Extents.{AreApart}
+use Rattle.state_model.specs.Sound.{IsOfBytes, IsSoundTable, IsSound, StandsBefore, AreMade, IsJob, MayRun, plan_of_job}
+use Rattle.extent_model.proofs.Lists.{pairs_of, all_pairs}
+use Rattle.extent_model.proofs.Free.{Laid}
+use Rattle.state_model.proofs.Places.{table_is_sound, placed_laid}
 use Rattle.state_model.proofs.SoundLogs.{newest_all, memory_is_table, newest_none, filled_none, filled_with}
 
 not_le : (m n : ℕ) → nat_le m n ≡ false → n < m

@@ -11,17 +11,18 @@ use Rattle.block_model.specs.Block.{IsEntry}
 use Rattle.state_model.specs.State.{State, Table, without_job, last_epoch}
 use Rattle.state_model.specs.View.{entries_of, oldest_first}
 use Rattle.state_model.specs.Pages.{FilterBytes}
-use Rattle.state_model.specs.Gaps.{taken}
+use Rattle.state_model.specs.Taken.{taken}
 use Rattle.state_model.specs.Merges.{NoRoom, placed, cut, has_value}
 use Rattle.state_model.specs.Changes.{compact_placed, compacted_with, compacted, live_entries}
 use Rattle.state_model.specs.Replies.{LastEpoch}
-use Rattle.state_model.specs.Sound.{IsOfBytes, IsSound, IsSoundTable, StandsBefore, AreApart}
-use Rattle.state_model.proofs.Parts.{all_kept}
+use Rattle.extent_model.specs.Extents.{AreApart}
+use Rattle.state_model.specs.Sound.{IsOfBytes, IsSound, IsSoundTable, StandsBefore}
+use Rattle.extent_model.proofs.Lists.{all_kept, all_pairs}
 use Rattle.state_model.proofs.Taken.{all_join}
 use Rattle.state_model.proofs.Sayings.{newest_entries_rise, rises_filter}
 use Rattle.state_model.proofs.Outputs.{placed_lists, outputs_joined, parts_rise, joined}
 use Rattle.state_model.proofs.Merged.{outputs_few, outputs_some}
-use Rattle.state_model.proofs.Orders.{all_pairs, all_out_of, pairs_out_of}
+use Rattle.state_model.proofs.Orders.{all_out_of, pairs_out_of}
 use Rattle.state_model.proofs.Places.{Stand, OnDevice, Clear, laid_tables, placed_stand}
 use Rattle.state_model.proofs.SoundLogs.{newest_all, filled_none}
 use Rattle.state_model.proofs.SoundChanges.{IfSound, if_sound, next_epoch}

@@ -10,20 +10,21 @@ use Rattle.block_model.specs.Block.{IsEntry}
 use Rattle.state_model.specs.State.{State, Table, Job, last_epoch}
 use Rattle.state_model.specs.View.{oldest_first, state_map}
 use Rattle.state_model.specs.Pages.{FilterBytes}
-use Rattle.state_model.specs.Gaps.{taken}
+use Rattle.state_model.specs.Taken.{taken}
 use Rattle.state_model.specs.Merges.{Plan, plan_of, on_level, reaches, least_of, greatest_of, is_over, first_over, choose, is_deepest, lasting, newest_of, planned, least_key, greatest_key}
 use Rattle.state_model.specs.Tends.{with_job, outstanding, installed, inserted, without, Tended, Tend, idle, works, installs, last_epoch_reached, no_room, no_memory, read_failed, damage_met, write_failed}
-use Rattle.state_model.specs.Sound.{IsOfBytes, IsSound, IsSoundTable, StandsBefore, AreMade, AreApart, IsJob, plan_of_job}
+use Rattle.extent_model.specs.Extents.{AreApart}
+use Rattle.state_model.specs.Sound.{IsOfBytes, IsSound, IsSoundTable, StandsBefore, AreMade, IsJob, plan_of_job}
 use Rattle.state_model.specs.SoundLaws.{Ever}
 use Rattle.state_model.proofs.Sayings.{newest_entries_rise}
 use Rattle.state_model.proofs.Outputs.{joined, outputs_joined, parts_rise}
 use Rattle.state_model.proofs.Merged.{merge_some, outputs_few}
 use Rattle.state_model.proofs.Levels.{AllAt, deeper}
-use Rattle.state_model.proofs.Parts.{Pairs, pairs_of, both, all_kept, all_pass, pairs_kept, above, parted, levels_of}
+use Rattle.extent_model.proofs.Lists.{Pairs, pairs_of, both, all_kept, all_pass, all_pairs}
+use Rattle.state_model.proofs.Parts.{pairs_kept, above, parted, levels_of}
 use Rattle.state_model.proofs.Disjoint.{Rise}
 use Rattle.state_model.proofs.Taken.{all_parts, all_join}
 use Rattle.state_model.proofs.Installs.{chosen, five, left, on_level_at, state_apart, made_lists, lasting_rises, lt_of, over_of, fold_all, install_keeps}
-use Rattle.state_model.proofs.Orders.{all_pairs}
 use Rattle.state_model.proofs.Places.{Stand, OnDevice, Clear, clear_mutual, laid_tables}
 use Rattle.state_model.proofs.Inserted.{Fit, Either, Separate, SeparateOnLevel, fold_order, fold_length, all_fold, pairs_fold, all_sift, pairs_sift, pairs_parted, parted_length}
 use Rattle.state_model.proofs.Hulls.{Joins, Beside, stands_beside, separate_below, separate_above, rises_of, fit_of}

@@ -6,13 +6,14 @@ use Rattle.filter_api.specs.declared.settings.Settings.{Settings}
 use Rattle.store_model.specs.Entries.{Entry}
 use Rattle.state_model.specs.State.{State, Table, Job, without_job, written_by}
 use Rattle.state_model.specs.Pages.{FilterBytes}
-use Rattle.state_model.specs.Gaps.{taken}
+use Rattle.state_model.specs.Taken.{taken}
 use Rattle.state_model.specs.Merges.{Plan, placed, planned, choose}
 use Rattle.state_model.specs.Tends.{Runs, Progresses, started, with_job, outstanding}
-use Rattle.state_model.specs.Sound.{IsSound, AreApart, AreMade, IsJob, plan_of_job}
-use Rattle.state_model.proofs.Parts.{pairs_of}
+use Rattle.extent_model.specs.Extents.{AreApart}
+use Rattle.state_model.specs.Sound.{IsSound, AreMade, IsJob, plan_of_job}
+use Rattle.extent_model.proofs.Lists.{pairs_of, all_pairs}
 use Rattle.state_model.proofs.Merged.{merge_some}
-use Rattle.state_model.proofs.Orders.{all_pairs, all_in, pairs_in, all_out_of, pairs_out_of, all_take, all_drop}
+use Rattle.state_model.proofs.Orders.{all_in, pairs_in, all_out_of, pairs_out_of, all_take, all_drop}
 use Rattle.state_model.proofs.Places.{Stand, OnDevice, Clear, clear_mutual, stand_of, laid_tables, placed_stand}
 
 -- what is taken in a sound state

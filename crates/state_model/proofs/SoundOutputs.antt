@@ -14,7 +14,7 @@ use Rattle.state_model.specs.Pages.{FilterBytes, table_of, table_pages}
 use Rattle.state_model.specs.Merges.{Plan, planned, lasting, is_deepest, newest_of, has_value, greatest_key, outputs_of}
 use Rattle.state_model.specs.Sound.{IsOfBytes, IsSoundTable, IsBefore, StandsBefore, AreMade}
 use Rattle.state_model.proofs.Levels.{AllAt}
-use Rattle.state_model.proofs.Parts.{Pairs, all_kept}
+use Rattle.extent_model.proofs.Lists.{Pairs, all_kept}
 use Rattle.state_model.proofs.Taken.{all_parts, all_join}
 use Rattle.state_model.proofs.Sayings.{lists_of, backwards, oldest_first-backwards, rises_parts}
 use Rattle.state_model.proofs.Outputs.{joined, outputs_joined}

@@ -6,7 +6,9 @@ use Rattle.std.proofs.lemmas.List.{append-nil, map-append, take_all, length-map,
 use Rattle.store_model.specs.Entries.{Entry}
 use Rattle.state_model.specs.State.{State, Table, Job, without_job, last_epoch}
 use Rattle.state_model.specs.Pages.{FilterBytes, table_pages, table_of}
-use Rattle.state_model.specs.Gaps.{Extent, extent_of, taken, first_gap, largest_gap}
+use Rattle.extent_model.specs.Extents.{Extent}
+use Rattle.extent_model.specs.Gaps.{first_gap, largest_gap}
+use Rattle.state_model.specs.Taken.{extent_of, taken}
 use Rattle.state_model.specs.Merges.{NoRoom, Plan, choose, before, at_page, placed}
 use Rattle.state_model.specs.Causes.{Why}
 use Rattle.state_model.specs.Replies.{LastEpoch, Full}

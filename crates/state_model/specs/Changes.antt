@@ -6,7 +6,7 @@ use Rattle.mem_table.specs.Table.{newest_entries}
 use Rattle.state_model.specs.State.{State, Table, without_job, last_epoch}
 use Rattle.state_model.specs.View.{memory, entries_of}
 use Rattle.state_model.specs.Pages.{FilterBytes}
-use Rattle.state_model.specs.Gaps.{taken}
+use Rattle.state_model.specs.Taken.{taken}
 use Rattle.state_model.specs.Merges.{NoRoom, placed, cut, has_value}
 use Rattle.state_model.specs.Replies.{Reply, LongKey, LongValue, ManyTables, LastEpoch, Full}
 

@@ -1,7 +1,7 @@
 pub mod State
 pub mod View
 pub mod Pages
-pub mod Gaps
+pub mod Taken
 pub mod Merges
 pub mod Replies
 pub mod Requests

@@ -10,7 +10,8 @@ use Rattle.map_model.specs.Slices.{is_before}
 use Rattle.state_model.specs.State.{Table}
 use Rattle.state_model.specs.View.{oldest_first}
 use Rattle.state_model.specs.Pages.{FilterBytes, table_pages, table_of}
-use Rattle.state_model.specs.Gaps.{Extent, first_gap, largest_gap}
+use Rattle.extent_model.specs.Extents.{Extent}
+use Rattle.extent_model.specs.Gaps.{first_gap, largest_gap}
 
 -- ---- which tables
 

@@ -6,7 +6,9 @@ use Rattle.store_model.specs.Entries.{Entry, put_entry, del_entry, need, gap}
 use Rattle.state_model.specs.State.{State, Table, without_job, last_epoch}
 use Rattle.state_model.specs.View.{memory, entries_of}
 use Rattle.state_model.specs.Pages.{FilterBytes, table_pages}
-use Rattle.state_model.specs.Gaps.{Extent, taken, largest_gap}
+use Rattle.extent_model.specs.Extents.{Extent}
+use Rattle.extent_model.specs.Gaps.{largest_gap}
+use Rattle.state_model.specs.Taken.{taken}
 use Rattle.state_model.specs.Merges.{NoRoom, placed, cut}
 use Rattle.state_model.specs.Changes.{most_tables, live_entries}
 use Rattle.state_model.specs.Requests.{Request, Put, Del, Get, Seek, Range, Count, Estimate, Explain, Flush, Compact}

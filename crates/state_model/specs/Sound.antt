@@ -10,7 +10,8 @@ use Rattle.store_model.specs.Entries.{Entry, bytes_of, filled}
 use Rattle.block_model.specs.Block.{IsEntry, IsTable}
 use Rattle.state_model.specs.State.{State, Table, Job, last_epoch}
 use Rattle.state_model.specs.Pages.{FilterBytes, table_of}
-use Rattle.state_model.specs.Gaps.{Extent, taken, end_of, first_table_page}
+use Rattle.extent_model.specs.Extents.{IsOnDevice, AreApart}
+use Rattle.state_model.specs.Taken.{taken}
 use Rattle.state_model.specs.Changes.{most_tables}
 use Rattle.state_model.specs.Merges.{Plan, choose, planned, on_level, least_key, greatest_key}
 
@@ -33,16 +34,6 @@ pub record IsSoundTable (t : Table) : Type 0 where
 -- before those of the other.
 abbrev pub StandsBefore : Table → Table → Type 0
 StandsBefore t u = (t.level < u.level) ⊎ ((t.level ≡ u.level) × ((t.level ≡ 0) ⊎ IsBefore (greatest_key t) (least_key u)))
-
--- the extent lies behind manifest and logs, and on the device
-pub record IsOnDevice (pages : ℕ) (extent : Extent) : Type 0 where
-  pub some : 0 < extent.1
-  pub from : first_table_page ≤ extent.0
-  pub to : end_of extent ≤ pages
-
--- the two do not meet
-abbrev pub AreApart : Extent → Extent → Type 0
-AreApart a b = (end_of a ≤ b.0) ⊎ (end_of b ≤ a.0)
 
 -- these tables are made of the first of some outputs, one of each
 abbrev pub AreMade : FilterBytes → Settings → ℕ → List (List Entry) → List Table → Type 0

@@ -10,7 +10,8 @@ use Rattle.block_model.specs.Block.{IsEntry}
 use Rattle.state_model.specs.State.{State, Table, Job, new_state, without_job}
 use Rattle.state_model.specs.View.{state_map}
 use Rattle.state_model.specs.Pages.{FilterBytes}
-use Rattle.state_model.specs.Gaps.{Extent, extent_of}
+use Rattle.extent_model.specs.Extents.{Extent, AreLaid}
+use Rattle.state_model.specs.Taken.{extent_of}
 use Rattle.state_model.specs.Merges.{Plan, choose, placed, planned}
 use Rattle.state_model.specs.Changes.{flushed, written, compacted}
 use Rattle.state_model.specs.Causes.{Why}
@@ -20,12 +21,7 @@ use Rattle.state_model.specs.Steps.{Step, answer}
 use Rattle.state_model.specs.Play.{played}
 use Rattle.state_model.specs.PlayLaws.{Never}
 use Rattle.state_model.specs.Tends.{Runs, Progresses, started, with_job, outstanding, Tended, Worked, Tend}
-use Rattle.state_model.specs.Sound.{IsOfBytes, IsSound, IsOnDevice, AreApart}
-
--- these extents are on the device, and no two of them meet
-pub record AreLaid (pages : ℕ) (extents : List Extent) : Type 0 where
-  pub on_device : AllByRecursion (IsOnDevice pages) extents
-  pub apart : AllPairs AreApart extents
+use Rattle.state_model.specs.Sound.{IsOfBytes, IsSound}
 
 -- Outputs that are placed beside laid extents are laid with them.
 abbrev pub PlacedAreLaid : Type 0

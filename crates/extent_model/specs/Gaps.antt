@@ -1,26 +1,7 @@
--- Where on the device there is room for a table.
-use Rattle.std.specs.Prelude.{ℕ, ◌+◌, ◌-◌, nat_le, nat_lt, min, max, Bool, ◌&&◌, if◌then◌else◌, List, [], ◌∷◌, ◌++◌, map, filter, fold, Option, Some, None}
+-- Where on a device of so many pages there is room beside some extents.
+use Rattle.std.specs.Prelude.{ℕ, ◌-◌, nat_le, nat_lt, min, max, Bool, ◌&&◌, if◌then◌else◌, List, [], ◌∷◌, map, filter, fold, Option, Some, None}
 use Rattle.std.specs.List.{list_any}
-use Rattle.state_model.specs.State.{State, Table, written_by}
-
--- an extent: its first page, and how many pages it has
-abbrev pub Extent : Type 0
-Extent = ℕ × ℕ
-
--- the page behind it
-abbrev pub end_of : Extent → ℕ
-end_of extent = extent.0 + extent.1
-
-abbrev pub extent_of : Table → Extent
-extent_of t = (t.first_page, t.pages)
-
--- the extents that are taken: those of the tables, of what a job has written, and of what is kept
-abbrev pub taken : State → List Extent
-taken s = map extent_of (s.tables ++ written_by s.job ++ s.kept)
-
--- the first page that a table may have; manifest and log stand before it
-abbrev pub first_table_page : ℕ
-first_table_page = 192
+use Rattle.extent_model.specs.Extents.{Extent, end_of, first_table_page}
 
 abbrev pub has_page : ℕ → Extent → Bool
 has_page page extent = nat_le extent.0 page && nat_lt page (end_of extent)
