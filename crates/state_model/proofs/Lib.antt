@@ -30,3 +30,9 @@ pub mod SoundInstalls
 pub mod SoundLines
 pub mod AnyCause
 pub mod OfBytes
+pub mod FaultsMet
+pub mod EmptyStores
+pub mod FullOutputs
+pub mod Choices
+pub mod SoundScripts
+pub mod SoundKeys

@@ -1,14 +1,15 @@
 -- Laws of the state: which map it is, and what each change leaves of it.
-use Rattle.std.specs.Prelude.{◌≡◌, ◌≤◌, Bool, true, false, if◌then◌else◌, List, length, map, flat_map, Ok}
-use Rattle.std.specs.List.{AllByRecursion}
+use Rattle.std.specs.Prelude.{◌≡◌, ◌⊎◌, ◌<◌, ◌≤◌, Bool, true, false, if◌then◌else◌, List, [], ◌∷◌, ◌++◌, length, map, flat_map, Some, Ok}
+use Rattle.std.specs.List.{AllByRecursion, AllPairs}
 use Rattle.store_model.specs.SortedMap.{Bytes, Map, get, put, del, Rises}
 use Rattle.store_model.specs.Entries.{Entry, live, changed}
+use Rattle.block_model.specs.Pages.{data_pages}
 use Rattle.state_model.specs.State.{State, Table, Job}
 use Rattle.state_model.specs.View.{view, first_found, state_map}
 use Rattle.state_model.specs.Pages.{FilterBytes}
-use Rattle.state_model.specs.Merges.{Plan, planned, lasting, is_deepest, newest_of}
+use Rattle.state_model.specs.Merges.{Plan, choose, split_output, planned, lasting, is_deepest, newest_of}
 use Rattle.state_model.specs.Changes.{flushed, written, compacted}
-use Rattle.state_model.specs.Sound.{IsSound, IsSoundTable, IsJob}
+use Rattle.state_model.specs.Sound.{IsSound, IsSoundTable, StandsBefore, IsJob}
 use Rattle.state_model.specs.Tends.{IsDone, installed}
 use Rattle.state_model.specs.Requests.{Request, Put, Del}
 use Rattle.state_model.specs.Replies.{Reply, Done}
@@ -54,3 +55,22 @@ pub record MergeLaws : Type 0 where
   pub whole : (tables : List Table) (plan : Plan) → flat_map (λ (output : List Entry). output) (planned tables plan) ≡ lasting (is_deepest tables plan.output) (newest_of plan.inputs)
   pub some : (tables : List Table) (plan : Plan) → AllByRecursion (λ (output : List Entry). 1 ≤ length output) (planned tables plan)
   pub few : (tables : List Table) (plan : Plan) → 1 ≤ length plan.inputs → length (planned tables plan) ≤ length plan.inputs
+
+-- some tables are a part of all, in their order
+abbrev pub IsPart : List Table → List Table → Type 0
+IsPart [] all = Unit {0}
+IsPart (t ∷ more) [] = ⊥
+IsPart (t ∷ more) (u ∷ all) = ((t ≡ u) × IsPart more all) ⊎ IsPart (t ∷ more) all
+
+-- What is chosen is not empty, and becomes tables of a level from 1 to 6. Of tables in their order it is a part in their
+-- order, and so is what a job merges, also behind later flushes.
+pub record ChoiceLaws : Type 0 where
+  pub some : (tables : List Table) (plan : Plan) → choose tables ≡ Some plan → 1 ≤ length plan.inputs
+  pub output : (tables : List Table) (plan : Plan) → choose tables ≡ Some plan → (1 ≤ plan.output) × (plan.output ≤ 6)
+  pub part : (tables : List Table) (plan : Plan) → AllPairs StandsBefore tables → choose tables ≡ Some plan → IsPart plan.inputs tables
+  pub job_part : (filter_bytes : FilterBytes) (s : State) (job : Job) → IsSound filter_bytes s → s.job ≡ Some job → IsPart job.inputs s.tables
+
+-- An output that others follow has 1,024 data pages or more, and fewer without its last entry.
+pub record OutputLaws : Type 0 where
+  pub full : (entries : List Entry) → 1 ≤ length (split_output [] entries).1 → 1024 ≤ data_pages (split_output [] entries).0
+  pub first : (entries front : List Entry) (last : Entry) → (split_output [] entries).0 ≡ front ++ (last ∷ []) → data_pages front < 1024

@@ -18,3 +18,4 @@ pub mod Rows
 pub mod Laws
 pub mod SoundLaws
 pub mod Refusals
+pub mod FaultLaws

@@ -3,13 +3,14 @@ use Rattle.std.specs.Prelude.{◌≡◌, ◌≤◌, ◌<◌, ◌+◌, ◌++◌, 
 use Rattle.std.specs.List.{AllByRecursion, AllPairs, sum_by}
 use Rattle.filter_api.specs.declared.settings.Settings.{Settings}
 use Rattle.filter_api.specs.Ranges.{InRange}
+use Rattle.filter_model.specs.Keys.{IsKeyList}
 use Rattle.byte_fields.specs.Spelling.{IsBytes}
 use Rattle.store_model.specs.SortedMap.{Bytes}
-use Rattle.store_model.specs.Entries.{Entry}
+use Rattle.store_model.specs.Entries.{Entry, filled}
 use Rattle.block_model.specs.Block.{IsEntry}
 use Rattle.state_model.specs.State.{State, Table, Job, new_state, without_job}
 use Rattle.state_model.specs.View.{state_map}
-use Rattle.state_model.specs.Pages.{FilterBytes}
+use Rattle.state_model.specs.Pages.{FilterBytes, keys_of}
 use Rattle.extent_model.specs.Extents.{Extent, AreLaid}
 use Rattle.state_model.specs.Taken.{extent_of}
 use Rattle.state_model.specs.Merges.{Plan, choose, placed, planned}
@@ -19,9 +20,10 @@ use Rattle.state_model.specs.Requests.{Request, request_of, Put, Del}
 use Rattle.state_model.specs.Replies.{Reply}
 use Rattle.state_model.specs.Steps.{Step, answer}
 use Rattle.state_model.specs.Play.{played}
-use Rattle.state_model.specs.PlayLaws.{Never}
+use Rattle.state_model.specs.Script.{Ending, Script, WentOn}
+use Rattle.state_model.specs.PlayLaws.{Never, AnyState}
 use Rattle.state_model.specs.Tends.{Runs, Progresses, started, with_job, outstanding, Tended, Worked, Tend}
-use Rattle.state_model.specs.Sound.{IsOfBytes, IsSound}
+use Rattle.state_model.specs.Sound.{IsOfBytes, IsSound, IsSoundTable}
 
 -- Outputs that are placed beside laid extents are laid with them.
 abbrev pub PlacedAreLaid : Type 0
@@ -91,7 +93,34 @@ LineKeepsSound =
 abbrev pub PlayedIsSound : Type 0
 PlayedIsSound = (filter_bytes : FilterBytes) (s : State) (requests : List Request) → IsSound filter_bytes s → AllByRecursion AsksOfBytes requests → s.job ≡ None → IsSound filter_bytes (played filter_bytes s requests).1
 
--- ---- how many slices a job takes
+-- in a sound state
+abbrev pub InSoundState : FilterBytes → ℕ → State → Type 0
+InSoundState filter_bytes said s = IsSound filter_bytes s
+
+-- Each state of a script from a sound one is sound, as each reply has been said, and so is the state behind some first
+-- lines.
+pub record ScriptsKeepSound : Type 0 where
+  pub script :
+      (filter_bytes : FilterBytes) (said : ℕ) (s : State) (lines : List Bytes) (text : Bytes) (ending : Ending) → IsSound filter_bytes s
+      → Script Ever filter_bytes AnyState said s lines text ending → Script Ever filter_bytes (InSoundState filter_bytes) said s lines text ending
+  pub first_lines :
+      (filter_bytes : FilterBytes) (said : ℕ) (s after : State) (lines : List Bytes) (text : Bytes) → IsSound filter_bytes s
+      → WentOn Ever filter_bytes AnyState said s lines text after
+      → WentOn Ever filter_bytes (InSoundState filter_bytes) said s lines text after × IsSound filter_bytes after
+
+-- ---- what is not sound, and what the keys of a table are
+
+-- 1,025 tables, a log that fills its area, and a table at page 191 are of no sound state.
+pub record LimitsAreKept : Type 0 where
+  pub tables : (filter_bytes : FilterBytes) (s : State) → length s.tables ≡ 1025 → IsSound filter_bytes s → ⊥
+  pub log : (filter_bytes : FilterBytes) (s : State) → filled s.log ≡ 262144 → IsSound filter_bytes s → ⊥
+  pub first_page : (filter_bytes : FilterBytes) (s : State) (t : Table) (more : List Table) → s.tables ≡ t ∷ more → t.first_page ≡ 191 → IsSound filter_bytes s → ⊥
+
+-- The keys of a sound table are a list of keys, as filters are built of.
+abbrev pub KeysAreAList : Type 0
+KeysAreAList = (t : Table) → IsSoundTable t → IsKeyList (keys_of t.entries)
+
+-- ---- how many merge slices a job takes
 
 -- the answers Worked that a job may still see: one for each block to read, one for each output to write, one for its install
 abbrev pub steps_of : State → Option Job → ℕ

@@ -12,17 +12,20 @@
 //! ```
 #![tactic(auto)]
 
+mod faults;
 mod laws;
 mod playing;
 mod refusals;
 mod rows;
 mod soundness;
 
-pub use laws::{change_laws, install_laws, merge_laws, view_laws};
+pub use faults::{device_is_kept, faults_are_met, no_job_is_left};
+pub use laws::{change_laws, choice_laws, install_laws, merge_laws, output_laws, view_laws};
 pub use playing::{play_laws, played_texts};
 pub use refusals::refusal_laws;
 pub use rows::{levels_and_gaps, limits, lines_and_words, merges_and_flushes, reads_between_keys};
 pub use soundness::{
     any_cause, changes_keep_sound, compaction_keeps_sound, jobs_end, jobs_keep_sound,
-    lines_keep_sound, new_is_sound, places_are_free, slices_keep_sound,
+    keys_are_a_list, limits_are_kept, lines_keep_sound, new_is_sound, places_are_free,
+    scripts_keep_sound, slices_keep_sound,
 };

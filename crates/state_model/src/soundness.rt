@@ -1,5 +1,5 @@
 // The laws of soundness; the functions do nothing.
-ghost use Rattle.state_model.specs.SoundLaws.{PlacedAreLaid, NewIsSound, FlushKeepsSound, WriteKeepsSound, CompactionKeepsSound, WorkKeepsSound, DropKeepsSound, SliceKeepsSound, SliceKeepsMap, NeverTends, NeverSteps, PlayedIsSound, LinesAreOfBytes, LineKeepsSound, StepsAtFirst, WorkedLowersSteps, LinesRaiseNoSteps, JobEnds};
+ghost use Rattle.state_model.specs.SoundLaws.{PlacedAreLaid, NewIsSound, FlushKeepsSound, WriteKeepsSound, CompactionKeepsSound, WorkKeepsSound, DropKeepsSound, SliceKeepsSound, SliceKeepsMap, NeverTends, NeverSteps, PlayedIsSound, LinesAreOfBytes, LineKeepsSound, StepsAtFirst, WorkedLowersSteps, LinesRaiseNoSteps, JobEnds, ScriptsKeepSound, LimitsAreKept, KeysAreAList};
 
 /// Law: tables that are placed are on the device, and apart from one another and from what is taken.
 pub fn places_are_free()
@@ -53,4 +53,20 @@ pub fn jobs_end()
     ensures lower { WorkedLowersSteps }
     ensures lines { LinesRaiseNoSteps }
     ensures ends { JobEnds }
+{}
+
+/// Law: each state of a script from a sound one is sound, and so is the state behind some first lines.
+pub fn scripts_keep_sound()
+    ensures { ScriptsKeepSound }
+{}
+
+/// Law: a state of more tables than the most, of a log that is full, or with a table before the first page of tables is not
+/// sound.
+pub fn limits_are_kept()
+    ensures { LimitsAreKept }
+{}
+
+/// Law: the keys of a sound table are what filters are built of: one or more, of 1 to 1,024 bytes, strictly rising.
+pub fn keys_are_a_list()
+    ensures { KeysAreAList }
 {}
