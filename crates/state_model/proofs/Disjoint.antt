@@ -28,7 +28,7 @@ upto_then x y z (inl e) yz = subst (λ (w : Bytes). Upto w z) (sym e) yz
 upto_then x y z (inr less) (inl e) = subst (λ (w : Bytes). Upto x w) e (inr less)
 upto_then x y z (inr less) (inr more) = inr (nat_list_cmp_total.trans x y z less more)
 
-not_before : (x y : Bytes) → Upto x y → is_before y x ≡ false
+pub not_before : (x y : Bytes) → Upto x y → is_before y x ≡ false
 not_before x y (inl e) = ap is_lt (order_same y x (sym e))
 not_before x y (inr less) = ap is_lt (greater_of_less x y less)
 
@@ -70,7 +70,7 @@ above_found low (entry ∷ more) key above some = elim (bytes_eq entry.key key) 
   | false ↦ λ _ found. above_found low more key above.1 found
 ] refl some
 
-first_upto : (entries : List Entry) (key : Bytes) → KeysRise entries → IsSome (lookup entries key) → Upto (first_key entries) key
+pub first_upto : (entries : List Entry) (key : Bytes) → KeysRise entries → IsSome (lookup entries key) → Upto (first_key entries) key
 first_upto [] key rises some = absurd some
 first_upto (entry ∷ more) key rises some = elim (bytes_eq entry.key key) as (λ t. bytes_eq entry.key key ≡ t → IsSome (cond t (Some entry.value) (lookup more key)) → Upto entry.key key) [
   | true ↦ λ e _. inl ((bytes_eq-Decides entry.key key).0 e)
@@ -81,7 +81,7 @@ above_last : (low : Bytes) (entry : Entry) (more : List Entry) → AllByRecursio
 above_last low entry [] above = above.0
 above_last low entry (next ∷ more) above = above_last low next more above.1
 
-upto_last : (entries : List Entry) (key : Bytes) → KeysRise entries → IsSome (lookup entries key) → Upto key (last_key entries)
+pub upto_last : (entries : List Entry) (key : Bytes) → KeysRise entries → IsSome (lookup entries key) → Upto key (last_key entries)
 upto_last [] key rises some = absurd some
 upto_last (entry ∷ []) key rises some = elim (bytes_eq entry.key key) as (λ t. bytes_eq entry.key key ≡ t → IsSome (cond t (Some entry.value) None) → Upto key entry.key) [
   | true ↦ λ e _. inl (sym ((bytes_eq-Decides entry.key key).0 e))

@@ -36,3 +36,7 @@ pub mod FullOutputs
 pub mod Choices
 pub mod SoundScripts
 pub mod SoundKeys
+pub mod Searches
+pub mod Gets
+pub mod Stepped
+pub mod Estimates

@@ -19,3 +19,4 @@ pub mod Laws
 pub mod SoundLaws
 pub mod Refusals
 pub mod FaultLaws
+pub mod ReadLaws

@@ -15,6 +15,7 @@
 mod faults;
 mod laws;
 mod playing;
+mod reads;
 mod refusals;
 mod rows;
 mod soundness;
@@ -22,6 +23,7 @@ mod soundness;
 pub use faults::{device_is_kept, faults_are_met, no_job_is_left};
 pub use laws::{change_laws, choice_laws, install_laws, merge_laws, output_laws, view_laws};
 pub use playing::{play_laws, played_texts};
+pub use reads::{estimate_is_enough, gets_are_bounded, held_is_searched, stepped_are_deleted};
 pub use refusals::refusal_laws;
 pub use rows::{levels_and_gaps, limits, lines_and_words, merges_and_flushes, reads_between_keys};
 pub use soundness::{
