@@ -40,3 +40,4 @@ pub mod Searches
 pub mod Gets
 pub mod Stepped
 pub mod Estimates
+pub mod Slices

@@ -14,7 +14,7 @@ pub mod Steps
 pub mod Script
 pub mod Play
 pub mod PlayLaws
-pub mod Rows
+pub mod Examples
 pub mod Laws
 pub mod SoundLaws
 pub mod Refusals

@@ -1,5 +1,5 @@
 -- Laws of a run that computes: it is one of those that the relation allows.
-use Rattle.std.specs.Prelude.{◌≡◌, ℕ, List, map, flat_map, None}
+use Rattle.std.specs.Prelude.{◌≡◌, ◌≤◌, ℕ, List, map, flat_map, None}
 use Rattle.store_model.specs.SortedMap.{Bytes}
 use Rattle.state_model.specs.State.{State}
 use Rattle.state_model.specs.Pages.{FilterBytes}
@@ -8,7 +8,7 @@ use Rattle.state_model.specs.Requests.{request_of}
 use Rattle.state_model.specs.Replies.{text_of}
 use Rattle.state_model.specs.Tends.{Tend, Tended}
 use Rattle.state_model.specs.Steps.{answer}
-use Rattle.state_model.specs.Play.{merged, tended, played}
+use Rattle.state_model.specs.Play.{merged, sliced, tended, played}
 use Rattle.state_model.specs.Script.{Ending, Onward, turn_of_slice, Script}
 
 -- no cause for anything: memory lasts, the device holds, and nothing is damaged
@@ -33,3 +33,9 @@ pub record PlayLaws : Type 0 where
   pub script :
       (filter_bytes : FilterBytes) (s : State) (said : ℕ) (lines : List Bytes) → s.job ≡ None
       → (ending : Ending) × Script Never filter_bytes AnyState said s lines (played_text filter_bytes s lines) ending
+
+-- What a slice of one block or more computes is a merge slice that ends no script, also while a job runs.
+abbrev pub SlicesAreAllowed : Type 0
+SlicesAreAllowed =
+    (filter_bytes : FilterBytes) (blocks : ℕ) (s : State) → 1 ≤ blocks
+    → (t : Tended) × Tend Never filter_bytes s t (sliced filter_bytes blocks s) × (Onward ≡ turn_of_slice t)

@@ -1,7 +1,7 @@
 use Rattle.std.proofs.Common.{refl}
 use Rattle.std.specs.Fmt.{digits}
 use Rattle.hex.specs.Hex.{decode_pairs, encode_with}
-use Rattle.state_model.proofs.rows.lines_and_words.Goals as goal
+use Rattle.state_model.proofs.examples.lines_and_words.Goals as goal
 
 pub returns-clause-numbers_in_one_spelling : goal.returns-clause-numbers_in_one_spelling
 unfolding digits decode_pairs
@@ -10,3 +10,7 @@ returns-clause-numbers_in_one_spelling c = refl
 pub returns-clause-texts : goal.returns-clause-texts
 unfolding digits encode_with
 returns-clause-texts c = refl
+
+pub returns-clause-a_damaged_sum : goal.returns-clause-a_damaged_sum
+unfolding digits encode_with
+returns-clause-a_damaged_sum c = refl

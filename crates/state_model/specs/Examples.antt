@@ -1,4 +1,4 @@
--- States and requests by which the definitions are tried.
+-- States and requests by which the definitions are shown.
 use Rattle.std.specs.Prelude.{ℕ, List, [], ◌∷◌, length, map, Option, Some, None, codes}
 use Rattle.filter_api.specs.declared.settings.Settings.{Settings}
 use Rattle.store_model.specs.SortedMap.{Bytes}
