@@ -2,8 +2,8 @@
 use Rattle.std.proofs.Common.{◌≡◌, ℕ, sym, ap, ◌∙◌, subst, arith}
 use Rattle.disk_trait.specs.Image.{Image}
 use Rattle.filter_api.specs.Spellings.{Spelling}
-use Rattle.gate_log.specs.Area.{LogIs, area_in}
-use Rattle.gate_log.proofs.Ends.{one_list}
+use Rattle.log_model.specs.Area.{LogIs, area_in}
+use Rattle.log_model.proofs.Ends.{one_list}
 use Rattle.manifest_model.specs.Version.{Version}
 use Rattle.state_model.specs.State.{State}
 use Rattle.image_model.specs.Tables.{AreTablesOf}

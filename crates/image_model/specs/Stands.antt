@@ -4,7 +4,7 @@ use Rattle.std.specs.List.{AllPairs}
 use Rattle.disk_trait.specs.Image.{Image}
 use Rattle.filter_api.specs.declared.settings.Settings.{Settings}
 use Rattle.filter_api.specs.Spellings.{Spelling}
-use Rattle.gate_log.specs.Area.{LogIs}
+use Rattle.log_model.specs.Area.{LogIs}
 use Rattle.manifest_model.specs.Version.{Version}
 use Rattle.state_model.specs.State.{State}
 use Rattle.state_model.specs.Sound.{StandsBefore}

@@ -4,7 +4,7 @@ ghost use Rattle.std.specs.Option.{option_map};
 ghost use Rattle.filter_model.specs.Strings.{is_below};
 ghost use Rattle.filter_model.specs.Answers.{tally};
 ghost use Rattle.map_model.specs.Slices.{is_between, seek};
-ghost use Rattle.mem_table.specs.Table.{lookup};
+ghost use Rattle.entry_model.specs.Newest.{lookup};
 ghost use Rattle.state_model.specs.Bounds as model;
 ghost use Rattle.state_model.specs.View.{state_map};
 

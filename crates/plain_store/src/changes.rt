@@ -1,6 +1,6 @@
 // What a put, a flush and a compaction make of a state.
 ghost use Rattle.std.specs.Prelude.{◌≡◌, ◌+◌, map, vec_items, IfOk};
-ghost use Rattle.store_model.specs.Entries.{need, gap, body, filled};
+ghost use Rattle.entry_model.specs.Entries.{need, gap, body, filled};
 ghost use Rattle.state_model.specs.Changes as model;
 ghost use Rattle.state_model.specs.Taken.{taken};
 ghost use Rattle.state_model.specs.Merges.{cut, placed};
@@ -125,7 +125,7 @@ fn record_bytes(entry: &Entry) -> Result<u64, AllocError>
 }
 
 /// The bytes that the log's records take.
-#[tactic(auto, unfolding(store_model::specs::Entries::filled))]
+#[tactic(auto, unfolding(entry_model::specs::Entries::filled))]
 fn log_bytes(entries: &[Entry]) -> Result<u64, AllocError>
     ensures { IfOk result (λ n. n ≡ filled entries.now) }
 {
@@ -137,7 +137,7 @@ fn log_bytes(entries: &[Entry]) -> Result<u64, AllocError>
 }
 
 /// The bytes that are left in the log area.
-#[tactic(auto, unfolding(store_model::specs::Entries::gap))]
+#[tactic(auto, unfolding(entry_model::specs::Entries::gap))]
 fn log_gap(state: &State) -> Result<u64, AllocError>
     ensures { IfOk result (λ n. n ≡ gap state.now.log) }
 {

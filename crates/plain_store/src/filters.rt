@@ -1,7 +1,7 @@
 // The bytes of a table's filter.
 ghost use Rattle.std.specs.Prelude.{◌≡◌, length, IfOk};
 ghost use Rattle.filter_model.specs.Leaves.{leaves_of};
-ghost use Rattle.state_model.specs.Pages.{keys_of};
+ghost use Rattle.entry_model.specs.Entries.{keys_of};
 ghost use Rattle.plain_store.specs.Filters.{filter_bytes_of};
 
 use entry_list::Entry;

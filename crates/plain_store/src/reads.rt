@@ -2,9 +2,9 @@
 ghost use Rattle.std.specs.Prelude.{◌≡◌, Some, length, IfOk};
 ghost use Rattle.std.specs.Option.{option_map};
 ghost use Rattle.map_model.specs.Slices.{seek, slice, count};
-ghost use Rattle.store_model.specs.SortedMap.{get};
+ghost use Rattle.map_model.specs.SortedMap.{get};
 ghost use Rattle.state_model.specs.Bounds as bounds;
-ghost use Rattle.state_model.specs.Replies as reply;
+ghost use Rattle.line_model.specs.Replies as reply;
 ghost use Rattle.state_model.specs.Steps.{pairs};
 ghost use Rattle.state_model.specs.View.{state_map};
 ghost use Rattle.plain_store.specs.Talk.{says};

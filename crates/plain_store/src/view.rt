@@ -1,7 +1,7 @@
 // What a state says of a key.
 ghost use Rattle.std.specs.Prelude.{◌≡◌, [], ◌∷◌, ◌++◌, IfOk, OnOk};
-ghost use Rattle.mem_table.specs.Table.{newest_entries, with_entry};
-ghost use Rattle.store_model.specs.Entries.{changed};
+ghost use Rattle.entry_model.specs.Newest.{newest_entries, with_entry};
+ghost use Rattle.entry_model.specs.Entries.{changed};
 ghost use Rattle.state_model.specs.View as model;
 
 use crate::lists::{oldest_first, push_entries};

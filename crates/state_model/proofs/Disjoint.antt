@@ -5,11 +5,11 @@ use Rattle.std.specs.List.{AllByRecursion}
 use Rattle.std.proofs.lemmas.Slice.Eq.{bytes_eq-Decides}
 use Rattle.std.specs.Ordering.{is_lt}
 use Rattle.std.specs.Cmp.Lexicographic.{nat_list_cmp_total}
-use Rattle.store_model.specs.SortedMap.{Bytes}
-use Rattle.store_model.specs.Entries.{Entry, or_else}
-use Rattle.store_model.proofs.Maps.{equal_keys, less_of_greater, by_order, order_same}
-use Rattle.mem_table.specs.Table.{IsAbove, KeysRise, lookup}
-use Rattle.mem_table.proofs.Newest.{greater_of_less}
+use Rattle.map_model.specs.SortedMap.{Bytes}
+use Rattle.entry_model.specs.Entries.{Entry, or_else}
+use Rattle.map_model.proofs.Maps.{equal_keys, less_of_greater, by_order, order_same}
+use Rattle.entry_model.specs.Newest.{IsAbove, KeysRise, lookup}
+use Rattle.entry_model.proofs.Newest.{greater_of_less}
 use Rattle.block_model.specs.Pages.{first_key, last_key}
 use Rattle.map_model.specs.Slices.{is_before}
 use Rattle.state_model.specs.State.{Table}

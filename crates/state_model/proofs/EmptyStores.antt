@@ -3,15 +3,15 @@ use Rattle.std.proofs.Common.{◌≡◌, ℕ, zero, suc, ◌≤◌, List, [], �
 use Rattle.std.specs.Prelude.{Option, Some, None, Result, Ok, Err, ◌==◌, drop}
 use Rattle.std.specs.List.{AllByRecursion}
 use Rattle.std.proofs.lemmas.List.{length-append}
-use Rattle.store_model.specs.Entries.{Entry}
+use Rattle.entry_model.specs.Entries.{Entry}
 use Rattle.state_model.specs.State.{State, Table, Job, without_job, last_epoch}
 use Rattle.state_model.specs.View.{entries_of, oldest_first}
 use Rattle.state_model.specs.Pages.{FilterBytes}
 use Rattle.state_model.specs.Taken.{taken}
 use Rattle.state_model.specs.Merges.{Plan, NoRoom, choose, placed, cut}
 use Rattle.state_model.specs.Changes.{compact_placed, compacted_with, compacted, live_entries}
-use Rattle.state_model.specs.Replies.{Reply, LastEpoch}
-use Rattle.state_model.specs.Requests.{Compact}
+use Rattle.line_model.specs.Replies.{Reply, LastEpoch}
+use Rattle.line_model.specs.Requests.{Compact}
 use Rattle.state_model.specs.Steps.{changed, Step, answers, no_memory, read_failed, damage_met, write_failed}
 use Rattle.state_model.specs.Sound.{IsSound, IsSoundTable, IsJob, MayRun, plan_of_job}
 use Rattle.state_model.specs.SoundLaws.{Ever}

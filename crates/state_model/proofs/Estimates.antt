@@ -5,17 +5,17 @@ use Rattle.std.specs.List.{AllByRecursion}
 use Rattle.std.proofs.lemmas.List.Sums.{sum_by-cons, sum_by-append}
 use Rattle.std.proofs.lemmas.Slice.Eq.{bytes_eq-Decides}
 use Rattle.byte_fields.specs.Spelling.{IsBytes}
-use Rattle.store_model.specs.SortedMap.{Bytes, Map, put, del, placed, byte_order}
-use Rattle.store_model.specs.Entries.{Entry, newest, or_else, live, change_by, changed, map_of}
-use Rattle.store_model.proofs.Maps.{by_order, equal_keys}
-use Rattle.mem_table.specs.Table.{newest_entries}
+use Rattle.map_model.specs.SortedMap.{Bytes, Map, put, del, in_place, byte_order}
+use Rattle.entry_model.specs.Entries.{Entry, newest, or_else, live, change_by, changed, map_of, keys_of}
+use Rattle.map_model.proofs.Maps.{by_order, equal_keys}
+use Rattle.entry_model.specs.Newest.{newest_entries}
 use Rattle.map_model.specs.Slices.{is_before, is_between, count}
 use Rattle.map_model.proofs.Between.{counted, count_crossed}
 use Rattle.filter_model.specs.Answers.{tally, true_count}
 use Rattle.filter_model.proofs.Tallies.{tally_is_near}
 use Rattle.state_model.specs.State.{State, Table}
 use Rattle.state_model.specs.View.{memory, oldest_first, state_map}
-use Rattle.state_model.specs.Pages.{FilterBytes, keys_of}
+use Rattle.state_model.specs.Pages.{FilterBytes}
 use Rattle.state_model.specs.Bounds.{leaves_in, estimate}
 use Rattle.state_model.specs.Sound.{IsSound, IsSoundTable}
 use Rattle.state_model.proofs.SameMaps.{same_map}
@@ -44,7 +44,7 @@ entry_more lo hi e more = sum_by-cons (λ (x : Entry). one_in lo hi x.key) e mor
 put_adds : (lo hi : Bytes) (map : Map) (key value : Bytes) → pairs_in lo hi (put map key value) ≤ one_in lo hi key + pairs_in lo hi map
 put_adds lo hi [] key value = omega (arith, pair_more lo hi (key, value) [])
 put_adds lo hi (pair ∷ more) key value =
-    by_order (λ o. pairs_in lo hi (placed o (key, value) pair more (put more key value)) ≤ one_in lo hi key + pairs_in lo hi (pair ∷ more)) key pair.0
+    by_order (λ o. pairs_in lo hi (in_place o (key, value) pair more (put more key value)) ≤ one_in lo hi key + pairs_in lo hi (pair ∷ more)) key pair.0
     (λ _. omega (arith, pair_more lo hi (key, value) (pair ∷ more)))
     (λ _. omega (arith, pair_more lo hi (key, value) more, pair_more lo hi pair more))
     (λ _. omega (arith, pair_more lo hi pair (put more key value), pair_more lo hi pair more, put_adds lo hi more key value))

@@ -6,9 +6,9 @@ use Rattle.std.specs.Ordering.{is_lt}
 use Rattle.std.proofs.lemmas.Bool.{and_parts}
 use Rattle.std.proofs.lemmas.List.Sums.{sum_by-cons}
 use Rattle.extent_model.proofs.Lists.{Pairs, pairs_of}
-use Rattle.store_model.specs.SortedMap.{Bytes}
-use Rattle.store_model.specs.Entries.{Entry}
-use Rattle.mem_table.specs.Table.{lookup}
+use Rattle.map_model.specs.SortedMap.{Bytes}
+use Rattle.entry_model.specs.Entries.{Entry}
+use Rattle.entry_model.specs.Newest.{lookup}
 use Rattle.map_model.specs.Slices.{is_before}
 use Rattle.state_model.specs.State.{State, Table, without_job, last_epoch}
 use Rattle.state_model.specs.View.{memory, entries_of}
@@ -16,7 +16,7 @@ use Rattle.state_model.specs.Pages.{FilterBytes}
 use Rattle.state_model.specs.Taken.{taken}
 use Rattle.state_model.specs.Merges.{NoRoom, placed, cut, least_key, greatest_key}
 use Rattle.state_model.specs.Changes.{compact_placed, compacted_with, compacted, live_entries}
-use Rattle.state_model.specs.Replies.{Reply, LastEpoch}
+use Rattle.line_model.specs.Replies.{Reply, LastEpoch}
 use Rattle.state_model.specs.Bounds.{admits, encloses, is_searched, unless_found, searched, get_bound, admitted}
 use Rattle.state_model.specs.Sound.{IsSound, StandsBefore}
 use Rattle.state_model.proofs.Levels.{AllAt}

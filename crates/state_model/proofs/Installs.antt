@@ -6,10 +6,10 @@ use Rattle.std.proofs.lemmas.List.{append_assoc, append-nil, take-append-drop}
 use Rattle.std.proofs.lemmas.List.Elements.{filter-append}
 use Rattle.std.proofs.lemmas.Slice.Eq.{bytes_eq-Decides}
 use Rattle.block_model.proofs.Bounds.{weaker}
-use Rattle.store_model.specs.SortedMap.{Bytes}
-use Rattle.store_model.specs.Entries.{Entry, newest, or_else, live}
-use Rattle.mem_table.specs.Table.{KeysRise, lookup}
-use Rattle.mem_table.proofs.Newest.{none_above}
+use Rattle.map_model.specs.SortedMap.{Bytes}
+use Rattle.entry_model.specs.Entries.{Entry, newest, or_else, live}
+use Rattle.entry_model.specs.Newest.{KeysRise, lookup}
+use Rattle.entry_model.proofs.Newest.{none_above}
 use Rattle.block_model.specs.Order.{is_any}
 use Rattle.state_model.specs.State.{State, Table, Job, written_by}
 use Rattle.state_model.specs.View.{first_found, oldest_first, state_map}

@@ -3,17 +3,17 @@ use Rattle.std.proofs.Common.{◌≡◌, List, [], ◌∷◌, ◌++◌, refl, sy
 use Rattle.std.specs.Prelude.{Option, Result, Ok, Err, nat_le, length, ◌==◌, ◌+◌, ◌-◌}
 use Rattle.std.proofs.lemmas.List.{append_assoc, append-nil, map-append}
 use Rattle.std.proofs.lemmas.List.Sums.{fold-append}
-use Rattle.store_model.specs.SortedMap.{Bytes, Map}
-use Rattle.store_model.specs.Entries.{Entry, newest, or_else, live, changed, need, gap, map_of as map_of_entries}
-use Rattle.mem_table.specs.Table.{KeysRise, newest_entries, lookup}
-use Rattle.mem_table.proofs.Newest.{lookup_newest}
+use Rattle.map_model.specs.SortedMap.{Bytes, Map}
+use Rattle.entry_model.specs.Entries.{Entry, newest, or_else, live, changed, need, gap, map_of as map_of_entries}
+use Rattle.entry_model.specs.Newest.{KeysRise, newest_entries, lookup}
+use Rattle.entry_model.proofs.Newest.{lookup_newest}
 use Rattle.state_model.specs.State.{State, Table, last_epoch, without_job}
 use Rattle.state_model.specs.View.{memory, entries_of, oldest_first, state_map}
 use Rattle.state_model.specs.Pages.{FilterBytes}
 use Rattle.state_model.specs.Taken.{taken}
 use Rattle.state_model.specs.Merges.{NoRoom, placed, cut, has_value}
 use Rattle.state_model.specs.Changes.{most_tables, with_tables, flush_placed, flushed_with, flushed, logged, logged_then, written, compact_placed, live_entries, compacted_with, compacted}
-use Rattle.state_model.specs.Replies.{Reply, ManyTables, LastEpoch}
+use Rattle.line_model.specs.Replies.{Reply, ManyTables, LastEpoch}
 use Rattle.state_model.specs.Laws.{is_done}
 use Rattle.state_model.proofs.SameMaps.{same_map}
 use Rattle.state_model.proofs.Sayings.{newest-append, newest_again, newest_entries_rise, newest_backwards, oldest_first-backwards, backwards, lists_of, rises_filter, live_without_tombstones}

@@ -1,15 +1,16 @@
 -- What each line makes of the map.
 use Rattle.std.proofs.Common.{◌≡◌, refl, sym, ap, Bool, true, false, cond}
 use Rattle.std.specs.Prelude.{Option, Some, None, Result, Ok, Err, nat_lt, length, ◌==◌, ◌||◌}
-use Rattle.store_model.specs.SortedMap.{Bytes, put, del}
-use Rattle.store_model.specs.Entries.{put_entry, del_entry}
+use Rattle.map_model.specs.SortedMap.{Bytes, put, del}
+use Rattle.entry_model.specs.Entries.{put_entry, del_entry}
 use Rattle.state_model.specs.State.{State, without_job}
 use Rattle.state_model.specs.View.{state_map}
 use Rattle.state_model.specs.Pages.{FilterBytes}
-use Rattle.state_model.specs.Changes.{key_limit, value_limit, first_limit, flushed, written, compacted}
-use Rattle.state_model.specs.Requests.{Request, Put, Del, Get, Seek, Range, Count, Estimate, Explain, Flush, Compact, Quit, Bad}
-use Rattle.state_model.specs.Replies.{Reply, LongKey, LongValue}
-use Rattle.state_model.specs.Steps.{Answer, answer, answer_within, changed, limit_of, unless_limit}
+use Rattle.state_model.specs.Changes.{flushed, written, compacted}
+use Rattle.line_model.specs.Limits.{key_limit, value_limit, first_limit, limit_of}
+use Rattle.line_model.specs.Requests.{Request, Put, Del, Get, Seek, Range, Count, Estimate, Explain, Flush, Compact, Quit, Bad}
+use Rattle.line_model.specs.Replies.{Reply, LongKey, LongValue}
+use Rattle.state_model.specs.Steps.{Answer, answer, answer_within, changed, unless_limit}
 use Rattle.state_model.specs.Laws.{is_done, map_behind}
 use Rattle.state_model.proofs.Kept.{IfDone, KeepsMap, Makes, flushed_done, written_done, compacted_done}
 

@@ -4,10 +4,10 @@ use Rattle.std.specs.Prelude.{nat_le, flat_map, ◌-◌, ◌+◌}
 use Rattle.std.specs.List.{AllByRecursion}
 use Rattle.std.proofs.lemmas.List.{length-append}
 use Rattle.std.proofs.lemmas.List.Concat.{flat_map-cons}
-use Rattle.store_model.specs.SortedMap.{Bytes}
-use Rattle.store_model.specs.Entries.{Entry, live}
-use Rattle.mem_table.specs.Table.{KeysRise, lookup}
-use Rattle.mem_table.proofs.Newest.{lookup_newest}
+use Rattle.map_model.specs.SortedMap.{Bytes}
+use Rattle.entry_model.specs.Entries.{Entry, live}
+use Rattle.entry_model.specs.Newest.{KeysRise, lookup}
+use Rattle.entry_model.proofs.Newest.{lookup_newest}
 use Rattle.block_model.specs.Pages.{data_pages}
 use Rattle.state_model.specs.State.{State, Table}
 use Rattle.state_model.specs.View.{first_found, oldest_first}

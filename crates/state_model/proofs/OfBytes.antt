@@ -6,9 +6,9 @@ use Rattle.byte_fields.specs.Spelling.{IsBytes}
 use Rattle.hex.specs.Hex.{decode_of}
 use Rattle.hex.specs.declared.error.FromHexError.{FromHexError}
 use Rattle.hex.proofs.HexLemmas.{decode_of-ok}
-use Rattle.store_model.specs.SortedMap.{Bytes}
-use Rattle.store_model.specs.Lines.{bytes_in, some_bytes}
-use Rattle.state_model.specs.Requests.{Request, Put, Del, Get, Seek, Range, Count, Estimate, Explain, Flush, Compact, Quit, Bad, with_one, with_two, with_number, number_in, none_of, one_of, two_of, seek_of, range_of, asked_by, request_of}
+use Rattle.map_model.specs.SortedMap.{Bytes}
+use Rattle.line_model.specs.Lines.{bytes_in, some_bytes}
+use Rattle.line_model.specs.Requests.{Request, Put, Del, Get, Seek, Range, Count, Estimate, Explain, Flush, Compact, Quit, Bad, with_one, with_two, with_number, number_in, none_of, one_of, two_of, seek_of, range_of, asked_by, request_of}
 use Rattle.state_model.specs.SoundLaws.{AsksOfBytes}
 
 abbrev IfBytes : Option Bytes → Type 0

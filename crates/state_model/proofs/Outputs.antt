@@ -2,9 +2,9 @@
 use Rattle.std.proofs.Common.{◌≡◌, ℕ, zero, suc, List, [], ◌∷◌, ◌++◌, refl, sym, ap, ◌∙◌, subst, true, false, cond}
 use Rattle.std.specs.Prelude.{Option, Some, None, Result, Ok, Err, nat_le}
 use Rattle.std.proofs.lemmas.List.{append_assoc, append-nil}
-use Rattle.store_model.specs.SortedMap.{Bytes}
-use Rattle.store_model.specs.Entries.{Entry, or_else}
-use Rattle.mem_table.specs.Table.{KeysRise, lookup}
+use Rattle.map_model.specs.SortedMap.{Bytes}
+use Rattle.entry_model.specs.Entries.{Entry, or_else}
+use Rattle.entry_model.specs.Newest.{KeysRise, lookup}
 use Rattle.block_model.specs.Pages.{data_pages}
 use Rattle.state_model.specs.State.{State, Table}
 use Rattle.state_model.specs.View.{first_found}

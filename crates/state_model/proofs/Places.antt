@@ -5,7 +5,7 @@ use Rattle.std.specs.List.{AllByRecursion, list_any}
 use Rattle.std.proofs.lemmas.List.{length-append, map-append}
 use Rattle.std.proofs.lemmas.List.Concat.{flat_map-cons}
 use Rattle.std.proofs.lemmas.List.Sums.{sum_by-cons}
-use Rattle.store_model.specs.Entries.{Entry}
+use Rattle.entry_model.specs.Entries.{Entry}
 use Rattle.block_model.specs.Block.{IsTable}
 use Rattle.filter_api.specs.declared.settings.Settings.{Settings}
 use Rattle.block_model.specs.Laws.{joined}

@@ -2,19 +2,20 @@
 use Rattle.std.proofs.Common.{◌≡◌, ◌⊎◌, inl, inr, ℕ, ◌+◌, List, [], ◌∷◌, ◌++◌, length, refl, sym, ap, ◌∙◌, subst, true, false, cond, map}
 use Rattle.std.specs.Prelude.{Option, Some, None, Result, Ok, Err, nat_le, nat_lt, ◌==◌, ◌||◌, flat_map}
 use Rattle.std.proofs.lemmas.List.Concat.{flat_map-cons}
-use Rattle.store_model.specs.SortedMap.{Bytes, get}
-use Rattle.store_model.specs.Entries.{Entry, need, gap, put_entry, del_entry}
+use Rattle.map_model.specs.SortedMap.{Bytes, get}
+use Rattle.entry_model.specs.Entries.{Entry, need, gap, put_entry, del_entry}
 use Rattle.state_model.specs.State.{State, Table, without_job, last_epoch}
 use Rattle.state_model.specs.View.{memory, entries_of, state_map}
 use Rattle.state_model.specs.Pages.{FilterBytes}
 use Rattle.state_model.specs.Taken.{taken}
 use Rattle.state_model.specs.Merges.{NoRoom, placed, cut}
 use Rattle.state_model.specs.Causes.{Why}
-use Rattle.state_model.specs.Changes.{key_limit, value_limit, bound_limit, first_limit, most_tables, with_tables, flush_placed, flushed_with, flushed, logged, logged_then, written, compact_placed, live_entries, compacted_with, compacted}
-use Rattle.state_model.specs.Requests.{Request, Put, Del, Get, Seek, Range, Count, Estimate, Explain, Flush, Compact, Quit, Bad, request_of}
-use Rattle.state_model.specs.Replies.{Reply, Done, Value, Missing, At, Pairs, End, Counted, About, Explained, Bye, BadLine, LongKey, LongValue, ManyTables, LastEpoch, Full, Memory, Device, Damaged, text_of, got, found}
+use Rattle.state_model.specs.Changes.{most_tables, with_tables, flush_placed, flushed_with, flushed, logged, logged_then, written, compact_placed, live_entries, compacted_with, compacted}
+use Rattle.line_model.specs.Limits.{key_limit, value_limit, bound_limit, first_limit, limit_of}
+use Rattle.line_model.specs.Requests.{Request, Put, Del, Get, Seek, Range, Count, Estimate, Explain, Flush, Compact, Quit, Bad, request_of}
+use Rattle.line_model.specs.Replies.{Reply, Done, Value, Missing, At, Pairs, End, Counted, About, Explained, Bye, BadLine, LongKey, LongValue, ManyTables, LastEpoch, Full, Memory, Device, Damaged, text_of, got, found}
 use Rattle.map_model.specs.Slices.{seek}
-use Rattle.state_model.specs.Steps.{Answer, answer, answer_within, changed, limit_of, unless_limit, Step, answers}
+use Rattle.state_model.specs.Steps.{Answer, answer, answer_within, changed, unless_limit, Step, answers}
 use Rattle.state_model.specs.Play.{tended, behind, played}
 use Rattle.state_model.specs.Script.{Ending, ToLast, AtQuit, Turn, Onward, turn_of, Between, Ends, AsSaid, Script}
 use Rattle.state_model.specs.PlayLaws.{AnyState, played_text}

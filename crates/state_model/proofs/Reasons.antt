@@ -1,17 +1,18 @@
 -- The causes of a refusal: what has one is refused by it, and what is refused has one.
 use Rattle.std.proofs.Common.{◌≡◌, ◌≢◌, ℕ, ◌≤◌, ◌<◌, List, [], ◌∷◌, ◌++◌, refl, ap, ◌∙◌, Bool, true, false, cond, arith}
 use Rattle.std.specs.Prelude.{Option, Some, None, Result, Ok, Err, nat_le, length, ◌==◌, ◌+◌}
-use Rattle.store_model.specs.SortedMap.{Bytes}
-use Rattle.store_model.specs.Entries.{Entry, put_entry, del_entry, need, gap}
+use Rattle.map_model.specs.SortedMap.{Bytes}
+use Rattle.entry_model.specs.Entries.{Entry, put_entry, del_entry, need, gap}
 use Rattle.state_model.specs.State.{State, Table, last_epoch, without_job}
 use Rattle.state_model.specs.View.{memory, entries_of}
 use Rattle.state_model.specs.Pages.{FilterBytes}
 use Rattle.state_model.specs.Taken.{taken}
 use Rattle.state_model.specs.Merges.{NoRoom, placed}
 use Rattle.state_model.specs.Changes.{most_tables, with_tables, flush_placed, flushed_with, flushed, logged, logged_then, written, compact_placed, compacted_with, compacted}
-use Rattle.state_model.specs.Requests.{Request, Put, Del, Get, Seek, Range, Count, Estimate, Explain, Flush, Compact, Quit, Bad}
-use Rattle.state_model.specs.Replies.{Reply, ManyTables, LastEpoch, Full, got, found}
-use Rattle.state_model.specs.Steps.{Answer, answer, answer_within, changed, limit_of, unless_limit}
+use Rattle.line_model.specs.Requests.{Request, Put, Del, Get, Seek, Range, Count, Estimate, Explain, Flush, Compact, Quit, Bad}
+use Rattle.line_model.specs.Replies.{Reply, ManyTables, LastEpoch, Full, got, found}
+use Rattle.state_model.specs.Steps.{Answer, answer, answer_within, changed, unless_limit}
+use Rattle.line_model.specs.Limits.{limit_of}
 use Rattle.state_model.specs.Refusals.{is_refusal, FlushIsDue, CompactionIsDue, flush_places, compaction_places, Refused, by_limit, flush_by_tables, flush_by_room, flush_by_epoch, compaction_by_epoch, compaction_by_room}
 
 -- ---- tests

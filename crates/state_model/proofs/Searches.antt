@@ -4,15 +4,14 @@ use Rattle.std.specs.Prelude.{Option, Some, None, bytes_eq}
 use Rattle.std.specs.List.{Contains}
 use Rattle.std.proofs.lemmas.Slice.Eq.{bytes_eq-Decides}
 use Rattle.byte_fields.specs.Spelling.{IsBytes}
-use Rattle.store_model.specs.SortedMap.{Bytes}
-use Rattle.store_model.specs.Entries.{Entry}
-use Rattle.mem_table.specs.Table.{lookup}
+use Rattle.map_model.specs.SortedMap.{Bytes}
+use Rattle.entry_model.specs.Entries.{Entry, keys_of}
+use Rattle.entry_model.specs.Newest.{lookup}
 use Rattle.map_model.specs.Slices.{is_before, is_between}
 use Rattle.filter_model.specs.Laws.{AreBounds}
 use Rattle.filter_model.proofs.Stubs.{no_key_is_denied}
 use Rattle.filter_model.proofs.Tallies.{no_held_range_is_denied}
 use Rattle.state_model.specs.State.{State, Table}
-use Rattle.state_model.specs.Pages.{keys_of}
 use Rattle.state_model.specs.Merges.{least_key, greatest_key}
 use Rattle.state_model.specs.Bounds.{admits, admits_range, encloses, is_searched}
 use Rattle.state_model.specs.Sound.{IsSoundTable}

@@ -3,12 +3,12 @@ use Rattle.std.proofs.Common.{◌≡◌, inl, inr, ℕ, ◌≤◌, ◌<◌, List
 use Rattle.std.specs.Prelude.{◌≢◌, Option, Some, None, Result, Ok, Err, nat_lt, ◌==◌, ◌-◌, take}
 use Rattle.std.proofs.lemmas.Bool.{eqb-true, eqb-false}
 use Rattle.std.proofs.lemmas.List.{append-nil, length-append, length-map}
-use Rattle.store_model.specs.Entries.{Entry}
+use Rattle.entry_model.specs.Entries.{Entry}
 use Rattle.state_model.specs.State.{State, Table, Job, without_job, last_epoch}
 use Rattle.state_model.specs.Pages.{FilterBytes}
 use Rattle.state_model.specs.Taken.{taken}
 use Rattle.state_model.specs.Merges.{NoRoom, Plan, choose}
-use Rattle.state_model.specs.Replies.{LastEpoch, Full}
+use Rattle.line_model.specs.Replies.{LastEpoch, Full}
 use Rattle.state_model.specs.Tends.{started, Runs, with_job, outstanding, next_placed, Progresses, IsDone, installed, Tended, Idle, Worked, Refused, Tend, idle, works, installs, last_epoch_reached, no_room}
 use Rattle.state_model.specs.Script.{Onward, turn_of_slice}
 use Rattle.state_model.specs.Play.{job_of, finished, output_written, with_next, sliced_by, sliced}

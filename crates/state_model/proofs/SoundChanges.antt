@@ -9,15 +9,15 @@ use Rattle.block_model.proofs.Lengths.{length-body}
 use Rattle.state_model.proofs.Outputs.{placed_lists}
 use Rattle.filter_api.specs.declared.settings.Settings.{Settings}
 use Rattle.filter_api.specs.Ranges.{InRange}
-use Rattle.store_model.specs.Entries.{Entry, body, filled, need, gap}
-use Rattle.block_model.specs.Block.{IsEntry, IsTable}
+use Rattle.entry_model.specs.Entries.{Entry, body, filled, need, gap, IsEntry}
+use Rattle.block_model.specs.Block.{IsTable}
 use Rattle.state_model.specs.State.{State, Table, Job, new_state, last_epoch}
 use Rattle.state_model.specs.View.{memory}
 use Rattle.state_model.specs.Pages.{FilterBytes, table_of}
 use Rattle.state_model.specs.Taken.{extent_of, taken}
 use Rattle.state_model.specs.Merges.{NoRoom, Plan, placed, planned, on_level, cut, lasting, newest_of}
 use Rattle.state_model.specs.Changes.{most_tables, with_tables, flush_placed, flushed_with, flushed, logged, logged_then, written}
-use Rattle.state_model.specs.Replies.{Reply, ManyTables, LastEpoch}
+use Rattle.line_model.specs.Replies.{Reply, ManyTables, LastEpoch}
 use Rattle.extent_model.specs.Extents.{AreApart}
 use Rattle.state_model.specs.Sound.{IsOfBytes, IsSoundTable, IsSound, StandsBefore, AreMade, IsJob, MayRun, plan_of_job}
 use Rattle.extent_model.proofs.Lists.{pairs_of, all_pairs}

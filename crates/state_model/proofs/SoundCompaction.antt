@@ -5,16 +5,15 @@ use Rattle.std.specs.List.{AllByRecursion}
 use Rattle.std.proofs.lemmas.Bool.{eqb-false}
 use Rattle.std.proofs.lemmas.List.{append_assoc, length-map}
 use Rattle.block_model.proofs.Bounds.{weaker}
-use Rattle.store_model.specs.Entries.{Entry}
-use Rattle.mem_table.specs.Table.{KeysRise, newest_entries}
-use Rattle.block_model.specs.Block.{IsEntry}
+use Rattle.entry_model.specs.Entries.{Entry, IsEntry}
+use Rattle.entry_model.specs.Newest.{KeysRise, newest_entries}
 use Rattle.state_model.specs.State.{State, Table, without_job, last_epoch}
 use Rattle.state_model.specs.View.{entries_of, oldest_first}
 use Rattle.state_model.specs.Pages.{FilterBytes}
 use Rattle.state_model.specs.Taken.{taken}
 use Rattle.state_model.specs.Merges.{NoRoom, placed, cut, has_value}
 use Rattle.state_model.specs.Changes.{compact_placed, compacted_with, compacted, live_entries}
-use Rattle.state_model.specs.Replies.{LastEpoch}
+use Rattle.line_model.specs.Replies.{LastEpoch}
 use Rattle.extent_model.specs.Extents.{AreApart}
 use Rattle.state_model.specs.Sound.{IsOfBytes, IsSound, IsSoundTable, StandsBefore}
 use Rattle.extent_model.proofs.Lists.{all_kept, all_pairs}

@@ -4,9 +4,8 @@ use Rattle.std.specs.Prelude.{Some, nat_le, nat_lt, not, ◌==◌, ◌-◌, filt
 use Rattle.std.specs.List.{AllByRecursion, list_any}
 use Rattle.std.proofs.lemmas.List.{append_assoc, append-nil, length-append, length-map}
 use Rattle.block_model.proofs.Bounds.{weaker}
-use Rattle.store_model.specs.Entries.{Entry}
-use Rattle.mem_table.specs.Table.{KeysRise}
-use Rattle.block_model.specs.Block.{IsEntry}
+use Rattle.entry_model.specs.Entries.{Entry, IsEntry}
+use Rattle.entry_model.specs.Newest.{KeysRise}
 use Rattle.state_model.specs.State.{State, Table, Job, last_epoch}
 use Rattle.state_model.specs.View.{oldest_first, state_map}
 use Rattle.state_model.specs.Pages.{FilterBytes}

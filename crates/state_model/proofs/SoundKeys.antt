@@ -5,16 +5,15 @@ use Rattle.std.specs.Ordering.{is_lt}
 use Rattle.std.proofs.lemmas.List.{length-map}
 use Rattle.std.proofs.lemmas.List.Elements.{All-from_recursion}
 use Rattle.block_model.proofs.Bounds.{weaker}
-use Rattle.block_model.specs.Block.{IsEntry}
+use Rattle.entry_model.specs.Entries.{IsEntry, Entry, filled, keys_of}
 use Rattle.extent_model.specs.Extents.{IsOnDevice}
 use Rattle.extent_model.proofs.Lists.{Pairs, all_pairs, both}
 use Rattle.filter_model.specs.Keys.{IsKey, IsKeyList}
 use Rattle.filter_model.specs.Strings.{is_below}
-use Rattle.store_model.specs.SortedMap.{Bytes}
-use Rattle.store_model.specs.Entries.{Entry, filled}
-use Rattle.mem_table.specs.Table.{IsAbove, KeysRise}
+use Rattle.map_model.specs.SortedMap.{Bytes}
+use Rattle.entry_model.specs.Newest.{IsAbove, KeysRise}
 use Rattle.state_model.specs.State.{State, Table, written_by}
-use Rattle.state_model.specs.Pages.{FilterBytes, keys_of}
+use Rattle.state_model.specs.Pages.{FilterBytes}
 use Rattle.state_model.specs.Taken.{extent_of, taken}
 use Rattle.state_model.specs.Sound.{IsOfBytes, IsSoundTable, IsSound}
 use Rattle.state_model.proofs.Hulls.{rises_of}

@@ -2,15 +2,16 @@
 use Rattle.std.proofs.Common.{◌≡◌, ◌≤◌, List, [], ◌∷◌, length, refl, true, false, cond, arith}
 use Rattle.std.specs.List.{AllByRecursion}
 use Rattle.std.specs.Prelude.{Option, Some, None, Result, Ok, Err, nat_lt, ◌==◌, ◌||◌}
-use Rattle.store_model.specs.SortedMap.{Bytes}
-use Rattle.store_model.specs.Entries.{put_entry, del_entry}
-use Rattle.block_model.specs.Block.{IsEntry}
+use Rattle.byte_fields.specs.Spelling.{IsBytes}
+use Rattle.map_model.specs.SortedMap.{Bytes}
+use Rattle.entry_model.specs.Entries.{put_entry, del_entry, IsEntry}
 use Rattle.state_model.specs.State.{State, without_job}
 use Rattle.state_model.specs.Pages.{FilterBytes}
-use Rattle.state_model.specs.Changes.{key_limit, value_limit, first_limit, written, flushed, compacted}
-use Rattle.state_model.specs.Requests.{Request, Put, Del, Get, Seek, Range, Count, Estimate, Explain, Flush, Compact, Quit, Bad}
-use Rattle.state_model.specs.Replies.{Reply, Done, Value, Missing, At, Pairs, End, Counted, About, Explained, Bye, BadLine, LongKey, LongValue, ManyTables, LastEpoch, Full, Memory, Device, Damaged}
-use Rattle.state_model.specs.Steps.{answer, answer_within, changed, limit_of, unless_limit, left_by, Step, answers, no_memory, read_failed, damage_met, write_failed}
+use Rattle.state_model.specs.Changes.{written, flushed, compacted}
+use Rattle.line_model.specs.Limits.{key_limit, value_limit, first_limit, limit_of}
+use Rattle.line_model.specs.Requests.{Request, Put, Del, Get, Seek, Range, Count, Estimate, Explain, Flush, Compact, Quit, Bad}
+use Rattle.line_model.specs.Replies.{Reply, Done, Value, Missing, At, Pairs, End, Counted, About, Explained, Bye, BadLine, LongKey, LongValue, ManyTables, LastEpoch, Full, Memory, Device, Damaged}
+use Rattle.state_model.specs.Steps.{answer, answer_within, changed, unless_limit, left_by, Step, answers, no_memory, read_failed, damage_met, write_failed}
 use Rattle.state_model.specs.Play.{merged, tended, behind, played}
 use Rattle.state_model.specs.Sound.{IsSound}
 use Rattle.state_model.proofs.Wholes.{merged_is_a_slice}
@@ -39,14 +40,14 @@ first_within : (a b : Option Reply) → first_limit a b ≡ None → (a ≡ None
 first_within (Some limit) b e = absurd cc
 first_within None b e = (refl, e)
 
-put_within : (key value : Bytes) → first_limit (key_limit key) (value_limit value) ≡ None → IsEntry (put_entry key value)
-put_within key value e =
+put_within : (key value : Bytes) → first_limit (key_limit key) (value_limit value) ≡ None → IsBytes key → IsBytes value → IsEntry (put_entry key value)
+put_within key value e of_key of_value =
     let both = first_within (key_limit key) (value_limit value) e in
     let keys = key_within key both.0 in
-    record { some_key = keys.0; short_key = keys.1; short_value = value_within value both.1 }
+    record { some_key = keys.0; short_key = keys.1; short_value = value_within value both.1; key_bytes = of_key; value_bytes = of_value }
 
-del_within : (key : Bytes) → key_limit key ≡ None → IsEntry (del_entry key)
-del_within key e = let keys = key_within key e in record { some_key = keys.0; short_key = keys.1; short_value = omega arith }
+del_within : (key : Bytes) → key_limit key ≡ None → IsBytes key → IsEntry (del_entry key)
+del_within key e of_key = let keys = key_within key e in record { some_key = keys.0; short_key = keys.1; short_value = omega arith; key_bytes = of_key; value_bytes = λ i. omega arith }
 
 -- ---- the answer
 
@@ -55,8 +56,8 @@ changed_sound filter_bytes old (Ok t) sound new = new
 changed_sound filter_bytes old (Err refusal) sound new = sound
 
 within_sound : (filter_bytes : FilterBytes) (s : State) (request : Request) → IsSound filter_bytes s → AsksOfBytes request → limit_of request ≡ None → IsSound filter_bytes (answer_within filter_bytes s request).1
-within_sound filter_bytes s (Put key value) sound asks e = changed_sound filter_bytes s (written filter_bytes s (put_entry key value)) sound (written_done filter_bytes s (put_entry key value) sound (put_within key value e) (record { key = asks.0; value = asks.1 }))
-within_sound filter_bytes s (Del key) sound asks e = changed_sound filter_bytes s (written filter_bytes s (del_entry key)) sound (written_done filter_bytes s (del_entry key) sound (del_within key e) (record { key = asks; value = λ i. omega arith }))
+within_sound filter_bytes s (Put key value) sound asks e = changed_sound filter_bytes s (written filter_bytes s (put_entry key value)) sound (written_done filter_bytes s (put_entry key value) sound (put_within key value e asks.0 asks.1) (record { key = asks.0; value = asks.1 }))
+within_sound filter_bytes s (Del key) sound asks e = changed_sound filter_bytes s (written filter_bytes s (del_entry key)) sound (written_done filter_bytes s (del_entry key) sound (del_within key e asks) (record { key = asks; value = λ i. omega arith }))
 within_sound filter_bytes s Flush sound asks e = changed_sound filter_bytes s (flushed filter_bytes s) sound (flushed_done filter_bytes s sound)
 within_sound filter_bytes s Compact sound asks e = changed_sound filter_bytes (without_job s) (compacted filter_bytes s) (drop_sound filter_bytes s sound) (compacted_done filter_bytes s sound)
 within_sound filter_bytes s (Get key) sound asks e = sound

@@ -3,10 +3,9 @@ use Rattle.std.proofs.Common.{◌≡◌, inr, ℕ, ◌≤◌, ◌<◌, ◌+◌, 
 use Rattle.std.specs.Prelude.{◌-◌}
 use Rattle.std.specs.List.{AllByRecursion}
 use Rattle.filter_api.specs.declared.settings.Settings.{Settings}
-use Rattle.store_model.specs.SortedMap.{Bytes}
-use Rattle.store_model.specs.Entries.{Entry}
-use Rattle.mem_table.specs.Table.{IsAbove, KeysRise}
-use Rattle.block_model.specs.Block.{IsEntry}
+use Rattle.map_model.specs.SortedMap.{Bytes}
+use Rattle.entry_model.specs.Entries.{Entry, IsEntry}
+use Rattle.entry_model.specs.Newest.{IsAbove, KeysRise}
 use Rattle.block_model.specs.Pages.{first_key, last_key}
 use Rattle.state_model.specs.State.{Table}
 use Rattle.state_model.specs.View.{oldest_first}

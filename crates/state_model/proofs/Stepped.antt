@@ -1,8 +1,8 @@
 -- What a closed seek steps over is deleted.
 use Rattle.std.proofs.Common.{◌≡◌, [], ◌∷◌, refl, sym, ap, ◌∙◌, true, false}
 use Rattle.std.specs.Prelude.{Option, Some, None}
-use Rattle.store_model.specs.SortedMap.{Bytes, Map, get}
-use Rattle.store_model.proofs.Maps.{entries_rise}
+use Rattle.map_model.specs.SortedMap.{Bytes, Map, get}
+use Rattle.entry_model.proofs.Maps.{entries_rise}
 use Rattle.map_model.specs.Slices.{is_before, is_between, between, first_pair, seek}
 use Rattle.map_model.proofs.Between.{within, sought_least}
 use Rattle.state_model.specs.State.{State}

@@ -4,9 +4,9 @@ use Rattle.std.specs.Prelude.{Option, not, ◌==◌, ◌||◌, filter}
 use Rattle.std.specs.List.{AllByRecursion, list_any}
 use Rattle.std.proofs.lemmas.List.Folds.{list_any-append}
 use Rattle.block_model.proofs.Bounds.{weaker}
-use Rattle.store_model.specs.SortedMap.{Bytes}
-use Rattle.store_model.specs.Entries.{or_else}
-use Rattle.mem_table.specs.Table.{lookup}
+use Rattle.map_model.specs.SortedMap.{Bytes}
+use Rattle.entry_model.specs.Entries.{or_else}
+use Rattle.entry_model.specs.Newest.{lookup}
 use Rattle.state_model.specs.State.{Table}
 use Rattle.state_model.specs.Tends.{without}
 use Rattle.state_model.proofs.Sayings.{or_assoc}

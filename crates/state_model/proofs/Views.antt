@@ -2,11 +2,11 @@
 use Rattle.std.proofs.Common.{◌≡◌, List, [], ◌∷◌, sym, ap, ◌∙◌}
 use Rattle.std.specs.Prelude.{Option}
 use Rattle.std.specs.List.{AllByRecursion}
-use Rattle.store_model.specs.SortedMap.{Bytes, get}
-use Rattle.store_model.specs.Entries.{newest, or_else, live}
-use Rattle.store_model.proofs.Maps.{newest_counts}
-use Rattle.mem_table.specs.Table.{newest_entries, lookup}
-use Rattle.mem_table.proofs.Newest.{lookup_newest}
+use Rattle.map_model.specs.SortedMap.{Bytes, get}
+use Rattle.entry_model.specs.Entries.{newest, or_else, live}
+use Rattle.entry_model.proofs.Maps.{newest_counts}
+use Rattle.entry_model.specs.Newest.{newest_entries, lookup}
+use Rattle.entry_model.proofs.Newest.{lookup_newest}
 use Rattle.block_model.specs.Order.{is_any}
 use Rattle.state_model.specs.State.{State, Table}
 use Rattle.state_model.specs.View.{view, first_found, oldest_first, entries_of, state_map}

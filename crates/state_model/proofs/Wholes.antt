@@ -3,7 +3,7 @@ use Rattle.std.proofs.Common.{◌≡◌, inr, ℕ, List, [], ◌∷◌, ◌++◌
 use Rattle.std.specs.Prelude.{Option, Some, None, Result, Ok, Err, ◌==◌, take, drop}
 use Rattle.std.proofs.lemmas.Bool.{eqb-true, eqb-false}
 use Rattle.std.proofs.lemmas.List.{append-nil, map-append, take_all, length-map, drop_all}
-use Rattle.store_model.specs.Entries.{Entry}
+use Rattle.entry_model.specs.Entries.{Entry}
 use Rattle.state_model.specs.State.{State, Table, Job, without_job, last_epoch}
 use Rattle.state_model.specs.Pages.{FilterBytes, table_pages, table_of}
 use Rattle.extent_model.specs.Extents.{Extent}
@@ -11,7 +11,7 @@ use Rattle.extent_model.specs.Gaps.{first_gap, largest_gap}
 use Rattle.state_model.specs.Taken.{extent_of, taken}
 use Rattle.state_model.specs.Merges.{NoRoom, Plan, choose, before, at_page, placed}
 use Rattle.state_model.specs.Causes.{Why}
-use Rattle.state_model.specs.Replies.{LastEpoch, Full}
+use Rattle.line_model.specs.Replies.{LastEpoch, Full}
 use Rattle.state_model.specs.Tends.{started, Runs, with_job, outstanding, next_placed, Progresses, IsDone, installed, Tended, Idle, Worked, Refused, Tend, idle, installs, last_epoch_reached, no_room}
 use Rattle.state_model.specs.Script.{Onward, turn_of_slice}
 use Rattle.state_model.specs.Play.{job_of_plan, job_of, finished, installed_or_dropped, merged_by, merged}

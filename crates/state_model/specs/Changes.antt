@@ -1,32 +1,14 @@
 -- What a put, a flush and a compaction make of a state, or the reply by which they are refused.
 use Rattle.std.specs.Prelude.{ℕ, ◌+◌, ◌==◌, nat_le, nat_lt, ◌||◌, if◌then◌else◌, List, [], ◌∷◌, ◌++◌, length, filter, Option, Some, None, Result, Ok, Err}
-use Rattle.store_model.specs.SortedMap.{Bytes}
-use Rattle.store_model.specs.Entries.{Entry, need, gap}
-use Rattle.mem_table.specs.Table.{newest_entries}
+use Rattle.map_model.specs.SortedMap.{Bytes}
+use Rattle.entry_model.specs.Entries.{Entry, need, gap}
+use Rattle.entry_model.specs.Newest.{newest_entries}
 use Rattle.state_model.specs.State.{State, Table, without_job, last_epoch}
 use Rattle.state_model.specs.View.{memory, entries_of}
 use Rattle.state_model.specs.Pages.{FilterBytes}
 use Rattle.state_model.specs.Taken.{taken}
 use Rattle.state_model.specs.Merges.{NoRoom, placed, cut, has_value}
-use Rattle.state_model.specs.Replies.{Reply, LongKey, LongValue, ManyTables, LastEpoch, Full}
-
--- ---- limits
-
--- a key has 1 to 1,024 bytes
-abbrev pub key_limit : Bytes → Option Reply
-key_limit key = if length key == 0 || nat_lt 1024 (length key) then Some (LongKey (length key)) else None
-
--- a value has at most 65,536 bytes
-abbrev pub value_limit : Bytes → Option Reply
-value_limit value = if nat_lt 65536 (length value) then Some (LongValue (length value)) else None
-
--- a bound has at most 1,024 bytes
-abbrev pub bound_limit : Bytes → Option Reply
-bound_limit bound = if nat_lt 1024 (length bound) then Some (LongKey (length bound)) else None
-
-abbrev pub first_limit : Option Reply → Option Reply → Option Reply
-first_limit (Some limit) other = Some limit
-first_limit None other = other
+use Rattle.line_model.specs.Replies.{Reply, ManyTables, LastEpoch, Full}
 
 -- a version has at most so many tables
 abbrev pub most_tables : ℕ

@@ -1,12 +1,12 @@
 -- States and requests by which the definitions are shown.
 use Rattle.std.specs.Prelude.{ℕ, List, [], ◌∷◌, length, map, Option, Some, None, codes}
 use Rattle.filter_api.specs.declared.settings.Settings.{Settings}
-use Rattle.store_model.specs.SortedMap.{Bytes}
-use Rattle.store_model.specs.Entries.{del_entry}
+use Rattle.map_model.specs.SortedMap.{Bytes}
+use Rattle.entry_model.specs.Entries.{del_entry}
 use Rattle.state_model.specs.State.{State, Table, new_state}
 use Rattle.state_model.specs.Merges.{Plan}
 use Rattle.state_model.specs.Pages.{FilterBytes}
-use Rattle.state_model.specs.Requests.{Request, Put, Del, Flush, Compact}
+use Rattle.line_model.specs.Requests.{Request, Put, Del, Flush, Compact}
 
 -- no suffix bits, and the ratio of a store that names none
 abbrev pub base : Settings

@@ -1,11 +1,11 @@
 -- Laws of what the state does not explain: where it may be met, and what it leaves.
 use Rattle.std.specs.Prelude.{◌≡◌, None}
-use Rattle.store_model.specs.SortedMap.{Bytes}
+use Rattle.map_model.specs.SortedMap.{Bytes}
 use Rattle.state_model.specs.State.{State}
 use Rattle.state_model.specs.Pages.{FilterBytes}
 use Rattle.state_model.specs.Causes.{Why, ReadFailed, WriteFailed}
-use Rattle.state_model.specs.Requests.{Request, Put, Del, Get, Estimate, Explain, Flush, Compact}
-use Rattle.state_model.specs.Replies.{Reply, Memory, Device}
+use Rattle.line_model.specs.Requests.{Request, Put, Del, Get, Estimate, Explain, Flush, Compact}
+use Rattle.line_model.specs.Replies.{Reply, Memory, Device}
 use Rattle.state_model.specs.Tends.{Tend, Tended, Refused}
 use Rattle.state_model.specs.Steps.{Step}
 use Rattle.state_model.specs.Sound.{IsSound}

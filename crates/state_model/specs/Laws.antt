@@ -1,8 +1,8 @@
 -- Laws of the state: which map it is, and what each change leaves of it.
 use Rattle.std.specs.Prelude.{◌≡◌, ◌⊎◌, ◌<◌, ◌≤◌, Bool, true, false, if◌then◌else◌, List, [], ◌∷◌, ◌++◌, length, map, flat_map, Some, Ok}
 use Rattle.std.specs.List.{AllByRecursion, AllPairs}
-use Rattle.store_model.specs.SortedMap.{Bytes, Map, get, put, del, Rises}
-use Rattle.store_model.specs.Entries.{Entry, live, changed}
+use Rattle.map_model.specs.SortedMap.{Bytes, Map, get, put, del, Rises}
+use Rattle.entry_model.specs.Entries.{Entry, live, changed}
 use Rattle.block_model.specs.Pages.{data_pages}
 use Rattle.state_model.specs.State.{State, Table, Job}
 use Rattle.state_model.specs.View.{view, first_found, state_map}
@@ -11,8 +11,8 @@ use Rattle.state_model.specs.Merges.{Plan, choose, split_output, planned, lastin
 use Rattle.state_model.specs.Changes.{flushed, written, compacted}
 use Rattle.state_model.specs.Sound.{IsSound, IsSoundTable, StandsBefore, IsJob}
 use Rattle.state_model.specs.Tends.{IsDone, installed}
-use Rattle.state_model.specs.Requests.{Request, Put, Del}
-use Rattle.state_model.specs.Replies.{Reply, Done}
+use Rattle.line_model.specs.Requests.{Request, Put, Del}
+use Rattle.line_model.specs.Replies.{Reply, Done}
 use Rattle.state_model.specs.Steps.{answer}
 
 -- whether a line was answered as done

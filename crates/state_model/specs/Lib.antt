@@ -3,8 +3,6 @@ pub mod View
 pub mod Pages
 pub mod Taken
 pub mod Merges
-pub mod Replies
-pub mod Requests
 pub mod Causes
 pub mod Changes
 pub mod Bounds

@@ -2,9 +2,9 @@
 use Rattle.std.specs.Prelude.{ℕ, zero, suc, ◌+◌, ◌-◌, ◌*◌, ◌^◌, ◌==◌, nat_le, nat_lt, Bool, true, false, not, ◌&&◌, if◌then◌else◌, List, [], ◌∷◌, ◌++◌, take, filter, fold, length, Option, Some, None, Result, Ok, Err}
 use Rattle.std.specs.List.{list_any, sum_by}
 use Rattle.filter_api.specs.declared.settings.Settings.{Settings}
-use Rattle.store_model.specs.SortedMap.{Bytes}
-use Rattle.store_model.specs.Entries.{Entry}
-use Rattle.mem_table.specs.Table.{newest_entries}
+use Rattle.map_model.specs.SortedMap.{Bytes}
+use Rattle.entry_model.specs.Entries.{Entry}
+use Rattle.entry_model.specs.Newest.{newest_entries}
 use Rattle.block_model.specs.Pages.{data_pages, first_key, last_key}
 use Rattle.map_model.specs.Slices.{is_before}
 use Rattle.state_model.specs.State.{Table}

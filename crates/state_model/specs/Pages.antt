@@ -1,17 +1,14 @@
 -- How many pages a table takes.
 use Rattle.std.specs.Prelude.{ℕ, ◌+◌, List, map, length}
 use Rattle.filter_api.specs.declared.settings.Settings.{Settings}
-use Rattle.store_model.specs.SortedMap.{Bytes}
-use Rattle.store_model.specs.Entries.{Entry}
+use Rattle.map_model.specs.SortedMap.{Bytes}
+use Rattle.entry_model.specs.Entries.{Entry, keys_of}
 use Rattle.block_model.specs.Pages.{pages_for, blocks_of, data_pages, index_length}
 use Rattle.state_model.specs.State.{Table}
 
 -- the bytes of the filter that is built of some keys, by the settings: a parameter, for each kind of filter its own
 abbrev pub FilterBytes : Type 0
 FilterBytes = Settings → List Bytes → Bytes
-
-abbrev pub keys_of : List Entry → List Bytes
-keys_of entries = map (λ (e : Entry). e.key) entries
 
 -- data, index and filter, each in whole pages
 abbrev pub table_pages : FilterBytes → Settings → List Entry → ℕ

@@ -1,14 +1,14 @@
 -- Runs of the script that compute: memory lasts, the device holds, and each merge is done whole in its first merge slice, or
 -- in slices of so many blocks.
 use Rattle.std.specs.Prelude.{ℕ, ◌-◌, ◌==◌, nat_lt, if◌then◌else◌, List, [], ◌∷◌, ◌++◌, length, Option, Some, None, Result, Ok, Err}
-use Rattle.store_model.specs.Entries.{Entry}
+use Rattle.entry_model.specs.Entries.{Entry}
 use Rattle.state_model.specs.State.{State, Table, Job, without_job, last_epoch}
 use Rattle.state_model.specs.Pages.{FilterBytes}
 use Rattle.state_model.specs.Merges.{NoRoom, Plan, choose}
 use Rattle.state_model.specs.Tends.{started, with_job, outstanding, next_placed, installed}
 use Rattle.state_model.specs.Steps.{answer}
-use Rattle.state_model.specs.Requests.{Request, Put, Del}
-use Rattle.state_model.specs.Replies.{Reply, Bye}
+use Rattle.line_model.specs.Requests.{Request, Put, Del}
+use Rattle.line_model.specs.Replies.{Reply, Bye}
 
 -- the job that runs, or a new one
 abbrev pub job_of_plan : Option Plan → Option Job

@@ -1,11 +1,11 @@
 -- Laws of a run that computes: it is one of those that the relation allows.
 use Rattle.std.specs.Prelude.{◌≡◌, ◌≤◌, ℕ, List, map, flat_map, None}
-use Rattle.store_model.specs.SortedMap.{Bytes}
+use Rattle.map_model.specs.SortedMap.{Bytes}
 use Rattle.state_model.specs.State.{State}
 use Rattle.state_model.specs.Pages.{FilterBytes}
 use Rattle.state_model.specs.Causes.{Why}
-use Rattle.state_model.specs.Requests.{request_of}
-use Rattle.state_model.specs.Replies.{text_of}
+use Rattle.line_model.specs.Requests.{request_of}
+use Rattle.line_model.specs.Replies.{text_of}
 use Rattle.state_model.specs.Tends.{Tend, Tended}
 use Rattle.state_model.specs.Steps.{answer}
 use Rattle.state_model.specs.Play.{merged, sliced, tended, played}

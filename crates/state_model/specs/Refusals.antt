@@ -1,8 +1,8 @@
 -- Why a line is refused.
 use Rattle.std.specs.Prelude.{ℕ, ◌≡◌, ◌≢◌, ◌⊎◌, ◌<◌, ◌≤◌, Bool, true, false, List, [], ◌∷◌, length, Option, Some, None, Result, Ok, Err}
 use Rattle.filter_api.specs.declared.settings.Settings.{Settings}
-use Rattle.store_model.specs.SortedMap.{Bytes}
-use Rattle.store_model.specs.Entries.{Entry, put_entry, del_entry, need, gap}
+use Rattle.map_model.specs.SortedMap.{Bytes}
+use Rattle.entry_model.specs.Entries.{Entry, put_entry, del_entry, need, gap}
 use Rattle.state_model.specs.State.{State, Table, without_job, last_epoch}
 use Rattle.state_model.specs.View.{memory, entries_of}
 use Rattle.state_model.specs.Pages.{FilterBytes, table_pages}
@@ -11,9 +11,10 @@ use Rattle.extent_model.specs.Gaps.{largest_gap}
 use Rattle.state_model.specs.Taken.{taken}
 use Rattle.state_model.specs.Merges.{NoRoom, placed, cut}
 use Rattle.state_model.specs.Changes.{most_tables, live_entries}
-use Rattle.state_model.specs.Requests.{Request, Put, Del, Get, Seek, Range, Count, Estimate, Explain, Flush, Compact}
-use Rattle.state_model.specs.Replies.{Reply, LongKey, LongValue, ManyTables, LastEpoch, Full}
-use Rattle.state_model.specs.Steps.{answer, limit_of}
+use Rattle.line_model.specs.Requests.{Request, Put, Del, Get, Seek, Range, Count, Estimate, Explain, Flush, Compact}
+use Rattle.line_model.specs.Replies.{Reply, LongKey, LongValue, ManyTables, LastEpoch, Full}
+use Rattle.state_model.specs.Steps.{answer}
+use Rattle.line_model.specs.Limits.{limit_of}
 
 -- the replies that refuse a line for what the state or the line is
 abbrev pub is_refusal : Reply → Bool

@@ -1,11 +1,11 @@
 -- What the lines are answered, one after the other, and what happens between them.
 use Rattle.std.specs.Prelude.{◌≡◌, ◌+◌, ℕ, List, [], ◌∷◌, ◌++◌, length}
-use Rattle.store_model.specs.SortedMap.{Bytes}
+use Rattle.map_model.specs.SortedMap.{Bytes}
 use Rattle.state_model.specs.State.{State}
 use Rattle.state_model.specs.Pages.{FilterBytes}
 use Rattle.state_model.specs.Causes.{Why}
-use Rattle.state_model.specs.Requests.{Request, Put, Del, request_of}
-use Rattle.state_model.specs.Replies.{Reply, Pairs, Bye, Device, Damaged, text_of}
+use Rattle.line_model.specs.Requests.{Request, Put, Del, request_of}
+use Rattle.line_model.specs.Replies.{Reply, Pairs, Bye, Device, Damaged, text_of}
 use Rattle.state_model.specs.Tends.{Tend, Tended, Refused}
 use Rattle.state_model.specs.Steps.{Step}
 

@@ -5,9 +5,9 @@ use Rattle.std.specs.declared.cmp.Ordering.TheVariants.{Less}
 use Rattle.filter_api.specs.declared.settings.Settings.{Settings}
 use Rattle.filter_api.specs.Ranges.{InRange}
 use Rattle.byte_fields.specs.Spelling.{IsBytes}
-use Rattle.store_model.specs.SortedMap.{Bytes, byte_order}
-use Rattle.store_model.specs.Entries.{Entry, bytes_of, filled}
-use Rattle.block_model.specs.Block.{IsEntry, IsTable}
+use Rattle.map_model.specs.SortedMap.{Bytes, byte_order}
+use Rattle.entry_model.specs.Entries.{Entry, bytes_of, filled, IsEntry}
+use Rattle.block_model.specs.Block.{IsTable}
 use Rattle.state_model.specs.State.{State, Table, Job, last_epoch}
 use Rattle.state_model.specs.Pages.{FilterBytes, table_of}
 use Rattle.extent_model.specs.Extents.{IsOnDevice, AreApart}

@@ -5,19 +5,18 @@ use Rattle.filter_api.specs.declared.settings.Settings.{Settings}
 use Rattle.filter_api.specs.Ranges.{InRange}
 use Rattle.filter_model.specs.Keys.{IsKeyList}
 use Rattle.byte_fields.specs.Spelling.{IsBytes}
-use Rattle.store_model.specs.SortedMap.{Bytes}
-use Rattle.store_model.specs.Entries.{Entry, filled}
-use Rattle.block_model.specs.Block.{IsEntry}
+use Rattle.map_model.specs.SortedMap.{Bytes}
+use Rattle.entry_model.specs.Entries.{Entry, filled, IsEntry, keys_of}
 use Rattle.state_model.specs.State.{State, Table, Job, new_state, without_job}
 use Rattle.state_model.specs.View.{state_map}
-use Rattle.state_model.specs.Pages.{FilterBytes, keys_of}
+use Rattle.state_model.specs.Pages.{FilterBytes}
 use Rattle.extent_model.specs.Extents.{Extent, AreLaid}
 use Rattle.state_model.specs.Taken.{extent_of}
 use Rattle.state_model.specs.Merges.{Plan, choose, placed, planned}
 use Rattle.state_model.specs.Changes.{flushed, written, compacted}
 use Rattle.state_model.specs.Causes.{Why}
-use Rattle.state_model.specs.Requests.{Request, request_of, Put, Del}
-use Rattle.state_model.specs.Replies.{Reply}
+use Rattle.line_model.specs.Requests.{Request, request_of, Put, Del}
+use Rattle.line_model.specs.Replies.{Reply}
 use Rattle.state_model.specs.Steps.{Step, answer}
 use Rattle.state_model.specs.Play.{played}
 use Rattle.state_model.specs.Script.{Ending, Script, WentOn}

@@ -1,7 +1,7 @@
 -- The state of a store: what its log and its tables hold, and the merge that runs.
 use Rattle.std.specs.Prelude.{ℕ, List, [], Option, Some, None}
 use Rattle.filter_api.specs.declared.settings.Settings.{Settings}
-use Rattle.store_model.specs.Entries.{Entry}
+use Rattle.entry_model.specs.Entries.{Entry}
 
 -- A table: its level, its first page and how many pages it takes, of how many data blocks it is made, and its entries,
 -- with strictly rising keys.

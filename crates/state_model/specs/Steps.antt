@@ -1,39 +1,24 @@
 -- What one line is answered, and the state that it leaves.
 use Rattle.std.specs.Prelude.{◌≡◌, ◌≢◌, ◌⊎◌, ◌<◌, ℕ, false, [], length, take, Option, Some, None, Result, Ok, Err, IsOk}
 use Rattle.byte_fields.specs.declared.parts.Damage.{Damage}
-use Rattle.store_model.specs.SortedMap.{Map, get}
-use Rattle.store_model.specs.Entries.{put_entry, del_entry}
+use Rattle.map_model.specs.SortedMap.{Map, get}
+use Rattle.entry_model.specs.Entries.{put_entry, del_entry}
 use Rattle.map_model.specs.Slices.{is_before, slice, seek, count}
 use Rattle.state_model.specs.State.{State, without_job, last_epoch}
 use Rattle.state_model.specs.View.{memory, entries_of, state_map}
 use Rattle.state_model.specs.Pages.{FilterBytes}
-use Rattle.state_model.specs.Changes.{key_limit, value_limit, bound_limit, first_limit, written, flushed, compacted}
+use Rattle.state_model.specs.Changes.{written, flushed, compacted}
+use Rattle.line_model.specs.Limits.{limit_of}
 use Rattle.state_model.specs.Bounds.{get_bound, seek_bound, estimate, admitted, blocks_read}
 use Rattle.state_model.specs.Sound.{IsLeft}
 use Rattle.state_model.specs.Causes.{Why, NoMemory, ReadFailed, WriteFailed, DamageMet}
-use Rattle.state_model.specs.Requests.{Request, Put, Del, Get, Seek, Range, Count, Estimate, Explain, Flush, Compact, Quit, Bad}
-use Rattle.state_model.specs.Replies.{Reply, Done, Pairs, End, Counted, About, Explained, Bye, BadLine, Memory, Device, Damaged, got, found}
+use Rattle.line_model.specs.Requests.{Request, Put, Del, Get, Seek, Range, Count, Estimate, Explain, Flush, Compact, Quit, Bad}
+use Rattle.line_model.specs.Replies.{Reply, Done, Pairs, End, Counted, About, Explained, Bye, BadLine, Memory, Device, Damaged, got, found}
 
 abbrev pub Answer : Type 0
 Answer = Reply × State
 
 -- ---- the answer where memory lasts and the device holds
-
--- the limit that a request breaks, the first where it breaks two
-abbrev pub limit_of : Request → Option Reply
-limit_of (Put key value) = first_limit (key_limit key) (value_limit value)
-limit_of (Del key) = key_limit key
-limit_of (Get key) = key_limit key
-limit_of (Seek lo None) = bound_limit lo
-limit_of (Seek lo (Some hi)) = first_limit (bound_limit lo) (bound_limit hi)
-limit_of (Range lo hi n) = first_limit (bound_limit lo) (bound_limit hi)
-limit_of (Count lo hi) = first_limit (bound_limit lo) (bound_limit hi)
-limit_of (Estimate lo hi) = first_limit (bound_limit lo) (bound_limit hi)
-limit_of (Explain key) = key_limit key
-limit_of Flush = None
-limit_of Compact = None
-limit_of Quit = None
-limit_of (Bad code) = None
 
 -- a change is done, or refused and nothing changes but what is left here
 abbrev pub changed : State → Result State Reply → Answer

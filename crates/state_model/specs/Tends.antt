@@ -3,7 +3,7 @@ use Rattle.std.specs.Prelude.{◌≡◌, ◌≢◌, ◌⊎◌, ◌≤◌, ◌+�
 use Rattle.std.specs.List.{list_any, sum_by}
 use Rattle.byte_fields.specs.declared.parts.Damage.{Damage}
 use Rattle.map_model.specs.Slices.{is_before}
-use Rattle.store_model.specs.Entries.{Entry}
+use Rattle.entry_model.specs.Entries.{Entry}
 use Rattle.state_model.specs.State.{State, Table, Job, without_job, last_epoch}
 use Rattle.state_model.specs.View.{state_map}
 use Rattle.state_model.specs.Pages.{FilterBytes}
@@ -11,7 +11,7 @@ use Rattle.state_model.specs.Taken.{taken}
 use Rattle.state_model.specs.Merges.{Plan, NoRoom, choose, planned, placed, least_key}
 use Rattle.state_model.specs.Sound.{IsLeft, plan_of_job}
 use Rattle.state_model.specs.Causes.{Why, NoMemory, ReadFailed, WriteFailed, DamageMet}
-use Rattle.state_model.specs.Replies.{Reply, LastEpoch, Full, Memory, Device, Damaged}
+use Rattle.line_model.specs.Replies.{Reply, LastEpoch, Full, Memory, Device, Damaged}
 
 -- ---- the job that a merge slice works on
 

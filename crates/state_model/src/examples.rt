@@ -2,18 +2,18 @@
 ghost use Rattle.std.specs.Prelude.{◌≡◌, true, false, [], ◌∷◌, ◌++◌, map, replicate, Some, None, codes};
 ghost use Rattle.byte_fields.specs.declared.parts.Part.TheVariants.{Block};
 ghost use Rattle.byte_fields.specs.declared.parts.Damage.TheVariants.{Sum};
-ghost use Rattle.store_model.specs.SortedMap.{get};
+ghost use Rattle.map_model.specs.SortedMap.{get};
 ghost use Rattle.state_model.specs.View.{state_map};
-ghost use Rattle.state_model.specs.Changes.{key_limit, bound_limit};
+ghost use Rattle.line_model.specs.Limits.{key_limit, bound_limit};
 ghost use Rattle.state_model.specs.Merges.{choose, is_deepest, level_limit};
 ghost use Rattle.state_model.specs.Bounds.{get_bound, seek_bound};
 ghost use Rattle.state_model.specs.Play.{played, played_in_slices};
-ghost use Rattle.state_model.specs.Replies.{Done, Value, Missing, At, Pairs, End, Counted, About, Explained, Bye, Full, LongKey, ManyTables, LastEpoch, Damaged, at_words, sum_word, text_of};
-ghost use Rattle.state_model.specs.Requests.{Put, Del, Get, Seek, Range, Count, Estimate, Explain, Flush, Compact, Quit, Bad, request_of};
+ghost use Rattle.line_model.specs.Replies.{Done, Value, Missing, At, Pairs, End, Counted, About, Explained, Bye, Full, LongKey, ManyTables, LastEpoch, Damaged, at_words, sum_word, text_of};
+ghost use Rattle.line_model.specs.Requests.{Put, Del, Get, Seek, Range, Count, Estimate, Explain, Flush, Compact, Quit, Bad, request_of};
 ghost use Rattle.state_model.specs.Examples.{small_store, one_byte, key, put_one, four_tables, three_tables, aa1_and_ab1, tombstone_over_a_value, two_values, table_at, store_with, pages_of_plan, place_of};
 
 /// Tables that are flushed, merged and compacted.
-#[tactic(auto, unfolding(block_model::specs::Pages::pages_for, block_model::specs::Pages::block_length, block_model::specs::Pages::block_pages, block_model::specs::Pages::blocks_of, block_model::specs::Pages::data_pages, block_model::specs::Pages::index_length, store_model::specs::Entries::filled, store_model::specs::Entries::gap, crate::specs::State::last_epoch))]
+#[tactic(auto, unfolding(block_model::specs::Pages::pages_for, block_model::specs::Pages::block_length, block_model::specs::Pages::block_pages, block_model::specs::Pages::blocks_of, block_model::specs::Pages::data_pages, block_model::specs::Pages::index_length, entry_model::specs::Entries::filled, entry_model::specs::Entries::gap, crate::specs::State::last_epoch))]
 pub fn merges_and_flushes()
     ensures a_tombstone_hides_and_a_compaction_drops_it { (played one_byte small_store (Put (key 0x61) (0x62 ∷ []) ∷ Flush ∷ Del (key 0x61) ∷ Flush ∷ Get (key 0x61) ∷ Compact ∷ Get (key 0x61) ∷ Explain (key 0x61) ∷ [])).0 ≡ Done ∷ Done ∷ Done ∷ Done ∷ Missing ∷ Done ∷ Missing ∷ Explained 0 0 0 ∷ [] }
     ensures tables_stand_in_the_first_gaps { map place_of (played one_byte small_store four_tables).1.tables ≡ (0 ∷ 201 ∷ 3 ∷ 1 ∷ 1 ∷ []) ∷ (0 ∷ 198 ∷ 3 ∷ 1 ∷ 1 ∷ []) ∷ (0 ∷ 195 ∷ 3 ∷ 1 ∷ 1 ∷ []) ∷ (0 ∷ 192 ∷ 3 ∷ 1 ∷ 1 ∷ []) ∷ [] }
@@ -24,7 +24,7 @@ pub fn merges_and_flushes()
 {}
 
 /// What hides what, and where tables go.
-#[tactic(auto, unfolding(block_model::specs::Pages::pages_for, block_model::specs::Pages::block_length, block_model::specs::Pages::block_pages, block_model::specs::Pages::blocks_of, block_model::specs::Pages::data_pages, block_model::specs::Pages::index_length, store_model::specs::Entries::filled, store_model::specs::Entries::gap, crate::specs::State::last_epoch))]
+#[tactic(auto, unfolding(block_model::specs::Pages::pages_for, block_model::specs::Pages::block_length, block_model::specs::Pages::block_pages, block_model::specs::Pages::blocks_of, block_model::specs::Pages::data_pages, block_model::specs::Pages::index_length, entry_model::specs::Entries::filled, entry_model::specs::Entries::gap, crate::specs::State::last_epoch))]
 pub fn levels_and_gaps()
     ensures a_merge_keeps_a_tombstone_over_a_deeper_value { map place_of (played one_byte small_store (tombstone_over_a_value ++ put_one 0x65 ∷ [])).1.tables ≡ (1 ∷ 207 ∷ 3 ∷ 1 ∷ 4 ∷ []) ∷ (6 ∷ 192 ∷ 3 ∷ 1 ∷ 1 ∷ []) ∷ [] }
     ensures it_still_hides_it { get (state_map (played one_byte small_store (tombstone_over_a_value ++ put_one 0x65 ∷ [])).1) (key 0x61) ≡ None }
@@ -44,22 +44,15 @@ pub fn levels_and_gaps()
 {}
 
 /// A merge in slices of two blocks: two that read, one that writes, one that installs.
-#[tactic(auto, unfolding(block_model::specs::Pages::pages_for, block_model::specs::Pages::block_length, block_model::specs::Pages::block_pages, block_model::specs::Pages::blocks_of, block_model::specs::Pages::data_pages, block_model::specs::Pages::index_length, store_model::specs::Entries::filled, store_model::specs::Entries::gap, crate::specs::State::last_epoch))]
+#[tactic(auto, unfolding(block_model::specs::Pages::pages_for, block_model::specs::Pages::block_length, block_model::specs::Pages::block_pages, block_model::specs::Pages::blocks_of, block_model::specs::Pages::data_pages, block_model::specs::Pages::index_length, entry_model::specs::Entries::filled, entry_model::specs::Entries::gap, crate::specs::State::last_epoch))]
 pub fn merges_in_slices()
     ensures three_are_too_few { map place_of (played_in_slices one_byte 2 small_store (four_tables ++ replicate 3 (put_one 0x65))).1.tables ≡ (0 ∷ 201 ∷ 3 ∷ 1 ∷ 1 ∷ []) ∷ (0 ∷ 198 ∷ 3 ∷ 1 ∷ 1 ∷ []) ∷ (0 ∷ 195 ∷ 3 ∷ 1 ∷ 1 ∷ []) ∷ (0 ∷ 192 ∷ 3 ∷ 1 ∷ 1 ∷ []) ∷ [] }
     ensures four_are_enough { map place_of (played_in_slices one_byte 2 small_store (four_tables ++ replicate 4 (put_one 0x65))).1.tables ≡ (1 ∷ 204 ∷ 3 ∷ 1 ∷ 4 ∷ []) ∷ [] }
     ensures a_flush_between_them_stays { map place_of (played_in_slices one_byte 2 small_store (four_tables ++ put_one 0x65 ∷ Flush ∷ replicate 3 (put_one 0x66))).1.tables ≡ (0 ∷ 204 ∷ 3 ∷ 1 ∷ 1 ∷ []) ∷ (1 ∷ 207 ∷ 3 ∷ 1 ∷ 4 ∷ []) ∷ [] }
 {}
 
-/// Limits.
-#[tactic(auto)]
-pub fn limits()
-    ensures keys_have_1_to_1024_bytes { map (λ n. key_limit (replicate n 1)) (0 ∷ 1 ∷ 1024 ∷ 1025 ∷ []) ≡ Some (LongKey 0) ∷ None ∷ None ∷ Some (LongKey 1025) ∷ [] }
-    ensures bounds_may_be_empty { map (λ n. bound_limit (replicate n 1)) (0 ∷ 1024 ∷ 1025 ∷ []) ≡ None ∷ None ∷ Some (LongKey 1025) ∷ [] }
-{}
-
 /// Reads between two keys, and their bounds.
-#[tactic(auto, unfolding(block_model::specs::Pages::pages_for, block_model::specs::Pages::block_length, block_model::specs::Pages::block_pages, block_model::specs::Pages::blocks_of, block_model::specs::Pages::data_pages, block_model::specs::Pages::index_length, store_model::specs::Entries::filled, store_model::specs::Entries::gap, crate::specs::State::last_epoch))]
+#[tactic(auto, unfolding(block_model::specs::Pages::pages_for, block_model::specs::Pages::block_length, block_model::specs::Pages::block_pages, block_model::specs::Pages::blocks_of, block_model::specs::Pages::data_pages, block_model::specs::Pages::index_length, entry_model::specs::Entries::filled, entry_model::specs::Entries::gap, crate::specs::State::last_epoch))]
 pub fn reads_between_keys()
     ensures a_seek_steps_over_deleted_keys { (played one_byte small_store (three_tables ++ Seek (key 1) (Some (key 10)) ∷ [])).0 ≡ Done ∷ Done ∷ Done ∷ Done ∷ Done ∷ Done ∷ Done ∷ Done ∷ Done ∷ Done ∷ Done ∷ Done ∷ Done ∷ Done ∷ Done ∷ At (key 3) (1 ∷ []) ∷ [] }
     ensures its_bound_counts_them { seek_bound (played one_byte small_store three_tables).1 (key 1) (key 10) ≡ 7 }
@@ -68,20 +61,4 @@ pub fn reads_between_keys()
     ensures both_ends_are_counted { (played one_byte small_store (aa1_and_ab1 ++ Count (codes "aa1") (codes "ab1") ∷ Count (codes "ab1") (codes "aa1") ∷ Estimate (codes "ab1") (codes "aa1") ∷ [])).0 ≡ Done ∷ Done ∷ Done ∷ Counted 2 ∷ Counted 0 ∷ About 0 ∷ [] }
     ensures the_memory_is_estimated_too { (played one_byte small_store (aa1_and_ab1 ++ Del (codes "aa7") ∷ Estimate (codes "aa5") (codes "ab0") ∷ [])).0 ≡ Done ∷ Done ∷ Done ∷ Done ∷ About 3 ∷ [] }
     ensures pairs_between_two_keys { (played one_byte small_store (Put (key 0x61) [] ∷ Put (key 0x62) (1 ∷ []) ∷ Range [] (key 0x7a) 1 ∷ Range [] (key 0x7a) 0 ∷ Seek (key 0x63) None ∷ Seek (key 0x62) (Some (key 0x61)) ∷ Seek [] None ∷ Quit ∷ Flush ∷ [])).0 ≡ Done ∷ Done ∷ Pairs ((key 0x61, []) ∷ []) (End 1) ∷ Pairs [] (End 0) ∷ Missing ∷ Missing ∷ At (key 0x61) [] ∷ Bye ∷ [] }
-{}
-
-/// Lines, and words of replies.
-#[tactic(auto, unfolding(hex::specs::Hex::encode_with, hex::specs::Hex::decode_pairs))]
-pub fn lines_and_words()
-    ensures their_codes { map (λ line. request_of line) (codes "" ∷ codes "put 6" ∷ codes "put 6 62" ∷ codes "get  61" ∷ codes "range - 6 x" ∷ codes "flush now" ∷ [])
-        ≡ Bad 2 ∷ Bad 3 ∷ Bad 4 ∷ Bad 3 ∷ Bad 4 ∷ Bad 3 ∷ [] }
-    ensures their_requests { map (λ line. request_of line) (codes "seek 61" ∷ codes "seek - 62" ∷ codes "count - 61" ∷ codes "compact" ∷ [])
-        ≡ Seek (key 0x61) None ∷ Seek [] (Some (key 0x62)) ∷ Count [] (key 0x61) ∷ Compact ∷ [] }
-    ensures a_pair { at_words (key 0x61) [] ≡ codes "at 61 -" }
-    ensures numbers_in_one_spelling { map (λ line. request_of line) (codes "range - 61 0" ∷ codes "range - 61 1000000" ∷ codes "range - 61 1000001" ∷ codes "range - 61 01" ∷ codes "range - 61 " ∷ [])
-        ≡ Range [] (key 0x61) 0 ∷ Range [] (key 0x61) 1000000 ∷ Bad 5 ∷ Bad 5 ∷ Bad 5 ∷ [] }
-    ensures texts { map (λ reply. text_of reply) (Pairs ((key 0x61, 0xff ∷ []) ∷ []) (End 1) ∷ Full 30 2 ∷ Explained 3 2 1 ∷ ManyTables ∷ [])
-        ≡ (codes "at 61 ff" ++ 10 ∷ codes "end 1" ++ 10 ∷ []) ∷ (codes "full need 30 gap 2" ++ 10 ∷ []) ∷ (codes "tables 3 admitted 2 blocks 1" ++ 10 ∷ []) ∷ (codes "limit tables" ++ 10 ∷ []) ∷ [] }
-    ensures a_damaged_sum { text_of (Damaged (Sum Block 5 255 1)) ≡ codes "damaged block 5 sum 00000000000000ff 0000000000000001" ++ 10 ∷ [] }
-    ensures a_sum { sum_word 255 ≡ codes "00000000000000ff" }
 {}

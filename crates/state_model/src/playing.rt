@@ -1,7 +1,7 @@
 // A run that computes, against the relation. The functions do nothing.
 ghost use Rattle.std.specs.Prelude.{◌≡◌, [], ◌∷◌, ◌++◌, map, codes};
 ghost use Rattle.state_model.specs.PlayLaws.{PlayLaws, SlicesAreAllowed, played_text};
-ghost use Rattle.state_model.specs.Replies.{Done, Pairs, Bye, Memory, Device, Damaged};
+ghost use Rattle.line_model.specs.Replies.{Done, Pairs, Bye, Memory, Device, Damaged};
 ghost use Rattle.state_model.specs.Script.{Onward, Over, AtQuit, AtDevice, AtDamage, turn_of, turn_of_slice};
 ghost use Rattle.state_model.specs.Tends.{Idle, Refused};
 ghost use Rattle.byte_fields.specs.declared.parts.Part.TheVariants.{Block};
