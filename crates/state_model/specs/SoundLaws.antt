@@ -22,7 +22,7 @@ use Rattle.state_model.specs.Play.{played}
 use Rattle.state_model.specs.Script.{Ending, Script, WentOn}
 use Rattle.state_model.specs.PlayLaws.{Never, AnyState}
 use Rattle.state_model.specs.Tends.{Runs, Progresses, started, with_job, outstanding, Tended, Worked, Tend}
-use Rattle.state_model.specs.Sound.{IsOfBytes, IsSound, IsSoundTable}
+use Rattle.state_model.specs.Sound.{IsSound, IsSoundTable}
 
 -- Outputs that are placed beside laid extents are laid with them.
 abbrev pub PlacedAreLaid : Type 0
@@ -41,7 +41,7 @@ FlushKeepsSound = (filter_bytes : FilterBytes) (s t : State) → IsSound filter_
 
 -- so does an entry that is written
 abbrev pub WriteKeepsSound : Type 0
-WriteKeepsSound = (filter_bytes : FilterBytes) (s t : State) (entry : Entry) → IsSound filter_bytes s → IsEntry entry → IsOfBytes entry → written filter_bytes s entry ≡ Ok t → IsSound filter_bytes t
+WriteKeepsSound = (filter_bytes : FilterBytes) (s t : State) (entry : Entry) → IsSound filter_bytes s → IsEntry entry → written filter_bytes s entry ≡ Ok t → IsSound filter_bytes t
 
 -- and a compaction
 abbrev pub CompactionKeepsSound : Type 0
