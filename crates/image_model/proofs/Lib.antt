@@ -5,3 +5,6 @@ pub mod TablesShown
 pub mod States
 pub mod VersionsWritten
 pub mod TablesWritten
+pub mod Placed
+pub mod Frames
+pub mod Installs

@@ -13,7 +13,7 @@ use Rattle.manifest_model.specs.Version.{Version, body_bytes, body_place, front_
 use Rattle.manifest_model.proofs.VersionsRead.{body_again, rows_long}
 use Rattle.image_model.specs.Slots.{body_in, body_room}
 use Rattle.image_model.specs.Tables.{Shows}
-use Rattle.image_model.specs.Written.{NewStoreStands, VersionStands, new_version}
+use Rattle.image_model.specs.Written.{NewStoreIsReady, NewStoreStands, VersionStands, new_version}
 
 head_long : (v : Version) → length (head_bytes v) ≡ 64
 unfolding head_bytes
@@ -23,7 +23,7 @@ front_long : (v : Version) → length (front_bytes v) ≡ 64 + 64 * length v.row
 unfolding front_bytes
 front_long v = omega (arith, length-append (head_bytes v) (flat_map row_bytes v.rows), head_long v, rows_long v.rows)
 
-body_long : (v : Version) → length (body_bytes v) ≡ 72 + 64 * length v.rows
+pub body_long : (v : Version) → length (body_bytes v) ≡ 72 + 64 * length v.rows
 unfolding body_bytes
 body_long v = let parts : length (body_bytes v) ≡ length (front_bytes v) + 8 = length-append (front_bytes v) _ in omega (arith, parts, front_long v)
 
@@ -66,21 +66,28 @@ new_sound settings pages range ratio some few = record {
   placed = none_placed settings pages;
 }
 
-pub new_store_stands : NewStoreStands
-new_store_stands spelling settings pages image range ratio some few formatted = record {
-  version = new_version settings pages;
-  version_is = inl (record {
+pub new_store_ready : NewStoreIsReady
+new_store_ready spelling settings pages image range ratio some few formatted = record {
+  current = record {
     here = version_stands slot_a (new_version settings pages) image (new_sound settings pages range ratio some few) formatted.gate formatted.body;
     there = inl formatted.other_gate;
-  });
-  settings = refl;
-  pages = refl;
-  epoch = refl;
-  tables = tt;
-  order = λ i j d before within. absurd (omega (arith, within));
-  area = 0;
-  area_is = refl;
-  log = empty 0 image formatted.log_gate;
-  no_job = refl;
-  none_kept = refl;
+  };
+  gate = formatted.other_gate;
+  named = record {
+    settings = refl;
+    pages = refl;
+    epoch = refl;
+    tables = tt;
+    order = λ i j d before within. absurd (omega (arith, within));
+    area = 0;
+    area_is = refl;
+    log = empty 0 image formatted.log_gate;
+    no_job = refl;
+    none_kept = refl;
+  };
 }
+
+pub new_store_stands : NewStoreStands
+new_store_stands spelling settings pages image range ratio some few formatted =
+    let ready = new_store_ready spelling settings pages image range ratio some few formatted in
+    (new_version settings pages, record { version_is = inl ready.current; named = ready.named })

@@ -2,3 +2,5 @@ pub mod Slots
 pub mod Tables
 pub mod Stands
 pub mod Written
+pub mod Frames
+pub mod Installs

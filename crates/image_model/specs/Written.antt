@@ -1,5 +1,5 @@
 -- What is written stands: a version behind an open gate, a table at its pages, and a new store.
-use Rattle.std.specs.Prelude.{◌≡◌, ◌≢◌, ◌≤◌, ◌<◌, ◌^◌, ℕ, List, [], length}
+use Rattle.std.specs.Prelude.{◌≡◌, ◌≢◌, ◌≤◌, ◌<◌, ◌^◌, ℕ, false, List, [], length}
 use Rattle.disk_trait.specs.Image.{Image}
 use Rattle.byte_fields.specs.Sums.{fnv_of}
 use Rattle.byte_fields.specs.declared.parts.Row.{Row}
@@ -18,7 +18,7 @@ use Rattle.manifest_model.specs.Version.{Version, body_bytes, body_place, slot_a
 use Rattle.state_model.specs.Pages.{Spells, table_of}
 use Rattle.state_model.specs.State.{new_state}
 use Rattle.image_model.specs.Slots.{Holds, IsOpen}
-use Rattle.image_model.specs.Stands.{IsStateOf}
+use Rattle.image_model.specs.Stands.{IsReady, IsStateOf}
 use Rattle.image_model.specs.Tables.{Shows, IsTableOf, byte_of_page, filter_page, index_page}
 
 -- an open gate with a version's body behind it holds the version
@@ -78,3 +78,9 @@ abbrev pub NewStoreStands : Type 0
 NewStoreStands =
     (spelling : Spelling) (settings : Settings) (pages : ℕ) (image : Image) → InRange settings → settings.ratio < 2 ^ 16 → 512 ≤ pages → pages ≤ 16777216
     → IsFormatted settings pages image → IsStateOf spelling (new_state settings pages) image
+
+-- and what a store keeps of it is this: slot A is in use, and slot B is closed
+abbrev pub NewStoreIsReady : Type 0
+NewStoreIsReady =
+    (spelling : Spelling) (settings : Settings) (pages : ℕ) (image : Image) → InRange settings → settings.ratio < 2 ^ 16 → 512 ≤ pages → pages ≤ 16777216
+    → IsFormatted settings pages image → IsReady spelling slot_a slot_b false (new_version settings pages) (new_state settings pages) image

@@ -1,5 +1,5 @@
 use Rattle.image_model.proofs.TablesWritten.{table_stands}
-use Rattle.image_model.proofs.VersionsWritten.{new_store_stands, version_stands}
+use Rattle.image_model.proofs.VersionsWritten.{new_store_ready, new_store_stands, version_stands}
 use Rattle.image_model.proofs.laws.what_is_written_stands.Goals as goal
 
 pub returns-clause-version : goal.returns-clause-version
@@ -10,3 +10,6 @@ returns-clause-table c = table_stands
 
 pub returns-clause-new_store : goal.returns-clause-new_store
 returns-clause-new_store c = new_store_stands
+
+pub returns-clause-new_ready : goal.returns-clause-new_ready
+returns-clause-new_ready c = new_store_ready
