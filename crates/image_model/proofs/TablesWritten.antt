@@ -41,6 +41,8 @@ module _ (spelling : Spelling) (settings : Settings) (level first_page cutoff : 
     table = subst IsTable (sym (blocks_joined entries)) is;
     blocks_shown = shown.blocks;
     data_pages = refl;
+    index_pages = refl;
+    filter_pages = refl;
     index_sound = subst (IsIndex (data_pages entries)) (same_index entries) (index_sound entries is);
     index = row_is (index_of_blocks (blocks_of entries)) (same_index entries) shown;
     cutoff = cutoff;

@@ -9,7 +9,7 @@ use Rattle.filter_api.specs.Spellings.{Spelling, IsSpelling}
 use Rattle.filter_model.specs.Leaves.{leaves_of}
 use Rattle.store_model.specs.SortedMap.{Bytes}
 use Rattle.store_model.specs.Entries.{Entry}
-use Rattle.block_model.specs.Pages.{page_bytes, block_pages, first_key}
+use Rattle.block_model.specs.Pages.{page_bytes, block_pages, first_key, pages_for}
 use Rattle.block_model.specs.Block.{IsBlock, IsTable, block_bytes, keys_of}
 use Rattle.block_model.specs.Index.{Index, IsIndex, index_row_of, index_bytes}
 use Rattle.manifest_model.specs.Reading.{table_pages}
@@ -50,6 +50,8 @@ pub record IsTableAt (spelling : Spelling) (settings : Settings) (row : Row) (bl
   pub table : IsTable (flat_map (λ (b : List Entry). b) blocks)
   pub blocks_shown : Shows (byte_of_page row.first_page) (flat_map block_bytes blocks) image
   pub data_pages : sum_by block_pages blocks ≡ row.data_pages
+  pub index_pages : row.index_pages ≡ pages_for row.index_len
+  pub filter_pages : row.filter_pages ≡ pages_for row.filter_len
   pub index_sound : IsIndex row.data_pages (index_of_blocks blocks)
   pub index : IsPart (index_page row) row.index_len row.index_sum (index_bytes (index_of_blocks blocks)) image
   pub cutoff : ℕ
