@@ -3,7 +3,8 @@
 //!
 //! `specs/` has one file a noun. `Pages` says how entries are cut into blocks and how many pages and bytes come out,
 //! `Block` and `Index` how each is spelled, `BlockReading` and `IndexReading` what is read from bytes and which rule they
-//! break first, and where. Whoever writes or reads a table is proved against these.
+//! break first, and where; `Places` says where the parts of a table stand, by its row. Whoever writes or reads a table is
+//! proved against these.
 //!
 //! The functions are the obvious loops. They copy entries and hold all bytes in memory, so they are for tests and for
 //! comparison; a store writes its tables block by block. Want of memory is the only error. [`are_entries`] tests what

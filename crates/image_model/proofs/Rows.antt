@@ -2,9 +2,9 @@
 use Rattle.std.proofs.Common.{◌≡◌, ◌+◌, [], ◌∷◌, refl}
 use Rattle.manifest_model.specs.Rows.{formatted, table}
 use Rattle.state_model.specs.State.{new_state}
-use Rattle.image_model.specs.Slots.{body_room}
 use Rattle.image_model.specs.Stands.{settings_of, shown}
-use Rattle.image_model.specs.Tables.{Shows, byte_of_page, filter_page, index_page}
+use Rattle.disk_trait.specs.Image.{Shows}
+use Rattle.block_model.specs.Places.{byte_of_page, filter_page, index_page}
 use Rattle.image_model.specs.Written.{new_version}
 
 -- pages of 4,096 bytes; the first page of tables is 192
@@ -17,11 +17,6 @@ index_behind_the_blocks = refl
 
 filter_behind_the_index : filter_page (table 1 204) ≡ 206
 filter_behind_the_index = refl
-
--- a body ends where its slot does
-slot_filled : 8 + body_room ≡ 131072
-unfolding body_room
-slot_filled = refl
 
 -- three bytes stand at place 2 of the image that counts its places
 three_bytes : Shows 2 (2 ∷ 3 ∷ 4 ∷ []) (λ place. place)

@@ -1,6 +1,6 @@
-pub mod Slots
 pub mod Tables
 pub mod Stands
 pub mod Written
 pub mod Frames
 pub mod Installs
+pub mod Opening

@@ -212,14 +212,9 @@ body_was_kept slot bytes none =
     let g = neither _ _ f.1 in
     record { head = head_was_kept bytes a.0 d.0; sum = b.0; head_zeros = f.0; row_zeros = g.0; placed = g.1 }
 
--- a body that breaks no rule places its tables
-pub body_placed : (slot : ℕ) (bytes : Bytes) → body_damage slot bytes ≡ None → of_version (version_in bytes) ≡ None
-body_placed slot bytes none = (body_was_kept slot bytes none).placed
-
--- and it names one of the two log areas
-pub body_area : (slot : ℕ) (bytes : Bytes) → body_damage slot bytes ≡ None → ((version_in bytes).log_page ≡ 64) ⊎ ((version_in bytes).log_page ≡ 128)
-unfolding version_in
-body_area slot bytes none = (body_was_kept slot bytes none).head.area
+-- a body that breaks no rule has room in its slot
+pub body_few : (slot : ℕ) (bytes : Bytes) → body_damage slot bytes ≡ None → count_in bytes ≤ 1024
+body_few slot bytes none = (body_was_kept slot bytes none).head.few
 
 version_rows : (bytes : Bytes) → (version_in bytes).rows ≡ rows_in (count_in bytes) (drop 64 bytes)
 unfolding version_in

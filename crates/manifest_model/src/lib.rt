@@ -19,7 +19,9 @@ mod laws;
 mod rows;
 mod version;
 
-pub use laws::versions_have_one_spelling;
+pub use laws::{
+    a_version_is_installed, an_image_has_one_version, slots_are_kept, versions_have_one_spelling,
+};
 pub use rows::{
     broken_bodies, broken_places, broken_versions, small_bodies, small_bodies_are_read,
 };

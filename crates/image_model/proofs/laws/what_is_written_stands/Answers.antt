@@ -1,9 +1,6 @@
-use Rattle.image_model.proofs.TablesWritten.{table_stands}
-use Rattle.image_model.proofs.VersionsWritten.{new_store_ready, new_store_stands, version_stands}
+use Rattle.image_model.proofs.NewStores.{new_store_ready, new_store_stands}
+use Rattle.image_model.proofs.Tables.{table_stands}
 use Rattle.image_model.proofs.laws.what_is_written_stands.Goals as goal
-
-pub returns-clause-version : goal.returns-clause-version
-returns-clause-version c = version_stands
 
 pub returns-clause-table : goal.returns-clause-table
 returns-clause-table c = table_stands

@@ -2,8 +2,6 @@
 use Rattle.std.proofs.Common.{◌≡◌, ◌*◌, ℕ, List, [], ◌∷◌, length, refl, sym, ap, ap₂, ◌∙◌}
 use Rattle.std.specs.Prelude.{flat_map, map, sum_by}
 use Rattle.std.specs.List.{AllByRecursion}
-use Rattle.disk_trait.specs.Image.{Image, window}
-use Rattle.store_model.specs.SortedMap.{Bytes}
 use Rattle.store_model.specs.Entries.{Entry}
 use Rattle.block_model.specs.Block.{IsBlock, block_bytes}
 use Rattle.block_model.specs.BlockReading.{block_in}
@@ -13,12 +11,7 @@ use Rattle.block_model.specs.Pages.{block_pages}
 use Rattle.block_model.proofs.BlocksRead.{block_again}
 use Rattle.block_model.proofs.IndexesRead.{index_again}
 use Rattle.block_model.proofs.Lengths.{block_fills, blocks_fill}
-use Rattle.gate_log.proofs.Logs.{same_parts}
-use Rattle.image_model.specs.Tables.{Shows}
-
--- bytes of one length at one place are the same
-pub same_shown : (at : ℕ) (xs ys : Bytes) (image : Image) → length xs ≡ length ys → Shows at xs image → Shows at ys image → xs ≡ ys
-same_shown at xs ys image same a b = sym a ∙ ap (window image at) same ∙ b
+use Rattle.table_model.proofs.Shown.{same_parts}
 
 -- two indexes that are spelled alike
 pub same_index : (pages others : ℕ) (x y : Index) → IsIndex pages x → IsIndex others y → index_bytes x ≡ index_bytes y → x ≡ y

@@ -1,0 +1,76 @@
+-- The laws of tables on a device.
+use Rattle.std.specs.Prelude.{◌≡◌, ℕ, ◌*◌, List, None}
+use Rattle.disk_trait.specs.Image.{Image, IsApart, Torn}
+use Rattle.byte_fields.specs.declared.parts.Damage.{Damage}
+use Rattle.byte_fields.specs.declared.parts.Row.{Row}
+use Rattle.filter_api.specs.Spellings.{Spelling, SpellsOne}
+use Rattle.filter_api.specs.declared.errors.FilterFault.{FilterFault}
+use Rattle.filter_api.specs.declared.settings.Settings.{Settings}
+use Rattle.store_model.specs.SortedMap.{Bytes}
+use Rattle.store_model.specs.Entries.{Entry}
+use Rattle.block_model.specs.Block.{IsTable, keys_of}
+use Rattle.block_model.specs.IndexReading.{index_in}
+use Rattle.block_model.specs.Laws.{joined}
+use Rattle.block_model.specs.Pages.{blocks_of, page_bytes}
+use Rattle.block_model.specs.Places.{byte_of_page, pages_of}
+use Rattle.table_model.specs.Damage.{AreSoundBlocks, IsFilterDamage, IsSoundFilter, filter_part, index_damage, index_part}
+use Rattle.table_model.specs.Images.{IsFilterOfKeys, IsTableAt}
+use Rattle.table_model.specs.Written.{ArePartsShown, row_for}
+
+-- the pages of a row spell one table, whatever the settings
+abbrev pub OneTable : Type 0
+OneTable =
+    (spelling : Spelling) (settings others : Settings) (row : Row) (blocks more : List (List Entry)) (image : Image)
+    → IsTableAt spelling settings row blocks image → IsTableAt spelling others row more image → blocks ≡ more
+
+-- where the parts of a table of some entries stand, its row's pages spell their blocks
+abbrev pub PartsAreATable : Type 0
+PartsAreATable =
+    (spelling : Spelling) (settings : Settings) (level first_page : ℕ) (entries : List Entry) (filter_bytes : Bytes) (image : Image) → IsTable entries
+    → IsFilterOfKeys spelling settings (keys_of entries) filter_bytes → ArePartsShown (row_for level first_page entries filter_bytes) entries filter_bytes image
+    → IsTableAt spelling settings (row_for level first_page entries filter_bytes) (blocks_of entries) image
+
+-- ---- what is written apart from a row's pages, done or cut short
+
+abbrev pub IsApartFromRow : ℕ → ℕ → Row → Type 0
+IsApartFromRow at n row = IsApart (byte_of_page row.first_page) (page_bytes * pages_of row) at n
+
+abbrev pub TableIsKept : Type 0
+TableIsKept =
+    (spelling : Spelling) (settings : Settings) (row : Row) (blocks : List (List Entry)) (at n : ℕ) (old new : Image) → IsApartFromRow at n row
+    → Torn at n old new → IsTableAt spelling settings row blocks old → IsTableAt spelling settings row blocks new
+
+-- ---- what is wrong with one
+
+-- a table's parts have no damage
+abbrev pub IndexHasNone : Type 0
+IndexHasNone =
+    (spelling : Spelling) (settings : Settings) (row : Row) (blocks : List (List Entry)) (image : Image) → IsTableAt spelling settings row blocks image
+    → index_damage row image ≡ None
+
+abbrev pub BlocksHaveNone : Type 0
+BlocksHaveNone =
+    (spelling : Spelling) (settings : Settings) (row : Row) (blocks : List (List Entry)) (image : Image) → IsTableAt spelling settings row blocks image
+    → AreSoundBlocks row.first_page (index_in (index_part row image)).rows image
+
+abbrev pub FilterHasNone : Type 0
+FilterHasNone =
+    (spelling : Spelling) (settings : Settings) (row : Row) (blocks : List (List Entry)) (image : Image) → IsTableAt spelling settings row blocks image
+    → IsSoundFilter spelling settings row image
+
+-- and its filter stands for its keys
+abbrev pub FilterIsOfTheKeys : Type 0
+FilterIsOfTheKeys =
+    (spelling : Spelling) (settings : Settings) (row : Row) (blocks : List (List Entry)) (image : Image) → IsTableAt spelling settings row blocks image
+    → IsFilterOfKeys spelling settings (keys_of (joined blocks)) (filter_part row image)
+
+-- a filter that spells one list at most has one damage, or none
+abbrev pub OneFilterDamage : Type 0
+OneFilterDamage =
+    (spelling : Spelling) (first_fault : Bytes → FilterFault) (settings : Settings) (row : Row) (image : Image) (d e : Damage) → SpellsOne spelling
+    → IsFilterDamage spelling first_fault settings row image d → IsFilterDamage spelling first_fault settings row image e → d ≡ e
+
+abbrev pub SoundFilterHasNone : Type 0
+SoundFilterHasNone =
+    (spelling : Spelling) (first_fault : Bytes → FilterFault) (settings : Settings) (row : Row) (image : Image) (d : Damage) → SpellsOne spelling
+    → IsSoundFilter spelling settings row image → IsFilterDamage spelling first_fault settings row image d → ⊥

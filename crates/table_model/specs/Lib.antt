@@ -1,0 +1,4 @@
+pub mod Images
+pub mod Damage
+pub mod Written
+pub mod Laws
