@@ -1,6 +1,6 @@
 -- An image has one first damage, and none where it stands for a state.
-use Rattle.std.proofs.Common.{◌≡◌, ◌⊎◌, inl, inr, ◌*◌, ◌+◌, ℕ, List, [], ◌∷◌, refl, sym, ap, ap₂, ◌∙◌, subst, arith}
-use Rattle.std.specs.Prelude.{Option, Some, None, map}
+use Rattle.std.proofs.Common.{◌≡◌, inl, inr, ◌*◌, ◌+◌, ℕ, List, [], ◌∷◌, sym, ap, ap₂, subst, arith}
+use Rattle.std.specs.Prelude.{Option, Some, None}
 use Rattle.std.specs.List.{AllByRecursion}
 use Rattle.byte_fields.specs.declared.parts.Damage.{Damage}
 use Rattle.byte_fields.specs.declared.parts.Damage.TheVariants as damage
@@ -10,19 +10,18 @@ use Rattle.disk_trait.specs.Image.{Image}
 use Rattle.filter_api.specs.Spellings.{Spelling, SpellsOne}
 use Rattle.filter_api.specs.declared.errors.FilterFault.{FilterFault}
 use Rattle.filter_api.specs.declared.settings.Settings.{Settings}
-use Rattle.gate_log.specs.Area.{LogBreaks, LogIs, area_in, start_of}
+use Rattle.gate_log.specs.Area.{LogBreaks, LogIs, area_in}
 use Rattle.gate_log.specs.Records.{Breaks}
 use Rattle.gate_log.proofs.Ends.{not_both, one_fault}
 use Rattle.store_model.specs.SortedMap.{Bytes}
 use Rattle.block_model.specs.Faults.{Fault}
-use Rattle.manifest_model.specs.Slots.{AreSlots, IsCurrent, IsVersionOf, slots_damage}
+use Rattle.manifest_model.specs.Slots.{slots_damage}
 use Rattle.manifest_model.specs.Version.{Version, body_place}
-use Rattle.manifest_model.proofs.SlotFrames.{turned}
 use Rattle.manifest_model.proofs.Versions.{in_use, no_damage, no_store, none_open, one_slot, one_version}
 use Rattle.state_model.specs.State.{State, Table}
-use Rattle.table_model.specs.Damage.{IsFilterDamage, IsSoundFilter, index_damage}
+use Rattle.table_model.specs.Damage.{index_damage}
 use Rattle.table_model.proofs.Sound.{filter_has_none, index_has_none, one_filter_damage, sound_filter_has_none}
-use Rattle.image_model.specs.Opening.{FirstDamage, IsOpened, NoStoreHasNoDamage, NoStoreHasNoState, OneDamage, StateHasNoDamage, TablesBreak, VersionBreaks, at_a_table, at_the_log, at_the_ranges, at_the_slots, at_the_version}
+use Rattle.image_model.specs.Opening.{IsOpened, NoStoreHasNoDamage, NoStoreHasNoState, OneDamage, StateHasNoDamage, TablesBreak, VersionBreaks, at_a_table, at_the_log, at_the_ranges, at_the_slots, at_the_version}
 use Rattle.image_model.specs.Stands.{IsNamedBy, settings_of}
 use Rattle.image_model.specs.Tables.{AreTablesOf}
 use Rattle.image_model.proofs.Ranges.{ranges_keep}
@@ -71,7 +70,7 @@ all_opened spelling settings (row ∷ rows) (t ∷ ts) image are = (
 log_place : (area at rule other more number : ℕ) (image : Image) → area ≡ other → LogBreaks area at rule image → LogBreaks other more number image → (at ≡ more) × (rule ≡ number)
 log_place area at rule other more number image same a b =
     let so = one_fault a.0 rule b.0 number (area_in area image) a.2
-        (subst (λ (k : ℕ). Breaks b.0 number (area_in k image)) (sym same) b.2) in
+    (subst (λ (k : ℕ). Breaks b.0 number (area_in k image)) (sym same) b.2) in
     (omega (arith, a.1, b.1, same, so.0), so.1)
 
 -- ---- of what a version names
@@ -107,7 +106,7 @@ module _ (spelling : Spelling) (first_fault : Bytes → FilterFault) (slot : ℕ
   none_of_named : (s : State) (d : Damage) → IsNamedBy spelling v s image → VersionBreaks spelling first_fault slot v image d → ⊥
   none_of_named s _ named (at_a_table d a) =
       none_of_opened spelling first_fault (settings_of v) image one d v.rows
-        (subst (λ (x : Settings). AllByRecursion (IsOpened spelling x image) v.rows) named.settings (all_opened spelling s.settings v.rows s.tables image named.tables)) a
+      (subst (λ (x : Settings). AllByRecursion (IsOpened spelling x image) v.rows) named.settings (all_opened spelling s.settings v.rows s.tables image named.tables)) a
   none_of_named s _ named (at_the_ranges f all a) = not_fault f _ (ranges_keep spelling s.settings v.rows s.tables image named.tables named.order) a
   none_of_named s _ named (at_the_log area at rule all none is a) =
       not_both s.log a.0 rule (area_in area image) (subst (λ (k : ℕ). LogIs k s.log image) (same_area v.log_page named.area area named.area_is is) named.log) a.2
@@ -124,13 +123,13 @@ one_damage spelling first_fault image d e one (at_the_version slot other v are c
     let version : w ≡ v = one_version image w v (in_use more others w image again present) (in_use slot other v image are current) in
     let place : more ≡ slot = one_slot more others slot other w v image again are present current in
     one_of_version spelling first_fault slot v image one d e a
-      (subst (λ (k : ℕ). VersionBreaks spelling first_fault k v image e) place (subst (λ (u : Version). VersionBreaks spelling first_fault more u image e) version b))
+    (subst (λ (k : ℕ). VersionBreaks spelling first_fault k v image e) place (subst (λ (u : Version). VersionBreaks spelling first_fault more u image e) version b))
 
 pub state_has_none : StateHasNoDamage
 state_has_none spelling first_fault s image d one is (at_the_slots a) = not_some d (slots_damage image) (no_damage is.0 image is.1.version_is) a
 state_has_none spelling first_fault s image d one is (at_the_version slot other v are current a) =
     none_of_named spelling first_fault slot v image one s d
-      (subst (λ (u : Version). IsNamedBy spelling u s image) (one_version image is.0 v is.1.version_is (in_use slot other v image are current)) is.1.named) a
+    (subst (λ (u : Version). IsNamedBy spelling u s image) (one_version image is.0 v is.1.version_is (in_use slot other v image are current)) is.1.named) a
 
 pub no_store_has_none : NoStoreHasNoDamage
 no_store_has_none spelling first_fault image d none (at_the_slots a) = not_some d (slots_damage image) (none_open image none) a

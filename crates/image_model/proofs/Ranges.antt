@@ -1,8 +1,8 @@
 -- The key ranges of a state's tables break no rule.
-use Rattle.std.proofs.Common.{◌≡◌, ◌⊎◌, inl, inr, ◌<◌, ◌≤◌, ◌+◌, ℕ, suc, List, [], ◌∷◌, ◌++◌, length, refl, sym, ap, ap₂, ◌∙◌, subst, arith}
-use Rattle.std.proofs.lemmas.Bool.{cases_eq, eq-eqb, eqb-true, or_left, or_right}
+use Rattle.std.proofs.Common.{◌≡◌, ◌⊎◌, inl, inr, ◌≤◌, ◌+◌, ℕ, suc, List, [], ◌∷◌, ◌++◌, length, refl, sym, ap, ap₂, ◌∙◌, arith}
+use Rattle.std.proofs.lemmas.Bool.{eq-eqb, eqb-true}
 use Rattle.std.proofs.lemmas.List.{append-nil}
-use Rattle.std.specs.Prelude.{map, Bool, true, false, not, ◌||◌, ◌==◌, None, slice_index_or}
+use Rattle.std.specs.Prelude.{map, Bool, true, false, not, ◌||◌, ◌==◌, None}
 use Rattle.std.specs.List.{AllByRecursion, AllPairs}
 use Rattle.std.specs.Ordering.{is_lt}
 use Rattle.byte_fields.specs.declared.parts.Row.{Row}
@@ -11,7 +11,7 @@ use Rattle.filter_api.specs.Spellings.{Spelling}
 use Rattle.filter_api.specs.declared.settings.Settings.{Settings}
 use Rattle.store_model.specs.Entries.{Entry}
 use Rattle.block_model.specs.Block.{IsBlock}
-use Rattle.block_model.specs.Index.{Index, IndexRow, index_row_of}
+use Rattle.block_model.specs.Index.{Index, index_row_of}
 use Rattle.block_model.specs.IndexReading.{index_in}
 use Rattle.block_model.specs.Laws.{joined}
 use Rattle.block_model.specs.Order.{is_above}

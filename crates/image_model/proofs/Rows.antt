@@ -1,5 +1,5 @@
 -- The definitions at worked rows: where the parts of a table and of a version stand.
-use Rattle.std.proofs.Common.{◌≡◌, ◌+◌, [], ◌∷◌, refl}
+use Rattle.std.proofs.Common.{◌≡◌, [], ◌∷◌, refl}
 use Rattle.manifest_model.specs.Rows.{formatted, table}
 use Rattle.state_model.specs.State.{new_state}
 use Rattle.image_model.specs.Stands.{settings_of, shown}

@@ -1,10 +1,9 @@
 -- The pages of rows spell one list of tables.
-use Rattle.std.proofs.Common.{◌≡◌, ℕ, List, [], ◌∷◌, length, refl, sym, ap, ap₂, ◌∙◌}
+use Rattle.std.proofs.Common.{◌≡◌, List, [], ◌∷◌, length, refl, sym, ap, ap₂, ◌∙◌}
 use Rattle.disk_trait.specs.Image.{Image}
 use Rattle.byte_fields.specs.declared.parts.Row.{Row}
 use Rattle.filter_api.specs.declared.settings.Settings.{Settings}
 use Rattle.filter_api.specs.Spellings.{Spelling}
-use Rattle.store_model.specs.Entries.{Entry}
 use Rattle.block_model.specs.Pages.{blocks_of}
 use Rattle.block_model.specs.Places.{pages_of}
 use Rattle.block_model.proofs.Cutting.{blocks_joined}

@@ -28,7 +28,7 @@ TablesBreak spelling first_fault settings image d [] = ⊥
 TablesBreak spelling first_fault settings image d (row ∷ rows) =
     (index_damage row image ≡ Some d)
     ⊎ ((index_damage row image ≡ None)
-      × (IsFilterDamage spelling first_fault settings row image d ⊎ (IsSoundFilter spelling settings row image × TablesBreak spelling first_fault settings image d rows)))
+    × (IsFilterDamage spelling first_fault settings row image d ⊎ (IsSoundFilter spelling settings row image × TablesBreak spelling first_fault settings image d rows)))
 
 -- index and filter have no damage
 pub record IsOpened (spelling : Spelling) (settings : Settings) (image : Image) (row : Row) : Type 0 where

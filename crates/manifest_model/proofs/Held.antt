@@ -1,8 +1,7 @@
 -- What a slot holds is what is read from it.
-use Rattle.std.proofs.Common.{◌≡◌, ◌+◌, ◌-◌, ◌*◌, ◌<◌, ◌≤◌, ℕ, ◌++◌, length, refl, sym, ap, ◌∙◌, subst, arith, length-append}
+use Rattle.std.proofs.Common.{◌≡◌, ◌+◌, ◌-◌, ◌*◌, ◌≤◌, ℕ, ◌++◌, length, refl, sym, ap, ◌∙◌, arith, length-append}
 use Rattle.std.proofs.lemmas.List.{take_at}
-use Rattle.std.specs.Prelude.{None, flat_map, take}
-use Rattle.byte_fields.specs.Spelling.{IsBytes}
+use Rattle.std.specs.Prelude.{flat_map, take}
 use Rattle.disk_trait.specs.Image.{Image, Shows, window}
 use Rattle.disk_trait.proofs.Images.{window_size, window_split}
 use Rattle.store_model.specs.SortedMap.{Bytes}

@@ -1,10 +1,10 @@
 -- What is written apart from a slot changes nothing of what it holds.
 use Rattle.std.proofs.Common.{◌≡◌, ◌⊎◌, inl, inr, ◌<◌, ◌≤◌, ◌+◌, ℕ, length, sym, ◌∙◌, arith}
-use Rattle.disk_trait.specs.Image.{Image, Shows, Torn}
+use Rattle.disk_trait.specs.Image.{Image, Torn}
 use Rattle.disk_trait.proofs.Images.{byte_kept, window_kept}
 use Rattle.manifest_model.specs.SlotLaws.{CurrentIsKept, InUseIsKept, IsApartFromSlot, IsInSlot, OlderIsKept, SlotIsKept, VersionIsKept}
-use Rattle.manifest_model.specs.Slots.{AreSlots, Holds}
-use Rattle.manifest_model.specs.Version.{Version, body_bytes, body_place, slot_a, slot_b}
+use Rattle.manifest_model.specs.Slots.{AreSlots}
+use Rattle.manifest_model.specs.Version.{body_bytes, body_place, slot_a, slot_b}
 use Rattle.manifest_model.proofs.Held.{body_fits}
 
 gate_apart : (slot at n : ℕ) → IsApartFromSlot slot at n → (slot < at) ⊎ (at + n ≤ slot)

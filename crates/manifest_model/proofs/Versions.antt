@@ -1,5 +1,5 @@
 -- The version of an image.
-use Rattle.std.proofs.Common.{◌≡◌, ◌⊎◌, ◌<◌, ℕ, inl, inr, refl, sym, ap, ap₂, ◌∙◌, subst, arith}
+use Rattle.std.proofs.Common.{◌≡◌, ◌<◌, ℕ, inl, inr, refl, sym, ap, ap₂, ◌∙◌, subst, arith}
 use Rattle.std.proofs.lemmas.Bool.{cases_eq, cases_lt, cond-true, eq-eqb, eqb-true, eqb-false, and_parts}
 use Rattle.std.specs.Prelude.{Bool, true, false, cond, ◌&&◌, ◌==◌, Option, Some, None}
 use Rattle.std.specs.Option.{option_or}
@@ -69,9 +69,9 @@ both_none a b c is_a is_b is_c = ap (λ (o : Option Damage). option_or o (option
 pub none_open : (image : Image) → IsNoStore image → slots_damage image ≡ None
 none_open image none =
     both_none (slot_damage slot_a image) (slot_damage slot_b image) (epochs_damage image)
-      (slot_sound slot_a image (λ opened. absurd (none.0 opened))) (slot_sound slot_b image (λ opened. absurd (none.1 opened)))
-      (none_unless ((image slot_a == 1) && (image slot_b == 1)) (shape_at slot_b (epochs_fault (version_in (body_in slot_a image)) (version_in (body_in slot_b image))) None)
-        (λ opened. absurd (none.0 (eqb-true (image slot_a) 1 (and_parts (image slot_a == 1) (image slot_b == 1) opened).0))))
+    (slot_sound slot_a image (λ opened. absurd (none.0 opened))) (slot_sound slot_b image (λ opened. absurd (none.1 opened)))
+    (none_unless ((image slot_a == 1) && (image slot_b == 1)) (shape_at slot_b (epochs_fault (version_in (body_in slot_a image)) (version_in (body_in slot_b image))) None)
+    (λ opened. absurd (none.0 (eqb-true (image slot_a) 1 (and_parts (image slot_a == 1) (image slot_b == 1) opened).0))))
 
 -- two versions of different epochs
 epochs_none : (v w : Version) → (v.epoch ≡ w.epoch → ⊥) → shape_at slot_b (epochs_fault v w) None ≡ None
@@ -96,8 +96,8 @@ epochs_pass : (image : Image)
     → epochs_damage image ≡ None
 epochs_pass image differ = none_unless ((image slot_a == 1) && (image slot_b == 1)) (shape_at slot_b (epochs_fault (version_in (body_in slot_a image)) (version_in (body_in slot_b image))) None)
     (λ opened.
-      let both = and_parts (image slot_a == 1) (image slot_b == 1) opened in
-      epochs_none (version_in (body_in slot_a image)) (version_in (body_in slot_b image)) (differ (eqb-true (image slot_a) 1 both.0) (eqb-true (image slot_b) 1 both.1)))
+    let both = and_parts (image slot_a == 1) (image slot_b == 1) opened in
+    epochs_none (version_in (body_in slot_a image)) (version_in (body_in slot_b image)) (differ (eqb-true (image slot_a) 1 both.0) (eqb-true (image slot_b) 1 both.1)))
 
 pub no_damage : VersionHasNoDamage
 no_damage v image (inl is) =
@@ -139,13 +139,13 @@ pub found : VersionIsFound
 found image bytes_a bytes_b none =
     let parts = all_none (slot_damage slot_a image) (slot_damage slot_b image) (epochs_damage image) none in
     elim (cases_eq (image slot_a) 1) [
-    | inl a ↦ elim (cases_eq (image slot_b) 1) [
+      | inl a ↦ elim (cases_eq (image slot_b) 1) [
         | inl b ↦ inr (of_both (version_in (body_in slot_a image)) (version_in (body_in slot_b image)) image (open_slot slot_a image bytes_a parts.0 a) (open_slot slot_b image bytes_b parts.1 b)
             (no_shape (version_in (body_in slot_a image)) (version_in (body_in slot_b image))
-              (sym (cond-true ((image slot_a == 1) && (image slot_b == 1)) (shape_at slot_b (epochs_fault (version_in (body_in slot_a image)) (version_in (body_in slot_b image))) None) None (both_open image a b)) ∙ parts.2)))
+            (sym (cond-true ((image slot_a == 1) && (image slot_b == 1)) (shape_at slot_b (epochs_fault (version_in (body_in slot_a image)) (version_in (body_in slot_b image))) None) None (both_open image a b)) ∙ parts.2)))
         | inr closed ↦ inr (version_in (body_in slot_a image), inl (record { here = open_slot slot_a image bytes_a parts.0 a; there = inl closed }))
       ]
-    | inr not_a ↦ elim (cases_eq (image slot_b) 1) [
+      | inr not_a ↦ elim (cases_eq (image slot_b) 1) [
         | inl b ↦ inr (version_in (body_in slot_b image), inr (record { here = open_slot slot_b image bytes_b parts.1 b; there = inl not_a }))
         | inr not_b ↦ inl (not_a, not_b)
       ]
@@ -158,7 +158,7 @@ one_slot slot other more others v w image (inl a) (inl b) here there = a.0 ∙ s
 one_slot slot other more others v w image (inr a) (inr b) here there = a.0 ∙ sym b.0
 one_slot slot other more others v w image (inl a) (inr b) here there =
     absurd (not_both slot other v w image here
-      (subst (λ (k : ℕ). IsCurrent k slot w image) (b.0 ∙ sym a.1) (subst (λ (k : ℕ). IsCurrent more k w image) (b.1 ∙ sym a.0) there)))
+    (subst (λ (k : ℕ). IsCurrent k slot w image) (b.0 ∙ sym a.1) (subst (λ (k : ℕ). IsCurrent more k w image) (b.1 ∙ sym a.0) there)))
 one_slot slot other more others v w image (inr a) (inl b) here there =
     absurd (not_both slot other v w image here
-      (subst (λ (k : ℕ). IsCurrent k slot w image) (b.0 ∙ sym a.1) (subst (λ (k : ℕ). IsCurrent more k w image) (b.1 ∙ sym a.0) there)))
+    (subst (λ (k : ℕ). IsCurrent k slot w image) (b.0 ∙ sym a.1) (subst (λ (k : ℕ). IsCurrent more k w image) (b.1 ∙ sym a.0) there)))

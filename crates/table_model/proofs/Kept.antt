@@ -1,18 +1,15 @@
 -- What is written apart from a row's pages changes nothing of its table.
-use Rattle.std.proofs.Common.{◌≡◌, ◌≤◌, ◌+◌, ◌*◌, ℕ, List, sym, subst, arith}
+use Rattle.std.proofs.Common.{◌≡◌, ◌*◌, ℕ, sym, subst, arith}
 use Rattle.std.specs.Prelude.{flat_map}
 use Rattle.byte_fields.specs.declared.parts.Row.{Row}
 use Rattle.disk_trait.specs.Image.{Image, IsApart, Torn}
-use Rattle.filter_api.specs.Spellings.{Spelling}
-use Rattle.filter_api.specs.declared.settings.Settings.{Settings}
 use Rattle.store_model.specs.SortedMap.{Bytes}
-use Rattle.store_model.specs.Entries.{Entry}
 use Rattle.block_model.specs.Block.{block_bytes}
 use Rattle.block_model.specs.Index.{index_bytes}
 use Rattle.block_model.specs.Pages.{pages_for}
 use Rattle.block_model.specs.Places.{byte_of_page, filter_page, index_page, pages_of}
 use Rattle.block_model.proofs.Lengths.{blocks_fill, in_pages}
-use Rattle.table_model.specs.Images.{IsPart, IsTableAt, index_of_blocks}
+use Rattle.table_model.specs.Images.{IsPart, index_of_blocks}
 use Rattle.table_model.specs.Laws.{IsApartFromRow, TableIsKept}
 use Rattle.table_model.proofs.Shown.{inner, shown_kept}
 

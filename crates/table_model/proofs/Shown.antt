@@ -1,5 +1,5 @@
 -- Bytes that stand in an image, in parts.
-use Rattle.std.proofs.Common.{◌≡◌, ◌+◌, ◌≤◌, ℕ, ◌++◌, length, take, drop, refl, sym, ap, ◌∙◌, subst, arith, length-append, inl, inr}
+use Rattle.std.proofs.Common.{◌≡◌, ◌+◌, ◌≤◌, ℕ, ◌++◌, length, take, drop, refl, sym, ap, ◌∙◌, arith, length-append, inl, inr}
 use Rattle.std.proofs.lemmas.List.{take_at, drop_at}
 use Rattle.disk_trait.specs.Image.{Image, IsApart, Shows, Torn, window}
 use Rattle.disk_trait.proofs.Images.{window_kept, window_size, window_split}

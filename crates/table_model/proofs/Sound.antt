@@ -1,12 +1,11 @@
 -- The parts of a table have no damage, and a filter part has one at most.
-use Rattle.std.proofs.Common.{◌≡◌, ◌≢◌, ◌+◌, ◌*◌, ◌++◌, ℕ, List, [], ◌∷◌, length, refl, sym, ap, ap₂, ◌∙◌, subst, arith}
+use Rattle.std.proofs.Common.{◌≡◌, ◌+◌, ◌*◌, ℕ, List, [], ◌∷◌, length, refl, sym, ap, ◌∙◌, subst, arith}
 use Rattle.std.proofs.lemmas.Bool.{cond-true, eq-eqb}
 use Rattle.std.proofs.lemmas.List.{length-map}
 use Rattle.std.specs.Prelude.{flat_map, map, Option, Some, None, ◌==◌}
 use Rattle.std.specs.List.{AllByRecursion}
 use Rattle.std.specs.Option.{option_map}
 use Rattle.byte_fields.specs.Sums.{fnv_of}
-use Rattle.byte_fields.specs.declared.parts.Damage.{Damage}
 use Rattle.byte_fields.specs.declared.parts.Damage.TheVariants as damage
 use Rattle.byte_fields.specs.declared.parts.Part.{Part}
 use Rattle.byte_fields.specs.declared.parts.Part.TheVariants as part
@@ -28,7 +27,7 @@ use Rattle.block_model.specs.Places.{byte_of_page, filter_page, index_page}
 use Rattle.block_model.proofs.BlocksRead.{block_again}
 use Rattle.block_model.proofs.IndexesRead.{index_again}
 use Rattle.block_model.proofs.Lengths.{block_fills}
-use Rattle.table_model.specs.Damage.{AreSoundBlocks, HasWidths, IsFilterDamage, IsSoundFilter, block_damage, block_part, filter_part, index_damage, index_part, other_leaves, other_sum, other_widths, no_spelling, part_damage}
+use Rattle.table_model.specs.Damage.{AreSoundBlocks, IsSoundFilter, block_damage, block_part, filter_part, index_damage, index_part, other_leaves, other_sum, other_widths, no_spelling, part_damage}
 use Rattle.table_model.specs.Images.{IsFilterOfKeys, IsTableAt, index_of_blocks}
 use Rattle.table_model.specs.Laws.{BlocksHaveNone, FilterHasNone, FilterIsOfTheKeys, IndexHasNone, OneFilterDamage, SoundFilterHasNone}
 use Rattle.table_model.proofs.OneTable.{rows_of_index}

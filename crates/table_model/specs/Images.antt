@@ -1,7 +1,7 @@
 -- A table as it stands on a device: its blocks, its index and its filter, one after the other.
-use Rattle.std.specs.Prelude.{◌≡◌, ℕ, List, [], length, map, flat_map, sum_by}
+use Rattle.std.specs.Prelude.{◌≡◌, ℕ, List, length, map, flat_map, sum_by}
 use Rattle.std.specs.List.{AllByRecursion}
-use Rattle.disk_trait.specs.Image.{Image, Shows, IsApart}
+use Rattle.disk_trait.specs.Image.{Image, Shows}
 use Rattle.byte_fields.specs.Sums.{fnv_of}
 use Rattle.byte_fields.specs.declared.parts.Row.{Row}
 use Rattle.filter_api.specs.declared.settings.Settings.{Settings}
