@@ -27,13 +27,17 @@ mod laws;
 mod page_rows;
 mod pages;
 
-pub use block_rows::{broken_blocks, small_block_bytes, small_block_is_read};
+pub use block_rows::{
+    broken_blocks, small_block_bytes, small_block_is_read, twice_broken_blocks,
+};
 pub use bytes::{block_bytes, data_bytes, first_key, index_bytes, last_key, push_body};
 pub use counts::{data_pages, index_length};
-pub use index_rows::{broken_indexes, small_index_bytes, small_index_is_read};
+pub use index_rows::{
+    broken_indexes, small_index_bytes, small_index_is_read, twice_broken_indexes,
+};
 pub use laws::{
     blocks_are_the_entries, blocks_have_one_spelling, indexes_have_one_spelling,
     lengths_are_counted,
 };
-pub use page_rows::{full_blocks, small_blocks, whole_pages};
+pub use page_rows::{full_blocks, parts_of_a_table, small_blocks, whole_pages};
 pub use pages::{are_entries, block_length, cut, pages_for};

@@ -28,5 +28,6 @@ pub use laws::{
 };
 pub use rows::{
     broken_bodies, broken_places, broken_versions, small_bodies, small_bodies_are_read,
+    twice_broken_bodies,
 };
 pub use version::{Version, body_bytes};
