@@ -27,9 +27,7 @@ mod laws;
 mod page_rows;
 mod pages;
 
-pub use block_rows::{
-    broken_blocks, small_block_bytes, small_block_is_read, twice_broken_blocks,
-};
+pub use block_rows::{broken_blocks, small_block_bytes, small_block_is_read, twice_broken_blocks};
 pub use bytes::{block_bytes, data_bytes, first_key, index_bytes, last_key, push_body};
 pub use counts::{data_pages, index_length};
 pub use index_rows::{
