@@ -1,6 +1,5 @@
 pub mod Pages
 pub mod Places
-pub mod Faults
 pub mod Order
 pub mod Block
 pub mod BlockReading

@@ -3,7 +3,7 @@ use Rattle.std.proofs.Common.{◌≡◌, ◌^◌, ◌<◌, ◌≤◌, ℕ, inl, 
 use Rattle.std.specs.Prelude.{None}
 use Rattle.filter_api.specs.Ranges.{InRange}
 use Rattle.filter_api.specs.declared.settings.Settings.{Settings}
-use Rattle.gate_log.proofs.Appended.{empty}
+use Rattle.log_model.proofs.Appended.{empty}
 use Rattle.manifest_model.specs.Laws.{IsVersion}
 use Rattle.manifest_model.specs.Reading.{extents_fault, levels_fault, of_version, rows_fault}
 use Rattle.image_model.specs.Written.{NewStoreIsReady, NewStoreStands, new_version}

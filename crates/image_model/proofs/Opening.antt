@@ -10,11 +10,11 @@ use Rattle.disk_trait.specs.Image.{Image}
 use Rattle.filter_api.specs.Spellings.{Spelling, SpellsOne}
 use Rattle.filter_api.specs.declared.errors.FilterFault.{FilterFault}
 use Rattle.filter_api.specs.declared.settings.Settings.{Settings}
-use Rattle.gate_log.specs.Area.{LogBreaks, LogIs, area_in}
-use Rattle.gate_log.specs.Records.{Breaks}
-use Rattle.gate_log.proofs.Ends.{not_both, one_fault}
-use Rattle.store_model.specs.SortedMap.{Bytes}
-use Rattle.block_model.specs.Faults.{Fault}
+use Rattle.log_model.specs.Area.{LogBreaks, LogIs, area_in}
+use Rattle.log_model.specs.Records.{Breaks}
+use Rattle.log_model.proofs.Ends.{not_both, one_fault}
+use Rattle.map_model.specs.SortedMap.{Bytes}
+use Rattle.byte_fields.specs.Faults.{Fault}
 use Rattle.manifest_model.specs.Slots.{slots_damage}
 use Rattle.manifest_model.specs.Version.{Version, body_place}
 use Rattle.manifest_model.proofs.Versions.{in_use, no_damage, no_store, none_open, one_slot, one_version}

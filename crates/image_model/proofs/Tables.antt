@@ -7,7 +7,7 @@ use Rattle.filter_api.specs.Spellings.{Spelling}
 use Rattle.block_model.specs.Pages.{blocks_of}
 use Rattle.block_model.specs.Places.{pages_of}
 use Rattle.block_model.proofs.Cutting.{blocks_joined}
-use Rattle.state_model.specs.Pages.{keys_of}
+use Rattle.entry_model.specs.Entries.{Entry, keys_of}
 use Rattle.state_model.specs.State.{Table}
 use Rattle.table_model.proofs.OneTable.{one_table}
 use Rattle.table_model.proofs.Written.{table_stands as blocks_stand}
@@ -31,13 +31,13 @@ tables_at spelling settings others (row ∷ rows) (t ∷ ts) (u ∷ us) image a 
 
 pub table_stands : TableStands
 unfolding row_for
-table_stands spelling spells settings level first_page entries image is spelled shown = (
+table_stands spelling filter_bytes settings level first_page entries image is spelled shown = (
   blocks_of entries,
-  blocks_stand spelling settings level first_page entries (spells settings (keys_of entries)) image is spelled shown,
+  blocks_stand spelling settings level first_page entries (filter_bytes settings (keys_of entries)) image is spelled shown,
   λ i. record {
     level = level;
     first_page = first_page;
-    pages = pages_of (row_for level first_page entries (spells settings (keys_of entries)));
+    pages = pages_of (row_for level first_page entries (filter_bytes settings (keys_of entries)));
     blocks = length (blocks_of entries);
     entries = sym (blocks_joined entries) i;
   },

@@ -9,9 +9,9 @@ use Rattle.byte_fields.specs.declared.parts.Row.{Row}
 use Rattle.filter_api.specs.Spellings.{Spelling, SpellsOne}
 use Rattle.filter_api.specs.declared.errors.FilterFault.{FilterFault}
 use Rattle.filter_api.specs.declared.settings.Settings.{Settings}
-use Rattle.gate_log.specs.Area.{LogBreaks}
-use Rattle.store_model.specs.SortedMap.{Bytes}
-use Rattle.block_model.specs.Faults.{Fault}
+use Rattle.log_model.specs.Area.{LogBreaks}
+use Rattle.map_model.specs.SortedMap.{Bytes}
+use Rattle.byte_fields.specs.Faults.{Fault}
 use Rattle.block_model.specs.Index.{IndexRow}
 use Rattle.block_model.specs.IndexReading.{index_in}
 use Rattle.manifest_model.specs.Slots.{AreSlots, IsCurrent, IsNoStore, slots_damage}

@@ -4,7 +4,7 @@ use Rattle.disk_trait.specs.Image.{Image}
 use Rattle.byte_fields.specs.declared.parts.Row.{Row}
 use Rattle.filter_api.specs.declared.settings.Settings.{Settings}
 use Rattle.filter_api.specs.Spellings.{Spelling}
-use Rattle.store_model.specs.Entries.{Entry}
+use Rattle.entry_model.specs.Entries.{Entry}
 use Rattle.block_model.specs.Laws.{joined}
 use Rattle.block_model.specs.Places.{pages_of}
 use Rattle.state_model.specs.State.{Table}

@@ -4,7 +4,7 @@ use Rattle.std.proofs.lemmas.List.{take_at}
 use Rattle.std.specs.Prelude.{flat_map, take}
 use Rattle.disk_trait.specs.Image.{Image, Shows, window}
 use Rattle.disk_trait.proofs.Images.{window_size, window_split}
-use Rattle.store_model.specs.SortedMap.{Bytes}
+use Rattle.map_model.specs.SortedMap.{Bytes}
 use Rattle.manifest_model.specs.Laws.{IsVersion}
 use Rattle.manifest_model.specs.Reading.{body_damage, count_in, front_length_in, version_in}
 use Rattle.manifest_model.specs.SlotLaws.{HeldIsRead, ReadIsHeld}

@@ -5,7 +5,7 @@ use Rattle.std.specs.Prelude.{Bool, true, false, cond, ◌&&◌, ◌==◌, Optio
 use Rattle.std.specs.Option.{option_or}
 use Rattle.byte_fields.specs.Spelling.{IsBytes}
 use Rattle.byte_fields.specs.declared.parts.Damage.{Damage}
-use Rattle.block_model.specs.Faults.{refuse}
+use Rattle.byte_fields.specs.Faults.{refuse}
 use Rattle.disk_trait.specs.Image.{Image}
 use Rattle.manifest_model.specs.Reading.{body_damage, shape_at, version_in}
 use Rattle.manifest_model.specs.SlotLaws.{GreaterEpochIsInUse, NoStoreHasNoVersion, OneVersion, VersionHasNoDamage, VersionIsFound}

@@ -1,7 +1,7 @@
 -- A version takes the place of another one: three writes into the slot that is not in use, and what an image says in each.
 use Rattle.std.specs.Prelude.{◌≢◌, ◌≡◌, ◌⊎◌, ◌<◌, ℕ, [], ◌∷◌, length}
 use Rattle.disk_trait.specs.Image.{Image, Shows, Torn, overwritten}
-use Rattle.store_model.specs.SortedMap.{Bytes}
+use Rattle.map_model.specs.SortedMap.{Bytes}
 use Rattle.manifest_model.specs.Laws.{IsVersion}
 use Rattle.manifest_model.specs.Slots.{AreSlots, Holds, IsCurrent, IsOpen, IsVersionOf}
 use Rattle.manifest_model.specs.Version.{Version, body_bytes, body_place}

@@ -4,7 +4,7 @@ use Rattle.std.specs.Prelude.{◌≡◌, ◌≢◌, ◌⊎◌, ◌<◌, ◌==◌
 use Rattle.std.specs.Option.{option_or}
 use Rattle.disk_trait.specs.Image.{Image, Shows, window}
 use Rattle.byte_fields.specs.declared.parts.Damage.{Damage}
-use Rattle.store_model.specs.SortedMap.{Bytes}
+use Rattle.map_model.specs.SortedMap.{Bytes}
 use Rattle.manifest_model.specs.Laws.{IsVersion}
 use Rattle.manifest_model.specs.Reading.{body_damage, shape_at, version_in}
 use Rattle.manifest_model.specs.Tables.{epochs_fault}

@@ -1,7 +1,7 @@
 -- A row's pages spell one table.
 use Rattle.std.proofs.Common.{◌≡◌, List, refl, sym, ap, ◌∙◌}
 use Rattle.std.specs.Prelude.{flat_map, map}
-use Rattle.store_model.specs.Entries.{Entry}
+use Rattle.entry_model.specs.Entries.{Entry}
 use Rattle.block_model.specs.Block.{block_bytes}
 use Rattle.block_model.specs.Index.{Index, index_bytes, index_row_of}
 use Rattle.block_model.specs.Places.{byte_of_page, index_page}

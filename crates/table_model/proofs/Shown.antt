@@ -3,7 +3,7 @@ use Rattle.std.proofs.Common.{◌≡◌, ◌+◌, ◌≤◌, ℕ, ◌++◌, leng
 use Rattle.std.proofs.lemmas.List.{take_at, drop_at}
 use Rattle.disk_trait.specs.Image.{Image, IsApart, Shows, Torn, window}
 use Rattle.disk_trait.proofs.Images.{window_kept, window_size, window_split}
-use Rattle.store_model.specs.SortedMap.{Bytes}
+use Rattle.map_model.specs.SortedMap.{Bytes}
 
 -- two pieces of the same lengths
 pub same_parts : (xs ys more others : Bytes) → length xs ≡ length ys → xs ++ more ≡ ys ++ others → (xs ≡ ys) × (more ≡ others)

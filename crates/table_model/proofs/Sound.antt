@@ -14,11 +14,11 @@ use Rattle.disk_trait.specs.Image.{Image, Shows}
 use Rattle.filter_api.specs.Spellings.{AreAlike, IsSpelling, Spelling, SpellsOne}
 use Rattle.filter_api.specs.declared.settings.Settings.{Settings}
 use Rattle.filter_model.specs.Leaves.{Leaf, leaves_of}
-use Rattle.store_model.specs.SortedMap.{Bytes}
-use Rattle.store_model.specs.Entries.{Entry}
-use Rattle.block_model.specs.Block.{IsBlock, block_bytes, keys_of}
+use Rattle.map_model.specs.SortedMap.{Bytes}
+use Rattle.entry_model.specs.Entries.{Entry, keys_of}
+use Rattle.block_model.specs.Block.{IsBlock, block_bytes}
 use Rattle.block_model.specs.BlockReading.{block_fault}
-use Rattle.block_model.specs.Faults.{Fault}
+use Rattle.byte_fields.specs.Faults.{Fault}
 use Rattle.block_model.specs.Index.{Index, IndexRow, index_bytes, index_row_of}
 use Rattle.block_model.specs.IndexReading.{index_fault, index_in}
 use Rattle.block_model.specs.Laws.{joined}

@@ -12,9 +12,9 @@ use Rattle.filter_api.specs.Spellings.{Spelling, IsNoSpelling, IsSpelling}
 use Rattle.filter_api.specs.declared.errors.FilterFault.{FilterFault}
 use Rattle.filter_api.specs.declared.settings.Settings.{Settings}
 use Rattle.filter_model.specs.Leaves.{Leaf}
-use Rattle.store_model.specs.SortedMap.{Bytes}
+use Rattle.map_model.specs.SortedMap.{Bytes}
 use Rattle.block_model.specs.BlockReading.{block_fault}
-use Rattle.block_model.specs.Faults.{Fault}
+use Rattle.byte_fields.specs.Faults.{Fault}
 use Rattle.block_model.specs.Index.{IndexRow}
 use Rattle.block_model.specs.IndexReading.{index_fault}
 use Rattle.block_model.specs.Pages.{page_bytes}

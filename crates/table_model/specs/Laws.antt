@@ -6,9 +6,9 @@ use Rattle.byte_fields.specs.declared.parts.Row.{Row}
 use Rattle.filter_api.specs.Spellings.{Spelling, SpellsOne}
 use Rattle.filter_api.specs.declared.errors.FilterFault.{FilterFault}
 use Rattle.filter_api.specs.declared.settings.Settings.{Settings}
-use Rattle.store_model.specs.SortedMap.{Bytes}
-use Rattle.store_model.specs.Entries.{Entry}
-use Rattle.block_model.specs.Block.{IsTable, keys_of}
+use Rattle.map_model.specs.SortedMap.{Bytes}
+use Rattle.entry_model.specs.Entries.{Entry, keys_of}
+use Rattle.block_model.specs.Block.{IsTable}
 use Rattle.block_model.specs.IndexReading.{index_in}
 use Rattle.block_model.specs.Laws.{joined}
 use Rattle.block_model.specs.Pages.{blocks_of, page_bytes}

@@ -3,8 +3,8 @@ use Rattle.std.specs.Prelude.{ℕ, List, length}
 use Rattle.disk_trait.specs.Image.{Image, Shows}
 use Rattle.byte_fields.specs.Sums.{fnv_of}
 use Rattle.byte_fields.specs.declared.parts.Row.{Row}
-use Rattle.store_model.specs.SortedMap.{Bytes}
-use Rattle.store_model.specs.Entries.{Entry}
+use Rattle.map_model.specs.SortedMap.{Bytes}
+use Rattle.entry_model.specs.Entries.{Entry}
 use Rattle.block_model.specs.Block.{data_bytes}
 use Rattle.block_model.specs.Index.{index_bytes, index_of}
 use Rattle.block_model.specs.Pages.{data_pages, index_length, pages_for}

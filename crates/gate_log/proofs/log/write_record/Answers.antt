@@ -2,8 +2,8 @@ use Rattle.std.proofs.Common.{[], ◌∷◌, ◌++◌, ◌+◌, inl}
 use Rattle.std.specs.Prelude.{Ok, Err}
 use Rattle.disk_trait.specs.declared.fault.DiskFault.{DiskFault}
 use Rattle.disk_trait.proofs.Calls.{through, leads_then, leads_stop}
-use Rattle.gate_log.specs.Area.{LogIs, WithOrWithout}
-use Rattle.gate_log.proofs.Appended.{Staged, stays, staged, without, opening, opened}
+use Rattle.log_model.specs.Area.{LogIs, WithOrWithout}
+use Rattle.log_model.proofs.Appended.{Staged, stays, staged, without, opening, opened}
 use Rattle.gate_log.proofs.log.write_record.Goals as goal
 
 pub returns-in_err-write_through-clause-crash : goal.returns-in_err-write_through-clause-crash
