@@ -45,7 +45,7 @@ pub fn broken_blocks()
 {}
 
 /// Where two rules are broken: the first of them in their order, entry by entry. Keys that are equal do not rise.
-#[tactic(auto, unfolding(crate::specs::Pages::pages_for, crate::specs::Pages::block_length, crate::specs::Block::block_bytes, crate::specs::Block::header_bytes, crate::specs::Block::padding, crate::specs::BlockReading::width_in, crate::specs::BlockReading::key_in, crate::specs::BlockReading::entry_in, crate::specs::BlockReading::entry_fault, crate::specs::BlockReading::entries_fault, crate::specs::BlockReading::entries_in, crate::specs::BlockReading::entries_part, crate::specs::BlockReading::header_fault, crate::specs::BlockReading::tail_fault, crate::specs::BlockReading::block_fault, crate::specs::BlockReading::block_in, crate::specs::Rows::broken, crate::specs::Rows::broken_twice))]
+#[tactic(auto, unfolding(crate::specs::Pages::pages_for, crate::specs::Pages::block_length, crate::specs::Block::block_bytes, crate::specs::Block::header_bytes, crate::specs::Block::padding, entry_model::specs::Reading::width_in, entry_model::specs::Reading::key_in, entry_model::specs::Reading::entry_in, crate::specs::BlockReading::entry_fault, crate::specs::BlockReading::entries_fault, crate::specs::BlockReading::entries_in, crate::specs::BlockReading::entries_part, crate::specs::BlockReading::header_fault, crate::specs::BlockReading::tail_fault, crate::specs::BlockReading::block_fault, crate::specs::BlockReading::block_in, crate::specs::Rows::broken, crate::specs::Rows::broken_twice))]
 pub fn twice_broken_blocks()
     ensures length_then_count { block_fault (broken_twice 0 15 4 0) ≡ Some (fault 0 1) }
     ensures zero_then_cut { block_fault (broken_twice 6 1 0 20) ≡ Some (fault 6 2) }

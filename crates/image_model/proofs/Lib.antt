@@ -7,3 +7,4 @@ pub mod Frames
 pub mod Installs
 pub mod Ranges
 pub mod Opening
+pub mod Sound

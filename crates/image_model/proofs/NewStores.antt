@@ -6,7 +6,7 @@ use Rattle.filter_api.specs.declared.settings.Settings.{Settings}
 use Rattle.log_model.proofs.Appended.{empty}
 use Rattle.manifest_model.specs.Laws.{IsVersion}
 use Rattle.manifest_model.specs.Reading.{extents_fault, levels_fault, of_version, rows_fault}
-use Rattle.image_model.specs.Written.{NewStoreIsReady, NewStoreStands, new_version}
+use Rattle.image_model.specs.NewStores.{NewStoreIsReady, NewStoreStands, new_version}
 
 none_placed : (settings : Settings) (pages : ℕ) → of_version (new_version settings pages) ≡ None
 unfolding rows_fault levels_fault extents_fault

@@ -18,7 +18,8 @@ use Rattle.byte_fields.specs.Faults.{Fault}
 use Rattle.manifest_model.specs.Slots.{slots_damage}
 use Rattle.manifest_model.specs.Version.{Version, body_place}
 use Rattle.manifest_model.proofs.Versions.{in_use, no_damage, no_store, none_open, one_slot, one_version}
-use Rattle.state_model.specs.State.{State, Table}
+use Rattle.state_model.specs.State.{State}
+use Rattle.table_model.specs.Tables.{Table}
 use Rattle.table_model.specs.Damage.{index_damage}
 use Rattle.table_model.proofs.Sound.{filter_has_none, index_has_none, one_filter_damage, sound_filter_has_none}
 use Rattle.image_model.specs.Opening.{IsOpened, NoStoreHasNoDamage, NoStoreHasNoState, OneDamage, StateHasNoDamage, TablesBreak, VersionBreaks, at_a_table, at_the_log, at_the_ranges, at_the_slots, at_the_version}

@@ -20,13 +20,13 @@ use Rattle.block_model.proofs.Refusals.{not_true, passed}
 use Rattle.manifest_model.specs.Tables.{KeyRange, follows, ranges_after, ranges_fault}
 use Rattle.state_model.specs.Merges.{greatest_key, least_key}
 use Rattle.state_model.specs.Sound.{StandsBefore}
-use Rattle.state_model.specs.State.{Table}
+use Rattle.table_model.specs.Tables.{Table}
 use Rattle.table_model.specs.Damage.{index_part}
-use Rattle.table_model.specs.Images.{index_of_blocks}
+use Rattle.table_model.specs.Images.{IsTableOf, index_of_blocks}
 use Rattle.table_model.proofs.OneTable.{rows_of_index}
 use Rattle.table_model.proofs.Sound.{index_read}
 use Rattle.image_model.specs.Opening.{greatest_in, range_of}
-use Rattle.image_model.specs.Tables.{AreTablesOf, IsTableOf}
+use Rattle.image_model.specs.Tables.{AreTablesOf}
 
 -- ---- the keys of an index
 

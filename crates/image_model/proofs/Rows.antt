@@ -4,7 +4,7 @@ use Rattle.manifest_model.specs.Rows.{formatted}
 use Rattle.state_model.specs.State.{new_state}
 use Rattle.image_model.specs.Stands.{settings_of, shown}
 use Rattle.disk_trait.specs.Image.{Shows}
-use Rattle.image_model.specs.Written.{new_version}
+use Rattle.image_model.specs.NewStores.{new_version}
 
 -- three bytes stand at place 2 of the image that counts its places
 three_bytes : Shows 2 (2 ∷ 3 ∷ 4 ∷ []) (λ place. place)

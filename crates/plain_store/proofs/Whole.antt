@@ -4,7 +4,7 @@ use Rattle.std.proofs.Common.{sym, ap, ◌∙◌}
 use Rattle.std.proofs.Math.Seq.{take-length}
 use Rattle.entry_model.specs.Entries.{Entry}
 use Rattle.state_model.specs.State.{State, Job, written_by}
-use Rattle.state_model.specs.Pages.{FilterBytes}
+use Rattle.table_model.specs.Tables.{FilterBytes}
 use Rattle.state_model.specs.Taken.{extent_of, taken}
 use Rattle.state_model.specs.Merges.{Plan, choose, planned, placed}
 use Rattle.state_model.specs.Tends.{started}

@@ -1,15 +1,18 @@
 -- What is written apart from a row's pages changes nothing of its table.
-use Rattle.std.proofs.Common.{◌≡◌, ◌*◌, ℕ, sym, subst, arith}
+use Rattle.std.proofs.Common.{◌≡◌, ◌*◌, ℕ, List, sym, subst, arith}
 use Rattle.std.specs.Prelude.{flat_map}
 use Rattle.byte_fields.specs.declared.parts.Row.{Row}
 use Rattle.disk_trait.specs.Image.{Image, IsApart, Torn}
+use Rattle.filter_api.specs.Spellings.{Spelling}
+use Rattle.filter_api.specs.declared.settings.Settings.{Settings}
 use Rattle.map_model.specs.SortedMap.{Bytes}
+use Rattle.entry_model.specs.Entries.{Entry}
 use Rattle.block_model.specs.Block.{block_bytes}
 use Rattle.block_model.specs.Index.{index_bytes}
 use Rattle.block_model.specs.Pages.{pages_for}
 use Rattle.block_model.specs.Places.{byte_of_page, filter_page, index_page, pages_of}
 use Rattle.block_model.proofs.Lengths.{blocks_fill, in_pages}
-use Rattle.table_model.specs.Images.{IsPart, index_of_blocks}
+use Rattle.table_model.specs.Images.{IsPart, IsTableAt, index_of_blocks}
 use Rattle.table_model.specs.Laws.{IsApartFromRow, TableIsKept}
 use Rattle.table_model.proofs.Shown.{inner, shown_kept}
 
@@ -28,8 +31,9 @@ module _ (row : Row) (at n : ℕ) (apart : IsApartFromRow at n row) where
   filter_apart : row.filter_pages ≡ pages_for row.filter_len → IsApart (byte_of_page (filter_page row)) row.filter_len at n
   filter_apart pages = inner _ _ (byte_of_page row.first_page) (4096 * pages_of row) at n (omega arith) (omega (arith, pages, in_pages row.filter_len)) apart
 
-pub table_kept : TableIsKept
-table_kept spelling settings row blocks at n f g apart torn t = record {
+at_kept : (spelling : Spelling) (settings : Settings) (row : Row) (blocks : List (List Entry)) (at n : ℕ) (f g : Image) → IsApartFromRow at n row → Torn at n f g
+    → IsTableAt spelling settings row blocks f → IsTableAt spelling settings row blocks g
+at_kept spelling settings row blocks at n f g apart torn t = record {
   each = t.each;
   table = t.table;
   blocks_shown = shown_kept (byte_of_page row.first_page) (flat_map block_bytes blocks) at n f g
@@ -44,3 +48,6 @@ table_kept spelling settings row blocks at n f g apart torn t = record {
   filter = part_kept (filter_page row) row.filter_len row.filter_sum t.filter_bytes at n f g (filter_apart row at n apart t.filter_pages) torn t.filter;
   entries = t.entries;
 }
+
+pub table_kept : TableIsKept
+table_kept spelling settings row t at n f g apart torn is = (is.0, at_kept spelling settings row is.0 at n f g apart torn is.1, is.2)

@@ -13,7 +13,8 @@ use Rattle.block_model.specs.Block.{IsBlock, IsTable, block_bytes}
 use Rattle.block_model.specs.Index.{Index, IsIndex, index_row_of, index_bytes}
 use Rattle.block_model.specs.Laws.{joined}
 use Rattle.block_model.specs.Pages.{block_pages, first_key, pages_for}
-use Rattle.block_model.specs.Places.{byte_of_page, filter_page, index_page}
+use Rattle.block_model.specs.Places.{byte_of_page, filter_page, index_page, pages_of}
+use Rattle.table_model.specs.Tables.{Table}
 
 -- a part stands at its page, with the length and the sum that the row keeps
 pub record IsPart (page length_kept sum_kept : ℕ) (bytes : Bytes) (image : Image) : Type 0 where
@@ -45,3 +46,21 @@ pub record IsTableAt (spelling : Spelling) (settings : Settings) (row : Row) (bl
   pub filter_of_keys : IsFilterOfKeys spelling settings (keys_of (joined blocks)) filter_bytes
   pub filter : IsPart (filter_page row) row.filter_len row.filter_sum filter_bytes image
   pub entries : length (joined blocks) ≡ row.entries
+
+-- the table of a row, of which these are the blocks
+abbrev pub table_with : Row → List (List Entry) → Table
+table_with row blocks = record {
+  level = row.level;
+  first_page = row.first_page;
+  pages = pages_of row;
+  blocks = length blocks;
+  entries = joined blocks;
+}
+
+-- the table that a row's pages spell
+abbrev pub IsTableOf : Spelling → Settings → Row → Table → Image → Type 0
+IsTableOf spelling settings row t image = (blocks : List (List Entry)) × IsTableAt spelling settings row blocks image × (t ≡ table_with row blocks)
+
+-- the table stands in its extent: some row's pages spell it
+abbrev pub StandsInExtent : Spelling → Settings → Image → Table → Type 0
+StandsInExtent spelling settings image t = (row : Row) × IsTableOf spelling settings row t image

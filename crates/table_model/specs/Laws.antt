@@ -11,24 +11,26 @@ use Rattle.entry_model.specs.Entries.{Entry, keys_of}
 use Rattle.block_model.specs.Block.{IsTable}
 use Rattle.block_model.specs.IndexReading.{index_in}
 use Rattle.block_model.specs.Laws.{joined}
-use Rattle.block_model.specs.Pages.{blocks_of, page_bytes}
+use Rattle.block_model.specs.Pages.{page_bytes}
 use Rattle.block_model.specs.Places.{byte_of_page, pages_of}
 use Rattle.table_model.specs.Damage.{AreSoundBlocks, IsFilterDamage, IsSoundFilter, filter_part, index_damage, index_part}
-use Rattle.table_model.specs.Images.{IsFilterOfKeys, IsTableAt}
+use Rattle.table_model.specs.Images.{IsFilterOfKeys, IsTableAt, IsTableOf}
+use Rattle.table_model.specs.Tables.{FilterBytes, Table, table_of}
 use Rattle.table_model.specs.Written.{ArePartsShown, row_for}
 
 -- the pages of a row spell one table, whatever the settings
 abbrev pub OneTable : Type 0
 OneTable =
-    (spelling : Spelling) (settings others : Settings) (row : Row) (blocks more : List (List Entry)) (image : Image)
-    → IsTableAt spelling settings row blocks image → IsTableAt spelling others row more image → blocks ≡ more
+    (spelling : Spelling) (settings others : Settings) (row : Row) (t u : Table) (image : Image)
+    → IsTableOf spelling settings row t image → IsTableOf spelling others row u image → t ≡ u
 
--- where the parts of a table of some entries stand, its row's pages spell their blocks
-abbrev pub PartsAreATable : Type 0
-PartsAreATable =
-    (spelling : Spelling) (settings : Settings) (level first_page : ℕ) (entries : List Entry) (filter_bytes : Bytes) (image : Image) → IsTable entries
-    → IsFilterOfKeys spelling settings (keys_of entries) filter_bytes → ArePartsShown (row_for level first_page entries filter_bytes) entries filter_bytes image
-    → IsTableAt spelling settings (row_for level first_page entries filter_bytes) (blocks_of entries) image
+-- where the parts of a table of some entries stand, its row's pages spell the table that is made of them
+abbrev pub TableStands : Type 0
+TableStands =
+    (spelling : Spelling) (filter_bytes : FilterBytes) (settings : Settings) (level first_page : ℕ) (entries : List Entry) (image : Image) → IsTable entries
+    → IsFilterOfKeys spelling settings (keys_of entries) (filter_bytes settings (keys_of entries))
+    → ArePartsShown (row_for level first_page entries (filter_bytes settings (keys_of entries))) entries (filter_bytes settings (keys_of entries)) image
+    → IsTableOf spelling settings (row_for level first_page entries (filter_bytes settings (keys_of entries))) (table_of filter_bytes settings level first_page entries) image
 
 -- ---- what is written apart from a row's pages, done or cut short
 
@@ -37,8 +39,8 @@ IsApartFromRow at n row = IsApart (byte_of_page row.first_page) (page_bytes * pa
 
 abbrev pub TableIsKept : Type 0
 TableIsKept =
-    (spelling : Spelling) (settings : Settings) (row : Row) (blocks : List (List Entry)) (at n : ℕ) (old new : Image) → IsApartFromRow at n row
-    → Torn at n old new → IsTableAt spelling settings row blocks old → IsTableAt spelling settings row blocks new
+    (spelling : Spelling) (settings : Settings) (row : Row) (t : Table) (at n : ℕ) (old new : Image) → IsApartFromRow at n row
+    → Torn at n old new → IsTableOf spelling settings row t old → IsTableOf spelling settings row t new
 
 -- ---- what is wrong with one
 

@@ -1,3 +1,4 @@
+pub mod Tables
 pub mod Images
 pub mod Damage
 pub mod Written

@@ -1,11 +1,11 @@
 // The laws of tables. They are proved and never called.
-ghost use Rattle.table_model.specs.Laws.{BlocksHaveNone, FilterHasNone, FilterIsOfTheKeys, IndexHasNone, OneFilterDamage, OneTable, PartsAreATable, SoundFilterHasNone, TableIsKept};
+ghost use Rattle.table_model.specs.Laws.{BlocksHaveNone, FilterHasNone, FilterIsOfTheKeys, IndexHasNone, OneFilterDamage, OneTable, SoundFilterHasNone, TableIsKept, TableStands};
 
 /// A row's pages spell one table at most. Where the blocks, the index and the filter of some entries stand at the pages of
 /// the row that is made for them, it is the table of these entries.
 pub fn a_row_has_one_table()
     ensures one { OneTable }
-    ensures parts { PartsAreATable }
+    ensures stands { TableStands }
 {}
 
 /// What is written apart from a row's pages, done or cut short, changes nothing of its table.

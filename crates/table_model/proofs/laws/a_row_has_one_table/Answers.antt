@@ -5,5 +5,5 @@ use Rattle.table_model.proofs.laws.a_row_has_one_table.Goals as goal
 pub returns-clause-one : goal.returns-clause-one
 returns-clause-one c = one_table
 
-pub returns-clause-parts : goal.returns-clause-parts
-returns-clause-parts c = table_stands
+pub returns-clause-stands : goal.returns-clause-stands
+returns-clause-stands c = table_stands

@@ -1,10 +1,18 @@
--- How many pages a table takes.
-use Rattle.std.specs.Prelude.{ℕ, ◌+◌, List, map, length}
+-- A table as a state has it, and the one that is made of some entries.
+use Rattle.std.specs.Prelude.{ℕ, ◌+◌, List, length}
 use Rattle.filter_api.specs.declared.settings.Settings.{Settings}
 use Rattle.map_model.specs.SortedMap.{Bytes}
 use Rattle.entry_model.specs.Entries.{Entry, keys_of}
 use Rattle.block_model.specs.Pages.{pages_for, blocks_of, data_pages, index_length}
-use Rattle.state_model.specs.State.{Table}
+
+-- A table: its level, its first page and how many pages it takes, of how many data blocks it is made, and its entries,
+-- with strictly rising keys.
+pub record Table : Type 0 where
+  pub level : ℕ
+  pub first_page : ℕ
+  pub pages : ℕ
+  pub blocks : ℕ
+  pub entries : List Entry
 
 -- the bytes of the filter that is built of some keys, by the settings: a parameter, for each kind of filter its own
 abbrev pub FilterBytes : Type 0

@@ -1,28 +1,14 @@
--- What is written stands: a table at its pages, and a new store.
+-- A new store, and the image that stands for it.
 use Rattle.std.specs.Prelude.{◌≡◌, ◌≢◌, ◌≤◌, ◌<◌, ◌^◌, ℕ, false, List, []}
 use Rattle.disk_trait.specs.Image.{Image, Shows}
 use Rattle.filter_api.specs.Ranges.{InRange}
 use Rattle.filter_api.specs.Spellings.{Spelling}
 use Rattle.filter_api.specs.declared.settings.Settings.{Settings}
 use Rattle.log_model.specs.Area.{start_of}
-use Rattle.entry_model.specs.Entries.{Entry, keys_of}
-use Rattle.block_model.specs.Block.{IsTable}
 use Rattle.manifest_model.specs.Slots.{IsOpen}
 use Rattle.manifest_model.specs.Version.{Version, body_bytes, body_place, slot_a, slot_b}
-use Rattle.state_model.specs.Pages.{FilterBytes, table_of}
 use Rattle.state_model.specs.State.{new_state}
-use Rattle.table_model.specs.Images.{IsFilterOfKeys}
-use Rattle.table_model.specs.Written.{ArePartsShown, row_for}
 use Rattle.image_model.specs.Stands.{IsReady, IsStateOf}
-use Rattle.image_model.specs.Tables.{IsTableOf}
-
--- where the parts of a table of some entries stand, its row's pages spell the table that is made of them
-abbrev pub TableStands : Type 0
-TableStands =
-    (spelling : Spelling) (filter_bytes : FilterBytes) (settings : Settings) (level first_page : ℕ) (entries : List Entry) (image : Image) → IsTable entries
-    → IsFilterOfKeys spelling settings (keys_of entries) (filter_bytes settings (keys_of entries))
-    → ArePartsShown (row_for level first_page entries (filter_bytes settings (keys_of entries))) entries (filter_bytes settings (keys_of entries)) image
-    → IsTableOf spelling settings (row_for level first_page entries (filter_bytes settings (keys_of entries))) (table_of filter_bytes settings level first_page entries) image
 
 -- the version of a new store: epoch 1, no tables, and the first log area
 abbrev pub new_version : Settings → ℕ → Version
