@@ -2,6 +2,7 @@
 use Rattle.std.specs.Prelude.{ℕ, List, [], Option, Some, None}
 use Rattle.filter_api.specs.declared.settings.Settings.{Settings}
 use Rattle.entry_model.specs.Entries.{Entry}
+use Rattle.table_model.specs.Tables.{Table}
 
 -- A merge that runs: the tables that it merges, the level of the tables that it makes, how many blocks are still to
 -- read, and those of its tables that are written.
