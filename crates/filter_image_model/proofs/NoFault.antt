@@ -26,7 +26,7 @@ use Rattle.filter_image_model.proofs.GroupWords.{AreLevels, Group, all_children,
 use Rattle.filter_image_model.proofs.LevelsRead.{flat}
 use Rattle.filter_image_model.proofs.Once.{dense_of, read_as, sparse_of, spells_one}
 use Rattle.filter_image_model.proofs.Paths.{IsFine, bytes_of_leaves, fine_children, fine_paths, kids_counted, kids_in, own_to, recut, stub_bytes, trie_flat}
-use Rattle.filter_image_model.proofs.Refusals.{none_of, passed}
+use Rattle.byte_fields.proofs.FaultLemmas.{none_of, passed}
 use Rattle.filter_image_model.proofs.Rising.{byte_order}
 use Rattle.filter_image_model.proofs.Sizes.{good_all, good_levels, leaves_counted, low_part}
 use Rattle.filter_image_model.proofs.SlotNumbers.{ends_none, slot_letters_are, slots_own, suffixes_by_slots}

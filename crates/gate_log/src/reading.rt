@@ -32,6 +32,7 @@ struct Body<'a> {
 }
 
 // The body behind an open gate, or the first rule that it breaks.
+#[tactic(auto, unfolding(entry_model::specs::Reading::width_in, entry_model::specs::Reading::key_in, entry_model::specs::Reading::entry_in))]
 fn body_in(bytes: &[u8]) -> Result<Body<'_>, u8>
     ensures broken { IfErr result (λ rule. broken_rule bytes.now ≡ Some rule) }
     ensures whole { IfOk result (λ _. broken_rule bytes.now ≡ None) }

@@ -192,7 +192,7 @@ trie_nodes_have_form ls t = All-map IsTrieNode (node_of ls) (nodes ls) (λ i d h
 
 -- ---- in sparse sections
 
-order_small : (c : ℕ) → c ≤ 256 → 0 < order_of c → (c < 256) × (order_of c ≡ suc c)
+pub order_small : (c : ℕ) → c ≤ 256 → 0 < order_of c → (c < 256) × (order_of c ≡ suc c)
 order_small c le pos = elim (cases_eq c 256) [
   | inl end ↦ absurd (omega (arith, pos, ap order_of end))
   | inr other ↦ let l : c < 256 = omega (arith, le, other) in (l, order-byte c l)
