@@ -27,7 +27,7 @@ mod log;
 mod reading;
 mod writing;
 
-pub use entry::{Kind, LogEntry};
+pub use entry::Kind;
 pub use fault::{AreaFault, LogFault};
 pub use laws::log_laws;
 pub use log::{AREA_BYTES, Log};

@@ -1,3 +1,4 @@
+pub mod Flat
 pub mod Newest
 pub mod Places
 mod Rows

@@ -15,14 +15,14 @@
 //! ```
 #![tactic(auto)]
 
+mod chunks;
 mod cursor;
 mod laws;
-mod prepared;
+mod search;
 mod table;
 
 pub use cursor::MemCursor;
 pub use laws::newest_laws;
-pub use prepared::Prepared;
 pub use table::MemTable;
 
 #[cfg(test)]
