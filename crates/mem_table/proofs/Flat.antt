@@ -48,6 +48,10 @@ first_place [] c some lt = absurd (omega arith)
 first_place (x ∷ more) zero some lt = some.0
 first_place (x ∷ more) (suc c) some lt = first_place more c some.1 (omega arith)
 
+pub first_gap : (chunks : List (ArrayVec ℕ)) → IsGap chunks 0 0
+first_gap [] = tt
+first_gap (x ∷ more) = omega arith
+
 -- the place, in its chunk and in the flat order
 pub place_is : (chunks : List (ArrayVec ℕ)) (c k e : ℕ) (d : ArrayVec ℕ) → IsPlace chunks c k → get_or (get_or chunks c d).items k e ≡ get_or (flat chunks) (flat_at chunks c k) e
 place_is [] c k e d is = absurd is

@@ -1,4 +1,5 @@
 pub mod Flat
+pub mod Found
 pub mod Newest
 pub mod Places
 mod Rows

@@ -19,15 +19,22 @@ fn compare_at(entries: &[Entry], place: u32, key: &[u8]) -> Ordering
     }
 }
 
+// How the first key of a chunk stands to this one.
+fn compare_first(entries: &[Entry], chunk: &Chunk, key: &[u8]) -> Ordering
+    ensures { result ≡ byte_order (first_in entries.now chunk.now).key key.now }
+{
+    match chunk.as_slice().first() {
+        Some(place) => compare_at(entries, *place, key),
+        None => compare_at(entries, 0, key),
+    }
+}
+
 // The chunk whose first key is this one, or behind which chunks with lesser first keys the others are greater.
 fn chunk_of(entries: &[Entry], chunks: &[Chunk], key: &[u8]) -> Result<usize, usize>
     ensures range { IsSearchInRange result (length chunks.now) }
     ensures result { IsBinarySearchResult (λ chunk. byte_order (first_in entries.now chunk).key key.now) chunks.now result }
 {
-    chunks.binary_search_by(|chunk| match chunk.as_slice().first() {
-        Some(place) => compare_at(entries, *place, key),
-        None => compare_at(entries, 0, key),
-    })
+    chunks.binary_search_by(|chunk| compare_first(entries, chunk, key))
 }
 
 // The same of the places of one chunk.
