@@ -52,6 +52,12 @@ pub first_gap : (chunks : List (ArrayVec ℕ)) → IsGap chunks 0 0
 first_gap [] = tt
 first_gap (x ∷ more) = omega arith
 
+-- what is at a place can go there
+pub gap_of_place : (chunks : List (ArrayVec ℕ)) (c k : ℕ) → IsPlace chunks c k → IsGap chunks c k
+gap_of_place [] c k is = tt
+gap_of_place (x ∷ more) zero k is = omega (arith, is)
+gap_of_place (x ∷ more) (suc c) k is = gap_of_place more c k is
+
 -- the place, in its chunk and in the flat order
 pub place_is : (chunks : List (ArrayVec ℕ)) (c k e : ℕ) (d : ArrayVec ℕ) → IsPlace chunks c k → get_or (get_or chunks c d).items k e ≡ get_or (flat chunks) (flat_at chunks c k) e
 place_is [] c k e d is = absurd is

@@ -18,7 +18,7 @@ use Rattle.mem_table.proofs.Newest.{greater_of_less, below_apart, none_above}
 
 -- ---- the orders of rising keys to one key rise
 
-above_at : (low : Bytes) (entries : List Entry) (j : ℕ) (d : Entry) → AllByRecursion (IsAbove low) entries → j < length entries → IsAbove low (get_or entries j d)
+pub above_at : (low : Bytes) (entries : List Entry) (j : ℕ) (d : Entry) → AllByRecursion (IsAbove low) entries → j < length entries → IsAbove low (get_or entries j d)
 above_at low [] j d above lt = absurd (omega arith)
 above_at low (entry ∷ more) zero d above lt = above.0
 above_at low (entry ∷ more) (suc j) d above lt = above_at low more j d above.1 (omega arith)

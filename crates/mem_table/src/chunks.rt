@@ -1,5 +1,5 @@
 // The order of places, in chunks: a place goes between two others by moving those of one chunk.
-ghost use Rattle.std.specs.Prelude.{◌≡◌, ◌+◌, ◌<◌, ◌≤◌, [], ◌∷◌, ◌++◌, length, vec_len, vec_capacity, slice_index};
+ghost use Rattle.std.specs.Prelude.{◌≡◌, ◌+◌, ◌<◌, ◌≤◌, [], ◌∷◌, ◌++◌, length, drop, vec_len, vec_capacity, slice_index};
 ghost use Rattle.std.specs.List.{insert};
 ghost use Rattle.arrayvec.specs.ArrayVec.{array_vec_len};
 ghost use Rattle.mem_table.specs.Chunks.{flat, flat_at, IsPlace, IsGap, NoneEmpty};
@@ -27,6 +27,20 @@ pub(crate) fn place_at(chunks: &[Chunk], spot: Spot) -> u32
     ensures { result ≡ slice_index (flat chunks.now) (flat_at chunks.now spot.chunk spot.within) }
 {
     chunks[spot.chunk].as_slice()[spot.within]
+}
+
+/// The places from a spot on: those of its chunk, and the chunks behind it.
+pub(crate) fn rest_from(chunks: &[Chunk], spot: Spot) -> (&[u32], &[Chunk])
+    requires { IsGap chunks.now spot.chunk spot.within }
+    ensures rest { result.0.now ++ flat result.1.now ≡ drop (flat_at chunks.now spot.chunk spot.within) (flat chunks.now) }
+    ensures some { NoneEmpty chunks.now → NoneEmpty result.1.now }
+{
+    let Spot { chunk, within } = spot;
+    if chunk >= chunks.len() {
+        return (&[], &[]);
+    }
+    let here = chunks[chunk].as_slice();
+    (&here[within..], &chunks[chunk + 1..])
 }
 
 // A chunk of one place.

@@ -1,9 +1,9 @@
 // Where a key's place is in the order.
-ghost use Rattle.std.specs.Prelude.{◌≡◌, IfOk, IfErr, length};
+ghost use Rattle.std.specs.Prelude.{◌≡◌, IfOk, IfErr, length, drop};
 ghost use Rattle.std.specs.List.Sorted.{IsBinarySearchResult, IsSearchInRange};
 ghost use Rattle.store_model.specs.SortedMap.{byte_order};
 ghost use Rattle.mem_table.specs.Chunks.{flat, flat_at, IsPlace, IsGap, Orders, entry_at, first_in, in_order};
-ghost use Rattle.mem_table.specs.Table.{StandsAt, BelongsAt};
+ghost use Rattle.mem_table.specs.Table.{StandsAt, BelongsAt, entries_from};
 
 use crate::chunks::{Chunk, Spot};
 use entry_list::Entry;
@@ -66,5 +66,17 @@ pub(crate) fn spot_of(entries: &[Entry], chunks: &[Chunk], key: &[u8]) -> Result
     match within_of(entries, &chunks[chunk], key) {
         Ok(within) => Ok(Spot { chunk, within }),
         Err(within) => Err(Spot { chunk, within }),
+    }
+}
+
+/// The spot from which on the keys are this one or more.
+pub(crate) fn first_from(entries: &[Entry], chunks: &[Chunk], key: &[u8]) -> Spot
+    requires { Orders chunks.now entries.now }
+    ensures gap { IsGap chunks.now result.chunk result.within }
+    ensures from { in_order entries.now (drop (flat_at chunks.now result.chunk result.within) (flat chunks.now)) ≡ entries_from (in_order entries.now (flat chunks.now)) key.now }
+{
+    match spot_of(entries, chunks, key) {
+        Ok(spot) => spot,
+        Err(spot) => spot,
     }
 }

@@ -3,9 +3,9 @@ ghost use Rattle.std.specs.Option.{option_map};
 ghost use Rattle.store_model.specs.Entries as model;
 ghost use Rattle.mem_table.specs.Table.{entry_of, with_entry, newest_entries, lookup, entries_from};
 
-use crate::chunks::{Chunk, place_at, put};
+use crate::chunks::{Chunk, place_at, put, rest_from};
 use crate::cursor::MemCursor;
-use crate::search::spot_of;
+use crate::search::{first_from, spot_of};
 use entry_list::Entry;
 use std::alloc::{AllocError, Global};
 use std::marker::Model;
@@ -128,15 +128,9 @@ impl MemTable {
     pub fn cursor(&self, low: &[u8]) -> MemCursor<'_>
         ensures { result ≡ entries_from self.now.entries low.now }
     {
-        let spot = match spot_of(&self.entries, &self.chunks, low) {
-            Ok(spot) => spot,
-            Err(spot) => spot,
-        };
-        if spot.chunk >= self.chunks.len() {
-            return MemCursor::new(&self.entries, &[], &[]);
-        }
-        let here = &self.chunks[spot.chunk].as_slice()[spot.within..];
-        MemCursor::new(&self.entries, here, &self.chunks.as_slice()[spot.chunk + 1..])
+        let spot = first_from(&self.entries, &self.chunks, low);
+        let (here, behind) = rest_from(&self.chunks, spot);
+        MemCursor::new(&self.entries, here, behind)
     }
 
     /// Takes all entries away, and keeps the spare places. Takes no memory.
