@@ -1,6 +1,7 @@
 use disk_mem::{Choice, MemDisk};
 use disk_trait::{Disk, DiskFault, Op};
-use gate_log::{Kind, Log, LogEntry, LogFault};
+use entry_list::Entry;
+use gate_log::{Kind, Log, LogFault};
 use mem_table::MemTable;
 use std::alloc::{AllocError, Global};
 use std::test::Fail;
@@ -26,7 +27,7 @@ fn delete<D: Disk>(log: &mut Log, disk: &mut D, buf: &mut [u8], key: &[u8]) -> b
 }
 
 // The table of the entries that were read.
-fn table_of(alloc: Global, entries: &[LogEntry]) -> Result<MemTable, AllocError> {
+fn table_of(alloc: Global, entries: &[Entry]) -> Result<MemTable, AllocError> {
     let mut table = MemTable::new(alloc);
     for entry in entries {
         let prepared = table.reserve_for(entry.key(), entry.value())?;

@@ -6,12 +6,13 @@ ghost use Rattle.surf_run.specs.Open.{OpenMoves, OpenCause, Opens};
 
 use crate::store::{AREA, RECORD_BYTES, Store};
 use disk_trait::Disk;
-use gate_log::{Log, LogEntry, LogFault};
+use entry_list::Entry;
+use gate_log::{Log, LogFault};
 use mem_table::MemTable;
 use std::alloc::{AllocError, Global};
 
 // Sets entries in an empty table, in their order.
-fn fill(table: &mut MemTable, entries: &[LogEntry]) -> Result<(), AllocError>
+fn fill(table: &mut MemTable, entries: &[Entry]) -> Result<(), AllocError>
     requires { table.old.entries ≡ [] }
     ensures { OnOk result (table.new.entries ≡ newest_entries entries.now) }
 {
