@@ -155,3 +155,9 @@ flat_from (x ∷ more) zero k d lt within = drop_left x.items (flat more) k with
     drop_left (x ∷ xs) ys zero le = refl
     drop_left (x ∷ xs) ys (suc k) le = drop_left xs ys k (omega arith)
 flat_from (x ∷ more) (suc c) k d lt within = drop-append-add x.items (flat more) (flat_at more c k) ∙ flat_from more c k d (omega arith) within
+
+-- behind the last place of the last chunk is the end
+pub end_behind : (chunks : List (ArrayVec ℕ)) (d : ArrayVec ℕ) → 0 < length chunks → flat_at chunks (length chunks - 1) (length (get_or chunks (length chunks - 1) d).items) ≡ length (flat chunks)
+end_behind chunks d some =
+    let end : length chunks ≤ suc (length chunks - 1) = omega arith in
+    next_at chunks (length chunks - 1) d (omega arith) ∙ end_at chunks (suc (length chunks - 1)) 0 end

@@ -1,3 +1,4 @@
+pub mod Fills
 pub mod Flat
 pub mod Found
 pub mod Newest

@@ -87,7 +87,7 @@ module _ (key : Bytes) (entries : List Entry) (at : ℕ) (rises : KeysRise entri
 
 -- ---- what stands before the place changes nothing
 
-with_behind : (front back : List Entry) (new : Entry) → AllByRecursion (IsBelow new.key) front → with_entry (front ++ back) new ≡ front ++ with_entry back new
+pub with_behind : (front back : List Entry) (new : Entry) → AllByRecursion (IsBelow new.key) front → with_entry (front ++ back) new ≡ front ++ with_entry back new
 with_behind [] back new below = refl
 with_behind (entry ∷ front) back new below =
     ap (λ (o : Ordering). placed o new entry (front ++ back) (with_entry (front ++ back) new)) (greater_of_less entry.key new.key below.0)

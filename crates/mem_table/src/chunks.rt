@@ -29,6 +29,23 @@ pub(crate) fn place_at(chunks: &[Chunk], spot: Spot) -> u32
     chunks[spot.chunk].as_slice()[spot.within]
 }
 
+/// The spot behind all places.
+pub(crate) fn end_of(chunks: &[Chunk]) -> Spot
+    ensures gap { IsGap chunks.now result.chunk result.within }
+    ensures end { flat_at chunks.now result.chunk result.within ≡ length (flat chunks.now) }
+{
+    match chunks.last() {
+        Some(chunk) => Spot {
+            chunk: chunks.len() - 1,
+            within: chunk.len(),
+        },
+        None => Spot {
+            chunk: 0,
+            within: 0,
+        },
+    }
+}
+
 /// The places from a spot on: those of its chunk, and the chunks behind it.
 pub(crate) fn rest_from(chunks: &[Chunk], spot: Spot) -> (&[u32], &[Chunk])
     requires { IsGap chunks.now spot.chunk spot.within }

@@ -17,6 +17,7 @@
 
 mod chunks;
 mod cursor;
+mod filling;
 mod laws;
 mod search;
 mod table;

@@ -5,6 +5,7 @@ ghost use Rattle.mem_table.specs.Table.{entry_of, with_entry, newest_entries, lo
 
 use crate::chunks::{Chunk, place_at, put, rest_from};
 use crate::cursor::MemCursor;
+use crate::filling::{in_a_row, keep_last, sort};
 use crate::search::{first_from, spot_of};
 use entry_list::Entry;
 use std::alloc::{AllocError, Global};
@@ -41,6 +42,24 @@ impl MemTable {
             entries: Vec::new(alloc),
             chunks: Vec::new(alloc),
         }
+    }
+
+    /// The table of the entries of a log, in the order of writing: of each key the last, moved and not copied.
+    ///
+    /// One stable sort, which keys in rising or falling order spare. It takes memory for the order of the places, and
+    /// meanwhile for as many entries again; where that is refused, there is no table and the entries are gone. It is
+    /// refused too for more than 2^32 entries.
+    pub fn fill(entries: Vec<Entry>) -> Result<MemTable, AllocError>
+        ensures { IfOk result (λ table. table.entries ≡ newest_entries entries.items) }
+    {
+        let mut entries = entries;
+        sort(&mut entries)?;
+        keep_last(&mut entries);
+        if entries.len() > MOST_ENTRIES {
+            return Err(AllocError);
+        }
+        let chunks = in_a_row(*entries.allocator(), entries.len())?;
+        Ok(MemTable { entries, chunks })
     }
 
     /// How many entries it has, tombstones among them.
