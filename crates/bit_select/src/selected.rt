@@ -67,6 +67,13 @@ impl<A: Allocator> Selected<A> {
         Some(64 * (first + word) + nth_one_in(words[word], left))
     }
 
+    /// The bits.
+    pub fn bits(&self) -> &Bits<A>
+        ensures { result.now ≡ self.now }
+    {
+        &self.bits
+    }
+
     /// The words that hold the bits: bit `i` is bit `i mod 64` of word `i / 64`, and the rest of the last word is 0.
     pub fn words(&self) -> &[u64]
         ensures { result.now ≡ packed 64 self.now }

@@ -1,9 +1,11 @@
-ghost use Rattle.std.specs.Prelude.{◌≡◌, IfOk};
+// One entry: a key with its value, or with the word that it has none any more.
+ghost use Rattle.std.specs.Prelude.{◌≡◌, ◌↔◌, IfOk, IsTrue, Some};
 ghost use Rattle.std.specs.Option.{option_map};
 ghost use Rattle.std.specs.Box.{boxed_slice_items};
-ghost use Rattle.entry_list.specs.Lists.{entry_of};
-ghost use Rattle.store_model.specs.SortedMap.{byte_order};
+ghost use Rattle.entry_model.specs.Entries.{IsEntry, entry_of};
+ghost use Rattle.map_model.specs.SortedMap.{byte_order};
 
+use key_base::{MAX_KEY_BYTES, MAX_VALUE_BYTES};
 use std::alloc::{AllocError, Global};
 use std::boxed::BoxedSlice;
 use std::cmp::Ordering;
@@ -19,7 +21,7 @@ pub struct Entry {
 impl Model for Entry {
     ghost use Rattle.std.specs.Option.{option_map};
     ghost use Rattle.std.specs.Box.{boxed_slice_items};
-    ghost use Rattle.store_model.specs.Entries as model;
+    ghost use Rattle.entry_model.specs.Entries as model;
 
     ghost Value = { model.Entry };
 
@@ -68,6 +70,17 @@ impl Entry {
         }
     }
 
+    /// Whether the key has 1 to 1,024 bytes and the value at most 65,536.
+    pub fn is_sound(&self) -> bool
+        ensures { IsTrue result ↔ IsEntry self.now }
+    {
+        let value = match &self.value {
+            Some(bytes) => bytes.as_slice(),
+            None => &[],
+        };
+        keeps_limits(self.key.as_slice(), value)
+    }
+
     /// Its key and its value, moved.
     pub fn into_parts(self) -> (BoxedSlice<u8>, Option<BoxedSlice<u8>>)
         ensures key { boxed_slice_items result.0 ≡ self.key }
@@ -83,4 +96,11 @@ impl Entry {
     {
         Entry::new(alloc, self.key(), self.value())
     }
+}
+
+// Whether a key and a value keep the limits of an entry.
+fn keeps_limits(key: &[u8], value: &[u8]) -> bool
+    ensures { IsTrue result ↔ IsEntry (entry_of key.now (Some value.now)) }
+{
+    !key.is_empty() && key.len() <= MAX_KEY_BYTES && value.len() <= MAX_VALUE_BYTES
 }

@@ -14,13 +14,13 @@ use Rattle.std.proofs.Math.Seq.{take-suc-set, get_or-append_seam}
 use Rattle.std.specs.Cmp.Lexicographic.{nat_list_cmp_total}
 use Rattle.std.specs.declared.cmp.Ordering.{Ordering}
 use Rattle.std.specs.declared.cmp.Ordering.TheVariants.{Less, Equal, Greater}
-use Rattle.store_model.specs.SortedMap.{Bytes, byte_order}
-use Rattle.store_model.specs.Entries.{Entry, newest, or_else}
-use Rattle.store_model.proofs.Maps.{order_same, equal_keys, less_of_greater, by_order}
-use Rattle.mem_table.specs.Table.{entry_of, IsBelow, IsAbove, KeysRise, placed, with_entry, newest_entries}
+use Rattle.map_model.specs.SortedMap.{Bytes, byte_order, in_place}
+use Rattle.entry_model.specs.Entries.{Entry, newest, or_else, entry_of}
+use Rattle.map_model.proofs.Maps.{order_same, equal_keys, less_of_greater, by_order}
+use Rattle.entry_model.specs.Newest.{IsBelow, IsAbove, KeysRise, with_entry, newest_entries}
 use Rattle.mem_table.specs.Filling.{DoNotFall}
 use Rattle.mem_table.specs.Chunks.{flat, entry_at, in_order, NoneEmpty, Orders}
-use Rattle.mem_table.proofs.Newest.{above_apart, below_apart, newest_more, lookup_newest, rises_after, one_list}
+use Rattle.entry_model.proofs.Newest.{above_apart, below_apart, newest_more, lookup_newest, rises_after, one_list}
 use Rattle.mem_table.proofs.Places.{with_behind}
 
 -- ---- a stable sort keeps what the last entry of each key says
@@ -86,7 +86,7 @@ below_more (entry ∷ front) x key less all = (nat_list_cmp_total.trans entry.ke
 pub replace_last : (front : List Entry) (x new : Entry) → KeysRise (front ++ x ∷ []) → x.key ≡ new.key → with_entry (front ++ x ∷ []) new ≡ front ++ new ∷ []
 replace_last front x new rises same =
     with_behind front (x ∷ []) new (below_same front x.key new.key same (below_last front x rises))
-    ∙ ap (λ (o : Ordering). front ++ placed o new x [] (new ∷ [])) (order_same new.key x.key (sym same))
+    ∙ ap (λ (o : Ordering). front ++ in_place o new x [] (new ∷ [])) (order_same new.key x.key (sym same))
 
 pub append_last : (front : List Entry) (x new : Entry) → KeysRise (front ++ x ∷ []) → byte_order x.key new.key ≡ Less → with_entry (front ++ x ∷ []) new ≡ (front ++ x ∷ []) ++ new ∷ []
 append_last front x new rises less =

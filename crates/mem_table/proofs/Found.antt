@@ -9,10 +9,11 @@ use Rattle.std.specs.Ordering.{ordering_index}
 use Rattle.std.specs.declared.cmp.Ordering.{Ordering}
 use Rattle.std.specs.declared.cmp.Ordering.TheVariants.{Less, Equal, Greater}
 use Rattle.arrayvec.specs.ArrayVec.{ArrayVec}
-use Rattle.store_model.specs.SortedMap.{Bytes, byte_order}
-use Rattle.store_model.specs.Entries.{Entry}
-use Rattle.store_model.proofs.Maps.{less_of_greater}
-use Rattle.mem_table.specs.Table.{KeysRise, StandsAt, BelongsAt}
+use Rattle.map_model.specs.SortedMap.{Bytes, byte_order}
+use Rattle.entry_model.specs.Entries.{Entry}
+use Rattle.map_model.proofs.Maps.{less_of_greater}
+use Rattle.mem_table.specs.Table.{StandsAt, BelongsAt}
+use Rattle.entry_model.specs.Newest.{KeysRise}
 use Rattle.mem_table.specs.Chunks.{flat, flat_at, IsPlace, IsGap, NoneEmpty, Orders, entry_at, first_in, in_order}
 use Rattle.mem_table.proofs.Flat.{place_in, gap_in, place_chunk, place_from, gap_from, first_place, place_is, within_at, next_at, end_at, chunks_rise}
 use Rattle.mem_table.proofs.Places.{rises_between, orders_rise, stands, belongs}

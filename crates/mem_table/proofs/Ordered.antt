@@ -6,10 +6,10 @@ use Rattle.std.proofs.lemmas.List.{get_or-map, get_or-set_same, get_or-set_other
 use Rattle.std.proofs.Math.Seq.{get_or-append_seam}
 use Rattle.std.specs.declared.cmp.Ordering.TheVariants.{Less, Equal}
 use Rattle.arrayvec.specs.ArrayVec.{ArrayVec}
-use Rattle.store_model.specs.SortedMap.{Bytes, byte_order}
-use Rattle.store_model.specs.Entries.{Entry}
-use Rattle.store_model.proofs.Maps.{order_same}
-use Rattle.mem_table.specs.Table.{IsAbove, KeysRise}
+use Rattle.map_model.specs.SortedMap.{Bytes, byte_order}
+use Rattle.entry_model.specs.Entries.{Entry}
+use Rattle.map_model.proofs.Maps.{order_same}
+use Rattle.entry_model.specs.Newest.{IsAbove, KeysRise}
 use Rattle.mem_table.specs.Chunks.{flat, entry_at, in_order, NoneEmpty}
 use Rattle.mem_table.proofs.Places.{above_at}
 

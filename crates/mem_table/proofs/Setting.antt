@@ -5,11 +5,12 @@ use Rattle.std.specs.List.{AllByRecursion}
 use Rattle.std.proofs.lemmas.List.{get_or-map, get_or_default, length-append}
 use Rattle.std.proofs.lemmas.List.Edits.{length-insert}
 use Rattle.arrayvec.specs.ArrayVec.{ArrayVec}
-use Rattle.store_model.specs.SortedMap.{Bytes}
-use Rattle.store_model.specs.Entries.{Entry}
-use Rattle.mem_table.specs.Table.{KeysRise, StandsAt, BelongsAt, with_entry, lookup}
+use Rattle.map_model.specs.SortedMap.{Bytes}
+use Rattle.entry_model.specs.Entries.{Entry}
+use Rattle.mem_table.specs.Table.{StandsAt, BelongsAt}
+use Rattle.entry_model.specs.Newest.{KeysRise, with_entry, lookup}
 use Rattle.mem_table.specs.Chunks.{flat, entry_at, in_order, Orders, NoneEmpty}
-use Rattle.mem_table.proofs.Newest.{rises_with}
+use Rattle.entry_model.proofs.Newest.{rises_with}
 use Rattle.mem_table.proofs.Places.{set_at, insert_at, lookup_at}
 use Rattle.mem_table.proofs.Ordered.{within_at, within_more, within_insert, in_order_insert, in_order_set}
 

@@ -2,8 +2,8 @@
 use Rattle.std.specs.Prelude.{◌≡◌, ℕ, zero, suc, ◌+◌, ◌<◌, ◌≤◌, ◌-◌, min, length, map, slice_index, slice_index_or, List, [], ◌∷◌, ◌++◌, None}
 use Rattle.std.specs.List.{AllByRecursion}
 use Rattle.arrayvec.specs.ArrayVec.{ArrayVec}
-use Rattle.store_model.specs.Entries.{Entry}
-use Rattle.mem_table.specs.Table.{entry_of, KeysRise}
+use Rattle.entry_model.specs.Entries.{Entry, entry_of}
+use Rattle.entry_model.specs.Newest.{KeysRise}
 
 -- the places of all chunks, one after the other
 abbrev pub flat : List (ArrayVec ℕ) → List ℕ

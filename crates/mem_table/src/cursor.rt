@@ -1,7 +1,7 @@
 ghost use Rattle.std.specs.Prelude.{◌≡◌, [], ◌∷◌, ◌++◌, ◌<◌, MatchOption, length};
 ghost use Rattle.std.specs.List.{AllByRecursion};
 ghost use Rattle.std.specs.Option.{option_map};
-ghost use Rattle.mem_table.specs.Table.{entry_of};
+ghost use Rattle.entry_model.specs.Entries.{entry_of};
 ghost use Rattle.mem_table.specs.Chunks.{flat, in_order, NoneEmpty};
 
 use crate::chunks::Chunk;
@@ -20,7 +20,7 @@ pub struct MemCursor<'a> {
 impl<'a> Model for MemCursor<'a> {
     ghost use Rattle.std.specs.Prelude.{List, ◌<◌, ◌++◌, length};
     ghost use Rattle.std.specs.List.{AllByRecursion};
-    ghost use Rattle.store_model.specs.Entries as model;
+    ghost use Rattle.entry_model.specs.Entries as model;
     ghost use Rattle.mem_table.specs.Chunks.{flat, in_order, NoneEmpty};
 
     ghost Value = { List model.Entry };

@@ -1,9 +1,9 @@
 // The newest entries of a log, by rising keys.
 ghost use Rattle.std.specs.Prelude.{◌≡◌, ◌≢◌, ◌≤◌, ◌<◌, ◌-◌, length, slice_index_or, true, false, OnOk, IfOk};
-ghost use Rattle.store_model.specs.Entries as model;
+ghost use Rattle.entry_model.specs.Entries as model;
 ghost use Rattle.std.specs.List.{range_with_len};
 ghost use Rattle.mem_table.specs.Chunks.{flat, NoneEmpty};
-ghost use Rattle.mem_table.specs.Table.{newest_entries};
+ghost use Rattle.entry_model.specs.Newest.{newest_entries};
 ghost use Rattle.mem_table.specs.Filling.{DoNotFall};
 
 use crate::chunks::{Chunk, end_of, put};

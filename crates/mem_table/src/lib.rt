@@ -18,12 +18,10 @@
 mod chunks;
 mod cursor;
 mod filling;
-mod laws;
 mod search;
 mod table;
 
 pub use cursor::MemCursor;
-pub use laws::newest_laws;
 pub use table::MemTable;
 
 #[cfg(test)]

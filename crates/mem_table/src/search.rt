@@ -1,9 +1,10 @@
 // Where a key's place is in the order.
 ghost use Rattle.std.specs.Prelude.{◌≡◌, IfOk, IfErr, length, drop};
 ghost use Rattle.std.specs.List.Sorted.{IsBinarySearchResult, IsSearchInRange};
-ghost use Rattle.store_model.specs.SortedMap.{byte_order};
+ghost use Rattle.map_model.specs.SortedMap.{byte_order};
 ghost use Rattle.mem_table.specs.Chunks.{flat, flat_at, IsPlace, IsGap, Orders, entry_at, first_in, in_order};
-ghost use Rattle.mem_table.specs.Table.{StandsAt, BelongsAt, entries_from};
+ghost use Rattle.mem_table.specs.Table.{StandsAt, BelongsAt};
+ghost use Rattle.entry_model.specs.Newest.{entries_from};
 
 use crate::chunks::{Chunk, Spot};
 use entry_list::Entry;

@@ -1,7 +1,8 @@
 ghost use Rattle.std.specs.Prelude.{◌≡◌, ◌+◌, ◌≤◌, ◌<◌, ℕ, List, [], ◌∷◌, ◌++◌, length, IfOk, OnOk, OnErr, IsTrue, ◌↔◌};
 ghost use Rattle.std.specs.Option.{option_map};
-ghost use Rattle.store_model.specs.Entries as model;
-ghost use Rattle.mem_table.specs.Table.{entry_of, with_entry, newest_entries, lookup, entries_from};
+ghost use Rattle.entry_model.specs.Entries as model;
+ghost use Rattle.entry_model.specs.Newest.{with_entry, newest_entries, lookup, entries_from};
+ghost use Rattle.entry_model.specs.Entries.{entry_of};
 
 use crate::chunks::{Chunk, place_at, put, rest_from};
 use crate::cursor::MemCursor;

@@ -10,8 +10,7 @@ use Rattle.std.proofs.lemmas.List.Folds.{length-flat_map-take}
 use Rattle.std.proofs.lemmas.Bool.{cases_eq}
 use Rattle.filter_model.specs.Leaves.{Leaf}
 use Rattle.filter_model.specs.Trie.{is_node, is_reached, branches, nodes, places, letters, height, slots}
-use Rattle.filter_model.specs.Nodes.{Branch, all, first_place, at, children_before, leaves_before}
-use Rattle.filter_model.specs.Nodes.{node_of, trie_of, last_letter}
+use Rattle.filter_model.specs.Nodes.{Branch, all, first_place, at, children_before, leaves_before, node_of, trie_of, last_letter}
 use Rattle.trie_laws.proofs.Lists.{kept_at, kept_within}
 use Rattle.trie_laws.proofs.NodeLists.{nodes_is}
 
@@ -121,7 +120,7 @@ module _ (ls : List Leaf) where
       let in' : p < length (places ls) = omega (arith, first_within v l) in
       form ∙ ap (λ (b : Branch). get_or (nodes ls) v [] ++ b.0 ∷ []) (sym (at-trie_of p in'))
 
-  branch_with : (p : List ℕ) (c : ℕ) → c ≤ 256 → is_reached ls (p ++ c ∷ []) ≡ true → (j : ℕ) × (j < length (branches ls p)) × (get_or (branches ls p) j [] ≡ p ++ c ∷ [])
+  pub branch_with : (p : List ℕ) (c : ℕ) → c ≤ 256 → is_reached ls (p ++ c ∷ []) ≡ true → (j : ℕ) × (j < length (branches ls p)) × (get_or (branches ls p) j [] ≡ p ++ c ∷ [])
   unfolding branches
   branch_with p c h e =
       let found = letter_index c h in

@@ -1,6 +1,6 @@
 use Rattle.std.proofs.Common.{nat_le}
-use Rattle.lane_scan.proofs.Firsts.{position_first}
+use Rattle.lane_scan.proofs.Firsts.{position_is}
 use Rattle.lane_scan.proofs.labels.first_at_least.Goals as goal
 
-pub returns-in-Some : goal.returns-in-Some
-returns-in-Some c = position_first (λ byte. nat_le c.args.label byte) c.args.bytes.now c.in-Some.place c.in-Some.ensures
+pub returns : goal.returns
+returns c = position_is (λ byte. nat_le c.args.label byte) c.args.bytes.now c.first_at_least_between.result c.first_at_least_between.ensures

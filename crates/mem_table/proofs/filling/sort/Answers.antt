@@ -2,7 +2,7 @@ use Rattle.std.proofs.Common.{rules}
 use Rattle.std.specs.Cmp.Lexicographic.{nat_list_cmp_total}
 use Rattle.std.proofs.lemmas.Fn.{always_returns_same}
 use Rattle.std.proofs.lemmas.List.MinMax.{ranks_by}
-use Rattle.store_model.specs.Entries.{Entry}
+use Rattle.entry_model.specs.Entries.{Entry}
 use Rattle.mem_table.proofs.Fills.{is_less, newest_sorted}
 use Rattle.mem_table.proofs.filling.sort.Goals as goal
 

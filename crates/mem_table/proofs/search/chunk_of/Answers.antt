@@ -1,6 +1,6 @@
 use Rattle.std.proofs.lemmas.Fn.{always_returns_same}
 use Rattle.std.proofs.Common.{rules}
-use Rattle.store_model.specs.SortedMap.{byte_order}
+use Rattle.map_model.specs.SortedMap.{byte_order}
 use Rattle.mem_table.specs.Chunks.{first_in}
 use Rattle.mem_table.proofs.search.chunk_of.Goals as goal
 

@@ -1,7 +1,7 @@
 use Rattle.std.proofs.Common.{List, ℕ, subst, rules}
 use Rattle.std.specs.List.Sorted.{IsBinarySearchResult}
 use Rattle.std.proofs.lemmas.Fn.{always_returns_same}
-use Rattle.store_model.specs.SortedMap.{byte_order}
+use Rattle.map_model.specs.SortedMap.{byte_order}
 use Rattle.mem_table.specs.Chunks.{entry_at}
 use Rattle.mem_table.proofs.search.within_of.Goals as goal
 

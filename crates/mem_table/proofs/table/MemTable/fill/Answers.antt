@@ -1,9 +1,9 @@
 use Rattle.std.proofs.Common.{rules, ◌≡◌, ◌∙◌, [], ℕ, List, length, sym, ap, subst}
 use Rattle.std.specs.List.{range_with_len}
-use Rattle.store_model.specs.Entries.{Entry}
+use Rattle.entry_model.specs.Entries.{Entry}
 use Rattle.mem_table.specs.Chunks.{flat}
-use Rattle.mem_table.specs.Table.{KeysRise, newest_entries}
-use Rattle.mem_table.proofs.Newest.{rises_after}
+use Rattle.entry_model.specs.Newest.{KeysRise, newest_entries}
+use Rattle.entry_model.proofs.Newest.{rises_after}
 use Rattle.mem_table.proofs.Fills.{row_shows, row_orders}
 use Rattle.mem_table.proofs.table.MemTable.fill.Goals as goal
 

@@ -1,9 +1,10 @@
 use Rattle.std.proofs.Common.{◌≡◌, ◌∙◌, ◌<◌, List, ℕ, sym, ap, length}
 use Rattle.std.specs.Prelude.{Option, Some}
 use Rattle.arrayvec.specs.ArrayVec.{ArrayVec}
-use Rattle.store_model.specs.SortedMap.{Bytes}
-use Rattle.store_model.specs.Entries.{Entry}
-use Rattle.mem_table.specs.Table.{Table, StandsAt, BelongsAt, lookup}
+use Rattle.map_model.specs.SortedMap.{Bytes}
+use Rattle.entry_model.specs.Entries.{Entry}
+use Rattle.mem_table.specs.Table.{Table, StandsAt, BelongsAt}
+use Rattle.entry_model.specs.Newest.{lookup}
 use Rattle.mem_table.specs.Chunks.{flat, flat_at, in_order, IsPlace}
 use Rattle.mem_table.proofs.Flat.{place_in}
 use Rattle.mem_table.proofs.Places.{lookup_none}

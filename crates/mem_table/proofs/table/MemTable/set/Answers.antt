@@ -1,12 +1,13 @@
 use Rattle.std.proofs.Common.{rules, ◌≡◌, ◌∙◌, ◌<◌, ◌≤◌, ◌++◌, ◌∷◌, [], List, ℕ, sym, ap, length, get_or, set, arith, subst}
 use Rattle.std.specs.Prelude.{insert}
 use Rattle.arrayvec.specs.ArrayVec.{ArrayVec}
-use Rattle.store_model.specs.SortedMap.{Bytes}
-use Rattle.store_model.specs.Entries.{Entry}
-use Rattle.mem_table.specs.Table.{Table, StandsAt, BelongsAt, with_entry}
+use Rattle.map_model.specs.SortedMap.{Bytes}
+use Rattle.entry_model.specs.Entries.{Entry}
+use Rattle.mem_table.specs.Table.{Table, StandsAt, BelongsAt}
+use Rattle.entry_model.specs.Newest.{with_entry}
 use Rattle.mem_table.specs.Chunks.{flat, flat_at, in_order, IsPlace, IsGap, Orders, NoneEmpty}
 use Rattle.mem_table.proofs.Flat.{place_in, gap_in}
-use Rattle.mem_table.proofs.Newest.{newest_more}
+use Rattle.entry_model.proofs.Newest.{newest_more}
 use Rattle.mem_table.proofs.Setting.{set_shows, set_orders, put_shows, put_orders}
 use Rattle.mem_table.proofs.table.MemTable.set.Goals as goal
 use Rattle.mem_table.proofs.table.MemTable.set.Goals.{in-Some-1, in-None-1}
