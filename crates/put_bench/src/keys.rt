@@ -1,8 +1,8 @@
-//! Keys in an order.
+//! Different keys in an order.
 use anyhow::{Result, bail};
 use std::alloc::{AllocError, Global};
 
-/// Numbers below a bound, in an order that a seed gives, some of them more than once.
+/// The numbers below `count`, in an order.
 pub fn numbers(alloc: Global, order: &str, count: usize, seed: u64) -> Result<Vec<u64>> {
     let mut numbers = Vec::with_capacity(alloc, count)?;
     for i in 0..count {
@@ -18,7 +18,7 @@ pub fn numbers(alloc: Global, order: &str, count: usize, seed: u64) -> Result<Ve
     Ok(numbers)
 }
 
-// Each number changes places with one before it or stays.
+// Each number changes places with one before it or stays, by a linear congruence whose high bits are taken.
 fn shuffle(numbers: &mut Vec<u64>, seed: u64) {
     let mut state = seed;
     for i in 0..numbers.len() {
@@ -35,11 +35,15 @@ fn fold_inward(numbers: &mut Vec<u64>) {
     let last = numbers.len() as u64;
     for i in 0..numbers.len() {
         let half = i as u64 / 2;
-        numbers[i] = if i % 2 == 0 { half } else { last.saturating_sub(1).saturating_sub(half) };
+        numbers[i] = if i % 2 == 0 {
+            half
+        } else {
+            last.saturating_sub(1).saturating_sub(half)
+        };
     }
 }
 
-/// The last `width` bytes of a number, highest first, spread over all values of so many bytes.
+/// Makes `key` the last `width` bytes of a number, highest first.
 pub fn write_key(number: u64, key: &mut Vec<u8>, width: usize) -> Result<(), AllocError> {
     let bytes = number.to_be_bytes();
     key.clear();

@@ -1,4 +1,14 @@
-//! Measures what one append to the log costs, and what a put and a start cost beside std's `BTreeMap`.
+//! Measures what one append to the log costs, beside two bare pairs of a write and a sync of the same sizes in the same
+//! file; or what a put and a start cost with the memory table, beside std's `BTreeMap` behind the same log.
+//!
+//! ```text
+//! put_bench /tmp/furqeldi.bench 1000
+//! put_bench /dev/shm/furqeldi.bench random 8 8 10400 1
+//! ```
+//!
+//! It writes to the file at the path, as a device whose first log area begins anew. Appends and bare pairs take turns,
+//! and so do the two tables, so that what else the machine does falls on both. Puts and starts are measured in processor
+//! time, the calls of the file system among it: a file in memory shows what the tables add.
 #![tactic(auto)]
 
 mod bare;
@@ -18,10 +28,10 @@ use std::env;
 use std::time::Instant;
 
 const USAGE: &str = "usage: put_bench PATH COUNT
-       put_bench PATH ORDER KEY VALUE COUNT SEED
   COUNT appends to the log of the device file at PATH, and as many bare pairs of writes and syncs, in turn
-  or COUNT puts of keys of KEY bytes and values of VALUE bytes, in this ORDER (rising, falling, random or inward), and a
-  start that replays them, each with the memory table and with the map of std, in turn";
+usage: put_bench PATH ORDER KEY VALUE COUNT SEED
+  COUNT puts of keys of KEY bytes and values of VALUE bytes in an ORDER (rising, falling, random or inward), and a start
+  over them, with the memory table and with the map of std, in turn";
 
 /// What is appended, in bytes.
 const KEY: &[u8] = b"key-8byt";

@@ -10,8 +10,15 @@ use std::io;
 use std::num::nearest_u64_to_f64;
 use std::time::{CpuClock, Duration};
 
-/// Which table is first in a round takes turns.
+/// The least time of so many counts.
 const ROUNDS: u32 = 6;
+
+/// The longest key and value that are put, and room for their record.
+const MOST_KEY: usize = 1_024;
+
+const MOST_VALUE: usize = 1_024;
+
+const BUFFER_BYTES: usize = 70_000;
 
 /// What is put.
 #[derive(Drop)]
@@ -22,7 +29,15 @@ pub struct Load {
 }
 
 impl Load {
-    pub fn new(alloc: Global, order: &str, width: usize, value: usize, count: usize, seed: u64) -> Result<Load> {
+    /// So many different keys of so many bytes, in an order, each with a value of so many bytes.
+    pub fn new(
+        alloc: Global,
+        order: &str,
+        width: usize,
+        value: usize,
+        count: usize,
+        seed: u64,
+    ) -> Result<Load> {
         Ok(Load {
             numbers: numbers(alloc, order, count, seed)?,
             width,
@@ -31,7 +46,7 @@ impl Load {
     }
 }
 
-/// The least times of some rounds.
+// The least times of all rounds.
 #[derive(Clone, Copy)]
 struct Least {
     put: Duration,
@@ -43,11 +58,22 @@ struct Least {
 impl Least {
     fn new() -> Least {
         let long = Duration::from_secs(1_000_000);
-        Least { put: long, start: long, set: long, get: long }
+        Least {
+            put: long,
+            start: long,
+            set: long,
+            get: long,
+        }
     }
 }
 
-pub fn race(rt: &(impl CpuClock + Print), alloc: Global, disk: &mut FileOutside, load: &Load) -> Result<()> {
+/// Prints nanoseconds a key of puts, of a start, and of setting and looking up without a log.
+pub fn race(
+    rt: &(impl CpuClock + Print),
+    alloc: Global,
+    disk: &mut FileOutside,
+    load: &Load,
+) -> Result<()> {
     let mut ours = Least::new();
     let mut theirs = Least::new();
     for _ in 0..ROUNDS {
@@ -62,14 +88,30 @@ pub fn race(rt: &(impl CpuClock + Print), alloc: Global, disk: &mut FileOutside,
     Ok(())
 }
 
-fn print(rt: &impl Print, name: &str, count: u64, ours: Duration, theirs: Duration) -> io::Result<()> {
+fn print(
+    rt: &impl Print,
+    name: &str,
+    count: u64,
+    ours: Duration,
+    theirs: Duration,
+) -> io::Result<()> {
     let count = nearest_u64_to_f64(count);
     let ours = ours.as_secs_f64() * 1e9 / count;
     let theirs = theirs.as_secs_f64() * 1e9 / count;
-    println!(rt; "{name}: {ours:.0} ns a key, map of std {theirs:.0} ns, ratio {:.2}", ours / theirs)
+    println!(rt;
+        "{name}: {ours:.0} ns a key, map of std {theirs:.0} ns, ratio {:.2}",
+        ours / theirs
+    )
 }
 
-fn round<T: Table>(rt: &impl CpuClock, alloc: Global, disk: &mut FileOutside, load: &Load, least: &mut Least) -> Result<()> {
+// All four with one table.
+fn round<T: Table>(
+    rt: &impl CpuClock,
+    alloc: Global,
+    disk: &mut FileOutside,
+    load: &Load,
+    least: &mut Least,
+) -> Result<()> {
     let begin = rt.thread_cpu_time()?;
     puts::<T>(alloc, disk, load)?;
     let put = rt.thread_cpu_time()?;
@@ -79,7 +121,9 @@ fn round<T: Table>(rt: &impl CpuClock, alloc: Global, disk: &mut FileOutside, lo
     let set = rt.thread_cpu_time()?;
     let found = gets::<T>(alloc, load, &table)?;
     let get = rt.thread_cpu_time()?;
-    if found != load.value.len().saturating_mul(load.numbers.len()) || table.len() != load.numbers.len() {
+    if found != load.value.len().saturating_mul(load.numbers.len())
+        || table.len() != load.numbers.len()
+    {
         bail!("a key was lost");
     }
     least.put = least.put.min(put.saturating_sub(begin));
@@ -89,10 +133,11 @@ fn round<T: Table>(rt: &impl CpuClock, alloc: Global, disk: &mut FileOutside, lo
     Ok(())
 }
 
+// Puts behind a log that begins anew.
 fn puts<T: Table>(alloc: Global, disk: &mut FileOutside, load: &Load) -> Result<()> {
     let mut table = T::new(alloc);
     let mut key = Vec::with_capacity(alloc, load.width)?;
-    let mut buffer = vec![in alloc; 0; 70_000]?;
+    let mut buffer = vec![in alloc; 0; BUFFER_BYTES]?;
     let Ok(mut log) = Log::start(disk, 0) else {
         bail!("the log cannot be begun");
     };
@@ -106,9 +151,15 @@ fn puts<T: Table>(alloc: Global, disk: &mut FileOutside, load: &Load) -> Result<
 }
 
 // Adds one record, where it fits.
-fn append<D: Disk>(log: &mut Log, disk: &mut D, buffer: &mut [u8], key: &[u8], value: &[u8]) -> Result<()> {
-    let sound = !key.is_empty() && key.len() <= 1_024 && value.len() <= 1_024;
-    if !sound || buffer.len() < 70_000 || !log.fits(7 + key.len() + value.len()) {
+fn append<D: Disk>(
+    log: &mut Log,
+    disk: &mut D,
+    buffer: &mut [u8],
+    key: &[u8],
+    value: &[u8],
+) -> Result<()> {
+    let sound = !key.is_empty() && key.len() <= MOST_KEY && value.len() <= MOST_VALUE;
+    if !sound || buffer.len() < BUFFER_BYTES || !log.fits(7 + key.len() + value.len()) {
         bail!("the log is full");
     }
     match log.append(disk, buffer, Kind::Put, key, value) {
@@ -117,6 +168,7 @@ fn append<D: Disk>(log: &mut Log, disk: &mut D, buffer: &mut [u8], key: &[u8], v
     }
 }
 
+// Replays what was put.
 fn starts<T: Table>(alloc: Global, disk: &mut FileOutside) -> Result<()> {
     let Ok((_, entries)) = Log::replay(alloc, disk, 0) else {
         bail!("the log cannot be read");
@@ -125,6 +177,7 @@ fn starts<T: Table>(alloc: Global, disk: &mut FileOutside) -> Result<()> {
     Ok(())
 }
 
+// The table without the log.
 fn sets<T: Table>(alloc: Global, load: &Load) -> Result<T> {
     let mut table = T::new(alloc);
     let mut key = Vec::with_capacity(alloc, load.width)?;
@@ -136,6 +189,7 @@ fn sets<T: Table>(alloc: Global, load: &Load) -> Result<T> {
     Ok(table)
 }
 
+// Looks each key up, and answers how many bytes were found.
 fn gets<T: Table>(alloc: Global, load: &Load, table: &T) -> Result<usize> {
     let mut key = Vec::with_capacity(alloc, load.width)?;
     let mut found = 0usize;

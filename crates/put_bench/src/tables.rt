@@ -35,7 +35,9 @@ impl Table for Ours {
     type Made = Entry;
 
     fn new(alloc: Global) -> Ours {
-        Ours { table: MemTable::new(alloc) }
+        Ours {
+            table: MemTable::new(alloc),
+        }
     }
 
     fn filled(_: Global, entries: Vec<Entry>) -> Result<Ours, AllocError> {
@@ -76,7 +78,9 @@ impl Table for Theirs {
     type Made = (Bytes, Option<Bytes>);
 
     fn new(alloc: Global) -> Theirs {
-        Theirs { map: BTreeMap::new(alloc) }
+        Theirs {
+            map: BTreeMap::new(alloc),
+        }
     }
 
     fn filled(alloc: Global, entries: Vec<Entry>) -> Result<Theirs, AllocError> {
@@ -87,7 +91,12 @@ impl Table for Theirs {
         Ok(theirs)
     }
 
-    fn make(&mut self, alloc: Global, key: &[u8], value: &[u8]) -> Result<(Bytes, Option<Bytes>), AllocError> {
+    fn make(
+        &mut self,
+        alloc: Global,
+        key: &[u8],
+        value: &[u8],
+    ) -> Result<(Bytes, Option<Bytes>), AllocError> {
         let key = BoxedSlice::from_slice(alloc, key)?;
         let value = BoxedSlice::from_slice(alloc, value)?;
         Ok((key, Some(value)))
