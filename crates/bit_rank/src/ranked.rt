@@ -58,6 +58,13 @@ impl<A: Allocator> Ranked<A> {
         (before + ones_in_part(words, i)) as usize
     }
 
+    /// The bits.
+    pub fn bits(&self) -> &Bits<A>
+        ensures { result.now ≡ self.now }
+    {
+        &self.bits
+    }
+
     /// The words that hold the bits: bit `i` is bit `i mod 64` of word `i / 64`, and the rest of the last word is 0.
     pub fn words(&self) -> &[u64]
         ensures { result.now ≡ packed 64 self.now }

@@ -1,6 +1,7 @@
 -- Numbers and their bits.
-use Rattle.std.proofs.Common.{◌≡◌, ℕ, ◌+◌, ◌-◌, ◌*◌, ◌/◌, ◌%◌, ◌^◌, ◌<◌, ◌≤◌, Bool, false, cond, eqb, ◌||◌, List, [], ◌++◌, length, get_or, take, drop, min, refl, sym, ap, ◌∙◌, arith, inl, inr, lit<}
+use Rattle.std.proofs.Common.{◌≡◌, ℕ, ◌+◌, ◌-◌, ◌*◌, ◌/◌, ◌%◌, ◌^◌, ◌<◌, ◌≤◌, Bool, true, false, cond, eqb, ◌||◌, List, [], ◌∷◌, ◌++◌, length, get_or, take, drop, min, refl, sym, ap, ◌∙◌, arith, inl, inr, lit<}
 use Rattle.std.proofs.Math.Nat.{mod-lt, lt_of_lt_of_le, pow-le-pow_right}
+use mir.Val.{bool_byte}
 use Rattle.std.specs.Int.{bit_at, div_ceil}
 use Rattle.std.specs.Simd.Lanes.{mask_l}
 use Rattle.std.proofs.lemmas.Simd.{bit_mask_l, mask_l-lt}
@@ -25,6 +26,11 @@ get_or-bits_of count n i d h = get_or-map-range_with_len (λ j. eqb (bit_at n j)
 pub bits_of-nothing : (n : ℕ) → bits_of 0 n ≡ []
 unfolding bits_of
 bits_of-nothing n = refl
+
+pub bits_of-bit : (bit : Bool) → bits_of 1 (bool_byte bit) ≡ bit ∷ []
+unfolding bits_of
+bits_of-bit true = refl
+bits_of-bit false = refl
 
 -- a bit of the number that bits spell
 pub spelt_bit : (bits : List Bool) (i : ℕ) → eqb (bit_at (mask_l bits) i) 1 ≡ get_or bits i false

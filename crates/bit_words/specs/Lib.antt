@@ -3,3 +3,4 @@ pub mod Packed
 pub mod Numbers
 pub mod Rows
 pub mod Laws
+pub mod Room

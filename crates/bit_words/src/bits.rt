@@ -1,11 +1,12 @@
 //! The list of truth values.
-ghost use Rattle.std.specs.Prelude.{◌≡◌, ◌^◌, ◌+◌, ◌*◌, ◌≤◌, ◌<◌, [], ◌∷◌, ◌++◌, false, length, slice_index_or, IfOk, OnOk, OnErr, IsTrue, ◌↔◌};
+ghost use Rattle.std.specs.Prelude.{◌≡◌, ◌^◌, ◌+◌, ◌*◌, ◌≤◌, ◌<◌, [], ◌∷◌, ◌++◌, false, length, slice_index_or, IfOk, OnOk, OnErr, IsTrue, ◌↔◌, MatchOption};
+ghost use Rattle.std.specs.Slice.Scan.{HoldsNowhere};
+ghost use Rattle.lane_scan.specs.Places.{IsFirstBetween, IsLastBetween};
+ghost use Rattle.bit_words.specs.Counts.{is_set_at};
 ghost use Rattle.bit_words.specs.Numbers.{bits_of, number_at};
 ghost use Rattle.bit_words.specs.Packed.{packed, unpacked};
 
-use super::word::{
-    MAX_BITS, byte_of, low_bits, make_room, make_room_for, number_from, set_bit, set_bits, word_at,
-};
+use super::word::{MAX_BITS, byte_of, low_bits, make_room_for, number_from, set_bits, word_at};
 use std::alloc::{AllocError, Allocator};
 use std::marker::Model;
 
@@ -13,8 +14,8 @@ use std::marker::Model;
 /// word is 0.
 #[derive(Drop)]
 pub struct Bits<A: Allocator> {
-    words: Vec<u64, A>,
-    len: usize,
+    pub(super) words: Vec<u64, A>,
+    pub(super) len: usize,
 }
 
 impl<A: Allocator> Model for Bits<A> {
@@ -62,10 +63,7 @@ impl<A: Allocator> Bits<A> {
         ensures added { OnOk result (self.new ≡ self.old ++ bit ∷ []) }
         ensures unchanged { OnErr result (self.new ≡ self.old) }
     {
-        make_room(&mut self.words, self.len)?;
-        set_bit(&mut self.words, self.len, bit);
-        self.len += 1;
-        Ok(())
+        self.push_number(u64::from(bit), 1)
     }
 
     /// Adds the lowest `count` bits of `number` at the end, the lowest first. `count` is at most 64. After an `Err` the
@@ -106,6 +104,24 @@ impl<A: Allocator> Bits<A> {
         ensures { result ≡ slice_index_or self.now i false }
     {
         self.words[i / 64] >> (i % 64) & 1 == 1
+    }
+
+    /// The first set bit at place `start` or behind it, or `None` where none is set there.
+    ///
+    /// Looks at one word after the other.
+    pub fn first_one_from(&self, start: usize) -> Option<usize>
+        ensures { MatchOption result (HoldsNowhere (is_set_at self.now) start (length self.now)) (IsFirstBetween (is_set_at self.now) start (length self.now)) }
+    {
+        lane_scan::first_one_from(self.words(), start)
+    }
+
+    /// The last set bit before place `end`, or `None` where none is set there.
+    ///
+    /// Looks at one word after the other.
+    pub fn last_one_before(&self, end: usize) -> Option<usize>
+        ensures { MatchOption result (HoldsNowhere (is_set_at self.now) 0 end) (IsLastBetween (is_set_at self.now) 0 end) }
+    {
+        lane_scan::last_one_before(self.words(), end)
     }
 
     /// The number of bits.

@@ -1,6 +1,7 @@
 //! Words out of bytes and bytes out of words.
 ghost use Rattle.std.specs.Prelude.{◌≡◌, ℕ, ◌+◌, ◌-◌, ◌||◌, ◌%◌, ◌/◌, ◌*◌, ◌^◌, ◌<◌, ◌≤◌, ◌==◌, [], ◌∷◌, ◌++◌, length, drop, min, if◌then◌else◌, slice_index, slice_set, bit_or, OnOk, OnErr};
 ghost use Rattle.std.specs.Int.{bit_at, div_ceil};
+ghost use Rattle.std.specs.Vec.{vec_capacity};
 ghost use Rattle.bit_words.specs.Packed.{packed_bit};
 ghost use Rattle.byteorder.specs.Endian.{little_number};
 
@@ -9,33 +10,6 @@ use std::alloc::{AllocError, Allocator};
 
 /// The most bits that a list can hold: whole words, and fewer than a `usize` counts.
 pub(crate) const MAX_BITS: usize = usize::MAX - 63;
-
-/// Adds a word where the words are full with `len` bits.
-pub(crate) fn make_room<A: Allocator>(words: &mut Vec<u64, A>, len: usize) -> Result<(), AllocError>
-    requires { len ≤ MAX_BITS }
-    ensures room { OnOk result (words.new.items ≡ (if len % 64 == 0 then words.old.items ++ 0 ∷ [] else words.old.items)) }
-    ensures below { OnOk result (len < MAX_BITS) }
-    ensures unchanged { OnErr result (words.new.items ≡ words.old.items) }
-{
-    if len % 64 != 0 {
-        return Ok(());
-    }
-    if len == MAX_BITS {
-        return Err(AllocError);
-    }
-    words.push(0)?;
-    Ok(())
-}
-
-/// Sets bit `i`, which is 0, where `bit` holds.
-pub(crate) fn set_bit<A: Allocator>(words: &mut Vec<u64, A>, i: usize, bit: bool)
-    requires { i / 64 < length words.old.items }
-    ensures { words.new.items ≡ (if bit then slice_set words.old.items (i / 64) (bit_or (slice_index words.old.items (i / 64)) (2 ^ (i % 64))) else words.old.items) }
-{
-    if bit {
-        words[i / 64] |= 1 << (i % 64);
-    }
-}
 
 /// Adds a word where the words are too few for `count` bits after the `len` that they hold.
 pub(crate) fn make_room_for<A: Allocator>(
@@ -60,6 +34,21 @@ pub(crate) fn make_room_for<A: Allocator>(
     Ok(())
 }
 
+/// Adds a word, for which there is room, where the words are too few for `count` bits after the `len` that they hold.
+pub(crate) fn add_word_for<A: Allocator>(words: &mut Vec<u64, A>, len: usize, count: usize)
+    requires limit { len + count ≤ MAX_BITS }
+    requires full { length words.old.items ≡ div_ceil len 64 }
+    requires width { count ≤ 64 }
+    requires room { div_ceil (len + count) 64 ≤ vec_capacity words.old }
+    ensures long { length words.new.items ≡ div_ceil (len + count) 64 }
+    ensures same { (k : ℕ) → slice_index words.new.items k ≡ slice_index words.old.items k }
+    ensures capacity { vec_capacity words.new ≡ vec_capacity words.old }
+{
+    if words.len() < (len + count).div_ceil(64) {
+        words.push_reserved(0);
+    }
+}
+
 /// Sets the bits from place `i` on, which are 0, to those of `number`, which is below 2^count.
 pub(crate) fn set_bits<A: Allocator>(words: &mut Vec<u64, A>, i: usize, number: u64, count: usize)
     requires some { 0 < count }
@@ -67,6 +56,7 @@ pub(crate) fn set_bits<A: Allocator>(words: &mut Vec<u64, A>, i: usize, number: 
     requires fits { number < 2 ^ count }
     requires there { i + count ≤ 64 * length words.old.items }
     ensures long { length words.new.items ≡ length words.old.items }
+    ensures capacity { vec_capacity words.new ≡ vec_capacity words.old }
     ensures fit { (k : ℕ) → slice_index words.new.items k < 2 ^ 64 }
     ensures before { (j : ℕ) → j < i → packed_bit 64 words.new.items j ≡ packed_bit 64 words.old.items j }
     ensures set { (j : ℕ) → packed_bit 64 words.new.items (i + j) ≡ (packed_bit 64 words.old.items (i + j) || bit_at number j == 1) }

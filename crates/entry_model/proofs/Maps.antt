@@ -1,5 +1,5 @@
 -- The map of some entries.
-use Rattle.std.proofs.Common.{◌≡◌, ◌≢◌, List, [], ◌∷◌, refl, sym, ap, ◌∙◌, subst, Bool, true, false, cond}
+use Rattle.std.proofs.Common.{◌≡◌, ◌≢◌, List, [], ◌∷◌, refl, ◌∙◌, subst, true, false, cond}
 use Rattle.std.specs.Prelude.{Option, Some, None, bytes_eq, fold}
 use Rattle.std.proofs.lemmas.Slice.Eq.{bytes_eq-Decides}
 use Rattle.map_model.specs.SortedMap.{Bytes, Map, get, Rises}

@@ -1,6 +1,6 @@
 -- Laws of the entries: which map they make, and what the newest of them say.
 use Rattle.std.specs.Prelude.{◌≡◌, List, [], ◌∷◌, ◌++◌}
-use Rattle.map_model.specs.SortedMap.{Bytes, Map, get, Rises}
+use Rattle.map_model.specs.SortedMap.{Bytes, get, Rises}
 use Rattle.entry_model.specs.Entries.{Entry, map_of, newest, live}
 use Rattle.entry_model.specs.Newest.{KeysRise, with_entry, newest_entries, lookup}
 

@@ -2,7 +2,8 @@
 
 use std::alloc::AllocError;
 
-/// The first rule of its format that bytes break, and the place of the byte that breaks it.
+/// The first rule of its format that bytes break, and the place of the byte that breaks it; the number of the bytes where
+/// there are too few.
 #[derive(Clone, Copy, Debug, PartialEq, Eq)]
 pub struct FilterFault {
     pub place: u64,

@@ -1,12 +1,13 @@
 // The interface of a filter.
-ghost use Rattle.std.specs.Prelude.{◌≡◌, ◌<◌, false, ℕ, List, ◌++◌, length, slice_get, IfSome, IfOk, IfErr, OnOk, OnErr};
+ghost use Rattle.std.specs.Prelude.{◌≡◌, ◌<◌, ◌≤◌, false, ℕ, List, ◌++◌, length, slice_get, IfSome, IfOk, IfErr, OnOk, OnErr};
+ghost use Rattle.byte_fields.specs.Faults.{Fault, fault as fault_at};
 ghost use Rattle.filter_model.specs.Answers.{begins, first, point, ranged, tally as tally_of};
 ghost use Rattle.filter_model.specs.Keys.{IsKeyList};
 ghost use Rattle.filter_model.specs.Leaves.{Leaf as PlainLeaf, leaves_of};
 ghost use Rattle.filter_model.specs.Strings.{is_below};
 ghost use Rattle.filter_api.specs.Ranges.{InRange};
-ghost use Rattle.filter_api.specs.Spellings.{IsNoSpelling, IsSpelling, Spelling, SpellsOne};
-ghost use Rattle.filter_api.specs.declared.errors.FilterFault.{FilterFault as Fault};
+ghost use Rattle.filter_api.specs.Spellings.{IsNoSpelling, IsSpelling, MayStand, Spelling, SpellsOne};
+ghost use Rattle.filter_api.specs.declared.errors.FilterFault.{FilterFault};
 
 use crate::errors::DecodeError;
 use crate::settings::Settings;
@@ -32,16 +33,18 @@ pub trait RangeFilter: Sized + Drop {
 
     ghost cutoff: { Self → ℕ };
 
-    /// The filter of `keys`: one key or more, strictly rising, each of 1 to 1,024 bytes.
+    /// The filter of `keys`: one key or more, strictly rising, each of 1 to 1,024 bytes. Its leaves are a valid leaf list
+    /// and its cutoff is at most their height, so its spelling is decoded again.
     fn build(alloc: Global, keys: &KeyList, settings: Settings) -> Result<Self, AllocError>
         requires keys { IsKeyList keys.now }
         requires settings { InRange settings }
         ensures leaves { IfOk result (λ f. leaf_list f ≡ leaves_of settings.hash_bits settings.real_bits keys.now) }
         ensures hash_width { IfOk result (λ f. hash_bits f ≡ settings.hash_bits) }
         ensures real_width { IfOk result (λ f. real_bits f ≡ settings.real_bits) }
-        ensures cutoff { IfOk result (λ f. cutoff f ≡ built_cutoff settings.ratio (leaves_of settings.hash_bits settings.real_bits keys.now)) };
+        ensures cutoff { IfOk result (λ f. cutoff f ≡ built_cutoff settings.ratio (leaves_of settings.hash_bits settings.real_bits keys.now)) }
+        ensures may_stand { IfOk result (λ f. MayStand (hash_bits f) (real_bits f) (cutoff f) (leaf_list f)) };
 
-    /// Whether some leaf fits `key` with its hash bits. No stored key is denied.
+    /// Whether some leaf fits `key` with its hash bits. No stored key is denied; a key that is not stored may be admitted.
     fn may_hold(&self, key: &[u8]) -> bool
         ensures { result ≡ point (hash_bits self.now) (real_bits self.now) (leaf_list self.now) key.now };
 
@@ -50,7 +53,8 @@ pub trait RangeFilter: Sized + Drop {
         requires { is_below hi.now lo.now ≡ false }
         ensures { result ≡ ranged (real_bits self.now) (leaf_list self.now) lo.now hi.now };
 
-    /// The number, in key order from 0, of the first leaf that is not past `lo`.
+    /// The number, in key order from 0, of the first leaf that is not past `lo`. `None` says that all leaves are past it:
+    /// no stored key is `lo` or above it.
     fn seek(&self, lo: &[u8]) -> Option<u32>
         ensures { result ≡ first (real_bits self.now) (leaf_list self.now) lo.now };
 
@@ -82,10 +86,11 @@ pub trait RangeFilter: Sized + Drop {
         ensures err { OnErr result (out.new.items ≡ out.old.items) };
 
     /// The filter that `bytes` spell. It fails exactly where they spell none, with their first fault, or where there is
-    /// no memory.
+    /// no memory. A fault's place is one of the bytes, or just behind the last where there are too few.
     fn decode(alloc: Global, bytes: &[u8]) -> Result<Self, DecodeError>
         ensures spelled { IfOk result (λ f. IsSpelling spelling (hash_bits f) (real_bits f) (cutoff f) (leaf_list f) bytes.now) }
-        ensures fault { (f : Fault) → result ≡ Err (DecodeError.Fault f) → IsNoSpelling spelling bytes.now × (f ≡ first_fault bytes.now) };
+        ensures fault { (f : FilterFault) → result ≡ Err (DecodeError.Fault f) → IsNoSpelling spelling bytes.now × (fault_at f.place f.rule ≡ first_fault bytes.now) }
+        ensures place { (f : FilterFault) → result ≡ Err (DecodeError.Fault f) → f.place ≤ length bytes.now };
 
     // Bytes spell one list with its widths.
     ghost spells_one: { SpellsOne spelling };

@@ -25,5 +25,6 @@ pub use laws::{
     leaves_are_valid, nodes_are_the_prefixes, nothing_held_is_denied, range_is_exact, tally_is_near,
 };
 pub use rows::{
-    far_to_toy_answers, far_to_toy_leaves, far_to_toy_trie, image_of_a_and_ab, other_rows,
+    far_to_toy_answers, far_to_toy_leaves, far_to_toy_trie, image_of_far_to_toy,
+    images_of_a_and_ab, other_rows,
 };

@@ -3,7 +3,7 @@ ghost use Rattle.std.specs.Prelude.{◌≡◌, ◌==◌, [], ◌∷◌, ◌++◌
 ghost use Rattle.filter_model.specs.Answers.{begins, first, point, ranged, tally, true_count};
 ghost use Rattle.filter_model.specs.Image.{image};
 ghost use Rattle.filter_model.specs.Leaves.{leaves_of, hash_bits_of};
-ghost use Rattle.filter_model.specs.Rows.{a_ab, a_and_a_ff, aa1_ab1, base, far_to_toy, real};
+ghost use Rattle.filter_model.specs.Rows.{a_ab, a_ab_dense, a_ab_root_dense, a_ab_sparse, a_and_a_ff, aa1_ab1, base, far_to_toy, far_to_toy_sparse, real};
 ghost use Rattle.filter_model.specs.Trie.{cutoff_of, level_labels, level_nodes, nodes};
 
 /// The stubs of far, fast, s, top and toy, of which none ends.
@@ -50,16 +50,21 @@ pub fn other_rows()
     ensures two_bytes_of_all { cutoff_of 64 (1 ∷ 256 ∷ []) (256 ∷ 65536 ∷ []) ≡ 1 }
     ensures one_byte_of_all { cutoff_of 64 (1 ∷ []) (256 ∷ []) ≡ 0 }
     ensures one_byte_of_all_dense { cutoff_of 0 (1 ∷ []) (256 ∷ []) ≡ 1 }
+    ensures a_dense_node_has_513_bits { cutoff_of 64 (1 ∷ 256 ∷ []) (256 ∷ 3280 ∷ []) ≡ 0 }
 {}
 
-/// The image of the keys a and ab, all sparse: 45 bytes. The node of a has the branches END and b.
-pub fn image_of_a_and_ab()
-    ensures sparse { image 0 0 0 (base a_ab)
-        ≡ 0x53 ∷ 0x55 ∷ 0x52 ∷ 0x46 ∷ 1 ∷ 0 ∷ 0 ∷ 0
-        ∷ 0 ∷ 0 ∷ 2 ∷ 0 ∷ 2 ∷ 0 ∷ 0 ∷ 0
-        ∷ 0 ∷ 0 ∷ 0 ∷ 0 ∷ 0 ∷ 0 ∷ 0 ∷ 0
-        ∷ 2 ∷ 0 ∷ 0 ∷ 0 ∷ 0 ∷ 0 ∷ 0 ∷ 0
-        ∷ 3 ∷ 0 ∷ 0 ∷ 0 ∷ 0 ∷ 0 ∷ 0 ∷ 0
-        ∷ 0x61 ∷ 0xFF ∷ 0x62 ∷ 1 ∷ 3 ∷ [] }
-    ensures as_long_with_suffixes { length (image 0 8 0 (real a_ab)) ≡ 47 }
+/// The images of the keys a and ab, none, one and both of their levels dense: 45, 109 and 169 bytes. The node of a has
+/// the branches END and b.
+pub fn images_of_a_and_ab()
+    ensures sparse { image 0 0 0 (base a_ab) ≡ a_ab_sparse }
+    ensures root_dense { image 0 0 1 (base a_ab) ≡ a_ab_root_dense }
+    ensures dense { image 0 0 2 (base a_ab) ≡ a_ab_dense }
+    ensures lengths { length a_ab_sparse ∷ length a_ab_root_dense ∷ length a_ab_dense ∷ [] ≡ 45 ∷ 109 ∷ 169 ∷ [] }
+{}
+
+/// The image of far, fast, s, top and toy with 8 real bits, all sparse: 58 bytes. Suffixes stand in the order of the
+/// branches, so that of s comes first.
+pub fn image_of_far_to_toy()
+    ensures sparse { image 0 8 0 (real far_to_toy) ≡ far_to_toy_sparse }
+    ensures length_is { length far_to_toy_sparse ≡ 58 }
 {}

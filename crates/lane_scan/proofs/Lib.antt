@@ -1,2 +1,4 @@
 pub mod Firsts
 pub mod Counts
+pub mod Marks
+pub mod Bits

@@ -1,9 +1,9 @@
 //! Places of bytes.
-ghost use Rattle.std.specs.Prelude.{◌≡◌, ℕ, ◌≤◌, ◌<◌, ◌+◌, ◌*◌, ◌/◌, ◌==◌, false, not, nat_le, length, slice_range, slice_index, position, if◌then◌else◌, MatchOption};
-ghost use Rattle.std.specs.Int.{trailing_zeros, w64};
-ghost use Rattle.std.specs.List.{prefix_len};
-ghost use Rattle.lane_scan.specs.Places.{IsFirst, NoneBelow};
+ghost use Rattle.std.specs.Prelude.{◌≡◌, ℕ, ◌≤◌, ◌<◌, ◌+◌, ◌==◌, nat_le, length, position, MatchOption};
+ghost use Rattle.std.specs.Slice.Scan.{HoldsNowhere};
+ghost use Rattle.lane_scan.specs.Places.{is_label_at, is_least_at, IsFirstBetween, Tells};
 
+use super::places::lowest_one;
 use std::simd::u8x16;
 
 /// How many bytes are looked at in one step.
@@ -11,103 +11,155 @@ const GROUP: usize = 16;
 
 /// The first place in `bytes` that holds `label`, or `None` where none does.
 ///
-/// Looks at 16 bytes at a time, and at a rest of fewer byte by byte. Takes no memory.
+/// Looks at 16 bytes at a time, and byte by byte where there are fewer. Takes no memory.
 pub fn find_label(bytes: &[u8], label: u8) -> Option<usize>
     ensures { result ≡ position (λ byte. byte == label) bytes.now }
 {
-    match label_in_groups(bytes, label) {
-        Some(place) => Some(place),
-        None => label_from(bytes, bytes.len() / GROUP * GROUP, label),
+    if bytes.len() < GROUP {
+        label_by_bytes(bytes, 0, bytes.len(), label)
+    } else {
+        find_label_between(bytes, 0, bytes.len(), label)
     }
 }
 
 /// The first place in `bytes` that holds `label` or more, or `None` where none does.
 ///
-/// Looks at 16 bytes at a time, and at a rest of fewer byte by byte. Takes no memory.
+/// Looks at 16 bytes at a time, and byte by byte where there are fewer. Takes no memory.
 pub fn first_at_least(bytes: &[u8], label: u8) -> Option<usize>
     ensures { result ≡ position (λ byte. nat_le label byte) bytes.now }
 {
-    match least_in_groups(bytes, label) {
-        Some(place) => Some(place),
-        None => least_from(bytes, bytes.len() / GROUP * GROUP, label),
-    }
-}
-
-/// The place of the lowest set bit, or 16 where none is set.
-fn lowest_set(mask: u64) -> usize
-    ensures { result ≡ (if mask == 0 then 16 else trailing_zeros w64 mask) }
-{
-    if mask == 0 {
-        16
+    if bytes.len() < GROUP {
+        least_by_bytes(bytes, 0, bytes.len(), label)
     } else {
-        mask.trailing_zeros() as usize
+        first_at_least_between(bytes, 0, bytes.len(), label)
     }
 }
 
-/// How many of the 16 bytes from `at` on stand before the first `label`.
-fn others_in(bytes: &[u8], at: usize, label: u8) -> usize
-    requires { at + 16 ≤ length bytes.now }
-    ensures { result ≡ prefix_len (λ byte. not (byte == label)) (slice_range bytes.now at (at + 16)) }
+/// The first place of `section` from `start` on and before `end` that holds `label`, or `None` where none does.
+///
+/// Looks at 16 bytes at a time, at those behind `end` too where the section goes on, and byte by byte in a section of
+/// fewer. Takes no memory.
+pub fn find_label_between(section: &[u8], start: usize, end: usize, label: u8) -> Option<usize>
+    requires order { start ≤ end }
+    requires there { end ≤ length section.now }
+    ensures { MatchOption result (HoldsNowhere (is_label_at section.now label) start end) (IsFirstBetween (is_label_at section.now label) start end) }
 {
-    let lanes = u8x16::from_slice(&bytes[at..]);
-    lowest_set(lanes.simd_eq(u8x16::splat(label)).to_bitmask())
-}
-
-/// How many of the 16 bytes from `at` on stand before the first that is `label` or more.
-fn lesser_in(bytes: &[u8], at: usize, label: u8) -> usize
-    requires { at + 16 ≤ length bytes.now }
-    ensures { result ≡ prefix_len (λ byte. not (nat_le label byte)) (slice_range bytes.now at (at + 16)) }
-{
-    let lanes = u8x16::from_slice(&bytes[at..]);
-    lowest_set(lanes.simd_ge(u8x16::splat(label)).to_bitmask())
-}
-
-/// The first `label` among the whole groups of 16.
-fn label_in_groups(bytes: &[u8], label: u8) -> Option<usize>
-    ensures { MatchOption result (NoneBelow (λ byte. byte == label) bytes.now (16 * (length bytes.now / 16))) (IsFirst (λ byte. byte == label) bytes.now) }
-{
-    for i in 0..bytes.len() / GROUP {
-        let before = others_in(bytes, GROUP * i, label);
-        if before < GROUP {
-            return Some(GROUP * i + before);
+    for i in 0..(end - start).div_ceil(GROUP) {
+        let at = start + GROUP * i;
+        if section.len() - at < GROUP {
+            return label_in_rest(section, at, end, label);
+        }
+        let marks = labels_at(section, at, label);
+        if marks != 0 {
+            return before_end(at + lowest_one(marks), end);
         }
     }
     None
 }
 
-/// The first byte among the whole groups of 16 that is `label` or more.
-fn least_in_groups(bytes: &[u8], label: u8) -> Option<usize>
-    ensures { MatchOption result (NoneBelow (λ byte. nat_le label byte) bytes.now (16 * (length bytes.now / 16))) (IsFirst (λ byte. nat_le label byte) bytes.now) }
+/// The first place of `section` from `start` on and before `end` that holds `label` or more, or `None` where none does.
+///
+/// Looks at 16 bytes at a time, at those behind `end` too where the section goes on, and byte by byte in a section of
+/// fewer. Takes no memory.
+pub fn first_at_least_between(section: &[u8], start: usize, end: usize, label: u8) -> Option<usize>
+    requires order { start ≤ end }
+    requires there { end ≤ length section.now }
+    ensures { MatchOption result (HoldsNowhere (is_least_at section.now label) start end) (IsFirstBetween (is_least_at section.now label) start end) }
 {
-    for i in 0..bytes.len() / GROUP {
-        let before = lesser_in(bytes, GROUP * i, label);
-        if before < GROUP {
-            return Some(GROUP * i + before);
+    for i in 0..(end - start).div_ceil(GROUP) {
+        let at = start + GROUP * i;
+        if section.len() - at < GROUP {
+            return least_in_rest(section, at, end, label);
+        }
+        let marks = least_at(section, at, label);
+        if marks != 0 {
+            return before_end(at + lowest_one(marks), end);
         }
     }
     None
 }
 
-/// The first `label`, where none stands before `start`.
-fn label_from(bytes: &[u8], start: usize, label: u8) -> Option<usize>
-    requires { NoneBelow (λ byte. byte == label) bytes.now start }
-    ensures { result ≡ position (λ byte. byte == label) bytes.now }
+/// The place, if it stands before `end`.
+fn before_end(place: usize, end: usize) -> Option<usize>
+    ensures { MatchOption result (end ≤ place) (λ found. (found ≡ place) × (found < end)) }
 {
-    for i in start..bytes.len() {
-        if bytes[i] == label {
+    if place < end { Some(place) } else { None }
+}
+
+/// Which of the 16 bytes from `at` on are `label`: a bit for each, the first the lowest.
+fn labels_at(section: &[u8], at: usize, label: u8) -> u64
+    requires { at + 16 ≤ length section.now }
+    ensures { Tells (is_label_at section.now label) at 16 result }
+{
+    let lanes = u8x16::from_slice(&section[at..]);
+    lanes.simd_eq(u8x16::splat(label)).to_bitmask()
+}
+
+/// Which of the 16 bytes from `at` on are `label` or more: a bit for each, the first the lowest.
+fn least_at(section: &[u8], at: usize, label: u8) -> u64
+    requires { at + 16 ≤ length section.now }
+    ensures { Tells (is_least_at section.now label) at 16 result }
+{
+    let lanes = u8x16::from_slice(&section[at..]);
+    lanes.simd_ge(u8x16::splat(label)).to_bitmask()
+}
+
+/// The first `label` from `at` on, behind which the section ends within 16 bytes: by its last 16 bytes.
+fn label_in_rest(section: &[u8], at: usize, end: usize, label: u8) -> Option<usize>
+    requires near { length section.now < at + 16 }
+    requires order { at ≤ end }
+    requires there { end ≤ length section.now }
+    ensures { MatchOption result (HoldsNowhere (is_label_at section.now label) at end) (IsFirstBetween (is_label_at section.now label) at end) }
+{
+    if section.len() < GROUP {
+        return label_by_bytes(section, at, end, label);
+    }
+    let last = section.len() - GROUP;
+    let marks = labels_at(section, last, label) >> (at - last);
+    if marks == 0 {
+        return None;
+    }
+    before_end(at + lowest_one(marks), end)
+}
+
+/// The first byte from `at` on that is `label` or more, where the section ends within 16 bytes: by its last 16 bytes.
+fn least_in_rest(section: &[u8], at: usize, end: usize, label: u8) -> Option<usize>
+    requires near { length section.now < at + 16 }
+    requires order { at ≤ end }
+    requires there { end ≤ length section.now }
+    ensures { MatchOption result (HoldsNowhere (is_least_at section.now label) at end) (IsFirstBetween (is_least_at section.now label) at end) }
+{
+    if section.len() < GROUP {
+        return least_by_bytes(section, at, end, label);
+    }
+    let last = section.len() - GROUP;
+    let marks = least_at(section, last, label) >> (at - last);
+    if marks == 0 {
+        return None;
+    }
+    before_end(at + lowest_one(marks), end)
+}
+
+/// The first `label`, byte by byte.
+fn label_by_bytes(section: &[u8], start: usize, end: usize, label: u8) -> Option<usize>
+    requires { end ≤ length section.now }
+    ensures { MatchOption result (HoldsNowhere (is_label_at section.now label) start end) (IsFirstBetween (is_label_at section.now label) start end) }
+{
+    for i in start..end {
+        if section[i] == label {
             return Some(i);
         }
     }
     None
 }
 
-/// The first byte that is `label` or more, where none stands before `start`.
-fn least_from(bytes: &[u8], start: usize, label: u8) -> Option<usize>
-    requires { NoneBelow (λ byte. nat_le label byte) bytes.now start }
-    ensures { result ≡ position (λ byte. nat_le label byte) bytes.now }
+/// The first byte that is `label` or more, byte by byte.
+fn least_by_bytes(section: &[u8], start: usize, end: usize, label: u8) -> Option<usize>
+    requires { end ≤ length section.now }
+    ensures { MatchOption result (HoldsNowhere (is_least_at section.now label) start end) (IsFirstBetween (is_least_at section.now label) start end) }
 {
-    for i in start..bytes.len() {
-        if bytes[i] >= label {
+    for i in start..end {
+        if section[i] >= label {
             return Some(i);
         }
     }

@@ -1,7 +1,9 @@
 // The definitions, tried on rows whose answers are known. Each row computes.
 ghost use Rattle.std.specs.Prelude.{◌≡◌, List, ℕ, [], ◌∷◌, ◌++◌, map, replicate, Some, None, codes};
+ghost use Rattle.byte_fields.specs.declared.parts.Part.TheVariants.{Block};
+ghost use Rattle.byte_fields.specs.declared.parts.Damage.TheVariants.{Sum};
 ghost use Rattle.line_model.specs.Limits.{key_limit, bound_limit, limit_of};
-ghost use Rattle.line_model.specs.Replies.{Pairs, End, Explained, Full, LongKey, ManyTables, at_words, sum_word, text_of};
+ghost use Rattle.line_model.specs.Replies.{Damaged, Pairs, End, Explained, Full, LongKey, ManyTables, at_words, sum_word, text_of};
 ghost use Rattle.line_model.specs.Requests.{Put, Seek, Range, Count, Compact, Bad, request_of};
 
 /// Limits.
@@ -25,5 +27,6 @@ pub fn lines_and_words()
         ≡ Range [] (0x61 ∷ []) 0 ∷ Range [] (0x61 ∷ []) 1000000 ∷ Bad 5 ∷ Bad 5 ∷ Bad 5 ∷ [] }
     ensures texts { map (λ reply. text_of reply) (Pairs ((0x61 ∷ [], 0xff ∷ []) ∷ []) (End 1) ∷ Full 30 2 ∷ Explained 3 2 1 ∷ ManyTables ∷ [])
         ≡ (codes "at 61 ff" ++ 10 ∷ codes "end 1" ++ 10 ∷ []) ∷ (codes "full need 30 gap 2" ++ 10 ∷ []) ∷ (codes "tables 3 admitted 2 blocks 1" ++ 10 ∷ []) ∷ (codes "limit tables" ++ 10 ∷ []) ∷ [] }
+    ensures a_damaged_sum { text_of (Damaged (Sum Block 5 255 1)) ≡ codes "damaged block 5 sum 00000000000000ff 0000000000000001" ++ 10 ∷ [] }
     ensures a_sum { sum_word 255 ≡ codes "00000000000000ff" }
 {}

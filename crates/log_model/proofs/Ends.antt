@@ -6,9 +6,11 @@ use Rattle.std.proofs.lemmas.List.{drop-drop, get_or-drop}
 use Rattle.std.proofs.Math.Seq.{take-add}
 use Rattle.map_model.specs.SortedMap.{Bytes}
 use Rattle.entry_model.specs.Entries.{Entry, body, record_bytes, filled}
-use Rattle.log_model.specs.Records.{BeginsWith, Spells, Breaks, broken_rule, entry_in}
+use Rattle.entry_model.specs.Reading.{entry_in}
+use Rattle.log_model.specs.Records.{BeginsWith, Spells, Breaks, broken_rule}
 use Rattle.log_model.proofs.Logs.{filled_is, none_filled, same_parts}
-use Rattle.log_model.proofs.Bodies.{unbroken, entry_again}
+use Rattle.entry_model.proofs.Bodies.{entry_again}
+use Rattle.log_model.proofs.Bodies.{unbroken}
 
 -- where reading stops, and why: None where it goes on, Some None at a gate that is not open, else the rule
 abbrev pub stop_in : Bytes → Option (Option ℕ)

@@ -1,9 +1,9 @@
 -- The bytes of a log: records of entries, each behind an open gate, and then a gate that is not open.
-use Rattle.std.specs.Prelude.{◌≡◌, ◌≢◌, ℕ, ◌+◌, ◌<◌, ◌≤◌, List, length, take, drop, slice_index, flat_map, Bool, ◌==◌, ◌&&◌, ◌||◌, not, nat_lt, nat_le, if◌then◌else◌, Option, Some, None}
+use Rattle.std.specs.Prelude.{◌≡◌, ◌≢◌, ℕ, ◌+◌, ◌<◌, List, length, take, drop, slice_index, flat_map, Bool, ◌==◌, ◌&&◌, ◌||◌, not, nat_lt, nat_le, if◌then◌else◌, Option, Some, None}
 use Rattle.std.specs.List.{AllByRecursion}
-use Rattle.byteorder.specs.Endian.{little_number}
 use Rattle.map_model.specs.SortedMap.{Bytes}
-use Rattle.entry_model.specs.Entries.{Entry, IsEntry, bytes_of, record_bytes, filled}
+use Rattle.entry_model.specs.Entries.{Entry, IsEntry, record_bytes, filled}
+use Rattle.entry_model.specs.Reading.{kind_in, key_length_in, value_length_in, width_in}
 
 -- the bytes begin with the records of these entries, and stand on behind them
 pub record BeginsWith (entries : List Entry) (bytes : Bytes) : Type 0 where
@@ -17,18 +17,6 @@ pub record Spells (entries : List Entry) (bytes : Bytes) : Type 0 where
   pub closed : slice_index bytes (filled entries) ≢ 1
 
 -- ---- what may be wrong behind an open gate
-
-abbrev pub kind_in : Bytes → ℕ
-kind_in body = slice_index body 0
-
-abbrev pub key_length_in : Bytes → ℕ
-key_length_in body = little_number 2 (drop 1 body)
-
-abbrev pub value_length_in : Bytes → ℕ
-value_length_in body = little_number 4 (drop 3 body)
-
-abbrev pub body_length_in : Bytes → ℕ
-body_length_in body = 7 + key_length_in body + value_length_in body
 
 -- a key of no byte or of too many, a value of too many, or a delete with one
 abbrev pub breaks_a_limit : ℕ → ℕ → ℕ → Bool
@@ -44,15 +32,8 @@ broken_rule body =
     refuse (nat_lt (length body) 7) 1
     (refuse (not (kind_in body == 1) && not (kind_in body == 2)) 2
     (refuse (breaks_a_limit (kind_in body) (key_length_in body) (value_length_in body)) 3
-    (refuse (nat_le (length body) (body_length_in body)) 1
+    (refuse (nat_le (length body) (width_in body)) 1
     None)))
-
--- the entry whose body the bytes begin with
-abbrev pub entry_in : Bytes → Entry
-entry_in body = record {
-  key = take (key_length_in body) (drop 7 body);
-  value = if kind_in body == 1 then Some (take (value_length_in body) (drop (7 + key_length_in body) body)) else None;
-}
 
 -- behind some whole records an open gate stands at this place, and what is behind it breaks this rule first
 pub record Breaks (place rule : ℕ) (bytes : Bytes) : Type 0 where

@@ -1,6 +1,6 @@
 use disk_mem::{Choice, MemDisk};
 use disk_trait::{Disk, DiskFault, Op};
-use gate_log::{Kind, Log, LogEntry, LogFault};
+use gate_log::{Kind, Log, LogFault};
 use mem_table::MemTable;
 use std::alloc::{AllocError, Global};
 use std::test::Fail;
@@ -23,16 +23,6 @@ fn delete<D: Disk>(log: &mut Log, disk: &mut D, buf: &mut [u8], key: &[u8]) -> b
         return false;
     }
     log.append(disk, buf, Kind::Delete, key, &[]).is_ok()
-}
-
-// The table of the entries that were read.
-fn table_of(alloc: Global, entries: &[LogEntry]) -> Result<MemTable, AllocError> {
-    let mut table = MemTable::new(alloc);
-    for entry in entries {
-        let prepared = table.reserve_for(entry.key(), entry.value())?;
-        table.set(prepared);
-    }
-    Ok(table)
 }
 
 // Five appends, a put or a delete each, up to the first that fails. Answers how many were done.
@@ -88,8 +78,9 @@ fn read_of(
 ) -> Result<(usize, usize, usize), Fail> {
     match Log::replay(alloc, disk, 0) {
         Ok((_, entries)) => {
-            let table = table_of(alloc, &entries)?;
-            Ok((entries.len(), seen(table.get(one)), seen(table.get(other))))
+            let count = entries.len();
+            let table = MemTable::fill(entries)?;
+            Ok((count, seen(table.get(one)), seen(table.get(other))))
         }
         Err(_) => Err(Fail::from("no log")),
     }
@@ -282,6 +273,33 @@ fn a_read_that_fails_is_named(rt: HostRuntime) -> Result<(), Fail> {
     assert_eq!(rt;
         fault_of(alloc, &mut disk, 1),
         Some(LogFault::Device(fault))
+    );
+    Ok(())
+}
+
+// A put of the value 62 at the key 61, and a delete of it, and then the first bytes of area 0.
+fn bytes_of_two_records(alloc: Global) -> Result<[u8; 20], Fail> {
+    let mut buf = vec![in alloc; 0; BUFFER_BYTES]?;
+    let mut disk = MemDisk::new(alloc, &[])?;
+    if let Ok(mut log) = Log::start(&mut disk, 0) {
+        put(&mut log, &mut disk, &mut buf, b"a", b"b");
+        delete(&mut log, &mut disk, &mut buf, b"a");
+    }
+    let mut bytes = [9; 20];
+    match disk.read(262_144, &mut bytes) {
+        Ok(()) => Ok(bytes),
+        Err(_) => Err(Fail::from("no bytes")),
+    }
+}
+
+#[test]
+fn the_bytes_of_a_put_and_a_delete(rt: HostRuntime) -> Result<(), Fail> {
+    assert_eq!(rt;
+        bytes_of_two_records(rt.alloc())?,
+        [
+            1, 1, 1, 0, 1, 0, 0, 0, 0x61, 0x62, //
+            1, 2, 1, 0, 0, 0, 0, 0, 0x61, 0
+        ]
     );
     Ok(())
 }

@@ -115,6 +115,17 @@ fn spellings_are_read_and_others_are_not(rt: HostRuntime) -> Result<(), Fail> {
         assert!(rt; is_fault(PlainFilter::decode(alloc, &other)));
     }
 
+    // a leaf that ends with real bits, where there are 8
+    let mut other = spelled;
+    other[5] = 8;
+    assert!(rt; PlainFilter::decode(alloc, &other).is_ok());
+    other[18] = 1;
+    assert!(rt; is_fault(PlainFilter::decode(alloc, &other)));
+
+    // one leaf of two bytes
+    let lone = *b"SURP\x00\x00\x01\x00\x00\x00\x02\x00ab\x00\x00\x00\x00\x00\x00\x00\x00\x00";
+    assert!(rt; is_fault(PlainFilter::decode(alloc, &lone)));
+
     let filter: PlainFilter = filter_of(&rt, alloc, &[b"a"], 8, 0)?;
     let mut bytes = Vec::new(alloc);
     filter.encode(&mut bytes)?;

@@ -65,7 +65,7 @@ impl State {
 
     /// The sorted map that the state is.
     pub fn map(&self, alloc: Global) -> Result<PlainMap, AllocError>
-        ensures { IfOk result (λ map. map ≡ model.map_of self.now) }
+        ensures { IfOk result (λ map. map ≡ model.state_map self.now) }
     {
         let entries = self.entries(alloc)?;
         let mut map = PlainMap::new(alloc);

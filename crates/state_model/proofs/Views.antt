@@ -8,9 +8,9 @@ use Rattle.entry_model.proofs.Maps.{newest_counts}
 use Rattle.entry_model.specs.Newest.{newest_entries, lookup}
 use Rattle.entry_model.proofs.Newest.{lookup_newest}
 use Rattle.block_model.specs.Order.{is_any}
-use Rattle.state_model.specs.State.{State, Table}
-use Rattle.state_model.specs.View.{view, first_found, oldest_first, entries_of, map_of}
-use Rattle.state_model.specs.Pages.{Spells}
+use Rattle.state_model.specs.State.{State}
+use Rattle.table_model.specs.Tables.{FilterBytes, Table}
+use Rattle.state_model.specs.View.{view, first_found, oldest_first, entries_of, state_map}
 use Rattle.state_model.specs.Sound.{IsSound, IsSoundTable}
 use Rattle.state_model.proofs.Sayings.{newest-append, newest_backwards, oldest_first-backwards, lists_of, AllRise, rises_follow}
 
@@ -27,5 +27,5 @@ newest_of_state s key rise = newest-append (oldest_first s.tables) s.log key
     ∙ ap (λ (o : Option (Option Bytes)). or_else o (newest (oldest_first s.tables) key)) (sym (lookup_newest s.log key))
     ∙ ap (or_else (lookup (newest_entries s.log) key)) (newest_of_tables s.tables key rise)
 
-pub view_says : (spells : Spells) (s : State) (key : Bytes) → IsSound spells s → get (map_of s) key ≡ live (view s key)
-view_says spells s key sound = newest_counts (entries_of s) key ∙ ap live (newest_of_state s key (tables_rise s.tables sound.tables))
+pub view_says : (filter_bytes : FilterBytes) (s : State) (key : Bytes) → IsSound filter_bytes s → get (state_map s) key ≡ live (view s key)
+view_says filter_bytes s key sound = newest_counts (entries_of s) key ∙ ap live (newest_of_state s key (tables_rise s.tables sound.tables))

@@ -1,7 +1,6 @@
 pub mod State
 pub mod View
-pub mod Pages
-pub mod Gaps
+pub mod Taken
 pub mod Merges
 pub mod Causes
 pub mod Changes
@@ -12,6 +11,9 @@ pub mod Steps
 pub mod Script
 pub mod Play
 pub mod PlayLaws
-pub mod Rows
+pub mod Examples
 pub mod Laws
+pub mod SoundLaws
 pub mod Refusals
+pub mod FaultLaws
+pub mod ReadLaws

@@ -2,3 +2,9 @@ pub mod Lists
 pub mod NodeLists
 pub mod Places
 pub mod Louds
+pub mod Joining
+pub mod Paths
+pub mod Slots
+pub mod Endings
+pub mod Forms
+pub mod Company

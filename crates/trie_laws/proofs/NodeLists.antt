@@ -1,4 +1,4 @@
-use Rattle.std.proofs.Common.{◌≡◌, ℕ, zero, suc, ◌<◌, List, [], ◌∷◌, ◌++◌, length, get_or, refl, ap, sym, ◌∙◌, arith, Bool, true, false, inl, inr, add-one}
+use Rattle.std.proofs.Common.{◌≡◌, ℕ, zero, suc, ◌<◌, ◌==◌, List, [], ◌∷◌, ◌++◌, length, get_or, refl, ap, sym, ◌∙◌, arith, Bool, true, false, inl, inr, add-one}
 use Rattle.std.specs.Prelude.{filter, flat_map}
 use Rattle.std.proofs.lemmas.List.Concat.{flat_map-append}
 use Rattle.std.proofs.lemmas.List.Elements.{filter-append, All-filter, All-map, All-nil, All-cons, All-append, All-head, All-tail, All-weaker}
@@ -21,7 +21,7 @@ extends_longer : (p x : List ℕ) → extends p x ≡ true → length p < length
 extends_longer [] [] e = absurd (false≢true e)
 extends_longer [] (b ∷ x) e = omega arith
 extends_longer (a ∷ p) [] e = absurd (false≢true e)
-extends_longer (a ∷ p) (b ∷ x) e = let h = extends_longer p x (and_parts _ _ e).1 in omega arith
+extends_longer (a ∷ p) (b ∷ x) e = let h = extends_longer p x (and_parts (a == b) (extends p x) e).1 in omega (arith, h)
 
 -- a node is shorter than some path, and so than the height
 pub height_above : (ls : List Leaf) (p : List ℕ) → is_node ls p ≡ true → length p < height ls

@@ -120,7 +120,7 @@ module _ (ls : List Leaf) where
       let in' : p < length (places ls) = omega (arith, first_within v l) in
       form ∙ ap (λ (b : Branch). get_or (nodes ls) v [] ++ b.0 ∷ []) (sym (at-trie_of p in'))
 
-  branch_with : (p : List ℕ) (c : ℕ) → c ≤ 256 → is_reached ls (p ++ c ∷ []) ≡ true → (j : ℕ) × (j < length (branches ls p)) × (get_or (branches ls p) j [] ≡ p ++ c ∷ [])
+  pub branch_with : (p : List ℕ) (c : ℕ) → c ≤ 256 → is_reached ls (p ++ c ∷ []) ≡ true → (j : ℕ) × (j < length (branches ls p)) × (get_or (branches ls p) j [] ≡ p ++ c ∷ [])
   unfolding branches
   branch_with p c h e =
       let found = letter_index c h in

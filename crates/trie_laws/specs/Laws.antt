@@ -4,7 +4,8 @@ use Rattle.filter_model.specs.Image.{sparse_louds}
 use Rattle.filter_model.specs.Leaves.{Leaf}
 use Rattle.filter_model.specs.Nodes.{Node, IsBranch, at, children_before, first_place, leaves_before, trie_of}
 use Rattle.filter_model.specs.Trie.{height, is_node, is_reached, nodes, places, slots}
-use Rattle.trie_laws.specs.Louds.{IsNode, IsNth}
+use Rattle.bit_select.specs.Place.{IsPlaceOfOne}
+use Rattle.trie_laws.specs.Louds.{IsNode}
 
 -- the nodes are the root, and then the branches that lead to a node, in the order of all branches
 abbrev pub NodesAreChildren : Type 0
@@ -36,10 +37,10 @@ LettersHavePlaces =
 
 -- the set bit number v stands where node v begins, and nowhere else; there are as many as nodes
 abbrev pub SelectFindsNode : Type 0
-SelectFindsNode = (ns : List Node) (v : ℕ) → All IsNode ns → v < length ns → IsNth (sparse_louds ns) v (first_place ns v)
+SelectFindsNode = (ns : List Node) (v : ℕ) → All IsNode ns → v < length ns → IsPlaceOfOne (sparse_louds ns) v (first_place ns v)
 
 abbrev pub SelectIsUnique : Type 0
-SelectIsUnique = (bits : List Bool) (n i j : ℕ) → IsNth bits n i → IsNth bits n j → i ≡ j
+SelectIsUnique = (bits : List Bool) (n i j : ℕ) → IsPlaceOfOne bits n i → IsPlaceOfOne bits n j → i ≡ j
 
 abbrev pub SetBitsAreNodes : Type 0
 SetBitsAreNodes = (ns : List Node) → All IsNode ns → count_by (λ (b : Bool). b) (sparse_louds ns) ≡ length ns

@@ -1,2 +1,5 @@
 pub mod Louds
 pub mod Laws
+pub mod Leaves
+pub mod Nodes
+pub mod Halves

@@ -1,9 +1,15 @@
-//! Laws of the trie by which a succinct one finds its way: child, slot, place and select.
+//! Laws of the trie by which a succinct one finds its way and a decoder knows what it reads.
 //!
 //! The definitions are those of `filter_model`, where a trie is one list of nodes in level order, each the list of its
-//! branches. The functions have no body: each has laws as its contract, and none needs to be called.
+//! branches. Child, slot, place and select are counts in that list, for any list of nodes, and two lists end to end count
+//! on. Of a list of leaves that has a trie, the paths are prefix-free, each leaf has one slot, each level has a node, and
+//! every node has rising letters, END first. The functions have no body: each has laws as its contract, and none needs to
+//! be called.
 #![tactic(auto)]
 
+ghost use Rattle.trie_laws.specs.Halves.{HalvesJoin, SecondHalfCountsOn};
+ghost use Rattle.trie_laws.specs.Leaves.{CompanyIsABranch, LeavesHaveSlots, LevelsHaveNodes, PathsAreNoNodes, PathsArePrefixFree};
+ghost use Rattle.trie_laws.specs.Nodes.{BranchesAreNodesAndStubs, FormsAreSparse, TrieNodesHaveForm};
 ghost use Rattle.trie_laws.specs.Laws.{ChildIsCounted, LettersHavePlaces, NodesAreChildren, PlacesAreOfNodes, SelectFindsNode, SelectIsUnique, SetBitsAreNodes, SlotIsCounted};
 
 /// A branch's child and a leaf's slot are counts of the branches before it.
@@ -24,4 +30,40 @@ pub fn select_finds_nodes()
     ensures find { SelectFindsNode }
     ensures unique { SelectIsUnique }
     ensures count { SetBitsAreNodes }
+{}
+
+/// Of two lists of nodes end to end the first keeps its places, and the second has its own behind them; with the counts
+/// of the first before it, it has the children and slots of the whole.
+pub fn halves_join()
+    ensures places { HalvesJoin }
+    ensures numbers { SecondHalfCountsOn }
+{}
+
+/// The paths of the leaves: none begins another, and none leads to a node; each level below the longest has a node.
+pub fn paths_are_prefix_free()
+    ensures free { PathsArePrefixFree }
+    ensures no_nodes { PathsAreNoNodes }
+    ensures levels { LevelsHaveNodes }
+{}
+
+/// Each leaf has one slot, and entry `i` of the leaves in slot order is the leaf of slot `i`.
+pub fn leaves_have_slots()
+    ensures { LeavesHaveSlots }
+{}
+
+/// A node's branches are END where a leaf ends there, and each byte that leads to a node or ends a stub.
+pub fn branches_are_nodes_and_stubs()
+    ensures { BranchesAreNodesAndStubs }
+{}
+
+/// Every node has branches with rising letters, END the least of them, neither alone nor with a child; so sparse sections
+/// may hold it.
+pub fn nodes_have_form()
+    ensures form { TrieNodesHaveForm }
+    ensures sparse { FormsAreSparse }
+{}
+
+/// Another stub goes on from a leaf's node exactly where that node has a second branch.
+pub fn company_is_a_branch()
+    ensures { CompanyIsABranch }
 {}

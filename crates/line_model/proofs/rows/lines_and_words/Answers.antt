@@ -10,3 +10,7 @@ returns-clause-numbers_in_one_spelling c = refl
 pub returns-clause-texts : goal.returns-clause-texts
 unfolding digits encode_with
 returns-clause-texts c = refl
+
+pub returns-clause-a_damaged_sum : goal.returns-clause-a_damaged_sum
+unfolding digits encode_with
+returns-clause-a_damaged_sum c = refl

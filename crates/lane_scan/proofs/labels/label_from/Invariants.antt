@@ -1,6 +1,0 @@
-use Rattle.std.proofs.Common.{◌==◌}
-use Rattle.lane_scan.specs.Places.{NoneBelow}
-use Rattle.lane_scan.proofs.labels.label_from.Given as goal
-
-abbrev pub invariant-loop-i : goal.invariant-loop-i
-invariant-loop-i l = NoneBelow (λ byte. byte == l.label) l.bytes l.i

@@ -1,0 +1,6 @@
+use Rattle.std.specs.Slice.Scan.{HoldsNowhere}
+use Rattle.lane_scan.specs.Places.{is_least_at}
+use Rattle.lane_scan.proofs.labels.least_by_bytes.Given as goal
+
+abbrev pub invariant-loop-i : goal.invariant-loop-i
+invariant-loop-i l = HoldsNowhere (is_least_at l.section l.label) l.start l.i

@@ -1,6 +1,0 @@
-use Rattle.std.proofs.Common.{◌*◌, nat_le}
-use Rattle.lane_scan.specs.Places.{NoneBelow}
-use Rattle.lane_scan.proofs.labels.least_in_groups.Given as goal
-
-abbrev pub invariant-loop-i : goal.invariant-loop-i
-invariant-loop-i l = NoneBelow (λ byte. nat_le l.label byte) l.bytes (16 * l.i)

@@ -1,0 +1,4 @@
+pub mod Branches
+pub mod Spelled
+pub mod Searches
+pub mod Built

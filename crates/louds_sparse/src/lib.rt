@@ -1,0 +1,10 @@
+//! The sparse half of a trie.
+#![tactic(auto)]
+
+mod builder;
+mod sections;
+mod sparse;
+
+pub use builder::SparseBuilder;
+pub use sparse::Sparse;
+pub use trie_model::{Before, Branch};

@@ -1,0 +1,220 @@
+//! The half and its calls.
+ghost use Rattle.std.specs.Prelude.{◌≡◌, ◌≤◌, ◌<◌, ◌+◌, ◌-◌, ◌==◌, ◌&&◌, nat_lt, length, slice_index};
+ghost use Rattle.bit_words.specs.Packed.{packed};
+ghost use Rattle.filter_model.specs.Image.{sparse_children, sparse_labels, sparse_louds};
+ghost use Rattle.filter_model.specs.Nodes.{first_place};
+ghost use Rattle.filter_model.specs.Trie.{END};
+ghost use Rattle.louds_sparse.specs.Cuts.{IsCut, StandBytes};
+ghost use Rattle.trie_model.specs.Halves.{HasNode, begin_of, branch_place, byte_at, child_at, end_slot, first_below, next_place, places_in, prev_place, slot_at};
+
+use super::sections::END_LABEL;
+use bit_rank::Ranked;
+use bit_select::Selected;
+use lane_scan::{find_label_between, first_at_least_between};
+use std::alloc::Allocator;
+use std::marker::Model;
+use trie_model::Before;
+
+/// The nodes of the lower levels of a trie: a label, a bit for a child and a bit for a first label for each branch.
+#[derive(Drop)]
+pub struct Sparse<A: Allocator> {
+    pub(crate) before: Before,
+    pub(crate) labels: Vec<u8, A>,
+    pub(crate) has_child: Ranked<A>,
+    pub(crate) louds: Selected<A>,
+}
+
+impl<A: Allocator> Model for Sparse<A> {
+    ghost use Rattle.trie_model.specs.Halves.{Half};
+    ghost use Rattle.louds_sparse.specs.Spelling.{IsSpelled, half_in};
+
+    ghost Value = { Half };
+
+    ghost view = { λ s. half_in s.before s.labels.items s.has_child s.louds };
+
+    ghost invariant = { λ s. IsSpelled s.before s.labels.items s.has_child s.louds (half_in s.before s.labels.items s.has_child s.louds) };
+}
+
+impl<A: Allocator> Sparse<A> {
+    /// The places of a node's labels: the first, and the one after the last.
+    pub fn node_range(&self, node: u64) -> (u64, u64)
+        requires { HasNode self.now node }
+        ensures from { result.0 ≡ begin_of self.now node }
+        ensures to { result.1 ≡ begin_of self.now (node + 1) }
+    {
+        let (from, to) = self.labels_of(node);
+        (from as u64, to as u64)
+    }
+
+    /// The place of the node's branch by this byte.
+    pub fn branch(&self, node: u64, byte: u8) -> Option<u64>
+        requires { HasNode self.now node }
+        ensures { result ≡ branch_place self.now node byte }
+    {
+        let (start, end) = self.bytes_of(node);
+        match find_label_between(&self.labels, start, end, byte) {
+            Some(place) => Some(place as u64),
+            None => None,
+        }
+    }
+
+    /// The place of the node's first branch by this byte or a greater one. `byte` is at most 256.
+    pub fn next_branch(&self, node: u64, byte: u16) -> Option<u64>
+        requires node { HasNode self.now node }
+        requires byte { byte ≤ 256 }
+        ensures { result ≡ next_place self.now node byte }
+    {
+        let (start, end) = self.bytes_of(node);
+        let place = cut(&self.labels, start, end, byte);
+        if place < end {
+            Some(place as u64)
+        } else {
+            None
+        }
+    }
+
+    /// The place of the node's last branch by a lesser byte. `byte` is at most 256.
+    pub fn prev_branch(&self, node: u64, byte: u16) -> Option<u64>
+        requires node { HasNode self.now node }
+        requires byte { byte ≤ 256 }
+        ensures { result ≡ prev_place self.now node byte }
+    {
+        let (start, end) = self.bytes_of(node);
+        let place = cut(&self.labels, start, end, byte);
+        if place > start {
+            Some(place as u64 - 1)
+        } else {
+            None
+        }
+    }
+
+    /// The byte of the branch at a place, FF for END.
+    pub fn byte_at(&self, place: u64) -> u8
+        requires { place < places_in self.now }
+        ensures { result ≡ byte_at self.now place }
+    {
+        self.labels[place as usize]
+    }
+
+    /// The node that the branch at a place leads to, or `None` where the branch is a leaf.
+    pub fn child(&self, place: u64) -> Option<u64>
+        requires { place < places_in self.now }
+        ensures { result ≡ child_at self.now place }
+    {
+        if self.has_child.bits().get(place as usize) {
+            Some(self.first_below(place))
+        } else {
+            None
+        }
+    }
+
+    /// How many leaves stand before a place, those before this half counted in: the slot of the leaf there.
+    pub fn leaf_slot(&self, place: u64) -> u64
+        requires { place ≤ places_in self.now }
+        ensures { result ≡ slot_at self.now place }
+    {
+        self.before.slots + (place - self.has_child.rank(place as usize) as u64)
+    }
+
+    /// The first node whose branch stands at a place or later, or the number of all nodes where there is none.
+    pub fn first_below(&self, place: u64) -> u64
+        requires { place ≤ places_in self.now }
+        ensures { result ≡ first_below self.now place }
+    {
+        self.before.children + self.has_child.rank(place as usize) as u64 + 1
+    }
+
+    /// The slot of the node's END, or `None` where END is no branch of it.
+    pub fn prefix_slot(&self, node: u64) -> Option<u64>
+        requires { HasNode self.now node }
+        ensures { result ≡ end_slot self.now node }
+    {
+        let (from, to) = self.labels_of(node);
+        if opens_with_end(&self.labels, from, to) {
+            Some(self.leaf_slot(from as u64))
+        } else {
+            None
+        }
+    }
+
+    /// The labels, one for each branch: its byte, or FF for END.
+    pub fn labels(&self) -> &[u8]
+        ensures { result.now ≡ sparse_labels self.now.nodes }
+    {
+        self.labels.as_slice()
+    }
+
+    /// The words that hold a bit for each branch, set where it leads to a node: bit `i` is bit `i mod 64` of word `i / 64`.
+    pub fn has_child(&self) -> &[u64]
+        ensures { result.now ≡ packed 64 (sparse_children self.now.nodes) }
+    {
+        self.has_child.words()
+    }
+
+    /// The words that hold a bit for each branch, set where it is the first of its node.
+    pub fn louds(&self) -> &[u64]
+        ensures { result.now ≡ packed 64 (sparse_louds self.now.nodes) }
+    {
+        self.louds.words()
+    }
+
+    /// The place at which a node begins, by its number in this half; for the number of its nodes, the number of places.
+    fn begin(&self, number: usize) -> usize
+        requires { number ≤ length self.now.nodes }
+        ensures { result ≡ first_place self.now.nodes number }
+    {
+        match self.louds.select(number) {
+            Some(place) => place,
+            None => self.labels.len(),
+        }
+    }
+
+    /// The places of a node's labels: the first, and the one after the last.
+    fn labels_of(&self, node: u64) -> (usize, usize)
+        requires { HasNode self.now node }
+        ensures from { result.0 ≡ begin_of self.now node }
+        ensures to { result.1 ≡ begin_of self.now (node + 1) }
+        ensures order { result.0 < result.1 }
+        ensures within { result.1 ≤ places_in self.now }
+    {
+        let number = (node - self.before.nodes) as usize;
+        (self.begin(number), self.begin(number + 1))
+    }
+
+    /// The places of a node's bytes: the first, which is behind END, and the one after the last.
+    fn bytes_of(&self, node: u64) -> (usize, usize)
+        requires { HasNode self.now node }
+        ensures { StandBytes self.now node result.0 result.1 }
+    {
+        let (from, to) = self.labels_of(node);
+        (
+            from + usize::from(opens_with_end(&self.labels, from, to)),
+            to,
+        )
+    }
+}
+
+/// Whether the labels of a node, from `from` on and before `to`, begin with END: they are two or more, and the first is FF.
+fn opens_with_end(labels: &[u8], from: usize, to: usize) -> bool
+    requires order { from < to }
+    requires there { to ≤ length labels.now }
+    ensures { result ≡ (nat_lt 1 (to - from) && (slice_index labels.now from == 255)) }
+{
+    to - from > 1 && labels[from] == END_LABEL
+}
+
+/// The first place from `start` on and before `end` whose label is `byte` or more, or `end` where none is.
+fn cut(labels: &[u8], start: usize, end: usize, byte: u16) -> usize
+    requires order { start ≤ end }
+    requires there { end ≤ length labels.now }
+    requires byte { byte ≤ 256 }
+    ensures { IsCut labels.now start end byte result }
+{
+    if byte > 255 {
+        return end;
+    }
+    match first_at_least_between(labels, start, end, byte as u8) {
+        Some(place) => place,
+        None => end,
+    }
+}

@@ -1,0 +1,6 @@
+pub mod Letters
+pub mod Rests
+pub mod Walks
+pub mod Branching
+pub mod Halves
+pub mod Rows

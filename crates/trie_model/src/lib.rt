@@ -1,0 +1,27 @@
+//! What is asked of a trie and its halves: the definitions, and the rows by which they are tried.
+//!
+//! A trie is a list of nodes in level order, each the list of its branches, as in `filter_model`. In `specs/`, one file
+//! a noun: `Letters` has the key order, in which END comes before every byte; `Rests` what follows a prefix in the paths
+//! that begin with it, and how many leaves come before it; `Walks` the leaf that a key reaches, the nodes on its way, and
+//! the least leaf below a branch; `Branching` the branches of one node by bytes; `Halves` the places, children and slots
+//! of a part of the nodes, with counts of what stands before it.
+//!
+//! [`Branch`] and [`Before`] are what the builders of halves are given. The other functions have no body: each has rows
+//! as its contract, and none needs to be called.
+//!
+//! ```text
+//! keys            far   fast   s   top   toy
+//! places          f s t   a   o   r s   p y
+//! slots             0             1 2   3 4
+//! fasten          walks by the nodes "", f and fa to slot 2
+//! ```
+#![tactic(auto)]
+
+mod parts;
+mod rows;
+
+pub use parts::{Before, Branch};
+pub use rows::{
+    keys_walk, leaves_are_ordered, places_below_the_root, places_beside_end, places_of_far_to_toy,
+    tries_are_these_nodes,
+};
