@@ -7,6 +7,7 @@ pub mod Moments
 pub mod Outcomes
 pub mod Pieces
 pub mod Progress
+pub mod StepLaws
 pub mod Steps
 pub mod Texts
 pub mod Writes

@@ -13,12 +13,12 @@ use Rattle.gate_log.specs.declared.fault.LogFault.TheVariants.{Memory, Device, S
 use Rattle.map_model.specs.SortedMap.{Bytes}
 use Rattle.entry_model.specs.Entries.{Entry}
 use Rattle.line_model.specs.Lines.{lines_of, whole_lines}
-use Rattle.line_model.specs.Replies.{text_of}
+use Rattle.line_model.specs.Replies.{Bye, text_of}
 use Rattle.surf_run.specs.Script.{Script, WentOn, Ending, ToLast}
 use Rattle.surf_run.specs.Causes.{IsServing, SayFailed}
 use Rattle.surf_run.specs.Crash.{Reached, Acknowledged}
 use Rattle.surf_run.specs.Open.{OpenMoves, reply_to, status_of}
-use Rattle.surf_run.specs.Outcome.{Said, CutOff, SaidInPart, Settled, Outcome}
+use Rattle.surf_run.specs.Outcome.{Said, CutOff, SaidInPart, LeavesEntries, ByeSaid, ByeWithin, ByeLast, piece_bytes, Settled, Outcome}
 use Rattle.surf_run.specs.Run.{IsLastText, Unserved, Ends, Damaged}
 use Rattle.surf_run.proofs.Moments.{now_still}
 use Rattle.surf_run.proofs.History.{ack_none}
@@ -50,6 +50,7 @@ module _ (tells : Bool) (start : List Entry) (old mid new : World) (opened : Ope
     line = part.line;
     later = part.later;
     split = part.split;
+    ended = part.ended;
     text = part.text;
     now = part.now;
     went_on = subst (λ (s : Bytes). WentOn (Reached tells new) (length s) start part.lines part.text part.now) said_same part.went_on;
@@ -75,19 +76,30 @@ module _ (tells : Bool) (start : List Entry) (old mid new : World) (opened : Ope
       (ack_none start lines old.beside.said new.beside.said text grown)
       (subst (λ (s : Bytes). During (Acknowledged start lines s new.beside.said) mid new) said_same then)
 
+  leaves_since : (lines : List Bytes) → LeavesEntries tells start lines mid new → LeavesEntries tells start lines old new
+  leaves_since lines leaves = record { text = leaves.text; output = out_same leaves.text leaves.output; last = leaves.last; answered = leaves.answered; stands = leaves.stands }
+
+  bye_said_since : (lines : List Bytes) (line : Bytes) → ByeSaid tells start lines line mid new → ByeSaid tells start lines line old new
+  bye_said_since lines line bye = record { text = bye.text; now = bye.now; went_on = bye.went_on; last = bye.last; step = bye.step; output = out_same (bye.text ++ text_of Bye) bye.output; stands = bye.stands }
+
+  bye_since : (taken : Bytes) → ByeWithin tells piece_bytes start taken mid new ⊎ ByeLast tells start taken mid new → ByeWithin tells piece_bytes start taken old new ⊎ ByeLast tells start taken old new
+  bye_since taken (inl within) = inl (record { lines = within.lines; line = within.line; whole = within.whole; behind = within.behind; split = within.split; less = within.less; bye = bye_said_since within.lines within.line within.bye })
+  bye_since taken (inr at_last) = inr (record { lines = at_last.lines; line = at_last.line; whole = at_last.whole; split = at_last.split; bye = bye_said_since at_last.lines at_last.line at_last.bye })
+
   cut_since : (taken : Bytes) → CutOff tells start taken mid new → CutOff tells start taken old new
   cut_since taken cut = record {
     text = cut.text;
     output = out_same cut.text cut.output;
     script = script_same ToLast (whole_lines taken) cut.text cut.script;
     crash = λ t. crash_since (whole_lines taken) cut.text (out_same cut.text cut.output) (cut.crash t);
+    leaves = leaves_since (whole_lines taken) cut.leaves;
   }
 
   settled_since : (status : ℕ) (taken : Bytes) → Settled tells status start taken mid new → Settled tells status start taken old new
   settled_since status taken settled = record {
     ended = λ zero. elim (settled.ended zero) [
-      | inl last ↦ inl (said_since _ taken last)
-      | inr quit ↦ inr (said_since _ taken quit)
+      | inl last ↦ inl (said_since _ taken last.0, leaves_since (lines_of taken) last.1)
+      | inr quit ↦ inr (said_since _ taken quit.0, bye_since taken quit.1)
     ];
     device = λ four. said_since _ taken (settled.device four);
     cut = λ is. cut_since taken (settled.cut is);

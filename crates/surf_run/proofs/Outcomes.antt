@@ -2,7 +2,7 @@
 use Rattle.std.proofs.Common.{◌≡◌, ◌≢◌, ◌⊎◌, inl, inr, ◌<◌, ◌+◌, ◌++◌, ℕ, zero, List, [], ◌∷◌, length, refl, sym, ap, ◌∙◌, subst, arith, append_assoc, length-append}
 use Rattle.std.specs.Prelude.{flat_map, Bool, IsTrue, ◌==◌, false}
 use Rattle.std.proofs.lemmas.List.{append-nil}
-use Rattle.std.proofs.lemmas.List.Elements.{All-nil}
+use Rattle.std.proofs.lemmas.List.Elements.{All-nil, All-push}
 use Rattle.disk_trait.specs.World.{World}
 use Rattle.outside.specs.During.{During}
 use Rattle.outside.specs.Streams.{SaidByNow, SaysFront, TakeMoves}
@@ -14,16 +14,17 @@ use Rattle.entry_model.specs.Entries.{Entry}
 use Rattle.store_commands.specs.Answered.{asked_here}
 use Rattle.line_model.specs.Lines.{lines_of, whole_lines}
 use Rattle.line_model.specs.Replies.{Reply, Bye, Device, text_of}
-use Rattle.surf_run.specs.Script.{Step, Script, GoesOn, WentOn, Ending, ToLast, AtQuit, AtDevice}
+use Rattle.surf_run.specs.Script.{Step, Answers, Script, GoesOn, WentOn, Ending, ToLast, AtQuit, AtDevice}
 use Rattle.surf_run.specs.Crash.{Stands, Reached, Anything, Acknowledged}
+use Rattle.surf_run.specs.Holding.{with_newline}
 use Rattle.surf_run.specs.Holds.{Holds}
-use Rattle.surf_run.specs.Outcome.{Said, SaidInPart, Settled}
-use Rattle.surf_run.specs.Serving.{LineAnswer, Whole, Answered, with_newline, Served, Closed, EndedBy}
+use Rattle.surf_run.specs.Outcome.{Said, SaidInPart, Settled, LeavesEntries, ByeSaid, ByeWithin, ByeLast, piece_bytes}
+use Rattle.surf_run.specs.Serving.{LineAnswer, Whole, Answered, Served, Closed, EndedBy}
 use Rattle.surf_run.specs.declared.store.Store.{Store}
 use Rattle.surf_run.specs.declared.end.LineEnd.TheVariants.{Next, Quit, End}
 use Rattle.surf_run.proofs.Moments.{stands_still}
 use Rattle.surf_run.proofs.Texts.{lines_first, whole_first, last_line, held_none, held_some, held_same}
-use Rattle.surf_run.proofs.Answering.{went_of, went_on, went_as, script_of, script_ends, IsLast}
+use Rattle.surf_run.proofs.Answering.{answers_on, answers_of, went_of, went_on, went_as, script_of, script_ends, IsLast}
 use Rattle.surf_run.proofs.History.{reached_on, reached_here, ack_more, ack_none, ack_here, line_ack}
 use Rattle.surf_run.proofs.Progress.{device_last}
 
@@ -90,16 +91,16 @@ more_lines tells start taken lines later first w is history t =
     subst (λ (ls : List Bytes). During (Acknowledged start ls first.beside.said w.beside.said) first w) (sym is)
     (during_weaker _ _ first w (history t) (ack_more start lines later first.beside.said w.beside.said w.beside.said [] (sym (append-nil w.beside.said))))
 
-pub settled_quit : (tells : Bool) (start : List Entry) (taken : Bytes) (first w : World) → Closed tells AtQuit start taken first w → Settled tells 0 start taken first w
-settled_quit tells start taken first w closed =
+pub settled_quit : (tells : Bool) (start : List Entry) (taken : Bytes) (first w : World) → Closed tells AtQuit start taken first w → ByeWithin tells piece_bytes start taken first w → Settled tells 0 start taken first w
+settled_quit tells start taken first w closed within =
     let first_lines = closed.first_lines [] in
     record {
-      ended = λ _. inr (said_closed tells AtQuit start taken first w closed);
+      ended = λ _. inr (said_closed tells AtQuit start taken first w closed, inl within);
       device = λ is. absurd (omega arith);
       cut = λ is. absurd (elim is [ inl three ↦ omega arith | inr nine ↦ omega arith ]);
       output = λ is. absurd (omega arith);
       said = (closed.text, closed.told);
-      crash = more_lines tells start taken closed.lines first_lines.0 first w (lines_now taken closed.lines first_lines.0 first_lines.1) closed.history;
+      crash = more_lines tells start taken closed.lines first_lines.0 first w (lines_now taken closed.lines first_lines.0 first_lines.2) closed.history;
     }
 
 pub settled_end : (tells : Bool) (status : ℕ) (start : List Entry) (taken : Bytes) (first w : World) → EndedBy tells status start taken first w → Settled tells status start taken first w
@@ -112,7 +113,7 @@ settled_end tells status start taken first w ended = elim ended [
         cut = λ is. absurd (let e = four.0 in elim is [ inl three ↦ omega arith | inr nine ↦ omega arith ]);
         output = λ is. absurd (let e = four.0 in omega arith);
         said = (four.1.text, four.1.told);
-        crash = more_lines tells start taken four.1.lines first_lines.0 first w (lines_now taken four.1.lines first_lines.0 first_lines.1) four.1.history;
+        crash = more_lines tells start taken four.1.lines first_lines.0 first w (lines_now taken four.1.lines first_lines.0 first_lines.2) four.1.history;
       }
   | inr six ↦
       let broken = six.1 in
@@ -126,7 +127,8 @@ settled_end tells status start taken first w ended = elim ended [
           lines = broken.lines;
           line = broken.line;
           later = first_lines.0;
-          split = lines_now taken before first_lines.0 first_lines.1 ∙ append_assoc broken.lines (broken.line ∷ []) first_lines.0;
+          split = lines_now taken before first_lines.0 first_lines.2 ∙ append_assoc broken.lines (broken.line ∷ []) first_lines.0;
+          ended = inl (first_lines.1, ap whole_lines (sym (append-nil taken)) ∙ first_lines.3 ∙ append_assoc broken.lines (broken.line ∷ []) first_lines.1);
           text = broken.text;
           now = broken.now;
           went_on = broken.ran;
@@ -137,9 +139,18 @@ settled_end tells status start taken first w ended = elim ended [
           stands = broken.stands;
         };
         said = (broken.text ++ broken.front.done, broken.front.said ∙ append_assoc first.beside.said broken.text broken.front.done);
-        crash = more_lines tells start taken before first_lines.0 first w (lines_now taken before first_lines.0 first_lines.1) broken.history;
+        crash = more_lines tells start taken before first_lines.0 first w (lines_now taken before first_lines.0 first_lines.2) broken.history;
       }
 ]
+
+leaves_now : (tells : Bool) (start : List Entry) (taken kept : Bytes) (store : Store) (first w : World) (lines : List Bytes) (served : Served tells start taken kept store first w) → lines ≡ served.lines → LeavesEntries tells start lines first w
+leaves_now tells start taken kept store first w lines served is = record {
+  text = served.text;
+  output = served.told;
+  last = served.now;
+  answered = subst (λ (ls : List Bytes). Answers start ls served.text served.now) (sym is) (answers_of (Reached tells w) (length first.beside.said) start served.lines served.text served.now served.ran);
+  stands = served.stand;
+}
 
 -- ---- the input is cut off
 
@@ -156,6 +167,7 @@ settled_cut tells status start taken kept store first w is served = record {
     crash = λ t.
         let lines : whole_lines taken ≡ served.lines = ap whole_lines served.split ∙ whole_first served.lines served.rest served.whole served.open_end in
         subst (λ (ls : List Bytes). During (Acknowledged start ls first.beside.said w.beside.said) first w) (sym lines) (served.history t);
+    leaves = leaves_now tells start taken kept store first w (whole_lines taken) served (ap whole_lines served.split ∙ whole_first served.lines served.rest served.whole served.open_end);
   };
   output = λ e. absurd (elim is [ inl three ↦ omega arith | inr nine ↦ omega arith ]);
   said = (served.text, served.told);
@@ -170,12 +182,15 @@ settled_empty tells start taken kept store first w none served nothing_kept =
     let lines : lines_of taken ≡ served.lines =
     ap lines_of (served.split ∙ ap (λ (l : Bytes). flat_map with_newline served.lines ++ l) empty) ∙ lines_first served.lines [] served.whole ∙ append-nil served.lines in
     record {
-      ended = λ _. inl (record {
-        text = served.text;
-        output = served.told;
-        script = subst (λ (ls : List Bytes). Script (Reached tells w) (length first.beside.said) start ls served.text ToLast) (sym lines) (script_of (Reached tells w) (length first.beside.said) start served.lines served.text served.now served.ran);
-        settled = inl none;
-      });
+      ended = λ _. inl (
+        record {
+          text = served.text;
+          output = served.told;
+          script = subst (λ (ls : List Bytes). Script (Reached tells w) (length first.beside.said) start ls served.text ToLast) (sym lines) (script_of (Reached tells w) (length first.beside.said) start served.lines served.text served.now served.ran);
+          settled = inl none;
+        },
+        leaves_now tells start taken kept store first w (lines_of taken) served lines,
+      );
       device = λ e. absurd (omega arith);
       cut = λ is. absurd (elim is [ inl three ↦ omega arith | inr nine ↦ omega arith ]);
       output = λ e. absurd (omega arith);
@@ -232,12 +247,23 @@ module _ (tells : Bool) (start : List Entry) (taken kept : Bytes) (store : Store
       settled = inl none;
     }
 
+    leaves_next : Whole reply w w' → Stands tells new w' → LeavesEntries tells start (lines_of taken) first w'
+    leaves_next all stands = record {
+      text = served.text ++ text_of reply;
+      output = told all;
+      last = new;
+      answered = subst (λ (ls : List Bytes). Answers start ls (served.text ++ text_of reply) new) (sym last)
+          (answers_on start served.lines served.text served.now served.rest reply new (answers_of (Reached tells w) (length first.beside.said) start served.lines served.text served.now served.ran) answer.step);
+      stands = stands;
+    }
+
     said_in_part : (reply ≢ Device → Stands tells new w') → SaidInPart tells start taken first w'
     said_in_part stands = record {
       lines = served.lines;
       line = served.rest;
       later = [];
       split = last;
+      ended = inr none;
       text = served.text;
       now = served.now;
       went_on = ran_then;
@@ -250,7 +276,7 @@ module _ (tells : Bool) (start : List Entry) (taken kept : Bytes) (store : Store
 
   pub settled_next : (store' : Store) → SaidByNow w' → Answered tells Next served.now (Step served.now (asked_here served.rest)) store' w w' → Settled tells 0 start taken first w'
   settled_next store' now a = record {
-    ended = λ _. inl (said_next a.0 a.1 a.2 a.3 a.4 (reached a.0 a.1 a.2 a.4 now a.5));
+    ended = λ _. inl (said_next a.0 a.1 a.2 a.3 a.4 (reached a.0 a.1 a.2 a.4 now a.5), leaves_next a.0 a.1 a.2 a.4 a.5);
     device = λ e. absurd (omega arith);
     cut = λ is. absurd (elim is [ inl three ↦ omega arith | inr nine ↦ omega arith ]);
     output = λ e. absurd (omega arith);
@@ -258,9 +284,26 @@ module _ (tells : Bool) (start : List Entry) (taken kept : Bytes) (store : Store
     crash = crash a.0 a.1 a.2;
   }
 
+  bye_last : (new : List Entry) → LineAnswer tells served.now (Step served.now (asked_here served.rest)) Bye new w w' → Whole Bye w w' → Stands tells new w' → ByeLast tells start taken first w'
+  bye_last new answer all stands = record {
+    lines = served.lines;
+    line = served.rest;
+    whole = All-push NoNewline served.lines served.rest served.whole served.open_end;
+    split = served.split;
+    bye = record {
+      text = served.text;
+      now = served.now;
+      went_on = went_before Bye new answer;
+      last = new;
+      step = answer.step;
+      output = told Bye new answer all;
+      stands = stands;
+    };
+  }
+
   pub settled_bye : (store' : Store) → SaidByNow w' → Answered tells Quit served.now (Step served.now (asked_here served.rest)) store' w w' → Settled tells 0 start taken first w'
   settled_bye store' now a = record {
-    ended = λ _. inr (said_last Bye a.0 a.1 AtQuit (refl, refl, reached Bye a.0 a.1 a.2 now a.3) a.2);
+    ended = λ _. inr (said_last Bye a.0 a.1 AtQuit (refl, refl, reached Bye a.0 a.1 a.2 now a.3) a.2, inr (bye_last a.0 a.1 a.2 a.3));
     device = λ e. absurd (omega arith);
     cut = λ is. absurd (elim is [ inl three ↦ omega arith | inr nine ↦ omega arith ]);
     output = λ e. absurd (omega arith);

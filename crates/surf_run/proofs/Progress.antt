@@ -1,5 +1,5 @@
 -- How a run goes on, line by line.
-use Rattle.std.proofs.Common.{◌≡◌, ◌≢◌, inl, inr, ◌+◌, ◌++◌, ℕ, List, [], ◌∷◌, length, refl, sym, ap, ◌∙◌, subst, arith, append_assoc, length-append, false}
+use Rattle.std.proofs.Common.{◌≡◌, ◌≢◌, ◌≤◌, inl, inr, ◌+◌, ◌++◌, ℕ, List, [], ◌∷◌, length, refl, sym, ap, ◌∙◌, subst, arith, append_assoc, length-append, false}
 use Rattle.std.specs.Prelude.{Bool, IsTrue, flat_map, All, ◌==◌}
 use Rattle.std.proofs.lemmas.Grind.{flat_map-append}
 use Rattle.std.proofs.lemmas.List.{append-nil}
@@ -12,17 +12,18 @@ use Rattle.store_commands.specs.Cutting.{NoNewline}
 use Rattle.map_model.specs.SortedMap.{Bytes}
 use Rattle.entry_model.specs.Entries.{Entry}
 use Rattle.store_commands.specs.Answered.{asked_here}
-use Rattle.line_model.specs.Lines.{lines_of}
+use Rattle.line_model.specs.Lines.{lines_of, whole_lines}
 use Rattle.line_model.specs.Replies.{Reply, Bye, Device, text_of}
 use Rattle.surf_run.specs.Script.{Step, Script, GoesOn, WentOn, Ending, AtQuit, AtDevice}
 use Rattle.surf_run.specs.Crash.{Stands, Reached, Acknowledged}
-use Rattle.surf_run.specs.Holding.{Held}
+use Rattle.surf_run.specs.Holding.{Held, with_newline}
+use Rattle.surf_run.specs.Outcome.{ByeSaid, ByeWithin}
 use Rattle.surf_run.specs.Holds.{Holds}
-use Rattle.surf_run.specs.Serving.{LineAnswer, Whole, Answered, with_newline, Served, AreFirst, Closed, Broken, After}
+use Rattle.surf_run.specs.Serving.{LineAnswer, Whole, Answered, Served, AreFirst, Closed, Broken, After}
 use Rattle.surf_run.specs.declared.store.Store.{Store}
 use Rattle.surf_run.specs.declared.end.LineEnd.{LineEnd}
 use Rattle.surf_run.specs.declared.end.LineEnd.TheVariants.{Next, Quit, End}
-use Rattle.surf_run.proofs.Texts.{lines_first, held_same}
+use Rattle.surf_run.proofs.Texts.{lines_first, whole_on, held_same}
 use Rattle.surf_run.proofs.Answering.{went_of, went_on, went_as, script_ends, IsLast}
 use Rattle.surf_run.proofs.History.{reached_on, ack_more, line_ack, reached_here}
 
@@ -68,7 +69,8 @@ module _ (tells : Bool) (start : List Entry) (bytes kept : Bytes) (store : Store
   cut more = ap (λ (l : Bytes). lines_of (l ++ more)) line_split ∙ lines_first (served.lines ++ (served.rest ++ part) ∷ []) more whole_now
 
   first_lines : AreFirst (bytes ++ part ++ 10 ∷ []) (served.lines ++ (served.rest ++ part) ∷ [])
-  first_lines more = (lines_of more, cut more)
+  first_lines more =
+      (lines_of more, whole_lines more, cut more, ap (λ (l : Bytes). whole_lines (l ++ more)) line_split ∙ whole_on (served.lines ++ (served.rest ++ part) ∷ []) more whole_now)
 
   module _ (w' : World) (reply : Reply) (new : List Entry) (answer : LineAnswer tells served.now (Step served.now (asked_here (served.rest ++ part))) reply new w w') where
     history : IsTrue tells → During (Acknowledged start (served.lines ++ (served.rest ++ part) ∷ []) first.beside.said w'.beside.said) first w'
@@ -133,10 +135,30 @@ module _ (tells : Bool) (start : List Entry) (bytes kept : Bytes) (store : Store
       history = history;
     }
 
+  bye_ends : (w' : World) (new : List Entry) → LineAnswer tells served.now (Step served.now (asked_here (served.rest ++ part))) Bye new w w' → Whole Bye w w' → Stands tells new w'
+      → ByeWithin tells 1 start (bytes ++ part ++ 10 ∷ []) first w'
+  bye_ends w' new answer all stands = record {
+    lines = served.lines;
+    line = served.rest ++ part;
+    whole = whole_now;
+    behind = [];
+    split = line_split ∙ sym (append-nil _);
+    less = omega arith;
+    bye = record {
+      text = served.text;
+      now = served.now;
+      went_on = went_of (Reached tells w) (length first.beside.said) 0 start served.lines served.text served.now served.ran;
+      last = new;
+      step = answer.step;
+      output = told w' Bye new answer all;
+      stands = stands;
+    };
+  }
+
   pub line_end : (w' : World) (end : LineEnd) (store' : Store) (kept' : Bytes) → SaidByNow w' → Answered tells end served.now (Step served.now (asked_here (served.rest ++ part))) store' w w' → kept' ≡ []
-      → After tells end start (bytes ++ part ++ 10 ∷ []) kept' store' first w'
+      → After tells 1 end start (bytes ++ part ++ 10 ∷ []) kept' store' first w'
   line_end w' Next store' kept' said_now a cleared = next_line w' a.0 a.1 a.2 a.4 kept' store' a.3 a.5 a.6 said_now cleared
-  line_end w' Quit store' kept' said_now a cleared = last_line w' Bye a.0 a.1 a.2 AtQuit (refl, refl, reached w' Bye a.0 a.1 a.2 said_now a.3)
+  line_end w' Quit store' kept' said_now a cleared = (last_line w' Bye a.0 a.1 a.2 AtQuit (refl, refl, reached w' Bye a.0 a.1 a.2 said_now a.3), bye_ends w' a.0 a.1 a.2 a.3)
   line_end w' (End status) store' kept' said_now a cleared = elim a.3 [
     | inl device ↦ inl (device.0, last_line w' a.0 a.1 a.2 device.2 AtDevice (device_last a.0 _ device.1))
     | inr six ↦ inr (six.0, broken_line w' a.0 a.1 a.2 six.1)
@@ -145,7 +167,8 @@ module _ (tells : Bool) (start : List Entry) (bytes kept : Bytes) (store : Store
 -- ---- what follows an end counts for nothing
 
 first_more : (bytes more : Bytes) (lines : List Bytes) → AreFirst bytes lines → AreFirst (bytes ++ more) lines
-first_more bytes more lines are rest = let more_lines = are (more ++ rest) in (more_lines.0, ap lines_of (append_assoc bytes more rest) ∙ more_lines.1)
+first_more bytes more lines are rest =
+    let later = are (more ++ rest) in (later.0, later.1, ap lines_of (append_assoc bytes more rest) ∙ later.2, ap whole_lines (append_assoc bytes more rest) ∙ later.3)
 
 closed_more : (tells : Bool) (ending : Ending) (start : List Entry) (bytes more : Bytes) (first w : World) → Closed tells ending start bytes first w → Closed tells ending start (bytes ++ more) first w
 closed_more tells ending start bytes more first w closed = record {
@@ -173,10 +196,34 @@ broken_more tells start bytes more first w broken = record {
   history = broken.history;
 }
 
-pub after_more : (tells : Bool) (end : LineEnd) (start : List Entry) (bytes more kept : Bytes) (store : Store) (first w : World) → (end ≡ Next → ⊥) → After tells end start bytes kept store first w → After tells end start (bytes ++ more) kept store first w
-after_more tells Next start bytes more kept store first w not_next after = absurd (not_next refl)
-after_more tells Quit start bytes more kept store first w not_next after = closed_more tells AtQuit start bytes more first w after
-after_more tells (End status) start bytes more kept store first w not_next after = elim after [
+bye_more : (tells : Bool) (least most : ℕ) (start : List Entry) (bytes more : Bytes) (first w : World) → least + length more ≤ most → ByeWithin tells least start bytes first w → ByeWithin tells most start (bytes ++ more) first w
+bye_more tells least most start bytes more first w fits within = record {
+  lines = within.lines;
+  line = within.line;
+  whole = within.whole;
+  behind = within.behind ++ more;
+  split = ap (λ (l : Bytes). l ++ more) within.split ∙ append_assoc (flat_map with_newline (within.lines ++ within.line ∷ [])) within.behind more;
+  less = omega (arith, within.less, length-append within.behind more, fits);
+  bye = within.bye;
+}
+
+pub after_more : (tells : Bool) (least most : ℕ) (end : LineEnd) (start : List Entry) (bytes more kept : Bytes) (store : Store) (first w : World) → least + length more ≤ most → (end ≡ Next → ⊥)
+    → After tells least end start bytes kept store first w → After tells most end start (bytes ++ more) kept store first w
+after_more tells least most Next start bytes more kept store first w fits not_next after = absurd (not_next refl)
+after_more tells least most Quit start bytes more kept store first w fits not_next after =
+    (closed_more tells AtQuit start bytes more first w after.0, bye_more tells least most start bytes more first w fits after.1)
+after_more tells least most (End status) start bytes more kept store first w fits not_next after = elim after [
   | inl device ↦ inl (device.0, closed_more tells AtDevice start bytes more first w device.1)
   | inr six ↦ inr (six.0, broken_more tells start bytes more first w six.1)
 ]
+
+pub bye_wider : (tells : Bool) (least most : ℕ) (start : List Entry) (bytes : Bytes) (first w : World) → least ≤ most → ByeWithin tells least start bytes first w → ByeWithin tells most start bytes first w
+bye_wider tells least most start bytes first w fits within = record {
+  lines = within.lines;
+  line = within.line;
+  whole = within.whole;
+  behind = within.behind;
+  split = within.split;
+  less = omega (arith, within.less, fits);
+  bye = within.bye;
+}

@@ -3,7 +3,7 @@ use Rattle.std.proofs.Common.{◌≡◌, ◌<◌, ◌≤◌, ◌++◌, inl, inr,
 use Rattle.std.specs.Prelude.{flat_map, All, ◌==◌, ◌&&◌, not, Option, Some, None, IfNone}
 use Rattle.std.specs.List.{slice_split}
 use Rattle.std.proofs.lemmas.Bool.{cases_lt, lt-leb}
-use Rattle.std.proofs.lemmas.List.{take-append-le}
+use Rattle.std.proofs.lemmas.List.{append-nil, take-append-le}
 use Rattle.std.proofs.lemmas.List.Elements.{All-head, All-tail}
 use Rattle.std.proofs.lemmas.List.Splits.{slice_split_at, slice_split_none, length-slice_split}
 use Rattle.store_commands.specs.Cutting.{NoNewline}
@@ -11,8 +11,7 @@ use Rattle.map_model.specs.SortedMap.{Bytes}
 use Rattle.store_commands.specs.Answered.{asked_here, is_answered}
 use Rattle.line_model.specs.Requests.{Bad, asked_by}
 use Rattle.line_model.specs.Lines.{counted, lines_of, but_last, whole_lines}
-use Rattle.surf_run.specs.Holding.{Held}
-use Rattle.surf_run.specs.Serving.{with_newline}
+use Rattle.surf_run.specs.Holding.{Held, with_newline}
 
 counted-cons : (line : Bytes) (parts : List Bytes) → zero < length parts → counted (line ∷ parts) ≡ line ∷ counted parts
 counted-cons line [] some = absurd (omega arith)
@@ -37,13 +36,17 @@ but_last-cons : (line : Bytes) (parts : List Bytes) → zero < length parts → 
 but_last-cons line [] some = absurd (omega arith)
 but_last-cons line (next ∷ parts) some = refl
 
+pub whole_on : (lines : List Bytes) (more : Bytes) → All NoNewline lines → whole_lines (flat_map with_newline lines ++ more) ≡ lines ++ whole_lines more
+whole_on [] more whole = refl
+whole_on (line ∷ lines) more whole =
+    ap but_last (split_first line more lines (All-head NoNewline line lines whole))
+    ∙ but_last-cons line (slice_split (λ (b : ℕ). b == 10) (flat_map with_newline lines ++ more)) (omega (arith, length-slice_split (λ (b : ℕ). b == 10) (flat_map with_newline lines ++ more)))
+    ∙ ap (λ (l : List Bytes). line ∷ l) (whole_on lines more (All-tail NoNewline line lines whole))
+
 -- and they are all, where the rest has no newline
 pub whole_first : (lines : List Bytes) (rest : Bytes) → All NoNewline lines → NoNewline rest → whole_lines (flat_map with_newline lines ++ rest) ≡ lines
-whole_first [] rest whole none = ap but_last (slice_split_none (λ (b : ℕ). b == 10) rest none)
-whole_first (line ∷ lines) rest whole none =
-    ap but_last (split_first line rest lines (All-head NoNewline line lines whole))
-    ∙ but_last-cons line (slice_split (λ (b : ℕ). b == 10) (flat_map with_newline lines ++ rest)) (omega (arith, length-slice_split (λ (b : ℕ). b == 10) (flat_map with_newline lines ++ rest)))
-    ∙ ap (λ (l : List Bytes). line ∷ l) (whole_first lines rest (All-tail NoNewline line lines whole) none)
+whole_first lines rest whole none =
+    whole_on lines rest whole ∙ ap (λ (l : List Bytes). lines ++ l) (ap but_last (slice_split_none (λ (b : ℕ). b == 10) rest none)) ∙ append-nil lines
 
 -- a last line without its newline
 pub last_line : (rest : Bytes) → NoNewline rest → zero < length rest → lines_of rest ≡ rest ∷ []

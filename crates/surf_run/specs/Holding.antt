@@ -1,6 +1,9 @@
 -- Lines and what is kept of one that has not ended.
-use Rattle.std.specs.Prelude.{◌≡◌, ◌<◌, ◌≤◌, length}
+use Rattle.std.specs.Prelude.{◌≡◌, ◌<◌, ◌≤◌, [], ◌∷◌, ◌++◌, length}
 use Rattle.map_model.specs.SortedMap.{Bytes}
+
+abbrev pub with_newline : Bytes → Bytes
+with_newline line = line ++ 10 ∷ []
 
 -- what is kept of a line that has not ended: all of it, or, of one that is too long already, too much
 pub record Held (rest kept : Bytes) : Type 0 where

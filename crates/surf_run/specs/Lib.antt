@@ -2,6 +2,7 @@ pub mod Causes
 pub mod Crash
 pub mod Holding
 pub mod Holds
+pub mod Laws
 pub mod Open
 pub mod Outcome
 pub mod Refusals

@@ -8,10 +8,11 @@ use Rattle.store_commands.specs.Cutting.{NoNewline}
 use Rattle.map_model.specs.SortedMap.{Bytes}
 use Rattle.entry_model.specs.Entries.{Entry}
 use Rattle.store_commands.specs.Answered.{asked_here}
-use Rattle.line_model.specs.Lines.{lines_of}
+use Rattle.line_model.specs.Lines.{lines_of, whole_lines}
 use Rattle.line_model.specs.Replies.{Reply, Bye, Device, text_of}
 use Rattle.surf_run.specs.Script.{Step, Script, GoesOn, WentOn, Ending, AtQuit, AtDevice}
-use Rattle.surf_run.specs.Holding.{Held}
+use Rattle.surf_run.specs.Holding.{Held, with_newline}
+use Rattle.surf_run.specs.Outcome.{ByeWithin}
 use Rattle.surf_run.specs.Holds.{Holds}
 use Rattle.surf_run.specs.Crash.{Stands, Reached, Acknowledged}
 use Rattle.surf_run.specs.declared.end.LineEnd.{LineEnd}
@@ -55,9 +56,6 @@ Answered tells (End status) old S store a b = (reply : Reply) × (new : List Ent
 
 -- ---- one line after another
 
-abbrev pub with_newline : Bytes → Bytes
-with_newline line = line ++ 10 ∷ []
-
 -- since the first world, of these bytes the whole lines were answered, and the rest is kept
 pub record Served (tells : Bool) (start : List Entry) (bytes kept : Bytes) (store : Store) (first w : World) : Type 0 where
   pub lines : List Bytes
@@ -74,9 +72,9 @@ pub record Served (tells : Bool) (start : List Entry) (bytes kept : Bytes) (stor
   pub stand : Stands tells now w
   pub holds : Holds now store
 
--- the first lines of an input that begins with these bytes
+-- the first lines of an input that begins with these bytes, the newline of each among them
 abbrev pub AreFirst : Bytes → List Bytes → Type 0
-AreFirst bytes lines = (more : Bytes) → (later : List Bytes) × (lines_of (bytes ++ more) ≡ lines ++ later)
+AreFirst bytes lines = (more : Bytes) → (later : List Bytes) × (whole : List Bytes) × (lines_of (bytes ++ more) ≡ lines ++ later) × (whole_lines (bytes ++ more) ≡ lines ++ whole)
 
 -- all that is to be said was said, whatever may follow these bytes
 pub record Closed (tells : Bool) (ending : Ending) (start : List Entry) (bytes : Bytes) (first w : World) : Type 0 where
@@ -105,7 +103,8 @@ pub record Broken (tells : Bool) (start : List Entry) (bytes : Bytes) (first w :
 abbrev pub EndedBy : Bool → ℕ → List Entry → Bytes → World → World → Type 0
 EndedBy tells status start bytes first w = ((status ≡ 4) × Closed tells AtDevice start bytes first w) ⊎ ((status ≡ 6) × Broken tells start bytes first w)
 
-abbrev pub After : Bool → LineEnd → List Entry → Bytes → Bytes → Store → World → World → Type 0
-After tells Next start bytes kept store first w = Served tells start bytes kept store first w
-After tells Quit start bytes kept store first w = Closed tells AtQuit start bytes first w
-After tells (End status) start bytes kept store first w = EndedBy tells status start bytes first w
+-- how a line ended; behind `quit` stand less bytes than these
+abbrev pub After : Bool → ℕ → LineEnd → List Entry → Bytes → Bytes → Store → World → World → Type 0
+After tells most Next start bytes kept store first w = Served tells start bytes kept store first w
+After tells most Quit start bytes kept store first w = Closed tells AtQuit start bytes first w × ByeWithin tells most start bytes first w
+After tells most (End status) start bytes kept store first w = EndedBy tells status start bytes first w

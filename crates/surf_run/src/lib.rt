@@ -16,6 +16,7 @@
 #![tactic(auto)]
 
 mod end;
+mod laws;
 mod line;
 mod opening;
 mod pending;
@@ -24,4 +25,5 @@ mod serve;
 mod store;
 mod top;
 
+pub use laws::run_laws;
 pub use top::run;

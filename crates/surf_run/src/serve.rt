@@ -28,7 +28,7 @@ fn end_line<W: Outside>(
     requires { 0 < length buffer.old }
     ensures after { (start : List Entry) (first : _) (bytes : List ℕ) → IsTrue W.tells_output → NoNewline part.now
         → Served W.tells start bytes pending.old store.old (W.world first) (W.world out.old)
-        → After W.tells result start (bytes ++ part.now ++ 10 ∷ []) pending.new store.new (W.world first) (W.world out.new) }
+        → After W.tells 1 result start (bytes ++ part.now ++ 10 ∷ []) pending.new store.new (W.world first) (W.world out.new) }
     ensures cause { EndCause result (W.world out.old) (W.world out.new) }
     ensures moves { TakesNothing (W.world out.old) (W.world out.new) }
 {
@@ -53,7 +53,7 @@ fn feed<W: Outside>(
     requires { 0 < length buffer.old }
     ensures after { (start : List Entry) (first : _) (bytes : List ℕ) → IsTrue W.tells_output
         → Served W.tells start bytes pending.old store.old (W.world first) (W.world out.old)
-        → After W.tells result start (bytes ++ piece.now) pending.new store.new (W.world first) (W.world out.new) }
+        → After W.tells (length piece.now) result start (bytes ++ piece.now) pending.new store.new (W.world first) (W.world out.new) }
     ensures cause { EndCause result (W.world out.old) (W.world out.new) }
     ensures moves { TakesNothing (W.world out.old) (W.world out.new) }
 {
@@ -120,6 +120,7 @@ pub fn serve<W: Outside>(
 ) -> u8
     requires buffer { 0 < length buffer.old }
     requires piece { 0 < length piece.old }
+    requires small { length piece.old ≤ 65536 }
     requires fresh { pending.old ≡ [] }
     ensures outcome { (start : List Entry) → IsTrue W.tells_input → IsTrue W.tells_output → Holds start store.old → Stands W.tells start (W.world out.old)
         → Outcome W.tells result start (W.world out.old) (W.world out.new) }

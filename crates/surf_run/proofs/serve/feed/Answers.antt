@@ -1,4 +1,4 @@
-use Rattle.std.proofs.Common.{◌∙◌, ◌++◌, ◌∷◌, [], append_assoc, ap, refl, sym, subst, List, ℕ}
+use Rattle.std.proofs.Common.{◌∙◌, ◌++◌, ◌∷◌, [], append_assoc, length-append, length, arith, ap, refl, sym, subst, List, ℕ}
 use Rattle.std.proofs.lemmas.List.{append-nil}
 use Rattle.store_commands.specs.Cutting.{NoNewline}
 use Rattle.surf_run.specs.Serving.{Served, After}
@@ -13,9 +13,10 @@ returns-in_default-end_line g c = record {
       let so_far = c.loop-line.invariant.served start first bytes output served in
       let found = c.in-Some.ensures.found in
       let after = c.end_line.ensures.after start first _ output found.1 so_far.2 in
-      subst (λ (l : List ℕ). After g.W.Disk.tells c.end_line.result start l c.end_line.new.pending c.end_line.new.store (g.W.Disk.world first) (g.W.Disk.world c.end_line.new.out))
+      subst (λ (l : List ℕ). After g.W.Disk.tells (length c.args.piece.now) c.end_line.result start l c.end_line.new.pending c.end_line.new.store (g.W.Disk.world first) (g.W.Disk.world c.end_line.new.out))
       (sym (all_more bytes c.args.piece.now so_far.0 _ _ c.in-Some.more.now so_far.1 found.0))
-      (after_more g.W.Disk.tells c.end_line.result start _ c.in-Some.more.now _ _ _ _ c.in_default-end_line.not-Next after);
+      (after_more g.W.Disk.tells 1 (length c.args.piece.now) c.end_line.result start _ c.in-Some.more.now _ _ _ _
+      (omega (arith, ap length so_far.1, length-append so_far.0 c.loop-line.rest.now, ap length found.0, length-append c.in-Some.line.now (10 ∷ c.in-Some.more.now))) c.in_default-end_line.not-Next after);
   cause = cause_since c.end_line.result _ _ _ c.loop-line.invariant.moves.counts c.end_line.ensures.cause;
   moves = takes_on _ _ _ c.loop-line.invariant.moves c.end_line.ensures.moves;
 }

@@ -3,6 +3,8 @@ use Rattle.std.proofs.lemmas.List.{length-append, length-take}
 use Rattle.surf_run.proofs.Texts.{front_of, taken_more, taken_all}
 use Rattle.surf_run.proofs.Outcomes.{served_none, served_take, settled_quit, settled_end, settled_cut}
 use Rattle.surf_run.proofs.EndCauses.{no_fall_on, no_fall_take}
+use Rattle.surf_run.proofs.Progress.{bye_wider}
+use Rattle.surf_run.specs.Outcome.{piece_bytes}
 use Rattle.surf_run.proofs.serve.serve.Goals as goal
 
 pub loop-left-init : goal.loop-left-init
@@ -60,7 +62,10 @@ returns-in-Quit-clause-outcome g c start input output holds stand =
     record {
       taken = was.0 ++ piece;
       input = taken_more _ _ _ was.0 piece was.1 (took.bytes ∙ ap (λ (l : List ℕ). l ++ (g.W.Disk.world c.take.new.self).beside.to_take) (sym front)) ∙ ap (λ (l : List ℕ). (was.0 ++ piece) ++ l) (sym c.feed.ensures.moves.input);
-      settled = settled_quit g.W.Disk.tells start (was.0 ++ piece) _ _ (c.in-Quit.ensures.after start c.args.out.now was.0 output (served_take g.W.Disk.tells start was.0 _ _ _ _ _ c.take.ensures.moves (g.met.W.Outside.said_now _) was.3));
+      settled =
+          let after = c.in-Quit.ensures.after start c.args.out.now was.0 output (served_take g.W.Disk.tells start was.0 _ _ _ _ _ c.take.ensures.moves (g.met.W.Outside.said_now _) was.3) in
+          settled_quit g.W.Disk.tells start (was.0 ++ piece) _ _ after.0 (bye_wider g.W.Disk.tells (length piece) piece_bytes start (was.0 ++ piece) _ _
+          (omega (arith, ap length front, length-take c.in-Ok.taken c.take.new.into, c.in-Ok.ensures.count, c.take.auto.into, c.room_for-most.ensures.most, length-take c.room_for-most.result c.loop-left.piece, c.requires.small, c.loop-left.auto.piece)) after.1);
       limit = λ is. absurd cc;
       most = omega (arith, was.2, length-append was.0 piece, ap length front, length-take c.in-Ok.taken c.take.new.into, c.in-Ok.ensures.count, c.take.auto.into, c.room_for-most.ensures.left, length-take c.room_for-most.result c.loop-left.piece);
     }
