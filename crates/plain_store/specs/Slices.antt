@@ -1,6 +1,6 @@
 -- The code's ways of merging as the definitions see them.
 use Rattle.state_model.specs.State.{State}
-use Rattle.state_model.specs.Pages.{FilterBytes}
+use Rattle.table_model.specs.Tables.{FilterBytes}
 use Rattle.state_model.specs.Play.{merged, sliced}
 use Rattle.plain_store.specs.declared.answering.Merge.{Merge}
 use Rattle.plain_store.specs.declared.answering.Merge.TheVariants.{Whole, Slices}

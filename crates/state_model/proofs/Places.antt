@@ -12,8 +12,7 @@ use Rattle.block_model.specs.Laws.{joined}
 use Rattle.block_model.specs.Pages.{pages_for, block_length, block_pages, blocks_of, data_pages, has_room, block_entries, page_bytes}
 use Rattle.block_model.proofs.Cutting.{each_block, blocks_joined}
 use Rattle.std.proofs.lemmas.Bool.{and_parts, ltb-true}
-use Rattle.state_model.specs.State.{Table}
-use Rattle.state_model.specs.Pages.{FilterBytes, table_pages, table_of}
+use Rattle.table_model.specs.Tables.{FilterBytes, Table, table_of, table_pages}
 use Rattle.extent_model.specs.Extents.{Extent, end_of, first_table_page, IsOnDevice, AreApart, AreLaid}
 use Rattle.extent_model.specs.Gaps.{has_page, next_taken, room_at, gap_starts, least, first_gap, largest_gap}
 use Rattle.state_model.specs.Taken.{extent_of}

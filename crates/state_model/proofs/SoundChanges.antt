@@ -11,9 +11,9 @@ use Rattle.filter_api.specs.declared.settings.Settings.{Settings}
 use Rattle.filter_api.specs.Ranges.{InRange}
 use Rattle.entry_model.specs.Entries.{Entry, body, filled, need, gap, IsEntry}
 use Rattle.block_model.specs.Block.{IsTable}
-use Rattle.state_model.specs.State.{State, Table, Job, new_state, last_epoch}
+use Rattle.state_model.specs.State.{State, Job, new_state, last_epoch}
+use Rattle.table_model.specs.Tables.{FilterBytes, Table, table_of}
 use Rattle.state_model.specs.View.{memory}
-use Rattle.state_model.specs.Pages.{FilterBytes, table_of}
 use Rattle.state_model.specs.Taken.{extent_of, taken}
 use Rattle.state_model.specs.Merges.{NoRoom, Plan, placed, planned, on_level, cut, lasting, newest_of}
 use Rattle.state_model.specs.Changes.{most_tables, with_tables, flush_placed, flushed_with, flushed, logged, logged_then, written}

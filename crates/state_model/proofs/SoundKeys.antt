@@ -12,8 +12,8 @@ use Rattle.filter_model.specs.Keys.{IsKey, IsKeyList}
 use Rattle.filter_model.specs.Strings.{is_below}
 use Rattle.map_model.specs.SortedMap.{Bytes}
 use Rattle.entry_model.specs.Newest.{IsAbove, KeysRise}
-use Rattle.state_model.specs.State.{State, Table, written_by}
-use Rattle.state_model.specs.Pages.{FilterBytes}
+use Rattle.state_model.specs.State.{State, written_by}
+use Rattle.table_model.specs.Tables.{FilterBytes, Table}
 use Rattle.state_model.specs.Taken.{extent_of, taken}
 use Rattle.state_model.specs.Sound.{IsSoundTable, IsSound}
 use Rattle.state_model.proofs.Hulls.{rises_of}

@@ -7,9 +7,8 @@ use Rattle.map_model.specs.SortedMap.{Bytes}
 use Rattle.entry_model.specs.Entries.{Entry, IsEntry}
 use Rattle.entry_model.specs.Newest.{IsAbove, KeysRise}
 use Rattle.block_model.specs.Pages.{first_key, last_key}
-use Rattle.state_model.specs.State.{Table}
+use Rattle.table_model.specs.Tables.{FilterBytes, Table, table_of, table_pages}
 use Rattle.state_model.specs.View.{oldest_first}
-use Rattle.state_model.specs.Pages.{FilterBytes, table_of, table_pages}
 use Rattle.state_model.specs.Merges.{Plan, planned, lasting, is_deepest, newest_of, has_value, greatest_key, outputs_of}
 use Rattle.state_model.specs.Sound.{IsSoundTable, IsBefore, StandsBefore, AreMade}
 use Rattle.state_model.proofs.Levels.{AllAt}

@@ -7,8 +7,8 @@ use Rattle.filter_api.specs.Ranges.{InRange}
 use Rattle.map_model.specs.SortedMap.{Bytes, byte_order}
 use Rattle.entry_model.specs.Entries.{Entry, filled, IsEntry}
 use Rattle.block_model.specs.Block.{IsTable}
-use Rattle.state_model.specs.State.{State, Table, Job, last_epoch}
-use Rattle.state_model.specs.Pages.{FilterBytes, table_of}
+use Rattle.state_model.specs.State.{State, Job, last_epoch}
+use Rattle.table_model.specs.Tables.{FilterBytes, Table, table_of}
 use Rattle.extent_model.specs.Extents.{IsOnDevice, AreApart}
 use Rattle.state_model.specs.Taken.{taken}
 use Rattle.state_model.specs.Changes.{most_tables}

@@ -7,9 +7,9 @@ use Rattle.filter_model.specs.Keys.{IsKeyList}
 use Rattle.byte_fields.specs.Spelling.{IsBytes}
 use Rattle.map_model.specs.SortedMap.{Bytes}
 use Rattle.entry_model.specs.Entries.{Entry, filled, IsEntry, keys_of}
-use Rattle.state_model.specs.State.{State, Table, Job, new_state, without_job}
+use Rattle.state_model.specs.State.{State, Job, new_state, without_job}
+use Rattle.table_model.specs.Tables.{FilterBytes, Table}
 use Rattle.state_model.specs.View.{state_map}
-use Rattle.state_model.specs.Pages.{FilterBytes}
 use Rattle.extent_model.specs.Extents.{Extent, AreLaid}
 use Rattle.state_model.specs.Taken.{extent_of}
 use Rattle.state_model.specs.Merges.{Plan, choose, placed, planned}
