@@ -10,7 +10,8 @@ use Rattle.filter_image_model.proofs.SparseNodes.{by_recursion, sparse_again}
 use Rattle.filter_model.specs.Image.{label_of, opening, sparse_children, sparse_labels, sparse_louds}
 use Rattle.filter_model.specs.Nodes.{Branch, Node, all}
 use Rattle.filter_model.specs.Trie.{END}
-use Rattle.louds_sparse.specs.Building.{AreRising, SectionsInRoom, node_given, with_branch, with_branches}
+use Rattle.louds_sparse.specs.Building.{SectionsInRoom, with_branch, with_branches}
+use Rattle.trie_model.specs.Given.{AreRising, node_given}
 use Rattle.louds_sparse.specs.Spelling.{AreFew, IsSpelled, half_in}
 use Rattle.louds_sparse.proofs.Branches.{label-byte, nth}
 use Rattle.louds_sparse.proofs.Spelled.{length_labels}

@@ -4,6 +4,8 @@
 mod builder;
 mod sections;
 mod sparse;
+#[cfg(test)]
+mod tests;
 
 pub use builder::SparseBuilder;
 pub use sparse::Sparse;
