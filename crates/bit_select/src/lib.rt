@@ -1,8 +1,8 @@
 //! Where the nth set bit stands.
 //!
-//! A [`Selected`] keeps, beside the bits, the place of every 64th set bit: at most one word more for each word. `select`
-//! reads one kept place, and scans the words from there to the one with the bit: as many as lie before the next kept
-//! place.
+//! A [`Selected`] keeps, beside the bits, the place of every 64th set bit, in four bytes: at most half a word more for each
+//! word. `select` reads one kept place, and scans the words from there to the one with the bit: as many as lie before the
+//! next kept place.
 //!
 //! Do not use it for bits that still grow: the places are kept once, in time of the number of bits. Where set bits lie
 //! far apart, as one in ten thousand, a list of their places is as small and needs no scan.

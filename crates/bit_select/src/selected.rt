@@ -11,11 +11,14 @@ use std::marker::Model;
 /// How many set bits stand from one kept place to the next.
 const STEP: u64 = 64;
 
+/// The most bits: a place is kept in four bytes, so that more of them stand in the processor's caches.
+const MAX_BITS: usize = 0x1_0000_0000;
+
 /// A list of truth values that finds its set bits by their numbers.
 #[derive(Drop)]
 pub struct Selected<A: Allocator> {
     bits: Bits<A>,
-    samples: Vec<usize, A>,
+    samples: Vec<u32, A>,
 }
 
 impl<A: Allocator> Model for Selected<A> {
@@ -33,10 +36,14 @@ impl<A: Allocator> Model for Selected<A> {
 impl<A: Allocator> Selected<A> {
     ghost use Rattle.bit_select.specs.Place.{IsPlaceOfOne};
 
-    /// Finds every 64th set bit. Takes one block of memory from `alloc`.
+    /// Finds every 64th set bit. Takes one block of memory from `alloc`, and fails where that is refused or there are more
+    /// than 2^32 bits.
     pub fn new(alloc: A, bits: Bits<A>) -> Result<Selected<A>, AllocError>
         ensures { IfOk result (λ selected. selected ≡ bits) }
     {
+        if bits.len() > MAX_BITS {
+            return Err(AllocError);
+        }
         let words = bits.words();
         let mut samples = Vec::with_capacity(alloc, ones(words).div_ceil(STEP) as usize)?;
         let mut before = 0;
@@ -44,7 +51,8 @@ impl<A: Allocator> Selected<A> {
         for i in 0..words.len() {
             let count = u64::from(words[i].count_ones());
             if next < before + count {
-                samples.push_reserved(64 * i + nth_one_in(words[i], next - before));
+                let place = 64 * i + nth_one_in(words[i], next - before);
+                samples.push_reserved(place as u32);
                 next += STEP;
             }
             before += count;
@@ -59,7 +67,7 @@ impl<A: Allocator> Selected<A> {
         if n / 64 >= self.samples.len() {
             return None;
         }
-        let sample = self.samples[n / 64];
+        let sample = self.samples[n / 64] as usize;
         let first = sample / 64;
         let words = &self.bits.words()[first..];
         let number = (n % 64) as u64 + ones_below(words[0], sample % 64);

@@ -5,11 +5,11 @@ use Rattle.std.specs.Option.{option_map}
 use Rattle.std.proofs.lemmas.Bool.{cases_lt, and_left, and_right, eq-eqb, le-ltb, or_from}
 use Rattle.std.proofs.lemmas.List.{drop_at, take_at}
 use Rattle.byte_fields.proofs.NumberLemmas.{number_again}
-use Rattle.store_model.specs.SortedMap.{Bytes}
-use Rattle.store_model.specs.Entries.{Entry, body}
+use Rattle.map_model.specs.SortedMap.{Bytes}
+use Rattle.entry_model.specs.Entries.{Entry, body}
 use Rattle.block_model.specs.Block.{IsBlock, block_bytes, header_bytes, padding}
 use Rattle.block_model.specs.BlockReading.{block_fault, block_in, count_in, entries_fault, entries_in, entries_part, header_fault, tail_fault, used_in}
-use Rattle.block_model.specs.Faults.{fault}
+use Rattle.byte_fields.specs.Faults.{fault}
 use Rattle.block_model.specs.Laws.{BlockIsReadAgain}
 use Rattle.block_model.specs.Order.{is_any}
 use Rattle.block_model.specs.Pages.{block_length, block_pages, pages_for}

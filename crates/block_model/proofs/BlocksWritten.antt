@@ -6,11 +6,11 @@ use Rattle.std.proofs.lemmas.List.{length-take, take-append-drop, take-take}
 use Rattle.byteorder.specs.Endian.{little_bytes, little_number}
 use Rattle.byte_fields.specs.Spelling.{IsBytes}
 use Rattle.byte_fields.proofs.NumberLemmas.{IsBytes-drop, number_back}
-use Rattle.store_model.specs.SortedMap.{Bytes}
-use Rattle.store_model.specs.Entries.{Entry, body}
+use Rattle.map_model.specs.SortedMap.{Bytes}
+use Rattle.entry_model.specs.Entries.{Entry, body}
 use Rattle.block_model.specs.Block.{block_bytes, header_bytes, padding}
 use Rattle.block_model.specs.BlockReading.{block_fault, block_in, count_in, entries_in, entries_part, header_fault, tail_fault, used_in}
-use Rattle.block_model.specs.Faults.{fault}
+use Rattle.byte_fields.specs.Faults.{fault}
 use Rattle.block_model.specs.Laws.{BlockWasWrittenSo}
 use Rattle.block_model.specs.Order.{is_any}
 use Rattle.block_model.specs.Pages.{block_length, pages_for}

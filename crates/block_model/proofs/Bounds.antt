@@ -4,8 +4,8 @@ use Rattle.std.specs.Prelude.{fold, map, sum_by}
 use Rattle.std.specs.List.{AllByRecursion}
 use Rattle.std.proofs.Math.Seq.{drop-cons}
 use Rattle.std.proofs.lemmas.List.Sums.{sum_by-cons}
-use Rattle.store_model.specs.Entries.{Entry}
-use Rattle.block_model.specs.Block.{AreEntries, IsEntry}
+use Rattle.entry_model.specs.Entries.{Entry, IsEntry}
+use Rattle.block_model.specs.Block.{AreEntries}
 use Rattle.block_model.specs.Pages.{block_length, block_pages, blocks_of, blocks_with, first_key, last_key, pages_for}
 use Rattle.block_model.proofs.Cutting.{IsPart, blocks_are_parts, in_room}
 use Rattle.block_model.proofs.Sizes.{bodies_bound}

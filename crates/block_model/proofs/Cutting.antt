@@ -5,9 +5,9 @@ use Rattle.std.specs.List.{AllByRecursion}
 use Rattle.std.proofs.lemmas.Bool.{and_parts, leb-true, ltb-true}
 use Rattle.std.proofs.lemmas.List.{append-nil}
 use Rattle.std.proofs.lemmas.List.Sums.{fold-append}
-use Rattle.store_model.specs.SortedMap.{Bytes}
-use Rattle.store_model.specs.Entries.{Entry}
-use Rattle.block_model.specs.Block.{IsBlock, IsEntry, keys_of}
+use Rattle.map_model.specs.SortedMap.{Bytes}
+use Rattle.entry_model.specs.Entries.{Entry, IsEntry, keys_of}
+use Rattle.block_model.specs.Block.{IsBlock}
 use Rattle.block_model.specs.Laws.{joined, BlocksAreTheEntries, BlocksGrow, BlocksAreSound}
 use Rattle.block_model.specs.Order.{Follow, is_any, is_above}
 use Rattle.block_model.specs.Pages.{page_bytes, block_entries, block_length, has_room, blocks_with, blocks_of}

@@ -6,57 +6,15 @@ use Rattle.std.proofs.lemmas.Bool.{ne_eqb, le-ltb, or_from}
 use Rattle.std.proofs.lemmas.List.{drop-drop, drop_at, take_at}
 use Rattle.byteorder.specs.Endian.{little_bytes}
 use Rattle.byte_fields.proofs.NumberLemmas.{number_again}
-use Rattle.store_model.specs.SortedMap.{Bytes}
-use Rattle.store_model.specs.Entries.{Entry, body, bytes_of, kind_of}
-use Rattle.block_model.specs.Block.{IsEntry, keys_of}
-use Rattle.block_model.specs.BlockReading.{entries_fault, entries_in, entry_fault, entry_in, is_no_key_length, key_in, key_length_in, value_length_in, width_in}
+use Rattle.map_model.specs.SortedMap.{Bytes}
+use Rattle.entry_model.specs.Entries.{Entry, body, bytes_of, kind_of, IsEntry, keys_of}
+use Rattle.entry_model.specs.Reading.{entry_in, key_in, key_length_in, value_length_in, width_in}
+use Rattle.block_model.specs.BlockReading.{entries_fault, entries_in, entry_fault, is_no_key_length}
 use Rattle.block_model.specs.Order.{Follow, is_above}
-use Rattle.block_model.proofs.Lengths.{length-body}
+use Rattle.entry_model.proofs.Bodies.{body_size, key_length_again, value_length_again, width_again, key_again, entry_again, behind_body}
 use Rattle.block_model.proofs.Refusals.{none_of, not_true, passed}
 
--- ---- what was written of an entry is read
-
--- what follows the seven first bytes
-abbrev behind : Entry → Bytes → Bytes
-behind e rest = (e.key ++ bytes_of e.value) ++ rest
-
-key_length_again : (e : Entry) (rest : Bytes) → IsEntry e → key_length_in (body e ++ rest) ≡ length e.key
-key_length_again e rest is = number_again 2 (length e.key) (little_bytes 4 (length (bytes_of e.value)) ++ behind e rest) (omega (arith, is.short_key))
-
-value_length_again : (e : Entry) (rest : Bytes) → IsEntry e → value_length_in (body e ++ rest) ≡ length (bytes_of e.value)
-value_length_again e rest is = number_again 4 (length (bytes_of e.value)) (behind e rest) (omega (arith, is.short_value))
-
-pub width_again : (e : Entry) (rest : Bytes) → IsEntry e → width_in (body e ++ rest) ≡ length (body e)
-unfolding width_in
-width_again e rest is = omega (arith, key_length_again e rest is, value_length_again e rest is, length-body e)
-
-key_part : (e : Entry) (rest : Bytes) → take (length e.key) (behind e rest) ≡ e.key
-key_part e rest = ap (take (length e.key)) (append_assoc e.key (bytes_of e.value) rest) ∙ take_at e.key (bytes_of e.value ++ rest) (length e.key) refl
-
-pub key_again : (e : Entry) (rest : Bytes) → IsEntry e → key_in (body e ++ rest) ≡ e.key
-unfolding key_in
-key_again e rest is = ap (λ (n : ℕ). take n (behind e rest)) (key_length_again e rest is) ∙ key_part e rest
-
-value_part : (e : Entry) (rest : Bytes) → IsEntry e → take (value_length_in (body e ++ rest)) (drop (7 + key_length_in (body e ++ rest)) (body e ++ rest)) ≡ bytes_of e.value
-value_part e rest is =
-    let k = length e.key in
-    let v = length (bytes_of e.value) in
-    let value = bytes_of e.value in
-    let from : drop (7 + k) (body e ++ rest) ≡ value ++ rest =
-    sym (drop-drop k 7 (body e ++ rest)) ∙ ap (drop k) (append_assoc e.key value rest) ∙ drop_at e.key (value ++ rest) k refl in
-    ap₂ (λ (n m : ℕ). take n (drop (7 + m) (body e ++ rest))) (value_length_again e rest is) (key_length_again e rest is)
-    ∙ ap (take v) from ∙ take_at value rest v refl
-
-value_again : (key : Bytes) (value : Option Bytes) (n : ℕ) (bytes : Bytes) → bytes ≡ bytes_of value → cond (kind_of value == 1) (Some bytes) None ≡ value
-value_again key (Some value) n bytes is = ap Some is
-value_again key None n bytes is = refl
-
-pub entry_again : (e : Entry) (rest : Bytes) → IsEntry e → entry_in (body e ++ rest) ≡ e
-unfolding entry_in
-entry_again e rest is =
-    ap₂ (λ (k : Bytes) (v : Option Bytes). record { key = k; value = v }) (key_again e rest is) (value_again e.key e.value 0 _ (value_part e rest is))
-
--- ---- and breaks no rule
+-- ---- what was written of an entry breaks no rule
 
 kind_kept : (value : Option Bytes) (v : ℕ) → v ≡ length (bytes_of value) → (not (kind_of value == 1) && (not (kind_of value == 2) || nat_lt 0 v)) ≡ false
 kind_kept (Some bytes) v e = refl
@@ -74,16 +32,13 @@ entry_kept place test e rest is passes =
     let k = key_length_again e rest is in
     let v = value_length_again e rest is in
     let long = length-append (body e) rest in
-    let n = length-body e in
+    let n = body_size e in
     passed _ _ _ _ (le-ltb (length (body e ++ rest)) 7 (omega (arith, long, n)))
     (passed _ _ _ _ (kind_kept e.value (value_length_in (body e ++ rest)) v)
     (passed _ _ _ _ (or_from _ _ (key_length_kept (key_length_in (body e ++ rest)) (omega (arith, k, is.some_key)) (omega (arith, k, is.short_key)))
     (le-ltb 65536 (value_length_in (body e ++ rest)) (omega (arith, v, is.short_value))))
     (passed _ _ _ _ (le-ltb (length (body e ++ rest)) (width_in (body e ++ rest)) (omega (arith, long, width_again e rest is)))
     (passed _ _ _ _ (not_true (test (key_in (body e ++ rest))) (ap test (key_again e rest is) ∙ passes)) refl))))
-
-behind_body : (e : Entry) (rest : Bytes) → IsEntry e → drop (width_in (body e ++ rest)) (body e ++ rest) ≡ rest
-behind_body e rest is = drop_at (body e) rest (width_in (body e ++ rest)) (sym (width_again e rest is))
 
 pub entries_kept : (place : ℕ) (test : Bytes → Bool) (es : List Entry) → AllByRecursion IsEntry es → Follow test (keys_of es)
     → entries_fault (length es) place test (flat_map body es) ≡ None

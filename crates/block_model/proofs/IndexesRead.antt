@@ -6,13 +6,14 @@ use Rattle.std.proofs.lemmas.List.{drop_at, length-take, take-append-drop, take_
 use Rattle.byteorder.specs.Endian.{little_bytes, little_number}
 use Rattle.byte_fields.specs.Spelling.{IsBytes}
 use Rattle.byte_fields.proofs.NumberLemmas.{IsBytes-drop, number_again, number_back, number_below}
-use Rattle.store_model.specs.SortedMap.{Bytes}
+use Rattle.map_model.specs.SortedMap.{Bytes}
 use Rattle.block_model.specs.Index.{Index, IndexRow, IsIndex, index_bytes, index_head_bytes, index_magic, index_row_bytes, row_pages}
 use Rattle.block_model.specs.IndexReading.{head_width_in, index_fault, index_head_fault, index_in, least_in, least_length_in, pages_fault, rows_count_in, rows_fault, rows_in}
 use Rattle.block_model.specs.Laws.{IndexIsReadAgain, IndexWasWrittenSo}
 use Rattle.block_model.specs.Order.{is_from}
 use Rattle.block_model.proofs.EntriesRead.{eqb_zero, key_length_kept}
-use Rattle.block_model.proofs.EntriesWritten.{key_length_sound, next_part}
+use Rattle.block_model.proofs.EntriesWritten.{key_length_sound}
+use Rattle.entry_model.proofs.Bodies.{joined}
 use Rattle.block_model.proofs.LastBlocks.{positive}
 use Rattle.block_model.proofs.Lengths.{length-head}
 use Rattle.block_model.proofs.Refusals.{kept, neither, none_of, not_false, not_true, passed}
@@ -97,9 +98,9 @@ index_again pages index is =
 parts : (n : ℕ) (l : Bytes) → take 4 l ++ (take 4 (drop 4 l) ++ (take 2 (drop 8 l) ++ take n (drop 10 l))) ≡ take (10 + n) l
 parts n l =
     let e : 4 + (4 + (2 + n)) ≡ 10 + n = omega arith in
-    ap (λ (x : Bytes). take 4 l ++ (take 4 (drop 4 l) ++ x)) (next_part 2 n 8 l)
-    ∙ ap (λ (x : Bytes). take 4 l ++ x) (next_part 4 (2 + n) 4 l)
-    ∙ next_part 4 (4 + (2 + n)) 0 l
+    ap (λ (x : Bytes). take 4 l ++ (take 4 (drop 4 l) ++ x)) (joined 2 n 8 l)
+    ∙ ap (λ (x : Bytes). take 4 l ++ x) (joined 4 (2 + n) 4 l)
+    ∙ joined 4 (4 + (2 + n)) 0 l
     ∙ ap (λ (m : ℕ). take m l) e
 
 record HeadKept (bytes : Bytes) : Type 0 where

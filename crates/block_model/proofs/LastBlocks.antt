@@ -4,10 +4,10 @@ use Rattle.std.specs.Prelude.{◌==◌, map, flat_map}
 use Rattle.std.specs.List.{AllByRecursion}
 use Rattle.std.proofs.Math.Seq.{take-suc}
 use Rattle.std.proofs.lemmas.List.{get_or-map, map-set, map-append, length-map, append-nil, at_drop_all}
-use Rattle.store_model.specs.Entries.{Entry}
+use Rattle.entry_model.specs.Entries.{Entry, IsEntry}
 use Rattle.byte_fields.specs.Fields.{fields}
-use Rattle.store_model.specs.SortedMap.{Bytes}
-use Rattle.block_model.specs.Block.{AreEntries, IsEntry}
+use Rattle.map_model.specs.SortedMap.{Bytes}
+use Rattle.block_model.specs.Block.{AreEntries}
 use Rattle.block_model.specs.Index.{index_bytes, index_head_bytes, index_head_widths, index_magic, index_of, index_row_bytes, index_row_of}
 use Rattle.block_model.specs.Pages.{blocks_of, blocks_with, first_key, has_room, last_has_room, last_key}
 use Rattle.block_model.proofs.Cutting.{IsPart, blocks_are_parts, blocks_step}

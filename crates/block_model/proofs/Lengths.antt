@@ -4,7 +4,7 @@ use Rattle.std.specs.Prelude.{flat_map, map, sum_by, replicate}
 use Rattle.std.proofs.lemmas.List.{length-replicate}
 use Rattle.std.proofs.lemmas.List.Sums.{sum_by-cons}
 use Rattle.byte_fields.specs.Fields.{fields}
-use Rattle.store_model.specs.Entries.{Entry, body, bytes_of}
+use Rattle.entry_model.specs.Entries.{Entry, body, bytes_of}
 use Rattle.block_model.specs.Block.{block_bytes, data_bytes, header_bytes, padding}
 use Rattle.block_model.specs.Index.{index_head_widths, index_magic, index_row_widths, Index, IndexRow, index_bytes, index_head_bytes, index_of, index_row_bytes, index_row_of}
 use Rattle.block_model.specs.Laws.{BlockFillsItsPages, BlocksFillTheirPages, IndexHasItsLength}

@@ -5,7 +5,7 @@ use Rattle.std.specs.List.{position_or_len}
 use Rattle.std.specs.Option.{option_map}
 use Rattle.std.proofs.lemmas.List.{length-replicate}
 use Rattle.std.proofs.lemmas.Bool.{eqb-true, ltb-false, le-ltb}
-use Rattle.block_model.specs.Faults.{Fault, refuse, or_fault}
+use Rattle.byte_fields.specs.Faults.{Fault, refuse, or_fault}
 
 pub kept : (bad : Bool) (place rule : ℕ) (later : Option Fault) → refuse bad place rule later ≡ None → (bad ≡ false) × (later ≡ None)
 kept true place rule later e = absurd cc

@@ -7,12 +7,13 @@ use Rattle.std.proofs.lemmas.List.{drop_at, length-take, nil_from_length, take-a
 use Rattle.byteorder.specs.Endian.{little_bytes}
 use Rattle.byte_fields.specs.Spelling.{IsBytes}
 use Rattle.byte_fields.proofs.NumberLemmas.{IsBytes-drop, number_again, number_back, number_below}
-use Rattle.store_model.specs.SortedMap.{Bytes}
+use Rattle.map_model.specs.SortedMap.{Bytes}
 use Rattle.block_model.specs.Index.{IndexRow, IsIndexRow, index_row_bytes}
 use Rattle.block_model.specs.IndexReading.{last_in, last_length_in, pages_in, row_fault, row_in, row_width_in, rows_fault, rows_in, sum_in}
 use Rattle.block_model.specs.Order.{Follow, is_above}
 use Rattle.block_model.proofs.EntriesRead.{eqb_zero, key_length_kept}
-use Rattle.block_model.proofs.EntriesWritten.{key_length_sound, next_part}
+use Rattle.block_model.proofs.EntriesWritten.{key_length_sound}
+use Rattle.entry_model.proofs.Bodies.{joined}
 use Rattle.block_model.proofs.LastBlocks.{positive}
 use Rattle.block_model.proofs.Lengths.{length-row}
 use Rattle.block_model.proofs.Refusals.{kept, neither, none_of, not_false, not_true, passed}
@@ -90,9 +91,9 @@ rows_again (row ∷ rows) is =
 parts : (n : ℕ) (l : Bytes) → take 4 l ++ (take 8 (drop 4 l) ++ (take 2 (drop 12 l) ++ take n (drop 14 l))) ≡ take (14 + n) l
 parts n l =
     let e : 4 + (8 + (2 + n)) ≡ 14 + n = omega arith in
-    ap (λ (x : Bytes). take 4 l ++ (take 8 (drop 4 l) ++ x)) (next_part 2 n 12 l)
-    ∙ ap (λ (x : Bytes). take 4 l ++ x) (next_part 8 (2 + n) 4 l)
-    ∙ next_part 4 (8 + (2 + n)) 0 l
+    ap (λ (x : Bytes). take 4 l ++ (take 8 (drop 4 l) ++ x)) (joined 2 n 12 l)
+    ∙ ap (λ (x : Bytes). take 4 l ++ x) (joined 8 (2 + n) 4 l)
+    ∙ joined 4 (8 + (2 + n)) 0 l
     ∙ ap (λ (m : ℕ). take m l) e
 
 pub record RowWritten (rest : Bytes) (test : Bytes → Bool) : Type 0 where

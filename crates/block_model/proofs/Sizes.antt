@@ -3,8 +3,8 @@ use Rattle.std.proofs.Common.{◌≡◌, ◌<◌, ◌≤◌, ◌+◌, ◌*◌, �
 use Rattle.std.specs.Prelude.{flat_map}
 use Rattle.std.specs.List.{AllByRecursion}
 use Rattle.std.proofs.Math.Seq.{drop-cons}
-use Rattle.store_model.specs.Entries.{Entry, body}
-use Rattle.block_model.specs.Block.{AreEntries, IsEntry}
+use Rattle.entry_model.specs.Entries.{Entry, body, IsEntry}
+use Rattle.block_model.specs.Block.{AreEntries}
 use Rattle.std.proofs.lemmas.Grind.{flat_map-append}
 use Rattle.block_model.specs.Pages.{block_length}
 use Rattle.block_model.proofs.Lengths.{length-body}

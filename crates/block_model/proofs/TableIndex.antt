@@ -10,9 +10,9 @@ use Rattle.std.proofs.lemmas.Cmp.{tied_itself}
 use Rattle.std.proofs.lemmas.List.{length-map}
 use Rattle.std.proofs.lemmas.List.Sums.{sum_by-cons}
 use Rattle.byte_fields.specs.Sums.{fnv_after, fnv_of, fnv_step}
-use Rattle.store_model.specs.SortedMap.{Bytes, byte_order}
-use Rattle.store_model.specs.Entries.{Entry}
-use Rattle.block_model.specs.Block.{IsEntry, block_bytes, keys_of}
+use Rattle.map_model.specs.SortedMap.{Bytes, byte_order}
+use Rattle.entry_model.specs.Entries.{Entry, IsEntry, keys_of}
+use Rattle.block_model.specs.Block.{block_bytes}
 use Rattle.block_model.specs.Index.{IndexRow, IsIndexRow, index_of, index_row_of, row_pages}
 use Rattle.block_model.specs.Laws.{IndexIsSound, joined}
 use Rattle.block_model.specs.Order.{Follow, is_above, is_any, is_from}

@@ -1,8 +1,8 @@
 -- The bytes of a block: a header, the entries one after the other, and zero bytes to the end of the last page.
 use Rattle.std.specs.Prelude.{ℕ, ◌-◌, ◌*◌, ◌^◌, ◌<◌, ◌≤◌, List, [], ◌∷◌, ◌++◌, length, replicate, map, flat_map}
 use Rattle.std.specs.List.{AllByRecursion}
-use Rattle.store_model.specs.SortedMap.{Bytes}
-use Rattle.store_model.specs.Entries.{Entry, body, bytes_of}
+use Rattle.map_model.specs.SortedMap.{Bytes}
+use Rattle.entry_model.specs.Entries.{Entry, IsEntry, keys_of, body}
 use Rattle.byte_fields.specs.Fields.{fields}
 use Rattle.block_model.specs.Order.{Follow, is_any}
 use Rattle.block_model.specs.Pages.{page_bytes, block_entries, pages_for, block_length, blocks_of}
@@ -24,15 +24,6 @@ block_bytes block = header_bytes block ++ (flat_map body block ++ padding (block
 -- the blocks of a table, one after the other
 unfoldable pub data_bytes : List Entry → Bytes
 data_bytes entries = flat_map block_bytes (blocks_of entries)
-
--- a key of 1 to 1,024 bytes, and a value of at most 65,536
-pub record IsEntry (entry : Entry) : Type 0 where
-  pub some_key : 1 ≤ length entry.key
-  pub short_key : length entry.key ≤ 1024
-  pub short_value : length (bytes_of entry.value) ≤ 65536
-
-abbrev pub keys_of : List Entry → List Bytes
-keys_of entries = map (λ e. e.key) entries
 
 -- as many entries as a table takes
 pub record AreEntries (entries : List Entry) : Type 0 where

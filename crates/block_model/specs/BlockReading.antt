@@ -2,35 +2,14 @@
 use Rattle.std.specs.Prelude.{ℕ, zero, suc, ◌+◌, ◌*◌, nat_lt, ◌==◌, Bool, not, ◌&&◌, ◌||◌, List, [], ◌∷◌, length, take, drop, slice_index, position, Option, Some, None, if◌then◌else◌}
 use Rattle.std.specs.Option.{option_map}
 use Rattle.byteorder.specs.Endian.{little_number}
-use Rattle.store_model.specs.SortedMap.{Bytes}
-use Rattle.store_model.specs.Entries.{Entry}
-use Rattle.block_model.specs.Faults.{Fault, fault, refuse, or_fault}
+use Rattle.map_model.specs.SortedMap.{Bytes}
+use Rattle.entry_model.specs.Entries.{Entry}
+use Rattle.entry_model.specs.Reading.{kind_in, key_length_in, value_length_in, width_in, key_in, entry_in}
+use Rattle.byte_fields.specs.Faults.{Fault, fault, refuse, or_fault}
 use Rattle.block_model.specs.Order.{is_above, is_any}
 use Rattle.block_model.specs.Pages.{page_bytes, pages_for}
 
 -- ---- an entry, of the bytes that begin with it
-
-abbrev pub kind_in : Bytes → ℕ
-kind_in rest = slice_index rest 0
-
-abbrev pub key_length_in : Bytes → ℕ
-key_length_in rest = little_number 2 (drop 1 rest)
-
-abbrev pub value_length_in : Bytes → ℕ
-value_length_in rest = little_number 4 (drop 3 rest)
-
--- the bytes that the entry takes
-unfoldable pub width_in : Bytes → ℕ
-width_in rest = 7 + key_length_in rest + value_length_in rest
-
-unfoldable pub key_in : Bytes → Bytes
-key_in rest = take (key_length_in rest) (drop 7 rest)
-
-unfoldable pub entry_in : Bytes → Entry
-entry_in rest = record {
-  key = key_in rest;
-  value = if kind_in rest == 1 then Some (take (value_length_in rest) (drop (7 + key_length_in rest) rest)) else None;
-}
 
 -- neither a value nor a tombstone, or a tombstone with a value
 abbrev pub has_no_kind : Bytes → Bool

@@ -1,8 +1,8 @@
 -- The bytes of a table's index: the least key, and for each block its pages, the sum of its bytes and its last key.
 use Rattle.std.specs.Prelude.{◌≡◌, ℕ, ◌≤◌, ◌<◌, ◌^◌, List, [], ◌∷◌, ◌++◌, length, map, flat_map, sum_by}
 use Rattle.std.specs.List.{AllByRecursion}
-use Rattle.store_model.specs.SortedMap.{Bytes}
-use Rattle.store_model.specs.Entries.{Entry}
+use Rattle.map_model.specs.SortedMap.{Bytes}
+use Rattle.entry_model.specs.Entries.{Entry}
 use Rattle.byte_fields.specs.Fields.{fields}
 use Rattle.byte_fields.specs.Sums.{fnv_of}
 use Rattle.block_model.specs.Block.{block_bytes}

@@ -1,9 +1,9 @@
 -- What is read from the bytes of an index, and the first rule that they break.
 use Rattle.std.specs.Prelude.{ℕ, zero, suc, ◌+◌, nat_lt, ◌==◌, Bool, not, ◌||◌, List, [], ◌∷◌, length, take, drop, Option, None}
 use Rattle.byteorder.specs.Endian.{little_number}
-use Rattle.store_model.specs.SortedMap.{Bytes}
+use Rattle.map_model.specs.SortedMap.{Bytes}
 use Rattle.block_model.specs.BlockReading.{is_no_key_length}
-use Rattle.block_model.specs.Faults.{Fault, refuse, or_fault}
+use Rattle.byte_fields.specs.Faults.{Fault, refuse, or_fault}
 use Rattle.block_model.specs.Index.{Index, IndexRow, index_magic, row_pages}
 use Rattle.block_model.specs.Order.{is_above, is_from}
 

@@ -1,5 +1,4 @@
 pub mod Pages
-pub mod Faults
 pub mod Order
 pub mod Block
 pub mod BlockReading

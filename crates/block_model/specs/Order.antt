@@ -1,7 +1,7 @@
 -- How the keys of a block and of an index follow one another.
 use Rattle.std.specs.Prelude.{◌≡◌, Bool, true, not, List, [], ◌∷◌}
 use Rattle.std.specs.Ordering.{is_lt}
-use Rattle.store_model.specs.SortedMap.{Bytes, byte_order}
+use Rattle.map_model.specs.SortedMap.{Bytes, byte_order}
 
 -- tests of a key: above another one, not below another one, any key
 abbrev pub is_above : Bytes → Bytes → Bool

@@ -1,7 +1,7 @@
 -- How the entries of a table are cut into blocks, and how many bytes and pages its blocks and its index take.
 use Rattle.std.specs.Prelude.{ℕ, ◌+◌, ◌/◌, nat_le, nat_lt, ◌&&◌, Bool, false, List, [], ◌∷◌, ◌++◌, length, fold, flat_map, sum_by, if◌then◌else◌}
-use Rattle.store_model.specs.SortedMap.{Bytes}
-use Rattle.store_model.specs.Entries.{Entry, body}
+use Rattle.map_model.specs.SortedMap.{Bytes}
+use Rattle.entry_model.specs.Entries.{Entry, body}
 
 -- the bytes of a page
 abbrev pub page_bytes : ℕ

@@ -1,7 +1,7 @@
 -- Entries by which the definitions are tried.
 use Rattle.std.specs.Prelude.{ℕ, List, [], ◌∷◌, replicate, set, codes}
-use Rattle.store_model.specs.SortedMap.{Bytes}
-use Rattle.store_model.specs.Entries.{Entry, put_entry, del_entry}
+use Rattle.map_model.specs.SortedMap.{Bytes}
+use Rattle.entry_model.specs.Entries.{Entry, put_entry, del_entry}
 use Rattle.block_model.specs.Block.{block_bytes}
 use Rattle.block_model.specs.Index.{Index, index_bytes}
 

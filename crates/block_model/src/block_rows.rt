@@ -2,7 +2,7 @@
 ghost use Rattle.std.specs.Prelude.{◌≡◌, [], ◌∷◌, ◌++◌, length, take, drop, set, replicate, Some, None};
 ghost use Rattle.block_model.specs.Block.{block_bytes};
 ghost use Rattle.block_model.specs.BlockReading.{block_fault, block_in};
-ghost use Rattle.block_model.specs.Faults.{fault};
+ghost use Rattle.byte_fields.specs.Faults.{fault};
 ghost use Rattle.block_model.specs.Rows.{a_and_ab, a_b, broken, no_ab};
 
 /// The bytes of the blocks of a with the value b, and of it with a tombstone of ab.
@@ -16,14 +16,14 @@ pub fn small_block_bytes()
 {}
 
 /// What is read from them.
-#[tactic(auto, unfolding(crate::specs::Pages::pages_for, crate::specs::Pages::block_length, crate::specs::Block::block_bytes, crate::specs::Block::header_bytes, crate::specs::Block::padding, crate::specs::BlockReading::width_in, crate::specs::BlockReading::key_in, crate::specs::BlockReading::entry_in, crate::specs::BlockReading::entry_fault, crate::specs::BlockReading::entries_fault, crate::specs::BlockReading::entries_in, crate::specs::BlockReading::entries_part, crate::specs::BlockReading::header_fault, crate::specs::BlockReading::tail_fault, crate::specs::BlockReading::block_fault, crate::specs::BlockReading::block_in))]
+#[tactic(auto, unfolding(crate::specs::Pages::pages_for, crate::specs::Pages::block_length, crate::specs::Block::block_bytes, crate::specs::Block::header_bytes, crate::specs::Block::padding, entry_model::specs::Reading::width_in, entry_model::specs::Reading::key_in, entry_model::specs::Reading::entry_in, crate::specs::BlockReading::entry_fault, crate::specs::BlockReading::entries_fault, crate::specs::BlockReading::entries_in, crate::specs::BlockReading::entries_part, crate::specs::BlockReading::header_fault, crate::specs::BlockReading::tail_fault, crate::specs::BlockReading::block_fault, crate::specs::BlockReading::block_in))]
 pub fn small_block_is_read()
     ensures no_fault { block_fault (block_bytes a_and_ab) ≡ None }
     ensures entries { block_in (block_bytes a_and_ab) ≡ a_and_ab }
 {}
 
 /// Where one byte of the block is another one, or its pages are others.
-#[tactic(auto, unfolding(crate::specs::Pages::pages_for, crate::specs::Pages::block_length, crate::specs::Block::block_bytes, crate::specs::Block::header_bytes, crate::specs::Block::padding, crate::specs::BlockReading::width_in, crate::specs::BlockReading::key_in, crate::specs::BlockReading::entry_in, crate::specs::BlockReading::entry_fault, crate::specs::BlockReading::entries_fault, crate::specs::BlockReading::entries_in, crate::specs::BlockReading::entries_part, crate::specs::BlockReading::header_fault, crate::specs::BlockReading::tail_fault, crate::specs::BlockReading::block_fault, crate::specs::BlockReading::block_in, crate::specs::Rows::broken))]
+#[tactic(auto, unfolding(crate::specs::Pages::pages_for, crate::specs::Pages::block_length, crate::specs::Block::block_bytes, crate::specs::Block::header_bytes, crate::specs::Block::padding, entry_model::specs::Reading::width_in, entry_model::specs::Reading::key_in, entry_model::specs::Reading::entry_in, crate::specs::BlockReading::entry_fault, crate::specs::BlockReading::entries_fault, crate::specs::BlockReading::entries_in, crate::specs::BlockReading::entries_part, crate::specs::BlockReading::header_fault, crate::specs::BlockReading::tail_fault, crate::specs::BlockReading::block_fault, crate::specs::BlockReading::block_in, crate::specs::Rows::broken))]
 pub fn broken_blocks()
     ensures fewer_than_eight_bytes { block_fault (0x11 ∷ 0 ∷ 0 ∷ []) ≡ Some (fault 0 1) }
     ensures length_under_16 { block_fault (broken 0 15) ≡ Some (fault 0 1) }

@@ -1,7 +1,7 @@
 // The bytes of blocks and of an index.
 ghost use Rattle.std.specs.Prelude.{◌≡◌, ◌-◌, ◌*◌, ◌^◌, ◌<◌, ◌≤◌, ◌++◌, [], ◌∷◌, IfOk, OnOk, length, map, replicate, vec_items};
 ghost use Rattle.std.specs.List.{AllByRecursion};
-ghost use Rattle.store_model.specs.Entries.{body};
+ghost use Rattle.entry_model.specs.Entries.{body};
 ghost use Rattle.block_model.specs.Block.{AreEntries, block_bytes, data_bytes};
 ghost use Rattle.block_model.specs.Index.{index_bytes, index_of, index_row_bytes, index_row_of};
 ghost use Rattle.block_model.specs.Pages.{first_key, last_key, page_bytes, pages_for};

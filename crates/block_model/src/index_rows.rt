@@ -1,6 +1,6 @@
 // The index of one small block, and each rule of an index broken once. Each row computes.
 ghost use Rattle.std.specs.Prelude.{◌≡◌, [], ◌∷◌, ◌++◌, take, codes, Some, None};
-ghost use Rattle.block_model.specs.Faults.{fault};
+ghost use Rattle.byte_fields.specs.Faults.{fault};
 ghost use Rattle.block_model.specs.Index.{index_bytes, index_of};
 ghost use Rattle.block_model.specs.IndexReading.{index_fault, index_in};
 ghost use Rattle.block_model.specs.Rows.{a_and_ab, broken_index, two_blocks};

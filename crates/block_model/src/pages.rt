@@ -1,8 +1,8 @@
 // Entries cut into blocks, and how many bytes and pages these take.
 ghost use Rattle.std.specs.Prelude.{◌≡◌, ◌≤◌, ◌<◌, ◌+◌, ◌++◌, [], ◌∷◌, IfOk, OnOk, IsTrue, ◌↔◌, length, map, vec_items, sum_by, flat_map, ◌^◌};
 ghost use Rattle.std.specs.List.{AllByRecursion};
-ghost use Rattle.store_model.specs.Entries.{body};
-ghost use Rattle.block_model.specs.Block.{AreEntries, IsEntry};
+ghost use Rattle.entry_model.specs.Entries.{body, IsEntry};
+ghost use Rattle.block_model.specs.Block.{AreEntries};
 ghost use Rattle.block_model.specs.Pages.{pages_for, block_length, block_pages, blocks_of, blocks_with, data_pages, has_room, last_has_room};
 
 use entry_list::{Entry, push_copy};
@@ -14,21 +14,11 @@ pub fn are_entries(entries: &[Entry]) -> bool
     ensures { IsTrue result ↔ AreEntries entries.now }
 {
     for entry in entries {
-        if !is_entry(entry) {
+        if !entry.is_sound() {
             return false;
         }
     }
     entries.len() < 1 << 32
-}
-
-fn is_entry(entry: &Entry) -> bool
-    ensures { IsTrue result ↔ IsEntry entry.now }
-{
-    let value = match entry.value() {
-        Some(bytes) => bytes.len(),
-        None => 0,
-    };
-    !entry.key().is_empty() && entry.key().len() <= MAX_KEY_BYTES && value <= MAX_VALUE_BYTES
 }
 
 /// So many bytes in whole pages, rounded up.

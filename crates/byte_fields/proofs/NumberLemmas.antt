@@ -1,5 +1,5 @@
 -- A number of any width in bytes, both ways.
-use Rattle.std.proofs.Common.{◌≡◌, ◌<◌, ◌+◌, ◌*◌, ◌/◌, ◌%◌, ◌^◌, ℕ, zero, suc, List, [], ◌∷◌, ◌++◌, length, drop, refl, sym, ap, ◌∙◌, arith}
+use Rattle.std.proofs.Common.{◌≡◌, ◌<◌, ◌+◌, ◌*◌, ◌/◌, ◌%◌, ◌^◌, ℕ, zero, suc, List, [], ◌∷◌, ◌++◌, length, take, drop, refl, sym, ap, ◌∙◌, arith}
 use Rattle.std.specs.Int.{byte_at, bytes_low_first}
 use Rattle.std.proofs.lemmas.List.{get_or-drop}
 use Rattle.std.proofs.Math.Nat.{div-div-eq-div-mul, pow-succ'}
@@ -9,6 +9,12 @@ use Rattle.byte_fields.specs.Spelling.{IsBytes, NumberFits, NumberIsReadAgain, N
 
 pub IsBytes-drop : (n : ℕ) (bytes : List ℕ) → IsBytes bytes → IsBytes (drop n bytes)
 IsBytes-drop n bytes h i = rw get_or-drop (h (n + i))
+
+pub IsBytes-take : (n : ℕ) (bytes : List ℕ) → IsBytes bytes → IsBytes (take n bytes)
+IsBytes-take zero bytes h i = omega arith
+IsBytes-take (suc n) [] h i = omega arith
+IsBytes-take (suc n) (b ∷ bytes) h zero = h zero
+IsBytes-take (suc n) (b ∷ bytes) h (suc i) = IsBytes-take n bytes (λ k. h (suc k)) i
 
 -- a byte further up is a byte of the number without its lowest byte
 byte_at-suc : (i n : ℕ) → byte_at (suc i) n ≡ byte_at i (n / 256)

@@ -1,7 +1,7 @@
 -- Calls one after the other: their footprints, and the triple `Leads` with its frame rule.
 use Rattle.std.proofs.Common.{◌≡◌, ◌≤◌, ◌+◌, ℕ, List, length, subst, arith, sym, refl, ◌∙◌}
 use Rattle.std.specs.Prelude.{Result, Ok, Err, OnOk, IsErr}
-use Rattle.disk_trait.specs.World.{Image, World, Now, Same, Torn, Leads, ReadMoves, WriteMoves, SyncMoves, Moves, IsDurable, overwritten}
+use Rattle.disk_trait.specs.World.{Image, World, Now, Passes, Same, Torn, Leads, ReadMoves, WriteMoves, SyncMoves, Moves, IsDurable, overwritten}
 use Rattle.disk_trait.proofs.Images.{torn_same, torn_twice, torn_wider}
 use Rattle.disk_trait.proofs.Moments.{framed, framed_now, carried, started, goes_on, in_call, now_at, meanwhile_then, meanwhile_weaker, passes_then, passes_wider, passes_none, passes_still, same_then, same_is_torn}
 
@@ -172,20 +172,21 @@ leads_read P n result a b moves = record {
   always (Ok v) holds = holds
   always (Err e) holds = tt
 
--- THE FRAME RULE for calls: what a call's range does not reach goes through it.
+-- THE FRAME RULE for calls: what a call's range does not reach goes through it. It asks for the call's moments alone, so it
+-- serves calls that write, that read, and that do both.
 pub leads_framed : {T E : Type 0} (F P Q R : Image → Type 0) (at n : ℕ) (result : Result T E) (a b : World)
-    → ((f g : Image) → F f → Torn at n f g → F g) → WriteMoves at n a b → Leads P Q R result a b
+    → ((f g : Image) → F f → Torn at n f g → F g) → Passes (Torn at n) a b → Leads P Q R result a b
     → Leads (λ i. F i × P i) (λ i. F i × Q i) (λ i. F i × R i) result a b
-leads_framed F P Q R at n result a b keeps moves own = record {
-  meanwhile = λ here. framed F Q (λ i. F i × Q i) at n a b (λ i left. (here i left).0) moves.time (own.meanwhile (λ i left. (here i left).1)) (λ was image f torn q. (keeps was image f torn, q));
-  after = λ here. on_ok_one _ _ result (λ now. framed_now F R (λ i. F i × R i) at n a b (λ i left. (here i left).0) moves.time now (λ was image f torn r. (keeps was image f torn, r))) (own.after (λ i left. (here i left).1));
+leads_framed F P Q R at n result a b keeps time own = record {
+  meanwhile = λ here. framed F Q (λ i. F i × Q i) at n a b (λ i left. (here i left).0) time (own.meanwhile (λ i left. (here i left).1)) (λ was image f torn q. (keeps was image f torn, q));
+  after = λ here. on_ok_one _ _ result (λ now. framed_now F R (λ i. F i × R i) at n a b (λ i left. (here i left).0) time now (λ was image f torn r. (keeps was image f torn, r))) (own.after (λ i left. (here i left).1));
 }
 
 -- the same of a call that only says what stands at its end
 pub leads_around : {T E : Type 0} (F R : Image → Type 0) (at n : ℕ) (result : Result T E) (a b : World)
-    → ((f g : Image) → F f → Torn at n f g → F g) → WriteMoves at n a b → OnOk result (Now R b)
+    → ((f g : Image) → F f → Torn at n f g → F g) → Passes (Torn at n) a b → OnOk result (Now R b)
     → Leads F F (λ i. F i × R i) result a b
-leads_around F R at n result a b keeps moves ends = record {
-  meanwhile = λ here. carried F F at n a b here moves.time keeps;
-  after = λ here. on_ok_one _ _ result (λ now. framed_now F R (λ i. F i × R i) at n a b here moves.time now (λ was image f torn r. (keeps was image f torn, r))) ends;
+leads_around F R at n result a b keeps time ends = record {
+  meanwhile = λ here. carried F F at n a b here time keeps;
+  after = λ here. on_ok_one _ _ result (λ now. framed_now F R (λ i. F i × R i) at n a b here time now (λ was image f torn r. (keeps was image f torn, r))) ends;
 }

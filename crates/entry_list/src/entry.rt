@@ -1,8 +1,9 @@
 // One entry: a key with its value, or with the word that it has none any more.
-ghost use Rattle.std.specs.Prelude.{◌≡◌, IfOk};
+ghost use Rattle.std.specs.Prelude.{◌≡◌, ◌↔◌, IfOk, IsTrue, Some};
 ghost use Rattle.std.specs.Option.{option_map};
-ghost use Rattle.entry_list.specs.Lists.{entry_of};
+ghost use Rattle.entry_model.specs.Entries.{IsEntry, entry_of};
 
+use key_base::{MAX_KEY_BYTES, MAX_VALUE_BYTES};
 use std::alloc::{AllocError, Global};
 use std::marker::Model;
 
@@ -16,7 +17,7 @@ pub struct Entry {
 impl Model for Entry {
     ghost use Rattle.std.specs.Prelude.{vec_items};
     ghost use Rattle.std.specs.Option.{option_map};
-    ghost use Rattle.store_model.specs.Entries as model;
+    ghost use Rattle.entry_model.specs.Entries as model;
 
     ghost Value = { model.Entry };
 
@@ -58,12 +59,30 @@ impl Entry {
         }
     }
 
+    /// Whether the key has 1 to 1,024 bytes and the value at most 65,536.
+    pub fn is_sound(&self) -> bool
+        ensures { IsTrue result ↔ IsEntry self.now }
+    {
+        let value = match &self.value {
+            Some(bytes) => bytes.as_slice(),
+            None => &[],
+        };
+        keeps_limits(self.key.as_slice(), value)
+    }
+
     /// The same entry again.
     pub fn copy(&self, alloc: Global) -> Result<Entry, AllocError>
         ensures { IfOk result (λ e. e ≡ self.now) }
     {
         Entry::new(alloc, self.key(), self.value())
     }
+}
+
+// Whether a key and a value keep the limits of an entry.
+fn keeps_limits(key: &[u8], value: &[u8]) -> bool
+    ensures { IsTrue result ↔ IsEntry (entry_of key.now (Some value.now)) }
+{
+    !key.is_empty() && key.len() <= MAX_KEY_BYTES && value.len() <= MAX_VALUE_BYTES
 }
 
 fn copied(alloc: Global, bytes: &[u8]) -> Result<Vec<u8>, AllocError>

@@ -9,7 +9,7 @@
 //! let mut list = Vec::new(alloc);
 //! push_copy(&Entry::new(alloc, b"a", Some(b"1"))?, &mut list)?;
 //! push_copy(&Entry::new(alloc, b"a", None)?, &mut list)?;
-//! first_of(&list, b"a") == Some(Some(b"1"))
+//! lookup(&list, b"a") == Some(Some(b"1"))
 //! newest_of(&list, b"a") == Some(None)
 //! ```
 #![tactic(auto)]
@@ -20,4 +20,4 @@ mod list;
 
 pub use entry::Entry;
 pub use fields::{push_fields, push_number};
-pub use list::{copied, first_of, newest_of, push_copy};
+pub use list::{copied, lookup, newest_of, push_copy};

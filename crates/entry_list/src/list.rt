@@ -1,8 +1,8 @@
 // Lists of entries.
 ghost use Rattle.std.specs.Prelude.{◌≡◌, [], ◌∷◌, ◌++◌, IfOk, OnOk, OnErr};
 ghost use Rattle.std.specs.Option.{option_map};
-ghost use Rattle.entry_list.specs.Lists.{first_of};
-ghost use Rattle.store_model.specs.Entries.{newest};
+ghost use Rattle.entry_model.specs.Newest.{lookup};
+ghost use Rattle.entry_model.specs.Entries.{newest};
 
 use crate::entry::Entry;
 use std::alloc::{AllocError, Global};
@@ -29,8 +29,8 @@ pub fn copied(alloc: Global, entries: &[Entry]) -> Result<Vec<Entry>, AllocError
 }
 
 /// What the first entry of the key says: its value, or `Some(None)` for a tombstone. `None` where the key has none.
-pub fn first_of<'a>(entries: &'a [Entry], key: &[u8]) -> Option<Option<&'a [u8]>>
-    ensures { option_map (λ found. option_map (λ v. v.now) found) result ≡ first_of entries.now key.now }
+pub fn lookup<'a>(entries: &'a [Entry], key: &[u8]) -> Option<Option<&'a [u8]>>
+    ensures { option_map (λ found. option_map (λ v. v.now) found) result ≡ lookup entries.now key.now }
 {
     for entry in entries {
         if entry.key() == key {
@@ -40,7 +40,7 @@ pub fn first_of<'a>(entries: &'a [Entry], key: &[u8]) -> Option<Option<&'a [u8]>
     None
 }
 
-/// What the last entry of the key says, as [`first_of`] of the first.
+/// What the last entry of the key says, as [`lookup`] of the first.
 pub fn newest_of<'a>(entries: &'a [Entry], key: &[u8]) -> Option<Option<&'a [u8]>>
     ensures { option_map (λ found. option_map (λ v. v.now) found) result ≡ newest entries.now key.now }
 {
@@ -70,14 +70,14 @@ mod tests {
     fn the_first_and_the_last_of_a_key(rt: HostRuntime) -> Result<(), Fail> {
         let list = some_entries(rt.alloc())?;
         assert_eq!(rt;
-            first_of(list.as_slice(), b"a"),
+            lookup(list.as_slice(), b"a"),
             Some(Some(b"new".as_slice()))
         );
         assert_eq!(rt;
             newest_of(list.as_slice(), b"a"),
             Some(Some(b"old".as_slice()))
         );
-        assert_eq!(rt; first_of(list.as_slice(), b"b"), Some(None));
+        assert_eq!(rt; lookup(list.as_slice(), b"b"), Some(None));
         assert_eq!(rt; newest_of(list.as_slice(), b"c"), None);
         Ok(())
     }

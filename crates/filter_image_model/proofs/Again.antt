@@ -15,13 +15,11 @@ use Rattle.filter_model.proofs.Fronts.{IsBytes-nil, IsBytes-cons, IsBytes-append
 use Rattle.filter_model.specs.Image.{row, has_letter, has_child, label_of, opening, dense_labels, dense_children, sparse_labels, sparse_louds}
 use Rattle.filter_model.specs.Nodes.{Branch, Node, all}
 use Rattle.filter_image_model.specs.Header.{Bytes, hash_bits_in, real_bits_in, cutoff_in, height_in, leaf_count_in, dense_count_in, sparse_count_in, label_count_in}
-use Rattle.filter_image_model.proofs.SparseNodes.{AreBytes, by_recursion}
-use Rattle.std.proofs.lemmas.List.Elements.{All-nil, All-cons}
-use Rattle.std.specs.List.{All}
+use Rattle.filter_image_model.proofs.Lists.{by_recursion, length-map}
+use Rattle.filter_image_model.proofs.SparseNodes.{AreBytes}
 use Rattle.trie_laws.specs.Louds.{IsNode}
 use Rattle.filter_image_model.specs.Reading.{is_stray, begins_clear}
 use Rattle.filter_image_model.specs.Sections.{head_bytes}
-use Rattle.filter_image_model.proofs.SparseNodes.{length-map}
 
 -- ---- bytes
 
@@ -162,10 +160,6 @@ nowhere_found p xs w =
     ap (λ (t : Bool). cond {A = Option ℕ} t (Some (position_or_len p xs)) None) (le-ltb (position_or_len p xs) (length xs) (omega (arith, all_pass p xs w)))
 
 -- ---- opening bits
-
-pub all_of : {X : Type 0} (P : X → Type 0) (xs : List X) → AllByRecursion P xs → All P xs
-all_of P [] w = All-nil P
-all_of P (x ∷ xs) w = All-cons P x xs w.0 (all_of P xs w.1)
 
 pub begins_set : (ns : List Node) → AllByRecursion IsNode ns → begins_clear (sparse_louds ns) ≡ false
 begins_set [] w = refl

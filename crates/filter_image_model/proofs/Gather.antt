@@ -6,7 +6,8 @@ use Rattle.std.proofs.lemmas.Bool.{false≢true}
 use Rattle.std.proofs.lemmas.List.Elements.{All-head, All-cons, All-nil}
 use Rattle.std.proofs.lemmas.List.{take-append-drop, length-drop}
 use Rattle.filter_model.specs.Nodes.{Branch, Node}
-use Rattle.filter_image_model.proofs.GroupWords.{Group, is_cons, tails, goes_on, heads, node_of_group, children_of, group_level, join, deal, children_in, InOrder, raise, gather, all_children, IsGoodNode, AreLevels}
+use Rattle.trie_model.specs.Rests.{tails}
+use Rattle.filter_image_model.proofs.GroupWords.{Group, is_cons, goes_on, heads, node_of_group, children_of, group_level, join, deal, children_in, InOrder, raise, gather, all_children, IsGoodNode, AreLevels}
 use Rattle.filter_image_model.proofs.Joins.{heads-join, tails-join}
 
 abbrev pub GoOn : List Group → Type 0

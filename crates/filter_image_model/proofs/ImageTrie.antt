@@ -12,11 +12,12 @@ use Rattle.byte_fields.specs.Spelling.{IsBytes}
 use Rattle.filter_image_model.specs.Header.{Bytes, hash_bits_in, cutoff_in, height_in, leaf_count_in, dense_count_in, section_bits, section_bytes, section}
 use Rattle.filter_image_model.specs.Levels.{are_levels, levels_from, leaves_of, nodes_above, leaves_behind, root_leaves}
 use Rattle.filter_image_model.specs.Nodes.{From, IsDense, cut, named, dense_in, sparse_in}
+use Rattle.filter_image_model.proofs.Lists.{all_append, length-map}
 use Rattle.filter_image_model.proofs.SparseNodes.{AreBytes}
 use Rattle.filter_image_model.specs.Reading.{rises, is_no_node, is_no_root, is_lone_end, is_lone_leaf, nodes_fault, header_fault, length_fault, padding_fault, stray_fault, louds_fault, counts_fault, shape_fault, ends_fault, nodes_rules, image_fault, suffix_in, leaves_in, slot_letters}
 use Rattle.filter_image_model.specs.Sections.{KeepsBytes}
 use Rattle.filter_image_model.specs.Laws.{IsReadTrie, TrieIsRead}
-use Rattle.filter_image_model.proofs.Refusals.{kept, neither, not_false}
+use Rattle.byte_fields.proofs.FaultLemmas.{kept, neither, not_false}
 use Rattle.filter_image_model.proofs.Headers.{header_kept}
 use Rattle.filter_image_model.proofs.GroupWords.{Group, gather, IsGoodNode}
 use Rattle.filter_image_model.proofs.DenseNodes.{dense_are}
@@ -58,10 +59,6 @@ named_letters (b ∷ c ∷ n) w = (first (b.0 == 255) b w.0, byte_letters (c ∷
 all_named_letters : (ns : List Node) → AllByRecursion AreBytes ns → AllByRecursion AreLetters (map named ns)
 all_named_letters [] w = tt
 all_named_letters (n ∷ ns) w = (named_letters n w.0, all_named_letters ns w.1)
-
-all_append : {X : Type 0} (P : X → Type 0) (xs ys : List X) → AllByRecursion P xs → AllByRecursion P ys → AllByRecursion P (xs ++ ys)
-all_append P [] ys v w = w
-all_append P (x ∷ xs) ys v w = (v.0, all_append P xs ys v.1 w)
 
 pub sparse_letters : (bytes : Bytes) → KeepsBytes bytes → AllByRecursion AreLetters (sparse_in bytes)
 unfolding sparse_in
@@ -158,10 +155,6 @@ pub one_group : (lss : List (List Leaf)) (gs : List Group) → paths lss ≡ gs 
 one_group [] gs e l = absurd (omega (arith, l, ap length e))
 one_group (ls ∷ []) gs e l = sym e
 one_group (ls ∷ more ∷ lss) gs e l = absurd (omega (arith, l, ap length e))
-
-length-map : {X Y : Type 0} (f : X → Y) (xs : List X) → length (map f xs) ≡ length xs
-length-map f [] = refl
-length-map f (x ∷ xs) = omega (arith, length-map f xs)
 
 pub read_trie : (bytes : Bytes) → KeepsRules bytes → IsReadTrie bytes
 unfolding leaves_in trie_of nodes

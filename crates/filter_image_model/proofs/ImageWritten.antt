@@ -30,7 +30,7 @@ use Rattle.filter_image_model.proofs.Written.{sections_written}
 
 -- ---- the bits of the suffixes
 
-same_suffix : (h r : ℕ) (l : Leaf) → suffix_of h r l ≡ bits_of (h + r) (number h l)
+pub same_suffix : (h r : ℕ) (l : Leaf) → suffix_of h r l ≡ bits_of (h + r) (number h l)
 unfolding bits_of
 same_suffix h r l = refl
 

@@ -5,7 +5,8 @@ use Rattle.std.proofs.lemmas.Bool.{false≢true, or_parts, or_left, ne_eqb, eqb-
 use Rattle.std.proofs.lemmas.List.Elements.{filter_agree, All-head, All-tail}
 use Rattle.std.proofs.lemmas.List.{append-nil}
 use Rattle.filter_model.specs.Trie.{letters}
-use Rattle.filter_image_model.proofs.GroupWords.{Group, is_cons, tails, heads, join, among, InOrder, Once}
+use Rattle.trie_model.specs.Rests.{tails}
+use Rattle.filter_image_model.proofs.GroupWords.{Group, is_cons, heads, join, among, InOrder, Once}
 
 cond_append : {X : Type 0} (b : Bool) (x : X) (r u t : List X) → r ≡ u ++ t → cond b (x ∷ r) r ≡ cond b (x ∷ u) u ++ t
 cond_append true x r u t e = ap (λ y. x ∷ y) e

@@ -1,5 +1,5 @@
 -- Each leaf that is read has a stub of bytes, no longer than there are levels, and hash and real bits of their widths.
-use Rattle.std.proofs.Common.{◌≡◌, ℕ, zero, suc, ◌+◌, ◌*◌, ◌^◌, ◌<◌, ◌≤◌, Bool, true, false, cond, List, [], ◌∷◌, ◌++◌, length, drop, map, refl, sym, ap, ◌∙◌, arith, pow-add}
+use Rattle.std.proofs.Common.{◌≡◌, ℕ, suc, ◌+◌, ◌*◌, ◌^◌, ◌<◌, ◌≤◌, Bool, true, false, cond, List, [], ◌∷◌, ◌++◌, length, drop, map, refl, sym, ap, ◌∙◌, arith, pow-add}
 use Rattle.std.specs.Prelude.{◌&&◌, ◌==◌}
 use Rattle.std.specs.List.{AllByRecursion, list_any}
 use Rattle.std.proofs.lemmas.Nat.{pow_pos}
@@ -10,6 +10,7 @@ use Rattle.filter_model.specs.Nodes.{Branch, Node}
 use Rattle.filter_model.specs.Trie.{END}
 use Rattle.filter_image_model.specs.Levels.{leaf_by, behind, node_leaves, level_leaves, leaves_behind, leaves_of}
 use Rattle.filter_image_model.specs.Levels.{children_of as children_count}
+use Rattle.filter_image_model.proofs.Lists.{all_drop}
 use Rattle.filter_image_model.proofs.LevelsRead.{AreLetters}
 
 -- letters are bytes or END, and END leads to no node
@@ -79,11 +80,6 @@ module _ (hash_bits real_bits : ℕ) where
       own_append (suc most) (map (behind c) ls) (node_leaves hash_bits n below ss) (own_behind most c ls (m.0.1 refl) w.0) (node_own most n below ss m.1 w.1 f)
   node_own most ((c, false) ∷ n) below [] m w f = tt
   node_own most ((c, false) ∷ n) below (s ∷ ss) m w f = (own_leaf most c s m.0.0 f.0, node_own most n below ss m.1 w f.1)
-
-  all_drop : {X : Type 0} (P : X → Type 0) (k : ℕ) (xs : List X) → AllByRecursion P xs → AllByRecursion P (drop k xs)
-  all_drop P zero xs w = w
-  all_drop P (suc k) [] w = tt
-  all_drop P (suc k) (x ∷ xs) w = all_drop P k xs w.1
 
   level_own : (most : ℕ) (ns : List Node) (below : List (List Leaf)) (ss : List ℕ) → AllByRecursion HasMarks ns → AllByRecursion (Owns most) below → Fits ss
       → AllByRecursion (Owns (suc most)) (level_leaves hash_bits ns below ss)

@@ -11,9 +11,10 @@ use Rattle.filter_model.specs.Leaves.{Leaf}
 use Rattle.filter_model.proofs.Counts.{count_by-cons}
 use Rattle.filter_model.specs.Nodes.{Branch, Node, all}
 use Rattle.filter_model.specs.Trie.{END, letters, path}
+use Rattle.trie_model.specs.Letters.{order_of}
 use Rattle.filter_image_model.specs.Levels.{are_levels, levels_from, leaves_of, leaf_by, behind, node_leaves, level_leaves, leaves_behind}
 use Rattle.filter_image_model.specs.Levels.{children_of as children_count}
-use Rattle.filter_image_model.specs.Reading.{order_of, rises}
+use Rattle.filter_image_model.specs.Reading.{rises}
 use Rattle.filter_image_model.proofs.GroupWords.{Group, among, Once, InOrder, children_in, all_children, join, deal, raise, gather, IsGoodNode, AreLevels}
 
 abbrev pub letter : Branch → ℕ

@@ -10,7 +10,8 @@ use Rattle.filter_model.specs.Strings.{is_prefix, extends}
 use Rattle.filter_model.specs.Trie.{letters, path, is_node, is_reached, branches, level}
 use Rattle.filter_model.specs.Nodes.{Node}
 use Rattle.filter_model.specs.Nodes.{node_of, last_letter}
-use Rattle.filter_image_model.proofs.GroupWords.{Group, rests, is_cons, tails, goes_on, heads, node_of_group, children_of, group_level, gather, AreLevels}
+use Rattle.trie_model.specs.Rests.{rests, tails}
+use Rattle.filter_image_model.proofs.GroupWords.{Group, is_cons, goes_on, heads, node_of_group, children_of, group_level, gather, AreLevels}
 use Rattle.filter_image_model.proofs.Gather.{level-gather, nodes-gather}
 use Rattle.trie_laws.proofs.Places.{last_letter-push}
 

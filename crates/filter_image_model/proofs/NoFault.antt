@@ -4,43 +4,36 @@ use Rattle.std.specs.Prelude.{not, ◌&&◌, ◌||◌, ◌==◌, nat_le, nat_lt,
 use Rattle.std.specs.List.{AllByRecursion, list_any, range_with_len}
 use Rattle.std.proofs.lemmas.Bool.{and_from, cases_Bool, eq-eqb, eqb-true, le-leb, le-ltb, lt-ltb, ltb-true, ne_eqb}
 use Rattle.std.proofs.lemmas.List.{drop_at, length-append, length-take-le, take-append-drop, take_all, take_at}
-use Rattle.filter_model.specs.Image.{has_letter, suffixes}
+use Rattle.filter_model.specs.Image.{has_letter, in_slots, suffixes}
 use Rattle.filter_model.specs.Leaves.{Leaf}
 use Rattle.filter_model.specs.Nodes.{Branch, Node, node_of, trie_of}
-use Rattle.filter_model.specs.Trie.{END, height, letters, nodes_to, path, slots}
+use Rattle.filter_model.specs.Trie.{END, height, letters, nodes_to, path}
 use Rattle.filter_model.specs.Valid.{IsLeaf, IsValid}
 use Rattle.trie_laws.specs.Louds.{IsNode}
+use Rattle.trie_model.specs.Letters.{order_of}
 use Rattle.filter_image_model.specs.Header.{Bytes, cutoff_in, dense_count_in, hash_bits_in, height_in, leaf_count_in, real_bits_in, section, section_place, suffix_bits_in}
-use Rattle.filter_image_model.specs.Laws.{HasForm, ImageIsReadAgain}
+use Rattle.filter_image_model.specs.Laws.{ImageIsReadAgain}
 use Rattle.filter_image_model.specs.Levels.{are_levels, leaves_of, nodes_above}
 use Rattle.filter_image_model.specs.Levels.{children_of as children_count}
 use Rattle.filter_image_model.specs.Nodes.{From, IsDense, dense_in, sparse_in}
-use Rattle.filter_image_model.specs.Reading.{counts_fault, ends_fault, header_fault, image_fault, image_in, is_lone_end, is_lone_leaf, is_no_node, is_no_root, length_fault, louds_fault, nodes_fault, nodes_rules, order_of, rises, shape_fault, slot_letters, stray_fault}
+use Rattle.filter_image_model.specs.Reading.{counts_fault, ends_fault, header_fault, image_fault, image_in, is_lone_end, is_lone_leaf, is_no_node, is_no_root, length_fault, louds_fault, nodes_fault, nodes_rules, rises, shape_fault, slot_letters, stray_fault}
 use Rattle.filter_image_model.specs.Sections.{AreReadAgain, KeepsBytes}
-use Rattle.filter_image_model.proofs.Forms.{nodes_formed, range_bytes}
+use Rattle.filter_image_model.proofs.Lists.{all_drop, all_parts, all_take, length-map, never}
+use Rattle.filter_image_model.proofs.Forms.{HasForm, nodes_formed}
 use Rattle.filter_image_model.proofs.Gather.{GoOn}
-use Rattle.filter_image_model.proofs.GroupWords.{AreLevels, Group, all_children, children_of, gather, goes_on, heads, is_cons, node_of_group, raise, tails}
-use Rattle.filter_image_model.proofs.ImageWritten.{suffixes_by_number}
+use Rattle.trie_model.specs.Rests.{tails}
+use Rattle.filter_image_model.proofs.GroupWords.{AreLevels, Group, all_children, children_of, gather, goes_on, heads, is_cons, node_of_group, raise}
 use Rattle.filter_image_model.proofs.LevelsRead.{flat}
 use Rattle.filter_image_model.proofs.Once.{dense_of, read_as, sparse_of, spells_one}
 use Rattle.filter_image_model.proofs.Paths.{IsFine, bytes_of_leaves, fine_children, fine_paths, kids_counted, kids_in, own_to, recut, stub_bytes, trie_flat}
-use Rattle.filter_image_model.proofs.Refusals.{none_of, passed}
+use Rattle.byte_fields.proofs.FaultLemmas.{none_of, passed}
 use Rattle.filter_image_model.proofs.Rising.{byte_order}
-use Rattle.filter_image_model.proofs.Sizes.{all_parts, good_all, good_levels, low_part}
-use Rattle.filter_image_model.proofs.SlotNumbers.{ends_none, slot_letters_are, slots_own}
-use Rattle.filter_image_model.proofs.Slots.{entries}
-use Rattle.filter_image_model.proofs.TrieRead.{above_read, height_is, leaves_read, nodes_are, tall, tall_raise, talls}
+use Rattle.filter_image_model.proofs.Sizes.{good_all, good_levels, leaves_counted, low_part}
+use Rattle.filter_image_model.proofs.SlotNumbers.{ends_none, slot_letters_are, slots_own, suffixes_by_slots}
+use Rattle.filter_image_model.proofs.TrieRead.{above_read, height_is, nodes_are, tall, tall_raise, talls}
 use Rattle.filter_image_model.proofs.Unique.{gather_own, levels_from}
-use Rattle.filter_image_model.proofs.Validity.{all_drop, all_take, was_written_so}
+use Rattle.filter_image_model.proofs.Validity.{was_written_so}
 use Rattle.filter_image_model.proofs.Written.{dense_count}
-
-length-map : {X Y : Type 0} (f : X → Y) (xs : List X) → length (map f xs) ≡ length xs
-length-map f [] = refl
-length-map f (x ∷ xs) = omega (arith, length-map f xs)
-
-never : (t : Bool) → (t && false) ≡ false
-never true = refl
-never false = refl
 
 -- ---- 8: the levels
 
@@ -106,7 +99,7 @@ counted h r ls v =
           ap (nodes_above c 1) flat_is ∙ sym (above_read c n 1 (flat levels) le held)
           ∙ ap (λ (ks : List (List Node)). length (flat (take c ks))) (recut n (G ∷ [])) ∙ size
           ∙ sym (length-take-le (length (nodes_to ls c)) (trie_of ls) (omega (arith, size, few_above c levels, ap length flat_is))));
-      leaves = ap leaves_of flat_is ∙ sym (leaves_read ls levels a g);
+      leaves = leaves_counted h r ls v;
     }
 
 -- ---- 9: each node
@@ -162,9 +155,14 @@ nodes_fine width leaves place (n ∷ ns) f =
 
 -- ---- 9: the root
 
-no_end : (c : ℕ) (n : Node) → From c n → has_letter n END ≡ false
-no_end c [] w = refl
-no_end c (b ∷ n) w = (λ j. ne_eqb b.0 256 (λ e. omega (arith, e, w.1)) j || no_end (suc b.0) n w.2 j)
+range_without_end : (p u : ℕ → Bool) (c k : ℕ) → c + k ≤ 256 → has_letter (map (λ (x : ℕ). (x, u x)) (filter p (range_with_len c k))) END ≡ false
+range_without_end p u c zero le = refl
+range_without_end p u c (suc k) le = go (p c) (range_without_end p u (c + 1) k (omega (arith, le)))
+  where
+    go : (t : Bool) → has_letter (map (λ (x : ℕ). (x, u x)) (filter p (range_with_len (c + 1) k))) END ≡ false
+        → has_letter (map (λ (x : ℕ). (x, u x)) (cond t (c ∷ filter p (range_with_len (c + 1) k)) (filter p (range_with_len (c + 1) k)))) END ≡ false
+    go true ih = (λ j. ne_eqb c 256 (λ e. omega (arith, e, le)) j || ih j)
+    go false ih = ih
 
 no_end_behind : (g : Group) → tails 256 g ≡ [] → has_letter (node_of_group g) END ≡ false
 unfolding heads letters
@@ -172,7 +170,7 @@ no_end_behind g e =
     let p : ℕ → Bool = λ c. is_cons (tails c g) in
     let R = filter p (range_with_len 0 256) in
     ap (λ (t : Bool). has_letter (map (λ (c : ℕ). (c, goes_on (tails c g))) (cond t (END ∷ R) R)) END) (ap is_cons e)
-    ∙ no_end 0 (map (λ (c : ℕ). (c, goes_on (tails c g))) R) (range_bytes p (λ c. goes_on (tails c g)) 0 256 (omega arith))
+    ∙ range_without_end p (λ c. goes_on (tails c g)) 0 256 (omega arith)
 
 none_at_end : (h r : ℕ) (ls : List Leaf) → ((k : ℕ) (d : Leaf) → k < length ls → IsLeaf h r (get_or ls k d)) → bytes_of_leaves ls → tails 256 (map path ls) ≡ []
 unfolding path
@@ -241,11 +239,10 @@ module _ (bytes : Bytes) (h r c : ℕ) (ls : List Leaf) (v : IsValid h r ls) (le
   suffixes_none =
       let g = hash_bits_in bytes in
       let q = real_bits_in bytes in
-      let E = entries g ls in
       let valid : IsValid g q ls = subst (λ n. IsValid n q ls) (sym a.hash_is) (subst (λ n. IsValid h n ls) (sym a.real_is) v) in
-      ap (ends_fault bytes 0) (ap slot_letters trie_is ∙ slot_letters_are ls)
-      ∙ ends_none bytes E 0 (slots ls) (slots_own g q ls valid)
-      (ap (λ k. drop k (section 6 bytes)) (zero_times (suffix_bits_in bytes)) ∙ a.suffixes_are ∙ (λ j. suffixes (sym a.hash_is j) (sym a.real_is j) ls) ∙ suffixes_by_number g q ls)
+      ap (ends_fault bytes 0) (ap slot_letters trie_is ∙ slot_letters_are g q ls valid)
+      ∙ ends_none bytes 0 (in_slots ls) (slots_own g q ls valid)
+      (ap (λ k. drop k (section 6 bytes)) (zero_times (suffix_bits_in bytes)) ∙ a.suffixes_are ∙ (λ j. suffixes (sym a.hash_is j) (sym a.real_is j) ls) ∙ suffixes_by_slots g q ls)
     where
       zero_times : (w : ℕ) → 0 * w ≡ 0
       zero_times w = omega arith

@@ -14,8 +14,7 @@ use Rattle.trie_laws.specs.Louds.{IsNode}
 use Rattle.filter_image_model.specs.Header.{Bytes}
 use Rattle.filter_image_model.specs.Nodes.{IsDense}
 use Rattle.filter_image_model.specs.Sections.{AreReadAgain, HasRoom, KeepsBytes}
-use Rattle.filter_image_model.specs.Laws.{HasForm}
-use Rattle.filter_image_model.proofs.Forms.{nodes_formed}
+use Rattle.filter_image_model.proofs.Forms.{HasForm, nodes_formed}
 use Rattle.filter_image_model.proofs.ImageWritten.{same_image}
 use Rattle.filter_image_model.proofs.Paths.{fine_paths, trie_flat}
 use Rattle.filter_image_model.proofs.ReadAgain.{sections_again}

@@ -15,24 +15,18 @@ use Rattle.filter_model.specs.Trie.{END, height, letters, level, nodes, nodes_to
 use Rattle.filter_model.specs.Valid.{EndsRightly, IsLeaf, IsValid}
 use Rattle.filter_image_model.specs.Levels.{levels_from as cut_levels}
 use Rattle.filter_image_model.specs.Levels.{children_of as children_count}
-use Rattle.filter_image_model.proofs.GroupWords.{Group, From, Rising, Sorted, all_children, among, before, children_of, gather, goes_on, group_level, heads, is_cons, node_of_group, order_of, tails}
+use Rattle.trie_model.specs.Letters.{comes_before as before, order_of}
+use Rattle.trie_model.specs.Rests.{tails}
+use Rattle.filter_image_model.proofs.Lists.{all_append, all_filter, all_kept, length-map}
+use Rattle.filter_image_model.proofs.GroupWords.{Group, From, Rising, Sorted, all_children, among, children_of, gather, goes_on, group_level, heads, is_cons, node_of_group}
 use Rattle.filter_image_model.proofs.LevelsRead.{all_children_is, flat}
 use Rattle.filter_image_model.proofs.Link.{level-nodes}
 use Rattle.filter_image_model.proofs.Rising.{AreBytes_of, byte_order, ended}
 use Rattle.filter_image_model.proofs.Sorted.{HeadsIn, from_weaker, sorted_from, sorted_tails}
-use Rattle.filter_image_model.proofs.Standing.{all_append}
 use Rattle.filter_image_model.proofs.Written.{bytes_all}
 use Rattle.filter_image_model.proofs.Unique.{IsOwn, IsPlain, OwnTo, children_own, gather_own, levels_from}
 
 -- ---- letters in order
-
-all_filter : (P : ℕ → Type 0) (p : ℕ → Bool) (xs : List ℕ) → AllByRecursion P xs → AllByRecursion P (filter p xs)
-all_filter P p [] w = tt
-all_filter P p (x ∷ xs) w = go (p x) (all_filter P p xs w.1)
-  where
-    go : (t : Bool) → AllByRecursion P (filter p xs) → AllByRecursion P (cond t (x ∷ filter p xs) (filter p xs))
-    go true ih = (w.0, ih)
-    go false ih = ih
 
 rising_filter : (p : ℕ → Bool) (xs : List ℕ) → Rising xs → Rising (filter p xs)
 rising_filter p [] w = tt
@@ -86,14 +80,6 @@ among_filter p a (x ∷ xs) h e = go (p x) refl (or_cases (eqb x a) (among a xs)
     go true i (inr later) ih = or_right (eqb x a) (among a (filter p xs)) (ih later)
     go false i (inl same) ih = absurd (true≢false (sym h ∙ ap p (sym (eqb-true x a same)) ∙ i))
     go false i (inr later) ih = ih later
-
-all_kept : (p : ℕ → Bool) (xs : List ℕ) → AllByRecursion (λ c. p c ≡ true) (filter p xs)
-all_kept p [] = tt
-all_kept p (x ∷ xs) = go (p x) refl (all_kept p xs)
-  where
-    go : (t : Bool) → p x ≡ t → AllByRecursion (λ c. p c ≡ true) (filter p xs) → AllByRecursion (λ c. p c ≡ true) (cond t (x ∷ filter p xs) (filter p xs))
-    go true i ih = (i, ih)
-    go false i ih = ih
 
 -- ---- a group of a valid list's paths
 
@@ -199,10 +185,6 @@ own_to zero (g ∷ gs) w = absurd (none_on g w.0.short w.0.on)
 own_to (suc n) gs w = (own_all (suc n) gs w, own_to n (flat_map children_of gs) (fine_children n gs w))
 
 -- ---- the nodes, cut into levels again
-
-length-map : {X Y : Type 0} (f : X → Y) (xs : List X) → length (map f xs) ≡ length xs
-length-map f [] = refl
-length-map f (x ∷ xs) = omega (arith, length-map f xs)
 
 pub kids_in : (gs : List Group) → all_children (map node_of_group gs) ≡ length (flat_map children_of gs)
 kids_in [] = refl

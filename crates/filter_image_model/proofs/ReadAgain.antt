@@ -20,13 +20,14 @@ use Rattle.filter_image_model.specs.Header.{Bytes, cutoff_in, height_in, leaf_co
 use Rattle.filter_image_model.specs.Nodes.{dense_nodes, sparse_nodes, dense_in, sparse_in}
 use Rattle.filter_image_model.specs.Reading.{is_stray, begins_clear, header_fault, length_fault, padding_fault, stray_fault, louds_fault}
 use Rattle.filter_image_model.specs.Sections.{head_bytes, sections, nodes_image, KeepsBytes, HasRoom, AreReadAgain, SectionsAreReadAgain}
-use Rattle.filter_image_model.proofs.Refusals.{passed, not_true}
+use Rattle.filter_image_model.proofs.Lists.{all_of, length-map}
+use Rattle.byte_fields.proofs.FaultLemmas.{passed, not_true}
 use Rattle.filter_image_model.proofs.Sections.{section_is}
 use Rattle.filter_image_model.proofs.DenseNodes.{dense_again}
-use Rattle.filter_image_model.proofs.SparseNodes.{sparse_again, length-map}
+use Rattle.filter_image_model.proofs.SparseNodes.{sparse_again}
 use Rattle.filter_image_model.proofs.Written.{join}
 use Rattle.filter_image_model.proofs.Laid.{IsLaid, laid, widths, bits_again, next_section, first_section, ends_at, padding_clear}
-use Rattle.filter_image_model.proofs.Again.{length-rows, length-louds, labels-IsBytes, little-IsBytes, packed-IsBytes, cutoff_again, height_again, leaves_again, dense_again_is, sparse_again_is, labels_again, dense_strays, nowhere_found, all_of, begins_set}
+use Rattle.filter_image_model.proofs.Again.{length-rows, length-louds, labels-IsBytes, little-IsBytes, packed-IsBytes, cutoff_again, height_again, leaves_again, dense_again_is, sparse_again_is, labels_again, dense_strays, nowhere_found, begins_set}
 
 -- the bits of the seven sections
 abbrev bit_lists : List Node → List Node → List Bool → List (List Bool)

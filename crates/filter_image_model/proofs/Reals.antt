@@ -14,9 +14,9 @@ use Rattle.filter_image_model.specs.Header.{Bytes, hash_bits_in}
 use Rattle.filter_image_model.specs.Levels.{behind, node_leaves, level_leaves, leaves_behind, leaves_of}
 use Rattle.filter_image_model.specs.Levels.{children_of as children_count}
 use Rattle.filter_image_model.specs.Reading.{ends_fault, slot_letters, suffix_in}
+use Rattle.filter_image_model.proofs.Lists.{all_append, all_drop}
 use Rattle.filter_image_model.proofs.LevelsRead.{flat, leaf_branch}
-use Rattle.filter_image_model.proofs.Refusals.{kept, not_false}
-use Rattle.filter_image_model.proofs.Standing.{all_append}
+use Rattle.byte_fields.proofs.FaultLemmas.{kept, not_false}
 
 -- letters of leaves with their suffixes: beside END stand no real bits
 abbrev pub EndsFit : ℕ → List ℕ → List ℕ → Type 0
@@ -40,7 +40,7 @@ own n = map (λ (b : Branch). b.0) (filter (λ (b : Branch). not b.1) n)
 own-append : (n m : Node) → own (n ++ m) ≡ own n ++ own m
 own-append n m = ap (map (λ (b : Branch). b.0)) (filter-append (λ (b : Branch). not b.1) n m) ∙ map-append (λ (b : Branch). b.0) (filter (λ (b : Branch). not b.1) n) (filter (λ (b : Branch). not b.1) m)
 
-length-own : (n : Node) → length (own n) ≡ count_by leaf_branch n
+pub length-own : (n : Node) → length (own n) ≡ count_by leaf_branch n
 length-own [] = refl
 length-own ((c, true) ∷ n) = omega (arith, length-own n, count_by-cons leaf_branch (c, true) n)
 length-own ((c, false) ∷ n) = omega (arith, length-own n, count_by-cons leaf_branch (c, false) n)
@@ -75,17 +75,12 @@ module _ (h : ℕ) where
   node_real ((c, false) ∷ n) below [] f w = tt
   node_real ((c, false) ∷ n) below (s ∷ ss) f w = (f.0, node_real n below ss f.1 w)
 
-  real_drop : (k : ℕ) (lss : List (List Leaf)) → AllByRecursion (AllByRecursion HasNone) lss → AllByRecursion (AllByRecursion HasNone) (drop k lss)
-  real_drop zero lss w = w
-  real_drop (suc k) [] w = tt
-  real_drop (suc k) (ls ∷ lss) w = real_drop k lss w.1
-
   level_real : (ns : List Node) (below : List (List Leaf)) (ss : List ℕ) → EndsFit h (slot_letters ns) ss → AllByRecursion (AllByRecursion HasNone) below
       → AllByRecursion (AllByRecursion HasNone) (level_leaves h ns below ss)
   level_real [] below ss f w = tt
   level_real (n ∷ ns) below ss f w =
       let r = fit_nodes h n (all ns) (leaves_of (n ∷ [])) ss (sym (ap (count_by leaf_branch) (append-nil n))) f in
-      (node_real n below ss r.0 w, level_real ns (drop (children_count (n ∷ [])) below) (drop (leaves_of (n ∷ [])) ss) r.1 (real_drop (children_count (n ∷ [])) below w))
+      (node_real n below ss r.0 w, level_real ns (drop (children_count (n ∷ [])) below) (drop (leaves_of (n ∷ [])) ss) r.1 (all_drop (AllByRecursion HasNone) (children_count (n ∷ [])) below w))
 
   -- **the leaves behind each node of the first level**
   pub behind_real : (levels : List (List Node)) (ss : List ℕ) → EndsFit h (slot_letters (flat levels)) ss → AllByRecursion (AllByRecursion HasNone) (leaves_behind h levels ss)

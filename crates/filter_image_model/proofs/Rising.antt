@@ -1,5 +1,5 @@
 -- The leaves that are read rise.
-use Rattle.std.proofs.Common.{◌≡◌, ℕ, zero, suc, ◌<◌, ◌≤◌, Bool, true, false, cond, List, [], ◌∷◌, ◌++◌, drop, map, refl, ap, ◌∙◌, arith, eqb, ltb}
+use Rattle.std.proofs.Common.{◌≡◌, ℕ, suc, ◌<◌, ◌≤◌, Bool, true, false, cond, List, [], ◌∷◌, ◌++◌, drop, map, refl, ap, ◌∙◌, arith, eqb, ltb}
 use Rattle.std.specs.List.{AllByRecursion}
 use Rattle.std.proofs.lemmas.Bool.{and_parts, eq-eqb, ne_eqb, ltb-true, lt-ltb}
 use Rattle.std.proofs.Common.{inl, inr, sym}
@@ -12,7 +12,9 @@ use Rattle.filter_model.specs.Strings.{is_below}
 use Rattle.filter_model.specs.Trie.{path}
 use Rattle.filter_model.specs.Nodes.{Branch, Node}
 use Rattle.filter_image_model.specs.Reading.{rises}
-use Rattle.filter_image_model.proofs.GroupWords.{Group, From, Sorted, before, children_in, deal, gather, join, order_of, raise}
+use Rattle.trie_model.specs.Letters.{comes_before as before, order_of}
+use Rattle.filter_image_model.proofs.Lists.{all_append, all_drop}
+use Rattle.filter_image_model.proofs.GroupWords.{Group, From, Sorted, children_in, deal, gather, join, raise}
 
 -- letters whose orders rise from m on
 abbrev pub OrderFrom : ℕ → Node → Type 0
@@ -51,10 +53,6 @@ before_all c x ([] ∷ h) w = absurd w
 before_all c x ((a ∷ y) ∷ h) w =
     (ap (λ (t : Bool). cond t (before x y) (ltb (order_of c) (order_of a))) (same_order c a (omega (arith, w.0))) ∙ lt-ltb (order_of c) (order_of a) (omega (arith, w.0)), before_all c x h w.1)
 
-all_append : {X : Type 0} (P : X → Type 0) (xs ys : List X) → AllByRecursion P xs → AllByRecursion P ys → AllByRecursion P (xs ++ ys)
-all_append P [] ys v w = w
-all_append P (x ∷ xs) ys v w = (v.0, all_append P xs ys v.1 w)
-
 behind_before : (c : ℕ) (x : List ℕ) (g : Group) → AllByRecursion (λ y. before x y ≡ true) g → AllByRecursion (λ y. before (c ∷ x) y ≡ true) (map (λ (y : List ℕ). c ∷ y) g)
 behind_before c x [] w = tt
 behind_before c x (y ∷ g) w = (ap (λ (t : Bool). cond t (before x y) (ltb (order_of c) (order_of c))) (eq-eqb c c refl) ∙ w.0, behind_before c x g w.1)
@@ -63,11 +61,6 @@ sorted_behind : (c : ℕ) (g h : Group) → Sorted g → Sorted h → From (suc 
 sorted_behind c [] h v w f = w
 sorted_behind c (x ∷ g) h v w f =
     (all_append (λ y. before (c ∷ x) y ≡ true) (map (λ (y : List ℕ). c ∷ y) g) h (behind_before c x g v.0) (before_all c x h f), sorted_behind c g h v.1 w f)
-
-all_drop : {X : Type 0} (P : X → Type 0) (k : ℕ) (xs : List X) → AllByRecursion P xs → AllByRecursion P (drop k xs)
-all_drop P zero xs w = w
-all_drop P (suc k) [] w = tt
-all_drop P (suc k) (x ∷ xs) w = all_drop P k xs w.1
 
 sorted_deal : (m : ℕ) (n : Node) (gs : List Group) → OrderFrom m n → AllByRecursion Sorted gs → Sorted (join (deal n gs)) × From m (join (deal n gs))
 sorted_deal m [] gs o w = (tt, tt)

@@ -1,131 +1,35 @@
 -- Two valid lists with one trie and the same suffixes are one list.
-use Rattle.std.proofs.Common.{◌≡◌, ℕ, zero, suc, ◌+◌, ◌*◌, ◌/◌, ◌%◌, ◌^◌, ◌<◌, ◌≤◌, Bool, true, false, cond, List, [], ◌∷◌, ◌++◌, length, take, drop, map, refl, sym, ap, ◌∙◌, arith, subst, inl, inr, eqb, pow-add}
-use Rattle.std.specs.Prelude.{not, ◌&&◌, ◌||◌, filter, flat_map}
-use Rattle.std.specs.List.{All, AllByRecursion, Contains, list_any, range_with_len}
+use Rattle.std.proofs.Common.{◌≡◌, ℕ, zero, suc, ◌+◌, ◌*◌, ◌/◌, ◌%◌, ◌^◌, ◌<◌, ◌≤◌, Bool, true, false, cond, List, [], ◌∷◌, ◌++◌, length, take, drop, map, refl, sym, ap, ◌∙◌, arith, subst, inl, inr, pow-add}
+use Rattle.std.specs.Prelude.{not, filter, flat_map}
+use Rattle.std.specs.List.{All, AllByRecursion, Contains}
 use Rattle.std.specs.Simd.Lanes.{mask_l}
 use Rattle.std.proofs.Math.Nat.{add-mul-div_left, add-mul-mod_self_left, div-eq_of_lt, mod-eq_of_lt}
 use Rattle.std.proofs.lemmas.Nat.{pow_pos}
-use Rattle.std.proofs.lemmas.Bool.{cases_lt, eq-eqb, false≢true, or_right}
 use Rattle.std.proofs.lemmas.List.{drop_at, length-append, take_at}
 use Rattle.std.proofs.lemmas.List.Concat.{flat_map-append}
-use Rattle.std.proofs.lemmas.List.Elements.{Contains-append_left, Contains-append_right}
 use Rattle.bit_words.specs.Numbers.{bits_of}
 use Rattle.bit_words.proofs.Numbers.{length-bits_of, number_back}
 use Rattle.filter_model.proofs.Fronts.{same-itself}
-use Rattle.filter_model.proofs.Levels.{Contains-bytes, height_above, node_in_level}
-use Rattle.filter_model.proofs.Pairs.{Contains-cases, Contains-filter, Contains-first, Contains-flat_map, Contains-map, Contains-map_back, Contains-nil}
+use Rattle.filter_model.proofs.Pairs.{Contains-cases, Contains-first, Contains-map_back, Contains-nil}
 use Rattle.filter_model.proofs.Stubs.{Contains-more}
 use Rattle.filter_model.specs.Image.{suffixes}
-use Rattle.filter_model.specs.Laws.{AreByteStubs}
 use Rattle.filter_model.specs.Leaves.{Leaf}
 use Rattle.filter_model.specs.Nodes.{trie_of}
-use Rattle.filter_model.specs.Strings.{extends, is_prefix, same}
-use Rattle.filter_model.specs.Trie.{END, branches, height, is_node, is_reached, letters, level, nodes, nodes_to, path, places, slots}
+use Rattle.filter_model.specs.Strings.{same}
+use Rattle.filter_model.specs.Trie.{branches, height, is_node, level, nodes, nodes_to, path, places, slots}
 use Rattle.filter_model.specs.Valid.{IsLeaf, IsValid}
-use Rattle.filter_image_model.proofs.GroupWords.{Group, Sorted, before, goes_on, heads, rests, tails}
+use Rattle.trie_model.specs.Rests.{rests}
+use Rattle.trie_laws.proofs.Slots.{leaves_have_slots}
+use Rattle.trie_levels.proofs.Totals.{valid_lists_have_tries}
+use Rattle.std.proofs.lemmas.List.Elements.{All-contains}
+use Rattle.filter_image_model.proofs.Lists.{first_of, rest_of}
+use Rattle.filter_image_model.proofs.GroupWords.{Group, goes_on, heads}
 use Rattle.filter_image_model.proofs.ImageWritten.{suffixes_by_number}
-use Rattle.filter_image_model.proofs.Link.{any_picked, branches-rests, eqb_comm, map-map, node-rests}
-use Rattle.filter_image_model.proofs.Paths.{Small, bytes_of_leaves, ends_right, fine_paths, same_paths, small_paths, sorted_paths, stub_bytes}
+use Rattle.filter_image_model.proofs.Link.{branches-rests, map-map, node-rests}
+use Rattle.filter_image_model.proofs.Paths.{bytes_of_leaves, fine_paths, same_paths, stub_bytes}
 use Rattle.filter_image_model.proofs.Rising.{AreBytes_of, ended}
 use Rattle.filter_image_model.proofs.Slots.{Entry, entries, entry, number, picks}
-use Rattle.filter_image_model.proofs.Sorted.{sorted_tails}
 use Rattle.filter_image_model.proofs.TrieRead.{height_is, tall}
-
--- ---- each path has a slot
-
-has_first : (c : ℕ) (x : List ℕ) (g : Group) → list_any (same (c ∷ x)) g ≡ list_any (same x) (tails c g)
-has_first c x [] = refl
-has_first c x ([] ∷ g) = has_first c x g
-has_first c x ((a ∷ y) ∷ g) =
-    ap (λ (b : Bool). b && same x y || list_any (same (c ∷ x)) g) (eqb_comm c a)
-    ∙ any_picked (eqb a c) (same x) y (tails c g) _ (has_first c x g)
-
-has_rests : (x : List ℕ) (g : Group) → list_any (same x) g ≡ list_any (same []) (rests x g)
-has_rests [] g = refl
-has_rests (c ∷ x) g = has_first c x g ∙ has_rests x (tails c g)
-
-sorted_rests : (x : List ℕ) (g : Group) → Sorted g → Sorted (rests x g)
-sorted_rests [] g s = s
-sorted_rests (c ∷ x) g s = sorted_rests x (tails c g) (sorted_tails c g s)
-
-none_empty : (x : List ℕ) (g : Group) → AllByRecursion (λ y. before x y ≡ true) g → (list_any (same []) g ≡ true) → ⊥
-none_empty x [] w e = false≢true e
-none_empty [] ([] ∷ g) w e = false≢true w.0
-none_empty (a ∷ x) ([] ∷ g) w e = false≢true w.0
-none_empty x ((b ∷ y) ∷ g) w e = none_empty x g w.1 e
-
--- where a sorted group has the empty string it has no other
-ends_there : (g : Group) → Sorted g → list_any (same []) g ≡ true → goes_on g ≡ false
-ends_there [] s e = refl
-ends_there ([] ∷ []) s e = refl
-ends_there ([] ∷ y ∷ g) s e = absurd (false≢true s.0.0)
-ends_there ((a ∷ x) ∷ g) s e = absurd (none_empty (a ∷ x) g s.0 e)
-
-any_at : (f : Leaf → Bool) (ls : List Leaf) (l : Leaf) → Contains ls l → f l ≡ true → list_any f ls ≡ true
-any_at f [] l c e = absurd (Contains-nil l c)
-any_at f (x ∷ ls) l c e = elim (Contains-cases x ls l c) [
-  | inl here ↦ ap (λ (t : Bool). t || list_any f ls) (ap f here ∙ e)
-  | inr there ↦ or_right (f x) (list_any f ls) (any_at f ls l there e)
-]
-
-any_map : (f : List ℕ → Bool) (ls : List Leaf) → list_any (λ l. f (path l)) ls ≡ list_any f (map path ls)
-any_map f [] = refl
-any_map f (l ∷ ls) = ap (λ (t : Bool). f (path l) || t) (any_map f ls)
-
-leaf_is_no_node : (ls : List Leaf) (l : Leaf) → Sorted (map path ls) → Contains ls l → is_node ls (path l) ≡ false
-leaf_is_no_node ls l s c =
-    node-rests ls (path l)
-    ∙ ends_there (rests (path l) (map path ls)) (sorted_rests (path l) (map path ls) s)
-    (sym (has_rests (path l) (map path ls)) ∙ sym (any_map (same (path l)) ls) ∙ any_at (λ o. same (path l) (path o)) ls l c (same-itself (path l)))
-
-pub record IsPushed (q : List ℕ) : Type 0 where
-  pub front : List ℕ
-  pub last : ℕ
-  pub is : q ≡ front ++ last ∷ []
-  pub small : last ≤ 256
-
-pushed : (q : List ℕ) → 0 < length q → AllByRecursion (λ c. c ≤ 256) q → IsPushed q
-pushed [] lt w = absurd (omega (arith, lt))
-pushed (a ∷ []) lt w = record { front = []; last = a; is = refl; small = w.0 }
-pushed (a ∷ b ∷ q) lt w = let r = pushed (b ∷ q) (omega arith) w.1 in record { front = a ∷ r.front; last = r.last; is = ap (λ (x : List ℕ). a ∷ x) r.is; small = r.small }
-
-extends_push : (p : List ℕ) (c : ℕ) → extends p (p ++ c ∷ []) ≡ true
-extends_push [] c = refl
-extends_push (a ∷ p) c = ap (λ (t : Bool). t && extends p (p ++ c ∷ [])) (eq-eqb a a refl) ∙ extends_push p c
-
-prefix_self : (p : List ℕ) → is_prefix p p ≡ true
-prefix_self [] = refl
-prefix_self (a ∷ p) = ap (λ (t : Bool). t && is_prefix p p) (eq-eqb a a refl) ∙ prefix_self p
-
-end_letter : Contains letters 256
-unfolding letters
-end_letter = Contains-first 256 (range_with_len 0 256)
-
-has_letter_of : (c : ℕ) → c ≤ 256 → Contains letters c
-has_letter_of c le = elim (cases_lt c 256) [
-  | inl lt ↦ Contains-bytes c lt
-  | inr ge ↦ subst (Contains letters) (omega (arith, le, ge)) end_letter
-]
-
-in_nodes_to : (ls : List Leaf) (n : ℕ) (p : List ℕ) → AreByteStubs ls → length p < n → is_node ls p ≡ true → Contains (nodes_to ls n) p
-unfolding nodes_to
-in_nodes_to ls zero p h l k = absurd (omega (arith, l))
-in_nodes_to ls (suc n) p h l k = elim (cases_lt (length p) n) [
-  | inl lt ↦ Contains-append_left (nodes_to ls n) (level ls n) p (in_nodes_to ls n p h lt k)
-  | inr here ↦ Contains-append_right (nodes_to ls n) (level ls n) p (node_in_level ls n p h (omega (arith, l, here)) k)
-]
-
-has_slot : (ls : List Leaf) (l : Leaf) → AreByteStubs ls → Sorted (map path ls) → Contains ls l → IsPushed (path l) → Contains (slots ls) (path l)
-unfolding slots places nodes branches is_node is_reached
-has_slot ls l h s c q =
-    let P = q.front in
-    let S = P ++ q.last ∷ [] in
-    let node : is_node ls P ≡ true = any_at (λ o. extends P (path o)) ls l c (ap (extends P) q.is ∙ extends_push P q.last) in
-    let reached : is_reached ls S ≡ true = any_at (λ o. is_prefix S (path o)) ls l c (ap (is_prefix S) q.is ∙ prefix_self S) in
-    let branch : Contains (branches ls P) S = Contains-filter (is_reached ls) (map (λ a. P ++ a ∷ []) letters) S (Contains-map (λ a. P ++ a ∷ []) letters q.last (has_letter_of q.last q.small)) reached in
-    let place : Contains (places ls) S = Contains-flat_map (branches ls) (nodes ls) P S (in_nodes_to ls (height ls) P h (height_above ls P node) node) branch in
-    subst (Contains (slots ls)) (sym q.is)
-    (Contains-filter (λ x. not (is_node ls x)) (places ls) S place (ap not (ap (is_node ls) (sym q.is) ∙ leaf_is_no_node ls l s c)))
 
 -- ---- the slots hang on the paths alone
 
@@ -187,12 +91,6 @@ bits-cons w q x E = go (same x.0 q)
     go : (t : Bool) → flat_map (bits_of w) (map (λ (y : Entry). y.1) (cond t (x ∷ filter (λ (y : Entry). same y.0 q) E) (filter (λ (y : Entry). same y.0 q) E))) ≡ cond t (bits_of w x.1 ++ slot_bits w q E) (slot_bits w q E)
     go true = refl
     go false = refl
-
-first_of : {X : Type 0} (x y : X) (xs ys : List X) → x ∷ xs ≡ y ∷ ys → x ≡ y
-first_of x y xs ys e = cc
-
-rest_of : {X : Type 0} (x y : X) (xs ys : List X) → x ∷ xs ≡ y ∷ ys → xs ≡ ys
-rest_of x y xs ys e = cc
 
 pub as_long : (w : ℕ) (q : List ℕ) (E F : List Entry) → firsts E ≡ firsts F → length (slot_bits w q E) ≡ length (slot_bits w q F)
 as_long w q [] [] e = refl
@@ -302,27 +200,10 @@ entries_fit h r (l ∷ ls) v = (
 pub firsts_are : (h : ℕ) (ls : List Leaf) → firsts (entries h ls) ≡ map path ls
 firsts_are h ls = map-map (λ (x : Entry). x.0) (entry h) ls
 
-long_path : (h r : ℕ) (l : Leaf) → IsLeaf h r l → 0 < length (path l)
-unfolding path
-long_path h r l v = omega (arith, v.filled, length-append l.stub (cond l.ends (END ∷ []) []))
-
-small_at : (g : Group) (x : List ℕ) → Small g → Contains g x → AllByRecursion (λ c. c ≤ 256) x
-small_at [] x w c = absurd (Contains-nil x c)
-small_at (y ∷ g) x w c = elim (Contains-cases y g x c) [
-  | inl here ↦ subst (AllByRecursion (λ n. n ≤ 256)) here w.0
-  | inr there ↦ small_at g x w.1 there
-]
-
 each_slot : (h r : ℕ) (ls : List Leaf) → IsValid h r ls → (q : List ℕ) → Contains (map path ls) q → Contains (slots ls) q
 each_slot h r ls v q c =
     let m = Contains-map_back path ls q c in
-    let l = m.0 in
-    let bytes = stub_bytes h r ls v.leaves in
-    let at : Contains ls l = m.1 in
-    let leaf : IsLeaf h r l = subst (IsLeaf h r) at.2 (v.leaves at.0 l at.1) in
-    let p = pushed (path l) (long_path h r l leaf) (small_at (map path ls) (path l) (small_paths ls bytes) (Contains-map path ls l at)) in
-    subst (Contains (slots ls)) m.2
-    (has_slot ls l (λ k d lt. (v.leaves k d lt).bytes) (sorted_paths ls bytes v.rising (ends_right ls v.ends)) at p)
+    subst (Contains (slots ls)) m.2 (All-contains (λ l. Contains (slots ls) (path l)) ls m.0 (leaves_have_slots ls (valid_lists_have_tries h r ls v)).slot_of_leaf m.1)
 
 -- **two valid lists with one trie and the same suffixes are one**
 pub one_list : (h r : ℕ) (ls os : List Leaf) → IsValid h r ls → IsValid h r os → trie_of ls ≡ trie_of os → suffixes h r ls ≡ suffixes h r os → ls ≡ os

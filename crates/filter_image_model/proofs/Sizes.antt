@@ -1,41 +1,37 @@
 -- An image has room for the nodes and the suffixes of a valid list.
 use Rattle.std.proofs.Common.{◌≡◌, ℕ, zero, suc, ◌+◌, ◌*◌, ◌<◌, ◌≤◌, Bool, true, false, cond, List, [], ◌∷◌, ◌++◌, length, map, refl, sym, ap, ◌∙◌, arith, subst, inl, inr}
 use Rattle.std.specs.Prelude.{filter, flat_map}
-use Rattle.std.specs.List.{All, AllByRecursion, list_any, range_with_len}
+use Rattle.std.specs.List.{All, AllByRecursion, list_any}
 use Rattle.std.proofs.lemmas.Bool.{false≢true, or_cases}
 use Rattle.std.proofs.lemmas.List.{length-append}
-use Rattle.std.proofs.lemmas.List.FromFn.{length-map-range_with_len}
 use Rattle.std.proofs.lemmas.List.Concat.{flat_map-append}
 use Rattle.bit_words.specs.Numbers.{bits_of}
 use Rattle.bit_words.proofs.Numbers.{length-bits_of}
 use Rattle.filter_model.proofs.Shared.{extends_longer}
-use Rattle.filter_model.specs.Image.{suffixes}
+use Rattle.filter_model.specs.Image.{in_slots, suffixes}
 use Rattle.filter_model.specs.Leaves.{Leaf}
-use Rattle.filter_model.specs.Nodes.{Branch, Node, all}
+use Rattle.filter_model.specs.Nodes.{Branch, Node, all, last_letter, trie_of}
 use Rattle.filter_model.specs.Strings.{extends}
-use Rattle.filter_model.specs.Trie.{END, height, path, slots}
+use Rattle.filter_model.specs.Trie.{END, height, path}
 use Rattle.filter_model.specs.Valid.{EndsRightly, IsLeaf, IsValid}
 use Rattle.trie_laws.specs.Louds.{IsNode}
-use Rattle.filter_image_model.specs.Levels.{leaves_behind, leaves_of, root_leaves}
+use Rattle.filter_image_model.specs.Levels.{leaves_of}
 use Rattle.filter_image_model.specs.Nodes.{IsDense}
 use Rattle.filter_image_model.specs.Nodes.{From as Bytes}
-use Rattle.filter_image_model.specs.Laws.{HasForm}
-use Rattle.filter_image_model.proofs.Forms.{nodes_formed}
-use Rattle.filter_image_model.proofs.GroupWords.{AreLevels, Group, InOrder, IsGoodNode, children_of, gather, goes_on, heads, is_cons, join, node_of_group, tails}
-use Rattle.filter_image_model.proofs.ImageTrie.{one_group, one_root}
-use Rattle.filter_image_model.proofs.ImageWritten.{suffixes_by_number}
-use Rattle.filter_image_model.proofs.LevelsRead.{Bytes_from, behind_paths, flat, in_order}
-use Rattle.filter_image_model.proofs.Paths.{IsFine, fine_children, fine_paths, heads_some, kids_in, own_group, own_to, trie_flat}
-use Rattle.filter_image_model.proofs.SameLeaves.{as_long, firsts, firsts_are, flat_flat, same_slots, slot_bits}
-use Rattle.filter_image_model.proofs.SlotOrder.{all_numbers}
-use Rattle.filter_image_model.proofs.Slots.{Entry, entries, picks}
+use Rattle.filter_image_model.proofs.Lists.{all_parts, length-map}
+use Rattle.filter_image_model.proofs.Forms.{HasForm}
+use Rattle.trie_model.specs.Rests.{tails}
+use Rattle.filter_image_model.proofs.GroupWords.{AreLevels, Group, InOrder, IsGoodNode, children_of, goes_on, heads, is_cons, join, node_of_group}
+use Rattle.filter_image_model.proofs.LevelsRead.{Bytes_from, flat, in_order}
+use Rattle.filter_image_model.proofs.Paths.{IsFine, fine_children, heads_some, kids_in, own_group}
+use Rattle.filter_image_model.proofs.SlotNumbers.{slot_letters_are, suffixes_by_slots}
+use Rattle.trie_laws.proofs.Slots.{leaves_have_slots}
+use Rattle.trie_levels.proofs.Totals.{valid_lists_have_tries}
+use Rattle.filter_image_model.proofs.Reals.{length-own}
+use Rattle.filter_image_model.proofs.Slots.{number}
 use Rattle.filter_image_model.proofs.Sorted.{join_over}
-use Rattle.filter_image_model.proofs.TrieRead.{height_is, leaves_read, tall, total, total-append}
+use Rattle.filter_image_model.proofs.TrieRead.{total, total-append}
 use Rattle.filter_image_model.proofs.Unique.{OwnTo, gather_own, levels_from}
-
-length-map : {X Y : Type 0} (f : X → Y) (xs : List X) → length (map f xs) ≡ length xs
-length-map f [] = refl
-length-map f (x ∷ xs) = omega (arith, length-map f xs)
 
 -- ---- a level has no more nodes and branches than there are leaves
 
@@ -116,10 +112,6 @@ good n w some = record { filled = some; order = subst (λ (m : Node). InOrder (m
     go true m b = in_order true (map (λ (x : Branch). x.0) m) (letters_from 0 m b)
     go false m b = in_order false (map (λ (x : Branch). x.0) m) (letters_from 0 m b)
 
-pub all_parts : (P : Node → Type 0) (xs ys : List Node) → AllByRecursion P (xs ++ ys) → AllByRecursion P xs × AllByRecursion P ys
-all_parts P [] ys w = (tt, w)
-all_parts P (x ∷ xs) ys w = let r = all_parts P xs ys w.1 in ((w.0, r.0), r.1)
-
 some_sparse : (n : Node) → IsNode n → is_cons n ≡ true
 some_sparse [] w = absurd w
 some_sparse (b ∷ n) w = refl
@@ -137,16 +129,6 @@ good_levels count (suc n) gs f o =
       good_levels count n (flat_map children_of gs) cut.1 o.1,
     )
 
-length-from : (n : ℕ) (gs : List Group) → length (levels_from n gs) ≡ n
-length-from zero gs = refl
-length-from (suc n) gs = omega (arith, length-from n (flat_map children_of gs))
-
-as_long_all : (w : ℕ) (qs : List (List ℕ)) (E F : List Entry) → firsts E ≡ firsts F → length (flat_map (λ q. slot_bits w q E) qs) ≡ length (flat_map (λ q. slot_bits w q F) qs)
-as_long_all w [] E F e = refl
-as_long_all w (q ∷ qs) E F e =
-    length-append (slot_bits w q E) (flat_map (λ p. slot_bits w p E) qs)
-    ∙ omega (arith, as_long w q E F e, as_long_all w qs E F e, length-append (slot_bits w q F) (flat_map (λ p. slot_bits w p F) qs))
-
 length-bits : (w : ℕ) (ns : List ℕ) → length (flat_map (bits_of w) ns) ≡ length ns * w
 length-bits w [] = sym (nothing w)
   where
@@ -154,39 +136,20 @@ length-bits w [] = sym (nothing w)
     nothing w = omega arith
 length-bits w (n ∷ ns) = length-append (bits_of w n) (flat_map (bits_of w) ns) ∙ omega (arith, length-bits w ns, length-bits_of w n, suc_times (length ns) w)
 
+in_slots_counted : (h r : ℕ) (ls : List Leaf) → IsValid h r ls → length (in_slots ls) ≡ length ls
+in_slots_counted h r ls v =
+    let s = leaves_have_slots ls (valid_lists_have_tries h r ls v) in
+    sym (length-map path (in_slots ls)) ∙ ap length s.leaf_of_slot ∙ s.as_many
+
+-- as many leaves as branches that are leaves
+pub leaves_counted : (h r : ℕ) (ls : List Leaf) → IsValid h r ls → leaves_of (trie_of ls) ≡ length ls
+leaves_counted h r ls v =
+    sym (length-own (all (trie_of ls))) ∙ ap length (slot_letters_are h r ls v) ∙ length-map (λ l. last_letter (path l)) (in_slots ls) ∙ in_slots_counted h r ls v
+
 pub suffixes_counted : (h r : ℕ) (ls : List Leaf) → IsValid h r ls → length (suffixes h r ls) ≡ length ls * (h + r)
 suffixes_counted h r ls v =
-    let w = h + r in
-    let n = height ls in
-    let G = map path ls in
-    let f = fine_paths h r ls v n (omega arith) in
-    let levels = levels_from n (G ∷ []) in
-    let own = own_to n (G ∷ []) (f, tt) in
-    let count = length ls in
-    let formed : AllByRecursion (HasForm count) (flat levels) = subst (AllByRecursion (HasForm count)) (trie_flat ls n (omega arith) f) (nodes_formed h r ls v) in
-    let a : AreLevels levels = good_levels count n (G ∷ []) formed own in
-    let g : gather levels ≡ G ∷ [] = gather_own n (G ∷ []) own in
-    let one : length (gather levels) ≡ 1 = ap length g in
-    let ss = map (λ (i : ℕ). 0) (range_with_len 0 (leaves_of (flat levels))) in
-    let exact : length ss ≡ leaves_of (flat levels) = length-map-range_with_len (λ i. 0) 0 (leaves_of (flat levels)) in
-    let lss = leaves_behind h levels ss in
-    let os = root_leaves lss in
-    let paths_are = behind_paths h levels ss (omega (arith, exact)) in
-    let og : gather levels ≡ map path os ∷ [] = one_group lss (gather levels) paths_are one in
-    let e : map path ls ≡ map path os = first G (map path os) (sym g ∙ og) in
-    let high : height os ≡ length levels = height_is os ∙ ap tall (sym e) ∙ sym (height_is ls) ∙ sym (length-from n (G ∷ [])) in
-    let numbers = all_numbers h os levels ss a og (one_root lss (gather levels) paths_are one) (omega (arith, exact)) high exact in
-    let E = entries h ls in
-    let F = entries h os in
-    ap length (suffixes_by_number h r ls ∙ flat_flat (bits_of w) (λ q. picks q E) (slots ls))
-    ∙ as_long_all w (slots ls) E F (firsts_are h ls ∙ e ∙ sym (firsts_are h os))
-    ∙ ap (λ (qs : List (List ℕ)). length (flat_map (λ q. slot_bits w q F) qs)) (same_slots ls os e)
-    ∙ ap length (sym (flat_flat (bits_of w) (λ q. picks q F) (slots os)) ∙ ap (flat_map (bits_of w)) numbers)
-    ∙ length-bits w ss
-    ∙ ap (λ k. k * w) (exact ∙ sym (leaves_read ls levels a g))
-  where
-    first : (x y : Group) → x ∷ [] ≡ y ∷ [] → x ≡ y
-    first x y e = cc
+    ap length (suffixes_by_slots h r ls) ∙ length-bits (h + r) (map (number h) (in_slots ls))
+    ∙ ap (λ k. k * (h + r)) (length-map (number h) (in_slots ls) ∙ in_slots_counted h r ls v)
 
 -- ---- the height
 

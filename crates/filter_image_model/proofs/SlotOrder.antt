@@ -10,6 +10,7 @@ use Rattle.filter_model.specs.Nodes.{Branch, Node, all, last_letter, node_of}
 use Rattle.filter_model.specs.Trie.{branches, height, is_node, is_reached, letters, level, nodes, nodes_to, path, places, slots}
 use Rattle.filter_model.proofs.Counts.{count_by-cons}
 use Rattle.std.proofs.Math.Seq.{drop-cons}
+use Rattle.filter_image_model.proofs.Lists.{first_of, rest_of}
 use Rattle.filter_image_model.proofs.TrieRead.{flat_take}
 use Rattle.filter_image_model.proofs.Link.{map-map, read_back}
 use Rattle.trie_laws.proofs.Places.{last_letter-push}
@@ -31,12 +32,6 @@ behind_push (a ∷ p) c g = behind_push p c (ends_of a g)
 picks_behind : (p : List ℕ) (g : List Entry) → picks p g ≡ picks [] (behind_string p g)
 picks_behind [] g = refl
 picks_behind (c ∷ p) g = picks_next c p g ∙ picks_behind p (ends_of c g)
-
-first_of : {X : Type 0} (x y : X) (xs ys : List X) → x ∷ xs ≡ y ∷ ys → x ≡ y
-first_of x y xs ys e = cc
-
-rest_of : {X : Type 0} (x y : X) (xs ys : List X) → x ∷ xs ≡ y ∷ ys → xs ≡ ys
-rest_of x y xs ys e = cc
 
 -- one node's branches, each as a string with the bit that says whether it goes on: their children's groups and their numbers
 abbrev pub kids : List (List ℕ × Bool) → List (List ℕ)

@@ -1,9 +1,11 @@
 -- A sorted group is joined of its own branches.
-use Rattle.std.proofs.Common.{◌≡◌, ℕ, zero, suc, ◌+◌, ◌<◌, ◌≤◌, List, [], ◌∷◌, ◌++◌, length, get_or, refl, ap, sym, ◌∙◌, arith, map, Bool, true, false, cond, inl, inr, eqb, ltb}
+use Rattle.std.proofs.Common.{◌≡◌, ℕ, suc, ◌<◌, ◌≤◌, List, [], ◌∷◌, ◌++◌, refl, ap, sym, ◌∙◌, arith, map, Bool, true, false, cond, inl, inr, eqb, ltb}
 use Rattle.std.specs.List.{AllByRecursion}
-use Rattle.std.proofs.lemmas.Bool.{false≢true, true≢false, cases_Bool, eqb-true, eq-eqb, eqb-false, ne_eqb, ltb-true, cases_lt, lt-ltb, le-ltb, or_cases}
+use Rattle.std.proofs.lemmas.Bool.{false≢true, true≢false, cases_Bool, eqb-true, eq-eqb, eqb-false, ne_eqb, ltb-true, cases_lt, or_cases}
 use Rattle.filter_image_model.proofs.Joins.{apart_sym}
-use Rattle.filter_image_model.proofs.GroupWords.{Group, rests, From, tails, join, order_of, before, Sorted, Rising, among, ahead, start}
+use Rattle.trie_model.specs.Letters.{comes_before as before, order_of}
+use Rattle.trie_model.specs.Rests.{tails}
+use Rattle.filter_image_model.proofs.GroupWords.{Group, From, join, Sorted, Rising, among}
 
 -- the strings that do not begin with c
 without : ℕ → Group → Group
@@ -65,11 +67,6 @@ split_least c ((a ∷ x) ∷ g) s f = elim (cases_Bool (eqb a c)) [
       let rest = none_behind c g (from_weaker (suc (order_of c)) (order_of a) g above (sorted_from a x 0 g s.0)) in
       rw (apart, rest.0, rest.1) refl
 ]
-
--- on the way down p each string has a letter
-abbrev pub IsLong : List ℕ → Group → Type 0
-IsLong [] g = Unit {0}
-IsLong (c ∷ p) g = From 0 g × IsLong p (tails c g)
 
 -- each string begins with one of these letters
 abbrev pub HeadsIn : List ℕ → Group → Type 0
@@ -160,48 +157,6 @@ join_over (c ∷ cs) g r s h =
         ap (λ (t : Group). map (λ (x : List ℕ). d ∷ x) t ++ join (map (λ (e : ℕ). (e, tails e g)) ds)) (sym (tails_without c d g apart))
         ∙ ap (λ (k : Group). map (λ (x : List ℕ). d ∷ x) (tails d (without c g)) ++ k) (same_tails ds w.1)
 
-pub none_ahead : (c m : ℕ) (g : Group) → order_of c ≤ m → From m g → ahead c g ≡ 0
-none_ahead c m [] l f = refl
-none_ahead c m ([] ∷ g) l f = absurd f
-none_ahead c m ((a ∷ x) ∷ g) l f = rw (le-ltb (order_of a) (order_of c) (omega (arith, f.0)), none_ahead c m g l f.1) refl
-
-here_at : (a c : ℕ) (x : List ℕ) (g : Group) (j n : ℕ) → a ≡ c → n ≡ j → (j < length (x ∷ tails c g))
-    → ((i : ℕ) → i < length (tails c g) → get_or g i [] ≡ c ∷ get_or (tails c g) i [])
-    → get_or ((a ∷ x) ∷ g) n [] ≡ c ∷ get_or (x ∷ tails c g) j []
-here_at a c x g zero n e m l ih = rw m (ap (λ (b : ℕ). b ∷ x) e)
-here_at a c x g (suc j) n e m l ih = rw m (ih j (omega arith))
-
--- behind the strings ahead of c come those that begin with c
-pub at_letter : (c k : ℕ) (g : Group) → Sorted g → From 0 g → k < length (tails c g) → get_or g (ahead c g + k) [] ≡ c ∷ get_or (tails c g) k []
-at_letter c k [] s f l = absurd (omega arith)
-at_letter c k ([] ∷ g) s f l = absurd f
-at_letter c k ((a ∷ x) ∷ g) s f l = go (eqb a c) refl l (λ i. at_letter c i g s.1 f.1)
-  where
-    behind : From (order_of a) g
-    behind = sorted_from a x 0 g s.0
-
-    go : (t : Bool) → eqb a c ≡ t → k < length (cond t (x ∷ tails c g) (tails c g)) → ((i : ℕ) → i < length (tails c g) → get_or g (ahead c g + i) [] ≡ c ∷ get_or (tails c g) i [])
-        → get_or ((a ∷ x) ∷ g) ((cond (ltb (order_of a) (order_of c)) 1 0 + ahead c g) + k) [] ≡ c ∷ get_or (cond (eqb a c) (x ∷ tails c g) (tails c g)) k []
-    go true e m ih =
-        let same = eqb-true a c e in
-        let level : order_of a ≡ order_of c = ap order_of same in
-        let zero_ahead : ahead c g ≡ 0 = none_ahead c (order_of a) g (omega (arith, level)) behind in
-        let not_less = le-ltb (order_of a) (order_of c) (omega (arith, level)) in
-        let head : cond {A = ℕ} (ltb (order_of a) (order_of c)) 1 0 ≡ 0 = ap (λ (b : Bool). cond {A = ℕ} b 1 0) not_less in
-        rw e (here_at a c x g k ((cond (ltb (order_of a) (order_of c)) 1 0 + ahead c g) + k) same (omega (arith, zero_ahead, head)) m
-        (λ i il. ap (λ (n : ℕ). get_or g n []) (omega (arith, zero_ahead)) ∙ ih i il))
-    go false e m ih = elim (cases_lt (order_of a) (order_of c)) [
-      | inl lt ↦
-          let head : cond {A = ℕ} (ltb (order_of a) (order_of c)) 1 0 ≡ 1 = ap (λ (b : Bool). cond {A = ℕ} b 1 0) (lt-ltb (order_of a) (order_of c) lt) in
-          let n : (cond (ltb (order_of a) (order_of c)) 1 0 + ahead c g) + k ≡ suc (ahead c g + k) = omega (arith, head) in
-          rw (e, n) (ih k m)
-      | inr ge ↦
-          let gt = strictly_above c a ge e in
-          let gone = (none_behind c g (from_weaker (suc (order_of c)) (order_of a) g gt behind)).0 in
-          let none = ap length gone in
-          absurd (omega (arith, none, m))
-    ]
-
 before_tails : (a c : ℕ) (x : List ℕ) (g : Group) → a ≡ c → AllByRecursion (λ y. before (a ∷ x) y ≡ true) g → AllByRecursion (λ y. before x y ≡ true) (tails c g)
 before_tails a c x [] e w = tt
 before_tails a c x ([] ∷ g) e w = before_tails a c x g e w.1
@@ -213,10 +168,6 @@ before_tails a c x ((b ∷ y) ∷ g) e w = go (eqb b c) refl (before_tails a c x
         (sym (ap (λ (t : Bool). cond t (before x y) (ltb (order_of a) (order_of b))) same) ∙ w.0, ih)
     go false h ih = ih
 
-at_most_one : (b : Bool) → cond {A = ℕ} b 1 0 ≤ 1
-at_most_one true = omega arith
-at_most_one false = omega arith
-
 pub sorted_tails : (c : ℕ) (g : Group) → Sorted g → Sorted (tails c g)
 sorted_tails c [] s = tt
 sorted_tails c ([] ∷ g) s = sorted_tails c g s.1
@@ -225,28 +176,3 @@ sorted_tails c ((a ∷ x) ∷ g) s = go (eqb a c) refl (sorted_tails c g s.1)
     go : (t : Bool) → eqb a c ≡ t → Sorted (tails c g) → Sorted (cond t (x ∷ tails c g) (tails c g))
     go true e ih = (before_tails a c x g (eqb-true a c e) s.0, ih)
     go false e ih = ih
-
-room : (c : ℕ) (g : Group) → ahead c g + length (tails c g) ≤ length g
-room c [] = omega arith
-room c ([] ∷ g) = let ih = room c g in omega (arith, ih)
-room c ((a ∷ x) ∷ g) = go (eqb a c) refl (room c g)
-  where
-    go : (t : Bool) → eqb a c ≡ t → ahead c g + length (tails c g) ≤ length g → (cond (ltb (order_of a) (order_of c)) 1 0 + ahead c g) + length (cond t (x ∷ tails c g) (tails c g)) ≤ suc (length g)
-    go true e ih =
-        let level = ap order_of (eqb-true a c e) in
-        let head : cond {A = ℕ} (ltb (order_of a) (order_of c)) 1 0 ≡ 0 = ap (λ (b : Bool). cond {A = ℕ} b 1 0) (le-ltb (order_of a) (order_of c) (omega (arith, level))) in
-        omega (arith, ih, head)
-    go false e ih = let one = at_most_one (ltb (order_of a) (order_of c)) in omega (arith, ih, one)
-
-start_room : (p : List ℕ) (g : Group) → start p g + length (rests p g) ≤ length g
-start_room [] g = omega arith
-start_room (c ∷ p) g = let ih = start_room p (tails c g) in let r = room c g in omega (arith, ih, r)
-
--- **the leaf number start p + k is p followed by the k-th string behind p**
-pub at_start : (p : List ℕ) (k : ℕ) (g : Group) → Sorted g → k < length (rests p g) → IsLong p g → get_or g (start p g + k) [] ≡ p ++ get_or (rests p g) k []
-at_start [] k g s l f = ap (λ (n : ℕ). get_or g n []) (omega arith)
-at_start (c ∷ p) k g s l f =
-    let ih = at_start p k (tails c g) (sorted_tails c g s) l f.1 in
-    let wide = start_room p (tails c g) in
-    let inside : start p (tails c g) + k < length (tails c g) = omega (arith, wide, l) in
-    ap (λ (n : ℕ). get_or g n []) (omega arith) ∙ at_letter c (start p (tails c g) + k) g s f.0 inside ∙ ap (λ (x : List ℕ). c ∷ x) ih

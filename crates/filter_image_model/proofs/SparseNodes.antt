@@ -1,8 +1,7 @@
 -- Sparse nodes and the sections that spell them.
 use Rattle.std.proofs.Common.{◌≡◌, ℕ, suc, ◌<◌, ◌≤◌, List, [], ◌∷◌, ◌++◌, length, refl, ap, sym, ◌∙◌, arith, map, Bool, true, false, cond, inl, inr}
 use Rattle.std.specs.Prelude.{◌==◌, count_by, zip}
-use Rattle.std.specs.List.{All, AllByRecursion}
-use Rattle.std.proofs.lemmas.List.Elements.{All-head, All-tail}
+use Rattle.std.specs.List.{AllByRecursion}
 use Rattle.std.proofs.lemmas.Bool.{cases_Bool, cases_eq, ne_eqb, eq-eqb, eqb-true}
 use Rattle.std.proofs.lemmas.List.{map-append, append-nil}
 use Rattle.filter_model.proofs.Counts.{count_by-cons}
@@ -12,14 +11,11 @@ use Rattle.filter_model.specs.Trie.{END}
 use Rattle.trie_laws.specs.Louds.{IsNode}
 use Rattle.filter_image_model.specs.Nodes.{cut, named, sparse_nodes}
 use Rattle.filter_image_model.specs.Reading.{begins_clear}
+use Rattle.filter_image_model.proofs.Lists.{by_recursion, length-map}
 
 -- bytes
 abbrev pub AreBytes : Node → Type 0
 AreBytes n = AllByRecursion (λ (b : Branch). b.0 < 256) n
-
-pub by_recursion : {X : Type 0} (P : X → Type 0) (xs : List X) → All P xs → AllByRecursion P xs
-by_recursion P [] w = tt
-by_recursion P (x ∷ xs) w = (All-head P x xs w, by_recursion P xs (All-tail P x xs w))
 
 -- ---- what is written is read so
 
@@ -191,10 +187,6 @@ pub length-zip : (ls : List ℕ) (cs : List Bool) → length ls ≡ length cs �
 length-zip [] cs e = refl
 length-zip (l ∷ ls) [] e = absurd (omega (arith, e))
 length-zip (l ∷ ls) (c ∷ cs) e = omega (arith, length-zip ls cs (omega (arith, e)))
-
-pub length-map : {X Y : Type 0} (f : X → Y) (xs : List X) → length (map f xs) ≡ length xs
-length-map f [] = refl
-length-map f (x ∷ xs) = omega (arith, length-map f xs)
 
 -- the three sections are those of the nodes that are read
 pub record SpellsSparse (ls : List ℕ) (cs louds : List Bool) (ns : List Node) : Type 0 where

@@ -1,5 +1,5 @@
 -- Of the leaves behind a node each ends rightly, and is a branch beside others where its node is not one leaf alone.
-use Rattle.std.proofs.Common.{◌≡◌, ℕ, zero, suc, ◌+◌, ◌<◌, ◌≤◌, ◌-◌, Bool, true, false, cond, List, [], ◌∷◌, ◌++◌, length, take, drop, map, refl, sym, ap, ◌∙◌, arith, subst, eqb}
+use Rattle.std.proofs.Common.{◌≡◌, ℕ, suc, ◌+◌, ◌<◌, ◌≤◌, ◌-◌, Bool, true, false, cond, List, [], ◌∷◌, ◌++◌, length, take, drop, map, refl, sym, ap, ◌∙◌, arith, subst, eqb}
 use Rattle.std.specs.Prelude.{not, ◌&&◌, ◌||◌, ◌==◌, count_by}
 use Rattle.std.specs.List.{AllByRecursion, list_any}
 use Rattle.std.proofs.lemmas.List.{append-nil, append_assoc, length-drop}
@@ -15,6 +15,7 @@ use Rattle.filter_model.specs.Valid.{EndsRightly, IsCrowded, joins, node}
 use Rattle.filter_image_model.specs.Levels.{leaf_by, behind, node_leaves, level_leaves, leaves_behind, leaves_of}
 use Rattle.filter_image_model.specs.Levels.{children_of as children_count}
 use Rattle.filter_image_model.specs.Reading.{is_lone_end, is_lone_leaf}
+use Rattle.filter_image_model.proofs.Lists.{all_append, all_drop}
 use Rattle.filter_image_model.proofs.GroupWords.{is_cons, among, Once, children_in, all_children, IsGoodNode, AreLevels}
 use Rattle.filter_image_model.proofs.Joins.{apart_sym}
 use Rattle.filter_image_model.proofs.LevelsRead.{letter, leaf_branch, flat, count-append, children_in_is}
@@ -127,10 +128,6 @@ begin_behind c (l ∷ g) = (refl, begin_behind c g)
 apart_from : (c d : ℕ) (ls : List Leaf) → eqb d c ≡ false → Begin d ls → Apart c ls
 apart_from c d [] e w = tt
 apart_from c d (l ∷ ls) e w = (ap (λ (x : ℕ). eqb x c) w.0 ∙ e, apart_from c d ls e w.1)
-
-pub all_append : {X : Type 0} (P : X → Type 0) (xs ys : List X) → AllByRecursion P xs → AllByRecursion P ys → AllByRecursion P (xs ++ ys)
-all_append P [] ys v w = w
-all_append P (x ∷ xs) ys v w = (v.0, all_append P xs ys v.1 w)
 
 -- the letters that come later are apart from one more branch
 all_apart : (c : ℕ) (A xs : List Leaf) (ds : List ℕ) → Begin c xs → among c ds ≡ false → AllByRecursion (λ d. Apart d A) ds → AllByRecursion (λ d. Apart d (A ++ xs)) ds
@@ -284,11 +281,6 @@ module _ (M : Type 0) (hash_bits : ℕ) where
     stands = node_stands [] n below ss g.order.once (apart_none (map letter n)) w le few (ap not k.not_end) (λ m. ap not (k.not_leaf m));
   }
 
-  tree_drop : (k : ℕ) (lss : List (List Leaf)) → AllByRecursion (IsTree M) lss → AllByRecursion (IsTree M) (drop k lss)
-  tree_drop zero lss w = w
-  tree_drop (suc k) [] w = tt
-  tree_drop (suc k) (ls ∷ lss) w = tree_drop k lss w.1
-
   level_tree : (ns : List Node) (below : List (List Leaf)) (ss : List ℕ) → AllByRecursion IsGoodNode ns → AllByRecursion KeepsNode ns → AllByRecursion (IsTree M) below
       → all_children ns ≤ length below → leaves_of ns ≤ length ss → AllByRecursion (IsTree M) (level_leaves hash_bits ns below ss)
   level_tree [] below ss g k w le few = tt
@@ -297,7 +289,7 @@ module _ (M : Type 0) (hash_bits : ℕ) where
       let one : leaves_of (n ∷ []) ≡ count_by leaf_branch n = ap (count_by leaf_branch) (append-nil n) in
       let kids : children_count (n ∷ []) ≡ children_in n = ap (count_by (λ (b : Branch). b.1)) (append-nil n) ∙ sym (children_in_is n) in (
         node_tree n below ss g.0 k.0 w (omega (arith, le)) (omega (arith, few, split)),
-        level_tree ns (drop (children_count (n ∷ [])) below) (drop (leaves_of (n ∷ [])) ss) g.1 k.1 (tree_drop (children_count (n ∷ [])) below w)
+        level_tree ns (drop (children_count (n ∷ [])) below) (drop (leaves_of (n ∷ [])) ss) g.1 k.1 (all_drop (IsTree M) (children_count (n ∷ [])) below w)
             (omega (arith, le, kids, length-drop (children_count (n ∷ [])) below)) (omega (arith, few, split, one, length-drop (leaves_of (n ∷ [])) ss)),
       )
 

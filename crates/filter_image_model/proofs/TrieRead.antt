@@ -11,6 +11,7 @@ use Rattle.filter_model.specs.Trie.{height, level, nodes_to, path}
 use Rattle.filter_model.proofs.Counts.{count_by-cons}
 use Rattle.filter_image_model.specs.Levels.{are_levels, levels_from, leaves_of, nodes_above}
 use Rattle.filter_image_model.specs.Levels.{children_of as children_count}
+use Rattle.filter_image_model.proofs.Lists.{length-map}
 use Rattle.filter_image_model.proofs.GroupWords.{Group, is_cons, goes_on, join, deal, children_in, all_children, raise, gather, IsGoodNode, AreLevels}
 use Rattle.filter_image_model.proofs.Gather.{GoOn, goes_on_drop, gather_goes_on}
 use Rattle.filter_image_model.proofs.Link.{read_back}
@@ -146,10 +147,6 @@ pub total-append : (g h : List Group) → total (g ++ h) ≡ total g + total h
 unfolding total
 total-append [] h = omega arith
 total-append (x ∷ g) h = omega (arith, total-append g h)
-
-length-map : {X Y : Type 0} (f : X → Y) (xs : List X) → length (map f xs) ≡ length xs
-length-map f [] = refl
-length-map f (x ∷ xs) = omega (arith, length-map f xs)
 
 total_deal : (n : Node) (gs : List Group) → children_in n ≤ length gs → length (join (deal n gs)) ≡ count_by leaf_branch n + total (take (children_in n) gs)
 unfolding total

@@ -4,7 +4,8 @@ use Rattle.std.specs.Prelude.{filter, flat_map}
 use Rattle.std.specs.List.{AllByRecursion}
 use Rattle.std.proofs.lemmas.List.{append-nil, append_assoc, drop_at}
 use Rattle.filter_model.specs.Nodes.{Node}
-use Rattle.filter_image_model.proofs.GroupWords.{Group, tails, goes_on, heads, node_of_group, children_of, join, deal, children_in, raise, gather, Sorted, Rising}
+use Rattle.trie_model.specs.Rests.{tails}
+use Rattle.filter_image_model.proofs.GroupWords.{Group, goes_on, heads, node_of_group, children_of, join, deal, children_in, raise, gather, Sorted, Rising}
 use Rattle.filter_image_model.proofs.Sorted.{join_over, HeadsIn}
 
 -- a leaf has nothing behind its letter

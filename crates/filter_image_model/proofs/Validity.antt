@@ -1,7 +1,7 @@
 -- What is read of bytes that break no rule may stand, so they are its image.
 use Rattle.std.proofs.Common.{◌≡◌, ℕ, zero, suc, ◌+◌, ◌*◌, ◌^◌, ◌<◌, ◌≤◌, Bool, true, false, cond, List, [], ◌∷◌, ◌++◌, length, take, drop, map, refl, sym, ap, ◌∙◌, arith, subst}
 use Rattle.std.specs.Prelude.{not, ◌&&◌, ◌||◌, ◌==◌, nat_lt}
-use Rattle.std.specs.List.{All, AllByRecursion, list_any, range_with_len}
+use Rattle.std.specs.List.{AllByRecursion, list_any, range_with_len}
 use Rattle.std.proofs.lemmas.List.{length-drop, length-take-le}
 use Rattle.std.proofs.lemmas.List.FromFn.{length-map-range_with_len}
 use Rattle.std.proofs.lemmas.Simd.{mask_l-lt}
@@ -19,6 +19,7 @@ use Rattle.filter_image_model.specs.Laws.{ImageWasWrittenSo}
 use Rattle.filter_image_model.specs.Levels.{behind, children_of, leaves_behind, leaves_of, levels_from, node_leaves, root_leaves}
 use Rattle.filter_image_model.specs.Nodes.{dense_in, sparse_in}
 use Rattle.filter_image_model.specs.Reading.{image_in, is_lone_end, is_lone_leaf, is_no_node, is_no_root, leaves_in, nodes_fault, rises, shape_fault, slot_letters, suffix_in}
+use Rattle.filter_image_model.proofs.Lists.{all_append, all_drop, all_map, all_of, all_take}
 use Rattle.filter_image_model.proofs.GroupWords.{Sorted, gather}
 use Rattle.filter_image_model.proofs.Headers.{header_kept}
 use Rattle.filter_image_model.proofs.ImageTrie.{KeepsRules, counts_kept, dense_in_letters, good_nodes, nodes_kept, one_group, one_root, read_trie, rules_kept, sparse_letters}
@@ -26,9 +27,9 @@ use Rattle.filter_image_model.proofs.ImageWritten.{image_is, length_6}
 use Rattle.filter_image_model.proofs.LeavesRead.{HasMarks, IsOwn, behind_own, marks}
 use Rattle.filter_image_model.proofs.LevelsRead.{AreLetters, behind_paths, flat, levelled}
 use Rattle.filter_image_model.proofs.Reals.{EndsFit, HasNone, behind_real, ends_kept}
-use Rattle.filter_image_model.proofs.Refusals.{kept, neither, not_false}
+use Rattle.byte_fields.proofs.FaultLemmas.{kept, neither, not_false}
 use Rattle.filter_image_model.proofs.Rising.{OrderFrom, in_rising_order, rising_leaves, sorted_gather}
-use Rattle.filter_image_model.proofs.Standing.{IsTree, KeepsNode, Stands, all_append, behind_tree}
+use Rattle.filter_image_model.proofs.Standing.{IsTree, KeepsNode, Stands, behind_tree}
 use Rattle.filter_image_model.proofs.TrieRead.{length-levels}
 
 -- ---- the nodes, each by itself
@@ -76,23 +77,9 @@ shape_kept bytes k =
 
 -- ---- level by level
 
-pub all_take : {X : Type 0} (P : X → Type 0) (k : ℕ) (xs : List X) → AllByRecursion P xs → AllByRecursion P (take k xs)
-all_take P zero xs w = tt
-all_take P (suc k) [] w = tt
-all_take P (suc k) (x ∷ xs) w = (w.0, all_take P k xs w.1)
-
-pub all_drop : {X : Type 0} (P : X → Type 0) (k : ℕ) (xs : List X) → AllByRecursion P xs → AllByRecursion P (drop k xs)
-all_drop P zero xs w = w
-all_drop P (suc k) [] w = tt
-all_drop P (suc k) (x ∷ xs) w = all_drop P k xs w.1
-
 by_levels : (P : Node → Type 0) (k size : ℕ) (ns : List Node) → AllByRecursion P ns → AllByRecursion (AllByRecursion P) (levels_from k size ns)
 by_levels P zero size ns w = tt
 by_levels P (suc k) size ns w = (all_take P size ns w, by_levels P k (children_of (take size ns)) (drop size ns) (all_drop P size ns w))
-
-all_map : {X : Type 0} (P Q : X → Type 0) → ((x : X) → P x → Q x) → (xs : List X) → AllByRecursion P xs → AllByRecursion Q xs
-all_map P Q f [] w = tt
-all_map P Q f (x ∷ xs) w = (f x w.0, all_map P Q f xs w.1)
 
 -- ---- no leaf at the root ends
 
@@ -168,11 +155,6 @@ module _ (bytes : Bytes) where
 
 -- ---- the whole
 
-pub each : {X : Type 0} (P : X → Type 0) (xs : List X) → AllByRecursion P xs → All P xs
-each P [] w k d l = absurd (omega (arith, l))
-each P (x ∷ xs) w zero d l = w.0
-each P (x ∷ xs) w (suc k) d l = each P xs w.1 k d (omega (arith, l))
-
 is_bytes : (x : List ℕ) → AllByRecursion (λ c. c < 256) x → IsBytes x
 is_bytes [] w i = omega arith
 is_bytes (c ∷ x) w zero = w.0
@@ -229,11 +211,11 @@ stands bytes k =
       valid = record {
         some = omega (arith, t.count, head.some_leaves);
         few = omega (arith, t.count, number_below 4 (drop 12 bytes) (IsBytes-drop 12 bytes k.bytes_rules.bytes_are) (omega (arith, length-drop 12 bytes, head.long)));
-        leaves = each (IsLeaf h r) ls (are_leaves h r (length levels) ls (omega (arith, deep, head.low)) owns stubs reals);
+        leaves = all_of (IsLeaf h r) ls (are_leaves h r (length levels) ls (omega (arith, deep, head.low)) owns stubs reals);
         rising = rising_leaves ls (all_map (IsOwn h r (length levels)) (λ (x : Leaf). AllByRecursion (λ b. b < 256) x.stub) (λ x o. o.bytes) ls owns) sorted;
-        ends = each (EndsRightly ls) ls (all_map (Stands M ls) (EndsRightly ls) (λ x s. s.ends) ls tree.stands);
-        single = (λ one. each (λ (x : Leaf). length x.stub ≡ 1) ls (are_single h r (length levels) ls (omega (arith, deep, one_high (height_in bytes) count ns shape.root (sym t.count ∙ one))) owns stubs));
-        crowded = (λ more. each (IsCrowded ls) ls (all_map (Stands M ls) (IsCrowded ls) (λ x s. s.crowded (subst (λ n. 1 < n) t.count more)) ls tree.stands));
+        ends = all_of (EndsRightly ls) ls (all_map (Stands M ls) (EndsRightly ls) (λ x s. s.ends) ls tree.stands);
+        single = (λ one. all_of (λ (x : Leaf). length x.stub ≡ 1) ls (are_single h r (length levels) ls (omega (arith, deep, one_high (height_in bytes) count ns shape.root (sym t.count ∙ one))) owns stubs));
+        crowded = (λ more. all_of (IsCrowded ls) ls (all_map (Stands M ls) (IsCrowded ls) (λ x s. s.crowded (subst (λ n. 1 < n) t.count more)) ls tree.stands));
       };
     }
 

@@ -1,17 +1,16 @@
 -- The laws of the reading: bytes that break no rule are the image of what is read, and an image breaks none and is read
 -- so. The laws of the sections (of bytes and nodes) are halves of both.
-use Rattle.std.specs.Prelude.{◌≡◌, ◌++◌, ◌<◌, ℕ, false, List, length, None, All}
+use Rattle.std.specs.Prelude.{◌≡◌, ◌++◌, ℕ, List, length, None}
 use Rattle.byte_fields.specs.Spelling.{IsBytes}
 use Rattle.filter_api.specs.Spellings.{IsSpelling}
 use Rattle.filter_model.specs.Image.{image, suffixes}
 use Rattle.filter_model.specs.Leaves.{Leaf}
-use Rattle.filter_model.specs.Nodes.{Node, trie_of}
+use Rattle.filter_model.specs.Nodes.{trie_of}
 use Rattle.filter_model.specs.Trie.{height, nodes_to}
 use Rattle.filter_model.specs.Valid.{IsValid}
 use Rattle.filter_image_model.specs.Header.{Bytes, hash_bits_in, real_bits_in, cutoff_in, height_in, leaf_count_in}
-use Rattle.trie_laws.specs.Louds.{IsNode}
-use Rattle.filter_image_model.specs.Nodes.{IsDense, dense_in, sparse_in}
-use Rattle.filter_image_model.specs.Reading.{Image, image_fault, image_in, is_lone_leaf, leaves_in}
+use Rattle.filter_image_model.specs.Nodes.{dense_in, sparse_in}
+use Rattle.filter_image_model.specs.Reading.{Image, image_fault, image_in, leaves_in}
 
 -- the bytes are the image of these
 abbrev pub IsImage : Image → Bytes → Type 0
@@ -43,13 +42,3 @@ pub record IsReadTrie (bytes : Bytes) : Type 0 where
 
 abbrev pub TrieIsRead : Type 0
 TrieIsRead = (bytes : Bytes) → IsBytes bytes → image_fault bytes ≡ None → IsReadTrie bytes
-
--- the nodes of a valid list's trie have the form of nodes that are read, dense or sparse; none is one leaf alone, where
--- there are more
-pub record HasForm (leaves : ℕ) (n : Node) : Type 0 where
-  pub dense : IsDense n
-  pub sparse : IsNode n
-  pub crowded : 1 < leaves → is_lone_leaf n ≡ false
-
-abbrev pub NodesHaveForm : Type 0
-NodesHaveForm = (hash_bits real_bits : ℕ) (leaves : List Leaf) → IsValid hash_bits real_bits leaves → All (HasForm (length leaves)) (trie_of leaves)

@@ -1,7 +1,7 @@
 // Laws of the reading. They are proved and never called.
 ghost use Rattle.filter_api.specs.Spellings.{SpellsOne};
 ghost use Rattle.filter_model.specs.Image.{image};
-ghost use Rattle.filter_image_model.specs.Laws.{BytesAreTheImage, ImageIsReadAgain, ImageWasWrittenSo, NodesHaveForm, OneListATrie, TrieIsRead};
+ghost use Rattle.filter_image_model.specs.Laws.{BytesAreTheImage, ImageIsReadAgain, ImageWasWrittenSo, OneListATrie, TrieIsRead};
 ghost use Rattle.filter_image_model.specs.Sections.{SectionsAreReadAgain, SectionsAreWritten};
 
 /// Bytes that keep the rules on the bytes alone are the image of the nodes and suffixes that are read, and such an image
@@ -21,12 +21,6 @@ pub fn the_trie_is_read()
 /// Where no rule is broken, what is read may stand, and the bytes are its image.
 pub fn the_image_was_written_so()
     ensures law { ImageWasWrittenSo }
-{}
-
-/// The nodes of a valid list's trie have the form of nodes that are read: END first, which leads to no node, then rising
-/// bytes; neither END alone nor, where there are two leaves or more, one leaf alone.
-pub fn nodes_have_form()
-    ensures law { NodesHaveForm }
 {}
 
 /// No two valid lists of leaves have one trie and the same suffixes, and no two have one image.

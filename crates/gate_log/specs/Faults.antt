@@ -1,16 +1,21 @@
 -- What the faults of reading say.
-use Rattle.std.specs.Prelude.{ℕ}
+use Rattle.std.specs.Prelude.{◌⊎◌, ℕ, ◌+◌}
 use Rattle.disk_trait.specs.Image.{Image}
 use Rattle.disk_trait.specs.World.{World, Rose}
-use Rattle.disk_trait.specs.Fault.{IsFaultOf}
+use Rattle.disk_trait.specs.Fault.{IsFaultOf, IsWriteThroughFault}
+use Rattle.disk_trait.specs.declared.fault.DiskFault.{DiskFault}
 use Rattle.disk_trait.specs.declared.fault.Op.TheVariants.{Read}
-use Rattle.store_model.specs.SortedMap.{Bytes}
-use Rattle.gate_log.specs.Area.{start_of, LogBreaks}
-use Rattle.gate_log.specs.Records.{Breaks}
+use Rattle.map_model.specs.SortedMap.{Bytes}
+use Rattle.log_model.specs.Area.{start_of, LogBreaks}
+use Rattle.log_model.specs.Records.{Breaks}
 use Rattle.gate_log.specs.declared.fault.AreaFault.{AreaFault}
 use Rattle.gate_log.specs.declared.fault.AreaFault.TheVariants as area
 use Rattle.gate_log.specs.declared.fault.LogFault.{LogFault}
 use Rattle.gate_log.specs.declared.fault.LogFault.TheVariants as log
+
+-- the fault of the write behind a gate, of the write of the gate, or of a sync
+abbrev pub IsAppendFault : ℕ → DiskFault → Type 0
+IsAppendFault gate fault = IsWriteThroughFault (gate + 1) fault ⊎ IsWriteThroughFault gate fault
 
 -- want of memory is free; a shape is the first rule that is broken, at its place
 abbrev pub IsFaultIn : Bytes → AreaFault → Type 0

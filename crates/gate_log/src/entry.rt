@@ -1,6 +1,6 @@
 ghost use Rattle.std.specs.Prelude.{◌≡◌, IfOk};
 ghost use Rattle.std.specs.Option.{option_map};
-ghost use Rattle.gate_log.specs.Records.{entry_as};
+ghost use Rattle.entry_model.specs.Entries.{entry_of};
 
 use std::alloc::{AllocError, Global};
 use std::boxed::BoxedSlice;
@@ -25,7 +25,7 @@ pub struct LogEntry {
 impl Model for LogEntry {
     ghost use Rattle.std.specs.Option.{option_map};
     ghost use Rattle.std.specs.Box.{boxed_slice_items};
-    ghost use Rattle.store_model.specs.Entries.{Entry};
+    ghost use Rattle.entry_model.specs.Entries.{Entry};
 
     ghost Value = { Entry };
 
@@ -39,7 +39,7 @@ impl LogEntry {
         key: &[u8],
         value: Option<&[u8]>,
     ) -> Result<LogEntry, AllocError>
-        ensures { IfOk result (λ e. e ≡ entry_as key.now (option_map (λ v. v.now) value.entry)) }
+        ensures { IfOk result (λ e. e ≡ entry_of key.now (option_map (λ v. v.now) value.entry)) }
     {
         let key = BoxedSlice::from_slice(alloc, key)?;
         match value {

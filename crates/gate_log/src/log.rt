@@ -1,13 +1,13 @@
 // The log over its device.
 ghost use Rattle.std.specs.Prelude.{◌≡◌, ◌+◌, ◌*◌, ◌≤◌, ◌<◌, ◌++◌, ◌^◌, ◌↔◌, [], ◌∷◌, List, ℕ, length, vec_len, IsTrue, IfOk, IfErr, OnOk, OnErr, MatchResult};
 ghost use Rattle.disk_trait.specs.Fault.{IsWriteThroughFault};
+ghost use Rattle.disk_trait.specs.Image.{overwritten};
 ghost use Rattle.disk_trait.specs.World.{Now, Leads, ReadMoves, WriteMoves, Rose};
-ghost use Rattle.store_model.specs.Entries.{Entry, filled, need};
-ghost use Rattle.gate_log.specs.Area.{Position, LogIs, WithOrWithout, IsAppendFault, IsNextRecord, start_of, area_in};
-ghost use Rattle.gate_log.specs.Faults.{IsShapeIn, HasReadCause, IsNoShape};
+ghost use Rattle.entry_model.specs.Entries.{Entry, filled, need, record_bytes, IsEntry};
+ghost use Rattle.log_model.specs.Area.{Position, LogIs, WithOrWithout, IsNextRecord, start_of, area_in};
+ghost use Rattle.gate_log.specs.Faults.{IsAppendFault, IsShapeIn, HasReadCause, IsNoShape};
 ghost use Rattle.std.specs.List.{AllByRecursion};
-ghost use Rattle.gate_log.specs.Records.{IsSound};
-ghost use Rattle.gate_log.specs.Kinds.{KeepsRules, entry_of};
+ghost use Rattle.gate_log.specs.Kinds.{KeepsRules, entry_of_kind};
 
 use crate::entry::{Kind, LogEntry};
 use crate::fault::{AreaFault, LogFault};
@@ -34,7 +34,7 @@ pub struct Log {
 
 impl Model for Log {
     ghost use Rattle.std.specs.Prelude.{◌<◌, ◌≤◌};
-    ghost use Rattle.gate_log.specs.Area.{Position};
+    ghost use Rattle.log_model.specs.Area.{Position};
 
     ghost Value = { Position };
 
@@ -54,11 +54,13 @@ pub(crate) fn area_start(area: u8) -> u64
 impl Log {
     /// Begins an empty log in an area, 0 or 1: one write and one sync. Takes no memory.
     ///
-    /// At `Ok` each image that a crash may leave has an empty log there, whatever stood there before.
+    /// At `Ok` each image that a crash may leave has an empty log there, whatever stood there before: the device holds a
+    /// closed gate at the area's first byte, and what it held elsewhere.
     pub fn start<D: Disk>(disk: &mut D, area: u8) -> Result<Log, DiskFault>
         requires { area ≤ 1 }
         ensures log { IfOk result (λ log. log ≡ record { area = area; filled = 0 }) }
         ensures stands { IsTrue D.tells → OnOk result (Now (LogIs area []) (D.world disk.new)) }
+        ensures held { IsTrue D.tells → OnOk result ((D.world disk.new).seen.held ≡ overwritten (D.world disk.old).seen.held (start_of area) (0 ∷ [])) }
         ensures moves { WriteMoves (start_of area) 1 (D.world disk.old) (D.world disk.new) }
         ensures fault { IfErr result (IsWriteThroughFault (start_of area)) }
         ensures cause { OnErr result (Rose (D.world disk.old).seen.write_faults (D.world disk.new).seen.write_faults) }
@@ -78,7 +80,7 @@ impl Log {
         entries: &[LogEntry],
     ) -> Result<Log, DiskFault>
         requires area { area ≤ 1 }
-        requires sound { AllByRecursion IsSound entries.now }
+        requires sound { AllByRecursion IsEntry entries.now }
         requires fits { filled entries.now < 262144 }
         requires room { 66568 ≤ length buf.old }
         ensures log { IfOk result (λ log. log ≡ record { area = area; filled = filled entries.now }) }
@@ -106,7 +108,7 @@ impl Log {
         requires { area ≤ 1 }
         ensures log { IfOk result (λ found. found.0 ≡ record { area = area; filled = filled found.1.items }) }
         ensures entries { IsTrue D.tells → IfOk result (λ found. LogIs area found.1.items (D.world disk.old).seen.held) }
-        ensures sound { IfOk result (λ found. AllByRecursion IsSound found.1.items) }
+        ensures sound { IfOk result (λ found. AllByRecursion IsEntry found.1.items) }
         ensures within { IfOk result (λ found. filled found.1.items < 262144) }
         ensures exact { (entries : List Entry) → IsTrue D.tells → LogIs area entries (D.world disk.old).seen.held → MatchResult result (λ found. found.1.items ≡ entries) IsNoShape }
         ensures shape { IsTrue D.tells → IfErr result (IsShapeIn area (D.world disk.old).seen.held) }
@@ -140,8 +142,8 @@ impl Log {
 
     /// Adds a record: its body with the closed gate behind it, and, once these are synced, the open gate.
     ///
-    /// At `Ok` each image that a crash may leave has the record; meanwhile, and after an `Err`, it is there or not, never
-    /// in part. Two writes and two syncs, no read and no memory: `buf` has room for the body and one byte more.
+    /// At `Ok` each image that a crash may leave has the record, and the device holds its bytes and a closed gate behind
+    /// them; meanwhile, and after an `Err`, it is there or not, never in part. Two writes and two syncs, no read and no memory: `buf` has room for the body and one byte more.
     pub fn append<D: Disk>(
         &mut self,
         disk: &mut D,
@@ -151,15 +153,17 @@ impl Log {
         value: &[u8],
     ) -> Result<(), DiskFault>
         requires rules { KeepsRules kind key.now value.now }
-        requires fits { self.old.filled + need (entry_of kind key.now value.now) ≤ 262144 }
-        requires room { need (entry_of kind key.now value.now) ≤ length buf.old + 1 }
+        requires fits { self.old.filled + need (entry_of_kind kind key.now value.now) ≤ 262144 }
+        requires room { need (entry_of_kind kind key.now value.now) ≤ length buf.old + 1 }
         ensures crash { (entries : List Entry) → IsTrue D.tells → self.old.filled ≡ filled entries
-            → Leads (LogIs self.old.area entries) (WithOrWithout self.old.area entries (entry_of kind key.now value.now)) (LogIs self.old.area (entries ++ entry_of kind key.now value.now ∷ []))
+            → Leads (LogIs self.old.area entries) (WithOrWithout self.old.area entries (entry_of_kind kind key.now value.now)) (LogIs self.old.area (entries ++ entry_of_kind kind key.now value.now ∷ []))
             result (D.world disk.old) (D.world disk.new) }
+        ensures held { IsTrue D.tells → OnOk result ((D.world disk.new).seen.held
+            ≡ overwritten (D.world disk.old).seen.held (start_of self.old.area + self.old.filled) (record_bytes (entry_of_kind kind key.now value.now) ++ 0 ∷ [])) }
         ensures area { self.new.area ≡ self.old.area }
-        ensures filled { OnOk result (self.new.filled + 1 ≡ self.old.filled + need (entry_of kind key.now value.now)) }
+        ensures filled { OnOk result (self.new.filled + 1 ≡ self.old.filled + need (entry_of_kind kind key.now value.now)) }
         ensures stays { OnErr result (self.new ≡ self.old) }
-        ensures moves { WriteMoves (start_of self.old.area + self.old.filled) (need (entry_of kind key.now value.now)) (D.world disk.old) (D.world disk.new) }
+        ensures moves { WriteMoves (start_of self.old.area + self.old.filled) (need (entry_of_kind kind key.now value.now)) (D.world disk.old) (D.world disk.new) }
         ensures fault { IfErr result (IsAppendFault (start_of self.old.area + self.old.filled)) }
         ensures cause { OnErr result (Rose (D.world disk.old).seen.write_faults (D.world disk.new).seen.write_faults) }
     {
@@ -177,7 +181,7 @@ impl Log {
         buf: &mut [u8],
         entry: &LogEntry,
     ) -> Result<(), DiskFault>
-        requires sound { IsSound entry.now }
+        requires sound { IsEntry entry.now }
         requires fits { self.old.filled + need entry.now ≤ 262144 }
         requires room { 66568 ≤ length buf.old }
         ensures crash { (entries : List Entry) → IsTrue D.tells → self.old.filled ≡ filled entries
@@ -215,6 +219,7 @@ fn write_record<D: Disk>(disk: &mut D, gate: u64, bytes: &[u8]) -> Result<(), Di
     requires { gate + 1 + length bytes.now ≤ 2 ^ 48 }
     ensures crash { (area : ℕ) (entries : List Entry) (entry : Entry) → IsTrue D.tells → IsNextRecord area entries entry gate bytes.now
         → Leads (LogIs area entries) (WithOrWithout area entries entry) (LogIs area (entries ++ entry ∷ [])) result (D.world disk.old) (D.world disk.new) }
+    ensures held { IsTrue D.tells → OnOk result ((D.world disk.new).seen.held ≡ overwritten (D.world disk.old).seen.held gate (1 ∷ bytes.now)) }
     ensures moves { WriteMoves gate (length bytes.now + 1) (D.world disk.old) (D.world disk.new) }
     ensures fault { IfErr result (IsAppendFault gate) }
     ensures cause { OnErr result (Rose (D.world disk.old).seen.write_faults (D.world disk.new).seen.write_faults) }

@@ -1,8 +1,9 @@
 // A log area's bytes, record by record.
 ghost use Rattle.std.specs.Prelude.{◌≡◌, ◌+◌, ◌<◌, List, length, Some, None, IfOk, IfErr, MatchResult};
-ghost use Rattle.store_model.specs.Entries.{Entry, filled};
+ghost use Rattle.entry_model.specs.Entries.{Entry, filled, entry_of};
 ghost use Rattle.std.specs.Option.{option_map};
-ghost use Rattle.gate_log.specs.Records.{Spells, broken_rule, entry_in, entry_as, body_length_in};
+ghost use Rattle.log_model.specs.Records.{Spells, broken_rule};
+ghost use Rattle.entry_model.specs.Reading.{entry_in, width_in};
 ghost use Rattle.gate_log.specs.Faults.{IsFaultIn};
 
 use crate::entry::{Kind, LogEntry};
@@ -31,11 +32,12 @@ struct Body<'a> {
 }
 
 // The body behind an open gate, or the first rule that it breaks.
+#[tactic(auto, unfolding(entry_model::specs::Reading::width_in, entry_model::specs::Reading::key_in, entry_model::specs::Reading::entry_in))]
 fn body_in(bytes: &[u8]) -> Result<Body<'_>, u8>
     ensures broken { IfErr result (λ rule. broken_rule bytes.now ≡ Some rule) }
     ensures whole { IfOk result (λ _. broken_rule bytes.now ≡ None) }
-    ensures entry { IfOk result (λ b. entry_as b.key.now (option_map (λ v. v.now) b.value) ≡ entry_in bytes.now) }
-    ensures size { IfOk result (λ b. b.length ≡ body_length_in bytes.now) }
+    ensures entry { IfOk result (λ b. entry_of b.key.now (option_map (λ v. v.now) b.value) ≡ entry_in bytes.now) }
+    ensures size { IfOk result (λ b. b.length ≡ width_in bytes.now) }
     ensures within { IfOk result (λ b. b.length < length bytes.now) }
 {
     if bytes.len() < HEAD_BYTES {

@@ -1,7 +1,7 @@
 // The bytes of a record.
 ghost use Rattle.std.specs.Prelude.{◌≡◌, ◌+◌, ◌≤◌, ◌++◌, [], ◌∷◌, length, take};
-ghost use Rattle.store_model.specs.Entries.{body};
-ghost use Rattle.gate_log.specs.Kinds.{KeepsRules, entry_of};
+ghost use Rattle.entry_model.specs.Entries.{body};
+ghost use Rattle.gate_log.specs.Kinds.{KeepsRules, entry_of_kind};
 
 use crate::entry::Kind;
 use byte_fields::{put_u16, put_u32};
@@ -25,7 +25,7 @@ pub(crate) fn put_record(buf: &mut [u8], kind: Kind, key: &[u8], value: &[u8]) -
     requires rules { KeepsRules kind key.now value.now }
     requires room { length key.now + length value.now + 8 ≤ length buf.old }
     ensures end { result ≡ length key.now + length value.now + 8 }
-    ensures bytes { take result buf.new ≡ body (entry_of kind key.now value.now) ++ 0 ∷ [] }
+    ensures bytes { take result buf.new ≡ body (entry_of_kind kind key.now value.now) ++ 0 ∷ [] }
 {
     let mut head = [kind as u8; HEAD_BYTES];
     put_u16(&mut head, 1, key.len() as u16);

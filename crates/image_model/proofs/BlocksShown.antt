@@ -3,8 +3,8 @@ use Rattle.std.proofs.Common.{◌≡◌, ◌*◌, ℕ, List, [], ◌∷◌, leng
 use Rattle.std.specs.Prelude.{flat_map, map, sum_by}
 use Rattle.std.specs.List.{AllByRecursion}
 use Rattle.disk_trait.specs.Image.{Image, window}
-use Rattle.store_model.specs.SortedMap.{Bytes}
-use Rattle.store_model.specs.Entries.{Entry}
+use Rattle.map_model.specs.SortedMap.{Bytes}
+use Rattle.entry_model.specs.Entries.{Entry}
 use Rattle.block_model.specs.Block.{IsBlock, block_bytes}
 use Rattle.block_model.specs.BlockReading.{block_in}
 use Rattle.block_model.specs.Index.{Index, IndexRow, IsIndex, index_bytes, index_row_of}
@@ -13,7 +13,7 @@ use Rattle.block_model.specs.Pages.{block_pages}
 use Rattle.block_model.proofs.BlocksRead.{block_again}
 use Rattle.block_model.proofs.IndexesRead.{index_again}
 use Rattle.block_model.proofs.Lengths.{block_fills, blocks_fill}
-use Rattle.gate_log.proofs.Logs.{same_parts}
+use Rattle.log_model.proofs.Logs.{same_parts}
 use Rattle.image_model.specs.Tables.{Shows}
 
 -- bytes of one length at one place are the same

@@ -5,7 +5,7 @@ use Rattle.disk_trait.specs.Image.{Image}
 use Rattle.byte_fields.specs.declared.parts.Row.{Row}
 use Rattle.filter_api.specs.declared.settings.Settings.{Settings}
 use Rattle.filter_api.specs.Spellings.{Spelling}
-use Rattle.store_model.specs.Entries.{Entry}
+use Rattle.entry_model.specs.Entries.{Entry}
 use Rattle.block_model.specs.Block.{block_bytes}
 use Rattle.block_model.specs.Index.{Index, index_bytes, index_row_of}
 use Rattle.manifest_model.specs.Reading.{table_pages}

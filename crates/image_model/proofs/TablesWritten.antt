@@ -6,9 +6,9 @@ use Rattle.byte_fields.specs.Sums.{fnv_of}
 use Rattle.filter_api.specs.Spellings.{Spelling, IsSpelling}
 use Rattle.filter_api.specs.declared.settings.Settings.{Settings}
 use Rattle.filter_model.specs.Leaves.{leaves_of}
-use Rattle.store_model.specs.SortedMap.{Bytes}
-use Rattle.store_model.specs.Entries.{Entry}
-use Rattle.block_model.specs.Block.{IsTable, data_bytes, keys_of}
+use Rattle.map_model.specs.SortedMap.{Bytes}
+use Rattle.entry_model.specs.Entries.{Entry, keys_of}
+use Rattle.block_model.specs.Block.{IsTable, data_bytes}
 use Rattle.block_model.specs.Index.{Index, IsIndex, index_bytes, index_of, index_row_of}
 use Rattle.block_model.specs.Pages.{blocks_of, data_pages, first_key}
 use Rattle.block_model.proofs.Cutting.{blocks_are_sound, blocks_joined}

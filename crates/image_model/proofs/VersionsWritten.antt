@@ -5,8 +5,8 @@ use Rattle.disk_trait.specs.Image.{Image, window}
 use Rattle.disk_trait.proofs.Images.{window_split}
 use Rattle.filter_api.specs.Ranges.{InRange}
 use Rattle.filter_api.specs.declared.settings.Settings.{Settings}
-use Rattle.gate_log.proofs.Appended.{empty}
-use Rattle.store_model.specs.SortedMap.{Bytes}
+use Rattle.log_model.proofs.Appended.{empty}
+use Rattle.map_model.specs.SortedMap.{Bytes}
 use Rattle.manifest_model.specs.Laws.{IsVersion}
 use Rattle.manifest_model.specs.Reading.{body_damage, extents_fault, levels_fault, of_version, rows_fault, version_in}
 use Rattle.manifest_model.specs.Version.{Version, body_bytes, body_place, front_bytes, head_bytes, row_bytes, slot_a}

@@ -1,7 +1,7 @@
 -- The version that an image holds: that of the open slot, or of two open ones that of the greater epoch.
 use Rattle.std.specs.Prelude.{◌≡◌, ◌≢◌, ◌⊎◌, ◌<◌, ℕ, None}
 use Rattle.disk_trait.specs.Image.{Image, window}
-use Rattle.store_model.specs.SortedMap.{Bytes}
+use Rattle.map_model.specs.SortedMap.{Bytes}
 use Rattle.manifest_model.specs.Version.{Version, slot_a, slot_b, body_place}
 use Rattle.manifest_model.specs.Reading.{version_in, body_damage}
 

@@ -7,10 +7,10 @@ use Rattle.byte_fields.specs.declared.parts.Row.{Row}
 use Rattle.filter_api.specs.declared.settings.Settings.{Settings}
 use Rattle.filter_api.specs.Spellings.{Spelling, IsSpelling}
 use Rattle.filter_model.specs.Leaves.{leaves_of}
-use Rattle.store_model.specs.SortedMap.{Bytes}
-use Rattle.store_model.specs.Entries.{Entry}
+use Rattle.map_model.specs.SortedMap.{Bytes}
+use Rattle.entry_model.specs.Entries.{Entry, keys_of}
 use Rattle.block_model.specs.Pages.{page_bytes, block_pages, first_key}
-use Rattle.block_model.specs.Block.{IsBlock, IsTable, block_bytes, keys_of}
+use Rattle.block_model.specs.Block.{IsBlock, IsTable, block_bytes}
 use Rattle.block_model.specs.Index.{Index, IsIndex, index_row_of, index_bytes}
 use Rattle.manifest_model.specs.Reading.{table_pages}
 use Rattle.state_model.specs.State.{Table}

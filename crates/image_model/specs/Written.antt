@@ -7,10 +7,10 @@ use Rattle.filter_api.specs.Ranges.{InRange}
 use Rattle.filter_api.specs.Spellings.{Spelling, IsSpelling}
 use Rattle.filter_api.specs.declared.settings.Settings.{Settings}
 use Rattle.filter_model.specs.Leaves.{leaves_of}
-use Rattle.gate_log.specs.Area.{start_of}
-use Rattle.store_model.specs.SortedMap.{Bytes}
-use Rattle.store_model.specs.Entries.{Entry}
-use Rattle.block_model.specs.Block.{IsTable, data_bytes, keys_of}
+use Rattle.log_model.specs.Area.{start_of}
+use Rattle.map_model.specs.SortedMap.{Bytes}
+use Rattle.entry_model.specs.Entries.{Entry, keys_of}
+use Rattle.block_model.specs.Block.{IsTable, data_bytes}
 use Rattle.block_model.specs.Index.{index_bytes, index_of}
 use Rattle.block_model.specs.Pages.{data_pages, index_length, pages_for}
 use Rattle.manifest_model.specs.Laws.{IsVersion}

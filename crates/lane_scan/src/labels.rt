@@ -15,7 +15,11 @@ const GROUP: usize = 16;
 pub fn find_label(bytes: &[u8], label: u8) -> Option<usize>
     ensures { result ≡ position (λ byte. byte == label) bytes.now }
 {
-    find_label_between(bytes, 0, bytes.len(), label)
+    if bytes.len() < GROUP {
+        label_by_bytes(bytes, 0, bytes.len(), label)
+    } else {
+        find_label_between(bytes, 0, bytes.len(), label)
+    }
 }
 
 /// The first place in `bytes` that holds `label` or more, or `None` where none does.
@@ -24,7 +28,11 @@ pub fn find_label(bytes: &[u8], label: u8) -> Option<usize>
 pub fn first_at_least(bytes: &[u8], label: u8) -> Option<usize>
     ensures { result ≡ position (λ byte. nat_le label byte) bytes.now }
 {
-    first_at_least_between(bytes, 0, bytes.len(), label)
+    if bytes.len() < GROUP {
+        least_by_bytes(bytes, 0, bytes.len(), label)
+    } else {
+        first_at_least_between(bytes, 0, bytes.len(), label)
+    }
 }
 
 /// The first place of `section` from `start` on and before `end` that holds `label`, or `None` where none does.

@@ -28,13 +28,12 @@ pub fn ones(words: &[u64]) -> u64
 /// The word that holds the nth set bit, from 0, and `n` less the set bits of the words before it; `None` where at most
 /// `n` bits are set.
 ///
-/// Counts four words at a time up to the four that hold the bit, and these and a rest of fewer word by word. Takes no
-/// memory.
+/// Counts one word after the other, up to the one with the bit. Takes no memory.
 pub fn word_with_nth_one(words: &[u64], n: u64) -> Option<(usize, u64)>
     ensures { MatchOption result (sum_by count_ones words.now ≤ n) (λ found. IsWordOfOne words.now n found.0 found.1) }
 {
-    let (start, mut left) = skip_lanes(words, n);
-    for i in start..words.len() {
+    let mut left = n;
+    for i in 0..words.len() {
         let count = u64::from(words[i].count_ones());
         if left < count {
             return Some((i, left));
@@ -86,20 +85,4 @@ fn ones_in_groups(words: &[u64]) -> u64
         total += ones_in_group(words, GROUP * i);
     }
     total
-}
-
-/// A word at or before the one with the nth set bit, and `n` less the set bits before it.
-fn skip_lanes(words: &[u64], n: u64) -> (usize, u64)
-    ensures place { result.0 ≤ length words.now }
-    ensures left { ones_before words.now result.0 + result.1 ≡ n }
-{
-    let mut left = n;
-    for i in 0..words.len() / LANES {
-        let count = ones_in_lanes(words, LANES * i);
-        if left < count {
-            return (LANES * i, left);
-        }
-        left -= count;
-    }
-    (words.len() / LANES * LANES, left)
 }

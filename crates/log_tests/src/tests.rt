@@ -285,3 +285,30 @@ fn a_read_that_fails_is_named(rt: HostRuntime) -> Result<(), Fail> {
     );
     Ok(())
 }
+
+// A put of the value 62 at the key 61, and a delete of it, and then the first bytes of area 0.
+fn bytes_of_two_records(alloc: Global) -> Result<[u8; 20], Fail> {
+    let mut buf = vec![in alloc; 0; BUFFER_BYTES]?;
+    let mut disk = MemDisk::new(alloc, &[])?;
+    if let Ok(mut log) = Log::start(&mut disk, 0) {
+        put(&mut log, &mut disk, &mut buf, b"a", b"b");
+        delete(&mut log, &mut disk, &mut buf, b"a");
+    }
+    let mut bytes = [9; 20];
+    match disk.read(262_144, &mut bytes) {
+        Ok(()) => Ok(bytes),
+        Err(_) => Err(Fail::from("no bytes")),
+    }
+}
+
+#[test]
+fn the_bytes_of_a_put_and_a_delete(rt: HostRuntime) -> Result<(), Fail> {
+    assert_eq!(rt;
+        bytes_of_two_records(rt.alloc())?,
+        [
+            1, 1, 1, 0, 1, 0, 0, 0, 0x61, 0x62, //
+            1, 2, 1, 0, 0, 0, 0, 0, 0x61, 0
+        ]
+    );
+    Ok(())
+}

@@ -94,7 +94,11 @@ impl<A: Allocator> Sparse<A> {
     {
         let (start, end) = self.bytes_of(node);
         let place = cut(&self.labels, start, end, byte);
-        if place < end { Some(place as u64) } else { None }
+        if place < end {
+            Some(place as u64)
+        } else {
+            None
+        }
     }
 
     /// The place of the node's last branch by a lesser byte. `byte` is at most 256.
@@ -105,7 +109,11 @@ impl<A: Allocator> Sparse<A> {
     {
         let (start, end) = self.bytes_of(node);
         let place = cut(&self.labels, start, end, byte);
-        if place > start { Some(place as u64 - 1) } else { None }
+        if place > start {
+            Some(place as u64 - 1)
+        } else {
+            None
+        }
     }
 
     /// The byte of the branch at a place, FF for END.
@@ -210,7 +218,10 @@ impl<A: Allocator> Sparse<A> {
         ensures { StandBytes self.now node result.0 result.1 }
     {
         let (from, to) = self.labels_of(node);
-        (from + usize::from(opens_with_end(&self.labels, from, to)), to)
+        (
+            from + usize::from(opens_with_end(&self.labels, from, to)),
+            to,
+        )
     }
 }
 

@@ -10,8 +10,8 @@ use Rattle.byte_fields.specs.declared.parts.Damage.{Damage}
 use Rattle.byte_fields.specs.declared.parts.Row.{Row}
 use Rattle.byte_fields.proofs.FieldLemmas.{fields_again}
 use Rattle.byte_fields.proofs.NumberLemmas.{number_again}
-use Rattle.store_model.specs.SortedMap.{Bytes}
-use Rattle.block_model.specs.Faults.{Fault}
+use Rattle.map_model.specs.SortedMap.{Bytes}
+use Rattle.byte_fields.specs.Faults.{Fault}
 use Rattle.block_model.proofs.EntriesRead.{eqb_zero}
 use Rattle.block_model.proofs.Refusals.{none_of, not_true, passed}
 use Rattle.block_model.proofs.TableIndex.{sum_below}

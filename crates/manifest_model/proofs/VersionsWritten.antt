@@ -14,8 +14,8 @@ use Rattle.byte_fields.specs.declared.parts.Damage.TheVariants as damage
 use Rattle.byte_fields.specs.declared.parts.Part.TheVariants as part
 use Rattle.byte_fields.proofs.FieldLemmas.{fields_back, fields_below}
 use Rattle.byte_fields.proofs.NumberLemmas.{IsBytes-drop, number_again, number_back, number_below}
-use Rattle.store_model.specs.SortedMap.{Bytes}
-use Rattle.block_model.specs.Faults.{Fault, fault}
+use Rattle.map_model.specs.SortedMap.{Bytes}
+use Rattle.byte_fields.specs.Faults.{Fault, fault}
 use Rattle.block_model.proofs.EntriesWritten.{next_part}
 use Rattle.block_model.proofs.LastBlocks.{positive}
 use Rattle.block_model.proofs.Refusals.{is_other, kept, neither, not_false, nowhere, zeros_are}

@@ -4,7 +4,7 @@ use Rattle.std.specs.List.{AllByRecursion}
 use Rattle.byte_fields.specs.Fields.{FieldsFit}
 use Rattle.byte_fields.specs.Spelling.{IsBytes}
 use Rattle.byte_fields.specs.declared.parts.Row.{Row}
-use Rattle.store_model.specs.SortedMap.{Bytes}
+use Rattle.map_model.specs.SortedMap.{Bytes}
 use Rattle.manifest_model.specs.Reading.{body_damage, front_length_in, of_version, version_in}
 use Rattle.manifest_model.specs.Version.{Version, body_bytes, row_numbers, row_widths}
 

@@ -9,8 +9,8 @@ use Rattle.byte_fields.specs.declared.parts.Row.{Row}
 use Rattle.byte_fields.specs.declared.parts.Damage.{Damage}
 use Rattle.byte_fields.specs.declared.parts.Damage.TheVariants as damage
 use Rattle.byte_fields.specs.declared.parts.Part.TheVariants as part
-use Rattle.store_model.specs.SortedMap.{Bytes}
-use Rattle.block_model.specs.Faults.{Fault, fault, refuse, or_fault}
+use Rattle.map_model.specs.SortedMap.{Bytes}
+use Rattle.byte_fields.specs.Faults.{Fault, fault, refuse, or_fault}
 use Rattle.block_model.specs.Pages.{pages_for}
 use Rattle.manifest_model.specs.Version.{Version, magic, log_pages, row_widths, body_place}
 

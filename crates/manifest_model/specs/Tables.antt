@@ -1,7 +1,7 @@
 -- What the rules say of two slots, and of the keys of the tables of a version.
 use Rattle.std.specs.Prelude.{ℕ, ◌+◌, nat_lt, ◌==◌, Bool, not, ◌||◌, List, [], ◌∷◌, Option, None}
-use Rattle.store_model.specs.SortedMap.{Bytes}
-use Rattle.block_model.specs.Faults.{Fault, refuse}
+use Rattle.map_model.specs.SortedMap.{Bytes}
+use Rattle.byte_fields.specs.Faults.{Fault, refuse}
 use Rattle.block_model.specs.Order.{is_above}
 use Rattle.manifest_model.specs.Version.{Version}
 

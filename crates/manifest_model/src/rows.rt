@@ -1,6 +1,6 @@
 // The definitions, tried on small manifests whose bytes and faults are known. Each row computes.
 ghost use Rattle.std.specs.Prelude.{◌≡◌, [], ◌∷◌, ◌++◌, length, take, drop, set, replicate, true, Some, None};
-ghost use Rattle.block_model.specs.Faults.{fault};
+ghost use Rattle.byte_fields.specs.Faults.{fault};
 ghost use Rattle.manifest_model.specs.Reading.{body_damage, version_in};
 ghost use Rattle.manifest_model.specs.Rows.{broken, formatted, keys_at, merged, shape, sums, table, with_tables};
 ghost use Rattle.manifest_model.specs.Tables.{epochs_fault, is_newer, ranges_fault};

@@ -10,8 +10,8 @@ use Rattle.std.proofs.lemmas.List.{take_all, length-take}
 use Rattle.std.proofs.lemmas.List.Sums.{length-filter}
 use Rattle.std.proofs.lemmas.List.Elements.{All-from_recursion, recursion_from_All}
 use Rattle.std.proofs.lemmas.Slice.Eq.{bytes_eq-Decides}
-use Rattle.store_model.specs.SortedMap.{Bytes, Map, byte_order, get, Rises}
-use Rattle.store_model.proofs.Maps.{other_key, order_same, equal_keys, less_of_greater, by_order}
+use Rattle.map_model.specs.SortedMap.{Bytes, Map, byte_order, get, Rises}
+use Rattle.map_model.proofs.Maps.{other_key, order_same, equal_keys, less_of_greater, by_order}
 use Rattle.map_model.specs.Slices.{is_before, is_between, between, slice, first_pair, seek, count}
 
 true-false : true ≡ false → ⊥

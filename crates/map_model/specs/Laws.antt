@@ -1,8 +1,20 @@
--- Laws of what is read between two keys.
-use Rattle.std.specs.Prelude.{◌≡◌, ◌↔◌, ◌≤◌, ℕ, true, false, [], length, count_by, Option, Some, None}
+-- Laws of the sorted map, and of what is read between two keys.
+use Rattle.std.specs.Prelude.{◌≡◌, ◌≢◌, ◌↔◌, ◌≤◌, ℕ, true, false, [], length, count_by, Option, Some, None}
 use Rattle.std.specs.List.{All}
-use Rattle.store_model.specs.SortedMap.{Bytes, Map, get, Rises}
+use Rattle.map_model.specs.SortedMap.{Bytes, Map, get, put, del, Rises}
 use Rattle.map_model.specs.Slices.{is_before, is_between, between, slice, seek, count}
+
+-- a put gives its value to its key, and leaves every other key as it was
+pub record PutLaws : Type 0 where
+  pub here : (map : Map) (key value : Bytes) → get (put map key value) key ≡ Some value
+  pub elsewhere : (map : Map) (key value other : Bytes) → key ≢ other → get (put map key value) other ≡ get map other
+  pub rises : (map : Map) (key value : Bytes) → Rises map → Rises (put map key value)
+
+-- a del takes its key away, and leaves every other key as it was
+pub record DelLaws : Type 0 where
+  pub here : (map : Map) (key : Bytes) → get (del map key) key ≡ None
+  pub elsewhere : (map : Map) (key other : Bytes) → key ≢ other → get (del map key) other ≡ get map other
+  pub rises : (map : Map) (key : Bytes) → Rises map → Rises (del map key)
 
 -- The pairs between two keys are a map that has, at each key there, what the whole has, and nothing elsewhere. A slice
 -- of n is no longer than n, is all of them where they are no more, keeps their order, and is empty where lo is above hi.

@@ -1,3 +1,4 @@
+pub mod SortedMap
 pub mod Slices
 pub mod Laws
 pub mod Rows

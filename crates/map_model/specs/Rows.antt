@@ -1,6 +1,6 @@
 -- The definitions on worked rows.
 use Rattle.std.specs.Prelude.{◌≡◌, [], ◌∷◌, Some, None, refl}
-use Rattle.store_model.specs.SortedMap.{Map, put}
+use Rattle.map_model.specs.SortedMap.{Map, put}
 use Rattle.map_model.specs.Slices.{slice, seek, count}
 
 -- 61 with no bytes, and 62 with 01

@@ -1,7 +1,7 @@
 -- What is read of a sorted map between two keys.
 use Rattle.std.specs.Prelude.{ℕ, Bool, true, not, ◌&&◌, [], ◌∷◌, length, take, filter, Option, Some, None}
 use Rattle.std.specs.Ordering.{is_lt}
-use Rattle.store_model.specs.SortedMap.{Bytes, Map, byte_order}
+use Rattle.map_model.specs.SortedMap.{Bytes, Map, byte_order}
 
 -- x comes before y: byte by byte, a proper prefix first
 abbrev pub is_before : Bytes → Bytes → Bool

@@ -1,11 +1,22 @@
-//! The sorted map as what is read of it between two keys.
+//! The sorted map: pairs of byte strings with rising keys, what a put and a del make of it, and what is read of it between
+//! two keys.
 //!
 //! `slice` is the first n pairs whose keys lie between, both ends included, `seek` the first of them, `count` how many
 //! they are. The definitions stand in `specs/`; the functions here carry their laws and do nothing. A program over
 //! them is `plain_map`.
 #![tactic(auto)]
 
-ghost use Rattle.map_model.specs.Laws.{SliceLaws, SeekLaws, CountLaws};
+ghost use Rattle.map_model.specs.Laws.{PutLaws, DelLaws, SliceLaws, SeekLaws, CountLaws};
+
+/// Law: `get` after `put` gives the value at its key and what was there at every other, and keys keep rising.
+pub fn put_laws()
+    ensures { PutLaws }
+{}
+
+/// Law: `get` after `del` gives nothing at its key and what was there at every other, and keys keep rising.
+pub fn del_laws()
+    ensures { DelLaws }
+{}
 
 /// Law: what lies between two keys is the map cut to them, in its order, and nothing where the two are crossed.
 pub fn slice_laws()

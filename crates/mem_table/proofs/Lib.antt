@@ -1,3 +1,1 @@
-pub mod Newest
 pub mod Places
-mod Rows

@@ -10,11 +10,12 @@ use Rattle.std.specs.Cmp.Lexicographic.{nat_list_cmp_total}
 use Rattle.std.specs.Ordering.{is_lt, ordering_index}
 use Rattle.std.specs.declared.cmp.Ordering.{Ordering}
 use Rattle.std.specs.declared.cmp.Ordering.TheVariants.{Less, Equal, Greater}
-use Rattle.store_model.specs.SortedMap.{Bytes, byte_order}
-use Rattle.store_model.specs.Entries.{Entry}
-use Rattle.store_model.proofs.Maps.{same_key, order_same, equal_keys, less_of_greater}
-use Rattle.mem_table.specs.Table.{IsBelow, IsAbove, KeysRise, placed, with_entry, lookup, entries_from, StandsAt, BelongsAt}
-use Rattle.mem_table.proofs.Newest.{greater_of_less, below_apart, none_above}
+use Rattle.map_model.specs.SortedMap.{Bytes, byte_order, in_place}
+use Rattle.entry_model.specs.Entries.{Entry}
+use Rattle.map_model.proofs.Maps.{same_key, order_same, equal_keys, less_of_greater}
+use Rattle.mem_table.specs.Table.{StandsAt, BelongsAt}
+use Rattle.entry_model.specs.Newest.{IsBelow, IsAbove, KeysRise, with_entry, lookup, entries_from}
+use Rattle.entry_model.proofs.Newest.{greater_of_less, below_apart, none_above}
 
 -- ---- the orders of rising keys to one key rise
 
@@ -73,7 +74,7 @@ belongs key entries at within less greater = record {
 with_behind : (front back : List Entry) (new : Entry) → AllByRecursion (IsBelow new.key) front → with_entry (front ++ back) new ≡ front ++ with_entry back new
 with_behind [] back new below = refl
 with_behind (entry ∷ front) back new below =
-    ap (λ (o : Ordering). placed o new entry (front ++ back) (with_entry (front ++ back) new)) (greater_of_less entry.key new.key below.0)
+    ap (λ (o : Ordering). in_place o new entry (front ++ back) (with_entry (front ++ back) new)) (greater_of_less entry.key new.key below.0)
     ∙ ap (λ (es : List Entry). entry ∷ es) (with_behind front back new below.1)
 
 lookup_behind : (front back : List Entry) (key : Bytes) → AllByRecursion (IsBelow key) front → lookup (front ++ back) key ≡ lookup back key
@@ -94,7 +95,7 @@ from_above (entry ∷ back) low above =
 
 with_above : (back : List Entry) (new : Entry) → AllByRecursion (IsAbove new.key) back → with_entry back new ≡ new ∷ back
 with_above [] new above = refl
-with_above (entry ∷ more) new above = ap (λ (o : Ordering). placed o new entry more (with_entry more new)) above.0
+with_above (entry ∷ more) new above = ap (λ (o : Ordering). in_place o new entry more (with_entry more new)) above.0
 
 -- ---- at the place
 
@@ -144,7 +145,7 @@ set_at entries new at s =
     let old = get_or entries at new in
     let next : suc at ≡ at + 1 = omega arith in
     let here : with_entry (old ∷ drop (at + 1) entries) new ≡ new ∷ drop (at + 1) entries =
-    ap (λ (o : Ordering). placed o new old (drop (at + 1) entries) (with_entry (drop (at + 1) entries) new)) (order_same new.key old.key (sym (s.here new))) in
+    ap (λ (o : Ordering). in_place o new old (drop (at + 1) entries) (with_entry (drop (at + 1) entries) new)) (order_same new.key old.key (sym (s.here new))) in
     set_split entries at new s.within
     ∙ ap (λ (k : ℕ). take at entries ++ new ∷ drop k entries) next
     ∙ ap (λ (es : List Entry). take at entries ++ es) (sym here)

@@ -1,6 +1,6 @@
 ghost use Rattle.std.specs.Prelude.{◌≡◌, [], ◌∷◌, MatchOption};
 ghost use Rattle.std.specs.Option.{option_map};
-ghost use Rattle.mem_table.specs.Table.{entry_of};
+ghost use Rattle.entry_model.specs.Entries.{entry_of};
 
 use crate::prepared::Prepared;
 use std::marker::Model;
@@ -13,7 +13,7 @@ pub struct MemCursor<'a> {
 
 impl<'a> Model for MemCursor<'a> {
     ghost use Rattle.std.specs.Prelude.{List};
-    ghost use Rattle.store_model.specs.Entries.{Entry};
+    ghost use Rattle.entry_model.specs.Entries.{Entry};
 
     ghost Value = { List Entry };
 

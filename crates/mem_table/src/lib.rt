@@ -1,7 +1,7 @@
 //! The memory table of a log-structured store: the newest entry of each key, by rising keys.
 //!
 //! A contract sees a [`MemTable`] as the list of its entries and the number of spare places: over the entries of a log,
-//! in the order of writing, it is `newest_entries` of them ([`newest_laws`]). A deleted key keeps an entry, a tombstone,
+//! in the order of writing, it is `newest_entries` of them (`entry_model::newest_laws`). A deleted key keeps an entry, a tombstone,
 //! which hides what older tables say of it.
 //!
 //! A look-up is a binary search; setting a new key moves the entries behind it, so it costs their number. Memory is taken
@@ -16,12 +16,10 @@
 #![tactic(auto)]
 
 mod cursor;
-mod laws;
 mod prepared;
 mod table;
 
 pub use cursor::MemCursor;
-pub use laws::newest_laws;
 pub use prepared::Prepared;
 pub use table::MemTable;
 

@@ -1,7 +1,7 @@
 ghost use Rattle.std.specs.Prelude.{◌≡◌, IfOk};
 ghost use Rattle.std.specs.Option.{option_map};
-ghost use Rattle.mem_table.specs.Table.{entry_of};
-ghost use Rattle.store_model.specs.SortedMap.{byte_order};
+ghost use Rattle.entry_model.specs.Entries.{entry_of};
+ghost use Rattle.map_model.specs.SortedMap.{byte_order};
 
 use std::alloc::{AllocError, Global};
 use std::boxed::BoxedSlice;
@@ -18,7 +18,7 @@ pub struct Prepared {
 impl Model for Prepared {
     ghost use Rattle.std.specs.Option.{option_map};
     ghost use Rattle.std.specs.Box.{boxed_slice_items};
-    ghost use Rattle.store_model.specs.Entries.{Entry};
+    ghost use Rattle.entry_model.specs.Entries.{Entry};
 
     ghost Value = { Entry };
 

@@ -1,7 +1,8 @@
 ghost use Rattle.std.specs.Prelude.{◌≡◌, ◌+◌, ◌≤◌, ℕ, List, [], ◌∷◌, ◌++◌, length, IfOk, IfErr, OnOk, OnErr, IsTrue, ◌↔◌};
 ghost use Rattle.std.specs.Option.{option_map};
-ghost use Rattle.store_model.specs.Entries.{Entry};
-ghost use Rattle.mem_table.specs.Table.{StandsAt, BelongsAt, entry_of, with_entry, newest_entries, lookup, entries_from};
+ghost use Rattle.entry_model.specs.Entries.{Entry, entry_of};
+ghost use Rattle.mem_table.specs.Table.{StandsAt, BelongsAt};
+ghost use Rattle.entry_model.specs.Newest.{with_entry, newest_entries, lookup, entries_from};
 
 use crate::cursor::MemCursor;
 use crate::prepared::Prepared;
@@ -16,7 +17,8 @@ pub struct MemTable {
 
 impl Model for MemTable {
     ghost use Rattle.std.specs.Prelude.{◌-◌, ◌≤◌, vec_capacity, length};
-    ghost use Rattle.mem_table.specs.Table.{Table, KeysRise};
+    ghost use Rattle.mem_table.specs.Table.{Table};
+    ghost use Rattle.entry_model.specs.Newest.{KeysRise};
 
     ghost Value = { Table };
 

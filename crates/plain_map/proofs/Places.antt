@@ -5,7 +5,7 @@ use Rattle.std.specs.List.{AllWithin}
 use Rattle.std.specs.declared.cmp.Ordering.{Ordering}
 use Rattle.std.specs.declared.cmp.Ordering.TheVariants.{Less, Equal, Greater}
 use Rattle.std.proofs.lemmas.List.{set_split, drop_more, drop_all}
-use Rattle.store_model.specs.SortedMap.{Bytes, Map, byte_order, put, placed, del}
+use Rattle.map_model.specs.SortedMap.{Bytes, Map, byte_order, put, in_place, del}
 
 -- the key is above those before the place
 abbrev pub IsAbove : Bytes → Map → ℕ → Type 0
@@ -15,7 +15,7 @@ put_behind : (map : Map) (key value : Bytes) (at : ℕ) → at ≤ length map �
 put_behind map key value zero within above = refl
 put_behind [] key value (suc at) within above = absurd (omega arith)
 put_behind (pair ∷ more) key value (suc at) within above =
-    ap (λ (o : Ordering). placed o (key, value) pair more (put more key value)) (above 0 pair (omega arith) (omega arith))
+    ap (λ (o : Ordering). in_place o (key, value) pair more (put more key value)) (above 0 pair (omega arith) (omega arith))
     ∙ ap (λ (m : Map). pair ∷ m) (put_behind more key value at (omega arith) (λ k d low high. above (suc k) d (omega arith) (omega arith)))
 
 -- the pairs from a place on
@@ -29,7 +29,7 @@ missing_here map key at pair within above is less = (
   λ value.
       put_behind map key value at (omega arith) above
       ∙ ap (λ (m : Map). take at map ++ put m key value) (from_here map at pair within is)
-      ∙ ap (λ (o : Ordering). take at map ++ placed o (key, value) pair (drop (at + 1) map) (put (drop (at + 1) map) key value)) less
+      ∙ ap (λ (o : Ordering). take at map ++ in_place o (key, value) pair (drop (at + 1) map) (put (drop (at + 1) map) key value)) less
       ∙ ap (λ (m : Map). take at map ++ (key, value) ∷ m) (sym (from_here map at pair within is)),
 )
 
@@ -41,7 +41,7 @@ found_here map key at pair within above is equal = (
       let next : at + 1 ≡ suc at = omega arith in
       put_behind map key value at (omega arith) above
       ∙ ap (λ (m : Map). take at map ++ put m key value) (from_here map at pair within is)
-      ∙ ap (λ (o : Ordering). take at map ++ placed o (key, value) pair (drop (at + 1) map) (put (drop (at + 1) map) key value)) equal
+      ∙ ap (λ (o : Ordering). take at map ++ in_place o (key, value) pair (drop (at + 1) map) (put (drop (at + 1) map) key value)) equal
       ∙ ap (λ (k : ℕ). take at map ++ (key, value) ∷ drop k map) next
       ∙ sym (set_split map at (key, value) within),
 )

@@ -2,7 +2,7 @@
 use Rattle.std.proofs.Common.{◌≡◌, ℕ, zero, suc, ◌+◌, ◌-◌, ◌<◌, ◌≤◌, [], ◌∷◌, ◌++◌, length, take, drop, get_or, refl, sym, ap, ◌∙◌, true, false, arith}
 use Rattle.std.specs.Prelude.{Option}
 use Rattle.std.proofs.lemmas.List.{append-nil, append_assoc, drop_all, length_push}
-use Rattle.store_model.specs.SortedMap.{Bytes, Map}
+use Rattle.map_model.specs.SortedMap.{Bytes, Map}
 use Rattle.map_model.specs.Slices.{is_between, between, slice}
 use Rattle.map_model.proofs.Between.{kept, left_out}
 use Rattle.plain_map.proofs.Places.{from_here}

@@ -1,7 +1,7 @@
 //! The sorted vector of pairs.
 ghost use Rattle.std.specs.Prelude.{◌≡◌, ◌<◌, ◌≤◌, ◌↔◌, [], length, insert, slice_set, IfOk, IfErr, OnOk, OnErr, IsTrue};
 ghost use Rattle.std.specs.Option.{option_map};
-ghost use Rattle.store_model.specs.SortedMap.{Bytes, get, put, del, Rises};
+ghost use Rattle.map_model.specs.SortedMap.{Bytes, get, put, del, Rises};
 ghost use Rattle.map_model.specs.Slices.{slice, seek, count};
 
 use super::pair::Pair;
@@ -16,7 +16,7 @@ pub struct PlainMap {
 }
 
 impl Model for PlainMap {
-    ghost use Rattle.store_model.specs.SortedMap.{Map, Rises};
+    ghost use Rattle.map_model.specs.SortedMap.{Map, Rises};
 
     ghost Value = { Map };
 

@@ -1,7 +1,7 @@
 //! A key and its value.
 ghost use Rattle.std.specs.Prelude.{◌≡◌, IfOk, bytes_eq};
 ghost use Rattle.std.specs.Option.{option_map};
-ghost use Rattle.store_model.specs.SortedMap.{byte_order};
+ghost use Rattle.map_model.specs.SortedMap.{byte_order};
 ghost use Rattle.map_model.specs.Slices.{is_between};
 
 use std::alloc::{AllocError, Global};
@@ -16,7 +16,7 @@ pub struct Pair {
 }
 
 impl Model for Pair {
-    ghost use Rattle.store_model.specs.SortedMap.{Bytes};
+    ghost use Rattle.map_model.specs.SortedMap.{Bytes};
 
     ghost Value = { Bytes × Bytes };
 

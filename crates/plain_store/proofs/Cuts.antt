@@ -2,7 +2,7 @@
 use Rattle.std.specs.Prelude.{◌≡◌, ◌<◌, ℕ, suc, nat_le, if◌then◌else◌, List, [], length, take, drop}
 use Rattle.std.proofs.Common.{sym, ap, ◌∙◌}
 use Rattle.std.proofs.Math.Seq.{drop-cons, take-suc}
-use Rattle.store_model.specs.Entries.{Entry, del_entry}
+use Rattle.entry_model.specs.Entries.{Entry, del_entry}
 use Rattle.block_model.specs.Pages.{data_pages}
 use Rattle.state_model.specs.Merges.{split_output}
 

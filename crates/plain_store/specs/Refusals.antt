@@ -2,7 +2,7 @@
 use Rattle.std.specs.Prelude.{Result}
 use Rattle.std.specs.Result.{result_map_both}
 use Rattle.state_model.specs.State.{State}
-use Rattle.state_model.specs.Replies as model
+use Rattle.line_model.specs.Replies as model
 use Rattle.plain_store.specs.declared.changes.Refusal.{Refusal}
 use Rattle.plain_store.specs.declared.changes.Refusal.TheVariants.{ManyTables, LastEpoch, Full}
 

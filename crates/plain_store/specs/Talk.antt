@@ -2,8 +2,8 @@
 use Rattle.std.specs.Prelude.{List, length, map}
 use Rattle.std.specs.Option.{option_map}
 use Rattle.state_model.specs.State.{State}
-use Rattle.state_model.specs.Requests as asked
-use Rattle.state_model.specs.Replies as reply
+use Rattle.line_model.specs.Requests as asked
+use Rattle.line_model.specs.Replies as reply
 use Rattle.plain_store.specs.declared.talk.Request.{Request}
 use Rattle.plain_store.specs.declared.talk.Request.TheVariants.{Put, Del, Get, Seek, Range, Count, Estimate, Explain, Flush, Compact, Quit, Bad}
 use Rattle.state_model.specs.Steps as steps

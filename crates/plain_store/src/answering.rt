@@ -3,10 +3,10 @@ ghost use Rattle.std.specs.Prelude.{◌≡◌, ◌∷◌, [], map, IfOk};
 ghost use Rattle.std.specs.Option.{option_map};
 ghost use Rattle.state_model.specs.Changes.{written};
 ghost use Rattle.state_model.specs.Play.{tended, played};
-ghost use Rattle.state_model.specs.Replies.{Bye};
-ghost use Rattle.state_model.specs.Requests.{Estimate, Flush, Compact};
+ghost use Rattle.line_model.specs.Replies.{Bye};
+ghost use Rattle.line_model.specs.Requests.{Estimate, Flush, Compact};
 ghost use Rattle.state_model.specs.Steps as model;
-ghost use Rattle.plain_store.specs.Filters.{spells_of};
+ghost use Rattle.plain_store.specs.Filters.{filter_bytes_of};
 ghost use Rattle.plain_store.specs.Refusals.{seen, reply_to};
 ghost use Rattle.plain_store.specs.Talk.{asks, says, answered, played_as};
 
@@ -80,20 +80,20 @@ fn write<F: RangeFilter>(
     key: &[u8],
     value: Option<&[u8]>,
 ) -> Result<Answer, AllocError>
-    ensures { IfOk result (λ a. answered a ≡ model.changed state.now (written (spells_of F.spelling F.built_cutoff) state.now (record { key = key.now; value = option_map (λ v. v.now) value.entry }))) }
+    ensures { IfOk result (λ a. answered a ≡ model.changed state.now (written (filter_bytes_of F.spelling F.built_cutoff) state.now (record { key = key.now; value = option_map (λ v. v.now) value.entry }))) }
 {
     let entry = Entry::new(alloc, key, value)?;
     changed(alloc, state, written::<F>(alloc, state, &entry)?)
 }
 
 fn flush<F: RangeFilter>(alloc: Global, state: &State) -> Result<Answer, AllocError>
-    ensures { IfOk result (λ a. answered a ≡ model.answer_within (spells_of F.spelling F.built_cutoff) state.now Flush) }
+    ensures { IfOk result (λ a. answered a ≡ model.answer_within (filter_bytes_of F.spelling F.built_cutoff) state.now Flush) }
 {
     changed(alloc, state, flushed::<F>(alloc, state)?)
 }
 
 fn compact<F: RangeFilter>(alloc: Global, state: &State) -> Result<Answer, AllocError>
-    ensures { IfOk result (λ a. answered a ≡ model.answer_within (spells_of F.spelling F.built_cutoff) state.now Compact) }
+    ensures { IfOk result (λ a. answered a ≡ model.answer_within (filter_bytes_of F.spelling F.built_cutoff) state.now Compact) }
 {
     changed(alloc, state, compacted::<F>(alloc, state)?)
 }
@@ -104,7 +104,7 @@ fn estimated<F: RangeFilter>(
     lo: &[u8],
     hi: &[u8],
 ) -> Result<Answer, AllocError>
-    ensures { IfOk result (λ a. answered a ≡ model.answer_within (spells_of F.spelling F.built_cutoff) state.now (Estimate lo.now hi.now)) }
+    ensures { IfOk result (λ a. answered a ≡ model.answer_within (filter_bytes_of F.spelling F.built_cutoff) state.now (Estimate lo.now hi.now)) }
 {
     let reply = reply_to_estimate::<F>(alloc, state, lo, hi)?;
     let state = state.copy(alloc)?;
@@ -117,7 +117,7 @@ fn answer_within<F: RangeFilter>(
     state: &State,
     request: Request<'_>,
 ) -> Result<Answer, AllocError>
-    ensures { IfOk result (λ a. answered a ≡ model.answer_within (spells_of F.spelling F.built_cutoff) state.now (asks request.entry)) }
+    ensures { IfOk result (λ a. answered a ≡ model.answer_within (filter_bytes_of F.spelling F.built_cutoff) state.now (asks request.entry)) }
 {
     match request {
         Request::Put { key, value } => write::<F>(alloc, state, key, Some(value)),
@@ -149,7 +149,7 @@ pub fn ask<F: RangeFilter>(
     state: &State,
     request: Request<'_>,
 ) -> Result<Answer, AllocError>
-    ensures { IfOk result (λ a. answered a ≡ model.answer (spells_of F.spelling F.built_cutoff) state.now (asks request.entry)) }
+    ensures { IfOk result (λ a. answered a ≡ model.answer (filter_bytes_of F.spelling F.built_cutoff) state.now (asks request.entry)) }
 {
     match limit_of(request) {
         Some(reply) => unchanged(alloc, state, reply),
@@ -163,7 +163,7 @@ pub fn tend<F: RangeFilter>(
     request: Request<'_>,
     state: State,
 ) -> Result<State, AllocError>
-    ensures { IfOk result (λ s. s ≡ tended (spells_of F.spelling F.built_cutoff) (asks request.entry) state) }
+    ensures { IfOk result (λ s. s ≡ tended (filter_bytes_of F.spelling F.built_cutoff) (asks request.entry) state) }
 {
     match request {
         Request::Put { .. } => merged::<F>(alloc, &state),
@@ -197,7 +197,7 @@ pub fn play<F: RangeFilter>(
     state: &State,
     requests: &[Request<'_>],
 ) -> Result<Played, AllocError>
-    ensures { IfOk result (λ p. played_as p ≡ played (spells_of F.spelling F.built_cutoff) state.now (map asks requests.now)) }
+    ensures { IfOk result (λ p. played_as p ≡ played (filter_bytes_of F.spelling F.built_cutoff) state.now (map asks requests.now)) }
 {
     let Some((request, more)) = requests.split_first() else {
         return nothing(alloc, state);

@@ -4,9 +4,9 @@ ghost use Rattle.std.specs.Option.{option_map};
 ghost use Rattle.filter_model.specs.Strings.{is_below};
 ghost use Rattle.filter_model.specs.Answers.{tally};
 ghost use Rattle.map_model.specs.Slices.{is_between, seek};
-ghost use Rattle.mem_table.specs.Table.{lookup};
+ghost use Rattle.entry_model.specs.Newest.{lookup};
 ghost use Rattle.state_model.specs.Bounds as model;
-ghost use Rattle.state_model.specs.View.{map_of};
+ghost use Rattle.state_model.specs.View.{state_map};
 
 use crate::filters::filter_of;
 use crate::keys::{is_before, is_between};
@@ -161,7 +161,7 @@ fn stepped_in(
     answer: Option<&Pair>,
     table: &Table,
 ) -> Result<u64, AllocError>
-    requires { option_map (λ pair. pair.now) answer ≡ seek (map_of state.now) lo.now (Some hi.now) }
+    requires { option_map (λ pair. pair.now) answer ≡ seek (state_map state.now) lo.now (Some hi.now) }
     ensures { IfOk result (λ n. n ≡ model.stepped state.now lo.now hi.now table.now) }
 {
     stepped(lo, hi, answer, table.entries.as_slice())
@@ -194,7 +194,7 @@ fn seek_blocks<F: RangeFilter>(
     tables: &[Table],
 ) -> Result<u64, AllocError>
     requires order { is_below hi.now lo.now ≡ false }
-    requires answer { option_map (λ pair. pair.now) answer ≡ seek (map_of state.now) lo.now (Some hi.now) }
+    requires answer { option_map (λ pair. pair.now) answer ≡ seek (state_map state.now) lo.now (Some hi.now) }
     ensures { IfOk result (λ n. n ≡ sum_by (λ t. suc (model.stepped state.now lo.now hi.now t)) (filter (model.admits_range state.now lo.now hi.now) tables.now)) }
 {
     let Some((table, older)) = tables.split_first() else {

@@ -1,10 +1,10 @@
 // What a put, a flush and a compaction make of a state.
 ghost use Rattle.std.specs.Prelude.{◌≡◌, ◌+◌, map, vec_items, IfOk};
-ghost use Rattle.store_model.specs.Entries.{need, gap, body, filled};
+ghost use Rattle.entry_model.specs.Entries.{need, gap, body, filled};
 ghost use Rattle.state_model.specs.Changes as model;
-ghost use Rattle.state_model.specs.Gaps.{taken};
+ghost use Rattle.state_model.specs.Taken.{taken};
 ghost use Rattle.state_model.specs.Merges.{cut, placed};
-ghost use Rattle.plain_store.specs.Filters.{spells_of};
+ghost use Rattle.plain_store.specs.Filters.{filter_bytes_of};
 ghost use Rattle.plain_store.specs.Refusals.{seen};
 
 use crate::lists::{push_entries, push_tables};
@@ -55,7 +55,7 @@ pub fn flushed<F: RangeFilter>(
     alloc: Global,
     state: &State,
 ) -> Result<Result<State, Refusal>, AllocError>
-    ensures { IfOk result (λ changed. seen changed ≡ model.flushed (spells_of F.spelling F.built_cutoff) state.now) }
+    ensures { IfOk result (λ changed. seen changed ≡ model.flushed (filter_bytes_of F.spelling F.built_cutoff) state.now) }
 {
     let memory = state.memory(alloc)?;
     if memory.is_empty() {
@@ -96,7 +96,7 @@ pub fn written<F: RangeFilter>(
     state: &State,
     entry: &Entry,
 ) -> Result<Result<State, Refusal>, AllocError>
-    ensures { IfOk result (λ changed. seen changed ≡ model.written (spells_of F.spelling F.built_cutoff) state.now entry.now) }
+    ensures { IfOk result (λ changed. seen changed ≡ model.written (filter_bytes_of F.spelling F.built_cutoff) state.now entry.now) }
 {
     if record_bytes(entry)?.checked_add(1).ok_or(AllocError)? <= log_gap(state)? {
         let same = state.copy(alloc)?;
@@ -125,7 +125,7 @@ fn record_bytes(entry: &Entry) -> Result<u64, AllocError>
 }
 
 /// The bytes that the log's records take.
-#[tactic(auto, unfolding(store_model::specs::Entries::filled))]
+#[tactic(auto, unfolding(entry_model::specs::Entries::filled))]
 fn log_bytes(entries: &[Entry]) -> Result<u64, AllocError>
     ensures { IfOk result (λ n. n ≡ filled entries.now) }
 {
@@ -137,7 +137,7 @@ fn log_bytes(entries: &[Entry]) -> Result<u64, AllocError>
 }
 
 /// The bytes that are left in the log area.
-#[tactic(auto, unfolding(store_model::specs::Entries::gap))]
+#[tactic(auto, unfolding(entry_model::specs::Entries::gap))]
 fn log_gap(state: &State) -> Result<u64, AllocError>
     ensures { IfOk result (λ n. n ≡ gap state.now.log) }
 {
@@ -151,7 +151,7 @@ pub fn compacted<F: RangeFilter>(
     alloc: Global,
     state: &State,
 ) -> Result<Result<State, Refusal>, AllocError>
-    ensures { IfOk result (λ changed. seen changed ≡ model.compacted (spells_of F.spelling F.built_cutoff) state.now) }
+    ensures { IfOk result (λ changed. seen changed ≡ model.compacted (filter_bytes_of F.spelling F.built_cutoff) state.now) }
 {
     let entries = state.entries(alloc)?;
     if entries.is_empty() {
@@ -182,7 +182,7 @@ fn compacted_at<F: RangeFilter>(
 ) -> Result<Result<State, Refusal>, AllocError>
     requires { epoch ≡ state.now.epoch + 1 }
     ensures { IfOk result (λ changed. seen changed ≡ model.compact_placed state.now
-        (placed (spells_of F.spelling F.built_cutoff) state.now (taken state.now) 6 (cut state.now.tables (model.live_entries state.now)))) }
+        (placed (filter_bytes_of F.spelling F.built_cutoff) state.now.settings state.now.pages (taken state.now) 6 (cut state.now.tables (model.live_entries state.now)))) }
 {
     let outputs = live_outputs(alloc, state)?;
     let taken = taken(alloc, state)?;

@@ -1,8 +1,8 @@
 // The bytes of a table's filter.
 ghost use Rattle.std.specs.Prelude.{◌≡◌, length, IfOk};
 ghost use Rattle.filter_model.specs.Leaves.{leaves_of};
-ghost use Rattle.state_model.specs.Pages.{keys_of};
-ghost use Rattle.plain_store.specs.Filters.{spells_of};
+ghost use Rattle.entry_model.specs.Entries.{keys_of};
+ghost use Rattle.plain_store.specs.Filters.{filter_bytes_of};
 
 use entry_list::Entry;
 use filter_api::{RangeFilter, Settings};
@@ -45,7 +45,7 @@ pub(crate) fn filter_length<F: RangeFilter>(
     settings: Settings,
     entries: &[Entry],
 ) -> Result<u64, AllocError>
-    ensures { IfOk result (λ n. n ≡ length (spells_of F.spelling F.built_cutoff settings (keys_of entries.now))) }
+    ensures { IfOk result (λ n. n ≡ length (filter_bytes_of F.spelling F.built_cutoff settings (keys_of entries.now))) }
 {
     let filter: F = filter_of(alloc, settings, entries)?;
     let mut bytes = Vec::new(alloc);

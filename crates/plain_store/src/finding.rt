@@ -1,7 +1,7 @@
 // What a state says of a key, by looking at its newest entries first.
 ghost use Rattle.std.specs.Prelude.{◌≡◌, map, vec_items, IfOk};
 ghost use Rattle.std.specs.Option.{option_map};
-ghost use Rattle.mem_table.specs.Table.{lookup};
+ghost use Rattle.entry_model.specs.Newest.{lookup};
 ghost use Rattle.state_model.specs.View as model;
 
 use crate::state::State;

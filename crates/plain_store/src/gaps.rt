@@ -1,7 +1,7 @@
 // Where there is room for a table.
 ghost use Rattle.std.specs.Prelude.{◌≡◌, ◌+◌, ◌<◌, ◌^◌, All, map, IfOk};
 ghost use Rattle.std.specs.List.{list_any};
-ghost use Rattle.state_model.specs.Gaps as model;
+ghost use Rattle.extent_model.specs.Gaps as model;
 
 use std::alloc::{AllocError, Global};
 

@@ -3,7 +3,7 @@ ghost use Rattle.std.specs.Prelude.{◌≡◌, ◌==◌, ◌++◌, not, fold, Ok
 ghost use Rattle.std.specs.List.{list_any};
 ghost use Rattle.state_model.specs.Play as model;
 ghost use Rattle.state_model.specs.Tends.{goes_before, inserted, without, started};
-ghost use Rattle.plain_store.specs.Filters.{spells_of};
+ghost use Rattle.plain_store.specs.Filters.{filter_bytes_of};
 
 use crate::keys::is_before;
 use crate::lists::{push_table, push_tables};
@@ -113,7 +113,7 @@ fn installed(alloc: Global, state: &State, plan: &Plan, made: &[Table]) -> Resul
 /// The state after a whole merge, where one is to be chosen and there is room for it.
 #[tactic(auto, using(crate::proofs::Whole::merged_plan, crate::proofs::Whole::merged_none))]
 pub fn merged<F: RangeFilter>(alloc: Global, state: &State) -> Result<State, AllocError>
-    ensures { IfOk result (λ s. s ≡ model.merged (spells_of F.spelling F.built_cutoff) state.now) }
+    ensures { IfOk result (λ s. s ≡ model.merged (filter_bytes_of F.spelling F.built_cutoff) state.now) }
 {
     let Some(plan) = choose(alloc, state)? else {
         return state.copy(alloc);

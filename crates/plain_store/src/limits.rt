@@ -2,8 +2,8 @@
 ghost use Rattle.std.specs.Prelude.{◌≡◌, Option, Some, None};
 ghost use Rattle.std.specs.Option.{option_map};
 ghost use Rattle.state_model.specs.Changes as model;
-ghost use Rattle.state_model.specs.Requests.{Seek};
-ghost use Rattle.state_model.specs.Steps.{limit_of};
+ghost use Rattle.line_model.specs.Requests.{Seek};
+ghost use Rattle.line_model.specs.Limits.{limit_of};
 ghost use Rattle.plain_store.specs.Talk.{asks, says};
 
 use crate::talk::{Reply, Request};

@@ -1,6 +1,6 @@
 // Lists of tables.
 ghost use Rattle.std.specs.Prelude.{◌≡◌, [], ◌∷◌, ◌++◌, filter, map, reverse, flat_map, IfOk, OnOk};
-ghost use Rattle.state_model.specs.Gaps.{extent_of};
+ghost use Rattle.state_model.specs.Taken.{extent_of};
 ghost use Rattle.state_model.specs.Merges.{on_level};
 ghost use Rattle.state_model.specs.View.{oldest_first};
 

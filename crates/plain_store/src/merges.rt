@@ -67,18 +67,18 @@ fn greatest_of(tables: &[Table]) -> &[u8]
 }
 
 /// Whether the table's keys reach into those from `lo` to `hi`.
-fn meets(lo: &[u8], hi: &[u8], table: &Table) -> bool
-    ensures { result ≡ model.meets lo.now hi.now table.now }
+fn reaches(lo: &[u8], hi: &[u8], table: &Table) -> bool
+    ensures { result ≡ model.reaches lo.now hi.now table.now }
 {
     !is_before(table.greatest_key(), lo) && !is_before(hi, table.least_key())
 }
 
 /// Appends copies of the tables that reach into the keys from `lo` to `hi`.
 fn push_met(lo: &[u8], hi: &[u8], tables: &[Table], list: &mut Vec<Table>) -> Result<(), AllocError>
-    ensures { OnOk result (list.new.items ≡ list.old.items ++ filter (model.meets lo.now hi.now) tables.now) }
+    ensures { OnOk result (list.new.items ≡ list.old.items ++ filter (model.reaches lo.now hi.now) tables.now) }
 {
     for table in tables {
-        if meets(lo, hi, table) {
+        if reaches(lo, hi, table) {
             push_table(table, list)?;
         }
     }
@@ -87,7 +87,7 @@ fn push_met(lo: &[u8], hi: &[u8], tables: &[Table], list: &mut Vec<Table>) -> Re
 
 /// Some tables with those of the output's level that they meet.
 fn plan_of(alloc: Global, state: &State, tables: &[Table], output: u8) -> Result<Plan, AllocError>
-    ensures { IfOk result (λ plan. plan ≡ model.plan_of state.now tables.now output) }
+    ensures { IfOk result (λ plan. plan ≡ model.plan_of state.now.tables tables.now output) }
 {
     let below = on_level(alloc, output, state.tables.as_slice())?;
     let mut inputs = Vec::new(alloc);
@@ -125,7 +125,7 @@ fn pages_of(tables: &[Table]) -> Result<u64, AllocError>
 /// What is to be merged: level 0 where it has four tables or more, else the first table of the first level that has too
 /// many pages, with the tables below that they meet.
 pub fn choose(alloc: Global, state: &State) -> Result<Option<Plan>, AllocError>
-    ensures { IfOk result (λ plan. plan ≡ model.choose state.now) }
+    ensures { IfOk result (λ plan. plan ≡ model.choose state.now.tables) }
 {
     let newest = on_level(alloc, 0, state.tables.as_slice())?;
     if newest.len() >= 4 {
@@ -136,7 +136,7 @@ pub fn choose(alloc: Global, state: &State) -> Result<Option<Plan>, AllocError>
 
 /// The merge of the first of these levels that has too many pages.
 fn first_over(alloc: Global, state: &State, levels: &[u8]) -> Result<Option<Plan>, AllocError>
-    ensures { IfOk result (λ plan. plan ≡ model.first_over state.now levels.now) }
+    ensures { IfOk result (λ plan. plan ≡ model.first_over state.now.tables levels.now) }
 {
     let Some((level, deeper)) = levels.split_first() else {
         return Ok(None);

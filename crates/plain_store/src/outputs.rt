@@ -14,7 +14,7 @@ use std::alloc::{AllocError, Global};
 
 /// Whether no table lies deeper than the level.
 fn is_deepest(state: &State, level: u8) -> bool
-    ensures { result ≡ model.is_deepest state.now level }
+    ensures { result ≡ model.is_deepest state.now.tables level }
 {
     !lies_deeper(level, state.tables.as_slice())
 }
@@ -124,7 +124,7 @@ fn push_output(entries: &[Entry], outputs: &mut Vec<Vec<Entry>>) -> Result<(), A
 
 /// The outputs of a plan.
 pub fn planned(alloc: Global, state: &State, plan: &Plan) -> Result<Vec<Vec<Entry>>, AllocError>
-    ensures { IfOk result (λ outputs. map vec_items outputs.items ≡ model.planned state.now plan.now) }
+    ensures { IfOk result (λ outputs. map vec_items outputs.items ≡ model.planned state.now.tables plan.now) }
 {
     let newest = newest_of(alloc, plan.inputs.as_slice())?;
     let entries = lasting(alloc, is_deepest(state, plan.output), newest)?;

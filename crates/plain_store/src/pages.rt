@@ -2,7 +2,7 @@
 ghost use Rattle.std.specs.Prelude.{◌≡◌, length, IfOk};
 ghost use Rattle.block_model.specs.Pages as model;
 ghost use Rattle.state_model.specs.Pages.{table_pages, table_of};
-ghost use Rattle.plain_store.specs.Filters.{spells_of};
+ghost use Rattle.plain_store.specs.Filters.{filter_bytes_of};
 
 use crate::filters::filter_length;
 use crate::table::Table;
@@ -38,7 +38,7 @@ pub fn table_pages<F: RangeFilter>(
     settings: Settings,
     entries: &[Entry],
 ) -> Result<u64, AllocError>
-    ensures { IfOk result (λ pages. pages ≡ table_pages (spells_of F.spelling F.built_cutoff) settings entries.now) }
+    ensures { IfOk result (λ pages. pages ≡ table_pages (filter_bytes_of F.spelling F.built_cutoff) settings entries.now) }
 {
     let data = data_pages(alloc, entries)?;
     let index = index_pages(alloc, entries)?;
@@ -68,7 +68,7 @@ pub(crate) fn table_of<F: RangeFilter>(
     first_page: u64,
     entries: &[Entry],
 ) -> Result<Table, AllocError>
-    ensures { IfOk result (λ t. t ≡ table_of (spells_of F.spelling F.built_cutoff) settings level first_page entries.now) }
+    ensures { IfOk result (λ t. t ≡ table_of (filter_bytes_of F.spelling F.built_cutoff) settings level first_page entries.now) }
 {
     let pages = table_pages::<F>(alloc, settings, entries)?;
     let blocks = block_count(alloc, entries)?;

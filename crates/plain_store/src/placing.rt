@@ -1,9 +1,9 @@
 // Outputs that become tables.
 ghost use Rattle.std.specs.Prelude.{◌≡◌, ◌∷◌, map, vec_items, None, IfOk};
 ghost use Rattle.std.specs.Result.{result_map_both};
-ghost use Rattle.state_model.specs.Gaps.{taken};
+ghost use Rattle.state_model.specs.Taken.{taken};
 ghost use Rattle.state_model.specs.Merges as model;
-ghost use Rattle.plain_store.specs.Filters.{spells_of};
+ghost use Rattle.plain_store.specs.Filters.{filter_bytes_of};
 
 use crate::gaps::{Extent, first_gap, largest_gap};
 use crate::lists::extents;
@@ -64,7 +64,7 @@ pub(crate) fn placed<F: RangeFilter>(
     outputs: &[Vec<Entry>],
 ) -> Result<Result<Vec<Table>, NoRoom>, AllocError>
     ensures { IfOk result (λ made. result_map_both vec_items (λ r. r) made
-        ≡ model.placed (spells_of F.spelling F.built_cutoff) state.now taken.now level (map vec_items outputs.now)) }
+        ≡ model.placed (filter_bytes_of F.spelling F.built_cutoff) state.now.settings state.now.pages taken.now level (map vec_items outputs.now)) }
 {
     let Some((output, more)) = outputs.split_first() else {
         return Ok(Ok(Vec::new(alloc)));

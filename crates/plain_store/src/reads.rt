@@ -2,11 +2,11 @@
 ghost use Rattle.std.specs.Prelude.{◌≡◌, Some, length, IfOk};
 ghost use Rattle.std.specs.Option.{option_map};
 ghost use Rattle.map_model.specs.Slices.{seek, slice, count};
-ghost use Rattle.store_model.specs.SortedMap.{get};
+ghost use Rattle.map_model.specs.SortedMap.{get};
 ghost use Rattle.state_model.specs.Bounds as bounds;
-ghost use Rattle.state_model.specs.Replies as reply;
+ghost use Rattle.line_model.specs.Replies as reply;
 ghost use Rattle.state_model.specs.Steps.{pairs};
-ghost use Rattle.state_model.specs.View.{map_of};
+ghost use Rattle.state_model.specs.View.{state_map};
 ghost use Rattle.plain_store.specs.Talk.{says};
 
 use crate::bounds::{admitted, blocks_read, estimate};
@@ -23,7 +23,7 @@ fn bytes(alloc: Global, bytes: &[u8]) -> Result<Vec<u8>, AllocError>
 
 /// The value under the key.
 pub(crate) fn reply_to_get(alloc: Global, state: &State, key: &[u8]) -> Result<Reply, AllocError>
-    ensures { IfOk result (λ r. says r ≡ reply.got (get (map_of state.now) key.now)) }
+    ensures { IfOk result (λ r. says r ≡ reply.got (get (state_map state.now) key.now)) }
 {
     let map = state.map(alloc)?;
     match map.get(key) {
@@ -39,7 +39,7 @@ pub(crate) fn reply_to_seek(
     lo: &[u8],
     hi: Option<&[u8]>,
 ) -> Result<Reply, AllocError>
-    ensures { IfOk result (λ r. says r ≡ reply.found (seek (map_of state.now) lo.now (option_map (λ h. h.now) hi.entry))) }
+    ensures { IfOk result (λ r. says r ≡ reply.found (seek (state_map state.now) lo.now (option_map (λ h. h.now) hi.entry))) }
 {
     let map = state.map(alloc)?;
     match map.seek(lo, hi) {
@@ -60,7 +60,7 @@ pub(crate) fn reply_to_range(
     hi: &[u8],
     n: u32,
 ) -> Result<Reply, AllocError>
-    ensures { IfOk result (λ r. says r ≡ pairs (slice (map_of state.now) lo.now (Some hi.now) n)) }
+    ensures { IfOk result (λ r. says r ≡ pairs (slice (state_map state.now) lo.now (Some hi.now) n)) }
 {
     let map = state.map(alloc)?;
     let found = map.slice(lo, Some(hi), n as usize)?;
@@ -74,7 +74,7 @@ pub(crate) fn reply_to_count(
     lo: &[u8],
     hi: &[u8],
 ) -> Result<Reply, AllocError>
-    ensures { IfOk result (λ r. says r ≡ reply.Counted (count (map_of state.now) lo.now (Some hi.now))) }
+    ensures { IfOk result (λ r. says r ≡ reply.Counted (count (state_map state.now) lo.now (Some hi.now))) }
 {
     let map = state.map(alloc)?;
     Ok(Reply::Counted(map.count(lo, Some(hi)) as u64))

@@ -1,6 +1,6 @@
 // A table.
 ghost use Rattle.std.specs.Prelude.{◌≡◌, IfOk};
-ghost use Rattle.state_model.specs.Gaps.{extent_of};
+ghost use Rattle.state_model.specs.Taken.{extent_of};
 ghost use Rattle.state_model.specs.Merges as model;
 
 use crate::gaps::Extent;

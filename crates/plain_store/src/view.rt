@@ -1,7 +1,7 @@
 // What a state says of a key.
 ghost use Rattle.std.specs.Prelude.{◌≡◌, [], ◌∷◌, ◌++◌, IfOk, OnOk};
-ghost use Rattle.mem_table.specs.Table.{newest_entries, with_entry};
-ghost use Rattle.store_model.specs.Entries.{changed};
+ghost use Rattle.entry_model.specs.Newest.{newest_entries, with_entry};
+ghost use Rattle.entry_model.specs.Entries.{changed};
 ghost use Rattle.state_model.specs.View as model;
 
 use crate::lists::{oldest_first, push_entries};
@@ -65,7 +65,7 @@ impl State {
 
     /// The sorted map that the state is.
     pub fn map(&self, alloc: Global) -> Result<PlainMap, AllocError>
-        ensures { IfOk result (λ map. map ≡ model.map_of self.now) }
+        ensures { IfOk result (λ map. map ≡ model.state_map self.now) }
     {
         let entries = self.entries(alloc)?;
         let mut map = PlainMap::new(alloc);

@@ -10,6 +10,10 @@ untold_world read_faults write_faults take_faults say_faults = record {
   beside = record { to_take = []; said = []; said_by = λ moment. 0; take_faults = take_faults; say_faults = say_faults };
 }
 
+-- each count is as it was
+abbrev pub CountsStay : World → World → Type 0
+CountsStay old new = (new.seen ≡ old.seen) × (new.beside ≡ old.beside)
+
 -- no call has failed yet
 abbrev pub IsUntouched : World → Type 0
-IsUntouched w = (w.seen ≡ (untold_world 0 0 0 0).seen) × (w.beside ≡ (untold_world 0 0 0 0).beside)
+IsUntouched w = CountsStay (untold_world 0 0 0 0) w

@@ -1,20 +1,60 @@
-// Whole reads and writes of ranges of a file, over system calls that may be cut short or interrupted.
+// The file at a path, and whole reads and writes of its ranges, over system calls that may be cut short or interrupted.
 ghost use Rattle.std.specs.Prelude.{◌+◌, ◌^◌, ◌≤◌, length, IfOk};
+ghost use Rattle.real_outside.specs.Numbers.{IsNoStream};
 
-use std::fs::{File, OpenOptions};
+use std::fs::{self, File, OpenOptions, TryLockError};
 use std::io::{self, ErrorKind};
+use std::os::fd::AsRawFd;
 use std::os::unix::fs::FileExt;
 
-/// How often a call that a signal interrupts is tried, until it counts as failed.
+/// How often a read or a write that a signal interrupts is tried, until it counts as failed.
 pub const TRIES: u32 = 1000;
 
-/// The file at the path, opened to read and write, and made if it is not there.
-pub fn open_file(rt: &HostRuntime, path: &str) -> io::Result<File> {
-    OpenOptions::new()
+/// Numbers below this one are those of standard input, output and errors.
+const AFTER_STANDARD_STREAMS: i32 = 3;
+
+/// The file at the path, opened to read and write, made if it is not there, and locked until it is closed.
+///
+/// It fails where another opening has the file locked, and where the file would be a standard stream. An empty file may
+/// be new, so its directory is synced.
+pub fn open_file(rt: &HostRuntime, path: &str) -> io::Result<File>
+    ensures { IfOk result IsNoStream }
+{
+    let file = OpenOptions::new()
         .read(true)
         .write(true)
         .create(true)
-        .open(rt, path)
+        .open(rt, path)?;
+    // Where a standard stream was closed, its number is the file's, and replies would be written over the device.
+    if file.as_raw_fd() < AFTER_STANDARD_STREAMS {
+        return Err(io::Error::from(ErrorKind::Other));
+    }
+    lock(&file)?;
+    if file.metadata()?.len() == 0 {
+        sync_directory_of(rt, path)?;
+    }
+    Ok(file)
+}
+
+// Keeps other processes off. A file system without locks keeps off none, which is no fault.
+fn lock(file: &File) -> io::Result<()> {
+    match file.try_lock() {
+        Err(TryLockError::WouldBlock) => Err(io::Error::from(ErrorKind::WouldBlock)),
+        _ => Ok(()),
+    }
+}
+
+// Makes the file's name last. A file system that syncs no directory says that the call is invalid, which is no fault.
+fn sync_directory_of(rt: &HostRuntime, path: &str) -> io::Result<()> {
+    // A link's own directory may be another one than that of the file.
+    let file = fs::canonicalize(rt, path)?;
+    let Some(directory) = file.parent() else {
+        return Ok(());
+    };
+    match File::open(rt, directory)?.sync_all() {
+        Err(error) if error.kind() == ErrorKind::InvalidInput => Ok(()),
+        answer => answer,
+    }
 }
 
 /// Fills the whole slice from a place on, with zeros past the end of the file.

@@ -1,4 +1,11 @@
-ghost use Rattle.std.specs.Prelude.{◌≤◌, length, IfOk};
+ghost use Rattle.std.specs.Prelude.{◌≡◌, ◌≤◌, ◌<◌, ◌+◌, ◌^◌, length, IfOk, IfErr, OnOk, OnErr};
+ghost use Rattle.std.specs.Option.{ForSome};
+ghost use Rattle.disk_trait.specs.World.{ReadMoves, WriteMoves, SyncMoves, Rose};
+ghost use Rattle.disk_trait.specs.Fault.{IsFaultOf};
+ghost use Rattle.disk_trait.specs.declared.fault.Op.TheVariants.{Read, Write, Sync};
+ghost use Rattle.outside.specs.Streams.{TakeMoves, SayMoves};
+ghost use Rattle.real_outside.specs.Numbers.{IsNoStream};
+ghost use Rattle.real_outside.specs.Untold.{CountsStay};
 
 use crate::file::{TRIES, open_file, read_all, write_all};
 use disk_trait::{Disk, DiskFault, Op};
@@ -6,11 +13,12 @@ use outside::{Outside, SayFault, TakeFault};
 use std::fs::File;
 use std::io::{self, ErrorKind, Read, Write};
 
-/// The file at a path as the disk, which is opened, and made if it is not there, at the first disk call; and the
+/// The file at a path as the disk, which is opened, locked, and made if it is not there, at the first disk call; and the
 /// process's standard input and output.
 ///
-/// It tells no content. It counts its faults, of reads, of writes and syncs, of input and of output; a file that cannot
-/// be opened is a fault of the call that needed it, and the next call tries again.
+/// It tells no content. It counts its faults, of reads, of writes and syncs, of input and of output. A file that cannot
+/// be opened, that another opening has locked, or that would get the number of a standard stream is a fault of the call
+/// that needed it, and the next call tries again. A file that is made has its directory synced before that call is done.
 #[derive(Drop)]
 pub struct FileOutside {
     rt: HostRuntime,
@@ -20,6 +28,7 @@ pub struct FileOutside {
     write_faults: u64,
     take_faults: u64,
     say_faults: u64,
+    ghost no_stream: { ForSome file IsNoStream },
 }
 
 impl FileOutside {
@@ -41,44 +50,60 @@ impl FileOutside {
     }
 }
 
-fn opened<'a>(rt: &HostRuntime, path: &String, file: &'a mut Option<File>) -> io::Result<&'a File> {
+// Opens the file where it is not open yet.
+fn open_once(rt: &HostRuntime, path: &String, file: &mut Option<File>) -> io::Result<()>
+    requires { ForSome file.old IsNoStream }
+    ensures { ForSome file.new IsNoStream }
+{
     if file.is_none() {
         *file = Some(open_file(rt, path.as_str())?);
     }
-    match file {
-        Some(file) => Ok(file),
-        None => Err(io::Error::from(ErrorKind::NotFound)),
-    }
+    Ok(())
 }
 
 impl Disk for FileOutside {
     ghost use Rattle.std.specs.Prelude.{false};
-    ghost use Rattle.real_outside.specs.Untold.{untold_world};
+    ghost use Rattle.real_outside.specs.Shown.{shown};
 
     ghost tells = { false };
 
-    ghost world = { λ o. untold_world o.read_faults o.write_faults o.take_faults o.say_faults };
+    ghost world = { shown };
 
     ghost current = { λ o told. absurd (Prim.cc told) };
 
-    fn read(&mut self, at: u64, into: &mut [u8]) -> Result<(), DiskFault> {
-        let answer = match opened(&self.rt, &self.path, &mut self.file) {
-            Ok(file) => read_all(file, at, into),
-            Err(error) => Err(error),
+    fn read(&mut self, at: u64, into: &mut [u8]) -> Result<(), DiskFault>
+        requires { at + length into.old ≤ 2 ^ 48 }
+        ensures moves { ReadMoves 1 (shown self.old) (shown self.new) }
+        ensures fault { IfErr result (IsFaultOf Read at) }
+        ensures cause { OnErr result (Rose self.old.read_faults self.new.read_faults) }
+        // Beside what any disk promises: a call that is done moves no count, here and in each call below.
+        ensures still { OnOk result (CountsStay (shown self.old) (shown self.new)) }
+    {
+        let opening = open_once(&self.rt, &self.path, &mut self.file);
+        let done = match (opening, &self.file) {
+            (Ok(()), Some(file)) => read_all(file, at, into).is_ok(),
+            _ => false,
         };
-        if answer.is_ok() {
+        if done {
             return Ok(());
         }
         self.read_faults = self.read_faults.saturating_add(1);
         Err(DiskFault { op: Op::Read, at })
     }
 
-    fn write(&mut self, at: u64, from: &[u8]) -> Result<(), DiskFault> {
-        let answer = match opened(&self.rt, &self.path, &mut self.file) {
-            Ok(file) => write_all(file, at, from),
-            Err(error) => Err(error),
+    fn write(&mut self, at: u64, from: &[u8]) -> Result<(), DiskFault>
+        requires { at + length from.now ≤ 2 ^ 48 }
+        ensures moves { WriteMoves at (length from.now) (shown self.old) (shown self.new) }
+        ensures fault { IfErr result (IsFaultOf Write at) }
+        ensures cause { OnErr result (Rose self.old.write_faults self.new.write_faults) }
+        ensures still { OnOk result (CountsStay (shown self.old) (shown self.new)) }
+    {
+        let opening = open_once(&self.rt, &self.path, &mut self.file);
+        let done = match (opening, &self.file) {
+            (Ok(()), Some(file)) => write_all(file, at, from).is_ok(),
+            _ => false,
         };
-        if answer.is_ok() {
+        if done {
             return Ok(());
         }
         self.write_faults = self.write_faults.saturating_add(1);
@@ -86,12 +111,18 @@ impl Disk for FileOutside {
     }
 
     // The file grows as it is written, so its length must last too: all of it is synced, not its data alone.
-    fn sync(&mut self) -> Result<(), DiskFault> {
-        let answer = match opened(&self.rt, &self.path, &mut self.file) {
-            Ok(file) => file.sync_all(),
-            Err(error) => Err(error),
+    fn sync(&mut self) -> Result<(), DiskFault>
+        ensures moves { SyncMoves (shown self.old) (shown self.new) }
+        ensures fault { IfErr result (IsFaultOf Sync 0) }
+        ensures cause { OnErr result (Rose self.old.write_faults self.new.write_faults) }
+        ensures still { OnOk result (CountsStay (shown self.old) (shown self.new)) }
+    {
+        let opening = open_once(&self.rt, &self.path, &mut self.file);
+        let done = match (opening, &self.file) {
+            (Ok(()), Some(file)) => file.sync_all().is_ok(),
+            _ => false,
         };
-        if answer.is_ok() {
+        if done {
             return Ok(());
         }
         self.write_faults = self.write_faults.saturating_add(1);
@@ -130,6 +161,7 @@ fn say_some(rt: &HostRuntime, from: &[u8]) -> io::Result<usize>
 
 impl Outside for FileOutside {
     ghost use Rattle.std.specs.Prelude.{false, refl};
+    ghost use Rattle.real_outside.specs.Shown.{shown};
 
     ghost tells_input = { false };
 
@@ -137,7 +169,13 @@ impl Outside for FileOutside {
 
     ghost said_now = { λ o m now. refl };
 
-    fn take(&mut self, into: &mut [u8]) -> Result<usize, TakeFault> {
+    fn take(&mut self, into: &mut [u8]) -> Result<usize, TakeFault>
+        requires { 0 < length into.old }
+        ensures count { IfOk result (λ n. n ≤ length into.old) }
+        ensures moves { TakeMoves (shown self.old) (shown self.new) }
+        ensures cause { OnErr result (Rose self.old.take_faults self.new.take_faults) }
+        ensures still { OnOk result (CountsStay (shown self.old) (shown self.new)) }
+    {
         match take_some(&self.rt, into) {
             Ok(count) => Ok(count),
             Err(_) => {
@@ -147,7 +185,14 @@ impl Outside for FileOutside {
         }
     }
 
-    fn say(&mut self, from: &[u8]) -> Result<usize, SayFault> {
+    fn say(&mut self, from: &[u8]) -> Result<usize, SayFault>
+        requires { 0 < length from.now }
+        ensures some { IfOk result (λ n. 1 ≤ n) }
+        ensures count { IfOk result (λ n. n ≤ length from.now) }
+        ensures moves { SayMoves (shown self.old) (shown self.new) }
+        ensures cause { OnErr result (Rose self.old.say_faults self.new.say_faults) }
+        ensures still { OnOk result (CountsStay (shown self.old) (shown self.new)) }
+    {
         match say_some(&self.rt, from) {
             Ok(count) if count > 0 => Ok(count),
             _ => {
@@ -184,6 +229,19 @@ mod tests {
             [0, 0, 0, 7, 8].as_slice()
         );
         fs::remove_file(&out.rt, "made_by_a_test.bin")?;
+        Ok(())
+    }
+
+    #[test]
+    fn a_file_is_open_once_at_a_time(rt: HostRuntime) -> Result<(), Fail> {
+        let name = "locked_by_a_test.bin";
+        let mut first = FileOutside::at(rt, String::from_str(rt.alloc(), name)?);
+        let mut second = FileOutside::at(rt, String::from_str(rt.alloc(), name)?);
+        assert!(rt; first.write(0, &[1]).is_ok());
+        assert!(rt; second.write(0, &[2]).is_err());
+        drop(first);
+        assert!(rt; second.write(0, &[2]).is_ok());
+        fs::remove_file(&rt, name)?;
         Ok(())
     }
 }

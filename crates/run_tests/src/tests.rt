@@ -70,9 +70,13 @@ fn failing_disk(alloc: Global, call: u64) -> Result<MemDisk, AllocError> {
 #[test]
 fn each_line_gets_its_reply(rt: HostRuntime) -> Result<(), Fail> {
     let alloc = rt.alloc();
-    let rows: [(&[u8], &[u8]); 8] = [
+    let rows: [(&[u8], &[u8]); 9] = [
         (b"put 61 -\nget 61\nget 62\n", b"ok\nval -\nnone\n"),
-        (b"put - 62\n", b"limit key 0\n"),
+        (
+            b"put - 62\nget -\ndel -\n",
+            b"limit key 0\nlimit key 0\nlimit key 0\n",
+        ),
+        (b"del 61\nget 61\n", b"ok\nnone\n"),
         (b"get 61", b"none\n"),
         (b"", b""),
         (
@@ -94,16 +98,34 @@ fn each_line_gets_its_reply(rt: HostRuntime) -> Result<(), Fail> {
     Ok(())
 }
 
+#[test]
+fn a_put_leaves_the_bytes_of_its_record(rt: HostRuntime) -> Result<(), Fail> {
+    let mut end = replies_to(rt.alloc(), b"put 61 62\nget 61\nquit\n")?;
+    assert_eq!(rt; end.status, 0);
+    assert_eq!(rt; end.said.as_slice(), b"ok\nval 62\nbye\n".as_slice());
+    let mut bytes = [9; 11];
+    assert!(rt; end.disk.read(262_144, &mut bytes).is_ok());
+    assert_eq!(rt; bytes, [1, 1, 1, 0, 1, 0, 0, 0, 0x61, 0x62, 0]);
+    Ok(())
+}
+
+// So many bytes of a word, each written as these two digits; no bytes are a dash.
+fn push_word(line: &mut Vec<u8>, digits: &[u8], bytes: usize) -> Result<(), AllocError> {
+    if bytes == 0 {
+        line.push(b'-')?;
+    }
+    for _ in 0..bytes {
+        line.extend_from_slice(digits)?;
+    }
+    Ok(())
+}
+
 // The line of a put whose key and value have so many bytes.
 fn put_line(alloc: Global, key: usize, value: usize) -> Result<Vec<u8>, AllocError> {
     let mut line = Vec::from_slice(alloc, b"put ")?;
-    for _ in 0..key {
-        line.extend_from_slice(b"6b")?;
-    }
+    push_word(&mut line, b"6b", key)?;
     line.push(b' ')?;
-    for _ in 0..value {
-        line.extend_from_slice(b"78")?;
-    }
+    push_word(&mut line, b"78", value)?;
     line.push(b'\n')?;
     Ok(line)
 }
@@ -111,17 +133,69 @@ fn put_line(alloc: Global, key: usize, value: usize) -> Result<Vec<u8>, AllocErr
 #[test]
 fn the_limits_of_keys_and_values(rt: HostRuntime) -> Result<(), Fail> {
     let alloc = rt.alloc();
-    let rows: [(usize, usize, &[u8]); 4] = [
+    let rows: [(usize, usize, &[u8]); 5] = [
         (1_024, 1, b"ok\n"),
         (1_025, 1, b"limit key 1025\n"),
         (1, 65_536, b"ok\n"),
         (1, 65_537, b"limit value 65537\n"),
+        (0, 65_537, b"limit key 0\n"),
     ];
     for (key, value, replies) in rows.iter().copied() {
         let line = put_line(alloc, key, value)?;
         let end = replies_to(alloc, &line)?;
         assert_eq!(rt; end.said.as_slice(), replies);
     }
+    Ok(())
+}
+
+#[test]
+fn gets_and_dels_keep_the_limit_of_keys(rt: HostRuntime) -> Result<(), Fail> {
+    let alloc = rt.alloc();
+    let rows: [(usize, &[u8]); 2] = [
+        (1_024, b"none\nok\n"),
+        (1_025, b"limit key 1025\nlimit key 1025\n"),
+    ];
+    for (key, replies) in rows.iter().copied() {
+        let mut lines = Vec::from_slice(alloc, b"get ")?;
+        push_word(&mut lines, b"6b", key)?;
+        lines.extend_from_slice(b"\ndel ")?;
+        push_word(&mut lines, b"6b", key)?;
+        let end = replies_to(alloc, &lines)?;
+        assert_eq!(rt; end.said.as_slice(), replies);
+    }
+    Ok(())
+}
+
+#[test]
+fn a_line_has_at_most_140_000_bytes(rt: HostRuntime) -> Result<(), Fail> {
+    let alloc = rt.alloc();
+    let rows: [(usize, &[u8]); 3] = [
+        (139_999, b"bad 2\n"),
+        (140_000, b"bad 2\n"),
+        (140_001, b"bad 1\n"),
+    ];
+    for (bytes, replies) in rows.iter().copied() {
+        let line = vec![in alloc; b'x'; bytes]?;
+        let end = replies_to(alloc, &line)?;
+        assert_eq!(rt; end.said.as_slice(), replies);
+    }
+    Ok(())
+}
+
+#[test]
+fn a_record_fits_to_the_last_byte(rt: HostRuntime) -> Result<(), Fail> {
+    let alloc = rt.alloc();
+    let mut lines = Vec::new(alloc);
+    // A record takes its gate, seven bytes, its key and its value, and the gate behind it is the one byte more.
+    for value in [65_536, 65_536, 65_536, 65_536, 65_500, 65_499, 0] {
+        lines.extend_from_slice(&put_line(alloc, 1, value)?)?;
+    }
+    lines.extend_from_slice(b"del 6b\n")?;
+    let end = replies_to(alloc, &lines)?;
+    assert_eq!(rt;
+        end.said.as_slice(),
+        b"ok\nok\nok\nfull need 65546 gap 65509\nfull need 65510 gap 65509\nok\nfull need 10 gap 1\nfull need 10 gap 1\n".as_slice()
+    );
     Ok(())
 }
 
@@ -264,5 +338,17 @@ fn a_damaged_log_is_told_by_its_first_byte(rt: HostRuntime) -> Result<(), Fail> 
         run.said.as_slice(),
         b"damaged log 262144 rule 2\n".as_slice()
     );
+    Ok(())
+}
+
+#[test]
+fn a_damaged_log_is_not_read_where_the_sync_before_it_fails(rt: HostRuntime) -> Result<(), Fail> {
+    let alloc = rt.alloc();
+    // The write is call 0, and the opening's sync call 1.
+    let mut disk = failing_disk(alloc, 1)?;
+    assert!(rt; disk.write(262_144, &[1, 3, 1, 0, 0, 0, 0, 0, 107]).is_ok());
+    let run = served(alloc, disk, SIX_LINES, &[], &[], AT_ONCE)?;
+    assert_eq!(rt; run.status, 4);
+    assert_eq!(rt; run.said.as_slice(), b"device\n".as_slice());
     Ok(())
 }

@@ -5,46 +5,46 @@ use Rattle.std.specs.List.{AllByRecursion}
 use Rattle.std.proofs.lemmas.Slice.Eq.{bytes_eq-Decides}
 use Rattle.std.specs.Ordering.{is_lt}
 use Rattle.std.specs.Cmp.Lexicographic.{nat_list_cmp_total}
-use Rattle.store_model.specs.SortedMap.{Bytes}
-use Rattle.store_model.specs.Entries.{Entry, or_else}
-use Rattle.store_model.proofs.Maps.{equal_keys, less_of_greater, by_order, order_same}
-use Rattle.mem_table.specs.Table.{IsAbove, KeysRise, lookup}
-use Rattle.mem_table.proofs.Newest.{greater_of_less}
+use Rattle.map_model.specs.SortedMap.{Bytes}
+use Rattle.entry_model.specs.Entries.{Entry, or_else}
+use Rattle.map_model.proofs.Maps.{equal_keys, less_of_greater, by_order, order_same}
+use Rattle.entry_model.specs.Newest.{IsAbove, KeysRise, lookup}
+use Rattle.entry_model.proofs.Newest.{greater_of_less}
 use Rattle.block_model.specs.Pages.{first_key, last_key}
 use Rattle.map_model.specs.Slices.{is_before}
 use Rattle.state_model.specs.State.{Table}
-use Rattle.state_model.specs.Merges.{least_key, greatest_key, lesser, greater, least_of, greatest_of, meets}
+use Rattle.state_model.specs.Merges.{least_key, greatest_key, lesser, greater, least_of, greatest_of, reaches}
 use Rattle.state_model.specs.Sound.{IsBefore, StandsBefore}
 use Rattle.state_model.proofs.Levels.{says, EitherNone, AtMostOne}
-use Rattle.state_model.proofs.Parts.{Pairs}
+use Rattle.extent_model.proofs.Lists.{Pairs}
 
 -- ---- order
 
 abbrev pub Upto : Bytes → Bytes → Type 0
 Upto x y = (x ≡ y) ⊎ IsBefore x y
 
-upto_then : (x y z : Bytes) → Upto x y → Upto y z → Upto x z
+pub upto_then : (x y z : Bytes) → Upto x y → Upto y z → Upto x z
 upto_then x y z (inl e) yz = subst (λ (w : Bytes). Upto w z) (sym e) yz
 upto_then x y z (inr less) (inl e) = subst (λ (w : Bytes). Upto x w) e (inr less)
 upto_then x y z (inr less) (inr more) = inr (nat_list_cmp_total.trans x y z less more)
 
-not_before : (x y : Bytes) → Upto x y → is_before y x ≡ false
+pub not_before : (x y : Bytes) → Upto x y → is_before y x ≡ false
 not_before x y (inl e) = ap is_lt (order_same y x (sym e))
 not_before x y (inr less) = ap is_lt (greater_of_less x y less)
 
-crossed : (x y : Bytes) → Upto x y → IsBefore y x → ⊥
+pub crossed : (x y : Bytes) → Upto x y → IsBefore y x → ⊥
 crossed x y upto less = let e = sym (not_before x y upto) ∙ ap is_lt less in cc
 
-lesser_first : (x y : Bytes) → Upto (lesser x y) x
+pub lesser_first : (x y : Bytes) → Upto (lesser x y) x
 lesser_first x y = by_order (λ o. Upto (cond (is_lt o) y x) x) y x (λ less. inr less) (λ _. inl refl) (λ _. inl refl)
 
-lesser_second : (x y : Bytes) → Upto (lesser x y) y
+pub lesser_second : (x y : Bytes) → Upto (lesser x y) y
 lesser_second x y = by_order (λ o. Upto (cond (is_lt o) y x) y) y x (λ _. inl refl) (λ equal. inl (sym (equal_keys y x equal))) (λ more. inr (less_of_greater y x more))
 
-greater_first : (x y : Bytes) → Upto x (greater x y)
+pub greater_first : (x y : Bytes) → Upto x (greater x y)
 greater_first x y = by_order (λ o. Upto x (cond (is_lt o) y x)) x y (λ less. inr less) (λ _. inl refl) (λ _. inl refl)
 
-greater_second : (x y : Bytes) → Upto y (greater x y)
+pub greater_second : (x y : Bytes) → Upto y (greater x y)
 greater_second x y = by_order (λ o. Upto y (cond (is_lt o) y x)) x y (λ _. inl refl) (λ equal. inl (sym (equal_keys x y equal))) (λ more. inr (less_of_greater x y more))
 
 -- ---- a key that a table has
@@ -70,7 +70,7 @@ above_found low (entry ∷ more) key above some = elim (bytes_eq entry.key key) 
   | false ↦ λ _ found. above_found low more key above.1 found
 ] refl some
 
-first_upto : (entries : List Entry) (key : Bytes) → KeysRise entries → IsSome (lookup entries key) → Upto (first_key entries) key
+pub first_upto : (entries : List Entry) (key : Bytes) → KeysRise entries → IsSome (lookup entries key) → Upto (first_key entries) key
 first_upto [] key rises some = absurd some
 first_upto (entry ∷ more) key rises some = elim (bytes_eq entry.key key) as (λ t. bytes_eq entry.key key ≡ t → IsSome (cond t (Some entry.value) (lookup more key)) → Upto entry.key key) [
   | true ↦ λ e _. inl ((bytes_eq-Decides entry.key key).0 e)
@@ -81,7 +81,7 @@ above_last : (low : Bytes) (entry : Entry) (more : List Entry) → AllByRecursio
 above_last low entry [] above = above.0
 above_last low entry (next ∷ more) above = above_last low next more above.1
 
-upto_last : (entries : List Entry) (key : Bytes) → KeysRise entries → IsSome (lookup entries key) → Upto key (last_key entries)
+pub upto_last : (entries : List Entry) (key : Bytes) → KeysRise entries → IsSome (lookup entries key) → Upto key (last_key entries)
 upto_last [] key rises some = absurd some
 upto_last (entry ∷ []) key rises some = elim (bytes_eq entry.key key) as (λ t. bytes_eq entry.key key ≡ t → IsSome (cond t (Some entry.value) None) → Upto key entry.key) [
   | true ↦ λ e _. inl (sym ((bytes_eq-Decides entry.key key).0 e))
@@ -126,10 +126,10 @@ one_of_level level (t ∷ more) key some at rise order = (none_of_all (lookup t.
 
 -- ---- the hull of some tables
 
-abbrev lower_of : Bytes → List Table → Bytes
+abbrev pub lower_of : Bytes → List Table → Bytes
 lower_of start tables = fold (λ key (u : Table). lesser key (least_key u)) start tables
 
-abbrev upper_of : Bytes → List Table → Bytes
+abbrev pub upper_of : Bytes → List Table → Bytes
 upper_of start tables = fold (λ key (u : Table). greater key (greatest_key u)) start tables
 
 -- some table of them has the key
@@ -164,24 +164,24 @@ in_hull (t ∷ more) key rise found = elim (found_in t more key found) [
   | inr rest ↦ (lower_upto (least_key t) more key rise.1 (inr rest), upto_upper (greatest_key t) more key rise.1 (inr rest))
 ]
 
-meets_found : (lo hi key : Bytes) (t : Table) → KeysRise t.entries → Upto lo key → Upto key hi → IsSome (lookup t.entries key) → meets lo hi t ≡ true
+meets_found : (lo hi key : Bytes) (t : Table) → KeysRise t.entries → Upto lo key → Upto key hi → IsSome (lookup t.entries key) → reaches lo hi t ≡ true
 meets_found lo hi key t rise from to found =
     ap (λ (b : Bool). not b && not (is_before hi (least_key t))) (not_before lo (greatest_key t) (upto_then lo key (greatest_key t) from (upto_last t.entries key rise found)))
     ∙ ap (λ (b : Bool). not b) (not_before (least_key t) hi (upto_then (least_key t) key hi (first_upto t.entries key rise found) to))
 
-outside_none : (lo hi key : Bytes) (tables : List Table) → Rise tables → Upto lo key → Upto key hi → says (filter (λ (t : Table). not (meets lo hi t)) tables) key ≡ None
+outside_none : (lo hi key : Bytes) (tables : List Table) → Rise tables → Upto lo key → Upto key hi → says (filter (λ (t : Table). not (reaches lo hi t)) tables) key ≡ None
 outside_none lo hi key [] rise from to = refl
 outside_none lo hi key (t ∷ more) rise from to = let rest = outside_none lo hi key more rise.1 from to in
-    elim (meets lo hi t) as (λ b. meets lo hi t ≡ b → says (cond (not b) (t ∷ filter (λ (u : Table). not (meets lo hi u)) more) (filter (λ (u : Table). not (meets lo hi u)) more)) key ≡ None) [
+    elim (reaches lo hi t) as (λ b. reaches lo hi t ≡ b → says (cond (not b) (t ∷ filter (λ (u : Table). not (reaches lo hi u)) more) (filter (λ (u : Table). not (reaches lo hi u)) more)) key ≡ None) [
       | true ↦ λ _. rest
       | false ↦ λ e. elim (some_or_none (lookup t.entries key)) [
-        | inl none ↦ ap (λ (o : Option (Option Bytes)). or_else o (says (filter (λ (u : Table). not (meets lo hi u)) more) key)) none ∙ rest
+        | inl none ↦ ap (λ (o : Option (Option Bytes)). or_else o (says (filter (λ (u : Table). not (reaches lo hi u)) more) key)) none ∙ rest
         | inr some ↦ let bad = sym (meets_found lo hi key t rise.0 from to some) ∙ e in absurd cc
       ]
     ] refl
 
 -- where some tables have the key, those that their hull does not meet have it not
-pub hull_apart : (tables others : List Table) (key : Bytes) → Rise tables → Rise others → EitherNone (says tables key) (says (filter (λ (t : Table). not (meets (least_of tables) (greatest_of tables) t)) others) key)
+pub hull_apart : (tables others : List Table) (key : Bytes) → Rise tables → Rise others → EitherNone (says tables key) (says (filter (λ (t : Table). not (reaches (least_of tables) (greatest_of tables) t)) others) key)
 hull_apart tables others key rise_t rise_o = elim (some_or_none (says tables key)) [
   | inl none ↦ inl none
   | inr some ↦ let hull = in_hull tables key rise_t some in inr (outside_none (least_of tables) (greatest_of tables) key others rise_o hull.0 hull.1)

@@ -6,25 +6,27 @@ use Rattle.std.proofs.lemmas.List.{append_assoc, append-nil, take-append-drop}
 use Rattle.std.proofs.lemmas.List.Elements.{filter-append}
 use Rattle.std.proofs.lemmas.Slice.Eq.{bytes_eq-Decides}
 use Rattle.block_model.proofs.Bounds.{weaker}
-use Rattle.store_model.specs.SortedMap.{Bytes}
-use Rattle.store_model.specs.Entries.{Entry, newest, or_else, live}
-use Rattle.mem_table.specs.Table.{KeysRise, lookup}
-use Rattle.mem_table.proofs.Newest.{none_above}
+use Rattle.map_model.specs.SortedMap.{Bytes}
+use Rattle.entry_model.specs.Entries.{Entry, newest, or_else, live}
+use Rattle.entry_model.specs.Newest.{KeysRise, lookup}
+use Rattle.entry_model.proofs.Newest.{none_above}
 use Rattle.block_model.specs.Order.{is_any}
 use Rattle.state_model.specs.State.{State, Table, Job, written_by}
-use Rattle.state_model.specs.View.{first_found, oldest_first, map_of}
-use Rattle.state_model.specs.Pages.{Spells}
-use Rattle.state_model.specs.Merges.{Plan, plan_of, on_level, meets, least_of, greatest_of, is_over, first_over, choose, is_deepest, lasting, newest_of, planned, has_value}
+use Rattle.state_model.specs.View.{first_found, oldest_first, state_map}
+use Rattle.state_model.specs.Pages.{FilterBytes}
+use Rattle.state_model.specs.Merges.{Plan, plan_of, on_level, reaches, least_of, greatest_of, is_over, first_over, choose, is_deepest, lasting, newest_of, planned, has_value}
 use Rattle.state_model.specs.Tends.{without, inserted, goes_before, outstanding, installed}
-use Rattle.state_model.specs.Gaps.{extent_of, taken}
-use Rattle.state_model.specs.Sound.{IsSound, IsSoundTable, StandsBefore, AreMade, AreApart, IsOnDevice, IsJob, plan_of_job}
+use Rattle.state_model.specs.Taken.{extent_of, taken}
+use Rattle.extent_model.specs.Extents.{AreApart, IsOnDevice}
+use Rattle.state_model.specs.Sound.{IsSound, IsSoundTable, StandsBefore, AreMade, IsJob, plan_of_job}
 use Rattle.state_model.proofs.Sayings.{AllRise, lists_of, lookup-append, newest-append, or_none, rises_filter, rises_parts, newest_entries_rise, rises_follow}
 use Rattle.state_model.proofs.SameMaps.{same_map}
 use Rattle.state_model.proofs.Views.{newest_of_tables}
 use Rattle.state_model.proofs.Outputs.{joined, outputs_joined, parts_rise, lookup_joined}
 use Rattle.state_model.proofs.Merged.{merge_says, tombstones_last, planned_say, inputs_say}
 use Rattle.state_model.proofs.Levels.{says, says-append, EitherNone, AtMostOne, AllAt, Levels, upto, deeper, fold_says, none_behind}
-use Rattle.state_model.proofs.Parts.{Pairs, pairs_of, above, all_kept, all_pass, keep_all, keep_none, pairs_kept, pairs_front, levels_of, parted, dropped}
+use Rattle.extent_model.proofs.Lists.{Pairs, pairs_of, all_kept, all_pass}
+use Rattle.state_model.proofs.Parts.{above, keep_all, keep_none, pairs_kept, pairs_front, levels_of, parted, dropped}
 use Rattle.state_model.proofs.Disjoint.{Rise, hull_apart, one_of_level}
 use Rattle.state_model.proofs.Taken.{Apart, Cross, all_parts, all_join, cross_of, pairs_back, cross_flip, cross_parts, cross_join, cross_filter, stays, goes, parts_stay, part_says}
 
@@ -60,42 +62,42 @@ live_behind (Some v) w i same = refl
 -- ---- what is chosen
 
 -- the tables of a level that are merged, between those that are not
-record Shape (x0 tables : List Table) (key : Bytes) : Type 0 where
-  front : List Table
-  back : List Table
-  parts : x0 ≡ front ++ (tables ++ back)
-  apart : EitherNone (says tables key) (says back key)
+pub record Shape (x0 tables : List Table) (key : Bytes) : Type 0 where
+  pub front : List Table
+  pub back : List Table
+  pub parts : x0 ≡ front ++ (tables ++ back)
+  pub apart : EitherNone (says tables key) (says back key)
 
 -- a plan merges some tables of a level with those of the next that they meet
-record Chosen (plan : Plan) (all : List Table) (key : Bytes) : Type 0 where
-  level : ℕ
-  tables : List Table
-  output : plan.output ≡ level + 1
-  inputs : plan.inputs ≡ tables ++ filter (meets (least_of tables) (greatest_of tables)) (on_level (level + 1) all)
-  shape : Shape (on_level level all) tables key
+pub record Chosen (plan : Plan) (all : List Table) (key : Bytes) : Type 0 where
+  pub level : ℕ
+  pub tables : List Table
+  pub output : plan.output ≡ level + 1
+  pub inputs : plan.inputs ≡ tables ++ filter (reaches (least_of tables) (greatest_of tables)) (on_level (level + 1) all)
+  pub shape : Shape (on_level level all) tables key
 
-data IsPlan (s : State) (plan : Plan) : Type 0 where
-  of_level_0 : plan ≡ plan_of s (on_level 0 s.tables) 1 → IsPlan s plan
-  of_level : (level : ℕ) → 1 ≤ level → plan ≡ plan_of s (take 1 (on_level level s.tables)) (level + 1) → IsPlan s plan
+data IsPlan (all : List Table) (plan : Plan) : Type 0 where
+  of_level_0 : plan ≡ plan_of all (on_level 0 all) 1 → IsPlan all plan
+  of_level : (level : ℕ) → 1 ≤ level → plan ≡ plan_of all (take 1 (on_level level all)) (level + 1) → IsPlan all plan
 
-first_over_is : (s : State) (levels : List ℕ) (plan : Plan) → AllByRecursion (λ level. 1 ≤ level) levels → first_over s levels ≡ Some plan → IsPlan s plan
-first_over_is s [] plan some e = absurd cc
-first_over_is s (level ∷ more) plan some e = elim (is_over s level) as (λ b. cond b (Some (plan_of s (take 1 (on_level level s.tables)) (level + 1))) (first_over s more) ≡ Some plan → IsPlan s plan) [
+first_over_is : (all : List Table) (levels : List ℕ) (plan : Plan) → AllByRecursion (λ level. 1 ≤ level) levels → first_over all levels ≡ Some plan → IsPlan all plan
+first_over_is all [] plan some e = absurd cc
+first_over_is all (level ∷ more) plan some e = elim (is_over all level) as (λ b. cond b (Some (plan_of all (take 1 (on_level level all)) (level + 1))) (first_over all more) ≡ Some plan → IsPlan all plan) [
   | true ↦ λ e. of_level level some.0 cc
-  | false ↦ λ e. first_over_is s more plan some.1 e
+  | false ↦ λ e. first_over_is all more plan some.1 e
 ] e
 
-choose_is : (s : State) (plan : Plan) → choose s ≡ Some plan → IsPlan s plan
-choose_is s plan e = elim (nat_le 4 (length (on_level 0 s.tables))) as (λ b. cond b (Some (plan_of s (on_level 0 s.tables) 1)) (first_over s (1 ∷ 2 ∷ 3 ∷ 4 ∷ 5 ∷ [])) ≡ Some plan → IsPlan s plan) [
+choose_is : (all : List Table) (plan : Plan) → choose all ≡ Some plan → IsPlan all plan
+choose_is all plan e = elim (nat_le 4 (length (on_level 0 all))) as (λ b. cond b (Some (plan_of all (on_level 0 all) 1)) (first_over all (1 ∷ 2 ∷ 3 ∷ 4 ∷ 5 ∷ [])) ≡ Some plan → IsPlan all plan) [
   | true ↦ λ e. of_level_0 cc
-  | false ↦ λ e. first_over_is s (1 ∷ 2 ∷ 3 ∷ 4 ∷ 5 ∷ []) plan (omega arith, (omega arith, (omega arith, (omega arith, (omega arith, tt))))) e
+  | false ↦ λ e. first_over_is all (1 ∷ 2 ∷ 3 ∷ 4 ∷ 5 ∷ []) plan (omega arith, (omega arith, (omega arith, (omega arith, (omega arith, tt))))) e
 ] e
 
 first_apart : (tables : List Table) (key : Bytes) → AtMostOne key tables → EitherNone (says (take 1 tables) key) (says (drop 1 tables) key)
 first_apart [] key one = inl refl
 first_apart (t ∷ more) key one = subst (λ (o : Says). EitherNone o (says more key)) (sym (or_none (lookup t.entries key))) one.0
 
-on_level_at : (level : ℕ) (tables : List Table) → AllAt level (on_level level tables)
+pub on_level_at : (level : ℕ) (tables : List Table) → AllAt level (on_level level tables)
 on_level_at level tables = weaker (λ (t : Table). (t.level == level) ≡ true) (λ (t : Table). t.level ≡ level) (λ t e. grind arith) (on_level level tables) (all_pass (λ (t : Table). t.level == level) tables)
 
 one_on : (level : ℕ) (tables : List Table) (key : Bytes) → 1 ≤ level → Rise tables → Pairs StandsBefore tables → AtMostOne key (on_level level tables)
@@ -103,47 +105,46 @@ one_on level tables key some rise order = one_of_level level (on_level level tab
     (all_kept (λ (t : Table). KeysRise t.entries) (λ (t : Table). t.level == level) tables rise)
     (pairs_kept StandsBefore (λ (t : Table). t.level == level) tables order)
 
-chosen : (s : State) (few : ℕ) (plan : Plan) (key : Bytes) → few ≤ length (on_level 0 s.tables) → choose (record s { tables = drop few s.tables }) ≡ Some plan → Rise s.tables → Pairs StandsBefore s.tables → Chosen plan s.tables key
-chosen s few plan key within e rise order =
-    let later = record s { tables = drop few s.tables } in
-    let same = dropped 0 few s.tables (levels_of s.tables order) within in
-    elim (choose_is later plan e) [
+pub chosen : (all : List Table) (few : ℕ) (plan : Plan) (key : Bytes) → few ≤ length (on_level 0 all) → choose (drop few all) ≡ Some plan → Rise all → Pairs StandsBefore all → Chosen plan all key
+chosen all few plan key within e rise order =
+    let same = dropped 0 few all (levels_of all order) within in
+    elim (choose_is (drop few all) plan e) [
       | of_level_0 is ↦
-          let tables = on_level 0 (drop few s.tables) in
+          let tables = on_level 0 (drop few all) in
           record {
             level = 0;
             tables = tables;
             output = ap (λ (p : Plan). p.output) is;
-            inputs = ap (λ (p : Plan). p.inputs) is ∙ ap (λ (l : List Table). tables ++ filter (meets (least_of tables) (greatest_of tables)) l) (same.1 1 (omega arith));
+            inputs = ap (λ (p : Plan). p.inputs) is ∙ ap (λ (l : List Table). tables ++ filter (reaches (least_of tables) (greatest_of tables)) l) (same.1 1 (omega arith));
             shape = record {
-              front = take few (on_level 0 s.tables);
+              front = take few (on_level 0 all);
               back = [];
-              parts = sym (take-append-drop few (on_level 0 s.tables)) ∙ ap (λ (l : List Table). take few (on_level 0 s.tables) ++ l) (sym (append-nil tables ∙ same.0));
+              parts = sym (take-append-drop few (on_level 0 all)) ∙ ap (λ (l : List Table). take few (on_level 0 all) ++ l) (sym (append-nil tables ∙ same.0));
               apart = inr refl;
             };
           }
       | of_level level some is ↦
-          let tables = take 1 (on_level level s.tables) in
-          let there : take 1 (on_level level (drop few s.tables)) ≡ tables = ap (take 1) (same.1 level some) in
+          let tables = take 1 (on_level level all) in
+          let there : take 1 (on_level level (drop few all)) ≡ tables = ap (take 1) (same.1 level some) in
           record {
             level = level;
             tables = tables;
             output = ap (λ (p : Plan). p.output) is;
             inputs = ap (λ (p : Plan). p.inputs) is
-                ∙ ap (λ (l : List Table). l ++ filter (meets (least_of l) (greatest_of l)) (on_level (level + 1) (drop few s.tables))) there
-                ∙ ap (λ (l : List Table). tables ++ filter (meets (least_of tables) (greatest_of tables)) l) (same.1 (level + 1) (omega arith));
+                ∙ ap (λ (l : List Table). l ++ filter (reaches (least_of l) (greatest_of l)) (on_level (level + 1) (drop few all))) there
+                ∙ ap (λ (l : List Table). tables ++ filter (reaches (least_of tables) (greatest_of tables)) l) (same.1 (level + 1) (omega arith));
             shape = record {
               front = [];
-              back = drop 1 (on_level level s.tables);
-              parts = sym (take-append-drop 1 (on_level level s.tables));
-              apart = first_apart (on_level level s.tables) key (one_on level s.tables key some rise order);
+              back = drop 1 (on_level level all);
+              parts = sym (take-append-drop 1 (on_level level all));
+              apart = first_apart (on_level level all) key (one_on level all key some rise order);
             };
           }
     ]
 
 -- ---- what is left
 
-abbrev five : List Table → List Table → List Table → List Table → List Table → List Table
+abbrev pub five : List Table → List Table → List Table → List Table → List Table → List Table
 five b p s x d = b ++ ((p ++ s) ++ (x ++ d))
 
 filter_five : (test : Table → Bool) (b p s x d b' p' s' x' d' : List Table) → filter test b ≡ b' → filter test p ≡ p' → filter test s ≡ s' → filter test x ≡ x' → filter test d ≡ d' → filter test (five b p s x d) ≡ five b' p' s' x' d'
@@ -154,7 +155,7 @@ filter_five test b p s x d b' p' s' x' d' eb ep es ex ed =
     ∙ ap (λ (l : List Table). (filter test p ++ filter test s) ++ l) (filter-append test x d))
     ∙ (λ i. eb i ++ ((ep i ++ es i) ++ (ex i ++ ed i)))
 
-left : (all b p i s x d : List Table) (test : Table → Bool) → all ≡ b ++ ((p ++ (i ++ s)) ++ (x ++ d)) → Pairs Apart all
+pub left : (all b p i s x d : List Table) (test : Table → Bool) → all ≡ b ++ ((p ++ (i ++ s)) ++ (x ++ d)) → Pairs Apart all
     → without (i ++ filter test x) all ≡ five b p s (filter (λ (t : Table). not (test t)) x) d
 left all b p i s x d test parts pairs =
     let inputs = i ++ filter test x in
@@ -192,12 +193,12 @@ says_five b p s x d key = says-append b ((p ++ s) ++ (x ++ d)) key
 
 -- ---- the outputs
 
-made_lists : (spells : Spells) (s : State) (level : ℕ) (outputs : List (List Entry)) (made : List Table) → AreMade spells s level outputs made → drop (length made) outputs ≡ [] → (lists_of made ≡ outputs) × AllAt level made
-made_lists spells s level [] [] made rest = (refl, tt)
-made_lists spells s level (output ∷ outputs) [] made rest = (sym rest, tt)
-made_lists spells s level [] (t ∷ more) made rest = absurd made
-made_lists spells s level (output ∷ outputs) (t ∷ more) made rest =
-    let tail = made_lists spells s level outputs more made.1 rest in
+pub made_lists : (filter_bytes : FilterBytes) (s : State) (level : ℕ) (outputs : List (List Entry)) (made : List Table) → AreMade filter_bytes s.settings level outputs made → drop (length made) outputs ≡ [] → (lists_of made ≡ outputs) × AllAt level made
+made_lists filter_bytes s level [] [] made rest = (refl, tt)
+made_lists filter_bytes s level (output ∷ outputs) [] made rest = (sym rest, tt)
+made_lists filter_bytes s level [] (t ∷ more) made rest = absurd made
+made_lists filter_bytes s level (output ∷ outputs) (t ∷ more) made rest =
+    let tail = made_lists filter_bytes s level outputs more made.1 rest in
     let head = ap (λ (u : Table). u.entries) made.0 in
     ((λ i. head i ∷ tail.0 i), (ap (λ (u : Table). u.level) made.0, tail.1))
 
@@ -215,7 +216,7 @@ at_most (w ∷ more) key rises = (
   at_most more key (rises_parts w.entries (joined (lists_of more)) rises).1,
 )
 
-lasting_rises : (is_last : Bool) (entries : List Entry) → KeysRise entries → KeysRise (lasting is_last entries)
+pub lasting_rises : (is_last : Bool) (entries : List Entry) → KeysRise entries → KeysRise (lasting is_last entries)
 lasting_rises true entries rises = rises_filter (λ (e : Entry). has_value e.value) entries rises
 lasting_rises false entries rises = rises
 
@@ -255,18 +256,18 @@ pages_apart : (pages : ℕ) (tables rest : List Table) → Pairs AreApart (map e
 pages_apart pages [] rest pairs on = tt
 pages_apart pages (t ∷ more) rest pairs on = (all_apart pages t more rest on.0.some pairs.0 on.1, pages_apart pages more rest pairs.1 on.1)
 
-state_apart : (spells : Spells) (s : State) → IsSound spells s → Pairs Apart s.tables
-state_apart spells s sound = let e = append_assoc s.tables (written_by s.job) s.kept in
+pub state_apart : (filter_bytes : FilterBytes) (s : State) → IsSound filter_bytes s → Pairs Apart s.tables
+state_apart filter_bytes s sound = let e = append_assoc s.tables (written_by s.job) s.kept in
     pages_apart s.pages s.tables (written_by s.job ++ s.kept)
     (subst (λ (l : List Table). Pairs AreApart (map extent_of l)) e (pairs_of AreApart (taken s) sound.apart))
     (subst (λ (l : List Table). AllByRecursion (IsOnDevice s.pages) (map extent_of l)) e sound.on_device)
 
 -- ---- levels and their tests
 
-lt_of : (l a : ℕ) → nat_lt l a ≡ true → l < a
+pub lt_of : (l a : ℕ) → nat_lt l a ≡ true → l < a
 lt_of l a e = grind arith
 
-over_of : (l b : ℕ) → not (nat_le l b) ≡ true → b < l
+pub over_of : (l b : ℕ) → not (nat_le l b) ≡ true → b < l
 over_of l b e = grind arith
 
 low_le : (a l : ℕ) → l < a → nat_le l (a + 1) ≡ true
@@ -298,32 +299,32 @@ next_some a = omega arith
 
 -- ---- the install
 
-same_rest : (spells : Spells) (s : State) (plan : Plan) (key : Bytes) (u : Says) → AllByRecursion IsSoundTable plan.inputs
-    → live (or_else u (or_else (first_found (planned s plan) key) (says (deeper plan.output s.tables) key))) ≡ live (or_else u (or_else (says plan.inputs key) (says (deeper plan.output s.tables) key)))
-same_rest spells s plan key u sound =
-    let w = first_found (planned s plan) key in
+same_rest : (filter_bytes : FilterBytes) (s : State) (plan : Plan) (key : Bytes) (u : Says) → AllByRecursion IsSoundTable plan.inputs
+    → live (or_else u (or_else (first_found (planned s.tables plan) key) (says (deeper plan.output s.tables) key))) ≡ live (or_else u (or_else (says plan.inputs key) (says (deeper plan.output s.tables) key)))
+same_rest filter_bytes s plan key u sound =
+    let w = first_found (planned s.tables plan) key in
     let d = says (deeper plan.output s.tables) key in
     elim (list_any (λ (t : Table). nat_lt plan.output t.level) s.tables) as (λ b. list_any (λ (t : Table). nat_lt plan.output t.level) s.tables ≡ b → live (or_else u (or_else w d)) ≡ live (or_else u (or_else (says plan.inputs key) d))) [
-      | true ↦ λ e. ap (λ (o : Says). live (or_else u (or_else o d))) (tombstones_last s plan key sound (ap not e))
+      | true ↦ λ e. ap (λ (o : Says). live (or_else u (or_else o d))) (tombstones_last s.tables plan key sound (ap not e))
       | false ↦ λ e.
           let none : d ≡ None = ap (λ (l : List Table). says l key) (deeper_none plan.output s.tables e) in
           live_behind u (or_else w d) (or_else (says plan.inputs key) d)
-          (ap (λ (o : Says). live (or_else w o)) none ∙ ap live (or_none w) ∙ merge_says s plan key sound ∙ sym (ap (λ (o : Says). live (or_else (says plan.inputs key) o)) none ∙ ap live (or_none (says plan.inputs key))))
+          (ap (λ (o : Says). live (or_else w o)) none ∙ ap live (or_none w) ∙ merge_says s.tables plan key sound ∙ sym (ap (λ (o : Says). live (or_else (says plan.inputs key) o)) none ∙ ap live (or_none (says plan.inputs key))))
     ] refl
 
-install_says : (spells : Spells) (s : State) (job : Job) (key : Bytes) → IsSound spells s → IsJob spells s job → outstanding s job ≡ []
+install_says : (filter_bytes : FilterBytes) (s : State) (job : Job) (key : Bytes) → IsSound filter_bytes s → IsJob filter_bytes s.settings s.tables job → outstanding s.tables job ≡ []
     → live (says (fold inserted (without job.inputs s.tables) job.written) key) ≡ live (says s.tables key)
-install_says spells s job key sound is done =
+install_says filter_bytes s job key sound is done =
     let plan = plan_of_job job in
     let all = s.tables in
     let order = pairs_of StandsBefore all sound.order in
     let rise : Rise all = weaker IsSoundTable (λ (t : Table). KeysRise t.entries) (λ t st. rises_follow is_any t.entries st.entries.rising) all sound.tables in
-    let c = chosen s is.flushes plan key is.few is.chosen rise order in
+    let c = chosen s.tables is.flushes plan key is.few is.chosen rise order in
     let a = c.level in
     let i = c.tables in
     let p = c.shape.front in
     let k = c.shape.back in
-    let m = meets (least_of i) (greatest_of i) in
+    let m = reaches (least_of i) (greatest_of i) in
     let b = above a all in
     let x0 = on_level a all in
     let x = on_level (a + 1) all in
@@ -332,7 +333,7 @@ install_says spells s job key sound is done =
     let n = filter (λ (t : Table). not (m t)) x in
     let rest = five b p k n d in
     let parts = parted a 0 all (levels_of all order) ∙ ap (λ (l : List Table). b ++ (l ++ (x ++ d))) c.shape.parts in
-    let remain = ap (λ (l : List Table). without l all) c.inputs ∙ left all b p i k x d m parts (state_apart spells s sound) in
+    let remain = ap (λ (l : List Table). without l all) c.inputs ∙ left all b p i k x d m parts (state_apart filter_bytes s sound) in
     let out = λ (t : Table). not (list_any (λ (u : Table). u.first_page == t.first_page) job.inputs) in
     let levels = subst (Levels 0) remain (levels_of (without job.inputs all) (pairs_kept StandsBefore out all order)) in
     let b_low = weaker (λ (t : Table). nat_lt t.level a ≡ true) (λ (t : Table). t.level < a) (λ t e. lt_of t.level a e) b (all_pass (λ (t : Table). nat_lt t.level a) all) in
@@ -369,22 +370,22 @@ install_says spells s job key sound is done =
     let x_parts = part_says m x key (one_on (a + 1) all key (next_some a) rise order) in
     let i_n = hull_apart i x key rise_i rise_x in
     let ins : says job.inputs key ≡ or_else (says i key) (says j key) = ap (λ (l : List Table). says l key) c.inputs ∙ says-append i j key in
-    let made = made_lists spells s job.output (planned s plan) job.written is.written done in
-    let w : says job.written key ≡ first_found (planned s plan) key = ap (λ (l : List (List Entry)). first_found l key) made.0 in
-    let lasts = is_deepest s job.output in
+    let made = made_lists filter_bytes s job.output (planned s.tables plan) job.written is.written done in
+    let w : says job.written key ≡ first_found (planned s.tables plan) key = ap (λ (l : List (List Entry)). first_found l key) made.0 in
+    let lasts = is_deepest s.tables job.output in
     let whole = ap joined made.0 ∙ outputs_joined (length job.inputs - 1) (lasting lasts (newest_of job.inputs)) in
     let one = at_most job.written key (subst KeysRise (sym whole) (lasting_rises lasts (newest_of job.inputs) (newest_entries_rise (oldest_first job.inputs)))) in
     let at = subst (λ (l : ℕ). AllAt l job.written) c.output made.1 in
     let n_on : says (on_level (a + 1) rest) key ≡ says n key = ap (λ (l : List Table). says l key) (on ∙ append-nil n) in
     let either : EitherNone (says job.written key) (says (on_level (a + 1) rest) key) = elim (either_joined (says i key) (says j key) (says n key) i_n x_parts.1) [
-      | inl none ↦ inl (w ∙ planned_say s plan key ∙ lasting_none lasts (newest_of job.inputs) key (inputs_say job.inputs key sound_in ∙ ins ∙ none))
+      | inl none ↦ inl (w ∙ planned_say s.tables plan key ∙ lasting_none lasts (newest_of job.inputs) key (inputs_say job.inputs key sound_in ∙ ins ∙ none))
       | inr none ↦ inr (n_on ∙ none)
     ] in
     let u = or_else (says b key) (or_else (or_else (says p key) (says k key)) (says n key)) in
     let up_says : says (upto (a + 1) rest) key ≡ u = ap (λ (l : List Table). says l key) up ∙ says_five b p k n [] key
     ∙ ap (λ (o : Says). or_else (says b key) (or_else (or_else (says p key) (says k key)) o)) (or_none (says n key)) in
     let down_says : says (deeper (a + 1) rest) key ≡ says d key = ap (λ (l : List Table). says l key) down in
-    let new_says : says (fold inserted (without job.inputs all) job.written) key ≡ or_else u (or_else (first_found (planned s plan) key) (says d key)) =
+    let new_says : says (fold inserted (without job.inputs all) job.written) key ≡ or_else u (or_else (first_found (planned s.tables plan) key) (says d key)) =
     ap (λ (l : List Table). says (fold inserted l job.written) key) remain
     ∙ fold_says (a + 1) job.written rest key levels at one either
     ∙ (λ z. or_else (up_says z) (or_else (w z) (down_says z))) in
@@ -398,18 +399,18 @@ install_says spells s job key sound is done =
     ∙ sym (ap (λ (o : Says). or_else u (or_else o (says d key))) ins) in
     let deep : says (deeper job.output all) key ≡ says d key = ap (λ (l : ℕ). says (deeper l all) key) c.output in
     ap live new_says
-    ∙ ap (λ (o : Says). live (or_else u (or_else (first_found (planned s plan) key) o))) (sym deep)
-    ∙ same_rest spells s plan key u sound_in
+    ∙ ap (λ (o : Says). live (or_else u (or_else (first_found (planned s.tables plan) key) o))) (sym deep)
+    ∙ same_rest filter_bytes s plan key u sound_in
     ∙ ap (λ (o : Says). live (or_else u (or_else (says job.inputs key) o))) deep
     ∙ sym (ap live old_says)
 
 -- ---- the map
 
-insert_all : (P : Table → Type 0) (w : Table) (tables : List Table) → P w → AllByRecursion P tables → AllByRecursion P (inserted tables w)
+pub insert_all : (P : Table → Type 0) (w : Table) (tables : List Table) → P w → AllByRecursion P tables → AllByRecursion P (inserted tables w)
 insert_all P w [] own all = (own, tt)
 insert_all P w (t ∷ more) own all = elim (goes_before w t) as (λ b. AllByRecursion P (cond b (w ∷ t ∷ more) (t ∷ inserted more w))) [ true ↦ (own, all) | false ↦ (all.0, insert_all P w more own all.1) ]
 
-fold_all : (P : Table → Type 0) (new tables : List Table) → AllByRecursion P new → AllByRecursion P tables → AllByRecursion P (fold inserted tables new)
+pub fold_all : (P : Table → Type 0) (new tables : List Table) → AllByRecursion P new → AllByRecursion P tables → AllByRecursion P (fold inserted tables new)
 fold_all P [] tables own all = all
 fold_all P (w ∷ new) tables own all = fold_all P new (inserted tables w) own.1 (insert_all P w tables own.0 all)
 
@@ -421,13 +422,13 @@ rise_of_lists : (tables : List Table) → AllRise (lists_of tables) → Rise tab
 rise_of_lists [] rise = tt
 rise_of_lists (t ∷ more) rise = (rise.0, rise_of_lists more rise.1)
 
-pub install_keeps : (spells : Spells) (s : State) (job : Job) → IsSound spells s → IsJob spells s job → outstanding s job ≡ [] → map_of (installed s job) ≡ map_of s
-install_keeps spells s job sound is done =
+pub install_keeps : (filter_bytes : FilterBytes) (s : State) (job : Job) → IsSound filter_bytes s → IsJob filter_bytes s.settings s.tables job → outstanding s.tables job ≡ [] → state_map (installed s job) ≡ state_map s
+install_keeps filter_bytes s job sound is done =
     let all = s.tables in
     let new = fold inserted (without job.inputs all) job.written in
     let rise : Rise all = weaker IsSoundTable (λ (t : Table). KeysRise t.entries) (λ t st. rises_follow is_any t.entries st.entries.rising) all sound.tables in
-    let made = made_lists spells s job.output (planned s (plan_of_job job)) job.written is.written done in
-    let lasts = is_deepest s job.output in
+    let made = made_lists filter_bytes s job.output (planned s.tables (plan_of_job job)) job.written is.written done in
+    let lasts = is_deepest s.tables job.output in
     let whole = ap joined made.0 ∙ outputs_joined (length job.inputs - 1) (lasting lasts (newest_of job.inputs)) in
     let made_rise = rise_of_lists job.written (parts_rise (lists_of job.written) (subst KeysRise (sym whole) (lasting_rises lasts (newest_of job.inputs) (newest_entries_rise (oldest_first job.inputs))))) in
     let out = λ (t : Table). not (list_any (λ (u : Table). u.first_page == t.first_page) job.inputs) in
@@ -435,5 +436,5 @@ install_keeps spells s job sound is done =
     same_map (oldest_first new ++ s.log) (oldest_first all ++ s.log) (λ key.
     ap live (newest-append (oldest_first new) s.log key)
     ∙ live_behind (newest s.log key) (newest (oldest_first new) key) (newest (oldest_first all) key)
-    (ap live (newest_of_tables new key (lists_rise new new_rise)) ∙ install_says spells s job key sound is done ∙ sym (ap live (newest_of_tables all key (lists_rise all rise))))
+    (ap live (newest_of_tables new key (lists_rise new new_rise)) ∙ install_says filter_bytes s job key sound is done ∙ sym (ap live (newest_of_tables all key (lists_rise all rise))))
     ∙ sym (ap live (newest-append (oldest_first all) s.log key)))

@@ -3,17 +3,17 @@ use Rattle.std.proofs.Common.{◌≡◌, List, [], ◌∷◌, ◌++◌, refl, sy
 use Rattle.std.specs.Prelude.{Option, Result, Ok, Err, nat_le, length, ◌==◌, ◌+◌, ◌-◌}
 use Rattle.std.proofs.lemmas.List.{append_assoc, append-nil, map-append}
 use Rattle.std.proofs.lemmas.List.Sums.{fold-append}
-use Rattle.store_model.specs.SortedMap.{Bytes, Map}
-use Rattle.store_model.specs.Entries.{Entry, newest, or_else, live, changed, need, gap, map_of as map_of_entries}
-use Rattle.mem_table.specs.Table.{KeysRise, newest_entries, lookup}
-use Rattle.mem_table.proofs.Newest.{lookup_newest}
+use Rattle.map_model.specs.SortedMap.{Bytes, Map}
+use Rattle.entry_model.specs.Entries.{Entry, newest, or_else, live, changed, need, gap, map_of as map_of_entries}
+use Rattle.entry_model.specs.Newest.{KeysRise, newest_entries, lookup}
+use Rattle.entry_model.proofs.Newest.{lookup_newest}
 use Rattle.state_model.specs.State.{State, Table, last_epoch, without_job}
-use Rattle.state_model.specs.View.{memory, entries_of, oldest_first, map_of}
-use Rattle.state_model.specs.Pages.{Spells}
-use Rattle.state_model.specs.Gaps.{taken}
+use Rattle.state_model.specs.View.{memory, entries_of, oldest_first, state_map}
+use Rattle.state_model.specs.Pages.{FilterBytes}
+use Rattle.state_model.specs.Taken.{taken}
 use Rattle.state_model.specs.Merges.{NoRoom, placed, cut, has_value}
 use Rattle.state_model.specs.Changes.{most_tables, with_tables, flush_placed, flushed_with, flushed, logged, logged_then, written, compact_placed, live_entries, compacted_with, compacted}
-use Rattle.state_model.specs.Replies.{Reply, ManyTables, LastEpoch}
+use Rattle.line_model.specs.Replies.{Reply, ManyTables, LastEpoch}
 use Rattle.state_model.specs.Laws.{is_done}
 use Rattle.state_model.proofs.SameMaps.{same_map}
 use Rattle.state_model.proofs.Sayings.{newest-append, newest_again, newest_entries_rise, newest_backwards, oldest_first-backwards, backwards, lists_of, rises_filter, live_without_tombstones}
@@ -28,7 +28,7 @@ if_done : (P : State → Type 0) (done : Result State Reply) (s : State) → IfD
 if_done P done s so e = subst (IfDone P) e so
 
 abbrev pub KeepsMap : State → State → Type 0
-KeepsMap s t = map_of t ≡ map_of s
+KeepsMap s t = state_map t ≡ state_map s
 
 -- ---- flush
 
@@ -49,43 +49,43 @@ with_tables_keeps s made lists = elim (s.epoch == last_epoch) as (λ t. IfDone (
   | false ↦ same_map (oldest_first (made ++ s.tables) ++ []) (entries_of s) (λ key. ap live (flush_says s made key lists))
 ]
 
-flush_placed_keeps : (spells : Spells) (s : State) (done : Result (List Table) NoRoom) → placed spells s (taken s) 0 (memory s ∷ []) ≡ done → IfDone (KeepsMap s) (flush_placed s done)
-flush_placed_keeps spells s (Ok made) e = with_tables_keeps s made (placed_lists spells s (taken s) 0 (memory s ∷ []) made e)
-flush_placed_keeps spells s (Err refusal) e = refl
+flush_placed_keeps : (filter_bytes : FilterBytes) (s : State) (done : Result (List Table) NoRoom) → placed filter_bytes s.settings s.pages (taken s) 0 (memory s ∷ []) ≡ done → IfDone (KeepsMap s) (flush_placed s done)
+flush_placed_keeps filter_bytes s (Ok made) e = with_tables_keeps s made (placed_lists filter_bytes s (taken s) 0 (memory s ∷ []) made e)
+flush_placed_keeps filter_bytes s (Err refusal) e = refl
 
-flushed_with_keeps : (spells : Spells) (s : State) (entries : List Entry) → memory s ≡ entries → IfDone (KeepsMap s) (flushed_with spells s entries)
-flushed_with_keeps spells s [] e = refl
-flushed_with_keeps spells s (entry ∷ more) e = elim (nat_le most_tables (length s.tables)) as (λ t. IfDone (KeepsMap s) (cond t (Err ManyTables) (flush_placed s (placed spells s (taken s) 0 ((entry ∷ more) ∷ []))))) [
+flushed_with_keeps : (filter_bytes : FilterBytes) (s : State) (entries : List Entry) → memory s ≡ entries → IfDone (KeepsMap s) (flushed_with filter_bytes s entries)
+flushed_with_keeps filter_bytes s [] e = refl
+flushed_with_keeps filter_bytes s (entry ∷ more) e = elim (nat_le most_tables (length s.tables)) as (λ t. IfDone (KeepsMap s) (cond t (Err ManyTables) (flush_placed s (placed filter_bytes s.settings s.pages (taken s) 0 ((entry ∷ more) ∷ []))))) [
   | true ↦ refl
-  | false ↦ flush_placed_keeps spells s (placed spells s (taken s) 0 ((entry ∷ more) ∷ [])) (ap (λ (l : List Entry). placed spells s (taken s) 0 (l ∷ [])) e)
+  | false ↦ flush_placed_keeps filter_bytes s (placed filter_bytes s.settings s.pages (taken s) 0 ((entry ∷ more) ∷ [])) (ap (λ (l : List Entry). placed filter_bytes s.settings s.pages (taken s) 0 (l ∷ [])) e)
 ]
 
-pub flushed_done : (spells : Spells) (s : State) → IfDone (KeepsMap s) (flushed spells s)
-flushed_done spells s = flushed_with_keeps spells s (memory s) refl
+pub flushed_done : (filter_bytes : FilterBytes) (s : State) → IfDone (KeepsMap s) (flushed filter_bytes s)
+flushed_done filter_bytes s = flushed_with_keeps filter_bytes s (memory s) refl
 
-pub flushed_keeps : (spells : Spells) (s t : State) → flushed spells s ≡ Ok t → map_of t ≡ map_of s
-flushed_keeps spells s t e = if_done (KeepsMap s) (flushed spells s) t (flushed_done spells s) e
+pub flushed_keeps : (filter_bytes : FilterBytes) (s t : State) → flushed filter_bytes s ≡ Ok t → state_map t ≡ state_map s
+flushed_keeps filter_bytes s t e = if_done (KeepsMap s) (flushed filter_bytes s) t (flushed_done filter_bytes s) e
 
 -- ---- one entry
 
-logged_changes : (s : State) (entry : Entry) → map_of (logged s entry) ≡ changed (map_of s) entry
+logged_changes : (s : State) (entry : Entry) → state_map (logged s entry) ≡ changed (state_map s) entry
 logged_changes s entry = ap map_of_entries (sym (append_assoc (oldest_first s.tables) s.log (entry ∷ []))) ∙ fold-append changed [] (entries_of s) (entry ∷ [])
 
 abbrev pub Makes : Map → Entry → State → Type 0
-Makes map entry t = map_of t ≡ changed map entry
+Makes map entry t = state_map t ≡ changed map entry
 
-logged_then_makes : (map : Map) (entry : Entry) (done : Result State Reply) → IfDone (λ s. map_of s ≡ map) done → IfDone (Makes map entry) (logged_then entry done)
+logged_then_makes : (map : Map) (entry : Entry) (done : Result State Reply) → IfDone (λ s. state_map s ≡ map) done → IfDone (Makes map entry) (logged_then entry done)
 logged_then_makes map entry (Ok s) same = logged_changes s entry ∙ ap (λ (m : Map). changed m entry) same
 logged_then_makes map entry (Err refusal) same = same
 
-pub written_done : (spells : Spells) (s : State) (entry : Entry) → IfDone (Makes (map_of s) entry) (written spells s entry)
-written_done spells s entry = elim (nat_le (need entry) (gap s.log)) as (λ t. IfDone (Makes (map_of s) entry) (cond t (Ok (logged s entry)) (logged_then entry (flushed spells s)))) [
+pub written_done : (filter_bytes : FilterBytes) (s : State) (entry : Entry) → IfDone (Makes (state_map s) entry) (written filter_bytes s entry)
+written_done filter_bytes s entry = elim (nat_le (need entry) (gap s.log)) as (λ t. IfDone (Makes (state_map s) entry) (cond t (Ok (logged s entry)) (logged_then entry (flushed filter_bytes s)))) [
   | true ↦ logged_changes s entry
-  | false ↦ logged_then_makes (map_of s) entry (flushed spells s) (flushed_done spells s)
+  | false ↦ logged_then_makes (state_map s) entry (flushed filter_bytes s) (flushed_done filter_bytes s)
 ]
 
-pub written_makes : (spells : Spells) (s t : State) (entry : Entry) → written spells s entry ≡ Ok t → map_of t ≡ changed (map_of s) entry
-written_makes spells s t entry e = if_done (Makes (map_of s) entry) (written spells s entry) t (written_done spells s entry) e
+pub written_makes : (filter_bytes : FilterBytes) (s t : State) (entry : Entry) → written filter_bytes s entry ≡ Ok t → state_map t ≡ changed (state_map s) entry
+written_makes filter_bytes s t entry e = if_done (Makes (state_map s) entry) (written filter_bytes s entry) t (written_done filter_bytes s entry) e
 
 -- ---- compaction
 
@@ -101,22 +101,22 @@ compact_says s made key lists =
     ∙ lookup_joined (cut s.tables (live_entries s)) key
     ∙ ap (λ (l : List Entry). lookup l key) whole
 
-compact_placed_keeps : (spells : Spells) (s : State) (done : Result (List Table) NoRoom) → placed spells s (taken (without_job s)) 6 (cut s.tables (live_entries s)) ≡ done → IfDone (KeepsMap s) (compact_placed s done)
-compact_placed_keeps spells s (Ok made) e = same_map (oldest_first made ++ []) (entries_of s)
-    (λ key. ap live (compact_says s made key (placed_lists spells s (taken (without_job s)) 6 (cut s.tables (live_entries s)) made e)) ∙ live_says s key)
-compact_placed_keeps spells s (Err refusal) e = refl
+compact_placed_keeps : (filter_bytes : FilterBytes) (s : State) (done : Result (List Table) NoRoom) → placed filter_bytes s.settings s.pages (taken (without_job s)) 6 (cut s.tables (live_entries s)) ≡ done → IfDone (KeepsMap s) (compact_placed s done)
+compact_placed_keeps filter_bytes s (Ok made) e = same_map (oldest_first made ++ []) (entries_of s)
+    (λ key. ap live (compact_says s made key (placed_lists filter_bytes s (taken (without_job s)) 6 (cut s.tables (live_entries s)) made e)) ∙ live_says s key)
+compact_placed_keeps filter_bytes s (Err refusal) e = refl
 
-compacted_with_keeps : (spells : Spells) (s : State) (entries : List Entry) → IfDone (KeepsMap s) (compacted_with spells s entries)
-compacted_with_keeps spells s [] = refl
-compacted_with_keeps spells s (entry ∷ more) =
-    let done = placed spells s (taken (without_job s)) 6 (cut s.tables (live_entries s)) in
+compacted_with_keeps : (filter_bytes : FilterBytes) (s : State) (entries : List Entry) → IfDone (KeepsMap s) (compacted_with filter_bytes s entries)
+compacted_with_keeps filter_bytes s [] = refl
+compacted_with_keeps filter_bytes s (entry ∷ more) =
+    let done = placed filter_bytes s.settings s.pages (taken (without_job s)) 6 (cut s.tables (live_entries s)) in
     elim (s.epoch == last_epoch) as (λ t. IfDone (KeepsMap s) (cond t (Err LastEpoch) (compact_placed s done))) [
       | true ↦ refl
-      | false ↦ compact_placed_keeps spells s done refl
+      | false ↦ compact_placed_keeps filter_bytes s done refl
     ]
 
-pub compacted_done : (spells : Spells) (s : State) → IfDone (KeepsMap s) (compacted spells s)
-compacted_done spells s = compacted_with_keeps spells s (entries_of s)
+pub compacted_done : (filter_bytes : FilterBytes) (s : State) → IfDone (KeepsMap s) (compacted filter_bytes s)
+compacted_done filter_bytes s = compacted_with_keeps filter_bytes s (entries_of s)
 
-pub compacted_keeps : (spells : Spells) (s t : State) → compacted spells s ≡ Ok t → map_of t ≡ map_of s
-compacted_keeps spells s t e = if_done (KeepsMap s) (compacted spells s) t (compacted_done spells s) e
+pub compacted_keeps : (filter_bytes : FilterBytes) (s t : State) → compacted filter_bytes s ≡ Ok t → state_map t ≡ state_map s
+compacted_keeps filter_bytes s t e = if_done (KeepsMap s) (compacted filter_bytes s) t (compacted_done filter_bytes s) e

@@ -2,9 +2,9 @@
 use Rattle.std.proofs.Common.{◌≡◌, ◌⊎◌, inl, inr, ℕ, ◌≤◌, ◌<◌, List, [], ◌∷◌, ◌++◌, refl, sym, ap, ◌∙◌, subst, Bool, true, false, cond, arith}
 use Rattle.std.specs.Prelude.{Option, Some, None, nat_le, nat_lt, not, ◌==◌, ◌&&◌, ◌||◌, filter, fold}
 use Rattle.std.specs.List.{AllByRecursion}
-use Rattle.store_model.specs.SortedMap.{Bytes}
-use Rattle.store_model.specs.Entries.{or_else}
-use Rattle.mem_table.specs.Table.{lookup}
+use Rattle.map_model.specs.SortedMap.{Bytes}
+use Rattle.entry_model.specs.Entries.{or_else}
+use Rattle.entry_model.specs.Newest.{lookup}
 use Rattle.map_model.specs.Slices.{is_before}
 use Rattle.state_model.specs.State.{Table}
 use Rattle.state_model.specs.View.{first_found}

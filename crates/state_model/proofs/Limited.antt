@@ -1,11 +1,10 @@
 -- The limit of a request is the one that it breaks.
 use Rattle.std.proofs.Common.{◌≡◌, ◌⊎◌, inl, inr, ℕ, ◌≤◌, ◌<◌, List, [], ◌∷◌, refl, sym, ap, ◌∙◌, subst, Bool, true, false, cond, arith}
 use Rattle.std.specs.Prelude.{Option, Some, None, nat_lt, length, ◌==◌, ◌||◌}
-use Rattle.store_model.specs.SortedMap.{Bytes}
-use Rattle.state_model.specs.Changes.{key_limit, value_limit, bound_limit, first_limit}
-use Rattle.state_model.specs.Requests.{Request, Put, Del, Get, Seek, Range, Count, Estimate, Explain, Flush, Compact, Quit, Bad}
-use Rattle.state_model.specs.Replies.{Reply, LongKey, LongValue}
-use Rattle.state_model.specs.Steps.{limit_of}
+use Rattle.map_model.specs.SortedMap.{Bytes}
+use Rattle.line_model.specs.Limits.{key_limit, value_limit, bound_limit, first_limit, limit_of}
+use Rattle.line_model.specs.Requests.{Request, Put, Del, Get, Seek, Range, Count, Estimate, Explain, Flush, Compact, Quit, Bad}
+use Rattle.line_model.specs.Replies.{Reply, LongKey, LongValue}
 use Rattle.state_model.specs.Refusals.{IsKey, IsNoKey, key_of, bounds_of, BreaksLimit, by_key, by_value, by_lower, by_upper}
 
 -- ---- tests

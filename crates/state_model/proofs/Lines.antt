@@ -1,21 +1,22 @@
 -- What each line makes of the map.
 use Rattle.std.proofs.Common.{◌≡◌, refl, sym, ap, Bool, true, false, cond}
 use Rattle.std.specs.Prelude.{Option, Some, None, Result, Ok, Err, nat_lt, length, ◌==◌, ◌||◌}
-use Rattle.store_model.specs.SortedMap.{Bytes, put, del}
-use Rattle.store_model.specs.Entries.{put_entry, del_entry}
+use Rattle.map_model.specs.SortedMap.{Bytes, put, del}
+use Rattle.entry_model.specs.Entries.{put_entry, del_entry}
 use Rattle.state_model.specs.State.{State, without_job}
-use Rattle.state_model.specs.View.{map_of}
-use Rattle.state_model.specs.Pages.{Spells}
-use Rattle.state_model.specs.Changes.{key_limit, value_limit, first_limit, flushed, written, compacted}
-use Rattle.state_model.specs.Requests.{Request, Put, Del, Get, Seek, Range, Count, Estimate, Explain, Flush, Compact, Quit, Bad}
-use Rattle.state_model.specs.Replies.{Reply, LongKey, LongValue}
-use Rattle.state_model.specs.Steps.{Answer, answer, answer_within, changed, limit_of, unless_limit}
+use Rattle.state_model.specs.View.{state_map}
+use Rattle.state_model.specs.Pages.{FilterBytes}
+use Rattle.state_model.specs.Changes.{flushed, written, compacted}
+use Rattle.line_model.specs.Limits.{key_limit, value_limit, first_limit, limit_of}
+use Rattle.line_model.specs.Requests.{Request, Put, Del, Get, Seek, Range, Count, Estimate, Explain, Flush, Compact, Quit, Bad}
+use Rattle.line_model.specs.Replies.{Reply, LongKey, LongValue}
+use Rattle.state_model.specs.Steps.{Answer, answer, answer_within, changed, unless_limit}
 use Rattle.state_model.specs.Laws.{is_done, map_behind}
 use Rattle.state_model.proofs.Kept.{IfDone, KeepsMap, Makes, flushed_done, written_done, compacted_done}
 
 -- the answer leaves the map that its line and reply tell
 abbrev Leaves : State → Request → Answer → Type 0
-Leaves s request a = map_of a.1 ≡ map_behind request a.0 (map_of s)
+Leaves s request a = state_map a.1 ≡ map_behind request a.0 (state_map s)
 
 -- a limit leaves the state as it was
 abbrev IsLimit : Option Reply → Type 0
@@ -33,45 +34,45 @@ first_limited (Some reply) b limited other = limited
 first_limited None b limited other = other
 
 put_limited : (s : State) (key value : Bytes) (limit : Option Reply) (a : Answer) → IsLimit limit → Leaves s (Put key value) a → Leaves s (Put key value) (unless_limit limit s a)
-put_limited s key value (Some reply) a limited leaves = sym (ap (λ (t : Bool). cond t (put (map_of s) key value) (map_of s)) limited)
+put_limited s key value (Some reply) a limited leaves = sym (ap (λ (t : Bool). cond t (put (state_map s) key value) (state_map s)) limited)
 put_limited s key value None a limited leaves = leaves
 
 del_limited : (s : State) (key : Bytes) (limit : Option Reply) (a : Answer) → IsLimit limit → Leaves s (Del key) a → Leaves s (Del key) (unless_limit limit s a)
-del_limited s key (Some reply) a limited leaves = sym (ap (λ (t : Bool). cond t (del (map_of s) key) (map_of s)) limited)
+del_limited s key (Some reply) a limited leaves = sym (ap (λ (t : Bool). cond t (del (state_map s) key) (state_map s)) limited)
 del_limited s key None a limited leaves = leaves
 
-put_changed : (s : State) (key value : Bytes) (done : Result State Reply) → IfDone (Makes (map_of s) (put_entry key value)) done → Leaves s (Put key value) (changed s done)
+put_changed : (s : State) (key value : Bytes) (done : Result State Reply) → IfDone (Makes (state_map s) (put_entry key value)) done → Leaves s (Put key value) (changed s done)
 put_changed s key value (Ok t) so = so
-put_changed s key value (Err refusal) so = sym (ap (λ (t : Bool). cond t (put (map_of s) key value) (map_of s)) so)
+put_changed s key value (Err refusal) so = sym (ap (λ (t : Bool). cond t (put (state_map s) key value) (state_map s)) so)
 
-del_changed : (s : State) (key : Bytes) (done : Result State Reply) → IfDone (Makes (map_of s) (del_entry key)) done → Leaves s (Del key) (changed s done)
+del_changed : (s : State) (key : Bytes) (done : Result State Reply) → IfDone (Makes (state_map s) (del_entry key)) done → Leaves s (Del key) (changed s done)
 del_changed s key (Ok t) so = so
-del_changed s key (Err refusal) so = sym (ap (λ (t : Bool). cond t (del (map_of s) key) (map_of s)) so)
+del_changed s key (Err refusal) so = sym (ap (λ (t : Bool). cond t (del (state_map s) key) (state_map s)) so)
 
 -- a change that keeps the map leaves it, done or not
-kept : (s old : State) (done : Result State Reply) → map_of old ≡ map_of s → IfDone (KeepsMap s) done → map_of (changed old done).1 ≡ map_of s
+kept : (s old : State) (done : Result State Reply) → state_map old ≡ state_map s → IfDone (KeepsMap s) done → state_map (changed old done).1 ≡ state_map s
 kept s old (Ok t) same so = so
 kept s old (Err refusal) same so = same
 
 -- a read leaves the state, refused or not
-read_kept : (s : State) (limit : Option Reply) (reply : Reply) → map_of (unless_limit limit s (reply, s)).1 ≡ map_of s
+read_kept : (s : State) (limit : Option Reply) (reply : Reply) → state_map (unless_limit limit s (reply, s)).1 ≡ state_map s
 read_kept s (Some refusal) reply = refl
 read_kept s None reply = refl
 
-pub lines_change : (spells : Spells) (s : State) (request : Request) → map_of (answer spells s request).1 ≡ map_behind request (answer spells s request).0 (map_of s)
-lines_change spells s (Put key value) = put_limited s key value (limit_of (Put key value)) (changed s (written spells s (put_entry key value)))
+pub lines_change : (filter_bytes : FilterBytes) (s : State) (request : Request) → state_map (answer filter_bytes s request).1 ≡ map_behind request (answer filter_bytes s request).0 (state_map s)
+lines_change filter_bytes s (Put key value) = put_limited s key value (limit_of (Put key value)) (changed s (written filter_bytes s (put_entry key value)))
     (first_limited (key_limit key) (value_limit value) (key_limited key) (value_limited value))
-    (put_changed s key value (written spells s (put_entry key value)) (written_done spells s (put_entry key value)))
-lines_change spells s (Del key) = del_limited s key (key_limit key) (changed s (written spells s (del_entry key))) (key_limited key)
-    (del_changed s key (written spells s (del_entry key)) (written_done spells s (del_entry key)))
-lines_change spells s (Get key) = read_kept s (key_limit key) (answer_within spells s (Get key)).0
-lines_change spells s (Seek lo None) = read_kept s (limit_of (Seek lo None)) (answer_within spells s (Seek lo None)).0
-lines_change spells s (Seek lo (Some hi)) = read_kept s (limit_of (Seek lo (Some hi))) (answer_within spells s (Seek lo (Some hi))).0
-lines_change spells s (Range lo hi n) = read_kept s (limit_of (Range lo hi n)) (answer_within spells s (Range lo hi n)).0
-lines_change spells s (Count lo hi) = read_kept s (limit_of (Count lo hi)) (answer_within spells s (Count lo hi)).0
-lines_change spells s (Estimate lo hi) = read_kept s (limit_of (Estimate lo hi)) (answer_within spells s (Estimate lo hi)).0
-lines_change spells s (Explain key) = read_kept s (key_limit key) (answer_within spells s (Explain key)).0
-lines_change spells s Flush = kept s s (flushed spells s) refl (flushed_done spells s)
-lines_change spells s Compact = kept s (without_job s) (compacted spells s) refl (compacted_done spells s)
-lines_change spells s Quit = refl
-lines_change spells s (Bad code) = refl
+    (put_changed s key value (written filter_bytes s (put_entry key value)) (written_done filter_bytes s (put_entry key value)))
+lines_change filter_bytes s (Del key) = del_limited s key (key_limit key) (changed s (written filter_bytes s (del_entry key))) (key_limited key)
+    (del_changed s key (written filter_bytes s (del_entry key)) (written_done filter_bytes s (del_entry key)))
+lines_change filter_bytes s (Get key) = read_kept s (key_limit key) (answer_within filter_bytes s (Get key)).0
+lines_change filter_bytes s (Seek lo None) = read_kept s (limit_of (Seek lo None)) (answer_within filter_bytes s (Seek lo None)).0
+lines_change filter_bytes s (Seek lo (Some hi)) = read_kept s (limit_of (Seek lo (Some hi))) (answer_within filter_bytes s (Seek lo (Some hi))).0
+lines_change filter_bytes s (Range lo hi n) = read_kept s (limit_of (Range lo hi n)) (answer_within filter_bytes s (Range lo hi n)).0
+lines_change filter_bytes s (Count lo hi) = read_kept s (limit_of (Count lo hi)) (answer_within filter_bytes s (Count lo hi)).0
+lines_change filter_bytes s (Estimate lo hi) = read_kept s (limit_of (Estimate lo hi)) (answer_within filter_bytes s (Estimate lo hi)).0
+lines_change filter_bytes s (Explain key) = read_kept s (key_limit key) (answer_within filter_bytes s (Explain key)).0
+lines_change filter_bytes s Flush = kept s s (flushed filter_bytes s) refl (flushed_done filter_bytes s)
+lines_change filter_bytes s Compact = kept s (without_job s) (compacted filter_bytes s) refl (compacted_done filter_bytes s)
+lines_change filter_bytes s Quit = refl
+lines_change filter_bytes s (Bad code) = refl

@@ -2,14 +2,15 @@
 use Rattle.std.proofs.Common.{◌≡◌, ℕ, zero, suc, List, [], ◌∷◌, ◌++◌, refl, sym, ap, ◌∙◌, subst, true, false, cond}
 use Rattle.std.specs.Prelude.{Option, Some, None, Result, Ok, Err, nat_le}
 use Rattle.std.proofs.lemmas.List.{append_assoc, append-nil}
-use Rattle.store_model.specs.SortedMap.{Bytes}
-use Rattle.store_model.specs.Entries.{Entry, or_else}
-use Rattle.mem_table.specs.Table.{KeysRise, lookup}
+use Rattle.map_model.specs.SortedMap.{Bytes}
+use Rattle.entry_model.specs.Entries.{Entry, or_else}
+use Rattle.entry_model.specs.Newest.{KeysRise, lookup}
 use Rattle.block_model.specs.Pages.{data_pages}
 use Rattle.state_model.specs.State.{State, Table}
 use Rattle.state_model.specs.View.{first_found}
-use Rattle.state_model.specs.Pages.{Spells, table_pages, table_of}
-use Rattle.state_model.specs.Gaps.{Extent, first_gap, largest_gap}
+use Rattle.state_model.specs.Pages.{FilterBytes, table_pages, table_of}
+use Rattle.extent_model.specs.Extents.{Extent}
+use Rattle.extent_model.specs.Gaps.{first_gap, largest_gap}
 use Rattle.state_model.specs.Merges.{NoRoom, before, at_page, placed, split_output, outputs_of, output_pages}
 use Rattle.state_model.proofs.Sayings.{lists_of, lookup-append, rises_parts, AllRise}
 
@@ -59,16 +60,16 @@ at_made : (outputs : List (List Entry)) (page : Option ℕ) (there : ℕ → Res
 at_made outputs (Some page) there refusal so = so page
 at_made outputs None there refusal so = tt
 
-placed_made : (spells : Spells) (s : State) (taken : List Extent) (level : ℕ) (outputs : List (List Entry)) → MadeOf outputs (placed spells s taken level outputs)
-placed_made spells s taken level [] = refl
-placed_made spells s taken level (output ∷ more) =
-    let need = table_pages spells s.settings output in
-    let rest = λ (page : ℕ). placed spells s ((page, need) ∷ taken) level more in
+placed_made : (filter_bytes : FilterBytes) (s : State) (taken : List Extent) (level : ℕ) (outputs : List (List Entry)) → MadeOf outputs (placed filter_bytes s.settings s.pages taken level outputs)
+placed_made filter_bytes s taken level [] = refl
+placed_made filter_bytes s taken level (output ∷ more) =
+    let need = table_pages filter_bytes s.settings output in
+    let rest = λ (page : ℕ). placed filter_bytes s.settings s.pages ((page, need) ∷ taken) level more in
     at_made (output ∷ more) (first_gap s.pages taken need)
-    (λ page. before (table_of spells s.settings level page output) (rest page))
+    (λ page. before (table_of filter_bytes s.settings level page output) (rest page))
     (record { need = need; gap = largest_gap s.pages taken })
-    (λ page. before_made (table_of spells s.settings level page output) more (rest page) (placed_made spells s ((page, need) ∷ taken) level more))
+    (λ page. before_made (table_of filter_bytes s.settings level page output) more (rest page) (placed_made filter_bytes s ((page, need) ∷ taken) level more))
 
 -- where there was room, the tables have the outputs' entries, in their order
-pub placed_lists : (spells : Spells) (s : State) (taken : List Extent) (level : ℕ) (outputs : List (List Entry)) (made : List Table) → placed spells s taken level outputs ≡ Ok made → lists_of made ≡ outputs
-placed_lists spells s taken level outputs made e = subst (MadeOf outputs) e (placed_made spells s taken level outputs)
+pub placed_lists : (filter_bytes : FilterBytes) (s : State) (taken : List Extent) (level : ℕ) (outputs : List (List Entry)) (made : List Table) → placed filter_bytes s.settings s.pages taken level outputs ≡ Ok made → lists_of made ≡ outputs
+placed_lists filter_bytes s taken level outputs made e = subst (MadeOf outputs) e (placed_made filter_bytes s taken level outputs)

@@ -2,19 +2,20 @@
 use Rattle.std.proofs.Common.{◌≡◌, ◌⊎◌, inl, inr, ℕ, ◌+◌, List, [], ◌∷◌, ◌++◌, length, refl, sym, ap, ◌∙◌, subst, true, false, cond, map}
 use Rattle.std.specs.Prelude.{Option, Some, None, Result, Ok, Err, nat_le, nat_lt, ◌==◌, ◌||◌, flat_map}
 use Rattle.std.proofs.lemmas.List.Concat.{flat_map-cons}
-use Rattle.store_model.specs.SortedMap.{Bytes, get}
-use Rattle.store_model.specs.Entries.{Entry, need, gap, put_entry, del_entry}
+use Rattle.map_model.specs.SortedMap.{Bytes, get}
+use Rattle.entry_model.specs.Entries.{Entry, need, gap, put_entry, del_entry}
 use Rattle.state_model.specs.State.{State, Table, without_job, last_epoch}
-use Rattle.state_model.specs.View.{memory, entries_of, map_of}
-use Rattle.state_model.specs.Pages.{Spells}
-use Rattle.state_model.specs.Gaps.{taken}
+use Rattle.state_model.specs.View.{memory, entries_of, state_map}
+use Rattle.state_model.specs.Pages.{FilterBytes}
+use Rattle.state_model.specs.Taken.{taken}
 use Rattle.state_model.specs.Merges.{NoRoom, placed, cut}
 use Rattle.state_model.specs.Causes.{Why}
-use Rattle.state_model.specs.Changes.{key_limit, value_limit, bound_limit, first_limit, most_tables, with_tables, flush_placed, flushed_with, flushed, logged, logged_then, written, compact_placed, live_entries, compacted_with, compacted}
-use Rattle.state_model.specs.Requests.{Request, Put, Del, Get, Seek, Range, Count, Estimate, Explain, Flush, Compact, Quit, Bad, request_of}
-use Rattle.state_model.specs.Replies.{Reply, Done, Value, Missing, At, Pairs, End, Counted, About, Explained, Bye, BadLine, LongKey, LongValue, ManyTables, LastEpoch, Full, Memory, Device, Damaged, text_of, got, found}
+use Rattle.state_model.specs.Changes.{most_tables, with_tables, flush_placed, flushed_with, flushed, logged, logged_then, written, compact_placed, live_entries, compacted_with, compacted}
+use Rattle.line_model.specs.Limits.{key_limit, value_limit, bound_limit, first_limit, limit_of}
+use Rattle.line_model.specs.Requests.{Request, Put, Del, Get, Seek, Range, Count, Estimate, Explain, Flush, Compact, Quit, Bad, request_of}
+use Rattle.line_model.specs.Replies.{Reply, Done, Value, Missing, At, Pairs, End, Counted, About, Explained, Bye, BadLine, LongKey, LongValue, ManyTables, LastEpoch, Full, Memory, Device, Damaged, text_of, got, found}
 use Rattle.map_model.specs.Slices.{seek}
-use Rattle.state_model.specs.Steps.{Answer, answer, answer_within, changed, limit_of, unless_limit, Step, answers}
+use Rattle.state_model.specs.Steps.{Answer, answer, answer_within, changed, unless_limit, Step, answers}
 use Rattle.state_model.specs.Play.{tended, behind, played}
 use Rattle.state_model.specs.Script.{Ending, ToLast, AtQuit, Turn, Onward, turn_of, Between, Ends, AsSaid, Script}
 use Rattle.state_model.specs.PlayLaws.{AnyState, played_text}
@@ -56,34 +57,34 @@ flush_placed_calm : (s : State) (done : Result (List Table) NoRoom) → s.job �
 flush_placed_calm s (Ok made) none = with_tables_calm s (made ++ s.tables) none
 flush_placed_calm s (Err refusal) none = refl
 
-flushed_with_calm : (spells : Spells) (s : State) (entries : List Entry) → s.job ≡ None → CalmResult (flushed_with spells s entries)
-flushed_with_calm spells s [] none = none
-flushed_with_calm spells s (entry ∷ more) none = elim (nat_le most_tables (length s.tables)) as (λ t. CalmResult (cond t (Err ManyTables) (flush_placed s (placed spells s (taken s) 0 ((entry ∷ more) ∷ []))))) [
+flushed_with_calm : (filter_bytes : FilterBytes) (s : State) (entries : List Entry) → s.job ≡ None → CalmResult (flushed_with filter_bytes s entries)
+flushed_with_calm filter_bytes s [] none = none
+flushed_with_calm filter_bytes s (entry ∷ more) none = elim (nat_le most_tables (length s.tables)) as (λ t. CalmResult (cond t (Err ManyTables) (flush_placed s (placed filter_bytes s.settings s.pages (taken s) 0 ((entry ∷ more) ∷ []))))) [
   | true ↦ refl
-  | false ↦ flush_placed_calm s (placed spells s (taken s) 0 ((entry ∷ more) ∷ [])) none
+  | false ↦ flush_placed_calm s (placed filter_bytes s.settings s.pages (taken s) 0 ((entry ∷ more) ∷ [])) none
 ]
 
-flushed_calm : (spells : Spells) (s : State) → s.job ≡ None → CalmResult (flushed spells s)
-flushed_calm spells s none = flushed_with_calm spells s (memory s) none
+flushed_calm : (filter_bytes : FilterBytes) (s : State) → s.job ≡ None → CalmResult (flushed filter_bytes s)
+flushed_calm filter_bytes s none = flushed_with_calm filter_bytes s (memory s) none
 
 logged_then_calm : (entry : Entry) (done : Result State Reply) → CalmResult done → CalmResult (logged_then entry done)
 logged_then_calm entry (Ok s) none = none
 logged_then_calm entry (Err refusal) calm = calm
 
-written_calm : (spells : Spells) (s : State) (entry : Entry) → s.job ≡ None → CalmResult (written spells s entry)
-written_calm spells s entry none = elim (nat_le (need entry) (gap s.log)) as (λ t. CalmResult (cond t (Ok (logged s entry)) (logged_then entry (flushed spells s)))) [
+written_calm : (filter_bytes : FilterBytes) (s : State) (entry : Entry) → s.job ≡ None → CalmResult (written filter_bytes s entry)
+written_calm filter_bytes s entry none = elim (nat_le (need entry) (gap s.log)) as (λ t. CalmResult (cond t (Ok (logged s entry)) (logged_then entry (flushed filter_bytes s)))) [
   | true ↦ none
-  | false ↦ logged_then_calm entry (flushed spells s) (flushed_calm spells s none)
+  | false ↦ logged_then_calm entry (flushed filter_bytes s) (flushed_calm filter_bytes s none)
 ]
 
 compact_placed_calm : (s : State) (done : Result (List Table) NoRoom) → CalmResult (compact_placed s done)
 compact_placed_calm s (Ok made) = refl
 compact_placed_calm s (Err refusal) = refl
 
-compacted_with_calm : (spells : Spells) (s : State) (entries : List Entry) → s.job ≡ None → CalmResult (compacted_with spells s entries)
-compacted_with_calm spells s [] none = none
-compacted_with_calm spells s (entry ∷ more) none =
-    let done = placed spells s (taken (without_job s)) 6 (cut s.tables (live_entries s)) in
+compacted_with_calm : (filter_bytes : FilterBytes) (s : State) (entries : List Entry) → s.job ≡ None → CalmResult (compacted_with filter_bytes s entries)
+compacted_with_calm filter_bytes s [] none = none
+compacted_with_calm filter_bytes s (entry ∷ more) none =
+    let done = placed filter_bytes s.settings s.pages (taken (without_job s)) 6 (cut s.tables (live_entries s)) in
     elim (s.epoch == last_epoch) as (λ t. CalmResult (cond t (Err LastEpoch) (compact_placed s done))) [ true ↦ refl | false ↦ compact_placed_calm s done ]
 
 changed_calm : (old : State) (done : Result State Reply) → old.job ≡ None → CalmResult done → Calm (changed old done)
@@ -102,46 +103,46 @@ found_calm : (pair : Option (Bytes × Bytes)) → turn_of (found pair) ≡ Onwar
 found_calm (Some pair) = refl
 found_calm None = refl
 
-pub answer_is_calm : (spells : Spells) (s : State) (request : Request) → s.job ≡ None → Calm (answer spells s request)
-answer_is_calm spells s (Put key value) none = limit_calm (limit_of (Put key value)) s (answer_within spells s (Put key value)) none
+pub answer_is_calm : (filter_bytes : FilterBytes) (s : State) (request : Request) → s.job ≡ None → Calm (answer filter_bytes s request)
+answer_is_calm filter_bytes s (Put key value) none = limit_calm (limit_of (Put key value)) s (answer_within filter_bytes s (Put key value)) none
     (first_calm (key_limit key) (value_limit value) (key_calm key) (value_calm value))
-    (changed_calm s (written spells s (put_entry key value)) none (written_calm spells s (put_entry key value) none))
-answer_is_calm spells s (Del key) none = limit_calm (key_limit key) s (answer_within spells s (Del key)) none (key_calm key)
-    (changed_calm s (written spells s (del_entry key)) none (written_calm spells s (del_entry key) none))
-answer_is_calm spells s (Get key) none = limit_calm (key_limit key) s (answer_within spells s (Get key)) none (key_calm key) (inl (got_calm (get (map_of s) key)), none)
-answer_is_calm spells s (Seek lo None) none = limit_calm (bound_limit lo) s (answer_within spells s (Seek lo None)) none (bound_calm lo) (inl (found_calm (seek (map_of s) lo None)), none)
-answer_is_calm spells s (Seek lo (Some hi)) none = limit_calm (limit_of (Seek lo (Some hi))) s (answer_within spells s (Seek lo (Some hi))) none
-    (first_calm (bound_limit lo) (bound_limit hi) (bound_calm lo) (bound_calm hi)) (inl (found_calm (seek (map_of s) lo (Some hi))), none)
-answer_is_calm spells s (Range lo hi n) none = limit_calm (limit_of (Range lo hi n)) s (answer_within spells s (Range lo hi n)) none
+    (changed_calm s (written filter_bytes s (put_entry key value)) none (written_calm filter_bytes s (put_entry key value) none))
+answer_is_calm filter_bytes s (Del key) none = limit_calm (key_limit key) s (answer_within filter_bytes s (Del key)) none (key_calm key)
+    (changed_calm s (written filter_bytes s (del_entry key)) none (written_calm filter_bytes s (del_entry key) none))
+answer_is_calm filter_bytes s (Get key) none = limit_calm (key_limit key) s (answer_within filter_bytes s (Get key)) none (key_calm key) (inl (got_calm (get (state_map s) key)), none)
+answer_is_calm filter_bytes s (Seek lo None) none = limit_calm (bound_limit lo) s (answer_within filter_bytes s (Seek lo None)) none (bound_calm lo) (inl (found_calm (seek (state_map s) lo None)), none)
+answer_is_calm filter_bytes s (Seek lo (Some hi)) none = limit_calm (limit_of (Seek lo (Some hi))) s (answer_within filter_bytes s (Seek lo (Some hi))) none
+    (first_calm (bound_limit lo) (bound_limit hi) (bound_calm lo) (bound_calm hi)) (inl (found_calm (seek (state_map s) lo (Some hi))), none)
+answer_is_calm filter_bytes s (Range lo hi n) none = limit_calm (limit_of (Range lo hi n)) s (answer_within filter_bytes s (Range lo hi n)) none
     (first_calm (bound_limit lo) (bound_limit hi) (bound_calm lo) (bound_calm hi)) (inl refl, none)
-answer_is_calm spells s (Count lo hi) none = limit_calm (limit_of (Count lo hi)) s (answer_within spells s (Count lo hi)) none
+answer_is_calm filter_bytes s (Count lo hi) none = limit_calm (limit_of (Count lo hi)) s (answer_within filter_bytes s (Count lo hi)) none
     (first_calm (bound_limit lo) (bound_limit hi) (bound_calm lo) (bound_calm hi)) (inl refl, none)
-answer_is_calm spells s (Estimate lo hi) none = limit_calm (limit_of (Estimate lo hi)) s (answer_within spells s (Estimate lo hi)) none
+answer_is_calm filter_bytes s (Estimate lo hi) none = limit_calm (limit_of (Estimate lo hi)) s (answer_within filter_bytes s (Estimate lo hi)) none
     (first_calm (bound_limit lo) (bound_limit hi) (bound_calm lo) (bound_calm hi)) (inl refl, none)
-answer_is_calm spells s (Explain key) none = limit_calm (key_limit key) s (answer_within spells s (Explain key)) none (key_calm key) (inl refl, none)
-answer_is_calm spells s Flush none = changed_calm s (flushed spells s) none (flushed_calm spells s none)
-answer_is_calm spells s Compact none = changed_calm (without_job s) (compacted spells s) refl (compacted_with_calm spells s (entries_of s) none)
-answer_is_calm spells s Quit none = (inr refl, none)
-answer_is_calm spells s (Bad code) none = (inl refl, none)
+answer_is_calm filter_bytes s (Explain key) none = limit_calm (key_limit key) s (answer_within filter_bytes s (Explain key)) none (key_calm key) (inl refl, none)
+answer_is_calm filter_bytes s Flush none = changed_calm s (flushed filter_bytes s) none (flushed_calm filter_bytes s none)
+answer_is_calm filter_bytes s Compact none = changed_calm (without_job s) (compacted filter_bytes s) refl (compacted_with_calm filter_bytes s (entries_of s) none)
+answer_is_calm filter_bytes s Quit none = (inr refl, none)
+answer_is_calm filter_bytes s (Bad code) none = (inl refl, none)
 
 -- ---- what happens between the lines
 
-abbrev Tends : (Why → Type 0) → Spells → State → Request → Type 0
-Tends Cause spells s request = Between Cause spells request s Onward (tended spells request s) × ((tended spells request s).job ≡ None)
+abbrev Tends : (Why → Type 0) → FilterBytes → State → Request → Type 0
+Tends Cause filter_bytes s request = Between Cause filter_bytes request s Onward (tended filter_bytes request s) × ((tended filter_bytes request s).job ≡ None)
 
-pub tended_between : (Cause : Why → Type 0) (spells : Spells) (s : State) (request : Request) → s.job ≡ None → Tends Cause spells s request
-tended_between Cause spells s (Put key value) none = merged_is_a_slice Cause spells s none
-tended_between Cause spells s (Del key) none = merged_is_a_slice Cause spells s none
-tended_between Cause spells s (Get key) none = ((refl, refl), none)
-tended_between Cause spells s (Seek lo hi) none = ((refl, refl), none)
-tended_between Cause spells s (Range lo hi n) none = ((refl, refl), none)
-tended_between Cause spells s (Count lo hi) none = ((refl, refl), none)
-tended_between Cause spells s (Estimate lo hi) none = ((refl, refl), none)
-tended_between Cause spells s (Explain key) none = ((refl, refl), none)
-tended_between Cause spells s Flush none = ((refl, refl), none)
-tended_between Cause spells s Compact none = ((refl, refl), none)
-tended_between Cause spells s Quit none = ((refl, refl), none)
-tended_between Cause spells s (Bad code) none = ((refl, refl), none)
+pub tended_between : (Cause : Why → Type 0) (filter_bytes : FilterBytes) (s : State) (request : Request) → s.job ≡ None → Tends Cause filter_bytes s request
+tended_between Cause filter_bytes s (Put key value) none = merged_is_a_slice Cause filter_bytes s none
+tended_between Cause filter_bytes s (Del key) none = merged_is_a_slice Cause filter_bytes s none
+tended_between Cause filter_bytes s (Get key) none = ((refl, refl), none)
+tended_between Cause filter_bytes s (Seek lo hi) none = ((refl, refl), none)
+tended_between Cause filter_bytes s (Range lo hi n) none = ((refl, refl), none)
+tended_between Cause filter_bytes s (Count lo hi) none = ((refl, refl), none)
+tended_between Cause filter_bytes s (Estimate lo hi) none = ((refl, refl), none)
+tended_between Cause filter_bytes s (Explain key) none = ((refl, refl), none)
+tended_between Cause filter_bytes s Flush none = ((refl, refl), none)
+tended_between Cause filter_bytes s Compact none = ((refl, refl), none)
+tended_between Cause filter_bytes s Quit none = ((refl, refl), none)
+tended_between Cause filter_bytes s (Bad code) none = ((refl, refl), none)
 
 -- ---- the script
 
@@ -168,19 +169,19 @@ behind_onward Device later s e = refl
 behind_onward (Damaged damage) later s e = refl
 
 -- these lines are a script with this text
-abbrev pub IsScript : (Why → Type 0) → Spells → ℕ → State → List Bytes → Bytes → Type 0
-IsScript Cause spells said s lines text = (ending : Ending) × Script Cause spells AnyState said s lines text ending
+abbrev pub IsScript : (Why → Type 0) → FilterBytes → ℕ → State → List Bytes → Bytes → Type 0
+IsScript Cause filter_bytes said s lines text = (ending : Ending) × Script Cause filter_bytes AnyState said s lines text ending
 
 -- the line is answered, and what follows it is a script too
-line_played : (Cause : Why → Type 0) (spells : Spells) (said : ℕ) (s : State) (line : Bytes) (more : List Bytes) (reply : Reply) (new : State) (later : List Reply × State)
-    → Step Cause spells s (request_of line) reply new → GoesOnOrBye reply → Between Cause spells (request_of line) new Onward (tended spells (request_of line) new)
-    → IsScript Cause spells (said + length (text_of reply)) (tended spells (request_of line) new) more (flat_map text_of later.0)
-    → IsScript Cause spells said s (line ∷ more) (flat_map text_of (behind reply later new).0)
-line_played Cause spells said s line more reply new later step (inl onward) between rest =
+line_played : (Cause : Why → Type 0) (filter_bytes : FilterBytes) (said : ℕ) (s : State) (line : Bytes) (more : List Bytes) (reply : Reply) (new : State) (later : List Reply × State)
+    → Step Cause filter_bytes s (request_of line) reply new → GoesOnOrBye reply → Between Cause filter_bytes (request_of line) new Onward (tended filter_bytes (request_of line) new)
+    → IsScript Cause filter_bytes (said + length (text_of reply)) (tended filter_bytes (request_of line) new) more (flat_map text_of later.0)
+    → IsScript Cause filter_bytes said s (line ∷ more) (flat_map text_of (behind reply later new).0)
+line_played Cause filter_bytes said s line more reply new later step (inl onward) between rest =
     let text = ap (flat_map text_of) (behind_onward reply later new onward) ∙ flat_map-cons text_of reply later.0 in
-    let after = tended spells (request_of line) new in
-    let Next = (turn : Turn) × (after : State) × Between Cause spells (request_of line) new turn after
-    × Ends turn (flat_map text_of later.0) rest.0 (Script Cause spells AnyState (said + length (text_of reply)) after more (flat_map text_of later.0) rest.0) in (
+    let after = tended filter_bytes (request_of line) new in
+    let Next = (turn : Turn) × (after : State) × Between Cause filter_bytes (request_of line) new turn after
+    × Ends turn (flat_map text_of later.0) rest.0 (Script Cause filter_bytes AnyState (said + length (text_of reply)) after more (flat_map text_of later.0) rest.0) in (
       rest.0,
       (
         reply,
@@ -192,22 +193,22 @@ line_played Cause spells said s line more reply new later step (inl onward) betw
         subst (λ (t : Turn). Ends t (flat_map text_of later.0) rest.0 Next) (sym onward) (Onward, after, between, rest.1),
       ),
     )
-line_played Cause spells said s line more reply new later step (inr bye) between rest =
-    subst (λ (r : Reply). Step Cause spells s (request_of line) r new → IsScript Cause spells said s (line ∷ more) (flat_map text_of (behind r later new).0)) (sym bye)
+line_played Cause filter_bytes said s line more reply new later step (inr bye) between rest =
+    subst (λ (r : Reply). Step Cause filter_bytes s (request_of line) r new → IsScript Cause filter_bytes said s (line ∷ more) (flat_map text_of (behind r later new).0)) (sym bye)
     (λ step. (AtQuit, (Bye, [], new, flat_map-cons text_of Bye [], step, tt, (refl, refl)))) step
 
-pub lines_played : (Cause : Why → Type 0) (spells : Spells) (s : State) (said : ℕ) (lines : List Bytes) → s.job ≡ None → IsScript Cause spells said s lines (played_text spells s lines)
-lines_played Cause spells s said [] none = (ToLast, (refl, refl))
-lines_played Cause spells s said (line ∷ more) none =
+pub lines_played : (Cause : Why → Type 0) (filter_bytes : FilterBytes) (s : State) (said : ℕ) (lines : List Bytes) → s.job ≡ None → IsScript Cause filter_bytes said s lines (played_text filter_bytes s lines)
+lines_played Cause filter_bytes s said [] none = (ToLast, (refl, refl))
+lines_played Cause filter_bytes s said (line ∷ more) none =
     let request = request_of line in
-    let a = answer spells s request in
-    let calm = answer_is_calm spells s request none in
-    let between = tended_between Cause spells a.1 request calm.1 in
-    line_played Cause spells said s line more a.0 a.1 (played spells (tended spells request a.1) (map request_of more)) answers calm.0 between.0
-    (lines_played Cause spells (tended spells request a.1) (said + length (text_of a.0)) more between.1)
+    let a = answer filter_bytes s request in
+    let calm = answer_is_calm filter_bytes s request none in
+    let between = tended_between Cause filter_bytes a.1 request calm.1 in
+    line_played Cause filter_bytes said s line more a.0 a.1 (played filter_bytes (tended filter_bytes request a.1) (map request_of more)) answers calm.0 between.0
+    (lines_played Cause filter_bytes (tended filter_bytes request a.1) (said + length (text_of a.0)) more between.1)
 
-pub no_job_behind : (spells : Spells) (s : State) (line : Bytes) → s.job ≡ None
-    → ((answer spells s (request_of line)).1.job ≡ None) × ((tended spells (request_of line) (answer spells s (request_of line)).1).job ≡ None)
-no_job_behind spells s line none =
-    let calm = answer_is_calm spells s (request_of line) none in
-    (calm.1, (tended_between (λ why. ⊥) spells (answer spells s (request_of line)).1 (request_of line) calm.1).1)
+pub no_job_behind : (filter_bytes : FilterBytes) (s : State) (line : Bytes) → s.job ≡ None
+    → ((answer filter_bytes s (request_of line)).1.job ≡ None) × ((tended filter_bytes (request_of line) (answer filter_bytes s (request_of line)).1).job ≡ None)
+no_job_behind filter_bytes s line none =
+    let calm = answer_is_calm filter_bytes s (request_of line) none in
+    (calm.1, (tended_between (λ why. ⊥) filter_bytes (answer filter_bytes s (request_of line)).1 (request_of line) calm.1).1)

@@ -1,17 +1,18 @@
 -- The causes of a refusal: what has one is refused by it, and what is refused has one.
 use Rattle.std.proofs.Common.{◌≡◌, ◌≢◌, ℕ, ◌≤◌, ◌<◌, List, [], ◌∷◌, ◌++◌, refl, ap, ◌∙◌, Bool, true, false, cond, arith}
 use Rattle.std.specs.Prelude.{Option, Some, None, Result, Ok, Err, nat_le, length, ◌==◌, ◌+◌}
-use Rattle.store_model.specs.SortedMap.{Bytes}
-use Rattle.store_model.specs.Entries.{Entry, put_entry, del_entry, need, gap}
+use Rattle.map_model.specs.SortedMap.{Bytes}
+use Rattle.entry_model.specs.Entries.{Entry, put_entry, del_entry, need, gap}
 use Rattle.state_model.specs.State.{State, Table, last_epoch, without_job}
 use Rattle.state_model.specs.View.{memory, entries_of}
-use Rattle.state_model.specs.Pages.{Spells}
-use Rattle.state_model.specs.Gaps.{taken}
+use Rattle.state_model.specs.Pages.{FilterBytes}
+use Rattle.state_model.specs.Taken.{taken}
 use Rattle.state_model.specs.Merges.{NoRoom, placed}
 use Rattle.state_model.specs.Changes.{most_tables, with_tables, flush_placed, flushed_with, flushed, logged, logged_then, written, compact_placed, compacted_with, compacted}
-use Rattle.state_model.specs.Requests.{Request, Put, Del, Get, Seek, Range, Count, Estimate, Explain, Flush, Compact, Quit, Bad}
-use Rattle.state_model.specs.Replies.{Reply, ManyTables, LastEpoch, Full, got, found}
-use Rattle.state_model.specs.Steps.{Answer, answer, answer_within, changed, limit_of, unless_limit}
+use Rattle.line_model.specs.Requests.{Request, Put, Del, Get, Seek, Range, Count, Estimate, Explain, Flush, Compact, Quit, Bad}
+use Rattle.line_model.specs.Replies.{Reply, ManyTables, LastEpoch, Full, got, found}
+use Rattle.state_model.specs.Steps.{Answer, answer, answer_within, changed, unless_limit}
+use Rattle.line_model.specs.Limits.{limit_of}
 use Rattle.state_model.specs.Refusals.{is_refusal, FlushIsDue, CompactionIsDue, flush_places, compaction_places, Refused, by_limit, flush_by_tables, flush_by_room, flush_by_epoch, compaction_by_epoch, compaction_by_room}
 
 -- ---- tests
@@ -42,48 +43,48 @@ not_eq m n e = grind arith
 
 -- ---- a flush and a compaction are refused so
 
-some_flushed : (spells : Spells) (s : State) (entries : List Entry) → entries ≢ []
-    → flushed_with spells s entries ≡ cond (nat_le most_tables (length s.tables)) (Err ManyTables) (flush_placed s (placed spells s (taken s) 0 (entries ∷ [])))
-some_flushed spells s [] some = absurd (some refl)
-some_flushed spells s (entry ∷ more) some = refl
+some_flushed : (filter_bytes : FilterBytes) (s : State) (entries : List Entry) → entries ≢ []
+    → flushed_with filter_bytes s entries ≡ cond (nat_le most_tables (length s.tables)) (Err ManyTables) (flush_placed s (placed filter_bytes s.settings s.pages (taken s) 0 (entries ∷ [])))
+some_flushed filter_bytes s [] some = absurd (some refl)
+some_flushed filter_bytes s (entry ∷ more) some = refl
 
-flush_tables : (spells : Spells) (s : State) → memory s ≢ [] → most_tables ≤ length s.tables → flushed spells s ≡ Err ManyTables
-flush_tables spells s some many =
-    some_flushed spells s (memory s) some
-    ∙ ap (λ (t : Bool). cond t (Err ManyTables) (flush_placed s (flush_places spells s))) (le_true most_tables (length s.tables) many)
+flush_tables : (filter_bytes : FilterBytes) (s : State) → memory s ≢ [] → most_tables ≤ length s.tables → flushed filter_bytes s ≡ Err ManyTables
+flush_tables filter_bytes s some many =
+    some_flushed filter_bytes s (memory s) some
+    ∙ ap (λ (t : Bool). cond t (Err ManyTables) (flush_placed s (flush_places filter_bytes s))) (le_true most_tables (length s.tables) many)
 
-flush_few : (spells : Spells) (s : State) → memory s ≢ [] → length s.tables < most_tables → flushed spells s ≡ flush_placed s (flush_places spells s)
-flush_few spells s some few =
-    some_flushed spells s (memory s) some
-    ∙ ap (λ (t : Bool). cond t (Err ManyTables) (flush_placed s (flush_places spells s))) (le_false most_tables (length s.tables) few)
+flush_few : (filter_bytes : FilterBytes) (s : State) → memory s ≢ [] → length s.tables < most_tables → flushed filter_bytes s ≡ flush_placed s (flush_places filter_bytes s)
+flush_few filter_bytes s some few =
+    some_flushed filter_bytes s (memory s) some
+    ∙ ap (λ (t : Bool). cond t (Err ManyTables) (flush_placed s (flush_places filter_bytes s))) (le_false most_tables (length s.tables) few)
 
 with_tables_last : (s : State) (tables : List Table) → s.epoch ≡ last_epoch → with_tables s tables ≡ Err LastEpoch
 with_tables_last s tables last = ap (λ (t : Bool). cond t (Err LastEpoch) (Ok (record s { epoch = s.epoch + 1; log = []; tables = tables }))) (eq_true s.epoch last_epoch last)
 
-flush_room : (spells : Spells) (s : State) (refusal : NoRoom) → memory s ≢ [] → length s.tables < most_tables → flush_places spells s ≡ Err refusal
-    → flushed spells s ≡ Err (Full refusal.need refusal.gap)
-flush_room spells s refusal some few none = flush_few spells s some few ∙ ap (flush_placed s) none
+flush_room : (filter_bytes : FilterBytes) (s : State) (refusal : NoRoom) → memory s ≢ [] → length s.tables < most_tables → flush_places filter_bytes s ≡ Err refusal
+    → flushed filter_bytes s ≡ Err (Full refusal.need refusal.gap)
+flush_room filter_bytes s refusal some few none = flush_few filter_bytes s some few ∙ ap (flush_placed s) none
 
-flush_epoch : (spells : Spells) (s : State) (made : List Table) → memory s ≢ [] → length s.tables < most_tables → flush_places spells s ≡ Ok made → s.epoch ≡ last_epoch
-    → flushed spells s ≡ Err LastEpoch
-flush_epoch spells s made some few placed_so last = flush_few spells s some few ∙ ap (flush_placed s) placed_so ∙ with_tables_last s (made ++ s.tables) last
+flush_epoch : (filter_bytes : FilterBytes) (s : State) (made : List Table) → memory s ≢ [] → length s.tables < most_tables → flush_places filter_bytes s ≡ Ok made → s.epoch ≡ last_epoch
+    → flushed filter_bytes s ≡ Err LastEpoch
+flush_epoch filter_bytes s made some few placed_so last = flush_few filter_bytes s some few ∙ ap (flush_placed s) placed_so ∙ with_tables_last s (made ++ s.tables) last
 
-some_compacted : (spells : Spells) (s : State) (entries : List Entry) → entries ≢ []
-    → compacted_with spells s entries ≡ cond (s.epoch == last_epoch) (Err LastEpoch) (compact_placed s (compaction_places spells s))
-some_compacted spells s [] some = absurd (some refl)
-some_compacted spells s (entry ∷ more) some = refl
+some_compacted : (filter_bytes : FilterBytes) (s : State) (entries : List Entry) → entries ≢ []
+    → compacted_with filter_bytes s entries ≡ cond (s.epoch == last_epoch) (Err LastEpoch) (compact_placed s (compaction_places filter_bytes s))
+some_compacted filter_bytes s [] some = absurd (some refl)
+some_compacted filter_bytes s (entry ∷ more) some = refl
 
-compact_at : (spells : Spells) (s : State) (t : Bool) → entries_of s ≢ [] → (s.epoch == last_epoch) ≡ t
-    → compacted spells s ≡ cond t (Err LastEpoch) (compact_placed s (compaction_places spells s))
-compact_at spells s t some e =
-    some_compacted spells s (entries_of s) some
-    ∙ ap (λ (t : Bool). cond t (Err LastEpoch) (compact_placed s (compaction_places spells s))) e
+compact_at : (filter_bytes : FilterBytes) (s : State) (t : Bool) → entries_of s ≢ [] → (s.epoch == last_epoch) ≡ t
+    → compacted filter_bytes s ≡ cond t (Err LastEpoch) (compact_placed s (compaction_places filter_bytes s))
+compact_at filter_bytes s t some e =
+    some_compacted filter_bytes s (entries_of s) some
+    ∙ ap (λ (t : Bool). cond t (Err LastEpoch) (compact_placed s (compaction_places filter_bytes s))) e
 
 -- ---- what has a cause
 
-written_refused : (spells : Spells) (s : State) (entry : Entry) (reply : Reply) → gap s.log < need entry → flushed spells s ≡ Err reply → written spells s entry ≡ Err reply
-written_refused spells s entry reply wide refused =
-    ap (λ (t : Bool). cond t (Ok (logged s entry)) (logged_then entry (flushed spells s))) (le_false (need entry) (gap s.log) wide) ∙ ap (logged_then entry) refused
+written_refused : (filter_bytes : FilterBytes) (s : State) (entry : Entry) (reply : Reply) → gap s.log < need entry → flushed filter_bytes s ≡ Err reply → written filter_bytes s entry ≡ Err reply
+written_refused filter_bytes s entry reply wide refused =
+    ap (λ (t : Bool). cond t (Ok (logged s entry)) (logged_then entry (flushed filter_bytes s))) (le_false (need entry) (gap s.log) wide) ∙ ap (logged_then entry) refused
 
 -- where a flush is due, there are memory entries
 due_some : (s : State) (request : Request) → FlushIsDue s request → memory s ≢ []
@@ -104,148 +105,148 @@ first_of_changed : (s : State) (done : Result State Reply) (reply : Reply) → d
 first_of_changed s done reply e = ap (λ (d : Result State Reply). (changed s d).0) e
 
 -- where a flush is due and refused, the line is answered by its refusal
-due_refused : (spells : Spells) (s : State) (request : Request) (reply : Reply) → FlushIsDue s request → flushed spells s ≡ Err reply → (answer_within spells s request).0 ≡ reply
-due_refused spells s (Put key value) reply due refused = first_of_changed s (written spells s (put_entry key value)) reply (written_refused spells s (put_entry key value) reply due.0 refused)
-due_refused spells s (Del key) reply due refused = first_of_changed s (written spells s (del_entry key)) reply (written_refused spells s (del_entry key) reply due.0 refused)
-due_refused spells s Flush reply due refused = first_of_changed s (flushed spells s) reply refused
-due_refused spells s (Get key) reply due refused = absurd due
-due_refused spells s (Seek lo hi) reply due refused = absurd due
-due_refused spells s (Range lo hi n) reply due refused = absurd due
-due_refused spells s (Count lo hi) reply due refused = absurd due
-due_refused spells s (Estimate lo hi) reply due refused = absurd due
-due_refused spells s (Explain key) reply due refused = absurd due
-due_refused spells s Compact reply due refused = absurd due
-due_refused spells s Quit reply due refused = absurd due
-due_refused spells s (Bad code) reply due refused = absurd due
+due_refused : (filter_bytes : FilterBytes) (s : State) (request : Request) (reply : Reply) → FlushIsDue s request → flushed filter_bytes s ≡ Err reply → (answer_within filter_bytes s request).0 ≡ reply
+due_refused filter_bytes s (Put key value) reply due refused = first_of_changed s (written filter_bytes s (put_entry key value)) reply (written_refused filter_bytes s (put_entry key value) reply due.0 refused)
+due_refused filter_bytes s (Del key) reply due refused = first_of_changed s (written filter_bytes s (del_entry key)) reply (written_refused filter_bytes s (del_entry key) reply due.0 refused)
+due_refused filter_bytes s Flush reply due refused = first_of_changed s (flushed filter_bytes s) reply refused
+due_refused filter_bytes s (Get key) reply due refused = absurd due
+due_refused filter_bytes s (Seek lo hi) reply due refused = absurd due
+due_refused filter_bytes s (Range lo hi n) reply due refused = absurd due
+due_refused filter_bytes s (Count lo hi) reply due refused = absurd due
+due_refused filter_bytes s (Estimate lo hi) reply due refused = absurd due
+due_refused filter_bytes s (Explain key) reply due refused = absurd due
+due_refused filter_bytes s Compact reply due refused = absurd due
+due_refused filter_bytes s Quit reply due refused = absurd due
+due_refused filter_bytes s (Bad code) reply due refused = absurd due
 
-compact_refused : (spells : Spells) (s : State) (request : Request) (reply : Reply) → CompactionIsDue s request → (entries_of s ≢ [] → compacted spells s ≡ Err reply)
-    → (answer_within spells s request).0 ≡ reply
-compact_refused spells s Compact reply due refused = first_of_changed (without_job s) (compacted spells s) reply (refused due)
-compact_refused spells s Flush reply due refused = absurd due
-compact_refused spells s (Put key value) reply due refused = absurd due
-compact_refused spells s (Del key) reply due refused = absurd due
-compact_refused spells s (Get key) reply due refused = absurd due
-compact_refused spells s (Seek lo hi) reply due refused = absurd due
-compact_refused spells s (Range lo hi n) reply due refused = absurd due
-compact_refused spells s (Count lo hi) reply due refused = absurd due
-compact_refused spells s (Estimate lo hi) reply due refused = absurd due
-compact_refused spells s (Explain key) reply due refused = absurd due
-compact_refused spells s Quit reply due refused = absurd due
-compact_refused spells s (Bad code) reply due refused = absurd due
+compact_refused : (filter_bytes : FilterBytes) (s : State) (request : Request) (reply : Reply) → CompactionIsDue s request → (entries_of s ≢ [] → compacted filter_bytes s ≡ Err reply)
+    → (answer_within filter_bytes s request).0 ≡ reply
+compact_refused filter_bytes s Compact reply due refused = first_of_changed (without_job s) (compacted filter_bytes s) reply (refused due)
+compact_refused filter_bytes s Flush reply due refused = absurd due
+compact_refused filter_bytes s (Put key value) reply due refused = absurd due
+compact_refused filter_bytes s (Del key) reply due refused = absurd due
+compact_refused filter_bytes s (Get key) reply due refused = absurd due
+compact_refused filter_bytes s (Seek lo hi) reply due refused = absurd due
+compact_refused filter_bytes s (Range lo hi n) reply due refused = absurd due
+compact_refused filter_bytes s (Count lo hi) reply due refused = absurd due
+compact_refused filter_bytes s (Estimate lo hi) reply due refused = absurd due
+compact_refused filter_bytes s (Explain key) reply due refused = absurd due
+compact_refused filter_bytes s Quit reply due refused = absurd due
+compact_refused filter_bytes s (Bad code) reply due refused = absurd due
 
 -- the answer where the limit is known
-at_limit : (spells : Spells) (s : State) (request : Request) (limit : Option Reply) → limit_of request ≡ limit
-    → (answer spells s request).0 ≡ (unless_limit limit s (answer_within spells s request)).0
-at_limit spells s request limit e = ap (λ (l : Option Reply). (unless_limit l s (answer_within spells s request)).0) e
+at_limit : (filter_bytes : FilterBytes) (s : State) (request : Request) (limit : Option Reply) → limit_of request ≡ limit
+    → (answer filter_bytes s request).0 ≡ (unless_limit limit s (answer_within filter_bytes s request)).0
+at_limit filter_bytes s request limit e = ap (λ (l : Option Reply). (unless_limit l s (answer_within filter_bytes s request)).0) e
 
-pub gives_reply : (spells : Spells) (s : State) (request : Request) (reply : Reply) → Refused spells s request reply → (answer spells s request).0 ≡ reply
-gives_reply spells s request reply (by_limit _ e) = at_limit spells s request (Some reply) e
-gives_reply spells s request _ (flush_by_tables within due many) =
-    at_limit spells s request None within ∙ due_refused spells s request ManyTables due (flush_tables spells s (due_some s request due) many)
-gives_reply spells s request _ (flush_by_room refusal within due few none) =
-    at_limit spells s request None within ∙ due_refused spells s request (Full refusal.need refusal.gap) due (flush_room spells s refusal (due_some s request due) few none)
-gives_reply spells s request _ (flush_by_epoch made within due few so last) =
-    at_limit spells s request None within ∙ due_refused spells s request LastEpoch due (flush_epoch spells s made (due_some s request due) few so last)
-gives_reply spells s request _ (compaction_by_epoch within due last) =
-    at_limit spells s request None within ∙ compact_refused spells s request LastEpoch due (λ some. compact_at spells s true some (eq_true s.epoch last_epoch last))
-gives_reply spells s request _ (compaction_by_room refusal within due more none) =
-    at_limit spells s request None within
-    ∙ compact_refused spells s request (Full refusal.need refusal.gap) due (λ some. compact_at spells s false some (eq_false s.epoch last_epoch more) ∙ ap (compact_placed s) none)
+pub gives_reply : (filter_bytes : FilterBytes) (s : State) (request : Request) (reply : Reply) → Refused filter_bytes s request reply → (answer filter_bytes s request).0 ≡ reply
+gives_reply filter_bytes s request reply (by_limit _ e) = at_limit filter_bytes s request (Some reply) e
+gives_reply filter_bytes s request _ (flush_by_tables within due many) =
+    at_limit filter_bytes s request None within ∙ due_refused filter_bytes s request ManyTables due (flush_tables filter_bytes s (due_some s request due) many)
+gives_reply filter_bytes s request _ (flush_by_room refusal within due few none) =
+    at_limit filter_bytes s request None within ∙ due_refused filter_bytes s request (Full refusal.need refusal.gap) due (flush_room filter_bytes s refusal (due_some s request due) few none)
+gives_reply filter_bytes s request _ (flush_by_epoch made within due few so last) =
+    at_limit filter_bytes s request None within ∙ due_refused filter_bytes s request LastEpoch due (flush_epoch filter_bytes s made (due_some s request due) few so last)
+gives_reply filter_bytes s request _ (compaction_by_epoch within due last) =
+    at_limit filter_bytes s request None within ∙ compact_refused filter_bytes s request LastEpoch due (λ some. compact_at filter_bytes s true some (eq_true s.epoch last_epoch last))
+gives_reply filter_bytes s request _ (compaction_by_room refusal within due more none) =
+    at_limit filter_bytes s request None within
+    ∙ compact_refused filter_bytes s request (Full refusal.need refusal.gap) due (λ some. compact_at filter_bytes s false some (eq_false s.epoch last_epoch more) ∙ ap (compact_placed s) none)
 
 -- ---- what is refused
 
 -- what is refused is so for a reason
-abbrev HasCause : Spells → State → Request → Result State Reply → Type 0
-HasCause spells s request (Ok t) = Unit {0}
-HasCause spells s request (Err reply) = Refused spells s request reply
+abbrev HasCause : FilterBytes → State → Request → Result State Reply → Type 0
+HasCause filter_bytes s request (Ok t) = Unit {0}
+HasCause filter_bytes s request (Err reply) = Refused filter_bytes s request reply
 
-flush_placed_cause : (spells : Spells) (s : State) (request : Request) (done : Result (List Table) NoRoom)
-    → limit_of request ≡ None → FlushIsDue s request → length s.tables < most_tables → flush_places spells s ≡ done → HasCause spells s request (flush_placed s done)
-flush_placed_cause spells s request (Err refusal) within due few e = flush_by_room refusal within due few e
-flush_placed_cause spells s request (Ok made) within due few e =
-    elim (s.epoch == last_epoch) as (λ t. (s.epoch == last_epoch) ≡ t → HasCause spells s request (cond t (Err LastEpoch) (Ok (record s { epoch = s.epoch + 1; log = []; tables = made ++ s.tables })))) [
+flush_placed_cause : (filter_bytes : FilterBytes) (s : State) (request : Request) (done : Result (List Table) NoRoom)
+    → limit_of request ≡ None → FlushIsDue s request → length s.tables < most_tables → flush_places filter_bytes s ≡ done → HasCause filter_bytes s request (flush_placed s done)
+flush_placed_cause filter_bytes s request (Err refusal) within due few e = flush_by_room refusal within due few e
+flush_placed_cause filter_bytes s request (Ok made) within due few e =
+    elim (s.epoch == last_epoch) as (λ t. (s.epoch == last_epoch) ≡ t → HasCause filter_bytes s request (cond t (Err LastEpoch) (Ok (record s { epoch = s.epoch + 1; log = []; tables = made ++ s.tables })))) [
       | true ↦ λ last. flush_by_epoch made within due few e (eq_of s.epoch last_epoch last)
       | false ↦ λ more. tt
     ] refl
 
-flushed_with_cause : (spells : Spells) (s : State) (request : Request) (entries : List Entry) → memory s ≡ entries
-    → limit_of request ≡ None → (memory s ≢ [] → FlushIsDue s request) → HasCause spells s request (flushed_with spells s entries)
-flushed_with_cause spells s request [] e within due = tt
-flushed_with_cause spells s request (entry ∷ more) e within due =
+flushed_with_cause : (filter_bytes : FilterBytes) (s : State) (request : Request) (entries : List Entry) → memory s ≡ entries
+    → limit_of request ≡ None → (memory s ≢ [] → FlushIsDue s request) → HasCause filter_bytes s request (flushed_with filter_bytes s entries)
+flushed_with_cause filter_bytes s request [] e within due = tt
+flushed_with_cause filter_bytes s request (entry ∷ more) e within due =
     let some : memory s ≢ [] = λ none. cc in
-    let places = ap (λ (l : List Entry). placed spells s (taken s) 0 (l ∷ [])) e in
+    let places = ap (λ (l : List Entry). placed filter_bytes s.settings s.pages (taken s) 0 (l ∷ [])) e in
     elim (nat_le most_tables (length s.tables)) as (λ t. nat_le most_tables (length s.tables) ≡ t
-    → HasCause spells s request (cond t (Err ManyTables) (flush_placed s (placed spells s (taken s) 0 ((entry ∷ more) ∷ []))))) [
+    → HasCause filter_bytes s request (cond t (Err ManyTables) (flush_placed s (placed filter_bytes s.settings s.pages (taken s) 0 ((entry ∷ more) ∷ []))))) [
       | true ↦ λ many. flush_by_tables within (due some) (le_of most_tables (length s.tables) many)
-      | false ↦ λ few. flush_placed_cause spells s request (placed spells s (taken s) 0 ((entry ∷ more) ∷ [])) within (due some) (not_le most_tables (length s.tables) few) places
+      | false ↦ λ few. flush_placed_cause filter_bytes s request (placed filter_bytes s.settings s.pages (taken s) 0 ((entry ∷ more) ∷ [])) within (due some) (not_le most_tables (length s.tables) few) places
     ] refl
 
-flushed_cause : (spells : Spells) (s : State) (request : Request) → limit_of request ≡ None → (memory s ≢ [] → FlushIsDue s request) → HasCause spells s request (flushed spells s)
-flushed_cause spells s request within due = flushed_with_cause spells s request (memory s) refl within due
+flushed_cause : (filter_bytes : FilterBytes) (s : State) (request : Request) → limit_of request ≡ None → (memory s ≢ [] → FlushIsDue s request) → HasCause filter_bytes s request (flushed filter_bytes s)
+flushed_cause filter_bytes s request within due = flushed_with_cause filter_bytes s request (memory s) refl within due
 
-logged_then_cause : (spells : Spells) (s : State) (request : Request) (entry : Entry) (done : Result State Reply) → HasCause spells s request done → HasCause spells s request (logged_then entry done)
-logged_then_cause spells s request entry (Ok t) cause = tt
-logged_then_cause spells s request entry (Err reply) cause = cause
+logged_then_cause : (filter_bytes : FilterBytes) (s : State) (request : Request) (entry : Entry) (done : Result State Reply) → HasCause filter_bytes s request done → HasCause filter_bytes s request (logged_then entry done)
+logged_then_cause filter_bytes s request entry (Ok t) cause = tt
+logged_then_cause filter_bytes s request entry (Err reply) cause = cause
 
-written_cause : (spells : Spells) (s : State) (request : Request) (entry : Entry) → limit_of request ≡ None
-    → (gap s.log < need entry → memory s ≢ [] → FlushIsDue s request) → HasCause spells s request (written spells s entry)
-written_cause spells s request entry within due =
-    elim (nat_le (need entry) (gap s.log)) as (λ t. nat_le (need entry) (gap s.log) ≡ t → HasCause spells s request (cond t (Ok (logged s entry)) (logged_then entry (flushed spells s)))) [
+written_cause : (filter_bytes : FilterBytes) (s : State) (request : Request) (entry : Entry) → limit_of request ≡ None
+    → (gap s.log < need entry → memory s ≢ [] → FlushIsDue s request) → HasCause filter_bytes s request (written filter_bytes s entry)
+written_cause filter_bytes s request entry within due =
+    elim (nat_le (need entry) (gap s.log)) as (λ t. nat_le (need entry) (gap s.log) ≡ t → HasCause filter_bytes s request (cond t (Ok (logged s entry)) (logged_then entry (flushed filter_bytes s)))) [
       | true ↦ λ fits. tt
-      | false ↦ λ wide. logged_then_cause spells s request entry (flushed spells s) (flushed_cause spells s request within (due (not_le (need entry) (gap s.log) wide)))
+      | false ↦ λ wide. logged_then_cause filter_bytes s request entry (flushed filter_bytes s) (flushed_cause filter_bytes s request within (due (not_le (need entry) (gap s.log) wide)))
     ] refl
 
-compact_placed_cause : (spells : Spells) (s : State) (done : Result (List Table) NoRoom) → entries_of s ≢ [] → s.epoch ≢ last_epoch → compaction_places spells s ≡ done
-    → HasCause spells s Compact (compact_placed s done)
-compact_placed_cause spells s (Err refusal) some more e = compaction_by_room refusal refl some more e
-compact_placed_cause spells s (Ok made) some more e = tt
+compact_placed_cause : (filter_bytes : FilterBytes) (s : State) (done : Result (List Table) NoRoom) → entries_of s ≢ [] → s.epoch ≢ last_epoch → compaction_places filter_bytes s ≡ done
+    → HasCause filter_bytes s Compact (compact_placed s done)
+compact_placed_cause filter_bytes s (Err refusal) some more e = compaction_by_room refusal refl some more e
+compact_placed_cause filter_bytes s (Ok made) some more e = tt
 
-compacted_with_cause : (spells : Spells) (s : State) (entries : List Entry) → entries_of s ≡ entries → HasCause spells s Compact (compacted_with spells s entries)
-compacted_with_cause spells s [] e = tt
-compacted_with_cause spells s (entry ∷ more) e =
+compacted_with_cause : (filter_bytes : FilterBytes) (s : State) (entries : List Entry) → entries_of s ≡ entries → HasCause filter_bytes s Compact (compacted_with filter_bytes s entries)
+compacted_with_cause filter_bytes s [] e = tt
+compacted_with_cause filter_bytes s (entry ∷ more) e =
     let some : entries_of s ≢ [] = λ none. cc in
-    elim (s.epoch == last_epoch) as (λ t. (s.epoch == last_epoch) ≡ t → HasCause spells s Compact (cond t (Err LastEpoch) (compact_placed s (compaction_places spells s)))) [
+    elim (s.epoch == last_epoch) as (λ t. (s.epoch == last_epoch) ≡ t → HasCause filter_bytes s Compact (cond t (Err LastEpoch) (compact_placed s (compaction_places filter_bytes s)))) [
       | true ↦ λ last. compaction_by_epoch refl some (eq_of s.epoch last_epoch last)
-      | false ↦ λ later. compact_placed_cause spells s (compaction_places spells s) some (not_eq s.epoch last_epoch later) refl
+      | false ↦ λ later. compact_placed_cause filter_bytes s (compaction_places filter_bytes s) some (not_eq s.epoch last_epoch later) refl
     ] refl
 
 -- an answer that refuses has a cause
-abbrev Explains : Spells → State → Request → Answer → Type 0
-Explains spells s request a = is_refusal a.0 ≡ true → Refused spells s request a.0
+abbrev Explains : FilterBytes → State → Request → Answer → Type 0
+Explains filter_bytes s request a = is_refusal a.0 ≡ true → Refused filter_bytes s request a.0
 
-changed_explained : (spells : Spells) (s old : State) (request : Request) (done : Result State Reply) → HasCause spells s request done → Explains spells s request (changed old done)
-changed_explained spells s old request (Ok t) cause e = cc
-changed_explained spells s old request (Err reply) cause e = cause
+changed_explained : (filter_bytes : FilterBytes) (s old : State) (request : Request) (done : Result State Reply) → HasCause filter_bytes s request done → Explains filter_bytes s request (changed old done)
+changed_explained filter_bytes s old request (Ok t) cause e = cc
+changed_explained filter_bytes s old request (Err reply) cause e = cause
 
 -- a limit explains itself; the rest is explained within the limits
-limit_explained : (spells : Spells) (s : State) (request : Request) (limit : Option Reply) (a : Answer) → limit_of request ≡ limit
-    → (limit_of request ≡ None → Explains spells s request a) → Explains spells s request (unless_limit limit s a)
-limit_explained spells s request (Some reply) a e rest refuses = by_limit reply e
-limit_explained spells s request None a e rest refuses = rest e refuses
+limit_explained : (filter_bytes : FilterBytes) (s : State) (request : Request) (limit : Option Reply) (a : Answer) → limit_of request ≡ limit
+    → (limit_of request ≡ None → Explains filter_bytes s request a) → Explains filter_bytes s request (unless_limit limit s a)
+limit_explained filter_bytes s request (Some reply) a e rest refuses = by_limit reply e
+limit_explained filter_bytes s request None a e rest refuses = rest e refuses
 
-got_explained : (spells : Spells) (s : State) (request : Request) (value : Option Bytes) → Explains spells s request (got value, s)
-got_explained spells s request (Some value) e = cc
-got_explained spells s request None e = cc
+got_explained : (filter_bytes : FilterBytes) (s : State) (request : Request) (value : Option Bytes) → Explains filter_bytes s request (got value, s)
+got_explained filter_bytes s request (Some value) e = cc
+got_explained filter_bytes s request None e = cc
 
-found_explained : (spells : Spells) (s : State) (request : Request) (pair : Option (Bytes × Bytes)) → Explains spells s request (found pair, s)
-found_explained spells s request (Some pair) e = cc
-found_explained spells s request None e = cc
+found_explained : (filter_bytes : FilterBytes) (s : State) (request : Request) (pair : Option (Bytes × Bytes)) → Explains filter_bytes s request (found pair, s)
+found_explained filter_bytes s request (Some pair) e = cc
+found_explained filter_bytes s request None e = cc
 
-within_explained : (spells : Spells) (s : State) (request : Request) → limit_of request ≡ None → Explains spells s request (answer_within spells s request)
-within_explained spells s (Put key value) within =
-    changed_explained spells s s (Put key value) (written spells s (put_entry key value)) (written_cause spells s (Put key value) (put_entry key value) within (λ wide some. (wide, some)))
-within_explained spells s (Del key) within =
-    changed_explained spells s s (Del key) (written spells s (del_entry key)) (written_cause spells s (Del key) (del_entry key) within (λ wide some. (wide, some)))
-within_explained spells s (Get key) within = got_explained spells s (Get key) _
-within_explained spells s (Seek lo hi) within = found_explained spells s (Seek lo hi) _
-within_explained spells s (Range lo hi n) within = λ e. cc
-within_explained spells s (Count lo hi) within = λ e. cc
-within_explained spells s (Estimate lo hi) within = λ e. cc
-within_explained spells s (Explain key) within = λ e. cc
-within_explained spells s Flush within = changed_explained spells s s Flush (flushed spells s) (flushed_cause spells s Flush within (λ some. some))
-within_explained spells s Compact within = changed_explained spells s (without_job s) Compact (compacted spells s) (compacted_with_cause spells s (entries_of s) refl)
-within_explained spells s Quit within = λ e. cc
-within_explained spells s (Bad code) within = λ e. cc
+within_explained : (filter_bytes : FilterBytes) (s : State) (request : Request) → limit_of request ≡ None → Explains filter_bytes s request (answer_within filter_bytes s request)
+within_explained filter_bytes s (Put key value) within =
+    changed_explained filter_bytes s s (Put key value) (written filter_bytes s (put_entry key value)) (written_cause filter_bytes s (Put key value) (put_entry key value) within (λ wide some. (wide, some)))
+within_explained filter_bytes s (Del key) within =
+    changed_explained filter_bytes s s (Del key) (written filter_bytes s (del_entry key)) (written_cause filter_bytes s (Del key) (del_entry key) within (λ wide some. (wide, some)))
+within_explained filter_bytes s (Get key) within = got_explained filter_bytes s (Get key) _
+within_explained filter_bytes s (Seek lo hi) within = found_explained filter_bytes s (Seek lo hi) _
+within_explained filter_bytes s (Range lo hi n) within = λ e. cc
+within_explained filter_bytes s (Count lo hi) within = λ e. cc
+within_explained filter_bytes s (Estimate lo hi) within = λ e. cc
+within_explained filter_bytes s (Explain key) within = λ e. cc
+within_explained filter_bytes s Flush within = changed_explained filter_bytes s s Flush (flushed filter_bytes s) (flushed_cause filter_bytes s Flush within (λ some. some))
+within_explained filter_bytes s Compact within = changed_explained filter_bytes s (without_job s) Compact (compacted filter_bytes s) (compacted_with_cause filter_bytes s (entries_of s) refl)
+within_explained filter_bytes s Quit within = λ e. cc
+within_explained filter_bytes s (Bad code) within = λ e. cc
 
-pub only_so : (spells : Spells) (s : State) (request : Request) → is_refusal (answer spells s request).0 ≡ true → Refused spells s request (answer spells s request).0
-only_so spells s request = limit_explained spells s request (limit_of request) (answer_within spells s request) refl (within_explained spells s request)
+pub only_so : (filter_bytes : FilterBytes) (s : State) (request : Request) → is_refusal (answer filter_bytes s request).0 ≡ true → Refused filter_bytes s request (answer filter_bytes s request).0
+only_so filter_bytes s request = limit_explained filter_bytes s request (limit_of request) (answer_within filter_bytes s request) refl (within_explained filter_bytes s request)

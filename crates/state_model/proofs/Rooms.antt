@@ -1,84 +1,17 @@
 -- A table is refused for want of room exactly where it has more pages than the largest gap.
 use Rattle.std.proofs.Common.{◌≡◌, ℕ, zero, suc, ◌≤◌, ◌<◌, List, [], ◌∷◌, refl, ap, ◌∙◌, subst, Bool, true, false, cond, map, arith}
 use Rattle.std.specs.Prelude.{Option, Some, None, Result, Ok, Err, nat_le, max, fold, filter}
-use Rattle.store_model.specs.Entries.{Entry}
+use Rattle.filter_api.specs.declared.settings.Settings.{Settings}
+use Rattle.entry_model.specs.Entries.{Entry}
 use Rattle.state_model.specs.State.{State, Table}
 use Rattle.state_model.specs.View.{memory}
-use Rattle.state_model.specs.Pages.{Spells, table_pages, table_of}
-use Rattle.state_model.specs.Gaps.{Extent, taken, room_at, gap_starts, least, first_gap, largest_gap}
+use Rattle.state_model.specs.Pages.{FilterBytes, table_pages, table_of}
+use Rattle.extent_model.specs.Extents.{Extent}
+use Rattle.extent_model.specs.Gaps.{first_gap, largest_gap}
+use Rattle.extent_model.proofs.Rooms.{no_gap, gap_small}
+use Rattle.state_model.specs.Taken.{taken}
 use Rattle.state_model.specs.Merges.{NoRoom, placed, before, at_page}
 use Rattle.state_model.specs.Refusals.{flush_places}
-
-not_le : (m n : ℕ) → nat_le m n ≡ false → n < m
-not_le m n e = grind arith
-
-le_false : (m n : ℕ) → n < m → nat_le m n ≡ false
-le_false m n l = grind arith
-
-max_less : (a b n : ℕ) → a < n → b < n → max a b < n
-max_less a b n x y = grind arith
-
-max_left : (a b c : ℕ) → max a b ≤ c → a ≤ c
-max_left a b c l = grind arith
-
-max_right : (a b c : ℕ) → max a b ≤ c → b ≤ c
-max_right a b c l = grind arith
-
-le_less : (a b c : ℕ) → a ≤ b → b < c → a < c
-le_less a b c x y = grind arith
-
-same_le : (a : ℕ) → a ≤ a
-same_le a = grind arith
-
--- where none fits, all rooms are less
-none_fits : (room : ℕ → ℕ) (need most : ℕ) (starts : List ℕ) → most < need → filter (λ page. nat_le need (room page)) starts ≡ [] → fold max most (map room starts) < need
-none_fits room need most [] less e = less
-none_fits room need most (page ∷ more) less e =
-    elim (nat_le need (room page)) as (λ t. nat_le need (room page) ≡ t
-    → cond t (page ∷ filter (λ page. nat_le need (room page)) more) (filter (λ page. nat_le need (room page)) more) ≡ [] → fold max (max most (room page)) (map room more) < need) [
-      | true ↦ λ fits none. cc
-      | false ↦ λ wide none. none_fits room need (max most (room page)) more (max_less most (room page) need less (not_le need (room page) wide)) none
-    ] refl e
-
--- the greatest is no less than those before it
-most_grows : (room : ℕ → ℕ) (most : ℕ) (starts : List ℕ) → most ≤ fold max most (map room starts)
-most_grows room most [] = same_le most
-most_grows room most (page ∷ more) = max_left most (room page) (fold max (max most (room page)) (map room more)) (most_grows room (max most (room page)) more)
-
--- where all rooms are less, none fits
-none_left : (room : ℕ → ℕ) (need most : ℕ) (starts : List ℕ) → fold max most (map room starts) < need → filter (λ page. nat_le need (room page)) starts ≡ []
-none_left room need most [] less = refl
-none_left room need most (page ∷ more) less =
-    let small = le_less (room page) (fold max (max most (room page)) (map room more)) need
-    (max_right most (room page) (fold max (max most (room page)) (map room more)) (most_grows room (max most (room page)) more)) less in
-    ap (λ (t : Bool). cond t (page ∷ filter (λ page. nat_le need (room page)) more) (filter (λ page. nat_le need (room page)) more)) (le_false need (room page) small)
-    ∙ none_left room need (max most (room page)) more less
-
-least_none : (pages : List ℕ) → least pages ≡ None → pages ≡ []
-least_none [] e = refl
-least_none (page ∷ more) e = cc
-
-zero_le : (n : ℕ) → nat_le 0 n ≡ true
-zero_le n = grind arith
-
-some_or_none : (o : Option ℕ) (n : ℕ) → o ≡ Some n → o ≡ None → ⊥
-some_or_none o n some none = cc
-
-zero_fits : (room : ℕ → ℕ) (page : ℕ) (more : List ℕ) → least (filter (λ page. nat_le 0 (room page)) (page ∷ more)) ≡ None → ⊥
-zero_fits room page more e = some_or_none _ _
-    (ap (λ (t : Bool). least (cond t (page ∷ filter (λ page. nat_le 0 (room page)) more) (filter (λ page. nat_le 0 (room page)) more))) (zero_le (room page))) e
-
-some_need : (need : ℕ) (room : ℕ → ℕ) (page : ℕ) (more : List ℕ) → least (filter (λ page. nat_le need (room page)) (page ∷ more)) ≡ None → 0 < need
-some_need zero room page more e = absurd (zero_fits room page more e)
-some_need (suc need) room page more e = grind arith
-
-no_gap : (pages : ℕ) (extents : List Extent) (need : ℕ) → first_gap pages extents need ≡ None → largest_gap pages extents < need
-no_gap pages extents need e =
-    none_fits (room_at pages extents) need 0 (gap_starts extents) (some_need need (room_at pages extents) _ _ e)
-    (least_none (filter (λ page. nat_le need (room_at pages extents page)) (gap_starts extents)) e)
-
-gap_small : (pages : ℕ) (extents : List Extent) (need : ℕ) → largest_gap pages extents < need → first_gap pages extents need ≡ None
-gap_small pages extents need less = ap least (none_left (room_at pages extents) need 0 (gap_starts extents) less)
 
 -- ---- tables that are placed
 
@@ -86,33 +19,33 @@ before_refused : (t : Table) (done : Result (List Table) NoRoom) (refusal : NoRo
 before_refused t (Ok tables) refusal e = cc
 before_refused t (Err other) refusal e = e
 
-pub wants_more : (spells : Spells) (s : State) (extents : List Extent) (level : ℕ) (outputs : List (List Entry)) (refusal : NoRoom)
-    → placed spells s extents level outputs ≡ Err refusal → refusal.gap < refusal.need
-wants_more spells s extents level [] refusal e = cc
-wants_more spells s extents level (output ∷ more) refusal e =
-    let need = table_pages spells s.settings output in
-    let there = λ (page : ℕ). before (table_of spells s.settings level page output) (placed spells s ((page, need) ∷ extents) level more) in
-    let refused : NoRoom = record { need = need; gap = largest_gap s.pages extents } in
-    elim (first_gap s.pages extents need) as (λ o. first_gap s.pages extents need ≡ o → at_page o there refused ≡ Err refusal → refusal.gap < refusal.need) [
-      | Some page ↦ λ is so. wants_more spells s ((page, need) ∷ extents) level more refusal
-          (before_refused (table_of spells s.settings level page output) (placed spells s ((page, need) ∷ extents) level more) refusal so)
+pub wants_more : (filter_bytes : FilterBytes) (settings : Settings) (pages : ℕ) (extents : List Extent) (level : ℕ) (outputs : List (List Entry)) (refusal : NoRoom)
+    → placed filter_bytes settings pages extents level outputs ≡ Err refusal → refusal.gap < refusal.need
+wants_more filter_bytes settings pages extents level [] refusal e = cc
+wants_more filter_bytes settings pages extents level (output ∷ more) refusal e =
+    let need = table_pages filter_bytes settings output in
+    let there = λ (page : ℕ). before (table_of filter_bytes settings level page output) (placed filter_bytes settings pages ((page, need) ∷ extents) level more) in
+    let refused : NoRoom = record { need = need; gap = largest_gap pages extents } in
+    elim (first_gap pages extents need) as (λ o. first_gap pages extents need ≡ o → at_page o there refused ≡ Err refusal → refusal.gap < refusal.need) [
+      | Some page ↦ λ is so. wants_more filter_bytes settings pages ((page, need) ∷ extents) level more refusal
+          (before_refused (table_of filter_bytes settings level page output) (placed filter_bytes settings pages ((page, need) ∷ extents) level more) refusal so)
       | None ↦ λ is so.
           let same : refused ≡ refusal = cc in
-          subst (λ (r : NoRoom). r.gap < r.need) same (no_gap s.pages extents need is)
+          subst (λ (r : NoRoom). r.gap < r.need) same (no_gap pages extents need is)
     ] refl e
 
-pub flush_refused : (spells : Spells) (s : State) → largest_gap s.pages (taken s) < table_pages spells s.settings (memory s)
-    → flush_places spells s ≡ Err (record { need = table_pages spells s.settings (memory s); gap = largest_gap s.pages (taken s) })
-flush_refused spells s wide =
-    let need = table_pages spells s.settings (memory s) in
-    ap (λ (o : Option ℕ). at_page o (λ page. before (table_of spells s.settings 0 page (memory s)) (placed spells s ((page, need) ∷ taken s) 0 []))
+pub flush_refused : (filter_bytes : FilterBytes) (s : State) → largest_gap s.pages (taken s) < table_pages filter_bytes s.settings (memory s)
+    → flush_places filter_bytes s ≡ Err (record { need = table_pages filter_bytes s.settings (memory s); gap = largest_gap s.pages (taken s) })
+flush_refused filter_bytes s wide =
+    let need = table_pages filter_bytes s.settings (memory s) in
+    ap (λ (o : Option ℕ). at_page o (λ page. before (table_of filter_bytes s.settings 0 page (memory s)) (placed filter_bytes s.settings s.pages ((page, need) ∷ taken s) 0 []))
     (record { need = need; gap = largest_gap s.pages (taken s) })) (gap_small s.pages (taken s) need wide)
 
-pub flush_wants_more : (spells : Spells) (s : State) (refusal : NoRoom) → flush_places spells s ≡ Err refusal
-    → refusal ≡ record { need = table_pages spells s.settings (memory s); gap = largest_gap s.pages (taken s) }
-flush_wants_more spells s refusal e =
-    let need = table_pages spells s.settings (memory s) in
-    let there = λ (page : ℕ). before (table_of spells s.settings 0 page (memory s)) (placed spells s ((page, need) ∷ taken s) 0 []) in
+pub flush_wants_more : (filter_bytes : FilterBytes) (s : State) (refusal : NoRoom) → flush_places filter_bytes s ≡ Err refusal
+    → refusal ≡ record { need = table_pages filter_bytes s.settings (memory s); gap = largest_gap s.pages (taken s) }
+flush_wants_more filter_bytes s refusal e =
+    let need = table_pages filter_bytes s.settings (memory s) in
+    let there = λ (page : ℕ). before (table_of filter_bytes s.settings 0 page (memory s)) (placed filter_bytes s.settings s.pages ((page, need) ∷ taken s) 0 []) in
     let refused : NoRoom = record { need = need; gap = largest_gap s.pages (taken s) } in
     elim (first_gap s.pages (taken s) need) as (λ o. at_page o there refused ≡ Err refusal → refusal ≡ refused) [
       | Some page ↦ λ so. cc

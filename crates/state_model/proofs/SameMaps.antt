@@ -4,10 +4,11 @@ use Rattle.std.specs.Prelude.{Some, None, bytes_eq}
 use Rattle.std.proofs.lemmas.Slice.Eq.{bytes_eq-Decides}
 use Rattle.std.specs.Cmp.Lexicographic.{nat_list_cmp_total}
 use Rattle.std.specs.declared.cmp.Ordering.TheVariants.{Less}
-use Rattle.store_model.specs.SortedMap.{Bytes, Map, byte_order, get, Rises}
-use Rattle.store_model.specs.Entries.{Entry, newest, live, map_of}
-use Rattle.store_model.proofs.Maps.{same_key, equal_keys, less_of_greater, by_order, newest_counts, entries_rise}
-use Rattle.mem_table.proofs.Newest.{above_apart}
+use Rattle.map_model.specs.SortedMap.{Bytes, Map, byte_order, get, Rises}
+use Rattle.entry_model.specs.Entries.{Entry, newest, live, map_of}
+use Rattle.map_model.proofs.Maps.{same_key, equal_keys, less_of_greater, by_order}
+use Rattle.entry_model.proofs.Maps.{newest_counts, entries_rise}
+use Rattle.entry_model.proofs.Newest.{above_apart}
 
 abbrev IsBelowFirst : Bytes → Map → Type 0
 IsBelowFirst key [] = Unit {0}

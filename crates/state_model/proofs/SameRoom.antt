@@ -4,7 +4,9 @@ use Rattle.std.specs.Prelude.{None, nat_le, min, ◌||◌, ◌-◌, if◌then◌
 use Rattle.std.specs.List.{list_any}
 use Rattle.std.proofs.lemmas.List.{append_assoc, append-nil}
 use Rattle.state_model.specs.State.{Table}
-use Rattle.state_model.specs.Gaps.{Extent, end_of, extent_of, has_page, next_taken, room_at, gap_starts, first_table_page, least, first_gap}
+use Rattle.extent_model.specs.Extents.{Extent, end_of, first_table_page}
+use Rattle.extent_model.specs.Gaps.{has_page, next_taken, room_at, gap_starts, least, first_gap}
+use Rattle.state_model.specs.Taken.{extent_of}
 
 -- ---- extents that leave the same room
 

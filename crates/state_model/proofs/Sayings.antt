@@ -9,12 +9,11 @@ use Rattle.std.proofs.lemmas.Bool.{false≢true}
 use Rattle.std.specs.Ordering.{is_lt}
 use Rattle.std.specs.declared.cmp.Ordering.{Ordering}
 use Rattle.std.specs.declared.cmp.Ordering.TheVariants.{Less, Equal, Greater}
-use Rattle.store_model.specs.SortedMap.{Bytes, byte_order}
-use Rattle.store_model.specs.Entries.{Entry, newest, or_else, live}
-use Rattle.mem_table.specs.Table.{IsAbove, KeysRise, newest_entries, lookup}
-use Rattle.mem_table.proofs.Newest.{none_above, above_lower, rises_after, lookup_newest}
+use Rattle.map_model.specs.SortedMap.{Bytes, byte_order}
+use Rattle.entry_model.specs.Entries.{Entry, newest, or_else, live, keys_of}
+use Rattle.entry_model.specs.Newest.{IsAbove, KeysRise, newest_entries, lookup}
+use Rattle.entry_model.proofs.Newest.{none_above, above_lower, rises_after, lookup_newest}
 use Rattle.block_model.specs.Order.{Follow, is_above}
-use Rattle.block_model.specs.Block.{keys_of}
 use Rattle.state_model.specs.State.{Table}
 use Rattle.state_model.specs.View.{first_found, oldest_first}
 use Rattle.state_model.specs.Merges.{has_value}

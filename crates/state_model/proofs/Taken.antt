@@ -4,14 +4,15 @@ use Rattle.std.specs.Prelude.{Option, not, ◌==◌, ◌||◌, filter}
 use Rattle.std.specs.List.{AllByRecursion, list_any}
 use Rattle.std.proofs.lemmas.List.Folds.{list_any-append}
 use Rattle.block_model.proofs.Bounds.{weaker}
-use Rattle.store_model.specs.SortedMap.{Bytes}
-use Rattle.store_model.specs.Entries.{or_else}
-use Rattle.mem_table.specs.Table.{lookup}
+use Rattle.map_model.specs.SortedMap.{Bytes}
+use Rattle.entry_model.specs.Entries.{or_else}
+use Rattle.entry_model.specs.Newest.{lookup}
 use Rattle.state_model.specs.State.{Table}
 use Rattle.state_model.specs.Tends.{without}
 use Rattle.state_model.proofs.Sayings.{or_assoc}
 use Rattle.state_model.proofs.Levels.{says, EitherNone, AtMostOne, in_front, none_front, none_behind}
-use Rattle.state_model.proofs.Parts.{Pairs, both, all_kept, keep_all, keep_none, keep_same}
+use Rattle.extent_model.proofs.Lists.{Pairs, both, all_kept}
+use Rattle.state_model.proofs.Parts.{keep_all, keep_none, keep_same}
 
 abbrev pub Apart : Table → Table → Type 0
 Apart t u = t.first_page ≢ u.first_page

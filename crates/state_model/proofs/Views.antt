@@ -2,15 +2,15 @@
 use Rattle.std.proofs.Common.{◌≡◌, List, [], ◌∷◌, sym, ap, ◌∙◌}
 use Rattle.std.specs.Prelude.{Option}
 use Rattle.std.specs.List.{AllByRecursion}
-use Rattle.store_model.specs.SortedMap.{Bytes, get}
-use Rattle.store_model.specs.Entries.{newest, or_else, live}
-use Rattle.store_model.proofs.Maps.{newest_counts}
-use Rattle.mem_table.specs.Table.{newest_entries, lookup}
-use Rattle.mem_table.proofs.Newest.{lookup_newest}
+use Rattle.map_model.specs.SortedMap.{Bytes, get}
+use Rattle.entry_model.specs.Entries.{newest, or_else, live}
+use Rattle.entry_model.proofs.Maps.{newest_counts}
+use Rattle.entry_model.specs.Newest.{newest_entries, lookup}
+use Rattle.entry_model.proofs.Newest.{lookup_newest}
 use Rattle.block_model.specs.Order.{is_any}
 use Rattle.state_model.specs.State.{State, Table}
-use Rattle.state_model.specs.View.{view, first_found, oldest_first, entries_of, map_of}
-use Rattle.state_model.specs.Pages.{Spells}
+use Rattle.state_model.specs.View.{view, first_found, oldest_first, entries_of, state_map}
+use Rattle.state_model.specs.Pages.{FilterBytes}
 use Rattle.state_model.specs.Sound.{IsSound, IsSoundTable}
 use Rattle.state_model.proofs.Sayings.{newest-append, newest_backwards, oldest_first-backwards, lists_of, AllRise, rises_follow}
 
@@ -27,5 +27,5 @@ newest_of_state s key rise = newest-append (oldest_first s.tables) s.log key
     ∙ ap (λ (o : Option (Option Bytes)). or_else o (newest (oldest_first s.tables) key)) (sym (lookup_newest s.log key))
     ∙ ap (or_else (lookup (newest_entries s.log) key)) (newest_of_tables s.tables key rise)
 
-pub view_says : (spells : Spells) (s : State) (key : Bytes) → IsSound spells s → get (map_of s) key ≡ live (view s key)
-view_says spells s key sound = newest_counts (entries_of s) key ∙ ap live (newest_of_state s key (tables_rise s.tables sound.tables))
+pub view_says : (filter_bytes : FilterBytes) (s : State) (key : Bytes) → IsSound filter_bytes s → get (state_map s) key ≡ live (view s key)
+view_says filter_bytes s key sound = newest_counts (entries_of s) key ∙ ap live (newest_of_state s key (tables_rise s.tables sound.tables))

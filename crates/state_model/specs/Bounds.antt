@@ -2,13 +2,12 @@
 use Rattle.std.specs.Prelude.{ℕ, suc, ◌+◌, Bool, true, not, ◌&&◌, if◌then◌else◌, List, [], ◌∷◌, filter, count_by, sum_by, Option, Some, None}
 use Rattle.filter_model.specs.Leaves.{Leaf, leaves_of}
 use Rattle.filter_model.specs.Answers.{point, ranged, tally}
-use Rattle.store_model.specs.SortedMap.{Bytes}
-use Rattle.store_model.specs.Entries.{Entry}
-use Rattle.mem_table.specs.Table.{lookup}
+use Rattle.map_model.specs.SortedMap.{Bytes}
+use Rattle.entry_model.specs.Entries.{Entry, keys_of}
+use Rattle.entry_model.specs.Newest.{lookup}
 use Rattle.map_model.specs.Slices.{is_before, is_between, seek}
 use Rattle.state_model.specs.State.{State, Table}
-use Rattle.state_model.specs.View.{memory, map_of}
-use Rattle.state_model.specs.Pages.{keys_of}
+use Rattle.state_model.specs.View.{memory, state_map}
 use Rattle.state_model.specs.Merges.{least_key, greatest_key}
 
 -- the leaves of the table's filter
@@ -51,7 +50,7 @@ is_passed (Some answer) key = is_before key answer.0
 
 -- the table's entries that a seek steps over: from lo on, below the answer. Each of them is of a deleted key.
 abbrev pub stepped : State → Bytes → Bytes → Table → ℕ
-stepped s lo hi t = count_by (λ (e : Entry). is_between lo (Some hi) e.key && is_passed (seek (map_of s) lo (Some hi)) e.key) t.entries
+stepped s lo hi t = count_by (λ (e : Entry). is_between lo (Some hi) e.key && is_passed (seek (state_map s) lo (Some hi)) e.key) t.entries
 
 -- the blocks that a closed seek may read: one of each table that admits the range, and one for each entry stepped over
 abbrev pub seek_bound : State → Bytes → Bytes → ℕ

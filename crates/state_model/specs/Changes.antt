@@ -1,32 +1,14 @@
 -- What a put, a flush and a compaction make of a state, or the reply by which they are refused.
 use Rattle.std.specs.Prelude.{ℕ, ◌+◌, ◌==◌, nat_le, nat_lt, ◌||◌, if◌then◌else◌, List, [], ◌∷◌, ◌++◌, length, filter, Option, Some, None, Result, Ok, Err}
-use Rattle.store_model.specs.SortedMap.{Bytes}
-use Rattle.store_model.specs.Entries.{Entry, need, gap}
-use Rattle.mem_table.specs.Table.{newest_entries}
+use Rattle.map_model.specs.SortedMap.{Bytes}
+use Rattle.entry_model.specs.Entries.{Entry, need, gap}
+use Rattle.entry_model.specs.Newest.{newest_entries}
 use Rattle.state_model.specs.State.{State, Table, without_job, last_epoch}
 use Rattle.state_model.specs.View.{memory, entries_of}
-use Rattle.state_model.specs.Pages.{Spells}
-use Rattle.state_model.specs.Gaps.{taken}
+use Rattle.state_model.specs.Pages.{FilterBytes}
+use Rattle.state_model.specs.Taken.{taken}
 use Rattle.state_model.specs.Merges.{NoRoom, placed, cut, has_value}
-use Rattle.state_model.specs.Replies.{Reply, LongKey, LongValue, ManyTables, LastEpoch, Full}
-
--- ---- limits
-
--- a key has 1 to 1,024 bytes
-abbrev pub key_limit : Bytes → Option Reply
-key_limit key = if length key == 0 || nat_lt 1024 (length key) then Some (LongKey (length key)) else None
-
--- a value has at most 65,536 bytes
-abbrev pub value_limit : Bytes → Option Reply
-value_limit value = if nat_lt 65536 (length value) then Some (LongValue (length value)) else None
-
--- a bound has at most 1,024 bytes
-abbrev pub bound_limit : Bytes → Option Reply
-bound_limit bound = if nat_lt 1024 (length bound) then Some (LongKey (length bound)) else None
-
-abbrev pub first_limit : Option Reply → Option Reply → Option Reply
-first_limit (Some limit) other = Some limit
-first_limit None other = other
+use Rattle.line_model.specs.Replies.{Reply, ManyTables, LastEpoch, Full}
 
 -- a version has at most so many tables
 abbrev pub most_tables : ℕ
@@ -42,15 +24,15 @@ abbrev pub flush_placed : State → Result (List Table) NoRoom → Result State 
 flush_placed s (Ok made) = with_tables s (made ++ s.tables)
 flush_placed s (Err refusal) = Err (Full refusal.need refusal.gap)
 
-abbrev pub flushed_with : Spells → State → List Entry → Result State Reply
-flushed_with spells s [] = Ok s
-flushed_with spells s (entry ∷ more) =
-    if nat_le most_tables (length s.tables) then Err ManyTables else flush_placed s (placed spells s (taken s) 0 ((entry ∷ more) ∷ []))
+abbrev pub flushed_with : FilterBytes → State → List Entry → Result State Reply
+flushed_with filter_bytes s [] = Ok s
+flushed_with filter_bytes s (entry ∷ more) =
+    if nat_le most_tables (length s.tables) then Err ManyTables else flush_placed s (placed filter_bytes s.settings s.pages (taken s) 0 ((entry ∷ more) ∷ []))
 
 -- The memory entries become one table, the first of level 0, in the first gap that holds it, and the log is empty. Where
 -- there are none nothing changes.
-abbrev pub flushed : Spells → State → Result State Reply
-flushed spells s = flushed_with spells s (memory s)
+abbrev pub flushed : FilterBytes → State → Result State Reply
+flushed filter_bytes s = flushed_with filter_bytes s (memory s)
 
 -- ---- put and del
 
@@ -62,8 +44,8 @@ logged_then entry (Ok s) = Ok (logged s entry)
 logged_then entry (Err refusal) = Err refusal
 
 -- The entry is logged, after a flush exactly where its record does not fit the log area.
-abbrev pub written : Spells → State → Entry → Result State Reply
-written spells s entry = if nat_le (need entry) (gap s.log) then Ok (logged s entry) else logged_then entry (flushed spells s)
+abbrev pub written : FilterBytes → State → Entry → Result State Reply
+written filter_bytes s entry = if nat_le (need entry) (gap s.log) then Ok (logged s entry) else logged_then entry (flushed filter_bytes s)
 
 -- ---- compact
 
@@ -76,12 +58,12 @@ abbrev pub live_entries : State → List Entry
 live_entries s = filter (λ (e : Entry). has_value e.value) (newest_entries (entries_of s))
 
 -- Some entries, and tables with them, become tables of level 6.
-abbrev pub compacted_with : Spells → State → List Entry → Result State Reply
-compacted_with spells s [] = Ok s
-compacted_with spells s (entry ∷ more) =
+abbrev pub compacted_with : FilterBytes → State → List Entry → Result State Reply
+compacted_with filter_bytes s [] = Ok s
+compacted_with filter_bytes s (entry ∷ more) =
     if s.epoch == last_epoch then Err LastEpoch
-    else compact_placed s (placed spells s (taken (without_job s)) 6 (cut s.tables (live_entries s)))
+    else compact_placed s (placed filter_bytes s.settings s.pages (taken (without_job s)) 6 (cut s.tables (live_entries s)))
 
 -- The live pairs alone stand in tables of level 6, the log is empty and no job runs. An empty store stays as it is.
-abbrev pub compacted : Spells → State → Result State Reply
-compacted spells s = compacted_with spells s (entries_of s)
+abbrev pub compacted : FilterBytes → State → Result State Reply
+compacted filter_bytes s = compacted_with filter_bytes s (entries_of s)

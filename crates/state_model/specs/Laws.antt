@@ -1,17 +1,18 @@
 -- Laws of the state: which map it is, and what each change leaves of it.
-use Rattle.std.specs.Prelude.{◌≡◌, ◌≤◌, Bool, true, false, if◌then◌else◌, List, length, map, flat_map, Ok}
-use Rattle.std.specs.List.{AllByRecursion}
-use Rattle.store_model.specs.SortedMap.{Bytes, Map, get, put, del, Rises}
-use Rattle.store_model.specs.Entries.{Entry, live, changed}
+use Rattle.std.specs.Prelude.{◌≡◌, ◌⊎◌, ◌<◌, ◌≤◌, Bool, true, false, if◌then◌else◌, List, [], ◌∷◌, ◌++◌, length, map, flat_map, Some, Ok}
+use Rattle.std.specs.List.{AllByRecursion, AllPairs}
+use Rattle.map_model.specs.SortedMap.{Bytes, Map, get, put, del, Rises}
+use Rattle.entry_model.specs.Entries.{Entry, live, changed}
+use Rattle.block_model.specs.Pages.{data_pages}
 use Rattle.state_model.specs.State.{State, Table, Job}
-use Rattle.state_model.specs.View.{view, first_found, map_of}
-use Rattle.state_model.specs.Pages.{Spells}
-use Rattle.state_model.specs.Merges.{Plan, planned, lasting, is_deepest, newest_of}
+use Rattle.state_model.specs.View.{view, first_found, state_map}
+use Rattle.state_model.specs.Pages.{FilterBytes}
+use Rattle.state_model.specs.Merges.{Plan, choose, split_output, planned, lasting, is_deepest, newest_of}
 use Rattle.state_model.specs.Changes.{flushed, written, compacted}
-use Rattle.state_model.specs.Sound.{IsSound, IsSoundTable, IsJob}
+use Rattle.state_model.specs.Sound.{IsSound, IsSoundTable, StandsBefore, IsJob}
 use Rattle.state_model.specs.Tends.{IsDone, installed}
-use Rattle.state_model.specs.Requests.{Request, Put, Del}
-use Rattle.state_model.specs.Replies.{Reply, Done}
+use Rattle.line_model.specs.Requests.{Request, Put, Del}
+use Rattle.line_model.specs.Replies.{Reply, Done}
 use Rattle.state_model.specs.Steps.{answer}
 
 -- whether a line was answered as done
@@ -27,30 +28,49 @@ map_behind request reply map = map
 
 -- the map of a sound state has at each key what its view of the key says, and its keys rise
 pub record ViewLaws : Type 0 where
-  pub says : (spells : Spells) (s : State) (key : Bytes) → IsSound spells s → get (map_of s) key ≡ live (view s key)
-  pub rises : (s : State) → Rises (map_of s)
+  pub says : (filter_bytes : FilterBytes) (s : State) (key : Bytes) → IsSound filter_bytes s → get (state_map s) key ≡ live (view s key)
+  pub rises : (s : State) → Rises (state_map s)
 
 -- A flush and a compaction that are done keep the map. An entry that is written, with a flush before it or without, makes
 -- its change of the map and no other. So the map changes by the lines that are answered as done, and by no other.
 pub record ChangeLaws : Type 0 where
-  pub flush : (spells : Spells) (s t : State) → flushed spells s ≡ Ok t → map_of t ≡ map_of s
-  pub write : (spells : Spells) (s t : State) (entry : Entry) → written spells s entry ≡ Ok t → map_of t ≡ changed (map_of s) entry
-  pub compaction : (spells : Spells) (s t : State) → compacted spells s ≡ Ok t → map_of t ≡ map_of s
-  pub lines : (spells : Spells) (s : State) (request : Request) → map_of (answer spells s request).1 ≡ map_behind request (answer spells s request).0 (map_of s)
+  pub flush : (filter_bytes : FilterBytes) (s t : State) → flushed filter_bytes s ≡ Ok t → state_map t ≡ state_map s
+  pub write : (filter_bytes : FilterBytes) (s t : State) (entry : Entry) → written filter_bytes s entry ≡ Ok t → state_map t ≡ changed (state_map s) entry
+  pub compaction : (filter_bytes : FilterBytes) (s t : State) → compacted filter_bytes s ≡ Ok t → state_map t ≡ state_map s
+  pub lines : (filter_bytes : FilterBytes) (s : State) (request : Request) → state_map (answer filter_bytes s request).1 ≡ map_behind request (answer filter_bytes s request).0 (state_map s)
 
 -- An install keeps the map: the outputs of a job that is done, in the place of its inputs, among the tables of a sound state.
 pub record InstallLaws : Type 0 where
-  pub install : (spells : Spells) (s : State) (job : Job) → IsSound spells s → IsJob spells s job → IsDone s job → map_of (installed s job) ≡ map_of s
+  pub install : (filter_bytes : FilterBytes) (s : State) (job : Job) → IsSound filter_bytes s → IsJob filter_bytes s.settings s.tables job → IsDone s.tables job → state_map (installed s job) ≡ state_map s
 
 -- What a merge writes says of each key what its inputs say, but that a tombstone may be gone where no table lies deeper.
 -- Its outputs, one after the other, are the entries that last; none is empty, and they are no more than the inputs.
 pub record MergeLaws : Type 0 where
   pub says :
-      (s : State) (plan : Plan) (key : Bytes) → AllByRecursion IsSoundTable plan.inputs
-      → live (first_found (planned s plan) key) ≡ live (first_found (map (λ (t : Table). t.entries) plan.inputs) key)
+      (tables : List Table) (plan : Plan) (key : Bytes) → AllByRecursion IsSoundTable plan.inputs
+      → live (first_found (planned tables plan) key) ≡ live (first_found (map (λ (t : Table). t.entries) plan.inputs) key)
   pub tombstones :
-      (s : State) (plan : Plan) (key : Bytes) → AllByRecursion IsSoundTable plan.inputs → is_deepest s plan.output ≡ false
-      → first_found (planned s plan) key ≡ first_found (map (λ (t : Table). t.entries) plan.inputs) key
-  pub whole : (s : State) (plan : Plan) → flat_map (λ (output : List Entry). output) (planned s plan) ≡ lasting (is_deepest s plan.output) (newest_of plan.inputs)
-  pub some : (s : State) (plan : Plan) → AllByRecursion (λ (output : List Entry). 1 ≤ length output) (planned s plan)
-  pub few : (s : State) (plan : Plan) → 1 ≤ length plan.inputs → length (planned s plan) ≤ length plan.inputs
+      (tables : List Table) (plan : Plan) (key : Bytes) → AllByRecursion IsSoundTable plan.inputs → is_deepest tables plan.output ≡ false
+      → first_found (planned tables plan) key ≡ first_found (map (λ (t : Table). t.entries) plan.inputs) key
+  pub whole : (tables : List Table) (plan : Plan) → flat_map (λ (output : List Entry). output) (planned tables plan) ≡ lasting (is_deepest tables plan.output) (newest_of plan.inputs)
+  pub some : (tables : List Table) (plan : Plan) → AllByRecursion (λ (output : List Entry). 1 ≤ length output) (planned tables plan)
+  pub few : (tables : List Table) (plan : Plan) → 1 ≤ length plan.inputs → length (planned tables plan) ≤ length plan.inputs
+
+-- some tables are a part of all, in their order
+abbrev pub IsPart : List Table → List Table → Type 0
+IsPart [] all = Unit {0}
+IsPart (t ∷ more) [] = ⊥
+IsPart (t ∷ more) (u ∷ all) = ((t ≡ u) × IsPart more all) ⊎ IsPart (t ∷ more) all
+
+-- What is chosen is not empty, and becomes tables of a level from 1 to 6. Of tables in their order it is a part in their
+-- order, and so is what a job merges, also behind later flushes.
+pub record ChoiceLaws : Type 0 where
+  pub some : (tables : List Table) (plan : Plan) → choose tables ≡ Some plan → 1 ≤ length plan.inputs
+  pub output : (tables : List Table) (plan : Plan) → choose tables ≡ Some plan → (1 ≤ plan.output) × (plan.output ≤ 6)
+  pub part : (tables : List Table) (plan : Plan) → AllPairs StandsBefore tables → choose tables ≡ Some plan → IsPart plan.inputs tables
+  pub job_part : (filter_bytes : FilterBytes) (s : State) (job : Job) → IsSound filter_bytes s → s.job ≡ Some job → IsPart job.inputs s.tables
+
+-- An output that others follow has 1,024 data pages or more, and fewer without its last entry.
+pub record OutputLaws : Type 0 where
+  pub full : (entries : List Entry) → 1 ≤ length (split_output [] entries).1 → 1024 ≤ data_pages (split_output [] entries).0
+  pub first : (entries front : List Entry) (last : Entry) → (split_output [] entries).0 ≡ front ++ (last ∷ []) → data_pages front < 1024

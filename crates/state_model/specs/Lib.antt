@@ -1,10 +1,8 @@
 pub mod State
 pub mod View
 pub mod Pages
-pub mod Gaps
+pub mod Taken
 pub mod Merges
-pub mod Replies
-pub mod Requests
 pub mod Causes
 pub mod Changes
 pub mod Bounds
@@ -14,6 +12,9 @@ pub mod Steps
 pub mod Script
 pub mod Play
 pub mod PlayLaws
-pub mod Rows
+pub mod Examples
 pub mod Laws
+pub mod SoundLaws
 pub mod Refusals
+pub mod FaultLaws
+pub mod ReadLaws

@@ -1,15 +1,17 @@
 -- Which tables are merged, and into what.
 use Rattle.std.specs.Prelude.{ℕ, zero, suc, ◌+◌, ◌-◌, ◌*◌, ◌^◌, ◌==◌, nat_le, nat_lt, Bool, true, false, not, ◌&&◌, if◌then◌else◌, List, [], ◌∷◌, ◌++◌, take, filter, fold, length, Option, Some, None, Result, Ok, Err}
 use Rattle.std.specs.List.{list_any, sum_by}
-use Rattle.store_model.specs.SortedMap.{Bytes}
-use Rattle.store_model.specs.Entries.{Entry}
-use Rattle.mem_table.specs.Table.{newest_entries}
+use Rattle.filter_api.specs.declared.settings.Settings.{Settings}
+use Rattle.map_model.specs.SortedMap.{Bytes}
+use Rattle.entry_model.specs.Entries.{Entry}
+use Rattle.entry_model.specs.Newest.{newest_entries}
 use Rattle.block_model.specs.Pages.{data_pages, first_key, last_key}
 use Rattle.map_model.specs.Slices.{is_before}
-use Rattle.state_model.specs.State.{State, Table}
+use Rattle.state_model.specs.State.{Table}
 use Rattle.state_model.specs.View.{oldest_first}
-use Rattle.state_model.specs.Pages.{Spells, table_pages, table_of}
-use Rattle.state_model.specs.Gaps.{Extent, first_gap, largest_gap}
+use Rattle.state_model.specs.Pages.{FilterBytes, table_pages, table_of}
+use Rattle.extent_model.specs.Extents.{Extent}
+use Rattle.extent_model.specs.Gaps.{first_gap, largest_gap}
 
 -- ---- which tables
 
@@ -38,39 +40,39 @@ greatest_of [] = []
 greatest_of (t ∷ more) = fold (λ key (u : Table). greater key (greatest_key u)) (greatest_key t) more
 
 -- the table's keys reach into those from lo to hi
-abbrev pub meets : Bytes → Bytes → Table → Bool
-meets lo hi t = not (is_before (greatest_key t) lo) && not (is_before hi (least_key t))
+abbrev pub reaches : Bytes → Bytes → Table → Bool
+reaches lo hi t = not (is_before (greatest_key t) lo) && not (is_before hi (least_key t))
 
 -- tables that are merged, the newest first, and the level of what they become
 pub record Plan : Type 0 where
   pub inputs : List Table
   pub output : ℕ
 
--- some tables with those of the level below that they meet
-abbrev pub plan_of : State → List Table → ℕ → Plan
-plan_of s tables output = record { inputs = tables ++ filter (meets (least_of tables) (greatest_of tables)) (on_level output s.tables); output = output }
+-- some of all tables, with those of the level below that they meet
+abbrev pub plan_of : List Table → List Table → ℕ → Plan
+plan_of all tables output = record { inputs = tables ++ filter (reaches (least_of tables) (greatest_of tables)) (on_level output all); output = output }
 
 -- the pages that a level may have
 abbrev pub level_limit : ℕ → ℕ
 level_limit level = 256 * 8 ^ (level - 1)
 
-abbrev pub is_over : State → ℕ → Bool
-is_over s level = nat_lt (level_limit level) (sum_by (λ (t : Table). t.pages) (on_level level s.tables))
+abbrev pub is_over : List Table → ℕ → Bool
+is_over tables level = nat_lt (level_limit level) (sum_by (λ (t : Table). t.pages) (on_level level tables))
 
 -- of the first of these levels that has more, the table with the least keys
-abbrev pub first_over : State → List ℕ → Option Plan
-first_over s [] = None
-first_over s (level ∷ deeper) = if is_over s level then Some (plan_of s (take 1 (on_level level s.tables)) (level + 1)) else first_over s deeper
+abbrev pub first_over : List Table → List ℕ → Option Plan
+first_over tables [] = None
+first_over tables (level ∷ deeper) = if is_over tables level then Some (plan_of tables (take 1 (on_level level tables)) (level + 1)) else first_over tables deeper
 
--- what is to be merged: level 0 where it has four tables or more, else from the first level that has too many pages
-abbrev pub choose : State → Option Plan
-choose s = if nat_le 4 (length (on_level 0 s.tables)) then Some (plan_of s (on_level 0 s.tables) 1) else first_over s (1 ∷ 2 ∷ 3 ∷ 4 ∷ 5 ∷ [])
+-- what is to be merged of a version's tables: level 0 where it has four tables or more, else from the first level that has too many pages
+abbrev pub choose : List Table → Option Plan
+choose tables = if nat_le 4 (length (on_level 0 tables)) then Some (plan_of tables (on_level 0 tables) 1) else first_over tables (1 ∷ 2 ∷ 3 ∷ 4 ∷ 5 ∷ [])
 
 -- ---- into what
 
--- no table lies deeper than the level
-abbrev pub is_deepest : State → ℕ → Bool
-is_deepest s level = not (list_any (λ (t : Table). nat_lt level t.level) s.tables)
+-- none of the tables lies deeper than the level
+abbrev pub is_deepest : List Table → ℕ → Bool
+is_deepest tables level = not (list_any (λ (t : Table). nat_lt level t.level) tables)
 
 abbrev pub has_value : Option Bytes → Bool
 has_value None = false
@@ -106,9 +108,9 @@ outputs_of (suc beside) (entry ∷ more) =
 abbrev pub cut : List Table → List Entry → List (List Entry)
 cut inputs entries = outputs_of (length inputs - 1) entries
 
--- the outputs of a plan
-abbrev pub planned : State → Plan → List (List Entry)
-planned s plan = cut plan.inputs (lasting (is_deepest s plan.output) (newest_of plan.inputs))
+-- the outputs of a plan among some tables
+abbrev pub planned : List Table → Plan → List (List Entry)
+planned tables plan = cut plan.inputs (lasting (is_deepest tables plan.output) (newest_of plan.inputs))
 
 -- ---- and where
 
@@ -127,11 +129,12 @@ abbrev pub at_page : Option ℕ → (ℕ → Result (List Table) NoRoom) → NoR
 at_page (Some page) there refusal = there page
 at_page None there refusal = Err refusal
 
--- Some outputs become tables of a level, each in the first gap that holds it beside what is taken and those before it.
-abbrev pub placed : Spells → State → List Extent → ℕ → List (List Entry) → Result (List Table) NoRoom
-placed spells s taken level [] = Ok []
-placed spells s taken level (output ∷ more) =
-    let need = table_pages spells s.settings output in
-    at_page (first_gap s.pages taken need)
-    (λ page. before (table_of spells s.settings level page output) (placed spells s ((page, need) ∷ taken) level more))
-    (record { need = need; gap = largest_gap s.pages taken })
+-- On a device of so many pages, some outputs become tables of a level, each in the first gap that holds it beside what is
+-- taken and those before it.
+abbrev pub placed : FilterBytes → Settings → ℕ → List Extent → ℕ → List (List Entry) → Result (List Table) NoRoom
+placed filter_bytes settings pages taken level [] = Ok []
+placed filter_bytes settings pages taken level (output ∷ more) =
+    let need = table_pages filter_bytes settings output in
+    at_page (first_gap pages taken need)
+    (λ page. before (table_of filter_bytes settings level page output) (placed filter_bytes settings pages ((page, need) ∷ taken) level more))
+    (record { need = need; gap = largest_gap pages taken })

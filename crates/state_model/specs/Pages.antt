@@ -1,29 +1,26 @@
 -- How many pages a table takes.
 use Rattle.std.specs.Prelude.{ℕ, ◌+◌, List, map, length}
 use Rattle.filter_api.specs.declared.settings.Settings.{Settings}
-use Rattle.store_model.specs.SortedMap.{Bytes}
-use Rattle.store_model.specs.Entries.{Entry}
+use Rattle.map_model.specs.SortedMap.{Bytes}
+use Rattle.entry_model.specs.Entries.{Entry, keys_of}
 use Rattle.block_model.specs.Pages.{pages_for, blocks_of, data_pages, index_length}
 use Rattle.state_model.specs.State.{Table}
 
 -- the bytes of the filter that is built of some keys, by the settings: a parameter, for each kind of filter its own
-abbrev pub Spells : Type 0
-Spells = Settings → List Bytes → Bytes
-
-abbrev pub keys_of : List Entry → List Bytes
-keys_of entries = map (λ (e : Entry). e.key) entries
+abbrev pub FilterBytes : Type 0
+FilterBytes = Settings → List Bytes → Bytes
 
 -- data, index and filter, each in whole pages
-abbrev pub table_pages : Spells → Settings → List Entry → ℕ
-table_pages spells settings entries =
-    data_pages entries + pages_for (index_length entries) + pages_for (length (spells settings (keys_of entries)))
+abbrev pub table_pages : FilterBytes → Settings → List Entry → ℕ
+table_pages filter_bytes settings entries =
+    data_pages entries + pages_for (index_length entries) + pages_for (length (filter_bytes settings (keys_of entries)))
 
 -- the table that is made of some entries
-abbrev pub table_of : Spells → Settings → ℕ → ℕ → List Entry → Table
-table_of spells settings level first_page entries = record {
+abbrev pub table_of : FilterBytes → Settings → ℕ → ℕ → List Entry → Table
+table_of filter_bytes settings level first_page entries = record {
   level = level;
   first_page = first_page;
-  pages = table_pages spells settings entries;
+  pages = table_pages filter_bytes settings entries;
   blocks = length (blocks_of entries);
   entries = entries;
 }

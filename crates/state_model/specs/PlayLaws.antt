@@ -1,14 +1,14 @@
 -- Laws of a run that computes: it is one of those that the relation allows.
-use Rattle.std.specs.Prelude.{◌≡◌, ℕ, List, map, flat_map, None}
-use Rattle.store_model.specs.SortedMap.{Bytes}
+use Rattle.std.specs.Prelude.{◌≡◌, ◌≤◌, ℕ, List, map, flat_map, None}
+use Rattle.map_model.specs.SortedMap.{Bytes}
 use Rattle.state_model.specs.State.{State}
-use Rattle.state_model.specs.Pages.{Spells}
+use Rattle.state_model.specs.Pages.{FilterBytes}
 use Rattle.state_model.specs.Causes.{Why}
-use Rattle.state_model.specs.Requests.{request_of}
-use Rattle.state_model.specs.Replies.{text_of}
+use Rattle.line_model.specs.Requests.{request_of}
+use Rattle.line_model.specs.Replies.{text_of}
 use Rattle.state_model.specs.Tends.{Tend, Tended}
 use Rattle.state_model.specs.Steps.{answer}
-use Rattle.state_model.specs.Play.{merged, tended, played}
+use Rattle.state_model.specs.Play.{merged, sliced, tended, played}
 use Rattle.state_model.specs.Script.{Ending, Onward, turn_of_slice, Script}
 
 -- no cause for anything: memory lasts, the device holds, and nothing is damaged
@@ -20,16 +20,22 @@ abbrev pub AnyState : ℕ → State → Type 0
 AnyState said s = Unit {0}
 
 -- the text of the replies to some lines
-abbrev pub played_text : Spells → State → List Bytes → Bytes
-played_text spells s lines = flat_map text_of (played spells s (map request_of lines)).0
+abbrev pub played_text : FilterBytes → State → List Bytes → Bytes
+played_text filter_bytes s lines = flat_map text_of (played filter_bytes s (map request_of lines)).0
 
--- A whole merge of a state without a job is one slice, which ends no script. Behind a line, and behind that slice, no job
+-- A whole merge of a state without a job is one merge slice, which ends no script. Behind a line, and behind that slice, no job
 -- runs. So lines that are played from such a state are a script. All of it is so without a cause, so under any.
 pub record PlayLaws : Type 0 where
-  pub slice : (spells : Spells) (s : State) → s.job ≡ None → (t : Tended) × Tend Never spells s t (merged spells s) × (Onward ≡ turn_of_slice t)
+  pub slice : (filter_bytes : FilterBytes) (s : State) → s.job ≡ None → (t : Tended) × Tend Never filter_bytes s t (merged filter_bytes s) × (Onward ≡ turn_of_slice t)
   pub no_job :
-      (spells : Spells) (s : State) (line : Bytes) → s.job ≡ None
-      → ((answer spells s (request_of line)).1.job ≡ None) × ((tended spells (request_of line) (answer spells s (request_of line)).1).job ≡ None)
+      (filter_bytes : FilterBytes) (s : State) (line : Bytes) → s.job ≡ None
+      → ((answer filter_bytes s (request_of line)).1.job ≡ None) × ((tended filter_bytes (request_of line) (answer filter_bytes s (request_of line)).1).job ≡ None)
   pub script :
-      (spells : Spells) (s : State) (said : ℕ) (lines : List Bytes) → s.job ≡ None
-      → (ending : Ending) × Script Never spells AnyState said s lines (played_text spells s lines) ending
+      (filter_bytes : FilterBytes) (s : State) (said : ℕ) (lines : List Bytes) → s.job ≡ None
+      → (ending : Ending) × Script Never filter_bytes AnyState said s lines (played_text filter_bytes s lines) ending
+
+-- What a slice of one block or more computes is a merge slice that ends no script, also while a job runs.
+abbrev pub SlicesAreAllowed : Type 0
+SlicesAreAllowed =
+    (filter_bytes : FilterBytes) (blocks : ℕ) (s : State) → 1 ≤ blocks
+    → (t : Tended) × Tend Never filter_bytes s t (sliced filter_bytes blocks s) × (Onward ≡ turn_of_slice t)

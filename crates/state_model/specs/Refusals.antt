@@ -1,16 +1,20 @@
 -- Why a line is refused.
 use Rattle.std.specs.Prelude.{ℕ, ◌≡◌, ◌≢◌, ◌⊎◌, ◌<◌, ◌≤◌, Bool, true, false, List, [], ◌∷◌, length, Option, Some, None, Result, Ok, Err}
-use Rattle.store_model.specs.SortedMap.{Bytes}
-use Rattle.store_model.specs.Entries.{Entry, put_entry, del_entry, need, gap}
+use Rattle.filter_api.specs.declared.settings.Settings.{Settings}
+use Rattle.map_model.specs.SortedMap.{Bytes}
+use Rattle.entry_model.specs.Entries.{Entry, put_entry, del_entry, need, gap}
 use Rattle.state_model.specs.State.{State, Table, without_job, last_epoch}
 use Rattle.state_model.specs.View.{memory, entries_of}
-use Rattle.state_model.specs.Pages.{Spells, table_pages}
-use Rattle.state_model.specs.Gaps.{Extent, taken, largest_gap}
+use Rattle.state_model.specs.Pages.{FilterBytes, table_pages}
+use Rattle.extent_model.specs.Extents.{Extent}
+use Rattle.extent_model.specs.Gaps.{largest_gap}
+use Rattle.state_model.specs.Taken.{taken}
 use Rattle.state_model.specs.Merges.{NoRoom, placed, cut}
 use Rattle.state_model.specs.Changes.{most_tables, live_entries}
-use Rattle.state_model.specs.Requests.{Request, Put, Del, Get, Seek, Range, Count, Estimate, Explain, Flush, Compact}
-use Rattle.state_model.specs.Replies.{Reply, LongKey, LongValue, ManyTables, LastEpoch, Full}
-use Rattle.state_model.specs.Steps.{answer, limit_of}
+use Rattle.line_model.specs.Requests.{Request, Put, Del, Get, Seek, Range, Count, Estimate, Explain, Flush, Compact}
+use Rattle.line_model.specs.Replies.{Reply, LongKey, LongValue, ManyTables, LastEpoch, Full}
+use Rattle.state_model.specs.Steps.{answer}
+use Rattle.line_model.specs.Limits.{limit_of}
 
 -- the replies that refuse a line for what the state or the line is
 abbrev pub is_refusal : Reply → Bool
@@ -70,40 +74,40 @@ CompactionIsDue s Compact = entries_of s ≢ []
 CompactionIsDue s request = ⊥
 
 -- where the tables of a flush are put, and those of a compaction
-abbrev pub flush_places : Spells → State → Result (List Table) NoRoom
-flush_places spells s = placed spells s (taken s) 0 (memory s ∷ [])
+abbrev pub flush_places : FilterBytes → State → Result (List Table) NoRoom
+flush_places filter_bytes s = placed filter_bytes s.settings s.pages (taken s) 0 (memory s ∷ [])
 
-abbrev pub compaction_places : Spells → State → Result (List Table) NoRoom
-compaction_places spells s = placed spells s (taken (without_job s)) 6 (cut s.tables (live_entries s))
+abbrev pub compaction_places : FilterBytes → State → Result (List Table) NoRoom
+compaction_places filter_bytes s = placed filter_bytes s.settings s.pages (taken (without_job s)) 6 (cut s.tables (live_entries s))
 
 -- The causes for which a line is refused, and the reply by which it is. Limits come first. A flush asks for fewer tables
 -- than the most, then for room, then for a next epoch; a compaction asks for a next epoch, then for room.
-pub data Refused (spells : Spells) (s : State) (request : Request) : Reply → Type 0 where
-  by_limit : (reply : Reply) → limit_of request ≡ Some reply → Refused spells s request reply
-  flush_by_tables : limit_of request ≡ None → FlushIsDue s request → most_tables ≤ length s.tables → Refused spells s request ManyTables
+pub data Refused (filter_bytes : FilterBytes) (s : State) (request : Request) : Reply → Type 0 where
+  by_limit : (reply : Reply) → limit_of request ≡ Some reply → Refused filter_bytes s request reply
+  flush_by_tables : limit_of request ≡ None → FlushIsDue s request → most_tables ≤ length s.tables → Refused filter_bytes s request ManyTables
   flush_by_room : (refusal : NoRoom) → limit_of request ≡ None → FlushIsDue s request → length s.tables < most_tables
-      → flush_places spells s ≡ Err refusal → Refused spells s request (Full refusal.need refusal.gap)
+      → flush_places filter_bytes s ≡ Err refusal → Refused filter_bytes s request (Full refusal.need refusal.gap)
   flush_by_epoch : (made : List Table) → limit_of request ≡ None → FlushIsDue s request → length s.tables < most_tables
-      → flush_places spells s ≡ Ok made → s.epoch ≡ last_epoch → Refused spells s request LastEpoch
-  compaction_by_epoch : limit_of request ≡ None → CompactionIsDue s request → s.epoch ≡ last_epoch → Refused spells s request LastEpoch
+      → flush_places filter_bytes s ≡ Ok made → s.epoch ≡ last_epoch → Refused filter_bytes s request LastEpoch
+  compaction_by_epoch : limit_of request ≡ None → CompactionIsDue s request → s.epoch ≡ last_epoch → Refused filter_bytes s request LastEpoch
   compaction_by_room : (refusal : NoRoom) → limit_of request ≡ None → CompactionIsDue s request → s.epoch ≢ last_epoch
-      → compaction_places spells s ≡ Err refusal → Refused spells s request (Full refusal.need refusal.gap)
+      → compaction_places filter_bytes s ≡ Err refusal → Refused filter_bytes s request (Full refusal.need refusal.gap)
 
 -- A line that has a cause is answered by its refusal, and every refusal has its cause. The limit of a request is the one
 -- that it breaks. A flush has no room exactly where its table has more pages than the largest gap; a refusal says both.
 pub record RefusalLaws : Type 0 where
-  pub gives : (spells : Spells) (s : State) (request : Request) (reply : Reply) → Refused spells s request reply → (answer spells s request).0 ≡ reply
+  pub gives : (filter_bytes : FilterBytes) (s : State) (request : Request) (reply : Reply) → Refused filter_bytes s request reply → (answer filter_bytes s request).0 ≡ reply
   pub only :
-      (spells : Spells) (s : State) (request : Request)
-      → is_refusal (answer spells s request).0 ≡ true → Refused spells s request (answer spells s request).0
+      (filter_bytes : FilterBytes) (s : State) (request : Request)
+      → is_refusal (answer filter_bytes s request).0 ≡ true → Refused filter_bytes s request (answer filter_bytes s request).0
   pub limits : (request : Request) (reply : Reply) → BreaksLimit request reply → limit_of request ≡ Some reply
   pub limits_only : (request : Request) (reply : Reply) → limit_of request ≡ Some reply → BreaksLimit request reply
   pub room :
-      (spells : Spells) (s : State) (extents : List Extent) (level : ℕ) (outputs : List (List Entry)) (refusal : NoRoom)
-      → placed spells s extents level outputs ≡ Err refusal → refusal.gap < refusal.need
+      (filter_bytes : FilterBytes) (settings : Settings) (pages : ℕ) (extents : List Extent) (level : ℕ) (outputs : List (List Entry)) (refusal : NoRoom)
+      → placed filter_bytes settings pages extents level outputs ≡ Err refusal → refusal.gap < refusal.need
   pub flush_room :
-      (spells : Spells) (s : State) → largest_gap s.pages (taken s) < table_pages spells s.settings (memory s)
-      → flush_places spells s ≡ Err (record { need = table_pages spells s.settings (memory s); gap = largest_gap s.pages (taken s) })
+      (filter_bytes : FilterBytes) (s : State) → largest_gap s.pages (taken s) < table_pages filter_bytes s.settings (memory s)
+      → flush_places filter_bytes s ≡ Err (record { need = table_pages filter_bytes s.settings (memory s); gap = largest_gap s.pages (taken s) })
   pub flush_room_only :
-      (spells : Spells) (s : State) (refusal : NoRoom) → flush_places spells s ≡ Err refusal
-      → refusal ≡ record { need = table_pages spells s.settings (memory s); gap = largest_gap s.pages (taken s) }
+      (filter_bytes : FilterBytes) (s : State) (refusal : NoRoom) → flush_places filter_bytes s ≡ Err refusal
+      → refusal ≡ record { need = table_pages filter_bytes s.settings (memory s); gap = largest_gap s.pages (taken s) }

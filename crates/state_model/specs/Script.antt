@@ -1,11 +1,11 @@
 -- What the lines are answered, one after the other, and what happens between them.
 use Rattle.std.specs.Prelude.{◌≡◌, ◌+◌, ℕ, List, [], ◌∷◌, ◌++◌, length}
-use Rattle.store_model.specs.SortedMap.{Bytes}
+use Rattle.map_model.specs.SortedMap.{Bytes}
 use Rattle.state_model.specs.State.{State}
-use Rattle.state_model.specs.Pages.{Spells}
+use Rattle.state_model.specs.Pages.{FilterBytes}
 use Rattle.state_model.specs.Causes.{Why}
-use Rattle.state_model.specs.Requests.{Request, Put, Del, request_of}
-use Rattle.state_model.specs.Replies.{Reply, Pairs, Bye, Device, Damaged, text_of}
+use Rattle.line_model.specs.Requests.{Request, Put, Del, request_of}
+use Rattle.line_model.specs.Replies.{Reply, Pairs, Bye, Device, Damaged, text_of}
 use Rattle.state_model.specs.Tends.{Tend, Tended, Refused}
 use Rattle.state_model.specs.Steps.{Step}
 
@@ -29,16 +29,16 @@ turn_of (Pairs found Device) = Over AtDevice
 turn_of (Pairs found (Damaged damage)) = Over AtDamage
 turn_of reply = Onward
 
--- a fault or damage in a slice ends the script; want of memory, of room or of an epoch is left for the next one
+-- a fault or damage in a merge slice ends the script; want of memory, of room or of an epoch is left for the next one
 abbrev pub turn_of_slice : Tended → Turn
 turn_of_slice (Refused why) = turn_of why
 turn_of_slice tended = Onward
 
--- Behind each `put` and `del`, refused or not, comes one slice; behind other lines none.
-abbrev pub Between : (Why → Type 0) → Spells → Request → State → Turn → State → Type 0
-Between Cause spells (Put key value) s turn after = (tended : Tended) × Tend Cause spells s tended after × (turn ≡ turn_of_slice tended)
-Between Cause spells (Del key) s turn after = (tended : Tended) × Tend Cause spells s tended after × (turn ≡ turn_of_slice tended)
-Between Cause spells request s turn after = (turn ≡ Onward) × (after ≡ s)
+-- Behind each `put` and `del`, refused or not, comes one merge slice; behind other lines none.
+abbrev pub Between : (Why → Type 0) → FilterBytes → Request → State → Turn → State → Type 0
+Between Cause filter_bytes (Put key value) s turn after = (tended : Tended) × Tend Cause filter_bytes s tended after × (turn ≡ turn_of_slice tended)
+Between Cause filter_bytes (Del key) s turn after = (tended : Tended) × Tend Cause filter_bytes s tended after × (turn ≡ turn_of_slice tended)
+Between Cause filter_bytes request s turn after = (turn ≡ Onward) × (after ≡ s)
 
 -- The script's text is said and ended, or goes on.
 abbrev pub Ends : Turn → Bytes → Ending → Type 0 → Type 0
@@ -51,13 +51,25 @@ AsSaid (Over AtDevice) Holds = Unit {0}
 AsSaid (Over AtDamage) Holds = Unit {0}
 AsSaid turn Holds = Holds
 
--- The lines are answered in order with this text, to the last of them, or to the first reply or slice that ends them. As
+-- The lines are answered in order with this text, to the last of them, or to the first reply or merge slice that ends them. As
 -- each reply has been said that is no fault, with so many bytes said by then, the state has R.
-abbrev pub Script : (Why → Type 0) → Spells → (ℕ → State → Type 0) → ℕ → State → List Bytes → Bytes → Ending → Type 0
-Script Cause spells R said s [] text ending = (text ≡ []) × (ending ≡ ToLast)
-Script Cause spells R said s (line ∷ more) text ending =
-    (reply : Reply) × (rest : Bytes) × (new : State) × (text ≡ text_of reply ++ rest) × Step Cause spells s (request_of line) reply new
+abbrev pub Script : (Why → Type 0) → FilterBytes → (ℕ → State → Type 0) → ℕ → State → List Bytes → Bytes → Ending → Type 0
+Script Cause filter_bytes R said s [] text ending = (text ≡ []) × (ending ≡ ToLast)
+Script Cause filter_bytes R said s (line ∷ more) text ending =
+    (reply : Reply) × (rest : Bytes) × (new : State) × (text ≡ text_of reply ++ rest) × Step Cause filter_bytes s (request_of line) reply new
     × AsSaid (turn_of reply) (R (said + length (text_of reply)) new)
     × Ends (turn_of reply) rest ending
-    ((turn : Turn) × (after : State) × Between Cause spells (request_of line) new turn after
-    × Ends turn rest ending (Script Cause spells R (said + length (text_of reply)) after more rest ending))
+    ((turn : Turn) × (after : State) × Between Cause filter_bytes (request_of line) new turn after
+    × Ends turn rest ending (Script Cause filter_bytes R (said + length (text_of reply)) after more rest ending))
+
+-- ---- some first lines
+
+-- The lines are answered in order with this text, and no reply and no merge slice ends them; behind the last of them, and
+-- its merge slice, stands this state. As each reply has been said, with so many bytes said by then, the state has R.
+abbrev pub WentOn : (Why → Type 0) → FilterBytes → (ℕ → State → Type 0) → ℕ → State → List Bytes → Bytes → State → Type 0
+WentOn Cause filter_bytes R said s [] text after = (text ≡ []) × (after ≡ s)
+WentOn Cause filter_bytes R said s (line ∷ more) text after =
+    (reply : Reply) × (rest : Bytes) × (new : State) × (next : State) × (text ≡ text_of reply ++ rest)
+    × Step Cause filter_bytes s (request_of line) reply new × (turn_of reply ≡ Onward) × R (said + length (text_of reply)) new
+    × Between Cause filter_bytes (request_of line) new Onward next
+    × WentOn Cause filter_bytes R (said + length (text_of reply)) next more rest after

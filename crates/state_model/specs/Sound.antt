@@ -2,70 +2,81 @@
 use Rattle.std.specs.Prelude.{◌≡◌, ◌⊎◌, ◌<◌, ◌≤◌, ℕ, List, [], ◌∷◌, length, drop, Option, Some, None}
 use Rattle.std.specs.List.{AllByRecursion, AllPairs, sum_by}
 use Rattle.std.specs.declared.cmp.Ordering.TheVariants.{Less}
+use Rattle.filter_api.specs.declared.settings.Settings.{Settings}
 use Rattle.filter_api.specs.Ranges.{InRange}
-use Rattle.store_model.specs.SortedMap.{Bytes, byte_order}
-use Rattle.store_model.specs.Entries.{Entry, filled}
-use Rattle.block_model.specs.Block.{IsEntry, IsTable}
+use Rattle.byte_fields.specs.Spelling.{IsBytes}
+use Rattle.map_model.specs.SortedMap.{Bytes, byte_order}
+use Rattle.entry_model.specs.Entries.{Entry, bytes_of, filled, IsEntry}
+use Rattle.block_model.specs.Block.{IsTable}
 use Rattle.state_model.specs.State.{State, Table, Job, last_epoch}
-use Rattle.state_model.specs.Pages.{Spells, table_of}
-use Rattle.state_model.specs.Gaps.{Extent, taken, end_of, first_table_page}
+use Rattle.state_model.specs.Pages.{FilterBytes, table_of}
+use Rattle.extent_model.specs.Extents.{IsOnDevice, AreApart}
+use Rattle.state_model.specs.Taken.{taken}
 use Rattle.state_model.specs.Changes.{most_tables}
 use Rattle.state_model.specs.Merges.{Plan, choose, planned, on_level, least_key, greatest_key}
 
 abbrev pub IsBefore : Bytes → Bytes → Type 0
 IsBefore x y = byte_order x y ≡ Less
 
--- a table has one entry or more, with strictly rising keys
+-- key and value are bytes
+pub record IsOfBytes (entry : Entry) : Type 0 where
+  pub key : IsBytes entry.key
+  pub value : IsBytes (bytes_of entry.value)
+
+-- a table has one entry or more, with strictly rising keys, and one block or more, each of a page or more
 pub record IsSoundTable (t : Table) : Type 0 where
   pub level : t.level ≤ 6
   pub entries : IsTable t.entries
+  pub bytes : AllByRecursion IsOfBytes t.entries
+  pub blocks : (1 ≤ t.blocks) × (t.blocks ≤ t.pages)
 
 -- The one stands before the other: it is of a lesser level, or of the same one and then, below level 0, its keys come
 -- before those of the other.
 abbrev pub StandsBefore : Table → Table → Type 0
 StandsBefore t u = (t.level < u.level) ⊎ ((t.level ≡ u.level) × ((t.level ≡ 0) ⊎ IsBefore (greatest_key t) (least_key u)))
 
--- the extent lies behind manifest and logs, and on the device
-pub record IsOnDevice (pages : ℕ) (extent : Extent) : Type 0 where
-  pub some : 0 < extent.1
-  pub from : first_table_page ≤ extent.0
-  pub to : end_of extent ≤ pages
-
--- the two do not meet
-abbrev pub AreApart : Extent → Extent → Type 0
-AreApart a b = (end_of a ≤ b.0) ⊎ (end_of b ≤ a.0)
-
 -- these tables are made of the first of some outputs, one of each
-abbrev pub AreMade : Spells → State → ℕ → List (List Entry) → List Table → Type 0
-AreMade spells s level outputs [] = Unit {0}
-AreMade spells s level [] (t ∷ more) = ⊥
-AreMade spells s level (output ∷ outputs) (t ∷ more) = (t ≡ table_of spells s.settings level t.first_page output) × AreMade spells s level outputs more
+abbrev pub AreMade : FilterBytes → Settings → ℕ → List (List Entry) → List Table → Type 0
+AreMade filter_bytes settings level outputs [] = Unit {0}
+AreMade filter_bytes settings level [] (t ∷ more) = ⊥
+AreMade filter_bytes settings level (output ∷ outputs) (t ∷ more) =
+    (t ≡ table_of filter_bytes settings level t.first_page output) × AreMade filter_bytes settings level outputs more
 
 -- the plan of a job
 abbrev pub plan_of_job : Job → Plan
 plan_of_job job = record { inputs = job.inputs; output = job.output }
 
--- A job merges what was chosen before some later flushes, and what it has written are the first of its outputs.
-pub record IsJob (spells : Spells) (s : State) (job : Job) : Type 0 where
+-- A job merges what was chosen of a version's tables before some later flushes, and what it has written are the first of
+-- its outputs.
+pub record IsJob (filter_bytes : FilterBytes) (settings : Settings) (tables : List Table) (job : Job) : Type 0 where
   pub flushes : ℕ
-  pub few : flushes ≤ length (on_level 0 s.tables)
-  pub chosen : choose (record s { tables = drop flushes s.tables }) ≡ Some (plan_of_job job)
+  pub few : flushes ≤ length (on_level 0 tables)
+  pub chosen : choose (drop flushes tables) ≡ Some (plan_of_job job)
   pub to_read : job.to_read ≤ sum_by (λ (t : Table). t.blocks) job.inputs
-  pub written : AreMade spells s job.output (planned s (plan_of_job job)) job.written
+  pub written : AreMade filter_bytes settings job.output (planned tables (plan_of_job job)) job.written
 
-abbrev pub MayRun : Spells → State → Option Job → Type 0
-MayRun spells s None = Unit {0}
-MayRun spells s (Some job) = IsJob spells s job
+abbrev pub MayRun : FilterBytes → Settings → List Table → Option Job → Type 0
+MayRun filter_bytes settings tables None = Unit {0}
+MayRun filter_bytes settings tables (Some job) = IsJob filter_bytes settings tables job
 
-pub record IsSound (spells : Spells) (s : State) : Type 0 where
+pub record IsSound (filter_bytes : FilterBytes) (s : State) : Type 0 where
   pub settings : InRange s.settings
+  pub ratio : s.settings.ratio < 65536
   pub device : (512 ≤ s.pages) × (s.pages ≤ 16777216)
   pub epoch : (1 ≤ s.epoch) × (s.epoch ≤ last_epoch)
   pub log : AllByRecursion IsEntry s.log
+  pub log_bytes : AllByRecursion IsOfBytes s.log
   pub log_fits : filled s.log < 262144
   pub few : length s.tables ≤ most_tables
   pub tables : AllByRecursion IsSoundTable s.tables
   pub order : AllPairs StandsBefore s.tables
   pub on_device : AllByRecursion (IsOnDevice s.pages) (taken s)
   pub apart : AllPairs AreApart (taken s)
-  pub job : MayRun spells s s.job
+  pub job : MayRun filter_bytes s.settings s.tables s.job
+
+-- What a failed write leaves: a sound state of the same settings and pages, in which no job runs.
+pub record IsLeft (filter_bytes : FilterBytes) (s after : State) : Type 0 where
+  pub settings : after.settings ≡ s.settings
+  pub pages : after.pages ≡ s.pages
+  pub no_job : after.job ≡ None
+  pub sound : IsSound filter_bytes after

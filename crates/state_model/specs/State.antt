@@ -1,7 +1,7 @@
 -- The state of a store: what its log and its tables hold, and the merge that runs.
 use Rattle.std.specs.Prelude.{ℕ, List, [], Option, Some, None}
 use Rattle.filter_api.specs.declared.settings.Settings.{Settings}
-use Rattle.store_model.specs.Entries.{Entry}
+use Rattle.entry_model.specs.Entries.{Entry}
 
 -- A table: its level, its first page and how many pages it takes, of how many data blocks it is made, and its entries,
 -- with strictly rising keys.
@@ -21,7 +21,8 @@ pub record Job : Type 0 where
   pub written : List Table
 
 -- The log's entries stand in the order of writing. Of the tables, those of level 0 come first, the newest of them first;
--- then come the deeper levels, each by rising keys. Kept tables belong to no version, but their pages are taken.
+-- then come the deeper levels, each by rising keys. Kept tables belong to no version, but their pages are taken: cursors still
+-- read them. No cursor stands between two lines today; where cursors are a part of the state, what is kept is computed from them.
 pub record State : Type 0 where
   pub settings : Settings
   pub pages : ℕ

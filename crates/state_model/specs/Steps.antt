@@ -1,39 +1,24 @@
 -- What one line is answered, and the state that it leaves.
-use Rattle.std.specs.Prelude.{◌≡◌, ◌⊎◌, ℕ, length, take, Option, Some, None, Result, Ok, Err}
+use Rattle.std.specs.Prelude.{◌≡◌, ◌≢◌, ◌⊎◌, ◌<◌, ℕ, false, [], length, take, Option, Some, None, Result, Ok, Err, IsOk}
 use Rattle.byte_fields.specs.declared.parts.Damage.{Damage}
-use Rattle.store_model.specs.SortedMap.{Map, get}
-use Rattle.store_model.specs.Entries.{put_entry, del_entry}
-use Rattle.map_model.specs.Slices.{slice, seek, count}
-use Rattle.state_model.specs.State.{State, without_job}
-use Rattle.state_model.specs.View.{map_of}
-use Rattle.state_model.specs.Pages.{Spells}
-use Rattle.state_model.specs.Changes.{key_limit, value_limit, bound_limit, first_limit, written, flushed, compacted}
-use Rattle.state_model.specs.Bounds.{estimate, admitted, blocks_read}
-use Rattle.state_model.specs.Sound.{IsSound}
+use Rattle.map_model.specs.SortedMap.{Map, get}
+use Rattle.entry_model.specs.Entries.{put_entry, del_entry}
+use Rattle.map_model.specs.Slices.{is_before, slice, seek, count}
+use Rattle.state_model.specs.State.{State, without_job, last_epoch}
+use Rattle.state_model.specs.View.{memory, entries_of, state_map}
+use Rattle.state_model.specs.Pages.{FilterBytes}
+use Rattle.state_model.specs.Changes.{written, flushed, compacted}
+use Rattle.line_model.specs.Limits.{limit_of}
+use Rattle.state_model.specs.Bounds.{get_bound, seek_bound, estimate, admitted, blocks_read}
+use Rattle.state_model.specs.Sound.{IsLeft}
 use Rattle.state_model.specs.Causes.{Why, NoMemory, ReadFailed, WriteFailed, DamageMet}
-use Rattle.state_model.specs.Requests.{Request, Put, Del, Get, Seek, Range, Count, Estimate, Explain, Flush, Compact, Quit, Bad}
-use Rattle.state_model.specs.Replies.{Reply, Done, Pairs, End, Counted, About, Explained, Bye, BadLine, Memory, Device, Damaged, got, found}
+use Rattle.line_model.specs.Requests.{Request, Put, Del, Get, Seek, Range, Count, Estimate, Explain, Flush, Compact, Quit, Bad}
+use Rattle.line_model.specs.Replies.{Reply, Done, Pairs, End, Counted, About, Explained, Bye, BadLine, Memory, Device, Damaged, got, found}
 
 abbrev pub Answer : Type 0
 Answer = Reply × State
 
 -- ---- the answer where memory lasts and the device holds
-
--- the limit that a request breaks, the first where it breaks two
-abbrev pub limit_of : Request → Option Reply
-limit_of (Put key value) = first_limit (key_limit key) (value_limit value)
-limit_of (Del key) = key_limit key
-limit_of (Get key) = key_limit key
-limit_of (Seek lo None) = bound_limit lo
-limit_of (Seek lo (Some hi)) = first_limit (bound_limit lo) (bound_limit hi)
-limit_of (Range lo hi n) = first_limit (bound_limit lo) (bound_limit hi)
-limit_of (Count lo hi) = first_limit (bound_limit lo) (bound_limit hi)
-limit_of (Estimate lo hi) = first_limit (bound_limit lo) (bound_limit hi)
-limit_of (Explain key) = key_limit key
-limit_of Flush = None
-limit_of Compact = None
-limit_of Quit = None
-limit_of (Bad code) = None
 
 -- a change is done, or refused and nothing changes but what is left here
 abbrev pub changed : State → Result State Reply → Answer
@@ -44,26 +29,26 @@ abbrev pub pairs : Map → Reply
 pairs map = Pairs map (End (length map))
 
 -- the answer to a request that breaks no limit
-abbrev pub answer_within : Spells → State → Request → Answer
-answer_within spells s (Put key value) = changed s (written spells s (put_entry key value))
-answer_within spells s (Del key) = changed s (written spells s (del_entry key))
-answer_within spells s (Get key) = (got (get (map_of s) key), s)
-answer_within spells s (Seek lo hi) = (found (seek (map_of s) lo hi), s)
-answer_within spells s (Range lo hi n) = (pairs (slice (map_of s) lo (Some hi) n), s)
-answer_within spells s (Count lo hi) = (Counted (count (map_of s) lo (Some hi)), s)
-answer_within spells s (Estimate lo hi) = (About (estimate s lo hi), s)
-answer_within spells s (Explain key) = (Explained (length s.tables) (admitted s key) (blocks_read s key), s)
-answer_within spells s Flush = changed s (flushed spells s)
-answer_within spells s Compact = changed (without_job s) (compacted spells s)
-answer_within spells s Quit = (Bye, s)
-answer_within spells s (Bad code) = (BadLine code, s)
+abbrev pub answer_within : FilterBytes → State → Request → Answer
+answer_within filter_bytes s (Put key value) = changed s (written filter_bytes s (put_entry key value))
+answer_within filter_bytes s (Del key) = changed s (written filter_bytes s (del_entry key))
+answer_within filter_bytes s (Get key) = (got (get (state_map s) key), s)
+answer_within filter_bytes s (Seek lo hi) = (found (seek (state_map s) lo hi), s)
+answer_within filter_bytes s (Range lo hi n) = (pairs (slice (state_map s) lo (Some hi) n), s)
+answer_within filter_bytes s (Count lo hi) = (Counted (count (state_map s) lo (Some hi)), s)
+answer_within filter_bytes s (Estimate lo hi) = (About (estimate s lo hi), s)
+answer_within filter_bytes s (Explain key) = (Explained (length s.tables) (admitted s key) (blocks_read s key), s)
+answer_within filter_bytes s Flush = changed s (flushed filter_bytes s)
+answer_within filter_bytes s Compact = changed (without_job s) (compacted filter_bytes s)
+answer_within filter_bytes s Quit = (Bye, s)
+answer_within filter_bytes s (Bad code) = (BadLine code, s)
 
 abbrev pub unless_limit : Option Reply → State → Answer → Answer
 unless_limit (Some limit) s answer = (limit, s)
 unless_limit None s answer = answer
 
-abbrev pub answer : Spells → State → Request → Answer
-answer spells s request = unless_limit (limit_of request) s (answer_within spells s request)
+abbrev pub answer : FilterBytes → State → Request → Answer
+answer filter_bytes s request = unless_limit (limit_of request) s (answer_within filter_bytes s request)
 
 -- ---- what the state does not explain
 
@@ -72,7 +57,7 @@ abbrev pub left_by : Request → State → State
 left_by Compact s = without_job s
 left_by request s = s
 
--- the requests that take memory, that touch the device, and that read it
+-- the requests that take memory
 abbrev pub TakesMemory : Request → Type 0
 TakesMemory (Get key) = ⊥
 TakesMemory (Estimate lo hi) = ⊥
@@ -81,34 +66,43 @@ TakesMemory Quit = ⊥
 TakesMemory (Bad code) = ⊥
 TakesMemory request = Unit {0}
 
-abbrev pub Writes : Request → Type 0
-Writes (Put key value) = Unit {0}
-Writes (Del key) = Unit {0}
-Writes Flush = Unit {0}
-Writes Compact = Unit {0}
-Writes request = ⊥
+-- a compaction is begun where there are entries, and a next epoch
+abbrev pub IsBegun : State → Type 0
+IsBegun s = (entries_of s ≢ []) × (s.epoch ≢ last_epoch)
 
-abbrev pub Reads : Request → Type 0
-Reads (Get key) = Unit {0}
-Reads (Seek lo hi) = Unit {0}
-Reads (Range lo hi n) = Unit {0}
-Reads (Count lo hi) = Unit {0}
-Reads Compact = Unit {0}
-Reads request = ⊥
+-- A put, a del and a flush write where they are not refused, a flush where there is something to flush. A compaction that
+-- is begun writes, also where it is refused in the end: its first tables may have had room.
+abbrev pub Writes : FilterBytes → State → Request → Type 0
+Writes filter_bytes s (Put key value) = IsOk (written filter_bytes s (put_entry key value))
+Writes filter_bytes s (Del key) = IsOk (written filter_bytes s (del_entry key))
+Writes filter_bytes s Flush = (memory s ≢ []) × IsOk (flushed filter_bytes s)
+Writes filter_bytes s Compact = IsBegun s
+Writes filter_bytes s request = ⊥
+
+-- A get and a closed seek read where their bounds allow a block; other scans where there are tables, pairs are asked for
+-- and the bounds are in order; a compaction that is begun where there are tables.
+abbrev pub Reads : State → Request → Type 0
+Reads s (Get key) = 0 < get_bound s key
+Reads s (Seek lo None) = s.tables ≢ []
+Reads s (Seek lo (Some hi)) = 0 < seek_bound s lo hi
+Reads s (Range lo hi n) = (s.tables ≢ []) × (0 < n) × (is_before hi lo ≡ false)
+Reads s (Count lo hi) = (s.tables ≢ []) × (is_before hi lo ≡ false)
+Reads s Compact = IsBegun s × (s.tables ≢ [])
+Reads s request = ⊥
 
 -- the pairs that a range has said before a fault
 abbrev pub said_before : State → Request → Reply → Reply → Type 0
-said_before s (Range lo hi n) why reply = (reply ≡ why) ⊎ ((k : ℕ) × (reply ≡ Pairs (take k (slice (map_of s) lo (Some hi) n)) why))
+said_before s (Range lo hi n) why reply = (reply ≡ why) ⊎ ((k : ℕ) × (reply ≡ Pairs (take k (slice (state_map s) lo (Some hi) n)) why))
 said_before s request why reply = reply ≡ why
 
 -- From a state a request is answered so, and leaves that state. `Cause` says what must be so for what the state does not
--- explain. Where the device failed in a write, the state has the map before the line or behind it.
-pub data Step (Cause : Why → Type 0) (spells : Spells) (s : State) (request : Request) : Reply → State → Type 0 where
-  answers : Step Cause spells s request (answer spells s request).0 (answer spells s request).1
-  no_memory : limit_of request ≡ None → TakesMemory request → Cause NoMemory → Step Cause spells s request Memory (left_by request s)
-  read_failed : (reply : Reply) → limit_of request ≡ None → Reads request → Cause ReadFailed → said_before s request Device reply
-      → Step Cause spells s request reply (left_by request s)
-  damage_met : (damage : Damage) (reply : Reply) → limit_of request ≡ None → Reads request → Cause (DamageMet damage)
-      → said_before s request (Damaged damage) reply → Step Cause spells s request reply (left_by request s)
-  write_failed : (after : State) → limit_of request ≡ None → Writes request → Cause WriteFailed → IsSound spells after
-      → (map_of after ≡ map_of s) ⊎ (map_of after ≡ map_of (answer spells s request).1) → Step Cause spells s request Device after
+-- explain. Behind a failed write the state has the map before the line or behind it.
+pub data Step (Cause : Why → Type 0) (filter_bytes : FilterBytes) (s : State) (request : Request) : Reply → State → Type 0 where
+  answers : Step Cause filter_bytes s request (answer filter_bytes s request).0 (answer filter_bytes s request).1
+  no_memory : limit_of request ≡ None → TakesMemory request → Cause NoMemory → Step Cause filter_bytes s request Memory (left_by request s)
+  read_failed : (reply : Reply) → limit_of request ≡ None → Reads s request → Cause ReadFailed → said_before s request Device reply
+      → Step Cause filter_bytes s request reply (left_by request s)
+  damage_met : (damage : Damage) (reply : Reply) → limit_of request ≡ None → Reads s request → Cause (DamageMet damage)
+      → said_before s request (Damaged damage) reply → Step Cause filter_bytes s request reply (left_by request s)
+  write_failed : (after : State) → limit_of request ≡ None → Writes filter_bytes s request → Cause WriteFailed → IsLeft filter_bytes s after
+      → (state_map after ≡ state_map s) ⊎ (state_map after ≡ state_map (answer filter_bytes s request).1) → Step Cause filter_bytes s request Device after

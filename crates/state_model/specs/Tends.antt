@@ -1,19 +1,19 @@
--- What a slice of a merge makes of a state.
+-- What a merge slice makes of a state: some of the work of the merge that runs.
 use Rattle.std.specs.Prelude.{◌≡◌, ◌≢◌, ◌⊎◌, ◌≤◌, ◌+◌, ℕ, nat_lt, ◌==◌, Bool, not, ◌&&◌, ◌||◌, if◌then◌else◌, List, [], ◌∷◌, ◌++◌, length, take, drop, filter, fold, Some, None, Result, Ok, Err}
 use Rattle.std.specs.List.{list_any, sum_by}
 use Rattle.byte_fields.specs.declared.parts.Damage.{Damage}
 use Rattle.map_model.specs.Slices.{is_before}
-use Rattle.store_model.specs.Entries.{Entry}
+use Rattle.entry_model.specs.Entries.{Entry}
 use Rattle.state_model.specs.State.{State, Table, Job, without_job, last_epoch}
-use Rattle.state_model.specs.View.{map_of}
-use Rattle.state_model.specs.Pages.{Spells}
-use Rattle.state_model.specs.Gaps.{taken}
+use Rattle.state_model.specs.View.{state_map}
+use Rattle.state_model.specs.Pages.{FilterBytes}
+use Rattle.state_model.specs.Taken.{taken}
 use Rattle.state_model.specs.Merges.{Plan, NoRoom, choose, planned, placed, least_key}
-use Rattle.state_model.specs.Sound.{IsSound, plan_of_job}
+use Rattle.state_model.specs.Sound.{IsLeft, plan_of_job}
 use Rattle.state_model.specs.Causes.{Why, NoMemory, ReadFailed, WriteFailed, DamageMet}
-use Rattle.state_model.specs.Replies.{Reply, LastEpoch, Full, Memory, Device, Damaged}
+use Rattle.line_model.specs.Replies.{Reply, LastEpoch, Full, Memory, Device, Damaged}
 
--- ---- the job that a slice works on
+-- ---- the job that a merge slice works on
 
 -- the job of a plan, with nothing done
 abbrev pub started : Plan → Job
@@ -21,33 +21,33 @@ started plan = record { inputs = plan.inputs; output = plan.output; to_read = su
 
 -- the job that runs, or where none does a new one
 abbrev pub Runs : State → Job → Type 0
-Runs s job = (s.job ≡ Some job) ⊎ ((plan : Plan) × (s.job ≡ None) × (choose s ≡ Some plan) × (job ≡ started plan))
+Runs s job = (s.job ≡ Some job) ⊎ ((plan : Plan) × (s.job ≡ None) × (choose s.tables ≡ Some plan) × (job ≡ started plan))
 
 abbrev pub with_job : State → Job → State
 with_job s job = record s { job = Some job }
 
 -- the outputs that are not written yet
-abbrev pub outstanding : State → Job → List (List Entry)
-outstanding s job = drop (length job.written) (planned s (plan_of_job job))
+abbrev pub outstanding : List Table → Job → List (List Entry)
+outstanding tables job = drop (length job.written) (planned tables (plan_of_job job))
 
 -- the next so many of them, placed
-abbrev pub next_placed : Spells → State → Job → ℕ → Result (List Table) NoRoom
-next_placed spells s job n = placed spells s (taken (with_job s job)) job.output (take n (outstanding s job))
+abbrev pub next_placed : FilterBytes → State → Job → ℕ → Result (List Table) NoRoom
+next_placed filter_bytes s job n = placed filter_bytes s.settings s.pages (taken (with_job s job)) job.output (take n (outstanding s.tables job))
 
 -- the job goes on: fewer blocks are to read, more outputs are written, or both, or neither
-pub record GoesOn (spells : Spells) (s : State) (job later : Job) : Type 0 where
+pub record Progresses (filter_bytes : FilterBytes) (s : State) (job later : Job) : Type 0 where
   pub inputs : later.inputs ≡ job.inputs
   pub output : later.output ≡ job.output
   pub to_read : later.to_read ≤ job.to_read
   pub more : ℕ
   pub made : List Table
-  pub placed_so : next_placed spells s job more ≡ Ok made
+  pub placed_so : next_placed filter_bytes s job more ≡ Ok made
   pub written : later.written ≡ job.written ++ made
 
 -- nothing is to read, and all outputs are written
-pub record IsDone (s : State) (job : Job) : Type 0 where
+pub record IsDone (tables : List Table) (job : Job) : Type 0 where
   pub all_read : job.to_read ≡ 0
-  pub all_written : outstanding s job ≡ []
+  pub all_written : outstanding tables job ≡ []
 
 -- ---- its install
 
@@ -64,30 +64,33 @@ abbrev pub without : List Table → List Table → List Table
 without inputs tables = filter (λ (t : Table). not (list_any (λ (i : Table). i.first_page == t.first_page) inputs)) tables
 
 -- the outputs stand in the place of the inputs
+abbrev pub installed_tables : List Table → Job → List Table
+installed_tables tables job = fold inserted (without job.inputs tables) job.written
+
 abbrev pub installed : State → Job → State
-installed s job = record s { epoch = s.epoch + 1; tables = fold inserted (without job.inputs s.tables) job.written; job = None }
+installed s job = record s { epoch = s.epoch + 1; tables = installed_tables s.tables job; job = None }
 
--- ---- the slice
+-- ---- the merge slice
 
--- what a slice is answered; no line is said of it
+-- what it is answered; no line is said of it
 pub data Tended : Type 0 where
   Idle : Tended
   Worked : Tended
   Refused : (why : Reply) → Tended
 
--- A slice is idle where no job runs and none is to be chosen. Else it works, or is refused and drops the job. `Cause`
+-- A merge slice is idle where no job runs and none is to be chosen. Else it works, or is refused and drops the job. `Cause`
 -- says what must be so for what the state does not explain.
-pub data Tend (Cause : Why → Type 0) (spells : Spells) (s : State) : Tended → State → Type 0 where
-  idle : s.job ≡ None → choose s ≡ None → Tend Cause spells s Idle s
-  works : (job later : Job) → Runs s job → GoesOn spells s job later → later ≢ job → Tend Cause spells s Worked (with_job s later)
-  installs : (job later : Job) → Runs s job → GoesOn spells s job later → IsDone s later → s.epoch ≢ last_epoch
-      → Tend Cause spells s Worked (installed s later)
-  last_epoch_reached : (job later : Job) → Runs s job → GoesOn spells s job later → IsDone s later → s.epoch ≡ last_epoch
-      → Tend Cause spells s (Refused LastEpoch) (without_job s)
-  no_room : (job later : Job) (refusal : NoRoom) → Runs s job → GoesOn spells s job later → next_placed spells s later 1 ≡ Err refusal
-      → Tend Cause spells s (Refused (Full refusal.need refusal.gap)) (without_job s)
-  no_memory : Cause NoMemory → Tend Cause spells s (Refused Memory) (without_job s)
-  read_failed : (job : Job) → Runs s job → Cause ReadFailed → Tend Cause spells s (Refused Device) (without_job s)
-  damage_met : (job : Job) (damage : Damage) → Runs s job → Cause (DamageMet damage) → Tend Cause spells s (Refused (Damaged damage)) (without_job s)
-  write_failed : (job : Job) (after : State) → Runs s job → Cause WriteFailed → IsSound spells after → map_of after ≡ map_of s
-      → Tend Cause spells s (Refused Device) after
+pub data Tend (Cause : Why → Type 0) (filter_bytes : FilterBytes) (s : State) : Tended → State → Type 0 where
+  idle : s.job ≡ None → choose s.tables ≡ None → Tend Cause filter_bytes s Idle s
+  works : (job later : Job) → Runs s job → Progresses filter_bytes s job later → later ≢ job → Tend Cause filter_bytes s Worked (with_job s later)
+  installs : (job later : Job) → Runs s job → Progresses filter_bytes s job later → IsDone s.tables later → s.epoch ≢ last_epoch
+      → Tend Cause filter_bytes s Worked (installed s later)
+  last_epoch_reached : (job later : Job) → Runs s job → Progresses filter_bytes s job later → IsDone s.tables later → s.epoch ≡ last_epoch
+      → Tend Cause filter_bytes s (Refused LastEpoch) (without_job s)
+  no_room : (job later : Job) (refusal : NoRoom) → Runs s job → Progresses filter_bytes s job later → next_placed filter_bytes s later 1 ≡ Err refusal
+      → Tend Cause filter_bytes s (Refused (Full refusal.need refusal.gap)) (without_job s)
+  no_memory : Cause NoMemory → Tend Cause filter_bytes s (Refused Memory) (without_job s)
+  read_failed : (job : Job) → Runs s job → Cause ReadFailed → Tend Cause filter_bytes s (Refused Device) (without_job s)
+  damage_met : (job : Job) (damage : Damage) → Runs s job → Cause (DamageMet damage) → Tend Cause filter_bytes s (Refused (Damaged damage)) (without_job s)
+  write_failed : (job : Job) (after : State) → Runs s job → Cause WriteFailed → IsLeft filter_bytes s after → state_map after ≡ state_map s
+      → Tend Cause filter_bytes s (Refused Device) after

@@ -1,8 +1,8 @@
 -- What a state says of a key, and the sorted map that it is.
 use Rattle.std.specs.Prelude.{List, [], ◌∷◌, ◌++◌, map, flat_map, reverse, Option, None}
-use Rattle.store_model.specs.SortedMap.{Bytes, Map}
-use Rattle.store_model.specs.Entries.{Entry, map_of as map_of_entries, or_else}
-use Rattle.mem_table.specs.Table.{newest_entries, lookup}
+use Rattle.map_model.specs.SortedMap.{Bytes, Map}
+use Rattle.entry_model.specs.Entries.{Entry, map_of as map_of_entries, or_else}
+use Rattle.entry_model.specs.Newest.{newest_entries, lookup}
 use Rattle.state_model.specs.State.{State, Table}
 
 -- the memory entries: the log's last entry for each key, by rising keys
@@ -31,5 +31,5 @@ abbrev pub entries_of : State → List Entry
 entries_of s = oldest_first s.tables ++ s.log
 
 -- the sorted map that the state is
-abbrev pub map_of : State → Map
-map_of s = map_of_entries (entries_of s)
+abbrev pub state_map : State → Map
+state_map s = map_of_entries (entries_of s)

@@ -1,6 +1,6 @@
 -- What a line that was read asks.
 use Rattle.std.specs.Prelude.{◌≡◌, ◌<◌, ◌≤◌, ◌+◌, ℕ, List, [], ◌∷◌, length, Result, Ok, Err}
-use Rattle.store_model.specs.SortedMap.{Bytes}
+use Rattle.map_model.specs.SortedMap.{Bytes}
 use Rattle.store_model.specs.Lines as line
 use Rattle.store_commands.specs.declared.parse.BadLine.{BadLine}
 use Rattle.store_commands.specs.declared.parse.Request.{Request}

@@ -1,7 +1,7 @@
 -- Texts that are cut at newlines and spaces.
 use Rattle.std.specs.Prelude.{◌≡◌, ◌==◌, false, All, List, [], Option, Some, None}
 use Rattle.std.specs.List.{slice_split}
-use Rattle.store_model.specs.SortedMap.{Bytes}
+use Rattle.map_model.specs.SortedMap.{Bytes}
 
 abbrev pub NoNewline : Bytes → Type 0
 NoNewline line = All (λ b. (b == 10) ≡ false) line

@@ -1,6 +1,6 @@
 -- What a reply says, and how much of it stands in a buffer.
 use Rattle.std.specs.Prelude.{◌≡◌, ◌-◌, ℕ, length, take, drop}
-use Rattle.store_model.specs.SortedMap.{Bytes}
+use Rattle.map_model.specs.SortedMap.{Bytes}
 use Rattle.store_model.specs.Replies as reply
 use Rattle.store_commands.specs.declared.reply.Reply.{Reply}
 use Rattle.store_commands.specs.declared.reply.Reply.TheVariants.{Done, Value, Missing, Bye, BadLine, LongKey, LongValue, Full, Memory, Device, DamagedLog}

@@ -1,7 +1,8 @@
 ghost use Rattle.std.specs.Prelude.{◌≡◌, ◌≤◌, ◌+◌, ◌/◌, ◌==◌, ◌++◌, ◌∷◌, [], List, Some, None, IfSome, IfNone, IfOk, MatchOption, length, take, option_map, vec_len};
 ghost use Rattle.std.specs.List.{slice_split};
-ghost use Rattle.store_model.specs.SortedMap.{Bytes};
-ghost use Rattle.store_model.specs.Lines.{command_of, bytes_in, put_of, put_by, get_of, get_by, del_of, del_by, quit_of};
+ghost use Rattle.map_model.specs.SortedMap.{Bytes};
+ghost use Rattle.store_model.specs.Lines.{command_of, put_of, put_by, get_of, get_by, del_of, del_by, quit_of};
+ghost use Rattle.line_model.specs.Lines.{bytes_in};
 ghost use Rattle.store_commands.specs.Cutting.{NoNewline, words_after};
 ghost use Rattle.store_commands.specs.Asks.{Asks, AreWords, AreWithin};
 

@@ -1,7 +1,8 @@
 ghost use Rattle.std.specs.Prelude.{◌≡◌, ◌≤◌, ◌+◌, ◌-◌, ◌*◌, ◌++◌, ℕ, [], min, length, take, drop, codes, decimal};
 ghost use Rattle.hex.specs.Hex.{encode_lower};
-ghost use Rattle.store_model.specs.SortedMap.{Bytes};
-ghost use Rattle.store_model.specs.Replies.{text_of, words_of, word_of};
+ghost use Rattle.map_model.specs.SortedMap.{Bytes};
+ghost use Rattle.store_model.specs.Replies.{text_of, words_of};
+ghost use Rattle.line_model.specs.Replies.{word_of};
 ghost use Rattle.store_commands.specs.Spoken.{spoken, Shows};
 
 /// A reply line.

@@ -1,6 +1,3 @@
-pub mod Entries
-pub mod Laws
 pub mod Lines
 pub mod Replies
 pub mod Script
-pub mod SortedMap

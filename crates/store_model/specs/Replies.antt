@@ -1,7 +1,7 @@
 -- The texts of the replies.
 use Rattle.std.specs.Prelude.{ℕ, List, [], ◌∷◌, ◌++◌, Option, Some, None, codes, decimal}
-use Rattle.hex.specs.Hex.{encode_lower}
-use Rattle.store_model.specs.SortedMap.{Bytes}
+use Rattle.line_model.specs.Replies.{word_of}
+use Rattle.map_model.specs.SortedMap.{Bytes}
 
 -- a reply line
 pub data Reply : Type 0 where
@@ -16,11 +16,6 @@ pub data Reply : Type 0 where
   Memory : Reply
   Device : Reply
   DamagedLog : (at : ℕ) → (rule : ℕ) → Reply
-
--- bytes in lower case hex, no bytes as a dash
-abbrev pub word_of : Bytes → Bytes
-word_of [] = codes "-"
-word_of (b ∷ bytes) = encode_lower (b ∷ bytes)
 
 abbrev pub words_of : Reply → Bytes
 words_of Done = codes "ok"

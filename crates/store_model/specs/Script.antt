@@ -1,7 +1,7 @@
 -- What the lines are answered: a step a line, from the entries before it to those after it.
 use Rattle.std.specs.Prelude.{◌≡◌, ◌<◌, ◌≤◌, ◌+◌, ℕ, ◌||◌, ◌==◌, nat_lt, if◌then◌else◌, List, [], ◌∷◌, ◌++◌, length, Option, Some, None}
-use Rattle.store_model.specs.SortedMap.{Bytes, get}
-use Rattle.store_model.specs.Entries.{Entry, put_entry, del_entry, map_of, need, gap}
+use Rattle.map_model.specs.SortedMap.{Bytes, get}
+use Rattle.entry_model.specs.Entries.{Entry, put_entry, del_entry, map_of, need, gap}
 use Rattle.store_model.specs.Lines.{Command, Put, Del, Get, Quit, Bad, command_of}
 use Rattle.store_model.specs.Replies.{Reply, Done, Value, Missing, Bye, BadLine, LongKey, LongValue, Full, Memory, Device, DamagedLog, text_of, got}
 

@@ -5,7 +5,8 @@
 //!
 //! A [`Suffixes`] keeps those of all leaves in the order of their slots, packed without gaps: it is a list of pairs,
 //! and its bits are the last section of the filter's image. `push` and `get` touch two words at most. It grows at its
-//! end alone, so do not use it for suffixes that change.
+//! end alone, so do not use it for suffixes that change. A [`SuffixesBuilder`] has its room from the start, and no push
+//! into it fails.
 //!
 //! ```text
 //! hash_bits_of(b"a", 8) == 0x8C
@@ -18,9 +19,11 @@
 #![tactic(auto)]
 
 mod bits;
+mod builder;
 mod laws;
 mod suffixes;
 
 pub use bits::{hash_bits_of, real_bits_of};
+pub use builder::SuffixesBuilder;
 pub use laws::suffix_laws;
 pub use suffixes::Suffixes;

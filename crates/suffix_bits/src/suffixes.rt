@@ -128,7 +128,7 @@ impl<A: Allocator> Suffixes<A> {
 }
 
 // One number of the two, the hash bits lowest.
-fn joined(hash: u32, real: u32, hash_bits: u8) -> u64
+pub(crate) fn joined(hash: u32, real: u32, hash_bits: u8) -> u64
     requires width { hash_bits ≤ 32 }
     requires fits { hash < 2 ^ hash_bits }
     ensures { result ≡ hash + 2 ^ hash_bits * real }

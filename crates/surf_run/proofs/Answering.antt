@@ -1,8 +1,8 @@
 -- Lines that were answered, one more, and the script.
 use Rattle.std.proofs.Common.{◌≡◌, ◌+◌, ◌++◌, ℕ, List, [], ◌∷◌, length, refl, sym, ap, ◌∙◌, subst, arith, append_assoc, length-append}
 use Rattle.std.proofs.lemmas.List.{append-nil}
-use Rattle.store_model.specs.SortedMap.{Bytes}
-use Rattle.store_model.specs.Entries.{Entry}
+use Rattle.map_model.specs.SortedMap.{Bytes}
+use Rattle.entry_model.specs.Entries.{Entry}
 use Rattle.store_model.specs.Lines.{command_of}
 use Rattle.store_model.specs.Replies.{Reply, Done, Value, Missing, Bye, BadLine, LongKey, LongValue, Full, Memory, Device, DamagedLog, text_of}
 use Rattle.store_model.specs.Script.{Step, Answers, Script, Then, GoesOn, WentOn, Ending, ToLast}

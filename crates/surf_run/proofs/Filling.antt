@@ -2,9 +2,9 @@
 use Rattle.std.proofs.Common.{◌≡◌, ◌∙◌, ◌+◌, ap, sym, ℕ, List, drop, length, get_or}
 use Rattle.std.specs.Prelude.{fold, ◌<◌, Option}
 use Rattle.std.proofs.lemmas.List.{drop_more}
-use Rattle.mem_table.specs.Table.{with_entry, entry_of}
-use Rattle.store_model.specs.SortedMap.{Bytes}
-use Rattle.store_model.specs.Entries.{Entry}
+use Rattle.entry_model.specs.Newest.{with_entry}
+use Rattle.entry_model.specs.Entries.{entry_of, Entry}
+use Rattle.map_model.specs.SortedMap.{Bytes}
 
 -- one entry more is set
 pub set_next : (table entries : List Entry) (i : ℕ) (x entry : Entry) (new : List Entry) → i < length entries → x ≡ get_or entries i x → entry ≡ x → new ≡ with_entry table entry

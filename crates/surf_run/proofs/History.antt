@@ -6,9 +6,9 @@ use Rattle.std.specs.Prelude.{Bool, IsTrue}
 use Rattle.disk_trait.specs.World.{Image, World}
 use Rattle.outside.specs.During.{During}
 use Rattle.outside.specs.Streams.{SaidByNow, SaysFront}
-use Rattle.gate_log.specs.Area.{LogIs}
-use Rattle.store_model.specs.SortedMap.{Bytes}
-use Rattle.store_model.specs.Entries.{Entry}
+use Rattle.log_model.specs.Area.{LogIs}
+use Rattle.map_model.specs.SortedMap.{Bytes}
+use Rattle.entry_model.specs.Entries.{Entry}
 use Rattle.store_model.specs.Lines.{command_of}
 use Rattle.store_model.specs.Replies.{Reply, text_of}
 use Rattle.store_model.specs.Script.{Step, WentOn}

@@ -7,7 +7,7 @@ use Rattle.outside.proofs.Crossing.{during_say, during_weaker}
 use Rattle.gate_log.specs.Faults.{IsShapeIn}
 use Rattle.gate_log.specs.declared.fault.LogFault.{LogFault}
 use Rattle.gate_log.specs.declared.fault.LogFault.TheVariants.{Memory, Device, Shape}
-use Rattle.store_model.specs.SortedMap.{Bytes}
+use Rattle.map_model.specs.SortedMap.{Bytes}
 use Rattle.store_model.specs.Replies.{text_of}
 use Rattle.surf_run.specs.Causes.{IsServing, StatusCause, SayFailed}
 use Rattle.surf_run.specs.Open.{reply_to, status_of}

@@ -6,13 +6,13 @@ use Rattle.disk_trait.proofs.Moments.{in_call}
 use Rattle.outside.specs.During.{During}
 use Rattle.outside.specs.Streams.{SaidByNow, SaysFront}
 use Rattle.outside.proofs.Crossing.{during_disk, during_weaker, during_then}
-use Rattle.gate_log.specs.Area.{LogIs}
+use Rattle.log_model.specs.Area.{LogIs}
 use Rattle.gate_log.specs.Faults.{IsShapeIn}
 use Rattle.gate_log.specs.declared.fault.LogFault.{LogFault}
 use Rattle.gate_log.specs.declared.fault.LogFault.TheVariants.{Memory, Device, Shape}
-use Rattle.store_model.specs.SortedMap.{Bytes}
-use Rattle.store_model.specs.Entries.{Entry}
-use Rattle.store_model.specs.Lines.{lines_of, whole_lines}
+use Rattle.map_model.specs.SortedMap.{Bytes}
+use Rattle.entry_model.specs.Entries.{Entry}
+use Rattle.line_model.specs.Lines.{lines_of, whole_lines}
 use Rattle.store_model.specs.Replies.{text_of}
 use Rattle.store_model.specs.Script.{Script, WentOn, Ending, ToLast}
 use Rattle.surf_run.specs.Causes.{IsServing, SayFailed}

@@ -5,9 +5,9 @@ use Rattle.disk_trait.specs.World.{Image, World, Streams, Now, Meanwhile, Passes
 use Rattle.disk_trait.proofs.Moments.{now_at, in_call, started}
 use Rattle.outside.specs.Streams.{SayMoves, SaysFront, SaidByNow}
 use Rattle.outside.proofs.Crossing.{during_disk, during_say, during_weaker, during_then}
-use Rattle.gate_log.specs.Area.{LogIs}
-use Rattle.store_model.specs.SortedMap.{Bytes}
-use Rattle.store_model.specs.Entries.{Entry}
+use Rattle.log_model.specs.Area.{LogIs}
+use Rattle.map_model.specs.SortedMap.{Bytes}
+use Rattle.entry_model.specs.Entries.{Entry}
 use Rattle.store_model.specs.Replies.{Reply, Bye, Device, text_of}
 use Rattle.surf_run.specs.Crash.{Stands}
 use Rattle.surf_run.specs.Holds.{Holds}

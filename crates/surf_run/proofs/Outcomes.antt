@@ -1,18 +1,18 @@
 -- How a run ends.
 use Rattle.std.proofs.Common.{◌≡◌, ◌≢◌, ◌⊎◌, inl, inr, ◌<◌, ◌+◌, ◌++◌, ℕ, zero, List, [], ◌∷◌, length, refl, sym, ap, ◌∙◌, subst, arith, append_assoc, length-append}
-use Rattle.std.specs.Prelude.{flat_map}
+use Rattle.std.specs.Prelude.{flat_map, Bool, IsTrue, ◌==◌, false}
 use Rattle.std.proofs.lemmas.List.{append-nil}
 use Rattle.std.proofs.lemmas.List.Elements.{All-nil}
-use Rattle.std.specs.Prelude.{Bool, IsTrue, ◌==◌, false}
 use Rattle.disk_trait.specs.World.{World}
 use Rattle.outside.specs.During.{During}
 use Rattle.outside.specs.Streams.{SaidByNow, SaysFront, TakeMoves}
 use Rattle.outside.proofs.Crossing.{during_then, during_weaker, during_take, during_none}
-use Rattle.gate_log.specs.Area.{LogIs}
+use Rattle.log_model.specs.Area.{LogIs}
 use Rattle.store_commands.specs.Cutting.{NoNewline}
-use Rattle.store_model.specs.SortedMap.{Bytes}
-use Rattle.store_model.specs.Entries.{Entry}
-use Rattle.store_model.specs.Lines.{command_of, lines_of, whole_lines}
+use Rattle.map_model.specs.SortedMap.{Bytes}
+use Rattle.entry_model.specs.Entries.{Entry}
+use Rattle.store_model.specs.Lines.{command_of}
+use Rattle.line_model.specs.Lines.{lines_of, whole_lines}
 use Rattle.store_model.specs.Replies.{Reply, Bye, Device, text_of}
 use Rattle.store_model.specs.Script.{Step, Script, GoesOn, WentOn, Ending, ToLast, AtQuit, AtDevice}
 use Rattle.surf_run.specs.Crash.{Stands, Reached, Anything, Acknowledged}

@@ -8,8 +8,9 @@ use Rattle.std.proofs.lemmas.Fmt.{length-decimal-le}
 use Rattle.hex.specs.Hex.{lower_digits}
 use Rattle.hex.proofs.HexLemmas.{length-encode_with}
 use Rattle.outside.specs.Streams.{SaysFront}
-use Rattle.store_model.specs.SortedMap.{Bytes}
-use Rattle.store_model.specs.Replies.{text_of, word_of}
+use Rattle.map_model.specs.SortedMap.{Bytes}
+use Rattle.store_model.specs.Replies.{text_of}
+use Rattle.line_model.specs.Replies.{word_of}
 use Rattle.store_commands.specs.Spoken.{spoken}
 use Rattle.store_commands.specs.declared.reply.Reply.{Reply}
 use Rattle.store_commands.specs.declared.reply.Reply.TheVariants.{Done, Value, Missing, Bye, BadLine, LongKey, LongValue, Full, Memory, Device, DamagedLog}

@@ -9,9 +9,10 @@ use Rattle.outside.specs.During.{During}
 use Rattle.outside.specs.Streams.{SaidByNow, SaysFront}
 use Rattle.outside.proofs.Crossing.{during_then, during_weaker}
 use Rattle.store_commands.specs.Cutting.{NoNewline}
-use Rattle.store_model.specs.SortedMap.{Bytes}
-use Rattle.store_model.specs.Entries.{Entry}
-use Rattle.store_model.specs.Lines.{command_of, lines_of}
+use Rattle.map_model.specs.SortedMap.{Bytes}
+use Rattle.entry_model.specs.Entries.{Entry}
+use Rattle.store_model.specs.Lines.{command_of}
+use Rattle.line_model.specs.Lines.{lines_of}
 use Rattle.store_model.specs.Replies.{Reply, Bye, Device, text_of}
 use Rattle.store_model.specs.Script.{Step, Script, GoesOn, WentOn, Ending, AtQuit, AtDevice}
 use Rattle.surf_run.specs.Crash.{Stands, Reached, Acknowledged}

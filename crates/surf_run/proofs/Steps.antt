@@ -5,15 +5,14 @@ use Rattle.std.specs.List.{AllByRecursion}
 use Rattle.disk_trait.specs.World.{World}
 use Rattle.disk_trait.proofs.Moments.{started}
 use Rattle.outside.specs.Streams.{SayMoves, SaysFront, SaidByNow}
-use Rattle.gate_log.specs.Records.{IsSound}
-use Rattle.gate_log.specs.Area.{LogIs}
-use Rattle.store_model.specs.SortedMap.{Bytes, get}
-use Rattle.store_model.specs.Entries.{Entry, bytes_of, map_of, newest, or_else, live}
+use Rattle.entry_model.specs.Entries.{IsEntry, Entry, bytes_of, map_of, newest, or_else, live}
+use Rattle.log_model.specs.Area.{LogIs}
+use Rattle.map_model.specs.SortedMap.{Bytes, get}
 use Rattle.store_model.specs.Lines.{Command, Put, Del, Get}
 use Rattle.store_model.specs.Lines as asks
 use Rattle.store_model.specs.Replies.{Reply, Bye, LongKey, LongValue, text_of, got}
 use Rattle.store_model.specs.Script.{Step, GoesOn, Unless, key_limit, value_limit, first_limit}
-use Rattle.store_model.proofs.Maps.{newest_counts}
+use Rattle.entry_model.proofs.Maps.{newest_counts}
 use Rattle.surf_run.specs.Crash.{Stands}
 use Rattle.surf_run.specs.Holds.{Holds}
 use Rattle.surf_run.specs.Saying.{Says}
@@ -67,7 +66,7 @@ pub get_step : (old : List Entry) (key : Bytes) (value : Option Bytes) → None 
 get_step old key value none is =
     subst (λ (l : Option Reply). Unless l old (got value) old ((got value ≡ got (get (map_of old) key)) × (old ≡ old))) none (ap got (is ∙ sym (newest_counts old key)), refl)
 
-found_sound : (entries : List Entry) (key value : Bytes) → AllByRecursion IsSound entries → newest entries key ≡ Some (Some value) → length value ≤ 65536
+found_sound : (entries : List Entry) (key value : Bytes) → AllByRecursion IsEntry entries → newest entries key ≡ Some (Some value) → length value ≤ 65536
 found_sound [] key value sound is = absurd cc
 found_sound (entry ∷ later) key value sound is =
     elim (newest later key) as (λ found. newest later key ≡ found → or_else found (cond (bytes_eq entry.key key) (Some entry.value) None) ≡ Some (Some value) → length value ≤ 65536) [
@@ -83,7 +82,7 @@ live_some : (found : Option (Option Bytes)) (value : Bytes) → Some value ≡ l
 live_some None value is = absurd cc
 live_some (Some said) value is = ap Some (sym is)
 
-pub short_value : (entries : List Entry) (key value : Bytes) → AllByRecursion IsSound entries → Some value ≡ live (newest entries key) → length value ≤ 65536
+pub short_value : (entries : List Entry) (key value : Bytes) → AllByRecursion IsEntry entries → Some value ≡ live (newest entries key) → length value ≤ 65536
 short_value entries key value sound is = found_sound entries key value sound (live_some (newest entries key) value is)
 
 -- ---- quit and bad lines

@@ -7,8 +7,9 @@ use Rattle.std.proofs.lemmas.List.{take-append-le}
 use Rattle.std.proofs.lemmas.List.Elements.{All-head, All-tail}
 use Rattle.std.proofs.lemmas.List.Splits.{slice_split_at, slice_split_none, length-slice_split}
 use Rattle.store_commands.specs.Cutting.{NoNewline}
-use Rattle.store_model.specs.SortedMap.{Bytes}
-use Rattle.store_model.specs.Lines.{Bad, command_of, asked_by, counted, lines_of, but_last, whole_lines}
+use Rattle.map_model.specs.SortedMap.{Bytes}
+use Rattle.store_model.specs.Lines.{Bad, command_of, asked_by}
+use Rattle.line_model.specs.Lines.{counted, lines_of, but_last, whole_lines}
 use Rattle.surf_run.specs.Holding.{Held}
 use Rattle.surf_run.specs.Serving.{with_newline}
 

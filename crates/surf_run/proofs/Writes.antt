@@ -3,19 +3,18 @@ use Rattle.std.proofs.Common.{◌≡◌, ◌<◌, ◌≤◌, ◌+◌, ◌-◌, �
 use Rattle.std.specs.Prelude.{flat_map, Result, Ok}
 use Rattle.std.proofs.lemmas.List.{append-nil}
 use Rattle.std.proofs.lemmas.Grind.{flat_map-append}
-use Rattle.gate_log.specs.Kinds.{FitsKind, entry_of}
+use Rattle.gate_log.specs.Kinds.{FitsKind, entry_of_kind}
 use Rattle.gate_log.specs.declared.entry.Kind.{Kind}
 use Rattle.gate_log.specs.declared.entry.Kind.TheVariants.{Put, Delete}
-use Rattle.gate_log.specs.Records.{IsSound}
-use Rattle.gate_log.specs.Area.{LogIs, WithOrWithout, start_of}
+use Rattle.entry_model.specs.Entries.{IsEntry, Entry, bytes_of, record_bytes, filled, need, gap}
+use Rattle.log_model.specs.Area.{LogIs, WithOrWithout, start_of}
 use Rattle.disk_trait.specs.World.{Image, World, Leads, WriteMoves}
 use Rattle.disk_trait.proofs.Calls.{moves_wider}
-use Rattle.store_model.specs.SortedMap.{Bytes}
+use Rattle.map_model.specs.SortedMap.{Bytes}
 use Rattle.store_model.specs.Replies.{Full}
 use Rattle.store_model.specs.Script.{Write, full}
-use Rattle.store_model.specs.Entries.{Entry, bytes_of, record_bytes, filled, need, gap}
 
-pub need_is : (kind : Kind) (key value : Bytes) → FitsKind kind value → need (entry_of kind key value) ≡ 7 + length key + length value + 2
+pub need_is : (kind : Kind) (key value : Bytes) → FitsKind kind value → need (entry_of_kind kind key value) ≡ 7 + length key + length value + 2
 need_is Put key value fits = omega (arith, length-append key value)
 need_is Delete key value fits = omega (arith, length-append key [], ap length fits)
 
@@ -51,7 +50,7 @@ full_for old entry n g why =
     subst (λ (k : ℕ). Write old entry (Full k g) old) (sym why.0)
     (subst (λ (k : ℕ). Write old entry (Full (need entry) k) old) (sym why.1) (full why.2))
 
-pub small_need : (entry : Entry) → IsSound entry → need entry < 2 ^ 64
+pub small_need : (entry : Entry) → IsEntry entry → need entry < 2 ^ 64
 small_need entry sound = omega (arith, length-append entry.key (bytes_of entry.value), sound.short_key, sound.short_value)
 
 pub small_gap : (entries : List Entry) → gap entries < 2 ^ 64

@@ -1,9 +1,9 @@
 -- What an image that a crash may leave stands for, beside how many bytes had been said by its moment.
 use Rattle.std.specs.Prelude.{◌≡◌, ◌⊎◌, ◌≤◌, ℕ, Bool, IsTrue, List, [], ◌∷◌, ◌++◌, length, take}
 use Rattle.disk_trait.specs.World.{Image, World, Now}
-use Rattle.gate_log.specs.Area.{LogIs}
-use Rattle.store_model.specs.SortedMap.{Bytes}
-use Rattle.store_model.specs.Entries.{Entry}
+use Rattle.log_model.specs.Area.{LogIs}
+use Rattle.map_model.specs.SortedMap.{Bytes}
+use Rattle.entry_model.specs.Entries.{Entry}
 use Rattle.store_model.specs.Script.{Answers, WentOn}
 
 -- where the device tells, each image that a crash may leave now has these entries

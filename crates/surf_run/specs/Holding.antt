@@ -1,6 +1,6 @@
 -- Lines and what is kept of one that has not ended.
 use Rattle.std.specs.Prelude.{◌≡◌, ◌<◌, ◌≤◌, length}
-use Rattle.store_model.specs.SortedMap.{Bytes}
+use Rattle.map_model.specs.SortedMap.{Bytes}
 
 -- what is kept of a line that has not ended: all of it, or, of one that is too long already, too much
 pub record Held (rest kept : Bytes) : Type 0 where

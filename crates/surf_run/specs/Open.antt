@@ -1,10 +1,10 @@
 -- What opening does, and why it fails.
 use Rattle.std.specs.Prelude.{◌≡◌, ◌<◌, ℕ, Bool, IsTrue, List}
 use Rattle.disk_trait.specs.World.{World, Passes, Same}
-use Rattle.gate_log.specs.Area.{LogIs}
+use Rattle.log_model.specs.Area.{LogIs}
 use Rattle.gate_log.specs.declared.fault.LogFault.{LogFault}
 use Rattle.gate_log.specs.declared.fault.LogFault.TheVariants.{Memory, Device, Shape}
-use Rattle.store_model.specs.Entries.{Entry, filled}
+use Rattle.entry_model.specs.Entries.{Entry, filled}
 use Rattle.store_model.specs.Replies.{Reply}
 use Rattle.store_model.specs.Replies as replies
 use Rattle.surf_run.specs.Causes.{NoFall, DiskFailed}

@@ -2,10 +2,11 @@
 use Rattle.std.specs.Prelude.{◌≡◌, ◌≢◌, ◌⊎◌, ◌^◌, ◌++◌, ℕ, Bool, IsTrue, List, [], ◌∷◌, length}
 use Rattle.disk_trait.specs.World.{World}
 use Rattle.outside.specs.During.{During}
-use Rattle.store_model.specs.SortedMap.{Bytes}
-use Rattle.store_model.specs.Entries.{Entry}
+use Rattle.map_model.specs.SortedMap.{Bytes}
+use Rattle.entry_model.specs.Entries.{Entry}
 use Rattle.outside.specs.Streams.{SaysFront}
-use Rattle.store_model.specs.Lines.{command_of, lines_of, whole_lines}
+use Rattle.store_model.specs.Lines.{command_of}
+use Rattle.line_model.specs.Lines.{lines_of, whole_lines}
 use Rattle.store_model.specs.Replies.{Reply, Device, text_of}
 use Rattle.store_model.specs.Script.{Step, Script, WentOn, Ending, ToLast, AtQuit, AtDevice}
 use Rattle.surf_run.specs.Crash.{Stands, Reached, Acknowledged}

@@ -1,7 +1,7 @@
 -- When an entry is not written.
 use Rattle.std.specs.Prelude.{◌≡◌, ◌<◌, ◌≤◌, List}
 use Rattle.disk_trait.specs.World.{World, Rose}
-use Rattle.store_model.specs.Entries.{Entry, need, gap}
+use Rattle.entry_model.specs.Entries.{Entry, need, gap}
 use Rattle.surf_run.specs.declared.store.WriteError.{WriteError}
 use Rattle.surf_run.specs.declared.store.WriteError.TheVariants.{Memory, Full, Device}
 

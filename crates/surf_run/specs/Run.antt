@@ -4,10 +4,9 @@ use Rattle.disk_trait.specs.World.{World, Image}
 use Rattle.outside.specs.During.{During}
 use Rattle.outside.specs.Streams.{SaysFront}
 use Rattle.std.specs.List.{AllByRecursion}
-use Rattle.gate_log.specs.Area.{LogIs, LogBreaks}
-use Rattle.gate_log.specs.Records.{IsSound}
-use Rattle.store_model.specs.SortedMap.{Bytes}
-use Rattle.store_model.specs.Entries.{Entry, filled}
+use Rattle.log_model.specs.Area.{LogIs, LogBreaks}
+use Rattle.entry_model.specs.Entries.{IsEntry, Entry, filled}
+use Rattle.map_model.specs.SortedMap.{Bytes}
 use Rattle.store_model.specs.Replies.{Device, Memory, DamagedLog, text_of}
 use Rattle.surf_run.specs.Causes.{IsServing, TakeFailed, DiskFailed, SayFailed}
 use Rattle.surf_run.specs.Open.{OpenMoves}
@@ -52,7 +51,7 @@ Ends tells status start old new = (IsServing status × Outcome tells status star
 pub record Serves (tells : Bool) (status : ℕ) (old opened new : World) : Type 0 where
   pub opens : OpenMoves old opened
   pub start : List Entry
-  pub sound : AllByRecursion IsSound start
+  pub sound : AllByRecursion IsEntry start
   pub within : filled start < 262144
   pub held : IsTrue tells → LogIs 0 start old.seen.held
   pub serving : IsServing status

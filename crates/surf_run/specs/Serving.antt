@@ -3,11 +3,12 @@ use Rattle.std.specs.Prelude.{◌≡◌, ◌≢◌, ◌⊎◌, ◌≤◌, ℕ, B
 use Rattle.disk_trait.specs.World.{Image, World}
 use Rattle.outside.specs.During.{During}
 use Rattle.outside.specs.Streams.{SaysFront}
-use Rattle.gate_log.specs.Area.{LogIs}
+use Rattle.log_model.specs.Area.{LogIs}
 use Rattle.store_commands.specs.Cutting.{NoNewline}
-use Rattle.store_model.specs.SortedMap.{Bytes}
-use Rattle.store_model.specs.Entries.{Entry}
-use Rattle.store_model.specs.Lines.{command_of, lines_of}
+use Rattle.map_model.specs.SortedMap.{Bytes}
+use Rattle.entry_model.specs.Entries.{Entry}
+use Rattle.store_model.specs.Lines.{command_of}
+use Rattle.line_model.specs.Lines.{lines_of}
 use Rattle.store_model.specs.Replies.{Reply, Bye, Device, text_of}
 use Rattle.store_model.specs.Script.{Step, Script, GoesOn, WentOn, Ending, AtQuit, AtDevice}
 use Rattle.surf_run.specs.Holding.{Held}

@@ -1,7 +1,7 @@
 // A line, answered.
 ghost use Rattle.std.specs.Prelude.{◌≡◌, ◌<◌, ◌≤◌, ◌++◌, [], ◌∷◌, List, length, IsTrue, IfSome, None, Some};
-ghost use Rattle.gate_log.specs.Kinds.{KeepsRules, entry_of};
-ghost use Rattle.store_model.specs.Entries.{Entry};
+ghost use Rattle.gate_log.specs.Kinds.{KeepsRules, entry_of_kind};
+ghost use Rattle.entry_model.specs.Entries.{Entry};
 ghost use Rattle.store_model.specs.Lines.{command_of, Put, Del, Get, Bad};
 ghost use Rattle.store_model.specs.Script.{Step, Write, key_limit, value_limit};
 ghost use Rattle.std.specs.Option.{option_map};
@@ -37,7 +37,7 @@ fn write_line<W: Outside>(
     requires rules { KeepsRules kind key.now value.now }
     requires room { 0 < length buffer.old }
     ensures answered { (entries : List Entry) → IsTrue W.tells_output → Holds entries store.old → Stands W.tells entries (W.world out.old)
-        → Answered W.tells result entries (Write entries (entry_of kind key.now value.now)) store.new (W.world out.old) (W.world out.new) }
+        → Answered W.tells result entries (Write entries (entry_of_kind kind key.now value.now)) store.new (W.world out.old) (W.world out.new) }
     ensures cause { EndCause result (W.world out.old) (W.world out.new) }
     ensures moves { TakesNothing (W.world out.old) (W.world out.new) }
 {

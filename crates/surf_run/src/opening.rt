@@ -1,7 +1,7 @@
 // The store that stands on a device.
 ghost use Rattle.std.specs.Prelude.{◌≡◌, [], IsTrue, IfOk, IfErr, OnOk};
 ghost use Rattle.gate_log.specs.Faults.{IsShapeIn};
-ghost use Rattle.mem_table.specs.Table.{newest_entries};
+ghost use Rattle.entry_model.specs.Newest.{newest_entries};
 ghost use Rattle.surf_run.specs.Open.{OpenMoves, OpenCause, Opens};
 
 use crate::store::{AREA, RECORD_BYTES, Store};

@@ -1,7 +1,7 @@
 // Lines in, replies out.
 ghost use Rattle.std.specs.Prelude.{◌≡◌, ◌⊎◌, ◌<◌, ◌≤◌, ◌++◌, [], ◌∷◌, List, ℕ, length, IsTrue};
 ghost use Rattle.store_commands.specs.Cutting.{NoNewline};
-ghost use Rattle.store_model.specs.Entries.{Entry};
+ghost use Rattle.entry_model.specs.Entries.{Entry};
 ghost use Rattle.surf_run.specs.Holds.{Holds};
 ghost use Rattle.surf_run.specs.Causes.{EndCause, StatusCause, NoFall, TakesNothing, IsServing};
 ghost use Rattle.surf_run.specs.Crash.{Stands};

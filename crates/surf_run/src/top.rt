@@ -2,10 +2,10 @@
 ghost use Rattle.std.specs.Prelude.{◌≡◌, ◌≢◌, ◌<◌, ◌≤◌, ◌^◌, ◌⊎◌, ◌↔◌, ◌++◌, ℕ, [], ◌∷◌, List, length, map, string_bytes, IsTrue, IfOk, vec_len};
 ghost use Rattle.disk_trait.specs.World.{Now};
 ghost use Rattle.outside.specs.Streams.{SayMoves, SaysFront};
-ghost use Rattle.gate_log.specs.Area.{LogIs, LogBreaks};
+ghost use Rattle.log_model.specs.Area.{LogIs, LogBreaks};
 ghost use Rattle.gate_log.specs.Faults.{IsNoShape, IsShapeIn};
 ghost use Rattle.store_commands.specs.Spoken.{spoken};
-ghost use Rattle.store_model.specs.Entries.{Entry};
+ghost use Rattle.entry_model.specs.Entries.{Entry};
 ghost use Rattle.store_model.specs.Replies.{text_of, DamagedLog};
 ghost use Rattle.surf_run.specs.Causes.{IsServing, NoFall, StatusCause, DiskFailed, SayFailed};
 ghost use Rattle.surf_run.specs.Crash.{Stands};

@@ -2,9 +2,9 @@
 ghost use Rattle.std.specs.Prelude.{◌≡◌, ◌≤◌, ◌+◌, ◌++◌, [], ◌∷◌, List, length, OnOk, OnErr, IfOk, IfErr, IsTrue};
 ghost use Rattle.std.specs.Option.{option_map};
 ghost use Rattle.disk_trait.specs.World.{Leads, WriteMoves};
-ghost use Rattle.gate_log.specs.Area.{LogIs, WithOrWithout};
-ghost use Rattle.gate_log.specs.Kinds.{KeepsRules, entry_of};
-ghost use Rattle.store_model.specs.Entries.{Entry, need, gap, live, newest};
+ghost use Rattle.log_model.specs.Area.{LogIs, WithOrWithout};
+ghost use Rattle.gate_log.specs.Kinds.{KeepsRules, entry_of_kind};
+ghost use Rattle.entry_model.specs.Entries.{Entry, need, gap, live, newest};
 ghost use Rattle.surf_run.specs.Refusals.{RefusedFor, WriteCause, UnlessDevice};
 ghost use Rattle.surf_run.specs.Holds.{Holds};
 
@@ -21,7 +21,7 @@ fn prepared(
     key: &[u8],
     value: &[u8],
 ) -> Result<Prepared, AllocError>
-    ensures entry { IfOk result (λ p. p ≡ entry_of kind key.now value.now) }
+    ensures entry { IfOk result (λ p. p ≡ entry_of_kind kind key.now value.now) }
     ensures spare { OnOk result (1 ≤ table.new.spare) }
     ensures kept { table.new.entries ≡ table.old.entries }
 {
@@ -42,13 +42,13 @@ impl Store {
         value: &[u8],
     ) -> Result<(), WriteError>
         requires { KeepsRules kind key.now value.now }
-        ensures done { (entries : List Entry) → Holds entries self.old → OnOk result (Holds (entries ++ entry_of kind key.now value.now ∷ []) self.new) }
+        ensures done { (entries : List Entry) → Holds entries self.old → OnOk result (Holds (entries ++ entry_of_kind kind key.now value.now ∷ []) self.new) }
         ensures unchanged { (entries : List Entry) → Holds entries self.old → OnErr result (Holds entries self.new) }
-        ensures fits { (entries : List Entry) → Holds entries self.old → OnOk result (need (entry_of kind key.now value.now) ≤ gap entries) }
-        ensures refused { (entries : List Entry) → Holds entries self.old → IfErr result (RefusedFor entries (entry_of kind key.now value.now)) }
+        ensures fits { (entries : List Entry) → Holds entries self.old → OnOk result (need (entry_of_kind kind key.now value.now) ≤ gap entries) }
+        ensures refused { (entries : List Entry) → Holds entries self.old → IfErr result (RefusedFor entries (entry_of_kind kind key.now value.now)) }
         ensures cause { IfErr result (WriteCause (D.world disk.old) (D.world disk.new)) }
         ensures crash { (entries : List Entry) → IsTrue D.tells → Holds entries self.old
-            → Leads (LogIs 0 entries) (WithOrWithout 0 entries (entry_of kind key.now value.now)) (LogIs 0 (entries ++ entry_of kind key.now value.now ∷ []))
+            → Leads (LogIs 0 entries) (WithOrWithout 0 entries (entry_of_kind kind key.now value.now)) (LogIs 0 (entries ++ entry_of_kind kind key.now value.now ∷ []))
             result (D.world disk.old) (D.world disk.new) }
         ensures untouched { IfErr result (UnlessDevice (disk.new ≡ disk.old)) }
         ensures moves { WriteMoves 262144 262144 (D.world disk.old) (D.world disk.new) }

@@ -1,24 +1,22 @@
 //! `surfstore PATH WORDS`: a store on the device file at PATH, over standard input and output.
 #![tactic(auto)]
 
+use outside::say_all;
 use real_outside::FileOutside;
 use std::env;
+use std::io::{self, ErrorKind};
 use std::process::ExitCode;
 use surf_run::run;
 
-// Words that are no text are answered as wrong words, and want of memory for them as want of memory.
-const WRONG_WORDS: u8 = 2;
+const OUTPUT_FAILED: u8 = 6;
 
 const NO_MEMORY: u8 = 7;
 
 // The first word is the path, an empty one where there is no word; the others go to the top call.
 fn main(rt: HostRuntime) -> ExitCode {
     let alloc = rt.alloc();
-    let Ok(args) = env::args(&rt) else {
-        return ExitCode::from(WRONG_WORDS);
-    };
-    let Ok(words) = args.skip(1).collect::<Vec<String>>(alloc) else {
-        return ExitCode::from(NO_MEMORY);
+    let Ok(words) = words_of(&rt) else {
+        return ExitCode::from(say_no_memory(rt));
     };
     let mut words = words;
     let path = if words.is_empty() {
@@ -28,4 +26,23 @@ fn main(rt: HostRuntime) -> ExitCode {
     };
     let mut out = FileOutside::at(rt, path);
     ExitCode::from(run(alloc, words.as_slice(), &mut out))
+}
+
+// The words behind the program's name, or an error where there is no memory for them. Words that are no text are answered
+// like no words at all, which are wrong too.
+fn words_of(rt: &HostRuntime) -> io::Result<Vec<String>> {
+    match env::args(rt) {
+        Ok(args) => Ok(args.skip(1).collect(rt.alloc())?),
+        Err(error) if error.kind() == ErrorKind::InvalidData => Ok(Vec::new(rt.alloc())),
+        Err(error) => Err(error),
+    }
+}
+
+// Ends a run whose words found no memory as one whose store found none. No device is opened.
+fn say_no_memory(rt: HostRuntime) -> u8 {
+    let mut out = FileOutside::at(rt, String::new(rt.alloc()));
+    match say_all(&mut out, b"memory\n") {
+        Ok(()) => NO_MEMORY,
+        Err(_) => OUTPUT_FAILED,
+    }
 }

@@ -10,8 +10,7 @@ use Rattle.std.proofs.lemmas.List.Folds.{length-flat_map-take}
 use Rattle.std.proofs.lemmas.Bool.{cases_eq}
 use Rattle.filter_model.specs.Leaves.{Leaf}
 use Rattle.filter_model.specs.Trie.{is_node, is_reached, branches, nodes, places, letters, height, slots}
-use Rattle.filter_model.specs.Nodes.{Branch, all, first_place, at, children_before, leaves_before}
-use Rattle.filter_model.specs.Nodes.{node_of, trie_of, last_letter}
+use Rattle.filter_model.specs.Nodes.{Branch, all, first_place, at, children_before, leaves_before, node_of, trie_of, last_letter}
 use Rattle.trie_laws.proofs.Lists.{kept_at, kept_within}
 use Rattle.trie_laws.proofs.NodeLists.{nodes_is}
 

@@ -3,7 +3,7 @@ use Rattle.std.specs.Prelude.{flat_map, map, vec_items}
 use Rattle.std.specs.List.{AllByRecursion}
 use Rattle.std.proofs.lemmas.List.{length-map}
 use Rattle.byte_fields.specs.Fields.{fields}
-use Rattle.store_model.specs.Entries.{Entry}
+use Rattle.entry_model.specs.Entries.{Entry}
 use Rattle.block_model.specs.Block.{AreEntries}
 use Rattle.block_model.specs.Index.{index_head_widths, index_magic, index_row_bytes, index_row_of}
 use Rattle.block_model.proofs.LastBlocks.{all_done, cut_sound, index_head_is, index_is}

@@ -1,7 +1,7 @@
 use Rattle.std.proofs.Common.{◌≡◌, ◌++◌, List, drop}
 use Rattle.std.specs.Prelude.{flat_map, map, vec_items}
 use Rattle.std.specs.List.{AllByRecursion}
-use Rattle.store_model.specs.Entries.{Entry}
+use Rattle.entry_model.specs.Entries.{Entry}
 use Rattle.block_model.specs.Block.{AreEntries}
 use Rattle.block_model.specs.Index.{index_row_bytes, index_row_of}
 use Rattle.block_model.proofs.bytes.index_bytes.Given as goal

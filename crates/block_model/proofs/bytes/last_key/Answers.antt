@@ -1,5 +1,5 @@
 use Rattle.std.proofs.Common.{length, ap, sym, ◌∙◌}
-use Rattle.store_model.specs.Entries.{Entry}
+use Rattle.entry_model.specs.Entries.{Entry}
 use Rattle.block_model.proofs.LastBlocks.{last_key_at, positive}
 use Rattle.block_model.proofs.bytes.last_key.Goals as goal
 

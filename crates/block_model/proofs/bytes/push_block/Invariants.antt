@@ -1,6 +1,6 @@
 use Rattle.std.proofs.Common.{◌≡◌, ◌++◌, drop}
 use Rattle.std.specs.Prelude.{flat_map}
-use Rattle.store_model.specs.Entries.{body}
+use Rattle.entry_model.specs.Entries.{body}
 use Rattle.block_model.proofs.bytes.push_block.Given as goal
 
 -- what is written and the entries that are left make all entries

@@ -1,7 +1,7 @@
 use Rattle.std.proofs.Common.{length, refl, ap, ◌∙◌, arith}
 use Rattle.std.specs.Prelude.{map, sum_by, vec_items}
 use Rattle.std.proofs.lemmas.List.{at_drop_all}
-use Rattle.store_model.specs.SortedMap.{Bytes}
+use Rattle.map_model.specs.SortedMap.{Bytes}
 use Rattle.block_model.specs.Pages.{index_length}
 use Rattle.block_model.proofs.Bounds.{index_bound, row_length}
 use Rattle.block_model.proofs.counts.index_length.Goals as goal

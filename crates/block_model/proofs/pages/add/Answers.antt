@@ -1,7 +1,7 @@
 use Rattle.std.proofs.Common.{◌-◌, ◌++◌, [], ◌∷◌, ℕ, List, length, get_or, ap, sym, ◌∙◌}
 use Rattle.std.specs.Prelude.{map, vec_items}
 use Rattle.std.proofs.lemmas.Result.{on_ok_weaker}
-use Rattle.store_model.specs.Entries.{Entry}
+use Rattle.entry_model.specs.Entries.{Entry}
 use Rattle.block_model.specs.Pages.{last_has_room}
 use Rattle.block_model.proofs.LastBlocks.{seen_added, seen_begun}
 use Rattle.block_model.proofs.pages.add.Goals as goal

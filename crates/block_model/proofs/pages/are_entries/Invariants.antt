@@ -1,6 +1,6 @@
 use Rattle.std.proofs.Common.{take}
 use Rattle.std.specs.List.{AllByRecursion}
-use Rattle.block_model.specs.Block.{IsEntry}
+use Rattle.entry_model.specs.Entries.{IsEntry}
 use Rattle.block_model.proofs.pages.are_entries.Given as goal
 
 -- the entries so far are

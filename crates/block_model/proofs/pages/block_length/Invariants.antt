@@ -1,6 +1,6 @@
 use Rattle.std.proofs.Common.{◌≡◌, ◌+◌, length, drop}
 use Rattle.std.specs.Prelude.{flat_map}
-use Rattle.store_model.specs.Entries.{body}
+use Rattle.entry_model.specs.Entries.{body}
 use Rattle.block_model.proofs.pages.block_length.Given as goal
 
 -- what was added and the entries that are left make the length

@@ -1,7 +1,7 @@
 use Rattle.std.proofs.Common.{rules, List, ap, sym, subst, ◌∙◌}
 use Rattle.std.specs.Prelude.{map, vec_items}
 use Rattle.std.specs.List.{AllByRecursion}
-use Rattle.store_model.specs.Entries.{Entry}
+use Rattle.entry_model.specs.Entries.{Entry}
 use Rattle.block_model.specs.Block.{AreEntries}
 use Rattle.block_model.specs.Pages.{blocks_with}
 use Rattle.block_model.proofs.LastBlocks.{no_blocks, so_far_more, so_far_sound}

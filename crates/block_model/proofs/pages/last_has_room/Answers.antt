@@ -1,6 +1,6 @@
 use Rattle.std.proofs.Common.{List, length, ap, subst, sym, ◌∙◌}
 use Rattle.std.specs.Prelude.{vec_items}
-use Rattle.store_model.specs.Entries.{Entry}
+use Rattle.entry_model.specs.Entries.{Entry}
 use Rattle.block_model.specs.Block.{AreEntries}
 use Rattle.block_model.specs.Pages.{has_room}
 use Rattle.block_model.proofs.LastBlocks.{positive, seen_last, seen_sound}

@@ -1,6 +1,6 @@
 use Rattle.std.proofs.Common.{◌≡◌, drop}
 use Rattle.std.specs.Option.{option_map}
-use Rattle.store_model.specs.Entries.{newest, or_else}
+use Rattle.entry_model.specs.Entries.{newest, or_else}
 use Rattle.entry_list.proofs.list.newest_of.Given as goal
 
 -- what later entries do not say, the one that was found says

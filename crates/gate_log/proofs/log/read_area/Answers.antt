@@ -2,8 +2,8 @@ use Rattle.std.proofs.Common.{◌≡◌, ◌∙◌, sym, ap, length, drop}
 use Rattle.std.proofs.lemmas.List.{take_at}
 use Rattle.disk_trait.specs.Image.{window}
 use Rattle.disk_trait.proofs.Images.{window_size}
-use Rattle.gate_log.specs.Area.{start_of, area_size, area_in}
-use Rattle.gate_log.proofs.Logs.{size_is}
+use Rattle.log_model.specs.Area.{start_of, area_size, area_in}
+use Rattle.log_model.proofs.Logs.{size_is}
 use Rattle.gate_log.proofs.log.read_area.Goals as goal
 
 pub returns-clause-bytes : goal.returns-clause-bytes

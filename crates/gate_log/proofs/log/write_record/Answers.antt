@@ -1,9 +1,11 @@
-use Rattle.std.proofs.Common.{[], ◌∷◌, ◌++◌, ◌+◌, inl}
+use Rattle.std.proofs.Common.{[], ◌∷◌, ◌++◌, ◌+◌, inl, ap, ◌∙◌}
 use Rattle.std.specs.Prelude.{Ok, Err}
 use Rattle.disk_trait.specs.declared.fault.DiskFault.{DiskFault}
-use Rattle.disk_trait.proofs.Calls.{through, leads_then, leads_stop}
-use Rattle.gate_log.specs.Area.{LogIs, WithOrWithout}
-use Rattle.gate_log.proofs.Appended.{Staged, stays, staged, without, opening, opened}
+use Rattle.disk_trait.specs.Image.{Image, overwritten}
+use Rattle.disk_trait.proofs.Calls.{through, leads_then, leads_stop, on_ok_one}
+use Rattle.disk_trait.proofs.Images.{written_in_front}
+use Rattle.log_model.specs.Area.{LogIs, WithOrWithout}
+use Rattle.log_model.proofs.Appended.{Staged, stays, staged, without, opening, opened}
 use Rattle.gate_log.proofs.log.write_record.Goals as goal
 
 pub returns-in_err-write_through-clause-crash : goal.returns-in_err-write_through-clause-crash
@@ -24,3 +26,10 @@ returns-clause-crash g c area entries entry tells next =
     (through (Staged area entries entry) (WithOrWithout area entries entry) (LogIs area (entries ++ entry ∷ [])) gate (1 ∷ []) c.write_through-2.result _ _
     (g.met.D.Disk.current _ tells) c.write_through-2.ensures.moves (c.write_through-2.ensures.written tells) c.write_through-2.ensures.durable
     (without area entries entry bytes next.bytes_are gate next.here) (opening area entries entry bytes next.bytes_are gate next.here next.sound next.room) (opened area entries entry bytes next.bytes_are gate next.here next.sound next.room))
+
+pub returns-clause-held : goal.returns-clause-held
+returns-clause-held g c tells =
+    let gate = c.args.gate in let bytes = c.args.bytes.now in
+    on_ok_one _ _ c.write_through-2.result
+    (λ last. last ∙ ap (λ (f : Image). overwritten f gate (1 ∷ [])) (c.in_ok-write_through.ensures.written tells) ∙ written_in_front _ gate 1 bytes)
+    (c.write_through-2.ensures.written tells)

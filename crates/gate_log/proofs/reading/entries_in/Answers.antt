@@ -2,11 +2,12 @@ use Rattle.std.proofs.Common.{◌≡◌, ◌+◌, ℕ, List, [], ◌∷◌, ◌+
 use Rattle.std.proofs.lemmas.List.{take_rest}
 use Rattle.std.specs.Prelude.{Some, None, get_or}
 use Rattle.byte_fields.specs.Spelling.{IsBytes}
-use Rattle.store_model.specs.Entries.{Entry, filled}
-use Rattle.gate_log.specs.Records.{BeginsWith, broken_rule, entry_in, body_length_in}
-use Rattle.gate_log.proofs.Ends.{one_list, not_both}
-use Rattle.gate_log.proofs.Logs.{none_filled}
-use Rattle.gate_log.proofs.Walks.{begins_with_none, begins_next, filled_next}
+use Rattle.entry_model.specs.Entries.{Entry, filled}
+use Rattle.log_model.specs.Records.{BeginsWith, broken_rule}
+use Rattle.entry_model.specs.Reading.{entry_in, width_in}
+use Rattle.log_model.proofs.Ends.{one_list, not_both}
+use Rattle.log_model.proofs.Logs.{none_filled}
+use Rattle.log_model.proofs.Walks.{begins_with_none, begins_next, filled_next}
 use Rattle.gate_log.proofs.reading.entries_in.Goals as goal
 
 pub loop-at-init : goal.loop-at-init
@@ -23,7 +24,7 @@ loop-at-preserved c =
     let rest = take_rest bytes (at + 1) in
     let whole : broken_rule (drop (at + 1) bytes) ≡ None = ap broken_rule (sym rest) ∙ c.in-Ok.ensures.whole in
     let entry : c.in_ok-entry.entry ≡ entry_in (drop (at + 1) bytes) = c.in_ok-entry.ensures ∙ c.in-Ok.ensures.entry ∙ ap entry_in rest in
-    let size : c.in-Ok.body.length ≡ body_length_in (drop (at + 1) bytes) = c.in-Ok.ensures.size ∙ ap body_length_in rest in
+    let size : c.in-Ok.body.length ≡ width_in (drop (at + 1) bytes) = c.in-Ok.ensures.size ∙ ap width_in rest in
     let items : c.push.new.self.items ≡ entries ++ entry_in (drop (at + 1) bytes) ∷ [] = c.in_ok-push.ensures.items ∙ ap (λ (e : Entry). entries ++ e ∷ []) entry in
     let is_bytes : IsBytes bytes = λ i. (c.type_inv.bytes i).fits in
     record {

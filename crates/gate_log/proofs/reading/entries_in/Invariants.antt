@@ -1,6 +1,6 @@
 use Rattle.std.proofs.Common.{◌≡◌, ◌-◌, length}
-use Rattle.store_model.specs.Entries.{filled}
-use Rattle.gate_log.specs.Records.{BeginsWith}
+use Rattle.entry_model.specs.Entries.{filled}
+use Rattle.log_model.specs.Records.{BeginsWith}
 use Rattle.gate_log.proofs.reading.entries_in.Given as goal
 
 abbrev pub invariant-loop-at : goal.invariant-loop-at

@@ -1,5 +1,5 @@
 use Rattle.std.proofs.Common.{◌≡◌, drop}
-use Rattle.mem_table.specs.Table.{lookup}
+use Rattle.entry_model.specs.Newest.{lookup}
 use Rattle.state_model.specs.Bounds.{unless_found}
 use Rattle.plain_store.proofs.bounds.unless_found.Given as goal
 

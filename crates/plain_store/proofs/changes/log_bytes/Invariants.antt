@@ -1,5 +1,5 @@
 use Rattle.std.proofs.Common.{◌≡◌, ◌+◌, drop}
-use Rattle.store_model.specs.Entries.{filled}
+use Rattle.entry_model.specs.Entries.{filled}
 use Rattle.plain_store.proofs.changes.log_bytes.Given as goal
 
 -- the bytes so far and those that are left

@@ -1,5 +1,5 @@
 use Rattle.std.proofs.Common.{◌≡◌, ◌++◌, drop}
-use Rattle.state_model.specs.Pages.{keys_of}
+use Rattle.entry_model.specs.Entries.{keys_of}
 use Rattle.plain_store.proofs.filters.keys_of.Given as goal
 
 -- those so far and those that are left

@@ -1,5 +1,5 @@
 use Rattle.std.proofs.Common.{◌≡◌, drop}
-use Rattle.mem_table.specs.Table.{lookup}
+use Rattle.entry_model.specs.Newest.{lookup}
 use Rattle.plain_store.proofs.finding.lookup.Given as goal
 
 -- no entry so far has the key

@@ -1,5 +1,5 @@
 use Rattle.std.proofs.Common.{◌≡◌, ◌++◌, nat_le, filter, drop}
-use Rattle.state_model.specs.Gaps.{room_at}
+use Rattle.extent_model.specs.Gaps.{room_at}
 use Rattle.plain_store.proofs.gaps.first_gap.Given as goal
 
 -- those so far and those among what is left

@@ -1,5 +1,6 @@
 use Rattle.std.proofs.Common.{◌≡◌, ◌++◌, map, drop}
-use Rattle.state_model.specs.Gaps.{end_of, gap_starts}
+use Rattle.extent_model.specs.Extents.{end_of}
+use Rattle.extent_model.specs.Gaps.{gap_starts}
 use Rattle.plain_store.proofs.gaps.gap_starts.Given as goal
 
 -- the starts so far and the ends that are left make all starts

@@ -1,5 +1,5 @@
 use Rattle.std.proofs.Common.{◌≡◌, ◌++◌, map, drop}
-use Rattle.state_model.specs.Gaps.{extent_of}
+use Rattle.state_model.specs.Taken.{extent_of}
 use Rattle.plain_store.proofs.lists.extents.Given as goal
 
 -- those so far and those that are left

@@ -1,5 +1,5 @@
 use Rattle.std.proofs.Common.{◌≡◌, fold, drop}
-use Rattle.mem_table.specs.Table.{with_entry, newest_entries}
+use Rattle.entry_model.specs.Newest.{with_entry, newest_entries}
 use Rattle.plain_store.proofs.view.newest_entries.Given as goal
 
 -- what is left goes into the entries so far

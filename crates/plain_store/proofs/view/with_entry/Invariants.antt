@@ -1,5 +1,5 @@
 use Rattle.std.proofs.Common.{◌≡◌, ◌++◌, drop}
-use Rattle.mem_table.specs.Table.{with_entry}
+use Rattle.entry_model.specs.Newest.{with_entry}
 use Rattle.plain_store.proofs.view.with_entry.Given as goal
 
 -- the new one belongs behind the entries so far

@@ -1,5 +1,5 @@
 use Rattle.std.proofs.Common.{[]}
-use Rattle.store_model.proofs.Maps.{entries_rise}
+use Rattle.entry_model.proofs.Maps.{entries_rise}
 use Rattle.state_model.specs.View.{entries_of}
 use Rattle.state_model.proofs.Views.{view_says}
 use Rattle.state_model.proofs.laws.view_laws.Goals as goal

@@ -5,7 +5,7 @@ use Rattle.state_model.proofs.playing.play_laws.Goals as goal
 
 pub returns : goal.returns
 returns c = record {
-  slice = λ spells s none. (merged_is_a_slice Never spells s none).0;
+  slice = λ filter_bytes s none. (merged_is_a_slice Never filter_bytes s none).0;
   no_job = no_job_behind;
-  script = λ spells s said lines none. lines_played Never spells s said lines none;
+  script = λ filter_bytes s said lines none. lines_played Never filter_bytes s said lines none;
 }

@@ -1,6 +1,6 @@
 use Rattle.std.proofs.Common.{◌≡◌, ◌≤◌, ◌++◌, ℕ, length}
 use Rattle.hex.specs.Hex.{encode_lower}
-use Rattle.store_model.specs.SortedMap.{Bytes}
+use Rattle.map_model.specs.SortedMap.{Bytes}
 use Rattle.store_commands.specs.Spoken.{Shows}
 use Rattle.store_commands.proofs.reply.add_hex.Given as goal
 

@@ -2,9 +2,9 @@ use Rattle.std.proofs.Common.{◌≡◌, ◌≤◌, ◌++◌, ◌∷◌, [], inl
 use Rattle.std.specs.Prelude.{IsTrue}
 use Rattle.disk_trait.specs.World.{Image}
 use Rattle.disk_trait.proofs.Moments.{now_at}
-use Rattle.gate_log.specs.Area.{LogIs, WithOrWithout}
-use Rattle.gate_log.specs.Kinds.{entry_of}
-use Rattle.store_model.specs.Entries.{need, gap}
+use Rattle.log_model.specs.Area.{LogIs, WithOrWithout}
+use Rattle.gate_log.specs.Kinds.{entry_of_kind}
+use Rattle.entry_model.specs.Entries.{need, gap}
 use Rattle.store_model.specs.Replies.{Done, Memory, Full, Device}
 use Rattle.store_model.specs.Script.{Write, done, memory, failed_before, failed_after}
 use Rattle.surf_run.specs.Refusals.{RefusedFor, UnlessDevice}
@@ -15,7 +15,7 @@ use Rattle.surf_run.proofs.line.write_line.Goals as goal
 
 pub returns-in-Ok-clause-answered : goal.returns-in-Ok-clause-answered
 returns-in-Ok-clause-answered g c entries output holds now =
-    let entry = entry_of c.args.kind c.args.key.now c.args.value.now in
+    let entry = entry_of_kind c.args.kind c.args.key.now c.args.value.now in
     let S = Write entries entry in
     let then = entries ++ entry ∷ [] in
     let a = g.W.Disk.world c.args.out.now in let mid = g.W.Disk.world c.write.new.disk in let b = g.W.Disk.world c.say_reply.new.out in
@@ -30,7 +30,7 @@ returns-in-Ok-clause-answered g c entries output holds now =
 
 pub returns-in-Memory-clause-answered : goal.returns-in-Memory-clause-answered
 returns-in-Memory-clause-answered g c entries output holds now =
-    let entry = entry_of c.args.kind c.args.key.now c.args.value.now in
+    let entry = entry_of_kind c.args.kind c.args.key.now c.args.value.now in
     let S = Write entries entry in
     let a = g.W.Disk.world c.args.out.now in let mid = g.W.Disk.world c.write.new.disk in let b = g.W.Disk.world c.say_reply-in-Memory.new.out in
     let same : c.write.new.disk ≡ c.args.out.now = subst (UnlessDevice (c.write.new.disk ≡ c.args.out.now)) c.in-Memory.is c.in-Err.ensures.untouched in
@@ -45,7 +45,7 @@ returns-in-Memory-clause-answered g c entries output holds now =
 
 pub returns-in-Full-clause-answered : goal.returns-in-Full-clause-answered
 returns-in-Full-clause-answered g c entries output holds now =
-    let entry = entry_of c.args.kind c.args.key.now c.args.value.now in
+    let entry = entry_of_kind c.args.kind c.args.key.now c.args.value.now in
     let S = Write entries entry in
     let a = g.W.Disk.world c.args.out.now in let mid = g.W.Disk.world c.write.new.disk in let b = g.W.Disk.world c.say_reply-in-Full.new.out in
     let same : c.write.new.disk ≡ c.args.out.now = subst (UnlessDevice (c.write.new.disk ≡ c.args.out.now)) c.in-Full.is c.in-Err.ensures.untouched in
@@ -61,7 +61,7 @@ returns-in-Full-clause-answered g c entries output holds now =
 
 pub returns-in-Device-clause-answered : goal.returns-in-Device-clause-answered
 returns-in-Device-clause-answered g c entries output holds now =
-    let entry = entry_of c.args.kind c.args.key.now c.args.value.now in
+    let entry = entry_of_kind c.args.kind c.args.key.now c.args.value.now in
     let S = Write entries entry in
     let a = g.W.Disk.world c.args.out.now in let mid = g.W.Disk.world c.write.new.disk in let b = g.W.Disk.world c.say_reply-in-Device.new.out in
     let meanwhile = λ (t : IsTrue g.W.Disk.tells). (c.in-Err.ensures.crash entries t holds).meanwhile (now t) in

@@ -1,8 +1,8 @@
 use Rattle.std.proofs.Common.{◌≡◌, drop, ◌∙◌, ap, sym, arith, List}
 use Rattle.std.proofs.lemmas.List.{drop_all}
 use Rattle.std.specs.Prelude.{fold}
-use Rattle.mem_table.specs.Table.{with_entry}
-use Rattle.store_model.specs.Entries.{Entry}
+use Rattle.entry_model.specs.Newest.{with_entry}
+use Rattle.entry_model.specs.Entries.{Entry}
 use Rattle.surf_run.proofs.Filling.{set_next, copied}
 use Rattle.surf_run.proofs.opening.fill.Goals as goal
 

@@ -1,6 +1,6 @@
 use Rattle.std.proofs.Common.{◌≡◌, drop}
 use Rattle.std.specs.Prelude.{fold}
-use Rattle.mem_table.specs.Table.{with_entry, newest_entries}
+use Rattle.entry_model.specs.Newest.{with_entry, newest_entries}
 use Rattle.surf_run.proofs.opening.fill.Given as goal
 
 -- what the entries that are left still change

@@ -2,8 +2,8 @@ use Rattle.std.proofs.Common.{◌∙◌, subst, sym, arith, ap}
 use Rattle.disk_trait.proofs.Moments.{same_then}
 use Rattle.disk_trait.proofs.Calls.{reads_keep}
 use Rattle.disk_trait.specs.World.{Streams}
-use Rattle.gate_log.specs.Area.{LogIs, Position}
-use Rattle.mem_table.specs.Table.{newest_entries}
+use Rattle.log_model.specs.Area.{LogIs, Position}
+use Rattle.entry_model.specs.Newest.{newest_entries}
 use Rattle.surf_run.proofs.opening.open_store.Goals as goal
 
 pub returns-clause-opens : goal.returns-clause-opens

@@ -1,6 +1,6 @@
 use Rattle.std.proofs.Common.{◌≡◌, ◌++◌, List, ℕ, length}
 use Rattle.std.specs.Prelude.{IsTrue}
-use Rattle.store_model.specs.Entries.{Entry}
+use Rattle.entry_model.specs.Entries.{Entry}
 use Rattle.surf_run.specs.Causes.{TakesNothing}
 use Rattle.surf_run.specs.Serving.{Served}
 use Rattle.surf_run.proofs.serve.feed.Given as goal

@@ -1,7 +1,7 @@
 use Rattle.std.proofs.Common.{◌≡◌, ◌+◌, ◌^◌, ◌++◌, List, ℕ, length}
 use Rattle.std.specs.Prelude.{IsTrue}
 use Rattle.surf_run.specs.Crash.{Stands}
-use Rattle.store_model.specs.Entries.{Entry}
+use Rattle.entry_model.specs.Entries.{Entry}
 use Rattle.surf_run.specs.Holds.{Holds}
 use Rattle.surf_run.specs.Causes.{NoFall}
 use Rattle.surf_run.specs.Serving.{Served}

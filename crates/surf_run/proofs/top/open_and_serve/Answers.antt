@@ -1,6 +1,6 @@
 use Rattle.std.proofs.Common.{inl, inr, subst, sym, ◌∙◌}
 use Rattle.disk_trait.specs.World.{Image}
-use Rattle.gate_log.proofs.Ends.{not_both}
+use Rattle.log_model.proofs.Ends.{not_both}
 use Rattle.store_model.specs.Replies.{text_of}
 use Rattle.surf_run.specs.Open.{reply_to, status_of}
 use Rattle.surf_run.specs.Run.{IsLastText}

@@ -1,6 +1,6 @@
 use Rattle.std.proofs.Common.{◌≡◌, inl, inr, refl, subst, List}
-use Rattle.gate_log.proofs.Ends.{one_list}
-use Rattle.store_model.specs.Entries.{Entry}
+use Rattle.log_model.proofs.Ends.{one_list}
+use Rattle.entry_model.specs.Entries.{Entry}
 use Rattle.surf_run.specs.Outcome.{Outcome}
 use Rattle.surf_run.proofs.Lifting.{ends_since}
 use Rattle.surf_run.proofs.LastLines.{unserved, completed, not_two}

@@ -1,4 +1,4 @@
-use Rattle.std.proofs.Common.{◌≡◌, ◌<◌, ◌≤◌, ◌^◌, ◌+◌, ◌*◌, ◌%◌, length, get_or, ◌∙◌, arith}
+use Rattle.std.proofs.Common.{◌≡◌, ◌<◌, ◌≤◌, ◌^◌, ◌+◌, ◌*◌, ◌%◌, length, get_or, refl, ◌∙◌, arith}
 use Rattle.std.specs.Int.RustNames.{count_ones}
 use Rattle.std.proofs.lemmas.Nat.{ones-le}
 use Rattle.std.proofs.lemmas.List.{length_push}
@@ -6,6 +6,7 @@ use Rattle.std.proofs.lemmas.List.Sums.{sum_by-take-le}
 use Rattle.bit_words.specs.Counts.{rank_of}
 use Rattle.bit_words.proofs.Counting.{rank-le, ones_in_words}
 use Rattle.bit_select.proofs.Sampling.{rank_more, sampled_push, sampled_pass, sampled_all}
+use Rattle.bit_select.proofs.Selecting.{placed, set-lt}
 use Rattle.bit_select.proofs.selected.Selected.new.Goals as goal
 use Rattle.bit_select.proofs.selected.Selected.new.Goals.{then-next-before, else-next-before}
 
@@ -22,6 +23,13 @@ overflow_add-before g c =
         c.words-words.ensures.limit,
       );
     }
+
+pub overflow_cast-place : goal.overflow_cast-place
+overflow_cast-place g c =
+    let bits = c.args.bits in
+    let words = c.words-words.result.now in
+    let one = placed bits words _ c.loop-i.i c.nth_one_in.result c.words-words.ensures.value c.nth_one_in.ensures.place c.nth_one_in.ensures.is_set refl in
+    record { fits = omega (arith, set-lt bits (64 * c.loop-i.i + c.nth_one_in.result) one.is_set, c.if-len-gt-MAX_BITS.false, c.len.ensures) }
 
 pub push_reserved-requires : goal.push_reserved-requires
 push_reserved-requires g c =

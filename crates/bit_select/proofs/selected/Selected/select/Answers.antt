@@ -8,9 +8,9 @@ pub slice_bounds-words-count : goal.slice_bounds-words-count
 slice_bounds-words-count g c =
     let bits = c.self.inside.bits in
     let below : c.args.n / 64 < length c.self.inside.samples.items = omega (arith, c.len.ensures, c.self.inside.samples.ok.0) in
-    let sample = c.index-sample.result.now in
+    let sample = c.index.result.now in
     let words = c.words.result.now in
-    let place = sampled bits (length bits) c.self.inside.samples.items (c.args.n / 64) sample c.self.invariant below c.index-sample.ensures in
+    let place = sampled bits (length bits) c.self.inside.samples.items (c.args.n / 64) sample c.self.invariant below c.index.ensures in
     let begin = start bits words c.args.n sample _ c.words.ensures.value place refl in
     omega (arith, begin.there)
 
@@ -18,9 +18,9 @@ pub slice_bounds-words-start : goal.slice_bounds-words-start
 slice_bounds-words-start g c =
     let bits = c.self.inside.bits in
     let below : c.args.n / 64 < length c.self.inside.samples.items = omega (arith, c.len.ensures, c.self.inside.samples.ok.0) in
-    let sample = c.index-sample.result.now in
+    let sample = c.index.result.now in
     let words = c.words.result.now in
-    let place = sampled bits (length bits) c.self.inside.samples.items (c.args.n / 64) sample c.self.invariant below c.index-sample.ensures in
+    let place = sampled bits (length bits) c.self.inside.samples.items (c.args.n / 64) sample c.self.invariant below c.index.ensures in
     let begin = start bits words c.args.n sample _ c.words.ensures.value place refl in
     let there = begin.there in
     search rules
@@ -29,9 +29,9 @@ pub bounds-words-0 : goal.bounds-words-0
 bounds-words-0 g c =
     let bits = c.self.inside.bits in
     let below : c.args.n / 64 < length c.self.inside.samples.items = omega (arith, c.len.ensures, c.self.inside.samples.ok.0) in
-    let sample = c.index-sample.result.now in
+    let sample = c.index.result.now in
     let words = c.words.result.now in
-    let place = sampled bits (length bits) c.self.inside.samples.items (c.args.n / 64) sample c.self.invariant below c.index-sample.ensures in
+    let place = sampled bits (length bits) c.self.inside.samples.items (c.args.n / 64) sample c.self.invariant below c.index.ensures in
     let begin = start bits words c.args.n sample _ c.words.ensures.value place refl in
     let there : 0 < length words - sample / 64 = omega (arith, begin.there) in
     search rules
@@ -40,9 +40,9 @@ pub returns-in_err-word : goal.returns-in_err-word
 returns-in_err-word g c =
     let bits = c.self.inside.bits in
     let below : c.args.n / 64 < length c.self.inside.samples.items = omega (arith, c.len.ensures, c.self.inside.samples.ok.0) in
-    let sample = c.index-sample.result.now in
+    let sample = c.index.result.now in
     let words = c.words.result.now in
-    let place = sampled bits (length bits) c.self.inside.samples.items (c.args.n / 64) sample c.self.invariant below c.index-sample.ensures in
+    let place = sampled bits (length bits) c.self.inside.samples.items (c.args.n / 64) sample c.self.invariant below c.index.ensures in
     let rest = take_rest words (sample / 64) in
     let first = c.ones_below.ensures ∙ ap (λ (ns : List ℕ). count_ones (get_or ns 0 0 % 2 ^ (sample % 64))) rest
     ∙ ap (λ (n : ℕ). count_ones (n % 2 ^ (sample % 64))) (rest_read words (sample / 64)) in
@@ -54,9 +54,9 @@ pub returns : goal.returns
 returns g c =
     let bits = c.self.inside.bits in
     let below : c.args.n / 64 < length c.self.inside.samples.items = omega (arith, c.len.ensures, c.self.inside.samples.ok.0) in
-    let sample = c.index-sample.result.now in
+    let sample = c.index.result.now in
     let words = c.words.result.now in
-    let place = sampled bits (length bits) c.self.inside.samples.items (c.args.n / 64) sample c.self.invariant below c.index-sample.ensures in
+    let place = sampled bits (length bits) c.self.inside.samples.items (c.args.n / 64) sample c.self.invariant below c.index.ensures in
     let rest = take_rest words (sample / 64) in
     let first = c.ones_below.ensures ∙ ap (λ (ns : List ℕ). count_ones (get_or ns 0 0 % 2 ^ (sample % 64))) rest
     ∙ ap (λ (n : ℕ). count_ones (n % 2 ^ (sample % 64))) (rest_read words (sample / 64)) in

@@ -3,9 +3,9 @@ use Rattle.std.specs.Prelude.{Ok}
 use Rattle.disk_trait.specs.World.{Now, Leads}
 use Rattle.disk_trait.specs.declared.fault.DiskFault.{DiskFault}
 use Rattle.disk_trait.proofs.Calls.{moves_then, moves_wider}
-use Rattle.store_model.specs.Entries.{Entry, need}
-use Rattle.gate_log.specs.Area.{Position, LogIs, WithOrWithout, start_of}
-use Rattle.gate_log.proofs.Logs.{none_filled, take_next, filled_next_take, next_fits}
+use Rattle.entry_model.specs.Entries.{Entry, need}
+use Rattle.log_model.specs.Area.{Position, LogIs, WithOrWithout, start_of}
+use Rattle.log_model.proofs.Logs.{none_filled, take_next, filled_next_take, next_fits}
 use Rattle.gate_log.proofs.log.Log.rewrite.Goals as goal
 
 pub loop-entry-init : goal.loop-entry-init

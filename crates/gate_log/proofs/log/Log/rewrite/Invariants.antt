@@ -1,8 +1,8 @@
 use Rattle.std.proofs.Common.{◌≡◌, take}
 use Rattle.std.specs.Prelude.{IsTrue}
 use Rattle.disk_trait.specs.World.{Now, WriteMoves}
-use Rattle.store_model.specs.Entries.{filled}
-use Rattle.gate_log.specs.Area.{LogIs, start_of}
+use Rattle.entry_model.specs.Entries.{filled}
+use Rattle.log_model.specs.Area.{LogIs, start_of}
 use Rattle.gate_log.proofs.log.Log.rewrite.Given as goal
 
 abbrev pub invariant-loop-entry : goal.invariant-loop-entry

@@ -1,7 +1,7 @@
 use Rattle.std.proofs.Common.{◌≡◌, [], ◌∷◌, ◌∙◌, ap, sym, arith}
 use Rattle.disk_trait.specs.Image.{Image, overwritten}
 use Rattle.disk_trait.proofs.Images.{overwritten_at}
-use Rattle.gate_log.proofs.Appended.{empty}
+use Rattle.log_model.proofs.Appended.{empty}
 use Rattle.gate_log.proofs.log.Log.start.Goals as goal
 
 pub returns-clause-stands : goal.returns-clause-stands

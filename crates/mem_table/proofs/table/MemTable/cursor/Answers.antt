@@ -1,7 +1,8 @@
 use Rattle.std.proofs.Common.{◌≡◌, ℕ, List, ◌∙◌, sym, ap, subst, drop}
 use Rattle.std.proofs.lemmas.List.{take_rest}
-use Rattle.store_model.specs.Entries.{Entry}
-use Rattle.mem_table.specs.Table.{Table, KeysRise, entries_from}
+use Rattle.entry_model.specs.Entries.{Entry}
+use Rattle.mem_table.specs.Table.{Table}
+use Rattle.entry_model.specs.Newest.{KeysRise, entries_from}
 use Rattle.mem_table.proofs.Places.{from_found, from_gap}
 use Rattle.mem_table.proofs.table.MemTable.cursor.Goals as goal
 use Rattle.mem_table.proofs.table.MemTable.cursor.Goals.{in-Ok, in-Err}

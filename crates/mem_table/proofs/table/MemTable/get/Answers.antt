@@ -1,7 +1,7 @@
 use Rattle.std.proofs.Common.{◌≡◌, ◌∙◌, sym, ap, get_or}
 use Rattle.std.specs.Prelude.{Option, Some}
-use Rattle.store_model.specs.SortedMap.{Bytes}
-use Rattle.store_model.specs.Entries.{Entry}
+use Rattle.map_model.specs.SortedMap.{Bytes}
+use Rattle.entry_model.specs.Entries.{Entry}
 use Rattle.mem_table.specs.Table.{Table}
 use Rattle.mem_table.proofs.Places.{lookup_at, lookup_none}
 use Rattle.mem_table.proofs.table.MemTable.get.Goals as goal

@@ -1,9 +1,10 @@
 use Rattle.std.proofs.Common.{◌≡◌, List, ◌∙◌, sym, ap, subst, rules, IfOk, IfErr}
 use Rattle.std.specs.List.Sorted.{IsBinarySearchResult}
 use Rattle.std.proofs.lemmas.Fn.{always_returns_same}
-use Rattle.store_model.specs.SortedMap.{byte_order}
-use Rattle.store_model.specs.Entries.{Entry}
-use Rattle.mem_table.specs.Table.{StandsAt, BelongsAt, KeysRise, Table}
+use Rattle.map_model.specs.SortedMap.{byte_order}
+use Rattle.entry_model.specs.Entries.{Entry}
+use Rattle.mem_table.specs.Table.{StandsAt, BelongsAt, Table}
+use Rattle.entry_model.specs.Newest.{KeysRise}
 use Rattle.mem_table.proofs.Places.{searched_found, searched_missing}
 use Rattle.mem_table.proofs.table.MemTable.place_of.Goals as goal
 

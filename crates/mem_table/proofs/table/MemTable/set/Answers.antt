@@ -1,9 +1,10 @@
 use Rattle.std.proofs.Common.{List, ◌∙◌, sym, ap, subst, set, arith, rules, length-set}
 use Rattle.std.specs.Prelude.{insert}
-use Rattle.store_model.specs.SortedMap.{Bytes}
-use Rattle.store_model.specs.Entries.{Entry}
-use Rattle.mem_table.specs.Table.{Table, KeysRise, StandsAt, BelongsAt, with_entry}
-use Rattle.mem_table.proofs.Newest.{rises_with, newest_more}
+use Rattle.map_model.specs.SortedMap.{Bytes}
+use Rattle.entry_model.specs.Entries.{Entry}
+use Rattle.mem_table.specs.Table.{Table, StandsAt, BelongsAt}
+use Rattle.entry_model.specs.Newest.{KeysRise, with_entry}
+use Rattle.entry_model.proofs.Newest.{rises_with, newest_more}
 use Rattle.mem_table.proofs.Places.{set_at, insert_at}
 use Rattle.mem_table.proofs.table.MemTable.set.Goals as goal
 

@@ -1,8 +1,8 @@
 use Rattle.std.proofs.Common.{◌≡◌, not, subst, sym, ap, ◌∙◌, rules}
 use Rattle.std.specs.Prelude.{bytes_eq}
 use Rattle.std.proofs.lemmas.Fn.{filter_same}
-use Rattle.store_model.specs.SortedMap.{Bytes, Map, Rises, del}
-use Rattle.store_model.proofs.Maps.{del_rises}
+use Rattle.map_model.specs.SortedMap.{Bytes, Map, Rises, del}
+use Rattle.map_model.proofs.Maps.{del_rises}
 use Rattle.plain_map.proofs.Places.{del_filters}
 use Rattle.plain_map.proofs.map.PlainMap.del.Goals as goal
 

@@ -1,5 +1,5 @@
 use Rattle.std.proofs.Common.{◌≡◌, drop}
-use Rattle.store_model.specs.SortedMap.{get}
+use Rattle.map_model.specs.SortedMap.{get}
 use Rattle.plain_map.proofs.map.PlainMap.get.Given as goal
 
 abbrev pub invariant-loop-pair : goal.invariant-loop-pair

@@ -1,7 +1,7 @@
 use Rattle.std.proofs.Common.{subst, sym, set, ap, ◌∙◌}
 use Rattle.std.specs.Prelude.{insert}
-use Rattle.store_model.specs.SortedMap.{Bytes, Map, Rises}
-use Rattle.store_model.proofs.Maps.{put_rises}
+use Rattle.map_model.specs.SortedMap.{Bytes, Map, Rises}
+use Rattle.map_model.proofs.Maps.{put_rises}
 use Rattle.plain_map.proofs.map.PlainMap.put.Goals as goal
 
 pub invariant_of-self : goal.invariant_of-self

@@ -1,7 +1,7 @@
 use Rattle.std.proofs.Common.{◌≡◌, ◌<◌, ◌+◌, ◌++◌, ◌∷◌, [], length, subst, sym, ap, ◌∙◌, arith}
 use Rattle.std.specs.Option.{option_map}
 use Rattle.std.proofs.lemmas.List.{length_push}
-use Rattle.store_model.specs.SortedMap.{Bytes, Map, Rises}
+use Rattle.map_model.specs.SortedMap.{Bytes, Map, Rises}
 use Rattle.map_model.proofs.Between.{slice_rises}
 use Rattle.plain_map.proofs.Taking.{Takes, takes_all, takes_no_more, takes_one, passes_one}
 use Rattle.plain_map.proofs.map.PlainMap.slice.Goals as goal

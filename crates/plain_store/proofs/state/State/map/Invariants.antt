@@ -1,5 +1,5 @@
 use Rattle.std.proofs.Common.{◌≡◌, fold, drop}
-use Rattle.store_model.specs.Entries.{changed, map_of}
+use Rattle.entry_model.specs.Entries.{changed, map_of}
 use Rattle.plain_store.proofs.state.State.map.Given as goal
 
 -- what is left goes into the map so far

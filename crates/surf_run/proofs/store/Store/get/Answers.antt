@@ -1,7 +1,7 @@
 use Rattle.std.proofs.Common.{◌∙◌, ap, List}
-use Rattle.store_model.specs.Entries.{Entry, live}
-use Rattle.mem_table.specs.Table.{lookup}
-use Rattle.mem_table.proofs.Newest.{lookup_newest}
+use Rattle.entry_model.specs.Entries.{Entry, live}
+use Rattle.entry_model.specs.Newest.{lookup}
+use Rattle.entry_model.proofs.Newest.{lookup_newest}
 use Rattle.surf_run.proofs.store.Store.get.Goals as goal
 
 pub returns-in-Some : goal.returns-in-Some

@@ -1,0 +1,4 @@
+pub mod Bodies
+pub mod Maps
+pub mod Newest
+mod Rows

@@ -1,0 +1,86 @@
+-- Entries, the map that they make in the order of writing, and their bytes.
+use Rattle.std.specs.Prelude.{◌≤◌, ℕ, ◌+◌, ◌-◌, List, [], ◌∷◌, ◌++◌, length, fold, map, flat_map, Option, Some, None, if◌then◌else◌, bytes_eq}
+use Rattle.byteorder.specs.Endian.{little_bytes}
+use Rattle.byte_fields.specs.Spelling.{IsBytes}
+use Rattle.map_model.specs.SortedMap.{Bytes, Map, put, del}
+
+-- a key with its value, or without: then it is a tombstone
+pub record Entry : Type 0 where
+  pub key : Bytes
+  pub value : Option Bytes
+
+abbrev pub entry_of : Bytes → Option Bytes → Entry
+entry_of key value = record { key = key; value = value }
+
+abbrev pub put_entry : Bytes → Bytes → Entry
+put_entry key value = record { key = key; value = Some value }
+
+abbrev pub del_entry : Bytes → Entry
+del_entry key = record { key = key; value = None }
+
+abbrev pub keys_of : List Entry → List Bytes
+keys_of entries = map (λ (e : Entry). e.key) entries
+
+abbrev pub change_by : Map → Bytes → Option Bytes → Map
+change_by map key (Some value) = put map key value
+change_by map key None = del map key
+
+abbrev pub changed : Map → Entry → Map
+changed map entry = change_by map entry.key entry.value
+
+-- the map that the entries make, the first of them first
+abbrev pub map_of : List Entry → Map
+map_of entries = fold changed [] entries
+
+abbrev pub or_else : Option (Option Bytes) → Option (Option Bytes) → Option (Option Bytes)
+or_else (Some value) older = Some value
+or_else None older = older
+
+-- what the last entry of the key says, where there is one
+abbrev pub newest : List Entry → Bytes → Option (Option Bytes)
+newest [] key = None
+newest (entry ∷ later) key = or_else (newest later key) (if bytes_eq entry.key key then Some entry.value else None)
+
+-- the value, where an entry is there and is no tombstone
+abbrev pub live : Option (Option Bytes) → Option Bytes
+live None = None
+live (Some value) = value
+
+abbrev pub kind_of : Option Bytes → ℕ
+kind_of (Some value) = 1
+kind_of None = 2
+
+abbrev pub bytes_of : Option Bytes → Bytes
+bytes_of (Some value) = value
+bytes_of None = []
+
+-- a key of 1 to 1,024 bytes, and a value of at most 65,536
+pub record IsEntry (entry : Entry) : Type 0 where
+  pub some_key : 1 ≤ length entry.key
+  pub short_key : length entry.key ≤ 1024
+  pub short_value : length (bytes_of entry.value) ≤ 65536
+  pub key_bytes : IsBytes entry.key
+  pub value_bytes : IsBytes (bytes_of entry.value)
+
+-- ---- bytes
+
+-- what follows a record's gate: kind, lengths of key and value, key, value
+abbrev pub body : Entry → Bytes
+body entry =
+    kind_of entry.value ∷ (little_bytes 2 (length entry.key) ++ (little_bytes 4 (length (bytes_of entry.value)) ++ (entry.key ++ bytes_of entry.value)))
+
+-- a record is an open gate and a body
+abbrev pub record_bytes : Entry → Bytes
+record_bytes entry = 1 ∷ body entry
+
+-- the bytes of the log area before the next gate
+unfoldable pub filled : List Entry → ℕ
+filled entries = length (flat_map record_bytes entries)
+
+-- the room that a record takes with its gate and the one behind it
+abbrev pub need : Entry → ℕ
+need entry = length (body entry) + 2
+
+-- the room that is left in the log area of 262,144 bytes
+unfoldable pub gap : List Entry → ℕ
+gap entries = 262144 - filled entries

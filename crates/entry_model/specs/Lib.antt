@@ -1,0 +1,4 @@
+pub mod Entries
+pub mod Newest
+pub mod Reading
+pub mod Laws

@@ -1,0 +1,12 @@
+ghost use Rattle.entry_model.specs.Laws.{MapLaws, NewestLaws};
+
+/// Law: the map of some entries has, at each key, what the newest entry of it says, and its keys rise.
+pub fn map_laws()
+    ensures { MapLaws }
+{}
+
+/// Law: the newest entries of some, in the order of writing, are the one list with rising keys that says of each key what
+/// its last entry says, and one entry more is set in its place.
+pub fn newest_laws()
+    ensures { NewestLaws }
+{}

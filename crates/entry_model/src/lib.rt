@@ -1,0 +1,10 @@
+//! The entries of a store: a key with its value, or a tombstone.
+//!
+//! Definitions that the crates of the log, of the memory table and of the tables share: an entry and when it is sound, the
+//! map that entries make in the order of writing, the newest entry of each key, and the bytes of an entry. They stand in
+//! `specs/`; the functions here carry their laws and do nothing. A program that keeps entries takes `entry_list`.
+#![tactic(auto)]
+
+mod laws;
+
+pub use laws::{map_laws, newest_laws};

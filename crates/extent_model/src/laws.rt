@@ -1,0 +1,17 @@
+// The laws of gaps; the functions do nothing.
+ghost use Rattle.extent_model.specs.Laws.{FirstGapIsFree, NoGapLaws, OrderLaws};
+
+/// Law: the first gap is on the device, behind manifest and logs, and apart from all extents.
+pub fn first_gap_is_free()
+    ensures { FirstGapIsFree }
+{}
+
+/// Law: there is no gap for so many pages exactly where the largest has fewer.
+pub fn no_gap_laws()
+    ensures { NoGapLaws }
+{}
+
+/// Law: the first and the largest gap do not hang on the order of the extents.
+pub fn order_laws()
+    ensures { OrderLaws }
+{}

@@ -1,9 +1,0 @@
-use Rattle.gate_log.proofs.Ends.{one_list, one_fault, not_both}
-use Rattle.gate_log.proofs.Logs.{log_kept}
-use Rattle.gate_log.proofs.laws.log_laws.Goals as goal
-
-pub returns-clause-reading : goal.returns-clause-reading
-returns-clause-reading c = record { one_list = one_list; one_fault = one_fault; not_both = not_both }
-
-pub returns-clause-elsewhere : goal.returns-clause-elsewhere
-returns-clause-elsewhere c = log_kept

@@ -1,0 +1,37 @@
+-- The limits of keys, values and bounds, and how a request that breaks one is answered.
+use Rattle.std.specs.Prelude.{◌==◌, ◌||◌, nat_lt, if◌then◌else◌, length, Option, Some, None}
+use Rattle.map_model.specs.SortedMap.{Bytes}
+use Rattle.line_model.specs.Requests.{Request, Put, Del, Get, Seek, Range, Count, Estimate, Explain, Flush, Compact, Quit, Bad}
+use Rattle.line_model.specs.Replies.{Reply, LongKey, LongValue}
+
+-- a key has 1 to 1,024 bytes
+abbrev pub key_limit : Bytes → Option Reply
+key_limit key = if length key == 0 || nat_lt 1024 (length key) then Some (LongKey (length key)) else None
+
+-- a value has at most 65,536 bytes
+abbrev pub value_limit : Bytes → Option Reply
+value_limit value = if nat_lt 65536 (length value) then Some (LongValue (length value)) else None
+
+-- a bound has at most 1,024 bytes
+abbrev pub bound_limit : Bytes → Option Reply
+bound_limit bound = if nat_lt 1024 (length bound) then Some (LongKey (length bound)) else None
+
+abbrev pub first_limit : Option Reply → Option Reply → Option Reply
+first_limit (Some limit) other = Some limit
+first_limit None other = other
+
+-- the limit that a request breaks, the first where it breaks two
+abbrev pub limit_of : Request → Option Reply
+limit_of (Put key value) = first_limit (key_limit key) (value_limit value)
+limit_of (Del key) = key_limit key
+limit_of (Get key) = key_limit key
+limit_of (Seek lo None) = bound_limit lo
+limit_of (Seek lo (Some hi)) = first_limit (bound_limit lo) (bound_limit hi)
+limit_of (Range lo hi n) = first_limit (bound_limit lo) (bound_limit hi)
+limit_of (Count lo hi) = first_limit (bound_limit lo) (bound_limit hi)
+limit_of (Estimate lo hi) = first_limit (bound_limit lo) (bound_limit hi)
+limit_of (Explain key) = key_limit key
+limit_of Flush = None
+limit_of Compact = None
+limit_of Quit = None
+limit_of (Bad code) = None

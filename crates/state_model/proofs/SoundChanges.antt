@@ -1,0 +1,231 @@
+-- A store as it is made is sound, and a flush and an entry that is written keep soundness.
+use Rattle.std.proofs.Common.{◌≡◌, ◌≢◌, inl, inr, ℕ, suc, ◌≤◌, ◌<◌, ◌+◌, List, [], ◌∷◌, ◌++◌, length, refl, sym, ap, ◌∙◌, subst, Bool, true, false, cond, map, arith}
+use Rattle.std.specs.Prelude.{Option, Some, None, Result, Ok, Err, nat_le, nat_lt, not, ◌||◌, ◌==◌}
+use Rattle.std.specs.List.{AllByRecursion, list_any}
+use Rattle.std.proofs.lemmas.List.{length-map}
+use Rattle.std.proofs.lemmas.Bool.{eqb-false}
+use Rattle.block_model.proofs.Cutting.{all_append}
+use Rattle.block_model.proofs.Lengths.{length-body}
+use Rattle.state_model.proofs.Outputs.{placed_lists}
+use Rattle.filter_api.specs.declared.settings.Settings.{Settings}
+use Rattle.filter_api.specs.Ranges.{InRange}
+use Rattle.entry_model.specs.Entries.{Entry, body, filled, need, gap, IsEntry}
+use Rattle.block_model.specs.Block.{IsTable}
+use Rattle.state_model.specs.State.{State, Table, Job, new_state, last_epoch}
+use Rattle.state_model.specs.View.{memory}
+use Rattle.state_model.specs.Pages.{FilterBytes, table_of}
+use Rattle.state_model.specs.Taken.{extent_of, taken}
+use Rattle.state_model.specs.Merges.{NoRoom, Plan, placed, planned, on_level, cut, lasting, newest_of}
+use Rattle.state_model.specs.Changes.{most_tables, with_tables, flush_placed, flushed_with, flushed, logged, logged_then, written}
+use Rattle.line_model.specs.Replies.{Reply, ManyTables, LastEpoch}
+use Rattle.extent_model.specs.Extents.{AreApart}
+use Rattle.state_model.specs.Sound.{IsOfBytes, IsSoundTable, IsSound, StandsBefore, AreMade, IsJob, MayRun, plan_of_job}
+use Rattle.extent_model.proofs.Lists.{pairs_of, all_pairs}
+use Rattle.extent_model.proofs.Free.{Laid}
+use Rattle.state_model.proofs.Places.{table_is_sound, placed_laid}
+use Rattle.state_model.proofs.SoundLogs.{newest_all, memory_is_table, newest_none, filled_none, filled_with}
+
+not_le : (m n : ℕ) → nat_le m n ≡ false → n < m
+not_le m n e = grind arith
+
+le_of : (m n : ℕ) → nat_le m n ≡ true → m ≤ n
+le_of m n e = grind arith
+
+-- ---- a new store
+
+le_last : (n : ℕ) → n < 18446744073709551616 → n ≤ last_epoch
+unfolding last_epoch
+le_last n l = omega arith
+
+pub new_sound : (filter_bytes : FilterBytes) (settings : Settings) (pages : ℕ) → InRange settings → settings.ratio < 65536 → 512 ≤ pages → pages ≤ 16777216 → IsSound filter_bytes (new_state settings pages)
+new_sound filter_bytes settings pages ranges ratio least most = record {
+  settings = ranges;
+  ratio = ratio;
+  device = (least, most);
+  epoch = (omega arith, le_last 1 (omega arith));
+  log = tt;
+  log_bytes = tt;
+  log_fits = omega (arith, filled_none);
+  few = omega arith;
+  tables = tt;
+  order = all_pairs StandsBefore [] tt;
+  on_device = tt;
+  apart = all_pairs AreApart [] tt;
+  job = tt;
+}
+
+-- ---- a job of a state with the same settings
+
+-- ---- flush
+
+-- what is made where the change is done is sound
+abbrev pub IfSound : FilterBytes → Result State Reply → Type 0
+IfSound filter_bytes (Ok t) = IsSound filter_bytes t
+IfSound filter_bytes (Err refusal) = Unit {0}
+
+pub if_sound : (filter_bytes : FilterBytes) (done : Result State Reply) (t : State) → IfSound filter_bytes done → done ≡ Ok t → IsSound filter_bytes t
+if_sound filter_bytes done t so e = subst (IfSound filter_bytes) e so
+
+pub next_epoch : (n : ℕ) → n ≤ last_epoch → n ≢ last_epoch → (1 ≤ n + 1) × (n + 1 ≤ last_epoch)
+next_epoch n l other = (omega arith, omega (arith, other))
+
+level_0 : (n : ℕ) → nat_lt n 0 ≡ false
+level_0 n = grind arith
+
+-- a table of level 0 stands before all
+first_of_all : (t : Table) (tables : List Table) → t.level ≡ 0 → AllByRecursion (StandsBefore t) tables
+first_of_all t [] zero_level = tt
+first_of_all t (u ∷ more) zero_level = (
+  elim (nat_lt 0 u.level) as (λ b. nat_lt 0 u.level ≡ b → StandsBefore t u) [
+    | true ↦ λ e. inl (grind arith)
+    | false ↦ λ e. inr (grind arith, inl zero_level)
+  ] refl,
+  first_of_all t more zero_level,
+)
+
+-- the state with one more table of level 0 in front, and an empty log
+abbrev in_front : State → Table → State
+in_front s t = record s { epoch = s.epoch + 1; log = []; tables = t ∷ s.tables }
+
+planned_again : (tables : List Table) (t : Table) (plan : Plan) → t.level ≡ 0 → planned tables plan ≡ planned (t ∷ tables) plan
+planned_again tables t plan zero_level =
+    let shallow : nat_lt plan.output t.level ≡ false = ap (nat_lt plan.output) zero_level ∙ level_0 plan.output in
+    ap (λ (b : Bool). cut plan.inputs (lasting (not (b || list_any (λ (u : Table). nat_lt plan.output u.level) tables)) (newest_of plan.inputs))) (sym shallow)
+
+job_behind : (filter_bytes : FilterBytes) (settings : Settings) (tables : List Table) (t : Table) (job : Job) → t.level ≡ 0 → IsJob filter_bytes settings tables job → IsJob filter_bytes settings (t ∷ tables) job
+job_behind filter_bytes settings tables t job zero_level is = record {
+  flushes = suc is.flushes;
+  few = let first : (t.level == 0) ≡ true = grind arith in
+      subst (λ (b : Bool). suc is.flushes ≤ length (cond b (t ∷ on_level 0 tables) (on_level 0 tables))) (sym first) (omega (arith, is.few));
+  chosen = is.chosen;
+  to_read = is.to_read;
+  written = subst (λ (outputs : List (List Entry)). AreMade filter_bytes settings job.output outputs job.written) (planned_again tables t (plan_of_job job) zero_level) is.written;
+}
+
+may_run_behind : (filter_bytes : FilterBytes) (settings : Settings) (tables : List Table) (t : Table) (job : Option Job) → t.level ≡ 0 → MayRun filter_bytes settings tables job → MayRun filter_bytes settings (t ∷ tables) job
+may_run_behind filter_bytes settings tables t None zero_level may = tt
+may_run_behind filter_bytes settings tables t (Some job) zero_level is = job_behind filter_bytes settings tables t job zero_level is
+
+-- one more table in front of a sound state
+front_sound : (filter_bytes : FilterBytes) (s : State) (t : Table) → IsSound filter_bytes s → t.level ≡ 0 → IsSoundTable t → s.epoch ≢ last_epoch → length s.tables < most_tables
+    → Laid s.pages (extent_of t ∷ taken s) → IsSound filter_bytes (in_front s t)
+front_sound filter_bytes s t sound zero_level table other few laid = record {
+  settings = sound.settings;
+  ratio = sound.ratio;
+  device = sound.device;
+  epoch = next_epoch s.epoch sound.epoch.1 other;
+  log = tt;
+  log_bytes = tt;
+  log_fits = omega (arith, filled_none);
+  few = omega arith;
+  tables = (table, sound.tables);
+  order = all_pairs StandsBefore (t ∷ s.tables) (first_of_all t s.tables zero_level, pairs_of StandsBefore s.tables sound.order);
+  on_device = laid.0;
+  apart = all_pairs AreApart (extent_of t ∷ taken s) laid.1;
+  job = may_run_behind filter_bytes s.settings s.tables t s.job zero_level sound.job;
+}
+
+with_tables_sound : (filter_bytes : FilterBytes) (s : State) (made : List Table) → IsSound filter_bytes s → IsTable (memory s) → length s.tables < most_tables
+    → Laid s.pages (map extent_of made ++ taken s) → AreMade filter_bytes s.settings 0 (memory s ∷ []) made → length made ≡ 1 → IfSound filter_bytes (with_tables s (made ++ s.tables))
+with_tables_sound filter_bytes s [] sound table few laid are one = absurd (omega arith)
+with_tables_sound filter_bytes s (t ∷ u ∷ more) sound table few laid are one = absurd (omega arith)
+with_tables_sound filter_bytes s (t ∷ []) sound table few laid are one =
+    elim (s.epoch == last_epoch) as (λ b. (s.epoch == last_epoch) ≡ b → IfSound filter_bytes (cond b (Err LastEpoch) (Ok (in_front s t)))) [
+      | true ↦ λ _. tt
+      | false ↦ λ e. front_sound filter_bytes s t sound (ap (λ (u : Table). u.level) are.0) (subst IsSoundTable (sym are.0)
+          (table_is_sound filter_bytes s.settings 0 t.first_page (memory s) (omega arith) table (newest_all IsOfBytes s.log sound.log_bytes)))
+          (eqb-false s.epoch last_epoch e) few laid
+    ] refl
+
+flush_placed_sound : (filter_bytes : FilterBytes) (s : State) (done : Result (List Table) NoRoom) → IsSound filter_bytes s → IsTable (memory s) → length s.tables < most_tables
+    → placed filter_bytes s.settings s.pages (taken s) 0 (memory s ∷ []) ≡ done → IfSound filter_bytes (flush_placed s done)
+flush_placed_sound filter_bytes s (Err refusal) sound table few e = tt
+flush_placed_sound filter_bytes s (Ok made) sound table few e =
+    let laid = placed_laid filter_bytes s.settings s.pages (taken s) 0 (memory s ∷ []) made (table.some, tt) (sound.on_device, pairs_of AreApart (taken s) sound.apart) e in
+    let one = sym (length-map made (λ (t : Table). t.entries)) ∙ ap (λ (l : List (List Entry)). length l) (placed_lists filter_bytes s (taken s) 0 (memory s ∷ []) made e) in
+    with_tables_sound filter_bytes s made sound table few laid.0 laid.1 one
+
+flushed_with_sound : (filter_bytes : FilterBytes) (s : State) (entries : List Entry) → IsSound filter_bytes s → memory s ≡ entries → IfSound filter_bytes (flushed_with filter_bytes s entries)
+flushed_with_sound filter_bytes s [] sound e = sound
+flushed_with_sound filter_bytes s (entry ∷ more) sound e =
+    let some : 1 ≤ length (memory s) = subst (λ (l : List Entry). 1 ≤ length l) (sym e) (omega arith) in
+    let table = memory_is_table s.log sound.log sound.log_fits some in
+    let done = placed filter_bytes s.settings s.pages (taken s) 0 ((entry ∷ more) ∷ []) in
+    elim (nat_le most_tables (length s.tables)) as (λ b. nat_le most_tables (length s.tables) ≡ b → IfSound filter_bytes (cond b (Err ManyTables) (flush_placed s done))) [
+      | true ↦ λ _. tt
+      | false ↦ λ few. flush_placed_sound filter_bytes s done sound table (not_le most_tables (length s.tables) few) (ap (λ (l : List Entry). placed filter_bytes s.settings s.pages (taken s) 0 (l ∷ [])) e)
+    ] refl
+
+pub flushed_done : (filter_bytes : FilterBytes) (s : State) → IsSound filter_bytes s → IfSound filter_bytes (flushed filter_bytes s)
+flushed_done filter_bytes s sound = flushed_with_sound filter_bytes s (memory s) sound refl
+
+pub flushed_sound : (filter_bytes : FilterBytes) (s t : State) → IsSound filter_bytes s → flushed filter_bytes s ≡ Ok t → IsSound filter_bytes t
+flushed_sound filter_bytes s t sound e = if_sound filter_bytes (flushed filter_bytes s) t (flushed_done filter_bytes s sound) e
+
+-- ---- the log behind a flush
+
+abbrev IfEmpty : Result State Reply → Type 0
+IfEmpty (Ok t) = t.log ≡ []
+IfEmpty (Err refusal) = Unit {0}
+
+with_tables_empty : (s : State) (tables : List Table) → IfEmpty (with_tables s tables)
+with_tables_empty s tables = elim (s.epoch == last_epoch) as (λ b. IfEmpty (cond b (Err LastEpoch) (Ok (record s { epoch = s.epoch + 1; log = []; tables = tables })))) [ true ↦ tt | false ↦ refl ]
+
+flush_placed_empty : (s : State) (done : Result (List Table) NoRoom) → IfEmpty (flush_placed s done)
+flush_placed_empty s (Ok made) = with_tables_empty s (made ++ s.tables)
+flush_placed_empty s (Err refusal) = tt
+
+flushed_with_empty : (filter_bytes : FilterBytes) (s : State) (entries : List Entry) → memory s ≡ entries → IfEmpty (flushed_with filter_bytes s entries)
+flushed_with_empty filter_bytes s [] e = newest_none s.log e
+flushed_with_empty filter_bytes s (entry ∷ more) e =
+    let done = placed filter_bytes s.settings s.pages (taken s) 0 ((entry ∷ more) ∷ []) in
+    elim (nat_le most_tables (length s.tables)) as (λ b. IfEmpty (cond b (Err ManyTables) (flush_placed s done))) [ true ↦ tt | false ↦ flush_placed_empty s done ]
+
+-- ---- an entry more
+
+job_logged : (filter_bytes : FilterBytes) (s : State) (entry : Entry) (job : Option Job) → MayRun filter_bytes s.settings s.tables job → MayRun filter_bytes s.settings s.tables job
+job_logged filter_bytes s entry None may = tt
+job_logged filter_bytes s entry (Some job) is = record {
+  flushes = is.flushes;
+  few = is.few;
+  chosen = is.chosen;
+  to_read = is.to_read;
+  written = is.written;
+}
+
+logged_sound : (filter_bytes : FilterBytes) (s : State) (entry : Entry) → IsSound filter_bytes s → IsEntry entry → IsOfBytes entry → filled s.log + length (body entry) + 1 < 262144 → IsSound filter_bytes (logged s entry)
+logged_sound filter_bytes s entry sound is bytes room = record {
+  settings = sound.settings;
+  ratio = sound.ratio;
+  device = sound.device;
+  epoch = sound.epoch;
+  log = all_append IsEntry s.log (entry ∷ []) sound.log (is, tt);
+  log_bytes = all_append IsOfBytes s.log (entry ∷ []) sound.log_bytes (bytes, tt);
+  log_fits = omega (arith, filled_with s.log entry);
+  few = sound.few;
+  tables = sound.tables;
+  order = sound.order;
+  on_device = sound.on_device;
+  apart = sound.apart;
+  job = job_logged filter_bytes s entry s.job sound.job;
+}
+
+body_bound : (entry : Entry) → IsEntry entry → length (body entry) ≤ 66567
+body_bound entry is = omega (arith, length-body entry, is.short_key, is.short_value)
+
+room_left : (s : State) (entry : Entry) → need entry ≤ gap s.log → filled s.log + length (body entry) + 1 < 262144
+unfolding gap
+room_left s entry fits = omega arith
+
+logged_then_sound : (filter_bytes : FilterBytes) (entry : Entry) (done : Result State Reply) → IsEntry entry → IsOfBytes entry → IfSound filter_bytes done → IfEmpty done → IfSound filter_bytes (logged_then entry done)
+logged_then_sound filter_bytes entry (Err refusal) is bytes sound empty = tt
+logged_then_sound filter_bytes entry (Ok t) is bytes sound empty = logged_sound filter_bytes t entry sound is bytes (omega (arith, ap filled empty, filled_none, body_bound entry is))
+
+pub written_done : (filter_bytes : FilterBytes) (s : State) (entry : Entry) → IsSound filter_bytes s → IsEntry entry → IsOfBytes entry → IfSound filter_bytes (written filter_bytes s entry)
+written_done filter_bytes s entry sound is bytes = elim (nat_le (need entry) (gap s.log)) as (λ b. nat_le (need entry) (gap s.log) ≡ b → IfSound filter_bytes (cond b (Ok (logged s entry)) (logged_then entry (flushed filter_bytes s)))) [
+  | true ↦ λ e. logged_sound filter_bytes s entry sound is bytes (room_left s entry (le_of (need entry) (gap s.log) e))
+  | false ↦ λ _. logged_then_sound filter_bytes entry (flushed filter_bytes s) is bytes (flushed_done filter_bytes s sound) (flushed_with_empty filter_bytes s (memory s) refl)
+] refl
+
+pub written_sound : (filter_bytes : FilterBytes) (s t : State) (entry : Entry) → IsSound filter_bytes s → IsEntry entry → IsOfBytes entry → written filter_bytes s entry ≡ Ok t → IsSound filter_bytes t
+written_sound filter_bytes s t entry sound is bytes e = if_sound filter_bytes (written filter_bytes s entry) t (written_done filter_bytes s entry sound is bytes) e

@@ -1,0 +1,50 @@
+-- The keys of a sound table, and what is of no sound state.
+use Rattle.std.proofs.Common.{◌≡◌, ℕ, ◌≤◌, ◌<◌, ◌+◌, ◌^◌, List, [], ◌∷◌, ◌++◌, length, refl, sym, ap, ◌∙◌, subst, true, map, arith}
+use Rattle.std.specs.List.{AllByRecursion, AllPairs}
+use Rattle.std.specs.Ordering.{is_lt}
+use Rattle.std.proofs.lemmas.List.{length-map}
+use Rattle.std.proofs.lemmas.List.Elements.{All-from_recursion}
+use Rattle.block_model.proofs.Bounds.{weaker}
+use Rattle.entry_model.specs.Entries.{IsEntry, Entry, filled, keys_of}
+use Rattle.extent_model.specs.Extents.{IsOnDevice}
+use Rattle.extent_model.proofs.Lists.{Pairs, all_pairs, both}
+use Rattle.filter_model.specs.Keys.{IsKey, IsKeyList}
+use Rattle.filter_model.specs.Strings.{is_below}
+use Rattle.map_model.specs.SortedMap.{Bytes}
+use Rattle.entry_model.specs.Newest.{IsAbove, KeysRise}
+use Rattle.state_model.specs.State.{State, Table, written_by}
+use Rattle.state_model.specs.Pages.{FilterBytes}
+use Rattle.state_model.specs.Taken.{extent_of, taken}
+use Rattle.state_model.specs.Sound.{IsOfBytes, IsSoundTable, IsSound}
+use Rattle.state_model.proofs.Hulls.{rises_of}
+use Rattle.state_model.proofs.Orders.{all_to_map, pairs_to_map}
+
+key_of_entry : (e : Entry) → IsEntry e × IsOfBytes e → IsKey e.key
+key_of_entry e is = record { bytes = is.1.key; filled = is.0.some_key; short = is.0.short_key }
+
+rising_pairs : (entries : List Entry) → KeysRise entries → Pairs (λ (x y : Entry). is_below x.key y.key ≡ true) entries
+rising_pairs [] rises = tt
+rising_pairs (e ∷ more) rises = (weaker (IsAbove e.key) (λ (y : Entry). is_below e.key y.key ≡ true) (λ y less. ap is_lt less) more rises.0, rising_pairs more rises.1)
+
+pub key_list : (t : Table) → IsSoundTable t → IsKeyList (keys_of t.entries)
+key_list t is =
+    let many : length (keys_of t.entries) ≡ length t.entries = length-map t.entries (λ (e : Entry). e.key) in
+    record {
+      some = omega (arith, many, is.entries.some);
+      few = subst (λ (n : ℕ). n < 2 ^ 32) (sym many) is.entries.sound.few;
+      each = All-from_recursion IsKey (keys_of t.entries) (all_to_map IsKey (λ (e : Entry). e.key) t.entries
+          (weaker (λ (e : Entry). IsEntry e × IsOfBytes e) (λ (e : Entry). IsKey e.key) key_of_entry t.entries (both IsEntry IsOfBytes t.entries is.entries.sound.each is.bytes)));
+      rising = all_pairs (λ (x y : Bytes). is_below x y ≡ true) (keys_of t.entries)
+          (pairs_to_map (λ (x y : Bytes). is_below x y ≡ true) (λ (e : Entry). e.key) t.entries (rising_pairs t.entries (rises_of t is)));
+    }
+
+pub too_many : (filter_bytes : FilterBytes) (s : State) → length s.tables ≡ 1025 → IsSound filter_bytes s → ⊥
+too_many filter_bytes s many sound = let few : length s.tables ≤ 1024 = sound.few in absurd (omega (arith, many, few))
+
+pub full_log : (filter_bytes : FilterBytes) (s : State) → filled s.log ≡ 262144 → IsSound filter_bytes s → ⊥
+full_log filter_bytes s full sound = absurd (omega (arith, full, sound.log_fits))
+
+pub low_page : (filter_bytes : FilterBytes) (s : State) (t : Table) (more : List Table) → s.tables ≡ t ∷ more → t.first_page ≡ 191 → IsSound filter_bytes s → ⊥
+low_page filter_bytes s t more tables low sound =
+    let on = subst (λ (l : List Table). AllByRecursion (IsOnDevice s.pages) (map extent_of (l ++ written_by s.job ++ s.kept))) tables sound.on_device in
+    let from : 192 ≤ t.first_page = on.0.from in absurd (omega (arith, from, low))

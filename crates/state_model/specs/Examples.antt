@@ -1,0 +1,75 @@
+-- States and requests by which the definitions are shown.
+use Rattle.std.specs.Prelude.{ℕ, List, [], ◌∷◌, length, map, Option, Some, None, codes}
+use Rattle.filter_api.specs.declared.settings.Settings.{Settings}
+use Rattle.map_model.specs.SortedMap.{Bytes}
+use Rattle.entry_model.specs.Entries.{del_entry}
+use Rattle.state_model.specs.State.{State, Table, new_state}
+use Rattle.state_model.specs.Merges.{Plan}
+use Rattle.state_model.specs.Pages.{FilterBytes}
+use Rattle.line_model.specs.Requests.{Request, Put, Del, Flush, Compact}
+
+-- no suffix bits, and the ratio of a store that names none
+abbrev pub base : Settings
+base = record { hash_bits = 0; real_bits = 0; ratio = 64 }
+
+-- a new store of 512 pages
+abbrev pub small_store : State
+small_store = new_state base 512
+
+-- a filter in one byte: its pages are all that the rows ask of it
+abbrev pub one_byte : FilterBytes
+one_byte settings keys = 0 ∷ []
+
+-- a key of one byte
+abbrev pub key : ℕ → Bytes
+key n = n ∷ []
+
+-- a put of a key of one byte with a value of one byte
+abbrev pub put_one : ℕ → Request
+put_one n = Put (key n) (1 ∷ [])
+
+-- four tables in level 0, the newest first, of one key each
+abbrev pub four_tables : List Request
+four_tables = put_one 0x61 ∷ Flush ∷ put_one 0x62 ∷ Flush ∷ put_one 0x63 ∷ Flush ∷ put_one 0x64 ∷ Flush ∷ []
+
+-- three tables: keys 1 to 4, keys 5 to 8, and two keys with two tombstones
+abbrev pub three_tables : List Request
+three_tables =
+    put_one 1 ∷ put_one 2 ∷ put_one 3 ∷ put_one 4 ∷ Flush ∷ put_one 5 ∷ put_one 6 ∷ put_one 7 ∷ put_one 8 ∷ Flush
+    ∷ put_one 9 ∷ put_one 10 ∷ Del (key 1) ∷ Del (key 2) ∷ Flush ∷ []
+
+-- aa1 and ab1 in one table
+abbrev pub aa1_and_ab1 : List Request
+aa1_and_ab1 = Put (codes "aa1") (1 ∷ []) ∷ Put (codes "ab1") (2 ∷ []) ∷ Flush ∷ []
+
+-- a value in level 6, then four tables in level 0, the oldest of them with the key's tombstone alone
+abbrev pub tombstone_over_a_value : List Request
+tombstone_over_a_value =
+    put_one 0x61 ∷ Compact ∷ Del (key 0x61) ∷ Flush ∷ put_one 0x62 ∷ Flush ∷ put_one 0x63 ∷ Flush ∷ put_one 0x64 ∷ Flush ∷ []
+
+-- two tables, each with another value of one key
+abbrev pub two_values : List Request
+two_values = Put (key 0x61) (1 ∷ []) ∷ Flush ∷ Put (key 0x61) (2 ∷ []) ∷ Flush ∷ []
+
+-- a table of one key and no value in so many pages
+abbrev pub table_at : ℕ → ℕ → ℕ → Bytes → Table
+table_at level first_page pages key = record {
+  level = level;
+  first_page = first_page;
+  pages = pages;
+  blocks = 1;
+  entries = del_entry key ∷ [];
+}
+
+-- a store of 4,096 pages with some tables
+abbrev pub store_with : List Table → State
+store_with tables = record (new_state base 4096) { tables = tables }
+
+-- what a plan merges, and into what: the output level, then the first pages of the inputs
+abbrev pub pages_of_plan : Option Plan → List ℕ
+pages_of_plan None = []
+pages_of_plan (Some plan) = plan.output ∷ map (λ (t : Table). t.first_page) plan.inputs
+
+-- where a table stands: level, first page, pages, data blocks, entries
+abbrev pub place_of : Table → List ℕ
+place_of t = t.level ∷ t.first_page ∷ t.pages ∷ t.blocks ∷ length t.entries ∷ []

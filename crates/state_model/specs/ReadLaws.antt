@@ -1,0 +1,41 @@
+-- Laws of reads: which tables are searched, how many blocks are read, and what an estimate counts.
+use Rattle.std.specs.Prelude.{◌≡◌, ◌≤◌, ℕ, true, false, Option, Some, None, Ok}
+use Rattle.std.specs.List.{AllByRecursion}
+use Rattle.byte_fields.specs.Spelling.{IsBytes}
+use Rattle.map_model.specs.SortedMap.{Bytes, get}
+use Rattle.entry_model.specs.Newest.{lookup}
+use Rattle.map_model.specs.Slices.{is_before, is_between, seek, count}
+use Rattle.state_model.specs.State.{State, Table}
+use Rattle.state_model.specs.View.{state_map}
+use Rattle.state_model.specs.Pages.{FilterBytes}
+use Rattle.state_model.specs.Changes.{compacted}
+use Rattle.state_model.specs.Bounds.{admits_range, is_searched, get_bound, is_passed, estimate, admitted}
+use Rattle.state_model.specs.Sound.{IsSoundTable, IsSound}
+
+-- A sound table that has an entry of a key is searched for it, and none that has one from lo to hi denies these bounds.
+pub record HeldIsSearched : Type 0 where
+  pub key : (s : State) (t : Table) (key : Bytes) (value : Option Bytes) → IsSoundTable t → lookup t.entries key ≡ Some value → is_searched s key t ≡ true
+  pub range :
+      (s : State) (t : Table) (lo hi key : Bytes) (value : Option Bytes) → IsSoundTable t → IsBytes lo → IsBytes hi → is_before hi lo ≡ false
+      → lookup t.entries key ≡ Some value → is_between lo (Some hi) key ≡ true → admits_range s lo hi t ≡ true
+
+-- A get reads no more blocks than tables admit the key, and at most one where all tables stand on one level below level 0,
+-- as behind a compaction.
+pub record GetsAreBounded : Type 0 where
+  pub few : (s : State) (key : Bytes) → get_bound s key ≤ admitted s key
+  pub one_level :
+      (filter_bytes : FilterBytes) (s : State) (level : ℕ) (key : Bytes) → IsSound filter_bytes s → 1 ≤ level
+      → AllByRecursion (λ (t : Table). t.level ≡ level) s.tables → get_bound s key ≤ 1
+  pub behind_compaction : (filter_bytes : FilterBytes) (s after : State) (key : Bytes) → IsSound filter_bytes s → compacted filter_bytes s ≡ Ok after → get_bound after key ≤ 1
+
+-- A key that a closed seek steps over is not in the map: it is a deleted one.
+abbrev pub SteppedAreDeleted : Type 0
+SteppedAreDeleted =
+    (s : State) (lo hi key : Bytes) → is_between lo (Some hi) key ≡ true → is_passed (seek (state_map s) lo (Some hi)) key ≡ true
+    → get (state_map s) key ≡ None
+
+-- Between two byte strings a sound state's estimate is not below the true count.
+abbrev pub EstimateIsEnough : Type 0
+EstimateIsEnough =
+    (filter_bytes : FilterBytes) (s : State) (lo hi : Bytes) → IsSound filter_bytes s → IsBytes lo → IsBytes hi
+    → count (state_map s) lo (Some hi) ≤ estimate s lo hi

@@ -1,0 +1,163 @@
+-- Laws of soundness: a store as it is made is sound, and what is done to a sound state leaves one.
+use Rattle.std.specs.Prelude.{◌≡◌, ◌≤◌, ◌<◌, ◌+◌, ◌++◌, ℕ, List, [], ◌∷◌, length, map, Option, Some, None, Ok}
+use Rattle.std.specs.List.{AllByRecursion, AllPairs, sum_by}
+use Rattle.filter_api.specs.declared.settings.Settings.{Settings}
+use Rattle.filter_api.specs.Ranges.{InRange}
+use Rattle.filter_model.specs.Keys.{IsKeyList}
+use Rattle.byte_fields.specs.Spelling.{IsBytes}
+use Rattle.map_model.specs.SortedMap.{Bytes}
+use Rattle.entry_model.specs.Entries.{Entry, filled, IsEntry, keys_of}
+use Rattle.state_model.specs.State.{State, Table, Job, new_state, without_job}
+use Rattle.state_model.specs.View.{state_map}
+use Rattle.state_model.specs.Pages.{FilterBytes}
+use Rattle.extent_model.specs.Extents.{Extent, AreLaid}
+use Rattle.state_model.specs.Taken.{extent_of}
+use Rattle.state_model.specs.Merges.{Plan, choose, placed, planned}
+use Rattle.state_model.specs.Changes.{flushed, written, compacted}
+use Rattle.state_model.specs.Causes.{Why}
+use Rattle.line_model.specs.Requests.{Request, request_of, Put, Del}
+use Rattle.line_model.specs.Replies.{Reply}
+use Rattle.state_model.specs.Steps.{Step, answer}
+use Rattle.state_model.specs.Play.{played}
+use Rattle.state_model.specs.Script.{Ending, Script, WentOn}
+use Rattle.state_model.specs.PlayLaws.{Never, AnyState}
+use Rattle.state_model.specs.Tends.{Runs, Progresses, started, with_job, outstanding, Tended, Worked, Tend}
+use Rattle.state_model.specs.Sound.{IsOfBytes, IsSound, IsSoundTable}
+
+-- Outputs that are placed beside laid extents are laid with them.
+abbrev pub PlacedAreLaid : Type 0
+PlacedAreLaid =
+    (filter_bytes : FilterBytes) (settings : Settings) (pages : ℕ) (extents : List Extent) (level : ℕ) (outputs : List (List Entry)) (made : List Table)
+    → AllByRecursion (λ (output : List Entry). 1 ≤ length output) outputs → AreLaid pages extents
+    → placed filter_bytes settings pages extents level outputs ≡ Ok made → AreLaid pages (map extent_of made ++ extents)
+
+-- a store as it is made is sound
+abbrev pub NewIsSound : Type 0
+NewIsSound = (filter_bytes : FilterBytes) (settings : Settings) (pages : ℕ) → InRange settings → settings.ratio < 65536 → 512 ≤ pages → pages ≤ 16777216 → IsSound filter_bytes (new_state settings pages)
+
+-- a flush that is done keeps soundness, whether a job runs or none
+abbrev pub FlushKeepsSound : Type 0
+FlushKeepsSound = (filter_bytes : FilterBytes) (s t : State) → IsSound filter_bytes s → flushed filter_bytes s ≡ Ok t → IsSound filter_bytes t
+
+-- so does an entry that is written
+abbrev pub WriteKeepsSound : Type 0
+WriteKeepsSound = (filter_bytes : FilterBytes) (s t : State) (entry : Entry) → IsSound filter_bytes s → IsEntry entry → IsOfBytes entry → written filter_bytes s entry ≡ Ok t → IsSound filter_bytes t
+
+-- and a compaction
+abbrev pub CompactionKeepsSound : Type 0
+CompactionKeepsSound = (filter_bytes : FilterBytes) (s t : State) → IsSound filter_bytes s → compacted filter_bytes s ≡ Ok t → IsSound filter_bytes t
+
+-- A job that runs, and goes on, leaves a sound state; and a job may be dropped.
+abbrev pub WorkKeepsSound : Type 0
+WorkKeepsSound = (filter_bytes : FilterBytes) (s : State) (job later : Job) → IsSound filter_bytes s → Runs s job → Progresses filter_bytes s job later → IsSound filter_bytes (with_job s later)
+
+abbrev pub DropKeepsSound : Type 0
+DropKeepsSound = (filter_bytes : FilterBytes) (s : State) → IsSound filter_bytes s → IsSound filter_bytes (without_job s)
+
+-- any cause may be
+abbrev pub Ever : Why → Type 0
+Ever why = Unit {0}
+
+-- Whatever a merge slice is answered, the state behind it is sound.
+abbrev pub SliceKeepsSound : Type 0
+SliceKeepsSound = (filter_bytes : FilterBytes) (s after : State) (tended : Tended) → IsSound filter_bytes s → Tend Ever filter_bytes s tended after → IsSound filter_bytes after
+
+-- And it is the same map.
+abbrev pub SliceKeepsMap : Type 0
+SliceKeepsMap = (filter_bytes : FilterBytes) (s after : State) (tended : Tended) → IsSound filter_bytes s → Tend Ever filter_bytes s tended after → state_map after ≡ state_map s
+
+-- What needs no cause is allowed where any may be.
+abbrev pub NeverTends : Type 0
+NeverTends = (filter_bytes : FilterBytes) (s after : State) (tended : Tended) → Tend Never filter_bytes s tended after → Tend Ever filter_bytes s tended after
+
+abbrev pub NeverSteps : Type 0
+NeverSteps = (filter_bytes : FilterBytes) (s after : State) (request : Request) (reply : Reply) → Step Never filter_bytes s request reply after → Step Ever filter_bytes s request reply after
+
+-- what is put or deleted is bytes
+abbrev pub AsksOfBytes : Request → Type 0
+AsksOfBytes (Put key value) = IsBytes key × IsBytes value
+AsksOfBytes (Del key) = IsBytes key
+AsksOfBytes request = Unit {0}
+
+-- so it is in each line
+abbrev pub LinesAreOfBytes : Type 0
+LinesAreOfBytes = (line : Bytes) → AsksOfBytes (request_of line)
+
+-- The state behind a line is sound too.
+abbrev pub LineKeepsSound : Type 0
+LineKeepsSound =
+    (filter_bytes : FilterBytes) (s after : State) (request : Request) (reply : Reply) → IsSound filter_bytes s → AsksOfBytes request → Step Ever filter_bytes s request reply after → IsSound filter_bytes after
+
+-- And so is the state behind all lines that are played.
+abbrev pub PlayedIsSound : Type 0
+PlayedIsSound = (filter_bytes : FilterBytes) (s : State) (requests : List Request) → IsSound filter_bytes s → AllByRecursion AsksOfBytes requests → s.job ≡ None → IsSound filter_bytes (played filter_bytes s requests).1
+
+-- in a sound state
+abbrev pub InSoundState : FilterBytes → ℕ → State → Type 0
+InSoundState filter_bytes said s = IsSound filter_bytes s
+
+-- Each state of a script from a sound one is sound, as each reply has been said, and so is the state behind some first
+-- lines.
+pub record ScriptsKeepSound : Type 0 where
+  pub script :
+      (filter_bytes : FilterBytes) (said : ℕ) (s : State) (lines : List Bytes) (text : Bytes) (ending : Ending) → IsSound filter_bytes s
+      → Script Ever filter_bytes AnyState said s lines text ending → Script Ever filter_bytes (InSoundState filter_bytes) said s lines text ending
+  pub first_lines :
+      (filter_bytes : FilterBytes) (said : ℕ) (s after : State) (lines : List Bytes) (text : Bytes) → IsSound filter_bytes s
+      → WentOn Ever filter_bytes AnyState said s lines text after
+      → WentOn Ever filter_bytes (InSoundState filter_bytes) said s lines text after × IsSound filter_bytes after
+
+-- ---- what is not sound, and what the keys of a table are
+
+-- 1,025 tables, a log that fills its area, and a table at page 191 are of no sound state.
+pub record LimitsAreKept : Type 0 where
+  pub tables : (filter_bytes : FilterBytes) (s : State) → length s.tables ≡ 1025 → IsSound filter_bytes s → ⊥
+  pub log : (filter_bytes : FilterBytes) (s : State) → filled s.log ≡ 262144 → IsSound filter_bytes s → ⊥
+  pub first_page : (filter_bytes : FilterBytes) (s : State) (t : Table) (more : List Table) → s.tables ≡ t ∷ more → t.first_page ≡ 191 → IsSound filter_bytes s → ⊥
+
+-- The keys of a sound table are a list of keys, as filters are built of.
+abbrev pub KeysAreAList : Type 0
+KeysAreAList = (t : Table) → IsSoundTable t → IsKeyList (keys_of t.entries)
+
+-- ---- how many merge slices a job takes
+
+-- the answers Worked that a job may still see: one for each block to read, one for each output to write, one for its install
+abbrev pub steps_of : State → Option Job → ℕ
+steps_of s None = 0
+steps_of s (Some job) = job.to_read + length (outstanding s.tables job) + 1
+
+-- A job that begins may see as many as the blocks of its inputs, its outputs and one more.
+abbrev pub StepsAtFirst : Type 0
+StepsAtFirst = (s : State) (plan : Plan) → steps_of s (Some (started plan)) ≡ sum_by (λ (t : Table). t.blocks) plan.inputs + length (planned s.tables plan) + 1
+
+-- Each answer Worked leaves fewer than before it.
+abbrev pub WorkedLowersSteps : Type 0
+WorkedLowersSteps =
+    (filter_bytes : FilterBytes) (s after : State) → Tend Ever filter_bytes s Worked after → (job : Job) × Runs s job × (steps_of after after.job < steps_of s (Some job))
+
+-- No line leaves more.
+abbrev pub LinesRaiseNoSteps : Type 0
+LinesRaiseNoSteps = (filter_bytes : FilterBytes) (s : State) (request : Request) → steps_of (answer filter_bytes s request).1 (answer filter_bytes s request).1.job ≤ steps_of s s.job
+
+-- a line, or a merge slice of the job that runs
+pub data Move : Type 0 where
+  Line : (request : Request) → Move
+  Slice : Move
+
+-- From the one state these moves lead to the other: the lines are answered, and each merge slice is answered as worked.
+abbrev pub Moves : FilterBytes → List Move → State → State → Type 0
+Moves filter_bytes [] s t = s ≡ t
+Moves filter_bytes (Line request ∷ more) s t = Moves filter_bytes more (answer filter_bytes s request).1 t
+Moves filter_bytes (Slice ∷ more) s t = (after : State) × (job : Job) × (s.job ≡ Some job) × Tend Ever filter_bytes s Worked after × Moves filter_bytes more after t
+
+abbrev pub slices_in : List Move → ℕ
+slices_in [] = 0
+slices_in (Line request ∷ more) = slices_in more
+slices_in (Slice ∷ more) = slices_in more + 1
+
+-- A job of b blocks and o outputs sees at most b + o + 1 answers Worked: the first, and with any lines between them those
+-- that follow while it runs.
+abbrev pub JobEnds : Type 0
+JobEnds =
+    (filter_bytes : FilterBytes) (s after t : State) (plan : Plan) (moves : List Move) → s.job ≡ None → choose s.tables ≡ Some plan → Tend Ever filter_bytes s Worked after
+    → Moves filter_bytes moves after t → 1 + slices_in moves ≤ sum_by (λ (u : Table). u.blocks) plan.inputs + length (planned s.tables plan) + 1

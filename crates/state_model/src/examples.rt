@@ -1,0 +1,64 @@
+// The definitions, shown by examples. Each computes.
+ghost use Rattle.std.specs.Prelude.{◌≡◌, true, false, [], ◌∷◌, ◌++◌, map, replicate, Some, None, codes};
+ghost use Rattle.byte_fields.specs.declared.parts.Part.TheVariants.{Block};
+ghost use Rattle.byte_fields.specs.declared.parts.Damage.TheVariants.{Sum};
+ghost use Rattle.map_model.specs.SortedMap.{get};
+ghost use Rattle.state_model.specs.View.{state_map};
+ghost use Rattle.line_model.specs.Limits.{key_limit, bound_limit};
+ghost use Rattle.state_model.specs.Merges.{choose, is_deepest, level_limit};
+ghost use Rattle.state_model.specs.Bounds.{get_bound, seek_bound};
+ghost use Rattle.state_model.specs.Play.{played, played_in_slices};
+ghost use Rattle.line_model.specs.Replies.{Done, Value, Missing, At, Pairs, End, Counted, About, Explained, Bye, Full, LongKey, ManyTables, LastEpoch, Damaged, at_words, sum_word, text_of};
+ghost use Rattle.line_model.specs.Requests.{Put, Del, Get, Seek, Range, Count, Estimate, Explain, Flush, Compact, Quit, Bad, request_of};
+ghost use Rattle.state_model.specs.Examples.{small_store, one_byte, key, put_one, four_tables, three_tables, aa1_and_ab1, tombstone_over_a_value, two_values, table_at, store_with, pages_of_plan, place_of};
+
+/// Tables that are flushed, merged and compacted.
+#[tactic(auto, unfolding(block_model::specs::Pages::pages_for, block_model::specs::Pages::block_length, block_model::specs::Pages::block_pages, block_model::specs::Pages::blocks_of, block_model::specs::Pages::data_pages, block_model::specs::Pages::index_length, entry_model::specs::Entries::filled, entry_model::specs::Entries::gap, crate::specs::State::last_epoch))]
+pub fn merges_and_flushes()
+    ensures a_tombstone_hides_and_a_compaction_drops_it { (played one_byte small_store (Put (key 0x61) (0x62 ∷ []) ∷ Flush ∷ Del (key 0x61) ∷ Flush ∷ Get (key 0x61) ∷ Compact ∷ Get (key 0x61) ∷ Explain (key 0x61) ∷ [])).0 ≡ Done ∷ Done ∷ Done ∷ Done ∷ Missing ∷ Done ∷ Missing ∷ Explained 0 0 0 ∷ [] }
+    ensures tables_stand_in_the_first_gaps { map place_of (played one_byte small_store four_tables).1.tables ≡ (0 ∷ 201 ∷ 3 ∷ 1 ∷ 1 ∷ []) ∷ (0 ∷ 198 ∷ 3 ∷ 1 ∷ 1 ∷ []) ∷ (0 ∷ 195 ∷ 3 ∷ 1 ∷ 1 ∷ []) ∷ (0 ∷ 192 ∷ 3 ∷ 1 ∷ 1 ∷ []) ∷ [] }
+    ensures four_tables_become_one { map place_of (played one_byte small_store (four_tables ++ put_one 0x65 ∷ [])).1.tables ≡ (1 ∷ 204 ∷ 3 ∷ 1 ∷ 4 ∷ []) ∷ [] }
+    ensures the_merge_has_the_sixth_epoch { (played one_byte small_store (four_tables ++ put_one 0x65 ∷ [])).1.epoch ≡ 6 }
+    ensures a_compaction_has_the_next_epoch { (played one_byte small_store (put_one 0x61 ∷ Compact ∷ [])).1.epoch ≡ 2 }
+    ensures no_flush_at_the_last_epoch { (played one_byte (record small_store { epoch = 18446744073709551615 }) (put_one 0x61 ∷ Flush ∷ Get (key 0x61) ∷ Compact ∷ [])).0 ≡ Done ∷ LastEpoch ∷ Value (1 ∷ []) ∷ LastEpoch ∷ [] }
+{}
+
+/// What hides what, and where tables go.
+#[tactic(auto, unfolding(block_model::specs::Pages::pages_for, block_model::specs::Pages::block_length, block_model::specs::Pages::block_pages, block_model::specs::Pages::blocks_of, block_model::specs::Pages::data_pages, block_model::specs::Pages::index_length, entry_model::specs::Entries::filled, entry_model::specs::Entries::gap, crate::specs::State::last_epoch))]
+pub fn levels_and_gaps()
+    ensures a_merge_keeps_a_tombstone_over_a_deeper_value { map place_of (played one_byte small_store (tombstone_over_a_value ++ put_one 0x65 ∷ [])).1.tables ≡ (1 ∷ 207 ∷ 3 ∷ 1 ∷ 4 ∷ []) ∷ (6 ∷ 192 ∷ 3 ∷ 1 ∷ 1 ∷ []) ∷ [] }
+    ensures it_still_hides_it { get (state_map (played one_byte small_store (tombstone_over_a_value ++ put_one 0x65 ∷ [])).1) (key 0x61) ≡ None }
+    ensures the_newest_table_counts { (played one_byte small_store (two_values ++ Get (key 0x61) ∷ Put (key 0x61) (3 ∷ []) ∷ Get (key 0x61) ∷ [])).0 ≡ Done ∷ Done ∷ Done ∷ Done ∷ Value (2 ∷ []) ∷ Done ∷ Value (3 ∷ []) ∷ [] }
+    ensures its_block_alone_is_read { get_bound (played one_byte small_store two_values).1 (key 0x61) ≡ 1 }
+    ensures none_is_read_where_the_memory_has_it { get_bound (played one_byte small_store (two_values ++ put_one 0x61 ∷ [])).1 (key 0x61) ≡ 0 }
+    ensures a_table_goes_into_the_first_of_two_gaps { map place_of (played one_byte small_store (four_tables ++ put_one 0x65 ∷ Flush ∷ [])).1.tables ≡ (0 ∷ 192 ∷ 3 ∷ 1 ∷ 1 ∷ []) ∷ (1 ∷ 204 ∷ 3 ∷ 1 ∷ 4 ∷ []) ∷ [] }
+    ensures a_flush_of_nothing_changes_nothing { (played one_byte small_store (Flush ∷ Compact ∷ [])).1 ≡ small_store }
+    ensures a_flush_empties_the_log { (played one_byte small_store (put_one 0x61 ∷ Flush ∷ [])).1.log ≡ [] }
+    ensures a_compaction_too { (played one_byte small_store (put_one 0x61 ∷ Compact ∷ [])).1.log ≡ [] }
+    ensures a_table_that_touches_is_merged { pages_of_plan (choose (store_with (table_at 0 192 3 (key 3) ∷ table_at 0 195 3 (key 5) ∷ table_at 0 198 3 (key 4) ∷ table_at 0 201 3 (key 4) ∷ table_at 1 204 3 (key 2) ∷ table_at 1 207 3 (key 3) ∷ table_at 1 210 3 (key 5) ∷ table_at 1 213 3 (key 6) ∷ [])).tables) ≡ 1 ∷ 192 ∷ 195 ∷ 198 ∷ 201 ∷ 207 ∷ 210 ∷ [] }
+    ensures a_level_may_be_full { pages_of_plan (choose (store_with (table_at 1 192 255 (key 2) ∷ table_at 1 447 1 (key 3) ∷ [])).tables) ≡ [] }
+    ensures and_has_one_page_too_many { pages_of_plan (choose (store_with (table_at 1 192 255 (key 2) ∷ table_at 1 447 2 (key 3) ∷ table_at 2 500 9 (key 2) ∷ table_at 2 509 9 (key 3) ∷ [])).tables) ≡ 2 ∷ 192 ∷ 500 ∷ [] }
+    ensures the_first_level_that_is_over_is_merged { pages_of_plan (choose (table_at 1 192 257 (key 2) ∷ table_at 2 449 2049 (key 3) ∷ [])) ≡ 2 ∷ 192 ∷ [] }
+    ensures tombstones_stay_over_any_deeper_level { map (is_deepest (table_at 3 192 1 (key 2) ∷ [])) (0 ∷ 1 ∷ 2 ∷ 3 ∷ 6 ∷ []) ≡ false ∷ false ∷ false ∷ true ∷ true ∷ [] }
+    ensures limits_of_the_levels { map level_limit (1 ∷ 2 ∷ 3 ∷ 4 ∷ 5 ∷ []) ≡ 256 ∷ 2048 ∷ 16384 ∷ 131072 ∷ 1048576 ∷ [] }
+{}
+
+/// A merge in slices of two blocks: two that read, one that writes, one that installs.
+#[tactic(auto, unfolding(block_model::specs::Pages::pages_for, block_model::specs::Pages::block_length, block_model::specs::Pages::block_pages, block_model::specs::Pages::blocks_of, block_model::specs::Pages::data_pages, block_model::specs::Pages::index_length, entry_model::specs::Entries::filled, entry_model::specs::Entries::gap, crate::specs::State::last_epoch))]
+pub fn merges_in_slices()
+    ensures three_are_too_few { map place_of (played_in_slices one_byte 2 small_store (four_tables ++ replicate 3 (put_one 0x65))).1.tables ≡ (0 ∷ 201 ∷ 3 ∷ 1 ∷ 1 ∷ []) ∷ (0 ∷ 198 ∷ 3 ∷ 1 ∷ 1 ∷ []) ∷ (0 ∷ 195 ∷ 3 ∷ 1 ∷ 1 ∷ []) ∷ (0 ∷ 192 ∷ 3 ∷ 1 ∷ 1 ∷ []) ∷ [] }
+    ensures four_are_enough { map place_of (played_in_slices one_byte 2 small_store (four_tables ++ replicate 4 (put_one 0x65))).1.tables ≡ (1 ∷ 204 ∷ 3 ∷ 1 ∷ 4 ∷ []) ∷ [] }
+    ensures a_flush_between_them_stays { map place_of (played_in_slices one_byte 2 small_store (four_tables ++ put_one 0x65 ∷ Flush ∷ replicate 3 (put_one 0x66))).1.tables ≡ (0 ∷ 204 ∷ 3 ∷ 1 ∷ 1 ∷ []) ∷ (1 ∷ 207 ∷ 3 ∷ 1 ∷ 4 ∷ []) ∷ [] }
+{}
+
+/// Reads between two keys, and their bounds.
+#[tactic(auto, unfolding(block_model::specs::Pages::pages_for, block_model::specs::Pages::block_length, block_model::specs::Pages::block_pages, block_model::specs::Pages::blocks_of, block_model::specs::Pages::data_pages, block_model::specs::Pages::index_length, entry_model::specs::Entries::filled, entry_model::specs::Entries::gap, crate::specs::State::last_epoch))]
+pub fn reads_between_keys()
+    ensures a_seek_steps_over_deleted_keys { (played one_byte small_store (three_tables ++ Seek (key 1) (Some (key 10)) ∷ [])).0 ≡ Done ∷ Done ∷ Done ∷ Done ∷ Done ∷ Done ∷ Done ∷ Done ∷ Done ∷ Done ∷ Done ∷ Done ∷ Done ∷ Done ∷ Done ∷ At (key 3) (1 ∷ []) ∷ [] }
+    ensures its_bound_counts_them { seek_bound (played one_byte small_store three_tables).1 (key 1) (key 10) ≡ 7 }
+    ensures it_counts_them_where_nothing_is_left { seek_bound (played one_byte small_store (put_one 1 ∷ put_one 2 ∷ Flush ∷ Del (key 1) ∷ Del (key 2) ∷ Flush ∷ [])).1 (key 1) (key 2) ≡ 6 }
+    ensures numbers_of_a_table { (played one_byte small_store (aa1_and_ab1 ++ Count (codes "aa5") (codes "ab0") ∷ Estimate (codes "aa5") (codes "ab0") ∷ Explain (codes "aa9") ∷ Explain (codes "aa0") ∷ Explain (codes "ac0") ∷ Get (codes "aa9") ∷ [])).0 ≡ Done ∷ Done ∷ Done ∷ Counted 0 ∷ About 2 ∷ Explained 1 1 1 ∷ Explained 1 1 0 ∷ Explained 1 0 0 ∷ Missing ∷ [] }
+    ensures both_ends_are_counted { (played one_byte small_store (aa1_and_ab1 ++ Count (codes "aa1") (codes "ab1") ∷ Count (codes "ab1") (codes "aa1") ∷ Estimate (codes "ab1") (codes "aa1") ∷ [])).0 ≡ Done ∷ Done ∷ Done ∷ Counted 2 ∷ Counted 0 ∷ About 0 ∷ [] }
+    ensures the_memory_is_estimated_too { (played one_byte small_store (aa1_and_ab1 ++ Del (codes "aa7") ∷ Estimate (codes "aa5") (codes "ab0") ∷ [])).0 ≡ Done ∷ Done ∷ Done ∷ Done ∷ About 3 ∷ [] }
+    ensures pairs_between_two_keys { (played one_byte small_store (Put (key 0x61) [] ∷ Put (key 0x62) (1 ∷ []) ∷ Range [] (key 0x7a) 1 ∷ Range [] (key 0x7a) 0 ∷ Seek (key 0x63) None ∷ Seek (key 0x62) (Some (key 0x61)) ∷ Seek [] None ∷ Quit ∷ Flush ∷ [])).0 ≡ Done ∷ Done ∷ Pairs ((key 0x61, []) ∷ []) (End 1) ∷ Pairs [] (End 0) ∷ Missing ∷ Missing ∷ At (key 0x61) [] ∷ Bye ∷ [] }
+{}

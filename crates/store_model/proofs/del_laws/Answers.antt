@@ -1,5 +1,0 @@
-use Rattle.store_model.proofs.Maps.{del_here, del_elsewhere, del_rises}
-use Rattle.store_model.proofs.del_laws.Goals as goal
-
-pub returns : goal.returns
-returns c = record { here = del_here; elsewhere = del_elsewhere; rises = del_rises }

@@ -1,6 +1,0 @@
-use Rattle.std.proofs.Common.{[]}
-use Rattle.store_model.proofs.Maps.{newest_counts, entries_rise}
-use Rattle.store_model.proofs.map_laws.Goals as goal
-
-pub returns : goal.returns
-returns c = record { newest_counts = newest_counts; rises = λ entries. entries_rise [] entries tt }

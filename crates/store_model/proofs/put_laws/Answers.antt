@@ -1,5 +1,0 @@
-use Rattle.store_model.proofs.Maps.{put_here, put_elsewhere, put_rises}
-use Rattle.store_model.proofs.put_laws.Goals as goal
-
-pub returns : goal.returns
-returns c = record { here = put_here; elsewhere = put_elsewhere; rises = put_rises }
