@@ -1,9 +1,8 @@
 -- What the sections say of the half that they spell.
-use Rattle.std.proofs.Common.{◌≡◌, ℕ, zero, suc, ◌+◌, ◌-◌, ◌<◌, ◌≤◌, ◌==◌, Bool, true, false, cond, Option, Some, None, List, [], ◌∷◌, length, get_or, take, refl, ap, subst, sym, ◌∙◌, arith, inl, inr, length-append, nat_lt, nat_le, lt-ltb, le-ltb}
-use Rattle.std.specs.Prelude.{count_by, not, position, ◌&&◌}
+use Rattle.std.proofs.Common.{◌≡◌, ℕ, suc, ◌+◌, ◌-◌, ◌<◌, ◌≤◌, ◌==◌, Bool, true, false, cond, List, [], ◌∷◌, length, get_or, take, refl, ap, subst, sym, ◌∙◌, arith, inl, inr, length-append, nat_lt}
+use Rattle.std.specs.Prelude.{count_by, not, ◌&&◌}
 use Rattle.std.specs.List.{All}
-use Rattle.std.specs.Option.{option_map}
-use Rattle.std.proofs.lemmas.Bool.{cases_lt, cases_order, eq-eqb, false≢true, eqb-true, false_from_ne_true, ltb-true, ne_eqb, and_from}
+use Rattle.std.proofs.lemmas.Bool.{cases_lt, cases_order, false≢true}
 use Rattle.std.proofs.lemmas.List.{append-nil, get_or-map, length-map, length-take-le, take-map, take_all, take_more}
 use Rattle.std.proofs.lemmas.List.Concat.{flat_map-append, get_or-flat_map}
 use Rattle.std.proofs.lemmas.List.Elements.{All-weaker}
@@ -16,16 +15,14 @@ use Rattle.lane_scan.specs.Places.{IsFirstBetween}
 use Rattle.filter_model.specs.Image.{has_letter, label_of}
 use Rattle.filter_model.specs.Nodes.{Branch, Node, all, at, children_before, first_place, leaves_before}
 use Rattle.filter_model.specs.Trie.{END}
-use Rattle.louds_sparse.specs.Cuts.{IsCut, StandBytes}
 use Rattle.louds_sparse.specs.Spelling.{IsSpelled}
-use Rattle.louds_sparse.proofs.Branches.{byte_behind, bytes_rise, end_before, end_first, label-byte, last_none, last_some, nth, opens_is, position_none, position_some}
+use Rattle.louds_sparse.proofs.Branches.{nth, opens_is}
 use Rattle.trie_laws.specs.Louds.{IsNode}
 use Rattle.trie_laws.specs.Nodes.{IsTrieNode}
 use Rattle.trie_laws.proofs.Forms.{forms_are_sparse}
 use Rattle.trie_laws.proofs.Louds.{first_by_None, first_by_Some, length-le-all, louds_count, louds_first, nth_below, set_within}
 use Rattle.trie_laws.proofs.Places.{count_by-map}
-use Rattle.trie_model.specs.Branching.{branch_at, next_at, prev_at}
-use Rattle.trie_model.specs.Halves.{Half, HasNode, begin_of, branch_place, end_slot, next_place, node_at, places_in, prev_place, slot_at}
+use Rattle.trie_model.specs.Halves.{Half, HasNode, begin_of, node_at, places_in}
 use Rattle.trie_model.specs.declared.parts.Before.{Before}
 
 both_counts : {X : Type 0} (p : X → Bool) (xs : List X) → count_by p xs + count_by (λ x. not (p x)) xs ≡ length xs

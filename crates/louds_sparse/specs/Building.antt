@@ -1,5 +1,5 @@
 -- What a builder has so far.
-use Rattle.std.specs.Prelude.{◌≡◌, ℕ, ◌+◌, ◌<◌, Bool, true, false, cond, List, [], ◌∷◌, ◌++◌, map, length}
+use Rattle.std.specs.Prelude.{ℕ, Bool, List, [], ◌∷◌, ◌++◌, map}
 use Rattle.filter_model.specs.Image.{label_of, opening}
 use Rattle.filter_model.specs.Nodes.{Branch, Node}
 use Rattle.trie_model.specs.Halves.{Half}

@@ -108,9 +108,9 @@ impl<A: Allocator> Sparse<A> {
         ensures { result ≡ prev_place self.now node byte }
     {
         let (start, end) = self.bytes_of(node);
-        let place = cut(&self.labels, start, end, byte);
-        if place > start {
-            Some(place as u64 - 1)
+        let behind = cut(&self.labels, start, end, byte);
+        if behind > start {
+            Some(behind as u64 - 1)
         } else {
             None
         }

@@ -26,8 +26,14 @@ rising_more bs i e some l step w a b d up within =
             | inl same ↦ omega (arith, at_a, at_b, is, step, ap (λ (k : ℕ). (get_or bs k e).byte) same)
             | inr other ↦
                 omega (
-                  arith, at_a, at_b, is, step, w a (i - 1) d (omega (arith, up, other, last, within, long)) (omega (arith, some, old)),
-                  byte_in bs i a d e (omega (arith, up, within, long)) (omega (arith, l)), byte_in bs i (i - 1) d e (omega (arith, some)) (omega (arith, l)),
+                  arith,
+                  at_a,
+                  at_b,
+                  is,
+                  step,
+                  w a (i - 1) d (omega (arith, up, other, last, within, long)) (omega (arith, some, old)),
+                  byte_in bs i a d e (omega (arith, up, within, long)) (omega (arith, l)),
+                  byte_in bs i (i - 1) d e (omega (arith, some)) (omega (arith, l)),
                 )
           ]
     ]

@@ -1,4 +1,4 @@
-use Rattle.std.proofs.Common.{◌≡◌, ◌==◌, ◌<◌, ◌∙◌, Bool, List, not, length, take, ap, arith, subst, sym, []}
+use Rattle.std.proofs.Common.{◌<◌, ◌∙◌, Bool, List, ap, subst, sym, []}
 use Rattle.std.specs.List.{All}
 use Rattle.std.proofs.lemmas.List.{take_all}
 use Rattle.std.proofs.lemmas.List.Elements.{All-nil}

@@ -1,5 +1,4 @@
-use Rattle.std.proofs.Common.{◌≡◌, Bool, List, ap, sym, ◌∙◌}
-use Rattle.std.specs.Prelude.{count_by}
+use Rattle.std.proofs.Common.{ap, ◌∙◌}
 use Rattle.bit_select.proofs.Selecting.{ones_all}
 use Rattle.bit_words.specs.Packed.{packed}
 use Rattle.louds_sparse.specs.Spelling.{IsSpelled}
