@@ -4,9 +4,9 @@ use Rattle.std.specs.Prelude.{Option, Some, None, Result, Ok, Err, ◌==◌, dro
 use Rattle.std.specs.List.{AllByRecursion}
 use Rattle.std.proofs.lemmas.List.{length-append}
 use Rattle.entry_model.specs.Entries.{Entry}
-use Rattle.state_model.specs.State.{State, Table, Job, without_job, last_epoch}
+use Rattle.state_model.specs.State.{State, Job, without_job, last_epoch}
+use Rattle.table_model.specs.Tables.{FilterBytes, Table}
 use Rattle.state_model.specs.View.{entries_of, oldest_first}
-use Rattle.state_model.specs.Pages.{FilterBytes}
 use Rattle.state_model.specs.Taken.{taken}
 use Rattle.state_model.specs.Merges.{Plan, NoRoom, choose, placed, cut}
 use Rattle.state_model.specs.Changes.{compact_placed, compacted_with, compacted, live_entries}

@@ -13,9 +13,9 @@ use Rattle.map_model.specs.Slices.{is_before, is_between, count}
 use Rattle.map_model.proofs.Between.{counted, count_crossed}
 use Rattle.filter_model.specs.Answers.{tally, true_count}
 use Rattle.filter_model.proofs.Tallies.{tally_is_near}
-use Rattle.state_model.specs.State.{State, Table}
+use Rattle.state_model.specs.State.{State}
+use Rattle.table_model.specs.Tables.{FilterBytes, Table}
 use Rattle.state_model.specs.View.{memory, oldest_first, state_map}
-use Rattle.state_model.specs.Pages.{FilterBytes}
 use Rattle.state_model.specs.Bounds.{leaves_in, estimate}
 use Rattle.state_model.specs.Sound.{IsSound, IsSoundTable}
 use Rattle.state_model.proofs.SameMaps.{same_map}

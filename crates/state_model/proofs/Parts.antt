@@ -5,7 +5,7 @@ use Rattle.std.specs.List.{AllByRecursion, AllPairs}
 use Rattle.std.proofs.lemmas.List.Elements.{recursion_from_All}
 use Rattle.block_model.proofs.Bounds.{weaker}
 use Rattle.extent_model.proofs.Lists.{Pairs, all_kept}
-use Rattle.state_model.specs.State.{Table}
+use Rattle.table_model.specs.Tables.{Table}
 use Rattle.state_model.specs.Merges.{on_level}
 use Rattle.state_model.specs.Sound.{StandsBefore}
 use Rattle.state_model.proofs.Levels.{Levels, deeper}

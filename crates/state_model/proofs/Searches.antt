@@ -11,7 +11,8 @@ use Rattle.map_model.specs.Slices.{is_before, is_between}
 use Rattle.filter_model.specs.Laws.{AreBounds}
 use Rattle.filter_model.proofs.Stubs.{no_key_is_denied}
 use Rattle.filter_model.proofs.Tallies.{no_held_range_is_denied}
-use Rattle.state_model.specs.State.{State, Table}
+use Rattle.state_model.specs.State.{State}
+use Rattle.table_model.specs.Tables.{Table}
 use Rattle.state_model.specs.Merges.{least_key, greatest_key}
 use Rattle.state_model.specs.Bounds.{admits, admits_range, encloses, is_searched}
 use Rattle.state_model.specs.Sound.{IsSoundTable}

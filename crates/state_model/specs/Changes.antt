@@ -3,9 +3,9 @@ use Rattle.std.specs.Prelude.{ℕ, ◌+◌, ◌==◌, nat_le, nat_lt, ◌||◌, 
 use Rattle.map_model.specs.SortedMap.{Bytes}
 use Rattle.entry_model.specs.Entries.{Entry, need, gap}
 use Rattle.entry_model.specs.Newest.{newest_entries}
-use Rattle.state_model.specs.State.{State, Table, without_job, last_epoch}
+use Rattle.state_model.specs.State.{State, without_job, last_epoch}
+use Rattle.table_model.specs.Tables.{FilterBytes, Table}
 use Rattle.state_model.specs.View.{memory, entries_of}
-use Rattle.state_model.specs.Pages.{FilterBytes}
 use Rattle.state_model.specs.Taken.{taken}
 use Rattle.state_model.specs.Merges.{NoRoom, placed, cut, has_value}
 use Rattle.line_model.specs.Replies.{Reply, ManyTables, LastEpoch, Full}
