@@ -177,12 +177,7 @@ impl Log {
     }
 
     // Adds an entry that was read from a log.
-    fn add<D: Disk>(
-        &mut self,
-        disk: &mut D,
-        buf: &mut [u8],
-        entry: &Entry,
-    ) -> Result<(), DiskFault>
+    fn add<D: Disk>(&mut self, disk: &mut D, buf: &mut [u8], entry: &Entry) -> Result<(), DiskFault>
         requires sound { IsEntry entry.now }
         requires fits { self.old.filled + need entry.now ≤ 262144 }
         requires room { 66568 ≤ length buf.old }

@@ -60,10 +60,13 @@ module _ (n : Node) (f : IsTrieNode n) where
   end_first e = at (letter_at n END e)
     where
       at : (j : ℕ) × (j < length n) × ((nth n j).0 ≡ 256) → ((nth n 0).0 ≡ 256) × (1 < length n)
-      at (zero, l, is) = (is, elim (cases_lt 1 (length n)) [
-        | inl long ↦ long
-        | inr short ↦ absurd (omega (arith, is, f.end_is_not_alone (omega (arith, l, short)) 0 (0, false) l))
-      ])
+      at (zero, l, is) = (
+        is,
+        elim (cases_lt 1 (length n)) [
+          | inl long ↦ long
+          | inr short ↦ absurd (omega (arith, is, f.end_is_not_alone (omega (arith, l, short)) 0 (0, false) l))
+        ],
+      )
       at (suc j, l, is) = absurd (omega (arith, order_up 0 (suc j) (omega arith) l, ap order_of is))
 
   -- the branches behind END are bytes, and rise

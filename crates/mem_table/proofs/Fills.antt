@@ -52,19 +52,19 @@ of_key x (entry ∷ more) =
     λ no. sym (ap (λ (t : Bool). or_else (newest more x.key) (cond t (Some entry.value) None)) no ∙ or_none (newest more x.key)) in
     by_order (λ _. newest (filter (ties is_less x) (entry ∷ more)) x.key ≡ newest (entry ∷ more) x.key) x.key entry.key
     (λ less. ap (λ (t : Bool). newest (cond t (entry ∷ filter (ties is_less x) more) (filter (ties is_less x) more)) x.key) (untied_below x.key entry.key less)
-      ∙ of_key x more ∙ other (above_apart x.key entry.key less))
+    ∙ of_key x more ∙ other (above_apart x.key entry.key less))
     (λ equal. ap (λ (t : Bool). newest (cond t (entry ∷ filter (ties is_less x) more) (filter (ties is_less x) more)) x.key) (tied x.key entry.key equal)
-      ∙ ap (λ (later : Option (Option Bytes)). or_else later (cond (bytes_eq entry.key x.key) (Some entry.value) None)) (of_key x more))
+    ∙ ap (λ (later : Option (Option Bytes)). or_else later (cond (bytes_eq entry.key x.key) (Some entry.value) None)) (of_key x more))
     (λ greater. ap (λ (t : Bool). newest (cond t (entry ∷ filter (ties is_less x) more) (filter (ties is_less x) more)) x.key) (untied_above x.key entry.key greater)
-      ∙ of_key x more ∙ other (below_apart entry.key x.key (less_of_greater x.key entry.key greater)))
+    ∙ of_key x more ∙ other (below_apart entry.key x.key (less_of_greater x.key entry.key greater)))
 
 pub newest_sorted : (entries others : List Entry) → IsStableBy is_less entries others → newest_entries others ≡ newest_entries entries
 newest_sorted entries others stable =
     one_list (newest_entries others) (newest_entries entries) (rises_after [] others tt) (rises_after [] entries tt) (λ key.
-      let x = entry_of key None in
-      lookup_newest others key
-      ∙ sym (of_key x others) ∙ ap (λ (es : List Entry). newest es key) (stable x) ∙ of_key x entries
-      ∙ sym (lookup_newest entries key))
+    let x = entry_of key None in
+    lookup_newest others key
+    ∙ sym (of_key x others) ∙ ap (λ (es : List Entry). newest es key) (stable x) ∙ of_key x entries
+    ∙ sym (lookup_newest entries key))
 
 -- ---- an entry behind entries with rising keys whose keys are not above its own
 
@@ -102,14 +102,14 @@ swap_front entries k i d le lt =
     ap (take (k + 1)) (sym (swap_is entries k i d (omega arith) lt))
     ∙ elim (cases_lt k i) [
       | inl less ↦ take-set-le (k + 1) before i (get_or entries k d) (omega arith)
-        ∙ ap (λ (n : ℕ). take n before) one ∙ take-suc-set entries k (get_or entries i d) (omega arith)
+          ∙ ap (λ (n : ℕ). take n before) one ∙ take-suc-set entries k (get_or entries i d) (omega arith)
       | inr ge ↦
-        let same : i ≡ k = omega arith in
-        ap (λ (n : ℕ). take (k + 1) (set before n (get_or entries k d))) same
-        ∙ ap (λ (n : ℕ). take n (set before k (get_or entries k d))) one
-        ∙ take-suc-set before k (get_or entries k d) (omega (arith, length-set entries k (get_or entries i d)))
-        ∙ ap (λ (es : List Entry). es ++ get_or entries k d ∷ []) (take-set-le k entries k (get_or entries i d) (omega arith))
-        ∙ ap (λ (n : ℕ). take k entries ++ get_or entries n d ∷ []) (sym same)
+          let same : i ≡ k = omega arith in
+          ap (λ (n : ℕ). take (k + 1) (set before n (get_or entries k d))) same
+          ∙ ap (λ (n : ℕ). take n (set before k (get_or entries k d))) one
+          ∙ take-suc-set before k (get_or entries k d) (omega (arith, length-set entries k (get_or entries i d)))
+          ∙ ap (λ (es : List Entry). es ++ get_or entries k d ∷ []) (take-set-le k entries k (get_or entries i d) (omega arith))
+          ∙ ap (λ (n : ℕ). take k entries ++ get_or entries n d ∷ []) (sym same)
     ]
 
 swap_behind : (entries : List Entry) (k i : ℕ) → k ≤ i → i < length entries → drop (i + 1) (swap entries k i) ≡ drop (i + 1) entries
@@ -137,7 +137,7 @@ pub record Kept (old entries : List Entry) (i kept : ℕ) : Type 0 where
   pub last : 0 < i → (d : Entry) → (0 < kept) × ((get_or entries (kept - 1) d).key ≡ (get_or old (i - 1) d).key)
 
 pub kept_none : (old : List Entry) → Kept old old 0 0
-kept_none old = record { size = refl; within = omega arith; front = refl; behind = refl; last = λ lt. absurd (omega arith); }
+kept_none old = record { size = refl; within = omega arith; front = refl; behind = refl; last = λ lt. absurd (omega arith) }
 
 module _ (old entries : List Entry) (i kept : ℕ) (k : Kept old entries i kept) (lt : i < length old) where
   here : (d : Entry) → get_or entries i d ≡ get_or old i d
@@ -174,9 +174,9 @@ module _ (old entries : List Entry) (i kept : ℕ) (k : Kept old entries i kept)
         size = length-swap entries (kept - 1) i ∙ k.size;
         within = omega (arith, k.within);
         front =
-          ap (λ (n : ℕ). take n (swap entries (kept - 1) i)) one ∙ swap_front entries (kept - 1) i d le inside
-          ∙ sym (replace_last (take (kept - 1) entries) (get_or entries (kept - 1) d) (get_or entries i d) (subst KeysRise (split d some) rises) same)
-          ∙ ap (λ (es : List Entry). with_entry es (get_or entries i d)) (sym (split d some)) ∙ sym (next_front d);
+            ap (λ (n : ℕ). take n (swap entries (kept - 1) i)) one ∙ swap_front entries (kept - 1) i d le inside
+            ∙ sym (replace_last (take (kept - 1) entries) (get_or entries (kept - 1) d) (get_or entries i d) (subst KeysRise (split d some) rises) same)
+            ∙ ap (λ (es : List Entry). with_entry es (get_or entries i d)) (sym (split d some)) ∙ sym (next_front d);
         behind = next_behind (kept - 1) le;
         last = λ _ e. (some, ap (λ (x : Entry). x.key) (swap_at entries (kept - 1) i e le inside ∙ here e) ∙ last_is e);
       }
@@ -193,8 +193,11 @@ module _ (old entries : List Entry) (i kept : ℕ) (k : Kept old entries i kept)
         within = omega (arith, k.within);
         front = swap_front entries kept i d k.within inside ∙ sym (next_front d ∙ behind_last);
         behind = next_behind kept k.within;
-        last = λ _ e. (omega arith, ap (λ (n : ℕ). (get_or (swap entries kept i) n e).key) (back kept) ∙ ap (λ (x : Entry). x.key) (swap_at entries kept i e k.within inside ∙ here e)
-          ∙ ap (λ (n : ℕ). (get_or old n e).key) (sym (back i)));
+        last = λ _ e. (
+          omega arith,
+          ap (λ (n : ℕ). (get_or (swap entries kept i) n e).key) (back kept) ∙ ap (λ (x : Entry). x.key) (swap_at entries kept i e k.within inside ∙ here e)
+              ∙ ap (λ (n : ℕ). (get_or old n e).key) (sym (back i)),
+        );
       }
     where
       back : (n : ℕ) → n + 1 - 1 ≡ n
@@ -218,12 +221,12 @@ module _ (old entries : List Entry) (i kept : ℕ) (k : Kept old entries i kept)
       behind_last : with_entry (take kept entries) (get_or entries i d) ≡ take kept entries ++ get_or entries i d ∷ []
       behind_last = elim (cases_lt 0 kept) [
         | inl some ↦
-          let parts = split d some in
-          subst (λ (es : List Entry). with_entry es (get_or entries i d) ≡ es ++ get_or entries i d ∷ []) (sym parts)
-          (append_last (take (kept - 1) entries) (get_or entries (kept - 1) d) (get_or entries i d) (subst KeysRise parts rises) (above some))
+            let parts = split d some in
+            subst (λ (es : List Entry). with_entry es (get_or entries i d) ≡ es ++ get_or entries i d ∷ []) (sym parts)
+            (append_last (take (kept - 1) entries) (get_or entries (kept - 1) d) (get_or entries i d) (subst KeysRise parts rises) (above some))
         | inr none ↦
-          let no : kept ≡ 0 = omega arith in
-          ap (λ (n : ℕ). with_entry (take n entries) (get_or entries i d)) no ∙ ap (λ (n : ℕ). take n entries ++ get_or entries i d ∷ []) (sym no)
+            let no : kept ≡ 0 = omega arith in
+            ap (λ (n : ℕ). with_entry (take n entries) (get_or entries i d)) no ∙ ap (λ (n : ℕ). take n entries ++ get_or entries i d ∷ []) (sym no)
       ]
 
 -- ---- entries whose order is that in which they stand

@@ -8,7 +8,6 @@ use Rattle.std.proofs.Math.Seq.{drop-append-add}
 use Rattle.arrayvec.specs.ArrayVec.{ArrayVec}
 use Rattle.mem_table.specs.Chunks.{flat, flat_at, IsPlace, IsGap, NoneEmpty}
 
-
 -- ---- where a place of a chunk stands in the flat order
 
 pub place_in : (chunks : List (ArrayVec ℕ)) (c k : ℕ) → IsPlace chunks c k → flat_at chunks c k < length (flat chunks)

@@ -88,19 +88,19 @@ module _ (key : Bytes) (entries : List Entry) (chunks : List (ArrayVec ℕ)) (or
       start_at (x ∷ more) = refl
 
   module _ (c k behind : ℕ) (e : ArrayVec ℕ) (lt : c < length chunks) (next : behind ≡ c + 1) (inside : k ≤ length (get_or chunks c e).items)
-    (outer : IsPartitionPoint (λ chunk. byte_order (first_in entries chunk).key key ≡ Less) (λ chunk. byte_order (first_in entries chunk).key key ≡ Greater) chunks behind)
-    (inner : IsPartitionPoint (λ place. byte_order (entry_at entries place).key key ≡ Less) (λ place. byte_order (entry_at entries place).key key ≡ Greater) (get_or chunks c e).items k) where
+      (outer : IsPartitionPoint (λ chunk. byte_order (first_in entries chunk).key key ≡ Less) (λ chunk. byte_order (first_in entries chunk).key key ≡ Greater) chunks behind)
+      (inner : IsPartitionPoint (λ place. byte_order (entry_at entries place).key key ≡ Less) (λ place. byte_order (entry_at entries place).key key ≡ Greater) (get_or chunks c e).items k) where
     last_below : (d : Entry) → byte_order (get_or (in_order entries (flat chunks)) (flat_at chunks c k - 1) d).key key ≡ Less
     last_below d = elim (cases_lt 0 k) [
       | inl some ↦
-        let at_is : flat_at chunks c (k - 1) ≡ flat_at chunks c k - 1 = omega (arith, within_at chunks c k lt, within_at chunks c (k - 1) lt) in
-        subst (λ (n : ℕ). byte_order (get_or (in_order entries (flat chunks)) n d).key key ≡ Less) at_is
-        (less_at c (k - 1) e d (place_from chunks c (k - 1) e lt (omega arith)) (inner.0 (k - 1) 0 (omega arith) (omega arith)))
+          let at_is : flat_at chunks c (k - 1) ≡ flat_at chunks c k - 1 = omega (arith, within_at chunks c k lt, within_at chunks c (k - 1) lt) in
+          subst (λ (n : ℕ). byte_order (get_or (in_order entries (flat chunks)) n d).key key ≡ Less) at_is
+          (less_at c (k - 1) e d (place_from chunks c (k - 1) e lt (omega arith)) (inner.0 (k - 1) 0 (omega arith) (omega arith)))
       | inr none ↦
-        let first = place_chunk chunks c 0 e (first_place chunks c orders.some lt) in
-        let less : byte_order (first_in entries (get_or chunks c e)).key key ≡ Less = outer.0 c e (omega arith) (omega arith) in
-        let greater : byte_order (first_in entries (get_or chunks c e)).key key ≡ Greater = inner.1 0 0 (omega arith) first.1 in
-        absurd (apart less greater)
+          let first = place_chunk chunks c 0 e (first_place chunks c orders.some lt) in
+          let less : byte_order (first_in entries (get_or chunks c e)).key key ≡ Less = outer.0 c e (omega arith) (omega arith) in
+          let greater : byte_order (first_in entries (get_or chunks c e)).key key ≡ Greater = inner.1 0 0 (omega arith) first.1 in
+          absurd (apart less greater)
     ]
       where
         apart : {o : Ordering} → o ≡ Less → o ≡ Greater → ⊥
@@ -111,13 +111,13 @@ module _ (key : Bytes) (entries : List Entry) (chunks : List (ArrayVec ℕ)) (or
       | inl here ↦ above_at c k e d (place_from chunks c k e lt here) (inner.1 k 0 (omega arith) here)
       | inr end ↦ elim (cases_lt (suc c) (length chunks)) [
         | inl another ↦
-          let full : k ≡ length (get_or chunks c e).items = omega arith in
-          let at_is : flat_at chunks (suc c) 0 ≡ flat_at chunks c k = sym (ap (flat_at chunks c) full ∙ next_at chunks c e lt) in
-          subst (λ (n : ℕ). byte_order key (get_or (in_order entries (flat chunks)) n d).key ≡ Less) at_is
-          (above_at (suc c) 0 e d (first_place chunks (suc c) orders.some another) (outer.1 (suc c) e (omega arith) another))
+            let full : k ≡ length (get_or chunks c e).items = omega arith in
+            let at_is : flat_at chunks (suc c) 0 ≡ flat_at chunks c k = sym (ap (flat_at chunks c) full ∙ next_at chunks c e lt) in
+            subst (λ (n : ℕ). byte_order key (get_or (in_order entries (flat chunks)) n d).key ≡ Less) at_is
+            (above_at (suc c) 0 e d (first_place chunks (suc c) orders.some another) (outer.1 (suc c) e (omega arith) another))
         | inr last ↦
-          let full : k ≡ length (get_or chunks c e).items = omega arith in
-          absurd (omega (arith, ap (flat_at chunks c) full, next_at chunks c e lt, end_at chunks (suc c) 0 last, length-map (flat chunks) (entry_at entries), more))
+            let full : k ≡ length (get_or chunks c e).items = omega arith in
+            absurd (omega (arith, ap (flat_at chunks c) full, next_at chunks c e lt, end_at chunks (suc c) 0 last, length-map (flat chunks) (entry_at entries), more))
       ]
     ]
 

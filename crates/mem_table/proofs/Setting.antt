@@ -40,7 +40,7 @@ module _ (entries : List Entry) (chunks : List (ArrayVec ℕ)) (orders : Orders 
     }
 
   module _ (entry : Entry) (others : List (ArrayVec ℕ)) (belongs : BelongsAt at entry.key (in_order entries (flat chunks))) (le : at ≤ length (flat chunks))
-    (placed : flat others ≡ insert (flat chunks) at (length entries)) (some : NoneEmpty others) where
+      (placed : flat others ≡ insert (flat chunks) at (length entries)) (some : NoneEmpty others) where
     pub put_shows : in_order (entries ++ entry ∷ []) (flat others) ≡ with_entry (in_order entries (flat chunks)) entry
     put_shows =
         ap (in_order (entries ++ entry ∷ [])) placed
@@ -50,9 +50,9 @@ module _ (entries : List Entry) (chunks : List (ArrayVec ℕ)) (orders : Orders 
     pub put_orders : Orders others (entries ++ entry ∷ [])
     put_orders =
         let size = length-append entries (entry ∷ []) in record {
-      rises = subst KeysRise (sym put_shows) (rises_with (in_order entries (flat chunks)) entry orders.rises);
-      within = subst (λ (ps : List ℕ). AllByRecursion (λ p. p < length (entries ++ entry ∷ [])) ps) (sym placed)
-          (within_insert (entries ++ entry ∷ []) (flat chunks) at (length entries) (omega (arith, size)) (within_more entries (entries ++ entry ∷ []) (flat chunks) (omega (arith, size)) orders.within));
-      all = omega (arith, ap (λ (ps : List ℕ). length ps) placed, length-insert (flat chunks) at (length entries) le, orders.all, size);
-      some = some;
-    }
+          rises = subst KeysRise (sym put_shows) (rises_with (in_order entries (flat chunks)) entry orders.rises);
+          within = subst (λ (ps : List ℕ). AllByRecursion (λ p. p < length (entries ++ entry ∷ [])) ps) (sym placed)
+              (within_insert (entries ++ entry ∷ []) (flat chunks) at (length entries) (omega (arith, size)) (within_more entries (entries ++ entry ∷ []) (flat chunks) (omega (arith, size)) orders.within));
+          all = omega (arith, ap (λ (ps : List ℕ). length ps) placed, length-insert (flat chunks) at (length entries) le, orders.all, size);
+          some = some;
+        }

@@ -31,11 +31,7 @@ impl<'a> Model for MemCursor<'a> {
 }
 
 impl<'a> MemCursor<'a> {
-    pub(crate) fn new(
-        entries: &'a [Entry],
-        here: &'a [u32],
-        behind: &'a [Chunk],
-    ) -> MemCursor<'a>
+    pub(crate) fn new(entries: &'a [Entry], here: &'a [u32], behind: &'a [Chunk]) -> MemCursor<'a>
         requires within { AllByRecursion (λ place. place < length entries.now) (here.now ++ flat behind.now) }
         requires some { NoneEmpty behind.now }
         ensures { result ≡ in_order entries.now (here.now ++ flat behind.now) }

@@ -61,7 +61,10 @@ pub(crate) fn spot_of(entries: &[Entry], chunks: &[Chunk], key: &[u8]) -> Result
         Err(behind) => behind,
     };
     if behind == 0 {
-        return Err(Spot { chunk: 0, within: 0 });
+        return Err(Spot {
+            chunk: 0,
+            within: 0,
+        });
     }
     let chunk = behind - 1;
     match within_of(entries, &chunks[chunk], key) {

@@ -17,12 +17,7 @@ use mem_table::MemTable;
 use std::alloc::AllocError;
 
 // All the memory of an entry.
-fn prepared(
-    table: &mut MemTable,
-    kind: Kind,
-    key: &[u8],
-    value: &[u8],
-) -> Result<Entry, AllocError>
+fn prepared(table: &mut MemTable, kind: Kind, key: &[u8], value: &[u8]) -> Result<Entry, AllocError>
     ensures entry { IfOk result (λ p. p ≡ entry_of_kind kind key.now value.now) }
     ensures spare { OnOk result (1 ≤ table.new.spare) }
     ensures kept { table.new.entries ≡ table.old.entries }

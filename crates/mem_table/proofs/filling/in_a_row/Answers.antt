@@ -22,11 +22,11 @@ loop-place-preserved c =
     let end : flat_at chunks c.end_of-end.result.chunk c.end_of-end.result.within ≡ length (flat chunks) = rw (← c.deref.ensures.value) c.end_of-end.ensures.end in
     let items = c.in_ok-reserve.ensures.items in (
       c.put.ensures.placed
-      ∙ ap (λ (n : ℕ). insert (flat chunks) n place) end
-      ∙ insert_end (flat chunks) place
-      ∙ ap (λ (ps : List ℕ). ps ++ place ∷ []) (ap flat items ∙ c.loop-place.invariant.0)
-      ∙ ap (λ (n : ℕ). range_with_len 0 place ++ n ∷ []) same
-      ∙ sym (row_more 0 place)
-      ∙ ap (range_with_len 0) one,
+          ∙ ap (λ (n : ℕ). insert (flat chunks) n place) end
+          ∙ insert_end (flat chunks) place
+          ∙ ap (λ (ps : List ℕ). ps ++ place ∷ []) (ap flat items ∙ c.loop-place.invariant.0)
+          ∙ ap (λ (n : ℕ). range_with_len 0 place ++ n ∷ []) same
+          ∙ sym (row_more 0 place)
+          ∙ ap (range_with_len 0) one,
       c.put.ensures.some (subst NoneEmpty (sym items) c.loop-place.invariant.1),
     )

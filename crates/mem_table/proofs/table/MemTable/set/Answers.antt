@@ -26,19 +26,19 @@ found entries seen chunks places chunk within place key entry orders same_entrie
 
 pub invariant_of-self : goal.invariant_of-self
 invariant_of-self c = (
-    (found c.self.inside.entries.items c.deref.result.now c.self.inside.chunks.items c.deref-2.result.now c.in-Ok.spot.chunk c.in-Ok.spot.within c.place_at-place.result c.key.result.now c.args.entry
+  (found c.self.inside.entries.items c.deref.result.now c.self.inside.chunks.items c.deref-2.result.now c.in-Ok.spot.chunk c.in-Ok.spot.within c.place_at-place.result c.key.result.now c.args.entry
       c.self.invariant.0 c.deref.ensures.value c.deref-2.ensures.value c.key.ensures c.in-Ok.ensures.place c.in-Ok.ensures.found (rw (← c.deref-in-Ok.ensures.value) c.place_at-place.ensures)).0,
-    c.self.invariant.1,
-    c.self.invariant.2,
-  )
+  c.self.invariant.1,
+  c.self.invariant.2,
+)
 
 pub invariant_of-self-in-Ok-2 : goal.invariant_of-self-in-Ok-2
 invariant_of-self-in-Ok-2 c = (
-    (found c.self.inside.entries.items c.deref.result.now c.self.inside.chunks.items c.deref-2.result.now c.in-Ok.spot.chunk c.in-Ok.spot.within c.place_at-place.result c.key.result.now c.args.entry
+  (found c.self.inside.entries.items c.deref.result.now c.self.inside.chunks.items c.deref-2.result.now c.in-Ok.spot.chunk c.in-Ok.spot.within c.place_at-place.result c.key.result.now c.args.entry
       c.self.invariant.0 c.deref.ensures.value c.deref-2.ensures.value c.key.ensures c.in-Ok.ensures.place c.in-Ok.ensures.found (rw (← c.deref-in-Ok.ensures.value) c.place_at-place.ensures)).0,
-    c.self.invariant.1,
-    c.self.invariant.2,
-  )
+  c.self.invariant.1,
+  c.self.invariant.2,
+)
 
 pub returns-in-Ok-clause-set : goal.returns-in-Ok-clause-set
 returns-in-Ok-clause-set c =
