@@ -2,7 +2,7 @@
 use Rattle.std.specs.Prelude.{◌≡◌, ◌<◌, ◌-◌, ℕ, [], ◌++◌, List, map, length, take, drop}
 use Rattle.std.proofs.Common.{sym, ap, ◌∙◌, arith}
 use Rattle.std.proofs.lemmas.List.{map-append, append-nil, drop_all, take_all, length-drop, length-map, drop-map}
-use Rattle.state_model.specs.State.{Table}
+use Rattle.table_model.specs.Tables.{Table}
 use Rattle.state_model.specs.Taken.{extent_of}
 
 pub taken_beside : (tables written : List Table) → map extent_of tables ++ map extent_of written ≡ map extent_of (tables ++ (written ++ []))
