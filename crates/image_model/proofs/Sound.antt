@@ -16,6 +16,8 @@ use Rattle.log_model.proofs.Logs.{size_is}
 use Rattle.block_model.specs.Index.{index_row_of}
 use Rattle.block_model.specs.Pages.{block_length, block_pages, pages_for}
 use Rattle.block_model.specs.Places.{pages_of}
+use Rattle.block_model.specs.Block.{IsBlock}
+use Rattle.block_model.proofs.Bounds.{weaker}
 use Rattle.extent_model.specs.Extents.{AreApart, Extent, IsOnDevice}
 use Rattle.extent_model.proofs.Lists.{Pairs, all_pairs}
 use Rattle.manifest_model.specs.Laws.{IsVersion}
@@ -24,6 +26,7 @@ use Rattle.manifest_model.specs.Version.{Version}
 use Rattle.state_model.specs.Sound.{IsSound, IsSoundTable, MayRun}
 use Rattle.state_model.specs.State.{Job, State, last_epoch, written_by}
 use Rattle.state_model.specs.Taken.{extent_of, taken}
+use Rattle.state_model.proofs.Places.{IsSmall, blocks_joined_small}
 use Rattle.table_model.specs.Images.{IsTableAt, IsTableOf}
 use Rattle.table_model.specs.Tables.{FilterBytes, Table}
 use Rattle.table_model.proofs.OneTable.{rows_of_index}
@@ -57,6 +60,7 @@ table_sound spelling settings row t image is of_row = subst IsSoundTable (sym of
   level = is.level;
   entries = of_row.1.table;
   blocks = some_blocks spelling settings row of_row.0 image of_row.1;
+  few = blocks_joined_small of_row.0 (weaker IsBlock IsSmall (λ block is. is.few) of_row.0 of_row.1.each);
 })
 
 tables_sound : (spelling : Spelling) (settings : Settings) (rows : List Row) (tables : List Table) (image : Image) → AllByRecursion IsLevelled rows
