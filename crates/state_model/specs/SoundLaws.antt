@@ -112,9 +112,9 @@ PlayedIsSound =
     (filter_bytes : FilterBytes) (s : State) (requests : List Request) → IsSound filter_bytes s
     → AllByRecursion AsksOfBytes requests → s.job ≡ None → IsSound filter_bytes (played filter_bytes s requests).1
 
--- in a sound state
-abbrev pub InSoundState : FilterBytes → ℕ → State → Type 0
-InSoundState filter_bytes said s = IsSound filter_bytes s
+-- R, and that the state is sound
+abbrev pub WithSound : FilterBytes → (ℕ → State → Type 0) → ℕ → State → Type 0
+WithSound filter_bytes R said s = R said s × IsSound filter_bytes s
 
 -- Each state of a script from a sound one is sound, as each reply has been said, and so is the state behind some first
 -- lines.
@@ -122,11 +122,11 @@ pub record ScriptsKeepSound : Type 0 where
   pub script :
       (filter_bytes : FilterBytes) (said : ℕ) (s : State) (lines : List Bytes) (text : Bytes) (ending : Ending) → IsSound filter_bytes s
       → Script Ever filter_bytes AnyState said s lines text ending
-      → Script Ever filter_bytes (InSoundState filter_bytes) said s lines text ending
+      → Script Ever filter_bytes (WithSound filter_bytes AnyState) said s lines text ending
   pub first_lines :
       (filter_bytes : FilterBytes) (said : ℕ) (s after : State) (lines : List Bytes) (text : Bytes) → IsSound filter_bytes s
       → WentOn Ever filter_bytes AnyState said s lines text after
-      → WentOn Ever filter_bytes (InSoundState filter_bytes) said s lines text after × IsSound filter_bytes after
+      → WentOn Ever filter_bytes (WithSound filter_bytes AnyState) said s lines text after × IsSound filter_bytes after
 
 -- ---- what is not sound, and what the keys of a table are
 
