@@ -1,6 +1,6 @@
 -- What is chosen is some of the tables, in their order.
-use Rattle.std.proofs.Common.{◌≡◌, ◌⊎◌, inl, inr, ℕ, zero, suc, ◌≤◌, ◌<◌, ◌+◌, List, [], ◌∷◌, ◌++◌, length, refl, sym, ap, ◌∙◌, subst, Bool, true, false, cond, arith}
-use Rattle.std.specs.Prelude.{Option, Some, None, nat_le, nat_lt, filter, take, drop}
+use Rattle.std.proofs.Common.{◌≡◌, inl, inr, ℕ, zero, suc, ◌≤◌, ◌<◌, ◌+◌, List, [], ◌∷◌, ◌++◌, length, refl, sym, subst, Bool, true, false, cond, arith}
+use Rattle.std.specs.Prelude.{Some, nat_le, nat_lt, filter, take, drop}
 use Rattle.std.specs.List.{AllByRecursion, AllPairs, sum_by}
 use Rattle.std.proofs.lemmas.List.{length-append}
 use Rattle.extent_model.proofs.Lists.{Pairs, pairs_of}

@@ -1,6 +1,6 @@
 -- Laws of soundness: a store as it is made is sound, and what is done to a sound state leaves one.
 use Rattle.std.specs.Prelude.{◌≡◌, ◌≤◌, ◌<◌, ◌+◌, ◌++◌, ℕ, List, [], ◌∷◌, length, map, Option, Some, None, Ok}
-use Rattle.std.specs.List.{AllByRecursion, AllPairs, sum_by}
+use Rattle.std.specs.List.{AllByRecursion, sum_by}
 use Rattle.filter_api.specs.declared.settings.Settings.{Settings}
 use Rattle.filter_api.specs.Ranges.{InRange}
 use Rattle.filter_model.specs.Keys.{IsKeyList}
