@@ -1,4 +1,5 @@
 pub mod Pages
+pub mod Places
 pub mod Order
 pub mod Block
 pub mod BlockReading

@@ -1,5 +1,6 @@
 -- Entries by which the definitions are tried.
 use Rattle.std.specs.Prelude.{ℕ, List, [], ◌∷◌, replicate, set, codes}
+use Rattle.byte_fields.specs.declared.parts.Row.{Row}
 use Rattle.map_model.specs.SortedMap.{Bytes}
 use Rattle.entry_model.specs.Entries.{Entry, put_entry, del_entry}
 use Rattle.block_model.specs.Block.{block_bytes}
@@ -25,6 +26,10 @@ a_and_ab = a_b ∷ no_ab ∷ []
 unfoldable pub broken : ℕ → ℕ → Bytes
 broken place byte = set (block_bytes a_and_ab) place byte
 
+-- with another byte at two places
+unfoldable pub broken_twice : ℕ → ℕ → ℕ → ℕ → Bytes
+broken_twice place byte next other = set (broken place byte) next other
+
 -- an index of two blocks from a on: one page up to b, two pages up to ba
 abbrev pub two_blocks : Index
 two_blocks = record {
@@ -35,3 +40,21 @@ two_blocks = record {
 -- its bytes, with another byte at a place
 unfoldable pub broken_index : ℕ → ℕ → Bytes
 broken_index place byte = set (index_bytes two_blocks) place byte
+
+unfoldable pub broken_index_twice : ℕ → ℕ → ℕ → ℕ → Bytes
+broken_index_twice place byte next other = set (broken_index place byte) next other
+
+-- a table from page 204 on: five pages of blocks, two of the index, three of the filter
+abbrev pub ten_pages : Row
+ten_pages = record {
+  level = 1;
+  first_page = 204;
+  data_pages = 5;
+  index_pages = 2;
+  filter_pages = 3;
+  entries = 900;
+  index_len = 4097;
+  filter_len = 12288;
+  index_sum = 7;
+  filter_sum = 9;
+}

@@ -3,7 +3,7 @@ ghost use Rattle.std.specs.Prelude.{◌≡◌, [], ◌∷◌, ◌++◌, take, co
 ghost use Rattle.byte_fields.specs.Faults.{fault};
 ghost use Rattle.block_model.specs.Index.{index_bytes, index_of};
 ghost use Rattle.block_model.specs.IndexReading.{index_fault, index_in};
-ghost use Rattle.block_model.specs.Rows.{a_and_ab, broken_index, two_blocks};
+ghost use Rattle.block_model.specs.Rows.{a_and_ab, broken_index, broken_index_twice, two_blocks};
 
 /// The index of the block with a and ab.
 #[tactic(auto, unfolding(crate::specs::Pages::pages_for, crate::specs::Pages::block_length, crate::specs::Pages::block_pages, crate::specs::Pages::blocks_of, crate::specs::Block::block_bytes, crate::specs::Block::header_bytes, crate::specs::Block::padding, crate::specs::Index::index_of, crate::specs::Index::index_row_of, crate::specs::Index::index_bytes, crate::specs::Index::index_head_bytes, crate::specs::Index::index_row_bytes))]
@@ -39,4 +39,20 @@ pub fn broken_indexes()
     ensures many_pages { index_fault 3 (broken_index 26 18) ≡ Some (fault 26 6) }
     ensures bytes_are_left { index_fault 3 (index_bytes two_blocks ++ 0 ∷ []) ≡ Some (fault 42 7) }
     ensures other_pages { index_fault 4 (index_bytes two_blocks) ≡ Some (fault 4 8) }
+{}
+
+/// Where two rules are broken: the first of them in their order, row by row. Last keys that are equal do not rise; the first
+/// may be the least key.
+#[tactic(auto, unfolding(crate::specs::Index::index_bytes, crate::specs::Index::index_head_bytes, crate::specs::Index::index_row_bytes, crate::specs::IndexReading::head_width_in, crate::specs::IndexReading::least_in, crate::specs::IndexReading::index_head_fault, crate::specs::IndexReading::row_width_in, crate::specs::IndexReading::last_in, crate::specs::IndexReading::row_in, crate::specs::IndexReading::row_fault, crate::specs::IndexReading::rows_fault, crate::specs::IndexReading::rows_in, crate::specs::IndexReading::index_in, crate::specs::IndexReading::pages_fault, crate::specs::IndexReading::index_fault, crate::specs::Rows::broken_index, crate::specs::Rows::broken_index_twice))]
+pub fn twice_broken_indexes()
+    ensures cut_then_magic { index_fault 3 (take 9 (broken_index 3 0x4D)) ≡ Some (fault 9 1) }
+    ensures magic_then_no_blocks { index_fault 3 (broken_index_twice 3 0x4D 4 0) ≡ Some (fault 0 2) }
+    ensures no_blocks_then_no_key { index_fault 3 (broken_index_twice 4 0 8 0) ≡ Some (fault 4 3) }
+    ensures length_then_pages { index_fault 3 (broken_index_twice 23 0 11 0) ≡ Some (fault 23 4) }
+    ensures key_then_pages { index_fault 3 (broken_index_twice 25 0x60 11 0) ≡ Some (fault 25 5) }
+    ensures pages_then_bytes_left { index_fault 3 (broken_index 26 18 ++ 0 ∷ []) ≡ Some (fault 26 6) }
+    ensures bytes_left_then_all_pages { index_fault 4 (index_bytes two_blocks ++ 0 ∷ []) ≡ Some (fault 42 7) }
+    ensures the_first_row { index_fault 3 (broken_index_twice 11 0 40 0x61) ≡ Some (fault 11 6) }
+    ensures equal_keys { index_fault 3 (take 41 (broken_index 38 1)) ≡ Some (fault 40 5) }
+    ensures first_is_the_least { index_fault 3 (broken_index 10 0x62) ≡ None }
 {}

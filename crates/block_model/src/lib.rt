@@ -3,7 +3,8 @@
 //!
 //! `specs/` has one file a noun. `Pages` says how entries are cut into blocks and how many pages and bytes come out,
 //! `Block` and `Index` how each is spelled, `BlockReading` and `IndexReading` what is read from bytes and which rule they
-//! break first, and where. Whoever writes or reads a table is proved against these.
+//! break first, and where; `Places` says where the parts of a table stand, by its row. Whoever writes or reads a table is
+//! proved against these.
 //!
 //! The functions are the obvious loops. They copy entries and hold all bytes in memory, so they are for tests and for
 //! comparison; a store writes its tables block by block. Want of memory is the only error. [`are_entries`] tests what
@@ -26,13 +27,15 @@ mod laws;
 mod page_rows;
 mod pages;
 
-pub use block_rows::{broken_blocks, small_block_bytes, small_block_is_read};
+pub use block_rows::{broken_blocks, small_block_bytes, small_block_is_read, twice_broken_blocks};
 pub use bytes::{block_bytes, data_bytes, first_key, index_bytes, last_key, push_body};
 pub use counts::{data_pages, index_length};
-pub use index_rows::{broken_indexes, small_index_bytes, small_index_is_read};
+pub use index_rows::{
+    broken_indexes, small_index_bytes, small_index_is_read, twice_broken_indexes,
+};
 pub use laws::{
     blocks_are_the_entries, blocks_have_one_spelling, indexes_have_one_spelling,
     lengths_are_counted,
 };
-pub use page_rows::{full_blocks, small_blocks, whole_pages};
+pub use page_rows::{full_blocks, parts_of_a_table, small_blocks, whole_pages};
 pub use pages::{are_entries, block_length, cut, pages_for};

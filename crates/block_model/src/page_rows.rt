@@ -1,7 +1,8 @@
 // The definitions, tried on rows whose answers are known. Each row computes.
 ghost use Rattle.std.specs.Prelude.{◌≡◌, [], ◌∷◌, length, map, replicate};
 ghost use Rattle.block_model.specs.Pages.{pages_for, block_length, block_pages, blocks_of, data_pages, first_key, index_length, last_key};
-ghost use Rattle.block_model.specs.Rows.{a_b, no_ab, wide};
+ghost use Rattle.block_model.specs.Places.{byte_of_page, end_page, filter_page, index_page, pages_of};
+ghost use Rattle.block_model.specs.Rows.{a_b, no_ab, ten_pages, wide};
 
 /// Bytes in whole pages, rounded up.
 #[tactic(auto, unfolding(crate::specs::Pages::pages_for))]
@@ -37,4 +38,13 @@ pub fn full_blocks()
     ensures its_pages { map block_pages (blocks_of (a_b ∷ wide 0x62 4200 ∷ wide 0x63 1 ∷ [])) ≡ 1 ∷ 2 ∷ 1 ∷ [] }
     ensures all_pages { data_pages (a_b ∷ wide 0x62 4200 ∷ wide 0x63 1 ∷ []) ≡ 4 }
     ensures at_most_255 { map length (blocks_of (replicate 256 a_b)) ≡ 255 ∷ 1 ∷ [] }
+{}
+
+/// Where the parts of a table stand: pages have 4,096 bytes, and the first page of tables is 192.
+pub fn parts_of_a_table()
+    ensures first_table { byte_of_page 192 ≡ 786432 }
+    ensures index { index_page ten_pages ≡ 209 }
+    ensures filter { filter_page ten_pages ≡ 211 }
+    ensures pages { pages_of ten_pages ≡ 10 }
+    ensures behind { end_page ten_pages ≡ 214 }
 {}

@@ -1,5 +1,5 @@
 -- The bytes of a disk as a function from place to byte: 0 past the end.
-use Rattle.std.specs.Prelude.{◌<◌, ◌≡◌, ℕ, zero, suc, ◌+◌, ◌-◌, ◌≤◌, List, [], ◌∷◌, nat_lt, if◌then◌else◌, slice_index_or}
+use Rattle.std.specs.Prelude.{◌<◌, ◌≡◌, ◌⊎◌, ℕ, zero, suc, ◌+◌, ◌-◌, ◌≤◌, List, [], ◌∷◌, length, nat_lt, if◌then◌else◌, slice_index_or}
 
 abbrev pub Image : Type 0
 Image = ℕ → ℕ
@@ -8,6 +8,14 @@ Image = ℕ → ℕ
 abbrev pub window : Image → ℕ → ℕ → List ℕ
 window image at zero = []
 window image at (suc n) = image at ∷ window image (at + 1) n
+
+-- these bytes stand there
+abbrev pub Shows : ℕ → List ℕ → Image → Type 0
+Shows at bytes image = window image at (length bytes) ≡ bytes
+
+-- so many bytes from one place on do not meet so many from another
+abbrev pub IsApart : ℕ → ℕ → ℕ → ℕ → Type 0
+IsApart from size at n = (from + size ≤ at) ⊎ (at + n ≤ from)
 
 -- these bytes written from a place on
 abbrev pub overwritten : Image → ℕ → List ℕ → Image

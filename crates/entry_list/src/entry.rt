@@ -1,41 +1,45 @@
 // One entry: a key with its value, or with the word that it has none any more.
 ghost use Rattle.std.specs.Prelude.{◌≡◌, ◌↔◌, IfOk, IsTrue, Some};
 ghost use Rattle.std.specs.Option.{option_map};
+ghost use Rattle.std.specs.Box.{boxed_slice_items};
 ghost use Rattle.entry_model.specs.Entries.{IsEntry, entry_of};
+ghost use Rattle.map_model.specs.SortedMap.{byte_order};
 
 use key_base::{MAX_KEY_BYTES, MAX_VALUE_BYTES};
 use std::alloc::{AllocError, Global};
+use std::boxed::BoxedSlice;
+use std::cmp::Ordering;
 use std::marker::Model;
 
 /// A key with its value, or without: then it is a tombstone.
 #[derive(Drop)]
 pub struct Entry {
-    key: Vec<u8>,
-    value: Option<Vec<u8>>,
+    key: BoxedSlice<u8>,
+    value: Option<BoxedSlice<u8>>,
 }
 
 impl Model for Entry {
-    ghost use Rattle.std.specs.Prelude.{vec_items};
     ghost use Rattle.std.specs.Option.{option_map};
+    ghost use Rattle.std.specs.Box.{boxed_slice_items};
     ghost use Rattle.entry_model.specs.Entries as model;
 
     ghost Value = { model.Entry };
 
-    ghost view = { λ e. record { key = vec_items e.key; value = option_map vec_items e.value } };
+    ghost view = { λ e. record { key = boxed_slice_items e.key; value = option_map boxed_slice_items e.value } };
 }
 
 impl Entry {
-    /// A copy of the key and of the value, if there is one.
+    /// A copy of the key and of the value, if there is one. It takes their bytes of memory.
     pub fn new(alloc: Global, key: &[u8], value: Option<&[u8]>) -> Result<Entry, AllocError>
         ensures { IfOk result (λ e. e ≡ entry_of key.now (option_map (λ v. v.now) value.entry)) }
     {
-        let key = copied(alloc, key)?;
+        let key = BoxedSlice::from_slice(alloc, key)?;
         match value {
             Some(bytes) => {
-                let bytes = copied(alloc, bytes)?;
+                let copy = BoxedSlice::from_slice(alloc, bytes)?;
                 Ok(Entry {
                     key,
-                    value: Some(bytes),
+                    value: Some(copy),
                 })
             }
             None => Ok(Entry { key, value: None }),
@@ -47,6 +51,13 @@ impl Entry {
         ensures { result.now ≡ self.now.key }
     {
         self.key.as_slice()
+    }
+
+    /// How its key stands to this one, byte by byte.
+    pub fn compare(&self, key: &[u8]) -> Ordering
+        ensures { result ≡ byte_order self.now.key key.now }
+    {
+        self.key.as_slice().cmp(key)
     }
 
     /// Its value, `None` for a tombstone.
@@ -70,6 +81,15 @@ impl Entry {
         keeps_limits(self.key.as_slice(), value)
     }
 
+    /// Its key and its value, moved.
+    pub fn into_parts(self) -> (BoxedSlice<u8>, Option<BoxedSlice<u8>>)
+        ensures key { boxed_slice_items result.0 ≡ self.key }
+        ensures value { option_map boxed_slice_items result.1 ≡ self.value }
+    {
+        let Entry { key, value } = self;
+        (key, value)
+    }
+
     /// The same entry again.
     pub fn copy(&self, alloc: Global) -> Result<Entry, AllocError>
         ensures { IfOk result (λ e. e ≡ self.now) }
@@ -83,12 +103,4 @@ fn keeps_limits(key: &[u8], value: &[u8]) -> bool
     ensures { IsTrue result ↔ IsEntry (entry_of key.now (Some value.now)) }
 {
     !key.is_empty() && key.len() <= MAX_KEY_BYTES && value.len() <= MAX_VALUE_BYTES
-}
-
-fn copied(alloc: Global, bytes: &[u8]) -> Result<Vec<u8>, AllocError>
-    ensures { IfOk result (λ v. v.items ≡ bytes.now) }
-{
-    let mut copy = Vec::with_capacity(alloc, bytes.len())?;
-    copy.extend_from_slice(bytes)?;
-    Ok(copy)
 }

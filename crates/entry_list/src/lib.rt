@@ -1,9 +1,12 @@
-//! Entries of a store as plain values, which the plain programs beside the definitions are made of.
+//! An entry of a store as a value, and lists of entries as plain programs keep them.
 //!
-//! An [`Entry`] is a key with its value, or a tombstone; a slice of them is seen as the list of entries that the
-//! definitions speak of. Beside it stand a few loops over such lists, and the way in which a format's numbers are
-//! appended. All is as slow as it is plain: each entry owns its bytes, and each look-up goes through the whole list.
-//! A store keeps its entries in `mem_table` and in its tables, and not here.
+//! An [`Entry`] is a key with its value, or a tombstone. The log hands entries out, the memory table keeps them, and the
+//! plain programs beside the definitions are made of them: what passes from one to another is moved, and copied only by
+//! [`Entry::copy`]. An entry owns its bytes, two pieces of memory, which it never grows.
+//!
+//! A slice of entries is seen as the list of entries that the definitions speak of. Beside it stand a few loops over such
+//! lists, and the way in which a format's numbers are appended: as slow as they are plain, each look-up goes through the
+//! whole list. A store looks its entries up in `mem_table` and in its tables, and not here.
 //!
 //! ```text
 //! let mut list = Vec::new(alloc);

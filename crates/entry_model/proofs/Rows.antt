@@ -30,3 +30,10 @@ missing_row = refl
 -- from a key that is not there the next one is first
 from_row : entries_from table (codes "aa") ≡ entry_of (codes "ab") None ∷ entry_of (codes "b") (Some (codes "3")) ∷ []
 from_row = refl
+
+-- from a key that is there, with a value or as a tombstone, it is first itself
+from_itself_row : entries_from table (codes "b") ≡ entry_of (codes "b") (Some (codes "3")) ∷ []
+from_itself_row = refl
+
+from_tombstone_row : entries_from table (codes "ab") ≡ entry_of (codes "ab") None ∷ entry_of (codes "b") (Some (codes "3")) ∷ []
+from_tombstone_row = refl

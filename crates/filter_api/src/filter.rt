@@ -1,12 +1,13 @@
-// The interface of a filter.
+//! The interface of a filter.
 ghost use Rattle.std.specs.Prelude.{◌≡◌, ◌<◌, ◌≤◌, false, ℕ, List, ◌++◌, length, slice_get, IfSome, IfOk, IfErr, OnOk, OnErr};
+ghost use Rattle.byte_fields.specs.Faults.{Fault, fault as fault_at};
 ghost use Rattle.filter_model.specs.Answers.{begins, first, point, ranged, tally as tally_of};
 ghost use Rattle.filter_model.specs.Keys.{IsKeyList};
 ghost use Rattle.filter_model.specs.Leaves.{Leaf as PlainLeaf, leaves_of};
 ghost use Rattle.filter_model.specs.Strings.{is_below};
 ghost use Rattle.filter_api.specs.Ranges.{InRange};
 ghost use Rattle.filter_api.specs.Spellings.{IsNoSpelling, IsSpelling, MayStand, Spelling, SpellsOne};
-ghost use Rattle.filter_api.specs.declared.errors.FilterFault.{FilterFault as Fault};
+ghost use Rattle.filter_api.specs.declared.errors.FilterFault.{FilterFault};
 
 use crate::errors::DecodeError;
 use crate::settings::Settings;
@@ -88,8 +89,8 @@ pub trait RangeFilter: Sized + Drop {
     /// no memory. A fault's place is one of the bytes, or just behind the last where there are too few.
     fn decode(alloc: Global, bytes: &[u8]) -> Result<Self, DecodeError>
         ensures spelled { IfOk result (λ f. IsSpelling spelling (hash_bits f) (real_bits f) (cutoff f) (leaf_list f) bytes.now) }
-        ensures fault { (f : Fault) → result ≡ Err (DecodeError.Fault f) → IsNoSpelling spelling bytes.now × (f ≡ first_fault bytes.now) }
-        ensures place { (f : Fault) → result ≡ Err (DecodeError.Fault f) → f.place ≤ length bytes.now };
+        ensures fault { (f : FilterFault) → result ≡ Err (DecodeError.Fault f) → IsNoSpelling spelling bytes.now × (fault_at f.place f.rule ≡ first_fault bytes.now) }
+        ensures place { (f : FilterFault) → result ≡ Err (DecodeError.Fault f) → f.place ≤ length bytes.now };
 
     // Bytes spell one list with its widths.
     ghost spells_one: { SpellsOne spelling };

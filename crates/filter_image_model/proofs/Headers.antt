@@ -11,7 +11,7 @@ use Rattle.byte_fields.proofs.NumberLemmas.{IsBytes-drop}
 use Rattle.filter_image_model.specs.Header.{Bytes, hash_bits_in, real_bits_in, cutoff_in, height_in, leaf_count_in, dense_count_in, sparse_count_in, label_count_in}
 use Rattle.filter_image_model.specs.Sections.{head_bytes}
 use Rattle.filter_image_model.specs.Reading.{bytes_fault, header_fault}
-use Rattle.filter_image_model.proofs.Refusals.{kept, neither, not_false}
+use Rattle.byte_fields.proofs.FaultLemmas.{kept, neither, not_false}
 
 -- the header of the numbers that are read
 abbrev pub head_in : Bytes → Bytes

@@ -17,7 +17,7 @@ use Rattle.filter_image_model.proofs.SparseNodes.{AreBytes}
 use Rattle.filter_image_model.specs.Reading.{rises, is_no_node, is_no_root, is_lone_end, is_lone_leaf, nodes_fault, header_fault, length_fault, padding_fault, stray_fault, louds_fault, counts_fault, shape_fault, ends_fault, nodes_rules, image_fault, suffix_in, leaves_in, slot_letters}
 use Rattle.filter_image_model.specs.Sections.{KeepsBytes}
 use Rattle.filter_image_model.specs.Laws.{IsReadTrie, TrieIsRead}
-use Rattle.filter_image_model.proofs.Refusals.{kept, neither, not_false}
+use Rattle.byte_fields.proofs.FaultLemmas.{kept, neither, not_false}
 use Rattle.filter_image_model.proofs.Headers.{header_kept}
 use Rattle.filter_image_model.proofs.GroupWords.{Group, gather, IsGoodNode}
 use Rattle.filter_image_model.proofs.DenseNodes.{dense_are}

@@ -11,7 +11,7 @@ use Rattle.bit_words.specs.Packed.{packed, unpacked}
 use Rattle.bit_words.proofs.Packing.{length-packed, get_or-packed, unpacked-packed}
 use Rattle.filter_image_model.specs.Header.{Bytes, place_after}
 use Rattle.filter_image_model.specs.Reading.{has_padding, padding_fault}
-use Rattle.filter_image_model.proofs.Refusals.{passed}
+use Rattle.byte_fields.proofs.FaultLemmas.{passed}
 
 abbrev pub widths : List (List Bool) → List ℕ
 widths bss = map (λ (bits : List Bool). length bits) bss

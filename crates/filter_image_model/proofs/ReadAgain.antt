@@ -21,7 +21,7 @@ use Rattle.filter_image_model.specs.Nodes.{dense_nodes, sparse_nodes, dense_in, 
 use Rattle.filter_image_model.specs.Reading.{is_stray, begins_clear, header_fault, length_fault, padding_fault, stray_fault, louds_fault}
 use Rattle.filter_image_model.specs.Sections.{head_bytes, sections, nodes_image, KeepsBytes, HasRoom, AreReadAgain, SectionsAreReadAgain}
 use Rattle.filter_image_model.proofs.Lists.{all_of, length-map}
-use Rattle.filter_image_model.proofs.Refusals.{passed, not_true}
+use Rattle.byte_fields.proofs.FaultLemmas.{passed, not_true}
 use Rattle.filter_image_model.proofs.Sections.{section_is}
 use Rattle.filter_image_model.proofs.DenseNodes.{dense_again}
 use Rattle.filter_image_model.proofs.SparseNodes.{sparse_again}

@@ -16,7 +16,7 @@ use Rattle.filter_image_model.specs.Levels.{children_of as children_count}
 use Rattle.filter_image_model.specs.Reading.{ends_fault, slot_letters, suffix_in}
 use Rattle.filter_image_model.proofs.Lists.{all_append, all_drop}
 use Rattle.filter_image_model.proofs.LevelsRead.{flat, leaf_branch}
-use Rattle.filter_image_model.proofs.Refusals.{kept, not_false}
+use Rattle.byte_fields.proofs.FaultLemmas.{kept, not_false}
 
 -- letters of leaves with their suffixes: beside END stand no real bits
 abbrev pub EndsFit : ℕ → List ℕ → List ℕ → Type 0

@@ -11,7 +11,7 @@ use Rattle.bit_words.proofs.Packing.{length-unpacked, get_or-unpacked, packed_is
 use Rattle.byte_fields.specs.Spelling.{IsBytes}
 use Rattle.filter_image_model.specs.Header.{Bytes, place_after}
 use Rattle.filter_image_model.specs.Reading.{has_padding, padding_fault}
-use Rattle.filter_image_model.proofs.Refusals.{kept, not_false}
+use Rattle.byte_fields.proofs.FaultLemmas.{kept, not_false}
 use Rattle.byte_fields.proofs.NumberLemmas.{IsBytes-drop}
 
 -- the bits behind the nth in the last of some bytes are clear

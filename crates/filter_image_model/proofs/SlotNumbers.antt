@@ -22,7 +22,7 @@ use Rattle.filter_image_model.proofs.ImageWritten.{same_suffix}
 use Rattle.filter_image_model.specs.Header.{Bytes, hash_bits_in, section, section_place, suffix_bits_in}
 use Rattle.filter_image_model.specs.Reading.{ends_fault, slot_letters, suffix_in}
 use Rattle.filter_image_model.proofs.Link.{filter-map, flat_map-map, flat_map_agree, map-map}
-use Rattle.filter_image_model.proofs.Refusals.{passed}
+use Rattle.byte_fields.proofs.FaultLemmas.{passed}
 use Rattle.filter_image_model.proofs.SameLeaves.{high_part, number_fits}
 use Rattle.filter_image_model.proofs.Slots.{number}
 

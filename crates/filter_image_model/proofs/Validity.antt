@@ -27,7 +27,7 @@ use Rattle.filter_image_model.proofs.ImageWritten.{image_is, length_6}
 use Rattle.filter_image_model.proofs.LeavesRead.{HasMarks, IsOwn, behind_own, marks}
 use Rattle.filter_image_model.proofs.LevelsRead.{AreLetters, behind_paths, flat, levelled}
 use Rattle.filter_image_model.proofs.Reals.{EndsFit, HasNone, behind_real, ends_kept}
-use Rattle.filter_image_model.proofs.Refusals.{kept, neither, not_false}
+use Rattle.byte_fields.proofs.FaultLemmas.{kept, neither, not_false}
 use Rattle.filter_image_model.proofs.Rising.{OrderFrom, in_rising_order, rising_leaves, sorted_gather}
 use Rattle.filter_image_model.proofs.Standing.{IsTree, KeepsNode, Stands, behind_tree}
 use Rattle.filter_image_model.proofs.TrieRead.{length-levels}

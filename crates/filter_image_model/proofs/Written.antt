@@ -16,7 +16,7 @@ use Rattle.filter_image_model.specs.Nodes.{dense_in, sparse_in}
 use Rattle.filter_image_model.specs.Reading.{is_stray, begins_clear, length_fault, padding_fault, stray_fault, louds_fault}
 use Rattle.filter_image_model.specs.Sections.{head_bytes, sections, KeepsBytes, SectionsAreWritten}
 use Rattle.filter_image_model.proofs.Lists.{length-map}
-use Rattle.filter_image_model.proofs.Refusals.{kept, nowhere, not_false}
+use Rattle.byte_fields.proofs.FaultLemmas.{kept, nowhere, not_false}
 use Rattle.filter_image_model.proofs.Headers.{header_kept, header_is}
 use Rattle.filter_image_model.proofs.Sections.{section_is, sections_are, IsBytes-take}
 use Rattle.filter_image_model.proofs.DenseNodes.{NoStray, labels_back, children_back, ends_back, length-dense}

@@ -4,13 +4,12 @@ use Rattle.std.specs.Int.{div_ceil}
 use Rattle.std.specs.List.{list_any, range_with_len}
 use Rattle.std.specs.Option.{option_map}
 use Rattle.bit_words.specs.Numbers.{number_at}
-use Rattle.filter_api.specs.declared.errors.FilterFault.{FilterFault as Fault}
 use Rattle.filter_model.specs.Image.{has_letter}
 use Rattle.filter_model.specs.Leaves.{Leaf}
 use Rattle.filter_model.specs.Nodes.{Branch, Node, all}
 use Rattle.filter_model.specs.Trie.{END}
 use Rattle.trie_model.specs.Letters.{order_of}
-use Rattle.filter_image_model.specs.Faults.{fault, refuse, or_fault}
+use Rattle.byte_fields.specs.Faults.{Fault, fault, refuse, or_fault}
 use Rattle.filter_image_model.specs.Header.{Bytes, hash_bits_in, real_bits_in, cutoff_in, height_in, leaf_count_in, dense_count_in, sparse_count_in, suffix_bits_in, section_bits, section_place, end_place, section}
 use Rattle.filter_image_model.specs.Nodes.{dense_in, sparse_in}
 use Rattle.filter_image_model.specs.Levels.{are_levels, leaves_behind, leaves_of, levels_from, nodes_above, root_leaves}

@@ -1,9 +1,9 @@
-// Images that are read, and images with a byte or two changed: the first rule that they break. Each row computes.
+//! Images that are read, and images with a byte or two changed: the first rule that they break. Each row computes.
 #![tactic(auto, unfolding(crate::specs::Header::section_bits, crate::specs::Header::section_place, crate::specs::Header::section, crate::specs::Header::section_bytes, crate::specs::Nodes::dense_in, crate::specs::Nodes::sparse_in, crate::specs::Reading::header_fault, crate::specs::Reading::length_fault, crate::specs::Reading::stray_fault, crate::specs::Reading::louds_fault, crate::specs::Reading::counts_fault, crate::specs::Reading::shape_fault, crate::specs::Reading::suffix_in, crate::specs::Reading::ends_fault, crate::specs::Reading::nodes_rules, crate::specs::Reading::image_fault, crate::specs::Reading::leaves_in, crate::specs::Reading::image_in, crate::specs::Rows::a_with_hash, crate::specs::Rows::a_ab_ac_with_real, crate::specs::Rows::mark_leads_on, crate::specs::Rows::ab_alone, filter_model::specs::Rows::a_ab_sparse, filter_model::specs::Rows::a_ab_root_dense, filter_model::specs::Rows::a_ab_dense, filter_model::specs::Rows::far_to_toy_sparse, bit_words::specs::Packed::unpacked))]
 
 ghost use Rattle.std.specs.Prelude.{◌≡◌, [], ◌∷◌, ◌++◌, false, take, codes, Some, None};
 ghost use Rattle.filter_model.specs.Rows.{a_ab_dense, a_ab_root_dense, a_ab_sparse, far_to_toy, far_to_toy_sparse, real};
-ghost use Rattle.filter_image_model.specs.Faults.{fault};
+ghost use Rattle.byte_fields.specs.Faults.{fault};
 ghost use Rattle.filter_image_model.specs.Reading.{image_fault, image_in};
 ghost use Rattle.filter_image_model.specs.Rows.{a_ab_ac_with_real, a_and_ab, a_leaf, a_with_hash, ab_alone, changed, mark_leads_on, plain};
 
@@ -74,7 +74,7 @@ pub fn count_faults()
     ensures no_child { image_fault (changed ((43, 0) ∷ (41, 0x62) ∷ []) a_ab_sparse) ≡ Some (fault 8 8) }
     ensures one_level_less { image_fault (changed ((10, 1) ∷ []) a_ab_sparse) ≡ Some (fault 8 8) }
     ensures one_level_more { image_fault (changed ((10, 3) ∷ []) a_ab_sparse) ≡ Some (fault 8 8) }
-    ensures children_behind_the_last_level { image_fault (changed ((43, 3) ∷ []) a_ab_sparse) ≡ Some (fault 8 8) }
+    ensures children_behind_the_last_level { image_fault (changed ((43, 3) ∷ (12, 1) ∷ []) a_ab_sparse) ≡ Some (fault 8 8) }
     ensures cutoff { image_fault (changed ((8, 1) ∷ []) a_ab_dense) ≡ Some (fault 8 8) }
 {}
 

@@ -26,7 +26,7 @@ mod log;
 mod reading;
 mod writing;
 
-pub use entry::{Kind, LogEntry};
+pub use entry::Kind;
 pub use fault::{AreaFault, LogFault};
 pub use log::{AREA_BYTES, Log};
 pub use reading::entries_in;

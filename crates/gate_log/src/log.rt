@@ -3,17 +3,19 @@ ghost use Rattle.std.specs.Prelude.{◌≡◌, ◌+◌, ◌*◌, ◌≤◌, ◌<
 ghost use Rattle.disk_trait.specs.Fault.{IsWriteThroughFault};
 ghost use Rattle.disk_trait.specs.Image.{overwritten};
 ghost use Rattle.disk_trait.specs.World.{Now, Leads, ReadMoves, WriteMoves, Rose};
-ghost use Rattle.entry_model.specs.Entries.{Entry, filled, need, record_bytes, IsEntry};
+ghost use Rattle.entry_model.specs.Entries.{filled, need, record_bytes, IsEntry};
+ghost use Rattle.entry_model.specs.Entries as model;
 ghost use Rattle.log_model.specs.Area.{Position, LogIs, WithOrWithout, IsNextRecord, start_of, area_in};
 ghost use Rattle.gate_log.specs.Faults.{IsAppendFault, IsShapeIn, HasReadCause, IsNoShape};
 ghost use Rattle.std.specs.List.{AllByRecursion};
 ghost use Rattle.gate_log.specs.Kinds.{KeepsRules, entry_of_kind};
 
-use crate::entry::{Kind, LogEntry};
+use crate::entry::Kind;
 use crate::fault::{AreaFault, LogFault};
 use crate::reading::entries_in;
 use crate::writing::put_record;
 use disk_trait::{Disk, DiskFault, write_through};
+use entry_list::Entry;
 use std::alloc::Global;
 use std::marker::Model;
 
@@ -77,7 +79,7 @@ impl Log {
         disk: &mut D,
         area: u8,
         buf: &mut [u8],
-        entries: &[LogEntry],
+        entries: &[Entry],
     ) -> Result<Log, DiskFault>
         requires area { area ≤ 1 }
         requires sound { AllByRecursion IsEntry entries.now }
@@ -104,13 +106,13 @@ impl Log {
         alloc: Global,
         disk: &mut D,
         area: u8,
-    ) -> Result<(Log, Vec<LogEntry>), LogFault>
+    ) -> Result<(Log, Vec<Entry>), LogFault>
         requires { area ≤ 1 }
         ensures log { IfOk result (λ found. found.0 ≡ record { area = area; filled = filled found.1.items }) }
         ensures entries { IsTrue D.tells → IfOk result (λ found. LogIs area found.1.items (D.world disk.old).seen.held) }
         ensures sound { IfOk result (λ found. AllByRecursion IsEntry found.1.items) }
         ensures within { IfOk result (λ found. filled found.1.items < 262144) }
-        ensures exact { (entries : List Entry) → IsTrue D.tells → LogIs area entries (D.world disk.old).seen.held → MatchResult result (λ found. found.1.items ≡ entries) IsNoShape }
+        ensures exact { (entries : List model.Entry) → IsTrue D.tells → LogIs area entries (D.world disk.old).seen.held → MatchResult result (λ found. found.1.items ≡ entries) IsNoShape }
         ensures shape { IsTrue D.tells → IfErr result (IsShapeIn area (D.world disk.old).seen.held) }
         ensures cause { IfErr result (HasReadCause area (D.world disk.old) (D.world disk.new)) }
         ensures moves { ReadMoves 1 (D.world disk.old) (D.world disk.new) }
@@ -155,7 +157,7 @@ impl Log {
         requires rules { KeepsRules kind key.now value.now }
         requires fits { self.old.filled + need (entry_of_kind kind key.now value.now) ≤ 262144 }
         requires room { need (entry_of_kind kind key.now value.now) ≤ length buf.old + 1 }
-        ensures crash { (entries : List Entry) → IsTrue D.tells → self.old.filled ≡ filled entries
+        ensures crash { (entries : List model.Entry) → IsTrue D.tells → self.old.filled ≡ filled entries
             → Leads (LogIs self.old.area entries) (WithOrWithout self.old.area entries (entry_of_kind kind key.now value.now)) (LogIs self.old.area (entries ++ entry_of_kind kind key.now value.now ∷ []))
             result (D.world disk.old) (D.world disk.new) }
         ensures held { IsTrue D.tells → OnOk result ((D.world disk.new).seen.held
@@ -175,16 +177,11 @@ impl Log {
     }
 
     // Adds an entry that was read from a log.
-    fn add<D: Disk>(
-        &mut self,
-        disk: &mut D,
-        buf: &mut [u8],
-        entry: &LogEntry,
-    ) -> Result<(), DiskFault>
+    fn add<D: Disk>(&mut self, disk: &mut D, buf: &mut [u8], entry: &Entry) -> Result<(), DiskFault>
         requires sound { IsEntry entry.now }
         requires fits { self.old.filled + need entry.now ≤ 262144 }
         requires room { 66568 ≤ length buf.old }
-        ensures crash { (entries : List Entry) → IsTrue D.tells → self.old.filled ≡ filled entries
+        ensures crash { (entries : List model.Entry) → IsTrue D.tells → self.old.filled ≡ filled entries
             → Leads (LogIs self.old.area entries) (WithOrWithout self.old.area entries entry.now) (LogIs self.old.area (entries ++ entry.now ∷ []))
             result (D.world disk.old) (D.world disk.new) }
         ensures area { self.new.area ≡ self.old.area }
@@ -217,7 +214,7 @@ fn read_area<D: Disk>(alloc: Global, disk: &mut D, area: u8) -> Result<Vec<u8>, 
 // Writes a body with the closed gate behind it and makes them last, and then opens the gate before them.
 fn write_record<D: Disk>(disk: &mut D, gate: u64, bytes: &[u8]) -> Result<(), DiskFault>
     requires { gate + 1 + length bytes.now ≤ 2 ^ 48 }
-    ensures crash { (area : ℕ) (entries : List Entry) (entry : Entry) → IsTrue D.tells → IsNextRecord area entries entry gate bytes.now
+    ensures crash { (area : ℕ) (entries : List model.Entry) (entry : model.Entry) → IsTrue D.tells → IsNextRecord area entries entry gate bytes.now
         → Leads (LogIs area entries) (WithOrWithout area entries entry) (LogIs area (entries ++ entry ∷ [])) result (D.world disk.old) (D.world disk.new) }
     ensures held { IsTrue D.tells → OnOk result ((D.world disk.new).seen.held ≡ overwritten (D.world disk.old).seen.held gate (1 ∷ bytes.now)) }
     ensures moves { WriteMoves gate (length bytes.now + 1) (D.world disk.old) (D.world disk.new) }

@@ -1,16 +1,18 @@
 // A log area's bytes, record by record.
 ghost use Rattle.std.specs.Prelude.{◌≡◌, ◌+◌, ◌<◌, List, length, Some, None, IfOk, IfErr, MatchResult};
-ghost use Rattle.entry_model.specs.Entries.{Entry, filled, entry_of};
+ghost use Rattle.entry_model.specs.Entries.{filled, entry_of};
+ghost use Rattle.entry_model.specs.Entries as model;
 ghost use Rattle.std.specs.Option.{option_map};
 ghost use Rattle.log_model.specs.Records.{Spells, broken_rule};
 ghost use Rattle.entry_model.specs.Reading.{entry_in, width_in};
 ghost use Rattle.gate_log.specs.Faults.{IsFaultIn};
 
-use crate::entry::{Kind, LogEntry};
+use crate::entry::Kind;
 use crate::fault::AreaFault;
 use crate::log::OPEN;
 use crate::writing::HEAD_BYTES;
 use byte_fields::{get_u16, get_u32};
+use entry_list::Entry;
 use key_base::{MAX_KEY_BYTES, MAX_VALUE_BYTES};
 use std::alloc::Global;
 
@@ -74,12 +76,12 @@ fn body_in(bytes: &[u8]) -> Result<Body<'_>, u8>
 ///
 /// One pass, and memory for the entries alone. `Ok` exactly where the bytes keep the rules of the format, else the first
 /// rule that is broken and the place of its record's gate.
-pub fn entries_in(alloc: Global, bytes: &[u8]) -> Result<(Vec<LogEntry>, usize), AreaFault>
+pub fn entries_in(alloc: Global, bytes: &[u8]) -> Result<(Vec<Entry>, usize), AreaFault>
     requires { 0 < length bytes.now }
     ensures entries { IfOk result (λ found. Spells found.0.items bytes.now) }
     ensures end { IfOk result (λ found. found.1 ≡ filled found.0.items) }
     ensures fault { IfErr result (IsFaultIn bytes.now) }
-    ensures exact { (entries : List Entry) → Spells entries bytes.now → MatchResult result (λ found. found.0.items ≡ entries) (λ fault. fault ≡ AreaFault.Memory) }
+    ensures exact { (entries : List model.Entry) → Spells entries bytes.now → MatchResult result (λ found. found.0.items ≡ entries) (λ fault. fault ≡ AreaFault.Memory) }
 {
     let mut entries = Vec::new(alloc);
     let mut at = 0;
@@ -88,7 +90,7 @@ pub fn entries_in(alloc: Global, bytes: &[u8]) -> Result<(Vec<LogEntry>, usize),
             Ok(body) => body,
             Err(rule) => return Err(AreaFault::Shape { place: at, rule }),
         };
-        let entry = LogEntry::new(alloc, body.key, body.value)?;
+        let entry = Entry::new(alloc, body.key, body.value)?;
         entries.push(entry)?;
         at += 1 + body.length;
     }

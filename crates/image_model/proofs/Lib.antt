@@ -1,7 +1,10 @@
-mod Rows
-pub mod Versions
-pub mod BlocksShown
-pub mod TablesShown
+pub mod Rows
+pub mod Tables
+pub mod NewStores
+pub mod Placed
 pub mod States
-pub mod VersionsWritten
-pub mod TablesWritten
+pub mod Frames
+pub mod Installs
+pub mod Ranges
+pub mod Opening
+pub mod Sound

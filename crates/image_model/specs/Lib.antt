@@ -1,4 +1,7 @@
-pub mod Slots
 pub mod Tables
 pub mod Stands
-pub mod Written
+pub mod NewStores
+pub mod Frames
+pub mod Installs
+pub mod Opening
+pub mod Sound

@@ -1,6 +1,6 @@
 -- The replies and their texts.
-use Rattle.std.specs.Prelude.{ℕ, [], ◌∷◌, ◌++◌, reverse, flat_map, Option, Some, None, codes, decimal}
-use Rattle.byteorder.specs.Endian.{little_bytes}
+use Rattle.std.specs.Prelude.{ℕ, [], ◌∷◌, ◌++◌, flat_map, Option, Some, None, codes, decimal}
+use Rattle.byteorder.specs.Endian.{big_bytes}
 use Rattle.hex.specs.Hex.{encode_lower}
 use Rattle.byte_fields.specs.declared.parts.Part.{Part}
 use Rattle.byte_fields.specs.declared.parts.Part.TheVariants.{Manifest, Log, Index, Filter, Block}
@@ -44,15 +44,15 @@ part_word Block = codes "block"
 
 -- a sum as sixteen hex digits
 abbrev pub sum_word : ℕ → Bytes
-sum_word sum = encode_lower (reverse (little_bytes 8 sum))
+sum_word sum = encode_lower (big_bytes 8 sum)
+
+abbrev pub at_words : Bytes → Bytes → Bytes
+at_words key value = codes "at " ++ word_of key ++ codes " " ++ word_of value
 
 abbrev pub damage_words : Damage → Bytes
 damage_words (Sum part at kept seen) =
-    part_word part ++ (codes " " ++ (decimal at ++ (codes " sum " ++ (sum_word kept ++ (codes " " ++ sum_word seen)))))
-damage_words (Shape part at rule) = part_word part ++ (codes " " ++ (decimal at ++ (codes " rule " ++ decimal rule)))
-
-abbrev pub at_words : Bytes → Bytes → Bytes
-at_words key value = codes "at " ++ (word_of key ++ (codes " " ++ word_of value))
+    codes "damaged " ++ part_word part ++ codes " " ++ decimal at ++ codes " sum " ++ sum_word kept ++ codes " " ++ sum_word seen
+damage_words (Shape part at rule) = codes "damaged " ++ part_word part ++ codes " " ++ decimal at ++ codes " rule " ++ decimal rule
 
 -- the lines of a reply, each ended by a newline
 abbrev pub text_of : Reply → Bytes
@@ -75,7 +75,7 @@ text_of LastEpoch = codes "limit epoch" ++ 10 ∷ []
 text_of (Full need gap) = codes "full need " ++ decimal need ++ codes " gap " ++ decimal gap ++ 10 ∷ []
 text_of Memory = codes "memory" ++ 10 ∷ []
 text_of Device = codes "device" ++ 10 ∷ []
-text_of (Damaged damage) = codes "damaged " ++ damage_words damage ++ 10 ∷ []
+text_of (Damaged damage) = damage_words damage ++ 10 ∷ []
 
 -- what a `get` is answered, and a `seek`
 abbrev pub got : Option Bytes → Reply

@@ -1,6 +1,6 @@
 use disk_mem::{Choice, MemDisk};
 use disk_trait::{Disk, DiskFault, Op};
-use gate_log::{Kind, Log, LogEntry, LogFault};
+use gate_log::{Kind, Log, LogFault};
 use mem_table::MemTable;
 use std::alloc::{AllocError, Global};
 use std::test::Fail;
@@ -23,16 +23,6 @@ fn delete<D: Disk>(log: &mut Log, disk: &mut D, buf: &mut [u8], key: &[u8]) -> b
         return false;
     }
     log.append(disk, buf, Kind::Delete, key, &[]).is_ok()
-}
-
-// The table of the entries that were read.
-fn table_of(alloc: Global, entries: &[LogEntry]) -> Result<MemTable, AllocError> {
-    let mut table = MemTable::new(alloc);
-    for entry in entries {
-        let prepared = table.reserve_for(entry.key(), entry.value())?;
-        table.set(prepared);
-    }
-    Ok(table)
 }
 
 // Five appends, a put or a delete each, up to the first that fails. Answers how many were done.
@@ -88,8 +78,9 @@ fn read_of(
 ) -> Result<(usize, usize, usize), Fail> {
     match Log::replay(alloc, disk, 0) {
         Ok((_, entries)) => {
-            let table = table_of(alloc, &entries)?;
-            Ok((entries.len(), seen(table.get(one)), seen(table.get(other))))
+            let count = entries.len();
+            let table = MemTable::fill(entries)?;
+            Ok((count, seen(table.get(one)), seen(table.get(other))))
         }
         Err(_) => Err(Fail::from("no log")),
     }

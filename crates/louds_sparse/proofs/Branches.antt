@@ -1,8 +1,8 @@
 -- The branches of one node: where END stands, how letters are written, and which branch passes first or last.
-use Rattle.std.proofs.Common.{◌≡◌, ℕ, zero, suc, ◌+◌, ◌-◌, ◌<◌, ◌≤◌, ◌==◌, Bool, true, false, cond, Option, Some, None, List, [], ◌∷◌, length, get_or, refl, ap, sym, ◌∙◌, arith, inl, inr, lt-ltb, le-ltb, nat_lt, nat_le}
+use Rattle.std.proofs.Common.{◌≡◌, ℕ, zero, suc, ◌<◌, ◌≤◌, ◌==◌, Bool, true, false, cond, Some, None, [], ◌∷◌, length, get_or, refl, ap, sym, ◌∙◌, arith, inl, inr, lt-ltb, le-ltb, nat_lt}
 use Rattle.std.specs.Prelude.{position, ◌&&◌, ◌||◌}
 use Rattle.std.specs.List.{position_or_len}
-use Rattle.std.proofs.lemmas.Bool.{cases_Bool, cases_eq, cases_lt, eq-eqb, eqb-true, false_from_ne_true, false≢true, ne_eqb, ltb-true, or_cases, or_right}
+use Rattle.std.proofs.lemmas.Bool.{cases_eq, cases_lt, eq-eqb, eqb-true, false_from_ne_true, false≢true, ne_eqb, ltb-true, or_cases, or_right}
 use Rattle.std.proofs.lemmas.List.Sums.{position_or_len_is}
 use Rattle.filter_model.specs.Image.{has_letter, label_of}
 use Rattle.filter_model.specs.Nodes.{Branch, Node}
@@ -60,10 +60,13 @@ module _ (n : Node) (f : IsTrieNode n) where
   end_first e = at (letter_at n END e)
     where
       at : (j : ℕ) × (j < length n) × ((nth n j).0 ≡ 256) → ((nth n 0).0 ≡ 256) × (1 < length n)
-      at (zero, l, is) = (is, elim (cases_lt 1 (length n)) [
-        | inl long ↦ long
-        | inr short ↦ absurd (omega (arith, is, f.end_is_not_alone (omega (arith, l, short)) 0 (0, false) l))
-      ])
+      at (zero, l, is) = (
+        is,
+        elim (cases_lt 1 (length n)) [
+          | inl long ↦ long
+          | inr short ↦ absurd (omega (arith, is, f.end_is_not_alone (omega (arith, l, short)) 0 (0, false) l))
+        ],
+      )
       at (suc j, l, is) = absurd (omega (arith, order_up 0 (suc j) (omega arith) l, ap order_of is))
 
   -- the branches behind END are bytes, and rise

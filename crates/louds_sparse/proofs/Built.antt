@@ -1,19 +1,19 @@
 -- Sections that grow by a branch or a node, and the half that they spell then.
-use Rattle.std.proofs.Common.{◌≡◌, ℕ, zero, suc, ◌+◌, ◌-◌, ◌<◌, ◌≤◌, ◌==◌, ◌^◌, Bool, true, false, cond, not, List, [], ◌∷◌, ◌++◌, length, get_or, take, map, refl, ap, subst, sym, ◌∙◌, arith}
-use Rattle.std.specs.Prelude.{◌&&◌}
+use Rattle.std.proofs.Common.{◌≡◌, ℕ, zero, suc, ◌+◌, ◌<◌, ◌≤◌, ◌==◌, ◌^◌, Bool, true, false, cond, not, List, [], ◌∷◌, ◌++◌, length, get_or, take, map, refl, ap, subst, sym, ◌∙◌, arith}
 use Rattle.std.specs.List.{All, AllPairs}
 use Rattle.std.proofs.lemmas.Bool.{ne_eqb}
 use Rattle.std.proofs.lemmas.List.{append-nil, append_assoc, get_or-map, length-append, length-map, length-take-le, map-append, take_more}
 use Rattle.std.proofs.lemmas.List.Concat.{flat_map-append}
-use Rattle.std.proofs.lemmas.List.Elements.{All-append, All-cons, All-map, All-nil, All-weaker}
-use Rattle.filter_image_model.proofs.SparseNodes.{by_recursion, sparse_again}
+use Rattle.std.proofs.lemmas.List.Elements.{All-append, All-cons, All-nil, All-weaker}
+use Rattle.filter_image_model.proofs.Lists.{by_recursion}
+use Rattle.filter_image_model.proofs.SparseNodes.{sparse_again}
 use Rattle.filter_model.specs.Image.{label_of, opening, sparse_children, sparse_labels, sparse_louds}
 use Rattle.filter_model.specs.Nodes.{Branch, Node, all}
 use Rattle.filter_model.specs.Trie.{END}
-use Rattle.louds_sparse.specs.Building.{AreRising, SectionsInRoom, node_given, with_branch, with_branches}
+use Rattle.louds_sparse.specs.Building.{SectionsInRoom, with_branch, with_branches}
+use Rattle.trie_model.specs.Given.{AreRising, node_given}
 use Rattle.louds_sparse.specs.Spelling.{AreFew, IsSpelled, half_in}
-use Rattle.louds_sparse.proofs.Branches.{label-byte, nth}
-use Rattle.louds_sparse.proofs.Spelled.{length_labels}
+use Rattle.louds_sparse.proofs.Branches.{label-byte}
 use Rattle.trie_laws.specs.Louds.{IsNode}
 use Rattle.trie_laws.specs.Nodes.{IsTrieNode}
 use Rattle.trie_laws.proofs.Forms.{forms_are_sparse, order-byte}
@@ -88,9 +88,16 @@ pub room_left : (end : Bool) (bs : List ByteBranch) (i : ℕ) (s t : SectionsInR
 room_left end bs i s t l room e =
     let n = node_given end (take i bs) in
     omega (
-      arith, l, room, ap (λ (r : SectionsInRoom). length r.labels) e, ap (λ (r : SectionsInRoom). r.limit) e,
-      length-append s.labels (map (λ (b : Branch). label_of b.0) n), length-map n (λ (b : Branch). label_of b.0),
-      length-given end (take i bs), length-given end bs, length-take-le i bs (omega (arith, l)),
+      arith,
+      l,
+      room,
+      ap (λ (r : SectionsInRoom). length r.labels) e,
+      ap (λ (r : SectionsInRoom). r.limit) e,
+      length-append s.labels (map (λ (b : Branch). label_of b.0) n),
+      length-map n (λ (b : Branch). label_of b.0),
+      length-given end (take i bs),
+      length-given end bs,
+      length-take-le i bs (omega (arith, l)),
     )
 
 pub bytes_more : (bs : List ByteBranch) (i : ℕ) (e : ByteBranch) → i < length bs → (get_or bs i e).byte < 256 → All (λ (b : ByteBranch). b.byte < 256) (take i bs) → All (λ (b : ByteBranch). b.byte < 256) (take (i + 1) bs)
@@ -171,8 +178,12 @@ module _ (bs : List ByteBranch) (r : AreRising bs) (small : All (λ (b : ByteBra
   bytes_up i j d up l =
       let il : i < length (map by_byte bs) = omega (arith, up, l) in
       omega (
-        arith, byte_in i d any il, byte_in j d any l, r.rising i j any up (omega (arith, l, length-map bs by_byte)),
-        order-byte (get_or (map by_byte bs) i d).0 (bytes_small i d il), order-byte (get_or (map by_byte bs) j d).0 (bytes_small j d l),
+        arith,
+        byte_in i d any il,
+        byte_in j d any l,
+        r.rising i j any up (omega (arith, l, length-map bs by_byte)),
+        order-byte (get_or (map by_byte bs) i d).0 (bytes_small i d il),
+        order-byte (get_or (map by_byte bs) j d).0 (bytes_small j d l),
       )
 
   pub given_form : (end : Bool) → IsTrieNode (node_given end bs)

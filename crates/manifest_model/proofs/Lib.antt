@@ -1,2 +1,6 @@
 pub mod VersionsRead
 pub mod VersionsWritten
+pub mod Held
+pub mod Versions
+pub mod SlotFrames
+pub mod Installs

@@ -16,7 +16,7 @@ use Rattle.byte_fields.proofs.FieldLemmas.{fields_back, fields_below}
 use Rattle.byte_fields.proofs.NumberLemmas.{IsBytes-drop, number_again, number_back, number_below}
 use Rattle.map_model.specs.SortedMap.{Bytes}
 use Rattle.byte_fields.specs.Faults.{Fault, fault}
-use Rattle.block_model.proofs.EntriesWritten.{next_part}
+use Rattle.entry_model.proofs.Bodies.{joined}
 use Rattle.block_model.proofs.LastBlocks.{positive}
 use Rattle.block_model.proofs.Refusals.{is_other, kept, neither, not_false, nowhere, zeros_are}
 use Rattle.manifest_model.specs.Laws.{IsVersion, RowFits, VersionWasWrittenSo}
@@ -98,7 +98,7 @@ rows_written (suc n) place rest is long none =
     let later = rows_written n (place + 64) (drop 64 rest) (IsBytes-drop 64 rest is) (omega (arith, long, length-drop 64 rest)) b.1 in
     let e : 64 + 64 * n ≡ 64 * suc n = omega arith in
     record {
-      written = ap₂ (λ (x y : Bytes). x ++ y) row.written later.written ∙ next_part 64 (64 * n) 0 rest ∙ ap (λ (m : ℕ). take m rest) e;
+      written = ap₂ (λ (x y : Bytes). x ++ y) row.written later.written ∙ joined 64 (64 * n) 0 rest ∙ ap (λ (m : ℕ). take m rest) e;
       fit = (row.fits, later.fit);
       many = omega (arith, later.many);
     }
@@ -176,7 +176,7 @@ head_written bytes is long head zeros =
     let front : fields front_widths (front_numbers v) ≡ take 32 bytes =
     ap (fields front_widths) (front_same bytes head ∙ sym (numbers_at front_widths 0 bytes)) ∙ fields_back front_widths bytes is (omega (arith, long)) in
     let back = zeros_there 32 32 32 bytes (omega (arith, long)) zeros in
-    head_parts v ∙ ap₂ (λ (x y : Bytes). x ++ y) front (sym back) ∙ next_part 32 32 0 bytes
+    head_parts v ∙ ap₂ (λ (x y : Bytes). x ++ y) front (sym back) ∙ joined 32 32 0 bytes
 
 -- ---- the body
 
@@ -212,6 +212,10 @@ body_was_kept slot bytes none =
     let g = neither _ _ f.1 in
     record { head = head_was_kept bytes a.0 d.0; sum = b.0; head_zeros = f.0; row_zeros = g.0; placed = g.1 }
 
+-- a body that breaks no rule has room in its slot
+pub body_few : (slot : ℕ) (bytes : Bytes) → body_damage slot bytes ≡ None → count_in bytes ≤ 1024
+body_few slot bytes none = (body_was_kept slot bytes none).head.few
+
 version_rows : (bytes : Bytes) → (version_in bytes).rows ≡ rows_in (count_in bytes) (drop 64 bytes)
 unfolding version_in
 version_rows bytes = refl
@@ -222,7 +226,7 @@ front_written bytes is long body =
     let n = count_in bytes in
     let rows = rows_written n 64 (drop 64 bytes) (IsBytes-drop 64 bytes is) (omega (arith, long, length-drop 64 bytes)) body.row_zeros in
     ap₂ (λ (x y : Bytes). x ++ y) (head_written bytes is (omega (arith, long)) body.head body.head_zeros) (ap (flat_map row_bytes) (version_rows bytes) ∙ rows.written)
-    ∙ next_part 64 (64 * n) 0 bytes
+    ∙ joined 64 (64 * n) 0 bytes
 
 all_written : (bytes : Bytes) → IsBytes bytes → front_length_in bytes + 8 ≤ length bytes → BodyKept bytes → body_bytes (version_in bytes) ≡ take (front_length_in bytes + 8) bytes
 unfolding body_bytes front_length_in

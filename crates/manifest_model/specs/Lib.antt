@@ -3,3 +3,6 @@ pub mod Reading
 pub mod Tables
 pub mod Laws
 pub mod Rows
+pub mod Slots
+pub mod SlotLaws
+pub mod Installs

@@ -12,6 +12,7 @@ use Rattle.byte_fields.specs.declared.parts.Part.TheVariants as part
 use Rattle.map_model.specs.SortedMap.{Bytes}
 use Rattle.byte_fields.specs.Faults.{Fault, fault, refuse, or_fault}
 use Rattle.block_model.specs.Pages.{pages_for}
+use Rattle.block_model.specs.Places.{end_page}
 use Rattle.manifest_model.specs.Version.{Version, magic, log_pages, row_widths, body_place}
 
 -- ---- the version that is read
@@ -124,13 +125,6 @@ levels_fault place before [] = None
 levels_fault place before (row ∷ later) = refuse (nat_lt row.level before) place 9 (levels_fault (place + 64) row.level later)
 
 -- ---- 10: a table leaves the pages from 192 to the end of the device, or meets one of an earlier row
-
--- the pages of a table: its blocks, its index and its filter, one after the other
-abbrev pub table_pages : Row → ℕ
-table_pages row = row.data_pages + row.index_pages + row.filter_pages
-
-abbrev pub end_page : Row → ℕ
-end_page row = row.first_page + table_pages row
 
 abbrev pub leaves : ℕ → Row → Bool
 leaves pages row = nat_lt row.first_page 192 || nat_lt pages (end_page row)

@@ -27,6 +27,10 @@ table level first = record {
   filter_sum = 9;
 }
 
+-- one that says that it has none
+abbrev pub table_of_none : ℕ → ℕ → Row
+table_of_none level first = record (table level first) { entries = 0 }
+
 -- the store with these tables, at epoch 6
 abbrev pub with_tables : List Row → Version
 with_tables rows = record { hash_bits = 0; real_bits = 0; ratio = 64; pages = 512; epoch = 6; log_page = 128; rows = rows }
@@ -37,6 +41,10 @@ merged = with_tables (table 1 204 ∷ [])
 -- the body of the merged store with another byte at a place, and the sum of that
 unfoldable pub broken : ℕ → ℕ → Bytes
 broken place byte = summed (set (front_bytes merged) place byte)
+
+-- with another byte at two places
+unfoldable pub broken_twice : ℕ → ℕ → ℕ → ℕ → Bytes
+broken_twice place byte next other = summed (set (set (front_bytes merged) place byte) next other)
 
 abbrev pub keys_at : ℕ → ℕ → ℕ → KeyRange
 keys_at level least greatest = record { level = level; least = least ∷ []; greatest = greatest ∷ [] }

@@ -1,9 +1,13 @@
-//! What the manifest of a store is: the definitions of its bytes and of their rules, worked rows and laws, and a plain
-//! program that writes a body.
+//! What the manifest of a store is: the definitions of its bytes and of their rules, of the two slots that hold it, worked
+//! rows and laws, and a plain program that writes a body.
 //!
 //! `specs/Version` says what a version is and how it is spelled, `specs/Reading` what is read from a body and which rule it
 //! breaks first, and where; the sum is looked at behind the first three rules. `specs/Tables` has the rules that need more
 //! than one body: two slots of one epoch, and the key ranges of tables.
+//!
+//! `specs/Slots` says which version an image holds, that of the open slot, or of two open ones that of the greater epoch, and
+//! what is wrong with the slots. `specs/Installs` has the change of versions: three writes into the slot that is not in use,
+//! each of which leaves the old version, but for the last, which leaves the old one or the new one.
 //!
 //! [`body_bytes`] is the obvious loop over the rows, and want of memory is its only error. A store reads and writes its
 //! slots on a device, and is compared with this. The functions with no parameter have no body: each has rows or laws as
@@ -19,8 +23,11 @@ mod laws;
 mod rows;
 mod version;
 
-pub use laws::versions_have_one_spelling;
+pub use laws::{
+    a_version_is_installed, an_image_has_one_version, slots_are_kept, versions_have_one_spelling,
+};
 pub use rows::{
     broken_bodies, broken_places, broken_versions, small_bodies, small_bodies_are_read,
+    twice_broken_bodies,
 };
 pub use version::{Version, body_bytes};

@@ -2,7 +2,7 @@
 ghost use Rattle.std.specs.Prelude.{◌≡◌, [], ◌∷◌, ◌++◌, length, take, drop, set, replicate, true, Some, None};
 ghost use Rattle.byte_fields.specs.Faults.{fault};
 ghost use Rattle.manifest_model.specs.Reading.{body_damage, version_in};
-ghost use Rattle.manifest_model.specs.Rows.{broken, formatted, keys_at, merged, shape, sums, table, with_tables};
+ghost use Rattle.manifest_model.specs.Rows.{broken, broken_twice, formatted, keys_at, merged, shape, sums, table, table_of_none, with_tables};
 ghost use Rattle.manifest_model.specs.Tables.{epochs_fault, is_newer, ranges_fault};
 ghost use Rattle.manifest_model.specs.Version.{body_bytes, row_bytes, slot_a, slot_b};
 
@@ -65,6 +65,23 @@ pub fn broken_places()
     ensures before_the_tables { body_damage slot_a (body_bytes (with_tables (table 1 191 ∷ []))) ≡ shape 76 10 }
     ensures past_the_device { body_damage slot_a (body_bytes (with_tables (table 0 192 ∷ table 1 510 ∷ []))) ≡ shape 140 10 }
     ensures two_meet { body_damage slot_a (body_bytes (with_tables (table 0 300 ∷ table 0 200 ∷ table 1 298 ∷ []))) ≡ shape 204 10 }
+{}
+
+/// Where two rules are broken: the first of them in their order, and of rule 8 row by row.
+#[tactic(auto, unfolding(crate::specs::Version::head_bytes, crate::specs::Version::row_bytes, crate::specs::Version::front_bytes, crate::specs::Version::body_bytes, crate::specs::Reading::row_in, crate::specs::Reading::rows_in, crate::specs::Reading::version_in, crate::specs::Reading::first_fault, crate::specs::Reading::front_length_in, crate::specs::Reading::numbers_fault, crate::specs::Reading::zeros_fault, crate::specs::Reading::row_zeros_fault, crate::specs::Reading::row_fault, crate::specs::Reading::rows_fault, crate::specs::Reading::levels_fault, crate::specs::Reading::extents_fault, crate::specs::Reading::later_fault, crate::specs::Reading::sum_damage, crate::specs::Reading::body_damage, crate::specs::Rows::broken, crate::specs::Rows::broken_twice, block_model::specs::Pages::pages_for))]
+pub fn twice_broken_bodies()
+    ensures magic_then_format { body_damage slot_a (broken_twice 3 0x49 4 2) ≡ shape 8 1 }
+    ensures format_then_tables { body_damage slot_a (broken_twice 4 2 7 4) ≡ shape 12 2 }
+    ensures tables_then_sum { body_damage slot_a (set (body_bytes merged) 7 4) ≡ shape 14 3 }
+    ensures sum_then_epoch { body_damage slot_a (set (body_bytes merged) 8 0) ≡ sums 8 4205612128066586022 8783559060034237592 }
+    ensures epoch_then_pages { body_damage slot_a (broken_twice 8 0 17 1) ≡ shape 16 4 }
+    ensures pages_then_hash_bits { body_damage slot_a (broken_twice 17 1 20 33) ≡ shape 24 5 }
+    ensures real_bits_then_log { body_damage slot_a (broken_twice 21 33 24 65) ≡ shape 29 5 }
+    ensures log_then_zeros { body_damage slot_a (broken_twice 28 63 40 1) ≡ shape 36 6 }
+    ensures zeros_then_level { body_damage slot_a (broken_twice 67 1 64 7) ≡ shape 75 7 }
+    ensures row_then_levels { body_damage slot_a (body_bytes (with_tables (table 1 192 ∷ table_of_none 0 195 ∷ []))) ≡ shape 156 8 }
+    ensures the_first_row { body_damage slot_a (body_bytes (with_tables (table_of_none 0 192 ∷ table 7 195 ∷ []))) ≡ shape 92 8 }
+    ensures levels_then_places { body_damage slot_a (body_bytes (with_tables (table 1 192 ∷ table 0 510 ∷ []))) ≡ shape 136 9 }
 {}
 
 /// Two open slots of one epoch, and keys of a deeper level that do not rise: rules 11 and 12.

@@ -1,1 +1,7 @@
+pub mod Fills
+pub mod Flat
+pub mod Found
+pub mod Ordered
 pub mod Places
+mod Rows
+pub mod Setting

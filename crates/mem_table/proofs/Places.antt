@@ -1,5 +1,5 @@
 -- Where a key's place is: the entries before it are below the key.
-use Rattle.std.proofs.Common.{◌≡◌, ℕ, zero, suc, ◌+◌, ◌<◌, ◌≤◌, List, [], ◌∷◌, ◌++◌, length, take, drop, get_or, set, refl, sym, ap, ◌∙◌, subst, Bool, true, cond, not, arith, take-append-drop, get_or-take, get_or-drop, length-take-le, length-drop, inl, inr}
+use Rattle.std.proofs.Common.{◌≡◌, ℕ, zero, suc, ◌+◌, ◌-◌, ◌<◌, ◌≤◌, List, [], ◌∷◌, ◌++◌, length, take, drop, get_or, set, refl, sym, ap, ◌∙◌, subst, Bool, true, cond, not, arith, take-append-drop, get_or-take, get_or-drop, length-take-le, length-drop, inl, inr}
 use Rattle.std.specs.Prelude.{Some, None, Result, Ok, Err, IfOk, IfErr, bytes_eq, insert}
 use Rattle.std.specs.List.{AllWithin, AllByRecursion, HoldsAt}
 use Rattle.std.specs.List.Sorted.{IsNonDecreasingBy, IsBinarySearchResult, IsSearchInRange}
@@ -19,7 +19,7 @@ use Rattle.entry_model.proofs.Newest.{greater_of_less, below_apart, none_above}
 
 -- ---- the orders of rising keys to one key rise
 
-above_at : (low : Bytes) (entries : List Entry) (j : ℕ) (d : Entry) → AllByRecursion (IsAbove low) entries → j < length entries → IsAbove low (get_or entries j d)
+pub above_at : (low : Bytes) (entries : List Entry) (j : ℕ) (d : Entry) → AllByRecursion (IsAbove low) entries → j < length entries → IsAbove low (get_or entries j d)
 above_at low [] j d above lt = absurd (omega arith)
 above_at low (entry ∷ more) zero d above lt = above.0
 above_at low (entry ∷ more) (suc j) d above lt = above_at low more j d above.1 (omega arith)
@@ -37,12 +37,14 @@ index_le Less Greater less equal = omega arith
 index_le Equal Greater less equal = omega arith
 index_le Greater Greater less equal = omega arith
 
-pub orders_rise : (key : Bytes) (entries : List Entry) → KeysRise entries → IsNonDecreasingBy (λ e. ordering_index (byte_order e.key key)) entries
-orders_rise key entries rises i j d le within = elim (cases_lt i j) [
-  | inl lt ↦ let between = rises_between entries i j d rises lt within in
-      index_le (byte_order (get_or entries i d).key key) (byte_order (get_or entries j d).key key)
-      (λ less. nat_list_cmp_total.trans (get_or entries i d).key (get_or entries j d).key key between less)
-      (λ equal. subst (λ (k : Bytes). byte_order (get_or entries i d).key k ≡ Less) (equal_keys (get_or entries j d).key key equal) between)
+-- the orders to one key of what stands for entries with rising keys
+pub orders_rise : {X : Type 0} (e : X → Entry) (key : Bytes) (xs : List X) → ((i j : ℕ) (d : X) → i < j → j < length xs → byte_order (e (get_or xs i d)).key (e (get_or xs j d)).key ≡ Less)
+    → IsNonDecreasingBy (λ x. ordering_index (byte_order (e x).key key)) xs
+orders_rise e key xs rise i j d le within = elim (cases_lt i j) [
+  | inl lt ↦ let between = rise i j d lt within in
+      index_le (byte_order (e (get_or xs i d)).key key) (byte_order (e (get_or xs j d)).key key)
+      (λ less. nat_list_cmp_total.trans (e (get_or xs i d)).key (e (get_or xs j d)).key key between less)
+      (λ equal. subst (λ (k : Bytes). byte_order (e (get_or xs i d)).key k ≡ Less) (equal_keys (e (get_or xs j d)).key key equal) between)
   | inr ge ↦ let same : i ≡ j = omega arith in rw same (omega arith)
 ]
 
@@ -58,20 +60,35 @@ stands key entries at rises within equal = record {
       (subst (λ (other : Bytes). byte_order (get_or entries k d).key other ≡ Less) (equal_keys (get_or entries at d).key key (equal d)) (rises_between entries k at d rises k_at within)));
 }
 
-pub belongs : (key : Bytes) (entries : List Entry) (at : ℕ) → at ≤ length entries → AllWithin (λ e. byte_order e.key key ≡ Less) entries 0 at → AllWithin (λ e. byte_order e.key key ≡ Greater) entries at (length entries) → BelongsAt at key entries
-belongs key entries at within less greater = record {
-  within = within;
-  before = recursion_from_All (IsBelow key) (take at entries) (λ k d lt.
-      let k_at : k < at = omega (arith, length-take-le at entries within) in
-      subst (λ (e : Entry). IsBelow key e) (sym (get_or-take at entries k d k_at)) (less k d (omega arith) k_at));
-  behind = recursion_from_All (IsAbove key) (drop at entries) (λ k d lt.
-      subst (λ (e : Entry). IsAbove key e) (sym (get_or-drop at entries k d))
-      (less_of_greater (get_or entries (at + k) d).key key (greater (at + k) d (omega arith) (omega (arith, length-drop at entries)))));
-}
+-- between two neighbours that are below the key and above it
+module _ (key : Bytes) (entries : List Entry) (at : ℕ) (rises : KeysRise entries) where
+  all_below : ((d : Entry) → byte_order (get_or entries (at - 1) d).key key ≡ Less) → (k : ℕ) (d : Entry) → k < at → at ≤ length entries → byte_order (get_or entries k d).key key ≡ Less
+  all_below last k d lt within = elim (cases_lt k (at - 1)) [
+    | inl less ↦ nat_list_cmp_total.trans (get_or entries k d).key (get_or entries (at - 1) d).key key (rises_between entries k (at - 1) d rises less (omega arith)) (last d)
+    | inr ge ↦ let same : at - 1 ≡ k = omega arith in subst (λ (n : ℕ). byte_order (get_or entries n d).key key ≡ Less) same (last d)
+  ]
+
+  all_above : ((d : Entry) → byte_order key (get_or entries at d).key ≡ Less) → (k : ℕ) (d : Entry) → at ≤ k → k < length entries → byte_order key (get_or entries k d).key ≡ Less
+  all_above first k d le within = elim (cases_lt at k) [
+    | inl less ↦ nat_list_cmp_total.trans key (get_or entries at d).key (get_or entries k d).key (first d) (rises_between entries at k d rises less within)
+    | inr ge ↦ let same : at ≡ k = omega arith in subst (λ (n : ℕ). byte_order key (get_or entries n d).key ≡ Less) same (first d)
+  ]
+
+  pub belongs : at ≤ length entries → (0 < at → (d : Entry) → byte_order (get_or entries (at - 1) d).key key ≡ Less) → (at < length entries → (d : Entry) → byte_order key (get_or entries at d).key ≡ Less)
+      → BelongsAt at key entries
+  belongs within last first = record {
+    within = within;
+    before = recursion_from_All (IsBelow key) (take at entries) (λ k d lt.
+        let k_at : k < at = omega (arith, length-take-le at entries within) in
+        subst (λ (e : Entry). IsBelow key e) (sym (get_or-take at entries k d k_at)) (all_below (last (omega arith)) k d k_at within));
+    behind = recursion_from_All (IsAbove key) (drop at entries) (λ k d lt.
+        let inside : at + k < length entries = omega (arith, length-drop at entries) in
+        subst (λ (e : Entry). IsAbove key e) (sym (get_or-drop at entries k d)) (all_above (first (omega arith)) (at + k) d (omega arith) inside));
+  }
 
 -- ---- what stands before the place changes nothing
 
-with_behind : (front back : List Entry) (new : Entry) → AllByRecursion (IsBelow new.key) front → with_entry (front ++ back) new ≡ front ++ with_entry back new
+pub with_behind : (front back : List Entry) (new : Entry) → AllByRecursion (IsBelow new.key) front → with_entry (front ++ back) new ≡ front ++ with_entry back new
 with_behind [] back new below = refl
 with_behind (entry ∷ front) back new below =
     ap (λ (o : Ordering). in_place o new entry (front ++ back) (with_entry (front ++ back) new)) (greater_of_less entry.key new.key below.0)
@@ -157,13 +174,3 @@ insert_at entries new at b =
     ap (λ (es : List Entry). take at entries ++ es) (sym (with_above (drop at entries) new b.behind))
     ∙ sym (with_behind (take at entries) (drop at entries) new b.before)
     ∙ ap (λ (es : List Entry). with_entry es new) (take-append-drop at entries)
-
--- ---- what the search of std says
-
-pub searched_found : (key : Bytes) (entries : List Entry) (r : Result ℕ ℕ) → KeysRise entries → IsSearchInRange r (length entries) → IsBinarySearchResult (λ e. byte_order e.key key) entries r → IfOk r (λ at. StandsAt at key entries)
-searched_found key entries (Ok at) rises within says = stands key entries at rises within says
-searched_found key entries (Err at) rises within says = tt
-
-pub searched_missing : (key : Bytes) (entries : List Entry) (r : Result ℕ ℕ) → KeysRise entries → IsSearchInRange r (length entries) → IsBinarySearchResult (λ e. byte_order e.key key) entries r → IfErr r (λ at. BelongsAt at key entries)
-searched_missing key entries (Ok at) rises within says = tt
-searched_missing key entries (Err at) rises within says = let point = says (orders_rise key entries rises) in belongs key entries at within point.0 point.1

@@ -1,27 +1,18 @@
--- A merge that is done whole, by its plan.
-use Rattle.std.specs.Prelude.{◌≡◌, ◌++◌, List, map, Option, Some, None}
-use Rattle.std.proofs.Common.{sym, ap, ◌∙◌}
-use Rattle.std.proofs.Math.Seq.{take-length}
-use Rattle.entry_model.specs.Entries.{Entry}
-use Rattle.state_model.specs.State.{State, Job, written_by}
-use Rattle.state_model.specs.Pages.{FilterBytes}
-use Rattle.state_model.specs.Taken.{extent_of, taken}
-use Rattle.state_model.specs.Merges.{Plan, choose, planned, placed}
-use Rattle.state_model.specs.Tends.{started}
-use Rattle.state_model.specs.Play.{job_of, merged, merged_by, installed_or_dropped}
+-- What the tables of a state take with some written beside them, and the outputs that are left.
+use Rattle.std.specs.Prelude.{◌≡◌, ◌<◌, ◌-◌, ℕ, [], ◌++◌, List, map, length, take, drop}
+use Rattle.std.proofs.Common.{sym, ap, ◌∙◌, arith}
+use Rattle.std.proofs.lemmas.List.{map-append, append-nil, drop_all, take_all, length-drop, length-map, drop-map}
+use Rattle.table_model.specs.Tables.{Table}
+use Rattle.state_model.specs.Taken.{extent_of}
 
--- nothing is chosen, and nothing changes
-pub merged_none : (filter_bytes : FilterBytes) (s : State) → s.job ≡ None → choose s.tables ≡ None → merged filter_bytes s ≡ s
-merged_none filter_bytes s no_job chosen =
-    ap (λ (o : Option Plan). merged_by filter_bytes s (job_of s.job o)) chosen ∙ ap (λ (j : Option Job). merged_by filter_bytes s (job_of j None)) no_job
+pub taken_beside : (tables written : List Table) → map extent_of tables ++ map extent_of written ≡ map extent_of (tables ++ (written ++ []))
+taken_beside tables written = sym (map-append extent_of tables written) ∙ ap (λ (l : List Table). map extent_of (tables ++ l)) (sym (append-nil written))
 
--- a plan is chosen, all its outputs are placed, and they are installed or dropped
-pub merged_plan : (filter_bytes : FilterBytes) (s : State) (plan : Plan) → s.job ≡ None → choose s.tables ≡ Some plan
-    → merged filter_bytes s ≡ installed_or_dropped s (started plan) (placed filter_bytes s.settings s.pages (taken s) plan.output (planned s.tables plan))
-merged_plan filter_bytes s plan no_job chosen =
-    ap (λ (o : Option Plan). merged_by filter_bytes s (job_of s.job o)) chosen
-    ∙ (ap (λ (j : Option Job). merged_by filter_bytes s (job_of j (Some plan))) no_job
-    ∙ (ap (λ (outputs : List (List Entry)). installed_or_dropped s (started plan) (placed filter_bytes s.settings s.pages (map extent_of (s.tables ++ written_by None ++ s.kept)) plan.output outputs))
-    (take-length (planned s.tables plan))
-    ∙ ap (λ (j : Option Job). installed_or_dropped s (started plan) (placed filter_bytes s.settings s.pages (map extent_of (s.tables ++ written_by j ++ s.kept)) plan.output (planned s.tables plan)))
-    (sym no_job)))
+-- no output is left where more are written than there are
+pub nothing_left : {X Y : Type 0} (f : X → Y) (xs : List X) (n : ℕ) → length xs < n → map f (take 0 xs) ≡ drop n (map f xs)
+nothing_left f xs n more = sym (drop_all n (map f xs) (omega (arith, length-map xs f, more)))
+
+-- those from one of them on
+pub left_from : {X Y : Type 0} (f : X → Y) (xs : List X) (k n : ℕ) → k ≡ n → map f (take (length xs - k) (drop k xs)) ≡ drop n (map f xs)
+left_from f xs k n same =
+    ap (map f) (take_all (length xs - k) (drop k xs) (omega (arith, length-drop k xs))) ∙ sym (drop-map f k xs) ∙ ap (λ (m : ℕ). drop m (map f xs)) same

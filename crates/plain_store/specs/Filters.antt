@@ -2,7 +2,7 @@
 use Rattle.std.specs.Prelude.{ℕ, List}
 use Rattle.filter_api.specs.Spellings.{Spelling}
 use Rattle.filter_model.specs.Leaves.{Leaf, leaves_of}
-use Rattle.state_model.specs.Pages.{FilterBytes}
+use Rattle.table_model.specs.Tables.{FilterBytes}
 
 -- by its spelling, and the cutoff that it leaves for a ratio
 abbrev pub filter_bytes_of : Spelling → (ℕ → List Leaf → ℕ) → FilterBytes

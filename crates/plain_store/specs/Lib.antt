@@ -1,3 +1,4 @@
 pub mod Filters
 pub mod Refusals
 pub mod Talk
+pub mod Slices

@@ -2,16 +2,17 @@
 ghost use Rattle.std.specs.Prelude.{◌≡◌, ◌∷◌, [], map, IfOk};
 ghost use Rattle.std.specs.Option.{option_map};
 ghost use Rattle.state_model.specs.Changes.{written};
-ghost use Rattle.state_model.specs.Play.{tended, played};
+ghost use Rattle.state_model.specs.Play.{tended_by, played_by, played, played_in_slices};
 ghost use Rattle.line_model.specs.Replies.{Bye};
 ghost use Rattle.line_model.specs.Requests.{Estimate, Flush, Compact};
 ghost use Rattle.state_model.specs.Steps as model;
 ghost use Rattle.plain_store.specs.Filters.{filter_bytes_of};
 ghost use Rattle.plain_store.specs.Refusals.{seen, reply_to};
+ghost use Rattle.plain_store.specs.Slices.{merge_as};
 ghost use Rattle.plain_store.specs.Talk.{asks, says, answered, played_as};
 
 use crate::changes::{Refusal, compacted, flushed, written};
-use crate::installing::merged;
+use crate::installing::{merged, sliced};
 use crate::limits::limit_of;
 use crate::reads::{
     reply_to_count, reply_to_estimate, reply_to_explain, reply_to_get, reply_to_range,
@@ -95,7 +96,8 @@ fn flush<F: RangeFilter>(alloc: Global, state: &State) -> Result<Answer, AllocEr
 fn compact<F: RangeFilter>(alloc: Global, state: &State) -> Result<Answer, AllocError>
     ensures { IfOk result (λ a. answered a ≡ model.answer_within (filter_bytes_of F.spelling F.built_cutoff) state.now Compact) }
 {
-    changed(alloc, state, compacted::<F>(alloc, state)?)
+    let old = state.without_job(alloc)?;
+    changed(alloc, &old, compacted::<F>(alloc, state)?)
 }
 
 fn estimated<F: RangeFilter>(
@@ -157,17 +159,37 @@ pub fn ask<F: RangeFilter>(
     }
 }
 
+/// How a merge is done behind a put and a del.
+#[derive(Clone, Copy)]
+pub enum Merge {
+    /// Whole, in one merge slice.
+    Whole,
+    /// In merge slices that read so many blocks each.
+    Slices(u64),
+}
+
+/// The state after a merge, or after a slice of one.
+fn merge_by<F: RangeFilter>(alloc: Global, merge: Merge, state: &State) -> Result<State, AllocError>
+    ensures { IfOk result (λ s. s ≡ merge_as (filter_bytes_of F.spelling F.built_cutoff) merge state.now) }
+{
+    match merge {
+        Merge::Whole => merged::<F>(alloc, state),
+        Merge::Slices(blocks) => sliced::<F>(alloc, blocks, state),
+    }
+}
+
 /// The state after the merge that comes behind a put or a del.
 pub fn tend<F: RangeFilter>(
     alloc: Global,
+    merge: Merge,
     request: Request<'_>,
     state: State,
 ) -> Result<State, AllocError>
-    ensures { IfOk result (λ s. s ≡ tended (filter_bytes_of F.spelling F.built_cutoff) (asks request.entry) state) }
+    ensures { IfOk result (λ s. s ≡ tended_by (merge_as (filter_bytes_of F.spelling F.built_cutoff) merge) (asks request.entry) state) }
 {
     match request {
-        Request::Put { .. } => merged::<F>(alloc, &state),
-        Request::Del { .. } => merged::<F>(alloc, &state),
+        Request::Put { .. } => merge_by::<F>(alloc, merge, &state),
+        Request::Del { .. } => merge_by::<F>(alloc, merge, &state),
         Request::Get { .. } => Ok(state),
         Request::Seek { .. } => Ok(state),
         Request::Range { .. } => Ok(state),
@@ -192,12 +214,13 @@ fn with_first(reply: Reply, later: Vec<Reply>) -> Result<Vec<Reply>, AllocError>
 
 /// The replies to some requests, a merge behind each put and del, and the state that they leave. Nothing comes behind
 /// `quit`.
-pub fn play<F: RangeFilter>(
+pub fn play_by<F: RangeFilter>(
     alloc: Global,
+    merge: Merge,
     state: &State,
     requests: &[Request<'_>],
 ) -> Result<Played, AllocError>
-    ensures { IfOk result (λ p. played_as p ≡ played (filter_bytes_of F.spelling F.built_cutoff) state.now (map asks requests.now)) }
+    ensures { IfOk result (λ p. played_as p ≡ played_by (filter_bytes_of F.spelling F.built_cutoff) (merge_as (filter_bytes_of F.spelling F.built_cutoff) merge) state.now (map asks requests.now)) }
 {
     let Some((request, more)) = requests.split_first() else {
         return nothing(alloc, state);
@@ -206,8 +229,8 @@ pub fn play<F: RangeFilter>(
     match answer.reply {
         Reply::Bye => last(alloc, answer.state),
         reply => {
-            let state = tend::<F>(alloc, *request, answer.state)?;
-            let later = play::<F>(alloc, &state, more)?;
+            let state = tend::<F>(alloc, merge, *request, answer.state)?;
+            let later = play_by::<F>(alloc, merge, &state, more)?;
             let replies = with_first(reply, later.replies)?;
             Ok(Played {
                 replies,
@@ -215,6 +238,29 @@ pub fn play<F: RangeFilter>(
             })
         }
     }
+}
+
+/// The same with a whole merge behind each put and del.
+pub fn play<F: RangeFilter>(
+    alloc: Global,
+    state: &State,
+    requests: &[Request<'_>],
+) -> Result<Played, AllocError>
+    ensures { IfOk result (λ p. played_as p ≡ played (filter_bytes_of F.spelling F.built_cutoff) state.now (map asks requests.now)) }
+{
+    play_by::<F>(alloc, Merge::Whole, state, requests)
+}
+
+/// The same with one merge slice of so many blocks behind each put and del.
+pub fn play_in_slices<F: RangeFilter>(
+    alloc: Global,
+    blocks: u64,
+    state: &State,
+    requests: &[Request<'_>],
+) -> Result<Played, AllocError>
+    ensures { IfOk result (λ p. played_as p ≡ played_in_slices (filter_bytes_of F.spelling F.built_cutoff) blocks state.now (map asks requests.now)) }
+{
+    play_by::<F>(alloc, Merge::Slices(blocks), state, requests)
 }
 
 fn nothing(alloc: Global, state: &State) -> Result<Played, AllocError>

@@ -2,14 +2,16 @@
 ghost use Rattle.std.specs.Prelude.{◌≡◌, ◌+◌, map, vec_items, IfOk};
 ghost use Rattle.entry_model.specs.Entries.{need, gap, body, filled};
 ghost use Rattle.state_model.specs.Changes as model;
+ghost use Rattle.state_model.specs.State.{without_job};
 ghost use Rattle.state_model.specs.Taken.{taken};
 ghost use Rattle.state_model.specs.Merges.{cut, placed};
 ghost use Rattle.plain_store.specs.Filters.{filter_bytes_of};
 ghost use Rattle.plain_store.specs.Refusals.{seen};
 
+use crate::job::copied_job;
 use crate::lists::{push_entries, push_tables};
 use crate::outputs::{live_entries, outputs_of};
-use crate::placing::{placed, taken};
+use crate::placing::{placed, taken, taken_without};
 use crate::state::State;
 use crate::table::Table;
 use crate::view::newest_entries;
@@ -40,12 +42,14 @@ fn with_tables(
     let Some(epoch) = state.epoch.checked_add(1) else {
         return Ok(Err(Refusal::LastEpoch));
     };
+    let job = copied_job(alloc, &state.job)?;
     Ok(Ok(State {
         settings: state.settings,
         pages: state.pages,
         epoch,
         log: Vec::new(alloc),
         tables,
+        job,
     }))
 }
 
@@ -182,10 +186,10 @@ fn compacted_at<F: RangeFilter>(
 ) -> Result<Result<State, Refusal>, AllocError>
     requires { epoch ≡ state.now.epoch + 1 }
     ensures { IfOk result (λ changed. seen changed ≡ model.compact_placed state.now
-        (placed (filter_bytes_of F.spelling F.built_cutoff) state.now.settings state.now.pages (taken state.now) 6 (cut state.now.tables (model.live_entries state.now)))) }
+        (placed (filter_bytes_of F.spelling F.built_cutoff) state.now.settings state.now.pages (taken (without_job state.now)) 6 (cut state.now.tables (model.live_entries state.now)))) }
 {
     let outputs = live_outputs(alloc, state)?;
-    let taken = taken(alloc, state)?;
+    let taken = taken_without(alloc, state)?;
     match placed::<F>(alloc, state, taken.as_slice(), 6, outputs.as_slice())? {
         Ok(tables) => Ok(Ok(State {
             settings: state.settings,
@@ -193,6 +197,7 @@ fn compacted_at<F: RangeFilter>(
             epoch,
             log: Vec::new(alloc),
             tables,
+            job: None,
         })),
         Err(refusal) => Ok(Err(Refusal::Full {
             need: refusal.need,

@@ -1,18 +1,21 @@
-// A merge that is done whole.
-ghost use Rattle.std.specs.Prelude.{◌≡◌, ◌==◌, ◌++◌, not, fold, Ok, IfOk, OnOk};
+// A merge that is done whole, or slice by slice.
+ghost use Rattle.std.specs.Prelude.{◌≡◌, ◌==◌, ◌++◌, not, if◌then◌else◌, fold, map, drop, length, vec_items, Some, IfOk, OnOk};
 ghost use Rattle.std.specs.List.{list_any};
 ghost use Rattle.state_model.specs.Play as model;
-ghost use Rattle.state_model.specs.Tends.{goes_before, inserted, without, started};
+ghost use Rattle.state_model.specs.State.{without_job, last_epoch};
+ghost use Rattle.state_model.specs.Merges.{choose};
+ghost use Rattle.state_model.specs.Tends.{goes_before, inserted, without, outstanding, installed};
 ghost use Rattle.plain_store.specs.Filters.{filter_bytes_of};
 
+use crate::job::{Job, started};
 use crate::keys::is_before;
 use crate::lists::{push_table, push_tables};
-use crate::merges::{Plan, choose};
-use crate::outputs::planned;
-use crate::placing::{placed, taken};
+use crate::merges::choose;
+use crate::outputs::outputs_of_job;
+use crate::placing::{placed, taken_with};
 use crate::state::State;
 use crate::table::Table;
-use entry_list::copied;
+use entry_list::{Entry, copied};
 use filter_api::RangeFilter;
 use std::alloc::{AllocError, Global};
 
@@ -90,16 +93,35 @@ fn with_all(alloc: Global, tables: Vec<Table>, made: &[Table]) -> Result<Vec<Tab
     Ok(list)
 }
 
-/// The outputs stand in the place of the inputs, unless the epoch is the last one.
+/// The job that runs, or a new one where one is to be chosen.
+fn job_of(alloc: Global, state: &State) -> Result<Option<Job>, AllocError>
+    ensures { IfOk result (λ job. job ≡ model.job_of state.now.job (choose state.now.tables)) }
+{
+    match &state.job {
+        Some(job) => {
+            let job = job.copy(alloc)?;
+            Ok(Some(job))
+        }
+        None => match choose(alloc, state)? {
+            Some(plan) => {
+                let job = started(alloc, plan)?;
+                Ok(Some(job))
+            }
+            None => Ok(None),
+        },
+    }
+}
+
+/// The outputs stand in the place of the inputs, unless the epoch is the last one: then the job is dropped.
 #[tactic(auto, unfolding(state_model::specs::State::last_epoch))]
-fn installed(alloc: Global, state: &State, plan: &Plan, made: &[Table]) -> Result<State, AllocError>
-    ensures { IfOk result (λ s. s ≡ model.installed_or_dropped state.now (started plan.now) (Ok made.now)) }
+fn installed(alloc: Global, state: &State, job: &Job) -> Result<State, AllocError>
+    ensures { IfOk result (λ s. s ≡ (if state.now.epoch == last_epoch then without_job state.now else installed state.now job.now)) }
 {
     let Some(epoch) = state.epoch.checked_add(1) else {
-        return state.copy(alloc);
+        return state.without_job(alloc);
     };
-    let left = without(alloc, plan.inputs.as_slice(), state.tables.as_slice())?;
-    let tables = with_all(alloc, left, made)?;
+    let left = without(alloc, job.inputs.as_slice(), state.tables.as_slice())?;
+    let tables = with_all(alloc, left, job.written.as_slice())?;
     let log = copied(alloc, state.log.as_slice())?;
     Ok(State {
         settings: state.settings,
@@ -107,30 +129,109 @@ fn installed(alloc: Global, state: &State, plan: &Plan, made: &[Table]) -> Resul
         epoch,
         log,
         tables,
+        job: None,
     })
 }
 
-/// The state after a whole merge, where one is to be chosen and there is room for it.
-#[tactic(auto, using(crate::proofs::Whole::merged_plan, crate::proofs::Whole::merged_none))]
+/// The job once nothing is to read and these tables are written too.
+fn finished(job: Job, made: &[Table]) -> Result<Job, AllocError>
+    ensures { IfOk result (λ later. later ≡ model.finished job made.now) }
+{
+    let mut job = job;
+    job.to_read = 0;
+    push_tables(made, &mut job.written)?;
+    Ok(job)
+}
+
+/// The outputs of these that are not written yet.
+#[tactic(auto, using(crate::proofs::Whole::nothing_left, crate::proofs::Whole::left_from))]
+fn left_of<'a>(job: &Job, outputs: &'a [Vec<Entry>]) -> &'a [Vec<Entry>]
+    ensures { map vec_items result.now ≡ drop (length job.now.written) (map vec_items outputs.now) }
+{
+    if job.written.len() > outputs.len() {
+        return &outputs[..0];
+    }
+    &outputs[job.written.len()..]
+}
+
+/// The whole of a job is done: all that is left is written and installed, or the job is dropped.
+fn merged_by<F: RangeFilter>(alloc: Global, state: &State, job: Job) -> Result<State, AllocError>
+    ensures { IfOk result (λ s. s ≡ model.merged_by (filter_bytes_of F.spelling F.built_cutoff) state.now (Some job)) }
+{
+    let outputs = outputs_of_job(alloc, state, &job)?;
+    let left = left_of(&job, outputs.as_slice());
+    let taken = taken_with(alloc, state, &job)?;
+    match placed::<F>(alloc, state, taken.as_slice(), job.output, left)? {
+        Ok(made) => {
+            let job = finished(job, made.as_slice())?;
+            installed(alloc, state, &job)
+        }
+        Err(_) => state.without_job(alloc),
+    }
+}
+
+/// The state after a whole merge, where one runs or is to be chosen and there is room for it.
 pub fn merged<F: RangeFilter>(alloc: Global, state: &State) -> Result<State, AllocError>
     ensures { IfOk result (λ s. s ≡ model.merged (filter_bytes_of F.spelling F.built_cutoff) state.now) }
 {
-    let Some(plan) = choose(alloc, state)? else {
-        return state.copy(alloc);
-    };
-    let outputs = planned(alloc, state, &plan)?;
-    let taken = taken(alloc, state)?;
-    match placed::<F>(
-        alloc,
-        state,
-        taken.as_slice(),
-        plan.output,
-        outputs.as_slice(),
-    )? {
+    match job_of(alloc, state)? {
+        Some(job) => merged_by::<F>(alloc, state, job),
+        None => state.copy(alloc),
+    }
+}
+
+/// The first of these outputs is written; where none is left the job is installed, or dropped.
+fn with_next<F: RangeFilter>(
+    alloc: Global,
+    state: &State,
+    job: Job,
+    left: &[Vec<Entry>],
+) -> Result<State, AllocError>
+    requires { map vec_items left.now ≡ outstanding state.now.tables job }
+    ensures { IfOk result (λ s. s ≡ model.with_next (filter_bytes_of F.spelling F.built_cutoff) state.now job (map vec_items left.now)) }
+{
+    if left.is_empty() {
+        return installed(alloc, state, &job);
+    }
+    let taken = taken_with(alloc, state, &job)?;
+    match placed::<F>(alloc, state, taken.as_slice(), job.output, &left[..1])? {
         Ok(made) => {
-            let state = installed(alloc, state, &plan, made.as_slice())?;
-            Ok(state)
+            let job = finished(job, made.as_slice())?;
+            state.with_job(alloc, job)
         }
-        Err(_) => state.copy(alloc),
+        Err(_) => state.without_job(alloc),
+    }
+}
+
+/// A merge slice of a job: it reads so many blocks, or where none is left writes the next output, or installs.
+fn sliced_by<F: RangeFilter>(
+    alloc: Global,
+    blocks: u64,
+    state: &State,
+    job: Job,
+) -> Result<State, AllocError>
+    ensures { IfOk result (λ s. s ≡ model.sliced_by (filter_bytes_of F.spelling F.built_cutoff) blocks state.now (Some job)) }
+{
+    if job.to_read > 0 {
+        let mut job = job;
+        job.to_read = job.to_read.saturating_sub(blocks);
+        return state.with_job(alloc, job);
+    }
+    let outputs = outputs_of_job(alloc, state, &job)?;
+    let left = left_of(&job, outputs.as_slice());
+    with_next::<F>(alloc, state, job, left)
+}
+
+/// The state after one merge slice of so many blocks, where a job runs or is to be chosen.
+pub fn sliced<F: RangeFilter>(
+    alloc: Global,
+    blocks: u64,
+    state: &State,
+) -> Result<State, AllocError>
+    ensures { IfOk result (λ s. s ≡ model.sliced (filter_bytes_of F.spelling F.built_cutoff) blocks state.now) }
+{
+    match job_of(alloc, state)? {
+        Some(job) => sliced_by::<F>(alloc, blocks, state, job),
+        None => state.copy(alloc),
     }
 }

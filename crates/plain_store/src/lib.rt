@@ -1,9 +1,10 @@
 //! A store that is played in memory: each definition of `state_model` that computes, as a plain loop over lists.
 //!
-//! A [`State`] is seen as the state of the definitions, without a job, and a kind of filter is named by the type that
-//! implements `RangeFilter`. [`play`] answers requests one after the other, with a whole merge behind each put and del,
-//! and its replies and the state that it leaves are the definitions' own. Beside it stand the parts: [`flushed`],
-//! [`written`], [`compacted`], [`choose`], [`planned`], [`merged`], the gaps, the bounds and the numbers.
+//! A [`State`] is seen as the state of the definitions, and a kind of filter is named by the type that implements
+//! `RangeFilter`. [`play`] answers requests one after the other, with a whole merge behind each put and del, and
+//! [`play_in_slices`] with a merge slice of so many blocks; the replies and the state that they leave are the definitions'
+//! own. Beside them stand the parts: [`flushed`], [`written`], [`compacted`], [`choose`], [`merged`], [`sliced`], the gaps,
+//! the bounds and the numbers.
 //!
 //! It has no pages, no cache and no device, it copies whatever it changes, and it builds a table's filter anew for each
 //! question: it is what the store is compared with, and no store. Each call gives up with `AllocError` for want of
@@ -23,6 +24,7 @@ mod filters;
 mod finding;
 mod gaps;
 mod installing;
+mod job;
 mod keys;
 mod limits;
 mod lists;
@@ -36,14 +38,14 @@ mod table;
 mod talk;
 mod view;
 
-pub use answering::{Answer, Played, ask, play, tend};
+pub use answering::{Answer, Merge, Played, ask, play, play_by, play_in_slices, tend};
 pub use bounds::{admitted, blocks_read, estimate, get_bound, seek_bound};
 pub use changes::{Refusal, compacted, flushed, written};
 pub use finding::Found;
 pub use gaps::{Extent, first_gap, largest_gap};
-pub use installing::merged;
+pub use installing::{merged, sliced};
+pub use job::Job;
 pub use merges::{Plan, choose};
-pub use outputs::planned;
 pub use pages::table_pages;
 pub use placing::NoRoom;
 pub use state::State;

@@ -2,9 +2,10 @@
 ghost use Rattle.std.specs.Prelude.{◌≡◌, [], ◌∷◌, ◌++◌, filter, map, length, vec_items, take, drop, nat_lt, ◌≤◌, IfOk, OnOk};
 ghost use Rattle.std.specs.List.{list_any};
 ghost use Rattle.state_model.specs.Merges as model;
+ghost use Rattle.state_model.specs.Sound.{plan_of_job};
 
+use crate::job::Job;
 use crate::lists::{oldest_first, push_entries};
-use crate::merges::Plan;
 use crate::pages::data_pages;
 use crate::state::State;
 use crate::table::Table;
@@ -122,15 +123,19 @@ fn push_output(entries: &[Entry], outputs: &mut Vec<Vec<Entry>>) -> Result<(), A
     Ok(())
 }
 
-/// The outputs of a plan.
-pub fn planned(alloc: Global, state: &State, plan: &Plan) -> Result<Vec<Vec<Entry>>, AllocError>
-    ensures { IfOk result (λ outputs. map vec_items outputs.items ≡ model.planned state.now.tables plan.now) }
+/// The outputs of a job.
+pub(crate) fn outputs_of_job(
+    alloc: Global,
+    state: &State,
+    job: &Job,
+) -> Result<Vec<Vec<Entry>>, AllocError>
+    ensures { IfOk result (λ outputs. map vec_items outputs.items ≡ model.planned state.now.tables (plan_of_job job.now)) }
 {
-    let newest = newest_of(alloc, plan.inputs.as_slice())?;
-    let entries = lasting(alloc, is_deepest(state, plan.output), newest)?;
+    let newest = newest_of(alloc, job.inputs.as_slice())?;
+    let entries = lasting(alloc, is_deepest(state, job.output), newest)?;
     outputs_of(
         alloc,
-        plan.inputs.len().saturating_sub(1),
+        job.inputs.len().saturating_sub(1),
         entries.as_slice(),
     )
 }

@@ -1,7 +1,7 @@
 // How many pages tables take.
 ghost use Rattle.std.specs.Prelude.{◌≡◌, length, IfOk};
 ghost use Rattle.block_model.specs.Pages as model;
-ghost use Rattle.state_model.specs.Pages.{table_pages, table_of};
+ghost use Rattle.table_model.specs.Tables.{table_pages, table_of};
 ghost use Rattle.plain_store.specs.Filters.{filter_bytes_of};
 
 use crate::filters::filter_length;

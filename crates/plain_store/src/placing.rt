@@ -1,11 +1,14 @@
 // Outputs that become tables.
-ghost use Rattle.std.specs.Prelude.{◌≡◌, ◌∷◌, map, vec_items, None, IfOk};
+ghost use Rattle.std.specs.Prelude.{◌≡◌, [], ◌∷◌, ◌++◌, map, vec_items, None, Some, IfOk};
 ghost use Rattle.std.specs.Result.{result_map_both};
-ghost use Rattle.state_model.specs.Taken.{taken};
+ghost use Rattle.state_model.specs.State.{without_job};
+ghost use Rattle.state_model.specs.Taken.{extent_of, taken};
+ghost use Rattle.state_model.specs.Tends.{with_job};
 ghost use Rattle.state_model.specs.Merges as model;
 ghost use Rattle.plain_store.specs.Filters.{filter_bytes_of};
 
 use crate::gaps::{Extent, first_gap, largest_gap};
+use crate::job::Job;
 use crate::lists::extents;
 use crate::pages::{table_of, table_pages};
 use crate::state::State;
@@ -30,12 +33,39 @@ impl Model for NoRoom {
     ghost view = { λ r. record { need = r.need; gap = r.gap } };
 }
 
-/// The extents that the tables take.
-pub(crate) fn taken(alloc: Global, state: &State) -> Result<Vec<Extent>, AllocError>
-    ensures taken { IfOk result (λ list. list.items ≡ taken state.now) }
-    ensures no_job { state.now.job ≡ None }
+/// The extents that the tables take, and those that a job has written beside them.
+#[tactic(auto, using(crate::proofs::Whole::taken_beside))]
+fn taken_beside(alloc: Global, state: &State, written: &[Table]) -> Result<Vec<Extent>, AllocError>
+    ensures { IfOk result (λ list. list.items ≡ map extent_of (state.now.tables ++ (written.now ++ state.now.kept))) }
 {
-    extents(alloc, state.tables.as_slice())
+    let mut list = extents(alloc, state.tables.as_slice())?;
+    for table in written {
+        list.push(table.extent())?;
+    }
+    Ok(list)
+}
+
+/// The extents that a state takes.
+pub(crate) fn taken(alloc: Global, state: &State) -> Result<Vec<Extent>, AllocError>
+    ensures { IfOk result (λ list. list.items ≡ taken state.now) }
+{
+    match &state.job {
+        None => taken_beside(alloc, state, &[]),
+        Some(job) => taken_beside(alloc, state, job.written.as_slice()),
+    }
+}
+
+/// Those that it takes with another job, and with none.
+pub(crate) fn taken_with(alloc: Global, state: &State, job: &Job) -> Result<Vec<Extent>, AllocError>
+    ensures { IfOk result (λ list. list.items ≡ taken (with_job state.now job.now)) }
+{
+    taken_beside(alloc, state, job.written.as_slice())
+}
+
+pub(crate) fn taken_without(alloc: Global, state: &State) -> Result<Vec<Extent>, AllocError>
+    ensures { IfOk result (λ list. list.items ≡ taken (without_job state.now)) }
+{
+    taken_beside(alloc, state, &[])
 }
 
 fn with_extent(alloc: Global, extent: Extent, taken: &[Extent]) -> Result<Vec<Extent>, AllocError>

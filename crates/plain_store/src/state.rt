@@ -1,7 +1,9 @@
 // The state of a store that is played in memory.
 ghost use Rattle.std.specs.Prelude.{◌≡◌, ◌≤◌, IfOk};
-ghost use Rattle.state_model.specs.State.{new_state};
+ghost use Rattle.state_model.specs.State.{new_state, without_job};
+ghost use Rattle.state_model.specs.Tends.{with_job};
 
+use crate::job::{Job, copied_job};
 use crate::lists::push_tables;
 use crate::table::Table;
 use entry_list::{Entry, copied};
@@ -10,7 +12,7 @@ use std::alloc::{AllocError, Global};
 use std::marker::Model;
 
 /// What a store holds: its log's entries in the order of writing, and its tables, those of level 0 first and the newest
-/// of them first, then the deeper levels, each by rising keys. No merge runs: each is done whole.
+/// of them first, then the deeper levels, each by rising keys, and the merge that runs.
 #[derive(Drop)]
 pub struct State {
     pub settings: Settings,
@@ -18,15 +20,16 @@ pub struct State {
     pub epoch: u64,
     pub log: Vec<Entry>,
     pub tables: Vec<Table>,
+    pub job: Option<Job>,
 }
 
 impl Model for State {
-    ghost use Rattle.std.specs.Prelude.{[], None};
+    ghost use Rattle.std.specs.Prelude.{[]};
     ghost use Rattle.state_model.specs.State as model;
 
     ghost Value = { model.State };
 
-    ghost view = { λ s. record { settings = s.settings; pages = s.pages; epoch = s.epoch; log = s.log.items; tables = s.tables.items; job = None; kept = [] } };
+    ghost view = { λ s. record { settings = s.settings; pages = s.pages; epoch = s.epoch; log = s.log.items; tables = s.tables.items; job = s.job; kept = [] } };
 }
 
 impl State {
@@ -40,6 +43,7 @@ impl State {
             epoch: 1,
             log: Vec::new(alloc),
             tables: Vec::new(alloc),
+            job: None,
         }
     }
 
@@ -50,12 +54,32 @@ impl State {
         let log = copied(alloc, self.log.as_slice())?;
         let mut tables = Vec::new(alloc);
         push_tables(self.tables.as_slice(), &mut tables)?;
+        let job = copied_job(alloc, &self.job)?;
         Ok(State {
             settings: self.settings,
             pages: self.pages,
             epoch: self.epoch,
             log,
             tables,
+            job,
         })
+    }
+
+    /// The same state with this job.
+    pub(crate) fn with_job(&self, alloc: Global, job: Job) -> Result<State, AllocError>
+        ensures { IfOk result (λ s. s ≡ with_job self.now job) }
+    {
+        let mut state = self.copy(alloc)?;
+        state.job = Some(job);
+        Ok(state)
+    }
+
+    /// The same state without its job.
+    pub(crate) fn without_job(&self, alloc: Global) -> Result<State, AllocError>
+        ensures { IfOk result (λ s. s ≡ without_job self.now) }
+    {
+        let mut state = self.copy(alloc)?;
+        state.job = None;
+        Ok(state)
     }
 }

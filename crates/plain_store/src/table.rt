@@ -20,7 +20,7 @@ pub struct Table {
 }
 
 impl Model for Table {
-    ghost use Rattle.state_model.specs.State as model;
+    ghost use Rattle.table_model.specs.Tables as model;
 
     ghost Value = { model.Table };
 

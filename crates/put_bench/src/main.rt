@@ -1,27 +1,37 @@
-//! Measures what one append to the log costs, beside two bare pairs of a write and a sync of the same sizes in the same file.
+//! Measures what one append to the log costs, beside two bare pairs of a write and a sync of the same sizes in the same
+//! file; or what a put and a start cost with the memory table, beside std's `BTreeMap` behind the same log.
 //!
 //! ```text
 //! put_bench /tmp/furqeldi.bench 1000
+//! put_bench /dev/shm/furqeldi.bench random 8 8 10400 1
 //! ```
 //!
 //! It writes to the file at the path, as a device whose first log area begins anew. Appends and bare pairs take turns,
-//! so that what else the disk does falls on both.
+//! and so do the two tables, so that what else the machine does falls on both. Puts and starts are measured in processor
+//! time, the calls of the file system among it: a file in memory shows what the tables add.
 #![tactic(auto)]
 
 mod bare;
+mod keys;
+mod race;
 mod report;
+mod tables;
 
 use anyhow::{Result, bail};
 use bare::BareFile;
 use disk_trait::Disk;
 use gate_log::{Kind, Log};
+use race::{Load, race};
 use real_outside::FileOutside;
 use report::Times;
 use std::env;
 use std::time::Instant;
 
 const USAGE: &str = "usage: put_bench PATH COUNT
-  COUNT appends to the log of the device file at PATH, and as many bare pairs of writes and syncs, in turn";
+  COUNT appends to the log of the device file at PATH, and as many bare pairs of writes and syncs, in turn
+usage: put_bench PATH ORDER KEY VALUE COUNT SEED
+  COUNT puts of keys of KEY bytes and values of VALUE bytes in an ORDER (rising, falling, random or inward), and a start
+  over them, with the memory table and with the map of std, in turn";
 
 /// What is appended, in bytes.
 const KEY: &[u8] = b"key-8byt";
@@ -30,13 +40,29 @@ const VALUE: &[u8] = b"0123456789abcdef0123456789abcdef";
 
 fn main(rt: HostRuntime) -> Result<()> {
     let words: Vec<String> = env::args(&rt)?.skip(1).collect(rt.alloc())?;
-    let [path, count] = words.as_slice() else {
-        println!(rt; "{USAGE}")?;
-        return Ok(());
-    };
-    let count = count.as_str().parse::<u32>()?;
-    let bare = BareFile::open(&rt, path.as_str())?;
-    let copy = String::from_str(rt.alloc(), path.as_str())?;
+    match words.as_slice() {
+        [path, count] => appends(rt, path.as_str(), count.as_str()),
+        [path, order, key, value, count, seed] => {
+            let order = order.as_str();
+            let key = key.as_str().parse::<usize>()?;
+            let value = value.as_str().parse::<usize>()?;
+            let count = count.as_str().parse::<usize>()?;
+            let seed = seed.as_str().parse::<u64>()?;
+            let load = Load::new(rt.alloc(), order, key, value, count, seed)?;
+            let copy = String::from_str(rt.alloc(), path.as_str())?;
+            race(&rt, rt.alloc(), &mut FileOutside::at(rt, copy), &load)
+        }
+        _ => {
+            println!(rt; "{USAGE}")?;
+            Ok(())
+        }
+    }
+}
+
+fn appends(rt: HostRuntime, path: &str, count: &str) -> Result<()> {
+    let count = count.parse::<u32>()?;
+    let bare = BareFile::open(&rt, path)?;
+    let copy = String::from_str(rt.alloc(), path)?;
     let mut disk = FileOutside::at(rt, copy);
     let Ok(mut log) = Log::start(&mut disk, 0) else {
         bail!("the log cannot be begun");

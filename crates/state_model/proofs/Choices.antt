@@ -1,11 +1,11 @@
 -- What is chosen is some of the tables, in their order.
-use Rattle.std.proofs.Common.{◌≡◌, ◌⊎◌, inl, inr, ℕ, zero, suc, ◌≤◌, ◌<◌, ◌+◌, List, [], ◌∷◌, ◌++◌, length, refl, sym, ap, ◌∙◌, subst, Bool, true, false, cond, arith}
-use Rattle.std.specs.Prelude.{Option, Some, None, nat_le, nat_lt, filter, take, drop}
+use Rattle.std.proofs.Common.{◌≡◌, inl, inr, ℕ, zero, suc, ◌≤◌, ◌<◌, ◌+◌, List, [], ◌∷◌, ◌++◌, length, refl, sym, subst, Bool, true, false, cond, arith}
+use Rattle.std.specs.Prelude.{Some, nat_le, nat_lt, filter, take, drop}
 use Rattle.std.specs.List.{AllByRecursion, AllPairs, sum_by}
 use Rattle.std.proofs.lemmas.List.{length-append}
 use Rattle.extent_model.proofs.Lists.{Pairs, pairs_of}
-use Rattle.state_model.specs.State.{State, Table, Job}
-use Rattle.state_model.specs.Pages.{FilterBytes}
+use Rattle.state_model.specs.State.{State, Job}
+use Rattle.table_model.specs.Tables.{FilterBytes, Table}
 use Rattle.state_model.specs.Merges.{Plan, plan_of, on_level, reaches, least_of, greatest_of, level_limit, is_over, first_over, choose}
 use Rattle.state_model.specs.Sound.{IsSound, StandsBefore, MayRun, IsJob, plan_of_job}
 use Rattle.state_model.specs.Laws.{IsPart}

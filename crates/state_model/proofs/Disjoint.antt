@@ -12,7 +12,7 @@ use Rattle.entry_model.specs.Newest.{IsAbove, KeysRise, lookup}
 use Rattle.entry_model.proofs.Newest.{greater_of_less}
 use Rattle.block_model.specs.Pages.{first_key, last_key}
 use Rattle.map_model.specs.Slices.{is_before}
-use Rattle.state_model.specs.State.{Table}
+use Rattle.table_model.specs.Tables.{Table}
 use Rattle.state_model.specs.Merges.{least_key, greatest_key, lesser, greater, least_of, greatest_of, reaches}
 use Rattle.state_model.specs.Sound.{IsBefore, StandsBefore}
 use Rattle.state_model.proofs.Levels.{says, EitherNone, AtMostOne}

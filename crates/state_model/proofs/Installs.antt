@@ -11,9 +11,9 @@ use Rattle.entry_model.specs.Entries.{Entry, newest, or_else, live}
 use Rattle.entry_model.specs.Newest.{KeysRise, lookup}
 use Rattle.entry_model.proofs.Newest.{none_above}
 use Rattle.block_model.specs.Order.{is_any}
-use Rattle.state_model.specs.State.{State, Table, Job, written_by}
+use Rattle.state_model.specs.State.{State, Job, written_by}
+use Rattle.table_model.specs.Tables.{FilterBytes, Table}
 use Rattle.state_model.specs.View.{first_found, oldest_first, state_map}
-use Rattle.state_model.specs.Pages.{FilterBytes}
 use Rattle.state_model.specs.Merges.{Plan, plan_of, on_level, reaches, least_of, greatest_of, is_over, first_over, choose, is_deepest, lasting, newest_of, planned, has_value}
 use Rattle.state_model.specs.Tends.{without, inserted, goes_before, outstanding, installed}
 use Rattle.state_model.specs.Taken.{extent_of, taken}

@@ -7,9 +7,9 @@ use Rattle.map_model.specs.SortedMap.{Bytes, Map}
 use Rattle.entry_model.specs.Entries.{Entry, newest, or_else, live, changed, need, gap, map_of as map_of_entries}
 use Rattle.entry_model.specs.Newest.{KeysRise, newest_entries, lookup}
 use Rattle.entry_model.proofs.Newest.{lookup_newest}
-use Rattle.state_model.specs.State.{State, Table, last_epoch, without_job}
+use Rattle.state_model.specs.State.{State, last_epoch, without_job}
+use Rattle.table_model.specs.Tables.{FilterBytes, Table}
 use Rattle.state_model.specs.View.{memory, entries_of, oldest_first, state_map}
-use Rattle.state_model.specs.Pages.{FilterBytes}
 use Rattle.state_model.specs.Taken.{taken}
 use Rattle.state_model.specs.Merges.{NoRoom, placed, cut, has_value}
 use Rattle.state_model.specs.Changes.{most_tables, with_tables, flush_placed, flushed_with, flushed, logged, logged_then, written, compact_placed, live_entries, compacted_with, compacted}

@@ -6,7 +6,7 @@ use Rattle.map_model.specs.SortedMap.{Bytes}
 use Rattle.entry_model.specs.Entries.{or_else}
 use Rattle.entry_model.specs.Newest.{lookup}
 use Rattle.map_model.specs.Slices.{is_before}
-use Rattle.state_model.specs.State.{Table}
+use Rattle.table_model.specs.Tables.{Table}
 use Rattle.state_model.specs.View.{first_found}
 use Rattle.state_model.specs.Merges.{on_level, least_key}
 use Rattle.state_model.specs.Tends.{goes_before, inserted}

@@ -5,7 +5,7 @@ use Rattle.map_model.specs.SortedMap.{Bytes, put, del}
 use Rattle.entry_model.specs.Entries.{put_entry, del_entry}
 use Rattle.state_model.specs.State.{State, without_job}
 use Rattle.state_model.specs.View.{state_map}
-use Rattle.state_model.specs.Pages.{FilterBytes}
+use Rattle.table_model.specs.Tables.{FilterBytes}
 use Rattle.state_model.specs.Changes.{flushed, written, compacted}
 use Rattle.line_model.specs.Limits.{key_limit, value_limit, first_limit, limit_of}
 use Rattle.line_model.specs.Requests.{Request, Put, Del, Get, Seek, Range, Count, Estimate, Explain, Flush, Compact, Quit, Bad}

@@ -6,9 +6,9 @@ use Rattle.map_model.specs.SortedMap.{Bytes}
 use Rattle.entry_model.specs.Entries.{Entry, or_else}
 use Rattle.entry_model.specs.Newest.{KeysRise, lookup}
 use Rattle.block_model.specs.Pages.{data_pages}
-use Rattle.state_model.specs.State.{State, Table}
+use Rattle.state_model.specs.State.{State}
+use Rattle.table_model.specs.Tables.{FilterBytes, Table, table_of, table_pages}
 use Rattle.state_model.specs.View.{first_found}
-use Rattle.state_model.specs.Pages.{FilterBytes, table_pages, table_of}
 use Rattle.extent_model.specs.Extents.{Extent}
 use Rattle.extent_model.specs.Gaps.{first_gap, largest_gap}
 use Rattle.state_model.specs.Merges.{NoRoom, before, at_page, placed, split_output, outputs_of, output_pages}

@@ -1,7 +1,7 @@
 -- Tables that are placed are on the device, and apart from one another and from what is taken.
-use Rattle.std.proofs.Common.{◌≡◌, ◌⊎◌, inl, inr, ℕ, ◌≤◌, ◌<◌, ◌+◌, ◌*◌, List, [], ◌∷◌, ◌++◌, length, refl, sym, ap, subst, Bool, true, false, cond, map, arith}
-use Rattle.std.specs.Prelude.{Some, None, Result, Ok, Err, nat_le, nat_lt, ◌||◌, ◌&&◌, ◌-◌, min, filter, fold, sum_by}
-use Rattle.std.specs.List.{AllByRecursion, list_any}
+use Rattle.std.proofs.Common.{◌≡◌, ℕ, ◌≤◌, ◌<◌, ◌*◌, List, [], ◌∷◌, ◌++◌, length, refl, sym, ap, subst, true, map, arith}
+use Rattle.std.specs.Prelude.{Some, None, Result, Ok, Err, nat_le, nat_lt, sum_by}
+use Rattle.std.specs.List.{AllByRecursion}
 use Rattle.std.proofs.lemmas.List.{length-append, map-append}
 use Rattle.std.proofs.lemmas.List.Concat.{flat_map-cons}
 use Rattle.std.proofs.lemmas.List.Sums.{sum_by-cons}
@@ -12,13 +12,12 @@ use Rattle.block_model.specs.Laws.{joined}
 use Rattle.block_model.specs.Pages.{pages_for, block_length, block_pages, blocks_of, data_pages, has_room, block_entries, page_bytes}
 use Rattle.block_model.proofs.Cutting.{each_block, blocks_joined}
 use Rattle.std.proofs.lemmas.Bool.{and_parts, ltb-true}
-use Rattle.state_model.specs.State.{Table}
-use Rattle.state_model.specs.Pages.{FilterBytes, table_pages, table_of}
-use Rattle.extent_model.specs.Extents.{Extent, end_of, first_table_page, IsOnDevice, AreApart, AreLaid}
-use Rattle.extent_model.specs.Gaps.{has_page, next_taken, room_at, gap_starts, least, first_gap, largest_gap}
+use Rattle.table_model.specs.Tables.{FilterBytes, Table, table_of, table_pages}
+use Rattle.extent_model.specs.Extents.{Extent, IsOnDevice, AreApart}
+use Rattle.extent_model.specs.Gaps.{first_gap, largest_gap}
 use Rattle.state_model.specs.Taken.{extent_of}
 use Rattle.state_model.specs.Merges.{NoRoom, placed, before, at_page}
-use Rattle.state_model.specs.Sound.{IsOfBytes, IsSoundTable, AreMade}
+use Rattle.state_model.specs.Sound.{IsSoundTable, AreMade}
 use Rattle.extent_model.proofs.Lists.{Pairs, Mutual}
 use Rattle.extent_model.proofs.Free.{gap_is_free, Laid, apart_mutual}
 use Rattle.state_model.proofs.Orders.{all_out, pairs_out, all_of_map, all_to_map, pairs_of_map, pairs_to_map}
@@ -84,10 +83,10 @@ blocks_have_pages filter_bytes settings entries some =
     (omega (arith, many, some), omega (arith, blocks_within (blocks_of entries)))
 
 -- the table that is made of a table's entries is sound
-pub table_is_sound : (filter_bytes : FilterBytes) (settings : Settings) (level page : ℕ) (entries : List Entry) → level ≤ 6 → IsTable entries → AllByRecursion IsOfBytes entries
+pub table_is_sound : (filter_bytes : FilterBytes) (settings : Settings) (level page : ℕ) (entries : List Entry) → level ≤ 6 → IsTable entries
     → IsSoundTable (table_of filter_bytes settings level page entries)
-table_is_sound filter_bytes settings level page entries deep is bytes =
-    record { level = deep; entries = is; bytes = bytes; blocks = blocks_have_pages filter_bytes settings entries is.some }
+table_is_sound filter_bytes settings level page entries deep is =
+    record { level = deep; entries = is; blocks = blocks_have_pages filter_bytes settings entries is.some }
 
 pub has_pages : (filter_bytes : FilterBytes) (settings : Settings) (entries : List Entry) → 1 ≤ length entries → 0 < table_pages filter_bytes settings entries
 has_pages filter_bytes settings entries some = omega (arith, entries_in_pages entries)

@@ -4,9 +4,9 @@ use Rattle.std.specs.Prelude.{Option, Some, None, Result, Ok, Err, nat_le, nat_l
 use Rattle.std.proofs.lemmas.List.Concat.{flat_map-cons}
 use Rattle.map_model.specs.SortedMap.{Bytes, get}
 use Rattle.entry_model.specs.Entries.{Entry, need, gap, put_entry, del_entry}
-use Rattle.state_model.specs.State.{State, Table, without_job, last_epoch}
+use Rattle.state_model.specs.State.{State, without_job, last_epoch}
+use Rattle.table_model.specs.Tables.{FilterBytes, Table}
 use Rattle.state_model.specs.View.{memory, entries_of, state_map}
-use Rattle.state_model.specs.Pages.{FilterBytes}
 use Rattle.state_model.specs.Taken.{taken}
 use Rattle.state_model.specs.Merges.{NoRoom, placed, cut}
 use Rattle.state_model.specs.Causes.{Why}

@@ -3,7 +3,7 @@ use Rattle.std.proofs.Common.{◌≡◌, ℕ, List, [], ◌∷◌, ◌++◌, ref
 use Rattle.std.specs.Prelude.{None, nat_le, min, ◌||◌, ◌-◌, if◌then◌else◌, filter, fold}
 use Rattle.std.specs.List.{list_any}
 use Rattle.std.proofs.lemmas.List.{append_assoc, append-nil}
-use Rattle.state_model.specs.State.{Table}
+use Rattle.table_model.specs.Tables.{Table}
 use Rattle.extent_model.specs.Extents.{Extent, end_of, first_table_page}
 use Rattle.extent_model.specs.Gaps.{has_page, next_taken, room_at, gap_starts, least, first_gap}
 use Rattle.state_model.specs.Taken.{extent_of}

@@ -14,7 +14,7 @@ use Rattle.entry_model.specs.Entries.{Entry, newest, or_else, live, keys_of}
 use Rattle.entry_model.specs.Newest.{IsAbove, KeysRise, newest_entries, lookup}
 use Rattle.entry_model.proofs.Newest.{none_above, above_lower, rises_after, lookup_newest}
 use Rattle.block_model.specs.Order.{Follow, is_above}
-use Rattle.state_model.specs.State.{Table}
+use Rattle.table_model.specs.Tables.{Table}
 use Rattle.state_model.specs.View.{first_found, oldest_first}
 use Rattle.state_model.specs.Merges.{has_value}
 

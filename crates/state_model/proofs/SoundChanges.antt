@@ -11,19 +11,19 @@ use Rattle.filter_api.specs.declared.settings.Settings.{Settings}
 use Rattle.filter_api.specs.Ranges.{InRange}
 use Rattle.entry_model.specs.Entries.{Entry, body, filled, need, gap, IsEntry}
 use Rattle.block_model.specs.Block.{IsTable}
-use Rattle.state_model.specs.State.{State, Table, Job, new_state, last_epoch}
+use Rattle.state_model.specs.State.{State, Job, new_state, last_epoch}
+use Rattle.table_model.specs.Tables.{FilterBytes, Table}
 use Rattle.state_model.specs.View.{memory}
-use Rattle.state_model.specs.Pages.{FilterBytes, table_of}
 use Rattle.state_model.specs.Taken.{extent_of, taken}
 use Rattle.state_model.specs.Merges.{NoRoom, Plan, placed, planned, on_level, cut, lasting, newest_of}
 use Rattle.state_model.specs.Changes.{most_tables, with_tables, flush_placed, flushed_with, flushed, logged, logged_then, written}
 use Rattle.line_model.specs.Replies.{Reply, ManyTables, LastEpoch}
 use Rattle.extent_model.specs.Extents.{AreApart}
-use Rattle.state_model.specs.Sound.{IsOfBytes, IsSoundTable, IsSound, StandsBefore, AreMade, IsJob, MayRun, plan_of_job}
+use Rattle.state_model.specs.Sound.{IsSoundTable, IsSound, StandsBefore, AreMade, IsJob, MayRun, plan_of_job}
 use Rattle.extent_model.proofs.Lists.{pairs_of, all_pairs}
 use Rattle.extent_model.proofs.Free.{Laid}
 use Rattle.state_model.proofs.Places.{table_is_sound, placed_laid}
-use Rattle.state_model.proofs.SoundLogs.{newest_all, memory_is_table, newest_none, filled_none, filled_with}
+use Rattle.state_model.proofs.SoundLogs.{memory_is_table, newest_none, filled_none, filled_with}
 
 not_le : (m n : ℕ) → nat_le m n ≡ false → n < m
 not_le m n e = grind arith
@@ -44,7 +44,6 @@ new_sound filter_bytes settings pages ranges ratio least most = record {
   device = (least, most);
   epoch = (omega arith, le_last 1 (omega arith));
   log = tt;
-  log_bytes = tt;
   log_fits = omega (arith, filled_none);
   few = omega arith;
   tables = tt;
@@ -115,7 +114,6 @@ front_sound filter_bytes s t sound zero_level table other few laid = record {
   device = sound.device;
   epoch = next_epoch s.epoch sound.epoch.1 other;
   log = tt;
-  log_bytes = tt;
   log_fits = omega (arith, filled_none);
   few = omega arith;
   tables = (table, sound.tables);
@@ -133,7 +131,7 @@ with_tables_sound filter_bytes s (t ∷ []) sound table few laid are one =
     elim (s.epoch == last_epoch) as (λ b. (s.epoch == last_epoch) ≡ b → IfSound filter_bytes (cond b (Err LastEpoch) (Ok (in_front s t)))) [
       | true ↦ λ _. tt
       | false ↦ λ e. front_sound filter_bytes s t sound (ap (λ (u : Table). u.level) are.0) (subst IsSoundTable (sym are.0)
-          (table_is_sound filter_bytes s.settings 0 t.first_page (memory s) (omega arith) table (newest_all IsOfBytes s.log sound.log_bytes)))
+          (table_is_sound filter_bytes s.settings 0 t.first_page (memory s) (omega arith) table))
           (eqb-false s.epoch last_epoch e) few laid
     ] refl
 
@@ -193,14 +191,13 @@ job_logged filter_bytes s entry (Some job) is = record {
   written = is.written;
 }
 
-logged_sound : (filter_bytes : FilterBytes) (s : State) (entry : Entry) → IsSound filter_bytes s → IsEntry entry → IsOfBytes entry → filled s.log + length (body entry) + 1 < 262144 → IsSound filter_bytes (logged s entry)
-logged_sound filter_bytes s entry sound is bytes room = record {
+logged_sound : (filter_bytes : FilterBytes) (s : State) (entry : Entry) → IsSound filter_bytes s → IsEntry entry → filled s.log + length (body entry) + 1 < 262144 → IsSound filter_bytes (logged s entry)
+logged_sound filter_bytes s entry sound is room = record {
   settings = sound.settings;
   ratio = sound.ratio;
   device = sound.device;
   epoch = sound.epoch;
   log = all_append IsEntry s.log (entry ∷ []) sound.log (is, tt);
-  log_bytes = all_append IsOfBytes s.log (entry ∷ []) sound.log_bytes (bytes, tt);
   log_fits = omega (arith, filled_with s.log entry);
   few = sound.few;
   tables = sound.tables;
@@ -217,15 +214,15 @@ room_left : (s : State) (entry : Entry) → need entry ≤ gap s.log → filled 
 unfolding gap
 room_left s entry fits = omega arith
 
-logged_then_sound : (filter_bytes : FilterBytes) (entry : Entry) (done : Result State Reply) → IsEntry entry → IsOfBytes entry → IfSound filter_bytes done → IfEmpty done → IfSound filter_bytes (logged_then entry done)
-logged_then_sound filter_bytes entry (Err refusal) is bytes sound empty = tt
-logged_then_sound filter_bytes entry (Ok t) is bytes sound empty = logged_sound filter_bytes t entry sound is bytes (omega (arith, ap filled empty, filled_none, body_bound entry is))
+logged_then_sound : (filter_bytes : FilterBytes) (entry : Entry) (done : Result State Reply) → IsEntry entry → IfSound filter_bytes done → IfEmpty done → IfSound filter_bytes (logged_then entry done)
+logged_then_sound filter_bytes entry (Err refusal) is sound empty = tt
+logged_then_sound filter_bytes entry (Ok t) is sound empty = logged_sound filter_bytes t entry sound is (omega (arith, ap filled empty, filled_none, body_bound entry is))
 
-pub written_done : (filter_bytes : FilterBytes) (s : State) (entry : Entry) → IsSound filter_bytes s → IsEntry entry → IsOfBytes entry → IfSound filter_bytes (written filter_bytes s entry)
-written_done filter_bytes s entry sound is bytes = elim (nat_le (need entry) (gap s.log)) as (λ b. nat_le (need entry) (gap s.log) ≡ b → IfSound filter_bytes (cond b (Ok (logged s entry)) (logged_then entry (flushed filter_bytes s)))) [
-  | true ↦ λ e. logged_sound filter_bytes s entry sound is bytes (room_left s entry (le_of (need entry) (gap s.log) e))
-  | false ↦ λ _. logged_then_sound filter_bytes entry (flushed filter_bytes s) is bytes (flushed_done filter_bytes s sound) (flushed_with_empty filter_bytes s (memory s) refl)
+pub written_done : (filter_bytes : FilterBytes) (s : State) (entry : Entry) → IsSound filter_bytes s → IsEntry entry → IfSound filter_bytes (written filter_bytes s entry)
+written_done filter_bytes s entry sound is = elim (nat_le (need entry) (gap s.log)) as (λ b. nat_le (need entry) (gap s.log) ≡ b → IfSound filter_bytes (cond b (Ok (logged s entry)) (logged_then entry (flushed filter_bytes s)))) [
+  | true ↦ λ e. logged_sound filter_bytes s entry sound is (room_left s entry (le_of (need entry) (gap s.log) e))
+  | false ↦ λ _. logged_then_sound filter_bytes entry (flushed filter_bytes s) is (flushed_done filter_bytes s sound) (flushed_with_empty filter_bytes s (memory s) refl)
 ] refl
 
-pub written_sound : (filter_bytes : FilterBytes) (s t : State) (entry : Entry) → IsSound filter_bytes s → IsEntry entry → IsOfBytes entry → written filter_bytes s entry ≡ Ok t → IsSound filter_bytes t
-written_sound filter_bytes s t entry sound is bytes e = if_sound filter_bytes (written filter_bytes s entry) t (written_done filter_bytes s entry sound is bytes) e
+pub written_sound : (filter_bytes : FilterBytes) (s t : State) (entry : Entry) → IsSound filter_bytes s → IsEntry entry → written filter_bytes s entry ≡ Ok t → IsSound filter_bytes t
+written_sound filter_bytes s t entry sound is e = if_sound filter_bytes (written filter_bytes s entry) t (written_done filter_bytes s entry sound is) e

@@ -7,15 +7,15 @@ use Rattle.std.proofs.lemmas.List.{append_assoc, length-map}
 use Rattle.block_model.proofs.Bounds.{weaker}
 use Rattle.entry_model.specs.Entries.{Entry, IsEntry}
 use Rattle.entry_model.specs.Newest.{KeysRise, newest_entries}
-use Rattle.state_model.specs.State.{State, Table, without_job, last_epoch}
+use Rattle.state_model.specs.State.{State, without_job, last_epoch}
+use Rattle.table_model.specs.Tables.{FilterBytes, Table}
 use Rattle.state_model.specs.View.{entries_of, oldest_first}
-use Rattle.state_model.specs.Pages.{FilterBytes}
 use Rattle.state_model.specs.Taken.{taken}
 use Rattle.state_model.specs.Merges.{NoRoom, placed, cut, has_value}
 use Rattle.state_model.specs.Changes.{compact_placed, compacted_with, compacted, live_entries}
 use Rattle.line_model.specs.Replies.{LastEpoch}
 use Rattle.extent_model.specs.Extents.{AreApart}
-use Rattle.state_model.specs.Sound.{IsOfBytes, IsSound, IsSoundTable, StandsBefore}
+use Rattle.state_model.specs.Sound.{IsSound, IsSoundTable, StandsBefore}
 use Rattle.extent_model.proofs.Lists.{all_kept, all_pairs}
 use Rattle.state_model.proofs.Taken.{all_join}
 use Rattle.state_model.proofs.Sayings.{newest_entries_rise, rises_filter}
@@ -33,12 +33,6 @@ live_are_entries filter_bytes s sound =
     let each = weaker IsSoundTable (λ (t : Table). AllByRecursion IsEntry t.entries) (λ t is. is.entries.sound.each) s.tables sound.tables in
     all_kept IsEntry (λ (e : Entry). has_value e.value) (newest_entries (entries_of s))
     (newest_all IsEntry (entries_of s) (all_join IsEntry (oldest_first s.tables) s.log (oldest_all IsEntry s.tables each) sound.log))
-
-live_are_bytes : (filter_bytes : FilterBytes) (s : State) → IsSound filter_bytes s → AllByRecursion IsOfBytes (live_entries s)
-live_are_bytes filter_bytes s sound =
-    let each = weaker IsSoundTable (λ (t : Table). AllByRecursion IsOfBytes t.entries) (λ t is. is.bytes) s.tables sound.tables in
-    all_kept IsOfBytes (λ (e : Entry). has_value e.value) (newest_entries (entries_of s))
-    (newest_all IsOfBytes (entries_of s) (all_join IsOfBytes (oldest_first s.tables) s.log (oldest_all IsOfBytes s.tables each) sound.log_bytes))
 
 compact_placed_sound : (filter_bytes : FilterBytes) (s : State) (done : Result (List Table) NoRoom) → IsSound filter_bytes s → s.epoch ≢ last_epoch
     → placed filter_bytes s.settings s.pages (taken (without_job s)) 6 (cut s.tables (live_entries s)) ≡ done → IfSound filter_bytes (compact_placed s done)
@@ -66,10 +60,9 @@ compact_placed_sound filter_bytes s (Ok made) sound other e =
       device = sound.device;
       epoch = next_epoch s.epoch sound.epoch.1 other;
       log = tt;
-      log_bytes = tt;
       log_fits = omega (arith, filled_none);
       few = omega (arith, many, outputs_few beside live, sound.few);
-      tables = made_sound filter_bytes s.settings 6 s.pages outputs made (omega arith) sound.device.1 put.1 on (outputs_all IsEntry beside live (live_are_entries filter_bytes s sound)) (outputs_all IsOfBytes beside live (live_are_bytes filter_bytes s sound)) some rise;
+      tables = made_sound filter_bytes s.settings 6 s.pages outputs made (omega arith) sound.device.1 put.1 on (outputs_all IsEntry beside live (live_are_entries filter_bytes s sound)) some rise;
       order = all_pairs StandsBefore made order;
       on_device = laid.0;
       apart = all_pairs AreApart _ laid.1;

@@ -6,14 +6,14 @@ use Rattle.std.proofs.lemmas.List.{append_assoc, append-nil, length-append, leng
 use Rattle.block_model.proofs.Bounds.{weaker}
 use Rattle.entry_model.specs.Entries.{Entry, IsEntry}
 use Rattle.entry_model.specs.Newest.{KeysRise}
-use Rattle.state_model.specs.State.{State, Table, Job, last_epoch}
+use Rattle.state_model.specs.State.{State, Job, last_epoch}
+use Rattle.table_model.specs.Tables.{FilterBytes, Table}
 use Rattle.state_model.specs.View.{oldest_first, state_map}
-use Rattle.state_model.specs.Pages.{FilterBytes}
 use Rattle.state_model.specs.Taken.{taken}
 use Rattle.state_model.specs.Merges.{Plan, plan_of, on_level, reaches, least_of, greatest_of, is_over, first_over, choose, is_deepest, lasting, newest_of, planned, least_key, greatest_key}
 use Rattle.state_model.specs.Tends.{with_job, outstanding, installed, inserted, without, Tended, Tend, idle, works, installs, last_epoch_reached, no_room, no_memory, read_failed, damage_met, write_failed}
 use Rattle.extent_model.specs.Extents.{AreApart}
-use Rattle.state_model.specs.Sound.{IsOfBytes, IsSound, IsSoundTable, StandsBefore, AreMade, IsJob, plan_of_job}
+use Rattle.state_model.specs.Sound.{IsSound, IsSoundTable, StandsBefore, AreMade, IsJob, plan_of_job}
 use Rattle.state_model.specs.SoundLaws.{Ever}
 use Rattle.state_model.proofs.Sayings.{newest_entries_rise}
 use Rattle.state_model.proofs.Outputs.{joined, outputs_joined, parts_rise}
@@ -207,8 +207,7 @@ written_sound filter_bytes s job sound is done inputs on =
     let whole = outputs_joined (length job.inputs - 1) (lasting lasts (newest_of job.inputs)) in
     let rise = parts_rise outputs (subst KeysRise (sym whole) (lasting_rises lasts (newest_of job.inputs) (newest_entries_rise (oldest_first job.inputs)))) in
     let each = planned_all IsEntry s.tables plan (weaker IsSoundTable (λ (t : Table). AllByRecursion IsEntry t.entries) (λ t st. st.entries.sound.each) job.inputs inputs) in
-    let bytes = planned_all IsOfBytes s.tables plan (weaker IsSoundTable (λ (t : Table). AllByRecursion IsOfBytes t.entries) (λ t st. st.bytes) job.inputs inputs) in
-    made_sound filter_bytes s.settings job.output s.pages outputs job.written (chosen_deep (drop is.flushes s.tables) plan is.chosen) sound.device.1 is.written on each bytes (merge_some s.tables plan) rise
+    made_sound filter_bytes s.settings job.output s.pages outputs job.written (chosen_deep (drop is.flushes s.tables) plan is.chosen) sound.device.1 is.written on each (merge_some s.tables plan) rise
 
 inputs_sound : (filter_bytes : FilterBytes) (s : State) (job : Job) → IsSound filter_bytes s → IsJob filter_bytes s.settings s.tables job → AllByRecursion IsSoundTable job.inputs
 inputs_sound filter_bytes s job sound is =
@@ -247,7 +246,6 @@ install_sound filter_bytes s job sound done other =
       device = sound.device;
       epoch = next_epoch s.epoch sound.epoch.1 other;
       log = sound.log;
-      log_bytes = sound.log_bytes;
       log_fits = sound.log_fits;
       few = omega (arith, fold_length job.written (without job.inputs all), stay.1, many, planned_few here.tables (plan_of_job job), sound.few);
       tables = fold_all IsSoundTable job.written (without job.inputs all) new (all_kept IsSoundTable out all sound.tables);

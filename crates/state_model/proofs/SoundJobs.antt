@@ -4,8 +4,8 @@ use Rattle.std.specs.Prelude.{Option, Some, None, Ok, take, drop}
 use Rattle.std.proofs.lemmas.List.{append_assoc}
 use Rattle.filter_api.specs.declared.settings.Settings.{Settings}
 use Rattle.entry_model.specs.Entries.{Entry}
-use Rattle.state_model.specs.State.{State, Table, Job, without_job, written_by}
-use Rattle.state_model.specs.Pages.{FilterBytes}
+use Rattle.state_model.specs.State.{State, Job, without_job, written_by}
+use Rattle.table_model.specs.Tables.{FilterBytes, Table}
 use Rattle.state_model.specs.Taken.{taken}
 use Rattle.state_model.specs.Merges.{Plan, placed, planned, choose}
 use Rattle.state_model.specs.Tends.{Runs, Progresses, started, with_job, outstanding}
@@ -36,7 +36,6 @@ drop_sound filter_bytes s sound =
       device = sound.device;
       epoch = sound.epoch;
       log = sound.log;
-      log_bytes = sound.log_bytes;
       log_fits = sound.log_fits;
       few = sound.few;
       tables = sound.tables;
@@ -58,7 +57,6 @@ job_sound filter_bytes s job sound stand is =
       device = sound.device;
       epoch = sound.epoch;
       log = sound.log;
-      log_bytes = sound.log_bytes;
       log_fits = sound.log_fits;
       few = sound.few;
       tables = sound.tables;

@@ -1,26 +1,26 @@
 -- The keys of a sound table, and what is of no sound state.
-use Rattle.std.proofs.Common.{◌≡◌, ℕ, ◌≤◌, ◌<◌, ◌+◌, ◌^◌, List, [], ◌∷◌, ◌++◌, length, refl, sym, ap, ◌∙◌, subst, true, map, arith}
-use Rattle.std.specs.List.{AllByRecursion, AllPairs}
+use Rattle.std.proofs.Common.{◌≡◌, ℕ, ◌≤◌, ◌<◌, ◌^◌, List, [], ◌∷◌, ◌++◌, length, sym, ap, subst, true, map, arith}
+use Rattle.std.specs.List.{AllByRecursion}
 use Rattle.std.specs.Ordering.{is_lt}
 use Rattle.std.proofs.lemmas.List.{length-map}
 use Rattle.std.proofs.lemmas.List.Elements.{All-from_recursion}
 use Rattle.block_model.proofs.Bounds.{weaker}
 use Rattle.entry_model.specs.Entries.{IsEntry, Entry, filled, keys_of}
 use Rattle.extent_model.specs.Extents.{IsOnDevice}
-use Rattle.extent_model.proofs.Lists.{Pairs, all_pairs, both}
+use Rattle.extent_model.proofs.Lists.{Pairs, all_pairs}
 use Rattle.filter_model.specs.Keys.{IsKey, IsKeyList}
 use Rattle.filter_model.specs.Strings.{is_below}
 use Rattle.map_model.specs.SortedMap.{Bytes}
 use Rattle.entry_model.specs.Newest.{IsAbove, KeysRise}
-use Rattle.state_model.specs.State.{State, Table, written_by}
-use Rattle.state_model.specs.Pages.{FilterBytes}
-use Rattle.state_model.specs.Taken.{extent_of, taken}
-use Rattle.state_model.specs.Sound.{IsOfBytes, IsSoundTable, IsSound}
+use Rattle.state_model.specs.State.{State, written_by}
+use Rattle.table_model.specs.Tables.{FilterBytes, Table}
+use Rattle.state_model.specs.Taken.{extent_of}
+use Rattle.state_model.specs.Sound.{IsSoundTable, IsSound}
 use Rattle.state_model.proofs.Hulls.{rises_of}
 use Rattle.state_model.proofs.Orders.{all_to_map, pairs_to_map}
 
-key_of_entry : (e : Entry) → IsEntry e × IsOfBytes e → IsKey e.key
-key_of_entry e is = record { bytes = is.1.key; filled = is.0.some_key; short = is.0.short_key }
+key_of_entry : (e : Entry) → IsEntry e → IsKey e.key
+key_of_entry e is = record { bytes = is.key_bytes; filled = is.some_key; short = is.short_key }
 
 rising_pairs : (entries : List Entry) → KeysRise entries → Pairs (λ (x y : Entry). is_below x.key y.key ≡ true) entries
 rising_pairs [] rises = tt
@@ -33,7 +33,7 @@ key_list t is =
       some = omega (arith, many, is.entries.some);
       few = subst (λ (n : ℕ). n < 2 ^ 32) (sym many) is.entries.sound.few;
       each = All-from_recursion IsKey (keys_of t.entries) (all_to_map IsKey (λ (e : Entry). e.key) t.entries
-          (weaker (λ (e : Entry). IsEntry e × IsOfBytes e) (λ (e : Entry). IsKey e.key) key_of_entry t.entries (both IsEntry IsOfBytes t.entries is.entries.sound.each is.bytes)));
+          (weaker IsEntry (λ (e : Entry). IsKey e.key) key_of_entry t.entries is.entries.sound.each));
       rising = all_pairs (λ (x y : Bytes). is_below x y ≡ true) (keys_of t.entries)
           (pairs_to_map (λ (x y : Bytes). is_below x y ≡ true) (λ (e : Entry). e.key) t.entries (rising_pairs t.entries (rises_of t is)));
     }

@@ -6,7 +6,7 @@ use Rattle.byte_fields.specs.Spelling.{IsBytes}
 use Rattle.map_model.specs.SortedMap.{Bytes}
 use Rattle.entry_model.specs.Entries.{put_entry, del_entry, IsEntry}
 use Rattle.state_model.specs.State.{State, without_job}
-use Rattle.state_model.specs.Pages.{FilterBytes}
+use Rattle.table_model.specs.Tables.{FilterBytes}
 use Rattle.state_model.specs.Changes.{written, flushed, compacted}
 use Rattle.line_model.specs.Limits.{key_limit, value_limit, first_limit, limit_of}
 use Rattle.line_model.specs.Requests.{Request, Put, Del, Get, Seek, Range, Count, Estimate, Explain, Flush, Compact, Quit, Bad}
@@ -56,8 +56,8 @@ changed_sound filter_bytes old (Ok t) sound new = new
 changed_sound filter_bytes old (Err refusal) sound new = sound
 
 within_sound : (filter_bytes : FilterBytes) (s : State) (request : Request) → IsSound filter_bytes s → AsksOfBytes request → limit_of request ≡ None → IsSound filter_bytes (answer_within filter_bytes s request).1
-within_sound filter_bytes s (Put key value) sound asks e = changed_sound filter_bytes s (written filter_bytes s (put_entry key value)) sound (written_done filter_bytes s (put_entry key value) sound (put_within key value e asks.0 asks.1) (record { key = asks.0; value = asks.1 }))
-within_sound filter_bytes s (Del key) sound asks e = changed_sound filter_bytes s (written filter_bytes s (del_entry key)) sound (written_done filter_bytes s (del_entry key) sound (del_within key e asks) (record { key = asks; value = λ i. omega arith }))
+within_sound filter_bytes s (Put key value) sound asks e = changed_sound filter_bytes s (written filter_bytes s (put_entry key value)) sound (written_done filter_bytes s (put_entry key value) sound (put_within key value e asks.0 asks.1))
+within_sound filter_bytes s (Del key) sound asks e = changed_sound filter_bytes s (written filter_bytes s (del_entry key)) sound (written_done filter_bytes s (del_entry key) sound (del_within key e asks))
 within_sound filter_bytes s Flush sound asks e = changed_sound filter_bytes s (flushed filter_bytes s) sound (flushed_done filter_bytes s sound)
 within_sound filter_bytes s Compact sound asks e = changed_sound filter_bytes (without_job s) (compacted filter_bytes s) (drop_sound filter_bytes s sound) (compacted_done filter_bytes s sound)
 within_sound filter_bytes s (Get key) sound asks e = sound

@@ -7,11 +7,10 @@ use Rattle.map_model.specs.SortedMap.{Bytes}
 use Rattle.entry_model.specs.Entries.{Entry, IsEntry}
 use Rattle.entry_model.specs.Newest.{IsAbove, KeysRise}
 use Rattle.block_model.specs.Pages.{first_key, last_key}
-use Rattle.state_model.specs.State.{Table}
+use Rattle.table_model.specs.Tables.{FilterBytes, Table, table_of, table_pages}
 use Rattle.state_model.specs.View.{oldest_first}
-use Rattle.state_model.specs.Pages.{FilterBytes, table_of, table_pages}
 use Rattle.state_model.specs.Merges.{Plan, planned, lasting, is_deepest, newest_of, has_value, greatest_key, outputs_of}
-use Rattle.state_model.specs.Sound.{IsOfBytes, IsSoundTable, IsBefore, StandsBefore, AreMade}
+use Rattle.state_model.specs.Sound.{IsSoundTable, IsBefore, StandsBefore, AreMade}
 use Rattle.state_model.proofs.Levels.{AllAt}
 use Rattle.extent_model.proofs.Lists.{Pairs, all_kept}
 use Rattle.state_model.proofs.Taken.{all_parts, all_join}
@@ -71,17 +70,17 @@ few_entries : (filter_bytes : FilterBytes) (settings : Settings) (pages page : �
 few_entries filter_bytes settings pages page entries most to = omega (arith, entries_in_pages entries)
 
 pub made_sound : (filter_bytes : FilterBytes) (settings : Settings) (level pages : ℕ) (outputs : List (List Entry)) (made : List Table) → level ≤ 6 → pages ≤ 16777216
-    → AreMade filter_bytes settings level outputs made → AllByRecursion (OnDevice pages) made → AllByRecursion (λ (l : List Entry). AllByRecursion IsEntry l) outputs → AllByRecursion (λ (l : List Entry). AllByRecursion IsOfBytes l) outputs
+    → AreMade filter_bytes settings level outputs made → AllByRecursion (OnDevice pages) made → AllByRecursion (λ (l : List Entry). AllByRecursion IsEntry l) outputs
     → AllByRecursion (λ (l : List Entry). 1 ≤ length l) outputs → AllByRecursion KeysRise outputs → AllByRecursion IsSoundTable made
-made_sound filter_bytes settings level pages [] [] deep most are on each bytes some rise = tt
-made_sound filter_bytes settings level pages (output ∷ outputs) [] deep most are on each bytes some rise = tt
-made_sound filter_bytes settings level pages [] (t ∷ more) deep most are on each bytes some rise = absurd are
-made_sound filter_bytes settings level pages (output ∷ outputs) (t ∷ more) deep most are on each bytes some rise =
+made_sound filter_bytes settings level pages [] [] deep most are on each some rise = tt
+made_sound filter_bytes settings level pages (output ∷ outputs) [] deep most are on each some rise = tt
+made_sound filter_bytes settings level pages [] (t ∷ more) deep most are on each some rise = absurd are
+made_sound filter_bytes settings level pages (output ∷ outputs) (t ∷ more) deep most are on each some rise =
     let within : t.first_page + t.pages ≤ pages = on.0.to in
     let size : t.pages ≡ table_pages filter_bytes settings output = ap (λ (u : Table). u.pages) are.0 in
     let few = few_entries filter_bytes settings pages t.first_page output most (subst (λ (n : ℕ). t.first_page + n ≤ pages) size within) in
-    let made : IsSoundTable (table_of filter_bytes settings level t.first_page output) = table_is_sound filter_bytes settings level t.first_page output deep (is_table output each.0 few some.0 rise.0) bytes.0 in
-    (subst IsSoundTable (sym are.0) made, made_sound filter_bytes settings level pages outputs more deep most are.1 on.1 each.1 bytes.1 some.1 rise.1)
+    let made : IsSoundTable (table_of filter_bytes settings level t.first_page output) = table_is_sound filter_bytes settings level t.first_page output deep (is_table output each.0 few some.0 rise.0) in
+    (subst IsSoundTable (sym are.0) made, made_sound filter_bytes settings level pages outputs more deep most are.1 on.1 each.1 some.1 rise.1)
 
 -- ---- their order
 

@@ -1,11 +1,10 @@
 -- Each state of a script from a sound one is sound.
-use Rattle.std.proofs.Common.{◌≡◌, ℕ, ◌+◌, List, [], ◌∷◌, length, refl, sym, subst}
+use Rattle.std.proofs.Common.{ℕ, ◌+◌, List, [], ◌∷◌, length, sym, subst}
 use Rattle.map_model.specs.SortedMap.{Bytes}
 use Rattle.state_model.specs.State.{State}
-use Rattle.state_model.specs.Pages.{FilterBytes}
+use Rattle.table_model.specs.Tables.{FilterBytes}
 use Rattle.line_model.specs.Requests.{Request, Put, Del, Get, Seek, Range, Count, Estimate, Explain, Flush, Compact, Quit, Bad, request_of}
-use Rattle.line_model.specs.Replies.{Reply, text_of}
-use Rattle.state_model.specs.Steps.{Step}
+use Rattle.line_model.specs.Replies.{text_of}
 use Rattle.state_model.specs.Script.{Ending, AtDevice, AtDamage, ToLast, AtQuit, Turn, Onward, Over, turn_of, Between, AsSaid, Ends, Script, WentOn}
 use Rattle.state_model.specs.PlayLaws.{AnyState}
 use Rattle.state_model.specs.Sound.{IsSound}

@@ -7,7 +7,7 @@ use Rattle.block_model.proofs.Bounds.{weaker}
 use Rattle.map_model.specs.SortedMap.{Bytes}
 use Rattle.entry_model.specs.Entries.{or_else}
 use Rattle.entry_model.specs.Newest.{lookup}
-use Rattle.state_model.specs.State.{Table}
+use Rattle.table_model.specs.Tables.{Table}
 use Rattle.state_model.specs.Tends.{without}
 use Rattle.state_model.proofs.Sayings.{or_assoc}
 use Rattle.state_model.proofs.Levels.{says, EitherNone, AtMostOne, in_front, none_front, none_behind}

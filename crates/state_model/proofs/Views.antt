@@ -8,9 +8,9 @@ use Rattle.entry_model.proofs.Maps.{newest_counts}
 use Rattle.entry_model.specs.Newest.{newest_entries, lookup}
 use Rattle.entry_model.proofs.Newest.{lookup_newest}
 use Rattle.block_model.specs.Order.{is_any}
-use Rattle.state_model.specs.State.{State, Table}
+use Rattle.state_model.specs.State.{State}
+use Rattle.table_model.specs.Tables.{FilterBytes, Table}
 use Rattle.state_model.specs.View.{view, first_found, oldest_first, entries_of, state_map}
-use Rattle.state_model.specs.Pages.{FilterBytes}
 use Rattle.state_model.specs.Sound.{IsSound, IsSoundTable}
 use Rattle.state_model.proofs.Sayings.{newest-append, newest_backwards, oldest_first-backwards, lists_of, AllRise, rises_follow}
 

@@ -1,11 +1,10 @@
 -- What a put, a flush and a compaction make of a state, or the reply by which they are refused.
-use Rattle.std.specs.Prelude.{ℕ, ◌+◌, ◌==◌, nat_le, nat_lt, ◌||◌, if◌then◌else◌, List, [], ◌∷◌, ◌++◌, length, filter, Option, Some, None, Result, Ok, Err}
-use Rattle.map_model.specs.SortedMap.{Bytes}
+use Rattle.std.specs.Prelude.{ℕ, ◌+◌, ◌==◌, nat_le, if◌then◌else◌, List, [], ◌∷◌, ◌++◌, length, filter, None, Result, Ok, Err}
 use Rattle.entry_model.specs.Entries.{Entry, need, gap}
 use Rattle.entry_model.specs.Newest.{newest_entries}
-use Rattle.state_model.specs.State.{State, Table, without_job, last_epoch}
+use Rattle.state_model.specs.State.{State, without_job, last_epoch}
+use Rattle.table_model.specs.Tables.{FilterBytes, Table}
 use Rattle.state_model.specs.View.{memory, entries_of}
-use Rattle.state_model.specs.Pages.{FilterBytes}
 use Rattle.state_model.specs.Taken.{taken}
 use Rattle.state_model.specs.Merges.{NoRoom, placed, cut, has_value}
 use Rattle.line_model.specs.Replies.{Reply, ManyTables, LastEpoch, Full}

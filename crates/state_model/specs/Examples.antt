@@ -3,9 +3,9 @@ use Rattle.std.specs.Prelude.{ℕ, List, [], ◌∷◌, length, map, Option, Som
 use Rattle.filter_api.specs.declared.settings.Settings.{Settings}
 use Rattle.map_model.specs.SortedMap.{Bytes}
 use Rattle.entry_model.specs.Entries.{del_entry}
-use Rattle.state_model.specs.State.{State, Table, new_state}
+use Rattle.state_model.specs.State.{State, new_state}
+use Rattle.table_model.specs.Tables.{FilterBytes, Table}
 use Rattle.state_model.specs.Merges.{Plan}
-use Rattle.state_model.specs.Pages.{FilterBytes}
 use Rattle.line_model.specs.Requests.{Request, Put, Del, Flush, Compact}
 
 -- no suffix bits, and the ratio of a store that names none

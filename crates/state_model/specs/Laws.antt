@@ -4,9 +4,9 @@ use Rattle.std.specs.List.{AllByRecursion, AllPairs}
 use Rattle.map_model.specs.SortedMap.{Bytes, Map, get, put, del, Rises}
 use Rattle.entry_model.specs.Entries.{Entry, live, changed}
 use Rattle.block_model.specs.Pages.{data_pages}
-use Rattle.state_model.specs.State.{State, Table, Job}
+use Rattle.state_model.specs.State.{State, Job}
+use Rattle.table_model.specs.Tables.{FilterBytes, Table}
 use Rattle.state_model.specs.View.{view, first_found, state_map}
-use Rattle.state_model.specs.Pages.{FilterBytes}
 use Rattle.state_model.specs.Merges.{Plan, choose, split_output, planned, lasting, is_deepest, newest_of}
 use Rattle.state_model.specs.Changes.{flushed, written, compacted}
 use Rattle.state_model.specs.Sound.{IsSound, IsSoundTable, StandsBefore, IsJob}

@@ -1,6 +1,5 @@
 pub mod State
 pub mod View
-pub mod Pages
 pub mod Taken
 pub mod Merges
 pub mod Causes

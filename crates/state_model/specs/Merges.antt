@@ -7,9 +7,8 @@ use Rattle.entry_model.specs.Entries.{Entry}
 use Rattle.entry_model.specs.Newest.{newest_entries}
 use Rattle.block_model.specs.Pages.{data_pages, first_key, last_key}
 use Rattle.map_model.specs.Slices.{is_before}
-use Rattle.state_model.specs.State.{Table}
+use Rattle.table_model.specs.Tables.{FilterBytes, Table, table_of, table_pages}
 use Rattle.state_model.specs.View.{oldest_first}
-use Rattle.state_model.specs.Pages.{FilterBytes, table_pages, table_of}
 use Rattle.extent_model.specs.Extents.{Extent}
 use Rattle.extent_model.specs.Gaps.{first_gap, largest_gap}
 

@@ -2,8 +2,8 @@
 -- in slices of so many blocks.
 use Rattle.std.specs.Prelude.{ℕ, ◌-◌, ◌==◌, nat_lt, if◌then◌else◌, List, [], ◌∷◌, ◌++◌, length, Option, Some, None, Result, Ok, Err}
 use Rattle.entry_model.specs.Entries.{Entry}
-use Rattle.state_model.specs.State.{State, Table, Job, without_job, last_epoch}
-use Rattle.state_model.specs.Pages.{FilterBytes}
+use Rattle.state_model.specs.State.{State, Job, without_job, last_epoch}
+use Rattle.table_model.specs.Tables.{FilterBytes, Table}
 use Rattle.state_model.specs.Merges.{NoRoom, Plan, choose}
 use Rattle.state_model.specs.Tends.{started, with_job, outstanding, next_placed, installed}
 use Rattle.state_model.specs.Steps.{answer}

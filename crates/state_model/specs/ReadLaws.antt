@@ -5,9 +5,9 @@ use Rattle.byte_fields.specs.Spelling.{IsBytes}
 use Rattle.map_model.specs.SortedMap.{Bytes, get}
 use Rattle.entry_model.specs.Newest.{lookup}
 use Rattle.map_model.specs.Slices.{is_before, is_between, seek, count}
-use Rattle.state_model.specs.State.{State, Table}
+use Rattle.state_model.specs.State.{State}
+use Rattle.table_model.specs.Tables.{FilterBytes, Table}
 use Rattle.state_model.specs.View.{state_map}
-use Rattle.state_model.specs.Pages.{FilterBytes}
 use Rattle.state_model.specs.Changes.{compacted}
 use Rattle.state_model.specs.Bounds.{admits_range, is_searched, get_bound, is_passed, estimate, admitted}
 use Rattle.state_model.specs.Sound.{IsSoundTable, IsSound}

@@ -3,9 +3,9 @@ use Rattle.std.specs.Prelude.{ℕ, ◌≡◌, ◌≢◌, ◌⊎◌, ◌<◌, ◌
 use Rattle.filter_api.specs.declared.settings.Settings.{Settings}
 use Rattle.map_model.specs.SortedMap.{Bytes}
 use Rattle.entry_model.specs.Entries.{Entry, put_entry, del_entry, need, gap}
-use Rattle.state_model.specs.State.{State, Table, without_job, last_epoch}
+use Rattle.state_model.specs.State.{State, without_job, last_epoch}
+use Rattle.table_model.specs.Tables.{FilterBytes, Table, table_pages}
 use Rattle.state_model.specs.View.{memory, entries_of}
-use Rattle.state_model.specs.Pages.{FilterBytes, table_pages}
 use Rattle.extent_model.specs.Extents.{Extent}
 use Rattle.extent_model.specs.Gaps.{largest_gap}
 use Rattle.state_model.specs.Taken.{taken}

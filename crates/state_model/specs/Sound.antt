@@ -4,12 +4,11 @@ use Rattle.std.specs.List.{AllByRecursion, AllPairs, sum_by}
 use Rattle.std.specs.declared.cmp.Ordering.TheVariants.{Less}
 use Rattle.filter_api.specs.declared.settings.Settings.{Settings}
 use Rattle.filter_api.specs.Ranges.{InRange}
-use Rattle.byte_fields.specs.Spelling.{IsBytes}
 use Rattle.map_model.specs.SortedMap.{Bytes, byte_order}
-use Rattle.entry_model.specs.Entries.{Entry, bytes_of, filled, IsEntry}
+use Rattle.entry_model.specs.Entries.{Entry, filled, IsEntry}
 use Rattle.block_model.specs.Block.{IsTable}
-use Rattle.state_model.specs.State.{State, Table, Job, last_epoch}
-use Rattle.state_model.specs.Pages.{FilterBytes, table_of}
+use Rattle.state_model.specs.State.{State, Job, last_epoch}
+use Rattle.table_model.specs.Tables.{FilterBytes, Table, table_of}
 use Rattle.extent_model.specs.Extents.{IsOnDevice, AreApart}
 use Rattle.state_model.specs.Taken.{taken}
 use Rattle.state_model.specs.Changes.{most_tables}
@@ -18,16 +17,10 @@ use Rattle.state_model.specs.Merges.{Plan, choose, planned, on_level, least_key,
 abbrev pub IsBefore : Bytes → Bytes → Type 0
 IsBefore x y = byte_order x y ≡ Less
 
--- key and value are bytes
-pub record IsOfBytes (entry : Entry) : Type 0 where
-  pub key : IsBytes entry.key
-  pub value : IsBytes (bytes_of entry.value)
-
 -- a table has one entry or more, with strictly rising keys, and one block or more, each of a page or more
 pub record IsSoundTable (t : Table) : Type 0 where
   pub level : t.level ≤ 6
   pub entries : IsTable t.entries
-  pub bytes : AllByRecursion IsOfBytes t.entries
   pub blocks : (1 ≤ t.blocks) × (t.blocks ≤ t.pages)
 
 -- The one stands before the other: it is of a lesser level, or of the same one and then, below level 0, its keys come
@@ -65,7 +58,6 @@ pub record IsSound (filter_bytes : FilterBytes) (s : State) : Type 0 where
   pub device : (512 ≤ s.pages) × (s.pages ≤ 16777216)
   pub epoch : (1 ≤ s.epoch) × (s.epoch ≤ last_epoch)
   pub log : AllByRecursion IsEntry s.log
-  pub log_bytes : AllByRecursion IsOfBytes s.log
   pub log_fits : filled s.log < 262144
   pub few : length s.tables ≤ most_tables
   pub tables : AllByRecursion IsSoundTable s.tables

@@ -1,15 +1,15 @@
 -- Laws of soundness: a store as it is made is sound, and what is done to a sound state leaves one.
 use Rattle.std.specs.Prelude.{◌≡◌, ◌≤◌, ◌<◌, ◌+◌, ◌++◌, ℕ, List, [], ◌∷◌, length, map, Option, Some, None, Ok}
-use Rattle.std.specs.List.{AllByRecursion, AllPairs, sum_by}
+use Rattle.std.specs.List.{AllByRecursion, sum_by}
 use Rattle.filter_api.specs.declared.settings.Settings.{Settings}
 use Rattle.filter_api.specs.Ranges.{InRange}
 use Rattle.filter_model.specs.Keys.{IsKeyList}
 use Rattle.byte_fields.specs.Spelling.{IsBytes}
 use Rattle.map_model.specs.SortedMap.{Bytes}
 use Rattle.entry_model.specs.Entries.{Entry, filled, IsEntry, keys_of}
-use Rattle.state_model.specs.State.{State, Table, Job, new_state, without_job}
+use Rattle.state_model.specs.State.{State, Job, new_state, without_job}
+use Rattle.table_model.specs.Tables.{FilterBytes, Table}
 use Rattle.state_model.specs.View.{state_map}
-use Rattle.state_model.specs.Pages.{FilterBytes}
 use Rattle.extent_model.specs.Extents.{Extent, AreLaid}
 use Rattle.state_model.specs.Taken.{extent_of}
 use Rattle.state_model.specs.Merges.{Plan, choose, placed, planned}
@@ -22,7 +22,7 @@ use Rattle.state_model.specs.Play.{played}
 use Rattle.state_model.specs.Script.{Ending, Script, WentOn}
 use Rattle.state_model.specs.PlayLaws.{Never, AnyState}
 use Rattle.state_model.specs.Tends.{Runs, Progresses, started, with_job, outstanding, Tended, Worked, Tend}
-use Rattle.state_model.specs.Sound.{IsOfBytes, IsSound, IsSoundTable}
+use Rattle.state_model.specs.Sound.{IsSound, IsSoundTable}
 
 -- Outputs that are placed beside laid extents are laid with them.
 abbrev pub PlacedAreLaid : Type 0
@@ -41,7 +41,7 @@ FlushKeepsSound = (filter_bytes : FilterBytes) (s t : State) → IsSound filter_
 
 -- so does an entry that is written
 abbrev pub WriteKeepsSound : Type 0
-WriteKeepsSound = (filter_bytes : FilterBytes) (s t : State) (entry : Entry) → IsSound filter_bytes s → IsEntry entry → IsOfBytes entry → written filter_bytes s entry ≡ Ok t → IsSound filter_bytes t
+WriteKeepsSound = (filter_bytes : FilterBytes) (s t : State) (entry : Entry) → IsSound filter_bytes s → IsEntry entry → written filter_bytes s entry ≡ Ok t → IsSound filter_bytes t
 
 -- and a compaction
 abbrev pub CompactionKeepsSound : Type 0

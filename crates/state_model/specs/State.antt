@@ -2,15 +2,7 @@
 use Rattle.std.specs.Prelude.{ℕ, List, [], Option, Some, None}
 use Rattle.filter_api.specs.declared.settings.Settings.{Settings}
 use Rattle.entry_model.specs.Entries.{Entry}
-
--- A table: its level, its first page and how many pages it takes, of how many data blocks it is made, and its entries,
--- with strictly rising keys.
-pub record Table : Type 0 where
-  pub level : ℕ
-  pub first_page : ℕ
-  pub pages : ℕ
-  pub blocks : ℕ
-  pub entries : List Entry
+use Rattle.table_model.specs.Tables.{Table}
 
 -- A merge that runs: the tables that it merges, the level of the tables that it makes, how many blocks are still to
 -- read, and those of its tables that are written.

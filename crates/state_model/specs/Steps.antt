@@ -6,7 +6,7 @@ use Rattle.entry_model.specs.Entries.{put_entry, del_entry}
 use Rattle.map_model.specs.Slices.{is_before, slice, seek, count}
 use Rattle.state_model.specs.State.{State, without_job, last_epoch}
 use Rattle.state_model.specs.View.{memory, entries_of, state_map}
-use Rattle.state_model.specs.Pages.{FilterBytes}
+use Rattle.table_model.specs.Tables.{FilterBytes}
 use Rattle.state_model.specs.Changes.{written, flushed, compacted}
 use Rattle.line_model.specs.Limits.{limit_of}
 use Rattle.state_model.specs.Bounds.{get_bound, seek_bound, estimate, admitted, blocks_read}

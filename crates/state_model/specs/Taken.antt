@@ -1,7 +1,8 @@
 -- Which pages of the device a state takes.
 use Rattle.std.specs.Prelude.{List, ◌++◌, map}
 use Rattle.extent_model.specs.Extents.{Extent}
-use Rattle.state_model.specs.State.{State, Table, written_by}
+use Rattle.state_model.specs.State.{State, written_by}
+use Rattle.table_model.specs.Tables.{Table}
 
 abbrev pub extent_of : Table → Extent
 extent_of t = (t.first_page, t.pages)

@@ -4,9 +4,9 @@ use Rattle.std.specs.List.{list_any, sum_by}
 use Rattle.byte_fields.specs.declared.parts.Damage.{Damage}
 use Rattle.map_model.specs.Slices.{is_before}
 use Rattle.entry_model.specs.Entries.{Entry}
-use Rattle.state_model.specs.State.{State, Table, Job, without_job, last_epoch}
+use Rattle.state_model.specs.State.{State, Job, without_job, last_epoch}
+use Rattle.table_model.specs.Tables.{FilterBytes, Table}
 use Rattle.state_model.specs.View.{state_map}
-use Rattle.state_model.specs.Pages.{FilterBytes}
 use Rattle.state_model.specs.Taken.{taken}
 use Rattle.state_model.specs.Merges.{Plan, NoRoom, choose, planned, placed, least_key}
 use Rattle.state_model.specs.Sound.{IsLeft, plan_of_job}

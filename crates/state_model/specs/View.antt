@@ -3,7 +3,8 @@ use Rattle.std.specs.Prelude.{List, [], ◌∷◌, ◌++◌, map, flat_map, reve
 use Rattle.map_model.specs.SortedMap.{Bytes, Map}
 use Rattle.entry_model.specs.Entries.{Entry, map_of as map_of_entries, or_else}
 use Rattle.entry_model.specs.Newest.{newest_entries, lookup}
-use Rattle.state_model.specs.State.{State, Table}
+use Rattle.state_model.specs.State.{State}
+use Rattle.table_model.specs.Tables.{Table}
 
 -- the memory entries: the log's last entry for each key, by rising keys
 abbrev pub memory : State → List Entry

@@ -1,2 +1,4 @@
 pub mod Cuts
+pub mod Numbers
+pub mod Verbs
 pub mod Windows

@@ -1,105 +1,20 @@
-ghost use Rattle.std.specs.Prelude.{◌≡◌, ◌≤◌, ◌+◌, ◌/◌, ◌==◌, ◌++◌, ◌∷◌, [], List, Some, None, IfSome, IfNone, IfOk, MatchOption, length, take, option_map, vec_len};
-ghost use Rattle.std.specs.List.{slice_split};
+// Lines, parsed.
+ghost use Rattle.std.specs.Prelude.{◌≡◌, ◌+◌, ◌∷◌, [], List, ◌/◌, ◌≤◌, IfOk, IfErr, IfSome, IfNone, length, vec_len};
 ghost use Rattle.map_model.specs.SortedMap.{Bytes};
-ghost use Rattle.store_model.specs.Lines.{command_of, put_of, put_by, get_of, get_by, del_of, del_by, quit_of};
+ghost use Rattle.line_model.specs.Requests as grammar;
+ghost use Rattle.line_model.specs.Requests.{Bad, request_of, one_of, two_of, none_of, with_two, seek_of, range_of};
 ghost use Rattle.line_model.specs.Lines.{bytes_in};
-ghost use Rattle.store_commands.specs.Cutting.{NoNewline, words_after};
+ghost use Rattle.store_commands.specs.Verbs.{asked_with};
 ghost use Rattle.store_commands.specs.Asks.{Asks, AreWords, AreWithin};
 
-use memchr::memchr;
+use crate::request::{BadLine, Request};
+use crate::verb::{Verb, verb_in};
+use crate::words::{Words, cut, decoded, number, words_in};
+use key_base::MAX_LINE_BYTES;
 use std::alloc::{AllocError, Global};
 
-/// The longest line that is read, in bytes, without its newline.
-pub const LINE_BYTES: usize = 140_000;
-
-/// Room for the key and the value of every line that is read, in bytes.
-const SCRATCH_BYTES: usize = 70_000;
-
-/// What a line asks.
-#[derive(Clone, Copy)]
-pub enum Request<'a> {
-    /// Put a value under a key.
-    Put { key: &'a [u8], value: &'a [u8] },
-    /// Delete a key.
-    Del { key: &'a [u8] },
-    /// Look a key up.
-    Get { key: &'a [u8] },
-    /// End the run.
-    Quit,
-}
-
-/// The first rule of the grammar that a line breaks: 1 it is too long, 2 its verb is none, 3 it has not as many words as
-/// its verb wants, 4 a word is no bytes in hex.
-#[derive(Clone, Copy, Debug, PartialEq, Eq)]
-pub struct BadLine(pub u8);
-
-/// The first line of a text, without its newline, and what stands behind it; `None` where the text has no newline.
-pub fn next_line(text: &[u8]) -> Option<(&[u8], &[u8])>
-    ensures found { IfSome result (λ cut. (text.now ≡ cut.0.now ++ 10 ∷ cut.1.now) × NoNewline cut.0.now) }
-    ensures none { IfNone result (NoNewline text.now) }
-{
-    match memchr(b'\n', text) {
-        Some(at) => Some((&text[..at], &text[at + 1..])),
-        None => None,
-    }
-}
-
-// The first word, and what stands behind the space after it.
-fn cut(text: &[u8]) -> (&[u8], Option<&[u8]>)
-    ensures words { slice_split (λ b. b == 32) text.now ≡ result.0.now ∷ words_after (option_map (λ rest. rest.now) result.1) }
-    ensures first { length result.0.now ≤ length text.now }
-    ensures rest { IfSome result.1 (λ rest. length result.0.now + length rest.now ≤ length text.now) }
-{
-    match memchr(b' ', text) {
-        Some(at) => (&text[..at], Some(&text[at + 1..])),
-        None => (text, None),
-    }
-}
-
-// The words behind a verb, as many as some verb wants.
-#[derive(Clone, Copy)]
-enum Words<'a> {
-    Zero,
-    One(&'a [u8]),
-    Two(&'a [u8], &'a [u8]),
-    More,
-}
-
-fn words_in<'a>(text: Option<&'a [u8]>) -> Words<'a>
-    ensures words { AreWords result (words_after (option_map (λ rest. rest.now) text.entry)) }
-    ensures sizes { IfSome text.entry (λ text. AreWithin (length text.now) result) }
-{
-    let Some(text) = text else {
-        return Words::Zero;
-    };
-    let (first, rest) = cut(text);
-    let Some(rest) = rest else {
-        return Words::One(first);
-    };
-    let (second, rest) = cut(rest);
-    match rest {
-        None => Words::Two(first, second),
-        Some(_) => Words::More,
-    }
-}
-
-// The bytes of a word: none by a dash, or one and more in hex. There is room for half as many as the word has digits.
-fn decoded<'a>(word: &[u8], room: &'a mut [u8]) -> Option<&'a [u8]>
-    requires { length word.now / 2 ≤ length room.old }
-    ensures { option_map (λ bytes. bytes.now) result ≡ bytes_in word.now }
-{
-    if word == b"-".as_slice() {
-        return Some(&[]);
-    }
-    let n = word.len() / 2;
-    if n == 0 {
-        return None;
-    }
-    match hex::decode_to_slice(word, &mut room[..n]) {
-        Ok(()) => Some(&room[..n]),
-        Err(_) => None,
-    }
-}
+/// Room for the bytes that the words of every line spell: two digits a byte.
+const SCRATCH_BYTES: usize = MAX_LINE_BYTES / 2;
 
 /// Room for what one line says. Made once, and lent to each line that is read.
 #[derive(Drop)]
@@ -116,75 +31,158 @@ impl Scratch {
     }
 }
 
-fn parse_put<'a>(words: Words<'_>, room: &'a mut [u8]) -> Result<Request<'a>, BadLine>
-    requires room { length room.old ≡ 70000 }
-    requires sizes { AreWithin 140000 words }
-    ensures { (list : List Bytes) → AreWords words.entry list → Asks result (put_of list) }
+// The bytes of two words.
+fn decoded_two<'a>(first: &[u8], second: &[u8], room: &'a mut [u8]) -> Option<(&'a [u8], &'a [u8])>
+    requires { (length first.now + length second.now) / 2 ≤ length room.old }
+    ensures both { (asks : Bytes → Bytes → grammar.Request) → IfSome result (λ bytes. with_two asks (bytes_in first.now) (bytes_in second.now) ≡ asks bytes.0.now bytes.1.now) }
+    ensures bad { (asks : Bytes → Bytes → grammar.Request) → IfNone result (with_two asks (bytes_in first.now) (bytes_in second.now) ≡ Bad 4) }
 {
-    let Words::Two(key, value) = words else {
-        return Err(BadLine(3));
-    };
-    let (key_room, value_room) = room.split_at_mut(key.len() / 2);
-    match (decoded(key, key_room), decoded(value, value_room)) {
-        (Some(key), Some(value)) => Ok(Request::Put { key, value }),
-        _ => Err(BadLine(4)),
+    let (first_room, second_room) = room.split_at_mut(first.len() / 2);
+    match (decoded(first, first_room), decoded(second, second_room)) {
+        (Some(first), Some(second)) => Some((first, second)),
+        _ => None,
     }
 }
 
-fn parse_del<'a>(words: Words<'_>, room: &'a mut [u8]) -> Result<Request<'a>, BadLine>
+// The one key behind a verb.
+fn one_key<'a>(words: Words<'_>, room: &'a mut [u8]) -> Result<&'a [u8], BadLine>
     requires room { length room.old ≡ 70000 }
     requires sizes { AreWithin 140000 words }
-    ensures { (list : List Bytes) → AreWords words.entry list → Asks result (del_of list) }
-{
-    let Words::One(key) = words else {
-        return Err(BadLine(3));
-    };
-    match decoded(key, room) {
-        Some(key) => Ok(Request::Del { key }),
-        None => Err(BadLine(4)),
-    }
-}
-
-fn parse_get<'a>(words: Words<'_>, room: &'a mut [u8]) -> Result<Request<'a>, BadLine>
-    requires room { length room.old ≡ 70000 }
-    requires sizes { AreWithin 140000 words }
-    ensures { (list : List Bytes) → AreWords words.entry list → Asks result (get_of list) }
+    ensures key { (list : List Bytes) (asks : Bytes → grammar.Request) → AreWords words.entry list → IfOk result (λ key. one_of asks list ≡ asks key.now) }
+    ensures bad { (list : List Bytes) (asks : Bytes → grammar.Request) → AreWords words.entry list → IfErr result (λ bad. one_of asks list ≡ Bad bad.0) }
 {
     let Words::One(key) = words else {
         return Err(BadLine(3));
     };
     match decoded(key, room) {
-        Some(key) => Ok(Request::Get { key }),
+        Some(key) => Ok(key),
         None => Err(BadLine(4)),
     }
 }
 
-fn parse_quit<'a>(words: Words<'_>) -> Result<Request<'a>, BadLine>
-    ensures { (list : List Bytes) → AreWords words.entry list → Asks result (quit_of list) }
+// The two keys behind a verb, or the key and the value.
+fn two_keys<'a>(words: Words<'_>, room: &'a mut [u8]) -> Result<(&'a [u8], &'a [u8]), BadLine>
+    requires room { length room.old ≡ 70000 }
+    requires sizes { AreWithin 140000 words }
+    ensures keys { (list : List Bytes) (asks : Bytes → Bytes → grammar.Request) → AreWords words.entry list → IfOk result (λ keys. two_of asks list ≡ asks keys.0.now keys.1.now) }
+    ensures bad { (list : List Bytes) (asks : Bytes → Bytes → grammar.Request) → AreWords words.entry list → IfErr result (λ bad. two_of asks list ≡ Bad bad.0) }
+{
+    let Words::Two(first, second) = words else {
+        return Err(BadLine(3));
+    };
+    match decoded_two(first, second, room) {
+        Some(both) => Ok(both),
+        None => Err(BadLine(4)),
+    }
+}
+
+// That no word stands behind a verb.
+fn no_word(words: Words<'_>) -> Result<(), BadLine>
+    ensures none { (list : List Bytes) (asked : grammar.Request) → AreWords words.entry list → IfOk result (λ _. none_of asked list ≡ asked) }
+    ensures bad { (list : List Bytes) (asked : grammar.Request) → AreWords words.entry list → IfErr result (λ bad. none_of asked list ≡ Bad bad.0) }
 {
     match words {
-        Words::Zero => Ok(Request::Quit),
+        Words::Zero => Ok(()),
         _ => Err(BadLine(3)),
     }
 }
 
-/// What a line asks, or the code of the first rule that it breaks. The key and the value are laid out in `scratch`.
+fn parse_seek<'a>(words: Words<'_>, room: &'a mut [u8]) -> Result<Request<'a>, BadLine>
+    requires room { length room.old ≡ 70000 }
+    requires sizes { AreWithin 140000 words }
+    ensures { (list : List Bytes) → AreWords words.entry list → Asks result (seek_of list) }
+{
+    match words {
+        Words::One(lo) => match decoded(lo, room) {
+            Some(lo) => Ok(Request::Seek { lo, hi: None }),
+            None => Err(BadLine(4)),
+        },
+        Words::Two(lo, hi) => match decoded_two(lo, hi, room) {
+            Some((lo, hi)) => Ok(Request::Seek { lo, hi: Some(hi) }),
+            None => Err(BadLine(4)),
+        },
+        _ => Err(BadLine(3)),
+    }
+}
+
+fn parse_range<'a>(words: Words<'_>, room: &'a mut [u8]) -> Result<Request<'a>, BadLine>
+    requires room { length room.old ≡ 70000 }
+    requires sizes { AreWithin 140000 words }
+    ensures { (list : List Bytes) → AreWords words.entry list → Asks result (range_of list) }
+{
+    let Words::Three(lo, hi, n) = words else {
+        return Err(BadLine(3));
+    };
+    let Some((lo, hi)) = decoded_two(lo, hi, room) else {
+        return Err(BadLine(4));
+    };
+    match number(n) {
+        Some(n) => Ok(Request::Range { lo, hi, n }),
+        None => Err(BadLine(5)),
+    }
+}
+
+// What a verb asks with the words behind it.
+fn parse_words<'a>(
+    verb: Option<Verb>,
+    words: Words<'_>,
+    room: &'a mut [u8],
+) -> Result<Request<'a>, BadLine>
+    requires room { length room.old ≡ 70000 }
+    requires sizes { AreWithin 140000 words }
+    ensures { (list : List Bytes) → AreWords words.entry list → Asks result (asked_with verb list) }
+{
+    let Some(verb) = verb else {
+        return Err(BadLine(2));
+    };
+    match verb {
+        Verb::Put => {
+            let (key, value) = two_keys(words, room)?;
+            Ok(Request::Put { key, value })
+        }
+        Verb::Del => Ok(Request::Del {
+            key: one_key(words, room)?,
+        }),
+        Verb::Get => Ok(Request::Get {
+            key: one_key(words, room)?,
+        }),
+        Verb::Seek => parse_seek(words, room),
+        Verb::Range => parse_range(words, room),
+        Verb::Count => {
+            let (lo, hi) = two_keys(words, room)?;
+            Ok(Request::Count { lo, hi })
+        }
+        Verb::Estimate => {
+            let (lo, hi) = two_keys(words, room)?;
+            Ok(Request::Estimate { lo, hi })
+        }
+        Verb::Explain => Ok(Request::Explain {
+            key: one_key(words, room)?,
+        }),
+        Verb::Flush => {
+            no_word(words)?;
+            Ok(Request::Flush)
+        }
+        Verb::Compact => {
+            no_word(words)?;
+            Ok(Request::Compact)
+        }
+        Verb::Quit => {
+            no_word(words)?;
+            Ok(Request::Quit)
+        }
+    }
+}
+
+/// What a line asks, or the code of the first rule that it breaks. Its words are laid out in `scratch`.
 ///
 /// One pass over the line; takes no memory.
 pub fn parse_line<'a>(line: &[u8], scratch: &'a mut Scratch) -> Result<Request<'a>, BadLine>
-    ensures { Asks result (command_of line.now) }
+    ensures { Asks result (request_of line.now) }
 {
-    if line.len() > LINE_BYTES {
+    if line.len() > MAX_LINE_BYTES {
         return Err(BadLine(1));
     }
-    let room = scratch.bytes.as_mut_slice();
-    let (verb, rest) = cut(line);
-    let words = words_in(rest);
-    match verb {
-        b"put" => parse_put(words, room),
-        b"del" => parse_del(words, room),
-        b"get" => parse_get(words, room),
-        b"quit" => parse_quit(words),
-        _ => Err(BadLine(2)),
-    }
+    let (word, rest) = cut(line);
+    parse_words(verb_in(word), words_in(rest), scratch.bytes.as_mut_slice())
 }

@@ -1,19 +1,40 @@
-ghost use Rattle.std.specs.Prelude.{◌≡◌, ◌≤◌, ◌+◌, ◌-◌, ◌*◌, ◌++◌, ℕ, [], min, length, take, drop, codes, decimal};
-ghost use Rattle.hex.specs.Hex.{encode_lower};
+// The replies, and their text a piece at a time.
+ghost use Rattle.std.specs.Prelude.{◌≡◌, ◌≤◌, ◌-◌, ◌++◌, ◌∷◌, ℕ, [], min, length, take, drop, decimal};
 ghost use Rattle.map_model.specs.SortedMap.{Bytes};
-ghost use Rattle.store_model.specs.Replies.{text_of, words_of};
-ghost use Rattle.line_model.specs.Replies.{word_of};
+ghost use Rattle.line_model.specs.Replies.{Explained, text_of, word_of, at_words, part_word, sum_word, damage_words};
+ghost use Rattle.byte_fields.specs.declared.parts.Damage.TheVariants.{Sum, Shape};
 ghost use Rattle.store_commands.specs.Spoken.{spoken, Shows};
 
-/// A reply line.
+use crate::window::{Window, add, add_hex, add_number, add_word};
+use byte_fields::{Damage, Part};
+use byteorder::{BigEndian, ByteOrder};
+
+/// A reply line. The pairs of a range are said one by one, each as [`Reply::At`], and [`Reply::End`] behind the last.
 #[derive(Clone, Copy)]
 pub enum Reply<'a> {
     /// `ok`: it is done.
     Done,
     /// `val V`: the value of a key.
     Value(&'a [u8]),
-    /// `none`: the key has no value.
+    /// `none`: the key has no value, or no key is found.
     Missing,
+    /// `at K V`: a pair that is found.
+    At {
+        key: &'a [u8],
+        value: &'a [u8],
+    },
+    /// `end n`: n pairs were found.
+    End(u64),
+    /// `count n`: there are n keys.
+    Counted(u64),
+    /// `about n`: there are about n keys.
+    About(u64),
+    /// `tables t admitted a blocks b`: of t tables the filters of a admitted the key, and b blocks were read.
+    Explained {
+        tables: u64,
+        admitted: u64,
+        blocks: u64,
+    },
     /// `bye`: the run ends.
     Bye,
     /// `bad c`: the line breaks the grammar's rule c first.
@@ -22,169 +43,207 @@ pub enum Reply<'a> {
     LongKey(u64),
     /// `limit value n`: the value has n bytes, over 65,536.
     LongValue(u64),
-    /// `full need n gap g`: there is no room for it, in bytes.
-    Full { need: u64, gap: u64 },
+    /// `limit tables`: there are as many tables as there may be.
+    ManyTables,
+    /// `limit epoch`: the last epoch is reached.
+    LastEpoch,
+    /// `full need n gap g`: there is no room for it.
+    Full {
+        need: u64,
+        gap: u64,
+    },
     /// `memory`: there is no memory for it.
     Memory,
     /// `device`: the device failed.
     Device,
-    /// `damaged log AT rule R`: the log breaks the format's rule R at byte AT of the device.
-    DamagedLog { at: u64, rule: u8 },
+    /// `damaged PART AT ..`: a part of the device's bytes has another sum, or breaks a rule of its format.
+    Damaged(Damage),
 }
 
-/// How much of a reply stands in a buffer, and how many of its bytes are still to be passed over.
-#[derive(Clone, Copy)]
-struct Window {
-    filled: usize,
-    skip: usize,
-}
-
-// Puts a text behind what stands in the buffer, and answers where it ends.
-fn put_text(into: &mut [u8], at: usize, text: &[u8]) -> usize
-    requires { at + length text.now ≤ length into.old }
-    ensures end { result ≡ at + length text.now }
-    ensures text { take result into.new ≡ take at into.old ++ text.now }
-{
-    into[at..at + text.len()].copy_from_slice(text);
-    at + text.len()
-}
-
-// A text more: its bytes behind those that are passed over, as many as fit.
-fn add(into: &mut [u8], window: Window, text: &[u8]) -> Window
+// A text, bytes as a word, and a newline.
+fn say_word(into: &mut [u8], window: Window, text: &[u8], bytes: &[u8]) -> Window
     requires { window.filled ≤ length into.old }
-    ensures shows { (from : ℕ) (whole : Bytes) → Shows from whole window.filled window.skip into.old → Shows from (whole ++ text.now) result.filled result.skip into.new }
-    ensures within { result.filled ≤ length into.old }
-{
-    let skipped = window.skip.min(text.len());
-    let part = &text[skipped..];
-    let n = part.len().min(into.len() - window.filled);
-    let filled = put_text(into, window.filled, &part[..n]);
-    Window {
-        filled,
-        skip: window.skip - skipped,
-    }
-}
-
-// A number more, in decimal.
-fn add_number(into: &mut [u8], window: Window, number: u64) -> Window
-    requires { window.filled ≤ length into.old }
-    ensures shows { (from : ℕ) (whole : Bytes) → Shows from whole window.filled window.skip into.old → Shows from (whole ++ decimal number) result.filled result.skip into.new }
-    ensures within { result.filled ≤ length into.old }
-{
-    let mut buffer = itoa::Buffer::new();
-    add(into, window, buffer.format(number).as_bytes())
-}
-
-// Some bytes more, in hex. What does not land in the buffer is not spelled.
-fn add_chunk(into: &mut [u8], window: Window, chunk: &[u8]) -> Window
-    requires filled { window.filled ≤ length into.old }
-    requires short { length chunk.now ≤ 512 }
-    ensures shows { (from : ℕ) (whole : Bytes) → Shows from whole window.filled window.skip into.old → Shows from (whole ++ encode_lower chunk.now) result.filled result.skip into.new }
-    ensures within { result.filled ≤ length into.old }
-{
-    let n = 2 * chunk.len();
-    if n <= window.skip || window.filled == into.len() {
-        return Window {
-            filled: window.filled,
-            skip: window.skip.saturating_sub(n),
-        };
-    }
-    let mut digits = [0; 1024];
-    match hex::encode_to_slice(chunk, &mut digits[..n]) {
-        Ok(()) => add(into, window, &digits[..n]),
-        Err(_) => unreachable!(),
-    }
-}
-
-// Bytes more, in hex, a chunk at a time.
-fn add_hex(into: &mut [u8], window: Window, bytes: &[u8]) -> Window
-    requires { window.filled ≤ length into.old }
-    ensures shows { (from : ℕ) (whole : Bytes) → Shows from whole window.filled window.skip into.old → Shows from (whole ++ encode_lower bytes.now) result.filled result.skip into.new }
-    ensures within { result.filled ≤ length into.old }
-{
-    let mut window = window;
-    let mut rest = bytes;
-    while !rest.is_empty() {
-        let (chunk, more) = rest.split_at(rest.len().min(512));
-        window = add_chunk(into, window, chunk);
-        rest = more;
-    }
-    window
-}
-
-// Bytes more, as a word: in hex, or a dash for none.
-fn add_word(into: &mut [u8], window: Window, bytes: &[u8]) -> Window
-    requires { window.filled ≤ length into.old }
-    ensures shows { (from : ℕ) (whole : Bytes) → Shows from whole window.filled window.skip into.old → Shows from (whole ++ word_of bytes.now) result.filled result.skip into.new }
-    ensures within { result.filled ≤ length into.old }
-{
-    if bytes.is_empty() {
-        add(into, window, b"-")
-    } else {
-        add_hex(into, window, bytes)
-    }
-}
-
-// A text and a number behind it.
-fn add_count(into: &mut [u8], window: Window, text: &[u8], number: u64) -> Window
-    requires { window.filled ≤ length into.old }
-    ensures shows { (from : ℕ) (whole : Bytes) → Shows from whole window.filled window.skip into.old → Shows from (whole ++ (text.now ++ decimal number)) result.filled result.skip into.new }
+    ensures shows { (from : ℕ) → Shows from [] window.filled window.skip into.old → Shows from (text.now ++ word_of bytes.now ++ 10 ∷ []) result.filled result.skip into.new }
     ensures within { result.filled ≤ length into.old }
 {
     let window = add(into, window, text);
-    add_number(into, window, number)
+    let window = add_word(into, window, bytes);
+    add(into, window, b"\n")
 }
 
-// A text and a number behind it, and another text and number.
-fn add_counts(
+// A text, a number, and a newline.
+fn say_count(into: &mut [u8], window: Window, text: &[u8], count: u64) -> Window
+    requires { window.filled ≤ length into.old }
+    ensures shows { (from : ℕ) → Shows from [] window.filled window.skip into.old → Shows from (text.now ++ decimal count ++ 10 ∷ []) result.filled result.skip into.new }
+    ensures within { result.filled ≤ length into.old }
+{
+    let window = add(into, window, text);
+    let window = add_number(into, window, count);
+    add(into, window, b"\n")
+}
+
+// A text and a number, another text and number, and a newline.
+fn say_two_counts(
     into: &mut [u8],
     window: Window,
     text: &[u8],
-    number: u64,
-    other: &[u8],
     count: u64,
+    other: &[u8],
+    more: u64,
 ) -> Window
     requires { window.filled ≤ length into.old }
-    ensures shows { (from : ℕ) (whole : Bytes) → Shows from whole window.filled window.skip into.old
-        → Shows from (whole ++ (text.now ++ (decimal number ++ (other.now ++ decimal count)))) result.filled result.skip into.new }
+    ensures shows { (from : ℕ) → Shows from [] window.filled window.skip into.old → Shows from (text.now ++ decimal count ++ other.now ++ decimal more ++ 10 ∷ []) result.filled result.skip into.new }
     ensures within { result.filled ≤ length into.old }
 {
-    let window = add_count(into, window, text, number);
-    add_count(into, window, other, count)
+    let window = add(into, window, text);
+    let window = add_number(into, window, count);
+    let window = add(into, window, other);
+    let window = add_number(into, window, more);
+    add(into, window, b"\n")
 }
 
-// A reply's words.
-fn add_words(into: &mut [u8], window: Window, reply: &Reply<'_>) -> Window
+// A pair, in a line.
+fn say_pair(into: &mut [u8], window: Window, key: &[u8], value: &[u8]) -> Window
     requires { window.filled ≤ length into.old }
-    ensures shows { (from : ℕ) (whole : Bytes) → Shows from whole window.filled window.skip into.old → Shows from (whole ++ words_of (spoken reply.now)) result.filled result.skip into.new }
+    ensures shows { (from : ℕ) → Shows from [] window.filled window.skip into.old → Shows from (at_words key.now value.now ++ 10 ∷ []) result.filled result.skip into.new }
+    ensures within { result.filled ≤ length into.old }
+{
+    let window = add(into, window, b"at ");
+    let window = add_word(into, window, key);
+    let window = add(into, window, b" ");
+    let window = add_word(into, window, value);
+    add(into, window, b"\n")
+}
+
+// What a look-up asked, in a line.
+fn say_explained(into: &mut [u8], window: Window, tables: u64, admitted: u64, blocks: u64) -> Window
+    requires { window.filled ≤ length into.old }
+    ensures shows { (from : ℕ) → Shows from [] window.filled window.skip into.old → Shows from (text_of (Explained tables admitted blocks)) result.filled result.skip into.new }
+    ensures within { result.filled ≤ length into.old }
+{
+    let window = add(into, window, b"tables ");
+    let window = add_number(into, window, tables);
+    let window = add(into, window, b" admitted ");
+    let window = add_number(into, window, admitted);
+    let window = add(into, window, b" blocks ");
+    let window = add_number(into, window, blocks);
+    add(into, window, b"\n")
+}
+
+// The word of a part more.
+fn add_part(into: &mut [u8], window: Window, part: Part) -> Window
+    requires { window.filled ≤ length into.old }
+    ensures shows { (from : ℕ) (whole : Bytes) → Shows from whole window.filled window.skip into.old → Shows from (whole ++ part_word part) result.filled result.skip into.new }
+    ensures within { result.filled ≤ length into.old }
+{
+    match part {
+        Part::Manifest => add(into, window, b"manifest"),
+        Part::Log => add(into, window, b"log"),
+        Part::Index => add(into, window, b"index"),
+        Part::Filter => add(into, window, b"filter"),
+        Part::Block => add(into, window, b"block"),
+    }
+}
+
+// A sum more, as sixteen hex digits.
+fn add_sum(into: &mut [u8], window: Window, sum: u64) -> Window
+    requires { window.filled ≤ length into.old }
+    ensures shows { (from : ℕ) (whole : Bytes) → Shows from whole window.filled window.skip into.old → Shows from (whole ++ sum_word sum) result.filled result.skip into.new }
+    ensures within { result.filled ≤ length into.old }
+{
+    let mut bytes = [0; 8];
+    BigEndian::write_u64(&mut bytes, sum);
+    add_hex(into, window, &bytes)
+}
+
+// That a part has another sum than the one that is kept, in a line.
+fn say_other_sum(
+    into: &mut [u8],
+    window: Window,
+    part: Part,
+    at: u64,
+    kept: u64,
+    seen: u64,
+) -> Window
+    requires { window.filled ≤ length into.old }
+    ensures shows { (from : ℕ) → Shows from [] window.filled window.skip into.old → Shows from (damage_words (Sum part at kept seen) ++ 10 ∷ []) result.filled result.skip into.new }
+    ensures within { result.filled ≤ length into.old }
+{
+    let window = add(into, window, b"damaged ");
+    let window = add_part(into, window, part);
+    let window = add(into, window, b" ");
+    let window = add_number(into, window, at);
+    let window = add(into, window, b" sum ");
+    let window = add_sum(into, window, kept);
+    let window = add(into, window, b" ");
+    let window = add_sum(into, window, seen);
+    add(into, window, b"\n")
+}
+
+// That a part breaks a rule, in a line.
+fn say_broken_rule(into: &mut [u8], window: Window, part: Part, at: u64, rule: u64) -> Window
+    requires { window.filled ≤ length into.old }
+    ensures shows { (from : ℕ) → Shows from [] window.filled window.skip into.old → Shows from (damage_words (Shape part at rule) ++ 10 ∷ []) result.filled result.skip into.new }
+    ensures within { result.filled ≤ length into.old }
+{
+    let window = add(into, window, b"damaged ");
+    let window = add_part(into, window, part);
+    let window = add(into, window, b" ");
+    let window = add_number(into, window, at);
+    let window = add(into, window, b" rule ");
+    let window = add_number(into, window, rule);
+    add(into, window, b"\n")
+}
+
+fn say_damage(into: &mut [u8], window: Window, damage: &Damage) -> Window
+    requires { window.filled ≤ length into.old }
+    ensures shows { (from : ℕ) → Shows from [] window.filled window.skip into.old → Shows from (damage_words damage.now ++ 10 ∷ []) result.filled result.skip into.new }
+    ensures within { result.filled ≤ length into.old }
+{
+    match damage {
+        Damage::Sum {
+            part,
+            at,
+            kept,
+            seen,
+        } => say_other_sum(into, window, *part, *at, *kept, *seen),
+        Damage::Shape { part, at, rule } => {
+            say_broken_rule(into, window, *part, *at, u64::from(*rule))
+        }
+    }
+}
+
+// A reply's line.
+fn say_line(into: &mut [u8], window: Window, reply: &Reply<'_>) -> Window
+    requires { window.filled ≤ length into.old }
+    ensures shows { (from : ℕ) → Shows from [] window.filled window.skip into.old → Shows from (text_of (spoken reply.now)) result.filled result.skip into.new }
     ensures within { result.filled ≤ length into.old }
 {
     match reply {
-        Reply::Done => add(into, window, b"ok"),
-        Reply::Value(value) => {
-            let window = add(into, window, b"val ");
-            add_word(into, window, value)
-        }
-        Reply::Missing => add(into, window, b"none"),
-        Reply::Bye => add(into, window, b"bye"),
-        Reply::BadLine(code) => add_count(into, window, b"bad ", u64::from(*code)),
-        Reply::LongKey(size) => add_count(into, window, b"limit key ", *size),
-        Reply::LongValue(size) => add_count(into, window, b"limit value ", *size),
+        Reply::Done => add(into, window, b"ok\n"),
+        Reply::Value(value) => say_word(into, window, b"val ", value),
+        Reply::Missing => add(into, window, b"none\n"),
+        Reply::At { key, value } => say_pair(into, window, key, value),
+        Reply::End(count) => say_count(into, window, b"end ", *count),
+        Reply::Counted(count) => say_count(into, window, b"count ", *count),
+        Reply::About(count) => say_count(into, window, b"about ", *count),
+        Reply::Explained {
+            tables,
+            admitted,
+            blocks,
+        } => say_explained(into, window, *tables, *admitted, *blocks),
+        Reply::Bye => add(into, window, b"bye\n"),
+        Reply::BadLine(code) => say_count(into, window, b"bad ", u64::from(*code)),
+        Reply::LongKey(size) => say_count(into, window, b"limit key ", *size),
+        Reply::LongValue(size) => say_count(into, window, b"limit value ", *size),
+        Reply::ManyTables => add(into, window, b"limit tables\n"),
+        Reply::LastEpoch => add(into, window, b"limit epoch\n"),
         Reply::Full { need, gap } => {
-            add_counts(into, window, b"full need ", *need, b" gap ", *gap)
+            say_two_counts(into, window, b"full need ", *need, b" gap ", *gap)
         }
-        Reply::Memory => add(into, window, b"memory"),
-        Reply::Device => add(into, window, b"device"),
-        Reply::DamagedLog { at, rule } => {
-            add_counts(
-                into,
-                window,
-                b"damaged log ",
-                *at,
-                b" rule ",
-                u64::from(*rule),
-            )
-        }
+        Reply::Memory => add(into, window, b"memory\n"),
+        Reply::Device => add(into, window, b"device\n"),
+        Reply::Damaged(damage) => say_damage(into, window, damage),
     }
 }
 
@@ -200,7 +259,5 @@ pub fn piece(reply: &Reply<'_>, from: usize, into: &mut [u8]) -> usize
         filled: 0,
         skip: from,
     };
-    let window = add_words(into, window, reply);
-    let window = add(into, window, b"\n");
-    window.filled
+    say_line(into, window, reply).filled
 }

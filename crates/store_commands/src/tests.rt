@@ -1,4 +1,5 @@
 use super::*;
+use byte_fields::{Damage, Part};
 use std::test::Fail;
 
 // The code that a line is refused with, 0 where it is none.
@@ -47,6 +48,58 @@ fn lines_that_ask(rt: HostRuntime) -> Result<(), Fail> {
 }
 
 #[test]
+fn lines_of_every_verb(rt: HostRuntime) -> Result<(), Fail> {
+    let mut scratch = Scratch::new(rt.alloc())?;
+    let s = &mut scratch;
+    assert!(rt;
+        matches!(
+            parse_line(b"seek 61", s),
+            Ok(Request::Seek { lo: b"a", hi: None })
+        )
+    );
+    assert!(rt;
+        matches!(
+            parse_line(b"seek - 62", s),
+            Ok(Request::Seek {
+                lo: b"",
+                hi: Some(b"b")
+            })
+        )
+    );
+    assert!(rt;
+        matches!(
+            parse_line(b"range 61 6F6f 1000000", s),
+            Ok(Request::Range {
+                lo: b"a",
+                hi: b"oo",
+                n: 1_000_000
+            })
+        )
+    );
+    assert!(rt;
+        matches!(
+            parse_line(b"count 61 -", s),
+            Ok(Request::Count { lo: b"a", hi: b"" })
+        )
+    );
+    assert!(rt;
+        matches!(
+            parse_line(b"estimate - -", s),
+            Ok(Request::Estimate { lo: b"", hi: b"" })
+        )
+    );
+    assert!(rt;
+        matches!(
+            parse_line(b"explain 7a", s),
+            Ok(Request::Explain { key: b"z" })
+        )
+    );
+    assert!(rt; matches!(parse_line(b"flush", s), Ok(Request::Flush)));
+    assert!(rt; matches!(parse_line(b"compact", s), Ok(Request::Compact)));
+    Ok(())
+}
+
+#[test]
 fn the_first_rule_that_a_line_breaks(rt: HostRuntime) -> Result<(), Fail> {
     let mut scratch = Scratch::new(rt.alloc())?;
     let rows = [
@@ -60,17 +113,43 @@ fn the_first_rule_that_a_line_breaks(rt: HostRuntime) -> Result<(), Fail> {
         ("get  61", 3),
         ("del", 3),
         ("quit ", 3),
+        ("seek", 3),
+        ("seek 61 62 63", 3),
+        ("range 61 62", 3),
+        ("range 61 62 1 1", 3),
         ("put 6 62", 4),
         ("put 61 6", 4),
         ("put  62", 4),
-        ("del ", 4),
         ("get 6g", 4),
-        ("get --", 4),
         ("get 61\r", 4),
+        ("seek 61 -- ", 3),
+        ("range 6 62 x", 4),
+        ("range 61 62 x", 5),
+        ("range 61 62 ", 5),
+        ("range 61 62 00", 5),
+        ("range 61 62 +1", 5),
+        ("range 61 62 1000001", 5),
+        ("range 61 62 99999999999999999999", 5),
+        ("range 61 62 0", 0),
     ];
     for (line, want) in rows {
         assert_eq!(rt; code(line.as_bytes(), &mut scratch), want, "of '{line}'");
     }
+    Ok(())
+}
+
+#[test]
+fn verbs_that_are_not_answered_yet(rt: HostRuntime) -> Result<(), Fail> {
+    let mut scratch = Scratch::new(rt.alloc())?;
+    let s = &mut scratch;
+    assert!(rt; matches!(parse_answered(b"get 61", s), Ok(Request::Get { key: b"a" })));
+    assert!(rt; matches!(parse_answered(b"get", s), Err(BadLine(3))));
+    assert!(rt; matches!(parse_answered(b"flush", s), Err(BadLine(2))));
+    assert!(rt; matches!(parse_answered(b"seek", s), Err(BadLine(2))));
+    let mut line = [b' '; 140_001];
+    line[..5].copy_from_slice(b"count");
+    assert!(rt; matches!(parse_answered(&line[..140_000], s), Err(BadLine(2))));
+    assert!(rt; matches!(parse_answered(&line, s), Err(BadLine(1))));
     Ok(())
 }
 
@@ -106,24 +185,67 @@ fn replies_in_buffers_of_every_size(rt: HostRuntime) {
         (Reply::Value(b""), "val -\n"),
         (Reply::Value(b"\xff\x0a"), "val ff0a\n"),
         (Reply::Missing, "none\n"),
+        (
+            Reply::At {
+                key: b"a",
+                value: b"",
+            },
+            "at 61 -\n",
+        ),
+        (Reply::End(2), "end 2\n"),
+        (Reply::Counted(0), "count 0\n"),
+        (Reply::About(12), "about 12\n"),
+        (
+            Reply::Explained {
+                tables: 3,
+                admitted: 2,
+                blocks: 1,
+            },
+            "tables 3 admitted 2 blocks 1\n",
+        ),
         (Reply::Bye, "bye\n"),
         (Reply::BadLine(4), "bad 4\n"),
         (Reply::LongKey(1_025), "limit key 1025\n"),
         (Reply::LongValue(65_537), "limit value 65537\n"),
+        (Reply::ManyTables, "limit tables\n"),
+        (Reply::LastEpoch, "limit epoch\n"),
         (Reply::Full { need: 53, gap: 2 }, "full need 53 gap 2\n"),
         (Reply::Memory, "memory\n"),
         (Reply::Device, "device\n"),
-        (
-            Reply::DamagedLog {
-                at: 262_145,
-                rule: 1,
-            },
-            "damaged log 262145 rule 1\n",
-        ),
     ];
     for (reply, text) in rows {
         for size in [1, 7, 64] {
             assert!(rt; is_said_alike(&reply, text.as_bytes(), size), "{text}");
+        }
+    }
+}
+
+#[test]
+fn damage_in_buffers_of_every_size(rt: HostRuntime) {
+    let rule = Damage::Shape {
+        part: Part::Log,
+        at: 262_145,
+        rule: 1,
+    };
+    let sum = Damage::Sum {
+        part: Part::Filter,
+        at: 0,
+        kept: 255,
+        seen: 1 << 60,
+    };
+    let rows = [
+        (rule, "damaged log 262145 rule 1\n"),
+        (
+            sum,
+            "damaged filter 0 sum 00000000000000ff 1000000000000000\n",
+        ),
+    ];
+    for (damage, text) in rows {
+        for size in [1, 7, 64] {
+            assert!(rt;
+                is_said_alike(&Reply::Damaged(damage), text.as_bytes(), size),
+                "{text}"
+            );
         }
     }
 }

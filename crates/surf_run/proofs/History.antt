@@ -9,9 +9,9 @@ use Rattle.outside.specs.Streams.{SaidByNow, SaysFront}
 use Rattle.log_model.specs.Area.{LogIs}
 use Rattle.map_model.specs.SortedMap.{Bytes}
 use Rattle.entry_model.specs.Entries.{Entry}
-use Rattle.store_model.specs.Lines.{command_of}
-use Rattle.store_model.specs.Replies.{Reply, text_of}
-use Rattle.store_model.specs.Script.{Step, WentOn}
+use Rattle.store_commands.specs.Answered.{asked_here}
+use Rattle.line_model.specs.Replies.{Reply, text_of}
+use Rattle.surf_run.specs.Script.{Step, WentOn}
 use Rattle.surf_run.specs.Crash.{Stands, Reached, Anything, Acknowledged}
 use Rattle.surf_run.specs.Serving.{InLine}
 use Rattle.surf_run.proofs.Answering.{answers_on, answers_of}
@@ -89,7 +89,7 @@ module _ (start : List Entry) (lines : List Bytes) (line text : Bytes) (now : Li
       ap (λ (k : ℕ). take k w'.beside.said) size ∙ ap (take (length w.beside.said + (n - length w.beside.said))) front.said ∙ take-append-add w.beside.said front.done (n - length w.beside.said)
 
   -- in a line
-  pub line_ack : (n : ℕ) (image : Image) → InLine now (Step now (command_of line)) reply (length w.beside.said) (length w'.beside.said) n image
+  pub line_ack : (n : ℕ) (image : Image) → InLine now (Step now (asked_here line)) reply (length w.beside.said) (length w'.beside.said) n image
       → Acknowledged start (lines ++ line ∷ []) first.beside.said w'.beside.said n image
   line_ack n image at =
       let before = first.beside.said in

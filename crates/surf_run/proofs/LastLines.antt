@@ -8,7 +8,7 @@ use Rattle.gate_log.specs.Faults.{IsShapeIn}
 use Rattle.gate_log.specs.declared.fault.LogFault.{LogFault}
 use Rattle.gate_log.specs.declared.fault.LogFault.TheVariants.{Memory, Device, Shape}
 use Rattle.map_model.specs.SortedMap.{Bytes}
-use Rattle.store_model.specs.Replies.{text_of}
+use Rattle.line_model.specs.Replies.{text_of}
 use Rattle.surf_run.specs.Causes.{IsServing, StatusCause, SayFailed}
 use Rattle.surf_run.specs.Open.{reply_to, status_of}
 use Rattle.surf_run.specs.Run.{IsLastText, Unserved, SomeFailed, Completed}

@@ -1,6 +1,5 @@
 pub mod Answering
 pub mod EndCauses
-pub mod Filling
 pub mod History
 pub mod LastLines
 pub mod Lifting

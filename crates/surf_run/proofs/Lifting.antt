@@ -13,8 +13,8 @@ use Rattle.gate_log.specs.declared.fault.LogFault.TheVariants.{Memory, Device, S
 use Rattle.map_model.specs.SortedMap.{Bytes}
 use Rattle.entry_model.specs.Entries.{Entry}
 use Rattle.line_model.specs.Lines.{lines_of, whole_lines}
-use Rattle.store_model.specs.Replies.{text_of}
-use Rattle.store_model.specs.Script.{Script, WentOn, Ending, ToLast}
+use Rattle.line_model.specs.Replies.{text_of}
+use Rattle.surf_run.specs.Script.{Script, WentOn, Ending, ToLast}
 use Rattle.surf_run.specs.Causes.{IsServing, SayFailed}
 use Rattle.surf_run.specs.Crash.{Reached, Acknowledged}
 use Rattle.surf_run.specs.Open.{OpenMoves, reply_to, status_of}
@@ -43,9 +43,6 @@ module _ (tells : Bool) (start : List Entry) (old mid new : World) (opened : Ope
       | inr on ↦ inr (λ more. script_same ending (lines_of (taken ++ more)) said.text (on more))
     ];
   }
-
-  cut_since : (taken : Bytes) → CutOff tells start taken mid new → CutOff tells start taken old new
-  cut_since taken cut = record { text = cut.text; output = out_same cut.text cut.output; script = script_same ToLast (whole_lines taken) cut.text cut.script }
 
   part_since : (taken : Bytes) → SaidInPart tells start taken mid new → SaidInPart tells start taken old new
   part_since taken part = record {
@@ -78,6 +75,14 @@ module _ (tells : Bool) (start : List Entry) (old mid new : World) (opened : Ope
       (ack_none start lines old.beside.said new.beside.said text grown)
       (subst (λ (s : Bytes). During (Acknowledged start lines s new.beside.said) mid new) said_same then)
 
+  cut_since : (taken : Bytes) → CutOff tells start taken mid new → CutOff tells start taken old new
+  cut_since taken cut = record {
+    text = cut.text;
+    output = out_same cut.text cut.output;
+    script = script_same ToLast (whole_lines taken) cut.text cut.script;
+    crash = λ t. crash_since (whole_lines taken) cut.text (out_same cut.text cut.output) (cut.crash t);
+  }
+
   settled_since : (status : ℕ) (taken : Bytes) → Settled tells status start taken mid new → Settled tells status start taken old new
   settled_since status taken settled = record {
     ended = λ zero. elim (settled.ended zero) [
@@ -97,6 +102,7 @@ module _ (tells : Bool) (start : List Entry) (old mid new : World) (opened : Ope
     input = ap (λ (s : Streams). s.to_take) (sym opened.beside) ∙ outcome.input;
     settled = settled_since status outcome.taken outcome.settled;
     limit = outcome.limit;
+    most = outcome.most;
   }
 
   pub ends_since : (status : ℕ) → IsServing status → Outcome tells status start mid new → Ends tells status start old new

@@ -8,11 +8,11 @@ use Rattle.outside.proofs.Crossing.{during_disk, during_say, during_weaker, duri
 use Rattle.log_model.specs.Area.{LogIs}
 use Rattle.map_model.specs.SortedMap.{Bytes}
 use Rattle.entry_model.specs.Entries.{Entry}
-use Rattle.store_model.specs.Replies.{Reply, Bye, Device, text_of}
+use Rattle.line_model.specs.Replies.{Reply, Bye, Device, text_of}
 use Rattle.surf_run.specs.Crash.{Stands}
 use Rattle.surf_run.specs.Holds.{Holds}
 use Rattle.surf_run.specs.Saying.{Says}
-use Rattle.store_model.specs.Script.{GoesOn}
+use Rattle.surf_run.specs.Script.{GoesOn}
 use Rattle.surf_run.specs.Serving.{Leaves, LogAfter, InLine, LineAnswer, Answered}
 use Rattle.surf_run.specs.declared.store.Store.{Store}
 use Rattle.surf_run.specs.declared.end.LineEnd.{LineEnd}

@@ -11,10 +11,10 @@ use Rattle.log_model.specs.Area.{LogIs}
 use Rattle.store_commands.specs.Cutting.{NoNewline}
 use Rattle.map_model.specs.SortedMap.{Bytes}
 use Rattle.entry_model.specs.Entries.{Entry}
-use Rattle.store_model.specs.Lines.{command_of}
+use Rattle.store_commands.specs.Answered.{asked_here}
 use Rattle.line_model.specs.Lines.{lines_of, whole_lines}
-use Rattle.store_model.specs.Replies.{Reply, Bye, Device, text_of}
-use Rattle.store_model.specs.Script.{Step, Script, GoesOn, WentOn, Ending, ToLast, AtQuit, AtDevice}
+use Rattle.line_model.specs.Replies.{Reply, Bye, Device, text_of}
+use Rattle.surf_run.specs.Script.{Step, Script, GoesOn, WentOn, Ending, ToLast, AtQuit, AtDevice}
 use Rattle.surf_run.specs.Crash.{Stands, Reached, Anything, Acknowledged}
 use Rattle.surf_run.specs.Holds.{Holds}
 use Rattle.surf_run.specs.Outcome.{Said, SaidInPart, Settled}
@@ -153,6 +153,9 @@ settled_cut tells status start taken kept store first w is served = record {
     script =
         let lines : whole_lines taken ≡ served.lines = ap whole_lines served.split ∙ whole_first served.lines served.rest served.whole served.open_end in
         subst (λ (ls : List Bytes). Script (Reached tells w) (length first.beside.said) start ls served.text ToLast) (sym lines) (script_of (Reached tells w) (length first.beside.said) start served.lines served.text served.now served.ran);
+    crash = λ t.
+        let lines : whole_lines taken ≡ served.lines = ap whole_lines served.split ∙ whole_first served.lines served.rest served.whole served.open_end in
+        subst (λ (ls : List Bytes). During (Acknowledged start ls first.beside.said w.beside.said) first w) (sym lines) (served.history t);
   };
   output = λ e. absurd (elim is [ inl three ↦ omega arith | inr nine ↦ omega arith ]);
   said = (served.text, served.told);
@@ -185,7 +188,7 @@ module _ (tells : Bool) (start : List Entry) (taken kept : Bytes) (store : Store
   last = ap lines_of served.split ∙ lines_first served.lines served.rest served.whole
       ∙ ap (λ (ls : List Bytes). served.lines ++ ls) (last_line served.rest served.open_end (held_some served.rest kept served.held some))
 
-  module _ (reply : Reply) (new : List Entry) (answer : LineAnswer tells served.now (Step served.now (command_of served.rest)) reply new w w') where
+  module _ (reply : Reply) (new : List Entry) (answer : LineAnswer tells served.now (Step served.now (asked_here served.rest)) reply new w w') where
     grown : (text : Bytes) × (w'.beside.said ≡ first.beside.said ++ text)
     grown = (served.text ++ answer.front.done, answer.front.said ∙ ap (λ (l : Bytes). l ++ answer.front.done) served.told ∙ append_assoc first.beside.said served.text answer.front.done)
 
@@ -245,7 +248,7 @@ module _ (tells : Bool) (start : List Entry) (taken kept : Bytes) (store : Store
       stands = stands;
     }
 
-  pub settled_next : (store' : Store) → SaidByNow w' → Answered tells Next served.now (Step served.now (command_of served.rest)) store' w w' → Settled tells 0 start taken first w'
+  pub settled_next : (store' : Store) → SaidByNow w' → Answered tells Next served.now (Step served.now (asked_here served.rest)) store' w w' → Settled tells 0 start taken first w'
   settled_next store' now a = record {
     ended = λ _. inl (said_next a.0 a.1 a.2 a.3 a.4 (reached a.0 a.1 a.2 a.4 now a.5));
     device = λ e. absurd (omega arith);
@@ -255,7 +258,7 @@ module _ (tells : Bool) (start : List Entry) (taken kept : Bytes) (store : Store
     crash = crash a.0 a.1 a.2;
   }
 
-  pub settled_bye : (store' : Store) → SaidByNow w' → Answered tells Quit served.now (Step served.now (command_of served.rest)) store' w w' → Settled tells 0 start taken first w'
+  pub settled_bye : (store' : Store) → SaidByNow w' → Answered tells Quit served.now (Step served.now (asked_here served.rest)) store' w w' → Settled tells 0 start taken first w'
   settled_bye store' now a = record {
     ended = λ _. inr (said_last Bye a.0 a.1 AtQuit (refl, refl, reached Bye a.0 a.1 a.2 now a.3) a.2);
     device = λ e. absurd (omega arith);
@@ -265,7 +268,7 @@ module _ (tells : Bool) (start : List Entry) (taken kept : Bytes) (store : Store
     crash = crash Bye a.0 a.1;
   }
 
-  pub settled_status : (status : ℕ) (store' : Store) → Answered tells (End status) served.now (Step served.now (command_of served.rest)) store' w w' → Settled tells status start taken first w'
+  pub settled_status : (status : ℕ) (store' : Store) → Answered tells (End status) served.now (Step served.now (asked_here served.rest)) store' w w' → Settled tells status start taken first w'
   settled_status status store' a = elim a.3 [
     | inl four ↦ record {
       ended = λ e. absurd (let f = four.0 in omega arith);

@@ -9,11 +9,13 @@ use Rattle.hex.specs.Hex.{lower_digits}
 use Rattle.hex.proofs.HexLemmas.{length-encode_with}
 use Rattle.outside.specs.Streams.{SaysFront}
 use Rattle.map_model.specs.SortedMap.{Bytes}
-use Rattle.store_model.specs.Replies.{text_of}
-use Rattle.line_model.specs.Replies.{word_of}
+use Rattle.line_model.specs.Replies.{text_of, word_of, part_word}
+use Rattle.byte_fields.specs.declared.parts.Part.{Part}
+use Rattle.byte_fields.specs.declared.parts.Part.TheVariants.{Manifest, Log, Index, Filter, Block}
+use Rattle.byte_fields.specs.declared.parts.Damage.TheVariants.{Sum, Shape}
 use Rattle.store_commands.specs.Spoken.{spoken}
 use Rattle.store_commands.specs.declared.reply.Reply.{Reply}
-use Rattle.store_commands.specs.declared.reply.Reply.TheVariants.{Done, Value, Missing, Bye, BadLine, LongKey, LongValue, Full, Memory, Device, DamagedLog}
+use Rattle.store_commands.specs.declared.reply.Reply.TheVariants.{Done, Value, Missing, At, End, Counted, About, Explained, Bye, BadLine, LongKey, LongValue, ManyTables, LastEpoch, Full, Memory, Device, Damaged}
 use Rattle.surf_run.specs.Saying.{IsShort}
 
 module _ (text buffer : Bytes) (from n : ℕ) (size : n ≡ min (length buffer) (length text - from)) (bytes : take n buffer ≡ take (length buffer) (drop from text)) where
@@ -40,24 +42,43 @@ word_size (b ∷ value) = omega (arith, length-encode_with lower_digits (b ∷ v
 decimal_size : (n : ℕ) → n < 2 ^ 64 → length (decimal n) ≤ 20
 decimal_size n small = length-decimal-le 20 n (omega arith) (omega arith) small
 
-two_sizes : (n m : ℕ) (middle : Bytes) → n < 2 ^ 64 → m < 2 ^ 64 → length (decimal n ++ (middle ++ decimal m)) ≤ 40 + length middle
-two_sizes n m middle short_n short_m = omega (arith, decimal_size n short_n, decimal_size m short_m, length-append (decimal n) (middle ++ decimal m), length-append middle (decimal m))
+word_end : (front value : Bytes) (most : ℕ) → length value ≤ most → length (front ++ word_of value ++ 10 ∷ []) ≤ length front + 2 * most + 2
+word_end front value most short = omega (arith, length-append (front ++ word_of value) (10 ∷ []), length-append front (word_of value), word_size value)
 
-with_end : (text : Bytes) (most : ℕ) → length text ≤ most → length (text ++ 10 ∷ []) ≤ most + 1
-with_end text most le = omega (arith, length-append text (10 ∷ []))
+number_end : (front : Bytes) (n : ℕ) → n < 2 ^ 64 → length (front ++ decimal n ++ 10 ∷ []) ≤ length front + 21
+number_end front n small = omega (arith, length-append (front ++ decimal n) (10 ∷ []), length-append front (decimal n), decimal_size n small)
+
+numbers_end : (front middle : Bytes) (n m : ℕ) → n < 2 ^ 64 → m < 2 ^ 64 → length (front ++ decimal n ++ middle ++ decimal m ++ 10 ∷ []) ≤ length front + length middle + 41
+numbers_end front middle n m small_n small_m =
+    omega (arith, number_end (front ++ decimal n ++ middle) m small_m, length-append (front ++ decimal n) middle, length-append front (decimal n), decimal_size n small_n)
+
+part_size : (part : Part) → length (part_word part) ≤ 8
+part_size Manifest = omega arith
+part_size Log = omega arith
+part_size Index = omega arith
+part_size Filter = omega arith
+part_size Block = omega arith
 
 pub short_text : (reply : Reply) → IsShort reply → length (text_of (spoken reply)) < 2 ^ 64
 short_text Done short = omega arith
-short_text (Value value) short = omega (arith, with_end (word_of value.now) 131073 (omega (arith, word_size value.now)))
+short_text (Value value) short = omega (arith, word_end (codes "val ") value.now 65536 short)
 short_text Missing short = omega arith
+short_text (At key value) short = absurd short
+short_text (End count) short = absurd short
+short_text (Counted count) short = absurd short
+short_text (About count) short = absurd short
+short_text (Explained tables admitted blocks) short = absurd short
 short_text Bye short = omega arith
-short_text (BadLine code) short = omega (arith, with_end (decimal code) 20 (decimal_size code short))
-short_text (LongKey size) short = omega (arith, with_end (decimal size) 20 (decimal_size size short))
-short_text (LongValue size) short = omega (arith, with_end (decimal size) 20 (decimal_size size short))
-short_text (Full need gap) short = omega (arith, with_end (decimal need ++ (codes " gap " ++ decimal gap)) 45 (two_sizes need gap (codes " gap ") short.0 short.1))
+short_text (BadLine code) short = omega (arith, number_end (codes "bad ") code short)
+short_text (LongKey size) short = omega (arith, number_end (codes "limit key ") size short)
+short_text (LongValue size) short = omega (arith, number_end (codes "limit value ") size short)
+short_text ManyTables short = absurd short
+short_text LastEpoch short = absurd short
+short_text (Full need gap) short = omega (arith, numbers_end (codes "full need ") (codes " gap ") need gap short.0 short.1)
 short_text Memory short = omega arith
 short_text Device short = omega arith
-short_text (DamagedLog at rule) short = omega (arith, with_end (decimal at ++ (codes " rule " ++ decimal rule)) 46 (two_sizes at rule (codes " rule ") short.0 short.1))
+short_text (Damaged (Sum part at kept seen)) short = absurd short
+short_text (Damaged (Shape part at rule)) short = omega (arith, numbers_end (codes "damaged " ++ part_word part ++ codes " ") (codes " rule ") at rule short.0 short.1, length-append (codes "damaged " ++ part_word part) (codes " "), length-append (codes "damaged ") (part_word part), part_size part)
 
 pub none_over : (r : Option ℕ) (P : Type 0) (v : ℕ) → SomeIff r P v → ((x : ℕ) → r ≡ Some x → ⊥) → P → ⊥
 none_over None P v is none p = is p

@@ -11,10 +11,10 @@ use Rattle.outside.proofs.Crossing.{during_then, during_weaker}
 use Rattle.store_commands.specs.Cutting.{NoNewline}
 use Rattle.map_model.specs.SortedMap.{Bytes}
 use Rattle.entry_model.specs.Entries.{Entry}
-use Rattle.store_model.specs.Lines.{command_of}
+use Rattle.store_commands.specs.Answered.{asked_here}
 use Rattle.line_model.specs.Lines.{lines_of}
-use Rattle.store_model.specs.Replies.{Reply, Bye, Device, text_of}
-use Rattle.store_model.specs.Script.{Step, Script, GoesOn, WentOn, Ending, AtQuit, AtDevice}
+use Rattle.line_model.specs.Replies.{Reply, Bye, Device, text_of}
+use Rattle.surf_run.specs.Script.{Step, Script, GoesOn, WentOn, Ending, AtQuit, AtDevice}
 use Rattle.surf_run.specs.Crash.{Stands, Reached, Acknowledged}
 use Rattle.surf_run.specs.Holding.{Held}
 use Rattle.surf_run.specs.Holds.{Holds}
@@ -70,7 +70,7 @@ module _ (tells : Bool) (start : List Entry) (bytes kept : Bytes) (store : Store
   first_lines : AreFirst (bytes ++ part ++ 10 ∷ []) (served.lines ++ (served.rest ++ part) ∷ [])
   first_lines more = (lines_of more, cut more)
 
-  module _ (w' : World) (reply : Reply) (new : List Entry) (answer : LineAnswer tells served.now (Step served.now (command_of (served.rest ++ part))) reply new w w') where
+  module _ (w' : World) (reply : Reply) (new : List Entry) (answer : LineAnswer tells served.now (Step served.now (asked_here (served.rest ++ part))) reply new w w') where
     history : IsTrue tells → During (Acknowledged start (served.lines ++ (served.rest ++ part) ∷ []) first.beside.said w'.beside.said) first w'
     history t =
         during_then _ first w w' (during_weaker _ _ first w (served.history t) (ack_more start served.lines ((served.rest ++ part) ∷ []) first.beside.said w.beside.said w'.beside.said answer.front.done answer.front.said))
@@ -133,7 +133,7 @@ module _ (tells : Bool) (start : List Entry) (bytes kept : Bytes) (store : Store
       history = history;
     }
 
-  pub line_end : (w' : World) (end : LineEnd) (store' : Store) (kept' : Bytes) → SaidByNow w' → Answered tells end served.now (Step served.now (command_of (served.rest ++ part))) store' w w' → kept' ≡ []
+  pub line_end : (w' : World) (end : LineEnd) (store' : Store) (kept' : Bytes) → SaidByNow w' → Answered tells end served.now (Step served.now (asked_here (served.rest ++ part))) store' w w' → kept' ≡ []
       → After tells end start (bytes ++ part ++ 10 ∷ []) kept' store' first w'
   line_end w' Next store' kept' said_now a cleared = next_line w' a.0 a.1 a.2 a.4 kept' store' a.3 a.5 a.6 said_now cleared
   line_end w' Quit store' kept' said_now a cleared = last_line w' Bye a.0 a.1 a.2 AtQuit (refl, refl, reached w' Bye a.0 a.1 a.2 said_now a.3)

@@ -8,10 +8,11 @@ use Rattle.outside.specs.Streams.{SayMoves, SaysFront, SaidByNow}
 use Rattle.entry_model.specs.Entries.{IsEntry, Entry, bytes_of, map_of, newest, or_else, live}
 use Rattle.log_model.specs.Area.{LogIs}
 use Rattle.map_model.specs.SortedMap.{Bytes, get}
-use Rattle.store_model.specs.Lines.{Command, Put, Del, Get}
-use Rattle.store_model.specs.Lines as asks
-use Rattle.store_model.specs.Replies.{Reply, Bye, LongKey, LongValue, text_of, got}
-use Rattle.store_model.specs.Script.{Step, GoesOn, Unless, key_limit, value_limit, first_limit}
+use Rattle.line_model.specs.Requests.{Request, Put, Del, Get}
+use Rattle.line_model.specs.Requests as asks
+use Rattle.line_model.specs.Replies.{Reply, Bye, LongKey, LongValue, text_of, got}
+use Rattle.line_model.specs.Limits.{key_limit, value_limit, first_limit}
+use Rattle.surf_run.specs.Script.{Step, GoesOn, Unless}
 use Rattle.entry_model.proofs.Maps.{newest_counts}
 use Rattle.surf_run.specs.Crash.{Stands}
 use Rattle.surf_run.specs.Holds.{Holds}
@@ -84,8 +85,3 @@ live_some (Some said) value is = ap Some (sym is)
 
 pub short_value : (entries : List Entry) (key value : Bytes) → AllByRecursion IsEntry entries → Some value ≡ live (newest entries key) → length value ≤ 65536
 short_value entries key value sound is = found_sound entries key value sound (live_some (newest entries key) value is)
-
--- ---- quit and bad lines
-
-pub quit_step : (old : List Entry) (command : Command) → command ≡ asks.Quit → Step old command Bye old
-quit_step old command is = subst (λ (c : Command). Step old c Bye old) (sym is) (refl, refl)

@@ -11,8 +11,8 @@ use Rattle.log_model.specs.Area.{LogIs, WithOrWithout, start_of}
 use Rattle.disk_trait.specs.World.{Image, World, Leads, WriteMoves}
 use Rattle.disk_trait.proofs.Calls.{moves_wider}
 use Rattle.map_model.specs.SortedMap.{Bytes}
-use Rattle.store_model.specs.Replies.{Full}
-use Rattle.store_model.specs.Script.{Write, full}
+use Rattle.line_model.specs.Replies.{Full}
+use Rattle.surf_run.specs.Script.{Write, full}
 
 pub need_is : (kind : Kind) (key value : Bytes) → FitsKind kind value → need (entry_of_kind kind key value) ≡ 7 + length key + length value + 2
 need_is Put key value fits = omega (arith, length-append key value)

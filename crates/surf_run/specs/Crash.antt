@@ -4,7 +4,7 @@ use Rattle.disk_trait.specs.World.{Image, World, Now}
 use Rattle.log_model.specs.Area.{LogIs}
 use Rattle.map_model.specs.SortedMap.{Bytes}
 use Rattle.entry_model.specs.Entries.{Entry}
-use Rattle.store_model.specs.Script.{Answers, WentOn}
+use Rattle.surf_run.specs.Script.{Answers, WentOn}
 
 -- where the device tells, each image that a crash may leave now has these entries
 abbrev pub Stands : Bool → List Entry → World → Type 0

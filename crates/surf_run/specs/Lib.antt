@@ -7,4 +7,5 @@ pub mod Outcome
 pub mod Refusals
 pub mod Run
 pub mod Saying
+pub mod Script
 pub mod Serving

@@ -5,8 +5,10 @@ use Rattle.log_model.specs.Area.{LogIs}
 use Rattle.gate_log.specs.declared.fault.LogFault.{LogFault}
 use Rattle.gate_log.specs.declared.fault.LogFault.TheVariants.{Memory, Device, Shape}
 use Rattle.entry_model.specs.Entries.{Entry, filled}
-use Rattle.store_model.specs.Replies.{Reply}
-use Rattle.store_model.specs.Replies as replies
+use Rattle.line_model.specs.Replies.{Reply}
+use Rattle.line_model.specs.Replies as replies
+use Rattle.byte_fields.specs.declared.parts.Part.TheVariants.{Log}
+use Rattle.byte_fields.specs.declared.parts.Damage.TheVariants as damage
 use Rattle.surf_run.specs.Causes.{NoFall, DiskFailed}
 use Rattle.surf_run.specs.Crash.{Stands}
 use Rattle.surf_run.specs.Holds.{Holds}
@@ -34,11 +36,15 @@ pub record Opens (tells : Bool) (old new : World) (store : Store) : Type 0 where
   pub held : IsTrue tells → LogIs 0 entries old.seen.held
   pub stands : Stands tells entries new
 
+-- the log breaks a rule of its format
+abbrev pub log_damage : ℕ → ℕ → Reply
+log_damage at rule = replies.Damaged (damage.Shape Log at rule)
+
 -- the last line and the status of a run whose store was not opened
 abbrev pub reply_to : LogFault → Reply
 reply_to Memory = replies.Memory
 reply_to (Device fault) = replies.Device
-reply_to (Shape at rule) = replies.DamagedLog at rule
+reply_to (Shape at rule) = log_damage at rule
 
 abbrev pub status_of : LogFault → ℕ
 status_of Memory = 7

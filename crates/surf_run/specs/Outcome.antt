@@ -1,14 +1,14 @@
 -- What a run that served came to.
-use Rattle.std.specs.Prelude.{◌≡◌, ◌≢◌, ◌⊎◌, ◌^◌, ◌++◌, ℕ, Bool, IsTrue, List, [], ◌∷◌, length}
+use Rattle.std.specs.Prelude.{◌≡◌, ◌≢◌, ◌⊎◌, ◌≤◌, ◌^◌, ◌++◌, ℕ, Bool, IsTrue, List, [], ◌∷◌, length}
 use Rattle.disk_trait.specs.World.{World}
 use Rattle.outside.specs.During.{During}
 use Rattle.map_model.specs.SortedMap.{Bytes}
 use Rattle.entry_model.specs.Entries.{Entry}
 use Rattle.outside.specs.Streams.{SaysFront}
-use Rattle.store_model.specs.Lines.{command_of}
+use Rattle.store_commands.specs.Answered.{asked_here}
 use Rattle.line_model.specs.Lines.{lines_of, whole_lines}
-use Rattle.store_model.specs.Replies.{Reply, Device, text_of}
-use Rattle.store_model.specs.Script.{Step, Script, WentOn, Ending, ToLast, AtQuit, AtDevice}
+use Rattle.line_model.specs.Replies.{Reply, Device, text_of}
+use Rattle.surf_run.specs.Script.{Step, Script, WentOn, Ending, ToLast, AtQuit, AtDevice}
 use Rattle.surf_run.specs.Crash.{Stands, Reached, Acknowledged}
 
 -- All of the script's text was said, for the lines of what was taken; and the input was at its end, or whatever follows
@@ -25,6 +25,7 @@ pub record CutOff (tells : Bool) (start : List Entry) (taken : Bytes) (old new :
   pub text : Bytes
   pub output : new.beside.said ≡ old.beside.said ++ text
   pub script : Script (Reached tells new) (length old.beside.said) start (whole_lines taken) text ToLast
+  pub crash : IsTrue tells → During (Acknowledged start (whole_lines taken) old.beside.said new.beside.said) old new
 
 -- The output failed: some first lines were answered whole, none of them with a last reply, and of the next line's reply
 -- a front was said. The entries now are those after that line, but for `device`.
@@ -38,7 +39,7 @@ pub record SaidInPart (tells : Bool) (start : List Entry) (taken : Bytes) (old n
   pub went_on : WentOn (Reached tells new) (length old.beside.said) start lines text now
   pub reply : Reply
   pub last : List Entry
-  pub step : Step now (command_of line) reply last
+  pub step : Step now (asked_here line) reply last
   pub front : SaysFront (text_of reply) (old.beside.said ++ text) new.beside.said
   pub stands : reply ≢ Device → Stands tells last new
 
@@ -57,3 +58,4 @@ pub record Outcome (tells : Bool) (status : ℕ) (start : List Entry) (old new :
   pub input : old.beside.to_take ≡ taken ++ new.beside.to_take
   pub settled : Settled tells status start taken old new
   pub limit : status ≡ 9 → length taken ≡ 2 ^ 40
+  pub most : length taken ≤ 2 ^ 40

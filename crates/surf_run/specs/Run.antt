@@ -7,9 +7,9 @@ use Rattle.std.specs.List.{AllByRecursion}
 use Rattle.log_model.specs.Area.{LogIs, LogBreaks}
 use Rattle.entry_model.specs.Entries.{IsEntry, Entry, filled}
 use Rattle.map_model.specs.SortedMap.{Bytes}
-use Rattle.store_model.specs.Replies.{Device, Memory, DamagedLog, text_of}
+use Rattle.line_model.specs.Replies.{Device, Memory, text_of}
 use Rattle.surf_run.specs.Causes.{IsServing, TakeFailed, DiskFailed, SayFailed}
-use Rattle.surf_run.specs.Open.{OpenMoves}
+use Rattle.surf_run.specs.Open.{OpenMoves, log_damage}
 use Rattle.surf_run.specs.Outcome.{Outcome}
 
 -- the one word that this program knows
@@ -28,7 +28,7 @@ IsDamage tells image at rule = IsTrue tells → LogBreaks 0 at rule image
 abbrev pub IsLastText : Bool → Image → ℕ → Bytes → Type 0
 IsLastText tells image status text =
     ((status ≡ 2) × (text ≡ usage_text)) ⊎ ((status ≡ 4) × (text ≡ text_of Device)) ⊎ ((status ≡ 7) × (text ≡ text_of Memory))
-    ⊎ ((status ≡ 5) × (at : ℕ) × (rule : ℕ) × IsDamage tells image at rule × (text ≡ text_of (DamagedLog at rule)))
+    ⊎ ((status ≡ 5) × (at : ℕ) × (rule : ℕ) × IsDamage tells image at rule × (text ≡ text_of (log_damage at rule)))
 
 -- it was said whole, or a front of it at 6
 abbrev pub LastLine : Bool → ℕ → World → World → Type 0
@@ -59,7 +59,7 @@ pub record Serves (tells : Bool) (status : ℕ) (old opened new : World) : Type 
 
 -- the log of an image is damaged, and the last line says where and how
 abbrev pub Damaged : Image → World → World → Type 0
-Damaged image old new = (at : ℕ) × (rule : ℕ) × LogBreaks 0 at rule image × (new.beside.said ≡ old.beside.said ++ text_of (DamagedLog at rule))
+Damaged image old new = (at : ℕ) × (rule : ℕ) × LogBreaks 0 at rule image × (new.beside.said ≡ old.beside.said ++ text_of (log_damage at rule))
 
 -- some call failed
 abbrev pub SomeFailed : World → World → Type 0

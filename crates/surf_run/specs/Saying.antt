@@ -2,13 +2,14 @@
 use Rattle.std.specs.Prelude.{◌≡◌, ◌⊎◌, ◌++◌, ◌<◌, ◌≤◌, ◌^◌, length}
 use Rattle.disk_trait.specs.World.{World}
 use Rattle.outside.specs.Streams.{SaysFront}
-use Rattle.store_model.specs.Replies.{Reply, text_of}
+use Rattle.line_model.specs.Replies.{Reply, text_of}
+use Rattle.byte_fields.specs.declared.parts.Damage.TheVariants.{Shape}
 use Rattle.store_commands.specs.declared.reply.Reply.{Reply as Spoken}
 use Rattle.store_commands.specs.declared.reply.Reply.TheVariants as spoken
 use Rattle.surf_run.specs.declared.end.LineEnd.{LineEnd}
 use Rattle.surf_run.specs.declared.end.LineEnd.TheVariants.{End}
 
--- a value of at most 65,536 bytes, and numbers below 2^64
+-- a reply that the program says: with a value of at most 65,536 bytes, and with numbers below 2^64
 abbrev pub IsShort : Spoken → Type 0
 IsShort spoken.Done = Unit {0}
 IsShort (spoken.Value value) = length value.now ≤ 65536
@@ -20,7 +21,8 @@ IsShort (spoken.LongValue size) = size < 2 ^ 64
 IsShort (spoken.Full need gap) = (need < 2 ^ 64) × (gap < 2 ^ 64)
 IsShort spoken.Memory = Unit {0}
 IsShort spoken.Device = Unit {0}
-IsShort (spoken.DamagedLog at rule) = (at < 2 ^ 64) × (rule < 2 ^ 64)
+IsShort (spoken.Damaged (Shape part at rule)) = (at < 2 ^ 64) × (rule < 2 ^ 64)
+IsShort reply = ⊥
 
 -- the reply was said whole, and this is the end; or only a front of it was said, and the run ends with 6
 abbrev pub Says : LineEnd → Reply → LineEnd → World → World → Type 0

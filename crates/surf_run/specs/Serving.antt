@@ -7,10 +7,10 @@ use Rattle.log_model.specs.Area.{LogIs}
 use Rattle.store_commands.specs.Cutting.{NoNewline}
 use Rattle.map_model.specs.SortedMap.{Bytes}
 use Rattle.entry_model.specs.Entries.{Entry}
-use Rattle.store_model.specs.Lines.{command_of}
+use Rattle.store_commands.specs.Answered.{asked_here}
 use Rattle.line_model.specs.Lines.{lines_of}
-use Rattle.store_model.specs.Replies.{Reply, Bye, Device, text_of}
-use Rattle.store_model.specs.Script.{Step, Script, GoesOn, WentOn, Ending, AtQuit, AtDevice}
+use Rattle.line_model.specs.Replies.{Reply, Bye, Device, text_of}
+use Rattle.surf_run.specs.Script.{Step, Script, GoesOn, WentOn, Ending, AtQuit, AtDevice}
 use Rattle.surf_run.specs.Holding.{Held}
 use Rattle.surf_run.specs.Holds.{Holds}
 use Rattle.surf_run.specs.Crash.{Stands, Reached, Acknowledged}
@@ -97,7 +97,7 @@ pub record Broken (tells : Bool) (start : List Entry) (bytes : Bytes) (first w :
   pub ran : WentOn (Reached tells w) (length first.beside.said) start lines text now
   pub reply : Reply
   pub last : List Entry
-  pub step : Step now (command_of line) reply last
+  pub step : Step now (asked_here line) reply last
   pub front : SaysFront (text_of reply) (first.beside.said ++ text) w.beside.said
   pub stands : reply ≢ Device → Stands tells last w
   pub history : IsTrue tells → During (Acknowledged start (lines ++ line ∷ []) first.beside.said w.beside.said) first w

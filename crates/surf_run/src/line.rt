@@ -2,9 +2,12 @@
 ghost use Rattle.std.specs.Prelude.{◌≡◌, ◌<◌, ◌≤◌, ◌++◌, [], ◌∷◌, List, length, IsTrue, IfSome, None, Some};
 ghost use Rattle.gate_log.specs.Kinds.{KeepsRules, entry_of_kind};
 ghost use Rattle.entry_model.specs.Entries.{Entry};
-ghost use Rattle.store_model.specs.Lines.{command_of, Put, Del, Get, Bad};
-ghost use Rattle.store_model.specs.Script.{Step, Write, key_limit, value_limit};
+ghost use Rattle.store_commands.specs.Answered.{asked_here};
+ghost use Rattle.line_model.specs.Requests.{Put, Del, Get, Bad};
+ghost use Rattle.line_model.specs.Limits.{key_limit, value_limit};
+ghost use Rattle.surf_run.specs.Script.{Step, Write};
 ghost use Rattle.std.specs.Option.{option_map};
+ghost use Rattle.store_commands.specs.Asks.{asked};
 ghost use Rattle.store_commands.specs.Spoken.{spoken};
 ghost use Rattle.surf_run.specs.Holds.{Holds};
 ghost use Rattle.surf_run.specs.Causes.{EndCause, TakesNothing};
@@ -16,14 +19,9 @@ use crate::end::LineEnd;
 use crate::saying::say_reply;
 use crate::store::{Store, WriteError};
 use gate_log::Kind;
+use key_base::{MAX_KEY_BYTES, MAX_VALUE_BYTES};
 use outside::Outside;
-use store_commands::{BadLine, Reply, Request, Scratch, parse_line};
-
-/// The longest key, in bytes.
-const KEY_BYTES: usize = 1_024;
-
-/// The longest value, in bytes.
-const VALUE_BYTES: usize = 65_536;
+use store_commands::{BadLine, Reply, Request, Scratch, parse_answered};
 
 // Writes an entry that keeps the limits.
 fn write_line<W: Outside>(
@@ -62,7 +60,7 @@ fn key_refusal<'a>(key: &[u8]) -> Option<Reply<'a>>
     ensures limit { option_map spoken result ≡ key_limit key.now }
     ensures short { IfSome result IsShort }
 {
-    if key.is_empty() || key.len() > KEY_BYTES {
+    if key.is_empty() || key.len() > MAX_KEY_BYTES {
         Some(Reply::LongKey(key.len() as u64))
     } else {
         None
@@ -74,7 +72,7 @@ fn value_refusal<'a>(value: &[u8]) -> Option<Reply<'a>>
     ensures limit { option_map spoken result ≡ value_limit value.now }
     ensures short { IfSome result IsShort }
 {
-    if value.len() > VALUE_BYTES {
+    if value.len() > MAX_VALUE_BYTES {
         Some(Reply::LongValue(value.len() as u64))
     } else {
         None
@@ -142,6 +140,28 @@ fn bad_line<W: Outside>(store: &Store, buffer: &mut [u8], out: &mut W, code: u8)
     say_reply(out, buffer, &Reply::BadLine(code), LineEnd::Next)
 }
 
+// Answers what a line asks.
+fn answer_request<W: Outside>(
+    store: &mut Store,
+    buffer: &mut [u8],
+    out: &mut W,
+    request: Request<'_>,
+) -> LineEnd
+    requires { 0 < length buffer.old }
+    ensures answered { (entries : List Entry) → IsTrue W.tells_output → Holds entries store.old → Stands W.tells entries (W.world out.old)
+        → Answered W.tells result entries (Step entries (asked request.entry)) store.new (W.world out.old) (W.world out.new) }
+    ensures cause { EndCause result (W.world out.old) (W.world out.new) }
+    ensures moves { TakesNothing (W.world out.old) (W.world out.new) }
+{
+    match request {
+        Request::Put { key, value } => put_line(store, buffer, out, key, value),
+        Request::Del { key } => del_line(store, buffer, out, key),
+        Request::Get { key } => get_line(store, buffer, out, key),
+        Request::Quit => say_reply(out, buffer, &Reply::Bye, LineEnd::Quit),
+        _ => bad_line(store, buffer, out, 2),
+    }
+}
+
 /// Answers a line: its reply is said whole before it returns, or the run ends.
 pub fn answer<W: Outside>(
     store: &mut Store,
@@ -152,15 +172,12 @@ pub fn answer<W: Outside>(
 ) -> LineEnd
     requires { 0 < length buffer.old }
     ensures answered { (entries : List Entry) → IsTrue W.tells_output → Holds entries store.old → Stands W.tells entries (W.world out.old)
-        → Answered W.tells result entries (Step entries (command_of line.now)) store.new (W.world out.old) (W.world out.new) }
+        → Answered W.tells result entries (Step entries (asked_here line.now)) store.new (W.world out.old) (W.world out.new) }
     ensures cause { EndCause result (W.world out.old) (W.world out.new) }
     ensures moves { TakesNothing (W.world out.old) (W.world out.new) }
 {
-    match parse_line(line, scratch) {
-        Ok(Request::Put { key, value }) => put_line(store, buffer, out, key, value),
-        Ok(Request::Del { key }) => del_line(store, buffer, out, key),
-        Ok(Request::Get { key }) => get_line(store, buffer, out, key),
-        Ok(Request::Quit) => say_reply(out, buffer, &Reply::Bye, LineEnd::Quit),
+    match parse_answered(line, scratch) {
+        Ok(request) => answer_request(store, buffer, out, request),
         Err(BadLine(code)) => bad_line(store, buffer, out, code),
     }
 }

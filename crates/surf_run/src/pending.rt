@@ -2,9 +2,9 @@
 ghost use Rattle.std.specs.Prelude.{◌≡◌, ◌==◌, ◌++◌, ℕ, List, [], IfOk, length};
 ghost use Rattle.surf_run.specs.Holding.{Held};
 
+use key_base::MAX_LINE_BYTES;
 use std::alloc::{AllocError, Global};
 use std::marker::Model;
-use store_commands::LINE_BYTES;
 
 /// What is kept of a line that has not ended: its first bytes, one more of them than a line may have.
 #[derive(Drop)]
@@ -28,7 +28,7 @@ impl Pending {
         ensures { IfOk result (λ p. p ≡ []) }
     {
         Ok(Pending {
-            bytes: Vec::with_capacity(alloc, LINE_BYTES + 1)?,
+            bytes: Vec::with_capacity(alloc, MAX_LINE_BYTES + 1)?,
         })
     }
 
@@ -54,7 +54,7 @@ impl Pending {
     pub fn keep(&mut self, part: &[u8])
         ensures { (rest : List ℕ) → Held rest self.old → Held (rest ++ part.now) self.new }
     {
-        let room = LINE_BYTES + 1 - self.bytes.len();
+        let room = MAX_LINE_BYTES + 1 - self.bytes.len();
         let kept = room.min(part.len());
         match self.bytes.extend_from_slice(&part[..kept]) {
             Ok(()) => {}

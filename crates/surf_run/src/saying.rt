@@ -2,7 +2,7 @@
 ghost use Rattle.std.specs.Prelude.{◌≡◌, ◌≢◌, ◌⊎◌, ◌<◌, ◌++◌, length, IsTrue, OnOk, OnErr};
 ghost use Rattle.disk_trait.specs.World.{Rose};
 ghost use Rattle.outside.specs.Streams.{SayMoves, SaysFront};
-ghost use Rattle.store_model.specs.Replies.{text_of};
+ghost use Rattle.line_model.specs.Replies.{text_of};
 ghost use Rattle.store_commands.specs.Spoken.{spoken};
 ghost use Rattle.surf_run.specs.declared.end.LineEnd.TheVariants.{End};
 ghost use Rattle.surf_run.specs.Causes.{SayFailed};

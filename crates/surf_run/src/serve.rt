@@ -12,11 +12,9 @@ use crate::end::LineEnd;
 use crate::line::answer;
 use crate::pending::Pending;
 use crate::store::Store;
+use key_base::MAX_INPUT_BYTES;
 use outside::Outside;
 use store_commands::{Scratch, next_line};
-
-/// The most that one run takes, in bytes.
-const INPUT_BYTES: u64 = 1 << 40;
 
 // Answers the line that ends behind this part, with what is kept of its front.
 fn end_line<W: Outside>(
@@ -129,7 +127,7 @@ pub fn serve<W: Outside>(
     ensures statuses { IsServing result }
     ensures counts { NoFall (W.world out.old) (W.world out.new) }
 {
-    let mut left = INPUT_BYTES;
+    let mut left = MAX_INPUT_BYTES;
     while left > 0 {
         let most = room_for(left, piece.len());
         let taken = match out.take(&mut piece[..most]) {

@@ -6,11 +6,11 @@ ghost use Rattle.log_model.specs.Area.{LogIs, LogBreaks};
 ghost use Rattle.gate_log.specs.Faults.{IsNoShape, IsShapeIn};
 ghost use Rattle.store_commands.specs.Spoken.{spoken};
 ghost use Rattle.entry_model.specs.Entries.{Entry};
-ghost use Rattle.store_model.specs.Replies.{text_of, DamagedLog};
+ghost use Rattle.line_model.specs.Replies.{text_of};
 ghost use Rattle.surf_run.specs.Causes.{IsServing, NoFall, StatusCause, DiskFailed, SayFailed};
 ghost use Rattle.surf_run.specs.Crash.{Stands};
 ghost use Rattle.surf_run.specs.Holds.{Holds};
-ghost use Rattle.surf_run.specs.Open.{reply_to, status_of};
+ghost use Rattle.surf_run.specs.Open.{log_damage, reply_to, status_of};
 ghost use Rattle.surf_run.specs.Run.{Ends, Serves, Unserved, Damaged, SomeFailed, Completed, serve_words, usage_text};
 ghost use Rattle.surf_run.specs.Saying.{IsShort};
 
@@ -19,6 +19,7 @@ use crate::pending::Pending;
 use crate::saying::say_pieces;
 use crate::serve::serve;
 use crate::store::Store;
+use byte_fields::{Damage, Part};
 use gate_log::LogFault;
 use outside::{Outside, say_all};
 use std::alloc::{AllocError, Global};
@@ -68,12 +69,17 @@ fn last_line<W: Outside>(out: &mut W, reply: &Reply<'_>, status: u8) -> u8
 
 // Says where and how the log is damaged.
 fn say_damage<W: Outside>(out: &mut W, at: u64, rule: u8) -> u8
-    ensures said { IsTrue W.tells_output → result ≡ 5 → (W.world out.new).beside.said ≡ (W.world out.old).beside.said ++ text_of (DamagedLog at rule) }
-    ensures front { IsTrue W.tells_output → SaysFront (text_of (DamagedLog at rule)) (W.world out.old).beside.said (W.world out.new).beside.said }
+    ensures said { IsTrue W.tells_output → result ≡ 5 → (W.world out.new).beside.said ≡ (W.world out.old).beside.said ++ text_of (log_damage at rule) }
+    ensures front { IsTrue W.tells_output → SaysFront (text_of (log_damage at rule)) (W.world out.old).beside.said (W.world out.new).beside.said }
     ensures ends { (result ≡ 5) ⊎ ((result ≡ 6) × SayFailed (W.world out.old) (W.world out.new)) }
     ensures moves { SayMoves (W.world out.old) (W.world out.new) }
 {
-    last_line(out, &Reply::DamagedLog { at, rule }, 5)
+    let damage = Damage::Shape {
+        part: Part::Log,
+        at,
+        rule,
+    };
+    last_line(out, &Reply::Damaged(damage), 5)
 }
 
 // Ends a run whose store was not opened.
@@ -189,6 +195,7 @@ pub fn run<W: Outside>(alloc: Global, words: &[String], out: &mut W) -> u8
     ensures only_at_wrong_words { result ≡ 2 → map string_bytes words.now ≢ serve_words }
     ensures told_of_wrong_words { map string_bytes words.now ≢ serve_words → (result ≡ 2) ⊎ ((result ≡ 6) × SayFailed (W.world out.old) (W.world out.new)) }
     ensures usage { IsTrue W.tells_output → result ≡ 2 → (W.world out.new).beside.said ≡ (W.world out.old).beside.said ++ usage_text }
+    ensures untouched { map string_bytes words.now ≢ serve_words → SayMoves (W.world out.old) (W.world out.new) }
     // Status 5 comes only where the log breaks a rule, and says where and which.
     ensures only_at_damage { IsTrue W.tells → IsTrue W.tells_output → result ≡ 5 → Damaged (W.world out.old).seen.held (W.world out.old) (W.world out.new) }
     // Where the log breaks a rule, no line is served.

@@ -4,23 +4,20 @@ ghost use Rattle.std.specs.Option.{option_map};
 ghost use Rattle.disk_trait.specs.World.{Leads, WriteMoves};
 ghost use Rattle.log_model.specs.Area.{LogIs, WithOrWithout};
 ghost use Rattle.gate_log.specs.Kinds.{KeepsRules, entry_of_kind};
-ghost use Rattle.entry_model.specs.Entries.{Entry, need, gap, live, newest};
+ghost use Rattle.entry_model.specs.Entries.{need, gap, live, newest};
+ghost use Rattle.entry_model.specs.Entries as model;
 ghost use Rattle.surf_run.specs.Refusals.{RefusedFor, WriteCause, UnlessDevice};
 ghost use Rattle.surf_run.specs.Holds.{Holds};
 
 use crate::store::{Store, WriteError};
 use disk_trait::Disk;
+use entry_list::Entry;
 use gate_log::Kind;
-use mem_table::{MemTable, Prepared};
+use mem_table::MemTable;
 use std::alloc::AllocError;
 
 // All the memory of an entry.
-fn prepared(
-    table: &mut MemTable,
-    kind: Kind,
-    key: &[u8],
-    value: &[u8],
-) -> Result<Prepared, AllocError>
+fn prepared(table: &mut MemTable, kind: Kind, key: &[u8], value: &[u8]) -> Result<Entry, AllocError>
     ensures entry { IfOk result (λ p. p ≡ entry_of_kind kind key.now value.now) }
     ensures spare { OnOk result (1 ≤ table.new.spare) }
     ensures kept { table.new.entries ≡ table.old.entries }
@@ -42,12 +39,12 @@ impl Store {
         value: &[u8],
     ) -> Result<(), WriteError>
         requires { KeepsRules kind key.now value.now }
-        ensures done { (entries : List Entry) → Holds entries self.old → OnOk result (Holds (entries ++ entry_of_kind kind key.now value.now ∷ []) self.new) }
-        ensures unchanged { (entries : List Entry) → Holds entries self.old → OnErr result (Holds entries self.new) }
-        ensures fits { (entries : List Entry) → Holds entries self.old → OnOk result (need (entry_of_kind kind key.now value.now) ≤ gap entries) }
-        ensures refused { (entries : List Entry) → Holds entries self.old → IfErr result (RefusedFor entries (entry_of_kind kind key.now value.now)) }
+        ensures done { (entries : List model.Entry) → Holds entries self.old → OnOk result (Holds (entries ++ entry_of_kind kind key.now value.now ∷ []) self.new) }
+        ensures unchanged { (entries : List model.Entry) → Holds entries self.old → OnErr result (Holds entries self.new) }
+        ensures fits { (entries : List model.Entry) → Holds entries self.old → OnOk result (need (entry_of_kind kind key.now value.now) ≤ gap entries) }
+        ensures refused { (entries : List model.Entry) → Holds entries self.old → IfErr result (RefusedFor entries (entry_of_kind kind key.now value.now)) }
         ensures cause { IfErr result (WriteCause (D.world disk.old) (D.world disk.new)) }
-        ensures crash { (entries : List Entry) → IsTrue D.tells → Holds entries self.old
+        ensures crash { (entries : List model.Entry) → IsTrue D.tells → Holds entries self.old
             → Leads (LogIs 0 entries) (WithOrWithout 0 entries (entry_of_kind kind key.now value.now)) (LogIs 0 (entries ++ entry_of_kind kind key.now value.now ∷ []))
             result (D.world disk.old) (D.world disk.new) }
         ensures untouched { IfErr result (UnlessDevice (disk.new ≡ disk.old)) }
@@ -72,7 +69,7 @@ impl Store {
 
     /// The value of a key. Takes no memory and makes no call of the device.
     pub fn get(&self, key: &[u8]) -> Option<&[u8]>
-        ensures { (entries : List Entry) → Holds entries self.now → option_map (λ value. value.now) result ≡ live (newest entries key.now) }
+        ensures { (entries : List model.Entry) → Holds entries self.now → option_map (λ value. value.now) result ≡ live (newest entries key.now) }
     {
         match self.table.get(key) {
             Some(value) => value,

@@ -1,4 +1,4 @@
-use Rattle.filter_image_model.proofs.NoFault.{read_again}
+use Rattle.filter_image_model.proofs.ImageRead.{read_again}
 use Rattle.filter_image_model.proofs.laws.an_image_is_read_again.Goals as goal
 
 pub returns : goal.returns

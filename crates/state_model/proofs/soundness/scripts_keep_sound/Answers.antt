@@ -1,5 +1,3 @@
-use Rattle.state_model.specs.PlayLaws.{AnyState}
-use Rattle.state_model.specs.SoundLaws.{InSoundState}
 use Rattle.state_model.proofs.SoundScripts.{script_sound, first_lines_sound}
 use Rattle.state_model.proofs.soundness.scripts_keep_sound.Goals as goal
 

@@ -1,6 +1,6 @@
 use Rattle.std.proofs.Common.{◌≡◌, ◌∙◌, arith, length, take, drop}
 use Rattle.std.proofs.lemmas.List.{length-take, length-drop}
-use Rattle.store_model.specs.Replies.{text_of}
+use Rattle.line_model.specs.Replies.{text_of}
 use Rattle.store_commands.specs.Spoken.{spoken}
 use Rattle.store_commands.proofs.Windows.{shows_none}
 use Rattle.store_commands.proofs.reply.piece.Goals as goal
@@ -8,12 +8,12 @@ use Rattle.store_commands.proofs.reply.piece.Goals as goal
 pub returns-clause-count : goal.returns-clause-count
 returns-clause-count c =
     let text = text_of (spoken c.args.reply.now) in
-    let shows = c.add-window.ensures.shows c.args.from _ (c.add_words-window.ensures.shows c.args.from _ (shows_none c.args.from c.args.into.now)) in
-    omega (arith, shows.size, length-take (length c.add-window.new.into) (drop c.args.from text), length-drop c.args.from text, c.add-window.auto.into, c.add_words-window.auto.into)
+    let shows = c.say_line.ensures.shows c.args.from (shows_none c.args.from c.args.into.now) in
+    omega (arith, shows.size, length-take (length c.say_line.new.into) (drop c.args.from text), length-drop c.args.from text, c.say_line.auto.into)
 
 pub returns-clause-bytes : goal.returns-clause-bytes
 returns-clause-bytes c =
-    let shows = c.add-window.ensures.shows c.args.from _ (c.add_words-window.ensures.shows c.args.from _ (shows_none c.args.from c.args.into.now)) in
+    let shows = c.say_line.ensures.shows c.args.from (shows_none c.args.from c.args.into.now) in
     let text = text_of (spoken c.args.reply.now) in
-    let same : length c.add-window.new.into ≡ length c.args.into.now = omega (arith, c.add-window.auto.into, c.add_words-window.auto.into) in
+    let same : length c.say_line.new.into ≡ length c.args.into.now = c.say_line.auto.into in
     shows.bytes ∙ (λ i. take (same i) (drop c.args.from text))

@@ -1,6 +1,6 @@
 use Rattle.std.proofs.Common.{refl, arith, ◌<◌, ◌^◌}
-use Rattle.store_model.specs.Lines.{Bad}
-use Rattle.store_model.specs.Script.{Step}
+use Rattle.line_model.specs.Requests.{Bad}
+use Rattle.surf_run.specs.Script.{Step}
 use Rattle.surf_run.proofs.Steps.{quiet_next}
 use Rattle.surf_run.proofs.line.bad_line.Goals as goal
 

@@ -1,5 +1,5 @@
-use Rattle.store_model.specs.Lines.{Del}
-use Rattle.store_model.specs.Script.{Step}
+use Rattle.line_model.specs.Requests.{Del}
+use Rattle.surf_run.specs.Script.{Step}
 use Rattle.surf_run.proofs.Steps.{quiet_next, key_goes, key_limited_del}
 use Rattle.surf_run.proofs.line.del_line.Goals as goal
 

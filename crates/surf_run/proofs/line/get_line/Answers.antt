@@ -1,6 +1,6 @@
 use Rattle.std.specs.Prelude.{Some, None}
-use Rattle.store_model.specs.Lines.{Get}
-use Rattle.store_model.specs.Script.{Step}
+use Rattle.line_model.specs.Requests.{Get}
+use Rattle.surf_run.specs.Script.{Step}
 use Rattle.surf_run.proofs.Steps.{quiet_next, key_goes, key_limited_get, get_step, short_value}
 use Rattle.surf_run.proofs.line.get_line.Goals as goal
 

@@ -1,5 +1,5 @@
-use Rattle.store_model.specs.Lines.{Put}
-use Rattle.store_model.specs.Script.{Step}
+use Rattle.line_model.specs.Requests.{Put}
+use Rattle.surf_run.specs.Script.{Step}
 use Rattle.surf_run.proofs.Steps.{quiet_next, key_goes, value_goes, key_limited_put, value_limited_put}
 use Rattle.surf_run.proofs.line.put_line.Goals as goal
 

@@ -5,8 +5,8 @@ use Rattle.disk_trait.proofs.Moments.{now_at}
 use Rattle.log_model.specs.Area.{LogIs, WithOrWithout}
 use Rattle.gate_log.specs.Kinds.{entry_of_kind}
 use Rattle.entry_model.specs.Entries.{need, gap}
-use Rattle.store_model.specs.Replies.{Done, Memory, Full, Device}
-use Rattle.store_model.specs.Script.{Write, done, memory, failed_before, failed_after}
+use Rattle.line_model.specs.Replies.{Done, Memory, Full, Device}
+use Rattle.surf_run.specs.Script.{Write, done, memory, failed_before, failed_after}
 use Rattle.surf_run.specs.Refusals.{RefusedFor, UnlessDevice}
 use Rattle.surf_run.specs.Serving.{LogAfter}
 use Rattle.surf_run.proofs.Writes.{full_for, small_need, small_gap}

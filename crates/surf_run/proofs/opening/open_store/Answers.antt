@@ -3,7 +3,6 @@ use Rattle.disk_trait.proofs.Moments.{same_then}
 use Rattle.disk_trait.proofs.Calls.{reads_keep}
 use Rattle.disk_trait.specs.World.{Streams}
 use Rattle.log_model.specs.Area.{LogIs, Position}
-use Rattle.entry_model.specs.Newest.{newest_entries}
 use Rattle.surf_run.proofs.opening.open_store.Goals as goal
 
 pub returns-clause-opens : goal.returns-clause-opens
@@ -15,7 +14,7 @@ returns-clause-opens g c =
       holds = record {
         place = ap (λ (p : Position). p.filled) c.in_ok-log.ensures.log;
         sound = c.in_ok-log.ensures.sound;
-        table = c.in_ok-fill.ensures ∙ ap newest_entries c.deref.ensures.value;
+        table = c.in_ok-table.ensures;
       };
       held = λ t. subst (LogIs 0 entries) c.sync.ensures.moves.held (c.in_ok-log.ensures.entries t);
       stands = λ t. reads_keep (LogIs 0 entries) 1 _ _ c.replay.ensures.moves (λ image left. subst (LogIs 0 entries) (sym (c.in_ok-sync.ensures.durable image left)) (c.in_ok-log.ensures.entries t));

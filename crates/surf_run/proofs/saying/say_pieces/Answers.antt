@@ -1,5 +1,5 @@
 use Rattle.std.proofs.Common.{◌≡◌, ◌∙◌, ◌++◌, ◌+◌, ap, sym, arith, length, take, drop, min, ◌-◌, List, ℕ, append_assoc}
-use Rattle.store_model.specs.Replies.{text_of}
+use Rattle.line_model.specs.Replies.{text_of}
 use Rattle.store_commands.specs.Spoken.{spoken}
 use Rattle.outside.proofs.Pieces.{says_then}
 use Rattle.surf_run.proofs.Pieces.{next_piece, front_on, short_text, none_over, some_is}

@@ -1,7 +1,7 @@
 use Rattle.std.proofs.Common.{◌≡◌, ◌≤◌, ◌-◌, ◌++◌, length, take, min}
 use Rattle.std.specs.Prelude.{IsTrue, drop}
 use Rattle.outside.specs.Streams.{SayMoves}
-use Rattle.store_model.specs.Replies.{text_of}
+use Rattle.line_model.specs.Replies.{text_of}
 use Rattle.store_commands.specs.Spoken.{spoken}
 use Rattle.surf_run.proofs.saying.say_pieces.Given as goal
 

@@ -19,6 +19,7 @@ returns-in-Err-clause-outcome g c start input output holds stand =
       input = was.1 ∙ ap (λ (l : List ℕ). was.0 ++ l) (sym c.in-Err.ensures.refused);
       settled = settled_cut g.W.Disk.tells 3 start was.0 _ _ _ _ (inl refl) (served_take g.W.Disk.tells start was.0 _ _ _ _ _ c.take.ensures.moves (g.met.W.Outside.said_now _) was.3);
       limit = λ is. absurd cc;
+      most = omega (arith, was.2);
     }
 
 pub returns-then-taken-eq0-clause-outcome : goal.returns-then-taken-eq0-clause-outcome
@@ -32,6 +33,7 @@ returns-then-taken-eq0-clause-outcome g c start input output holds stand =
       input = all.0 ∙ ap (λ (l : List ℕ). was.0 ++ l) (sym beside);
       settled = c.end_input.ensures.settled start c.args.out.now was.0 output all.1 (served_take g.W.Disk.tells start was.0 _ _ _ _ _ c.take.ensures.moves (g.met.W.Outside.said_now _) was.3);
       limit = λ is. absurd (elim c.end_input.ensures.statuses [ inl zero ↦ cc | inr more ↦ elim more [ inl four ↦ cc | inr six ↦ cc ] ]);
+      most = omega (arith, was.2);
     }
 
 pub loop-left-preserved : goal.loop-left-preserved
@@ -60,6 +62,7 @@ returns-in-Quit-clause-outcome g c start input output holds stand =
       input = taken_more _ _ _ was.0 piece was.1 (took.bytes ∙ ap (λ (l : List ℕ). l ++ (g.W.Disk.world c.take.new.self).beside.to_take) (sym front)) ∙ ap (λ (l : List ℕ). (was.0 ++ piece) ++ l) (sym c.feed.ensures.moves.input);
       settled = settled_quit g.W.Disk.tells start (was.0 ++ piece) _ _ (c.in-Quit.ensures.after start c.args.out.now was.0 output (served_take g.W.Disk.tells start was.0 _ _ _ _ _ c.take.ensures.moves (g.met.W.Outside.said_now _) was.3));
       limit = λ is. absurd cc;
+      most = omega (arith, was.2, length-append was.0 piece, ap length front, length-take c.in-Ok.taken c.take.new.into, c.in-Ok.ensures.count, c.take.auto.into, c.room_for-most.ensures.left, length-take c.room_for-most.result c.loop-left.piece);
     }
 
 pub returns-in-End-clause-outcome : goal.returns-in-End-clause-outcome
@@ -73,6 +76,7 @@ returns-in-End-clause-outcome g c start input output holds stand =
       input = taken_more _ _ _ was.0 piece was.1 (took.bytes ∙ ap (λ (l : List ℕ). l ++ (g.W.Disk.world c.take.new.self).beside.to_take) (sym front)) ∙ ap (λ (l : List ℕ). (was.0 ++ piece) ++ l) (sym c.feed.ensures.moves.input);
       settled = settled_end g.W.Disk.tells c.in-End.status start (was.0 ++ piece) _ _ (c.in-End.ensures.after start c.args.out.now was.0 output (served_take g.W.Disk.tells start was.0 _ _ _ _ _ c.take.ensures.moves (g.met.W.Outside.said_now _) was.3));
       limit = λ is. absurd (elim c.in-End.ensures.cause [ inl four ↦ let f = four.0 in cc | inr six ↦ let s = six.0 in cc ]);
+      most = omega (arith, was.2, length-append was.0 piece, ap length front, length-take c.in-Ok.taken c.take.new.into, c.in-Ok.ensures.count, c.take.auto.into, c.room_for-most.ensures.left, length-take c.room_for-most.result c.loop-left.piece);
     }
 
 pub returns-clause-outcome : goal.returns-clause-outcome
@@ -83,4 +87,5 @@ returns-clause-outcome g c start input output holds stand =
       input = was.1;
       settled = settled_cut g.W.Disk.tells 9 start was.0 _ _ _ _ (inr refl) was.3;
       limit = λ is. omega (arith, was.2);
+      most = omega (arith, was.2);
     }

@@ -1,7 +1,7 @@
 use Rattle.std.proofs.Common.{inl, inr, subst, sym, ◌∙◌}
 use Rattle.disk_trait.specs.World.{Image}
 use Rattle.log_model.proofs.Ends.{not_both}
-use Rattle.store_model.specs.Replies.{text_of}
+use Rattle.line_model.specs.Replies.{text_of}
 use Rattle.surf_run.specs.Open.{reply_to, status_of}
 use Rattle.surf_run.specs.Run.{IsLastText}
 use Rattle.surf_run.proofs.Lifting.{unserved_since, damage_told}

@@ -43,5 +43,5 @@ returns-in-Err-clause-refused g c entries holds =
 
 pub returns-in-Err-clause-moves : goal.returns-in-Err-clause-moves
 returns-in-Err-clause-moves g c =
-    in_area c.args.self.now.log.area c.args.self.now.log.filled _ _ _ c.args.self.now.place
+    in_area c.args.self.now.log.area c.args.self.now.log.filled (need (entry_of_kind c.args.kind c.args.key.now c.args.value.now)) _ _ c.args.self.now.place
     (omega (arith, need_is c.args.kind c.args.key.now c.args.value.now c.requires.fits, c.if-not-fits.ensures.0)) c.append.ensures.moves

@@ -1,0 +1,122 @@
+-- The key ranges of a state's tables break no rule.
+use Rattle.std.proofs.Common.{◌≡◌, ◌⊎◌, inl, inr, ◌≤◌, ◌+◌, ℕ, suc, List, [], ◌∷◌, ◌++◌, length, refl, sym, ap, ap₂, ◌∙◌, arith}
+use Rattle.std.proofs.lemmas.Bool.{eq-eqb, eqb-true}
+use Rattle.std.proofs.lemmas.List.{append-nil}
+use Rattle.std.specs.Prelude.{map, Bool, true, false, not, ◌||◌, ◌==◌, None}
+use Rattle.std.specs.List.{AllByRecursion, AllPairs}
+use Rattle.std.specs.Ordering.{is_lt}
+use Rattle.byte_fields.specs.declared.parts.Row.{Row}
+use Rattle.disk_trait.specs.Image.{Image}
+use Rattle.filter_api.specs.Spellings.{Spelling}
+use Rattle.filter_api.specs.declared.settings.Settings.{Settings}
+use Rattle.entry_model.specs.Entries.{Entry}
+use Rattle.block_model.specs.Block.{IsBlock}
+use Rattle.block_model.specs.Index.{Index, index_row_of}
+use Rattle.block_model.specs.IndexReading.{index_in}
+use Rattle.block_model.specs.Laws.{joined}
+use Rattle.block_model.specs.Order.{is_above}
+use Rattle.block_model.specs.Pages.{first_key, last_key}
+use Rattle.block_model.proofs.Refusals.{not_true, passed}
+use Rattle.manifest_model.specs.Tables.{KeyRange, follows, ranges_after, ranges_fault}
+use Rattle.state_model.specs.Merges.{greatest_key, least_key}
+use Rattle.state_model.specs.Sound.{StandsBefore}
+use Rattle.table_model.specs.Tables.{Table}
+use Rattle.table_model.specs.Damage.{index_part}
+use Rattle.table_model.specs.Images.{IsTableOf, index_of_blocks}
+use Rattle.table_model.proofs.OneTable.{rows_of_index}
+use Rattle.table_model.proofs.Sound.{index_read}
+use Rattle.image_model.specs.Opening.{greatest_in, range_of}
+use Rattle.image_model.specs.Tables.{AreTablesOf}
+
+-- ---- the keys of an index
+
+last_behind : (xs : List Entry) (y : Entry) (ys : List Entry) → last_key (xs ++ (y ∷ ys)) ≡ last_key (y ∷ ys)
+last_behind [] y ys = refl
+last_behind (x ∷ []) y ys = refl
+last_behind (x ∷ next ∷ more) y ys = last_behind (next ∷ more) y ys
+
+last_of_some : (xs ys : List Entry) → 1 ≤ length ys → last_key (xs ++ ys) ≡ last_key ys
+last_of_some xs [] some = absurd (omega (arith, some))
+last_of_some xs (y ∷ ys) some = last_behind xs y ys
+
+last_of_row : (block : List Entry) → (index_row_of block).last ≡ last_key block
+unfolding index_row_of
+last_of_row block = refl
+
+some_joined : (block : List Entry) (later : List (List Entry)) → 1 ≤ length block → 1 ≤ length (joined (block ∷ later))
+some_joined [] later some = absurd (omega (arith, some))
+some_joined (e ∷ es) later some = omega arith
+
+greatest_is : (blocks : List (List Entry)) → AllByRecursion IsBlock blocks → greatest_in (map index_row_of blocks) ≡ last_key (joined blocks)
+greatest_is [] each = refl
+greatest_is (block ∷ []) each = last_of_row block ∙ ap last_key (sym (append-nil block))
+greatest_is (block ∷ next ∷ later) each =
+    greatest_is (next ∷ later) each.1 ∙ sym (last_of_some block (joined (next ∷ later)) (some_joined next later each.1.0.some))
+
+least_of_index : (blocks : List (List Entry)) → (index_of_blocks blocks).least ≡ first_key (joined blocks)
+unfolding index_of_blocks
+least_of_index blocks = refl
+
+-- the range of a table
+abbrev range_of_table : Table → KeyRange
+range_of_table t = record { level = t.level; least = least_key t; greatest = greatest_key t }
+
+range_is : (spelling : Spelling) (settings : Settings) (row : Row) (t : Table) (image : Image) → IsTableOf spelling settings row t image → range_of image row ≡ range_of_table t
+range_is spelling settings row t image is =
+    let read : index_in (index_part row image) ≡ index_of_blocks is.0 = index_read spelling settings row is.0 image is.1 in
+    let level : row.level ≡ t.level = sym (ap (λ (u : Table). u.level) is.2) in
+    let least : (index_in (index_part row image)).least ≡ least_key t = ap (λ (x : Index). x.least) read ∙ least_of_index is.0 ∙ sym (ap least_key is.2) in
+    let greatest : greatest_in (index_in (index_part row image)).rows ≡ greatest_key t =
+    ap (λ (x : Index). greatest_in x.rows) read ∙ ap greatest_in (rows_of_index is.0) ∙ greatest_is is.0 is.1.each ∙ sym (ap greatest_key is.2) in
+    λ i. record { level = level i; least = least i; greatest = greatest i }
+
+ranges_are : (spelling : Spelling) (settings : Settings) (rows : List Row) (tables : List Table) (image : Image) → AreTablesOf spelling settings rows tables image
+    → map (range_of image) rows ≡ map range_of_table tables
+ranges_are spelling settings [] [] image are = refl
+ranges_are spelling settings [] (t ∷ ts) image are = elim are [ ]
+ranges_are spelling settings (row ∷ rows) [] image are = elim are [ ]
+ranges_are spelling settings (row ∷ rows) (t ∷ ts) image are =
+    ap₂ (λ (r : KeyRange) (rs : List KeyRange). r ∷ rs) (range_is spelling settings row t image are.0) (ranges_are spelling settings rows ts image are.1)
+
+-- ---- tables in their order
+
+one_of_three : (a b c : Bool) → (a ≡ true) ⊎ ((b ≡ true) ⊎ (c ≡ true)) → (a || b || c) ≡ true
+one_of_three true b c one = refl
+one_of_three false true c one = refl
+one_of_three false false true one = refl
+one_of_three false false false (inl p) = absurd cc
+one_of_three false false false (inr (inl p)) = absurd cc
+one_of_three false false false (inr (inr p)) = absurd cc
+
+level_differs : (a b : ℕ) → (a ≡ b → ⊥) → not (a == b) ≡ true
+level_differs a b differ = elim (a == b) as (λ t. (a == b) ≡ t → not t ≡ true) [ true ↦ λ same. absurd (differ (eqb-true a b same)) | false ↦ λ same. refl ] refl
+
+one_of : (t u : Table) → (not (t.level == u.level) ≡ true) ⊎ (((u.level == 0) ≡ true) ⊎ (is_above (greatest_key t) (least_key u) ≡ true)) → follows (range_of_table t) (range_of_table u) ≡ true
+one_of t u which = one_of_three (not (t.level == u.level)) (u.level == 0) (is_above (greatest_key t) (least_key u)) which
+
+in_order : (t u : Table) → StandsBefore t u → follows (range_of_table t) (range_of_table u) ≡ true
+in_order t u (inl less) = one_of t u (inl (level_differs t.level u.level (λ same. omega (arith, less, same))))
+in_order t u (inr deeper) = elim deeper.1 [
+  | inl first ↦ one_of t u (inr (inl (eq-eqb u.level 0 (sym deeper.0 ∙ first))))
+  | inr before ↦ one_of t u (inr (inr (ap is_lt before)))
+]
+
+-- each but the first stands behind the one before
+next_pairs : (t u : Table) (later : List Table) → AllPairs StandsBefore (t ∷ u ∷ later) → StandsBefore t u × AllPairs StandsBefore (u ∷ later)
+next_pairs t u later all = (all 0 1 t (omega arith) (omega arith), λ i j d before within. all (suc i) (suc j) d (omega (arith, before)) (omega (arith, within)))
+
+after_none : (place : ℕ) (t : Table) (later : List Table) → AllPairs StandsBefore (t ∷ later) → ranges_after place (range_of_table t) (map range_of_table later) ≡ None
+unfolding ranges_after
+after_none place t [] all = refl
+after_none place t (u ∷ later) all =
+    let parts = next_pairs t u later all in
+    passed _ place 12 _ (not_true _ (in_order t u parts.0)) (after_none (place + 64) u later parts.1)
+
+none_of_tables : (tables : List Table) → AllPairs StandsBefore tables → ranges_fault (map range_of_table tables) ≡ None
+unfolding ranges_fault
+none_of_tables [] all = refl
+none_of_tables (t ∷ later) all = after_none 128 t later all
+
+pub ranges_keep : (spelling : Spelling) (settings : Settings) (rows : List Row) (tables : List Table) (image : Image) → AreTablesOf spelling settings rows tables image
+    → AllPairs StandsBefore tables → ranges_fault (map (range_of image) rows) ≡ None
+ranges_keep spelling settings rows tables image are order = ap ranges_fault (ranges_are spelling settings rows tables image are) ∙ none_of_tables tables order

@@ -1,0 +1,41 @@
+-- A new store, and the image that stands for it.
+use Rattle.std.specs.Prelude.{◌≡◌, ◌≢◌, ◌≤◌, ◌<◌, ◌^◌, ℕ, false, []}
+use Rattle.disk_trait.specs.Image.{Image, Shows}
+use Rattle.filter_api.specs.Ranges.{InRange}
+use Rattle.filter_api.specs.Spellings.{Spelling}
+use Rattle.filter_api.specs.declared.settings.Settings.{Settings}
+use Rattle.log_model.specs.Area.{start_of}
+use Rattle.manifest_model.specs.Slots.{IsOpen}
+use Rattle.manifest_model.specs.Version.{Version, body_bytes, body_place, slot_a, slot_b}
+use Rattle.state_model.specs.State.{new_state}
+use Rattle.image_model.specs.Stands.{IsReady, IsStateOf}
+
+-- the version of a new store: epoch 1, no tables, and the first log area
+abbrev pub new_version : Settings → ℕ → Version
+new_version settings pages = record {
+  hash_bits = settings.hash_bits;
+  real_bits = settings.real_bits;
+  ratio = settings.ratio;
+  pages = pages;
+  epoch = 1;
+  log_page = 64;
+  rows = [];
+}
+
+-- slot A holds it, slot B is closed, and so is the first gate of the log
+pub record IsFormatted (settings : Settings) (pages : ℕ) (image : Image) : Type 0 where
+  pub gate : IsOpen slot_a image
+  pub body : Shows (body_place slot_a) (body_bytes (new_version settings pages)) image
+  pub other_gate : image slot_b ≢ 1
+  pub log_gate : image (start_of 0) ≡ 0
+
+abbrev pub NewStoreStands : Type 0
+NewStoreStands =
+    (spelling : Spelling) (settings : Settings) (pages : ℕ) (image : Image) → InRange settings → settings.ratio < 2 ^ 16 → 512 ≤ pages → pages ≤ 16777216
+    → IsFormatted settings pages image → IsStateOf spelling (new_state settings pages) image
+
+-- and what a store keeps of it is this: slot A is in use, and slot B is closed
+abbrev pub NewStoreIsReady : Type 0
+NewStoreIsReady =
+    (spelling : Spelling) (settings : Settings) (pages : ℕ) (image : Image) → InRange settings → settings.ratio < 2 ^ 16 → 512 ≤ pages → pages ≤ 16777216
+    → IsFormatted settings pages image → IsReady spelling slot_a slot_b false (new_version settings pages) (new_state settings pages) image

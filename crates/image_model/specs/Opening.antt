@@ -1,0 +1,83 @@
+-- What opening finds wrong with an image: the first damage, in the order in which it looks.
+use Rattle.std.specs.Prelude.{◌≡◌, ◌⊎◌, ◌*◌, ◌+◌, ℕ, List, [], ◌∷◌, map, Some, None}
+use Rattle.std.specs.List.{AllByRecursion}
+use Rattle.disk_trait.specs.Image.{Image}
+use Rattle.byte_fields.specs.declared.parts.Damage.{Damage}
+use Rattle.byte_fields.specs.declared.parts.Damage.TheVariants as damage
+use Rattle.byte_fields.specs.declared.parts.Part.TheVariants as part
+use Rattle.byte_fields.specs.declared.parts.Row.{Row}
+use Rattle.filter_api.specs.Spellings.{Spelling, SpellsOne}
+use Rattle.filter_api.specs.declared.errors.FilterFault.{FilterFault}
+use Rattle.filter_api.specs.declared.settings.Settings.{Settings}
+use Rattle.log_model.specs.Area.{LogBreaks}
+use Rattle.map_model.specs.SortedMap.{Bytes}
+use Rattle.byte_fields.specs.Faults.{Fault}
+use Rattle.block_model.specs.Index.{IndexRow}
+use Rattle.block_model.specs.IndexReading.{index_in}
+use Rattle.manifest_model.specs.Slots.{AreSlots, IsCurrent, IsNoStore, slots_damage}
+use Rattle.manifest_model.specs.Tables.{KeyRange, ranges_fault}
+use Rattle.manifest_model.specs.Version.{Version, body_place}
+use Rattle.state_model.specs.State.{State}
+use Rattle.table_model.specs.Damage.{IsFilterDamage, IsSoundFilter, index_damage, index_part}
+use Rattle.image_model.specs.Stands.{IsStateOf, settings_of}
+
+-- ---- the tables, row by row: the index, then the filter
+
+abbrev pub TablesBreak : Spelling → (Bytes → FilterFault) → Settings → Image → Damage → List Row → Type 0
+TablesBreak spelling first_fault settings image d [] = ⊥
+TablesBreak spelling first_fault settings image d (row ∷ rows) =
+    (index_damage row image ≡ Some d)
+    ⊎ ((index_damage row image ≡ None)
+    × (IsFilterDamage spelling first_fault settings row image d ⊎ (IsSoundFilter spelling settings row image × TablesBreak spelling first_fault settings image d rows)))
+
+-- index and filter have no damage
+pub record IsOpened (spelling : Spelling) (settings : Settings) (image : Image) (row : Row) : Type 0 where
+  pub index : index_damage row image ≡ None
+  pub filter : IsSoundFilter spelling settings row image
+
+-- ---- rule 12 of the manifest: how the tables of a deeper level stand, by their indexes
+
+abbrev pub greatest_in : List IndexRow → Bytes
+greatest_in [] = []
+greatest_in (row ∷ []) = row.last
+greatest_in (row ∷ next ∷ later) = greatest_in (next ∷ later)
+
+-- the level of a row, and the least and the greatest key of its index
+abbrev pub range_of : Image → Row → KeyRange
+range_of image row = record { level = row.level; least = (index_in (index_part row image)).least; greatest = greatest_in (index_in (index_part row image)).rows }
+
+-- ---- what a version names, in this order: the tables; their ranges, where all are opened; the log, where these have no fault
+
+pub data VersionBreaks (spelling : Spelling) (first_fault : Bytes → FilterFault) (slot : ℕ) (v : Version) (image : Image) : Damage → Type 0 where
+  at_a_table : (d : Damage) → TablesBreak spelling first_fault (settings_of v) image d v.rows → VersionBreaks spelling first_fault slot v image d
+  at_the_ranges : (f : Fault) → AllByRecursion (IsOpened spelling (settings_of v) image) v.rows → ranges_fault (map (range_of image) v.rows) ≡ Some f
+      → VersionBreaks spelling first_fault slot v image (damage.Shape part.Manifest (body_place slot + f.place) f.rule)
+  at_the_log : (area at rule : ℕ) → AllByRecursion (IsOpened spelling (settings_of v) image) v.rows → ranges_fault (map (range_of image) v.rows) ≡ None
+      → v.log_page ≡ 64 * (area + 1) → LogBreaks area at rule image → VersionBreaks spelling first_fault slot v image (damage.Shape part.Log at rule)
+
+-- the first damage of an image: that of its slots, and then that of what its version names
+pub data FirstDamage (spelling : Spelling) (first_fault : Bytes → FilterFault) (image : Image) (d : Damage) : Type 0 where
+  at_the_slots : slots_damage image ≡ Some d → FirstDamage spelling first_fault image d
+  at_the_version : (slot other : ℕ) (v : Version) → AreSlots slot other → IsCurrent slot other v image
+      → VersionBreaks spelling first_fault slot v image d → FirstDamage spelling first_fault image d
+
+-- ---- laws
+
+-- there is one at most
+abbrev pub OneDamage : Type 0
+OneDamage =
+    (spelling : Spelling) (first_fault : Bytes → FilterFault) (image : Image) (d e : Damage) → SpellsOne spelling
+    → FirstDamage spelling first_fault image d → FirstDamage spelling first_fault image e → d ≡ e
+
+-- an image that stands for a state has none, and is a store; what is no store has none, and stands for no state
+abbrev pub StateHasNoDamage : Type 0
+StateHasNoDamage =
+    (spelling : Spelling) (first_fault : Bytes → FilterFault) (s : State) (image : Image) (d : Damage) → SpellsOne spelling
+    → IsStateOf spelling s image → FirstDamage spelling first_fault image d → ⊥
+
+abbrev pub NoStoreHasNoDamage : Type 0
+NoStoreHasNoDamage =
+    (spelling : Spelling) (first_fault : Bytes → FilterFault) (image : Image) (d : Damage) → IsNoStore image → FirstDamage spelling first_fault image d → ⊥
+
+abbrev pub NoStoreHasNoState : Type 0
+NoStoreHasNoState = (spelling : Spelling) (s : State) (image : Image) → IsNoStore image → IsStateOf spelling s image → ⊥

@@ -1,0 +1,11 @@
+-- What an image stands for is sound.
+use Rattle.disk_trait.specs.Image.{Image}
+use Rattle.filter_api.specs.Spellings.{Spelling}
+use Rattle.state_model.specs.Sound.{IsSound}
+use Rattle.state_model.specs.State.{State}
+use Rattle.table_model.specs.Tables.{FilterBytes}
+use Rattle.image_model.specs.Stands.{IsStateOf}
+
+-- the bytes of the filter that is built count for a job alone, and no image shows one
+abbrev pub StateIsSound : Type 0
+StateIsSound = (spelling : Spelling) (filter_bytes : FilterBytes) (s : State) (image : Image) → IsStateOf spelling s image → IsSound filter_bytes s

@@ -1,0 +1,23 @@
+-- Which lines the program answers today.
+use Rattle.std.specs.Prelude.{nat_le, ◌&&◌, not, Bool, false, List, [], ◌∷◌, length, if◌then◌else◌, codes, bytes_eq, ◌==◌, ◌||◌}
+use Rattle.std.specs.List.{slice_split}
+use Rattle.map_model.specs.SortedMap.{Bytes}
+use Rattle.line_model.specs.Requests.{Request, Bad, request_of}
+
+-- the verbs that it answers
+abbrev pub answered_verbs : List Bytes
+answered_verbs = codes "put" ∷ codes "del" ∷ codes "get" ∷ codes "quit" ∷ []
+
+abbrev pub is_among : Bytes → List Bytes → Bool
+is_among verb [] = false
+is_among verb (other ∷ more) = bytes_eq verb other || is_among verb more
+
+-- the first of the words is one of them
+abbrev pub is_answered : List Bytes → Bool
+is_answered [] = false
+is_answered (verb ∷ words) = is_among verb answered_verbs
+
+-- What a line asks of the program: of another verb it is bad 2, whatever follows, unless it is too long.
+abbrev pub asked_here : Bytes → Request
+asked_here line =
+    if nat_le (length line) 140000 && not (is_answered (slice_split (λ b. b == 32) line)) then Bad 2 else request_of line

@@ -1,0 +1,147 @@
+-- The parts of a table have no damage, and a filter part has one at most.
+use Rattle.std.proofs.Common.{◌≡◌, ◌+◌, ◌*◌, ℕ, List, [], ◌∷◌, length, refl, sym, ap, ◌∙◌, subst, arith}
+use Rattle.std.proofs.lemmas.Bool.{cond-true, eq-eqb}
+use Rattle.std.proofs.lemmas.List.{length-map}
+use Rattle.std.specs.Prelude.{flat_map, map, Option, Some, None, ◌==◌}
+use Rattle.std.specs.List.{AllByRecursion}
+use Rattle.std.specs.Option.{option_map}
+use Rattle.byte_fields.specs.Sums.{fnv_of}
+use Rattle.byte_fields.specs.declared.parts.Damage.TheVariants as damage
+use Rattle.byte_fields.specs.declared.parts.Part.{Part}
+use Rattle.byte_fields.specs.declared.parts.Part.TheVariants as part
+use Rattle.byte_fields.specs.declared.parts.Row.{Row}
+use Rattle.disk_trait.specs.Image.{Image, Shows}
+use Rattle.filter_api.specs.Spellings.{AreAlike, IsSpelling, Spelling, SpellsOne}
+use Rattle.filter_api.specs.declared.settings.Settings.{Settings}
+use Rattle.filter_model.specs.Leaves.{Leaf, leaves_of}
+use Rattle.map_model.specs.SortedMap.{Bytes}
+use Rattle.entry_model.specs.Entries.{Entry, keys_of}
+use Rattle.block_model.specs.Block.{IsBlock, block_bytes}
+use Rattle.block_model.specs.BlockReading.{block_fault}
+use Rattle.byte_fields.specs.Faults.{Fault}
+use Rattle.block_model.specs.Index.{Index, IndexRow, index_bytes, index_row_of}
+use Rattle.block_model.specs.IndexReading.{index_fault, index_in}
+use Rattle.block_model.specs.Laws.{joined}
+use Rattle.block_model.specs.Pages.{block_pages}
+use Rattle.block_model.specs.Places.{byte_of_page, filter_page, index_page}
+use Rattle.block_model.proofs.BlocksRead.{block_again}
+use Rattle.block_model.proofs.IndexesRead.{index_again}
+use Rattle.block_model.proofs.Lengths.{block_fills}
+use Rattle.table_model.specs.Damage.{AreSoundBlocks, IsSoundFilter, block_damage, block_part, filter_part, index_damage, index_part, other_leaves, other_sum, other_widths, no_spelling, part_damage}
+use Rattle.table_model.specs.Images.{IsFilterOfKeys, IsTableAt, index_of_blocks}
+use Rattle.table_model.specs.Laws.{BlocksHaveNone, FilterHasNone, FilterIsOfTheKeys, IndexHasNone, OneFilterDamage, SoundFilterHasNone}
+use Rattle.table_model.proofs.OneTable.{rows_of_index}
+use Rattle.table_model.proofs.Shown.{shown_is, shown_parts}
+
+-- a part with the kept sum that breaks no rule
+part_sound : (p : Part) (at kept : ℕ) (bytes : Bytes) (fault : Option Fault) → kept ≡ fnv_of bytes → fault ≡ None → part_damage p at kept bytes fault ≡ None
+part_sound p at kept bytes fault same none =
+    cond-true (kept == fnv_of bytes) (option_map (λ (f : Fault). damage.Shape p (at + f.place) f.rule) fault) (Some (damage.Sum p at kept (fnv_of bytes))) (eq-eqb kept (fnv_of bytes) same)
+    ∙ ap (option_map (λ (f : Fault). damage.Shape p (at + f.place) f.rule)) none
+
+-- ---- the index
+
+module _ (spelling : Spelling) (settings : Settings) (row : Row) (blocks : List (List Entry)) (image : Image) (t : IsTableAt spelling settings row blocks image) where
+  index_there : index_part row image ≡ index_bytes (index_of_blocks blocks)
+  index_there = shown_is (byte_of_page (index_page row)) row.index_len (index_bytes (index_of_blocks blocks)) image t.index.size t.index.shown
+
+  index_sound : index_damage row image ≡ None
+  index_sound = part_sound part.Index (byte_of_page (index_page row)) row.index_sum (index_part row image) (index_fault row.data_pages (index_part row image))
+      (sym t.index.sum ∙ ap fnv_of (sym index_there))
+      (ap (index_fault row.data_pages) index_there ∙ (index_again row.data_pages (index_of_blocks blocks) t.index_sound).0)
+
+  pub index_read : index_in (index_part row image) ≡ index_of_blocks blocks
+  index_read = ap index_in index_there ∙ (index_again row.data_pages (index_of_blocks blocks) t.index_sound).1
+
+  filter_there : filter_part row image ≡ t.filter_bytes
+  filter_there = shown_is (byte_of_page (filter_page row)) row.filter_len t.filter_bytes image t.filter.size t.filter.shown
+
+  filter_spelled : IsFilterOfKeys spelling settings (keys_of (joined blocks)) (filter_part row image)
+  filter_spelled = subst (IsFilterOfKeys spelling settings (keys_of (joined blocks))) (sym filter_there) t.filter_of_keys
+
+  filter_sound : IsSoundFilter spelling settings row image
+  filter_sound = record {
+    sum = sym t.filter.sum ∙ ap fnv_of (sym filter_there);
+    cutoff = filter_spelled.cutoff;
+    leaves = leaves_of settings.hash_bits settings.real_bits (keys_of (joined blocks));
+    spelled = filter_spelled.spelled;
+    many = length-map (keys_of (joined blocks)) _ ∙ length-map (joined blocks) _ ∙ t.entries;
+  }
+
+pub index_has_none : IndexHasNone
+index_has_none spelling settings row blocks image t = index_sound spelling settings row blocks image t
+
+pub filter_has_none : FilterHasNone
+filter_has_none spelling settings row blocks image t = filter_sound spelling settings row blocks image t
+
+pub filter_of_keys : FilterIsOfTheKeys
+filter_of_keys spelling settings row blocks image t = filter_spelled spelling settings row blocks image t
+
+-- ---- the blocks
+
+row_sum : (block : List Entry) → (index_row_of block).sum ≡ fnv_of (block_bytes block)
+unfolding index_row_of
+row_sum block = refl
+
+row_pages_are : (block : List Entry) → (index_row_of block).pages ≡ block_pages block
+unfolding index_row_of
+row_pages_are block = refl
+
+block_sound : (page : ℕ) (block : List Entry) (image : Image) → IsBlock block → Shows (byte_of_page page) (block_bytes block) image
+    → block_damage page (index_row_of block) image ≡ None
+block_sound page block image is shown =
+    let there : block_part page (index_row_of block) image ≡ block_bytes block =
+    shown_is (byte_of_page page) (4096 * (index_row_of block).pages) (block_bytes block) image (block_fills block ∙ ap (λ (n : ℕ). 4096 * n) (sym (row_pages_are block))) shown in
+    part_sound part.Block (byte_of_page page) (index_row_of block).sum (block_part page (index_row_of block) image) (block_fault (block_part page (index_row_of block) image))
+    (row_sum block ∙ ap fnv_of (sym there)) (ap block_fault there ∙ (block_again block is).0)
+
+blocks_sound : (page : ℕ) (blocks : List (List Entry)) (image : Image) → AllByRecursion IsBlock blocks → Shows (byte_of_page page) (flat_map block_bytes blocks) image
+    → AreSoundBlocks page (map index_row_of blocks) image
+blocks_sound page [] image each shown = tt
+blocks_sound page (block ∷ later) image each shown =
+    let parts = shown_parts (byte_of_page page) (block_bytes block) (flat_map block_bytes later) image shown in
+    let next : byte_of_page page + length (block_bytes block) ≡ byte_of_page (page + (index_row_of block).pages) = omega (arith, block_fills block, row_pages_are block) in (
+      block_sound page block image each.0 parts.0,
+      blocks_sound (page + (index_row_of block).pages) later image each.1 (subst (λ (at : ℕ). Shows at (flat_map block_bytes later) image) next parts.1),
+    )
+
+pub blocks_have_none : BlocksHaveNone
+blocks_have_none spelling settings row blocks image t =
+    subst (λ (rows : List IndexRow). AreSoundBlocks row.first_page rows image)
+    (sym (ap (λ (i : Index). i.rows) (index_read spelling settings row blocks image t) ∙ rows_of_index blocks))
+    (blocks_sound row.first_page blocks image t.each t.blocks_shown)
+
+-- ---- the filter: one damage, or none
+
+same_many : {bytes : Bytes} {h r c h2 r2 c2 : ℕ} {ls ms : List Leaf} (spelling : Spelling) → SpellsOne spelling → IsSpelling spelling h r c ls bytes → IsSpelling spelling h2 r2 c2 ms bytes
+    → AreAlike h r ls h2 r2 ms
+same_many spelling one a b = one _ _ _ _ _ _ _ _ _ a b
+
+pub one_filter_damage : OneFilterDamage
+one_filter_damage spelling first_fault settings row image _ _ one (other_sum a) (other_sum b) = refl
+one_filter_damage spelling first_fault settings row image _ _ one (other_sum a) (no_spelling same b) = absurd (a same)
+one_filter_damage spelling first_fault settings row image _ _ one (other_sum a) (other_leaves h r c ls same is b) = absurd (a same)
+one_filter_damage spelling first_fault settings row image _ _ one (other_sum a) (other_widths h r c ls same is many b) = absurd (a same)
+one_filter_damage spelling first_fault settings row image _ _ one (no_spelling same a) (other_sum b) = absurd (b same)
+one_filter_damage spelling first_fault settings row image _ _ one (no_spelling same a) (no_spelling again b) = refl
+one_filter_damage spelling first_fault settings row image _ _ one (no_spelling same a) (other_leaves h r c ls again is b) = absurd (a h r c ls is)
+one_filter_damage spelling first_fault settings row image _ _ one (no_spelling same a) (other_widths h r c ls again is many b) = absurd (a h r c ls is)
+one_filter_damage spelling first_fault settings row image _ _ one (other_leaves h r c ls same is a) (other_sum b) = absurd (b same)
+one_filter_damage spelling first_fault settings row image _ _ one (other_leaves h r c ls same is a) (no_spelling again b) = absurd (b h r c ls is)
+one_filter_damage spelling first_fault settings row image _ _ one (other_leaves h r c ls same is a) (other_leaves h2 r2 c2 ms again other b) = refl
+one_filter_damage spelling first_fault settings row image _ _ one (other_leaves h r c ls same is a) (other_widths h2 r2 c2 ms again other many b) =
+    absurd (a (ap length (same_many spelling one is other).leaves_are ∙ many))
+one_filter_damage spelling first_fault settings row image _ _ one (other_widths h r c ls same is many a) (other_sum b) = absurd (b same)
+one_filter_damage spelling first_fault settings row image _ _ one (other_widths h r c ls same is many a) (no_spelling again b) = absurd (b h r c ls is)
+one_filter_damage spelling first_fault settings row image _ _ one (other_widths h r c ls same is many a) (other_leaves h2 r2 c2 ms again other b) =
+    absurd (b (ap length (same_many spelling one other is).leaves_are ∙ many))
+one_filter_damage spelling first_fault settings row image _ _ one (other_widths h r c ls same is many a) (other_widths h2 r2 c2 ms again other more b) = refl
+
+pub sound_filter_has_none : SoundFilterHasNone
+sound_filter_has_none spelling first_fault settings row image _ one sound (other_sum a) = a sound.sum
+sound_filter_has_none spelling first_fault settings row image _ one sound (no_spelling same a) = a settings.hash_bits settings.real_bits sound.cutoff sound.leaves sound.spelled
+sound_filter_has_none spelling first_fault settings row image _ one sound (other_leaves h r c ls same is a) =
+    a (ap length (same_many spelling one is sound.spelled).leaves_are ∙ sound.many)
+sound_filter_has_none spelling first_fault settings row image _ one sound (other_widths h r c ls same is many a) =
+    let alike = same_many spelling one is sound.spelled in
+    a (record { hash = alike.hash_width; real = alike.real_width })

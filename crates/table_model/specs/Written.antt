@@ -1,0 +1,32 @@
+-- The row of a table that is written, and what stands in its pages then.
+use Rattle.std.specs.Prelude.{ℕ, List, length}
+use Rattle.disk_trait.specs.Image.{Image, Shows}
+use Rattle.byte_fields.specs.Sums.{fnv_of}
+use Rattle.byte_fields.specs.declared.parts.Row.{Row}
+use Rattle.map_model.specs.SortedMap.{Bytes}
+use Rattle.entry_model.specs.Entries.{Entry}
+use Rattle.block_model.specs.Block.{data_bytes}
+use Rattle.block_model.specs.Index.{index_bytes, index_of}
+use Rattle.block_model.specs.Pages.{data_pages, index_length, pages_for}
+use Rattle.block_model.specs.Places.{byte_of_page, filter_page, index_page}
+
+-- where it begins, and what is kept of its parts
+unfoldable pub row_for : ℕ → ℕ → List Entry → Bytes → Row
+row_for level first_page entries filter_bytes = record {
+  level = level;
+  first_page = first_page;
+  data_pages = data_pages entries;
+  index_pages = pages_for (index_length entries);
+  filter_pages = pages_for (length filter_bytes);
+  entries = length entries;
+  index_len = index_length entries;
+  filter_len = length filter_bytes;
+  index_sum = fnv_of (index_bytes (index_of entries));
+  filter_sum = fnv_of filter_bytes;
+}
+
+-- its blocks, its index and its filter, each at its page
+pub record ArePartsShown (row : Row) (entries : List Entry) (filter_bytes : Bytes) (image : Image) : Type 0 where
+  pub blocks : Shows (byte_of_page row.first_page) (data_bytes entries) image
+  pub index : Shows (byte_of_page (index_page row)) (index_bytes (index_of entries)) image
+  pub filter : Shows (byte_of_page (filter_page row)) filter_bytes image
