@@ -23,6 +23,5 @@ mod saying;
 mod serve;
 mod store;
 mod top;
-mod writing;
 
 pub use top::run;

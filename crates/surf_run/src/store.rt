@@ -1,14 +1,22 @@
 // The store: the log on the device, and the newest entry of each key in memory.
-ghost use Rattle.std.specs.Prelude.{◌≡◌, vec_len};
+ghost use Rattle.std.specs.Prelude.{◌≡◌, ◌≤◌, ◌+◌, ◌++◌, [], ◌∷◌, List, length, OnOk, OnErr, IfOk, IfErr, IsTrue, vec_len};
+ghost use Rattle.std.specs.Option.{option_map};
+ghost use Rattle.disk_trait.specs.World.{Leads, WriteMoves};
+ghost use Rattle.log_model.specs.Area.{LogIs, WithOrWithout};
+ghost use Rattle.gate_log.specs.Kinds.{KeepsRules, entry_of_kind};
+ghost use Rattle.entry_model.specs.Entries.{need, gap, live, newest};
+ghost use Rattle.entry_model.specs.Entries as model;
 ghost use Rattle.surf_run.specs.declared.store.WriteError.TheVariants.{Memory};
 
-use disk_trait::DiskFault;
-use gate_log::Log;
+use disk_trait::{Disk, DiskFault};
+use entry_list::Entry;
+use gate_log::{Kind, Log};
+use key_base::{MAX_KEY_BYTES, MAX_VALUE_BYTES};
 use mem_table::MemTable;
 use std::alloc::AllocError;
 
-// The longest body with the gate behind it: kind, lengths, key, value, gate.
-pub const RECORD_BYTES: usize = 7 + 1_024 + 65_536 + 1;
+/// The longest body with the gate behind it: kind, lengths, key, value, gate.
+pub const RECORD_BYTES: usize = 7 + MAX_KEY_BYTES + MAX_VALUE_BYTES + 1;
 
 /// The log area that the store uses.
 pub const AREA: u8 = 0;
@@ -39,5 +47,70 @@ impl From<AllocError> for WriteError {
 
     fn from(_: AllocError) -> Self {
         WriteError::Memory
+    }
+}
+
+// All the memory of an entry.
+fn prepared(table: &mut MemTable, kind: Kind, key: &[u8], value: &[u8]) -> Result<Entry, AllocError>
+    ensures entry { IfOk result (λ p. p ≡ entry_of_kind kind key.now value.now) }
+    ensures spare { OnOk result (1 ≤ table.new.spare) }
+    ensures kept { table.new.entries ≡ table.old.entries }
+{
+    match kind {
+        Kind::Put => table.reserve_for(key, Some(value)),
+        Kind::Delete => table.reserve_for(key, None),
+    }
+}
+
+impl Store {
+    ghost use Rattle.surf_run.specs.Refusals.{RefusedFor, WriteCause, UnlessDevice};
+    ghost use Rattle.surf_run.specs.Holds.{Holds};
+
+    /// Writes an entry. Its memory is taken first; then it goes to the log by two writes, each made to last; then it
+    /// stands in memory.
+    pub fn write<D: Disk>(
+        &mut self,
+        disk: &mut D,
+        kind: Kind,
+        key: &[u8],
+        value: &[u8],
+    ) -> Result<(), WriteError>
+        requires { KeepsRules kind key.now value.now }
+        ensures done { (entries : List model.Entry) → Holds entries self.old → OnOk result (Holds (entries ++ entry_of_kind kind key.now value.now ∷ []) self.new) }
+        ensures unchanged { (entries : List model.Entry) → Holds entries self.old → OnErr result (Holds entries self.new) }
+        ensures fits { (entries : List model.Entry) → Holds entries self.old → OnOk result (need (entry_of_kind kind key.now value.now) ≤ gap entries) }
+        ensures refused { (entries : List model.Entry) → Holds entries self.old → IfErr result (RefusedFor entries (entry_of_kind kind key.now value.now)) }
+        ensures cause { IfErr result (WriteCause (D.world disk.old) (D.world disk.new)) }
+        ensures crash { (entries : List model.Entry) → IsTrue D.tells → Holds entries self.old
+            → Leads (LogIs 0 entries) (WithOrWithout 0 entries (entry_of_kind kind key.now value.now)) (LogIs 0 (entries ++ entry_of_kind kind key.now value.now ∷ []))
+            result (D.world disk.old) (D.world disk.new) }
+        ensures untouched { IfErr result (UnlessDevice (disk.new ≡ disk.old)) }
+        ensures moves { WriteMoves 262144 262144 (D.world disk.old) (D.world disk.new) }
+    {
+        let kept = prepared(&mut self.table, kind, key, value)?;
+        let n = 7 + key.len() + value.len();
+        if !self.log.fits(n) {
+            return Err(WriteError::Full {
+                need: n as u64 + 2,
+                gap: self.log.gap() as u64,
+            });
+        }
+        match self.log.append(disk, &mut self.buffer, kind, key, value) {
+            Ok(()) => {
+                self.table.set(kept);
+                Ok(())
+            }
+            Err(fault) => Err(WriteError::Device(fault)),
+        }
+    }
+
+    /// The value of a key. Takes no memory and makes no call of the device.
+    pub fn get(&self, key: &[u8]) -> Option<&[u8]>
+        ensures { (entries : List model.Entry) → Holds entries self.now → option_map (λ value. value.now) result ≡ live (newest entries key.now) }
+    {
+        match self.table.get(key) {
+            Some(value) => value,
+            None => None,
+        }
     }
 }
