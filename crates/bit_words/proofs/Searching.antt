@@ -1,5 +1,5 @@
 -- Searches of words as searches of the bits that they hold.
-use Rattle.std.proofs.Common.{◌≡◌, ℕ, ◌*◌, ◌<◌, Bool, true, false, List, Option, Some, None, MatchOption, length, sym, ap, ◌∙◌, arith, inl, inr, lit<}
+use Rattle.std.proofs.Common.{◌≡◌, ℕ, ◌+◌, ◌*◌, ◌<◌, ◌≤◌, Bool, true, false, List, Option, Some, None, MatchOption, length, get_or, sym, ap, ◌∙◌, arith, inl, inr, lit<}
 use Rattle.std.proofs.Math.Nat.{le_refl}
 use Rattle.std.specs.Slice.Scan.{HoldsNowhere}
 use Rattle.std.proofs.lemmas.List.{get_or_past}
