@@ -8,10 +8,10 @@ use lane_scan::{ones, ones_below};
 use std::alloc::{AllocError, Allocator};
 use std::marker::Model;
 
-/// How many words make a block, before which a count is kept.
+// How many words make a block, before which a count is kept.
 const BLOCK_WORDS: usize = 8;
 
-/// How many bits make a block.
+// How many bits make a block.
 const BLOCK_BITS: usize = 512;
 
 /// A list of truth values that counts its set bits before any place.
@@ -73,7 +73,7 @@ impl<A: Allocator> Ranked<A> {
     }
 }
 
-/// How many bits are set in block `k` of eight words, or in the part of it that there is.
+// How many bits are set in block `k` of eight words, or in the part of it that there is.
 fn ones_in_block(words: &[u64], k: usize) -> u64
     requires { BLOCK_WORDS * k ≤ length words.now }
     ensures { sum_by count_ones (take (BLOCK_WORDS * k) words.now) + result ≡ sum_by count_ones (take (BLOCK_WORDS * k + BLOCK_WORDS) words.now) }
@@ -82,7 +82,7 @@ fn ones_in_block(words: &[u64], k: usize) -> u64
     ones(&words[BLOCK_WORDS * k..end])
 }
 
-/// How many bits are set in the word of place `i` below that place.
+// How many bits are set in the word of place `i` below that place.
 fn ones_in_part(words: &[u64], i: usize) -> u64
     requires { i ≤ 64 * length words.now }
     ensures { result ≡ count_ones (slice_index words.now (i / 64) % 2 ^ (i % 64)) }

@@ -8,10 +8,10 @@ use lane_scan::{ones, ones_below, word_with_nth_one};
 use std::alloc::{AllocError, Allocator};
 use std::marker::Model;
 
-/// How many set bits stand from one kept place to the next.
+// How many set bits stand from one kept place to the next.
 const STEP: u64 = 64;
 
-/// The most bits: a place is kept in four bytes, so that more of them stand in the processor's caches.
+// The most bits: a place is kept in four bytes, so that more of them stand in the processor's caches.
 const MAX_BITS: usize = 0x1_0000_0000;
 
 /// A list of truth values that finds its set bits by their numbers.

@@ -4,14 +4,14 @@ ghost use Rattle.std.specs.Int.{bit_at};
 
 use lane_scan::ones_below;
 
-/// A part of a word that begins at `place`, and how many of its set bits stand before the wanted one.
+// A part of a word that begins at `place`, and how many of its set bits stand before the wanted one.
 #[derive(Clone, Copy)]
 struct Window {
     place: usize,
     left: u64,
 }
 
-/// The half of the window of `2 * width` bits that holds the wanted bit.
+// The half of the window of `2 * width` bits that holds the wanted bit.
 fn halved(word: u64, window: Window, width: usize) -> Window
     requires room { window.place + 2 * width ≤ 64 }
     requires width { (0 < width) × (width < 64) }

@@ -2,7 +2,8 @@
 //!
 //! ```text
 //! bits_bench rank 16777216 1000000 7
-//! bits_bench find_label 64 1000000 7
+//! bits_bench select 1048576 1000000 7 16
+//! bits_bench find_in_section 12 1000000 7
 //! ```
 #![tactic(auto)]
 
@@ -10,31 +11,39 @@ mod inputs;
 mod measures;
 mod plain;
 mod report;
+mod searches;
 #[cfg(test)]
 mod table;
 
 use anyhow::Result;
 use std::env;
 
-const USAGE: &str = "usage: bits_bench KERNEL SIZE CALLS SEED
-  rank, select   SIZE random bits, CALLS look-ups of random places
-  ones           SIZE random bits, counted CALLS times
-  find_label     nodes of SIZE labels (1 to 256), CALLS look-ups of random labels";
+const USAGE: &str = "usage: bits_bench KERNEL SIZE CALLS SEED [ONE_IN]
+  rank, ones                     SIZE random bits
+  select, node_range             SIZE bits, one in ONE_IN of them set, or in 2
+  find_label, find_in_section    nodes of SIZE labels (1 to 256), as slices or in one section
+each called CALLS times, at random places";
 
 fn main(rt: HostRuntime) -> Result<()> {
     let words: Vec<String> = env::args(&rt)?.skip(1).collect(rt.alloc())?;
-    let [kernel, size, calls, seed] = words.as_slice() else {
+    if words.len() != 4 && words.len() != 5 {
         println!(rt; "{USAGE}")?;
         return Ok(());
+    }
+    let size = words[1].as_str().parse::<u64>()?;
+    let calls = words[2].as_str().parse::<u64>()?;
+    let seed = words[3].as_str().parse::<u64>()?;
+    let one_in = match words.get(4) {
+        Some(word) => word.as_str().parse::<u64>()?,
+        None => 2,
     };
-    let size = size.as_str().parse::<u64>()?;
-    let calls = calls.as_str().parse::<u64>()?;
-    let seed = seed.as_str().parse::<u64>()?;
-    match kernel.as_str() {
+    match words[0].as_str() {
         "rank" => measures::rank(&rt, rt.alloc(), size, calls, seed),
-        "select" => measures::select(&rt, rt.alloc(), size, calls, seed),
+        "select" => measures::select(&rt, rt.alloc(), size, calls, seed, one_in),
         "ones" => measures::ones(&rt, rt.alloc(), size, calls, seed),
-        "find_label" => measures::find_label(&rt, rt.alloc(), size, calls, seed),
+        "node_range" => searches::node_range(&rt, rt.alloc(), size, calls, seed, one_in),
+        "find_label" => searches::find_label(&rt, rt.alloc(), size, calls, seed, false),
+        "find_in_section" => searches::find_label(&rt, rt.alloc(), size, calls, seed, true),
         _ => {
             println!(rt; "{USAGE}")?;
             Ok(())

@@ -64,3 +64,26 @@ pub fn find_label(bytes: &[u8], label: u8) -> Option<usize> {
     }
     None
 }
+
+/// The first set bit at a place or behind it, bit by bit.
+#[inline(never)]
+pub fn first_one_from(words: &[u64], start: usize) -> Option<usize> {
+    for i in start..usize::MAX {
+        if words.get(i / 64)? >> (i % 64) & 1 == 1 {
+            return Some(i);
+        }
+    }
+    None
+}
+
+/// The last set bit before a place, bit by bit.
+#[inline(never)]
+pub fn last_one_before(words: &[u64], end: usize) -> Option<usize> {
+    for i in (0..end).rev() {
+        let word = words.get(i / 64).copied().unwrap_or(0);
+        if word >> (i % 64) & 1 == 1 {
+            return Some(i);
+        }
+    }
+    None
+}

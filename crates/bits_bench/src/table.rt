@@ -1,9 +1,12 @@
 //! Every length from 0 to 1,100 bits against plain loops over single bits.
 use crate::inputs::Numbers;
+use crate::plain;
 use bit_rank::Ranked;
 use bit_select::Selected;
 use bit_words::Bits;
-use lane_scan::{find_label, first_at_least, ones, word_with_nth_one};
+use lane_scan::{
+    find_label, find_label_between, first_at_least, first_at_least_between, ones, word_with_nth_one,
+};
 use std::alloc::Global;
 use std::test::Fail;
 
@@ -94,6 +97,68 @@ fn labels_agree_with_the_plain_loops(rt: HostRuntime) -> Result<(), Fail> {
             "{len} labels"
         );
         labels.push((numbers.draw() >> 58) as u8)?;
+    }
+    Ok(())
+}
+
+/// Whether both searches of the labels from `start` on and before `end` answer as those of that slice alone.
+fn between_agrees(labels: &[u8], start: usize, end: usize, label: u8) -> bool {
+    if start > end || end > labels.len() {
+        return false;
+    }
+    let node = &labels[start..end];
+    let found = find_label_between(labels, start, end, label);
+    let least = first_at_least_between(labels, start, end, label);
+    found.map(|place| place.wrapping_sub(start)) == node.iter().position(|byte| *byte == label)
+        && least.map(|place| place.wrapping_sub(start))
+            == node.iter().position(|byte| *byte >= label)
+}
+
+#[test]
+fn labels_in_a_section_agree_with_the_plain_loops(rt: HostRuntime) -> Result<(), Fail> {
+    let mut numbers = Numbers::new(7);
+    for len in [0, 9, 15, 16, 17, 40] {
+        let labels = random_labels(rt.alloc(), len, &mut numbers)?;
+        for end in 0..labels.len() {
+            for start in 0..end {
+                let label = (numbers.draw() >> 60) as u8;
+                assert!(rt;
+                    between_agrees(&labels, start, end, label),
+                    "{start} to {end} of {len}"
+                );
+            }
+        }
+    }
+    Ok(())
+}
+
+/// As many labels from 0 to 15.
+fn random_labels(alloc: Global, len: usize, numbers: &mut Numbers) -> Result<Vec<u8>, Fail> {
+    let mut labels = Vec::new(alloc);
+    for _ in 0..len {
+        labels.push((numbers.draw() >> 60) as u8)?;
+    }
+    Ok(labels)
+}
+
+#[test]
+fn ones_beside_a_place_agree_with_the_plain_loops(rt: HostRuntime) -> Result<(), Fail> {
+    for pattern in [Pattern::All, Pattern::None, Pattern::Random] {
+        let bits = bits_of(rt.alloc(), pattern, 200)?;
+        for place in 0..260 {
+            let first = plain::first_one_from(bits.words(), place);
+            let last = plain::last_one_before(bits.words(), place);
+            assert_eq!(rt;
+                bits.first_one_from(place),
+                first,
+                "{pattern:?} from {place}"
+            );
+            assert_eq!(rt;
+                bits.last_one_before(place),
+                last,
+                "{pattern:?} before {place}"
+            );
+        }
     }
     Ok(())
 }

@@ -1,4 +1,4 @@
-// Fields: unsigned numbers at a place of a byte string, lowest byte first.
+//! Fields: unsigned numbers at a place of a byte string, lowest byte first.
 ghost use Rattle.std.specs.Prelude.{◌≡◌, ◌≤◌, ◌+◌, length, drop};
 ghost use Rattle.std.specs.List.{splice};
 ghost use Rattle.byteorder.specs.Endian.{little_bytes, little_number};

@@ -1,4 +1,4 @@
-// Laws of the fields, for numbers of any width. They are proved and never called.
+//! Laws of the fields, for numbers of any width. They are proved and never called.
 ghost use Rattle.byte_fields.specs.Spelling.{NumberIsReadAgain, NumberIsSpelledAgain, NumberFits};
 ghost use Rattle.byte_fields.specs.Fields.{FieldsAreReadAgain, FieldsAreSpelledAgain, FieldsReadFit};
 

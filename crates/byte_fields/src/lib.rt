@@ -2,7 +2,8 @@
 //! types in which several crates name a part and what is wrong with it.
 //!
 //! A field is read and written where it lies, at no cost but its bytes. The sum is FNV-1a of 64 bits: it tells a
-//! damaged part from a whole one, and it is no defence against someone who writes both the part and its sum.
+//! damaged part from a whole one. Do not use it against someone who writes both the part and its sum, nor the fields
+//! for numbers whose highest byte stands first.
 //!
 //! ```text
 //! let mut page = [0; 8];

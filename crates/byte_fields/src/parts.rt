@@ -1,4 +1,4 @@
-// The parts of a device's bytes, what is found wrong with one, and the numbers of a table.
+//! The parts of a device's bytes, what is found wrong with one, and the numbers of a table.
 
 /// A part of the device's bytes that is read as a whole.
 #[derive(Clone, Copy, Debug, PartialEq, Eq)]

@@ -1,13 +1,13 @@
-// The sum of a part: FNV-1a of 64 bits.
+//! The sum of a part: FNV-1a of 64 bits.
 ghost use Rattle.std.specs.Prelude.{◌≡◌, ℕ, List, [], ◌++◌};
 ghost use Rattle.byte_fields.specs.Sums.{fnv_of, fnv_after};
 
 use std::marker::Model;
 
-/// The sum of no byte.
+// The sum of no byte.
 const OFFSET: u64 = 0xcbf29ce484222325;
 
-/// By what the sum is multiplied at each byte.
+// By what the sum is multiplied at each byte.
 const PRIME: u64 = 0x100000001b3;
 
 /// The sum of `bytes`, in one pass.

@@ -1,4 +1,4 @@
-// What each call promises of any disk, and beside it exactly how it ends.
+//! What each call promises of any disk, and beside it exactly how it ends.
 ghost use Rattle.std.specs.Prelude.{◌≡◌, ◌⊎◌, ◌+◌, ◌^◌, ◌≤◌, ◌↔◌, length, IsTrue, IsErr, OnOk, OnErr, IfErr, true};
 ghost use Rattle.disk_trait.specs.World.{window, overwritten, ReadMoves, WriteMoves, SyncMoves, IsDurable, Rose};
 ghost use Rattle.disk_trait.specs.Fault.{IsFaultOf};

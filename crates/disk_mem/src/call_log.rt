@@ -1,5 +1,5 @@
-// The calls of a disk, with the bytes that they moved: one list of entries, and one row of bytes for all of them, so
-// that room for many calls is asked for at once.
+//! The calls of a disk, with the bytes that they moved: one list of entries, and one row of bytes for all of them, so
+//! that room for many calls is asked for at once.
 ghost use Rattle.std.specs.Prelude.{◌≡◌, ◌+◌, ◌^◌, ◌≤◌, ◌<◌, ◌↔◌, [], ◌∷◌, length, IsTrue, OnOk, IsOk};
 ghost use Rattle.disk_mem.specs.Calls.{call_at, last_sync};
 

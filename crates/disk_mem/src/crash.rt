@@ -1,4 +1,4 @@
-// What a crash leaves, by a choice for each write that no sync made to last.
+//! What a crash leaves, by a choice for each write that no sync made to last.
 ghost use Rattle.std.specs.Prelude.{◌≡◌, ◌+◌, ◌^◌, ◌≤◌, length, map, IfOk, OnOk};
 ghost use Rattle.disk_mem.specs.Bytes.{written};
 ghost use Rattle.disk_mem.specs.Calls.{bytes_after, calls_by};

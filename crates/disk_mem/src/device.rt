@@ -1,4 +1,4 @@
-// The bytes of a device: reads past their end give zeros, and writes there grow them.
+//! The bytes of a device: reads past their end give zeros, and writes there grow them.
 ghost use Rattle.std.specs.Prelude.{◌≡◌, ◌+◌, ◌^◌, ◌≤◌, length, max, vec_len, vec_capacity};
 ghost use Rattle.disk_trait.specs.World.{window};
 ghost use Rattle.disk_mem.specs.Bytes.{image_of, padded, written};

@@ -129,7 +129,7 @@ impl MemDisk {
         &self.bytes
     }
 
-    // A read, with its number where there is memory for its record.
+    /// A read, with its number where there is memory for its record.
     pub fn number_read(&mut self, at: u64, into: &mut [u8]) -> Result<(), DiskFault>
         requires { at + length into.old ≤ 2 ^ 48 }
         ensures bytes { OnOk result (into.new ≡ window (image_of (bytes_after self.old.first self.old.calls)) at (length into.old)) }
@@ -151,7 +151,7 @@ impl MemDisk {
         Ok(())
     }
 
-    // A write, with its number where there is memory for its record and for its bytes.
+    /// A write, with its number where there is memory for its record and for its bytes.
     pub fn number_write(&mut self, at: u64, from: &[u8]) -> Result<(), DiskFault>
         requires { at + length from.now ≤ 2 ^ 48 }
         ensures ends { WriteEnds at from.now result self.old self.new }
@@ -173,7 +173,7 @@ impl MemDisk {
         Ok(())
     }
 
-    // A sync, with its number where there is memory for its record.
+    /// A sync, with its number where there is memory for its record.
     pub fn number_sync(&mut self) -> Result<(), DiskFault>
         ensures ends { SyncEnds result self.old self.new }
         ensures lasts { Lasts 0 self.old self.new }

@@ -1,4 +1,4 @@
-// Why bytes are no filter.
+//! Why bytes are no filter.
 
 use std::alloc::AllocError;
 

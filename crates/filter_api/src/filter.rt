@@ -1,4 +1,4 @@
-// The interface of a filter.
+//! The interface of a filter.
 ghost use Rattle.std.specs.Prelude.{◌≡◌, ◌<◌, ◌≤◌, false, ℕ, List, ◌++◌, length, slice_get, IfSome, IfOk, IfErr, OnOk, OnErr};
 ghost use Rattle.byte_fields.specs.Faults.{Fault, fault as fault_at};
 ghost use Rattle.filter_model.specs.Answers.{begins, first, point, ranged, tally as tally_of};

@@ -1,4 +1,4 @@
-// Leaves, and lists of them.
+//! Leaves, and lists of them.
 ghost use Rattle.std.specs.Prelude.{◌≡◌, ◌<◌, ◌==◌, [], ◌∷◌, ◌++◌, length, slice_get, IfOk, OnOk, OnErr};
 
 use std::alloc::{AllocError, Global};

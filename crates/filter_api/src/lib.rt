@@ -4,6 +4,9 @@
 //! definitions of `filter_model`. The store knows filters by [`RangeFilter`] only, so code that is proved over the
 //! trait is proved for every filter. An answer `true` may be wrong, an answer `false` never is.
 //!
+//! Each call costs what its filter says. Do not use a filter for keys that come and go, since it is built once of all
+//! of them, nor where `true` must be right.
+//!
 //! ```text
 //! let filter = F::build(alloc, &keys, settings)?;      // keys strictly rising
 //! if filter.may_hold(key) { .. }                       // else the key is not there

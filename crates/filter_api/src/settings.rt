@@ -1,4 +1,4 @@
-// The settings of a filter.
+//! The settings of a filter.
 ghost use Rattle.std.specs.Prelude.{◌≡◌, ◌<◌, ◌≤◌, ◌↔◌, IsOk};
 
 use key_base::{MAX_HASH_BITS, MAX_REAL_BITS};

@@ -1,4 +1,4 @@
-// Laws of the reading. They are proved and never called.
+//! Laws of the reading. They are proved and never called.
 ghost use Rattle.filter_api.specs.Spellings.{SpellsOne};
 ghost use Rattle.filter_model.specs.Image.{image};
 ghost use Rattle.filter_image_model.specs.Laws.{BytesAreTheImage, ImageIsReadAgain, ImageWasWrittenSo, OneListATrie, TrieIsRead};

@@ -1,4 +1,4 @@
-// The test whether a filter can be built from a list of keys.
+//! The test whether a filter can be built from a list of keys.
 ghost use Rattle.std.specs.Prelude.{◌≡◌, ◌<◌, ◌-◌, true, [], length, slice_index_or, IsTrue, ◌↔◌};
 ghost use Rattle.filter_model.specs.Keys.{IsKey, IsKeyList};
 ghost use Rattle.filter_model.specs.Strings.{is_below};

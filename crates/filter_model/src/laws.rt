@@ -1,4 +1,4 @@
-// Laws of the definitions. They are proved and never called.
+//! Laws of the definitions. They are proved and never called.
 ghost use Rattle.filter_model.specs.Laws.{LeavesAreValid, NodesAreThePrefixes, NodesBranch, NodesStandInOrder, NoHeldRangeIsDenied, NoKeyIsDenied, RangeIsExact, TallyIsNear};
 
 /// A range answers yes exactly where some byte string in it fits a leaf, hash bits apart.

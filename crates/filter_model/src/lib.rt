@@ -5,8 +5,10 @@
 //! definitions stand in `specs/`, one file a noun: `Strings`, `Leaves`, `Answers`, `Trie`, `Valid`, `Nodes`, `Image`.
 //! They say what every filter answers, a plain list and a succinct trie alike, and look like neither.
 //!
-//! [`are_keys`] tests whether a filter can be built from a list of keys. The other functions have no body: each has a
-//! law or some rows as its contract, so that the crate is proved only where the law holds. None needs to be called.
+//! [`are_keys`] tests whether a filter can be built from a list of keys, by one comparison for each two neighbours.
+//! The other functions have no body: each has a law or some rows as its contract, so that the crate is proved only
+//! where the law holds. None needs to be called. Not for programs that ask a filter: they take `filter_api` and one
+//! of its filters.
 //!
 //! ```text
 //! keys            far   fast   s   top   toy

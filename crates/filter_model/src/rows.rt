@@ -1,4 +1,4 @@
-// The definitions, tried on rows whose answers are known. Each row computes.
+//! The definitions, tried on rows whose answers are known. Each row computes.
 ghost use Rattle.std.specs.Prelude.{◌≡◌, ◌==◌, [], ◌∷◌, ◌++◌, true, false, map, length, codes, Some, None};
 ghost use Rattle.filter_model.specs.Answers.{begins, first, point, ranged, tally, true_count};
 ghost use Rattle.filter_model.specs.Image.{image};

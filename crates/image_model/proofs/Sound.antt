@@ -1,5 +1,5 @@
 -- A state that an image stands for is sound.
-use Rattle.std.proofs.Common.{◌≡◌, ◌<◌, ◌≤◌, ◌+◌, ◌++◌, ℕ, List, [], ◌∷◌, length, refl, inl, inr, sym, ap, ap₂, ◌∙◌, subst, arith}
+use Rattle.std.proofs.Common.{◌≡◌, ◌<◌, ◌≤◌, ◌++◌, ℕ, List, [], ◌∷◌, length, refl, inl, inr, sym, ap, ap₂, ◌∙◌, subst, arith}
 use Rattle.std.proofs.lemmas.List.{append-nil, length-map}
 use Rattle.std.proofs.lemmas.List.Sums.{sum_by-cons}
 use Rattle.std.specs.Prelude.{map, Option, None, sum_by}
@@ -10,34 +10,30 @@ use Rattle.disk_trait.proofs.Images.{window_size}
 use Rattle.filter_api.specs.Ranges.{InRange}
 use Rattle.filter_api.specs.Spellings.{Spelling}
 use Rattle.filter_api.specs.declared.settings.Settings.{Settings}
-use Rattle.entry_model.specs.Entries.{Entry, IsEntry, filled}
+use Rattle.entry_model.specs.Entries.{Entry, filled}
 use Rattle.log_model.specs.Area.{area_size, start_of}
 use Rattle.log_model.proofs.Logs.{size_is}
-use Rattle.block_model.specs.Block.{IsBlock}
 use Rattle.block_model.specs.Index.{index_row_of}
 use Rattle.block_model.specs.Pages.{block_length, block_pages, pages_for}
 use Rattle.block_model.specs.Places.{pages_of}
+use Rattle.block_model.specs.Block.{IsBlock}
+use Rattle.block_model.proofs.Bounds.{weaker}
 use Rattle.extent_model.specs.Extents.{AreApart, Extent, IsOnDevice}
 use Rattle.extent_model.proofs.Lists.{Pairs, all_pairs}
 use Rattle.manifest_model.specs.Laws.{IsVersion}
 use Rattle.manifest_model.specs.Slots.{IsVersionOf}
 use Rattle.manifest_model.specs.Version.{Version}
-use Rattle.state_model.specs.Sound.{IsOfBytes, IsSound, IsSoundTable, MayRun}
+use Rattle.state_model.specs.Sound.{IsSound, IsSoundTable, MayRun}
 use Rattle.state_model.specs.State.{Job, State, last_epoch, written_by}
 use Rattle.state_model.specs.Taken.{extent_of, taken}
-use Rattle.table_model.specs.Images.{IsTableAt, IsTableOf, index_of_blocks}
+use Rattle.state_model.proofs.Places.{IsSmall, blocks_joined_small}
+use Rattle.table_model.specs.Images.{IsTableAt, IsTableOf}
 use Rattle.table_model.specs.Tables.{FilterBytes, Table}
 use Rattle.table_model.proofs.OneTable.{rows_of_index}
 use Rattle.image_model.specs.Sound.{StateIsSound}
-use Rattle.image_model.specs.Stands.{IsNamedBy, settings_of}
+use Rattle.image_model.specs.Stands.{IsNamedBy}
 use Rattle.image_model.specs.Tables.{AreTablesOf}
 use Rattle.image_model.proofs.Placed.{AreRowsApart, IsLevelled, IsPlaced, extent_of_row, version_apart, version_levelled, version_placed}
-
--- ---- entries
-
-of_bytes : (entries : List Entry) → AllByRecursion IsEntry entries → AllByRecursion IsOfBytes entries
-of_bytes [] all = tt
-of_bytes (e ∷ entries) all = (record { key = all.0.key_bytes; value = all.0.value_bytes }, of_bytes entries all.1)
 
 -- ---- tables
 
@@ -63,8 +59,8 @@ table_sound : (spelling : Spelling) (settings : Settings) (row : Row) (t : Table
 table_sound spelling settings row t image is of_row = subst IsSoundTable (sym of_row.2) (record {
   level = is.level;
   entries = of_row.1.table;
-  bytes = of_bytes _ of_row.1.table.sound.each;
   blocks = some_blocks spelling settings row of_row.0 image of_row.1;
+  few = blocks_joined_small of_row.0 (weaker IsBlock IsSmall (λ block is. is.few) of_row.0 of_row.1.each);
 })
 
 tables_sound : (spelling : Spelling) (settings : Settings) (rows : List Row) (tables : List Table) (image : Image) → AllByRecursion IsLevelled rows
@@ -140,7 +136,6 @@ module _ (spelling : Spelling) (filter_bytes : FilterBytes) (v : Version) (s : S
     device = (omega (arith, named.pages, is.some_pages), omega (arith, named.pages, is.few_pages));
     epoch = (omega (arith, named.epoch, is.some_epoch), omega (arith, named.epoch, is.epoch, last_is));
     log = named.log.begins.sound;
-    log_bytes = of_bytes s.log named.log.begins.sound;
     log_fits = log_fits;
     few = omega (arith, same_many spelling s.settings v.rows s.tables image named.tables, is.few_tables);
     tables = tables_sound spelling s.settings v.rows s.tables image (version_levelled v is) named.tables;

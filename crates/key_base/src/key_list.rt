@@ -1,4 +1,4 @@
-// A list of keys.
+//! A list of keys.
 ghost use Rattle.std.specs.Prelude.{◌≡◌, ◌<◌, ◌==◌, List, [], ◌∷◌, ◌++◌, length, slice_index_or, OnOk, OnErr};
 
 use std::alloc::{AllocError, Global};

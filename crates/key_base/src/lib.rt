@@ -1,8 +1,8 @@
 //! Byte strings and their order, the longest common prefix, lists of keys, and the limits of the store.
 //!
 //! Byte strings compare byte by byte, a proper prefix first. Every crate that speaks of keys stands on this one.
-//! A [`KeyList`] keeps each key in memory of its own; it is a list to build from, and no index: finding a key in it
-//! is the caller's loop.
+//! [`compare`] and [`shared`] read as many bytes as the two have alike. A [`KeyList`] keeps each key in memory of its
+//! own; it is a list to build from. Do not use it as an index: finding a key in it is the caller's loop.
 //!
 //! ```text
 //! let mut keys = KeyList::new(alloc);

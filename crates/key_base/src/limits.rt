@@ -1,4 +1,4 @@
-// The limits of the store. Each stands here once, and every crate that keeps one reads it from here.
+//! The limits of the store, as constants for code. The definitions in `specs/` name the same numbers themselves.
 
 /// The bytes of the longest key; the shortest has one.
 pub const MAX_KEY_BYTES: usize = 1_024;

@@ -1,4 +1,4 @@
-// The order of byte strings, and what two of them begin with alike.
+//! The order of byte strings, and what two of them begin with alike.
 ghost use Rattle.std.specs.Prelude.{◌≡◌, ◌==◌};
 ghost use Rattle.std.specs.Cmp.Lexicographic.{slice_cmp};
 ghost use Rattle.std.specs.List.{common_prefix_len};

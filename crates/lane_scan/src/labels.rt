@@ -6,7 +6,7 @@ ghost use Rattle.lane_scan.specs.Places.{is_label_at, is_least_at, IsFirstBetwee
 use super::places::lowest_one;
 use std::simd::u8x16;
 
-/// How many bytes are looked at in one step.
+// How many bytes are looked at in one step.
 const GROUP: usize = 16;
 
 /// The first place in `bytes` that holds `label`, or `None` where none does.
@@ -79,14 +79,14 @@ pub fn first_at_least_between(section: &[u8], start: usize, end: usize, label: u
     None
 }
 
-/// The place, if it stands before `end`.
+// The place, if it stands before `end`.
 fn before_end(place: usize, end: usize) -> Option<usize>
     ensures { MatchOption result (end ≤ place) (λ found. (found ≡ place) × (found < end)) }
 {
     if place < end { Some(place) } else { None }
 }
 
-/// Which of the 16 bytes from `at` on are `label`: a bit for each, the first the lowest.
+// Which of the 16 bytes from `at` on are `label`: a bit for each, the first the lowest.
 fn labels_at(section: &[u8], at: usize, label: u8) -> u64
     requires { at + 16 ≤ length section.now }
     ensures { Tells (is_label_at section.now label) at 16 result }
@@ -95,7 +95,7 @@ fn labels_at(section: &[u8], at: usize, label: u8) -> u64
     lanes.simd_eq(u8x16::splat(label)).to_bitmask()
 }
 
-/// Which of the 16 bytes from `at` on are `label` or more: a bit for each, the first the lowest.
+// Which of the 16 bytes from `at` on are `label` or more: a bit for each, the first the lowest.
 fn least_at(section: &[u8], at: usize, label: u8) -> u64
     requires { at + 16 ≤ length section.now }
     ensures { Tells (is_least_at section.now label) at 16 result }
@@ -104,7 +104,7 @@ fn least_at(section: &[u8], at: usize, label: u8) -> u64
     lanes.simd_ge(u8x16::splat(label)).to_bitmask()
 }
 
-/// The first `label` from `at` on, behind which the section ends within 16 bytes: by its last 16 bytes.
+// The first `label` from `at` on, behind which the section ends within 16 bytes: by its last 16 bytes.
 fn label_in_rest(section: &[u8], at: usize, end: usize, label: u8) -> Option<usize>
     requires near { length section.now < at + 16 }
     requires order { at ≤ end }
@@ -122,7 +122,7 @@ fn label_in_rest(section: &[u8], at: usize, end: usize, label: u8) -> Option<usi
     before_end(at + lowest_one(marks), end)
 }
 
-/// The first byte from `at` on that is `label` or more, where the section ends within 16 bytes: by its last 16 bytes.
+// The first byte from `at` on that is `label` or more, where the section ends within 16 bytes: by its last 16 bytes.
 fn least_in_rest(section: &[u8], at: usize, end: usize, label: u8) -> Option<usize>
     requires near { length section.now < at + 16 }
     requires order { at ≤ end }
@@ -140,7 +140,7 @@ fn least_in_rest(section: &[u8], at: usize, end: usize, label: u8) -> Option<usi
     before_end(at + lowest_one(marks), end)
 }
 
-/// The first `label`, byte by byte.
+// The first `label`, byte by byte.
 fn label_by_bytes(section: &[u8], start: usize, end: usize, label: u8) -> Option<usize>
     requires { end ≤ length section.now }
     ensures { MatchOption result (HoldsNowhere (is_label_at section.now label) start end) (IsFirstBetween (is_label_at section.now label) start end) }
@@ -153,7 +153,7 @@ fn label_by_bytes(section: &[u8], start: usize, end: usize, label: u8) -> Option
     None
 }
 
-/// The first byte that is `label` or more, byte by byte.
+// The first byte that is `label` or more, byte by byte.
 fn least_by_bytes(section: &[u8], start: usize, end: usize, label: u8) -> Option<usize>
     requires { end ≤ length section.now }
     ensures { MatchOption result (HoldsNowhere (is_least_at section.now label) start end) (IsFirstBetween (is_least_at section.now label) start end) }

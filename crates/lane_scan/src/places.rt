@@ -23,7 +23,7 @@ pub fn first_one_from(words: &[u64], start: usize) -> Option<usize>
     first_one_behind(words, first + 1)
 }
 
-/// The first set bit behind the first `count` words.
+// The first set bit behind the first `count` words.
 fn first_one_behind(words: &[u64], count: usize) -> Option<usize>
     requires { length words.now < 2 ^ 58 }
     ensures { MatchOption result (HoldsNowhere (is_one_at words.now) (64 * count) (64 * length words.now)) (IsFirstBetween (is_one_at words.now) (64 * count) (64 * length words.now)) }
@@ -54,7 +54,7 @@ pub fn last_one_before(words: &[u64], end: usize) -> Option<usize>
     last_one_of(words, last.min(words.len()))
 }
 
-/// The last set bit of the first `count` words.
+// The last set bit of the first `count` words.
 fn last_one_of(words: &[u64], count: usize) -> Option<usize>
     requires few { length words.now < 2 ^ 58 }
     requires there { count ≤ length words.now }

@@ -5,10 +5,10 @@ ghost use Rattle.lane_scan.specs.Ones.{IsWordOfOne, ones_before};
 
 use std::simd::u64x4;
 
-/// How many words are counted in lanes.
+// How many words are counted in lanes.
 const LANES: usize = 4;
 
-/// How many words make a group.
+// How many words make a group.
 const GROUP: usize = 32;
 
 /// How many bits are set in `words`, of which there are fewer than 2^58.
@@ -51,7 +51,7 @@ pub fn ones_below(word: u64, place: usize) -> u64
     u64::from((word & ((1 << place) - 1)).count_ones())
 }
 
-/// How many bits are set in the four words from `at` on.
+// How many bits are set in the four words from `at` on.
 fn ones_in_lanes(words: &[u64], at: usize) -> u64
     requires { at + LANES ≤ length words.now }
     ensures { ones_before words.now at + result ≡ ones_before words.now (at + LANES) }
@@ -61,9 +61,9 @@ fn ones_in_lanes(words: &[u64], at: usize) -> u64
         .strict_reduce_sum()
 }
 
-/// How many bits are set in the thirty-two words from `at` on.
-///
-/// Four are counted in lanes and the others by the processor's count of a word, which go on side by side.
+// How many bits are set in the thirty-two words from `at` on.
+//
+// Four are counted in lanes and the others by the processor's count of a word, which go on side by side.
 fn ones_in_group(words: &[u64], at: usize) -> u64
     requires { at + GROUP ≤ length words.now }
     ensures { ones_before words.now at + result ≡ ones_before words.now (at + GROUP) }
@@ -75,7 +75,7 @@ fn ones_in_group(words: &[u64], at: usize) -> u64
     total
 }
 
-/// How many bits are set in the whole groups.
+// How many bits are set in the whole groups.
 fn ones_in_groups(words: &[u64]) -> u64
     requires { length words.now < 2 ^ 58 }
     ensures { result ≡ ones_before words.now (length words.now / GROUP * GROUP) }

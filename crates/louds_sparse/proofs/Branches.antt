@@ -1,8 +1,8 @@
 -- The branches of one node: where END stands, how letters are written, and which branch passes first or last.
-use Rattle.std.proofs.Common.{◌≡◌, ℕ, zero, suc, ◌+◌, ◌-◌, ◌<◌, ◌≤◌, ◌==◌, Bool, true, false, cond, Option, Some, None, List, [], ◌∷◌, length, get_or, refl, ap, sym, ◌∙◌, arith, inl, inr, lt-ltb, le-ltb, nat_lt, nat_le}
+use Rattle.std.proofs.Common.{◌≡◌, ℕ, zero, suc, ◌<◌, ◌≤◌, ◌==◌, Bool, true, false, cond, Some, None, [], ◌∷◌, length, get_or, refl, ap, sym, ◌∙◌, arith, inl, inr, lt-ltb, le-ltb, nat_lt}
 use Rattle.std.specs.Prelude.{position, ◌&&◌, ◌||◌}
 use Rattle.std.specs.List.{position_or_len}
-use Rattle.std.proofs.lemmas.Bool.{cases_Bool, cases_eq, cases_lt, eq-eqb, eqb-true, false_from_ne_true, false≢true, ne_eqb, ltb-true, or_cases, or_right}
+use Rattle.std.proofs.lemmas.Bool.{cases_eq, cases_lt, eq-eqb, eqb-true, false_from_ne_true, false≢true, ne_eqb, ltb-true, or_cases, or_right}
 use Rattle.std.proofs.lemmas.List.Sums.{position_or_len_is}
 use Rattle.filter_model.specs.Image.{has_letter, label_of}
 use Rattle.filter_model.specs.Nodes.{Branch, Node}

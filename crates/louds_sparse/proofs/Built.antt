@@ -1,20 +1,19 @@
 -- Sections that grow by a branch or a node, and the half that they spell then.
-use Rattle.std.proofs.Common.{◌≡◌, ℕ, zero, suc, ◌+◌, ◌-◌, ◌<◌, ◌≤◌, ◌==◌, ◌^◌, Bool, true, false, cond, not, List, [], ◌∷◌, ◌++◌, length, get_or, take, map, refl, ap, subst, sym, ◌∙◌, arith}
-use Rattle.std.specs.Prelude.{◌&&◌}
+use Rattle.std.proofs.Common.{◌≡◌, ℕ, zero, suc, ◌+◌, ◌<◌, ◌≤◌, ◌==◌, ◌^◌, Bool, true, false, cond, not, List, [], ◌∷◌, ◌++◌, length, get_or, take, map, refl, ap, subst, sym, ◌∙◌, arith}
 use Rattle.std.specs.List.{All, AllPairs}
 use Rattle.std.proofs.lemmas.Bool.{ne_eqb}
 use Rattle.std.proofs.lemmas.List.{append-nil, append_assoc, get_or-map, length-append, length-map, length-take-le, map-append, take_more}
 use Rattle.std.proofs.lemmas.List.Concat.{flat_map-append}
-use Rattle.std.proofs.lemmas.List.Elements.{All-append, All-cons, All-map, All-nil, All-weaker}
+use Rattle.std.proofs.lemmas.List.Elements.{All-append, All-cons, All-nil, All-weaker}
 use Rattle.filter_image_model.proofs.Lists.{by_recursion}
 use Rattle.filter_image_model.proofs.SparseNodes.{sparse_again}
 use Rattle.filter_model.specs.Image.{label_of, opening, sparse_children, sparse_labels, sparse_louds}
 use Rattle.filter_model.specs.Nodes.{Branch, Node, all}
 use Rattle.filter_model.specs.Trie.{END}
-use Rattle.louds_sparse.specs.Building.{AreRising, SectionsInRoom, node_given, with_branch, with_branches}
+use Rattle.louds_sparse.specs.Building.{SectionsInRoom, with_branch, with_branches}
+use Rattle.trie_model.specs.Given.{AreRising, node_given}
 use Rattle.louds_sparse.specs.Spelling.{AreFew, IsSpelled, half_in}
-use Rattle.louds_sparse.proofs.Branches.{label-byte, nth}
-use Rattle.louds_sparse.proofs.Spelled.{length_labels}
+use Rattle.louds_sparse.proofs.Branches.{label-byte}
 use Rattle.trie_laws.specs.Louds.{IsNode}
 use Rattle.trie_laws.specs.Nodes.{IsTrieNode}
 use Rattle.trie_laws.proofs.Forms.{forms_are_sparse, order-byte}

@@ -1,10 +1,10 @@
 -- A search among a node's labels finds the branch that is asked for.
-use Rattle.std.proofs.Common.{◌≡◌, ℕ, zero, suc, ◌+◌, ◌-◌, ◌<◌, ◌≤◌, ◌==◌, Bool, true, false, cond, Option, Some, None, List, [], ◌∷◌, length, get_or, refl, ap, subst, sym, ◌∙◌, arith, inl, inr, nat_lt, nat_le, lt-ltb, le-ltb}
-use Rattle.std.specs.Prelude.{position, ◌&&◌}
+use Rattle.std.proofs.Common.{◌≡◌, ℕ, ◌+◌, ◌-◌, ◌<◌, ◌≤◌, ◌==◌, Bool, true, false, cond, Option, Some, None, List, length, get_or, refl, ap, sym, ◌∙◌, arith, inl, inr, nat_lt, nat_le, lt-ltb, le-ltb}
+use Rattle.std.specs.Prelude.{◌&&◌}
 use Rattle.std.specs.Option.{option_map}
 use Rattle.std.specs.Slice.Scan.{HoldsNowhere}
 use Rattle.std.proofs.lemmas.Bool.{and_from, cases_lt, eq-eqb, false_from_ne_true, false≢true, le-leb, leb-true, ne_eqb}
-use Rattle.filter_model.specs.Image.{has_letter, label_of}
+use Rattle.filter_model.specs.Image.{has_letter}
 use Rattle.filter_model.specs.Nodes.{Branch, Node}
 use Rattle.filter_model.specs.Trie.{END}
 use Rattle.lane_scan.specs.Places.{IsFirstBetween, is_label_at}
@@ -12,7 +12,6 @@ use Rattle.louds_sparse.specs.Cuts.{IsCut, StandBytes}
 use Rattle.louds_sparse.specs.Spelling.{IsSpelled}
 use Rattle.louds_sparse.proofs.Branches.{byte_behind, bytes_rise, end_before, end_first, label-byte, last_none, last_some, letter_there, nth, position_none, position_some}
 use Rattle.louds_sparse.proofs.Spelled.{form, label_in, range_is}
-use Rattle.trie_laws.specs.Nodes.{IsTrieNode}
 use Rattle.trie_model.specs.Branching.{branch_at, next_at, prev_at}
 use Rattle.trie_model.specs.Halves.{Half, HasNode, begin_of, branch_place, end_slot, next_place, node_at, prev_place, slot_at}
 use Rattle.trie_model.specs.declared.parts.Before.{Before}

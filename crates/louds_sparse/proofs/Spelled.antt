@@ -1,28 +1,28 @@
 -- What the sections say of the half that they spell.
-use Rattle.std.proofs.Common.{◌≡◌, ℕ, zero, suc, ◌+◌, ◌-◌, ◌<◌, ◌≤◌, ◌==◌, Bool, true, false, cond, Option, Some, None, List, [], ◌∷◌, length, get_or, take, refl, ap, subst, sym, ◌∙◌, arith, inl, inr, length-append, nat_lt, nat_le, lt-ltb, le-ltb}
-use Rattle.std.specs.Prelude.{count_by, not, position, ◌&&◌}
+use Rattle.std.proofs.Common.{◌≡◌, ℕ, suc, ◌+◌, ◌-◌, ◌<◌, ◌≤◌, ◌==◌, Bool, true, false, cond, List, [], ◌∷◌, length, get_or, take, refl, ap, subst, sym, ◌∙◌, arith, inl, inr, length-append, nat_lt}
+use Rattle.std.specs.Prelude.{count_by, not, ◌&&◌}
 use Rattle.std.specs.List.{All}
-use Rattle.std.specs.Option.{option_map}
-use Rattle.std.proofs.lemmas.Bool.{cases_lt, eq-eqb, eqb-true, false_from_ne_true, ltb-true, ne_eqb, and_from}
-use Rattle.std.proofs.lemmas.List.{append-nil, get_or-map, length-map, length-take-le, take-map, take_more}
+use Rattle.std.proofs.lemmas.Bool.{cases_lt, cases_order, false≢true}
+use Rattle.std.proofs.lemmas.List.{append-nil, get_or-map, length-map, length-take-le, take-map, take_all, take_more}
 use Rattle.std.proofs.lemmas.List.Concat.{flat_map-append, get_or-flat_map}
 use Rattle.std.proofs.lemmas.List.Elements.{All-weaker}
 use Rattle.std.proofs.lemmas.List.Folds.{length-flat_map-take}
 use Rattle.std.proofs.lemmas.List.Sums.{sum_by-cons}
+use Rattle.std.specs.Slice.Scan.{HoldsNowhere}
 use Rattle.bit_select.specs.Place.{IsPlaceOfOne}
+use Rattle.bit_words.specs.Counts.{is_set_at}
+use Rattle.lane_scan.specs.Places.{IsFirstBetween}
 use Rattle.filter_model.specs.Image.{has_letter, label_of}
 use Rattle.filter_model.specs.Nodes.{Branch, Node, all, at, children_before, first_place, leaves_before}
 use Rattle.filter_model.specs.Trie.{END}
-use Rattle.louds_sparse.specs.Cuts.{IsCut, StandBytes}
 use Rattle.louds_sparse.specs.Spelling.{IsSpelled}
-use Rattle.louds_sparse.proofs.Branches.{byte_behind, bytes_rise, end_before, end_first, label-byte, last_none, last_some, nth, opens_is, position_none, position_some}
+use Rattle.louds_sparse.proofs.Branches.{nth, opens_is}
 use Rattle.trie_laws.specs.Louds.{IsNode}
 use Rattle.trie_laws.specs.Nodes.{IsTrieNode}
 use Rattle.trie_laws.proofs.Forms.{forms_are_sparse}
-use Rattle.trie_laws.proofs.Louds.{first_by_None, first_by_Some, length-le-all}
+use Rattle.trie_laws.proofs.Louds.{first_by_None, first_by_Some, length-le-all, louds_count, louds_first, nth_below, set_within}
 use Rattle.trie_laws.proofs.Places.{count_by-map}
-use Rattle.trie_model.specs.Branching.{branch_at, next_at, prev_at}
-use Rattle.trie_model.specs.Halves.{Half, HasNode, begin_of, branch_place, end_slot, next_place, node_at, places_in, prev_place, slot_at}
+use Rattle.trie_model.specs.Halves.{Half, HasNode, begin_of, node_at, places_in}
 use Rattle.trie_model.specs.declared.parts.Before.{Before}
 
 both_counts : {X : Type 0} (p : X → Bool) (xs : List X) → count_by p xs + count_by (λ x. not (p x)) xs ≡ length xs
@@ -54,8 +54,15 @@ module _ {before : Before} {labels : List ℕ} {children louds : List Bool} {h :
   pub first_found : (v p : ℕ) → v ≤ length h.nodes → IsPlaceOfOne louds v p → p ≡ first_place h.nodes v
   first_found v p l w = first_by_Some h.nodes v p sparse l (rw s.louds_are at w)
 
-  pub first_end : (v : ℕ) → v ≤ length h.nodes → count_by (λ (b : Bool). b) louds ≤ v → length labels ≡ first_place h.nodes v
-  first_end v l w = length_labels ∙ first_by_None h.nodes v sparse l (rw s.louds_are at w)
+  pub set_bits : count_by (λ (b : Bool). b) louds ≡ length h.nodes
+  set_bits = ap (count_by (λ (b : Bool). b)) s.louds_are ∙ louds_count h.nodes sparse
+
+  -- there is a set bit for each node
+  pub first_there : (v : ℕ) → v < length h.nodes → IsPlaceOfOne louds v (first_place h.nodes v)
+  first_there v l = rw s.louds_are (louds_first h.nodes v sparse l)
+
+  pub some_first : (v : ℕ) → v < length h.nodes → count_by (λ (b : Bool). b) louds ≤ v → ⊥
+  some_first v l none = omega (arith, l, none, set_bits)
 
   pub few_nodes : length h.nodes ≤ length labels
   few_nodes = let l = length-le-all h.nodes sparse in omega (arith, l, length_labels)
@@ -127,3 +134,38 @@ module _ {before : Before} {labels : List ℕ} {children louds : List Bool} {h :
           where
             plus_zero : (p : ℕ) → p ≡ p + 0
             plus_zero p = omega arith
+
+    -- the next set bit is where the next node begins, and behind the last node's first bit none is set
+    next_begin_is : begin_of h (v + 1) ≡ first_place h.nodes (v - h.before.nodes + 1)
+    next_begin_is = ap (first_place h.nodes) next_number
+
+    own_bit : IsPlaceOfOne louds (v - h.before.nodes) (begin_of h v)
+    own_bit = first_there (v - h.before.nodes) number_in
+
+    next_bit : v - h.before.nodes + 1 < length h.nodes → IsPlaceOfOne louds (v - h.before.nodes + 1) (begin_of h (v + 1))
+    next_bit l = subst (IsPlaceOfOne louds (v - h.before.nodes + 1)) (sym next_begin_is) (first_there (v - h.before.nodes + 1) l)
+
+    pub next_found : (p : ℕ) → IsFirstBetween (is_set_at louds) (begin_of h v + 1) (length louds) p → p ≡ begin_of h (v + 1)
+    next_found p at =
+        let up = nth_below louds (begin_of h v) p (omega (arith, at.from)) (omega (arith, at.below)) own_bit.is_set in
+        let more = nth_below louds p (length louds) at.below (omega arith) at.passes in
+        let all_of = ap (count_by (λ (b : Bool). b)) (take_all (length louds) louds (omega arith)) in
+        let next = next_bit (omega (arith, up, more, all_of, set_bits, own_bit.before)) in
+        elim (cases_order p (begin_of h (v + 1))) [
+          | inl same ↦ same
+          | inr apart ↦ elim apart [
+            | inl before ↦ absurd (omega (arith, up, own_bit.before, next.before, nth_below louds p (begin_of h (v + 1)) before (omega (arith, set_within louds (begin_of h (v + 1)) next.is_set)) at.passes))
+            | inr behind ↦ absurd (false≢true (sym (at.before (begin_of h (v + 1)) (omega (arith, node_some)) behind) ∙ next.is_set))
+          ]
+        ]
+
+    pub next_end : HoldsNowhere (is_set_at louds) (begin_of h v + 1) (length louds) → length labels ≡ begin_of h (v + 1)
+    next_end none = elim (cases_lt (v - h.before.nodes + 1) (length h.nodes)) [
+      | inl more ↦
+          let next = next_bit more in
+          absurd (false≢true (sym (none (begin_of h (v + 1)) (omega (arith, node_some)) (set_within louds (begin_of h (v + 1)) next.is_set)) ∙ next.is_set))
+      | inr last ↦
+          length_labels
+          ∙ first_by_None h.nodes (v - h.before.nodes + 1) sparse (omega (arith, number_in)) (omega (arith, last, louds_count h.nodes sparse))
+          ∙ sym next_begin_is
+    ]

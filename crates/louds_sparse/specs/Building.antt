@@ -1,20 +1,8 @@
--- What a builder is given, and what it has so far.
-use Rattle.std.specs.Prelude.{◌≡◌, ℕ, ◌+◌, ◌<◌, Bool, true, false, cond, List, [], ◌∷◌, ◌++◌, map, length}
-use Rattle.std.specs.List.{AllPairs}
+-- What a builder has so far.
+use Rattle.std.specs.Prelude.{ℕ, Bool, List, [], ◌∷◌, ◌++◌, map}
 use Rattle.filter_model.specs.Image.{label_of, opening}
 use Rattle.filter_model.specs.Nodes.{Branch, Node}
-use Rattle.filter_model.specs.Trie.{END}
 use Rattle.trie_model.specs.Halves.{Half}
-use Rattle.trie_model.specs.declared.parts.Branch.{Branch as ByteBranch}
-
--- a node: END where it is a branch, and then the branches by bytes
-abbrev pub node_given : Bool → List ByteBranch → Node
-node_given end branches = cond end ((END, false) ∷ []) [] ++ map (λ (b : ByteBranch). (b.byte, b.child)) branches
-
--- some branches, whose bytes rise
-pub record AreRising (branches : List ByteBranch) : Type 0 where
-  pub some : 0 < length branches
-  pub rising : AllPairs (λ (a b : ByteBranch). a.byte < b.byte) branches
 
 -- the half so far, and how many labels it may have
 pub record HalfInRoom : Type 0 where

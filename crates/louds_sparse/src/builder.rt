@@ -1,6 +1,7 @@
 //! The half while it grows.
-ghost use Rattle.std.specs.Prelude.{◌≡◌, ◌≤◌, ◌<◌, ◌+◌, ◌^◌, [], length, IfOk};
-ghost use Rattle.louds_sparse.specs.Building.{AreRising, node_given, with_node};
+ghost use Rattle.std.specs.Prelude.{◌≡◌, ◌≤◌, ◌<◌, ◌+◌, ◌-◌, ◌^◌, [], length, IfOk};
+ghost use Rattle.louds_sparse.specs.Building.{with_node};
+ghost use Rattle.trie_model.specs.Given.{AreRising, node_given};
 ghost use Rattle.louds_sparse.specs.Spelling.{AreFew};
 ghost use Rattle.trie_model.specs.Halves.{places_in};
 
@@ -51,6 +52,13 @@ impl<A: Allocator + Clone> SparseBuilder<A> {
             before,
             sections,
         })
+    }
+
+    /// How many labels there is still room for.
+    pub fn room_left(&self) -> usize
+        ensures { result ≡ self.now.limit - places_in self.now.half }
+    {
+        self.sections.room_left()
     }
 
     /// Adds a node: END where `end` holds, and the branches by bytes, some and rising. Takes no memory.

@@ -1,7 +1,8 @@
 //! The three sections while they grow.
-ghost use Rattle.std.specs.Prelude.{◌≡◌, ◌≤◌, ◌<◌, ◌+◌, [], length, cond, IfOk};
+ghost use Rattle.std.specs.Prelude.{◌≡◌, ◌≤◌, ◌<◌, ◌+◌, ◌-◌, [], length, cond, IfOk};
 ghost use Rattle.std.specs.List.{All};
-ghost use Rattle.louds_sparse.specs.Building.{node_given, with_branch, with_branches};
+ghost use Rattle.louds_sparse.specs.Building.{with_branch, with_branches};
+ghost use Rattle.trie_model.specs.Given.{node_given};
 ghost use Rattle.trie_model.specs.declared.parts.Branch.{Branch as ByteBranch};
 
 use bit_words::BitsBuilder;
@@ -48,6 +49,13 @@ impl<A: Allocator> Sections<A> {
             has_child,
             louds,
         })
+    }
+
+    /// How many labels there is still room for.
+    pub(crate) fn room_left(&self) -> usize
+        ensures { result ≡ self.now.limit - length self.now.labels }
+    {
+        self.has_child.limit() - self.labels.len()
     }
 
     /// Adds a branch.

@@ -1,5 +1,5 @@
 //! The half and its calls.
-ghost use Rattle.std.specs.Prelude.{◌≡◌, ◌≤◌, ◌<◌, ◌+◌, ◌-◌, ◌==◌, ◌&&◌, nat_lt, length, slice_index};
+ghost use Rattle.std.specs.Prelude.{◌≡◌, ◌≤◌, ◌<◌, ◌+◌, ◌-◌, ◌==◌, ◌&&◌, nat_lt, length, slice_index, IsTrue, ◌↔◌};
 ghost use Rattle.bit_words.specs.Packed.{packed};
 ghost use Rattle.filter_model.specs.Image.{sparse_children, sparse_labels, sparse_louds};
 ghost use Rattle.filter_model.specs.Nodes.{first_place};
@@ -10,7 +10,7 @@ ghost use Rattle.trie_model.specs.Halves.{HasNode, begin_of, branch_place, byte_
 use super::sections::END_LABEL;
 use bit_rank::Ranked;
 use bit_select::Selected;
-use lane_scan::{find_label_between, first_at_least_between};
+use lane_scan::{find_label_between, first_at_least_between, ones};
 use std::alloc::Allocator;
 use std::marker::Model;
 use trie_model::Before;
@@ -36,6 +36,34 @@ impl<A: Allocator> Model for Sparse<A> {
 }
 
 impl<A: Allocator> Sparse<A> {
+    /// What stands before this half.
+    pub fn before(&self) -> Before
+        ensures { result ≡ self.now.before }
+    {
+        self.before
+    }
+
+    /// How many nodes it has. Counts the words of `louds`.
+    pub fn node_count(&self) -> u64
+        ensures { result ≡ length self.now.nodes }
+    {
+        ones(self.louds.bits().words())
+    }
+
+    /// How many places it has, one for each branch.
+    pub fn place_count(&self) -> u64
+        ensures { result ≡ places_in self.now }
+    {
+        self.labels.len() as u64
+    }
+
+    /// Whether a node is one of this half. Counts its nodes.
+    pub fn has_node(&self, node: u64) -> bool
+        ensures { IsTrue result ↔ HasNode self.now node }
+    {
+        node >= self.before.nodes && node - self.before.nodes < self.node_count()
+    }
+
     /// The places of a node's labels: the first, and the one after the last.
     pub fn node_range(&self, node: u64) -> (u64, u64)
         requires { HasNode self.now node }
@@ -80,9 +108,9 @@ impl<A: Allocator> Sparse<A> {
         ensures { result ≡ prev_place self.now node byte }
     {
         let (start, end) = self.bytes_of(node);
-        let place = cut(&self.labels, start, end, byte);
-        if place > start {
-            Some(place as u64 - 1)
+        let behind = cut(&self.labels, start, end, byte);
+        if behind > start {
+            Some(behind as u64 - 1)
         } else {
             None
         }
@@ -158,14 +186,14 @@ impl<A: Allocator> Sparse<A> {
         self.louds.words()
     }
 
-    /// The place at which a node begins, by its number in this half; for the number of its nodes, the number of places.
+    /// The place at which a node begins, by its number in this half.
     fn begin(&self, number: usize) -> usize
-        requires { number ≤ length self.now.nodes }
+        requires { number < length self.now.nodes }
         ensures { result ≡ first_place self.now.nodes number }
     {
         match self.louds.select(number) {
             Some(place) => place,
-            None => self.labels.len(),
+            None => unreachable!(),
         }
     }
 
@@ -177,8 +205,11 @@ impl<A: Allocator> Sparse<A> {
         ensures order { result.0 < result.1 }
         ensures within { result.1 ≤ places_in self.now }
     {
-        let number = (node - self.before.nodes) as usize;
-        (self.begin(number), self.begin(number + 1))
+        let from = self.begin((node - self.before.nodes) as usize);
+        match self.louds.bits().first_one_from(from + 1) {
+            Some(to) => (from, to),
+            None => (from, self.labels.len()),
+        }
     }
 
     /// The places of a node's bytes: the first, which is behind END, and the one after the last.

@@ -10,3 +10,5 @@ mod bounds;
 mod limits;
 #[cfg(test)]
 mod scripts;
+#[cfg(test)]
+mod slices;

@@ -1,4 +1,4 @@
-// What the calls of an outside in memory promise of any outside, and beside it exactly how they end.
+//! What the calls of an outside in memory promise of any outside, and beside it exactly how they end.
 ghost use Rattle.std.specs.Prelude.{◌≡◌, ◌⊎◌, ◌+◌, ◌^◌, ◌≤◌, ◌<◌, ◌↔◌, ◌++◌, length, take, IsErr, IfOk, OnOk, OnErr, IfErr, Contains};
 ghost use Rattle.disk_trait.specs.World.{window, overwritten, ReadMoves, WriteMoves, SyncMoves, IsDurable, Rose};
 ghost use Rattle.disk_trait.specs.Fault.{IsFaultOf};

@@ -100,7 +100,7 @@ impl MemOutside {
         self.disk
     }
 
-    // A take, with its number.
+    /// A take, with its number.
     pub(crate) fn number_take(&mut self, into: &mut [u8]) -> Result<usize, TakeFault>
         ensures ends { TakeEnds (length into.old) result self.old self.new }
         ensures bytes { IfOk result (λ n. take n into.new ≡ take n self.old.to_take) }
@@ -118,7 +118,7 @@ impl MemOutside {
         Ok(count)
     }
 
-    // A say, with its number where there is memory for its bytes and its mark.
+    /// A say, with its number where there is memory for its bytes and its mark.
     pub(crate) fn number_say(&mut self, from: &[u8]) -> Result<usize, SayFault>
         ensures ends { SayEnds from.now result self.old self.new }
         ensures pace { 1 ≤ self.old.pace }

@@ -1,4 +1,4 @@
-// What a list of leaves answers.
+//! What a list of leaves answers.
 ghost use Rattle.std.specs.Prelude.{◌≡◌, ◌<◌, ◌≤◌, ◌^◌, length};
 ghost use Rattle.std.specs.List.{All};
 ghost use Rattle.filter_model.specs.Answers.{first, point, ranged, tally};

@@ -1,4 +1,4 @@
-// The leaf list that bytes spell.
+//! The leaf list that bytes spell.
 ghost use Rattle.std.specs.Prelude.{◌≡◌, ◌+◌, ◌≤◌, length, drop, slice_index, IfOk};
 ghost use Rattle.std.specs.Option.{option_map};
 ghost use Rattle.filter_api.specs.Seen.{seen};
@@ -8,7 +8,7 @@ use byte_fields::{get_u16, get_u32};
 use filter_api::{Leaf, LeafList};
 use std::alloc::{AllocError, Global};
 
-// The `count` leaves that `bytes` spell, or none where they do not spell as many and nothing more.
+/// The `count` leaves that `bytes` spell, or none where they do not spell as many and nothing more.
 pub(crate) fn read_leaves(
     alloc: Global,
     bytes: &[u8],

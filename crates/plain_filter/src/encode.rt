@@ -1,4 +1,4 @@
-// The spelling of a leaf list.
+//! The spelling of a leaf list.
 ghost use Rattle.std.specs.Prelude.{◌≡◌, ◌<◌, ◌≤◌, ◌^◌, ◌++◌, length, IfOk, OnOk};
 ghost use Rattle.std.specs.List.{All};
 ghost use Rattle.filter_model.specs.Valid.{IsLeaf};
@@ -8,7 +8,7 @@ ghost use Rattle.plain_filter.specs.Spelling.{leaf_bytes, plain_spelling};
 use filter_api::{Leaf, LeafList};
 use std::alloc::{AllocError, Global};
 
-// The first four bytes of a spelling.
+/// The first four bytes of a spelling.
 pub(crate) const MAGIC: [u8; 4] = *b"SURP";
 
 pub(crate) fn spelled(

@@ -1,4 +1,4 @@
-// The plain filter.
+//! The plain filter.
 ghost use Rattle.std.specs.Prelude.{◌≡◌, ◌+◌, ◌<◌, ◌≤◌, ◌^◌, ◌==◌, ◌∷◌, [], ◌++◌, length, take, drop, cond, min, IfOk, IfSome, IfNone};
 ghost use Rattle.std.specs.List.{All};
 ghost use Rattle.filter_model.specs.Answers.{begins};

@@ -1,4 +1,4 @@
-// What one leaf answers.
+//! What one leaf answers.
 ghost use Rattle.std.specs.Prelude.{◌≡◌, ◌==◌, ◌&&◌, ◌*◌, ◌-◌, ◌<◌, ◌≤◌, ◌^◌, length, slice_index, take, IsTrue};
 ghost use Rattle.std.specs.Ordering.{nat_cmp};
 ghost use Rattle.filter_model.specs.Answers.{begins, fits, is_past, meets};
@@ -23,7 +23,7 @@ fn leaf_fits(leaf: &Leaf, key: &[u8], real_bits: u8) -> bool
     }
 }
 
-// Whether `key`, whose hash bits are `hash`, fits the leaf as a point.
+/// Whether `key`, whose hash bits are `hash`, fits the leaf as a point.
 pub(crate) fn leaf_fits_point(leaf: &Leaf, key: &[u8], hash: u32, real_bits: u8) -> bool
     requires { real_bits ≤ 32 }
     ensures { result ≡ (fits real_bits key.now (seen leaf.now) && (hash == leaf.now.hash)) }
@@ -31,7 +31,7 @@ pub(crate) fn leaf_fits_point(leaf: &Leaf, key: &[u8], hash: u32, real_bits: u8)
     leaf_fits(leaf, key, real_bits) && hash == leaf.hash
 }
 
-// Whether the leaf may stand for a key from `lo` to `hi`.
+/// Whether the leaf may stand for a key from `lo` to `hi`.
 pub(crate) fn leaf_meets(leaf: &Leaf, lo: &[u8], hi: &[u8], real_bits: u8) -> bool
     requires width { real_bits ≤ 32 }
     requires real { leaf.now.real < 2 ^ real_bits }
@@ -40,7 +40,7 @@ pub(crate) fn leaf_meets(leaf: &Leaf, lo: &[u8], hi: &[u8], real_bits: u8) -> bo
     !below_least(hi, leaf, real_bits) && !leaf_is_past(leaf, lo, real_bits)
 }
 
-// Whether every string that fits the leaf is below `lo`.
+/// Whether every string that fits the leaf is below `lo`.
 pub(crate) fn leaf_is_past(leaf: &Leaf, lo: &[u8], real_bits: u8) -> bool
     requires { real_bits ≤ 32 }
     ensures { result ≡ is_past real_bits lo.now (seen leaf.now) }
@@ -73,7 +73,7 @@ fn below_least(hi: &[u8], leaf: &Leaf, real_bits: u8) -> bool
     compare(&hi[stub.len()..], &tail[..len]).is_lt()
 }
 
-// The real bits, filled with zero bits to 32.
+/// The real bits, filled with zero bits to 32.
 #[tactic(auto, using(crate::proofs::LeafLemmas::filled_fits))]
 pub(crate) fn filled(real: u32, real_bits: u8) -> u32
     requires width { real_bits ≤ 32 }
@@ -83,7 +83,7 @@ pub(crate) fn filled(real: u32, real_bits: u8) -> u32
     (u64::from(real) * 2u64.pow(32 - u32::from(real_bits))) as u32
 }
 
-// The four bytes of `number`, the highest first, and how many of them stand before the zero bytes at the end.
+/// The four bytes of `number`, the highest first, and how many of them stand before the zero bytes at the end.
 pub(crate) fn shortest_bytes(number: u32) -> ([u8; 4], usize)
     ensures len { result.1 ≤ 4 }
     ensures bytes { take result.1 result.0 ≡ shortest 4 number }
@@ -121,14 +121,14 @@ fn byte_at(bytes: &[u8], i: usize) -> u8
     if i < bytes.len() { bytes[i] } else { 0 }
 }
 
-// Whether the two are one byte string.
+/// Whether the two are one byte string.
 pub(crate) fn are_same(a: &[u8], b: &[u8]) -> bool
     ensures { result ≡ same a.now b.now }
 {
     a == b
 }
 
-// Whether `bytes` begin with `stub`.
+/// Whether `bytes` begin with `stub`.
 pub(crate) fn begins_with(bytes: &[u8], stub: &[u8]) -> bool
     ensures value { result ≡ is_prefix stub.now bytes.now }
     ensures bound { IsTrue result → length stub.now ≤ length bytes.now }

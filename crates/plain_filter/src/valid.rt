@@ -1,4 +1,4 @@
-// The test whether a leaf list is valid, by each leaf's neighbours.
+//! The test whether a leaf list is valid, by each leaf's neighbours.
 ghost use Rattle.std.specs.Prelude.{◌≡◌, ◌<◌, ◌≤◌, ◌^◌, ◌↔◌, length, IsTrue};
 ghost use Rattle.filter_model.specs.Valid.{IsLeaf, IsValid, joins, node};
 ghost use Rattle.filter_model.specs.Strings.{extends};

@@ -1,9 +1,9 @@
 //! The sorted map as a plain program: a sorted vector of pairs, and a loop for each call.
 //!
 //! A [`PlainMap`] is seen as the map of `map_model`, and each of its calls answers by the definition of that name
-//! there or in `map_model`. Each looks at pair after pair, so it takes time of the number of pairs; `put` and `slice`
-//! copy. It stands for the store where a test wants answers that are plainly right. Do not use it for many pairs: take
-//! a map of std, or the store.
+//! there. Each looks at pair after pair, so it takes time of the number of pairs; `put` and `slice` copy. It stands
+//! for the store where a test wants answers that are plainly right. Do not use it for many pairs: take a map of
+//! std, or the store.
 //!
 //! ```text
 //! let mut map = PlainMap::new(alloc);

@@ -55,7 +55,7 @@ impl PlainMap {
         self.pairs.retain(|pair| !pair.has_key(key));
     }
 
-    /// The value of the key.
+    /// The value of the key, or `None` where the map has none.
     pub fn get(&self, key: &[u8]) -> Option<&[u8]>
         ensures { option_map (λ value. value.now) result ≡ get self.now key.now }
     {
@@ -82,7 +82,7 @@ impl PlainMap {
         Ok(PlainMap { pairs })
     }
 
-    /// The first pair whose key is not below `lo` and not above `hi`.
+    /// The first pair whose key is not below `lo` and not above `hi`, or `None` where no key lies there.
     pub fn seek(&self, lo: &[u8], hi: Option<&[u8]>) -> Option<&Pair>
         ensures { option_map (λ pair. pair.now) result ≡ seek self.now lo.now (option_map (λ h. h.now) hi.entry) }
     {

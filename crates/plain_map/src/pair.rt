@@ -54,21 +54,21 @@ impl Pair {
         self.value.as_slice()
     }
 
-    // Whether it has this key.
+    /// Whether it has this key.
     pub(crate) fn has_key(&self, key: &[u8]) -> bool
         ensures { result ≡ bytes_eq self.now.0 key.now }
     {
         self.key.as_slice() == key
     }
 
-    // How this key stands to its own, byte by byte.
+    /// How this key stands to its own, byte by byte.
     pub(crate) fn order_of(&self, key: &[u8]) -> Ordering
         ensures { result ≡ byte_order key.now self.now.0 }
     {
         key.cmp(self.key.as_slice())
     }
 
-    // Whether the key lies between the two, both included.
+    /// Whether the key lies between the two, both included.
     pub(crate) fn lies_between(&self, lo: &[u8], hi: Option<&[u8]>) -> bool
         ensures { result ≡ is_between lo.now (option_map (λ h. h.now) hi.entry) self.now.0 }
     {

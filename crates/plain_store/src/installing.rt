@@ -144,11 +144,12 @@ fn finished(job: Job, made: &[Table]) -> Result<Job, AllocError>
 }
 
 /// The outputs of these that are not written yet.
+#[tactic(auto, using(crate::proofs::Whole::nothing_left, crate::proofs::Whole::left_from))]
 fn left_of<'a>(job: &Job, outputs: &'a [Vec<Entry>]) -> &'a [Vec<Entry>]
     ensures { map vec_items result.now ≡ drop (length job.now.written) (map vec_items outputs.now) }
 {
-    if job.written.len() >= outputs.len() {
-        return &outputs[outputs.len()..];
+    if job.written.len() > outputs.len() {
+        return &outputs[..0];
     }
     &outputs[job.written.len()..]
 }

@@ -1,7 +1,7 @@
 // The limits that a request may break.
 ghost use Rattle.std.specs.Prelude.{◌≡◌, Option, Some, None};
 ghost use Rattle.std.specs.Option.{option_map};
-ghost use Rattle.state_model.specs.Changes as model;
+ghost use Rattle.line_model.specs.Limits as model;
 ghost use Rattle.line_model.specs.Requests.{Seek};
 ghost use Rattle.line_model.specs.Limits.{limit_of};
 ghost use Rattle.plain_store.specs.Talk.{asks, says};

@@ -67,18 +67,18 @@ fn greatest_of(tables: &[Table]) -> &[u8]
 }
 
 /// Whether the table's keys reach into those from `lo` to `hi`.
-fn reaches(lo: &[u8], hi: &[u8], table: &Table) -> bool
-    ensures { result ≡ model.reaches lo.now hi.now table.now }
+fn overlaps(lo: &[u8], hi: &[u8], table: &Table) -> bool
+    ensures { result ≡ model.overlaps lo.now hi.now table.now }
 {
     !is_before(table.greatest_key(), lo) && !is_before(hi, table.least_key())
 }
 
 /// Appends copies of the tables that reach into the keys from `lo` to `hi`.
 fn push_met(lo: &[u8], hi: &[u8], tables: &[Table], list: &mut Vec<Table>) -> Result<(), AllocError>
-    ensures { OnOk result (list.new.items ≡ list.old.items ++ filter (model.reaches lo.now hi.now) tables.now) }
+    ensures { OnOk result (list.new.items ≡ list.old.items ++ filter (model.overlaps lo.now hi.now) tables.now) }
 {
     for table in tables {
-        if reaches(lo, hi, table) {
+        if overlaps(lo, hi, table) {
             push_table(table, list)?;
         }
     }

@@ -36,7 +36,7 @@ impl Model for NoRoom {
 /// The extents that the tables take, and those that a job has written beside them.
 #[tactic(auto, using(crate::proofs::Whole::taken_beside))]
 fn taken_beside(alloc: Global, state: &State, written: &[Table]) -> Result<Vec<Extent>, AllocError>
-    ensures { IfOk result (λ list. list.items ≡ map extent_of (state.now.tables ++ (written.now ++ []))) }
+    ensures { IfOk result (λ list. list.items ≡ map extent_of (state.now.tables ++ (written.now ++ state.now.kept))) }
 {
     let mut list = extents(alloc, state.tables.as_slice())?;
     for table in written {

@@ -14,15 +14,15 @@
 mod bare;
 mod keys;
 mod race;
+mod records;
 mod report;
 mod tables;
 
-use anyhow::{Result, bail};
+use anyhow::Result;
 use bare::BareFile;
-use disk_trait::Disk;
-use gate_log::{Kind, Log};
 use race::{Load, race};
 use real_outside::FileOutside;
+use records::Records;
 use report::Times;
 use std::env;
 use std::time::Instant;
@@ -64,29 +64,15 @@ fn appends(rt: HostRuntime, path: &str, count: &str) -> Result<()> {
     let bare = BareFile::open(&rt, path)?;
     let copy = String::from_str(rt.alloc(), path)?;
     let mut disk = FileOutside::at(rt, copy);
-    let Ok(mut log) = Log::start(&mut disk, 0) else {
-        bail!("the log cannot be begun");
-    };
-    let mut buffer = [0; 128];
+    let mut records = Records::start(rt.alloc(), &mut disk)?;
     let mut times = Times::new();
     for _ in 0..count {
         let start = Instant::now(&rt)?;
-        append(&mut log, &mut disk, &mut buffer)?;
+        records.append(&mut disk, KEY, VALUE)?;
         let between = start.elapsed(&rt)?;
         bare.two_pairs()?;
         times.add(between, start.elapsed(&rt)?.saturating_sub(between));
     }
     times.print(&rt)?;
     Ok(())
-}
-
-// Adds one record, where it fits.
-fn append<D: Disk>(log: &mut Log, disk: &mut D, buffer: &mut [u8]) -> Result<()> {
-    if buffer.len() < 128 || !log.fits(7 + KEY.len() + VALUE.len()) {
-        bail!("the log is full");
-    }
-    match log.append(disk, buffer, Kind::Put, KEY, VALUE) {
-        Ok(()) => Ok(()),
-        Err(_) => bail!("the device failed"),
-    }
 }

@@ -1,9 +1,9 @@
 //! The memory table and the map of std behind the same log.
 use crate::keys::{numbers, write_key};
+use crate::records::Records;
 use crate::tables::{Ours, Table, Theirs};
 use anyhow::{Result, bail};
-use disk_trait::Disk;
-use gate_log::{Kind, Log};
+use gate_log::Log;
 use real_outside::FileOutside;
 use std::alloc::Global;
 use std::io;
@@ -12,13 +12,6 @@ use std::time::{CpuClock, Duration};
 
 /// The least time of so many counts.
 const ROUNDS: u32 = 6;
-
-/// The longest key and value that are put, and room for their record.
-const MOST_KEY: usize = 1_024;
-
-const MOST_VALUE: usize = 1_024;
-
-const BUFFER_BYTES: usize = 70_000;
 
 /// What is put.
 #[derive(Drop)]
@@ -137,35 +130,12 @@ fn round<T: Table>(
 fn puts<T: Table>(alloc: Global, disk: &mut FileOutside, load: &Load) -> Result<()> {
     let mut table = T::new(alloc);
     let mut key = Vec::with_capacity(alloc, load.width)?;
-    let mut buffer = vec![in alloc; 0; BUFFER_BYTES]?;
-    let Ok(mut log) = Log::start(disk, 0) else {
-        bail!("the log cannot be begun");
-    };
+    let mut records = Records::start(alloc, disk)?;
     for i in 0..load.numbers.len() {
         write_key(load.numbers[i], &mut key, load.width)?;
-        let made = table.make(alloc, &key, &load.value)?;
-        append(&mut log, disk, &mut buffer, &key, &load.value)?;
-        table.set(made)?;
+        table.put(alloc, &mut records, disk, &key, &load.value)?;
     }
     Ok(())
-}
-
-// Adds one record, where it fits.
-fn append<D: Disk>(
-    log: &mut Log,
-    disk: &mut D,
-    buffer: &mut [u8],
-    key: &[u8],
-    value: &[u8],
-) -> Result<()> {
-    let sound = !key.is_empty() && key.len() <= MOST_KEY && value.len() <= MOST_VALUE;
-    if !sound || buffer.len() < BUFFER_BYTES || !log.fits(7 + key.len() + value.len()) {
-        bail!("the log is full");
-    }
-    match log.append(disk, buffer, Kind::Put, key, value) {
-        Ok(()) => Ok(()),
-        Err(_) => bail!("the device failed"),
-    }
 }
 
 // Replays what was put.
@@ -183,8 +153,7 @@ fn sets<T: Table>(alloc: Global, load: &Load) -> Result<T> {
     let mut key = Vec::with_capacity(alloc, load.width)?;
     for i in 0..load.numbers.len() {
         write_key(load.numbers[i], &mut key, load.width)?;
-        let made = table.make(alloc, &key, &load.value)?;
-        table.set(made)?;
+        table.set(alloc, &key, &load.value)?;
     }
     Ok(table)
 }

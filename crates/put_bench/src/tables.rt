@@ -1,25 +1,34 @@
 //! What keeps the newest entry of each key in memory.
+use crate::records::Records;
+use anyhow::Result;
 use entry_list::Entry;
 use mem_table::MemTable;
+use real_outside::FileOutside;
 use std::alloc::{AllocError, AllocFailed, Global};
 use std::boxed::BoxedSlice;
 use std::collections::BTreeMap;
 
 /// A table that stands behind a log.
 pub trait Table: Sized + Drop {
-    /// What is made of an entry before it is logged.
-    type Made: Drop;
-
     fn new(alloc: Global) -> Self;
 
     /// From the entries of a log.
-    fn filled(alloc: Global, entries: Vec<Entry>) -> Result<Self, AllocError>;
+    fn filled(alloc: Global, entries: Vec<Entry>) -> Result<Self>;
 
-    fn make(&mut self, alloc: Global, key: &[u8], value: &[u8]) -> Result<Self::Made, AllocError>;
+    /// Writes a record, and then sets it.
+    fn put(
+        &mut self,
+        alloc: Global,
+        records: &mut Records,
+        disk: &mut FileOutside,
+        key: &[u8],
+        value: &[u8],
+    ) -> Result<()>;
 
-    fn set(&mut self, made: Self::Made) -> Result<(), AllocError>;
+    /// Sets a value without a record.
+    fn set(&mut self, alloc: Global, key: &[u8], value: &[u8]) -> Result<()>;
 
-    /// The bytes of the key's value, where it has one.
+    /// The bytes of the key's value, none where it has no value.
     fn look_up(&self, key: &[u8]) -> usize;
 
     fn len(&self) -> usize;
@@ -32,25 +41,34 @@ pub struct Ours {
 }
 
 impl Table for Ours {
-    type Made = Entry;
-
     fn new(alloc: Global) -> Ours {
         Ours {
             table: MemTable::new(alloc),
         }
     }
 
-    fn filled(_: Global, entries: Vec<Entry>) -> Result<Ours, AllocError> {
+    fn filled(_: Global, entries: Vec<Entry>) -> Result<Ours> {
         let table = MemTable::fill(entries)?;
         Ok(Ours { table })
     }
 
-    fn make(&mut self, _: Global, key: &[u8], value: &[u8]) -> Result<Entry, AllocError> {
-        self.table.reserve_for(key, Some(value))
+    fn put(
+        &mut self,
+        _: Global,
+        records: &mut Records,
+        disk: &mut FileOutside,
+        key: &[u8],
+        value: &[u8],
+    ) -> Result<()> {
+        let entry = self.table.reserve_for(key, Some(value))?;
+        records.append(disk, key, value)?;
+        self.table.set(entry);
+        Ok(())
     }
 
-    fn set(&mut self, made: Entry) -> Result<(), AllocError> {
-        self.table.set(made);
+    fn set(&mut self, _: Global, key: &[u8], value: &[u8]) -> Result<()> {
+        let entry = self.table.reserve_for(key, Some(value))?;
+        self.table.set(entry);
         Ok(())
     }
 
@@ -74,40 +92,53 @@ pub struct Theirs {
     map: BTreeMap<Bytes, Option<Bytes>>,
 }
 
-impl Table for Theirs {
-    type Made = (Bytes, Option<Bytes>);
+impl Theirs {
+    fn insert(&mut self, key: Bytes, value: Option<Bytes>) -> Result<(), AllocError> {
+        match self.map.insert(key, value) {
+            Ok(_) => Ok(()),
+            Err(AllocFailed { value: _ }) => Err(AllocError),
+        }
+    }
+}
 
+impl Table for Theirs {
     fn new(alloc: Global) -> Theirs {
         Theirs {
             map: BTreeMap::new(alloc),
         }
     }
 
-    fn filled(alloc: Global, entries: Vec<Entry>) -> Result<Theirs, AllocError> {
-        let mut theirs = Theirs::new(alloc);
+    fn filled(alloc: Global, entries: Vec<Entry>) -> Result<Theirs> {
+        let mut theirs = Theirs {
+            map: BTreeMap::new(alloc),
+        };
         for entry in entries {
-            theirs.set(entry.into_parts())?;
+            let (key, value) = entry.into_parts();
+            theirs.insert(key, value)?;
         }
         Ok(theirs)
     }
 
-    fn make(
+    fn put(
         &mut self,
         alloc: Global,
+        records: &mut Records,
+        disk: &mut FileOutside,
         key: &[u8],
         value: &[u8],
-    ) -> Result<(Bytes, Option<Bytes>), AllocError> {
-        let key = BoxedSlice::from_slice(alloc, key)?;
-        let value = BoxedSlice::from_slice(alloc, value)?;
-        Ok((key, Some(value)))
+    ) -> Result<()> {
+        let copy = BoxedSlice::from_slice(alloc, key)?;
+        let copy_of_value = BoxedSlice::from_slice(alloc, value)?;
+        records.append(disk, key, value)?;
+        self.insert(copy, Some(copy_of_value))?;
+        Ok(())
     }
 
-    fn set(&mut self, made: (Bytes, Option<Bytes>)) -> Result<(), AllocError> {
-        let (key, value) = made;
-        match self.map.insert(key, value) {
-            Ok(_) => Ok(()),
-            Err(AllocFailed { value: _ }) => Err(AllocError),
-        }
+    fn set(&mut self, alloc: Global, key: &[u8], value: &[u8]) -> Result<()> {
+        let copy = BoxedSlice::from_slice(alloc, key)?;
+        let copy_of_value = BoxedSlice::from_slice(alloc, value)?;
+        self.insert(copy, Some(copy_of_value))?;
+        Ok(())
     }
 
     fn look_up(&self, key: &[u8]) -> usize {

@@ -13,7 +13,7 @@ use Rattle.entry_model.proofs.Newest.{greater_of_less}
 use Rattle.block_model.specs.Pages.{first_key, last_key}
 use Rattle.map_model.specs.Slices.{is_before}
 use Rattle.table_model.specs.Tables.{Table}
-use Rattle.state_model.specs.Merges.{least_key, greatest_key, lesser, greater, least_of, greatest_of, reaches}
+use Rattle.state_model.specs.Merges.{least_key, greatest_key, lesser, greater, least_of, greatest_of, overlaps}
 use Rattle.state_model.specs.Sound.{IsBefore, StandsBefore}
 use Rattle.state_model.proofs.Levels.{says, EitherNone, AtMostOne}
 use Rattle.extent_model.proofs.Lists.{Pairs}
@@ -164,24 +164,24 @@ in_hull (t ∷ more) key rise found = elim (found_in t more key found) [
   | inr rest ↦ (lower_upto (least_key t) more key rise.1 (inr rest), upto_upper (greatest_key t) more key rise.1 (inr rest))
 ]
 
-meets_found : (lo hi key : Bytes) (t : Table) → KeysRise t.entries → Upto lo key → Upto key hi → IsSome (lookup t.entries key) → reaches lo hi t ≡ true
+meets_found : (lo hi key : Bytes) (t : Table) → KeysRise t.entries → Upto lo key → Upto key hi → IsSome (lookup t.entries key) → overlaps lo hi t ≡ true
 meets_found lo hi key t rise from to found =
     ap (λ (b : Bool). not b && not (is_before hi (least_key t))) (not_before lo (greatest_key t) (upto_then lo key (greatest_key t) from (upto_last t.entries key rise found)))
     ∙ ap (λ (b : Bool). not b) (not_before (least_key t) hi (upto_then (least_key t) key hi (first_upto t.entries key rise found) to))
 
-outside_none : (lo hi key : Bytes) (tables : List Table) → Rise tables → Upto lo key → Upto key hi → says (filter (λ (t : Table). not (reaches lo hi t)) tables) key ≡ None
+outside_none : (lo hi key : Bytes) (tables : List Table) → Rise tables → Upto lo key → Upto key hi → says (filter (λ (t : Table). not (overlaps lo hi t)) tables) key ≡ None
 outside_none lo hi key [] rise from to = refl
 outside_none lo hi key (t ∷ more) rise from to = let rest = outside_none lo hi key more rise.1 from to in
-    elim (reaches lo hi t) as (λ b. reaches lo hi t ≡ b → says (cond (not b) (t ∷ filter (λ (u : Table). not (reaches lo hi u)) more) (filter (λ (u : Table). not (reaches lo hi u)) more)) key ≡ None) [
+    elim (overlaps lo hi t) as (λ b. overlaps lo hi t ≡ b → says (cond (not b) (t ∷ filter (λ (u : Table). not (overlaps lo hi u)) more) (filter (λ (u : Table). not (overlaps lo hi u)) more)) key ≡ None) [
       | true ↦ λ _. rest
       | false ↦ λ e. elim (some_or_none (lookup t.entries key)) [
-        | inl none ↦ ap (λ (o : Option (Option Bytes)). or_else o (says (filter (λ (u : Table). not (reaches lo hi u)) more) key)) none ∙ rest
+        | inl none ↦ ap (λ (o : Option (Option Bytes)). or_else o (says (filter (λ (u : Table). not (overlaps lo hi u)) more) key)) none ∙ rest
         | inr some ↦ let bad = sym (meets_found lo hi key t rise.0 from to some) ∙ e in absurd cc
       ]
     ] refl
 
 -- where some tables have the key, those that their hull does not meet have it not
-pub hull_apart : (tables others : List Table) (key : Bytes) → Rise tables → Rise others → EitherNone (says tables key) (says (filter (λ (t : Table). not (reaches (least_of tables) (greatest_of tables) t)) others) key)
+pub hull_apart : (tables others : List Table) (key : Bytes) → Rise tables → Rise others → EitherNone (says tables key) (says (filter (λ (t : Table). not (overlaps (least_of tables) (greatest_of tables) t)) others) key)
 hull_apart tables others key rise_t rise_o = elim (some_or_none (says tables key)) [
   | inl none ↦ inl none
   | inr some ↦ let hull = in_hull tables key rise_t some in inr (outside_none (least_of tables) (greatest_of tables) key others rise_o hull.0 hull.1)

@@ -1,5 +1,5 @@
 -- A sound state without entries has no tables and no job, so a compaction leaves none.
-use Rattle.std.proofs.Common.{◌≡◌, ℕ, zero, suc, ◌≤◌, List, [], ◌∷◌, ◌++◌, length, refl, sym, ap, ◌∙◌, subst, Bool, true, false, cond, arith}
+use Rattle.std.proofs.Common.{◌≡◌, ℕ, zero, suc, ◌≤◌, List, [], ◌∷◌, ◌++◌, length, refl, sym, ap, ◌∙◌, true, false, cond, arith}
 use Rattle.std.specs.Prelude.{Option, Some, None, Result, Ok, Err, ◌==◌, drop}
 use Rattle.std.specs.List.{AllByRecursion}
 use Rattle.std.proofs.lemmas.List.{length-append}
@@ -8,12 +8,12 @@ use Rattle.state_model.specs.State.{State, Job, without_job, last_epoch}
 use Rattle.table_model.specs.Tables.{FilterBytes, Table}
 use Rattle.state_model.specs.View.{entries_of, oldest_first}
 use Rattle.state_model.specs.Taken.{taken}
-use Rattle.state_model.specs.Merges.{Plan, NoRoom, choose, placed, cut}
-use Rattle.state_model.specs.Changes.{compact_placed, compacted_with, compacted, live_entries}
+use Rattle.state_model.specs.Merges.{NoRoom, choose, placed, cut}
+use Rattle.state_model.specs.Changes.{compact_placed, compacted_with, live_entries}
 use Rattle.line_model.specs.Replies.{Reply, LastEpoch}
 use Rattle.line_model.specs.Requests.{Compact}
 use Rattle.state_model.specs.Steps.{changed, Step, answers, no_memory, read_failed, damage_met, write_failed}
-use Rattle.state_model.specs.Sound.{IsSound, IsSoundTable, IsJob, MayRun, plan_of_job}
+use Rattle.state_model.specs.Sound.{IsSound, IsSoundTable, MayRun, plan_of_job}
 use Rattle.state_model.specs.SoundLaws.{Ever}
 use Rattle.state_model.proofs.Sayings.{lists_of, backwards, oldest_first-backwards}
 

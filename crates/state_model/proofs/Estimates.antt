@@ -1,14 +1,12 @@
 -- An estimate is not below the true count.
-use Rattle.std.proofs.Common.{◌≡◌, ℕ, ◌≤◌, ◌+◌, List, [], ◌∷◌, ◌++◌, refl, sym, ap, ◌∙◌, subst, Bool, true, false, cond, arith}
+use Rattle.std.proofs.Common.{◌≡◌, ℕ, ◌≤◌, ◌+◌, List, [], ◌∷◌, ◌++◌, refl, sym, ap, ◌∙◌, true, false, cond, arith}
 use Rattle.std.specs.Prelude.{Option, Some, None, bytes_eq, fold, count_by, sum_by}
 use Rattle.std.specs.List.{AllByRecursion}
 use Rattle.std.proofs.lemmas.List.Sums.{sum_by-cons, sum_by-append}
-use Rattle.std.proofs.lemmas.Slice.Eq.{bytes_eq-Decides}
 use Rattle.byte_fields.specs.Spelling.{IsBytes}
-use Rattle.map_model.specs.SortedMap.{Bytes, Map, put, del, in_place, byte_order}
+use Rattle.map_model.specs.SortedMap.{Bytes, Map, put, del, in_place}
 use Rattle.entry_model.specs.Entries.{Entry, newest, or_else, live, change_by, changed, map_of, keys_of}
-use Rattle.map_model.proofs.Maps.{by_order, equal_keys}
-use Rattle.entry_model.specs.Newest.{newest_entries}
+use Rattle.map_model.proofs.Maps.{by_order}
 use Rattle.map_model.specs.Slices.{is_before, is_between, count}
 use Rattle.map_model.proofs.Between.{counted, count_crossed}
 use Rattle.filter_model.specs.Answers.{tally, true_count}

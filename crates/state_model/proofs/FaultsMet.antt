@@ -1,22 +1,21 @@
 -- An answer tells of no fault, so faults come by their causes alone.
-use Rattle.std.proofs.Common.{◌≡◌, List, [], ◌∷◌, ◌++◌, length, refl, sym, ap, ◌∙◌, subst, Bool, true, false, cond}
+use Rattle.std.proofs.Common.{◌≡◌, List, [], ◌∷◌, ◌++◌, length, refl, sym, ap, ◌∙◌, Bool, true, false, cond}
 use Rattle.std.specs.Prelude.{Option, Some, None, Result, Ok, Err, nat_le, nat_lt, ◌==◌, ◌||◌, ◌+◌}
-use Rattle.std.specs.List.{AllByRecursion}
 use Rattle.map_model.specs.SortedMap.{Bytes, get}
 use Rattle.entry_model.specs.Entries.{Entry, need, gap, put_entry, del_entry}
 use Rattle.map_model.specs.Slices.{seek}
-use Rattle.state_model.specs.State.{State, Job, without_job, last_epoch}
+use Rattle.state_model.specs.State.{State, without_job, last_epoch}
 use Rattle.table_model.specs.Tables.{FilterBytes, Table}
 use Rattle.state_model.specs.View.{memory, entries_of, state_map}
 use Rattle.state_model.specs.Taken.{taken}
 use Rattle.state_model.specs.Merges.{NoRoom, placed, cut}
 use Rattle.state_model.specs.Changes.{most_tables, with_tables, flush_placed, flushed_with, flushed, logged, logged_then, written, compact_placed, compacted_with, compacted, live_entries}
 use Rattle.line_model.specs.Limits.{key_limit, value_limit, bound_limit, first_limit, limit_of}
-use Rattle.state_model.specs.Causes.{Why, ReadFailed, WriteFailed}
+use Rattle.state_model.specs.Causes.{ReadFailed, WriteFailed}
 use Rattle.line_model.specs.Requests.{Request, Put, Del, Get, Seek, Range, Count, Estimate, Explain, Flush, Compact, Quit, Bad}
-use Rattle.line_model.specs.Replies.{Reply, Done, Value, Missing, At, Pairs, End, Counted, About, Explained, Bye, BadLine, LongKey, LongValue, ManyTables, LastEpoch, Full, Memory, Device, Damaged, got, found}
+use Rattle.line_model.specs.Replies.{Reply, LongKey, LongValue, ManyTables, LastEpoch, Memory, Device, Damaged, got, found}
 use Rattle.state_model.specs.Steps.{Answer, answer, answer_within, changed, unless_limit, left_by, Step, answers, no_memory, read_failed, damage_met, write_failed}
-use Rattle.state_model.specs.Tends.{Tended, Idle, Worked, Refused, Tend, idle, works, installs, last_epoch_reached, no_room, no_memory as none_for_it, read_failed as not_read, damage_met as was_damaged, write_failed as not_written}
+use Rattle.state_model.specs.Tends.{Tended, Refused, Tend, idle, works, installs, last_epoch_reached, no_room, no_memory as none_for_it, read_failed as not_read, damage_met as was_damaged, write_failed as not_written}
 use Rattle.state_model.specs.SoundLaws.{Ever}
 use Rattle.state_model.specs.FaultLaws.{Only, KeepsDevice}
 

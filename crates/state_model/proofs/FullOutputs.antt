@@ -1,10 +1,9 @@
 -- An output is closed by the entry with which it is full.
-use Rattle.std.proofs.Common.{◌≡◌, ℕ, ◌≤◌, ◌<◌, List, [], ◌∷◌, ◌++◌, length, refl, sym, ap, ◌∙◌, subst, Bool, true, false, cond, arith}
+use Rattle.std.proofs.Common.{◌≡◌, ℕ, ◌≤◌, ◌<◌, List, [], ◌∷◌, ◌++◌, length, refl, ap, subst, true, false, cond, arith}
 use Rattle.std.specs.Prelude.{nat_le}
-use Rattle.std.specs.List.{sum_by}
 use Rattle.std.proofs.lemmas.List.{length-append}
 use Rattle.entry_model.specs.Entries.{Entry}
-use Rattle.block_model.specs.Pages.{data_pages, blocks_of, block_pages}
+use Rattle.block_model.specs.Pages.{data_pages, blocks_of}
 use Rattle.state_model.specs.Merges.{split_output, output_pages}
 
 le_of : (m n : ℕ) → nat_le m n ≡ true → m ≤ n

@@ -14,7 +14,7 @@ use Rattle.block_model.specs.Order.{is_any}
 use Rattle.state_model.specs.State.{State, Job, written_by}
 use Rattle.table_model.specs.Tables.{FilterBytes, Table}
 use Rattle.state_model.specs.View.{first_found, oldest_first, state_map}
-use Rattle.state_model.specs.Merges.{Plan, plan_of, on_level, reaches, least_of, greatest_of, is_over, first_over, choose, is_deepest, lasting, newest_of, planned, has_value}
+use Rattle.state_model.specs.Merges.{Plan, plan_of, on_level, overlaps, least_of, greatest_of, is_over, first_over, choose, is_deepest, lasting, newest_of, planned, has_value}
 use Rattle.state_model.specs.Tends.{without, inserted, goes_before, outstanding, installed}
 use Rattle.state_model.specs.Taken.{extent_of, taken}
 use Rattle.extent_model.specs.Extents.{AreApart, IsOnDevice}
@@ -73,7 +73,7 @@ pub record Chosen (plan : Plan) (all : List Table) (key : Bytes) : Type 0 where
   pub level : ℕ
   pub tables : List Table
   pub output : plan.output ≡ level + 1
-  pub inputs : plan.inputs ≡ tables ++ filter (reaches (least_of tables) (greatest_of tables)) (on_level (level + 1) all)
+  pub inputs : plan.inputs ≡ tables ++ filter (overlaps (least_of tables) (greatest_of tables)) (on_level (level + 1) all)
   pub shape : Shape (on_level level all) tables key
 
 data IsPlan (all : List Table) (plan : Plan) : Type 0 where
@@ -115,7 +115,7 @@ chosen all few plan key within e rise order =
             level = 0;
             tables = tables;
             output = ap (λ (p : Plan). p.output) is;
-            inputs = ap (λ (p : Plan). p.inputs) is ∙ ap (λ (l : List Table). tables ++ filter (reaches (least_of tables) (greatest_of tables)) l) (same.1 1 (omega arith));
+            inputs = ap (λ (p : Plan). p.inputs) is ∙ ap (λ (l : List Table). tables ++ filter (overlaps (least_of tables) (greatest_of tables)) l) (same.1 1 (omega arith));
             shape = record {
               front = take few (on_level 0 all);
               back = [];
@@ -131,8 +131,8 @@ chosen all few plan key within e rise order =
             tables = tables;
             output = ap (λ (p : Plan). p.output) is;
             inputs = ap (λ (p : Plan). p.inputs) is
-                ∙ ap (λ (l : List Table). l ++ filter (reaches (least_of l) (greatest_of l)) (on_level (level + 1) (drop few all))) there
-                ∙ ap (λ (l : List Table). tables ++ filter (reaches (least_of tables) (greatest_of tables)) l) (same.1 (level + 1) (omega arith));
+                ∙ ap (λ (l : List Table). l ++ filter (overlaps (least_of l) (greatest_of l)) (on_level (level + 1) (drop few all))) there
+                ∙ ap (λ (l : List Table). tables ++ filter (overlaps (least_of tables) (greatest_of tables)) l) (same.1 (level + 1) (omega arith));
             shape = record {
               front = [];
               back = drop 1 (on_level level all);
@@ -324,7 +324,7 @@ install_says filter_bytes s job key sound is done =
     let i = c.tables in
     let p = c.shape.front in
     let k = c.shape.back in
-    let m = reaches (least_of i) (greatest_of i) in
+    let m = overlaps (least_of i) (greatest_of i) in
     let b = above a all in
     let x0 = on_level a all in
     let x = on_level (a + 1) all in

@@ -9,7 +9,6 @@ use Rattle.entry_model.specs.Entries.{Entry, live}
 use Rattle.entry_model.specs.Newest.{KeysRise, lookup}
 use Rattle.entry_model.proofs.Newest.{lookup_newest}
 use Rattle.block_model.specs.Pages.{data_pages}
-use Rattle.state_model.specs.State.{State}
 use Rattle.table_model.specs.Tables.{Table}
 use Rattle.state_model.specs.View.{first_found, oldest_first}
 use Rattle.state_model.specs.Merges.{Plan, planned, lasting, is_deepest, newest_of, split_output, outputs_of, output_pages}

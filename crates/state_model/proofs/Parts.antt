@@ -1,8 +1,7 @@
 -- Tables in their order, parted by levels, and what is left of them without some.
 use Rattle.std.proofs.Common.{◌≡◌, inl, inr, ℕ, zero, suc, ◌≤◌, ◌<◌, ◌+◌, List, [], ◌∷◌, ◌++◌, length, refl, sym, ap, ◌∙◌, subst, Bool, true, false, cond, arith}
 use Rattle.std.specs.Prelude.{nat_le, nat_lt, not, ◌==◌, filter, drop}
-use Rattle.std.specs.List.{AllByRecursion, AllPairs}
-use Rattle.std.proofs.lemmas.List.Elements.{recursion_from_All}
+use Rattle.std.specs.List.{AllByRecursion}
 use Rattle.block_model.proofs.Bounds.{weaker}
 use Rattle.extent_model.proofs.Lists.{Pairs, all_kept}
 use Rattle.table_model.specs.Tables.{Table}

@@ -1,7 +1,7 @@
 -- Tables that are placed are on the device, and apart from one another and from what is taken.
-use Rattle.std.proofs.Common.{◌≡◌, ◌⊎◌, inl, inr, ℕ, ◌≤◌, ◌<◌, ◌+◌, ◌*◌, List, [], ◌∷◌, ◌++◌, length, refl, sym, ap, subst, Bool, true, false, cond, map, arith}
-use Rattle.std.specs.Prelude.{Some, None, Result, Ok, Err, nat_le, nat_lt, ◌||◌, ◌&&◌, ◌-◌, min, filter, fold, sum_by}
-use Rattle.std.specs.List.{AllByRecursion, list_any}
+use Rattle.std.proofs.Common.{◌≡◌, ℕ, ◌≤◌, ◌<◌, ◌*◌, List, [], ◌∷◌, ◌++◌, length, refl, sym, ap, subst, true, map, arith}
+use Rattle.std.specs.Prelude.{Some, None, Result, Ok, Err, nat_le, nat_lt, sum_by}
+use Rattle.std.specs.List.{AllByRecursion}
 use Rattle.std.proofs.lemmas.List.{length-append, map-append}
 use Rattle.std.proofs.lemmas.List.Concat.{flat_map-cons}
 use Rattle.std.proofs.lemmas.List.Sums.{sum_by-cons}
@@ -13,8 +13,8 @@ use Rattle.block_model.specs.Pages.{pages_for, block_length, block_pages, blocks
 use Rattle.block_model.proofs.Cutting.{each_block, blocks_joined}
 use Rattle.std.proofs.lemmas.Bool.{and_parts, ltb-true}
 use Rattle.table_model.specs.Tables.{FilterBytes, Table, table_of, table_pages}
-use Rattle.extent_model.specs.Extents.{Extent, end_of, first_table_page, IsOnDevice, AreApart, AreLaid}
-use Rattle.extent_model.specs.Gaps.{has_page, next_taken, room_at, gap_starts, least, first_gap, largest_gap}
+use Rattle.extent_model.specs.Extents.{Extent, IsOnDevice, AreApart}
+use Rattle.extent_model.specs.Gaps.{first_gap, largest_gap}
 use Rattle.state_model.specs.Taken.{extent_of}
 use Rattle.state_model.specs.Merges.{NoRoom, placed, before, at_page}
 use Rattle.state_model.specs.Sound.{IsSoundTable, AreMade}
@@ -32,7 +32,7 @@ some_block_pages : (block : List Entry) → 1 ≤ block_pages block
 unfolding block_pages block_length
 some_block_pages block = some_pages _ (omega arith)
 
-abbrev IsSmall : List Entry → Type 0
+abbrev pub IsSmall : List Entry → Type 0
 IsSmall block = length block ≤ 255
 
 small_more : (block : List Entry) (e : Entry) → IsSmall block → has_room block e ≡ true → IsSmall (block ++ (e ∷ []))
@@ -64,7 +64,7 @@ entries_in_pages entries =
     let small = each_block (λ (_ : Entry). Unit {0}) IsSmall (λ e _. omega arith) (λ block e is _ room. small_more block e is room) entries (all_unit entries) in
     subst (λ (l : List Entry). length l ≤ 255 * sum_by block_pages (blocks_of entries)) (blocks_joined entries) (small_joined (blocks_of entries) small)
 
-blocks_joined_small : (blocks : List (List Entry)) → AllByRecursion IsSmall blocks → length (joined blocks) ≤ 255 * length blocks
+pub blocks_joined_small : (blocks : List (List Entry)) → AllByRecursion IsSmall blocks → length (joined blocks) ≤ 255 * length blocks
 blocks_joined_small [] all = omega arith
 blocks_joined_small (block ∷ more) all =
     omega (arith, ap (λ (l : List Entry). length l) (flat_map-cons (λ (b : List Entry). b) block more), length-append block (joined more), all.0, blocks_joined_small more all.1)
@@ -73,20 +73,23 @@ blocks_within : (blocks : List (List Entry)) → length blocks ≤ sum_by block_
 blocks_within [] = omega arith
 blocks_within (block ∷ more) = omega (arith, sum_by-cons block_pages block more, some_block_pages block, blocks_within more)
 
+-- a block has at most 255 entries
+pub entries_in_blocks : (entries : List Entry) → length entries ≤ 255 * length (blocks_of entries)
+entries_in_blocks entries =
+    let small = each_block (λ (_ : Entry). Unit {0}) IsSmall (λ e _. omega arith) (λ block e is _ room. small_more block e is room) entries (all_unit entries) in
+    subst (λ (l : List Entry). length l ≤ 255 * length (blocks_of entries)) (blocks_joined entries) (blocks_joined_small (blocks_of entries) small)
+
 -- a table of one entry or more has one block or more, each of a page or more
 pub blocks_have_pages : (filter_bytes : FilterBytes) (settings : Settings) (entries : List Entry) → 1 ≤ length entries
     → (1 ≤ length (blocks_of entries)) × (length (blocks_of entries) ≤ table_pages filter_bytes settings entries)
 unfolding data_pages
-blocks_have_pages filter_bytes settings entries some =
-    let small = each_block (λ (_ : Entry). Unit {0}) IsSmall (λ e _. omega arith) (λ block e is _ room. small_more block e is room) entries (all_unit entries) in
-    let many = subst (λ (l : List Entry). length l ≤ 255 * length (blocks_of entries)) (blocks_joined entries) (blocks_joined_small (blocks_of entries) small) in
-    (omega (arith, many, some), omega (arith, blocks_within (blocks_of entries)))
+blocks_have_pages filter_bytes settings entries some = (omega (arith, entries_in_blocks entries, some), omega (arith, blocks_within (blocks_of entries)))
 
 -- the table that is made of a table's entries is sound
 pub table_is_sound : (filter_bytes : FilterBytes) (settings : Settings) (level page : ℕ) (entries : List Entry) → level ≤ 6 → IsTable entries
     → IsSoundTable (table_of filter_bytes settings level page entries)
 table_is_sound filter_bytes settings level page entries deep is =
-    record { level = deep; entries = is; blocks = blocks_have_pages filter_bytes settings entries is.some }
+    record { level = deep; entries = is; blocks = blocks_have_pages filter_bytes settings entries is.some; few = entries_in_blocks entries }
 
 pub has_pages : (filter_bytes : FilterBytes) (settings : Settings) (entries : List Entry) → 1 ≤ length entries → 0 < table_pages filter_bytes settings entries
 has_pages filter_bytes settings entries some = omega (arith, entries_in_pages entries)

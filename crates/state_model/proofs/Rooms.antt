@@ -1,6 +1,6 @@
 -- A table is refused for want of room exactly where it has more pages than the largest gap.
-use Rattle.std.proofs.Common.{◌≡◌, ℕ, zero, suc, ◌≤◌, ◌<◌, List, [], ◌∷◌, refl, ap, ◌∙◌, subst, Bool, true, false, cond, map, arith}
-use Rattle.std.specs.Prelude.{Option, Some, None, Result, Ok, Err, nat_le, max, fold, filter}
+use Rattle.std.proofs.Common.{◌≡◌, ℕ, ◌<◌, List, [], ◌∷◌, refl, ap, subst}
+use Rattle.std.specs.Prelude.{Option, Some, None, Result, Ok, Err}
 use Rattle.filter_api.specs.declared.settings.Settings.{Settings}
 use Rattle.entry_model.specs.Entries.{Entry}
 use Rattle.state_model.specs.State.{State}

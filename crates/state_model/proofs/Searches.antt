@@ -1,5 +1,5 @@
 -- A table that has an entry of a key is searched for it.
-use Rattle.std.proofs.Common.{◌≡◌, ℕ, zero, suc, ◌<◌, List, [], ◌∷◌, length, refl, ap₂, subst, Bool, true, false, cond, not, ◌&&◌, arith}
+use Rattle.std.proofs.Common.{◌≡◌, suc, List, [], ◌∷◌, refl, ap₂, Bool, true, false, cond, not, ◌&&◌, arith}
 use Rattle.std.specs.Prelude.{Option, Some, None, bytes_eq}
 use Rattle.std.specs.List.{Contains}
 use Rattle.std.proofs.lemmas.Slice.Eq.{bytes_eq-Decides}
@@ -8,13 +8,12 @@ use Rattle.map_model.specs.SortedMap.{Bytes}
 use Rattle.entry_model.specs.Entries.{Entry, keys_of}
 use Rattle.entry_model.specs.Newest.{lookup}
 use Rattle.map_model.specs.Slices.{is_before, is_between}
-use Rattle.filter_model.specs.Laws.{AreBounds}
 use Rattle.filter_model.proofs.Stubs.{no_key_is_denied}
 use Rattle.filter_model.proofs.Tallies.{no_held_range_is_denied}
 use Rattle.state_model.specs.State.{State}
 use Rattle.table_model.specs.Tables.{Table}
 use Rattle.state_model.specs.Merges.{least_key, greatest_key}
-use Rattle.state_model.specs.Bounds.{admits, admits_range, encloses, is_searched}
+use Rattle.state_model.specs.Bounds.{admits_range, encloses, is_searched}
 use Rattle.state_model.specs.Sound.{IsSoundTable}
 use Rattle.state_model.proofs.Disjoint.{IsSome, first_upto, upto_last, not_before}
 use Rattle.state_model.proofs.Hulls.{rises_of}

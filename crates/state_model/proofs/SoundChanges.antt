@@ -12,7 +12,7 @@ use Rattle.filter_api.specs.Ranges.{InRange}
 use Rattle.entry_model.specs.Entries.{Entry, body, filled, need, gap, IsEntry}
 use Rattle.block_model.specs.Block.{IsTable}
 use Rattle.state_model.specs.State.{State, Job, new_state, last_epoch}
-use Rattle.table_model.specs.Tables.{FilterBytes, Table, table_of}
+use Rattle.table_model.specs.Tables.{FilterBytes, Table}
 use Rattle.state_model.specs.View.{memory}
 use Rattle.state_model.specs.Taken.{extent_of, taken}
 use Rattle.state_model.specs.Merges.{NoRoom, Plan, placed, planned, on_level, cut, lasting, newest_of}
@@ -23,7 +23,7 @@ use Rattle.state_model.specs.Sound.{IsSoundTable, IsSound, StandsBefore, AreMade
 use Rattle.extent_model.proofs.Lists.{pairs_of, all_pairs}
 use Rattle.extent_model.proofs.Free.{Laid}
 use Rattle.state_model.proofs.Places.{table_is_sound, placed_laid}
-use Rattle.state_model.proofs.SoundLogs.{newest_all, memory_is_table, newest_none, filled_none, filled_with}
+use Rattle.state_model.proofs.SoundLogs.{memory_is_table, newest_none, filled_none, filled_with}
 
 not_le : (m n : ℕ) → nat_le m n ≡ false → n < m
 not_le m n e = grind arith

@@ -1,20 +1,20 @@
 -- The keys of a sound table, and what is of no sound state.
-use Rattle.std.proofs.Common.{◌≡◌, ℕ, ◌≤◌, ◌<◌, ◌+◌, ◌^◌, List, [], ◌∷◌, ◌++◌, length, refl, sym, ap, ◌∙◌, subst, true, map, arith}
-use Rattle.std.specs.List.{AllByRecursion, AllPairs}
+use Rattle.std.proofs.Common.{◌≡◌, ℕ, ◌≤◌, ◌<◌, ◌^◌, List, [], ◌∷◌, ◌++◌, length, sym, ap, subst, true, map, arith}
+use Rattle.std.specs.List.{AllByRecursion}
 use Rattle.std.specs.Ordering.{is_lt}
 use Rattle.std.proofs.lemmas.List.{length-map}
 use Rattle.std.proofs.lemmas.List.Elements.{All-from_recursion}
 use Rattle.block_model.proofs.Bounds.{weaker}
 use Rattle.entry_model.specs.Entries.{IsEntry, Entry, filled, keys_of}
 use Rattle.extent_model.specs.Extents.{IsOnDevice}
-use Rattle.extent_model.proofs.Lists.{Pairs, all_pairs, both}
+use Rattle.extent_model.proofs.Lists.{Pairs, all_pairs}
 use Rattle.filter_model.specs.Keys.{IsKey, IsKeyList}
 use Rattle.filter_model.specs.Strings.{is_below}
 use Rattle.map_model.specs.SortedMap.{Bytes}
 use Rattle.entry_model.specs.Newest.{IsAbove, KeysRise}
 use Rattle.state_model.specs.State.{State, written_by}
 use Rattle.table_model.specs.Tables.{FilterBytes, Table}
-use Rattle.state_model.specs.Taken.{extent_of, taken}
+use Rattle.state_model.specs.Taken.{extent_of}
 use Rattle.state_model.specs.Sound.{IsSoundTable, IsSound}
 use Rattle.state_model.proofs.Hulls.{rises_of}
 use Rattle.state_model.proofs.Orders.{all_to_map, pairs_to_map}

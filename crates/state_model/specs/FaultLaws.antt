@@ -19,17 +19,27 @@ Only allowed why = why ≡ allowed
 -- by a get.
 pub record FaultsAreMet : Type 0 where
   pub get_takes_none : (filter_bytes : FilterBytes) (s after : State) (key : Bytes) → Step Ever filter_bytes s (Get key) Memory after → ⊥
-  pub estimate_takes_none : (filter_bytes : FilterBytes) (s after : State) (lo hi : Bytes) → Step Ever filter_bytes s (Estimate lo hi) Memory after → ⊥
-  pub explain_takes_none : (filter_bytes : FilterBytes) (s after : State) (key : Bytes) → Step Ever filter_bytes s (Explain key) Memory after → ⊥
+  pub estimate_takes_none :
+      (filter_bytes : FilterBytes) (s after : State) (lo hi : Bytes) → Step Ever filter_bytes s (Estimate lo hi) Memory after
+      → ⊥
+  pub explain_takes_none :
+      (filter_bytes : FilterBytes) (s after : State) (key : Bytes) → Step Ever filter_bytes s (Explain key) Memory after → ⊥
   pub put_reads_nothing :
-      (filter_bytes : FilterBytes) (s after : State) (key value : Bytes) → Step (Only ReadFailed) filter_bytes s (Put key value) Device after → ⊥
-  pub del_reads_nothing : (filter_bytes : FilterBytes) (s after : State) (key : Bytes) → Step (Only ReadFailed) filter_bytes s (Del key) Device after → ⊥
+      (filter_bytes : FilterBytes) (s after : State) (key value : Bytes)
+      → Step (Only ReadFailed) filter_bytes s (Put key value) Device after → ⊥
+  pub del_reads_nothing :
+      (filter_bytes : FilterBytes) (s after : State) (key : Bytes)
+      → Step (Only ReadFailed) filter_bytes s (Del key) Device after → ⊥
   pub flush_reads_nothing : (filter_bytes : FilterBytes) (s after : State) → Step (Only ReadFailed) filter_bytes s Flush Device after → ⊥
-  pub get_writes_nothing : (filter_bytes : FilterBytes) (s after : State) (key : Bytes) → Step (Only WriteFailed) filter_bytes s (Get key) Device after → ⊥
+  pub get_writes_nothing :
+      (filter_bytes : FilterBytes) (s after : State) (key : Bytes)
+      → Step (Only WriteFailed) filter_bytes s (Get key) Device after → ⊥
 
 -- A compaction leaves no job, however it is answered, and so does a merge slice that is refused.
 pub record NoJobIsLeft : Type 0 where
-  pub compaction : (filter_bytes : FilterBytes) (s after : State) (reply : Reply) → IsSound filter_bytes s → Step Ever filter_bytes s Compact reply after → after.job ≡ None
+  pub compaction :
+      (filter_bytes : FilterBytes) (s after : State) (reply : Reply) → IsSound filter_bytes s
+      → Step Ever filter_bytes s Compact reply after → after.job ≡ None
   pub slice : (filter_bytes : FilterBytes) (s after : State) (why : Reply) → Tend Ever filter_bytes s (Refused why) after → after.job ≡ None
 
 -- a state of the same settings and pages
@@ -38,5 +48,7 @@ KeepsDevice s after = (after.settings ≡ s.settings) × (after.pages ≡ s.page
 
 -- Settings and pages are those of the first state, whatever is answered.
 pub record DeviceIsKept : Type 0 where
-  pub line : (filter_bytes : FilterBytes) (s after : State) (request : Request) (reply : Reply) → Step Ever filter_bytes s request reply after → KeepsDevice s after
+  pub line :
+      (filter_bytes : FilterBytes) (s after : State) (request : Request) (reply : Reply)
+      → Step Ever filter_bytes s request reply after → KeepsDevice s after
   pub slice : (filter_bytes : FilterBytes) (s after : State) (tended : Tended) → Tend Ever filter_bytes s tended after → KeepsDevice s after

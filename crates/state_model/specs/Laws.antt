@@ -35,13 +35,19 @@ pub record ViewLaws : Type 0 where
 -- its change of the map and no other. So the map changes by the lines that are answered as done, and by no other.
 pub record ChangeLaws : Type 0 where
   pub flush : (filter_bytes : FilterBytes) (s t : State) → flushed filter_bytes s ≡ Ok t → state_map t ≡ state_map s
-  pub write : (filter_bytes : FilterBytes) (s t : State) (entry : Entry) → written filter_bytes s entry ≡ Ok t → state_map t ≡ changed (state_map s) entry
+  pub write :
+      (filter_bytes : FilterBytes) (s t : State) (entry : Entry) → written filter_bytes s entry ≡ Ok t
+      → state_map t ≡ changed (state_map s) entry
   pub compaction : (filter_bytes : FilterBytes) (s t : State) → compacted filter_bytes s ≡ Ok t → state_map t ≡ state_map s
-  pub lines : (filter_bytes : FilterBytes) (s : State) (request : Request) → state_map (answer filter_bytes s request).1 ≡ map_behind request (answer filter_bytes s request).0 (state_map s)
+  pub lines :
+      (filter_bytes : FilterBytes) (s : State) (request : Request)
+      → state_map (answer filter_bytes s request).1 ≡ map_behind request (answer filter_bytes s request).0 (state_map s)
 
 -- An install keeps the map: the outputs of a job that is done, in the place of its inputs, among the tables of a sound state.
 pub record InstallLaws : Type 0 where
-  pub install : (filter_bytes : FilterBytes) (s : State) (job : Job) → IsSound filter_bytes s → IsJob filter_bytes s.settings s.tables job → IsDone s.tables job → state_map (installed s job) ≡ state_map s
+  pub install :
+      (filter_bytes : FilterBytes) (s : State) (job : Job) → IsSound filter_bytes s → IsJob filter_bytes s.settings s.tables job
+      → IsDone s.tables job → state_map (installed s job) ≡ state_map s
 
 -- What a merge writes says of each key what its inputs say, but that a tombstone may be gone where no table lies deeper.
 -- Its outputs, one after the other, are the entries that last; none is empty, and they are no more than the inputs.
@@ -52,7 +58,9 @@ pub record MergeLaws : Type 0 where
   pub tombstones :
       (tables : List Table) (plan : Plan) (key : Bytes) → AllByRecursion IsSoundTable plan.inputs → is_deepest tables plan.output ≡ false
       → first_found (planned tables plan) key ≡ first_found (map (λ (t : Table). t.entries) plan.inputs) key
-  pub whole : (tables : List Table) (plan : Plan) → flat_map (λ (output : List Entry). output) (planned tables plan) ≡ lasting (is_deepest tables plan.output) (newest_of plan.inputs)
+  pub whole :
+      (tables : List Table) (plan : Plan)
+      → flat_map (λ (output : List Entry). output) (planned tables plan) ≡ lasting (is_deepest tables plan.output) (newest_of plan.inputs)
   pub some : (tables : List Table) (plan : Plan) → AllByRecursion (λ (output : List Entry). 1 ≤ length output) (planned tables plan)
   pub few : (tables : List Table) (plan : Plan) → 1 ≤ length plan.inputs → length (planned tables plan) ≤ length plan.inputs
 
@@ -68,7 +76,9 @@ pub record ChoiceLaws : Type 0 where
   pub some : (tables : List Table) (plan : Plan) → choose tables ≡ Some plan → 1 ≤ length plan.inputs
   pub output : (tables : List Table) (plan : Plan) → choose tables ≡ Some plan → (1 ≤ plan.output) × (plan.output ≤ 6)
   pub part : (tables : List Table) (plan : Plan) → AllPairs StandsBefore tables → choose tables ≡ Some plan → IsPart plan.inputs tables
-  pub job_part : (filter_bytes : FilterBytes) (s : State) (job : Job) → IsSound filter_bytes s → s.job ≡ Some job → IsPart job.inputs s.tables
+  pub job_part :
+      (filter_bytes : FilterBytes) (s : State) (job : Job) → IsSound filter_bytes s → s.job ≡ Some job
+      → IsPart job.inputs s.tables
 
 -- An output that others follow has 1,024 data pages or more, and fewer without its last entry.
 pub record OutputLaws : Type 0 where

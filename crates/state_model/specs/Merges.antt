@@ -39,8 +39,8 @@ greatest_of [] = []
 greatest_of (t ∷ more) = fold (λ key (u : Table). greater key (greatest_key u)) (greatest_key t) more
 
 -- the table's keys reach into those from lo to hi
-abbrev pub reaches : Bytes → Bytes → Table → Bool
-reaches lo hi t = not (is_before (greatest_key t) lo) && not (is_before hi (least_key t))
+abbrev pub overlaps : Bytes → Bytes → Table → Bool
+overlaps lo hi t = not (is_before (greatest_key t) lo) && not (is_before hi (least_key t))
 
 -- tables that are merged, the newest first, and the level of what they become
 pub record Plan : Type 0 where
@@ -49,7 +49,7 @@ pub record Plan : Type 0 where
 
 -- some of all tables, with those of the level below that they meet
 abbrev pub plan_of : List Table → List Table → ℕ → Plan
-plan_of all tables output = record { inputs = tables ++ filter (reaches (least_of tables) (greatest_of tables)) (on_level output all); output = output }
+plan_of all tables output = record { inputs = tables ++ filter (overlaps (least_of tables) (greatest_of tables)) (on_level output all); output = output }
 
 -- the pages that a level may have
 abbrev pub level_limit : ℕ → ℕ

@@ -26,10 +26,13 @@ played_text filter_bytes s lines = flat_map text_of (played filter_bytes s (map 
 -- A whole merge of a state without a job is one merge slice, which ends no script. Behind a line, and behind that slice, no job
 -- runs. So lines that are played from such a state are a script. All of it is so without a cause, so under any.
 pub record PlayLaws : Type 0 where
-  pub slice : (filter_bytes : FilterBytes) (s : State) → s.job ≡ None → (t : Tended) × Tend Never filter_bytes s t (merged filter_bytes s) × (Onward ≡ turn_of_slice t)
+  pub slice :
+      (filter_bytes : FilterBytes) (s : State) → s.job ≡ None → (t : Tended)
+      × Tend Never filter_bytes s t (merged filter_bytes s) × (Onward ≡ turn_of_slice t)
   pub no_job :
       (filter_bytes : FilterBytes) (s : State) (line : Bytes) → s.job ≡ None
-      → ((answer filter_bytes s (request_of line)).1.job ≡ None) × ((tended filter_bytes (request_of line) (answer filter_bytes s (request_of line)).1).job ≡ None)
+      → ((answer filter_bytes s (request_of line)).1.job ≡ None)
+      × ((tended filter_bytes (request_of line) (answer filter_bytes s (request_of line)).1).job ≡ None)
   pub script :
       (filter_bytes : FilterBytes) (s : State) (said : ℕ) (lines : List Bytes) → s.job ≡ None
       → (ending : Ending) × Script Never filter_bytes AnyState said s lines (played_text filter_bytes s lines) ending

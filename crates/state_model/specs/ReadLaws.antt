@@ -14,9 +14,12 @@ use Rattle.state_model.specs.Sound.{IsSoundTable, IsSound}
 
 -- A sound table that has an entry of a key is searched for it, and none that has one from lo to hi denies these bounds.
 pub record HeldIsSearched : Type 0 where
-  pub key : (s : State) (t : Table) (key : Bytes) (value : Option Bytes) → IsSoundTable t → lookup t.entries key ≡ Some value → is_searched s key t ≡ true
+  pub key :
+      (s : State) (t : Table) (key : Bytes) (value : Option Bytes) → IsSoundTable t → lookup t.entries key ≡ Some value
+      → is_searched s key t ≡ true
   pub range :
-      (s : State) (t : Table) (lo hi key : Bytes) (value : Option Bytes) → IsSoundTable t → IsBytes lo → IsBytes hi → is_before hi lo ≡ false
+      (s : State) (t : Table) (lo hi key : Bytes) (value : Option Bytes) → IsSoundTable t → IsBytes lo → IsBytes hi
+      → is_before hi lo ≡ false
       → lookup t.entries key ≡ Some value → is_between lo (Some hi) key ≡ true → admits_range s lo hi t ≡ true
 
 -- A get reads no more blocks than tables admit the key, and at most one where all tables stand on one level below level 0,
@@ -26,7 +29,9 @@ pub record GetsAreBounded : Type 0 where
   pub one_level :
       (filter_bytes : FilterBytes) (s : State) (level : ℕ) (key : Bytes) → IsSound filter_bytes s → 1 ≤ level
       → AllByRecursion (λ (t : Table). t.level ≡ level) s.tables → get_bound s key ≤ 1
-  pub behind_compaction : (filter_bytes : FilterBytes) (s after : State) (key : Bytes) → IsSound filter_bytes s → compacted filter_bytes s ≡ Ok after → get_bound after key ≤ 1
+  pub behind_compaction :
+      (filter_bytes : FilterBytes) (s after : State) (key : Bytes) → IsSound filter_bytes s
+      → compacted filter_bytes s ≡ Ok after → get_bound after key ≤ 1
 
 -- A key that a closed seek steps over is not in the map: it is a deleted one.
 abbrev pub SteppedAreDeleted : Type 0

@@ -55,9 +55,11 @@ bounds_of request = []
 -- than 1,024 bytes, the lower one first. A bound may be empty.
 pub data BreaksLimit (request : Request) : Reply → Type 0 where
   by_key : (key : Bytes) → key_of request ≡ Some key → IsNoKey key → BreaksLimit request (LongKey (length key))
-  by_value : (key value : Bytes) → request ≡ Put key value → IsKey key → 65536 < length value → BreaksLimit request (LongValue (length value))
+  by_value : (key value : Bytes) → request ≡ Put key value → IsKey key → 65536 < length value
+      → BreaksLimit request (LongValue (length value))
   by_lower : (lo : Bytes) (more : List Bytes) → bounds_of request ≡ lo ∷ more → 1024 < length lo → BreaksLimit request (LongKey (length lo))
-  by_upper : (lo hi : Bytes) → bounds_of request ≡ lo ∷ hi ∷ [] → length lo ≤ 1024 → 1024 < length hi → BreaksLimit request (LongKey (length hi))
+  by_upper : (lo hi : Bytes) → bounds_of request ≡ lo ∷ hi ∷ [] → length lo ≤ 1024 → 1024 < length hi
+      → BreaksLimit request (LongKey (length hi))
 
 -- ---- causes
 
@@ -84,19 +86,23 @@ compaction_places filter_bytes s = placed filter_bytes s.settings s.pages (taken
 -- than the most, then for room, then for a next epoch; a compaction asks for a next epoch, then for room.
 pub data Refused (filter_bytes : FilterBytes) (s : State) (request : Request) : Reply → Type 0 where
   by_limit : (reply : Reply) → limit_of request ≡ Some reply → Refused filter_bytes s request reply
-  flush_by_tables : limit_of request ≡ None → FlushIsDue s request → most_tables ≤ length s.tables → Refused filter_bytes s request ManyTables
+  flush_by_tables : limit_of request ≡ None → FlushIsDue s request → most_tables ≤ length s.tables
+      → Refused filter_bytes s request ManyTables
   flush_by_room : (refusal : NoRoom) → limit_of request ≡ None → FlushIsDue s request → length s.tables < most_tables
       → flush_places filter_bytes s ≡ Err refusal → Refused filter_bytes s request (Full refusal.need refusal.gap)
   flush_by_epoch : (made : List Table) → limit_of request ≡ None → FlushIsDue s request → length s.tables < most_tables
       → flush_places filter_bytes s ≡ Ok made → s.epoch ≡ last_epoch → Refused filter_bytes s request LastEpoch
-  compaction_by_epoch : limit_of request ≡ None → CompactionIsDue s request → s.epoch ≡ last_epoch → Refused filter_bytes s request LastEpoch
+  compaction_by_epoch : limit_of request ≡ None → CompactionIsDue s request → s.epoch ≡ last_epoch
+      → Refused filter_bytes s request LastEpoch
   compaction_by_room : (refusal : NoRoom) → limit_of request ≡ None → CompactionIsDue s request → s.epoch ≢ last_epoch
       → compaction_places filter_bytes s ≡ Err refusal → Refused filter_bytes s request (Full refusal.need refusal.gap)
 
 -- A line that has a cause is answered by its refusal, and every refusal has its cause. The limit of a request is the one
 -- that it breaks. A flush has no room exactly where its table has more pages than the largest gap; a refusal says both.
 pub record RefusalLaws : Type 0 where
-  pub gives : (filter_bytes : FilterBytes) (s : State) (request : Request) (reply : Reply) → Refused filter_bytes s request reply → (answer filter_bytes s request).0 ≡ reply
+  pub gives :
+      (filter_bytes : FilterBytes) (s : State) (request : Request) (reply : Reply) → Refused filter_bytes s request reply
+      → (answer filter_bytes s request).0 ≡ reply
   pub only :
       (filter_bytes : FilterBytes) (s : State) (request : Request)
       → is_refusal (answer filter_bytes s request).0 ≡ true → Refused filter_bytes s request (answer filter_bytes s request).0

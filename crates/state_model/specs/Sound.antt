@@ -1,5 +1,5 @@
 -- Which states a store may be in.
-use Rattle.std.specs.Prelude.{◌≡◌, ◌⊎◌, ◌<◌, ◌≤◌, ℕ, List, [], ◌∷◌, length, drop, Option, Some, None}
+use Rattle.std.specs.Prelude.{◌≡◌, ◌⊎◌, ◌<◌, ◌≤◌, ◌*◌, ℕ, List, [], ◌∷◌, length, drop, Option, Some, None}
 use Rattle.std.specs.List.{AllByRecursion, AllPairs, sum_by}
 use Rattle.std.specs.declared.cmp.Ordering.TheVariants.{Less}
 use Rattle.filter_api.specs.declared.settings.Settings.{Settings}
@@ -17,11 +17,13 @@ use Rattle.state_model.specs.Merges.{Plan, choose, planned, on_level, least_key,
 abbrev pub IsBefore : Bytes → Bytes → Type 0
 IsBefore x y = byte_order x y ≡ Less
 
--- a table has one entry or more, with strictly rising keys, and one block or more, each of a page or more
+-- a table has one entry or more, with strictly rising keys, and one block or more, each of a page or more and of at most
+-- 255 entries
 pub record IsSoundTable (t : Table) : Type 0 where
   pub level : t.level ≤ 6
   pub entries : IsTable t.entries
   pub blocks : (1 ≤ t.blocks) × (t.blocks ≤ t.pages)
+  pub few : length t.entries ≤ 255 * t.blocks
 
 -- The one stands before the other: it is of a lesser level, or of the same one and then, below level 0, its keys come
 -- before those of the other.

@@ -1,6 +1,6 @@
 -- Laws of soundness: a store as it is made is sound, and what is done to a sound state leaves one.
 use Rattle.std.specs.Prelude.{◌≡◌, ◌≤◌, ◌<◌, ◌+◌, ◌++◌, ℕ, List, [], ◌∷◌, length, map, Option, Some, None, Ok}
-use Rattle.std.specs.List.{AllByRecursion, AllPairs, sum_by}
+use Rattle.std.specs.List.{AllByRecursion, sum_by}
 use Rattle.filter_api.specs.declared.settings.Settings.{Settings}
 use Rattle.filter_api.specs.Ranges.{InRange}
 use Rattle.filter_model.specs.Keys.{IsKeyList}
@@ -33,23 +33,32 @@ PlacedAreLaid =
 
 -- a store as it is made is sound
 abbrev pub NewIsSound : Type 0
-NewIsSound = (filter_bytes : FilterBytes) (settings : Settings) (pages : ℕ) → InRange settings → settings.ratio < 65536 → 512 ≤ pages → pages ≤ 16777216 → IsSound filter_bytes (new_state settings pages)
+NewIsSound =
+    (filter_bytes : FilterBytes) (settings : Settings) (pages : ℕ) → InRange settings → settings.ratio < 65536 → 512 ≤ pages
+    → pages ≤ 16777216 → IsSound filter_bytes (new_state settings pages)
 
 -- a flush that is done keeps soundness, whether a job runs or none
 abbrev pub FlushKeepsSound : Type 0
-FlushKeepsSound = (filter_bytes : FilterBytes) (s t : State) → IsSound filter_bytes s → flushed filter_bytes s ≡ Ok t → IsSound filter_bytes t
+FlushKeepsSound =
+    (filter_bytes : FilterBytes) (s t : State) → IsSound filter_bytes s → flushed filter_bytes s ≡ Ok t → IsSound filter_bytes t
 
 -- so does an entry that is written
 abbrev pub WriteKeepsSound : Type 0
-WriteKeepsSound = (filter_bytes : FilterBytes) (s t : State) (entry : Entry) → IsSound filter_bytes s → IsEntry entry → written filter_bytes s entry ≡ Ok t → IsSound filter_bytes t
+WriteKeepsSound =
+    (filter_bytes : FilterBytes) (s t : State) (entry : Entry) → IsSound filter_bytes s → IsEntry entry
+    → written filter_bytes s entry ≡ Ok t → IsSound filter_bytes t
 
 -- and a compaction
 abbrev pub CompactionKeepsSound : Type 0
-CompactionKeepsSound = (filter_bytes : FilterBytes) (s t : State) → IsSound filter_bytes s → compacted filter_bytes s ≡ Ok t → IsSound filter_bytes t
+CompactionKeepsSound =
+    (filter_bytes : FilterBytes) (s t : State) → IsSound filter_bytes s → compacted filter_bytes s ≡ Ok t
+    → IsSound filter_bytes t
 
 -- A job that runs, and goes on, leaves a sound state; and a job may be dropped.
 abbrev pub WorkKeepsSound : Type 0
-WorkKeepsSound = (filter_bytes : FilterBytes) (s : State) (job later : Job) → IsSound filter_bytes s → Runs s job → Progresses filter_bytes s job later → IsSound filter_bytes (with_job s later)
+WorkKeepsSound =
+    (filter_bytes : FilterBytes) (s : State) (job later : Job) → IsSound filter_bytes s → Runs s job
+    → Progresses filter_bytes s job later → IsSound filter_bytes (with_job s later)
 
 abbrev pub DropKeepsSound : Type 0
 DropKeepsSound = (filter_bytes : FilterBytes) (s : State) → IsSound filter_bytes s → IsSound filter_bytes (without_job s)
@@ -60,18 +69,26 @@ Ever why = Unit {0}
 
 -- Whatever a merge slice is answered, the state behind it is sound.
 abbrev pub SliceKeepsSound : Type 0
-SliceKeepsSound = (filter_bytes : FilterBytes) (s after : State) (tended : Tended) → IsSound filter_bytes s → Tend Ever filter_bytes s tended after → IsSound filter_bytes after
+SliceKeepsSound =
+    (filter_bytes : FilterBytes) (s after : State) (tended : Tended) → IsSound filter_bytes s
+    → Tend Ever filter_bytes s tended after → IsSound filter_bytes after
 
 -- And it is the same map.
 abbrev pub SliceKeepsMap : Type 0
-SliceKeepsMap = (filter_bytes : FilterBytes) (s after : State) (tended : Tended) → IsSound filter_bytes s → Tend Ever filter_bytes s tended after → state_map after ≡ state_map s
+SliceKeepsMap =
+    (filter_bytes : FilterBytes) (s after : State) (tended : Tended) → IsSound filter_bytes s
+    → Tend Ever filter_bytes s tended after → state_map after ≡ state_map s
 
 -- What needs no cause is allowed where any may be.
 abbrev pub NeverTends : Type 0
-NeverTends = (filter_bytes : FilterBytes) (s after : State) (tended : Tended) → Tend Never filter_bytes s tended after → Tend Ever filter_bytes s tended after
+NeverTends =
+    (filter_bytes : FilterBytes) (s after : State) (tended : Tended) → Tend Never filter_bytes s tended after
+    → Tend Ever filter_bytes s tended after
 
 abbrev pub NeverSteps : Type 0
-NeverSteps = (filter_bytes : FilterBytes) (s after : State) (request : Request) (reply : Reply) → Step Never filter_bytes s request reply after → Step Ever filter_bytes s request reply after
+NeverSteps =
+    (filter_bytes : FilterBytes) (s after : State) (request : Request) (reply : Reply)
+    → Step Never filter_bytes s request reply after → Step Ever filter_bytes s request reply after
 
 -- what is put or deleted is bytes
 abbrev pub AsksOfBytes : Request → Type 0
@@ -86,26 +103,30 @@ LinesAreOfBytes = (line : Bytes) → AsksOfBytes (request_of line)
 -- The state behind a line is sound too.
 abbrev pub LineKeepsSound : Type 0
 LineKeepsSound =
-    (filter_bytes : FilterBytes) (s after : State) (request : Request) (reply : Reply) → IsSound filter_bytes s → AsksOfBytes request → Step Ever filter_bytes s request reply after → IsSound filter_bytes after
+    (filter_bytes : FilterBytes) (s after : State) (request : Request) (reply : Reply) → IsSound filter_bytes s
+    → AsksOfBytes request → Step Ever filter_bytes s request reply after → IsSound filter_bytes after
 
 -- And so is the state behind all lines that are played.
 abbrev pub PlayedIsSound : Type 0
-PlayedIsSound = (filter_bytes : FilterBytes) (s : State) (requests : List Request) → IsSound filter_bytes s → AllByRecursion AsksOfBytes requests → s.job ≡ None → IsSound filter_bytes (played filter_bytes s requests).1
+PlayedIsSound =
+    (filter_bytes : FilterBytes) (s : State) (requests : List Request) → IsSound filter_bytes s
+    → AllByRecursion AsksOfBytes requests → s.job ≡ None → IsSound filter_bytes (played filter_bytes s requests).1
 
--- in a sound state
-abbrev pub InSoundState : FilterBytes → ℕ → State → Type 0
-InSoundState filter_bytes said s = IsSound filter_bytes s
+-- R, and that the state is sound
+abbrev pub WithSound : FilterBytes → (ℕ → State → Type 0) → ℕ → State → Type 0
+WithSound filter_bytes R said s = R said s × IsSound filter_bytes s
 
 -- Each state of a script from a sound one is sound, as each reply has been said, and so is the state behind some first
 -- lines.
 pub record ScriptsKeepSound : Type 0 where
   pub script :
       (filter_bytes : FilterBytes) (said : ℕ) (s : State) (lines : List Bytes) (text : Bytes) (ending : Ending) → IsSound filter_bytes s
-      → Script Ever filter_bytes AnyState said s lines text ending → Script Ever filter_bytes (InSoundState filter_bytes) said s lines text ending
+      → Script Ever filter_bytes AnyState said s lines text ending
+      → Script Ever filter_bytes (WithSound filter_bytes AnyState) said s lines text ending
   pub first_lines :
       (filter_bytes : FilterBytes) (said : ℕ) (s after : State) (lines : List Bytes) (text : Bytes) → IsSound filter_bytes s
       → WentOn Ever filter_bytes AnyState said s lines text after
-      → WentOn Ever filter_bytes (InSoundState filter_bytes) said s lines text after × IsSound filter_bytes after
+      → WentOn Ever filter_bytes (WithSound filter_bytes AnyState) said s lines text after × IsSound filter_bytes after
 
 -- ---- what is not sound, and what the keys of a table are
 
@@ -113,7 +134,9 @@ pub record ScriptsKeepSound : Type 0 where
 pub record LimitsAreKept : Type 0 where
   pub tables : (filter_bytes : FilterBytes) (s : State) → length s.tables ≡ 1025 → IsSound filter_bytes s → ⊥
   pub log : (filter_bytes : FilterBytes) (s : State) → filled s.log ≡ 262144 → IsSound filter_bytes s → ⊥
-  pub first_page : (filter_bytes : FilterBytes) (s : State) (t : Table) (more : List Table) → s.tables ≡ t ∷ more → t.first_page ≡ 191 → IsSound filter_bytes s → ⊥
+  pub first_page :
+      (filter_bytes : FilterBytes) (s : State) (t : Table) (more : List Table) → s.tables ≡ t ∷ more → t.first_page ≡ 191
+      → IsSound filter_bytes s → ⊥
 
 -- The keys of a sound table are a list of keys, as filters are built of.
 abbrev pub KeysAreAList : Type 0
@@ -128,16 +151,21 @@ steps_of s (Some job) = job.to_read + length (outstanding s.tables job) + 1
 
 -- A job that begins may see as many as the blocks of its inputs, its outputs and one more.
 abbrev pub StepsAtFirst : Type 0
-StepsAtFirst = (s : State) (plan : Plan) → steps_of s (Some (started plan)) ≡ sum_by (λ (t : Table). t.blocks) plan.inputs + length (planned s.tables plan) + 1
+StepsAtFirst =
+    (s : State) (plan : Plan)
+    → steps_of s (Some (started plan)) ≡ sum_by (λ (t : Table). t.blocks) plan.inputs + length (planned s.tables plan) + 1
 
 -- Each answer Worked leaves fewer than before it.
 abbrev pub WorkedLowersSteps : Type 0
 WorkedLowersSteps =
-    (filter_bytes : FilterBytes) (s after : State) → Tend Ever filter_bytes s Worked after → (job : Job) × Runs s job × (steps_of after after.job < steps_of s (Some job))
+    (filter_bytes : FilterBytes) (s after : State) → Tend Ever filter_bytes s Worked after → (job : Job) × Runs s job
+    × (steps_of after after.job < steps_of s (Some job))
 
 -- No line leaves more.
 abbrev pub LinesRaiseNoSteps : Type 0
-LinesRaiseNoSteps = (filter_bytes : FilterBytes) (s : State) (request : Request) → steps_of (answer filter_bytes s request).1 (answer filter_bytes s request).1.job ≤ steps_of s s.job
+LinesRaiseNoSteps =
+    (filter_bytes : FilterBytes) (s : State) (request : Request)
+    → steps_of (answer filter_bytes s request).1 (answer filter_bytes s request).1.job ≤ steps_of s s.job
 
 -- a line, or a merge slice of the job that runs
 pub data Move : Type 0 where
@@ -159,5 +187,7 @@ slices_in (Slice ∷ more) = slices_in more + 1
 -- that follow while it runs.
 abbrev pub JobEnds : Type 0
 JobEnds =
-    (filter_bytes : FilterBytes) (s after t : State) (plan : Plan) (moves : List Move) → s.job ≡ None → choose s.tables ≡ Some plan → Tend Ever filter_bytes s Worked after
-    → Moves filter_bytes moves after t → 1 + slices_in moves ≤ sum_by (λ (u : Table). u.blocks) plan.inputs + length (planned s.tables plan) + 1
+    (filter_bytes : FilterBytes) (s after t : State) (plan : Plan) (moves : List Move) → s.job ≡ None
+    → choose s.tables ≡ Some plan → Tend Ever filter_bytes s Worked after
+    → Moves filter_bytes moves after t
+    → 1 + slices_in moves ≤ sum_by (λ (u : Table). u.blocks) plan.inputs + length (planned s.tables plan) + 1

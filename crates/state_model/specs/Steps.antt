@@ -105,4 +105,5 @@ pub data Step (Cause : Why → Type 0) (filter_bytes : FilterBytes) (s : State) 
   damage_met : (damage : Damage) (reply : Reply) → limit_of request ≡ None → Reads s request → Cause (DamageMet damage)
       → said_before s request (Damaged damage) reply → Step Cause filter_bytes s request reply (left_by request s)
   write_failed : (after : State) → limit_of request ≡ None → Writes filter_bytes s request → Cause WriteFailed → IsLeft filter_bytes s after
-      → (state_map after ≡ state_map s) ⊎ (state_map after ≡ state_map (answer filter_bytes s request).1) → Step Cause filter_bytes s request Device after
+      → (state_map after ≡ state_map s) ⊎ (state_map after ≡ state_map (answer filter_bytes s request).1)
+      → Step Cause filter_bytes s request Device after

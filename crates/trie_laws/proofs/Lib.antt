@@ -3,6 +3,7 @@ pub mod NodeLists
 pub mod Places
 pub mod Louds
 pub mod Joining
+pub mod Found
 pub mod Paths
 pub mod Slots
 pub mod Endings

@@ -56,7 +56,7 @@ louds_count (n ∷ ns) w =
     sum_by-append (λ (b : Bool). cond b 1 0) (opening n) (sparse_louds ns) ∙ omega (arith, ones, ih)
 
 -- before a later set bit more bits are set
-nth_below : (bits : List Bool) (i j : ℕ) → i < j → j ≤ length bits → get_or bits i false ≡ true → count_by (λ (b : Bool). b) (take i bits) < count_by (λ (b : Bool). b) (take j bits)
+pub nth_below : (bits : List Bool) (i j : ℕ) → i < j → j ≤ length bits → get_or bits i false ≡ true → count_by (λ (b : Bool). b) (take i bits) < count_by (λ (b : Bool). b) (take j bits)
 nth_below bits i j l m e =
     let more = count_by_more_yes (λ (b : Bool). b) bits i false (omega arith) e in
     let up = sum_by-take-le (λ (b : Bool). cond b 1 0) (take j bits) (i + 1) in

@@ -1,7 +1,7 @@
 -- Two lists of nodes end to end, as the dense and the sparse half of a trie.
-use Rattle.std.specs.Prelude.{◌≡◌, ℕ, ◌+◌, ◌<◌, ◌≤◌, List, ◌++◌, length}
-use Rattle.filter_model.specs.Nodes.{Node, all, at, children_before, first_place, leaves_before}
-use Rattle.trie_model.specs.Halves.{Half, child_at, first_below, slot_at}
+use Rattle.std.specs.Prelude.{◌≡◌, ℕ, ◌+◌, ◌-◌, ◌<◌, ◌≤◌, MatchOption, List, ◌++◌, length}
+use Rattle.filter_model.specs.Nodes.{IsBranch, Node, all, at, children_before, first_place, leaves_before}
+use Rattle.trie_model.specs.Halves.{Half, HasNode, branch_place, child_at, first_below, slot_at}
 use Rattle.trie_model.specs.Rows.{whole}
 
 -- what stands in the first list, and before places of it
@@ -34,3 +34,9 @@ pub record NumbersAsWhole (ds ss : List Node) (p : ℕ) : Type 0 where
 
 abbrev pub SecondHalfCountsOn : Type 0
 SecondHalfCountsOn = (ds ss : List Node) (p : ℕ) → NumbersAsWhole ds ss p
+
+-- the branch by a letter is found exactly where the node has one
+abbrev pub BranchIsFound : Type 0
+BranchIsFound =
+    (h : Half) (v c : ℕ) → HasNode h v
+    → MatchOption (branch_place h v c) ((p : ℕ) → IsBranch h.nodes (v - h.before.nodes) c p → ⊥) (IsBranch h.nodes (v - h.before.nodes) c)

@@ -7,7 +7,7 @@
 //! be called.
 #![tactic(auto)]
 
-ghost use Rattle.trie_laws.specs.Halves.{HalvesJoin, SecondHalfCountsOn};
+ghost use Rattle.trie_laws.specs.Halves.{BranchIsFound, HalvesJoin, SecondHalfCountsOn};
 ghost use Rattle.trie_laws.specs.Leaves.{CompanyIsABranch, LeavesHaveSlots, LevelsHaveNodes, PathsAreNoNodes, PathsArePrefixFree};
 ghost use Rattle.trie_laws.specs.Nodes.{BranchesAreNodesAndStubs, FormsAreSparse, TrieNodesHaveForm};
 ghost use Rattle.trie_laws.specs.Laws.{ChildIsCounted, LettersHavePlaces, NodesAreChildren, PlacesAreOfNodes, SelectFindsNode, SelectIsUnique, SetBitsAreNodes, SlotIsCounted};
@@ -37,6 +37,11 @@ pub fn select_finds_nodes()
 pub fn halves_join()
     ensures places { HalvesJoin }
     ensures numbers { SecondHalfCountsOn }
+{}
+
+/// A half's branch by a letter is found exactly where the node has one.
+pub fn branch_is_found()
+    ensures { BranchIsFound }
 {}
 
 /// The paths of the leaves: none begins another, and none leads to a node; each level below the longest has a node.

@@ -3,4 +3,5 @@ pub mod Rests
 pub mod Walks
 pub mod Branching
 pub mod Halves
+pub mod Given
 pub mod Rows

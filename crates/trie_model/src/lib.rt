@@ -6,8 +6,8 @@
 //! the least leaf below a branch; `Branching` the branches of one node by bytes; `Halves` the places, children and slots
 //! of a part of the nodes, with counts of what stands before it.
 //!
-//! [`Branch`] and [`Before`] are what the builders of halves are given. The other functions have no body: each has rows
-//! as its contract, and none needs to be called.
+//! [`Branch`] and [`Before`] are what the builders of halves are given, and [`are_rising`] is the test of a node's
+//! branches. The other functions have no body: each has rows as its contract, and none needs to be called.
 //!
 //! ```text
 //! keys            far   fast   s   top   toy
@@ -20,7 +20,7 @@
 mod parts;
 mod rows;
 
-pub use parts::{Before, Branch};
+pub use parts::{Before, Branch, are_rising};
 pub use rows::{
     keys_walk, leaves_are_ordered, places_below_the_root, places_beside_end, places_of_far_to_toy,
     tries_are_these_nodes,

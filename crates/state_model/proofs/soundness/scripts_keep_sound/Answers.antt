@@ -1,7 +1,10 @@
 use Rattle.state_model.specs.PlayLaws.{AnyState}
-use Rattle.state_model.specs.SoundLaws.{InSoundState}
+use Rattle.state_model.specs.SoundLaws.{Ever}
 use Rattle.state_model.proofs.SoundScripts.{script_sound, first_lines_sound}
 use Rattle.state_model.proofs.soundness.scripts_keep_sound.Goals as goal
 
 pub returns : goal.returns
-returns c = record { script = script_sound; first_lines = first_lines_sound }
+returns c = record {
+  script = λ filter_bytes. script_sound Ever filter_bytes AnyState;
+  first_lines = λ filter_bytes. first_lines_sound Ever filter_bytes AnyState;
+}

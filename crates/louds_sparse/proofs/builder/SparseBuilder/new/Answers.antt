@@ -1,5 +1,5 @@
-use Rattle.std.proofs.Common.{◌≡◌, ◌≤◌, ◌<◌, ◌∙◌, ◌^◌, [], ap, arith, subst, sym}
-use Rattle.louds_sparse.specs.Building.{HalfInRoom, SectionsInRoom}
+use Rattle.std.proofs.Common.{◌<◌, ◌∙◌, ◌^◌, [], ap, arith, subst, sym}
+use Rattle.louds_sparse.specs.Building.{SectionsInRoom}
 use Rattle.louds_sparse.specs.Spelling.{IsSpelled, half_in}
 use Rattle.louds_sparse.proofs.Built.{none_in, none_spelled}
 use Rattle.louds_sparse.proofs.builder.SparseBuilder.new.Goals as goal

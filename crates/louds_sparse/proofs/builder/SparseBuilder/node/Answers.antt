@@ -1,7 +1,8 @@
-use Rattle.std.proofs.Common.{◌≡◌, ◌≤◌, ◌<◌, ◌+◌, ◌∙◌, ◌^◌, length, ap, arith, subst, sym}
-use Rattle.louds_sparse.specs.Building.{HalfInRoom, SectionsInRoom, node_given, with_node}
+use Rattle.std.proofs.Common.{◌<◌, ◌+◌, ◌∙◌, ◌^◌, length, ap, arith, subst, sym}
+use Rattle.louds_sparse.specs.Building.{HalfInRoom, SectionsInRoom, with_node}
+use Rattle.trie_model.specs.Given.{node_given}
 use Rattle.louds_sparse.specs.Spelling.{IsSpelled, half_in}
-use Rattle.louds_sparse.proofs.Built.{IsAdded, given_form, node_added}
+use Rattle.louds_sparse.proofs.Built.{given_form, node_added}
 use Rattle.louds_sparse.proofs.Spelled.{length_labels}
 use Rattle.trie_model.specs.Halves.{Half, places_in}
 use Rattle.louds_sparse.proofs.builder.SparseBuilder.node.Goals as goal

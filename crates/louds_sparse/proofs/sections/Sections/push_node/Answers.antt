@@ -1,8 +1,9 @@
-use Rattle.std.proofs.Common.{◌≡◌, ◌==◌, ◌<◌, ◌∙◌, Bool, List, not, length, take, ap, arith, subst, sym, []}
+use Rattle.std.proofs.Common.{◌<◌, ◌∙◌, Bool, List, ap, subst, sym, []}
 use Rattle.std.specs.List.{All}
 use Rattle.std.proofs.lemmas.List.{take_all}
 use Rattle.std.proofs.lemmas.List.Elements.{All-nil}
-use Rattle.louds_sparse.specs.Building.{node_given, with_branch, with_branches}
+use Rattle.louds_sparse.specs.Building.{with_branch, with_branches}
+use Rattle.trie_model.specs.Given.{node_given}
 use Rattle.louds_sparse.proofs.Built.{branch_added, bytes_more, end_added, first_at_start, none_added, not_first, room_left}
 use Rattle.trie_model.specs.declared.parts.Branch.{Branch}
 use Rattle.louds_sparse.proofs.sections.Sections.push_node.Goals as goal

@@ -1,6 +1,7 @@
 use Rattle.std.proofs.Common.{◌≡◌, ◌<◌, ◌==◌, length, take}
 use Rattle.std.specs.List.{All}
-use Rattle.louds_sparse.specs.Building.{node_given, with_branches}
+use Rattle.louds_sparse.specs.Building.{with_branches}
+use Rattle.trie_model.specs.Given.{node_given}
 use Rattle.trie_model.specs.declared.parts.Branch.{Branch}
 use Rattle.louds_sparse.proofs.sections.Sections.push_node.Given as goal
 

@@ -1,10 +1,10 @@
-use Rattle.std.proofs.Common.{◌≡◌, ℕ, ◌+◌, ◌-◌, ◌≤◌, ◌==◌, Bool, true, false, cond, get_or, nat_lt, refl, sym, ap, ◌∙◌, arith}
+use Rattle.std.proofs.Common.{◌≡◌, ℕ, ◌+◌, ◌-◌, ◌≤◌, ◌==◌, Bool, true, false, cond, get_or, nat_lt, refl, ap, ◌∙◌, arith}
 use Rattle.std.specs.Prelude.{◌&&◌}
 use Rattle.filter_model.specs.Image.{has_letter}
 use Rattle.filter_model.specs.Trie.{END}
 use Rattle.trie_model.specs.Halves.{begin_of, node_at}
 use mir.Val.{bool_byte}
-use Rattle.louds_sparse.proofs.Spelled.{end_opens, node_some, node_within, range_is}
+use Rattle.louds_sparse.proofs.Spelled.{end_opens}
 use Rattle.louds_sparse.specs.Spelling.{IsSpelled}
 use Rattle.louds_sparse.proofs.sparse.Sparse.bytes_of.Goals as goal
 

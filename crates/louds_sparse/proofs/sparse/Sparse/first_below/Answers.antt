@@ -1,4 +1,4 @@
-use Rattle.std.proofs.Common.{◌+◌, ap, arith}
+use Rattle.std.proofs.Common.{ap, arith}
 use Rattle.louds_sparse.proofs.Spelled.{children_counted}
 use Rattle.trie_model.specs.declared.parts.Before.{Before}
 use Rattle.louds_sparse.specs.Spelling.{IsSpelled}

@@ -1,4 +1,4 @@
-use Rattle.std.proofs.Common.{sym, arith}
+use Rattle.std.proofs.Common.{sym}
 use Rattle.louds_sparse.proofs.Searches.{next_none, next_some}
 use Rattle.louds_sparse.specs.Spelling.{IsSpelled}
 use Rattle.louds_sparse.proofs.sparse.Sparse.next_branch.Goals as goal

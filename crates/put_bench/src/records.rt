@@ -1,0 +1,47 @@
+//! A log that records are added to.
+use anyhow::{Result, bail};
+use gate_log::{Kind, Log};
+use real_outside::FileOutside;
+use std::alloc::Global;
+
+/// The longest key and the longest value that are put, and room for their record.
+const MOST_KEY: usize = 1_024;
+
+const MOST_VALUE: usize = 1_024;
+
+const BUFFER_BYTES: usize = 70_000;
+
+/// The log in the first area of a device, begun anew.
+#[derive(Drop)]
+pub struct Records {
+    log: Log,
+    buffer: Vec<u8>,
+}
+
+impl Records {
+    pub fn start(alloc: Global, disk: &mut FileOutside) -> Result<Records> {
+        let Ok(log) = Log::start(disk, 0) else {
+            bail!("the log cannot be begun");
+        };
+        let buffer = vec![in alloc; 0; BUFFER_BYTES]?;
+        Ok(Records { log, buffer })
+    }
+
+    /// Adds a put, where it fits.
+    pub fn append(&mut self, disk: &mut FileOutside, key: &[u8], value: &[u8]) -> Result<()> {
+        let sound = !key.is_empty() && key.len() <= MOST_KEY && value.len() <= MOST_VALUE;
+        if !sound
+            || self.buffer.len() < BUFFER_BYTES
+            || !self.log.fits(7 + key.len() + value.len())
+        {
+            bail!("the log is full");
+        }
+        match self
+            .log
+            .append(disk, &mut self.buffer, Kind::Put, key, value)
+        {
+            Ok(()) => Ok(()),
+            Err(_) => bail!("the device failed"),
+        }
+    }
+}
