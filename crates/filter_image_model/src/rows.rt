@@ -41,6 +41,7 @@ pub fn other_images_are_read()
 pub fn header_faults()
     ensures half_a_header { image_fault (take 39 (changed ((0, 0) ∷ []) a_ab_sparse)) ≡ Some (fault 39 1) }
     ensures magic { image_fault (changed ((0, 0) ∷ (4, 2) ∷ []) a_ab_sparse) ≡ Some (fault 0 2) }
+    ensures magic_inside { image_fault (changed ((2, 0) ∷ (4, 2) ∷ []) a_ab_sparse) ≡ Some (fault 2 2) }
     ensures version { image_fault (changed ((4, 2) ∷ (5, 33) ∷ []) a_ab_sparse) ≡ Some (fault 4 2) }
     ensures hash_bits { image_fault (changed ((5, 33) ∷ (6, 33) ∷ []) a_ab_sparse) ≡ Some (fault 5 3) }
     ensures real_bits { image_fault (changed ((6, 33) ∷ (7, 1) ∷ []) a_ab_sparse) ≡ Some (fault 6 3) }
@@ -63,6 +64,7 @@ pub fn section_faults()
     ensures padding_of_openings { image_fault (changed ((44, 9) ∷ []) a_ab_sparse) ≡ Some (fault 44 6) }
     ensures padding_of_ends { image_fault (changed ((116, 6) ∷ (168, 0x82) ∷ []) a_ab_dense) ≡ Some (fault 168 6) }
     ensures stray { image_fault (changed ((116, 6) ∷ (12, 3) ∷ []) a_ab_dense) ≡ Some (fault 116 7) }
+    ensures stray_before_openings { image_fault (changed ((84, 6) ∷ (108, 2) ∷ []) a_ab_root_dense) ≡ Some (fault 84 7) }
 {}
 
 /// Rule 8, on the counts.
@@ -72,6 +74,7 @@ pub fn count_faults()
     ensures first_label_opens_none { image_fault (changed ((44, 6) ∷ []) a_ab_sparse) ≡ Some (fault 8 8) }
     ensures leaves { image_fault (changed ((12, 3) ∷ (41, 0x62) ∷ []) a_ab_sparse) ≡ Some (fault 8 8) }
     ensures no_child { image_fault (changed ((43, 0) ∷ (41, 0x62) ∷ []) a_ab_sparse) ≡ Some (fault 8 8) }
+    ensures mark_with_a_child_and_no_node { image_fault (changed ((43, 3) ∷ []) a_ab_sparse) ≡ Some (fault 8 8) }
     ensures one_level_less { image_fault (changed ((10, 1) ∷ []) a_ab_sparse) ≡ Some (fault 8 8) }
     ensures one_level_more { image_fault (changed ((10, 3) ∷ []) a_ab_sparse) ≡ Some (fault 8 8) }
     ensures children_behind_the_last_level { image_fault (changed ((43, 3) ∷ (12, 1) ∷ []) a_ab_sparse) ≡ Some (fault 8 8) }
@@ -87,5 +90,10 @@ pub fn node_faults()
     ensures mark_at_the_root { image_fault (changed ((12, 3) ∷ (168, 3) ∷ []) a_ab_dense) ≡ Some (fault 40 9) }
     ensures leaf_alone { image_fault (changed ((41, 0x62) ∷ (42, 0x63) ∷ (44, 5) ∷ []) a_ab_sparse) ≡ Some (fault 42 9) }
     ensures one_leaf_of_two_bytes { image_fault ab_alone ≡ Some (fault 40 9) }
+    ensures behind_dense_nodes { image_fault (changed ((105, 0x63) ∷ []) a_ab_root_dense) ≡ Some (fault 105 9) }
+    ensures no_branch { image_fault (changed ((52, 14) ∷ (84, 0) ∷ (168, 0) ∷ []) a_ab_dense) ≡ Some (fault 72 9) }
+    ensures first_of_two_nodes { image_fault (changed ((10, 2) ∷ (41, 0x62) ∷ (42, 0x63) ∷ (43, 0x65) ∷ (46, 0x0D) ∷ []) mark_leads_on) ≡ Some (fault 42 9) }
+    ensures mark_at_a_sparse_root { image_fault (changed ((40, 0xFF) ∷ (41, 0x61) ∷ (42, 0x62) ∷ (44, 2) ∷ (45, 5) ∷ []) a_ab_ac_with_real) ≡ Some (fault 40 9) }
     ensures end_with_real_bits { image_fault (changed ((46, 1) ∷ []) a_ab_ac_with_real) ≡ Some (fault 46 10) }
+    ensures suffix_of_slot_2 { image_fault (changed ((5, 8) ∷ (6, 4) ∷ (12, 4) ∷ (32, 5) ∷ (40, 0x30) ∷ (41, 0x31) ∷ (42, 0x61) ∷ (43, 0xFF) ∷ (44, 0x62) ∷ (45, 4) ∷ (46, 9) ∷ (51, 1) ∷ []) (a_ab_ac_with_real ++ 0 ∷ 0 ∷ 0 ∷ 0 ∷ [])) ≡ Some (fault 50 10) }
 {}

@@ -61,7 +61,8 @@ impl<A: Allocator + Clone> SparseBuilder<A> {
         self.sections.room_left()
     }
 
-    /// Adds a node: END where `end` holds, and the branches by bytes, some and rising. Takes no memory.
+    /// Adds a node: END where `end` holds, and the branches by bytes, some and rising, for which there is room
+    /// (`room_left`). Takes no memory.
     pub fn node(&mut self, end: bool, branches: &[Branch])
         requires branches { AreRising branches.now }
         requires room { places_in self.old.half + length (node_given end branches.now) ≤ self.old.limit }
@@ -70,7 +71,8 @@ impl<A: Allocator + Clone> SparseBuilder<A> {
         self.sections.push_node(end, branches);
     }
 
-    /// The half of the nodes given, in their order. Takes two blocks of memory, for counts of its bits.
+    /// The half of the nodes given, in their order. Takes two blocks of memory, for counts of its bits, and fails where
+    /// that is refused or where there are more than 2^32 labels.
     pub fn finish(self) -> Result<Sparse<A>, AllocError>
         ensures { IfOk result (λ sparse. sparse ≡ self.half) }
     {

@@ -74,7 +74,7 @@ impl<A: Allocator> Sparse<A> {
         (from as u64, to as u64)
     }
 
-    /// The place of the node's branch by this byte.
+    /// The place of the node's branch by this byte, `None` where it has none; END is no byte.
     pub fn branch(&self, node: u64, byte: u8) -> Option<u64>
         requires { HasNode self.now node }
         ensures { result ≡ branch_place self.now node byte }
@@ -86,7 +86,7 @@ impl<A: Allocator> Sparse<A> {
         }
     }
 
-    /// The place of the node's first branch by this byte or a greater one. `byte` is at most 256.
+    /// The place of the node's first branch by this byte or a greater one, `None` where it has none. `byte` is at most 256.
     pub fn next_branch(&self, node: u64, byte: u16) -> Option<u64>
         requires node { HasNode self.now node }
         requires byte { byte ≤ 256 }
@@ -101,7 +101,7 @@ impl<A: Allocator> Sparse<A> {
         }
     }
 
-    /// The place of the node's last branch by a lesser byte. `byte` is at most 256.
+    /// The place of the node's last branch by a lesser byte, `None` where it has none. `byte` is at most 256.
     pub fn prev_branch(&self, node: u64, byte: u16) -> Option<u64>
         requires node { HasNode self.now node }
         requires byte { byte ≤ 256 }

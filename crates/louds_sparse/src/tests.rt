@@ -83,6 +83,9 @@ fn a_lone_ff_is_a_byte(rt: HostRuntime) -> Result<(), Fail> {
     assert!(rt; sparse.has_node(1));
     assert_eq!(rt; sparse.branch(1, 0xFF), Some(1));
     assert_eq!(rt; sparse.prefix_slot(1), None);
+    assert!(rt; sparse.has_node(2));
+    assert_eq!(rt; sparse.branch(2, 0xFF), Some(2));
+    assert_eq!(rt; sparse.prefix_slot(2), None);
     Ok(())
 }
 

@@ -13,14 +13,14 @@ use trie_model::are_rising;
 /// The letters of the keys.
 const LETTERS: [u8; 4] = [0x00, 0x61, 0xFE, 0xFF];
 
-/// How many sets of keys are tried.
-const SETS: u64 = 1_000;
+/// How many sets of keys are drawn; some of them, not ten, are empty.
+const SETS: u64 = 1_010;
 
 /// How many keys a set has at most.
 const MAX_KEYS: usize = 60;
 
 /// How many labels the halves have room for.
-const ROOM: usize = 512;
+const ROOM: usize = 4_096;
 
 fn half_of(rt: &impl Abort, alloc: Global, plain: &Plain) -> Result<Sparse<Global>, AllocError> {
     let before = Before {
@@ -99,6 +99,9 @@ fn check_set(rt: &impl Abort, alloc: Global, seed: u64) -> Result<(), AllocError
     for place in 0..plain.place_count() {
         check_place(rt, &sparse, &plain, place);
     }
+    let behind = sparse.place_count();
+    assert!(rt; behind == plain.place_count() as u64);
+    assert!(rt; sparse.first_below(behind) == plain.first_below(plain.place_count()));
     Ok(())
 }
 
