@@ -1,4 +1,4 @@
-// One entry: a key with its value, or with the word that it has none any more.
+//! One entry: a key with its value, or with the word that it has none any more.
 ghost use Rattle.std.specs.Prelude.{◌≡◌, ◌↔◌, IfOk, IsTrue, Some};
 ghost use Rattle.std.specs.Option.{option_map};
 ghost use Rattle.std.specs.Box.{boxed_slice_items};

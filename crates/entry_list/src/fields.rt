@@ -1,4 +1,4 @@
-// Numbers that are appended to a byte string, lowest byte first.
+//! Numbers that are appended to a byte string, lowest byte first.
 ghost use Rattle.std.specs.Prelude.{◌≡◌, ◌≤◌, ◌++◌, All, OnOk};
 ghost use Rattle.byteorder.specs.Endian.{little_bytes};
 ghost use Rattle.byte_fields.specs.Fields.{fields};

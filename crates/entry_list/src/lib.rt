@@ -17,10 +17,12 @@
 //! ```
 #![tactic(auto)]
 
+mod body;
 mod entry;
 mod fields;
 mod list;
 
+pub use body::{HEAD_BYTES, body_length};
 pub use entry::Entry;
 pub use fields::{push_fields, push_number};
 pub use list::{copied, lookup, newest_of, push_copy};

@@ -1,4 +1,4 @@
-// Lists of entries.
+//! Lists of entries.
 ghost use Rattle.std.specs.Prelude.{◌≡◌, [], ◌∷◌, ◌++◌, IfOk, OnOk, OnErr};
 ghost use Rattle.std.specs.Option.{option_map};
 ghost use Rattle.entry_model.specs.Newest.{lookup};
@@ -9,8 +9,8 @@ use std::alloc::{AllocError, Global};
 
 /// Appends a copy of an entry. Where memory is refused, the list is as it was.
 pub fn push_copy(entry: &Entry, list: &mut Vec<Entry>) -> Result<(), AllocError>
-    ensures pushed { OnOk result (list.new.items ≡ list.old.items ++ entry.now ∷ []) }
-    ensures refused { OnErr result (list.new.items ≡ list.old.items) }
+    ensures added { OnOk result (list.new.items ≡ list.old.items ++ entry.now ∷ []) }
+    ensures unchanged { OnErr result (list.new.items ≡ list.old.items) }
 {
     let copy = entry.copy(*list.allocator())?;
     list.push(copy)?;

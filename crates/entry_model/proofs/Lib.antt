@@ -1,4 +1,3 @@
 pub mod Bodies
 pub mod Maps
 pub mod Newest
-mod Rows

@@ -1,6 +1,7 @@
 -- Entries, the map that they make in the order of writing, and their bytes.
 use Rattle.std.specs.Prelude.{◌≤◌, ℕ, ◌+◌, ◌-◌, List, [], ◌∷◌, ◌++◌, length, fold, map, flat_map, Option, Some, None, if◌then◌else◌, bytes_eq}
 use Rattle.byteorder.specs.Endian.{little_bytes}
+use Rattle.key_base.specs.Limits.{max_key_bytes, max_value_bytes, log_bytes}
 use Rattle.byte_fields.specs.Spelling.{IsBytes}
 use Rattle.map_model.specs.SortedMap.{Bytes, Map, put, del}
 
@@ -54,11 +55,11 @@ abbrev pub bytes_of : Option Bytes → Bytes
 bytes_of (Some value) = value
 bytes_of None = []
 
--- a key of 1 to 1,024 bytes, and a value of at most 65,536
+-- a key of one byte or more, and key and value within their limits
 pub record IsEntry (entry : Entry) : Type 0 where
   pub some_key : 1 ≤ length entry.key
-  pub short_key : length entry.key ≤ 1024
-  pub short_value : length (bytes_of entry.value) ≤ 65536
+  pub short_key : length entry.key ≤ max_key_bytes
+  pub short_value : length (bytes_of entry.value) ≤ max_value_bytes
   pub key_bytes : IsBytes entry.key
   pub value_bytes : IsBytes (bytes_of entry.value)
 
@@ -68,6 +69,10 @@ pub record IsEntry (entry : Entry) : Type 0 where
 abbrev pub body : Entry → Bytes
 body entry =
     kind_of entry.value ∷ (little_bytes 2 (length entry.key) ++ (little_bytes 4 (length (bytes_of entry.value)) ++ (entry.key ++ bytes_of entry.value)))
+
+-- the bytes of a body whose key and value have so many
+abbrev pub body_length : ℕ → ℕ → ℕ
+body_length key value = 7 + key + value
 
 -- a record is an open gate and a body
 abbrev pub record_bytes : Entry → Bytes
@@ -81,6 +86,6 @@ filled entries = length (flat_map record_bytes entries)
 abbrev pub need : Entry → ℕ
 need entry = length (body entry) + 2
 
--- the room that is left in the log area of 262,144 bytes
+-- the room that is left in the log area
 unfoldable pub gap : List Entry → ℕ
-gap entries = 262144 - filled entries
+gap entries = log_bytes - filled entries

@@ -2,7 +2,7 @@
 use Rattle.std.specs.Prelude.{ℕ, ◌+◌, ◌==◌, take, drop, slice_index, Some, None, if◌then◌else◌}
 use Rattle.byteorder.specs.Endian.{little_number}
 use Rattle.map_model.specs.SortedMap.{Bytes}
-use Rattle.entry_model.specs.Entries.{Entry}
+use Rattle.entry_model.specs.Entries.{Entry, body_length}
 
 abbrev pub kind_in : Bytes → ℕ
 kind_in rest = slice_index rest 0
@@ -15,7 +15,7 @@ value_length_in rest = little_number 4 (drop 3 rest)
 
 -- the bytes that the body takes
 unfoldable pub width_in : Bytes → ℕ
-width_in rest = 7 + key_length_in rest + value_length_in rest
+width_in rest = body_length (key_length_in rest) (value_length_in rest)
 
 unfoldable pub key_in : Bytes → Bytes
 key_in rest = take (key_length_in rest) (drop 7 rest)

@@ -1,4 +1,5 @@
-ghost use Rattle.entry_model.specs.Laws.{MapLaws, NewestLaws};
+//! The laws of the entries; the functions do nothing.
+ghost use Rattle.entry_model.specs.Laws.{MapLaws, NewestLaws, BodyHasItsLength};
 
 /// Law: the map of some entries has, at each key, what the newest entry of it says, and its keys rise.
 pub fn map_laws()
@@ -9,4 +10,9 @@ pub fn map_laws()
 /// its last entry says, and one entry more is set in its place.
 pub fn newest_laws()
     ensures { NewestLaws }
+{}
+
+/// Law: a body is seven bytes and the key and the value.
+pub fn body_has_its_length()
+    ensures { BodyHasItsLength }
 {}

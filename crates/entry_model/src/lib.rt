@@ -2,9 +2,10 @@
 //!
 //! Definitions that the crates of the log, of the memory table and of the tables share: an entry and when it is sound, the
 //! map that entries make in the order of writing, the newest entry of each key, and the bytes of an entry. They stand in
-//! `specs/`; the functions here carry their laws and do nothing. A program that keeps entries takes `entry_list`.
+//! `specs/`; the functions here carry their laws, and examples, and do nothing. A program that keeps entries takes `entry_list`.
 #![tactic(auto)]
 
+pub mod examples;
 mod laws;
 
-pub use laws::{map_laws, newest_laws};
+pub use laws::{body_has_its_length, map_laws, newest_laws};

@@ -1,3 +1,4 @@
+//! The kinds of records.
 /// What a record says of its key.
 #[derive(Clone, Copy, Debug, PartialEq, Eq)]
 pub enum Kind {

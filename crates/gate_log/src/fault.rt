@@ -1,3 +1,4 @@
+//! Why a log is not read.
 ghost use Rattle.std.specs.Prelude.{◌≡◌};
 ghost use Rattle.gate_log.specs.declared.fault.AreaFault.TheVariants.{Memory as area_memory};
 ghost use Rattle.gate_log.specs.declared.fault.LogFault.TheVariants.{Memory as log_memory, Device};

@@ -13,7 +13,7 @@
 //!
 //! ```text
 //! let mut log = Log::start(&mut disk, 0)?;
-//! if log.fits(7 + key.len() + value.len()) {
+//! if log.fits(body_length(key.len(), value.len())) {
 //!     log.append(&mut disk, &mut buf, Kind::Put, key, value)?;
 //! }
 //! let (log, entries) = Log::replay(alloc, &mut disk, 0)?;     // what was appended, in order
@@ -27,9 +27,11 @@ mod reading;
 mod writing;
 
 pub use entry::Kind;
+pub use entry_list::body_length;
 pub use fault::{AreaFault, LogFault};
-pub use log::{AREA_BYTES, Log};
+pub use log::Log;
 pub use reading::entries_in;
+pub use writing::BUFFER_BYTES;
 
 #[cfg(test)]
 mod tests {
@@ -49,7 +51,7 @@ mod tests {
 
     #[test]
     fn each_rule_of_a_record_at_its_place(rt: HostRuntime) {
-        let rows: [(&[u8], usize, u8); 8] = [
+        let examples: [(&[u8], usize, u8); 8] = [
             (&[1, 1, 1, 0, 0, 0, 0], 0, 1),
             (&[1, 3, 0, 0, 0, 0, 0, 0], 0, 2),
             (&[1, 1, 0, 0, 0, 0, 0, 0], 0, 3),
@@ -59,7 +61,7 @@ mod tests {
             (&[1, 1, 1, 0, 1, 0, 0, 0, 107, 120], 0, 1),
             (&[1, 2, 1, 0, 0, 0, 0, 0, 107, 1, 9, 1, 0, 0, 0, 0, 0], 9, 2),
         ];
-        for (bytes, place, rule) in rows {
+        for (bytes, place, rule) in examples {
             assert_eq!(rt;
                 fault_of(rt.alloc(), bytes),
                 AreaFault::Shape { place, rule }

@@ -1,9 +1,10 @@
-// The log over its device.
+//! The log over its device.
 ghost use Rattle.std.specs.Prelude.{◌≡◌, ◌+◌, ◌*◌, ◌≤◌, ◌<◌, ◌++◌, ◌^◌, ◌↔◌, [], ◌∷◌, List, ℕ, length, vec_len, IsTrue, IfOk, IfErr, OnOk, OnErr, MatchResult};
 ghost use Rattle.disk_trait.specs.Fault.{IsWriteThroughFault};
 ghost use Rattle.disk_trait.specs.Image.{overwritten};
 ghost use Rattle.disk_trait.specs.World.{Now, Leads, ReadMoves, WriteMoves, Rose};
-ghost use Rattle.entry_model.specs.Entries.{filled, need, record_bytes, IsEntry};
+ghost use Rattle.key_base.specs.Limits.{log_bytes, max_key_bytes, max_value_bytes};
+ghost use Rattle.entry_model.specs.Entries.{filled, need, body_length, record_bytes, IsEntry};
 ghost use Rattle.entry_model.specs.Entries as model;
 ghost use Rattle.log_model.specs.Area.{Position, LogIs, WithOrWithout, IsNextRecord, start_of, area_in};
 ghost use Rattle.gate_log.specs.Faults.{IsAppendFault, IsShapeIn, HasReadCause, IsNoShape};
@@ -16,11 +17,9 @@ use crate::reading::entries_in;
 use crate::writing::put_record;
 use disk_trait::{Disk, DiskFault, write_through};
 use entry_list::Entry;
+use key_base::LOG_BYTES;
 use std::alloc::Global;
 use std::marker::Model;
-
-/// The bytes of a log area.
-pub const AREA_BYTES: usize = 262_144;
 
 /// What a gate reads that is open. Every other byte is a closed one.
 pub(crate) const OPEN: u8 = 1;
@@ -36,13 +35,14 @@ pub struct Log {
 
 impl Model for Log {
     ghost use Rattle.std.specs.Prelude.{◌<◌, ◌≤◌};
+    ghost use Rattle.key_base.specs.Limits.{log_bytes};
     ghost use Rattle.log_model.specs.Area.{Position};
 
     ghost Value = { Position };
 
     ghost view = { λ l. record { area = l.area; filled = l.filled } };
 
-    ghost invariant = { λ l. (l.area ≤ 1) × (l.filled < 262144) };
+    ghost invariant = { λ l. (l.area ≤ 1) × (l.filled < log_bytes) };
 }
 
 /// The first byte of a log area on its device.
@@ -50,7 +50,7 @@ pub(crate) fn area_start(area: u8) -> u64
     requires { area ≤ 1 }
     ensures { result ≡ start_of area }
 {
-    AREA_BYTES as u64 * (u64::from(area) + 1)
+    LOG_BYTES as u64 * (u64::from(area) + 1)
 }
 
 impl Log {
@@ -83,11 +83,11 @@ impl Log {
     ) -> Result<Log, DiskFault>
         requires area { area ≤ 1 }
         requires sound { AllByRecursion IsEntry entries.now }
-        requires fits { filled entries.now < 262144 }
-        requires room { 66568 ≤ length buf.old }
+        requires fits { filled entries.now < log_bytes }
+        requires room { body_length max_key_bytes max_value_bytes + 1 ≤ length buf.old }
         ensures log { IfOk result (λ log. log ≡ record { area = area; filled = filled entries.now }) }
         ensures stands { IsTrue D.tells → OnOk result (Now (LogIs area entries.now) (D.world disk.new)) }
-        ensures moves { WriteMoves (start_of area) 262144 (D.world disk.old) (D.world disk.new) }
+        ensures moves { WriteMoves (start_of area) log_bytes (D.world disk.old) (D.world disk.new) }
         ensures cause { OnErr result (Rose (D.world disk.old).seen.write_faults (D.world disk.new).seen.write_faults) }
     {
         let mut log = Log::start(disk, area)?;
@@ -111,7 +111,7 @@ impl Log {
         ensures log { IfOk result (λ found. found.0 ≡ record { area = area; filled = filled found.1.items }) }
         ensures entries { IsTrue D.tells → IfOk result (λ found. LogIs area found.1.items (D.world disk.old).seen.held) }
         ensures sound { IfOk result (λ found. AllByRecursion IsEntry found.1.items) }
-        ensures within { IfOk result (λ found. filled found.1.items < 262144) }
+        ensures within { IfOk result (λ found. filled found.1.items < log_bytes) }
         ensures exact { (entries : List model.Entry) → IsTrue D.tells → LogIs area entries (D.world disk.old).seen.held → MatchResult result (λ found. found.1.items ≡ entries) IsNoShape }
         ensures shape { IsTrue D.tells → IfErr result (IsShapeIn area (D.world disk.old).seen.held) }
         ensures cause { IfErr result (HasReadCause area (D.world disk.old) (D.world disk.new)) }
@@ -130,22 +130,23 @@ impl Log {
 
     /// The bytes that are left in the area.
     pub fn gap(&self) -> usize
-        ensures { result + self.now.filled ≡ 262144 }
+        ensures { result + self.now.filled ≡ log_bytes }
     {
-        AREA_BYTES - self.filled
+        LOG_BYTES - self.filled
     }
 
     /// Whether a record whose body has `n` bytes fits: its gate, its body and the gate behind it.
     pub fn fits(&self, n: usize) -> bool
-        ensures { IsTrue result ↔ (self.now.filled + 1 + n + 1 ≤ 262144) }
+        ensures { IsTrue result ↔ (self.now.filled + 1 + n + 1 ≤ log_bytes) }
     {
-        n < AREA_BYTES - self.filled - 1
+        n < LOG_BYTES - self.filled - 1
     }
 
     /// Adds a record: its body with the closed gate behind it, and, once these are synced, the open gate.
     ///
     /// At `Ok` each image that a crash may leave has the record, and the device holds its bytes and a closed gate behind
-    /// them; meanwhile, and after an `Err`, it is there or not, never in part. Two writes and two syncs, no read and no memory: `buf` has room for the body and one byte more.
+    /// them; meanwhile, and after an `Err`, it is there or not, never in part. Two writes and two syncs, no read and no
+    /// memory: `buf` has room for the body and one byte more, as [`crate::BUFFER_BYTES`] are for each entry.
     pub fn append<D: Disk>(
         &mut self,
         disk: &mut D,
@@ -155,7 +156,7 @@ impl Log {
         value: &[u8],
     ) -> Result<(), DiskFault>
         requires rules { KeepsRules kind key.now value.now }
-        requires fits { self.old.filled + need (entry_of_kind kind key.now value.now) ≤ 262144 }
+        requires fits { self.old.filled + need (entry_of_kind kind key.now value.now) ≤ log_bytes }
         requires room { need (entry_of_kind kind key.now value.now) ≤ length buf.old + 1 }
         ensures crash { (entries : List model.Entry) → IsTrue D.tells → self.old.filled ≡ filled entries
             → Leads (LogIs self.old.area entries) (WithOrWithout self.old.area entries (entry_of_kind kind key.now value.now)) (LogIs self.old.area (entries ++ entry_of_kind kind key.now value.now ∷ []))
@@ -179,8 +180,8 @@ impl Log {
     // Adds an entry that was read from a log.
     fn add<D: Disk>(&mut self, disk: &mut D, buf: &mut [u8], entry: &Entry) -> Result<(), DiskFault>
         requires sound { IsEntry entry.now }
-        requires fits { self.old.filled + need entry.now ≤ 262144 }
-        requires room { 66568 ≤ length buf.old }
+        requires fits { self.old.filled + need entry.now ≤ log_bytes }
+        requires room { body_length max_key_bytes max_value_bytes + 1 ≤ length buf.old }
         ensures crash { (entries : List model.Entry) → IsTrue D.tells → self.old.filled ≡ filled entries
             → Leads (LogIs self.old.area entries) (WithOrWithout self.old.area entries entry.now) (LogIs self.old.area (entries ++ entry.now ∷ []))
             result (D.world disk.old) (D.world disk.new) }
@@ -200,13 +201,13 @@ impl Log {
 fn read_area<D: Disk>(alloc: Global, disk: &mut D, area: u8) -> Result<Vec<u8>, LogFault>
     requires { area ≤ 1 }
     ensures bytes { IsTrue D.tells → IfOk result (λ bytes. bytes.items ≡ area_in area (D.world disk.old).seen.held) }
-    ensures size { IfOk result (λ bytes. vec_len bytes ≡ 262144) }
+    ensures size { IfOk result (λ bytes. vec_len bytes ≡ log_bytes) }
     ensures exact { IfErr result IsNoShape }
     ensures shape { IfErr result (IsShapeIn area (D.world disk.old).seen.held) }
     ensures cause { IfErr result (HasReadCause area (D.world disk.old) (D.world disk.new)) }
     ensures moves { ReadMoves 1 (D.world disk.old) (D.world disk.new) }
 {
-    let mut bytes = vec![in alloc; 0; AREA_BYTES]?;
+    let mut bytes = vec![in alloc; 0; LOG_BYTES]?;
     disk.read(area_start(area), &mut bytes)?;
     Ok(bytes)
 }

@@ -1,4 +1,4 @@
-// A log area's bytes, record by record.
+//! A log area's bytes, record by record.
 ghost use Rattle.std.specs.Prelude.{◌≡◌, ◌+◌, ◌<◌, List, length, Some, None, IfOk, IfErr, MatchResult};
 ghost use Rattle.entry_model.specs.Entries.{filled, entry_of};
 ghost use Rattle.entry_model.specs.Entries as model;
@@ -10,19 +10,18 @@ ghost use Rattle.gate_log.specs.Faults.{IsFaultIn};
 use crate::entry::Kind;
 use crate::fault::AreaFault;
 use crate::log::OPEN;
-use crate::writing::HEAD_BYTES;
 use byte_fields::{get_u16, get_u32};
-use entry_list::Entry;
+use entry_list::{Entry, HEAD_BYTES};
 use key_base::{MAX_KEY_BYTES, MAX_VALUE_BYTES};
 use std::alloc::Global;
 
-/// The body, or the gate behind it, runs past the area.
+// The body, or the gate behind it, runs past the area.
 const PAST_THE_AREA: u8 = 1;
 
-/// The kind is none.
+// The kind is none.
 const NO_KIND: u8 = 2;
 
-/// A length is out of its limits, or a delete has a value.
+// A length is out of its limits, or a delete has a value.
 const OUT_OF_LIMITS: u8 = 3;
 
 // The key and the value of a body, as they stand in its area.

@@ -1,13 +1,16 @@
-// The bytes of a record.
+//! The bytes of a record.
 ghost use Rattle.std.specs.Prelude.{◌≡◌, ◌+◌, ◌≤◌, ◌++◌, [], ◌∷◌, length, take};
-ghost use Rattle.entry_model.specs.Entries.{body};
+ghost use Rattle.key_base.specs.Limits.{max_key_bytes, max_value_bytes};
+ghost use Rattle.entry_model.specs.Entries.{body, body_length};
 ghost use Rattle.gate_log.specs.Kinds.{KeepsRules, entry_of_kind};
 
 use crate::entry::Kind;
 use byte_fields::{put_u16, put_u32};
+use entry_list::HEAD_BYTES;
+use key_base::{MAX_KEY_BYTES, MAX_VALUE_BYTES};
 
-/// The bytes of a body's kind and lengths.
-pub(crate) const HEAD_BYTES: usize = 7;
+/// The bytes in which each record is laid out: the longest body, and the gate behind it.
+pub const BUFFER_BYTES: usize = HEAD_BYTES + MAX_KEY_BYTES + MAX_VALUE_BYTES + 1;
 
 // Puts bytes behind those that stand at the start of a buffer, and answers where they end.
 fn put(buf: &mut [u8], at: usize, bytes: &[u8]) -> usize
@@ -23,8 +26,8 @@ fn put(buf: &mut [u8], at: usize, bytes: &[u8]) -> usize
 /// Lays out an entry's body with a closed gate behind it, and answers how many bytes they are.
 pub(crate) fn put_record(buf: &mut [u8], kind: Kind, key: &[u8], value: &[u8]) -> usize
     requires rules { KeepsRules kind key.now value.now }
-    requires room { length key.now + length value.now + 8 ≤ length buf.old }
-    ensures end { result ≡ length key.now + length value.now + 8 }
+    requires room { body_length (length key.now) (length value.now) + 1 ≤ length buf.old }
+    ensures end { result ≡ body_length (length key.now) (length value.now) + 1 }
     ensures bytes { take result buf.new ≡ body (entry_of_kind kind key.now value.now) ++ 0 ∷ [] }
 {
     let mut head = [kind as u8; HEAD_BYTES];

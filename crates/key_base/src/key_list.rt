@@ -30,8 +30,8 @@ impl KeyList {
 
     /// Adds `key` at the end. Without memory the list stays as it was.
     pub fn push(&mut self, key: &[u8]) -> Result<(), AllocError>
-        ensures ok { OnOk result (self.new ≡ self.old ++ key.now ∷ []) }
-        ensures err { OnErr result (self.new ≡ self.old) }
+        ensures added { OnOk result (self.new ≡ self.old ++ key.now ∷ []) }
+        ensures unchanged { OnErr result (self.new ≡ self.old) }
     {
         let key = Vec::from_slice(*self.keys.allocator(), key)?;
         self.keys.push(key)?;

@@ -1,4 +1,4 @@
-//! The limits of the store, as constants for code. The definitions in `specs/` name the same numbers themselves.
+//! The limits of the store, as constants for code: the numbers of the definitions in `specs/`, as [`crate::constants_are_limits`] says.
 
 /// The bytes of the longest key; the shortest has one.
 pub const MAX_KEY_BYTES: usize = 1_024;
@@ -42,14 +42,11 @@ pub const MAX_BLOCK_ENTRIES: usize = 255;
 /// The pages of a log area, of which there are two.
 pub const LOG_PAGES: u32 = 64;
 
+/// The bytes of a log area.
+pub const LOG_BYTES: usize = 262_144;
+
 /// The data pages at which a merge closes an output table.
 pub const MERGE_DATA_PAGES: u32 = 1_024;
 
-/// How many blocks the cache keeps at most.
-pub const CACHE_BLOCKS: usize = 64;
-
 /// The most pairs that one range may ask for.
 pub const MAX_RANGE_PAIRS: u32 = 1_000_000;
-
-/// The greatest count of one load; the least is 1.
-pub const MAX_LOAD_COUNT: u32 = 1_000_000;

@@ -1,20 +1,22 @@
--- The limits of keys, values and bounds, and how a request that breaks one is answered.
+-- How a request that breaks a limit of keys, values or bounds is answered.
 use Rattle.std.specs.Prelude.{◌==◌, ◌||◌, nat_lt, if◌then◌else◌, length, Option, Some, None}
+use Rattle.key_base.specs.Limits.{max_key_bytes, max_value_bytes, max_bound_bytes}
+pub use Rattle.key_base.specs.Limits.{max_input_bytes}
 use Rattle.map_model.specs.SortedMap.{Bytes}
 use Rattle.line_model.specs.Requests.{Request, Put, Del, Get, Seek, Range, Count, Estimate, Explain, Flush, Compact, Quit, Bad}
 use Rattle.line_model.specs.Replies.{Reply, LongKey, LongValue}
 
--- a key has 1 to 1,024 bytes
+-- a key has one byte or more, and no more than its limit
 abbrev pub key_limit : Bytes → Option Reply
-key_limit key = if length key == 0 || nat_lt 1024 (length key) then Some (LongKey (length key)) else None
+key_limit key = if length key == 0 || nat_lt max_key_bytes (length key) then Some (LongKey (length key)) else None
 
--- a value has at most 65,536 bytes
+-- a value has no more bytes than its limit
 abbrev pub value_limit : Bytes → Option Reply
-value_limit value = if nat_lt 65536 (length value) then Some (LongValue (length value)) else None
+value_limit value = if nat_lt max_value_bytes (length value) then Some (LongValue (length value)) else None
 
--- a bound has at most 1,024 bytes
+-- a bound may be empty
 abbrev pub bound_limit : Bytes → Option Reply
-bound_limit bound = if nat_lt 1024 (length bound) then Some (LongKey (length bound)) else None
+bound_limit bound = if nat_lt max_bound_bytes (length bound) then Some (LongKey (length bound)) else None
 
 abbrev pub first_limit : Option Reply → Option Reply → Option Reply
 first_limit (Some limit) other = Some limit

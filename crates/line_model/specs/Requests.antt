@@ -1,6 +1,7 @@
 -- What a line asks.
 use Rattle.std.specs.Prelude.{ℕ, ◌+◌, ◌-◌, ◌*◌, ◌==◌, nat_le, ◌&&◌, if◌then◌else◌, List, [], ◌∷◌, length, fold, Option, Some, None, codes, decimal, bytes_eq}
 use Rattle.std.specs.List.{slice_split}
+use Rattle.key_base.specs.Limits.{max_line_bytes, max_range_pairs}
 use Rattle.map_model.specs.SortedMap.{Bytes}
 use Rattle.line_model.specs.Lines.{bytes_in}
 
@@ -19,12 +20,13 @@ pub data Request : Type 0 where
   Quit : Request
   Bad : (code : ℕ) → Request
 
--- the number that decimal digits spell: from 0 to 1,000,000, and in the one way that it is written
-abbrev pub number_of : Bytes → ℕ
-number_of word = fold (λ n digit. 10 * n + (digit - 48)) 0 word
+-- the number that decimal digits spell
+abbrev pub decimal_number : Bytes → ℕ
+decimal_number word = fold (λ n digit. 10 * n + (digit - 48)) 0 word
 
+-- it is no more than the pairs of a range may be, and is written in the one way
 abbrev pub number_in : Bytes → Option ℕ
-number_in word = if bytes_eq word (decimal (number_of word)) && nat_le (number_of word) 1000000 then Some (number_of word) else None
+number_in word = if bytes_eq word (decimal (decimal_number word)) && nat_le (decimal_number word) max_range_pairs then Some (decimal_number word) else None
 
 -- what is asked of a key, or of two, where the words are keys
 abbrev pub with_one : (Bytes → Request) → Option Bytes → Request
@@ -78,6 +80,6 @@ asked_by (verb ∷ words) =
     else (if bytes_eq verb (codes "compact") then none_of Compact words
     else (if bytes_eq verb (codes "quit") then none_of Quit words else Bad 2))))))))))
 
--- at most 140,000 bytes, in words that are parted by exactly one space
+-- a line within its limit, in words that are parted by exactly one space
 abbrev pub request_of : Bytes → Request
-request_of line = if nat_le (length line) 140000 then asked_by (slice_split (λ b. b == 32) line) else Bad 1
+request_of line = if nat_le (length line) max_line_bytes then asked_by (slice_split (λ b. b == 32) line) else Bad 1

@@ -6,7 +6,7 @@ use Rattle.map_model.specs.SortedMap.{Bytes}
 use Rattle.entry_model.specs.Entries.{Entry, kind_of, bytes_of, body, IsEntry}
 use Rattle.entry_model.specs.Reading.{kind_in, key_length_in, value_length_in, width_in}
 use Rattle.entry_model.proofs.Bodies.{KeepsLimits, body_size, key_length_again, value_length_again, width_again}
-use Rattle.log_model.specs.Records.{breaks_a_limit, refuse, broken_rule}
+use Rattle.log_model.specs.Records.{breaks_a_limit, rule_if, broken_rule}
 
 kind_kept : (value : Option Bytes) → (not (kind_of value == 1) && not (kind_of value == 2)) ≡ false
 kind_kept (Some value) = refl
@@ -16,8 +16,8 @@ limits_kept : (value : Option Bytes) (k v : ℕ) → 1 ≤ k → k ≤ 1024 → 
 limits_kept (Some value) k v some short_key short_value is = rw (ne_eqb k 0 (λ e. omega arith), le-ltb 1024 k short_key, le-ltb 65536 v short_value) refl
 limits_kept None k v some short_key short_value is = rw (ne_eqb k 0 (λ e. omega arith), le-ltb 1024 k short_key, le-ltb 65536 v short_value, eq-eqb v 0 is) refl
 
-passes : (bad : Bool) (rule : ℕ) (later : Option ℕ) → bad ≡ false → refuse bad rule later ≡ later
-passes bad rule later e = ap (λ (t : Bool). refuse t rule later) e
+passes : (bad : Bool) (rule : ℕ) (later : Option ℕ) → bad ≡ false → rule_if bad rule later ≡ later
+passes bad rule later e = ap (λ (t : Bool). rule_if t rule later) e
 
 pub unbroken : (entry : Entry) (rest : Bytes) → IsEntry entry → 0 < length rest → broken_rule (body entry ++ rest) ≡ None
 unbroken entry rest sound some =
@@ -30,7 +30,7 @@ unbroken entry rest sound some =
     ∙ passes _ 3 _ (limits_kept entry.value (key_length_in w) (value_length_in w) (omega (arith, key, sound.some_key)) (omega (arith, key, sound.short_key)) (omega (arith, value, sound.short_value)) value)
     ∙ passes (nat_le (length w) (width_in w)) 1 None (lt-leb (length w) (width_in w) (omega (arith, width_again entry rest sound, long)))
 
-refused_not : (bad : Bool) (rule : ℕ) (later : Option ℕ) → refuse bad rule later ≡ None → (bad ≡ false) × (later ≡ None)
+refused_not : (bad : Bool) (rule : ℕ) (later : Option ℕ) → rule_if bad rule later ≡ None → (bad ≡ false) × (later ≡ None)
 refused_not true rule later e = absurd cc
 refused_not false rule later e = (refl, e)
 

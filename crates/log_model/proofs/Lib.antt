@@ -2,6 +2,6 @@ pub mod Appended
 pub mod Bodies
 pub mod Ends
 pub mod Logs
-mod Rows
+pub mod Readings
 pub mod Walks
 pub mod Windows

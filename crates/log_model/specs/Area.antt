@@ -1,5 +1,6 @@
 -- The two log areas of a device, and what an image says there.
 use Rattle.std.specs.Prelude.{◌≡◌, ◌⊎◌, ℕ, ◌+◌, ◌*◌, ◌≤◌, List, [], ◌∷◌, ◌++◌}
+use Rattle.key_base.specs.Limits.{log_bytes}
 use Rattle.disk_trait.specs.Image.{Image, window}
 use Rattle.map_model.specs.SortedMap.{Bytes}
 use Rattle.entry_model.specs.Entries.{Entry, body, filled, need, IsEntry}
@@ -12,11 +13,11 @@ pub record Position : Type 0 where
 
 -- the bytes of an area
 unfoldable pub area_size : ℕ
-area_size = 262144
+area_size = log_bytes
 
--- area 0 begins at byte 262,144, area 1 behind it
+-- area 0 begins behind as many bytes as an area has, area 1 behind it
 abbrev pub start_of : ℕ → ℕ
-start_of area = 262144 * (area + 1)
+start_of area = log_bytes * (area + 1)
 
 abbrev pub area_in : ℕ → Image → Bytes
 area_in area image = window image (start_of area) area_size
@@ -38,4 +39,4 @@ pub record IsNextRecord (area : ℕ) (entries : List Entry) (entry : Entry) (gat
   pub here : gate ≡ start_of area + filled entries
   pub bytes_are : bytes ≡ body entry ++ 0 ∷ []
   pub sound : IsEntry entry
-  pub room : filled entries + need entry ≤ 262144
+  pub room : filled entries + need entry ≤ log_bytes

@@ -1,5 +1,7 @@
 -- The laws of logs.
-use Rattle.std.specs.Prelude.{◌≡◌, ◌⊎◌, ℕ, ◌+◌, ◌≤◌, List}
+use Rattle.std.specs.Prelude.{◌≡◌, ◌⊎◌, ℕ, ◌+◌, ◌<◌, ◌≤◌, List, length}
+use Rattle.byte_fields.specs.Spelling.{IsBytes}
+use Rattle.key_base.specs.Limits.{log_bytes}
 use Rattle.disk_trait.specs.Image.{Image, Torn}
 use Rattle.map_model.specs.SortedMap.{Bytes}
 use Rattle.entry_model.specs.Entries.{Entry}
@@ -12,8 +14,14 @@ pub record OneReading : Type 0 where
   pub one_fault : (place rule other number : ℕ) (bytes : Bytes) → Breaks place rule bytes → Breaks other number bytes → (place ≡ other) × (rule ≡ number)
   pub not_both : (entries : List Entry) (place rule : ℕ) (bytes : Bytes) → Spells entries bytes → Breaks place rule bytes → ⊥
 
+-- some bytes spell entries, or break a rule
+abbrev pub SpellsOrBreaks : Type 0
+SpellsOrBreaks =
+    (bytes : Bytes) → IsBytes bytes → 0 < length bytes
+    → ((entries : List Entry) × Spells entries bytes) ⊎ ((place : ℕ) × (rule : ℕ) × Breaks place rule bytes)
+
 -- what is written apart from its area changes nothing in a log
 abbrev pub IsKeptElsewhere : Type 0
 IsKeptElsewhere =
-    (area : ℕ) (entries : List Entry) (at n : ℕ) (old new : Image) → (start_of area + 262144 ≤ at) ⊎ (at + n ≤ start_of area)
+    (area : ℕ) (entries : List Entry) (at n : ℕ) (old new : Image) → (start_of area + log_bytes ≤ at) ⊎ (at + n ≤ start_of area)
     → Torn at n old new → LogIs area entries old → LogIs area entries new

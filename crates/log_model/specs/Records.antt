@@ -1,6 +1,7 @@
 -- The bytes of a log: records of entries, each behind an open gate, and then a gate that is not open.
 use Rattle.std.specs.Prelude.{◌≡◌, ◌≢◌, ℕ, ◌+◌, ◌<◌, List, length, take, drop, slice_index, flat_map, Bool, ◌==◌, ◌&&◌, ◌||◌, not, nat_lt, nat_le, if◌then◌else◌, Option, Some, None}
 use Rattle.std.specs.List.{AllByRecursion}
+use Rattle.key_base.specs.Limits.{max_key_bytes, max_value_bytes}
 use Rattle.map_model.specs.SortedMap.{Bytes}
 use Rattle.entry_model.specs.Entries.{Entry, IsEntry, record_bytes, filled}
 use Rattle.entry_model.specs.Reading.{kind_in, key_length_in, value_length_in, width_in}
@@ -20,19 +21,20 @@ pub record Spells (entries : List Entry) (bytes : Bytes) : Type 0 where
 
 -- a key of no byte or of too many, a value of too many, or a delete with one
 abbrev pub breaks_a_limit : ℕ → ℕ → ℕ → Bool
-breaks_a_limit kind key value = key == 0 || nat_lt 1024 key || nat_lt 65536 value || (kind == 2 && not (value == 0))
+breaks_a_limit kind key value = key == 0 || nat_lt max_key_bytes key || nat_lt max_value_bytes value || (kind == 2 && not (value == 0))
 
-abbrev pub refuse : Bool → ℕ → Option ℕ → Option ℕ
-refuse bad rule later = if bad then Some rule else later
+-- this rule where it is broken, else what later rules say
+abbrev pub rule_if : Bool → ℕ → Option ℕ → Option ℕ
+rule_if bad rule later = if bad then Some rule else later
 
 -- The first rule that the bytes behind an open gate break. 1: the body or the gate behind it runs past them, tried on the
 -- first seven bytes, and on the whole at last; 2: the kind; 3: the lengths.
 abbrev pub broken_rule : Bytes → Option ℕ
 broken_rule body =
-    refuse (nat_lt (length body) 7) 1
-    (refuse (not (kind_in body == 1) && not (kind_in body == 2)) 2
-    (refuse (breaks_a_limit (kind_in body) (key_length_in body) (value_length_in body)) 3
-    (refuse (nat_le (length body) (width_in body)) 1
+    rule_if (nat_lt (length body) 7) 1
+    (rule_if (not (kind_in body == 1) && not (kind_in body == 2)) 2
+    (rule_if (breaks_a_limit (kind_in body) (key_length_in body) (value_length_in body)) 3
+    (rule_if (nat_le (length body) (width_in body)) 1
     None)))
 
 -- behind some whole records an open gate stands at this place, and what is behind it breaks this rule first

@@ -1,25 +1,24 @@
+//! The log over a disk that crashes, replayed and put into a table.
 use disk_mem::{Choice, MemDisk};
 use disk_trait::{Disk, DiskFault, Op};
-use gate_log::{Kind, Log, LogFault};
+use gate_log::{BUFFER_BYTES, Kind, Log, LogFault, body_length};
+use key_base::{LOG_BYTES, MAX_KEY_BYTES, MAX_VALUE_BYTES};
 use mem_table::MemTable;
 use std::alloc::{AllocError, Global};
 use std::test::Fail;
 
-/// The longest body, and the gate behind it.
-const BUFFER_BYTES: usize = 7 + 1_024 + 65_536 + 1;
-
 // Puts a value, where key and value keep their limits and the record fits. Answers whether the record is there.
 fn put<D: Disk>(log: &mut Log, disk: &mut D, buf: &mut [u8], key: &[u8], value: &[u8]) -> bool {
-    let short = !key.is_empty() && key.len() <= 1_024 && value.len() <= 65_536;
-    if !short || buf.len() < BUFFER_BYTES || !log.fits(7 + key.len() + value.len()) {
+    let short = !key.is_empty() && key.len() <= MAX_KEY_BYTES && value.len() <= MAX_VALUE_BYTES;
+    if !short || buf.len() < BUFFER_BYTES || !log.fits(body_length(key.len(), value.len())) {
         return false;
     }
     log.append(disk, buf, Kind::Put, key, value).is_ok()
 }
 
 fn delete<D: Disk>(log: &mut Log, disk: &mut D, buf: &mut [u8], key: &[u8]) -> bool {
-    let short = !key.is_empty() && key.len() <= 1_024;
-    if !short || buf.len() < BUFFER_BYTES || !log.fits(7 + key.len()) {
+    let short = !key.is_empty() && key.len() <= MAX_KEY_BYTES;
+    if !short || buf.len() < BUFFER_BYTES || !log.fits(body_length(key.len(), 0)) {
         return false;
     }
     log.append(disk, buf, Kind::Delete, key, &[]).is_ok()
@@ -202,16 +201,19 @@ fn repeated(alloc: Global, byte: u8, count: usize) -> Result<Vec<u8>, AllocError
 
 // A log of three records of the longest key and value, and one of a short key that leaves so many bytes.
 fn filled_to(alloc: Global, disk: &mut MemDisk, buf: &mut [u8], left: usize) -> Result<bool, Fail> {
-    let key = repeated(alloc, b'k', 1_024)?;
-    let value = repeated(alloc, b'x', 65_536)?;
+    let key = repeated(alloc, b'k', MAX_KEY_BYTES)?;
+    let value = repeated(alloc, b'x', MAX_VALUE_BYTES)?;
     let Ok(mut log) = Log::start(disk, 0) else {
         return Ok(false);
     };
     for _ in 0..3 {
         put(&mut log, disk, buf, &key, &value);
     }
-    // A gate, the head of a body and the key.
-    let rest = log.gap().saturating_sub(1 + 7 + 1).saturating_sub(left);
+    // A gate, and a body whose key has one byte.
+    let rest = log
+        .gap()
+        .saturating_sub(1 + body_length(1, 0))
+        .saturating_sub(left);
     Ok(rest <= value.len() && put(&mut log, disk, buf, b"k", &value[..rest]) && log.gap() == left)
 }
 
@@ -232,7 +234,10 @@ fn a_log_filled_to_its_last_byte(rt: HostRuntime) -> Result<(), Fail> {
 fn a_fault_names_the_byte_of_the_device(rt: HostRuntime) -> Result<(), Fail> {
     let alloc = rt.alloc();
     let mut disk = MemDisk::new(alloc, &[])?;
-    assert!(rt; disk.write(262_144, &[1, 3, 1, 0, 0, 0, 0, 0, 107]).is_ok());
+    assert!(rt;
+        disk.write(LOG_BYTES as u64, &[1, 3, 1, 0, 0, 0, 0, 0, 107])
+            .is_ok()
+    );
     assert!(rt;
         disk.write(524_288, &[1, 2, 1, 0, 0, 0, 0, 0, 107, 1, 1, 0, 0])
             .is_ok()
@@ -240,7 +245,7 @@ fn a_fault_names_the_byte_of_the_device(rt: HostRuntime) -> Result<(), Fail> {
     assert_eq!(rt;
         fault_of(alloc, &mut disk, 0),
         Some(LogFault::Shape {
-            at: 262_144,
+            at: LOG_BYTES as u64,
             rule: 2
         })
     );
@@ -286,7 +291,7 @@ fn bytes_of_two_records(alloc: Global) -> Result<[u8; 20], Fail> {
         delete(&mut log, &mut disk, &mut buf, b"a");
     }
     let mut bytes = [9; 20];
-    match disk.read(262_144, &mut bytes) {
+    match disk.read(LOG_BYTES as u64, &mut bytes) {
         Ok(()) => Ok(bytes),
         Err(_) => Err(Fail::from("no bytes")),
     }

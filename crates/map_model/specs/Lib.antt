@@ -1,4 +1,4 @@
 pub mod SortedMap
 pub mod Slices
 pub mod Laws
-pub mod Rows
+pub mod Examples

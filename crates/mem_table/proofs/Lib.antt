@@ -3,5 +3,5 @@ pub mod Flat
 pub mod Found
 pub mod Ordered
 pub mod Places
-mod Rows
+mod Examples
 pub mod Setting

@@ -6,7 +6,7 @@ use Rattle.entry_model.specs.Entries.{Entry}
 use Rattle.entry_model.specs.Newest.{IsBelow, IsAbove}
 
 -- its entries, and for how many more it has room
-pub record Table : Type 0 where
+pub record MemoryTable : Type 0 where
   pub entries : List Entry
   pub spare : ℕ
 

@@ -1,4 +1,4 @@
-// The order of places, in chunks: a place goes between two others by moving those of one chunk.
+//! The order of places, in chunks: a place goes between two others by moving those of one chunk.
 ghost use Rattle.std.specs.Prelude.{◌≡◌, ◌+◌, ◌<◌, ◌≤◌, [], ◌∷◌, ◌++◌, length, drop, vec_len, vec_capacity, slice_index};
 ghost use Rattle.std.specs.List.{insert};
 ghost use Rattle.arrayvec.specs.ArrayVec.{array_vec_len};

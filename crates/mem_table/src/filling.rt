@@ -1,4 +1,4 @@
-// The newest entries of a log, by rising keys.
+//! The newest entries of a log, by rising keys.
 ghost use Rattle.std.specs.Prelude.{◌≡◌, ◌≢◌, ◌≤◌, ◌<◌, ◌-◌, length, slice_index_or, true, false, OnOk, IfOk};
 ghost use Rattle.entry_model.specs.Entries as model;
 ghost use Rattle.std.specs.List.{range_with_len};

@@ -1,4 +1,4 @@
-// Where a key's place is in the order.
+//! Where a key's place is in the order.
 ghost use Rattle.std.specs.Prelude.{◌≡◌, IfOk, IfErr, length, drop};
 ghost use Rattle.std.specs.List.Sorted.{IsBinarySearchResult, IsSearchInRange};
 ghost use Rattle.map_model.specs.SortedMap.{byte_order};

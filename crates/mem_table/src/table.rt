@@ -1,3 +1,4 @@
+//! The memory table.
 ghost use Rattle.std.specs.Prelude.{◌≡◌, ◌+◌, ◌≤◌, ◌<◌, ℕ, List, [], ◌∷◌, ◌++◌, length, IfOk, OnOk, OnErr, IsTrue, ◌↔◌};
 ghost use Rattle.std.specs.Option.{option_map};
 ghost use Rattle.entry_model.specs.Entries as model;
@@ -12,7 +13,7 @@ use entry_list::Entry;
 use std::alloc::{AllocError, Global};
 use std::marker::Model;
 
-/// No table has more entries, so that each has a place of 32 bits.
+// No table has more entries, so that each has a place of 32 bits.
 const MOST_ENTRIES: usize = 1 << 32;
 
 /// The newest entry of each key, by rising keys: the entries as they were put, and beside them the order of their places.
@@ -24,10 +25,10 @@ pub struct MemTable {
 
 impl Model for MemTable {
     ghost use Rattle.std.specs.Prelude.{◌≤◌, vec_capacity, vec_len};
-    ghost use Rattle.mem_table.specs.Table.{Table};
+    ghost use Rattle.mem_table.specs.Table.{MemoryTable};
     ghost use Rattle.mem_table.specs.Chunks.{flat, in_order, Orders, spare_places};
 
-    ghost Value = { Table };
+    ghost Value = { MemoryTable };
 
     ghost view = { λ t. record { entries = in_order t.entries.items (flat t.chunks.items); spare = spare_places (vec_capacity t.entries) (vec_len t.entries) (vec_capacity t.chunks) (vec_len t.chunks) } };
 
@@ -83,8 +84,9 @@ impl MemTable {
     pub fn reserve_for(&mut self, key: &[u8], value: Option<&[u8]>) -> Result<Entry, AllocError>
         ensures prepared { IfOk result (λ e. e ≡ entry_of key.now (option_map (λ v. v.now) value.entry)) }
         ensures spare { OnOk result (1 ≤ self.new.spare) }
+        ensures more { self.old.spare ≤ self.new.spare }
         ensures kept { self.new.entries ≡ self.old.entries }
-        ensures refused { OnErr result (self.new ≡ self.old) }
+        ensures unchanged { OnErr result (self.new ≡ self.old) }
     {
         let entry = Entry::new(*self.entries.allocator(), key, value)?;
         self.reserve()?;
@@ -94,8 +96,9 @@ impl MemTable {
     // Takes memory for one entry more, and for a chunk that its place may need.
     fn reserve(&mut self) -> Result<(), AllocError>
         ensures spare { OnOk result (1 ≤ self.new.spare) }
+        ensures more { self.old.spare ≤ self.new.spare }
         ensures kept { self.new.entries ≡ self.old.entries }
-        ensures refused { OnErr result (self.new ≡ self.old) }
+        ensures unchanged { OnErr result (self.new ≡ self.old) }
     {
         if self.entries.len() >= MOST_ENTRIES {
             return Err(AllocError);

@@ -3,7 +3,7 @@ use std::fs::{File, OpenOptions};
 use std::io;
 use std::os::unix::fs::FileExt;
 
-/// Behind both log areas.
+// Behind both log areas.
 const AT: u64 = 1 << 20;
 
 #[derive(Drop)]

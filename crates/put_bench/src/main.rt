@@ -33,7 +33,7 @@ usage: put_bench PATH ORDER KEY VALUE COUNT SEED
   COUNT puts of keys of KEY bytes and values of VALUE bytes in an ORDER (rising, falling, random or inward), and a start
   over them, with the memory table and with the map of std, in turn";
 
-/// What is appended, in bytes.
+// What is appended, in bytes.
 const KEY: &[u8] = b"key-8byt";
 
 const VALUE: &[u8] = b"0123456789abcdef0123456789abcdef";

@@ -10,7 +10,7 @@ use std::io;
 use std::num::nearest_u64_to_f64;
 use std::time::{CpuClock, Duration};
 
-/// The least time of so many counts.
+// The least time of so many counts.
 const ROUNDS: u32 = 6;
 
 /// What is put.

@@ -1,15 +1,9 @@
 //! A log that records are added to.
 use anyhow::{Result, bail};
-use gate_log::{Kind, Log};
+use gate_log::{BUFFER_BYTES, Kind, Log, body_length};
+use key_base::{MAX_KEY_BYTES, MAX_VALUE_BYTES};
 use real_outside::FileOutside;
 use std::alloc::Global;
-
-/// The longest key and the longest value that are put, and room for their record.
-const MOST_KEY: usize = 1_024;
-
-const MOST_VALUE: usize = 1_024;
-
-const BUFFER_BYTES: usize = 70_000;
 
 /// The log in the first area of a device, begun anew.
 #[derive(Drop)]
@@ -29,10 +23,10 @@ impl Records {
 
     /// Adds a put, where it fits.
     pub fn append(&mut self, disk: &mut FileOutside, key: &[u8], value: &[u8]) -> Result<()> {
-        let sound = !key.is_empty() && key.len() <= MOST_KEY && value.len() <= MOST_VALUE;
+        let sound = !key.is_empty() && key.len() <= MAX_KEY_BYTES && value.len() <= MAX_VALUE_BYTES;
         if !sound
             || self.buffer.len() < BUFFER_BYTES
-            || !self.log.fits(7 + key.len() + value.len())
+            || !self.log.fits(body_length(key.len(), value.len()))
         {
             bail!("the log is full");
         }

@@ -5,7 +5,7 @@ use Rattle.std.proofs.lemmas.List.{append-nil, length-take, take_min, take_all}
 use Rattle.std.proofs.Math.ListN.{drop_of_length-le}
 use Rattle.hex.specs.Hex.{encode_lower, encode_with, lower_digits}
 use Rattle.map_model.specs.SortedMap.{Bytes}
-use Rattle.store_commands.specs.Spoken.{Shows}
+use Rattle.store_commands.specs.Spoken.{HasPiece}
 
 drop_parts : (n : ℕ) (xs ys : Bytes) → drop n (xs ++ ys) ≡ drop n xs ++ drop (n - length xs) ys
 drop_parts zero xs ys = let none : 0 - length xs ≡ 0 = omega arith in ap (λ (k : ℕ). xs ++ drop k ys) (sym none)
@@ -25,9 +25,9 @@ drop_most skip text = elim (cases_lt skip (length text)) [
 ]
 
 -- a text that is passed over whole, or for which there is no room
-pub shows_more : (from : ℕ) (whole text : Bytes) (filled skip : ℕ) (old new : Bytes) (filled' : ℕ) → Shows from whole filled skip old → length new ≡ length old
+pub shows_more : (from : ℕ) (whole text : Bytes) (filled skip : ℕ) (old new : Bytes) (filled' : ℕ) → HasPiece from whole filled skip old → length new ≡ length old
     → filled' ≡ filled + length (take (length old - filled) (drop skip text)) → take filled' new ≡ take filled old ++ take (length old - filled) (drop skip text)
-    → Shows from (whole ++ text) filled' (skip - length text) new
+    → HasPiece from (whole ++ text) filled' (skip - length text) new
 shows_more from whole text filled skip old new filled' shows same size is =
     let room = length old in
     let rest : from - length whole ≡ skip = sym shows.rest in
@@ -50,18 +50,18 @@ part_is skip room text part n is size =
     ap (λ (k : ℕ). take k part) (size ∙ (let turned : min (length part) room ≡ min room (length part) = omega arith in turned)) ∙ take_min room part ∙ ap (take room) (is ∙ drop_most skip text)
 
 -- what `add` does
-pub shows_added : (from : ℕ) (whole text : Bytes) (filled skip : ℕ) (old new : Bytes) (filled' skipped : ℕ) (part : Bytes) (n : ℕ) → Shows from whole filled skip old → length new ≡ length old
+pub shows_added : (from : ℕ) (whole text : Bytes) (filled skip : ℕ) (old new : Bytes) (filled' skipped : ℕ) (part : Bytes) (n : ℕ) → HasPiece from whole filled skip old → length new ≡ length old
     → skipped ≡ min skip (length text) → part ≡ drop skipped text → n ≡ min (length part) (length old - filled) → filled' ≡ filled + length (take n part) → take filled' new ≡ take filled old ++ take n part
-    → Shows from (whole ++ text) filled' (skip - skipped) new
+    → HasPiece from (whole ++ text) filled' (skip - skipped) new
 shows_added from whole text filled skip old new filled' skipped part n shows same passes is size ends puts =
     let copied = part_is skip (length old - filled) text part n (is ∙ ap (λ (k : ℕ). drop k text) passes) size in
     let left : skip - length text ≡ skip - skipped = omega arith in
-    subst (λ (k : ℕ). Shows from (whole ++ text) filled' k new) left
+    subst (λ (k : ℕ). HasPiece from (whole ++ text) filled' k new) left
     (shows_more from whole text filled skip old new filled' shows same (ends ∙ ap (λ (l : Bytes). filled + length l) copied) (puts ∙ ap (λ (l : Bytes). take filled old ++ l) copied))
 
 -- a chunk of which nothing lands
-pub shows_past : (from : ℕ) (whole text : Bytes) (filled skip : ℕ) (buffer : Bytes) → Shows from whole filled skip buffer → (length text ≤ skip) ⊎ (filled ≡ length buffer)
-    → Shows from (whole ++ text) filled (skip - length text) buffer
+pub shows_past : (from : ℕ) (whole text : Bytes) (filled skip : ℕ) (buffer : Bytes) → HasPiece from whole filled skip buffer → (length text ≤ skip) ⊎ (filled ≡ length buffer)
+    → HasPiece from (whole ++ text) filled (skip - length text) buffer
 shows_past from whole text filled skip buffer shows out =
     let none : take (length buffer - filled) (drop skip text) ≡ [] = elim out [
       | inl past ↦ ap (take (length buffer - filled)) (drop_of_length-le text past) ∙ take_all (length buffer - filled) [] (omega arith)
@@ -76,7 +76,7 @@ encode_more [] ys = refl
 encode_more (x ∷ xs) ys = ap (λ (l : Bytes). slice_index lower_digits (x / 16) ∷ slice_index lower_digits (x % 16) ∷ l) (encode_more xs ys)
 
 -- before anything
-pub shows_none : (from : ℕ) (buffer : Bytes) → Shows from [] 0 from buffer
+pub shows_none : (from : ℕ) (buffer : Bytes) → HasPiece from [] 0 from buffer
 shows_none from buffer =
     let none : take (length buffer) (drop from []) ≡ [] = ap (take (length buffer)) (drop_of_length-le [] (omega arith)) ∙ take_all (length buffer) [] (omega arith) in
     record { bytes = sym none; size = sym (ap length none); rest = (let all : from ≡ from - 0 = omega arith in all) }

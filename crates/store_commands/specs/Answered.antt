@@ -1,6 +1,7 @@
 -- Which lines the program answers today.
 use Rattle.std.specs.Prelude.{nat_le, ◌&&◌, not, Bool, false, List, [], ◌∷◌, length, if◌then◌else◌, codes, bytes_eq, ◌==◌, ◌||◌}
 use Rattle.std.specs.List.{slice_split}
+use Rattle.key_base.specs.Limits.{max_line_bytes}
 use Rattle.map_model.specs.SortedMap.{Bytes}
 use Rattle.line_model.specs.Requests.{Request, Bad, request_of}
 
@@ -20,4 +21,4 @@ is_answered (verb ∷ words) = is_among verb answered_verbs
 -- What a line asks of the program: of another verb it is bad 2, whatever follows, unless it is too long.
 abbrev pub asked_here : Bytes → Request
 asked_here line =
-    if nat_le (length line) 140000 && not (is_answered (slice_split (λ b. b == 32) line)) then Bad 2 else request_of line
+    if nat_le (length line) max_line_bytes && not (is_answered (slice_split (λ b. b == 32) line)) then Bad 2 else request_of line

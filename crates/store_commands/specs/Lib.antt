@@ -1,3 +1,5 @@
+pub use Rattle.line_model.specs.Replies
+pub use Rattle.line_model.specs.Requests
 pub mod Answered
 pub mod Asks
 pub mod Cutting

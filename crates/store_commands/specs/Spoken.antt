@@ -26,7 +26,7 @@ spoken Device = line.Device
 spoken (Damaged damage) = line.Damaged damage
 
 -- the buffer begins with what fits of the text from a place on
-pub record Shows (from : ℕ) (text : Bytes) (filled skip : ℕ) (buffer : Bytes) : Type 0 where
+pub record HasPiece (from : ℕ) (text : Bytes) (filled skip : ℕ) (buffer : Bytes) : Type 0 where
   pub bytes : take filled buffer ≡ take (length buffer) (drop from text)
   pub size : filled ≡ length (take (length buffer) (drop from text))
   pub rest : skip ≡ from - length text

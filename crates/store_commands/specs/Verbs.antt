@@ -1,37 +1,19 @@
--- The verbs, and what each asks.
-use Rattle.std.specs.Prelude.{if◌then◌else◌, List, Option, Some, None, codes, bytes_eq}
+-- The words of the verbs.
+use Rattle.std.specs.Prelude.{codes}
 use Rattle.map_model.specs.SortedMap.{Bytes}
-use Rattle.line_model.specs.Requests as line
-use Rattle.line_model.specs.Requests.{Bad, none_of, one_of, two_of, seek_of, range_of}
 use Rattle.store_commands.specs.declared.verb.Verb.{Verb}
 use Rattle.store_commands.specs.declared.verb.Verb.TheVariants.{Put, Del, Get, Seek, Range, Count, Estimate, Explain, Flush, Compact, Quit}
 
--- the verb that a word spells
-abbrev pub verb_of : Bytes → Option Verb
-verb_of word =
-    if bytes_eq word (codes "put") then Some Put
-    else (if bytes_eq word (codes "del") then Some Del
-    else (if bytes_eq word (codes "get") then Some Get
-    else (if bytes_eq word (codes "seek") then Some Seek
-    else (if bytes_eq word (codes "range") then Some Range
-    else (if bytes_eq word (codes "count") then Some Count
-    else (if bytes_eq word (codes "estimate") then Some Estimate
-    else (if bytes_eq word (codes "explain") then Some Explain
-    else (if bytes_eq word (codes "flush") then Some Flush
-    else (if bytes_eq word (codes "compact") then Some Compact
-    else (if bytes_eq word (codes "quit") then Some Quit else None))))))))))
-
--- what a verb asks with the words behind it
-abbrev pub asked_with : Option Verb → List Bytes → line.Request
-asked_with (Some Put) words = two_of line.Put words
-asked_with (Some Del) words = one_of line.Del words
-asked_with (Some Get) words = one_of line.Get words
-asked_with (Some Seek) words = seek_of words
-asked_with (Some Range) words = range_of words
-asked_with (Some Count) words = two_of line.Count words
-asked_with (Some Estimate) words = two_of line.Estimate words
-asked_with (Some Explain) words = one_of line.Explain words
-asked_with (Some Flush) words = none_of line.Flush words
-asked_with (Some Compact) words = none_of line.Compact words
-asked_with (Some Quit) words = none_of line.Quit words
-asked_with None words = Bad 2
+-- the word that a verb is spelled by; what it asks with the words behind it is the grammar's `asked_by`
+abbrev pub verb_word : Verb → Bytes
+verb_word Put = codes "put"
+verb_word Del = codes "del"
+verb_word Get = codes "get"
+verb_word Seek = codes "seek"
+verb_word Range = codes "range"
+verb_word Count = codes "count"
+verb_word Estimate = codes "estimate"
+verb_word Explain = codes "explain"
+verb_word Flush = codes "flush"
+verb_word Compact = codes "compact"
+verb_word Quit = codes "quit"

@@ -1,4 +1,4 @@
-// The verbs that the program answers today.
+//! The verbs that the program answers today.
 ghost use Rattle.std.specs.Prelude.{◌≡◌};
 ghost use Rattle.store_commands.specs.Answered.{asked_here, answered_verbs, is_among};
 ghost use Rattle.store_commands.specs.Asks.{Asks};

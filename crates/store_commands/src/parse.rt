@@ -1,10 +1,11 @@
-// Lines, parsed.
+//! Lines, parsed.
 ghost use Rattle.std.specs.Prelude.{◌≡◌, ◌+◌, ◌∷◌, [], List, ◌/◌, ◌≤◌, IfOk, IfErr, IfSome, IfNone, length, vec_len};
+ghost use Rattle.key_base.specs.Limits.{max_line_bytes};
 ghost use Rattle.map_model.specs.SortedMap.{Bytes};
 ghost use Rattle.line_model.specs.Requests as grammar;
-ghost use Rattle.line_model.specs.Requests.{Bad, request_of, one_of, two_of, none_of, with_two, seek_of, range_of};
+ghost use Rattle.line_model.specs.Requests.{Bad, asked_by, request_of, one_of, two_of, none_of, with_two, seek_of, range_of};
 ghost use Rattle.line_model.specs.Lines.{bytes_in};
-ghost use Rattle.store_commands.specs.Verbs.{asked_with};
+ghost use Rattle.store_commands.specs.Verbs.{verb_word};
 ghost use Rattle.store_commands.specs.Asks.{Asks, AreWords, AreWithin};
 
 use crate::request::{BadLine, Request};
@@ -13,7 +14,7 @@ use crate::words::{Words, cut, decoded, number, words_in};
 use key_base::MAX_LINE_BYTES;
 use std::alloc::{AllocError, Global};
 
-/// Room for the bytes that the words of every line spell: two digits a byte.
+// Room for the bytes that the words of every line spell: two digits a byte.
 const SCRATCH_BYTES: usize = MAX_LINE_BYTES / 2;
 
 /// Room for what one line says. Made once, and lent to each line that is read.
@@ -47,7 +48,7 @@ fn decoded_two<'a>(first: &[u8], second: &[u8], room: &'a mut [u8]) -> Option<(&
 // The one key behind a verb.
 fn one_key<'a>(words: Words<'_>, room: &'a mut [u8]) -> Result<&'a [u8], BadLine>
     requires room { length room.old ≡ 70000 }
-    requires sizes { AreWithin 140000 words }
+    requires sizes { AreWithin max_line_bytes words }
     ensures key { (list : List Bytes) (asks : Bytes → grammar.Request) → AreWords words.entry list → IfOk result (λ key. one_of asks list ≡ asks key.now) }
     ensures bad { (list : List Bytes) (asks : Bytes → grammar.Request) → AreWords words.entry list → IfErr result (λ bad. one_of asks list ≡ Bad bad.0) }
 {
@@ -63,7 +64,7 @@ fn one_key<'a>(words: Words<'_>, room: &'a mut [u8]) -> Result<&'a [u8], BadLine
 // The two keys behind a verb, or the key and the value.
 fn two_keys<'a>(words: Words<'_>, room: &'a mut [u8]) -> Result<(&'a [u8], &'a [u8]), BadLine>
     requires room { length room.old ≡ 70000 }
-    requires sizes { AreWithin 140000 words }
+    requires sizes { AreWithin max_line_bytes words }
     ensures keys { (list : List Bytes) (asks : Bytes → Bytes → grammar.Request) → AreWords words.entry list → IfOk result (λ keys. two_of asks list ≡ asks keys.0.now keys.1.now) }
     ensures bad { (list : List Bytes) (asks : Bytes → Bytes → grammar.Request) → AreWords words.entry list → IfErr result (λ bad. two_of asks list ≡ Bad bad.0) }
 {
@@ -89,7 +90,7 @@ fn no_word(words: Words<'_>) -> Result<(), BadLine>
 
 fn parse_seek<'a>(words: Words<'_>, room: &'a mut [u8]) -> Result<Request<'a>, BadLine>
     requires room { length room.old ≡ 70000 }
-    requires sizes { AreWithin 140000 words }
+    requires sizes { AreWithin max_line_bytes words }
     ensures { (list : List Bytes) → AreWords words.entry list → Asks result (seek_of list) }
 {
     match words {
@@ -107,7 +108,7 @@ fn parse_seek<'a>(words: Words<'_>, room: &'a mut [u8]) -> Result<Request<'a>, B
 
 fn parse_range<'a>(words: Words<'_>, room: &'a mut [u8]) -> Result<Request<'a>, BadLine>
     requires room { length room.old ≡ 70000 }
-    requires sizes { AreWithin 140000 words }
+    requires sizes { AreWithin max_line_bytes words }
     ensures { (list : List Bytes) → AreWords words.entry list → Asks result (range_of list) }
 {
     let Words::Three(lo, hi, n) = words else {
@@ -123,18 +124,11 @@ fn parse_range<'a>(words: Words<'_>, room: &'a mut [u8]) -> Result<Request<'a>, 
 }
 
 // What a verb asks with the words behind it.
-fn parse_words<'a>(
-    verb: Option<Verb>,
-    words: Words<'_>,
-    room: &'a mut [u8],
-) -> Result<Request<'a>, BadLine>
+fn parse_words<'a>(verb: Verb, words: Words<'_>, room: &'a mut [u8]) -> Result<Request<'a>, BadLine>
     requires room { length room.old ≡ 70000 }
-    requires sizes { AreWithin 140000 words }
-    ensures { (list : List Bytes) → AreWords words.entry list → Asks result (asked_with verb list) }
+    requires sizes { AreWithin max_line_bytes words }
+    ensures { (list : List Bytes) → AreWords words.entry list → Asks result (asked_by (verb_word verb ∷ list)) }
 {
-    let Some(verb) = verb else {
-        return Err(BadLine(2));
-    };
     match verb {
         Verb::Put => {
             let (key, value) = two_keys(words, room)?;
@@ -184,5 +178,8 @@ pub fn parse_line<'a>(line: &[u8], scratch: &'a mut Scratch) -> Result<Request<'
         return Err(BadLine(1));
     }
     let (word, rest) = cut(line);
-    parse_words(verb_in(word), words_in(rest), scratch.bytes.as_mut_slice())
+    let Some(verb) = verb_in(word) else {
+        return Err(BadLine(2));
+    };
+    parse_words(verb, words_in(rest), scratch.bytes.as_mut_slice())
 }

@@ -1,9 +1,9 @@
-// The replies, and their text a piece at a time.
+//! The replies, and their text a piece at a time.
 ghost use Rattle.std.specs.Prelude.{◌≡◌, ◌≤◌, ◌-◌, ◌++◌, ◌∷◌, ℕ, [], min, length, take, drop, decimal};
 ghost use Rattle.map_model.specs.SortedMap.{Bytes};
 ghost use Rattle.line_model.specs.Replies.{Explained, text_of, word_of, at_words, part_word, sum_word, damage_words};
 ghost use Rattle.byte_fields.specs.declared.parts.Damage.TheVariants.{Sum, Shape};
-ghost use Rattle.store_commands.specs.Spoken.{spoken, Shows};
+ghost use Rattle.store_commands.specs.Spoken.{spoken, HasPiece};
 
 use crate::window::{Window, add, add_hex, add_number, add_word};
 use byte_fields::{Damage, Part};
@@ -63,7 +63,7 @@ pub enum Reply<'a> {
 // A text, bytes as a word, and a newline.
 fn say_word(into: &mut [u8], window: Window, text: &[u8], bytes: &[u8]) -> Window
     requires { window.filled ≤ length into.old }
-    ensures shows { (from : ℕ) → Shows from [] window.filled window.skip into.old → Shows from (text.now ++ word_of bytes.now ++ 10 ∷ []) result.filled result.skip into.new }
+    ensures shows { (from : ℕ) → HasPiece from [] window.filled window.skip into.old → HasPiece from (text.now ++ word_of bytes.now ++ 10 ∷ []) result.filled result.skip into.new }
     ensures within { result.filled ≤ length into.old }
 {
     let window = add(into, window, text);
@@ -74,7 +74,7 @@ fn say_word(into: &mut [u8], window: Window, text: &[u8], bytes: &[u8]) -> Windo
 // A text, a number, and a newline.
 fn say_count(into: &mut [u8], window: Window, text: &[u8], count: u64) -> Window
     requires { window.filled ≤ length into.old }
-    ensures shows { (from : ℕ) → Shows from [] window.filled window.skip into.old → Shows from (text.now ++ decimal count ++ 10 ∷ []) result.filled result.skip into.new }
+    ensures shows { (from : ℕ) → HasPiece from [] window.filled window.skip into.old → HasPiece from (text.now ++ decimal count ++ 10 ∷ []) result.filled result.skip into.new }
     ensures within { result.filled ≤ length into.old }
 {
     let window = add(into, window, text);
@@ -92,7 +92,7 @@ fn say_two_counts(
     more: u64,
 ) -> Window
     requires { window.filled ≤ length into.old }
-    ensures shows { (from : ℕ) → Shows from [] window.filled window.skip into.old → Shows from (text.now ++ decimal count ++ other.now ++ decimal more ++ 10 ∷ []) result.filled result.skip into.new }
+    ensures shows { (from : ℕ) → HasPiece from [] window.filled window.skip into.old → HasPiece from (text.now ++ decimal count ++ other.now ++ decimal more ++ 10 ∷ []) result.filled result.skip into.new }
     ensures within { result.filled ≤ length into.old }
 {
     let window = add(into, window, text);
@@ -105,7 +105,7 @@ fn say_two_counts(
 // A pair, in a line.
 fn say_pair(into: &mut [u8], window: Window, key: &[u8], value: &[u8]) -> Window
     requires { window.filled ≤ length into.old }
-    ensures shows { (from : ℕ) → Shows from [] window.filled window.skip into.old → Shows from (at_words key.now value.now ++ 10 ∷ []) result.filled result.skip into.new }
+    ensures shows { (from : ℕ) → HasPiece from [] window.filled window.skip into.old → HasPiece from (at_words key.now value.now ++ 10 ∷ []) result.filled result.skip into.new }
     ensures within { result.filled ≤ length into.old }
 {
     let window = add(into, window, b"at ");
@@ -118,7 +118,7 @@ fn say_pair(into: &mut [u8], window: Window, key: &[u8], value: &[u8]) -> Window
 // What a look-up asked, in a line.
 fn say_explained(into: &mut [u8], window: Window, tables: u64, admitted: u64, blocks: u64) -> Window
     requires { window.filled ≤ length into.old }
-    ensures shows { (from : ℕ) → Shows from [] window.filled window.skip into.old → Shows from (text_of (Explained tables admitted blocks)) result.filled result.skip into.new }
+    ensures shows { (from : ℕ) → HasPiece from [] window.filled window.skip into.old → HasPiece from (text_of (Explained tables admitted blocks)) result.filled result.skip into.new }
     ensures within { result.filled ≤ length into.old }
 {
     let window = add(into, window, b"tables ");
@@ -133,7 +133,7 @@ fn say_explained(into: &mut [u8], window: Window, tables: u64, admitted: u64, bl
 // The word of a part more.
 fn add_part(into: &mut [u8], window: Window, part: Part) -> Window
     requires { window.filled ≤ length into.old }
-    ensures shows { (from : ℕ) (whole : Bytes) → Shows from whole window.filled window.skip into.old → Shows from (whole ++ part_word part) result.filled result.skip into.new }
+    ensures shows { (from : ℕ) (whole : Bytes) → HasPiece from whole window.filled window.skip into.old → HasPiece from (whole ++ part_word part) result.filled result.skip into.new }
     ensures within { result.filled ≤ length into.old }
 {
     match part {
@@ -148,7 +148,7 @@ fn add_part(into: &mut [u8], window: Window, part: Part) -> Window
 // A sum more, as sixteen hex digits.
 fn add_sum(into: &mut [u8], window: Window, sum: u64) -> Window
     requires { window.filled ≤ length into.old }
-    ensures shows { (from : ℕ) (whole : Bytes) → Shows from whole window.filled window.skip into.old → Shows from (whole ++ sum_word sum) result.filled result.skip into.new }
+    ensures shows { (from : ℕ) (whole : Bytes) → HasPiece from whole window.filled window.skip into.old → HasPiece from (whole ++ sum_word sum) result.filled result.skip into.new }
     ensures within { result.filled ≤ length into.old }
 {
     let mut bytes = [0; 8];
@@ -166,7 +166,7 @@ fn say_other_sum(
     seen: u64,
 ) -> Window
     requires { window.filled ≤ length into.old }
-    ensures shows { (from : ℕ) → Shows from [] window.filled window.skip into.old → Shows from (damage_words (Sum part at kept seen) ++ 10 ∷ []) result.filled result.skip into.new }
+    ensures shows { (from : ℕ) → HasPiece from [] window.filled window.skip into.old → HasPiece from (damage_words (Sum part at kept seen) ++ 10 ∷ []) result.filled result.skip into.new }
     ensures within { result.filled ≤ length into.old }
 {
     let window = add(into, window, b"damaged ");
@@ -183,7 +183,7 @@ fn say_other_sum(
 // That a part breaks a rule, in a line.
 fn say_broken_rule(into: &mut [u8], window: Window, part: Part, at: u64, rule: u64) -> Window
     requires { window.filled ≤ length into.old }
-    ensures shows { (from : ℕ) → Shows from [] window.filled window.skip into.old → Shows from (damage_words (Shape part at rule) ++ 10 ∷ []) result.filled result.skip into.new }
+    ensures shows { (from : ℕ) → HasPiece from [] window.filled window.skip into.old → HasPiece from (damage_words (Shape part at rule) ++ 10 ∷ []) result.filled result.skip into.new }
     ensures within { result.filled ≤ length into.old }
 {
     let window = add(into, window, b"damaged ");
@@ -197,7 +197,7 @@ fn say_broken_rule(into: &mut [u8], window: Window, part: Part, at: u64, rule: u
 
 fn say_damage(into: &mut [u8], window: Window, damage: &Damage) -> Window
     requires { window.filled ≤ length into.old }
-    ensures shows { (from : ℕ) → Shows from [] window.filled window.skip into.old → Shows from (damage_words damage.now ++ 10 ∷ []) result.filled result.skip into.new }
+    ensures shows { (from : ℕ) → HasPiece from [] window.filled window.skip into.old → HasPiece from (damage_words damage.now ++ 10 ∷ []) result.filled result.skip into.new }
     ensures within { result.filled ≤ length into.old }
 {
     match damage {
@@ -216,7 +216,7 @@ fn say_damage(into: &mut [u8], window: Window, damage: &Damage) -> Window
 // A reply's line.
 fn say_line(into: &mut [u8], window: Window, reply: &Reply<'_>) -> Window
     requires { window.filled ≤ length into.old }
-    ensures shows { (from : ℕ) → Shows from [] window.filled window.skip into.old → Shows from (text_of (spoken reply.now)) result.filled result.skip into.new }
+    ensures shows { (from : ℕ) → HasPiece from [] window.filled window.skip into.old → HasPiece from (text_of (spoken reply.now)) result.filled result.skip into.new }
     ensures within { result.filled ≤ length into.old }
 {
     match reply {

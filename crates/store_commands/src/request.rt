@@ -1,4 +1,4 @@
-// What a line asks.
+//! What a line asks.
 
 /// What a line asks. Keys, bounds and values are of any length: whether they keep the limits is the store's to judge.
 #[derive(Clone, Copy)]

@@ -1,3 +1,4 @@
+//! Lines parsed, and replies in pieces.
 use super::*;
 use byte_fields::{Damage, Part};
 use std::test::Fail;

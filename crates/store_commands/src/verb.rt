@@ -1,6 +1,8 @@
-// The verbs of the grammar.
-ghost use Rattle.std.specs.Prelude.{◌≡◌};
-ghost use Rattle.store_commands.specs.Verbs.{verb_of};
+//! The verbs of the grammar.
+ghost use Rattle.std.specs.Prelude.{◌≡◌, ◌∷◌, List, IfSome, IfNone};
+ghost use Rattle.map_model.specs.SortedMap.{Bytes};
+ghost use Rattle.line_model.specs.Requests.{Bad, asked_by};
+ghost use Rattle.store_commands.specs.Verbs.{verb_word};
 
 /// The first word of a line.
 #[derive(Clone, Copy, Debug, PartialEq, Eq)]
@@ -18,9 +20,10 @@ pub enum Verb {
     Quit,
 }
 
-/// The verb that a word spells.
+/// The verb that a word spells, or `None` where it spells none.
 pub fn verb_in(word: &[u8]) -> Option<Verb>
-    ensures { result ≡ verb_of word.now }
+    ensures word { IfSome result (λ verb. word.now ≡ verb_word verb) }
+    ensures none { IfNone result ((words : List Bytes) → asked_by (word.now ∷ words) ≡ Bad 2) }
 {
     if word == b"put".as_slice() {
         Some(Verb::Put)

@@ -1,9 +1,9 @@
-// What stands of a reply in a buffer.
+//! What stands of a reply in a buffer.
 ghost use Rattle.std.specs.Prelude.{◌≡◌, ◌≤◌, ◌+◌, ◌-◌, ◌*◌, ◌++◌, ℕ, length, take, decimal};
 ghost use Rattle.hex.specs.Hex.{encode_lower};
 ghost use Rattle.map_model.specs.SortedMap.{Bytes};
 ghost use Rattle.line_model.specs.Replies.{word_of};
-ghost use Rattle.store_commands.specs.Spoken.{Shows};
+ghost use Rattle.store_commands.specs.Spoken.{HasPiece};
 
 /// How much of a reply stands in a buffer, and how many of its bytes are still to be passed over.
 #[derive(Clone, Copy)]
@@ -25,7 +25,7 @@ fn put_text(into: &mut [u8], at: usize, text: &[u8]) -> usize
 /// A text more: its bytes behind those that are passed over, as many as fit.
 pub fn add(into: &mut [u8], window: Window, text: &[u8]) -> Window
     requires { window.filled ≤ length into.old }
-    ensures shows { (from : ℕ) (whole : Bytes) → Shows from whole window.filled window.skip into.old → Shows from (whole ++ text.now) result.filled result.skip into.new }
+    ensures shows { (from : ℕ) (whole : Bytes) → HasPiece from whole window.filled window.skip into.old → HasPiece from (whole ++ text.now) result.filled result.skip into.new }
     ensures within { result.filled ≤ length into.old }
 {
     let skipped = window.skip.min(text.len());
@@ -41,7 +41,7 @@ pub fn add(into: &mut [u8], window: Window, text: &[u8]) -> Window
 /// A number more, in decimal.
 pub fn add_number(into: &mut [u8], window: Window, number: u64) -> Window
     requires { window.filled ≤ length into.old }
-    ensures shows { (from : ℕ) (whole : Bytes) → Shows from whole window.filled window.skip into.old → Shows from (whole ++ decimal number) result.filled result.skip into.new }
+    ensures shows { (from : ℕ) (whole : Bytes) → HasPiece from whole window.filled window.skip into.old → HasPiece from (whole ++ decimal number) result.filled result.skip into.new }
     ensures within { result.filled ≤ length into.old }
 {
     let mut buffer = itoa::Buffer::new();
@@ -52,7 +52,7 @@ pub fn add_number(into: &mut [u8], window: Window, number: u64) -> Window
 fn add_chunk(into: &mut [u8], window: Window, chunk: &[u8]) -> Window
     requires filled { window.filled ≤ length into.old }
     requires short { length chunk.now ≤ 512 }
-    ensures shows { (from : ℕ) (whole : Bytes) → Shows from whole window.filled window.skip into.old → Shows from (whole ++ encode_lower chunk.now) result.filled result.skip into.new }
+    ensures shows { (from : ℕ) (whole : Bytes) → HasPiece from whole window.filled window.skip into.old → HasPiece from (whole ++ encode_lower chunk.now) result.filled result.skip into.new }
     ensures within { result.filled ≤ length into.old }
 {
     let n = 2 * chunk.len();
@@ -72,7 +72,7 @@ fn add_chunk(into: &mut [u8], window: Window, chunk: &[u8]) -> Window
 /// Bytes more, in hex, a chunk at a time.
 pub fn add_hex(into: &mut [u8], window: Window, bytes: &[u8]) -> Window
     requires { window.filled ≤ length into.old }
-    ensures shows { (from : ℕ) (whole : Bytes) → Shows from whole window.filled window.skip into.old → Shows from (whole ++ encode_lower bytes.now) result.filled result.skip into.new }
+    ensures shows { (from : ℕ) (whole : Bytes) → HasPiece from whole window.filled window.skip into.old → HasPiece from (whole ++ encode_lower bytes.now) result.filled result.skip into.new }
     ensures within { result.filled ≤ length into.old }
 {
     let mut window = window;
@@ -88,7 +88,7 @@ pub fn add_hex(into: &mut [u8], window: Window, bytes: &[u8]) -> Window
 /// Bytes more, as a word: in hex, or a dash for none.
 pub fn add_word(into: &mut [u8], window: Window, bytes: &[u8]) -> Window
     requires { window.filled ≤ length into.old }
-    ensures shows { (from : ℕ) (whole : Bytes) → Shows from whole window.filled window.skip into.old → Shows from (whole ++ word_of bytes.now) result.filled result.skip into.new }
+    ensures shows { (from : ℕ) (whole : Bytes) → HasPiece from whole window.filled window.skip into.old → HasPiece from (whole ++ word_of bytes.now) result.filled result.skip into.new }
     ensures within { result.filled ≤ length into.old }
 {
     if bytes.is_empty() {

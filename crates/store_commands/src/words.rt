@@ -1,4 +1,4 @@
-// Texts cut at newlines and spaces, and what a word spells.
+//! Texts cut at newlines and spaces, and what a word spells.
 ghost use Rattle.std.specs.Prelude.{◌≡◌, ◌≤◌, ◌+◌, ◌/◌, ◌==◌, ◌++◌, ◌∷◌, IfSome, IfNone, length, option_map};
 ghost use Rattle.std.specs.List.{slice_split};
 ghost use Rattle.line_model.specs.Lines.{bytes_in};

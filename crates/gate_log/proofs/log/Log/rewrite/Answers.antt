@@ -1,4 +1,5 @@
 use Rattle.std.proofs.Common.{◌+◌, ℕ, List, [], ◌∷◌, ◌++◌, take, ap, sym, subst, ◌∙◌, arith}
+use Rattle.key_base.specs.Limits.{log_bytes}
 use Rattle.std.specs.Prelude.{Ok}
 use Rattle.disk_trait.specs.World.{Now, Leads}
 use Rattle.disk_trait.specs.declared.fault.DiskFault.{DiskFault}
@@ -13,7 +14,7 @@ loop-entry-init g c = record {
   area = ap (λ (p : Position). p.area) c.in_ok-log.ensures.log;
   place = ap (λ (p : Position). p.filled) c.in_ok-log.ensures.log ∙ sym none_filled;
   stands = c.in_ok-log.ensures.stands;
-  moves = moves_wider (start_of c.args.area) 1 (start_of c.args.area) 262144 _ _ (omega arith) (omega arith) c.in_ok-log.ensures.moves;
+  moves = moves_wider (start_of c.args.area) 1 (start_of c.args.area) log_bytes _ _ (omega arith) (omega arith) c.in_ok-log.ensures.moves;
 }
 
 pub add-requires-clause-fits : goal.add-requires-clause-fits
@@ -26,8 +27,8 @@ returns-in_err-add-clause-moves g c =
     let fits = next_fits c.args.entries.now c.loop-entry.entry-index c.entry-item.result c.loop-entry-test.true c.entry-item.is c.requires.fits in
     let place = c.loop-entry.invariant.place in
     let area = c.loop-entry.invariant.area in
-    moves_then (start_of c.args.area) 262144 _ _ _ c.loop-entry.invariant.moves
-    (moves_wider (start_of c.loop-entry.log.area + c.loop-entry.log.filled) (need c.entry-item.result) (start_of c.args.area) 262144 _ _ (omega arith) (omega arith) c.in_err-add.ensures.moves)
+    moves_then (start_of c.args.area) log_bytes _ _ _ c.loop-entry.invariant.moves
+    (moves_wider (start_of c.loop-entry.log.area + c.loop-entry.log.filled) (need c.entry-item.result) (start_of c.args.area) log_bytes _ _ (omega arith) (omega arith) c.in_err-add.ensures.moves)
 
 pub loop-entry-preserved : goal.loop-entry-preserved
 loop-entry-preserved g c =
@@ -47,6 +48,6 @@ loop-entry-preserved g c =
           (λ (a : ℕ). Leads {T = Unit {0}} {E = DiskFault} (LogIs a (take i entries)) (WithOrWithout a (take i entries) entry) (LogIs a (take i entries ++ entry ∷ [])) (Ok c.in_ok-add.field-0) (g.D.Disk.world c.loop-entry.disk) (g.D.Disk.world c.add.new.disk))
           area (c.in_ok-add.ensures.crash (take i entries) tells place) in
           subst (λ (es : List Entry). Now (LogIs c.args.area es) (g.D.Disk.world c.add.new.disk)) (sym (take_next entries i entry c.loop-entry-test.true c.entry-item.is)) (leads.after before);
-      moves = moves_then (start_of c.args.area) 262144 _ _ _ here.moves
-          (moves_wider (start_of c.loop-entry.log.area + c.loop-entry.log.filled) (need entry) (start_of c.args.area) 262144 _ _ (omega arith) (omega arith) c.in_ok-add.ensures.moves);
+      moves = moves_then (start_of c.args.area) log_bytes _ _ _ here.moves
+          (moves_wider (start_of c.loop-entry.log.area + c.loop-entry.log.filled) (need entry) (start_of c.args.area) log_bytes _ _ (omega arith) (omega arith) c.in_ok-add.ensures.moves);
     }

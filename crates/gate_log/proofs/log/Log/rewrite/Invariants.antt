@@ -1,4 +1,5 @@
 use Rattle.std.proofs.Common.{◌≡◌, take}
+use Rattle.key_base.specs.Limits.{log_bytes}
 use Rattle.std.specs.Prelude.{IsTrue}
 use Rattle.disk_trait.specs.World.{Now, WriteMoves}
 use Rattle.entry_model.specs.Entries.{filled}
@@ -10,5 +11,5 @@ invariant-loop-entry g l = record {
   area : l.log.area ≡ l.fn.area;
   place : l.log.filled ≡ filled (take l.entry-index l.entries);
   stands : IsTrue g.D.Disk.tells → Now (LogIs l.fn.area (take l.entry-index l.entries)) (g.D.Disk.world l.disk);
-  moves : WriteMoves (start_of l.fn.area) 262144 (g.D.Disk.world l.fn.disk) (g.D.Disk.world l.disk);
+  moves : WriteMoves (start_of l.fn.area) log_bytes (g.D.Disk.world l.fn.disk) (g.D.Disk.world l.disk);
 }

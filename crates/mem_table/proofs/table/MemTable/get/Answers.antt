@@ -3,7 +3,7 @@ use Rattle.std.specs.Prelude.{Option, Some}
 use Rattle.arrayvec.specs.ArrayVec.{ArrayVec}
 use Rattle.map_model.specs.SortedMap.{Bytes}
 use Rattle.entry_model.specs.Entries.{Entry}
-use Rattle.mem_table.specs.Table.{Table, StandsAt, BelongsAt}
+use Rattle.mem_table.specs.Table.{MemoryTable, StandsAt, BelongsAt}
 use Rattle.entry_model.specs.Newest.{lookup}
 use Rattle.mem_table.specs.Chunks.{flat, flat_at, in_order, IsPlace}
 use Rattle.mem_table.proofs.Flat.{place_in}
@@ -21,7 +21,7 @@ returns-in-Ok c =
     ap (λ (v : Option Bytes). Some v) c.value.ensures
     ∙ sym (looked_up entries chunks c.self.invariant.0 at c.args.key.now c.index-entry.result.now c.place_at-place.result found (place_in chunks c.in-Ok.spot.chunk c.in-Ok.spot.within place)
     (rw (← c.deref-in-Ok.ensures.value) c.place_at-place.ensures) c.index-entry.ensures)
-    ∙ ap (λ (t : Table). lookup t.entries c.args.key.now) c.self.view_is
+    ∙ ap (λ (t : MemoryTable). lookup t.entries c.args.key.now) c.self.view_is
 
 pub returns-in-Err : goal.returns-in-Err
 returns-in-Err c =
@@ -29,4 +29,4 @@ returns-in-Err c =
     let chunks = c.self.inside.chunks.items in
     let at = flat_at chunks c.in-Err.field-0.chunk c.in-Err.field-0.within in
     let missing : BelongsAt at c.args.key.now (in_order entries (flat chunks)) = rw (← c.deref.ensures.value, ← c.deref-2.ensures.value) c.in-Err.ensures.missing in
-    sym (lookup_none (in_order entries (flat chunks)) c.args.key.now at missing) ∙ ap (λ (t : Table). lookup t.entries c.args.key.now) c.self.view_is
+    sym (lookup_none (in_order entries (flat chunks)) c.args.key.now at missing) ∙ ap (λ (t : MemoryTable). lookup t.entries c.args.key.now) c.self.view_is

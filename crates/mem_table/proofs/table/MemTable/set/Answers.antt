@@ -3,7 +3,7 @@ use Rattle.std.specs.Prelude.{insert}
 use Rattle.arrayvec.specs.ArrayVec.{ArrayVec}
 use Rattle.map_model.specs.SortedMap.{Bytes}
 use Rattle.entry_model.specs.Entries.{Entry}
-use Rattle.mem_table.specs.Table.{Table, StandsAt, BelongsAt}
+use Rattle.mem_table.specs.Table.{MemoryTable, StandsAt, BelongsAt}
 use Rattle.entry_model.specs.Newest.{with_entry}
 use Rattle.mem_table.specs.Chunks.{flat, flat_at, in_order, IsPlace, IsGap, Orders, NoneEmpty}
 use Rattle.mem_table.proofs.Flat.{place_in, gap_in}
@@ -44,10 +44,10 @@ pub returns-in-Ok-clause-set : goal.returns-in-Ok-clause-set
 returns-in-Ok-clause-set c =
     let shows = (found c.self.inside.entries.items c.deref.result.now c.self.inside.chunks.items c.deref-2.result.now c.in-Ok.spot.chunk c.in-Ok.spot.within c.place_at-place.result c.key.result.now c.args.entry
     c.self.invariant.0 c.deref.ensures.value c.deref-2.ensures.value c.key.ensures c.in-Ok.ensures.place c.in-Ok.ensures.found (rw (← c.deref-in-Ok.ensures.value) c.place_at-place.ensures)).1 in
-    let after = shows ∙ ap (λ (t : Table). with_entry t.entries c.args.entry) c.self.view_is in
+    let after = shows ∙ ap (λ (t : MemoryTable). with_entry t.entries c.args.entry) c.self.view_is in
     elim c.match-index_mut-entry.branch [
-      | in-Some-1 w ↦ ap (λ (t : Table). t.entries) w.self-is ∙ after
-      | in-None-1 w ↦ ap (λ (t : Table). t.entries) w.self-is ∙ after
+      | in-Some-1 w ↦ ap (λ (t : MemoryTable). t.entries) w.self-is ∙ after
+      | in-None-1 w ↦ ap (λ (t : MemoryTable). t.entries) w.self-is ∙ after
     ]
 
 pub returns-in-Ok-clause-newest : goal.returns-in-Ok-clause-newest
@@ -78,7 +78,7 @@ returns-in-Err-clause-set c =
     c.self.invariant.0 c.deref.ensures.value c.deref-2.ensures.value c.key.ensures c.in-Err.ensures.gap c.in-Err.ensures.missing (search rules) c.put.ensures.placed (c.put.ensures.some c.self.invariant.0.some) in
     ap (λ (es : List Entry). in_order es (flat c.put.new.chunks.items)) c.push_reserved.ensures.items
     ∙ put.1
-    ∙ ap (λ (t : Table). with_entry t.entries c.args.entry) c.self.view_is
+    ∙ ap (λ (t : MemoryTable). with_entry t.entries c.args.entry) c.self.view_is
 
 pub returns-in-Err-clause-newest : goal.returns-in-Err-clause-newest
 returns-in-Err-clause-newest c older is = returns-in-Err-clause-set c ∙ ap (λ (es : List Entry). with_entry es c.args.entry) is ∙ sym (newest_more older c.args.entry)

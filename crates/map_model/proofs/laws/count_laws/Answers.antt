@@ -1,5 +1,5 @@
 use Rattle.map_model.proofs.Between.{counted, count_crossed}
-use Rattle.map_model.proofs.count_laws.Goals as goal
+use Rattle.map_model.proofs.laws.count_laws.Goals as goal
 
 pub returns : goal.returns
 returns c = record {

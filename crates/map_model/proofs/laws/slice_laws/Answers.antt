@@ -1,5 +1,5 @@
 use Rattle.map_model.proofs.Between.{within, outside, short, whole, slice_rises, slice_crossed}
-use Rattle.map_model.proofs.slice_laws.Goals as goal
+use Rattle.map_model.proofs.laws.slice_laws.Goals as goal
 
 pub returns : goal.returns
 returns c = record {

@@ -1,7 +1,7 @@
 use Rattle.std.proofs.Common.{refl}
 use Rattle.std.specs.Fmt.{digits}
 use Rattle.hex.specs.Hex.{decode_pairs, encode_with}
-use Rattle.line_model.proofs.rows.lines_and_words.Goals as goal
+use Rattle.line_model.proofs.examples.lines_and_words.Goals as goal
 
 pub returns-clause-numbers_in_one_spelling : goal.returns-clause-numbers_in_one_spelling
 unfolding digits decode_pairs

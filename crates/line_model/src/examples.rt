@@ -1,4 +1,4 @@
-// The definitions, tried on rows whose answers are known. Each row computes.
+//! The definitions, shown by examples. Each computes.
 ghost use Rattle.std.specs.Prelude.{◌≡◌, List, ℕ, [], ◌∷◌, ◌++◌, map, replicate, Some, None, codes};
 ghost use Rattle.byte_fields.specs.declared.parts.Part.TheVariants.{Block};
 ghost use Rattle.byte_fields.specs.declared.parts.Damage.TheVariants.{Sum};

@@ -1,0 +1,67 @@
+-- The limits of the store, each in its unit. All that is said of keys, values, lines, pages and tables cites these.
+use Rattle.std.specs.Prelude.{ℕ, ◌^◌}
+
+-- the bytes of the longest key; the shortest has one
+abbrev pub max_key_bytes : ℕ
+max_key_bytes = 1024
+
+-- the bytes of the longest bound of a range; the shortest has none
+abbrev pub max_bound_bytes : ℕ
+max_bound_bytes = 1024
+
+-- the bytes of the longest value; the shortest has none
+abbrev pub max_value_bytes : ℕ
+max_value_bytes = 65536
+
+-- the bytes of the longest line, without its newline
+abbrev pub max_line_bytes : ℕ
+max_line_bytes = 140000
+
+-- the bytes of input that one run takes at most
+abbrev pub max_input_bytes : ℕ
+max_input_bytes = 2 ^ 40
+
+-- the most pairs that one range may ask for
+abbrev pub max_range_pairs : ℕ
+max_range_pairs = 1000000
+
+-- the bytes of a page
+abbrev pub page_bytes : ℕ
+page_bytes = 4096
+
+-- the pages of the smallest device, and of the largest
+abbrev pub min_device_pages : ℕ
+min_device_pages = 512
+
+abbrev pub max_device_pages : ℕ
+max_device_pages = 16777216
+
+-- the pages of a log area, of which there are two, and its bytes
+abbrev pub log_pages : ℕ
+log_pages = 64
+
+abbrev pub log_bytes : ℕ
+log_bytes = 262144
+
+-- the most entries of a block; the fewest is one
+abbrev pub max_block_entries : ℕ
+max_block_entries = 255
+
+-- the most tables of a version
+abbrev pub max_tables : ℕ
+max_tables = 1024
+
+-- the data pages at which a merge closes an output table
+abbrev pub merge_data_pages : ℕ
+merge_data_pages = 1024
+
+-- the most hash bits of a leaf, and the most real bits; the fewest are none
+abbrev pub max_hash_bits : ℕ
+max_hash_bits = 32
+
+abbrev pub max_real_bits : ℕ
+max_real_bits = 32
+
+-- the greatest ratio of sparse to dense bits
+abbrev pub max_ratio : ℕ
+max_ratio = 65535
