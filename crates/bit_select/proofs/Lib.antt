@@ -1,3 +1,4 @@
+pub mod Table
 pub mod Windows
 pub mod Selecting
 pub mod Sampling

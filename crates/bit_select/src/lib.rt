@@ -14,6 +14,7 @@
 //! ```
 #![tactic(auto)]
 
+mod byte;
 mod selected;
 mod word;
 

@@ -2,6 +2,7 @@
 ghost use Rattle.std.specs.Prelude.{◌≡◌, ◌≤◌, ◌<◌, ◌+◌, ◌*◌, ◌%◌, ◌/◌, ◌^◌, count_ones};
 ghost use Rattle.std.specs.Int.{bit_at};
 
+use super::byte::nth_one_in_byte;
 use lane_scan::ones_below;
 
 // A part of a word that begins at `place`, and how many of its set bits stand before the wanted one.
@@ -42,7 +43,5 @@ pub(crate) fn nth_one_in(word: u64, n: u64) -> usize
     let half = halved(word, whole, 32);
     let quarter = halved(word, half, 16);
     let byte = halved(word, quarter, 8);
-    let nibble = halved(word, byte, 4);
-    let pair = halved(word, nibble, 2);
-    halved(word, pair, 1).place
+    byte.place + nth_one_in_byte((word >> byte.place & 0xFF) as u8, byte.left)
 }

@@ -5,8 +5,8 @@ use Rattle.bit_words.specs.Packed.{number_of, packed, unpacked, packed_bit, numb
 use Rattle.bit_words.specs.Numbers.{bits_of}
 
 -- what was packed reads back
-abbrev pub ReadsBack : Type 0
-ReadsBack = (width : ℕ) (bits : List Bool) → 0 < width → unpacked width (packed width bits) (length bits) ≡ bits
+abbrev pub PackedReadsBack : Type 0
+PackedReadsBack = (width : ℕ) (bits : List Bool) → 0 < width → unpacked width (packed width bits) (length bits) ≡ bits
 
 -- bit i of the packing is bit i of the list, and 0 past its end
 abbrev pub KeepsPlaces : Type 0

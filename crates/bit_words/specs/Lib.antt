@@ -1,6 +1,6 @@
+pub use Rattle.lane_scan.specs.Places
 pub mod Counts
 pub mod Packed
 pub mod Numbers
-pub mod Rows
 pub mod Laws
 pub mod Room

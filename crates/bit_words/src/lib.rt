@@ -27,6 +27,7 @@
 
 mod bits;
 mod builder;
+pub mod examples;
 mod laws;
 mod word;
 

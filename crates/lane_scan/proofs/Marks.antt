@@ -8,7 +8,7 @@ use Rattle.std.proofs.lemmas.Simd.{bit_mask_l, mask_l-lt, length-chunk}
 use Rattle.std.proofs.lemmas.Nat.{shr-shr, shr_below}
 use Rattle.std.proofs.lemmas.Nat.Bits.{bit_at_above, bit_at-zero}
 use Rattle.std.proofs.lemmas.List.{length-map, get_or-map, get_or-take, get_or-drop}
-use Rattle.lane_scan.specs.Places.{IsFirstBetween, Tells}
+use Rattle.lane_scan.specs.Places.{IsFirstBetween, AreMarks}
 
 eqb_cond : (b : Bool) → eqb (cond b 1 0) 1 ≡ b
 eqb_cond true = refl
@@ -16,7 +16,7 @@ eqb_cond false = refl
 
 -- lanes that pass are marked
 pub lanes_tell : (test : ℕ → Bool) (xs : List ℕ) (at : ℕ) → at + 16 ≤ length xs
-    → Tells (λ k. test (get_or xs k 0)) at 16 (mask_l (map test (chunk at 16 xs)))
+    → AreMarks (λ k. test (get_or xs k 0)) at 16 (mask_l (map test (chunk at 16 xs)))
 lanes_tell test xs at room =
     let v = chunk at 16 xs in
     let long = length-chunk at 16 xs room in
@@ -29,7 +29,7 @@ lanes_tell test xs at room =
     }
 
 -- marks from a later place on
-pub tells_from : (test : ℕ → Bool) (at n k marks place : ℕ) → k ≤ n → at + k ≡ place → Tells test at n marks → Tells test place (n - k) (marks / 2 ^ k)
+pub tells_from : (test : ℕ → Bool) (at n k marks place : ℕ) → k ≤ n → at + k ≡ place → AreMarks test at n marks → AreMarks test place (n - k) (marks / 2 ^ k)
 tells_from test at n k marks place within is told = record {
   each = λ j below.
       let there : k + j < n = omega arith in
@@ -39,7 +39,7 @@ tells_from test at n k marks place within is told = record {
 }
 
 -- no mark, and no place passes
-pub no_mark : (test : ℕ → Bool) (at n marks end : ℕ) → Tells test at n marks → marks ≡ 0 → end ≤ at + n → HoldsNowhere test at end
+pub no_mark : (test : ℕ → Bool) (at n marks end : ℕ) → AreMarks test at n marks → marks ≡ 0 → end ≤ at + n → HoldsNowhere test at end
 no_mark test at n marks end told none within k from below =
     let there : k - at < n = omega arith in
     let here : at + (k - at) ≡ k = omega arith in
@@ -50,14 +50,14 @@ pub record IsLowest (marks q : ℕ) : Type 0 where
   pub is_set : bit_at marks q ≡ 1
   pub before : (j : ℕ) → j < q → bit_at marks j ≡ 0
 
-lowest-lt : (test : ℕ → Bool) (at n marks q : ℕ) → Tells test at n marks → IsLowest marks q → q < n
+lowest-lt : (test : ℕ → Bool) (at n marks q : ℕ) → AreMarks test at n marks → IsLowest marks q → q < n
 lowest-lt test at n marks q told low =
     elim (cases_lt q n) [
       | inl below ↦ below
       | inr past ↦ absurd (omega (arith, bit_at_above marks n q told.low past, low.is_set))
     ]
 
-none_before : (test : ℕ → Bool) (at n marks q end : ℕ) → Tells test at n marks → IsLowest marks q → end ≤ at + q → HoldsNowhere test at end
+none_before : (test : ℕ → Bool) (at n marks q end : ℕ) → AreMarks test at n marks → IsLowest marks q → end ≤ at + q → HoldsNowhere test at end
 none_before test at n marks q end told low within k from below =
     let there : k - at < q = omega arith in
     let here : at + (k - at) ≡ k = omega arith in
@@ -65,7 +65,7 @@ none_before test at n marks q end told low within k from below =
     sym (ap test here) ∙ sym (told.each (k - at) inside) ∙ ap (λ (x : ℕ). eqb x 1) (low.before (k - at) there)
 
 -- the lowest mark is the first place that passes, if it stands before the end
-pub first_mark : (test : ℕ → Bool) (at n marks q end : ℕ) (found : Option ℕ) → Tells test at n marks → IsLowest marks q
+pub first_mark : (test : ℕ → Bool) (at n marks q end : ℕ) (found : Option ℕ) → AreMarks test at n marks → IsLowest marks q
     → MatchOption found (end ≤ at + q) (λ place. (place ≡ at + q) × (place < end))
     → MatchOption found (HoldsNowhere test at end) (IsFirstBetween test at end)
 first_mark test at n marks q end None told low past = none_before test at n marks q end told low past

@@ -30,6 +30,6 @@ pub record IsLastBetween (test : ℕ → Bool) (start end place : ℕ) : Type 0 
   pub behind : HoldsNowhere test (place + 1) end
 
 -- bit j of `marks` tells whether place `at + j` passes the test, for each of the `count` places from `at` on
-pub record Tells (test : ℕ → Bool) (at count marks : ℕ) : Type 0 where
+pub record AreMarks (test : ℕ → Bool) (at count marks : ℕ) : Type 0 where
   pub each : (j : ℕ) → j < count → (bit_at marks j == 1) ≡ test (at + j)
   pub low : marks < 2 ^ count

@@ -1,7 +1,7 @@
 //! Places of bytes.
 ghost use Rattle.std.specs.Prelude.{◌≡◌, ℕ, ◌≤◌, ◌<◌, ◌+◌, ◌==◌, nat_le, length, position, MatchOption};
 ghost use Rattle.std.specs.Slice.Scan.{HoldsNowhere};
-ghost use Rattle.lane_scan.specs.Places.{is_label_at, is_least_at, IsFirstBetween, Tells};
+ghost use Rattle.lane_scan.specs.Places.{is_label_at, is_least_at, IsFirstBetween, AreMarks};
 
 use super::places::lowest_one;
 use std::simd::u8x16;
@@ -89,7 +89,7 @@ fn before_end(place: usize, end: usize) -> Option<usize>
 // Which of the 16 bytes from `at` on are `label`: a bit for each, the first the lowest.
 fn labels_at(section: &[u8], at: usize, label: u8) -> u64
     requires { at + 16 ≤ length section.now }
-    ensures { Tells (is_label_at section.now label) at 16 result }
+    ensures { AreMarks (is_label_at section.now label) at 16 result }
 {
     let lanes = u8x16::from_slice(&section[at..]);
     lanes.simd_eq(u8x16::splat(label)).to_bitmask()
@@ -98,7 +98,7 @@ fn labels_at(section: &[u8], at: usize, label: u8) -> u64
 // Which of the 16 bytes from `at` on are `label` or more: a bit for each, the first the lowest.
 fn least_at(section: &[u8], at: usize, label: u8) -> u64
     requires { at + 16 ≤ length section.now }
-    ensures { Tells (is_least_at section.now label) at 16 result }
+    ensures { AreMarks (is_least_at section.now label) at 16 result }
 {
     let lanes = u8x16::from_slice(&section[at..]);
     lanes.simd_ge(u8x16::splat(label)).to_bitmask()
