@@ -1,3 +1,9 @@
+pub use Rattle.byte_fields.specs.Faults
+pub use Rattle.filter_model.specs.Answers
+pub use Rattle.filter_model.specs.Keys
+pub use Rattle.filter_model.specs.Leaves
+pub use Rattle.filter_model.specs.Strings
+pub use Rattle.key_base.specs.Limits
 pub mod Seen
 pub mod Ranges
 pub mod Spellings

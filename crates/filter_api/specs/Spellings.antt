@@ -1,13 +1,14 @@
 -- What a filter stands for, and the bytes that spell it.
 use Rattle.std.specs.Prelude.{◌≡◌, ℕ, ◌≤◌, List}
+use Rattle.key_base.specs.Limits.{max_hash_bits, max_real_bits}
 use Rattle.filter_model.specs.Leaves.{Leaf}
 use Rattle.filter_model.specs.Trie.{height}
 use Rattle.filter_model.specs.Valid.{IsValid}
 
 -- two widths and a leaf list for which a filter may stand, and a cutoff with which it may be spelled
 pub record MayStand (hash_bits real_bits cutoff : ℕ) (leaves : List Leaf) : Type 0 where
-  pub hash_width : hash_bits ≤ 32
-  pub real_width : real_bits ≤ 32
+  pub hash_width : hash_bits ≤ max_hash_bits
+  pub real_width : real_bits ≤ max_real_bits
   pub cutoff_in : cutoff ≤ height leaves
   pub valid : IsValid hash_bits real_bits leaves
 

@@ -75,15 +75,15 @@ pub trait RangeFilter: Sized + Drop {
     /// Appends the least string that fits leaf `n`. Without memory `out` stays as it was.
     fn least_of(&self, n: u32, out: &mut Vec<u8>) -> Result<(), AllocError>
         requires { n < length (leaf_list self.now) }
-        ensures ok { OnOk result (IfSome (slice_get (leaf_list self.now) n)
+        ensures added { OnOk result (IfSome (slice_get (leaf_list self.now) n)
             (λ l. out.new.items ≡ out.old.items ++ begins (real_bits self.now) l)) }
-        ensures err { OnErr result (out.new.items ≡ out.old.items) };
+        ensures unchanged { OnErr result (out.new.items ≡ out.old.items) };
 
     /// Appends the filter's spelling. Without memory `out` stays as it was.
     fn encode(&self, out: &mut Vec<u8>) -> Result<(), AllocError>
-        ensures ok { OnOk result (out.new.items
+        ensures added { OnOk result (out.new.items
             ≡ out.old.items ++ spelling (hash_bits self.now) (real_bits self.now) (cutoff self.now) (leaf_list self.now)) }
-        ensures err { OnErr result (out.new.items ≡ out.old.items) };
+        ensures unchanged { OnErr result (out.new.items ≡ out.old.items) };
 
     /// The filter that `bytes` spell. It fails exactly where they spell none, with their first fault, or where there is
     /// no memory. A fault's place is one of the bytes, or just behind the last where there are too few.

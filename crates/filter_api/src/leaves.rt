@@ -52,8 +52,8 @@ impl LeafList {
 
     /// Adds `leaf` at the end. Without memory the list stays as it was.
     pub fn push(&mut self, leaf: Leaf) -> Result<(), AllocError>
-        ensures ok { OnOk result (self.new ≡ self.old ++ seen leaf ∷ []) }
-        ensures err { OnErr result (self.new ≡ self.old) }
+        ensures added { OnOk result (self.new ≡ self.old ++ seen leaf ∷ []) }
+        ensures unchanged { OnErr result (self.new ≡ self.old) }
     {
         self.leaves.push(leaf)?;
         Ok(())

@@ -31,12 +31,13 @@ pub struct BadSettings(pub Field);
 
 impl Settings {
     ghost use Rattle.filter_api.specs.Ranges.{InRange};
+    ghost use Rattle.key_base.specs.Limits.{max_hash_bits, max_real_bits};
 
     /// Whether the settings are in range; else the first field that is not, in the order of the fields.
     pub fn check(&self) -> Result<(), BadSettings>
         ensures in_range { IsOk result ↔ InRange self.now }
-        ensures hash_bits { (result ≡ Err (record { 0 = Field.HashBits })) ↔ (32 < self.now.hash_bits) }
-        ensures real_bits { (result ≡ Err (record { 0 = Field.RealBits })) ↔ ((self.now.hash_bits ≤ 32) × (32 < self.now.real_bits)) }
+        ensures hash_bits { (result ≡ Err (record { 0 = Field.HashBits })) ↔ (max_hash_bits < self.now.hash_bits) }
+        ensures real_bits { (result ≡ Err (record { 0 = Field.RealBits })) ↔ ((self.now.hash_bits ≤ max_hash_bits) × (max_real_bits < self.now.real_bits)) }
     {
         if self.hash_bits > MAX_HASH_BITS {
             return Err(BadSettings(Field::HashBits));
@@ -54,12 +55,12 @@ mod tests {
 
     #[test]
     fn the_first_field_out_of_range_is_named(rt: HostRuntime) {
-        let rows = [
+        let examples = [
             (32, 32, Ok(())),
             (33, 33, Err(BadSettings(Field::HashBits))),
             (0, 33, Err(BadSettings(Field::RealBits))),
         ];
-        for (hash_bits, real_bits, answer) in rows {
+        for (hash_bits, real_bits, answer) in examples {
             let settings = Settings {
                 hash_bits,
                 real_bits,

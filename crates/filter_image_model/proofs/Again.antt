@@ -19,7 +19,7 @@ use Rattle.filter_image_model.proofs.Lists.{by_recursion, length-map}
 use Rattle.filter_image_model.proofs.SparseNodes.{AreBytes}
 use Rattle.trie_laws.specs.Louds.{IsNode}
 use Rattle.filter_image_model.specs.Reading.{is_stray, begins_clear}
-use Rattle.filter_image_model.specs.Sections.{head_bytes}
+use Rattle.filter_image_model.specs.Sections.{image_head}
 
 -- ---- bytes
 
@@ -90,7 +90,7 @@ labels-IsBytes (n ∷ ns) w = rw (map-append (λ (b : Branch). label_of b.0) n (
 
 module _ (hash_bits real_bits cutoff height leaves dense sparse labels : ℕ) (rest : Bytes) where
   abbrev pub framed : Bytes
-  framed = head_bytes hash_bits real_bits cutoff height leaves dense sparse labels ++ rest
+  framed = image_head hash_bits real_bits cutoff height leaves dense sparse labels ++ rest
 
   abbrev pub after_dense : Bytes
   after_dense = little_bytes 8 sparse ++ (little_bytes 8 labels ++ rest)

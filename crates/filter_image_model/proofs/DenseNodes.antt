@@ -8,7 +8,8 @@ use Rattle.std.proofs.lemmas.Bool.{cases_Bool, eqb-true, eqb-false, eq-eqb, ne_e
 use Rattle.filter_model.specs.Image.{row, has_letter, has_child, dense_labels, dense_children, dense_ends}
 use Rattle.filter_model.specs.Nodes.{Branch, Node}
 use Rattle.filter_model.specs.Trie.{END}
-use Rattle.filter_image_model.specs.Nodes.{From, IsDense, branches_from, dense_node, dense_nodes}
+use Rattle.filter_image_model.proofs.RisingBytes.{RisingBytes, are_bytes, in_order_of, rising_bytes}
+use Rattle.filter_image_model.specs.Nodes.{IsDense, branches_from, dense_node, dense_nodes}
 
 -- no bit of the second is set where that of the first is clear
 abbrev pub NoStray : List Bool → List Bool → Type 0
@@ -19,19 +20,19 @@ NoStray (l ∷ labels) (x ∷ children) = ((not l && x) ≡ false) × NoStray la
 apart : (b c : ℕ) → (b ≡ c → ⊥) → (b == c) ≡ false
 apart b c ne = ne_eqb b c ne
 
-pub From-weaker : (c : ℕ) (n : Node) → From (suc c) n → From c n
+pub From-weaker : (c : ℕ) (n : Node) → RisingBytes (suc c) n → RisingBytes c n
 From-weaker c [] w = tt
 From-weaker c (b ∷ n) w = (omega (arith, w.0), w.1, w.2)
 
-pub no_letter : (c d : ℕ) (n : Node) → From d n → c < d → has_letter n c ≡ false
+pub no_letter : (c d : ℕ) (n : Node) → RisingBytes d n → c < d → has_letter n c ≡ false
 no_letter c d [] w lt = refl
 no_letter c d (b ∷ n) w lt = rw (apart b.0 c (λ e. omega (arith, w.0, e))) (no_letter c (suc b.0) n w.2 (omega (arith, w.0)))
 
-pub no_child : (c d : ℕ) (n : Node) → From d n → c < d → has_child n c ≡ false
+pub no_child : (c d : ℕ) (n : Node) → RisingBytes d n → c < d → has_child n c ≡ false
 no_child c d [] w lt = refl
 no_child c d (b ∷ n) w lt = rw (apart b.0 c (λ e. omega (arith, w.0, e))) (no_child c (suc b.0) n w.2 (omega (arith, w.0)))
 
-no_end : (d : ℕ) (n : Node) → From d n → has_letter n END ≡ false
+no_end : (d : ℕ) (n : Node) → RisingBytes d n → has_letter n END ≡ false
 no_end d [] w = refl
 no_end d (b ∷ n) w = rw (apart b.0 256 (λ e. omega (arith, w.1, e))) (no_end (suc b.0) n w.2)
 
@@ -57,9 +58,9 @@ skip_child b n d (suc k) ne =
 
 -- ---- one row
 
-pub branches-From : (c : ℕ) (labels children : List Bool) → c + length labels ≤ 256 → From c (branches_from c labels children)
+pub branches-From : (c : ℕ) (labels children : List Bool) → c + length labels ≤ 256 → RisingBytes c (branches_from c labels children)
 branches-From c [] children h = tt
-branches-From c (l ∷ labels) [] h = elim l as (λ l. From c (branches_from c (l ∷ labels) [])) [
+branches-From c (l ∷ labels) [] h = elim l as (λ l. RisingBytes c (branches_from c (l ∷ labels) [])) [
   | true ↦ tt
   | false ↦ tt
 ]
@@ -109,7 +110,7 @@ row_children c (false ∷ labels) (x ∷ children) e h w =
     ∙ ap (λ (t : Bool). t ∷ map (has_child n) (range_with_len (suc c) (length labels))) (no_child c (suc c) n (branches-From (suc c) labels children (omega (arith, h))) (omega arith) ∙ sym w.0)
     ∙ ap (λ (bs : List Bool). x ∷ bs) (row_children (suc c) labels children (omega (arith, e)) (omega (arith, h)) w.1)
 
-row_again : (c k : ℕ) (n : Node) → From c n → c + k ≡ 256
+row_again : (c k : ℕ) (n : Node) → RisingBytes c n → c + k ≡ 256
     → branches_from c (map (has_letter n) (range_with_len c k)) (map (has_child n) (range_with_len c k)) ≡ n
 row_again c zero [] w e = refl
 row_again c zero (b ∷ n) w e = absurd (omega (arith, e, w.0, w.1))
@@ -122,11 +123,11 @@ row_again c (suc k) (b ∷ n) w e = elim (cases_Bool (b.0 == c)) [
       let child : has_child (b ∷ n) c ≡ b.1 = ap (λ (d : ℕ). has_child (b ∷ n) d) (sym is) ∙ own_child b.0 b.1 n (no_child b.0 (suc b.0) n w.2 (omega arith)) in
       (λ j. branches_from c (next_range (has_letter (b ∷ n)) c k j) (next_range (has_child (b ∷ n)) c k j))
       ∙ (λ j. branches_from c (letter j ∷ skip_letter b n (suc c) k above j) (child j ∷ skip_child b n (suc c) k above j))
-      ∙ ap (λ (m : Node). (c, b.1) ∷ m) (row_again (suc c) k n (subst (λ d. From (suc d) n) is w.2) (omega (arith, e)))
+      ∙ ap (λ (m : Node). (c, b.1) ∷ m) (row_again (suc c) k n (subst (λ d. RisingBytes (suc d) n) is w.2) (omega (arith, e)))
       ∙ ap (λ (d : ℕ). (d, b.1) ∷ n) (sym is)
   | inr other ↦
       let ne = eqb-false b.0 c other in
-      let up : From (suc c) (b ∷ n) = (omega (arith, w.0, ne), w.1, w.2) in
+      let up : RisingBytes (suc c) (b ∷ n) = (omega (arith, w.0, ne), w.1, w.2) in
       let letter : has_letter (b ∷ n) c ≡ false = no_letter c (suc c) (b ∷ n) up (omega arith) in
       let child : has_child (b ∷ n) c ≡ false = no_child c (suc c) (b ∷ n) up (omega arith) in
       (λ j. branches_from c (next_range (has_letter (b ∷ n)) c k j) (next_range (has_child (b ∷ n)) c k j))
@@ -148,7 +149,7 @@ end_children : (e : Bool) (n : Node) (k : ℕ) → k ≤ 256 → map (has_child 
 end_children true n k h = skip_child (END, false) n 0 k (λ c le lt is. omega (arith, lt, is, h))
 end_children false n k h = refl
 
-end_is : (e : Bool) (n : Node) → From 0 n → has_letter (cond e ((END, false) ∷ []) [] ++ n) END ≡ e
+end_is : (e : Bool) (n : Node) → RisingBytes 0 n → has_letter (cond e ((END, false) ∷ []) [] ++ n) END ≡ e
 end_is true n w = refl
 end_is false n w = no_end 0 n w
 
@@ -171,7 +172,9 @@ NoStray-drop (suc n) (a ∷ l) (b ∷ x) w = NoStray-drop n l x w.1
 -- ---- what is read is written so
 
 pub node_dense : (e : Bool) (labels children : List Bool) → length labels ≤ 256 → IsDense (dense_node e labels children)
-node_dense e labels children h = record { ends = e; bytes = branches_from 0 labels children; rising = branches-From 0 labels children (omega (arith, h)); is = refl }
+node_dense e labels children h =
+    let bytes = branches-From 0 labels children (omega (arith, h)) in
+    record { ends = e; bytes = branches_from 0 labels children; letters = are_bytes 0 (branches_from 0 labels children) bytes; rising = in_order_of 0 (branches_from 0 labels children) bytes; is = refl }
 
 pub dense_are : (ends labels children : List Bool) → AllByRecursion IsDense (dense_nodes ends labels children)
 dense_are [] labels children = tt
@@ -229,9 +232,10 @@ node_again n w =
     let whole = w.is in
     let m = w.bytes in
     let e = w.ends in
+    let bytes = rising_bytes m w.letters w.rising in
     ap (λ (x : Node). dense_node (has_letter x END) (row (has_letter x)) (row (has_child x))) whole
-    ∙ (λ j. dense_node (end_is e m w.rising j) ((row_is (has_letter (cond e ((END, false) ∷ []) [] ++ m)) 256 refl ∙ end_labels e m 256 (omega arith)) j) ((row_is (has_child (cond e ((END, false) ∷ []) [] ++ m)) 256 refl ∙ end_children e m 256 (omega arith)) j))
-    ∙ ap (λ (x : Node). cond e ((END, false) ∷ []) [] ++ x) (row_again 0 256 m w.rising refl)
+    ∙ (λ j. dense_node (end_is e m bytes j) ((row_is (has_letter (cond e ((END, false) ∷ []) [] ++ m)) 256 refl ∙ end_labels e m 256 (omega arith)) j) ((row_is (has_child (cond e ((END, false) ∷ []) [] ++ m)) 256 refl ∙ end_children e m 256 (omega arith)) j))
+    ∙ ap (λ (x : Node). cond e ((END, false) ∷ []) [] ++ x) (row_again 0 256 m bytes refl)
     ∙ sym whole
 
 pub dense_again : (ns : List Node) → AllByRecursion IsDense ns → dense_nodes (dense_ends ns) (dense_labels ns) (dense_children ns) ≡ ns

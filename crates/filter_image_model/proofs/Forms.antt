@@ -3,7 +3,7 @@ use Rattle.std.proofs.Common.{◌≡◌, ℕ, suc, ◌-◌, ◌<◌, ◌≤◌, 
 use Rattle.std.specs.Prelude.{not}
 use Rattle.std.specs.List.{All, AllByRecursion, AllPairs}
 use Rattle.std.proofs.lemmas.Bool.{cases_Bool, cases_eq, false≢true}
-use Rattle.std.proofs.lemmas.List.Elements.{All-map, All-tail}
+use Rattle.std.proofs.lemmas.List.Elements.{All-cons, All-map, All-tail}
 use Rattle.filter_model.proofs.Counts.{AllPairs-tail}
 use Rattle.filter_model.specs.Leaves.{Leaf}
 use Rattle.filter_model.specs.Nodes.{Branch, Node, last_letter, node_of, trie_of}
@@ -19,9 +19,9 @@ use Rattle.trie_laws.proofs.Forms.{branches_reached, forms_are_sparse, trie_node
 use Rattle.trie_laws.proofs.Paths.{any_leaf, path_node, reached_by}
 use Rattle.trie_laws.proofs.Places.{branches_form}
 use Rattle.trie_laws.proofs.Slots.{prefix_whole}
-use Rattle.filter_image_model.specs.Nodes.{From, IsDense}
+use Rattle.filter_image_model.specs.Nodes.{IsDense}
 use Rattle.filter_image_model.specs.Reading.{is_lone_leaf}
-use Rattle.filter_image_model.proofs.Rising.{byte_order}
+use Rattle.filter_image_model.proofs.RisingBytes.{ComesFirst, IsByte, RisingBytes, are_bytes, byte_order}
 
 -- dense or sparse, and of so many leaves no node is one leaf alone
 pub record HasForm (leaves : ℕ) (n : Node) : Type 0 where
@@ -37,13 +37,13 @@ byte_after c le pos = elim (cases_eq c 256) [
   | inr other ↦ let l : c < 256 = omega (arith, le, other) in (l, byte_order c l)
 ]
 
-from_after : (b : Branch) (n : Node) → All (λ (x : Branch). x.0 ≤ END) n → AllPairs (λ (x y : Branch). order_of x.0 < order_of y.0) (b ∷ n) → From (order_of b.0) n
+from_after : (b : Branch) (n : Node) → All (λ (x : Branch). x.0 ≤ END) n → AllPairs (λ (x y : Branch). order_of x.0 < order_of y.0) (b ∷ n) → RisingBytes (order_of b.0) n
 from_after b [] l r = tt
 from_after b (d ∷ n) l r =
     let up = r 0 1 b (omega arith) (omega arith) in
     let s = byte_after d.0 (l 0 d (omega arith)) (omega (arith, up)) in
     let rest = from_after d n (All-tail (λ (x : Branch). x.0 ≤ END) d n l) (AllPairs-tail (λ (x y : Branch). order_of x.0 < order_of y.0) b (d ∷ n) r) in
-    (omega (arith, up, s.1), s.0, subst (λ k. From k n) s.1 rest)
+    (omega (arith, up, s.1), s.0, subst (λ k. RisingBytes k n) s.1 rest)
 
 trie_is_dense : (n : Node) → IsTrieNode n → IsDense n
 trie_is_dense [] t = absurd (omega (arith, t.filled))
@@ -51,10 +51,10 @@ trie_is_dense (b ∷ n) t =
     let rest = from_after b n (All-tail (λ (x : Branch). x.0 ≤ END) b n t.letters) t.rising in
     elim (cases_eq b.0 256) [
       | inl is ↦
-          record { ends = true; bytes = n; rising = subst (λ k. From k n) (ap order_of is) rest; is = (λ j. (is j, t.end_is_a_leaf 0 b (omega arith) is j) ∷ n) }
+          record { ends = true; bytes = n; letters = are_bytes (order_of b.0) n rest; rising = AllPairs-tail ComesFirst b n t.rising; is = (λ j. (is j, t.end_is_a_leaf 0 b (omega arith) is j) ∷ n) }
       | inr other ↦
           let small : b.0 < 256 = omega (arith, t.letters 0 b (omega arith), other) in
-          record { ends = false; bytes = b ∷ n; rising = (omega arith, small, subst (λ k. From k n) (byte_order b.0 small) rest); is = refl }
+          record { ends = false; bytes = b ∷ n; letters = All-cons IsByte b n small (are_bytes (order_of b.0) n rest); rising = t.rising; is = refl }
     ]
 
 -- ---- no leaf alone

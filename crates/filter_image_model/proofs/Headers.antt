@@ -9,14 +9,14 @@ use Rattle.byte_fields.specs.Spelling.{IsBytes}
 use Rattle.byte_fields.proofs.FieldLemmas.{fields_back}
 use Rattle.byte_fields.proofs.NumberLemmas.{IsBytes-drop}
 use Rattle.filter_image_model.specs.Header.{Bytes, hash_bits_in, real_bits_in, cutoff_in, height_in, leaf_count_in, dense_count_in, sparse_count_in, label_count_in}
-use Rattle.filter_image_model.specs.Sections.{head_bytes}
-use Rattle.filter_image_model.specs.Reading.{bytes_fault, header_fault}
+use Rattle.filter_image_model.specs.Sections.{image_head}
+use Rattle.filter_image_model.specs.Reading.{bytes_fault, image_head_fault}
 use Rattle.byte_fields.proofs.FaultLemmas.{kept, neither, not_false}
 
 -- the header of the numbers that are read
 abbrev pub head_in : Bytes → Bytes
 head_in bytes =
-    head_bytes (hash_bits_in bytes) (real_bits_in bytes) (cutoff_in bytes) (height_in bytes) (leaf_count_in bytes) (dense_count_in bytes)
+    image_head (hash_bits_in bytes) (real_bits_in bytes) (cutoff_in bytes) (height_in bytes) (leaf_count_in bytes) (dense_count_in bytes)
     (sparse_count_in bytes) (label_count_in bytes)
 
 -- what a header that breaks no rule keeps
@@ -49,8 +49,8 @@ some : (n : ℕ) → (n == 0) ≡ false → 0 < n
 some zero e = absurd cc
 some (suc n) e = omega arith
 
-pub header_kept : (bytes : Bytes) → header_fault bytes ≡ None → KeepsHeader bytes
-unfolding header_fault
+pub header_kept : (bytes : Bytes) → image_head_fault bytes ≡ None → KeepsHeader bytes
+unfolding image_head_fault
 header_kept bytes e =
     let r1 = kept (nat_lt (length bytes) 40) _ _ _ e in
     let r2 = neither (bytes_fault 2 0 (83 ∷ 85 ∷ 82 ∷ 70 ∷ 1 ∷ []) bytes) _ r1.1 in

@@ -13,10 +13,11 @@ use Rattle.trie_laws.specs.Louds.{IsNode}
 use Rattle.trie_model.specs.Letters.{order_of}
 use Rattle.filter_image_model.specs.Header.{Bytes, cutoff_in, dense_count_in, hash_bits_in, height_in, leaf_count_in, real_bits_in, section, section_place, suffix_bits_in}
 use Rattle.filter_image_model.specs.Laws.{ImageIsReadAgain}
-use Rattle.filter_image_model.specs.Levels.{are_levels, leaves_of, nodes_above}
+use Rattle.filter_image_model.specs.Levels.{are_levels, leaf_count_of, nodes_above}
 use Rattle.filter_image_model.specs.Levels.{children_of as children_count}
-use Rattle.filter_image_model.specs.Nodes.{From, IsDense, dense_in, sparse_in}
-use Rattle.filter_image_model.specs.Reading.{counts_fault, ends_fault, header_fault, image_fault, image_in, is_lone_end, is_lone_leaf, is_no_node, is_no_root, length_fault, louds_fault, nodes_fault, nodes_rules, rises, shape_fault, slot_letters, stray_fault}
+use Rattle.filter_image_model.proofs.RisingBytes.{RisingBytes, byte_order, rising_bytes}
+use Rattle.filter_image_model.specs.Nodes.{IsDense, dense_in, sparse_in}
+use Rattle.filter_image_model.specs.Reading.{counts_fault, ends_fault, image_head_fault, image_fault, image_in, is_lone_end, is_lone_leaf, is_no_node, is_no_root, length_fault, louds_fault, nodes_fault, nodes_rules, rises, shape_fault, slot_letters, stray_fault}
 use Rattle.filter_image_model.specs.Sections.{AreReadAgain, KeepsBytes}
 use Rattle.filter_image_model.proofs.Lists.{all_drop, all_parts, all_take, length-map, never}
 use Rattle.filter_image_model.proofs.Forms.{HasForm, nodes_formed}
@@ -27,7 +28,6 @@ use Rattle.filter_image_model.proofs.LevelsRead.{flat}
 use Rattle.filter_image_model.proofs.OneImage.{dense_of, read_as, sparse_of, spells_one}
 use Rattle.filter_image_model.proofs.Paths.{IsFine, bytes_of_leaves, fine_children, fine_paths, kids_counted, kids_in, own_to, recut, stub_bytes, trie_flat}
 use Rattle.byte_fields.proofs.FaultLemmas.{none_of, passed}
-use Rattle.filter_image_model.proofs.Rising.{byte_order}
 use Rattle.filter_image_model.proofs.Sizes.{good_all, good_levels, leaves_counted, low_part}
 use Rattle.filter_image_model.proofs.SlotNumbers.{ends_none, slot_letters_are, slots_own, suffixes_by_slots}
 use Rattle.filter_image_model.proofs.TrieRead.{above_read, height_is, nodes_are, tall, tall_raise, talls}
@@ -74,7 +74,7 @@ few_above (suc c) (ns ∷ levels) = omega (arith, few_above c levels, length-app
 pub record AreCounted (ls : List Leaf) : Type 0 where
   pub levels : are_levels (height ls) 1 (trie_of ls) ≡ true
   pub above : (c : ℕ) → c ≤ height ls → nodes_above c 1 (trie_of ls) ≡ length (dense_of c ls)
-  pub leaves : leaves_of (trie_of ls) ≡ length ls
+  pub leaves : leaf_count_of (trie_of ls) ≡ length ls
 
 counted : (h r : ℕ) (ls : List Leaf) → IsValid h r ls → AreCounted ls
 unfolding talls
@@ -104,28 +104,28 @@ counted h r ls v =
 
 -- ---- 9: each node
 
-bytes_rise : (c : ℕ) (n : Node) → From c n → rises n ≡ true
+bytes_rise : (c : ℕ) (n : Node) → RisingBytes c n → rises n ≡ true
 bytes_rise c [] w = refl
 bytes_rise c (b ∷ []) w = refl
 bytes_rise c (b ∷ d ∷ n) w =
     and_from (nat_lt (order_of b.0) (order_of d.0)) (rises (d ∷ n)) (lt-ltb (order_of b.0) (order_of d.0) (omega (arith, byte_order b.0 w.1, byte_order d.0 w.2.1, w.2.0))) (bytes_rise (suc b.0) (d ∷ n) w.2)
 
 dense_rises : (n : Node) → IsDense n → rises n ≡ true
-dense_rises n w = ap rises w.is ∙ go w.ends w.bytes w.rising
+dense_rises n w = ap rises w.is ∙ go w.ends w.bytes (rising_bytes w.bytes w.letters w.rising)
   where
-    go : (e : Bool) (m : Node) → From 0 m → rises (cond e ((END, false) ∷ []) [] ++ m) ≡ true
+    go : (e : Bool) (m : Node) → RisingBytes 0 m → rises (cond e ((END, false) ∷ []) [] ++ m) ≡ true
     go true [] b = refl
     go true (x ∷ m) b = and_from (nat_lt (order_of 256) (order_of x.0)) (rises (x ∷ m)) (lt-ltb (order_of 256) (order_of x.0) (omega (arith, byte_order x.0 b.1))) (bytes_rise 0 (x ∷ m) b)
     go false m b = bytes_rise 0 m b
 
-no_marks : (c : ℕ) (n : Node) → From c n → list_any (λ (b : Branch). (b.0 == END) && b.1) n ≡ false
+no_marks : (c : ℕ) (n : Node) → RisingBytes c n → list_any (λ (b : Branch). (b.0 == END) && b.1) n ≡ false
 no_marks c [] w = refl
 no_marks c (b ∷ n) w = (λ j. (ne_eqb b.0 256 (λ e. omega (arith, e, w.1)) j && b.1) || no_marks (suc b.0) n w.2 j)
 
 dense_marks : (n : Node) → IsDense n → list_any (λ (b : Branch). (b.0 == END) && b.1) n ≡ false
-dense_marks n w = ap (list_any (λ (b : Branch). (b.0 == END) && b.1)) w.is ∙ go w.ends w.bytes w.rising
+dense_marks n w = ap (list_any (λ (b : Branch). (b.0 == END) && b.1)) w.is ∙ go w.ends w.bytes (rising_bytes w.bytes w.letters w.rising)
   where
-    go : (e : Bool) (m : Node) → From 0 m → list_any (λ (b : Branch). (b.0 == END) && b.1) (cond e ((END, false) ∷ []) [] ++ m) ≡ false
+    go : (e : Bool) (m : Node) → RisingBytes 0 m → list_any (λ (b : Branch). (b.0 == END) && b.1) (cond e ((END, false) ∷ []) [] ++ m) ≡ false
     go true m b = no_marks 0 m b
     go false m b = no_marks 0 m b
 
@@ -218,10 +218,10 @@ module _ (bytes : Bytes) (h r c : ℕ) (ls : List Leaf) (v : IsValid h r ls) (le
       let k = counted h r ls v in
       let levels : are_levels (height_in bytes) 1 T ≡ true = ap (λ n. are_levels n 1 T) a.height_is ∙ k.levels in
       let above : nodes_above (cutoff_in bytes) 1 T ≡ dense_count_in bytes = ap (λ n. nodes_above n 1 T) a.cutoff_is ∙ k.above c le ∙ ap length (sym a.dense_are) ∙ dense_count bytes in
-      let leaves : leaves_of T ≡ leaf_count_in bytes = k.leaves ∙ sym a.leaves_are in
+      let leaves : leaf_count_of T ≡ leaf_count_in bytes = k.leaves ∙ sym a.leaves_are in
       ap (counts_fault bytes) trie_is
-      ∙ passed (not (are_levels (height_in bytes) 1 T) || not (nodes_above (cutoff_in bytes) 1 T == dense_count_in bytes) || not (leaves_of T == leaf_count_in bytes)) 8 8 None
-      (λ j. not (levels j) || not (eq-eqb (nodes_above (cutoff_in bytes) 1 T) (dense_count_in bytes) above j) || not (eq-eqb (leaves_of T) (leaf_count_in bytes) leaves j)) refl
+      ∙ passed (not (are_levels (height_in bytes) 1 T) || not (nodes_above (cutoff_in bytes) 1 T == dense_count_in bytes) || not (leaf_count_of T == leaf_count_in bytes)) 8 8 None
+      (λ j. not (levels j) || not (eq-eqb (nodes_above (cutoff_in bytes) 1 T) (dense_count_in bytes) above j) || not (eq-eqb (leaf_count_of T) (leaf_count_in bytes) leaves j)) refl
 
   shape_none : shape_fault bytes (dense_in bytes) (sparse_in bytes) ≡ None
   unfolding shape_fault
@@ -250,7 +250,7 @@ module _ (bytes : Bytes) (h r c : ℕ) (ls : List Leaf) (v : IsValid h r ls) (le
   none_broken : KeepsBytes bytes → image_fault bytes ≡ None
   unfolding image_fault nodes_rules
   none_broken k =
-      none_of (header_fault bytes) _ k.header (none_of (length_fault bytes) _ k.lengths (none_of _ _ k.padding (none_of (stray_fault bytes) _ k.strays (none_of (louds_fault bytes) _ k.louds
+      none_of (image_head_fault bytes) _ k.header (none_of (length_fault bytes) _ k.lengths (none_of _ _ k.padding (none_of (stray_fault bytes) _ k.strays (none_of (louds_fault bytes) _ k.louds
       (none_of (counts_fault bytes (dense_in bytes ++ sparse_in bytes)) _ counts_none (none_of (shape_fault bytes (dense_in bytes) (sparse_in bytes)) _ shape_none suffixes_none))))))
 
 -- **the image of a valid list breaks no rule and is read as that list**

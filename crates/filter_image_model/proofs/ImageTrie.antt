@@ -10,11 +10,12 @@ use Rattle.filter_model.specs.Nodes.{Branch, Node, all, node_of, trie_of}
 use Rattle.filter_model.specs.Trie.{END, height, nodes, nodes_to, path}
 use Rattle.byte_fields.specs.Spelling.{IsBytes}
 use Rattle.filter_image_model.specs.Header.{Bytes, hash_bits_in, cutoff_in, height_in, leaf_count_in, dense_count_in, section_bits, section_bytes, section}
-use Rattle.filter_image_model.specs.Levels.{are_levels, levels_from, leaves_of, nodes_above, leaves_behind, root_leaves}
-use Rattle.filter_image_model.specs.Nodes.{From, IsDense, cut, named, dense_in, sparse_in}
+use Rattle.filter_image_model.specs.Levels.{are_levels, levels_from, leaf_count_of, nodes_above, leaves_behind, root_leaves}
+use Rattle.filter_image_model.proofs.RisingBytes.{RisingBytes, rising_bytes}
+use Rattle.filter_image_model.specs.Nodes.{IsDense, cut_nodes, named, dense_in, sparse_in}
 use Rattle.filter_image_model.proofs.Lists.{all_append, length-map}
 use Rattle.filter_image_model.proofs.SparseNodes.{AreBytes}
-use Rattle.filter_image_model.specs.Reading.{rises, is_no_node, is_no_root, is_lone_end, is_lone_leaf, nodes_fault, header_fault, length_fault, padding_fault, stray_fault, louds_fault, counts_fault, shape_fault, ends_fault, nodes_rules, image_fault, suffix_in, leaves_in, slot_letters}
+use Rattle.filter_image_model.specs.Reading.{rises, is_no_node, is_no_root, is_lone_end, is_lone_leaf, nodes_fault, image_head_fault, length_fault, padding_fault, stray_fault, louds_fault, counts_fault, shape_fault, ends_fault, nodes_rules, image_fault, slot_suffix, leaves_in, slot_letters}
 use Rattle.filter_image_model.specs.Sections.{KeepsBytes}
 use Rattle.filter_image_model.specs.Laws.{IsReadTrie, TrieIsRead}
 use Rattle.byte_fields.proofs.FaultLemmas.{kept, neither, not_false}
@@ -28,14 +29,14 @@ use Rattle.filter_image_model.proofs.TrieRead.{nodes_are, height_read, leaves_re
 
 -- ---- letters
 
-dense_letters : (c : ℕ) (n : Node) → From c n → AreLetters n
+dense_letters : (c : ℕ) (n : Node) → RisingBytes c n → AreLetters n
 dense_letters c [] w = tt
 dense_letters c (b ∷ n) w = (omega (arith, w.1), dense_letters (suc b.0) n w.2)
 
 dense_node_letters : (n : Node) → IsDense n → AreLetters n
-dense_node_letters n w = rw w.is (go w.ends w.bytes w.rising)
+dense_node_letters n w = rw w.is (go w.ends w.bytes (rising_bytes w.bytes w.letters w.rising))
   where
-    go : (e : Bool) (m : Node) → From 0 m → AreLetters (cond e ((END, false) ∷ []) [] ++ m)
+    go : (e : Bool) (m : Node) → RisingBytes 0 m → AreLetters (cond e ((END, false) ∷ []) [] ++ m)
     go true m w = (omega arith, dense_letters 0 m w)
     go false m w = dense_letters 0 m w
 
@@ -70,8 +71,8 @@ sparse_letters bytes k =
     let bs = zip ls cs in
     let long : length louds ≡ length bs = omega (arith, l.0, l.1, length-zip ls cs l.0) in
     let first = cut_none louds bs (louds_kept bytes k.louds).1 in
-    let joins : all (cut louds bs).1 ≡ bs = ap (λ (n : Node). n ++ all (cut louds bs).1) (sym first) ∙ cut_joins louds bs long in
-    all_named_letters (cut louds bs).1 (bytes_each (cut louds bs).1 (rw joins (zip_bytes ls cs (label_values bytes k.bytes_are))))
+    let joins : all (cut_nodes louds bs).1 ≡ bs = ap (λ (n : Node). n ++ all (cut_nodes louds bs).1) (sym first) ∙ cut_joins louds bs long in
+    all_named_letters (cut_nodes louds bs).1 (bytes_each (cut_nodes louds bs).1 (rw joins (zip_bytes ls cs (label_values bytes k.bytes_are))))
 
 pub dense_in_letters : (bytes : Bytes) → AllByRecursion AreLetters (dense_in bytes)
 unfolding dense_in
@@ -108,7 +109,7 @@ pub record KeepsRules (bytes : Bytes) : Type 0 where
 pub rules_kept : (bytes : Bytes) → IsBytes bytes → image_fault bytes ≡ None → KeepsRules bytes
 unfolding image_fault nodes_rules
 rules_kept bytes h e =
-    let r1 = neither (header_fault bytes) _ e in
+    let r1 = neither (image_head_fault bytes) _ e in
     let r2 = neither (length_fault bytes) _ r1.1 in
     let r3 = neither (padding_fault 40 (section_bits bytes) bytes) _ r2.1 in
     let r4 = neither (stray_fault bytes) _ r3.1 in
@@ -125,13 +126,13 @@ rules_kept bytes h e =
 pub record KeepsCounts (bytes : Bytes) : Type 0 where
   pub levels : are_levels (height_in bytes) 1 (dense_in bytes ++ sparse_in bytes) ≡ true
   pub dense : nodes_above (cutoff_in bytes) 1 (dense_in bytes ++ sparse_in bytes) ≡ dense_count_in bytes
-  pub leaves : leaves_of (dense_in bytes ++ sparse_in bytes) ≡ leaf_count_in bytes
+  pub leaves : leaf_count_of (dense_in bytes ++ sparse_in bytes) ≡ leaf_count_in bytes
 
 pub counts_kept : (bytes : Bytes) → counts_fault bytes (dense_in bytes ++ sparse_in bytes) ≡ None → KeepsCounts bytes
 unfolding counts_fault
 counts_kept bytes e =
     let ns = dense_in bytes ++ sparse_in bytes in
-    let r = or_parts (not (are_levels (height_in bytes) 1 ns) || not (nodes_above (cutoff_in bytes) 1 ns == dense_count_in bytes)) (not (leaves_of ns == leaf_count_in bytes)) (kept _ _ _ _ e).0 in
+    let r = or_parts (not (are_levels (height_in bytes) 1 ns) || not (nodes_above (cutoff_in bytes) 1 ns == dense_count_in bytes)) (not (leaf_count_of ns == leaf_count_in bytes)) (kept _ _ _ _ e).0 in
     let s = or_parts (not (are_levels (height_in bytes) 1 ns)) (not (nodes_above (cutoff_in bytes) 1 ns == dense_count_in bytes)) r.0 in
     record { levels = not_false _ s.0; dense = eqb-true _ _ (not_false _ s.1); leaves = eqb-true _ _ (not_false _ r.1) }
 
@@ -164,8 +165,8 @@ read_trie bytes k =
     let head = header_kept bytes k.bytes_rules.header in
     let l = levelled (height_in bytes) 1 ns c.levels (good_nodes bytes k) in
     let levels = levels_from (height_in bytes) 1 ns in
-    let suffixes = map (suffix_in bytes) (range_with_len 0 (leaf_count_in bytes)) in
-    let enough : leaves_of (flat levels) ≤ length suffixes = omega (arith, ap leaves_of l.joined, c.leaves, length-map-range_with_len (suffix_in bytes) 0 (leaf_count_in bytes)) in
+    let suffixes = map (slot_suffix bytes) (range_with_len 0 (leaf_count_in bytes)) in
+    let enough : leaf_count_of (flat levels) ≤ length suffixes = omega (arith, ap leaf_count_of l.joined, c.leaves, length-map-range_with_len (slot_suffix bytes) 0 (leaf_count_in bytes)) in
     let lss = leaves_behind (hash_bits_in bytes) levels suffixes in
     let ls = root_leaves lss in
     let gathered : gather levels ≡ map path ls ∷ [] = one_group lss (gather levels) (behind_paths (hash_bits_in bytes) levels suffixes enough) l.first in
@@ -176,7 +177,7 @@ read_trie bytes k =
           ∙ ap flat (take_all (height_in bytes) levels (omega (arith, length-levels (height_in bytes) 1 ns))) ∙ l.joined;
       height_is = high;
       below = sym (length-map (node_of ls) (nodes_to ls (cutoff_in bytes))) ∙ ap length above ∙ above_read (cutoff_in bytes) (height_in bytes) 1 ns head.cutoff c.levels ∙ c.dense ∙ sym (dense_count bytes);
-      count = leaves_read ls levels l.levels gathered ∙ ap leaves_of l.joined ∙ c.leaves;
+      count = leaves_read ls levels l.levels gathered ∙ ap leaf_count_of l.joined ∙ c.leaves;
     }
 
 pub trie_read : TrieIsRead

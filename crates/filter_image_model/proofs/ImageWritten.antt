@@ -14,9 +14,9 @@ use Rattle.filter_model.specs.Nodes.{trie_of}
 use Rattle.filter_model.specs.Strings.{same}
 use Rattle.filter_model.specs.Trie.{height, nodes_to, path, slots}
 use Rattle.filter_image_model.specs.Header.{Bytes, hash_bits_in, real_bits_in, cutoff_in, height_in, leaf_count_in, suffix_bits_in, section, section_bits}
-use Rattle.filter_image_model.specs.Levels.{leaves_behind, leaves_of, levels_from}
+use Rattle.filter_image_model.specs.Levels.{leaves_behind, leaf_count_of, levels_from}
 use Rattle.filter_image_model.specs.Nodes.{dense_in, sparse_in}
-use Rattle.filter_image_model.specs.Reading.{leaves_in, suffix_in}
+use Rattle.filter_image_model.specs.Reading.{leaves_in, slot_suffix}
 use Rattle.filter_image_model.specs.Laws.{BytesAreTheImage}
 use Rattle.filter_image_model.specs.Sections.{nodes_image, sections}
 use Rattle.filter_image_model.proofs.GroupWords.{gather}
@@ -75,8 +75,8 @@ pub length_6 : (bytes : Bytes) → length (section 6 bytes) ≡ leaf_count_in by
 unfolding section section_bits
 length_6 bytes = length-unpacked 8 _ _
 
-pub section_bits_are : (bytes : Bytes) → flat_map (bits_of (suffix_bits_in bytes)) (map (suffix_in bytes) (range_with_len 0 (leaf_count_in bytes))) ≡ section 6 bytes
-unfolding suffix_in
+pub section_bits_are : (bytes : Bytes) → flat_map (bits_of (suffix_bits_in bytes)) (map (slot_suffix bytes) (range_with_len 0 (leaf_count_in bytes))) ≡ section 6 bytes
+unfolding slot_suffix
 section_bits_are bytes =
     bits_cut (suffix_bits_in bytes) (leaf_count_in bytes) 0 (section 6 bytes) (length_6 bytes ∙ ap (λ k. k * suffix_bits_in bytes) (zero_plus (leaf_count_in bytes)))
     ∙ ap (λ k. drop k (section 6 bytes)) (zero_times (suffix_bits_in bytes))
@@ -88,15 +88,15 @@ section_bits_are bytes =
     zero_times w = omega arith
 
 numbers_are : (bytes : Bytes) → KeepsRules bytes → flat_map (λ (q : List ℕ). picks q (entries (hash_bits_in bytes) (leaves_in bytes))) (slots (leaves_in bytes))
-    ≡ map (suffix_in bytes) (range_with_len 0 (leaf_count_in bytes))
+    ≡ map (slot_suffix bytes) (range_with_len 0 (leaf_count_in bytes))
 unfolding leaves_in
 numbers_are bytes k =
     let ns = dense_in bytes ++ sparse_in bytes in
     let c = counts_kept bytes k.counts in
     let l = levelled (height_in bytes) 1 ns c.levels (good_nodes bytes k) in
     let levels = levels_from (height_in bytes) 1 ns in
-    let ss = map (suffix_in bytes) (range_with_len 0 (leaf_count_in bytes)) in
-    let exact : length ss ≡ leaves_of (flat levels) = length-map-range_with_len (suffix_in bytes) 0 (leaf_count_in bytes) ∙ sym c.leaves ∙ ap leaves_of (sym l.joined) in
+    let ss = map (slot_suffix bytes) (range_with_len 0 (leaf_count_in bytes)) in
+    let exact : length ss ≡ leaf_count_of (flat levels) = length-map-range_with_len (slot_suffix bytes) 0 (leaf_count_in bytes) ∙ sym c.leaves ∙ ap leaf_count_of (sym l.joined) in
     let lss = leaves_behind (hash_bits_in bytes) levels ss in
     let paths_are = behind_paths (hash_bits_in bytes) levels ss (omega (arith, exact)) in
     all_numbers (hash_bits_in bytes) (leaves_in bytes) levels ss l.levels (one_group lss (gather levels) paths_are l.first) (one_root lss (gather levels) paths_are l.first) (omega (arith, exact))

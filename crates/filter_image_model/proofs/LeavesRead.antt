@@ -8,7 +8,7 @@ use Rattle.std.proofs.lemmas.Bool.{eqb-false, eq-eqb, or_parts}
 use Rattle.filter_model.specs.Leaves.{Leaf}
 use Rattle.filter_model.specs.Nodes.{Branch, Node}
 use Rattle.filter_model.specs.Trie.{END}
-use Rattle.filter_image_model.specs.Levels.{leaf_by, behind, node_leaves, level_leaves, leaves_behind, leaves_of}
+use Rattle.filter_image_model.specs.Levels.{leaf_by, under_letter, node_leaves, level_leaves, leaves_behind, leaf_count_of}
 use Rattle.filter_image_model.specs.Levels.{children_of as children_count}
 use Rattle.filter_image_model.proofs.Lists.{all_drop}
 use Rattle.filter_image_model.proofs.LevelsRead.{AreLetters}
@@ -68,7 +68,7 @@ module _ (hash_bits real_bits : ℕ) where
   own_append most [] ys v w = w
   own_append most (x ∷ xs) ys v w = (v.0, own_append most xs ys v.1 w)
 
-  own_behind : (most c : ℕ) (ls : List Leaf) → c < 256 → Owns most ls → Owns (suc most) (map (behind c) ls)
+  own_behind : (most c : ℕ) (ls : List Leaf) → c < 256 → Owns most ls → Owns (suc most) (map (under_letter c) ls)
   own_behind most c [] lt w = tt
   own_behind most c (l ∷ ls) lt w =
       (record { bytes = (lt, w.0.bytes); short = omega (arith, w.0.short); hash_fits = w.0.hash_fits; real_fits = w.0.real_fits }, own_behind most c ls lt w.1)
@@ -77,7 +77,7 @@ module _ (hash_bits real_bits : ℕ) where
   node_own most [] below ss m w f = tt
   node_own most ((c, true) ∷ n) [] ss m w f = tt
   node_own most ((c, true) ∷ n) (ls ∷ below) ss m w f =
-      own_append (suc most) (map (behind c) ls) (node_leaves hash_bits n below ss) (own_behind most c ls (m.0.1 refl) w.0) (node_own most n below ss m.1 w.1 f)
+      own_append (suc most) (map (under_letter c) ls) (node_leaves hash_bits n below ss) (own_behind most c ls (m.0.1 refl) w.0) (node_own most n below ss m.1 w.1 f)
   node_own most ((c, false) ∷ n) below [] m w f = tt
   node_own most ((c, false) ∷ n) below (s ∷ ss) m w f = (own_leaf most c s m.0.0 f.0, node_own most n below ss m.1 w f.1)
 
@@ -86,12 +86,12 @@ module _ (hash_bits real_bits : ℕ) where
   level_own most [] below ss m w f = tt
   level_own most (n ∷ ns) below ss m w f = (
     node_own most n below ss m.0 w f,
-    level_own most ns (drop (children_count (n ∷ [])) below) (drop (leaves_of (n ∷ [])) ss) m.1 (all_drop (Owns most) (children_count (n ∷ [])) below w) (all_drop (λ s. s < 2 ^ (hash_bits + real_bits)) (leaves_of (n ∷ [])) ss f),
+    level_own most ns (drop (children_count (n ∷ [])) below) (drop (leaf_count_of (n ∷ [])) ss) m.1 (all_drop (Owns most) (children_count (n ∷ [])) below w) (all_drop (λ s. s < 2 ^ (hash_bits + real_bits)) (leaf_count_of (n ∷ [])) ss f),
   )
 
   pub behind_own : (levels : List (List Node)) (ss : List ℕ) → AllByRecursion (AllByRecursion HasMarks) levels → AllByRecursion (λ s. s < 2 ^ (hash_bits + real_bits)) ss
       → AllByRecursion (λ ls. AllByRecursion (IsOwn hash_bits real_bits (length levels)) ls) (leaves_behind hash_bits levels ss)
   behind_own [] ss m f = tt
   behind_own (ns ∷ levels) ss m f =
-      level_own (length levels) ns (leaves_behind hash_bits levels (drop (leaves_of ns) ss)) ss m.0
-      (behind_own levels (drop (leaves_of ns) ss) m.1 (all_drop (λ s. s < 2 ^ (hash_bits + real_bits)) (leaves_of ns) ss f)) f
+      level_own (length levels) ns (leaves_behind hash_bits levels (drop (leaf_count_of ns) ss)) ss m.0
+      (behind_own levels (drop (leaf_count_of ns) ss) m.1 (all_drop (λ s. s < 2 ^ (hash_bits + real_bits)) (leaf_count_of ns) ss f)) f

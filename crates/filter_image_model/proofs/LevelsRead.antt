@@ -12,7 +12,7 @@ use Rattle.filter_model.proofs.Counts.{count_by-cons}
 use Rattle.filter_model.specs.Nodes.{Branch, Node, all}
 use Rattle.filter_model.specs.Trie.{END, letters, path}
 use Rattle.trie_model.specs.Letters.{order_of}
-use Rattle.filter_image_model.specs.Levels.{are_levels, levels_from, leaves_of, leaf_by, behind, node_leaves, level_leaves, leaves_behind}
+use Rattle.filter_image_model.specs.Levels.{are_levels, levels_from, leaf_count_of, leaf_by, under_letter, node_leaves, level_leaves, leaves_behind}
 use Rattle.filter_image_model.specs.Levels.{children_of as children_count}
 use Rattle.filter_image_model.specs.Reading.{rises}
 use Rattle.filter_image_model.proofs.GroupWords.{Group, among, Once, InOrder, children_in, all_children, join, deal, raise, gather, IsGoodNode, AreLevels}
@@ -191,7 +191,7 @@ leaf_path hash_bits c suffix = elim (cases_Bool (c == END)) [
   | inr byte ↦ ap (λ (t : Bool). cond {A = List ℕ} t [] (c ∷ []) ++ cond {A = List ℕ} t (END ∷ []) []) byte
 ]
 
-behind_path : (c : ℕ) (ls : List Leaf) → map path (map (behind c) ls) ≡ map (λ (x : List ℕ). c ∷ x) (map path ls)
+behind_path : (c : ℕ) (ls : List Leaf) → map path (map (under_letter c) ls) ≡ map (λ (x : List ℕ). c ∷ x) (map path ls)
 unfolding path
 behind_path c [] = refl
 behind_path c (l ∷ ls) = ap (λ (g : Group). (c ∷ path l) ∷ g) (behind_path c ls)
@@ -204,7 +204,7 @@ node_paths : (hash_bits : ℕ) (n : Node) (below : List (List Leaf)) (suffixes :
 node_paths hb [] below ss le = refl
 node_paths hb ((c, true) ∷ n) [] ss le = refl
 node_paths hb ((c, true) ∷ n) (ls ∷ below) ss le =
-    map-append path (map (behind c) ls) (node_leaves hb n below ss)
+    map-append path (map (under_letter c) ls) (node_leaves hb n below ss)
     ∙ (λ j. behind_path c ls j ++ node_paths hb n below ss (omega (arith, le, count_by-cons leaf_branch (c, true) n)) j)
 node_paths hb ((c, false) ∷ n) below [] le = absurd (omega (arith, le, count_by-cons leaf_branch (c, false) n))
 node_paths hb ((c, false) ∷ n) [] (s ∷ ss) le =
@@ -217,22 +217,22 @@ paths_drop zero lss = refl
 paths_drop (suc k) [] = refl
 paths_drop (suc k) (ls ∷ lss) = paths_drop k lss
 
-level_paths : (hash_bits : ℕ) (ns : List Node) (below : List (List Leaf)) (suffixes : List ℕ) → leaves_of ns ≤ length suffixes
+level_paths : (hash_bits : ℕ) (ns : List Node) (below : List (List Leaf)) (suffixes : List ℕ) → leaf_count_of ns ≤ length suffixes
     → paths (level_leaves hash_bits ns below suffixes) ≡ raise ns (paths below)
 level_paths hb [] below ss le = refl
 level_paths hb (n ∷ ns) below ss le =
     let split = count-append leaf_branch n (all ns) in
-    let one : leaves_of (n ∷ []) ≡ count_by leaf_branch n = ap (count_by leaf_branch) (append-nil n) in
+    let one : leaf_count_of (n ∷ []) ≡ count_by leaf_branch n = ap (count_by leaf_branch) (append-nil n) in
     let kids : children_count (n ∷ []) ≡ children_in n = ap (count_by (λ (b : Branch). b.1)) (append-nil n) ∙ sym (children_in_is n) in
     (λ j. node_paths hb n below ss (omega (arith, le, split)) j
-    ∷ level_paths hb ns (drop (children_count (n ∷ [])) below) (drop (leaves_of (n ∷ [])) ss) (omega (arith, le, split, one, length-drop (leaves_of (n ∷ [])) ss)) j)
+    ∷ level_paths hb ns (drop (children_count (n ∷ [])) below) (drop (leaf_count_of (n ∷ [])) ss) (omega (arith, le, split, one, length-drop (leaf_count_of (n ∷ [])) ss)) j)
     ∙ ap (λ (gs : List Group). join (deal n (paths below)) ∷ raise ns gs) (paths_drop (children_count (n ∷ [])) below ∙ ap (λ k. drop k (paths below)) kids)
 
-pub behind_paths : (hash_bits : ℕ) (levels : List (List Node)) (suffixes : List ℕ) → leaves_of (flat levels) ≤ length suffixes
+pub behind_paths : (hash_bits : ℕ) (levels : List (List Node)) (suffixes : List ℕ) → leaf_count_of (flat levels) ≤ length suffixes
     → paths (leaves_behind hash_bits levels suffixes) ≡ gather levels
 behind_paths hb [] ss le = refl
 behind_paths hb (ns ∷ levels) ss le =
-    let split : leaves_of (ns ++ flat levels) ≡ leaves_of ns + leaves_of (flat levels) =
+    let split : leaf_count_of (ns ++ flat levels) ≡ leaf_count_of ns + leaf_count_of (flat levels) =
     ap (count_by leaf_branch) (flat_map-append (λ (n : Node). n) ns (flat levels)) ∙ count-append leaf_branch (all ns) (all (flat levels)) in
-    level_paths hb ns (leaves_behind hb levels (drop (leaves_of ns) ss)) ss (omega (arith, le, split))
-    ∙ ap (raise ns) (behind_paths hb levels (drop (leaves_of ns) ss) (omega (arith, le, split, length-drop (leaves_of ns) ss)))
+    level_paths hb ns (leaves_behind hb levels (drop (leaf_count_of ns) ss)) ss (omega (arith, le, split))
+    ∙ ap (raise ns) (behind_paths hb levels (drop (leaf_count_of ns) ss) (omega (arith, le, split, length-drop (leaf_count_of ns) ss)))

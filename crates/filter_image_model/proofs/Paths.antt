@@ -21,7 +21,8 @@ use Rattle.filter_image_model.proofs.Lists.{all_append, all_filter, all_kept, le
 use Rattle.filter_image_model.proofs.GroupWords.{Group, From, Rising, Sorted, all_children, among, children_of, gather, goes_on, group_level, heads, is_cons, node_of_group}
 use Rattle.filter_image_model.proofs.LevelsRead.{all_children_is, flat}
 use Rattle.filter_image_model.proofs.Link.{level-nodes}
-use Rattle.filter_image_model.proofs.Rising.{AreBytes_of, byte_order, ended}
+use Rattle.filter_image_model.proofs.Rising.{AreBytes_of, ended}
+use Rattle.filter_image_model.proofs.RisingBytes.{byte_order}
 use Rattle.filter_image_model.proofs.Sorted.{HeadsIn, from_weaker, sorted_from, sorted_tails}
 use Rattle.filter_image_model.proofs.Written.{bytes_all}
 use Rattle.filter_image_model.proofs.Unique.{IsOwn, IsPlain, OwnTo, children_own, gather_own, levels_from}

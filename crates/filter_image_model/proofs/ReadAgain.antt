@@ -18,8 +18,8 @@ use Rattle.trie_laws.proofs.Louds.{louds_count}
 use Rattle.trie_laws.specs.Louds.{IsNode}
 use Rattle.filter_image_model.specs.Header.{Bytes, cutoff_in, height_in, leaf_count_in, dense_count_in, sparse_count_in, label_count_in, suffix_bits_in, place_after, section_bits, section_place, end_place, section_bytes, section}
 use Rattle.filter_image_model.specs.Nodes.{dense_nodes, sparse_nodes, dense_in, sparse_in}
-use Rattle.filter_image_model.specs.Reading.{is_stray, begins_clear, header_fault, length_fault, padding_fault, stray_fault, louds_fault}
-use Rattle.filter_image_model.specs.Sections.{head_bytes, sections, nodes_image, KeepsBytes, HasRoom, AreReadAgain, SectionsAreReadAgain}
+use Rattle.filter_image_model.specs.Reading.{is_stray, begins_clear, image_head_fault, length_fault, padding_fault, stray_fault, louds_fault}
+use Rattle.filter_image_model.specs.Sections.{image_head, sections, nodes_image, KeepsBytes, HasRoom, AreReadAgain, SectionsAreReadAgain}
 use Rattle.filter_image_model.proofs.Lists.{all_of, length-map}
 use Rattle.byte_fields.proofs.FaultLemmas.{passed, not_true}
 use Rattle.filter_image_model.proofs.Sections.{section_is}
@@ -72,7 +72,7 @@ all-IsBytes : (xs : Bytes) → AllByRecursion (λ c. c < 256) xs → IsBytes xs
 all-IsBytes [] w = IsBytes-nil
 all-IsBytes (x ∷ xs) w = IsBytes-cons x xs w.0 (all-IsBytes xs w.1)
 
-header-IsBytes : (h r c ht lv d s m : ℕ) → h ≤ 32 → r ≤ 32 → IsBytes (head_bytes h r c ht lv d s m)
+header-IsBytes : (h r c ht lv d s m : ℕ) → h ≤ 32 → r ≤ 32 → IsBytes (image_head h r c ht lv d s m)
 header-IsBytes h r c ht lv d s m hh rr =
     let first : IsBytes (83 ∷ 85 ∷ 82 ∷ 70 ∷ 1 ∷ h ∷ r ∷ 0 ∷ []) =
     all-IsBytes (83 ∷ 85 ∷ 82 ∷ 70 ∷ 1 ∷ h ∷ r ∷ 0 ∷ []) (lit< tt, (lit< tt, (lit< tt, (lit< tt, (lit< tt, (omega (arith, hh), (omega (arith, rr), (lit< tt, tt)))))))) in
@@ -190,7 +190,7 @@ module _ (h r c ht lv : ℕ) (dense sparse : List Node) (suffixes : List Bool) (
   section_6 = by_widths 6 ∙ bits_again (place_after 40 (take 6 (widths bss))) suffixes [] bytes rest_6
 
   long : 40 ≤ length bytes
-  long = omega (arith, length-append (head_bytes h r c ht lv (length dense) (length sparse) m) body)
+  long = omega (arith, length-append (image_head h r c ht lv (length dense) (length sparse) m) body)
 
   ends : end_place bytes ≡ length bytes
   ends = end_is_by bytes ∙ ap (place_after 40) widths_are ∙ ends_at 40 bss bytes long laid_out
@@ -203,8 +203,8 @@ module _ (h r c ht lv : ℕ) (dense sparse : List Node) (suffixes : List Bool) (
   unfolding sparse_in
   sparse_nodes_are = (λ j. sparse_nodes (section_3 j) (section_4 j) (section_5 j)) ∙ sparse_again sparse room.sparse_nodes
 
-  no_header_fault : header_fault bytes ≡ None
-  unfolding header_fault
+  no_header_fault : image_head_fault bytes ≡ None
+  unfolding image_head_fault
   no_header_fault =
       passed (nat_lt (length bytes) 40) _ _ _ (le-ltb (length bytes) 40 long)
       (passed (nat_lt 32 h) _ _ _ (le-ltb 32 h room.hash_width)
@@ -238,7 +238,7 @@ module _ (h r c ht lv : ℕ) (dense sparse : List Node) (suffixes : List Bool) (
 
   kept_bytes : KeepsBytes bytes
   kept_bytes = record {
-    bytes_are = IsBytes-append (head_bytes h r c ht lv (length dense) (length sparse) m) body (header-IsBytes h r c ht lv (length dense) (length sparse) m room.hash_width room.real_width)
+    bytes_are = IsBytes-append (image_head h r c ht lv (length dense) (length sparse) m) body (header-IsBytes h r c ht lv (length dense) (length sparse) m room.hash_width room.real_width)
         (rw (sections_laid dense sparse suffixes room.sparse_nodes) (laid-IsBytes bss));
     header = no_header_fault;
     lengths = no_length_fault;

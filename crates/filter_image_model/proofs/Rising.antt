@@ -14,6 +14,7 @@ use Rattle.filter_model.specs.Nodes.{Branch, Node}
 use Rattle.filter_image_model.specs.Reading.{rises}
 use Rattle.trie_model.specs.Letters.{comes_before as before, order_of}
 use Rattle.filter_image_model.proofs.Lists.{all_append, all_drop}
+use Rattle.filter_image_model.proofs.RisingBytes.{byte_order}
 use Rattle.filter_image_model.proofs.GroupWords.{Group, From, Sorted, children_in, deal, gather, join, raise}
 
 -- letters whose orders rise from m on
@@ -89,9 +90,6 @@ sorted_gather (l ∷ levels) o = sorted_raise l (gather levels) o.0 (sorted_gath
 
 abbrev pub AreBytes_of : List ℕ → Type 0
 AreBytes_of x = AllByRecursion (λ c. c < 256) x
-
-pub byte_order : (c : ℕ) → c < 256 → order_of c ≡ suc c
-byte_order c lt = ap (λ (t : Bool). cond {A = ℕ} t 0 (suc c)) (ne_eqb c 256 (λ e. omega (arith, lt, e)))
 
 abbrev pub ended : List ℕ → Bool → List ℕ
 ended x e = x ++ cond e (256 ∷ []) []

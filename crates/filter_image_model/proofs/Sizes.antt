@@ -15,9 +15,9 @@ use Rattle.filter_model.specs.Strings.{extends}
 use Rattle.filter_model.specs.Trie.{END, height, path}
 use Rattle.filter_model.specs.Valid.{EndsRightly, IsLeaf, IsValid}
 use Rattle.trie_laws.specs.Louds.{IsNode}
-use Rattle.filter_image_model.specs.Levels.{leaves_of}
+use Rattle.filter_image_model.specs.Levels.{leaf_count_of}
 use Rattle.filter_image_model.specs.Nodes.{IsDense}
-use Rattle.filter_image_model.specs.Nodes.{From as Bytes}
+use Rattle.filter_image_model.proofs.RisingBytes.{RisingBytes as Bytes, rising_bytes}
 use Rattle.filter_image_model.proofs.Lists.{all_parts, length-map}
 use Rattle.filter_image_model.proofs.Forms.{HasForm}
 use Rattle.trie_model.specs.Rests.{tails}
@@ -106,7 +106,7 @@ letters_from c [] w = tt
 letters_from c (b ∷ n) w = (w.0, w.1, letters_from (suc b.0) n w.2)
 
 good : (n : Node) → IsDense n → is_cons n ≡ true → IsGoodNode n
-good n w some = record { filled = some; order = subst (λ (m : Node). InOrder (map (λ (b : Branch). b.0) m)) (sym w.is) (go w.ends w.bytes w.rising) }
+good n w some = record { filled = some; order = subst (λ (m : Node). InOrder (map (λ (b : Branch). b.0) m)) (sym w.is) (go w.ends w.bytes (rising_bytes w.bytes w.letters w.rising)) }
   where
     go : (e : Bool) (m : Node) → Bytes 0 m → InOrder (map (λ (b : Branch). b.0) (cond e ((END, false) ∷ []) [] ++ m))
     go true m b = in_order true (map (λ (x : Branch). x.0) m) (letters_from 0 m b)
@@ -142,7 +142,7 @@ in_slots_counted h r ls v =
     sym (length-map path (in_slots ls)) ∙ ap length s.leaf_of_slot ∙ s.as_many
 
 -- as many leaves as branches that are leaves
-pub leaves_counted : (h r : ℕ) (ls : List Leaf) → IsValid h r ls → leaves_of (trie_of ls) ≡ length ls
+pub leaves_counted : (h r : ℕ) (ls : List Leaf) → IsValid h r ls → leaf_count_of (trie_of ls) ≡ length ls
 leaves_counted h r ls v =
     sym (length-own (all (trie_of ls))) ∙ ap length (slot_letters_are h r ls v) ∙ length-map (λ l. last_letter (path l)) (in_slots ls) ∙ in_slots_counted h r ls v
 

@@ -20,7 +20,7 @@ use Rattle.trie_levels.proofs.Totals.{valid_lists_have_tries}
 use Rattle.filter_image_model.proofs.Lists.{all_filter, all_flat, never}
 use Rattle.filter_image_model.proofs.ImageWritten.{same_suffix}
 use Rattle.filter_image_model.specs.Header.{Bytes, hash_bits_in, section, section_place, suffix_bits_in}
-use Rattle.filter_image_model.specs.Reading.{ends_fault, slot_letters, suffix_in}
+use Rattle.filter_image_model.specs.Reading.{ends_fault, slot_letters, slot_suffix}
 use Rattle.filter_image_model.proofs.Link.{filter-map, flat_map-map, flat_map_agree, map-map}
 use Rattle.byte_fields.proofs.FaultLemmas.{passed}
 use Rattle.filter_image_model.proofs.SameLeaves.{high_part, number_fits}
@@ -75,7 +75,7 @@ suffixes_by_slots h r ls =
 pub ends_none : (bytes : Bytes) (slot : ℕ) (os : List Leaf) → AllByRecursion (HasNumber (hash_bits_in bytes) (suffix_bits_in bytes)) os
     → drop (slot * suffix_bits_in bytes) (section 6 bytes) ≡ flat_map (bits_of (suffix_bits_in bytes)) (map (number (hash_bits_in bytes)) os)
     → ends_fault bytes slot (map (λ l. last_letter (path l)) os) ≡ None
-unfolding ends_fault suffix_in
+unfolding ends_fault slot_suffix
 ends_none bytes slot [] s d = refl
 ends_none bytes slot (l ∷ os) s here =
     let w = suffix_bits_in bytes in
@@ -85,13 +85,13 @@ ends_none bytes slot (l ∷ os) s here =
     let bits = section 6 bytes in
     let rest = flat_map (bits_of w) (map (number h) os) in
     let size = length-bits_of w n in
-    let is : suffix_in bytes slot ≡ n = ap (λ (xs : List Bool). mask_l (take w xs)) here ∙ ap mask_l (take_at (bits_of w n) rest w size) ∙ number_back w n ∙ mod-eq_of_lt s.0.fits in
+    let is : slot_suffix bytes slot ≡ n = ap (λ (xs : List Bool). mask_l (take w xs)) here ∙ ap mask_l (take_at (bits_of w n) rest w size) ∙ number_back w n ∙ mod-eq_of_lt s.0.fits in
     let next : drop (suc slot * w) bits ≡ rest = ap (λ k. drop k bits) (times slot w) ∙ sym (drop-drop w (slot * w) bits) ∙ ap (drop w) here ∙ drop_at (bits_of w n) rest w size in
-    let fine : ((c == END) && not (suffix_in bytes slot / 2 ^ h == 0)) ≡ false = elim (cases_Bool (c == END)) [
+    let fine : ((c == END) && not (slot_suffix bytes slot / 2 ^ h == 0)) ≡ false = elim (cases_Bool (c == END)) [
       | inl e ↦ ap (λ k. (c == END) && not (k / 2 ^ h == 0)) is ∙ ap (λ k. (c == END) && not (k == 0)) (s.0.none e) ∙ never (c == END)
-      | inr e ↦ ap (λ (t : Bool). t && not (suffix_in bytes slot / 2 ^ h == 0)) e
+      | inr e ↦ ap (λ (t : Bool). t && not (slot_suffix bytes slot / 2 ^ h == 0)) e
     ] in
-    passed ((c == END) && not (suffix_in bytes slot / 2 ^ h == 0)) (section_place 6 bytes + slot * w / 8) 10 (ends_fault bytes (suc slot) (map (λ o. last_letter (path o)) os)) fine
+    passed ((c == END) && not (slot_suffix bytes slot / 2 ^ h == 0)) (section_place 6 bytes + slot * w / 8) 10 (ends_fault bytes (suc slot) (map (λ o. last_letter (path o)) os)) fine
     (ends_none bytes (suc slot) os s.1 next)
   where
     times : (n w : ℕ) → suc n * w ≡ n * w + w

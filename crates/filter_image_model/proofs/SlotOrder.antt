@@ -14,7 +14,7 @@ use Rattle.filter_image_model.proofs.Lists.{first_of, rest_of}
 use Rattle.filter_image_model.proofs.TrieRead.{flat_take}
 use Rattle.filter_image_model.proofs.Link.{map-map, read_back}
 use Rattle.trie_laws.proofs.Places.{last_letter-push}
-use Rattle.filter_image_model.specs.Levels.{node_leaves, level_leaves, leaves_behind, leaves_of}
+use Rattle.filter_image_model.specs.Levels.{node_leaves, level_leaves, leaves_behind, leaf_count_of}
 use Rattle.filter_image_model.specs.Levels.{children_of as children_count}
 use Rattle.filter_image_model.proofs.GroupWords.{children_in, all_children, gather, IsGoodNode, AreLevels}
 use Rattle.filter_image_model.proofs.LevelsRead.{flat, length-raise, leaf_branch, children_in_is, count-append}
@@ -122,21 +122,21 @@ module _ (hash_bits : ℕ) (ls : List Leaf) (g : List Entry) where
   -- a level: the groups of its children, and the numbers of its own leaves
   pub record LevelSplit (ps : List (List ℕ)) (ns : List Node) (below : List (List Leaf)) (ss : List ℕ) : Type 0 where
     pub children : map (λ (q : List ℕ). behind_string q g) (filter (is_node ls) (flat_map (branches ls) ps)) ≡ map (entries hash_bits) (take (all_children ns) below)
-    pub numbers : flat_map (λ (q : List ℕ). picks q g) (filter (λ q. not (is_node ls q)) (flat_map (branches ls) ps)) ≡ take (leaves_of ns) ss
+    pub numbers : flat_map (λ (q : List ℕ). picks q g) (filter (λ q. not (is_node ls q)) (flat_map (branches ls) ps)) ≡ take (leaf_count_of ns) ss
 
   pub level_split : (ps : List (List ℕ)) (ns : List Node) (below : List (List Leaf)) (ss : List ℕ) → map (node_of ls) ps ≡ ns
       → map (λ (p : List ℕ). behind_string p g) ps ≡ map (entries hash_bits) (level_leaves hash_bits ns below ss)
-      → AllByRecursion IsGoodNode ns → all_children ns ≤ length below → leaves_of ns ≤ length ss → LevelSplit ps ns below ss
+      → AllByRecursion IsGoodNode ns → all_children ns ≤ length below → leaf_count_of ns ≤ length ss → LevelSplit ps ns below ss
   level_split [] [] below ss e h good le few = record { children = refl; numbers = refl }
   level_split [] (n ∷ ns) below ss e h good le few = absurd cc
   level_split (p ∷ ps) [] below ss e h good le few = absurd cc
   level_split (p ∷ ps) (n ∷ ns) below ss e h good le few =
       let is : node_of ls p ≡ n = first_of (node_of ls p) n (map (node_of ls) ps) ns e in
       let below_too = drop (children_count (n ∷ [])) below in
-      let ss_too = drop (leaves_of (n ∷ [])) ss in
+      let ss_too = drop (leaf_count_of (n ∷ [])) ss in
       let here : behind_string p g ≡ entries hash_bits (node_leaves hash_bits n below ss) = first_of _ _ _ _ h in
       let count = count-append leaf_branch n (all ns) in
-      let one : leaves_of (n ∷ []) ≡ count_by leaf_branch n = ap (count_by leaf_branch) (append-nil n) in
+      let one : leaf_count_of (n ∷ []) ≡ count_by leaf_branch n = ap (count_by leaf_branch) (append-nil n) in
       let kids_count : children_count (n ∷ []) ≡ children_in n = ap (count_by (λ (b : Branch). b.1)) (append-nil n) ∙ sym (children_in_is n) in
       let node : as_node (marked p) ≡ n = node_is p ∙ is in
       let dealt_is : map (λ (q : List ℕ × Bool). behind_string q.0 g) (marked p) ≡ dealt hash_bits (as_node (marked p)) below ss =
@@ -144,7 +144,7 @@ module _ (hash_bits : ℕ) (ls : List Leaf) (g : List Entry) where
       ∙ behind_letters hash_bits n below ss good.0.order.once (omega (arith, le)) (omega (arith, few, count))
       ∙ ap (λ (m : Node). dealt hash_bits m below ss) (sym node) in
       let s = split hash_bits g (marked p) below ss (omega (arith, le, ap children_in node)) (omega (arith, few, count, ap (count_by leaf_branch) node)) dealt_is in
-      let ih = level_split ps ns below_too ss_too (rest_of _ _ _ _ e) (rest_of _ _ _ _ h) good.1 (omega (arith, le, kids_count, length-drop (children_count (n ∷ [])) below)) (omega (arith, few, count, one, length-drop (leaves_of (n ∷ [])) ss)) in
+      let ih = level_split ps ns below_too ss_too (rest_of _ _ _ _ e) (rest_of _ _ _ _ h) good.1 (omega (arith, le, kids_count, length-drop (children_count (n ∷ [])) below)) (omega (arith, few, count, one, length-drop (leaf_count_of (n ∷ [])) ss)) in
       let B : List ℕ → List Entry = λ q. behind_string q g in
       let rest = flat_map (branches ls) ps in
       record {
@@ -159,8 +159,8 @@ module _ (hash_bits : ℕ) (ls : List Leaf) (g : List Entry) where
             ap (flat_map (λ (q : List ℕ). picks q g)) (filter-append (λ q. not (is_node ls q)) (branches ls p) rest)
             ∙ flat_map-append (λ (q : List ℕ). picks q g) (filter (λ q. not (is_node ls q)) (branches ls p)) (filter (λ q. not (is_node ls q)) rest)
             ∙ (λ j. (ap (flat_map (λ (q : List ℕ). picks q g)) (sym (owns_are (branches ls p))) ∙ s.numbers ∙ ap (λ k. take k ss) (ap (count_by leaf_branch) node)) j
-            ++ (ih.numbers ∙ ap (λ k. take (leaves_of ns) (drop k ss)) one) j)
-            ∙ sym (take-add (count_by leaf_branch n) (leaves_of ns) ss)
+            ++ (ih.numbers ∙ ap (λ k. take (leaf_count_of ns) (drop k ss)) one) j)
+            ∙ sym (take-add (count_by leaf_branch n) (leaf_count_of ns) ss)
             ∙ ap (λ k. take k ss) (sym count);
       }
 
@@ -173,7 +173,7 @@ are_drop (suc k) (l ∷ levels) a = are_drop k levels a.2
 
 length-level : (hash_bits : ℕ) (ns : List Node) (below : List (List Leaf)) (ss : List ℕ) → length (level_leaves hash_bits ns below ss) ≡ length ns
 length-level hb [] below ss = refl
-length-level hb (n ∷ ns) below ss = omega (arith, length-level hb ns (drop (children_count (n ∷ [])) below) (drop (leaves_of (n ∷ [])) ss))
+length-level hb (n ∷ ns) below ss = omega (arith, length-level hb ns (drop (children_count (n ∷ [])) below) (drop (leaf_count_of (n ∷ [])) ss))
 
 pub length-behind : (hash_bits : ℕ) (levels : List (List Node)) (ss : List ℕ) → length (leaves_behind hash_bits levels ss) ≡ length (gather levels)
 length-behind hb [] ss = refl
@@ -184,37 +184,37 @@ flat_split zero levels = refl
 flat_split (suc k) [] = refl
 flat_split (suc k) (l ∷ levels) = append_assoc l (flat (take k levels)) (flat (drop k levels)) ∙ ap (λ (ns : List Node). l ++ ns) (flat_split k levels)
 
-leaves-append : (xs ys : List Node) → leaves_of (xs ++ ys) ≡ leaves_of xs + leaves_of ys
+leaves-append : (xs ys : List Node) → leaf_count_of (xs ++ ys) ≡ leaf_count_of xs + leaf_count_of ys
 leaves-append xs ys = ap (count_by leaf_branch) (flat_map-append (λ (n : Node). n) xs ys) ∙ count-append leaf_branch (all xs) (all ys)
 
 module _ (hash_bits : ℕ) (ls : List Leaf) (levels : List (List Node)) (ss : List ℕ) (a : AreLevels levels) (gathered : gather levels ≡ map path ls ∷ [])
-    (root : leaves_behind hash_bits levels ss ≡ ls ∷ []) (enough : leaves_of (flat levels) ≤ length ss) where
+    (root : leaves_behind hash_bits levels ss ≡ ls ∷ []) (enough : leaf_count_of (flat levels) ≤ length ss) where
   abbrev G : List Entry
   G = entries hash_bits ls
 
   abbrev before : ℕ → ℕ
-  before k = leaves_of (flat (take k levels))
+  before k = leaf_count_of (flat (take k levels))
 
   abbrev IsAt : ℕ → Type 0
   IsAt k = map (λ (p : List ℕ). behind_string p (entries hash_bits ls)) (level ls k)
-      ≡ map (entries hash_bits) (leaves_behind hash_bits (drop k levels) (drop (leaves_of (flat (take k levels))) ss))
+      ≡ map (entries hash_bits) (leaves_behind hash_bits (drop k levels) (drop (leaf_count_of (flat (take k levels))) ss))
 
-  next_before : (k : ℕ) → before (suc k) ≡ before k + leaves_of (get_or levels k [])
-  next_before k = ap leaves_of (sym (flat_take k levels)) ∙ leaves-append (flat (take k levels)) (get_or levels k [])
+  next_before : (k : ℕ) → before (suc k) ≡ before k + leaf_count_of (get_or levels k [])
+  next_before k = ap leaf_count_of (sym (flat_take k levels)) ∙ leaves-append (flat (take k levels)) (get_or levels k [])
 
-  before-le : (k : ℕ) → before k ≤ leaves_of (flat levels)
-  before-le k = omega (arith, ap leaves_of (flat_split k levels), leaves-append (flat (take k levels)) (flat (drop k levels)))
+  before-le : (k : ℕ) → before k ≤ leaf_count_of (flat levels)
+  before-le k = omega (arith, ap leaf_count_of (flat_split k levels), leaves-append (flat (take k levels)) (flat (drop k levels)))
 
   this_level : (k : ℕ) → k < length levels → IsAt k
-      → LevelSplit hash_bits ls G (level ls k) (get_or levels k []) (leaves_behind hash_bits (drop (suc k) levels) (drop (leaves_of (get_or levels k [])) (drop (before k) ss))) (drop (before k) ss)
+      → LevelSplit hash_bits ls G (level ls k) (get_or levels k []) (leaves_behind hash_bits (drop (suc k) levels) (drop (leaf_count_of (get_or levels k [])) (drop (before k) ss))) (drop (before k) ss)
   this_level k lt at =
       let N = get_or levels k [] in
       let cut : drop k levels ≡ N ∷ drop (suc k) levels = drop-cons levels k [] lt in
       let here : AreLevels (N ∷ drop (suc k) levels) = subst AreLevels cut (are_drop k levels a) in
       let s = drop (before k) ss in
-      level_split hash_bits ls G (level ls k) N (leaves_behind hash_bits (drop (suc k) levels) (drop (leaves_of N) s)) s
+      level_split hash_bits ls G (level ls k) N (leaves_behind hash_bits (drop (suc k) levels) (drop (leaf_count_of N) s)) s
       (read_back ls levels k a gathered) (at ∙ ap (λ (more : List (List Node)). map (entries hash_bits) (leaves_behind hash_bits more s)) cut)
-      here.0 (omega (arith, here.1, length-behind hash_bits (drop (suc k) levels) (drop (leaves_of N) s)))
+      here.0 (omega (arith, here.1, length-behind hash_bits (drop (suc k) levels) (drop (leaf_count_of N) s)))
       (omega (arith, length-drop (before k) ss, next_before k, before-le (suc k), enough))
 
   is_at : (k : ℕ) → k ≤ length levels → IsAt k
@@ -225,13 +225,13 @@ module _ (hash_bits : ℕ) (ls : List Leaf) (levels : List (List Node)) (ss : Li
       let cut : drop k levels ≡ N ∷ drop (suc k) levels = drop-cons levels k [] (omega (arith, le)) in
       let here : AreLevels (N ∷ drop (suc k) levels) = subst AreLevels cut (are_drop k levels a) in
       let s = drop (before k) ss in
-      let below = leaves_behind hash_bits (drop (suc k) levels) (drop (leaves_of N) s) in
+      let below = leaves_behind hash_bits (drop (suc k) levels) (drop (leaf_count_of N) s) in
       (this_level k (omega (arith, le)) (is_at k (omega (arith, le)))).children
-      ∙ ap (map (entries hash_bits)) (take_all (all_children N) below (omega (arith, here.1, length-behind hash_bits (drop (suc k) levels) (drop (leaves_of N) s)))
-      ∙ ap (leaves_behind hash_bits (drop (suc k) levels)) (drop-drop (leaves_of N) (before k) ss ∙ ap (λ n. drop n ss) (sym (next_before k))))
+      ∙ ap (map (entries hash_bits)) (take_all (all_children N) below (omega (arith, here.1, length-behind hash_bits (drop (suc k) levels) (drop (leaf_count_of N) s)))
+      ∙ ap (leaves_behind hash_bits (drop (suc k) levels)) (drop-drop (leaf_count_of N) (before k) ss ∙ ap (λ n. drop n ss) (sym (next_before k))))
 
   slot_numbers : (n : ℕ) → n ≤ length levels
-      → flat_map (λ (q : List ℕ). picks q (entries hash_bits ls)) (filter (λ q. not (is_node ls q)) (flat_map (branches ls) (nodes_to ls n))) ≡ take (leaves_of (flat (take n levels))) ss
+      → flat_map (λ (q : List ℕ). picks q (entries hash_bits ls)) (filter (λ q. not (is_node ls q)) (flat_map (branches ls) (nodes_to ls n))) ≡ take (leaf_count_of (flat (take n levels))) ss
   unfolding nodes_to
   slot_numbers zero le = refl
   slot_numbers (suc n) le =
@@ -242,12 +242,12 @@ module _ (hash_bits : ℕ) (ls : List Leaf) (levels : List (List Node)) (ss : Li
       ∙ ap F (filter-append (λ q. not (is_node ls q)) (flat_map (branches ls) (nodes_to ls n)) (flat_map (branches ls) (level ls n)))
       ∙ flat_map-append (λ (q : List ℕ). picks q (entries hash_bits ls)) (P (flat_map (branches ls) (nodes_to ls n))) (P (flat_map (branches ls) (level ls n)))
       ∙ (λ j. slot_numbers n (omega (arith, le)) j ++ l.numbers j)
-      ∙ sym (take-add (before n) (leaves_of (get_or levels n [])) ss)
+      ∙ sym (take-add (before n) (leaf_count_of (get_or levels n [])) ss)
       ∙ ap (λ k. take k ss) (sym (next_before n))
 
-  pub all_numbers : height ls ≡ length levels → length ss ≡ leaves_of (flat levels) → flat_map (λ (q : List ℕ). picks q (entries hash_bits ls)) (slots ls) ≡ ss
+  pub all_numbers : height ls ≡ length levels → length ss ≡ leaf_count_of (flat levels) → flat_map (λ (q : List ℕ). picks q (entries hash_bits ls)) (slots ls) ≡ ss
   unfolding slots places nodes
   all_numbers high exact =
       ap (λ n. flat_map (λ (q : List ℕ). picks q (entries hash_bits ls)) (filter (λ q. not (is_node ls q)) (flat_map (branches ls) (nodes_to ls n)))) high
       ∙ slot_numbers (length levels) (omega arith)
-      ∙ take_all (leaves_of (flat (take (length levels) levels))) ss (omega (arith, exact, ap (λ xs. leaves_of (flat xs)) (take_all (length levels) levels (omega arith))))
+      ∙ take_all (leaf_count_of (flat (take (length levels) levels))) ss (omega (arith, exact, ap (λ xs. leaf_count_of (flat xs)) (take_all (length levels) levels (omega arith))))

@@ -10,7 +10,7 @@ use Rattle.filter_model.specs.Nodes.{Branch, Node}
 use Rattle.filter_model.specs.Strings.{same}
 use Rattle.filter_model.specs.Trie.{path}
 use Rattle.filter_model.proofs.Counts.{count_by-cons}
-use Rattle.filter_image_model.specs.Levels.{leaf_by, behind, node_leaves}
+use Rattle.filter_image_model.specs.Levels.{leaf_by, under_letter, node_leaves}
 use Rattle.filter_image_model.proofs.GroupWords.{among, Once, children_in}
 use Rattle.filter_image_model.proofs.Joins.{apart_sym}
 use Rattle.filter_image_model.proofs.LevelsRead.{leaf_branch, leaf_path}
@@ -68,18 +68,18 @@ ends-append c ((a ∷ x, s) ∷ g) h = step (a == c) (ends-append c g h)
     step true e = ap (λ (l : List Entry). (x, s) ∷ l) e
     step false e = e
 
-ends_own : (hash_bits c : ℕ) (ls : List Leaf) → ends_of c (entries hash_bits (map (behind c) ls)) ≡ entries hash_bits ls
+ends_own : (hash_bits c : ℕ) (ls : List Leaf) → ends_of c (entries hash_bits (map (under_letter c) ls)) ≡ entries hash_bits ls
 unfolding path
 ends_own hb c [] = refl
 ends_own hb c (l ∷ ls) =
-    ap (λ (t : Bool). cond t (entry hb l ∷ ends_of c (entries hb (map (behind c) ls))) (ends_of c (entries hb (map (behind c) ls)))) (eq-eqb c c refl)
+    ap (λ (t : Bool). cond t (entry hb l ∷ ends_of c (entries hb (map (under_letter c) ls))) (ends_of c (entries hb (map (under_letter c) ls)))) (eq-eqb c c refl)
     ∙ ap (λ (g : List Entry). entry hb l ∷ g) (ends_own hb c ls)
 
-ends_other : (hash_bits a c : ℕ) (ls : List Leaf) → (a == c) ≡ false → ends_of c (entries hash_bits (map (behind a) ls)) ≡ []
+ends_other : (hash_bits a c : ℕ) (ls : List Leaf) → (a == c) ≡ false → ends_of c (entries hash_bits (map (under_letter a) ls)) ≡ []
 unfolding path
 ends_other hb a c [] e = refl
 ends_other hb a c (l ∷ ls) e =
-    ap (λ (t : Bool). cond t (entry hb l ∷ ends_of c (entries hb (map (behind a) ls))) (ends_of c (entries hb (map (behind a) ls)))) e
+    ap (λ (t : Bool). cond t (entry hb l ∷ ends_of c (entries hb (map (under_letter a) ls))) (ends_of c (entries hb (map (under_letter a) ls)))) e
     ∙ ends_other hb a c ls e
 
 leaf_entry : (hash_bits c s : ℕ) → entry hash_bits (leaf_by hash_bits c s) ≡ (c ∷ [], s)
@@ -102,8 +102,8 @@ none_behind hb c [] below ss e = refl
 none_behind hb c ((a, true) ∷ n) [] ss e = refl
 none_behind hb c ((a, true) ∷ n) (ls ∷ below) ss e =
     let p = or_parts (a == c) (among c (letters_of n)) e in
-    ap (ends_of c) (map-append (entry hb) (map (behind a) ls) (node_leaves hb n below ss))
-    ∙ ends-append c (entries hb (map (behind a) ls)) (entries hb (node_leaves hb n below ss))
+    ap (ends_of c) (map-append (entry hb) (map (under_letter a) ls) (node_leaves hb n below ss))
+    ∙ ends-append c (entries hb (map (under_letter a) ls)) (entries hb (node_leaves hb n below ss))
     ∙ (λ j. ends_other hb a c ls p.0 j ++ none_behind hb c n below ss p.1 j)
 none_behind hb c ((a, false) ∷ n) below [] e = refl
 none_behind hb c ((a, false) ∷ n) below (s ∷ ss) e =
@@ -113,11 +113,11 @@ none_behind hb c ((a, false) ∷ n) below (s ∷ ss) e =
     ∙ none_behind hb c n below ss p.1
 
 without_child : (hash_bits a : ℕ) (ls : List Leaf) (g : List Entry) (m : Node) → among a (letters_of m) ≡ false
-    → map (λ (b : Branch). ends_of b.0 (entries hash_bits (map (behind a) ls) ++ g)) m ≡ map (λ (b : Branch). ends_of b.0 g) m
+    → map (λ (b : Branch). ends_of b.0 (entries hash_bits (map (under_letter a) ls) ++ g)) m ≡ map (λ (b : Branch). ends_of b.0 g) m
 without_child hb a ls g [] e = refl
 without_child hb a ls g (b ∷ m) e =
     let p = or_parts (b.0 == a) (among a (letters_of m)) e in
-    (λ j. (ends-append b.0 (entries hb (map (behind a) ls)) g ∙ ap (λ (h : List Entry). h ++ ends_of b.0 g) (ends_other hb a b.0 ls (apart_sym b.0 a p.0))) j
+    (λ j. (ends-append b.0 (entries hb (map (under_letter a) ls)) g ∙ ap (λ (h : List Entry). h ++ ends_of b.0 g) (ends_other hb a b.0 ls (apart_sym b.0 a p.0))) j
     ∷ without_child hb a ls g m p.1 j)
 
 without_leaf : (a s : ℕ) (g : List Entry) (m : Node) → among a (letters_of m) ≡ false
@@ -135,8 +135,8 @@ behind_letters hb [] below ss o le few = refl
 behind_letters hb ((c, true) ∷ n) [] ss o le few = absurd (omega (arith, le))
 behind_letters hb ((c, true) ∷ n) (ls ∷ below) ss o le few =
     let g = entries hb (node_leaves hb n below ss) in
-    let f = entries hb (map (behind c) ls) in
-    ap (λ (h : List Entry). map (λ (b : Branch). ends_of b.0 h) ((c, true) ∷ n)) (map-append (entry hb) (map (behind c) ls) (node_leaves hb n below ss))
+    let f = entries hb (map (under_letter c) ls) in
+    ap (λ (h : List Entry). map (λ (b : Branch). ends_of b.0 h) ((c, true) ∷ n)) (map-append (entry hb) (map (under_letter c) ls) (node_leaves hb n below ss))
     ∙ (λ j. (ends-append c f g ∙ (λ i. ends_own hb c ls i ++ none_behind hb c n below ss o.0 i) ∙ append-nil (entries hb ls)) j
     ∷ (without_child hb c ls g n o.0 ∙ behind_letters hb n below ss o.1 (omega (arith, le)) (omega (arith, few, count_by-cons leaf_branch (c, true) n))) j)
 behind_letters hb ((c, false) ∷ n) below [] o le few = absurd (omega (arith, few, count_by-cons leaf_branch (c, false) n))

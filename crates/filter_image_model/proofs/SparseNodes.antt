@@ -9,7 +9,7 @@ use Rattle.filter_model.specs.Image.{label_of, opening, sparse_labels, sparse_ch
 use Rattle.filter_model.specs.Nodes.{Branch, Node, all}
 use Rattle.filter_model.specs.Trie.{END}
 use Rattle.trie_laws.specs.Louds.{IsNode}
-use Rattle.filter_image_model.specs.Nodes.{cut, named, sparse_nodes}
+use Rattle.filter_image_model.specs.Nodes.{cut_nodes, named, sparse_nodes}
 use Rattle.filter_image_model.specs.Reading.{begins_clear}
 use Rattle.filter_image_model.proofs.Lists.{by_recursion, length-map}
 
@@ -27,17 +27,17 @@ zip-written : (bs : List Branch) → zip (map (λ (b : Branch). label_of b.0) bs
 zip-written [] = refl
 zip-written (b ∷ bs) = ap (λ (cs : List Branch). written b ∷ cs) (zip-written bs)
 
-cut_rest : (n : Node) (louds : List Bool) (bs : List Branch) → cut (map (λ (x : Branch). false) n ++ louds) (map written n ++ bs) ≡ (map written n ++ (cut louds bs).0, (cut louds bs).1)
+cut_rest : (n : Node) (louds : List Bool) (bs : List Branch) → cut_nodes (map (λ (x : Branch). false) n ++ louds) (map written n ++ bs) ≡ (map written n ++ (cut_nodes louds bs).0, (cut_nodes louds bs).1)
 cut_rest [] louds bs = refl
 cut_rest (b ∷ n) louds bs = ap (λ (r : Node × List Node). (written b ∷ r.0, r.1)) (cut_rest n louds bs)
 
-cut_all : (ns : List Node) → AllByRecursion IsNode ns → cut (sparse_louds ns) (map written (all ns)) ≡ ([], map (map written) ns)
+cut_all : (ns : List Node) → AllByRecursion IsNode ns → cut_nodes (sparse_louds ns) (map written (all ns)) ≡ ([], map (map written) ns)
 cut_all [] w = refl
 cut_all ([] ∷ ns) w = absurd w.0
 cut_all ((b ∷ n) ∷ ns) w =
     let ih = cut_all ns w.1 in
     let R : Node × List Node → Node × List Node = λ r. ([], (written b ∷ r.0) ∷ r.1) in
-    ap (λ (bs : List Branch). R (cut (map (λ (x : Branch). false) n ++ sparse_louds ns) bs)) (map-append written n (all ns))
+    ap (λ (bs : List Branch). R (cut_nodes (map (λ (x : Branch). false) n ++ sparse_louds ns) bs)) (map-append written n (all ns))
     ∙ ap R (cut_rest n (sparse_louds ns) (map written (all ns)))
     ∙ ap (λ (r : Node × List Node). R (map written n ++ r.0, r.1)) ih
     ∙ ap (λ (m : Node). R (m, map (map written) ns)) (append-nil (map written n))
@@ -72,35 +72,35 @@ named-all (n ∷ ns) w = (λ j. named-written n w.0 j ∷ named-all ns w.1 j)
 
 pub sparse_again : (ns : List Node) → AllByRecursion IsNode ns → sparse_nodes (sparse_labels ns) (sparse_children ns) (sparse_louds ns) ≡ ns
 sparse_again ns w =
-    ap (λ (bs : List Branch). map named (cut (sparse_louds ns) bs).1) (zip-written (all ns))
+    ap (λ (bs : List Branch). map named (cut_nodes (sparse_louds ns) bs).1) (zip-written (all ns))
     ∙ ap (λ (r : Node × List Node). map named r.1) (cut_all ns w)
     ∙ named-all ns w
 
 -- ---- what is read is written so
 
 -- the branches, cut, are the branches
-pub cut_joins : (louds : List Bool) (bs : List Branch) → length louds ≡ length bs → (cut louds bs).0 ++ all (cut louds bs).1 ≡ bs
+pub cut_joins : (louds : List Bool) (bs : List Branch) → length louds ≡ length bs → (cut_nodes louds bs).0 ++ all (cut_nodes louds bs).1 ≡ bs
 cut_joins [] [] e = refl
 cut_joins [] (b ∷ bs) e = absurd (omega (arith, e))
 cut_joins (x ∷ louds) [] e = absurd (omega (arith, e))
 cut_joins (true ∷ louds) (b ∷ bs) e = ap (λ (cs : List Branch). b ∷ cs) (cut_joins louds bs (omega (arith, e)))
 cut_joins (false ∷ louds) (b ∷ bs) e = ap (λ (cs : List Branch). b ∷ cs) (cut_joins louds bs (omega (arith, e)))
 
-cut_opens : (louds : List Bool) (bs : List Branch) → length louds ≡ length bs → map (λ (x : Branch). false) (cut louds bs).0 ++ sparse_louds (cut louds bs).1 ≡ louds
+cut_opens : (louds : List Bool) (bs : List Branch) → length louds ≡ length bs → map (λ (x : Branch). false) (cut_nodes louds bs).0 ++ sparse_louds (cut_nodes louds bs).1 ≡ louds
 cut_opens [] [] e = refl
 cut_opens [] (b ∷ bs) e = absurd (omega (arith, e))
 cut_opens (x ∷ louds) [] e = absurd (omega (arith, e))
 cut_opens (true ∷ louds) (b ∷ bs) e = ap (λ (xs : List Bool). true ∷ xs) (cut_opens louds bs (omega (arith, e)))
 cut_opens (false ∷ louds) (b ∷ bs) e = ap (λ (xs : List Bool). false ∷ xs) (cut_opens louds bs (omega (arith, e)))
 
-cut_counts : (louds : List Bool) (bs : List Branch) → length louds ≡ length bs → length (cut louds bs).1 ≡ count_by (λ b. b) louds
+cut_counts : (louds : List Bool) (bs : List Branch) → length louds ≡ length bs → length (cut_nodes louds bs).1 ≡ count_by (λ b. b) louds
 cut_counts [] [] e = refl
 cut_counts [] (b ∷ bs) e = absurd (omega (arith, e))
 cut_counts (x ∷ louds) [] e = absurd (omega (arith, e))
 cut_counts (true ∷ louds) (b ∷ bs) e = ap suc (cut_counts louds bs (omega (arith, e))) ∙ sym (count_by-cons (λ (x : Bool). x) true louds ∙ omega arith)
 cut_counts (false ∷ louds) (b ∷ bs) e = cut_counts louds bs (omega (arith, e)) ∙ sym (count_by-cons (λ (x : Bool). x) false louds ∙ omega arith)
 
-pub cut_none : (louds : List Bool) (bs : List Branch) → begins_clear louds ≡ false → (cut louds bs).0 ≡ []
+pub cut_none : (louds : List Bool) (bs : List Branch) → begins_clear louds ≡ false → (cut_nodes louds bs).0 ≡ []
 cut_none [] bs e = refl
 cut_none (true ∷ louds) [] e = refl
 cut_none (true ∷ louds) (b ∷ bs) e = refl
@@ -200,7 +200,7 @@ pub sparse_back : (ls : List ℕ) (cs louds : List Bool) → length ls ≡ lengt
 sparse_back ls cs louds e f w first =
     let bs = zip ls cs in
     let long : length louds ≡ length bs = omega (arith, f, length-zip ls cs e) in
-    let ns = (cut louds bs).1 in
+    let ns = (cut_nodes louds bs).1 in
     let joins : all ns ≡ bs = ap (λ (n : Node). n ++ all ns) (sym (cut_none louds bs first)) ∙ cut_joins louds bs long in
     let opens : sparse_louds ns ≡ louds = ap (λ (n : Node). map (λ (x : Branch). false) n ++ sparse_louds ns) (sym (cut_none louds bs first)) ∙ cut_opens louds bs long in
     let bytes = bytes_each ns (rw joins (zip_bytes ls cs w)) in

@@ -12,7 +12,7 @@ use Rattle.filter_model.specs.Nodes.{Branch, Node, all}
 use Rattle.filter_model.specs.Strings.{extends, is_prefix, same}
 use Rattle.filter_model.specs.Trie.{END}
 use Rattle.filter_model.specs.Valid.{EndsRightly, IsCrowded, joins, node}
-use Rattle.filter_image_model.specs.Levels.{leaf_by, behind, node_leaves, level_leaves, leaves_behind, leaves_of}
+use Rattle.filter_image_model.specs.Levels.{leaf_by, under_letter, node_leaves, level_leaves, leaves_behind, leaf_count_of}
 use Rattle.filter_image_model.specs.Levels.{children_of as children_count}
 use Rattle.filter_image_model.specs.Reading.{is_lone_end, is_lone_leaf}
 use Rattle.filter_image_model.proofs.Lists.{all_append, all_drop}
@@ -93,7 +93,7 @@ sides f c h (a ∷ A) xs B v w e = list_any-append f (a ∷ A) (xs ++ B) ∙ ap 
 abbrev pub Filled : Leaf → Type 0
 Filled l = l.ends ≡ false → 0 < length l.stub
 
-node_behind : (c : ℕ) (l : Leaf) → Filled l → node (behind c l) ≡ c ∷ node l
+node_behind : (c : ℕ) (l : Leaf) → Filled l → node (under_letter c l) ≡ c ∷ node l
 node_behind c l s = go l.ends l.stub s
   where
     go : (t : Bool) (x : List ℕ) → (t ≡ false → 0 < length x) → cond t (c ∷ x) (take (length (c ∷ x) - 1) (c ∷ x)) ≡ c ∷ cond t x (take (length x - 1) x)
@@ -104,11 +104,11 @@ node_behind c l s = go l.ends l.stub s
         less : (n : ℕ) → suc (suc n) - 1 ≡ suc (suc n - 1)
         less n = omega arith
 
-behind_ends : (c : ℕ) (x : List ℕ) (g : List Leaf) → list_any (λ (o : Leaf). extends (c ∷ x) o.stub) (map (behind c) g) ≡ list_any (λ (o : Leaf). extends x o.stub) g
+behind_ends : (c : ℕ) (x : List ℕ) (g : List Leaf) → list_any (λ (o : Leaf). extends (c ∷ x) o.stub) (map (under_letter c) g) ≡ list_any (λ (o : Leaf). extends x o.stub) g
 behind_ends c x [] = refl
 behind_ends c x (o ∷ g) = (λ j. (eq-eqb c c refl j && extends x o.stub) || behind_ends c x g j)
 
-behind_joins : (c : ℕ) (l : Leaf) → Filled l → (g : List Leaf) → list_any (joins (behind c l)) (map (behind c) g) ≡ list_any (joins l) g
+behind_joins : (c : ℕ) (l : Leaf) → Filled l → (g : List Leaf) → list_any (joins (under_letter c l)) (map (under_letter c) g) ≡ list_any (joins l) g
 behind_joins c l s [] = refl
 behind_joins c l s (o ∷ g) =
     (λ j. (is_prefix (node_behind c l s j) (c ∷ o.stub) && not (same (c ∷ o.stub) (c ∷ l.stub))) || behind_joins c l s g j)
@@ -121,7 +121,7 @@ head_leaf h c s = go (c == END) refl
     go true e = sym (eqb-true c 256 e)
     go false e = refl
 
-begin_behind : (c : ℕ) (g : List Leaf) → Begin c (map (behind c) g)
+begin_behind : (c : ℕ) (g : List Leaf) → Begin c (map (under_letter c) g)
 begin_behind c [] = tt
 begin_behind c (l ∷ g) = (refl, begin_behind c g)
 
@@ -153,19 +153,19 @@ cons_append : (A B : List Leaf) → is_cons B ≡ true → is_cons (A ++ B) ≡ 
 cons_append A [] e = absurd (false≢true e)
 cons_append A (l ∷ B) e = cons_after A l B
 
-cons_map : (c : ℕ) (g : List Leaf) → is_cons g ≡ true → is_cons (map (behind c) g) ≡ true
+cons_map : (c : ℕ) (g : List Leaf) → is_cons g ≡ true → is_cons (map (under_letter c) g) ≡ true
 cons_map c [] e = absurd (false≢true e)
 cons_map c (l ∷ g) e = refl
 
 module _ (M : Type 0) (hash_bits : ℕ) where
   -- the leaves behind a child
   child_stands : (c : ℕ) (A ls B part : List Leaf) → Apart c A → Apart c B → AllByRecursion Filled part → AllByRecursion (Stands M ls) part
-      → AllByRecursion (Stands M (A ++ (map (behind c) ls ++ B))) (map (behind c) part)
+      → AllByRecursion (Stands M (A ++ (map (under_letter c) ls ++ B))) (map (under_letter c) part)
   child_stands c A ls B [] v w f s = tt
   child_stands c A ls B (l ∷ part) v w f s = (
     record {
-      ends = s.0.ends ∙ sym (widen_ends c l.stub A (map (behind c) ls) B v w ∙ behind_ends c l.stub ls);
-      crowded = (λ m. any_mid (joins (behind c l)) A (map (behind c) ls) B (behind_joins c l f.0 ls ∙ s.0.crowded m));
+      ends = s.0.ends ∙ sym (widen_ends c l.stub A (map (under_letter c) ls) B v w ∙ behind_ends c l.stub ls);
+      crowded = (λ m. any_mid (joins (under_letter c l)) A (map (under_letter c) ls) B (behind_joins c l f.0 ls ∙ s.0.crowded m));
     },
     child_stands c A ls B part v w f.1 s.1,
   )
@@ -194,8 +194,8 @@ module _ (M : Type 0) (hash_bits : ℕ) where
   apart_rest c ((d, true) ∷ n) [] ss e = tt
   apart_rest c ((d, true) ∷ n) (ls ∷ below) ss e =
       let parts = or_parts (eqb d c) (among c (map letter n)) e in
-      all_append (λ (l : Leaf). eqb (head_of l.stub) c ≡ false) (map (behind d) ls) (node_leaves hash_bits n below ss)
-      (apart_from c d (map (behind d) ls) parts.0 (begin_behind d ls)) (apart_rest c n below ss parts.1)
+      all_append (λ (l : Leaf). eqb (head_of l.stub) c ≡ false) (map (under_letter d) ls) (node_leaves hash_bits n below ss)
+      (apart_from c d (map (under_letter d) ls) parts.0 (begin_behind d ls)) (apart_rest c n below ss parts.1)
   apart_rest c ((d, false) ∷ n) below [] e = tt
   apart_rest c ((d, false) ∷ n) below (s ∷ ss) e =
       let parts = or_parts (eqb d c) (among c (map letter n)) e in
@@ -217,7 +217,7 @@ module _ (M : Type 0) (hash_bits : ℕ) where
   node_stands A [] below ss o a w le few e m = tt
   node_stands A ((c, true) ∷ n) [] ss o a w le few e m = absurd (omega (arith, le))
   node_stands A ((c, true) ∷ n) (ls ∷ below) ss o a w le few e m =
-      let xs = map (behind c) ls in
+      let xs = map (under_letter c) ls in
       let B = node_leaves hash_bits n below ss in
       let more : is_cons (A ++ xs) ≡ true = cons_append A xs (cons_map c ls w.0.some) in
       let rest = node_stands (A ++ xs) n below ss o.1 (all_apart c A xs (map letter n) (begin_behind c ls) o.0 a.1) w.1 (omega (arith, le)) (omega (arith, few, count_by-cons leaf_branch (c, true) n))
@@ -252,9 +252,9 @@ module _ (M : Type 0) (hash_bits : ℕ) where
   node_filled [] below ss = tt
   node_filled ((c, true) ∷ n) [] ss = tt
   node_filled ((c, true) ∷ n) (ls ∷ below) ss =
-      all_append Filled (map (behind c) ls) (node_leaves hash_bits n below ss) (pushed ls) (node_filled n below ss)
+      all_append Filled (map (under_letter c) ls) (node_leaves hash_bits n below ss) (pushed ls) (node_filled n below ss)
     where
-      pushed : (ls : List Leaf) → AllByRecursion Filled (map (behind c) ls)
+      pushed : (ls : List Leaf) → AllByRecursion Filled (map (under_letter c) ls)
       pushed [] = tt
       pushed (l ∷ ls) = ((λ e. omega arith), pushed ls)
   node_filled ((c, false) ∷ n) below [] = tt
@@ -282,23 +282,23 @@ module _ (M : Type 0) (hash_bits : ℕ) where
   }
 
   level_tree : (ns : List Node) (below : List (List Leaf)) (ss : List ℕ) → AllByRecursion IsGoodNode ns → AllByRecursion KeepsNode ns → AllByRecursion (IsTree M) below
-      → all_children ns ≤ length below → leaves_of ns ≤ length ss → AllByRecursion (IsTree M) (level_leaves hash_bits ns below ss)
+      → all_children ns ≤ length below → leaf_count_of ns ≤ length ss → AllByRecursion (IsTree M) (level_leaves hash_bits ns below ss)
   level_tree [] below ss g k w le few = tt
   level_tree (n ∷ ns) below ss g k w le few =
       let split = count-append leaf_branch n (all ns) in
-      let one : leaves_of (n ∷ []) ≡ count_by leaf_branch n = ap (count_by leaf_branch) (append-nil n) in
+      let one : leaf_count_of (n ∷ []) ≡ count_by leaf_branch n = ap (count_by leaf_branch) (append-nil n) in
       let kids : children_count (n ∷ []) ≡ children_in n = ap (count_by (λ (b : Branch). b.1)) (append-nil n) ∙ sym (children_in_is n) in (
         node_tree n below ss g.0 k.0 w (omega (arith, le)) (omega (arith, few, split)),
-        level_tree ns (drop (children_count (n ∷ [])) below) (drop (leaves_of (n ∷ [])) ss) g.1 k.1 (all_drop (IsTree M) (children_count (n ∷ [])) below w)
-            (omega (arith, le, kids, length-drop (children_count (n ∷ [])) below)) (omega (arith, few, split, one, length-drop (leaves_of (n ∷ [])) ss)),
+        level_tree ns (drop (children_count (n ∷ [])) below) (drop (leaf_count_of (n ∷ [])) ss) g.1 k.1 (all_drop (IsTree M) (children_count (n ∷ [])) below w)
+            (omega (arith, le, kids, length-drop (children_count (n ∷ [])) below)) (omega (arith, few, split, one, length-drop (leaf_count_of (n ∷ [])) ss)),
       )
 
   -- **the leaves behind each node of the first level**
-  pub behind_tree : (levels : List (List Node)) (ss : List ℕ) → AreLevels levels → AllByRecursion (AllByRecursion KeepsNode) levels → leaves_of (flat levels) ≤ length ss
+  pub behind_tree : (levels : List (List Node)) (ss : List ℕ) → AreLevels levels → AllByRecursion (AllByRecursion KeepsNode) levels → leaf_count_of (flat levels) ≤ length ss
       → AllByRecursion (IsTree M) (leaves_behind hash_bits levels ss)
   behind_tree [] ss a k few = tt
   behind_tree (ns ∷ levels) ss a k few =
-      let split : leaves_of (ns ++ flat levels) ≡ leaves_of ns + leaves_of (flat levels) = ap (count_by leaf_branch) (flat_map-append (λ (n : Node). n) ns (flat levels)) ∙ count-append leaf_branch (all ns) (all (flat levels)) in
-      let more = drop (leaves_of ns) ss in
-      level_tree ns (leaves_behind hash_bits levels more) ss a.0 k.0 (behind_tree levels more a.2 k.1 (omega (arith, few, split, length-drop (leaves_of ns) ss)))
+      let split : leaf_count_of (ns ++ flat levels) ≡ leaf_count_of ns + leaf_count_of (flat levels) = ap (count_by leaf_branch) (flat_map-append (λ (n : Node). n) ns (flat levels)) ∙ count-append leaf_branch (all ns) (all (flat levels)) in
+      let more = drop (leaf_count_of ns) ss in
+      level_tree ns (leaves_behind hash_bits levels more) ss a.0 k.0 (behind_tree levels more a.2 k.1 (omega (arith, few, split, length-drop (leaf_count_of ns) ss)))
       (omega (arith, a.1, length-behind hash_bits levels more)) (omega (arith, few, split))

@@ -9,7 +9,7 @@ use Rattle.filter_model.specs.Leaves.{Leaf}
 use Rattle.filter_model.specs.Nodes.{Node, all, node_of}
 use Rattle.filter_model.specs.Trie.{height, level, nodes_to, path}
 use Rattle.filter_model.proofs.Counts.{count_by-cons}
-use Rattle.filter_image_model.specs.Levels.{are_levels, levels_from, leaves_of, nodes_above}
+use Rattle.filter_image_model.specs.Levels.{are_levels, levels_from, leaf_count_of, nodes_above}
 use Rattle.filter_image_model.specs.Levels.{children_of as children_count}
 use Rattle.filter_image_model.proofs.Lists.{length-map}
 use Rattle.filter_image_model.proofs.GroupWords.{Group, is_cons, goes_on, join, deal, children_in, all_children, raise, gather, IsGoodNode, AreLevels}
@@ -163,7 +163,7 @@ total_deal ((c, false) ∷ n) (g ∷ gs) le =
     let none : 0 + children_in n ≡ children_in n = omega arith in
     omega (arith, total_deal n (g ∷ gs) (omega (arith, le)), count_by-cons leaf_branch (c, false) n, ap (λ k. total (take k (g ∷ gs))) none)
 
-total_raise : (ns : List Node) (gs : List Group) → all_children ns ≤ length gs → total (raise ns gs) ≡ leaves_of ns + total (take (all_children ns) gs)
+total_raise : (ns : List Node) (gs : List Group) → all_children ns ≤ length gs → total (raise ns gs) ≡ leaf_count_of ns + total (take (all_children ns) gs)
 unfolding total
 total_raise [] gs le = refl
 total_raise (n ∷ ns) gs le =
@@ -172,16 +172,16 @@ total_raise (n ∷ ns) gs le =
     let parts = ap total (take-add k (all_children ns) gs) ∙ total-append (take k gs) (take (all_children ns) (drop k gs)) in
     omega (arith, split, parts, total_deal n gs (omega (arith, le)), total_raise ns (drop k gs) (omega (arith, le, length-drop k gs)))
 
-gather_total : (levels : List (List Node)) → AreLevels levels → total (gather levels) ≡ leaves_of (flat levels)
+gather_total : (levels : List (List Node)) → AreLevels levels → total (gather levels) ≡ leaf_count_of (flat levels)
 unfolding total
 gather_total [] a = refl
 gather_total (l ∷ ls) a =
-    let split : leaves_of (l ++ flat ls) ≡ leaves_of l + leaves_of (flat ls) = ap (count_by leaf_branch) (flat_map-append (λ (n : Node). n) l (flat ls)) ∙ count-append leaf_branch (all l) (all (flat ls)) in
+    let split : leaf_count_of (l ++ flat ls) ≡ leaf_count_of l + leaf_count_of (flat ls) = ap (count_by leaf_branch) (flat_map-append (λ (n : Node). n) l (flat ls)) ∙ count-append leaf_branch (all l) (all (flat ls)) in
     total_raise l (gather ls) (omega (arith, a.1))
-    ∙ ap (λ gs. leaves_of l + total gs) (take_all (all_children l) (gather ls) (omega (arith, a.1)))
+    ∙ ap (λ gs. leaf_count_of l + total gs) (take_all (all_children l) (gather ls) (omega (arith, a.1)))
     ∙ omega (arith, gather_total ls a.2, split)
 
-pub leaves_read : (ls : List Leaf) (levels : List (List Node)) → AreLevels levels → gather levels ≡ map path ls ∷ [] → length ls ≡ leaves_of (flat levels)
+pub leaves_read : (ls : List Leaf) (levels : List (List Node)) → AreLevels levels → gather levels ≡ map path ls ∷ [] → length ls ≡ leaf_count_of (flat levels)
 unfolding total
 leaves_read ls levels a e =
     let one : total (map path ls ∷ []) ≡ length ls = omega (arith, length-map path ls) in

@@ -16,9 +16,9 @@ use Rattle.filter_model.specs.Trie.{END, path}
 use Rattle.filter_model.specs.Valid.{EndsRightly, IsCrowded, IsLeaf}
 use Rattle.filter_image_model.specs.Header.{Bytes, hash_bits_in, real_bits_in, cutoff_in, height_in, leaf_count_in, suffix_bits_in, section}
 use Rattle.filter_image_model.specs.Laws.{ImageWasWrittenSo}
-use Rattle.filter_image_model.specs.Levels.{behind, children_of, leaves_behind, leaves_of, levels_from, node_leaves, root_leaves}
+use Rattle.filter_image_model.specs.Levels.{under_letter, children_of, leaves_behind, leaf_count_of, levels_from, node_leaves, root_leaves}
 use Rattle.filter_image_model.specs.Nodes.{dense_in, sparse_in}
-use Rattle.filter_image_model.specs.Reading.{image_in, is_lone_end, is_lone_leaf, is_no_node, is_no_root, leaves_in, nodes_fault, rises, shape_fault, slot_letters, suffix_in}
+use Rattle.filter_image_model.specs.Reading.{image_in, is_lone_end, is_lone_leaf, is_no_node, is_no_root, leaves_in, nodes_fault, rises, shape_fault, slot_letters, slot_suffix}
 use Rattle.filter_image_model.proofs.Lists.{all_append, all_drop, all_map, all_of, all_take}
 use Rattle.filter_image_model.proofs.GroupWords.{Sorted, gather}
 use Rattle.filter_image_model.proofs.Headers.{header_kept}
@@ -98,9 +98,9 @@ module _ (h : ℕ) where
   node_stubs ((c, true) ∷ n) [] ss e = tt
   node_stubs ((c, true) ∷ n) (ls ∷ below) ss e =
       let parts = or_parts (c == END) (has_letter n END) e in
-      all_append HasStub (map (behind c) ls) (node_leaves h n below ss) (pushed ls) (node_stubs n below ss parts.1)
+      all_append HasStub (map (under_letter c) ls) (node_leaves h n below ss) (pushed ls) (node_stubs n below ss parts.1)
     where
-      pushed : (ls : List Leaf) → AllByRecursion HasStub (map (behind c) ls)
+      pushed : (ls : List Leaf) → AllByRecursion HasStub (map (under_letter c) ls)
       pushed [] = tt
       pushed (l ∷ ls) = (omega arith, pushed ls)
   node_stubs ((c, false) ∷ n) below [] e = tt
@@ -116,7 +116,7 @@ module _ (h : ℕ) where
   unfolding NoEndFirst
   root_stubs [] ss e = tt
   root_stubs ([] ∷ levels) ss e = tt
-  root_stubs ((n ∷ ns) ∷ levels) ss e = node_stubs n (leaves_behind h levels (drop (leaves_of (n ∷ ns)) ss)) ss e
+  root_stubs ((n ∷ ns) ∷ levels) ss e = node_stubs n (leaves_behind h levels (drop (leaf_count_of (n ∷ ns)) ss)) ss e
 
 no_end_first : (height leaves k : ℕ) (ns : List Node) → is_no_root height leaves ns ≡ false → NoEndFirst (levels_from k 1 ns)
 unfolding NoEndFirst
@@ -137,19 +137,19 @@ one_high height leaves (n ∷ ns) e one =
 -- ---- the suffixes fit
 
 module _ (bytes : Bytes) where
-  suffix_fits : (i : ℕ) → i < leaf_count_in bytes → suffix_in bytes i < 2 ^ suffix_bits_in bytes
-  unfolding suffix_in
+  suffix_fits : (i : ℕ) → i < leaf_count_in bytes → slot_suffix bytes i < 2 ^ suffix_bits_in bytes
+  unfolding slot_suffix
   suffix_fits i lt =
       let w = suffix_bits_in bytes in
       let xs = section 6 bytes in
       let room : i * w + w ≤ leaf_count_in bytes * w = less i (leaf_count_in bytes) w lt in
       let size : length (take w (drop (i * w) xs)) ≡ w = length-take-le w (drop (i * w) xs) (omega (arith, length-drop (i * w) xs, length_6 bytes, room)) in
-      subst (λ k. suffix_in bytes i < 2 ^ k) size (mask_l-lt (take w (drop (i * w) xs)))
+      subst (λ k. slot_suffix bytes i < 2 ^ k) size (mask_l-lt (take w (drop (i * w) xs)))
     where
       less : (i n w : ℕ) → i < n → i * w + w ≤ n * w
       less i n w lt = grind (arith, lt)
 
-  suffixes_fit : (a k : ℕ) → a + k ≤ leaf_count_in bytes → AllByRecursion (λ s. s < 2 ^ suffix_bits_in bytes) (map (suffix_in bytes) (range_with_len a k))
+  suffixes_fit : (a k : ℕ) → a + k ≤ leaf_count_in bytes → AllByRecursion (λ s. s < 2 ^ suffix_bits_in bytes) (map (slot_suffix bytes) (range_with_len a k))
   suffixes_fit a zero le = tt
   suffixes_fit a (suc k) le = (suffix_fits a (omega (arith, le)), suffixes_fit (a + 1) k (omega (arith, le)))
 
@@ -187,8 +187,8 @@ stands bytes k =
     let t = read_trie bytes k in
     let l = levelled (height_in bytes) 1 ns c.levels (good_nodes bytes k) in
     let levels = levels_from (height_in bytes) 1 ns in
-    let ss = map (suffix_in bytes) (range_with_len 0 count) in
-    let enough : leaves_of (flat levels) ≤ length ss = omega (arith, ap leaves_of l.joined, c.leaves, length-map-range_with_len (suffix_in bytes) 0 count) in
+    let ss = map (slot_suffix bytes) (range_with_len 0 count) in
+    let enough : leaf_count_of (flat levels) ≤ length ss = omega (arith, ap leaf_count_of l.joined, c.leaves, length-map-range_with_len (slot_suffix bytes) 0 count) in
     let lss = leaves_behind h levels ss in
     let ls = root_leaves lss in
     let paths_are = behind_paths h levels ss enough in

@@ -14,7 +14,7 @@ use Rattle.filter_model.specs.Nodes.{Branch, all}
 use Rattle.filter_image_model.specs.Header.{Bytes, hash_bits_in, real_bits_in, cutoff_in, height_in, leaf_count_in, dense_count_in, sparse_count_in, label_count_in, section_bits, section_place, end_place, section_bytes, section}
 use Rattle.filter_image_model.specs.Nodes.{dense_in, sparse_in}
 use Rattle.filter_image_model.specs.Reading.{is_stray, begins_clear, length_fault, padding_fault, stray_fault, louds_fault}
-use Rattle.filter_image_model.specs.Sections.{head_bytes, sections, KeepsBytes, SectionsAreWritten}
+use Rattle.filter_image_model.specs.Sections.{image_head, sections, KeepsBytes, SectionsAreWritten}
 use Rattle.filter_image_model.proofs.Lists.{length-map}
 use Rattle.byte_fields.proofs.FaultLemmas.{kept, nowhere, not_false}
 use Rattle.filter_image_model.proofs.Headers.{header_kept, header_is}
@@ -152,7 +152,7 @@ sections_written bytes k =
     let label_length : length (all (sparse_in bytes)) ≡ label_count_in bytes = sym (length-map (λ (b : Branch). b.1) (all (sparse_in bytes))) ∙ ap length s.children_are ∙ (section_lengths bytes).3 in
     sym (take-append-drop 40 bytes)
     ∙ (λ j. head j ++ sym (sections_in bytes h k.padding long) j)
-    ∙ (λ j. head_bytes (hash_bits_in bytes) (real_bits_in bytes) (cutoff_in bytes) (height_in bytes) (leaf_count_in bytes) (sym dense_length j) (sym sparse_length j) (sym label_length j)
+    ∙ (λ j. image_head (hash_bits_in bytes) (real_bits_in bytes) (cutoff_in bytes) (height_in bytes) (leaf_count_in bytes) (sym dense_length j) (sym sparse_length j) (sym label_length j)
     ++ (packed 8 (sym d.labels_are j) ++ packed 8 (sym d.children_are j) ++ packed 8 (sym d.ends_are j)
     ++ (labels_are bytes h long ∙ sym s.labels_are) j ++ packed 8 (sym s.children_are j) ++ packed 8 (sym s.louds_are j) ++ packed 8 (section 6 bytes)))
 

@@ -1,8 +1,10 @@
 -- The nodes that the sections spell, whether or not they are those of a trie. A node is the list of its branches; END
 -- stands first, and keeps the bit that says whether a branch leads to a node.
-use Rattle.std.specs.Prelude.{◌≡◌, ℕ, suc, ◌<◌, ◌≤◌, ◌==◌, Bool, true, false, cond, List, [], ◌∷◌, ◌++◌, map, take, drop, zip}
+use Rattle.std.specs.Prelude.{◌≡◌, ℕ, suc, ◌<◌, ◌==◌, Bool, true, false, cond, List, [], ◌∷◌, ◌++◌, map, take, drop, zip}
+use Rattle.std.specs.List.{All, AllPairs}
 use Rattle.filter_model.specs.Nodes.{Branch, Node}
 use Rattle.filter_model.specs.Trie.{END}
+use Rattle.trie_model.specs.Letters.{order_of}
 use Rattle.filter_image_model.specs.Header.{Bytes, section_bytes, section}
 
 -- ---- a dense node: a bit for END, and rows of 256 bits
@@ -26,11 +28,11 @@ dense_nodes (end ∷ ends) labels children =
 -- ---- sparse nodes: a label, a child's bit and an opening bit for each branch
 
 -- what stands before the first opening bit, and the nodes from there on
-abbrev pub cut : List Bool → List Branch → Node × List Node
-cut [] bs = ([], [])
-cut (x ∷ louds) [] = ([], [])
-cut (true ∷ louds) (b ∷ bs) = let r = cut louds bs in ([], (b ∷ r.0) ∷ r.1)
-cut (false ∷ louds) (b ∷ bs) = let r = cut louds bs in (b ∷ r.0, r.1)
+abbrev pub cut_nodes : List Bool → List Branch → Node × List Node
+cut_nodes [] bs = ([], [])
+cut_nodes (x ∷ louds) [] = ([], [])
+cut_nodes (true ∷ louds) (b ∷ bs) = let r = cut_nodes louds bs in ([], (b ∷ r.0) ∷ r.1)
+cut_nodes (false ∷ louds) (b ∷ bs) = let r = cut_nodes louds bs in (b ∷ r.0, r.1)
 
 -- a first label 255 of two or more is END
 abbrev pub named : Node → Node
@@ -39,7 +41,7 @@ named (b ∷ []) = b ∷ []
 named (b ∷ c ∷ n) = cond (b.0 == 255) (END, b.1) b ∷ c ∷ n
 
 abbrev pub sparse_nodes : List ℕ → List Bool → List Bool → List Node
-sparse_nodes labels children louds = map named (cut louds (zip labels children)).1
+sparse_nodes labels children louds = map named (cut_nodes louds (zip labels children)).1
 
 -- ---- the nodes of an image
 
@@ -51,14 +53,11 @@ sparse_in bytes = sparse_nodes (section_bytes 3 bytes) (section 4 bytes) (sectio
 
 -- ---- nodes as they are read
 
--- bytes from c on, rising
-abbrev pub From : ℕ → Node → Type 0
-From c [] = Unit {0}
-From c (b ∷ n) = (c ≤ b.0) × (b.0 < 256) × From (suc b.0) n
-
--- a dense node: END, which leads to no node, and then bytes. (A sparse one is `trie_laws`' IsNode.)
+-- A dense node: END, which leads to no node, and then bytes, which rise as a trie's letters do. (A sparse one is
+-- `trie_laws`' IsNode.)
 pub record IsDense (n : Node) : Type 0 where
   pub ends : Bool
   pub bytes : Node
-  pub rising : From 0 bytes
+  pub letters : All (λ (b : Branch). b.0 < END) bytes
+  pub rising : AllPairs (λ (a b : Branch). order_of a.0 < order_of b.0) bytes
   pub is : n ≡ cond ends ((END, false) ∷ []) [] ++ bytes

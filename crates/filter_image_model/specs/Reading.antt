@@ -3,6 +3,7 @@ use Rattle.std.specs.Prelude.{ℕ, suc, ◌+◌, ◌*◌, ◌/◌, ◌%◌, ◌^
 use Rattle.std.specs.Int.{div_ceil}
 use Rattle.std.specs.List.{list_any, range_with_len}
 use Rattle.std.specs.Option.{option_map}
+use Rattle.key_base.specs.Limits.{max_hash_bits, max_key_bytes, max_real_bits}
 use Rattle.bit_words.specs.Numbers.{number_at}
 use Rattle.filter_model.specs.Image.{has_letter}
 use Rattle.filter_model.specs.Leaves.{Leaf}
@@ -12,7 +13,7 @@ use Rattle.trie_model.specs.Letters.{order_of}
 use Rattle.byte_fields.specs.Faults.{Fault, fault, refuse, or_fault}
 use Rattle.filter_image_model.specs.Header.{Bytes, hash_bits_in, real_bits_in, cutoff_in, height_in, leaf_count_in, dense_count_in, sparse_count_in, suffix_bits_in, section_bits, section_place, end_place, section}
 use Rattle.filter_image_model.specs.Nodes.{dense_in, sparse_in}
-use Rattle.filter_image_model.specs.Levels.{are_levels, leaves_behind, leaves_of, levels_from, nodes_above, root_leaves}
+use Rattle.filter_image_model.specs.Levels.{are_levels, leaves_behind, leaf_count_of, levels_from, nodes_above, root_leaves}
 
 -- ---- 1 to 4 on the header
 
@@ -22,14 +23,14 @@ bytes_fault rule place [] bytes = None
 bytes_fault rule place (want ∷ more) bytes = refuse (not (slice_index bytes place == want)) place rule (bytes_fault rule (suc place) more bytes)
 
 -- 1: fewer than 40 bytes; 2: SURF and version 1; 3: the widths, and a byte that must be 0; 4: height, cutoff, leaves
-unfoldable pub header_fault : Bytes → Option Fault
-header_fault bytes =
+unfoldable pub image_head_fault : Bytes → Option Fault
+image_head_fault bytes =
     refuse (nat_lt (length bytes) 40) (length bytes) 1
     (or_fault (bytes_fault 2 0 (83 ∷ 85 ∷ 82 ∷ 70 ∷ 1 ∷ []) bytes)
-    (refuse (nat_lt 32 (hash_bits_in bytes)) 5 3
-    (refuse (nat_lt 32 (real_bits_in bytes)) 6 3
+    (refuse (nat_lt max_hash_bits (hash_bits_in bytes)) 5 3
+    (refuse (nat_lt max_real_bits (real_bits_in bytes)) 6 3
     (or_fault (bytes_fault 3 7 (0 ∷ []) bytes)
-    (refuse ((height_in bytes == 0) || nat_lt 1024 (height_in bytes)) 10 4
+    (refuse ((height_in bytes == 0) || nat_lt max_key_bytes (height_in bytes)) 10 4
     (refuse (nat_lt (height_in bytes) (cutoff_in bytes)) 8 4
     (refuse (leaf_count_in bytes == 0) 12 4
     None)))))))
@@ -77,7 +78,7 @@ unfoldable pub counts_fault : Bytes → List Node → Option Fault
 counts_fault bytes ns =
     refuse (not (are_levels (height_in bytes) 1 ns)
     || not (nodes_above (cutoff_in bytes) 1 ns == dense_count_in bytes)
-    || not (leaves_of ns == leaf_count_in bytes)) 8 8 None
+    || not (leaf_count_of ns == leaf_count_in bytes)) 8 8 None
 
 -- ---- 9: the nodes
 
@@ -127,13 +128,13 @@ abbrev pub slot_letters : List Node → List ℕ
 slot_letters ns = map (λ (b : Branch). b.0) (filter (λ (b : Branch). not b.1) (all ns))
 
 -- the suffix of a slot
-unfoldable pub suffix_in : Bytes → ℕ → ℕ
-suffix_in bytes slot = number_at (section 6 bytes) (slot * suffix_bits_in bytes) (suffix_bits_in bytes)
+unfoldable pub slot_suffix : Bytes → ℕ → ℕ
+slot_suffix bytes slot = number_at (section 6 bytes) (slot * suffix_bits_in bytes) (suffix_bits_in bytes)
 
 unfoldable pub ends_fault : Bytes → ℕ → List ℕ → Option Fault
 ends_fault bytes slot [] = None
 ends_fault bytes slot (c ∷ cs) =
-    refuse ((c == END) && not (suffix_in bytes slot / 2 ^ hash_bits_in bytes == 0)) (section_place 6 bytes + slot * suffix_bits_in bytes / 8) 10
+    refuse ((c == END) && not (slot_suffix bytes slot / 2 ^ hash_bits_in bytes == 0)) (section_place 6 bytes + slot * suffix_bits_in bytes / 8) 10
     (ends_fault bytes (suc slot) cs)
 
 -- ---- the rules, in their order
@@ -146,7 +147,7 @@ nodes_rules bytes dense sparse =
 
 unfoldable pub image_fault : Bytes → Option Fault
 image_fault bytes =
-    or_fault (header_fault bytes)
+    or_fault (image_head_fault bytes)
     (or_fault (length_fault bytes)
     (or_fault (padding_fault 40 (section_bits bytes) bytes)
     (or_fault (stray_fault bytes)
@@ -155,7 +156,7 @@ image_fault bytes =
 
 -- ---- what is read
 
-pub record Image : Type 0 where
+pub record FilterImage : Type 0 where
   pub hash_bits : ℕ
   pub real_bits : ℕ
   pub cutoff : ℕ
@@ -164,8 +165,8 @@ pub record Image : Type 0 where
 unfoldable pub leaves_in : Bytes → List Leaf
 leaves_in bytes =
     root_leaves (leaves_behind (hash_bits_in bytes) (levels_from (height_in bytes) 1 (dense_in bytes ++ sparse_in bytes))
-    (map (suffix_in bytes) (range_with_len 0 (leaf_count_in bytes))))
+    (map (slot_suffix bytes) (range_with_len 0 (leaf_count_in bytes))))
 
-unfoldable pub image_in : Bytes → Image
+unfoldable pub image_in : Bytes → FilterImage
 image_in bytes =
     record { hash_bits = hash_bits_in bytes; real_bits = real_bits_in bytes; cutoff = cutoff_in bytes; leaves = leaves_in bytes }

@@ -1,6 +1,7 @@
 -- What the definitions keep, whatever the leaves and the keys.
 use Rattle.std.specs.Prelude.{◌≡◌, ◌==◌, ◌↔◌, ◌<◌, ℕ, ◌+◌, ◌≤◌, nat_lt, Bool, true, false, ◌&&◌, ◌||◌, List, length}
 use Rattle.std.specs.List.{All, AllPairs, Contains, list_any}
+use Rattle.key_base.specs.Limits.{max_real_bits}
 use Rattle.byte_fields.specs.Spelling.{IsBytes}
 use Rattle.filter_model.specs.Strings.{extends, is_below, same}
 use Rattle.filter_model.specs.Keys.{IsKeyList}
@@ -12,7 +13,7 @@ use Rattle.filter_model.specs.Valid.{IsValid}
 -- the leaves of every list of keys are valid
 abbrev pub LeavesAreValid : Type 0
 LeavesAreValid =
-    (hash_bits real_bits : ℕ) (keys : List (List ℕ)) → real_bits ≤ 32 → IsKeyList keys → IsValid hash_bits real_bits (leaves_of hash_bits real_bits keys)
+    (hash_bits real_bits : ℕ) (keys : List (List ℕ)) → real_bits ≤ max_real_bits → IsKeyList keys → IsValid hash_bits real_bits (leaves_of hash_bits real_bits keys)
 
 -- two bounds of a range
 pub record AreBounds (lo hi : List ℕ) : Type 0 where
@@ -29,7 +30,7 @@ pub record IsHeldBetween (real_bits : ℕ) (ls : List Leaf) (lo hi x : List ℕ)
 -- a range answers yes exactly where some byte string in it fits a leaf, hash apart
 abbrev pub RangeIsExact : Type 0
 RangeIsExact =
-    (hash_bits real_bits : ℕ) (ls : List Leaf) (lo hi : List ℕ) → real_bits ≤ 32 → IsValid hash_bits real_bits ls → AreBounds lo hi
+    (hash_bits real_bits : ℕ) (ls : List Leaf) (lo hi : List ℕ) → real_bits ≤ max_real_bits → IsValid hash_bits real_bits ls → AreBounds lo hi
     → (ranged real_bits ls lo hi ≡ true) ↔ ((x : List ℕ) × IsHeldBetween real_bits ls lo hi x)
 
 -- no stored key is denied
@@ -46,7 +47,7 @@ NoHeldRangeIsDenied =
 -- the tally is never below the true count, and at most two above it
 abbrev pub TallyIsNear : Type 0
 TallyIsNear =
-    (hash_bits real_bits : ℕ) (keys : List (List ℕ)) (lo hi : List ℕ) → real_bits ≤ 32 → IsKeyList keys → AreBounds lo hi
+    (hash_bits real_bits : ℕ) (keys : List (List ℕ)) (lo hi : List ℕ) → real_bits ≤ max_real_bits → IsKeyList keys → AreBounds lo hi
     → (true_count keys lo hi ≤ tally real_bits (leaves_of hash_bits real_bits keys) lo hi)
     × (tally real_bits (leaves_of hash_bits real_bits keys) lo hi ≤ true_count keys lo hi + 2)
 

@@ -7,4 +7,4 @@ pub mod Nodes
 pub mod Image
 pub mod Keys
 pub mod Laws
-pub mod Rows
+pub mod Examples

@@ -1,15 +1,16 @@
 -- The leaf lists that a filter may stand for, without mention of keys.
 use Rattle.std.specs.Prelude.{◌≡◌, ℕ, ◌-◌, ◌<◌, ◌≤◌, ◌^◌, Bool, true, cond, not, ◌&&◌, List, length, take}
 use Rattle.std.specs.List.{All, AllPairs, list_any}
+use Rattle.key_base.specs.Limits.{max_key_bytes}
 use Rattle.byte_fields.specs.Spelling.{IsBytes}
 use Rattle.filter_model.specs.Strings.{is_below, extends, is_prefix, same}
 use Rattle.filter_model.specs.Leaves.{Leaf}
 
--- a leaf by itself: a stub of 1 to 1,024 bytes, hash and real bits of their widths, no real bits where it ends
+-- a leaf by itself: a stub as long as a key may be, hash and real bits of their widths, no real bits where it ends
 pub record IsLeaf (hash_bits real_bits : ℕ) (l : Leaf) : Type 0 where
   pub bytes : IsBytes l.stub
   pub filled : 0 < length l.stub
-  pub short : length l.stub ≤ 1024
+  pub short : length l.stub ≤ max_key_bytes
   pub hash_fits : l.hash < 2 ^ hash_bits
   pub real_fits : l.real < 2 ^ real_bits
   pub end_without_real : l.ends ≡ true → l.real ≡ 0

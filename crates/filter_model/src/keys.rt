@@ -42,14 +42,14 @@ mod tests {
 
     #[test]
     fn keys_rise_and_are_not_empty(rt: HostRuntime) -> Result<(), Fail> {
-        let rows: [(&[&[u8]], bool); 5] = [
+        let examples: [(&[&[u8]], bool); 5] = [
             (&[b"far", b"fast", b"s"], true),
             (&[b"a", b"ab"], true),
             (&[], false),
             (&[b"a", b"a"], false),
             (&[b""], false),
         ];
-        for (words, answer) in rows {
+        for (words, answer) in examples {
             let mut keys = KeyList::new(rt.alloc());
             for word in words {
                 keys.push(word)?;

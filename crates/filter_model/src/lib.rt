@@ -1,4 +1,4 @@
-//! What a filter answers: the definitions, their worked rows, and the laws that they keep.
+//! What a filter answers: the definitions, examples of them, and the laws that they keep.
 //!
 //! A filter stands for a list of leaves, one for each key: as much of the key as tells it from all others (its stub),
 //! whether the key ends there, and some bits of a hash or of the key itself (SuRF: Zhang et al., SIGMOD 2018). The
@@ -6,7 +6,7 @@
 //! They say what every filter answers, a plain list and a succinct trie alike, and look like neither.
 //!
 //! [`are_keys`] tests whether a filter can be built from a list of keys, by one comparison for each two neighbours.
-//! The other functions have no body: each has a law or some rows as its contract, so that the crate is proved only
+//! The other functions have no body: each has a law or some examples as its contract, so that the crate is proved only
 //! where the law holds. None needs to be called. Not for programs that ask a filter: they take `filter_api` and one
 //! of its filters.
 //!
@@ -18,15 +18,11 @@
 //! ```
 #![tactic(auto)]
 
+pub mod examples;
 mod keys;
 mod laws;
-mod rows;
 
 pub use keys::are_keys;
 pub use laws::{
     leaves_are_valid, nodes_are_the_prefixes, nothing_held_is_denied, range_is_exact, tally_is_near,
-};
-pub use rows::{
-    far_to_toy_answers, far_to_toy_leaves, far_to_toy_trie, image_of_far_to_toy,
-    images_of_a_and_ab, other_rows,
 };

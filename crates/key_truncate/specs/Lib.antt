@@ -1,1 +1,2 @@
+pub use Rattle.filter_model.specs.Keys
 pub mod Stubs

@@ -11,6 +11,7 @@
 #![tactic(auto)]
 
 ghost use Rattle.std.specs.Prelude.{◌≡◌, ◌==◌, ◌<◌, ◌≤◌, ◌+◌, length, min, IfOk};
+ghost use Rattle.key_base.specs.Limits.{max_key_bytes};
 ghost use Rattle.filter_model.specs.Keys.{IsKeyList};
 ghost use Rattle.key_truncate.specs.Stubs.{shared_next, stubs_in};
 
@@ -55,7 +56,7 @@ fn shared_with_next(keys: &KeyList, i: usize) -> usize
 // The stub of a key that shares at most `most` bytes with another.
 fn stub_after(key: &[u8], most: usize) -> Stub
     requires most { most ≤ length key.now }
-    requires short { length key.now ≤ 1024 }
+    requires short { length key.now ≤ max_key_bytes }
     ensures { result ≡ record { len = min (most + 1) (length key.now); ends = length key.now == most } }
 {
     Stub {
@@ -72,7 +73,7 @@ mod tests {
 
     #[test]
     fn stubs_tell_keys_apart(rt: HostRuntime) -> Result<(), Fail> {
-        let rows: [(&[&[u8]], &[(u16, bool)]); 4] = [
+        let examples: [(&[&[u8]], &[(u16, bool)]); 4] = [
             (
                 &[b"far", b"fast", b"s", b"top", b"toy"],
                 &[(3, false), (3, false), (1, false), (3, false), (3, false)],
@@ -81,7 +82,7 @@ mod tests {
             (&[b"aa1", b"ab1"], &[(2, false), (2, false)]),
             (&[b"zebra"], &[(1, false)]),
         ];
-        for (words, stubs) in rows {
+        for (words, stubs) in examples {
             let mut keys = KeyList::new(rt.alloc());
             for word in words {
                 keys.push(word)?;

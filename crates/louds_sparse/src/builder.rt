@@ -13,7 +13,7 @@ use std::alloc::{AllocError, Allocator};
 use std::marker::Model;
 use trie_model::{Before, Branch};
 
-/// The most labels that a half can have: fewer than 2^62, so that its numbers and those before it fit a word.
+// The most labels that a half can have: fewer than 2^62, so that its numbers and those before it fit a word.
 const MAX_LABELS: usize = (1 << 62) - 1;
 
 /// Makes a half of nodes that are given in level order.

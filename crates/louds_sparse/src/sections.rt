@@ -58,7 +58,7 @@ impl<A: Allocator> Sections<A> {
         self.has_child.limit() - self.labels.len()
     }
 
-    /// Adds a branch.
+    // Adds a branch.
     fn push(&mut self, label: u8, child: bool, first: bool)
         requires { length self.old.labels < self.old.limit }
         ensures added { self.new ≡ with_branch label child first self.old }

@@ -186,7 +186,7 @@ impl<A: Allocator> Sparse<A> {
         self.louds.words()
     }
 
-    /// The place at which a node begins, by its number in this half.
+    // The place at which a node begins, by its number in this half.
     fn begin(&self, number: usize) -> usize
         requires { number < length self.now.nodes }
         ensures { result ≡ first_place self.now.nodes number }
@@ -197,7 +197,7 @@ impl<A: Allocator> Sparse<A> {
         }
     }
 
-    /// The places of a node's labels: the first, and the one after the last.
+    // The places of a node's labels: the first, and the one after the last.
     fn labels_of(&self, node: u64) -> (usize, usize)
         requires { HasNode self.now node }
         ensures from { result.0 ≡ begin_of self.now node }
@@ -212,7 +212,7 @@ impl<A: Allocator> Sparse<A> {
         }
     }
 
-    /// The places of a node's bytes: the first, which is behind END, and the one after the last.
+    // The places of a node's bytes: the first, which is behind END, and the one after the last.
     fn bytes_of(&self, node: u64) -> (usize, usize)
         requires { HasNode self.now node }
         ensures { StandBytes self.now node result.0 result.1 }
@@ -225,7 +225,7 @@ impl<A: Allocator> Sparse<A> {
     }
 }
 
-/// Whether the labels of a node, from `from` on and before `to`, begin with END: they are two or more, and the first is FF.
+// Whether the labels of a node, from `from` on and before `to`, begin with END: they are two or more, and the first is FF.
 fn opens_with_end(labels: &[u8], from: usize, to: usize) -> bool
     requires order { from < to }
     requires there { to ≤ length labels.now }
@@ -234,7 +234,7 @@ fn opens_with_end(labels: &[u8], from: usize, to: usize) -> bool
     to - from > 1 && labels[from] == END_LABEL
 }
 
-/// The first place from `start` on and before `end` whose label is `byte` or more, or `end` where none is.
+// The first place from `start` on and before `end` whose label is `byte` or more, or `end` where none is.
 fn cut(labels: &[u8], start: usize, end: usize, byte: u16) -> usize
     requires order { start ≤ end }
     requires there { end ≤ length labels.now }

@@ -1,4 +1,4 @@
-// Halves of worked keys.
+//! Halves of worked keys.
 ghost use Rattle.louds_sparse.specs.Spelling.{AreFew};
 
 use super::{Before, Branch, Sparse, SparseBuilder};
@@ -7,10 +7,10 @@ use std::process::Abort;
 use std::test::Fail;
 use trie_model::are_rising;
 
-/// How many labels the halves of the tests have room for.
+// How many labels the halves of the tests have room for.
 const ROOM: usize = 64;
 
-/// A node: whether END is a branch, and the branches by bytes.
+// A node: whether END is a branch, and the branches by bytes.
 type Node<'a> = (bool, &'a [Branch]);
 
 fn leaf(byte: u8) -> Branch {

@@ -5,7 +5,7 @@ use Rattle.std.specs.List.{list_any, position_from}
 use Rattle.std.specs.Option.{option_and_then, option_map}
 use Rattle.std.proofs.lemmas.Bool.{cond-true, cond-false}
 use Rattle.filter_model.specs.Leaves.{Leaf}
-use Rattle.plain_filter.specs.Reading.{after_leaf, leaf_in, leaves_in}
+use Rattle.plain_filter.specs.Reading.{after_leaf, leaf_in, leaf_list_in}
 use Rattle.std.proofs.lemmas.List.{append-nil, take_more}
 use Rattle.std.proofs.lemmas.List.Concat.{flat_map-append}
 use Rattle.std.proofs.lemmas.List.Sums.{sum_by-cons}
@@ -50,10 +50,10 @@ map_twice xs x None = refl
 map_twice {X} xs x (Some ys) = ap (λ (l : List X). Some l) (sym (append_assoc xs (x ∷ []) ys))
 
 -- one leaf more was read
-pub read-more : (n i : ℕ) (bytes rest : List ℕ) (leaves : List Leaf) (l : Leaf) → i < n → leaves_in n bytes ≡ option_map (λ more. leaves ++ more) (leaves_in (n - i) rest)
-    → leaf_in rest ≡ Some l → leaves_in n bytes ≡ option_map (λ more. (leaves ++ l ∷ []) ++ more) (leaves_in (n - (i + 1)) (after_leaf l rest))
+pub read-more : (n i : ℕ) (bytes rest : List ℕ) (leaves : List Leaf) (l : Leaf) → i < n → leaf_list_in n bytes ≡ option_map (λ more. leaves ++ more) (leaf_list_in (n - i) rest)
+    → leaf_in rest ≡ Some l → leaf_list_in n bytes ≡ option_map (λ more. (leaves ++ l ∷ []) ++ more) (leaf_list_in (n - (i + 1)) (after_leaf l rest))
 read-more n i bytes rest leaves l h e found =
     let more : n - i ≡ suc (n - (i + 1)) = omega arith in
-    e ∙ ap (λ k. option_map (λ m. leaves ++ m) (leaves_in k rest)) more
-    ∙ ap (λ (o : Option Leaf). option_map (λ m. leaves ++ m) (option_and_then (λ x. option_map (λ ls. x ∷ ls) (leaves_in (n - (i + 1)) (after_leaf x rest))) o)) found
-    ∙ map_twice leaves l (leaves_in (n - (i + 1)) (after_leaf l rest))
+    e ∙ ap (λ k. option_map (λ m. leaves ++ m) (leaf_list_in k rest)) more
+    ∙ ap (λ (o : Option Leaf). option_map (λ m. leaves ++ m) (option_and_then (λ x. option_map (λ ls. x ∷ ls) (leaf_list_in (n - (i + 1)) (after_leaf x rest))) o)) found
+    ∙ map_twice leaves l (leaf_list_in (n - (i + 1)) (after_leaf l rest))

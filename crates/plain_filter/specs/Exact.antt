@@ -15,11 +15,11 @@ use Rattle.byte_fields.proofs.NumberLemmas.{number_again, number_back}
 use Rattle.filter_model.specs.Leaves.{Leaf}
 use Rattle.filter_model.specs.Valid.{IsLeaf}
 use Rattle.filter_api.specs.Spellings.{IsSpelling, SpellsOne}
-use Rattle.plain_filter.specs.Reading.{after_leaf, leaf_at, leaf_in, leaves_in, stub_len}
+use Rattle.plain_filter.specs.Reading.{after_leaf, leaf_at, leaf_in, leaf_list_in, stub_len}
 use Rattle.plain_filter.specs.Spelling.{leaf_bytes, plain_spelling}
 
 -- a leaf whose numbers fit their bytes
-pub record Spells (l : Leaf) : Type 0 where
+pub record FitsFields (l : Leaf) : Type 0 where
   pub short : length l.stub < 65536
   pub hash : l.hash < 2 ^ 32
   pub real : l.real < 2 ^ 32
@@ -44,7 +44,7 @@ length-leaf_bytes l =
     let e = length-append l.stub (cond l.ends 1 0 ∷ (little_bytes 4 l.hash ++ little_bytes 4 l.real)) in omega (arith, e)
 
 -- what was written of a leaf is read
-pub leaf_again : (l : Leaf) (rest : List ℕ) → Spells l → leaf_in (leaf_bytes l ++ rest) ≡ Some l
+pub leaf_again : (l : Leaf) (rest : List ℕ) → FitsFields l → leaf_in (leaf_bytes l ++ rest) ≡ Some l
 leaf_again l rest h =
     let s = length l.stub in
     let hr = little_bytes 4 l.hash ++ little_bytes 4 l.real in
@@ -133,15 +133,15 @@ leaf_back bytes l h e =
     ]
 
 -- what was written of a list is read
-pub leaves_again : (ls : List Leaf) → All Spells ls → leaves_in (length ls) (flat_map leaf_bytes ls) ≡ Some ls
+pub leaves_again : (ls : List Leaf) → All FitsFields ls → leaf_list_in (length ls) (flat_map leaf_bytes ls) ≡ Some ls
 leaves_again [] h = refl
 leaves_again (l ∷ ls) h =
     let rest = flat_map leaf_bytes ls in
-    let first = leaf_again l rest (All-head Spells l ls h) in
+    let first = leaf_again l rest (All-head FitsFields l ls h) in
     let left : after_leaf l (leaf_bytes l ++ rest) ≡ rest = drop_at (leaf_bytes l) rest (11 + length l.stub) (length-leaf_bytes l) in
-    ap (λ (o : Option Leaf). option_and_then (λ x. option_map (λ ys. x ∷ ys) (leaves_in (length ls) (after_leaf x (leaf_bytes l ++ rest)))) o) first
-    ∙ ap (λ (b : List ℕ). option_map (λ ys. l ∷ ys) (leaves_in (length ls) b)) left
-    ∙ ap (option_map (λ ys. l ∷ ys)) (leaves_again ls (All-tail Spells l ls h))
+    ap (λ (o : Option Leaf). option_and_then (λ x. option_map (λ ys. x ∷ ys) (leaf_list_in (length ls) (after_leaf x (leaf_bytes l ++ rest)))) o) first
+    ∙ ap (λ (b : List ℕ). option_map (λ ys. l ∷ ys) (leaf_list_in (length ls) b)) left
+    ∙ ap (option_map (λ ys. l ∷ ys)) (leaves_again ls (All-tail FitsFields l ls h))
 
 -- the leaves that were read, as many as asked, and the bytes are what is written of them
 pub record Back (n : ℕ) (bytes : List ℕ) (ls : List Leaf) : Type 0 where
@@ -161,12 +161,12 @@ back_first n bytes ls l (Some ms) h first rest k =
     (record { count = omega (arith, others.count); bytes_are = leaf_back bytes l h first ∙ ap (λ (t : List ℕ). leaf_bytes l ++ t) others.bytes_are })
 
 back_step : (n : ℕ) (bytes : List ℕ) (ls : List Leaf) (o : Option Leaf) → IsBytes bytes → leaf_in bytes ≡ o
-    → ((l : Leaf) (ms : List Leaf) → leaves_in n (after_leaf l bytes) ≡ Some ms → Back n (after_leaf l bytes) ms)
-    → option_and_then (λ l. option_map (λ ys. l ∷ ys) (leaves_in n (after_leaf l bytes))) o ≡ Some ls → Back (suc n) bytes ls
+    → ((l : Leaf) (ms : List Leaf) → leaf_list_in n (after_leaf l bytes) ≡ Some ms → Back n (after_leaf l bytes) ms)
+    → option_and_then (λ l. option_map (λ ys. l ∷ ys) (leaf_list_in n (after_leaf l bytes))) o ≡ Some ls → Back (suc n) bytes ls
 back_step n bytes ls None h first rest k = absurd (None-not_Some ls k)
-back_step n bytes ls (Some l) h first rest k = back_first n bytes ls l (leaves_in n (after_leaf l bytes)) h first (rest l) k
+back_step n bytes ls (Some l) h first rest k = back_first n bytes ls l (leaf_list_in n (after_leaf l bytes)) h first (rest l) k
 
-pub leaves_back : (n : ℕ) (bytes : List ℕ) (ls : List Leaf) → IsBytes bytes → leaves_in n bytes ≡ Some ls → Back n bytes ls
+pub leaves_back : (n : ℕ) (bytes : List ℕ) (ls : List Leaf) → IsBytes bytes → leaf_list_in n bytes ≡ Some ls → Back n bytes ls
 leaves_back zero bytes ls h e = elim (cases_Bool (length bytes == 0)) [
   | inl none ↦
       let one : [] ≡ ls = Some-inj [] ls (sym (cond-true (length bytes == 0) (Some []) None none) ∙ e) in
@@ -178,26 +178,26 @@ leaves_back (suc n) bytes ls h e =
     (λ l ms k. leaves_back n (after_leaf l bytes) ms (bytes_drop (11 + length l.stub) bytes h) k) e
 
 -- the leaves of a list that may stand fit their bytes
-pub spells_each : (hash_bits real_bits : ℕ) (ls : List Leaf) → hash_bits ≤ 32 → real_bits ≤ 32 → All (IsLeaf hash_bits real_bits) ls → All Spells ls
-spells_each hash_bits real_bits ls h k each = All-weaker (IsLeaf hash_bits real_bits) Spells (λ l leaf. one l leaf) ls each
+pub spells_each : (hash_bits real_bits : ℕ) (ls : List Leaf) → hash_bits ≤ 32 → real_bits ≤ 32 → All (IsLeaf hash_bits real_bits) ls → All FitsFields ls
+spells_each hash_bits real_bits ls h k each = All-weaker (IsLeaf hash_bits real_bits) FitsFields (λ l leaf. one l leaf) ls each
   where
-    one : (l : Leaf) → IsLeaf hash_bits real_bits l → Spells l
+    one : (l : Leaf) → IsLeaf hash_bits real_bits l → FitsFields l
     one l leaf =
         let hash = pow-le-pow_right {n = 2} (omega arith) h in
         let real = pow-le-pow_right {n = 2} (omega arith) k in
         record { short = omega (arith, leaf.short); hash = omega (arith, leaf.hash_fits, hash); real = omega (arith, leaf.real_fits, real) }
 
 -- SURP
-abbrev pub magic : List ℕ
-magic = 83 ∷ 85 ∷ 82 ∷ 80 ∷ []
+abbrev pub plain_magic : List ℕ
+plain_magic = 83 ∷ 85 ∷ 82 ∷ 80 ∷ []
 
 -- what a reader finds in a spelling
 pub record Head (hash_bits real_bits : ℕ) (ls : List Leaf) (bytes : List ℕ) : Type 0 where
   pub long : 10 ≤ length bytes
-  pub begun : is_prefix magic bytes ≡ true
+  pub begun : is_prefix plain_magic bytes ≡ true
   pub hash : slice_index bytes 4 ≡ hash_bits
   pub real : slice_index bytes 5 ≡ real_bits
-  pub leaves : leaves_in (little_number 4 (drop 6 bytes)) (drop 10 bytes) ≡ Some ls
+  pub leaves : leaf_list_in (little_number 4 (drop 6 bytes)) (drop 10 bytes) ≡ Some ls
 
 pub whole_again : (hash_bits real_bits cutoff : ℕ) (ls : List Leaf) (bytes : List ℕ) → IsSpelling plain_spelling hash_bits real_bits cutoff ls bytes → Head hash_bits real_bits ls bytes
 whole_again hash_bits real_bits cutoff ls bytes h =
@@ -205,10 +205,10 @@ whole_again hash_bits real_bits cutoff ls bytes h =
     let number : little_number 4 (little_bytes 4 (length ls) ++ rest) ≡ length ls = number_again 4 (length ls) rest (omega (arith, h.may_stand.valid.few)) in
     let spelled = spells_each hash_bits real_bits ls h.may_stand.hash_width h.may_stand.real_width h.may_stand.valid.leaves in
     subst (Head hash_bits real_bits ls) (sym h.bytes_are)
-    (record { long = omega arith; begun = refl; hash = refl; real = refl; leaves = ap (λ n. leaves_in n rest) number ∙ leaves_again ls spelled })
+    (record { long = omega arith; begun = refl; hash = refl; real = refl; leaves = ap (λ n. leaf_list_in n rest) number ∙ leaves_again ls spelled })
 
-pub whole_back : (bytes : List ℕ) (ls : List Leaf) → IsBytes bytes → 10 ≤ length bytes → is_prefix magic bytes ≡ true
-    → leaves_in (little_number 4 (drop 6 bytes)) (drop 10 bytes) ≡ Some ls → bytes ≡ plain_spelling (slice_index bytes 4) (slice_index bytes 5) 0 ls
+pub whole_back : (bytes : List ℕ) (ls : List Leaf) → IsBytes bytes → 10 ≤ length bytes → is_prefix plain_magic bytes ≡ true
+    → leaf_list_in (little_number 4 (drop 6 bytes)) (drop 10 bytes) ≡ Some ls → bytes ≡ plain_spelling (slice_index bytes 4) (slice_index bytes 5) 0 ls
 whole_back (a ∷ b ∷ c ∷ d ∷ h ∷ r ∷ n ∷ o ∷ p ∷ q ∷ rest) ls is_bytes long begun e =
     let front = n ∷ o ∷ p ∷ q ∷ rest in
     let first = and_parts (83 == a) ((85 == b) && ((82 == c) && ((80 == d) && true))) begun in

@@ -9,32 +9,32 @@ abbrev pub none : Leaf
 none = record { stub = []; ends = false; hash = 0; real = 0 }
 
 -- the leaf at place i
-abbrev pub at : List Leaf → ℕ → Leaf
-at ls i = slice_index_or ls i none
+abbrev pub leaf_number : List Leaf → ℕ → Leaf
+leaf_number ls i = slice_index_or ls i none
 
 -- the stub at place i is above the one before it
-abbrev pub rises : List Leaf → ℕ → Bool
-rises ls zero = true
-rises ls (suc i) = is_below (at ls i).stub (at ls (suc i)).stub
+abbrev pub rises_at : List Leaf → ℕ → Bool
+rises_at ls zero = true
+rises_at ls (suc i) = is_below (leaf_number ls i).stub (leaf_number ls (suc i)).stub
 
 -- the next stub goes on from the one at place i
 abbrev pub next_extends : List Leaf → ℕ → Bool
-next_extends ls i = nat_lt (i + 1) (length ls) && extends (at ls i).stub (at ls (i + 1)).stub
+next_extends ls i = nat_lt (i + 1) (length ls) && extends (leaf_number ls i).stub (leaf_number ls (i + 1)).stub
 
 -- the leaf before place i, or the next one, is a branch of a node above the one at place i
 abbrev pub joins_before : List Leaf → ℕ → Bool
 joins_before ls zero = false
-joins_before ls (suc i) = joins (at ls (suc i)) (at ls i)
+joins_before ls (suc i) = joins (leaf_number ls (suc i)) (leaf_number ls i)
 
 abbrev pub joins_next : List Leaf → ℕ → Bool
-joins_next ls i = nat_lt (i + 1) (length ls) && joins (at ls i) (at ls (i + 1))
+joins_next ls i = nat_lt (i + 1) (length ls) && joins (leaf_number ls i) (leaf_number ls (i + 1))
 
 -- the leaf at place i has company, or is alone and one byte long
 abbrev pub has_company : List Leaf → ℕ → Bool
-has_company ls i = cond (length ls == 1) (length (at ls i).stub == 1) (joins_before ls i || joins_next ls i)
+has_company ls i = cond (length ls == 1) (length (leaf_number ls i).stub == 1) (joins_before ls i || joins_next ls i)
 
-pub record StandsAt (hash_bits real_bits : ℕ) (ls : List Leaf) (i : ℕ) : Type 0 where
-  pub leaf : IsLeaf hash_bits real_bits (at ls i)
-  pub rise : rises ls i ≡ true
-  pub ends : (at ls i).ends ≡ next_extends ls i
+pub record StandsRightly (hash_bits real_bits : ℕ) (ls : List Leaf) (i : ℕ) : Type 0 where
+  pub leaf : IsLeaf hash_bits real_bits (leaf_number ls i)
+  pub rise : rises_at ls i ≡ true
+  pub ends : (leaf_number ls i).ends ≡ next_extends ls i
   pub company : has_company ls i ≡ true

@@ -28,6 +28,6 @@ abbrev pub after_leaf : Leaf → List ℕ → List ℕ
 after_leaf l bytes = drop (11 + length l.stub) bytes
 
 -- so many leaves, and nothing after them
-abbrev pub leaves_in : ℕ → List ℕ → Option (List Leaf)
-leaves_in zero bytes = cond (length bytes == 0) (Some []) None
-leaves_in (suc n) bytes = option_and_then (λ l. option_map (λ ls. l ∷ ls) (leaves_in n (after_leaf l bytes))) (leaf_in bytes)
+abbrev pub leaf_list_in : ℕ → List ℕ → Option (List Leaf)
+leaf_list_in zero bytes = cond (length bytes == 0) (Some []) None
+leaf_list_in (suc n) bytes = option_and_then (λ l. option_map (λ ls. l ∷ ls) (leaf_list_in n (after_leaf l bytes))) (leaf_in bytes)

@@ -2,7 +2,7 @@
 ghost use Rattle.std.specs.Prelude.{◌≡◌, ◌+◌, ◌≤◌, length, drop, slice_index, IfOk};
 ghost use Rattle.std.specs.Option.{option_map};
 ghost use Rattle.filter_api.specs.Seen.{seen};
-ghost use Rattle.plain_filter.specs.Reading.{after_leaf, leaf_in, leaves_in};
+ghost use Rattle.plain_filter.specs.Reading.{after_leaf, leaf_in, leaf_list_in};
 
 use byte_fields::{get_u16, get_u32};
 use filter_api::{Leaf, LeafList};
@@ -14,7 +14,7 @@ pub(crate) fn read_leaves(
     bytes: &[u8],
     count: u32,
 ) -> Result<Option<LeafList>, AllocError>
-    ensures { IfOk result (λ leaves. leaves ≡ leaves_in count bytes.now) }
+    ensures { IfOk result (λ leaves. leaves ≡ leaf_list_in count bytes.now) }
 {
     let mut leaves = LeafList::new(alloc);
     let mut rest = bytes;

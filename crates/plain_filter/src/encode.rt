@@ -1,5 +1,6 @@
 //! The spelling of a leaf list.
 ghost use Rattle.std.specs.Prelude.{◌≡◌, ◌<◌, ◌≤◌, ◌^◌, ◌++◌, length, IfOk, OnOk};
+ghost use Rattle.key_base.specs.Limits.{max_key_bytes};
 ghost use Rattle.std.specs.List.{All};
 ghost use Rattle.filter_model.specs.Valid.{IsLeaf};
 ghost use Rattle.filter_api.specs.Seen.{seen};
@@ -33,7 +34,7 @@ pub(crate) fn spelled(
 }
 
 fn push_leaf(bytes: &mut Vec<u8>, leaf: &Leaf) -> Result<(), AllocError>
-    requires { length (seen leaf.now).stub ≤ 1024 }
+    requires { length (seen leaf.now).stub ≤ max_key_bytes }
     ensures { OnOk result (bytes.new.items ≡ bytes.old.items ++ leaf_bytes (seen leaf.now)) }
 {
     let stub = leaf.stub.as_slice();

@@ -1,4 +1,4 @@
-//! The worked rows, through the interface of every filter.
+//! The examples, through the interface of every filter.
 use crate::PlainFilter;
 use filter_api::{DecodeError, FilterFault, RangeFilter, Settings};
 use filter_model::are_keys;

@@ -3,7 +3,7 @@ ghost use Rattle.std.specs.Prelude.{◌≡◌, ◌<◌, ◌≤◌, ◌^◌, ◌�
 ghost use Rattle.filter_model.specs.Valid.{IsLeaf, IsValid, joins, node};
 ghost use Rattle.filter_model.specs.Strings.{extends};
 ghost use Rattle.filter_api.specs.Seen.{seen};
-ghost use Rattle.plain_filter.specs.Neighbours.{StandsAt, has_company, joins_before, joins_next, next_extends, rises};
+ghost use Rattle.plain_filter.specs.Neighbours.{StandsRightly, has_company, joins_before, joins_next, next_extends, rises_at};
 
 use crate::leaf::{are_same, begins_with};
 use filter_api::{Leaf, LeafList};
@@ -29,7 +29,7 @@ fn stands(leaves: &LeafList, i: usize, hash_bits: u8, real_bits: u8) -> bool
     requires within { i < length leaves.now }
     requires hash { hash_bits ≤ 32 }
     requires real { real_bits ≤ 32 }
-    ensures { IsTrue result ↔ StandsAt hash_bits real_bits leaves.now i }
+    ensures { IsTrue result ↔ StandsRightly hash_bits real_bits leaves.now i }
 {
     let leaf = leaves.get(i);
     if !is_leaf(leaf, hash_bits, real_bits) {
@@ -68,7 +68,7 @@ fn fits_width(number: u32, width: u8) -> bool
 
 fn rises_at(leaves: &LeafList, i: usize) -> bool
     requires { i < length leaves.now }
-    ensures { result ≡ rises leaves.now i }
+    ensures { result ≡ rises_at leaves.now i }
 {
     i == 0
         || compare(

@@ -12,8 +12,8 @@ SuffixesReadBack =
     → unpacked_suffixes hash_bits real_bits (packed_suffixes hash_bits real_bits slots) (length slots) ≡ slots
 
 -- bits are packed from what they spell, where they are as many as the suffixes need
-abbrev pub BitsReadBack : Type 0
-BitsReadBack =
+abbrev pub SlotBitsReadBack : Type 0
+SlotBitsReadBack =
     (hash_bits real_bits : ℕ) (bits : List Bool) (count : ℕ) → length bits ≡ (hash_bits + real_bits) * count
     → packed_suffixes hash_bits real_bits (unpacked_suffixes hash_bits real_bits bits count) ≡ bits
 

@@ -1,4 +1,6 @@
+pub use Rattle.bit_words.specs.Packed
+pub use Rattle.filter_model.specs.Leaves
+pub use Rattle.filter_model.specs.Strings
 pub mod Slots
-pub mod Rows
 pub mod Laws
 pub mod Room

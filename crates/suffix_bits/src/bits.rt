@@ -1,4 +1,4 @@
-// The suffix bits of a key.
+//! The suffix bits of a key.
 ghost use Rattle.std.specs.Prelude.{◌≡◌, ◌≤◌, drop, slice_index};
 ghost use Rattle.filter_model.specs.Leaves.{hash_bits_of as hash_of};
 ghost use Rattle.filter_model.specs.Strings.{bits, front};

@@ -20,6 +20,7 @@
 
 mod bits;
 mod builder;
+pub mod examples;
 mod laws;
 mod suffixes;
 

@@ -127,7 +127,7 @@ impl<A: Allocator> Suffixes<A> {
     }
 }
 
-// One number of the two, the hash bits lowest.
+/// One number of the two, the hash bits lowest.
 pub(crate) fn joined(hash: u32, real: u32, hash_bits: u8) -> u64
     requires width { hash_bits ≤ 32 }
     requires fits { hash < 2 ^ hash_bits }

@@ -8,7 +8,7 @@ use Rattle.std.proofs.lemmas.List.Sums.{sum_by-append}
 use Rattle.filter_model.specs.Nodes.{Branch, Node, all, at}
 use Rattle.trie_laws.specs.Halves.{HalvesJoin, KeepsFirst, KeepsSecond, SecondHalfCountsOn, second_half}
 use Rattle.trie_model.specs.Halves.{first_below}
-use Rattle.trie_model.specs.Rows.{whole}
+use Rattle.trie_model.specs.Halves.{whole}
 
 all-append : (ds ss : List Node) → all (ds ++ ss) ≡ all ds ++ all ss
 all-append ds ss = flat_map-append (λ (n : Node). n) ds ss

@@ -1,8 +1,7 @@
 -- Two lists of nodes end to end, as the dense and the sparse half of a trie.
 use Rattle.std.specs.Prelude.{◌≡◌, ℕ, ◌+◌, ◌-◌, ◌<◌, ◌≤◌, MatchOption, List, ◌++◌, length}
 use Rattle.filter_model.specs.Nodes.{IsBranch, Node, all, at, children_before, first_place, leaves_before}
-use Rattle.trie_model.specs.Halves.{Half, HasNode, branch_place, child_at, first_below, slot_at}
-use Rattle.trie_model.specs.Rows.{whole}
+use Rattle.trie_model.specs.Halves.{whole, Half, HasNode, branch_place, child_at, first_below, slot_at}
 
 -- what stands in the first list, and before places of it
 pub record KeepsFirst (ds ss : List Node) : Type 0 where

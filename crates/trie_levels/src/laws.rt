@@ -1,4 +1,4 @@
-// Laws of the levels. They are proved and never called.
+//! Laws of the levels. They are proved and never called.
 ghost use Rattle.trie_levels.specs.Neighbours.{BranchesAreNodesAndEndings, BranchesAreNodesAndPartings};
 ghost use Rattle.trie_levels.specs.Tries.{ValidListsHaveTries};
 

@@ -1,4 +1,4 @@
-// The nodes and labels of each level.
+//! The nodes and labels of each level.
 ghost use Rattle.std.specs.Prelude.{◌≡◌, ◌<◌, [], ◌∷◌, ◌++◌, length, slice_index, OnOk, OnErr};
 
 use std::alloc::{AllocError, Global};
@@ -34,8 +34,8 @@ impl Levels {
     /// Adds a level at the end. Without memory the levels stay as they were.
     pub fn push(&mut self, nodes: u64, labels: u64) -> Result<(), AllocError>
         requires { length self.old.nodes < 65535 }
-        ensures ok { OnOk result (self.new ≡ record { nodes = self.old.nodes ++ nodes ∷ []; labels = self.old.labels ++ labels ∷ [] }) }
-        ensures err { OnErr result (self.new ≡ self.old) }
+        ensures added { OnOk result (self.new ≡ record { nodes = self.old.nodes ++ nodes ∷ []; labels = self.old.labels ++ labels ∷ [] }) }
+        ensures unchanged { OnErr result (self.new ≡ self.old) }
     {
         self.counts.push((nodes, labels))?;
         Ok(())

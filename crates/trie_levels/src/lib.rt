@@ -23,14 +23,13 @@
 //! ```
 #![tactic(auto)]
 
+pub mod examples;
 mod laws;
 mod levels;
 mod planning;
-mod rows;
 mod rule;
 
 pub use laws::{levels_follow, valid_lists_have_tries};
 pub use levels::Levels;
 pub use planning::plan;
-pub use rows::{a_and_ab_counts, chain_counts, far_to_toy_counts};
 pub use rule::cutoff;

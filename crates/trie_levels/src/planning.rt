@@ -1,5 +1,6 @@
-// The levels of a leaf list's trie.
+//! The levels of a leaf list's trie.
 ghost use Rattle.std.specs.Prelude.{◌≡◌, ◌≤◌, length, map, IfOk};
+ghost use Rattle.key_base.specs.Limits.{max_key_bytes};
 ghost use Rattle.std.specs.List.{All, range_with_len};
 ghost use Rattle.filter_api.specs.Seen.{seen};
 ghost use Rattle.filter_model.specs.Trie.{height, level_labels, level_nodes, path};
@@ -76,7 +77,7 @@ fn longest_path(leaves: &LeafList) -> usize
 
 // The letters of a leaf's path: the bytes of its stub, and END where it ends.
 fn path_len(leaf: &Leaf) -> usize
-    requires { length leaf.now.stub.items ≤ 1024 }
+    requires { length leaf.now.stub.items ≤ max_key_bytes }
     ensures { result ≡ length (path (seen leaf.now)) }
 {
     leaf.stub.len() + usize::from(leaf.ends)

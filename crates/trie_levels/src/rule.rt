@@ -1,4 +1,4 @@
-// The cutoff.
+//! The cutoff.
 ghost use Rattle.std.specs.Prelude.{◌≡◌, ◌*◌, ◌<◌, ◌≤◌, ◌^◌, ◌↔◌, length, sum, IsTrue};
 ghost use Rattle.filter_model.specs.Trie.{cutoff_of};
 
@@ -51,7 +51,7 @@ mod tests {
 
     #[test]
     fn cutoffs_of_worked_levels(rt: HostRuntime) -> Result<(), Fail> {
-        let rows: [(&[(u64, u64)], u16, u16); 6] = [
+        let examples: [(&[(u64, u64)], u16, u16); 6] = [
             (&[(1, 3), (2, 2), (2, 4)], 64, 0),
             (&[(1, 3), (2, 2), (2, 4)], 0, 3),
             (&[(1, 256), (256, 65_536)], 64, 1),
@@ -59,7 +59,7 @@ mod tests {
             (&[(1, 256)], 0, 1),
             (&[], 64, 0),
         ];
-        for (counts, ratio, answer) in rows {
+        for (counts, ratio, answer) in examples {
             let mut levels = Levels::new(rt.alloc());
             for (nodes, labels) in counts {
                 assert!(rt; levels.height() < 65_535);

@@ -12,6 +12,10 @@ pub record Half : Type 0 where
   pub before : Before
   pub nodes : List Node
 
+-- all of a trie
+abbrev pub whole : List Node → Half
+whole ns = record { before = record { nodes = 0; children = 0; slots = 0 }; nodes = ns }
+
 -- v is one of its nodes, and p one of its places
 abbrev pub HasNode : Half → ℕ → Type 0
 HasNode h v = (h.before.nodes ≤ v) × (v < h.before.nodes + length h.nodes)

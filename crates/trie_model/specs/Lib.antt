@@ -1,7 +1,9 @@
+pub use Rattle.filter_model.specs.Nodes
+pub use Rattle.filter_model.specs.Trie
 pub mod Letters
 pub mod Rests
 pub mod Walks
 pub mod Branching
 pub mod Halves
 pub mod Given
-pub mod Rows
+pub mod Examples

@@ -1,4 +1,4 @@
-//! What is asked of a trie and its halves: the definitions, and the rows by which they are tried.
+//! What is asked of a trie and its halves: the definitions, and examples of them.
 //!
 //! A trie is a list of nodes in level order, each the list of its branches, as in `filter_model`. In `specs/`, one file
 //! a noun: `Letters` has the key order, in which END comes before every byte; `Rests` what follows a prefix in the paths
@@ -7,7 +7,7 @@
 //! of a part of the nodes, with counts of what stands before it.
 //!
 //! [`Branch`] and [`Before`] are what the builders of halves are given, and [`are_rising`] is the test of a node's
-//! branches. The other functions have no body: each has rows as its contract, and none needs to be called.
+//! branches. The other functions have no body: each has examples as its contract, and none needs to be called.
 //!
 //! ```text
 //! keys            far   fast   s   top   toy
@@ -17,11 +17,7 @@
 //! ```
 #![tactic(auto)]
 
+pub mod examples;
 mod parts;
-mod rows;
 
 pub use parts::{Before, Branch, are_rising};
-pub use rows::{
-    keys_walk, leaves_are_ordered, places_below_the_root, places_beside_end, places_of_far_to_toy,
-    tries_are_these_nodes,
-};

@@ -5,8 +5,8 @@ use Rattle.byteorder.specs.Endian.{little_number}
 use Rattle.filter_model.specs.Strings.{is_prefix}
 use Rattle.filter_model.specs.Valid.{IsValid}
 use Rattle.plain_filter.proofs.LeafLemmas.{bytes_of}
-use Rattle.plain_filter.specs.Exact.{Some-inj, magic, whole_again, whole_back}
-use Rattle.plain_filter.specs.Reading.{leaves_in}
+use Rattle.plain_filter.specs.Exact.{Some-inj, plain_magic, whole_again, whole_back}
+use Rattle.plain_filter.specs.Reading.{leaf_list_in}
 use Rattle.plain_filter.proofs.filter.read.Goals as goal
 
 -- the slice behind the head is all that is there
@@ -16,8 +16,8 @@ rest bytes = take_all (length bytes - 10) (drop 10 bytes) (omega (arith, length-
 pub returns-in_default-clause-none : goal.returns-in_default-clause-none
 returns-in_default-clause-none c hash_bits real_bits cutoff leaves h =
     let bytes = c.args.bytes.now in
-    let found : c.in_ok-leaves.field-0 ≡ leaves_in (little_number 4 (drop 6 bytes)) (drop 10 bytes) =
-    c.in_ok-leaves.ensures ∙ (λ j. leaves_in (c.get_u32-count.ensures j) (rest bytes j)) in
+    let found : c.in_ok-leaves.field-0 ≡ leaf_list_in (little_number 4 (drop 6 bytes)) (drop 10 bytes) =
+    c.in_ok-leaves.ensures ∙ (λ j. leaf_list_in (c.get_u32-count.ensures j) (rest bytes j)) in
     let head = whole_again hash_bits real_bits cutoff leaves bytes h in
     let some : c.in_ok-leaves.field-0 ≡ Some leaves = found ∙ head.leaves in
     c.in_default.not-Some leaves some
@@ -25,8 +25,8 @@ returns-in_default-clause-none c hash_bits real_bits cutoff leaves h =
 pub returns-then-not-is_valid-clause-none : goal.returns-then-not-is_valid-clause-none
 returns-then-not-is_valid-clause-none c hash_bits real_bits cutoff leaves h =
     let bytes = c.args.bytes.now in
-    let found : c.in_ok-leaves.field-0 ≡ leaves_in (little_number 4 (drop 6 bytes)) (drop 10 bytes) =
-    c.in_ok-leaves.ensures ∙ (λ j. leaves_in (c.get_u32-count.ensures j) (rest bytes j)) in
+    let found : c.in_ok-leaves.field-0 ≡ leaf_list_in (little_number 4 (drop 6 bytes)) (drop 10 bytes) =
+    c.in_ok-leaves.ensures ∙ (λ j. leaf_list_in (c.get_u32-count.ensures j) (rest bytes j)) in
     let head = whole_again hash_bits real_bits cutoff leaves bytes h in
     let one : leaves ≡ c.in-Some.leaves = Some-inj leaves c.in-Some.leaves (sym (found ∙ head.leaves) ∙ c.in-Some.is) in
     let valid : IsValid (slice_index bytes 4) (slice_index bytes 5) c.in-Some.leaves =
@@ -38,11 +38,11 @@ pub returns-clause-some : goal.returns-clause-some
 returns-clause-some c =
     let bytes = c.args.bytes.now in
     let leaves = c.in-Some.leaves in
-    let found : c.in_ok-leaves.field-0 ≡ leaves_in (little_number 4 (drop 6 bytes)) (drop 10 bytes) =
-    c.in_ok-leaves.ensures ∙ (λ j. leaves_in (c.get_u32-count.ensures j) (rest bytes j)) in
-    let read : leaves_in (little_number 4 (drop 6 bytes)) (drop 10 bytes) ≡ Some leaves = sym found ∙ c.in-Some.is in
+    let found : c.in_ok-leaves.field-0 ≡ leaf_list_in (little_number 4 (drop 6 bytes)) (drop 10 bytes) =
+    c.in_ok-leaves.ensures ∙ (λ j. leaf_list_in (c.get_u32-count.ensures j) (rest bytes j)) in
+    let read : leaf_list_in (little_number 4 (drop 6 bytes)) (drop 10 bytes) ≡ Some leaves = sym found ∙ c.in-Some.is in
     let long : 10 ≤ length bytes = omega arith in
-    let begun : is_prefix magic bytes ≡ true = sym c.begins_with.ensures.value ∙ c.if-not-begins_with.false in
+    let begun : is_prefix plain_magic bytes ≡ true = sym c.begins_with.ensures.value ∙ c.if-not-begins_with.false in
     record {
       may_stand = record {
         hash_width = omega arith;

@@ -1,6 +1,6 @@
 use Rattle.std.proofs.Common.{◌≡◌, ◌<◌, ◌^◌, ℕ, length, refl, arith, sym, subst, inl, inr, ◌∙◌}
 use Rattle.std.proofs.lemmas.Bool.{cases_lt, eqb-false, false≢true}
-use Rattle.plain_filter.specs.Neighbours.{StandsAt}
+use Rattle.plain_filter.specs.Neighbours.{StandsRightly}
 use Rattle.plain_filter.proofs.ValidLemmas.{stands_from_valid, valid_from_stands}
 use Rattle.plain_filter.proofs.valid.is_valid.Goals as goal
 
@@ -10,7 +10,7 @@ loop-i-preserved c k h =
       | inl before ↦ c.loop-i.invariant k before
       | inr here ↦
           let one : c.loop-i.i ≡ k = omega arith in
-          subst (StandsAt c.args.hash_bits c.args.real_bits c.args.leaves.now) one (c.stands.ensures.0 c.if-not-stands.false)
+          subst (StandsRightly c.args.hash_bits c.args.real_bits c.args.leaves.now) one (c.stands.ensures.0 c.if-not-stands.false)
     ]
 
 pub returns-then-not-stands : goal.returns-then-not-stands

@@ -53,9 +53,9 @@ loop-level-preserved c =
     let labels : c.loop-level.nodes + c.index.result.now ≡ length (level_branches leaves n) = omega (arith, parted, partings_law leaves n c.requires, c.loop-level.invariant.2) in
     let more : n + 1 ≡ suc n = add-one n in
     let next : length (level_of leaves (n + 1)) ≡ length (level_of leaves (suc n)) = ap (λ (k : ℕ). length (level_of leaves k)) more in (
-      ap (λ (l : Counts). l.nodes) c.in_ok-push.ensures.ok
+      ap (λ (l : Counts). l.nodes) c.in_ok-push.ensures.added
           ∙ (λ j. c.loop-level.invariant.0 j ++ c.loop-level.invariant.2 j ∷ []) ∙ sym (nodes-next leaves n),
-      ap (λ (l : Counts). l.labels) c.in_ok-push.ensures.ok
+      ap (λ (l : Counts). l.labels) c.in_ok-push.ensures.added
           ∙ (λ j. c.loop-level.invariant.1 j ++ labels j ∷ []) ∙ sym (labels-next leaves n),
       omega (arith, labels, ended, endings_law leaves n c.requires, next),
     )

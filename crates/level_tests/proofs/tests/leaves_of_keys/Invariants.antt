@@ -1,7 +1,0 @@
-use Rattle.std.proofs.Common.{◌≡◌, map, take}
-use Rattle.filter_model.specs.Leaves.{leaf_of}
-use Rattle.level_tests.proofs.tests.leaves_of_keys.Given as goal
-
--- the leaves of the keys passed
-abbrev pub invariant-loop-i : goal.invariant-loop-i
-invariant-loop-i l = l.leaves ≡ map (leaf_of 0 0 l.keys) (take l.i l.keys)
