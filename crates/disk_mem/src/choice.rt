@@ -1,3 +1,5 @@
+//! What a crash leaves of a write.
+
 /// What a crash makes of one write that no sync had made to last.
 #[derive(Drop)]
 pub enum Choice {

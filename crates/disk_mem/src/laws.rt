@@ -1,3 +1,4 @@
+//! Laws of crashes of a disk in memory.
 ghost use Rattle.disk_mem.specs.Laws.{CrashIsLeft, EachIsOfAChoice, PastTheLastAreNotRead};
 
 /// The laws of crashes: what [`MemDisk::crash`](crate::MemDisk::crash) makes is one of what a crash may leave now, each

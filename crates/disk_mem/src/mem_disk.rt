@@ -1,3 +1,4 @@
+//! A disk in memory, which keeps its calls.
 ghost use Rattle.std.specs.Prelude.{◌≡◌, ◌+◌, ◌^◌, ◌≤◌, ◌↔◌, length, map, IsTrue, IsOk, OnOk, IfOk, IfErr, Contains, vec_len, vec_capacity};
 ghost use Rattle.disk_trait.specs.World.{window};
 ghost use Rattle.disk_trait.specs.Fault.{IsFaultOf};

@@ -1,3 +1,4 @@
+//! Tests of a disk in memory: its calls, their failing, its crashes.
 use super::*;
 use disk_trait::{Disk, DiskFault};
 use std::alloc::{AllocError, Global};

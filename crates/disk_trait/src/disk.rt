@@ -1,3 +1,4 @@
+//! The trait of a disk, and writes that last.
 ghost use Rattle.std.specs.Prelude.{◌≡◌, ◌+◌, ◌^◌, ◌≤◌, Bool, List, ℕ, length, IsTrue, OnOk, OnErr, IfErr};
 ghost use Rattle.disk_trait.specs.Image.{overwritten, window};
 ghost use Rattle.disk_trait.specs.World.{World, IsDurable, ReadMoves, WriteMoves, SyncMoves, Rose};

@@ -1,3 +1,4 @@
+//! What a disk fails in.
 /// What a disk was asked for.
 #[derive(Clone, Copy, Debug, PartialEq, Eq)]
 pub enum Op {

@@ -1,3 +1,4 @@
+//! Laws of images; the functions do nothing.
 ghost use Rattle.disk_trait.specs.Laws.{ReadsBack, ReadsElsewhere, MayBeTorn, TearsTwice};
 
 /// The laws of images: what was written is read, what stands elsewhere is as it was, a whole write is one of those that

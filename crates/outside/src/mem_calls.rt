@@ -77,7 +77,7 @@ impl Outside for MemOutside {
         requires { 0 < length into.old }
         ensures count { IfOk result (λ n. n ≤ length into.old) }
         ensures taken { IfOk result (λ n. Takes n into.new (session_world self.old).beside (session_world self.new).beside) }
-        ensures refused { OnErr result (self.new.to_take ≡ self.old.to_take) }
+        ensures unchanged { OnErr result (self.new.to_take ≡ self.old.to_take) }
         ensures moves { TakeMoves (session_world self.old) (session_world self.new) }
         ensures cause { OnErr result (Rose self.old.take_faults self.new.take_faults) }
 
@@ -92,7 +92,7 @@ impl Outside for MemOutside {
         ensures some { IfOk result (λ n. 1 ≤ n) }
         ensures count { IfOk result (λ n. n ≤ length from.now) }
         ensures said { IfOk result (λ n. self.new.said ≡ self.old.said ++ take n from.now) }
-        ensures refused { OnErr result (self.new.said ≡ self.old.said) }
+        ensures unchanged { OnErr result (self.new.said ≡ self.old.said) }
         ensures moves { SayMoves (session_world self.old) (session_world self.new) }
         ensures cause { OnErr result (Rose self.old.say_faults self.new.say_faults) }
 

@@ -1,3 +1,4 @@
+//! A disk in memory with an input and an output beside it.
 ghost use Rattle.std.specs.Prelude.{◌≡◌, ◌+◌, ◌-◌, ◌^◌, ◌≤◌, ◌<◌, ◌↔◌, ◌++◌, length, IsTrue, IsOk, IfOk, OnOk, Contains, drop, take, vec_len, vec_capacity};
 ghost use Rattle.disk_mem.specs.History.{raised};
 ghost use Rattle.outside.specs.Session.{Session, IsClock, fresh, TakeEnds, SayEnds};

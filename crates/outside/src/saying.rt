@@ -1,3 +1,4 @@
+//! Output, said whole.
 ghost use Rattle.std.specs.Prelude.{◌≡◌, ◌++◌, IsTrue, OnOk, OnErr};
 ghost use Rattle.disk_trait.specs.World.{World, Rose};
 ghost use Rattle.outside.specs.Streams.{SayMoves, SaysFront};

@@ -1,3 +1,4 @@
+//! An input and an output in memory.
 ghost use Rattle.std.specs.Prelude.{◌≡◌, ◌<◌, ◌≤◌, ◌++◌, Bool, List, ℕ, length, take, IsTrue, OnErr, IfOk};
 ghost use Rattle.disk_trait.specs.World.{World, Rose};
 ghost use Rattle.outside.specs.Streams.{Takes, TakeMoves, SayMoves, SaidByNow};
@@ -31,7 +32,7 @@ pub trait Outside: Disk {
         requires { 0 < length into.old }
         ensures count { IfOk result (λ n. n ≤ length into.old) }
         ensures taken { IsTrue tells_input → IfOk result (λ n. Takes n into.new (Self.world self.old).beside (Self.world self.new).beside) }
-        ensures refused { OnErr result ((Self.world self.new).beside.to_take ≡ (Self.world self.old).beside.to_take) }
+        ensures unchanged { OnErr result ((Self.world self.new).beside.to_take ≡ (Self.world self.old).beside.to_take) }
         ensures moves { TakeMoves (Self.world self.old) (Self.world self.new) }
         ensures cause { OnErr result (Rose (Self.world self.old).beside.take_faults (Self.world self.new).beside.take_faults) };
 
@@ -43,7 +44,7 @@ pub trait Outside: Disk {
         ensures some { IfOk result (λ n. 1 ≤ n) }
         ensures count { IfOk result (λ n. n ≤ length from.now) }
         ensures said { IsTrue tells_output → IfOk result (λ n. (Self.world self.new).beside.said ≡ (Self.world self.old).beside.said ++ take n from.now) }
-        ensures refused { OnErr result ((Self.world self.new).beside.said ≡ (Self.world self.old).beside.said) }
+        ensures unchanged { OnErr result ((Self.world self.new).beside.said ≡ (Self.world self.old).beside.said) }
         ensures moves { SayMoves (Self.world self.old) (Self.world self.new) }
         ensures cause { OnErr result (Rose (Self.world self.old).beside.say_faults (Self.world self.new).beside.say_faults) };
 

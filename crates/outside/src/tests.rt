@@ -1,3 +1,4 @@
+//! Tests of the input and the output in memory.
 use super::*;
 use disk_mem::MemDisk;
 use std::alloc::{AllocError, Global};

@@ -1,4 +1,4 @@
-// The file at a path, and whole reads and writes of its ranges, over system calls that may be cut short or interrupted.
+//! The file at a path, and whole reads and writes of its ranges, over system calls that may be cut short or interrupted.
 ghost use Rattle.std.specs.Prelude.{◌+◌, ◌^◌, ◌≤◌, length, IfOk};
 ghost use Rattle.real_outside.specs.Numbers.{IsNoStream};
 
@@ -57,6 +57,11 @@ fn sync_directory_of(rt: &HostRuntime, path: &str) -> io::Result<()> {
     }
 }
 
+/// Whether a signal interrupted a call, which is then tried again.
+pub fn is_interrupted(answer: &io::Result<usize>) -> bool {
+    matches!(answer, Err(error) if error.kind() == ErrorKind::Interrupted)
+}
+
 /// Fills the whole slice from a place on, with zeros past the end of the file.
 pub fn read_all(file: &File, at: u64, into: &mut [u8]) -> io::Result<()>
     requires { at + length into.old ≤ 2 ^ 48 }
@@ -80,10 +85,9 @@ fn read_some(file: &File, at: u64, into: &mut [u8]) -> io::Result<usize>
     ensures { IfOk result (λ n. n ≤ length into.old) }
 {
     for _ in 0..TRIES {
-        match file.read_at(into, at) {
-            Ok(count) => return Ok(count),
-            Err(error) if error.kind() == ErrorKind::Interrupted => {}
-            Err(error) => return Err(error),
+        let answer = file.read_at(into, at);
+        if !is_interrupted(&answer) {
+            return answer;
         }
     }
     Err(io::Error::from(ErrorKind::Interrupted))
@@ -111,10 +115,9 @@ fn write_some(file: &File, at: u64, from: &[u8]) -> io::Result<usize>
     ensures { IfOk result (λ n. n ≤ length from.now) }
 {
     for _ in 0..TRIES {
-        match file.write_at(from, at) {
-            Ok(count) => return Ok(count),
-            Err(error) if error.kind() == ErrorKind::Interrupted => {}
-            Err(error) => return Err(error),
+        let answer = file.write_at(from, at);
+        if !is_interrupted(&answer) {
+            return answer;
         }
     }
     Err(io::Error::from(ErrorKind::Interrupted))

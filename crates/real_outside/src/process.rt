@@ -1,3 +1,4 @@
+//! The process's file and streams.
 ghost use Rattle.std.specs.Prelude.{◌≡◌, ◌≤◌, ◌<◌, ◌+◌, ◌^◌, length, IfOk, IfErr, OnOk, OnErr};
 ghost use Rattle.std.specs.Option.{ForSome};
 ghost use Rattle.disk_trait.specs.World.{ReadMoves, WriteMoves, SyncMoves, Rose};
@@ -7,7 +8,7 @@ ghost use Rattle.outside.specs.Streams.{TakeMoves, SayMoves};
 ghost use Rattle.real_outside.specs.Numbers.{IsNoStream};
 ghost use Rattle.real_outside.specs.Untold.{CountsStay};
 
-use crate::file::{TRIES, open_file, read_all, write_all};
+use crate::file::{TRIES, is_interrupted, open_file, read_all, write_all};
 use disk_trait::{Disk, DiskFault, Op};
 use outside::{Outside, SayFault, TakeFault};
 use std::fs::File;
@@ -137,10 +138,9 @@ fn take_some(rt: &HostRuntime, into: &mut [u8]) -> io::Result<usize>
     ensures { IfOk result (λ n. n ≤ length into.old) }
 {
     for _ in 0..TRIES {
-        match rt.stdin().read(into) {
-            Ok(count) => return Ok(count),
-            Err(error) if error.kind() == ErrorKind::Interrupted => {}
-            Err(error) => return Err(error),
+        let answer = rt.stdin().read(into);
+        if !is_interrupted(&answer) {
+            return answer;
         }
     }
     Err(io::Error::from(ErrorKind::Interrupted))
@@ -150,10 +150,9 @@ fn say_some(rt: &HostRuntime, from: &[u8]) -> io::Result<usize>
     ensures { IfOk result (λ n. n ≤ length from.now) }
 {
     for _ in 0..TRIES {
-        match rt.stdout().write(from) {
-            Ok(count) => return Ok(count),
-            Err(error) if error.kind() == ErrorKind::Interrupted => {}
-            Err(error) => return Err(error),
+        let answer = rt.stdout().write(from);
+        if !is_interrupted(&answer) {
+            return answer;
         }
     }
     Err(io::Error::from(ErrorKind::Interrupted))

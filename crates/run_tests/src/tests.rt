@@ -1,3 +1,4 @@
+//! Tests of whole runs: each call failing, each crash, and what the next run finds.
 use disk_mem::{Choice, MemDisk};
 use disk_trait::Disk;
 use outside::MemOutside;

@@ -1,5 +1,6 @@
 pub mod Answering
 pub mod EndCauses
+pub mod Footprint
 pub mod History
 pub mod LastLines
 pub mod Lifting

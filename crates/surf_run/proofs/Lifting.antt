@@ -1,5 +1,5 @@
 -- A run from before its opening on.
-use Rattle.std.proofs.Common.{◌≡◌, ◌⊎◌, ◌∙◌, ◌++◌, inl, inr, sym, ap, subst, ℕ, List, length}
+use Rattle.std.proofs.Common.{◌≡◌, ◌⊎◌, ◌∙◌, ◌++◌, [], ◌∷◌, inl, inr, sym, ap, subst, append_assoc, ℕ, List, length}
 use Rattle.std.specs.Prelude.{Bool}
 use Rattle.disk_trait.specs.World.{Image, World, Streams, Now, Meanwhile, Same}
 use Rattle.disk_trait.proofs.Moments.{in_call}
@@ -13,13 +13,15 @@ use Rattle.gate_log.specs.declared.fault.LogFault.TheVariants.{Memory, Device, S
 use Rattle.map_model.specs.SortedMap.{Bytes}
 use Rattle.entry_model.specs.Entries.{Entry}
 use Rattle.line_model.specs.Lines.{lines_of, whole_lines}
-use Rattle.line_model.specs.Replies.{Bye, text_of}
+use Rattle.line_model.specs.Replies.{Reply, Bye, text_of}
+use Rattle.line_model.specs.Replies as replies
 use Rattle.surf_run.specs.Script.{Script, WentOn, Ending, ToLast}
 use Rattle.surf_run.specs.Causes.{IsServing, SayFailed}
 use Rattle.surf_run.specs.Crash.{Reached, Acknowledged}
 use Rattle.surf_run.specs.Open.{OpenMoves, reply_to, status_of}
-use Rattle.surf_run.specs.Outcome.{Said, CutOff, SaidInPart, LeavesEntries, ByeSaid, ByeWithin, ByeLast, piece_bytes, Settled, Outcome}
+use Rattle.surf_run.specs.Outcome.{Said, CutOff, SaidInPart, LeavesEntries, EndsWith, EndsTo, piece_bytes, Settled, Outcome}
 use Rattle.surf_run.specs.Run.{IsLastText, Unserved, Ends, Damaged}
+use Rattle.surf_run.proofs.EndCauses.{rose_since}
 use Rattle.surf_run.proofs.Moments.{now_still}
 use Rattle.surf_run.proofs.History.{ack_none}
 
@@ -44,23 +46,6 @@ module _ (tells : Bool) (start : List Entry) (old mid new : World) (opened : Ope
     ];
   }
 
-  part_since : (taken : Bytes) → SaidInPart tells start taken mid new → SaidInPart tells start taken old new
-  part_since taken part = record {
-    lines = part.lines;
-    line = part.line;
-    later = part.later;
-    split = part.split;
-    ended = part.ended;
-    text = part.text;
-    now = part.now;
-    went_on = subst (λ (s : Bytes). WentOn (Reached tells new) (length s) start part.lines part.text part.now) said_same part.went_on;
-    reply = part.reply;
-    last = part.last;
-    step = part.step;
-    front = subst (λ (s : Bytes). SaysFront (text_of part.reply) (s ++ part.text) new.beside.said) said_same part.front;
-    stands = part.stands;
-  }
-
   -- what a crash may leave while the store is opened
   meanwhile_open : Meanwhile (LogIs 0 start) old mid
   meanwhile_open = in_call (LogIs 0 start) Same old mid here opened.time (λ was image left same. subst (LogIs 0 start) (sym same) (here was left))
@@ -79,12 +64,41 @@ module _ (tells : Bool) (start : List Entry) (old mid new : World) (opened : Ope
   leaves_since : (lines : List Bytes) → LeavesEntries tells start lines mid new → LeavesEntries tells start lines old new
   leaves_since lines leaves = record { text = leaves.text; output = out_same leaves.text leaves.output; last = leaves.last; answered = leaves.answered; stands = leaves.stands }
 
-  bye_said_since : (lines : List Bytes) (line : Bytes) → ByeSaid tells start lines line mid new → ByeSaid tells start lines line old new
-  bye_said_since lines line bye = record { text = bye.text; now = bye.now; went_on = bye.went_on; last = bye.last; step = bye.step; output = out_same (bye.text ++ text_of Bye) bye.output; stands = bye.stands }
+  part_since : (taken : Bytes) → SaidInPart tells start taken mid new → SaidInPart tells start taken old new
+  part_since taken part = record {
+    lines = part.lines;
+    line = part.line;
+    later = part.later;
+    split = part.split;
+    ended = part.ended;
+    taken_to = part.taken_to;
+    text = part.text;
+    now = part.now;
+    went_on = subst (λ (s : Bytes). WentOn (Reached tells new) (length s) start part.lines part.text part.now) said_same part.went_on;
+    reply = part.reply;
+    last = part.last;
+    step = part.step;
+    front = subst (λ (s : Bytes). SaysFront (text_of part.reply) (s ++ part.text) new.beside.said) said_same part.front;
+    cause = λ device. rose_since old.seen.write_faults mid.seen.write_faults new.seen.write_faults opened.counts.write (part.cause device);
+    crash = λ t. crash_since (part.lines ++ part.line ∷ []) (part.text ++ part.front.done) (out_same (part.text ++ part.front.done) (part.front.said ∙ append_assoc mid.beside.said part.text part.front.done)) (part.crash t);
+    stands = part.stands;
+  }
 
-  bye_since : (taken : Bytes) → ByeWithin tells piece_bytes start taken mid new ⊎ ByeLast tells start taken mid new → ByeWithin tells piece_bytes start taken old new ⊎ ByeLast tells start taken old new
-  bye_since taken (inl within) = inl (record { lines = within.lines; line = within.line; whole = within.whole; behind = within.behind; split = within.split; less = within.less; bye = bye_said_since within.lines within.line within.bye })
-  bye_since taken (inr at_last) = inr (record { lines = at_last.lines; line = at_last.line; whole = at_last.whole; split = at_last.split; bye = bye_said_since at_last.lines at_last.line at_last.bye })
+  ends_since_open : (reply : Reply) (lines : List Bytes) (line : Bytes) → EndsWith tells reply start lines line mid new → EndsWith tells reply start lines line old new
+  ends_since_open reply lines line ends = record {
+    text = ends.text;
+    now = ends.now;
+    went_on = ends.went_on;
+    last = ends.last;
+    step = ends.step;
+    output = out_same (ends.text ++ text_of reply) ends.output;
+    cause = λ device. rose_since old.seen.write_faults mid.seen.write_faults new.seen.write_faults opened.counts.write (ends.cause device);
+    crash = λ t. crash_since (lines ++ line ∷ []) (ends.text ++ text_of reply) (out_same (ends.text ++ text_of reply) ends.output) (ends.crash t);
+    stands = ends.stands;
+  }
+
+  to_since : (reply : Reply) (taken : Bytes) → EndsTo tells piece_bytes reply start taken mid new → EndsTo tells piece_bytes reply start taken old new
+  to_since reply taken ends = (ends.0, ends.1, ends.2, ends_since_open reply ends.0 ends.1 ends.3)
 
   cut_since : (taken : Bytes) → CutOff tells start taken mid new → CutOff tells start taken old new
   cut_since taken cut = record {
@@ -99,9 +113,9 @@ module _ (tells : Bool) (start : List Entry) (old mid new : World) (opened : Ope
   settled_since status taken settled = record {
     ended = λ zero. elim (settled.ended zero) [
       | inl last ↦ inl (said_since _ taken last.0, leaves_since (lines_of taken) last.1)
-      | inr quit ↦ inr (said_since _ taken quit.0, bye_since taken quit.1)
+      | inr quit ↦ inr (said_since _ taken quit.0, to_since Bye taken quit.1)
     ];
-    device = λ four. said_since _ taken (settled.device four);
+    device = λ four. let both = settled.device four in (said_since _ taken both.0, to_since replies.Device taken both.1);
     cut = λ is. cut_since taken (settled.cut is);
     output = λ six. part_since taken (settled.output six);
     said = (settled.said.0, out_same settled.said.0 settled.said.1);

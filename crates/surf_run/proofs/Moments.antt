@@ -1,7 +1,7 @@
 -- What a line leads to at each moment.
 use Rattle.std.proofs.Common.{◌≡◌, ◌⊎◌, inl, inr, ◌≤◌, ◌++◌, ℕ, Bool, List, length, refl, sym, ap, ◌∙◌, subst, arith}
 use Rattle.std.specs.Prelude.{IsTrue}
-use Rattle.disk_trait.specs.World.{Image, World, Streams, Now, Meanwhile, Passes, Same}
+use Rattle.disk_trait.specs.World.{Image, World, Streams, Now, Meanwhile, Passes, Same, Rose}
 use Rattle.disk_trait.proofs.Moments.{now_at, in_call, started}
 use Rattle.outside.specs.Streams.{SayMoves, SaysFront, SaidByNow}
 use Rattle.outside.proofs.Crossing.{during_disk, during_say, during_weaker, during_then}
@@ -10,7 +10,7 @@ use Rattle.map_model.specs.SortedMap.{Bytes}
 use Rattle.entry_model.specs.Entries.{Entry}
 use Rattle.line_model.specs.Replies.{Reply, Bye, Device, text_of}
 use Rattle.surf_run.specs.Crash.{Stands}
-use Rattle.surf_run.specs.Holds.{Holds}
+use Rattle.surf_run.specs.StoreIs.{StoreIs}
 use Rattle.surf_run.specs.Saying.{Says}
 use Rattle.surf_run.specs.Script.{GoesOn}
 use Rattle.surf_run.specs.Serving.{Leaves, LogAfter, InLine, LineAnswer, Answered}
@@ -59,7 +59,7 @@ module _ (tells : Bool) (old : List Entry) (S : Leaves) (new : List Entry) (stor
   whole text is = is ∙ ap (λ (s : Streams). s.said ++ text) same
 
   -- a reply that is not the last
-  pub answered_next : (reply : Reply) (result : LineEnd) → LineAnswer tells old S reply new a b → Says Next reply result mid b → GoesOn reply → Stands tells new b → Holds new store → Answered tells result old S store a b
+  pub answered_next : (reply : Reply) (result : LineEnd) → LineAnswer tells old S reply new a b → Says Next reply result mid b → GoesOn reply → Stands tells new b → StoreIs new store → Answered tells result old S store a b
   answered_next reply Next answer says goes now holds = elim says.1 [
     | inl all ↦ (reply, new, answer, goes, whole (text_of reply) all.1, now, holds)
     | inr six ↦ absurd cc
@@ -67,16 +67,16 @@ module _ (tells : Bool) (old : List Entry) (S : Leaves) (new : List Entry) (stor
   answered_next reply Quit answer says goes now holds = elim says.1 [ inl all ↦ absurd (let is = all.0 in cc) | inr six ↦ absurd cc ]
   answered_next reply (End status) answer says goes now holds = elim says.1 [
     | inl all ↦ absurd (let is = all.0 in cc)
-    | inr six ↦ (reply, new, answer, inr (let is : status ≡ 6 = cc in is, λ other. now))
+    | inr six ↦ (reply, new, answer, inr (let is : status ≡ 6 = cc in is, λ other. now, λ is. absurd (subst GoesOn is goes)))
   ]
 
   -- `device`
-  pub answered_device : (result : LineEnd) → LineAnswer tells old S Device new a b → Says (End 4) Device result mid b → Answered tells result old S store a b
-  answered_device Next answer says = elim says.1 [ inl all ↦ absurd (let is = all.0 in cc) | inr six ↦ absurd cc ]
-  answered_device Quit answer says = elim says.1 [ inl all ↦ absurd (let is = all.0 in cc) | inr six ↦ absurd cc ]
-  answered_device (End status) answer says = elim says.1 [
-    | inl all ↦ (Device, new, answer, inl (let is = all.0 in let four : status ≡ 4 = cc in four, refl, whole (text_of Device) all.1))
-    | inr six ↦ (Device, new, answer, inr (let is : status ≡ 6 = cc in is, λ other. absurd (other refl)))
+  pub answered_device : (result : LineEnd) → Rose a.seen.write_faults b.seen.write_faults → LineAnswer tells old S Device new a b → Says (End 4) Device result mid b → Answered tells result old S store a b
+  answered_device Next rose answer says = elim says.1 [ inl all ↦ absurd (let is = all.0 in cc) | inr six ↦ absurd cc ]
+  answered_device Quit rose answer says = elim says.1 [ inl all ↦ absurd (let is = all.0 in cc) | inr six ↦ absurd cc ]
+  answered_device (End status) rose answer says = elim says.1 [
+    | inl all ↦ (Device, new, answer, inl (let is = all.0 in let four : status ≡ 4 = cc in four, refl, whole (text_of Device) all.1, rose))
+    | inr six ↦ (Device, new, answer, inr (let is : status ≡ 6 = cc in is, λ other. absurd (other refl), λ same. rose))
   ]
 
   -- `bye`
@@ -88,7 +88,7 @@ module _ (tells : Bool) (old : List Entry) (S : Leaves) (new : List Entry) (stor
   ]
   answered_quit (End status) answer says now = elim says.1 [
     | inl all ↦ absurd (let is = all.0 in cc)
-    | inr six ↦ (Bye, new, answer, inr (let is : status ≡ 6 = cc in is, λ other. now))
+    | inr six ↦ (Bye, new, answer, inr (let is : status ≡ 6 = cc in is, λ other. now, λ is. absurd cc))
   ]
 
 -- where no call was made

@@ -1,9 +1,9 @@
 -- How a run ends.
-use Rattle.std.proofs.Common.{◌≡◌, ◌≢◌, ◌⊎◌, inl, inr, ◌<◌, ◌+◌, ◌++◌, ℕ, zero, List, [], ◌∷◌, length, refl, sym, ap, ◌∙◌, subst, arith, append_assoc, length-append}
+use Rattle.std.proofs.Common.{◌≡◌, ◌≢◌, ◌⊎◌, inl, inr, ◌<◌, ◌≤◌, ◌+◌, ◌++◌, ℕ, zero, List, [], ◌∷◌, length, refl, sym, ap, ◌∙◌, subst, arith, append_assoc, length-append}
 use Rattle.std.specs.Prelude.{flat_map, Bool, IsTrue, ◌==◌, false}
 use Rattle.std.proofs.lemmas.List.{append-nil}
 use Rattle.std.proofs.lemmas.List.Elements.{All-nil, All-push}
-use Rattle.disk_trait.specs.World.{World}
+use Rattle.disk_trait.specs.World.{World, Rose}
 use Rattle.outside.specs.During.{During}
 use Rattle.outside.specs.Streams.{SaidByNow, SaysFront, TakeMoves}
 use Rattle.outside.proofs.Crossing.{during_then, during_weaker, during_take, during_none}
@@ -17,19 +17,21 @@ use Rattle.line_model.specs.Replies.{Reply, Bye, Device, text_of}
 use Rattle.surf_run.specs.Script.{Step, Answers, Script, GoesOn, WentOn, Ending, ToLast, AtQuit, AtDevice}
 use Rattle.surf_run.specs.Crash.{Stands, Reached, Anything, Acknowledged}
 use Rattle.surf_run.specs.Holding.{with_newline}
-use Rattle.surf_run.specs.Holds.{Holds}
-use Rattle.surf_run.specs.Outcome.{Said, SaidInPart, Settled, LeavesEntries, ByeSaid, ByeWithin, ByeLast, piece_bytes}
-use Rattle.surf_run.specs.Serving.{LineAnswer, Whole, Answered, Served, Closed, EndedBy}
+use Rattle.surf_run.specs.StoreIs.{StoreIs}
+use Rattle.surf_run.specs.Outcome.{Said, SaidInPart, Settled, LeavesEntries, TakenPast, TakenAll, EndsWith, EndsTo, piece_bytes}
+use Rattle.surf_run.specs.Serving.{LineAnswer, Whole, Answered, Served, Closed, EndsPast, EndedBy}
 use Rattle.surf_run.specs.declared.store.Store.{Store}
 use Rattle.surf_run.specs.declared.end.LineEnd.TheVariants.{Next, Quit, End}
 use Rattle.surf_run.proofs.Moments.{stands_still}
 use Rattle.surf_run.proofs.Texts.{lines_first, whole_first, last_line, held_none, held_some, held_same}
 use Rattle.surf_run.proofs.Answering.{answers_on, answers_of, went_of, went_on, went_as, script_of, script_ends, IsLast}
 use Rattle.surf_run.proofs.History.{reached_on, reached_here, ack_more, ack_none, ack_here, line_ack}
-use Rattle.surf_run.proofs.Progress.{device_last}
+use Rattle.surf_run.specs.Causes.{NoFall}
+use Rattle.surf_run.proofs.EndCauses.{no_fall_on, no_fall_none, no_fall_take, rose_since}
+use Rattle.surf_run.proofs.Progress.{device_last, past_wider}
 
 -- before anything was taken
-pub served_none : (tells : Bool) (start : List Entry) (kept : Bytes) (store : Store) (w : World) → kept ≡ [] → SaidByNow w → Holds start store → Stands tells start w → Served tells start [] kept store w w
+pub served_none : (tells : Bool) (start : List Entry) (kept : Bytes) (store : Store) (w : World) → kept ≡ [] → SaidByNow w → StoreIs start store → Stands tells start w → Served tells start [] kept store w w
 served_none tells start kept store w none now holds stand = record {
   lines = [];
   rest = [];
@@ -43,6 +45,7 @@ served_none tells start kept store w none now holds stand = record {
   held = held_same [] kept none (omega arith);
   history = λ t. during_weaker (λ k image. (k ≡ length w.beside.said) × LogIs 0 start image) _ w w (during_none (LogIs 0 start) w (stand t) now) (λ k image at. ack_none start [] w.beside.said w.beside.said [] (sym (append-nil w.beside.said)) k image at.0 at.1);
   stand = stand;
+  counts = no_fall_none w;
   holds = holds;
 }
 
@@ -69,6 +72,7 @@ served_take tells start bytes kept store first w w' moves now served =
           (during_weaker (λ k image. (k ≡ length w.beside.said) × LogIs 0 served.now image) _ w w' (taking t)
           (λ k image at. ack_here start served.lines served.text served.now first.beside.said w'.beside.said told k image went (at.0 ∙ ap length (sym moves.said)) at.1));
       stand = stands_still tells served.now w w' moves.time served.stand;
+      counts = no_fall_on first w w' served.counts (no_fall_take w w' moves);
       holds = served.holds;
     }
 
@@ -91,11 +95,14 @@ more_lines tells start taken lines later first w is history t =
     subst (λ (ls : List Bytes). During (Acknowledged start ls first.beside.said w.beside.said) first w) (sym is)
     (during_weaker _ _ first w (history t) (ack_more start lines later first.beside.said w.beside.said w.beside.said [] (sym (append-nil w.beside.said))))
 
-pub settled_quit : (tells : Bool) (start : List Entry) (taken : Bytes) (first w : World) → Closed tells AtQuit start taken first w → ByeWithin tells piece_bytes start taken first w → Settled tells 0 start taken first w
-settled_quit tells start taken first w closed within =
+ends_to : (tells : Bool) (most : ℕ) (reply : Reply) (start : List Entry) (taken : Bytes) (first w : World) → most ≤ piece_bytes → EndsPast tells most reply start taken first w → EndsTo tells piece_bytes reply start taken first w
+ends_to tells most reply start taken first w fits ends = (ends.0, ends.1, inl (past_wider most piece_bytes taken (ends.0 ++ ends.1 ∷ []) fits ends.2), ends.3)
+
+pub settled_quit : (tells : Bool) (most : ℕ) (start : List Entry) (taken : Bytes) (first w : World) → most ≤ piece_bytes → Closed tells AtQuit start taken first w → EndsPast tells most Bye start taken first w → Settled tells 0 start taken first w
+settled_quit tells most start taken first w fits closed ends =
     let first_lines = closed.first_lines [] in
     record {
-      ended = λ _. inr (said_closed tells AtQuit start taken first w closed, inl within);
+      ended = λ _. inr (said_closed tells AtQuit start taken first w closed, ends_to tells most Bye start taken first w fits ends);
       device = λ is. absurd (omega arith);
       cut = λ is. absurd (elim is [ inl three ↦ omega arith | inr nine ↦ omega arith ]);
       output = λ is. absurd (omega arith);
@@ -103,13 +110,13 @@ settled_quit tells start taken first w closed within =
       crash = more_lines tells start taken closed.lines first_lines.0 first w (lines_now taken closed.lines first_lines.0 first_lines.2) closed.history;
     }
 
-pub settled_end : (tells : Bool) (status : ℕ) (start : List Entry) (taken : Bytes) (first w : World) → EndedBy tells status start taken first w → Settled tells status start taken first w
-settled_end tells status start taken first w ended = elim ended [
+pub settled_end : (tells : Bool) (most status : ℕ) (start : List Entry) (taken : Bytes) (first w : World) → most ≤ piece_bytes → EndedBy tells most status start taken first w → Settled tells status start taken first w
+settled_end tells most status start taken first w fits ended = elim ended [
   | inl four ↦
       let first_lines = four.1.first_lines [] in
       record {
         ended = λ is. absurd (let e = four.0 in omega arith);
-        device = λ _. said_closed tells AtDevice start taken first w four.1;
+        device = λ _. (said_closed tells AtDevice start taken first w four.1, ends_to tells most Device start taken first w fits four.2);
         cut = λ is. absurd (let e = four.0 in elim is [ inl three ↦ omega arith | inr nine ↦ omega arith ]);
         output = λ is. absurd (let e = four.0 in omega arith);
         said = (four.1.text, four.1.told);
@@ -129,6 +136,7 @@ settled_end tells status start taken first w ended = elim ended [
           later = first_lines.0;
           split = lines_now taken before first_lines.0 first_lines.2 ∙ append_assoc broken.lines (broken.line ∷ []) first_lines.0;
           ended = inl (first_lines.1, ap whole_lines (sym (append-nil taken)) ∙ first_lines.3 ∙ append_assoc broken.lines (broken.line ∷ []) first_lines.1);
+          taken_to = inl (past_wider most piece_bytes taken before fits broken.taken_past);
           text = broken.text;
           now = broken.now;
           went_on = broken.ran;
@@ -136,6 +144,8 @@ settled_end tells status start taken first w ended = elim ended [
           last = broken.last;
           step = broken.step;
           front = broken.front;
+          cause = broken.cause;
+          crash = broken.history;
           stands = broken.stands;
         };
         said = (broken.text ++ broken.front.done, broken.front.said ∙ append_assoc first.beside.said broken.text broken.front.done);
@@ -203,6 +213,9 @@ module _ (tells : Bool) (start : List Entry) (taken kept : Bytes) (store : Store
   last = ap lines_of served.split ∙ lines_first served.lines served.rest served.whole
       ∙ ap (λ (ls : List Bytes). served.lines ++ ls) (last_line served.rest served.open_end (held_some served.rest kept served.held some))
 
+  taken_all : TakenAll taken served.lines served.rest
+  taken_all = record { whole = All-push NoNewline served.lines served.rest served.whole served.open_end; split = served.split }
+
   module _ (reply : Reply) (new : List Entry) (answer : LineAnswer tells served.now (Step served.now (asked_here served.rest)) reply new w w') where
     grown : (text : Bytes) × (w'.beside.said ≡ first.beside.said ++ text)
     grown = (served.text ++ answer.front.done, answer.front.said ∙ ap (λ (l : Bytes). l ++ answer.front.done) served.told ∙ append_assoc first.beside.said served.text answer.front.done)
@@ -210,11 +223,14 @@ module _ (tells : Bool) (start : List Entry) (taken kept : Bytes) (store : Store
     went_before : WentOn Anything 0 start served.lines served.text served.now
     went_before = went_of (Reached tells w) (length first.beside.said) 0 start served.lines served.text served.now served.ran
 
-    crash : IsTrue tells → During (Acknowledged start (lines_of taken) first.beside.said w'.beside.said) first w'
-    crash t = subst (λ (ls : List Bytes). During (Acknowledged start ls first.beside.said w'.beside.said) first w') (sym last)
-        (during_then _ first w w'
+    history : IsTrue tells → During (Acknowledged start (served.lines ++ served.rest ∷ []) first.beside.said w'.beside.said) first w'
+    history t =
+        during_then _ first w w'
         (during_weaker _ _ first w (served.history t) (ack_more start served.lines (served.rest ∷ []) first.beside.said w.beside.said w'.beside.said answer.front.done answer.front.said))
-        (during_weaker _ _ w w' (answer.each t) (line_ack start served.lines served.rest served.text served.now reply first w w' went_before served.told answer.front)))
+        (during_weaker _ _ w w' (answer.each t) (line_ack start served.lines served.rest served.text served.now reply first w w' went_before served.told answer.front))
+
+    crash : IsTrue tells → During (Acknowledged start (lines_of taken) first.beside.said w'.beside.said) first w'
+    crash t = subst (λ (ls : List Bytes). During (Acknowledged start ls first.beside.said w'.beside.said) first w') (sym last) (history t)
 
     ran_then : WentOn (Reached tells w') (length first.beside.said) start served.lines served.text served.now
     ran_then = went_as (Reached tells w) (Reached tells w') (reached_on tells _ w w' answer.each) (length first.beside.said) start served.lines served.text served.now served.ran
@@ -257,13 +273,32 @@ module _ (tells : Bool) (start : List Entry) (taken kept : Bytes) (store : Store
       stands = stands;
     }
 
-    said_in_part : (reply ≢ Device → Stands tells new w') → SaidInPart tells start taken first w'
-    said_in_part stands = record {
+    ends_all : (reply ≢ Device → Stands tells new w') → (reply ≡ Device → Rose w.seen.write_faults w'.seen.write_faults) → Whole reply w w' → EndsTo tells piece_bytes reply start taken first w'
+    ends_all stands rose all = (
+      served.lines,
+      served.rest,
+      inr taken_all,
+      record {
+        text = served.text;
+        now = served.now;
+        went_on = went_before;
+        last = new;
+        step = answer.step;
+        output = told all;
+        cause = λ device. rose_since first.seen.write_faults w.seen.write_faults w'.seen.write_faults served.counts.write (rose device);
+        crash = history;
+        stands = stands;
+      },
+    )
+
+    said_in_part : (reply ≢ Device → Stands tells new w') → (reply ≡ Device → Rose w.seen.write_faults w'.seen.write_faults) → SaidInPart tells start taken first w'
+    said_in_part stands rose = record {
       lines = served.lines;
       line = served.rest;
       later = [];
       split = last;
       ended = inr none;
+      taken_to = inr taken_all;
       text = served.text;
       now = served.now;
       went_on = ran_then;
@@ -271,6 +306,8 @@ module _ (tells : Bool) (start : List Entry) (taken kept : Bytes) (store : Store
       last = new;
       step = answer.step;
       front = subst (λ (s : Bytes). SaysFront (text_of reply) s w'.beside.said) served.told answer.front;
+      cause = λ device. rose_since first.seen.write_faults w.seen.write_faults w'.seen.write_faults served.counts.write (rose device);
+      crash = history;
       stands = stands;
     }
 
@@ -284,26 +321,9 @@ module _ (tells : Bool) (start : List Entry) (taken kept : Bytes) (store : Store
     crash = crash a.0 a.1 a.2;
   }
 
-  bye_last : (new : List Entry) → LineAnswer tells served.now (Step served.now (asked_here served.rest)) Bye new w w' → Whole Bye w w' → Stands tells new w' → ByeLast tells start taken first w'
-  bye_last new answer all stands = record {
-    lines = served.lines;
-    line = served.rest;
-    whole = All-push NoNewline served.lines served.rest served.whole served.open_end;
-    split = served.split;
-    bye = record {
-      text = served.text;
-      now = served.now;
-      went_on = went_before Bye new answer;
-      last = new;
-      step = answer.step;
-      output = told Bye new answer all;
-      stands = stands;
-    };
-  }
-
   pub settled_bye : (store' : Store) → SaidByNow w' → Answered tells Quit served.now (Step served.now (asked_here served.rest)) store' w w' → Settled tells 0 start taken first w'
   settled_bye store' now a = record {
-    ended = λ _. inr (said_last Bye a.0 a.1 AtQuit (refl, refl, reached Bye a.0 a.1 a.2 now a.3) a.2, inr (bye_last a.0 a.1 a.2 a.3));
+    ended = λ _. inr (said_last Bye a.0 a.1 AtQuit (refl, refl, reached Bye a.0 a.1 a.2 now a.3) a.2, ends_all Bye a.0 a.1 (λ other. a.3) (λ is. absurd cc) a.2);
     device = λ e. absurd (omega arith);
     cut = λ is. absurd (elim is [ inl three ↦ omega arith | inr nine ↦ omega arith ]);
     output = λ e. absurd (omega arith);
@@ -315,7 +335,10 @@ module _ (tells : Bool) (start : List Entry) (taken kept : Bytes) (store : Store
   settled_status status store' a = elim a.3 [
     | inl four ↦ record {
       ended = λ e. absurd (let f = four.0 in omega arith);
-      device = λ _. said_last a.0 a.1 a.2 AtDevice (device_last a.0 _ four.1) four.2;
+      device = λ _. (
+        said_last a.0 a.1 a.2 AtDevice (device_last a.0 _ four.1) four.2,
+        subst (λ (r : Reply). EndsTo tells piece_bytes r start taken first w') four.1 (ends_all a.0 a.1 a.2 (λ other. absurd (other four.1)) (λ is. four.3) four.2),
+      );
       cut = λ is. absurd (let f = four.0 in elim is [ inl three ↦ omega arith | inr nine ↦ omega arith ]);
       output = λ e. absurd (let f = four.0 in omega arith);
       said = grown a.0 a.1 a.2;
@@ -325,7 +348,7 @@ module _ (tells : Bool) (start : List Entry) (taken kept : Bytes) (store : Store
       ended = λ e. absurd (omega arith);
       device = λ e. absurd (omega arith);
       cut = λ is. absurd (elim is [ inl three ↦ omega arith | inr nine ↦ omega arith ]);
-      output = λ _. said_in_part a.0 a.1 a.2 six.1;
+      output = λ _. said_in_part a.0 a.1 a.2 six.1 six.2;
       said = grown a.0 a.1 a.2;
       crash = crash a.0 a.1 a.2;
     }

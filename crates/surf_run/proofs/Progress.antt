@@ -4,7 +4,7 @@ use Rattle.std.specs.Prelude.{Bool, IsTrue, flat_map, All, ◌==◌}
 use Rattle.std.proofs.lemmas.Grind.{flat_map-append}
 use Rattle.std.proofs.lemmas.List.{append-nil}
 use Rattle.std.proofs.lemmas.List.Elements.{All-push, All-nil, All-append}
-use Rattle.disk_trait.specs.World.{World}
+use Rattle.disk_trait.specs.World.{World, Rose}
 use Rattle.outside.specs.During.{During}
 use Rattle.outside.specs.Streams.{SaidByNow, SaysFront}
 use Rattle.outside.proofs.Crossing.{during_then, during_weaker}
@@ -17,14 +17,16 @@ use Rattle.line_model.specs.Replies.{Reply, Bye, Device, text_of}
 use Rattle.surf_run.specs.Script.{Step, Script, GoesOn, WentOn, Ending, AtQuit, AtDevice}
 use Rattle.surf_run.specs.Crash.{Stands, Reached, Acknowledged}
 use Rattle.surf_run.specs.Holding.{Held, with_newline}
-use Rattle.surf_run.specs.Outcome.{ByeSaid, ByeWithin}
-use Rattle.surf_run.specs.Holds.{Holds}
-use Rattle.surf_run.specs.Serving.{LineAnswer, Whole, Answered, Served, AreFirst, Closed, Broken, After}
+use Rattle.surf_run.specs.Causes.{NoFall}
+use Rattle.surf_run.specs.Outcome.{TakenPast, EndsWith}
+use Rattle.surf_run.specs.StoreIs.{StoreIs}
+use Rattle.surf_run.specs.Serving.{LineAnswer, Whole, Answered, Served, AreFirst, Closed, Broken, EndsPast, After}
 use Rattle.surf_run.specs.declared.store.Store.{Store}
 use Rattle.surf_run.specs.declared.end.LineEnd.{LineEnd}
 use Rattle.surf_run.specs.declared.end.LineEnd.TheVariants.{Next, Quit, End}
 use Rattle.surf_run.proofs.Texts.{lines_first, whole_on, held_same}
 use Rattle.surf_run.proofs.Answering.{went_of, went_on, went_as, script_ends, IsLast}
+use Rattle.surf_run.proofs.EndCauses.{no_fall_on, rose_since}
 use Rattle.surf_run.proofs.History.{reached_on, ack_more, line_ack, reached_here}
 
 pub device_last : (reply : Reply) (Stands : Type 0) → reply ≡ Device → IsLast reply AtDevice Stands
@@ -52,6 +54,7 @@ module _ (tells : Bool) (start : List Entry) (bytes kept : Bytes) (store : Store
     held = held;
     history = served.history;
     stand = served.stand;
+    counts = served.counts;
     holds = served.holds;
   }
 
@@ -72,6 +75,9 @@ module _ (tells : Bool) (start : List Entry) (bytes kept : Bytes) (store : Store
   first_lines more =
       (lines_of more, whole_lines more, cut more, ap (λ (l : Bytes). whole_lines (l ++ more)) line_split ∙ whole_on (served.lines ++ (served.rest ++ part) ∷ []) more whole_now)
 
+  taken_past : TakenPast 1 (bytes ++ part ++ 10 ∷ []) (served.lines ++ (served.rest ++ part) ∷ [])
+  taken_past = record { whole = whole_now; behind = []; split = line_split ∙ sym (append-nil _); less = omega arith }
+
   module _ (w' : World) (reply : Reply) (new : List Entry) (answer : LineAnswer tells served.now (Step served.now (asked_here (served.rest ++ part))) reply new w w') where
     history : IsTrue tells → During (Acknowledged start (served.lines ++ (served.rest ++ part) ∷ []) first.beside.said w'.beside.said) first w'
     history t =
@@ -91,8 +97,8 @@ module _ (tells : Bool) (start : List Entry) (bytes kept : Bytes) (store : Store
       pub reached : SaidByNow w' → Stands tells new w' → Reached tells w' then_said new
       reached said_now now = reached_here tells w' new then_said said_now (omega (arith, ap length told, length-append first.beside.said (served.text ++ text_of reply), length-append served.text (text_of reply))) now
 
-      pub next_line : (kept' : Bytes) (store' : Store) → GoesOn reply → Stands tells new w' → Holds new store' → SaidByNow w' → kept' ≡ [] → Served tells start (bytes ++ part ++ 10 ∷ []) kept' store' first w'
-      next_line kept' store' goes now holds said_now cleared = record {
+      pub next_line : (kept' : Bytes) (store' : Store) → NoFall w w' → GoesOn reply → Stands tells new w' → StoreIs new store' → SaidByNow w' → kept' ≡ [] → Served tells start (bytes ++ part ++ 10 ∷ []) kept' store' first w'
+      next_line kept' store' counts goes now holds said_now cleared = record {
         lines = served.lines ++ (served.rest ++ part) ∷ [];
         rest = [];
         text = served.text ++ text_of reply;
@@ -105,6 +111,7 @@ module _ (tells : Bool) (start : List Entry) (bytes kept : Bytes) (store : Store
         held = held_same [] kept' cleared (omega arith);
         history = history;
         stand = now;
+        counts = no_fall_on first w w' served.counts counts;
         holds = holds;
       }
 
@@ -119,11 +126,30 @@ module _ (tells : Bool) (start : List Entry) (bytes kept : Bytes) (store : Store
         history = history;
       }
 
-    pub broken_line : (reply ≢ Device → Stands tells new w') → Broken tells start (bytes ++ part ++ 10 ∷ []) first w'
-    broken_line stands = record {
+      pub ends_past : (reply ≢ Device → Stands tells new w') → (reply ≡ Device → Rose w.seen.write_faults w'.seen.write_faults) → EndsPast tells 1 reply start (bytes ++ part ++ 10 ∷ []) first w'
+      ends_past stands rose = (
+        served.lines,
+        served.rest ++ part,
+        taken_past,
+        record {
+          text = served.text;
+          now = served.now;
+          went_on = went_of (Reached tells w) (length first.beside.said) 0 start served.lines served.text served.now served.ran;
+          last = new;
+          step = answer.step;
+          output = told;
+          cause = λ device. rose_since first.seen.write_faults w.seen.write_faults w'.seen.write_faults served.counts.write (rose device);
+          crash = history;
+          stands = stands;
+        },
+      )
+
+    pub broken_line : (reply ≢ Device → Stands tells new w') → (reply ≡ Device → Rose w.seen.write_faults w'.seen.write_faults) → Broken tells 1 start (bytes ++ part ++ 10 ∷ []) first w'
+    broken_line stands rose = record {
       lines = served.lines;
       line = served.rest ++ part;
       first_lines = first_lines;
+      taken_past = taken_past;
       text = served.text;
       now = served.now;
       ran = ran_then;
@@ -131,37 +157,22 @@ module _ (tells : Bool) (start : List Entry) (bytes kept : Bytes) (store : Store
       last = new;
       step = answer.step;
       front = subst (λ (s : Bytes). SaysFront (text_of reply) s w'.beside.said) served.told answer.front;
+      cause = λ device. rose_since first.seen.write_faults w.seen.write_faults w'.seen.write_faults served.counts.write (rose device);
       stands = stands;
       history = history;
     }
 
-  bye_ends : (w' : World) (new : List Entry) → LineAnswer tells served.now (Step served.now (asked_here (served.rest ++ part))) Bye new w w' → Whole Bye w w' → Stands tells new w'
-      → ByeWithin tells 1 start (bytes ++ part ++ 10 ∷ []) first w'
-  bye_ends w' new answer all stands = record {
-    lines = served.lines;
-    line = served.rest ++ part;
-    whole = whole_now;
-    behind = [];
-    split = line_split ∙ sym (append-nil _);
-    less = omega arith;
-    bye = record {
-      text = served.text;
-      now = served.now;
-      went_on = went_of (Reached tells w) (length first.beside.said) 0 start served.lines served.text served.now served.ran;
-      last = new;
-      step = answer.step;
-      output = told w' Bye new answer all;
-      stands = stands;
-    };
-  }
-
-  pub line_end : (w' : World) (end : LineEnd) (store' : Store) (kept' : Bytes) → SaidByNow w' → Answered tells end served.now (Step served.now (asked_here (served.rest ++ part))) store' w w' → kept' ≡ []
+  pub line_end : (w' : World) (end : LineEnd) (store' : Store) (kept' : Bytes) → SaidByNow w' → NoFall w w' → Answered tells end served.now (Step served.now (asked_here (served.rest ++ part))) store' w w' → kept' ≡ []
       → After tells 1 end start (bytes ++ part ++ 10 ∷ []) kept' store' first w'
-  line_end w' Next store' kept' said_now a cleared = next_line w' a.0 a.1 a.2 a.4 kept' store' a.3 a.5 a.6 said_now cleared
-  line_end w' Quit store' kept' said_now a cleared = (last_line w' Bye a.0 a.1 a.2 AtQuit (refl, refl, reached w' Bye a.0 a.1 a.2 said_now a.3), bye_ends w' a.0 a.1 a.2 a.3)
-  line_end w' (End status) store' kept' said_now a cleared = elim a.3 [
-    | inl device ↦ inl (device.0, last_line w' a.0 a.1 a.2 device.2 AtDevice (device_last a.0 _ device.1))
-    | inr six ↦ inr (six.0, broken_line w' a.0 a.1 a.2 six.1)
+  line_end w' Next store' kept' said_now counts a cleared = next_line w' a.0 a.1 a.2 a.4 kept' store' counts a.3 a.5 a.6 said_now cleared
+  line_end w' Quit store' kept' said_now counts a cleared = (last_line w' Bye a.0 a.1 a.2 AtQuit (refl, refl, reached w' Bye a.0 a.1 a.2 said_now a.3), ends_past w' Bye a.0 a.1 a.2 (λ other. a.3) (λ is. absurd cc))
+  line_end w' (End status) store' kept' said_now counts a cleared = elim a.3 [
+    | inl device ↦ inl (
+      device.0,
+      last_line w' a.0 a.1 a.2 device.2 AtDevice (device_last a.0 _ device.1),
+      subst (λ (r : Reply). EndsPast tells 1 r start (bytes ++ part ++ 10 ∷ []) first w') device.1 (ends_past w' a.0 a.1 a.2 device.2 (λ other. absurd (other device.1)) (λ is. device.3)),
+    )
+    | inr six ↦ inr (six.0, broken_line w' a.0 a.1 a.2 six.1 six.2)
   ]
 
 -- ---- what follows an end counts for nothing
@@ -180,11 +191,26 @@ closed_more tells ending start bytes more first w closed = record {
   history = closed.history;
 }
 
-broken_more : (tells : Bool) (start : List Entry) (bytes more : Bytes) (first w : World) → Broken tells start bytes first w → Broken tells start (bytes ++ more) first w
-broken_more tells start bytes more first w broken = record {
+past_more : (least most : ℕ) (bytes more : Bytes) (lines : List Bytes) → least + length more ≤ most → TakenPast least bytes lines → TakenPast most (bytes ++ more) lines
+past_more least most bytes more lines fits past = record {
+  whole = past.whole;
+  behind = past.behind ++ more;
+  split = ap (λ (l : Bytes). l ++ more) past.split ∙ append_assoc (flat_map with_newline lines) past.behind more;
+  less = omega (arith, past.less, length-append past.behind more, fits);
+}
+
+pub past_wider : (least most : ℕ) (bytes : Bytes) (lines : List Bytes) → least ≤ most → TakenPast least bytes lines → TakenPast most bytes lines
+past_wider least most bytes lines fits past = record { whole = past.whole; behind = past.behind; split = past.split; less = omega (arith, past.less, fits) }
+
+ends_more : (tells : Bool) (least most : ℕ) (reply : Reply) (start : List Entry) (bytes more : Bytes) (first w : World) → least + length more ≤ most → EndsPast tells least reply start bytes first w → EndsPast tells most reply start (bytes ++ more) first w
+ends_more tells least most reply start bytes more first w fits ends = (ends.0, ends.1, past_more least most bytes more (ends.0 ++ ends.1 ∷ []) fits ends.2, ends.3)
+
+broken_more : (tells : Bool) (least most : ℕ) (start : List Entry) (bytes more : Bytes) (first w : World) → least + length more ≤ most → Broken tells least start bytes first w → Broken tells most start (bytes ++ more) first w
+broken_more tells least most start bytes more first w fits broken = record {
   lines = broken.lines;
   line = broken.line;
   first_lines = first_more bytes more (broken.lines ++ broken.line ∷ []) broken.first_lines;
+  taken_past = past_more least most bytes more (broken.lines ++ broken.line ∷ []) fits broken.taken_past;
   text = broken.text;
   now = broken.now;
   ran = broken.ran;
@@ -192,38 +218,17 @@ broken_more tells start bytes more first w broken = record {
   last = broken.last;
   step = broken.step;
   front = broken.front;
+  cause = broken.cause;
   stands = broken.stands;
   history = broken.history;
-}
-
-bye_more : (tells : Bool) (least most : ℕ) (start : List Entry) (bytes more : Bytes) (first w : World) → least + length more ≤ most → ByeWithin tells least start bytes first w → ByeWithin tells most start (bytes ++ more) first w
-bye_more tells least most start bytes more first w fits within = record {
-  lines = within.lines;
-  line = within.line;
-  whole = within.whole;
-  behind = within.behind ++ more;
-  split = ap (λ (l : Bytes). l ++ more) within.split ∙ append_assoc (flat_map with_newline (within.lines ++ within.line ∷ [])) within.behind more;
-  less = omega (arith, within.less, length-append within.behind more, fits);
-  bye = within.bye;
 }
 
 pub after_more : (tells : Bool) (least most : ℕ) (end : LineEnd) (start : List Entry) (bytes more kept : Bytes) (store : Store) (first w : World) → least + length more ≤ most → (end ≡ Next → ⊥)
     → After tells least end start bytes kept store first w → After tells most end start (bytes ++ more) kept store first w
 after_more tells least most Next start bytes more kept store first w fits not_next after = absurd (not_next refl)
 after_more tells least most Quit start bytes more kept store first w fits not_next after =
-    (closed_more tells AtQuit start bytes more first w after.0, bye_more tells least most start bytes more first w fits after.1)
+    (closed_more tells AtQuit start bytes more first w after.0, ends_more tells least most Bye start bytes more first w fits after.1)
 after_more tells least most (End status) start bytes more kept store first w fits not_next after = elim after [
-  | inl device ↦ inl (device.0, closed_more tells AtDevice start bytes more first w device.1)
-  | inr six ↦ inr (six.0, broken_more tells start bytes more first w six.1)
+  | inl device ↦ inl (device.0, closed_more tells AtDevice start bytes more first w device.1, ends_more tells least most Device start bytes more first w fits device.2)
+  | inr six ↦ inr (six.0, broken_more tells least most start bytes more first w fits six.1)
 ]
-
-pub bye_wider : (tells : Bool) (least most : ℕ) (start : List Entry) (bytes : Bytes) (first w : World) → least ≤ most → ByeWithin tells least start bytes first w → ByeWithin tells most start bytes first w
-bye_wider tells least most start bytes first w fits within = record {
-  lines = within.lines;
-  line = within.line;
-  whole = within.whole;
-  behind = within.behind;
-  split = within.split;
-  less = omega (arith, within.less, fits);
-  bye = within.bye;
-}

@@ -8,14 +8,13 @@ use Rattle.outside.specs.Streams.{SayMoves, SaysFront, SaidByNow}
 use Rattle.entry_model.specs.Entries.{IsEntry, Entry, bytes_of, map_of, newest, or_else, live}
 use Rattle.log_model.specs.Area.{LogIs}
 use Rattle.map_model.specs.SortedMap.{Bytes, get}
-use Rattle.line_model.specs.Requests.{Request, Put, Del, Get}
-use Rattle.line_model.specs.Requests as asks
+use Rattle.line_model.specs.Requests.{Put, Del, Get}
 use Rattle.line_model.specs.Replies.{Reply, Bye, LongKey, LongValue, text_of, got}
 use Rattle.line_model.specs.Limits.{key_limit, value_limit, first_limit}
 use Rattle.surf_run.specs.Script.{Step, GoesOn, Unless}
 use Rattle.entry_model.proofs.Maps.{newest_counts}
 use Rattle.surf_run.specs.Crash.{Stands}
-use Rattle.surf_run.specs.Holds.{Holds}
+use Rattle.surf_run.specs.StoreIs.{StoreIs}
 use Rattle.surf_run.specs.Saying.{Says}
 use Rattle.surf_run.specs.Serving.{Leaves, LineAnswer, Answered}
 use Rattle.surf_run.specs.declared.store.Store.{Store}
@@ -27,7 +26,7 @@ module _ (tells : Bool) (old : List Entry) (S : Leaves) (a b : World) (now : Sai
   quiet : (reply : Reply) → S reply old → SaysFront (text_of reply) a.beside.said b.beside.said → LineAnswer tells old S reply old a b
   quiet reply step front = line_answer tells old S reply old (LogIs 0 old) a a b (λ t. started (LogIs 0 old) a (here t)) refl now now moves step front (λ image before. inl before) (λ t image left. (old, step, here t image left))
 
-  pub quiet_next : (store : Store) (reply : Reply) (result : LineEnd) → Holds old store → S reply old → GoesOn reply → Says Next reply result a b → Answered tells result old S store a b
+  pub quiet_next : (store : Store) (reply : Reply) (result : LineEnd) → StoreIs old store → S reply old → GoesOn reply → Says Next reply result a b → Answered tells result old S store a b
   quiet_next store reply result holds step goes says = answered_next tells old S old store a a b refl reply result (quiet reply step says.0) says goes (stands_still tells old a b moves.time here) holds
 
   pub quiet_quit : (store : Store) (result : LineEnd) → S Bye old → Says Quit Bye result a b → Answered tells result old S store a b

@@ -1,6 +1,8 @@
--- Why a run ends, and what never falls.
+-- Why a run ends, what it may change, and what never falls.
 use Rattle.std.specs.Prelude.{◌≡◌, ◌⊎◌, ◌≤◌, ℕ}
-use Rattle.disk_trait.specs.World.{World, Rose}
+use Rattle.key_base.specs.Limits.{log_bytes}
+use Rattle.disk_trait.specs.World.{World, Rose, Passes, Torn}
+use Rattle.log_model.specs.Area.{start_of}
 use Rattle.surf_run.specs.declared.end.LineEnd.{LineEnd}
 use Rattle.surf_run.specs.declared.end.LineEnd.TheVariants.{Next, Quit, End}
 
@@ -11,9 +13,16 @@ pub record NoFall (old new : World) : Type 0 where
   pub take : old.beside.take_faults ≤ new.beside.take_faults
   pub say : old.beside.say_faults ≤ new.beside.say_faults
 
--- nothing is taken, and no count of faults falls
-pub record TakesNothing (old new : World) : Type 0 where
+-- Nothing changes outside the log area in use: neither what the device reads as, nor what a crash may leave at any later
+-- moment, beside what it might have left at the start.
+pub record WritesInLog (old new : World) : Type 0 where
+  pub held : Torn (start_of 0) log_bytes old.seen.held new.seen.held
+  pub time : Passes (Torn (start_of 0) log_bytes) old new
+
+-- What answering lines does: nothing is taken, what is written is written in the log area, and no count of faults falls.
+pub record LineMoves (old new : World) : Type 0 where
   pub input : new.beside.to_take ≡ old.beside.to_take
+  pub footprint : WritesInLog old new
   pub counts : NoFall old new
 
 -- a read, or a write or a sync, failed in this call

@@ -1,7 +1,7 @@
 pub mod Causes
 pub mod Crash
 pub mod Holding
-pub mod Holds
+pub mod StoreIs
 pub mod Laws
 pub mod Open
 pub mod Outcome

@@ -1,6 +1,7 @@
 -- What opening does, and why it fails.
 use Rattle.std.specs.Prelude.{◌≡◌, ◌<◌, ℕ, Bool, IsTrue, List}
 use Rattle.disk_trait.specs.World.{World, Passes, Same}
+use Rattle.key_base.specs.Limits.{log_bytes}
 use Rattle.log_model.specs.Area.{LogIs}
 use Rattle.gate_log.specs.declared.fault.LogFault.{LogFault}
 use Rattle.gate_log.specs.declared.fault.LogFault.TheVariants.{Memory, Device, Shape}
@@ -11,7 +12,7 @@ use Rattle.byte_fields.specs.declared.parts.Part.TheVariants.{Log}
 use Rattle.byte_fields.specs.declared.parts.Damage.TheVariants as damage
 use Rattle.surf_run.specs.Causes.{NoFall, DiskFailed}
 use Rattle.surf_run.specs.Crash.{Stands}
-use Rattle.surf_run.specs.Holds.{Holds}
+use Rattle.surf_run.specs.StoreIs.{StoreIs}
 use Rattle.surf_run.specs.declared.store.Store.{Store}
 
 -- nothing is written, and nothing changes beside the device
@@ -31,8 +32,8 @@ OpenCause old new (Shape at rule) = Unit {0}
 -- image that a crash may leave now has them.
 pub record Opens (tells : Bool) (old new : World) (store : Store) : Type 0 where
   pub entries : List Entry
-  pub within : filled entries < 262144
-  pub holds : Holds entries store
+  pub within : filled entries < log_bytes
+  pub holds : StoreIs entries store
   pub held : IsTrue tells → LogIs 0 entries old.seen.held
   pub stands : Stands tells entries new
 

@@ -4,6 +4,7 @@ use Rattle.disk_trait.specs.World.{World, Image}
 use Rattle.outside.specs.During.{During}
 use Rattle.outside.specs.Streams.{SaysFront}
 use Rattle.std.specs.List.{AllByRecursion}
+use Rattle.key_base.specs.Limits.{log_bytes}
 use Rattle.log_model.specs.Area.{LogIs, LogBreaks}
 use Rattle.entry_model.specs.Entries.{IsEntry, Entry, filled}
 use Rattle.map_model.specs.SortedMap.{Bytes}
@@ -52,7 +53,7 @@ pub record Serves (tells : Bool) (status : ℕ) (old opened new : World) : Type 
   pub opens : OpenMoves old opened
   pub start : List Entry
   pub sound : AllByRecursion IsEntry start
-  pub within : filled start < 262144
+  pub within : filled start < log_bytes
   pub held : IsTrue tells → LogIs 0 start old.seen.held
   pub serving : IsServing status
   pub outcome : Outcome tells status start opened new

@@ -1,6 +1,7 @@
 -- How the saying of a reply ended.
 use Rattle.std.specs.Prelude.{◌≡◌, ◌⊎◌, ◌++◌, ◌<◌, ◌≤◌, ◌^◌, length}
 use Rattle.disk_trait.specs.World.{World}
+use Rattle.key_base.specs.Limits.{max_value_bytes}
 use Rattle.outside.specs.Streams.{SaysFront}
 use Rattle.line_model.specs.Replies.{Reply, text_of}
 use Rattle.byte_fields.specs.declared.parts.Damage.TheVariants.{Shape}
@@ -9,10 +10,10 @@ use Rattle.store_commands.specs.declared.reply.Reply.TheVariants as spoken
 use Rattle.surf_run.specs.declared.end.LineEnd.{LineEnd}
 use Rattle.surf_run.specs.declared.end.LineEnd.TheVariants.{End}
 
--- a reply that the program says: with a value of at most 65,536 bytes, and with numbers below 2^64
+-- a reply that the program says: with a value that keeps its limit, and with numbers below 2^64
 abbrev pub IsShort : Spoken → Type 0
 IsShort spoken.Done = Unit {0}
-IsShort (spoken.Value value) = length value.now ≤ 65536
+IsShort (spoken.Value value) = length value.now ≤ max_value_bytes
 IsShort spoken.Missing = Unit {0}
 IsShort spoken.Bye = Unit {0}
 IsShort (spoken.BadLine code) = code < 2 ^ 64

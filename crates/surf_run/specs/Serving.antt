@@ -1,6 +1,6 @@
 -- How far a run has come.
 use Rattle.std.specs.Prelude.{◌≡◌, ◌≢◌, ◌⊎◌, ◌≤◌, ℕ, Bool, IsTrue, List, [], ◌∷◌, ◌++◌, length, flat_map, All}
-use Rattle.disk_trait.specs.World.{Image, World}
+use Rattle.disk_trait.specs.World.{Image, World, Rose}
 use Rattle.outside.specs.During.{During}
 use Rattle.outside.specs.Streams.{SaysFront}
 use Rattle.log_model.specs.Area.{LogIs}
@@ -12,8 +12,9 @@ use Rattle.line_model.specs.Lines.{lines_of, whole_lines}
 use Rattle.line_model.specs.Replies.{Reply, Bye, Device, text_of}
 use Rattle.surf_run.specs.Script.{Step, Script, GoesOn, WentOn, Ending, AtQuit, AtDevice}
 use Rattle.surf_run.specs.Holding.{Held, with_newline}
-use Rattle.surf_run.specs.Outcome.{ByeWithin}
-use Rattle.surf_run.specs.Holds.{Holds}
+use Rattle.surf_run.specs.Causes.{NoFall}
+use Rattle.surf_run.specs.Outcome.{TakenPast, EndsWith}
+use Rattle.surf_run.specs.StoreIs.{StoreIs}
 use Rattle.surf_run.specs.Crash.{Stands, Reached, Acknowledged}
 use Rattle.surf_run.specs.declared.end.LineEnd.{LineEnd}
 use Rattle.surf_run.specs.declared.end.LineEnd.TheVariants.{Next, Quit, End}
@@ -43,14 +44,15 @@ pub record LineAnswer (tells : Bool) (old : List Entry) (S : Leaves) (reply : Re
 abbrev pub Whole : Reply → World → World → Type 0
 Whole reply a b = b.beside.said ≡ a.beside.said ++ text_of reply
 
--- how a line ends the run: with its reply `device` said, or with its reply not said whole
+-- how a line ends the run: with its reply `device` said, or with its reply, whose cause stands, not said whole
 abbrev pub EndsBy : Bool → ℕ → Reply → List Entry → World → World → Type 0
-EndsBy tells status reply new a b = ((status ≡ 4) × (reply ≡ Device) × Whole reply a b) ⊎ ((status ≡ 6) × (reply ≢ Device → Stands tells new b))
+EndsBy tells status reply new a b = ((status ≡ 4) × (reply ≡ Device) × Whole reply a b × Rose a.seen.write_faults b.seen.write_faults)
+    ⊎ ((status ≡ 6) × (reply ≢ Device → Stands tells new b) × (reply ≡ Device → Rose a.seen.write_faults b.seen.write_faults))
 
 -- how the line was answered
 abbrev pub Answered : Bool → LineEnd → List Entry → Leaves → Store → World → World → Type 0
 Answered tells Next old S store a b =
-    (reply : Reply) × (new : List Entry) × LineAnswer tells old S reply new a b × GoesOn reply × Whole reply a b × Stands tells new b × Holds new store
+    (reply : Reply) × (new : List Entry) × LineAnswer tells old S reply new a b × GoesOn reply × Whole reply a b × Stands tells new b × StoreIs new store
 Answered tells Quit old S store a b = (new : List Entry) × LineAnswer tells old S Bye new a b × Whole Bye a b × Stands tells new b
 Answered tells (End status) old S store a b = (reply : Reply) × (new : List Entry) × LineAnswer tells old S reply new a b × EndsBy tells status reply new a b
 
@@ -70,7 +72,8 @@ pub record Served (tells : Bool) (start : List Entry) (bytes kept : Bytes) (stor
   pub held : Held rest kept
   pub history : IsTrue tells → During (Acknowledged start lines first.beside.said w.beside.said) first w
   pub stand : Stands tells now w
-  pub holds : Holds now store
+  pub counts : NoFall first w
+  pub holds : StoreIs now store
 
 -- the first lines of an input that begins with these bytes, the newline of each among them
 abbrev pub AreFirst : Bytes → List Bytes → Type 0
@@ -85,11 +88,13 @@ pub record Closed (tells : Bool) (ending : Ending) (start : List Entry) (bytes :
   pub script : (more : Bytes) → Script (Reached tells w) (length first.beside.said) start (lines_of (bytes ++ more)) text ending
   pub history : IsTrue tells → During (Acknowledged start lines first.beside.said w.beside.said) first w
 
--- the first lines were answered whole, none of them with a last reply, and of the next line's reply a front was said
-pub record Broken (tells : Bool) (start : List Entry) (bytes : Bytes) (first w : World) : Type 0 where
+-- The first lines were answered whole, none of them with a last reply, and of the next line's reply a front was said; behind
+-- that line stand less bytes than these.
+pub record Broken (tells : Bool) (most : ℕ) (start : List Entry) (bytes : Bytes) (first w : World) : Type 0 where
   pub lines : List Bytes
   pub line : Bytes
   pub first_lines : AreFirst bytes (lines ++ line ∷ [])
+  pub taken_past : TakenPast most bytes (lines ++ line ∷ [])
   pub text : Bytes
   pub now : List Entry
   pub ran : WentOn (Reached tells w) (length first.beside.said) start lines text now
@@ -97,14 +102,20 @@ pub record Broken (tells : Bool) (start : List Entry) (bytes : Bytes) (first w :
   pub last : List Entry
   pub step : Step now (asked_here line) reply last
   pub front : SaysFront (text_of reply) (first.beside.said ++ text) w.beside.said
+  pub cause : reply ≡ Device → Rose first.seen.write_faults w.seen.write_faults
   pub stands : reply ≢ Device → Stands tells last w
   pub history : IsTrue tells → During (Acknowledged start (lines ++ line ∷ []) first.beside.said w.beside.said) first w
 
-abbrev pub EndedBy : Bool → ℕ → List Entry → Bytes → World → World → Type 0
-EndedBy tells status start bytes first w = ((status ≡ 4) × Closed tells AtDevice start bytes first w) ⊎ ((status ≡ 6) × Broken tells start bytes first w)
+-- this was the last reply, to a line with its newline, behind which stand less bytes than these
+abbrev pub EndsPast : Bool → ℕ → Reply → List Entry → Bytes → World → World → Type 0
+EndsPast tells most reply start bytes first w = (lines : List Bytes) × (line : Bytes) × TakenPast most bytes (lines ++ line ∷ []) × EndsWith tells reply start lines line first w
 
--- how a line ended; behind `quit` stand less bytes than these
+abbrev pub EndedBy : Bool → ℕ → ℕ → List Entry → Bytes → World → World → Type 0
+EndedBy tells most status start bytes first w =
+    ((status ≡ 4) × Closed tells AtDevice start bytes first w × EndsPast tells most Device start bytes first w) ⊎ ((status ≡ 6) × Broken tells most start bytes first w)
+
+-- how a line ended; behind the last line that was answered stand less bytes than these
 abbrev pub After : Bool → ℕ → LineEnd → List Entry → Bytes → Bytes → Store → World → World → Type 0
 After tells most Next start bytes kept store first w = Served tells start bytes kept store first w
-After tells most Quit start bytes kept store first w = Closed tells AtQuit start bytes first w × ByeWithin tells most start bytes first w
-After tells most (End status) start bytes kept store first w = EndedBy tells status start bytes first w
+After tells most Quit start bytes kept store first w = Closed tells AtQuit start bytes first w × EndsPast tells most Bye start bytes first w
+After tells most (End status) start bytes kept store first w = EndedBy tells most status start bytes first w

@@ -1,3 +1,5 @@
+//! What follows a line.
+
 /// How a line ends.
 #[derive(Clone, Copy, Debug, PartialEq, Eq)]
 pub enum LineEnd {

@@ -25,5 +25,5 @@ mod serve;
 mod store;
 mod top;
 
-pub use laws::run_laws;
+pub use laws::{a_new_device_is_ready, run_laws};
 pub use top::run;

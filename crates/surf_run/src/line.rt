@@ -1,4 +1,4 @@
-// A line, answered.
+//! A line, answered.
 ghost use Rattle.std.specs.Prelude.{◌≡◌, ◌<◌, ◌≤◌, ◌++◌, [], ◌∷◌, List, length, IsTrue, IfSome, None, Some};
 ghost use Rattle.gate_log.specs.Kinds.{KeepsRules, entry_of_kind};
 ghost use Rattle.entry_model.specs.Entries.{Entry};
@@ -9,8 +9,8 @@ ghost use Rattle.surf_run.specs.Script.{Step, Write};
 ghost use Rattle.std.specs.Option.{option_map};
 ghost use Rattle.store_commands.specs.Asks.{asked};
 ghost use Rattle.store_commands.specs.Spoken.{spoken};
-ghost use Rattle.surf_run.specs.Holds.{Holds};
-ghost use Rattle.surf_run.specs.Causes.{EndCause, TakesNothing};
+ghost use Rattle.surf_run.specs.StoreIs.{StoreIs};
+ghost use Rattle.surf_run.specs.Causes.{EndCause, LineMoves};
 ghost use Rattle.surf_run.specs.Crash.{Stands};
 ghost use Rattle.surf_run.specs.Saying.{IsShort};
 ghost use Rattle.surf_run.specs.Serving.{Answered};
@@ -34,10 +34,10 @@ fn write_line<W: Outside>(
 ) -> LineEnd
     requires rules { KeepsRules kind key.now value.now }
     requires room { 0 < length buffer.old }
-    ensures answered { (entries : List Entry) → IsTrue W.tells_output → Holds entries store.old → Stands W.tells entries (W.world out.old)
+    ensures answered { (entries : List Entry) → IsTrue W.tells_output → StoreIs entries store.old → Stands W.tells entries (W.world out.old)
         → Answered W.tells result entries (Write entries (entry_of_kind kind key.now value.now)) store.new (W.world out.old) (W.world out.new) }
     ensures cause { EndCause result (W.world out.old) (W.world out.new) }
-    ensures moves { TakesNothing (W.world out.old) (W.world out.new) }
+    ensures moves { LineMoves (W.world out.old) (W.world out.new) }
 {
     let error = match store.write(out, kind, key, value) {
         Ok(()) => return say_reply(out, buffer, &Reply::Done, LineEnd::Next),
@@ -87,10 +87,10 @@ fn put_line<W: Outside>(
     value: &[u8],
 ) -> LineEnd
     requires { 0 < length buffer.old }
-    ensures answered { (entries : List Entry) → IsTrue W.tells_output → Holds entries store.old → Stands W.tells entries (W.world out.old)
+    ensures answered { (entries : List Entry) → IsTrue W.tells_output → StoreIs entries store.old → Stands W.tells entries (W.world out.old)
         → Answered W.tells result entries (Step entries (Put key.now value.now)) store.new (W.world out.old) (W.world out.new) }
     ensures cause { EndCause result (W.world out.old) (W.world out.new) }
-    ensures moves { TakesNothing (W.world out.old) (W.world out.new) }
+    ensures moves { LineMoves (W.world out.old) (W.world out.new) }
 {
     if let Some(limit) = key_refusal(key) {
         return say_reply(out, buffer, &limit, LineEnd::Next);
@@ -103,10 +103,10 @@ fn put_line<W: Outside>(
 
 fn del_line<W: Outside>(store: &mut Store, buffer: &mut [u8], out: &mut W, key: &[u8]) -> LineEnd
     requires { 0 < length buffer.old }
-    ensures answered { (entries : List Entry) → IsTrue W.tells_output → Holds entries store.old → Stands W.tells entries (W.world out.old)
+    ensures answered { (entries : List Entry) → IsTrue W.tells_output → StoreIs entries store.old → Stands W.tells entries (W.world out.old)
         → Answered W.tells result entries (Step entries (Del key.now)) store.new (W.world out.old) (W.world out.new) }
     ensures cause { EndCause result (W.world out.old) (W.world out.new) }
-    ensures moves { TakesNothing (W.world out.old) (W.world out.new) }
+    ensures moves { LineMoves (W.world out.old) (W.world out.new) }
 {
     if let Some(limit) = key_refusal(key) {
         return say_reply(out, buffer, &limit, LineEnd::Next);
@@ -116,10 +116,10 @@ fn del_line<W: Outside>(store: &mut Store, buffer: &mut [u8], out: &mut W, key: 
 
 fn get_line<W: Outside>(store: &Store, buffer: &mut [u8], out: &mut W, key: &[u8]) -> LineEnd
     requires { 0 < length buffer.old }
-    ensures answered { (entries : List Entry) → IsTrue W.tells_output → Holds entries store.now → Stands W.tells entries (W.world out.old)
+    ensures answered { (entries : List Entry) → IsTrue W.tells_output → StoreIs entries store.now → Stands W.tells entries (W.world out.old)
         → Answered W.tells result entries (Step entries (Get key.now)) store.now (W.world out.old) (W.world out.new) }
     ensures cause { EndCause result (W.world out.old) (W.world out.new) }
-    ensures moves { TakesNothing (W.world out.old) (W.world out.new) }
+    ensures moves { LineMoves (W.world out.old) (W.world out.new) }
 {
     if let Some(limit) = key_refusal(key) {
         return say_reply(out, buffer, &limit, LineEnd::Next);
@@ -132,10 +132,10 @@ fn get_line<W: Outside>(store: &Store, buffer: &mut [u8], out: &mut W, key: &[u8
 
 fn bad_line<W: Outside>(store: &Store, buffer: &mut [u8], out: &mut W, code: u8) -> LineEnd
     requires { 0 < length buffer.old }
-    ensures answered { (entries : List Entry) → IsTrue W.tells_output → Holds entries store.now → Stands W.tells entries (W.world out.old)
+    ensures answered { (entries : List Entry) → IsTrue W.tells_output → StoreIs entries store.now → Stands W.tells entries (W.world out.old)
         → Answered W.tells result entries (Step entries (Bad code)) store.now (W.world out.old) (W.world out.new) }
     ensures cause { EndCause result (W.world out.old) (W.world out.new) }
-    ensures moves { TakesNothing (W.world out.old) (W.world out.new) }
+    ensures moves { LineMoves (W.world out.old) (W.world out.new) }
 {
     say_reply(out, buffer, &Reply::BadLine(code), LineEnd::Next)
 }
@@ -148,10 +148,10 @@ fn answer_request<W: Outside>(
     request: Request<'_>,
 ) -> LineEnd
     requires { 0 < length buffer.old }
-    ensures answered { (entries : List Entry) → IsTrue W.tells_output → Holds entries store.old → Stands W.tells entries (W.world out.old)
+    ensures answered { (entries : List Entry) → IsTrue W.tells_output → StoreIs entries store.old → Stands W.tells entries (W.world out.old)
         → Answered W.tells result entries (Step entries (asked request.entry)) store.new (W.world out.old) (W.world out.new) }
     ensures cause { EndCause result (W.world out.old) (W.world out.new) }
-    ensures moves { TakesNothing (W.world out.old) (W.world out.new) }
+    ensures moves { LineMoves (W.world out.old) (W.world out.new) }
 {
     match request {
         Request::Put { key, value } => put_line(store, buffer, out, key, value),
@@ -171,10 +171,10 @@ pub fn answer<W: Outside>(
     line: &[u8],
 ) -> LineEnd
     requires { 0 < length buffer.old }
-    ensures answered { (entries : List Entry) → IsTrue W.tells_output → Holds entries store.old → Stands W.tells entries (W.world out.old)
+    ensures answered { (entries : List Entry) → IsTrue W.tells_output → StoreIs entries store.old → Stands W.tells entries (W.world out.old)
         → Answered W.tells result entries (Step entries (asked_here line.now)) store.new (W.world out.old) (W.world out.new) }
     ensures cause { EndCause result (W.world out.old) (W.world out.new) }
-    ensures moves { TakesNothing (W.world out.old) (W.world out.new) }
+    ensures moves { LineMoves (W.world out.old) (W.world out.new) }
 {
     match parse_answered(line, scratch) {
         Ok(request) => answer_request(store, buffer, out, request),

@@ -1,11 +1,11 @@
-// The store that stands on a device.
+//! The store that stands on a device.
 ghost use Rattle.std.specs.Prelude.{IsTrue, IfOk, IfErr};
 ghost use Rattle.gate_log.specs.Faults.{IsShapeIn};
 ghost use Rattle.surf_run.specs.Open.{OpenMoves, OpenCause, Opens};
 
-use crate::store::{AREA, RECORD_BYTES, Store};
+use crate::store::{AREA, Store};
 use disk_trait::Disk;
-use gate_log::{Log, LogFault};
+use gate_log::{BUFFER_BYTES, Log, LogFault};
 use mem_table::MemTable;
 use std::alloc::Global;
 
@@ -21,6 +21,6 @@ pub fn open_store<D: Disk>(alloc: Global, disk: &mut D) -> Result<Store, LogFaul
     disk.sync()?;
     let (log, entries) = Log::replay(alloc, disk, AREA)?;
     let table = MemTable::fill(entries)?;
-    let buffer = vec![in alloc; 0; RECORD_BYTES]?;
+    let buffer = vec![in alloc; 0; BUFFER_BYTES]?;
     Ok(Store { log, table, buffer })
 }

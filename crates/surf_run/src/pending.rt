@@ -1,4 +1,4 @@
-// The front of a line that has not ended.
+//! The front of a line that has not ended.
 ghost use Rattle.std.specs.Prelude.{◌≡◌, ◌==◌, ◌++◌, ℕ, List, [], IfOk, length};
 ghost use Rattle.surf_run.specs.Holding.{Held};
 
@@ -13,13 +13,14 @@ pub struct Pending {
 }
 
 impl Model for Pending {
-    ghost use Rattle.std.specs.Prelude.{◌≤◌, ℕ, List, vec_len, vec_capacity};
+    ghost use Rattle.std.specs.Prelude.{◌≤◌, ◌+◌, ℕ, List, vec_len, vec_capacity};
+    ghost use Rattle.key_base.specs.Limits.{max_line_bytes};
 
     ghost Value = { List ℕ };
 
     ghost view = { λ p. p.bytes.items };
 
-    ghost invariant = { λ p. (vec_len p.bytes ≤ 140001) × (140001 ≤ vec_capacity p.bytes) };
+    ghost invariant = { λ p. (vec_len p.bytes ≤ max_line_bytes + 1) × (max_line_bytes + 1 ≤ vec_capacity p.bytes) };
 }
 
 impl Pending {

@@ -1,11 +1,11 @@
-// Replies, said whole.
+//! Replies, said whole.
 ghost use Rattle.std.specs.Prelude.{◌≡◌, ◌≢◌, ◌⊎◌, ◌<◌, ◌++◌, length, IsTrue, OnOk, OnErr};
 ghost use Rattle.disk_trait.specs.World.{Rose};
 ghost use Rattle.outside.specs.Streams.{SayMoves, SaysFront};
 ghost use Rattle.line_model.specs.Replies.{text_of};
 ghost use Rattle.store_commands.specs.Spoken.{spoken};
 ghost use Rattle.surf_run.specs.declared.end.LineEnd.TheVariants.{End};
-ghost use Rattle.surf_run.specs.Causes.{SayFailed};
+ghost use Rattle.surf_run.specs.Causes.{SayFailed, LineMoves};
 ghost use Rattle.surf_run.specs.Saying.{IsShort, Says};
 
 use crate::end::LineEnd;
@@ -49,6 +49,7 @@ pub fn say_reply<W: Outside>(
     ensures says { IsTrue W.tells_output → IsShort reply.now → Says end (spoken reply.now) result (W.world out.old) (W.world out.new) }
     ensures cause { (result ≡ end) ⊎ ((result ≡ End 6) × SayFailed (W.world out.old) (W.world out.new)) }
     ensures moves { SayMoves (W.world out.old) (W.world out.new) }
+    ensures line { LineMoves (W.world out.old) (W.world out.new) }
 {
     match say_pieces(out, buffer, reply) {
         Ok(()) => end,

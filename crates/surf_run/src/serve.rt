@@ -1,11 +1,11 @@
-// Lines in, replies out.
+//! Lines in, replies out.
 ghost use Rattle.std.specs.Prelude.{◌≡◌, ◌⊎◌, ◌<◌, ◌≤◌, ◌++◌, [], ◌∷◌, List, ℕ, length, IsTrue};
 ghost use Rattle.store_commands.specs.Cutting.{NoNewline};
 ghost use Rattle.entry_model.specs.Entries.{Entry};
-ghost use Rattle.surf_run.specs.Holds.{Holds};
-ghost use Rattle.surf_run.specs.Causes.{EndCause, StatusCause, NoFall, TakesNothing, IsServing};
+ghost use Rattle.surf_run.specs.StoreIs.{StoreIs};
+ghost use Rattle.surf_run.specs.Causes.{EndCause, StatusCause, NoFall, LineMoves, WritesInLog, IsServing};
 ghost use Rattle.surf_run.specs.Crash.{Stands};
-ghost use Rattle.surf_run.specs.Outcome.{Settled, Outcome};
+ghost use Rattle.surf_run.specs.Outcome.{Settled, Outcome, piece_bytes};
 ghost use Rattle.surf_run.specs.Serving.{Served, After};
 
 use crate::end::LineEnd;
@@ -30,7 +30,7 @@ fn end_line<W: Outside>(
         → Served W.tells start bytes pending.old store.old (W.world first) (W.world out.old)
         → After W.tells 1 result start (bytes ++ part.now ++ 10 ∷ []) pending.new store.new (W.world first) (W.world out.new) }
     ensures cause { EndCause result (W.world out.old) (W.world out.new) }
-    ensures moves { TakesNothing (W.world out.old) (W.world out.new) }
+    ensures moves { LineMoves (W.world out.old) (W.world out.new) }
 {
     if pending.is_empty() {
         return answer(store, scratch, buffer, out, part);
@@ -55,7 +55,7 @@ fn feed<W: Outside>(
         → Served W.tells start bytes pending.old store.old (W.world first) (W.world out.old)
         → After W.tells (length piece.now) result start (bytes ++ piece.now) pending.new store.new (W.world first) (W.world out.new) }
     ensures cause { EndCause result (W.world out.old) (W.world out.new) }
-    ensures moves { TakesNothing (W.world out.old) (W.world out.new) }
+    ensures moves { LineMoves (W.world out.old) (W.world out.new) }
 {
     let mut rest = piece;
     while let Some((line, more)) = next_line(rest) {
@@ -82,7 +82,7 @@ fn end_input<W: Outside>(
         → Served W.tells start taken pending.now store.old (W.world first) (W.world out.old) → Settled W.tells result start taken (W.world first) (W.world out.new) }
     ensures cause { StatusCause result (W.world out.old) (W.world out.new) }
     ensures statuses { (result ≡ 0) ⊎ (result ≡ 4) ⊎ (result ≡ 6) }
-    ensures moves { TakesNothing (W.world out.old) (W.world out.new) }
+    ensures moves { LineMoves (W.world out.old) (W.world out.new) }
 {
     if pending.is_empty() {
         return 0;
@@ -120,12 +120,13 @@ pub fn serve<W: Outside>(
 ) -> u8
     requires buffer { 0 < length buffer.old }
     requires piece { 0 < length piece.old }
-    requires small { length piece.old ≤ 65536 }
+    requires small { length piece.old ≤ piece_bytes }
     requires fresh { pending.old ≡ [] }
-    ensures outcome { (start : List Entry) → IsTrue W.tells_input → IsTrue W.tells_output → Holds start store.old → Stands W.tells start (W.world out.old)
+    ensures outcome { (start : List Entry) → IsTrue W.tells_input → IsTrue W.tells_output → StoreIs start store.old → Stands W.tells start (W.world out.old)
         → Outcome W.tells result start (W.world out.old) (W.world out.new) }
     ensures cause { StatusCause result (W.world out.old) (W.world out.new) }
     ensures statuses { IsServing result }
+    ensures footprint { WritesInLog (W.world out.old) (W.world out.new) }
     ensures counts { NoFall (W.world out.old) (W.world out.new) }
 {
     let mut left = MAX_INPUT_BYTES;

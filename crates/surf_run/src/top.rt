@@ -1,4 +1,4 @@
-// The top call.
+//! The top call.
 ghost use Rattle.std.specs.Prelude.{◌≡◌, ◌≢◌, ◌<◌, ◌≤◌, ◌^◌, ◌⊎◌, ◌↔◌, ◌++◌, ℕ, [], ◌∷◌, List, length, map, string_bytes, IsTrue, IfOk, vec_len};
 ghost use Rattle.disk_trait.specs.World.{Now};
 ghost use Rattle.outside.specs.Streams.{SayMoves, SaysFront};
@@ -7,10 +7,11 @@ ghost use Rattle.gate_log.specs.Faults.{IsNoShape, IsShapeIn};
 ghost use Rattle.store_commands.specs.Spoken.{spoken};
 ghost use Rattle.entry_model.specs.Entries.{Entry};
 ghost use Rattle.line_model.specs.Replies.{text_of};
-ghost use Rattle.surf_run.specs.Causes.{IsServing, NoFall, StatusCause, DiskFailed, SayFailed};
+ghost use Rattle.surf_run.specs.Causes.{IsServing, NoFall, WritesInLog, StatusCause, DiskFailed, SayFailed};
 ghost use Rattle.surf_run.specs.Crash.{Stands};
-ghost use Rattle.surf_run.specs.Holds.{Holds};
+ghost use Rattle.surf_run.specs.StoreIs.{StoreIs};
 ghost use Rattle.surf_run.specs.Open.{log_damage, reply_to, status_of};
+ghost use Rattle.surf_run.specs.Outcome.{piece_bytes};
 ghost use Rattle.surf_run.specs.Run.{Ends, Serves, Unserved, Damaged, SomeFailed, Completed, serve_words, usage_text};
 ghost use Rattle.surf_run.specs.Saying.{IsShort};
 
@@ -107,8 +108,8 @@ struct Buffers {
 
 fn new_buffers(alloc: Global) -> Result<Buffers, AllocError>
     ensures pending { IfOk result (λ b. b.pending ≡ []) }
-    ensures reply { IfOk result (λ b. vec_len b.reply ≡ 65536) }
-    ensures piece { IfOk result (λ b. vec_len b.piece ≡ 65536) }
+    ensures reply { IfOk result (λ b. vec_len b.reply ≡ piece_bytes) }
+    ensures piece { IfOk result (λ b. vec_len b.piece ≡ piece_bytes) }
 {
     let pending = Pending::new(alloc)?;
     let scratch = Scratch::new(alloc)?;
@@ -124,10 +125,11 @@ fn new_buffers(alloc: Global) -> Result<Buffers, AllocError>
 
 // Serves an opened store, with all memory that is not a line's taken first.
 fn serve_store<W: Outside>(alloc: Global, store: Store, out: &mut W) -> u8
-    ensures ends { (start : List Entry) → IsTrue W.tells_input → IsTrue W.tells_output → Holds start store → Stands W.tells start (W.world out.old)
+    ensures ends { (start : List Entry) → IsTrue W.tells_input → IsTrue W.tells_output → StoreIs start store → Stands W.tells start (W.world out.old)
         → Ends W.tells result start (W.world out.old) (W.world out.new) }
     ensures statuses { IsServing result ⊎ (result ≡ 7) }
     ensures causes { StatusCause result (W.world out.old) (W.world out.new) }
+    ensures footprint { WritesInLog (W.world out.old) (W.world out.new) }
     ensures counts { NoFall (W.world out.old) (W.world out.new) }
 {
     match new_buffers(alloc) {
@@ -152,6 +154,7 @@ fn open_and_serve<W: Outside>(alloc: Global, out: &mut W) -> u8
     ensures answers { IsTrue W.tells_input → IsTrue W.tells_output
         → ((opened : _) × Serves W.tells result (W.world out.old) (W.world opened) (W.world out.new)) ⊎ Unserved W.tells result (W.world out.old) (W.world out.new) }
     ensures causes { StatusCause result (W.world out.old) (W.world out.new) }
+    ensures footprint { WritesInLog (W.world out.old) (W.world out.new) }
     ensures counts { NoFall (W.world out.old) (W.world out.new) }
     ensures only_at_damage { IsTrue W.tells → IsTrue W.tells_output → result ≡ 5 → Damaged (W.world out.old).seen.held (W.world out.old) (W.world out.new) }
     ensures told_of_damage { (at rule : ℕ) → IsTrue W.tells → LogBreaks 0 at rule (W.world out.old).seen.held → (result ≡ 5) ⊎ (result ≡ 4) ⊎ (result ≡ 6) ⊎ (result ≡ 7) }
@@ -191,6 +194,8 @@ pub fn run<W: Outside>(alloc: Global, words: &[String], out: &mut W) -> u8
     // Statuses 3, 4 and 6 come only where the count of such faults rose in this call.
     ensures causes { StatusCause result (W.world out.old) (W.world out.new) }
     ensures counts { NoFall (W.world out.old) (W.world out.new) }
+    // Whatever the device, the words and the status: at no moment does anything change outside the log area.
+    ensures footprint { WritesInLog (W.world out.old) (W.world out.new) }
     // Status 2 comes exactly where the words are wrong, but for a last line that cannot be said.
     ensures only_at_wrong_words { result ≡ 2 → map string_bytes words.now ≢ serve_words }
     ensures told_of_wrong_words { map string_bytes words.now ≢ serve_words → (result ≡ 2) ⊎ ((result ≡ 6) × SayFailed (W.world out.old) (W.world out.new)) }

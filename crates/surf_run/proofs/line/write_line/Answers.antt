@@ -1,16 +1,17 @@
 use Rattle.std.proofs.Common.{◌≡◌, ◌≤◌, ◌++◌, ◌∷◌, [], inl, inr, subst, arith}
 use Rattle.std.specs.Prelude.{IsTrue}
-use Rattle.disk_trait.specs.World.{Image}
+use Rattle.disk_trait.specs.World.{Image, Rose}
 use Rattle.disk_trait.proofs.Moments.{now_at}
 use Rattle.log_model.specs.Area.{LogIs, WithOrWithout}
 use Rattle.gate_log.specs.Kinds.{entry_of_kind}
 use Rattle.entry_model.specs.Entries.{need, gap}
 use Rattle.line_model.specs.Replies.{Done, Memory, Full, Device}
 use Rattle.surf_run.specs.Script.{Write, done, memory, failed_before, failed_after}
-use Rattle.surf_run.specs.Refusals.{RefusedFor, UnlessDevice}
+use Rattle.surf_run.specs.Refusals.{RefusedFor, WriteCause, UnlessDevice}
 use Rattle.surf_run.specs.Serving.{LogAfter}
 use Rattle.surf_run.proofs.Writes.{full_for, small_need, small_gap}
 use Rattle.surf_run.proofs.Moments.{still, stands_still, line_answer, answered_next, answered_device}
+use Rattle.surf_run.proofs.EndCauses.{rose_then, lines_on, line_write}
 use Rattle.surf_run.proofs.line.write_line.Goals as goal
 
 pub returns-in-Ok-clause-answered : goal.returns-in-Ok-clause-answered
@@ -70,7 +71,20 @@ returns-in-Device-clause-answered g c entries output holds now =
     let with_or_without : (image : Image) → WithOrWithout 0 entries entry image → LogAfter S Device image =
     λ image at. elim at [ inl before ↦ (entries, step, before) | inr new ↦ (entries ++ entry ∷ [], failed_after fits, new) ] in
     let says = c.say_reply-in-Device.ensures.says output tt in
-    answered_device g.W.Disk.tells entries S entries c.write.new.self a mid b c.write.ensures.moves.beside c.say_reply-in-Device.result
+    let rose : Rose a.seen.write_faults b.seen.write_faults = rose_then a.seen.write_faults mid.seen.write_faults b.seen.write_faults (subst (WriteCause a mid) c.in-Device.is c.in-Err.ensures.cause) c.say_reply-in-Device.ensures.line.counts.write in
+    answered_device g.W.Disk.tells entries S entries c.write.new.self a mid b c.write.ensures.moves.beside c.say_reply-in-Device.result rose
     (line_answer g.W.Disk.tells entries S Device entries (WithOrWithout 0 entries entry) a mid b meanwhile c.write.ensures.moves.beside (g.met.W.Outside.said_now _) (g.met.W.Outside.said_now _) c.say_reply-in-Device.ensures.moves step says.0
     (λ image at. inr (with_or_without image at)) (λ t image left. with_or_without image (now_at (WithOrWithout 0 entries entry) a mid (meanwhile t) image left)))
     says
+
+pub returns-in-Ok-clause-moves : goal.returns-in-Ok-clause-moves
+returns-in-Ok-clause-moves g c = lines_on _ _ _ (line_write _ _ c.write.ensures.moves) c.say_reply.ensures.line
+
+pub returns-in-Memory-clause-moves : goal.returns-in-Memory-clause-moves
+returns-in-Memory-clause-moves g c = lines_on _ _ _ (line_write _ _ c.write.ensures.moves) c.say_reply-in-Memory.ensures.line
+
+pub returns-in-Full-clause-moves : goal.returns-in-Full-clause-moves
+returns-in-Full-clause-moves g c = lines_on _ _ _ (line_write _ _ c.write.ensures.moves) c.say_reply-in-Full.ensures.line
+
+pub returns-in-Device-clause-moves : goal.returns-in-Device-clause-moves
+returns-in-Device-clause-moves g c = lines_on _ _ _ (line_write _ _ c.write.ensures.moves) c.say_reply-in-Device.ensures.line

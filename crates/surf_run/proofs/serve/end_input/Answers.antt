@@ -7,6 +7,7 @@ use Rattle.surf_run.specs.Serving.{Answered}
 use Rattle.surf_run.specs.declared.end.LineEnd.TheVariants.{Next, Quit, End}
 use Rattle.surf_run.proofs.Texts.{request_held}
 use Rattle.surf_run.proofs.Outcomes.{settled_empty, settled_next, settled_bye, settled_status}
+use Rattle.surf_run.proofs.EndCauses.{lines_none}
 use Rattle.surf_run.proofs.serve.end_input.Goals as goal
 
 pub returns-then-is_empty-clause-settled : goal.returns-then-is_empty-clause-settled
@@ -36,3 +37,6 @@ returns-in-End-clause-settled g c start first taken output none served =
     settled_status g.W.Disk.tells start taken c.args.pending.now c.args.store.now _ _ _ served some (c.answer.ensures.moves.input ∙ none) c.in-End.status c.answer.new.store
     (subst (λ (k : Request). Answered g.W.Disk.tells (End c.in-End.status) served.now (Step served.now k) c.answer.new.store (g.W.Disk.world c.args.out.now) (g.W.Disk.world c.answer.new.out)) same
     (c.in-End.ensures.answered served.now output served.holds served.stand))
+
+pub returns-then-is_empty-clause-moves : goal.returns-then-is_empty-clause-moves
+returns-then-is_empty-clause-moves g c = lines_none _

@@ -13,7 +13,7 @@ returns-then-is_empty-clause-after g c start first bytes output no_newline serve
     let none : length c.args.pending.now ≡ 0 = eqb-true _ 0 (sym c.if-is_empty.ensures) in
     let empty = held_none served.rest c.args.pending.now served.held none in
     let same : asked_here c.args.part.now ≡ asked_here (served.rest ++ c.args.part.now) = ap (λ (l : List ℕ). asked_here (l ++ c.args.part.now)) (sym empty) in
-    line_end g.W.Disk.tells start bytes c.args.pending.now c.args.store.now _ _ served c.args.part.now no_newline _ c.answer.result c.answer.new.store c.args.pending.now (g.met.W.Outside.said_now _)
+    line_end g.W.Disk.tells start bytes c.args.pending.now c.args.store.now _ _ served c.args.part.now no_newline _ c.answer.result c.answer.new.store c.args.pending.now (g.met.W.Outside.said_now _) c.answer.ensures.moves.counts
     (subst (λ (k : Request). Answered g.W.Disk.tells c.answer.result served.now (Step served.now k) c.answer.new.store (g.W.Disk.world c.args.out.now) (g.W.Disk.world c.answer.new.out)) same
     (c.answer.ensures.answered served.now output served.holds served.stand)) (nothing c.args.pending.now none)
 
@@ -21,6 +21,6 @@ pub returns-clause-after : goal.returns-clause-after
 returns-clause-after g c start first bytes output no_newline served =
     let held = c.keep.ensures served.rest served.held in
     let same : asked_here c.as_slice.result.now ≡ asked_here (served.rest ++ c.args.part.now) = ap asked_here c.as_slice.ensures ∙ request_held _ _ held in
-    line_end g.W.Disk.tells start bytes c.args.pending.now c.args.store.now _ _ served c.args.part.now no_newline _ c.answer-end.result c.answer-end.new.store c.clear.new.self (g.met.W.Outside.said_now _)
+    line_end g.W.Disk.tells start bytes c.args.pending.now c.args.store.now _ _ served c.args.part.now no_newline _ c.answer-end.result c.answer-end.new.store c.clear.new.self (g.met.W.Outside.said_now _) c.answer-end.ensures.moves.counts
     (subst (λ (k : Request). Answered g.W.Disk.tells c.answer-end.result served.now (Step served.now k) c.answer-end.new.store (g.W.Disk.world c.args.out.now) (g.W.Disk.world c.answer-end.new.out)) same
     (c.answer-end.ensures.answered served.now output served.holds served.stand)) c.clear.ensures

@@ -4,7 +4,7 @@ use Rattle.store_commands.specs.Cutting.{NoNewline}
 use Rattle.surf_run.specs.Serving.{Served, After}
 use Rattle.surf_run.proofs.Texts.{none_here, piece_split, line_more, all_more}
 use Rattle.surf_run.proofs.Progress.{part_more, after_more}
-use Rattle.surf_run.proofs.EndCauses.{cause_since, takes_on, takes_none}
+use Rattle.surf_run.proofs.EndCauses.{cause_since, lines_on, lines_none}
 use Rattle.surf_run.proofs.serve.feed.Goals as goal
 
 pub returns-in_default-end_line : goal.returns-in_default-end_line
@@ -18,7 +18,7 @@ returns-in_default-end_line g c = record {
       (after_more g.W.Disk.tells 1 (length c.args.piece.now) c.end_line.result start _ c.in-Some.more.now _ _ _ _
       (omega (arith, ap length so_far.1, length-append so_far.0 c.loop-line.rest.now, ap length found.0, length-append c.in-Some.line.now (10 ∷ c.in-Some.more.now))) c.in_default-end_line.not-Next after);
   cause = cause_since c.end_line.result _ _ _ c.loop-line.invariant.moves.counts c.end_line.ensures.cause;
-  moves = takes_on _ _ _ c.loop-line.invariant.moves c.end_line.ensures.moves;
+  moves = lines_on _ _ _ c.loop-line.invariant.moves c.end_line.ensures.moves;
 }
 
 pub loop-line-preserved : goal.loop-line-preserved
@@ -32,7 +32,7 @@ loop-line-preserved g c = record {
             (sym (line_more bytes c.args.piece.now so_far.0 _ c.in-Some.line.now c.in-Some.more.now so_far.1 found.0))
             (c.in-Next.ensures.after start first _ output found.1 so_far.2),
       );
-  moves = takes_on _ _ _ c.loop-line.invariant.moves c.end_line.ensures.moves;
+  moves = lines_on _ _ _ c.loop-line.invariant.moves c.end_line.ensures.moves;
 }
 
 pub returns-clause-after : goal.returns-clause-after
@@ -47,5 +47,5 @@ pub loop-line-init : goal.loop-line-init
 loop-line-init g c = record {
   served = λ start first bytes output served.
       ([], refl, subst (λ (l : List ℕ). Served g.W.Disk.tells start l c.args.pending.now c.args.store.now (g.W.Disk.world first) (g.W.Disk.world c.args.out.now)) (sym (append-nil bytes)) served);
-  moves = takes_none (g.W.Disk.world c.args.out.now);
+  moves = lines_none (g.W.Disk.world c.args.out.now);
 }

@@ -3,13 +3,13 @@ use Rattle.std.proofs.lemmas.List.{length-append, length-take}
 use Rattle.surf_run.proofs.Texts.{front_of, taken_more, taken_all}
 use Rattle.surf_run.proofs.Outcomes.{served_none, served_take, settled_quit, settled_end, settled_cut}
 use Rattle.surf_run.proofs.EndCauses.{no_fall_on, no_fall_take}
-use Rattle.surf_run.proofs.Progress.{bye_wider}
-use Rattle.surf_run.specs.Outcome.{piece_bytes}
+use Rattle.surf_run.proofs.Footprint.{log_none, log_on, log_take}
 use Rattle.surf_run.proofs.serve.serve.Goals as goal
 
 pub loop-left-init : goal.loop-left-init
 loop-left-init g c = record {
   served = λ start input output holds stand. ([], refl, omega arith, served_none g.W.Disk.tells start _ _ _ c.requires.fresh (g.met.W.Outside.said_now _) holds stand);
+  footprint = log_none _;
   counts = record { read = omega arith; write = omega arith; take = omega arith; say = omega arith };
 }
 
@@ -18,7 +18,7 @@ returns-in-Err-clause-outcome g c start input output holds stand =
     let was = c.loop-left.invariant.served start input output holds stand in
     record {
       taken = was.0;
-      input = was.1 ∙ ap (λ (l : List ℕ). was.0 ++ l) (sym c.in-Err.ensures.refused);
+      input = was.1 ∙ ap (λ (l : List ℕ). was.0 ++ l) (sym c.in-Err.ensures.unchanged);
       settled = settled_cut g.W.Disk.tells 3 start was.0 _ _ _ _ (inl refl) (served_take g.W.Disk.tells start was.0 _ _ _ _ _ c.take.ensures.moves (g.met.W.Outside.said_now _) was.3);
       limit = λ is. absurd cc;
       most = omega (arith, was.2);
@@ -50,6 +50,7 @@ loop-left-preserved g c = record {
         omega (arith, was.2, length-append was.0 piece, ap length front, length-take c.in-Ok.taken c.take.new.into, c.in-Ok.ensures.count, c.take.auto.into, c.room_for-most.ensures.left, length-take c.room_for-most.result c.loop-left.piece),
         c.in-Next.ensures.after start c.args.out.now was.0 output (served_take g.W.Disk.tells start was.0 _ _ _ _ _ c.take.ensures.moves (g.met.W.Outside.said_now _) was.3),
       );
+  footprint = log_on _ _ _ c.loop-left.invariant.footprint (log_on _ _ _ (log_take _ _ c.take.ensures.moves) c.feed.ensures.moves.footprint);
   counts = no_fall_on _ _ _ c.loop-left.invariant.counts (no_fall_on _ _ _ (no_fall_take _ _ c.take.ensures.moves) c.feed.ensures.moves.counts);
 }
 
@@ -64,8 +65,8 @@ returns-in-Quit-clause-outcome g c start input output holds stand =
       input = taken_more _ _ _ was.0 piece was.1 (took.bytes ∙ ap (λ (l : List ℕ). l ++ (g.W.Disk.world c.take.new.self).beside.to_take) (sym front)) ∙ ap (λ (l : List ℕ). (was.0 ++ piece) ++ l) (sym c.feed.ensures.moves.input);
       settled =
           let after = c.in-Quit.ensures.after start c.args.out.now was.0 output (served_take g.W.Disk.tells start was.0 _ _ _ _ _ c.take.ensures.moves (g.met.W.Outside.said_now _) was.3) in
-          settled_quit g.W.Disk.tells start (was.0 ++ piece) _ _ after.0 (bye_wider g.W.Disk.tells (length piece) piece_bytes start (was.0 ++ piece) _ _
-          (omega (arith, ap length front, length-take c.in-Ok.taken c.take.new.into, c.in-Ok.ensures.count, c.take.auto.into, c.room_for-most.ensures.most, length-take c.room_for-most.result c.loop-left.piece, c.requires.small, c.loop-left.auto.piece)) after.1);
+          settled_quit g.W.Disk.tells (length piece) start (was.0 ++ piece) _ _
+          (omega (arith, ap length front, length-take c.in-Ok.taken c.take.new.into, c.in-Ok.ensures.count, c.take.auto.into, c.room_for-most.ensures.most, length-take c.room_for-most.result c.loop-left.piece, c.requires.small, c.loop-left.auto.piece)) after.0 after.1;
       limit = λ is. absurd cc;
       most = omega (arith, was.2, length-append was.0 piece, ap length front, length-take c.in-Ok.taken c.take.new.into, c.in-Ok.ensures.count, c.take.auto.into, c.room_for-most.ensures.left, length-take c.room_for-most.result c.loop-left.piece);
     }
@@ -79,7 +80,9 @@ returns-in-End-clause-outcome g c start input output holds stand =
     record {
       taken = was.0 ++ piece;
       input = taken_more _ _ _ was.0 piece was.1 (took.bytes ∙ ap (λ (l : List ℕ). l ++ (g.W.Disk.world c.take.new.self).beside.to_take) (sym front)) ∙ ap (λ (l : List ℕ). (was.0 ++ piece) ++ l) (sym c.feed.ensures.moves.input);
-      settled = settled_end g.W.Disk.tells c.in-End.status start (was.0 ++ piece) _ _ (c.in-End.ensures.after start c.args.out.now was.0 output (served_take g.W.Disk.tells start was.0 _ _ _ _ _ c.take.ensures.moves (g.met.W.Outside.said_now _) was.3));
+      settled = settled_end g.W.Disk.tells (length piece) c.in-End.status start (was.0 ++ piece) _ _
+          (omega (arith, ap length front, length-take c.in-Ok.taken c.take.new.into, c.in-Ok.ensures.count, c.take.auto.into, c.room_for-most.ensures.most, length-take c.room_for-most.result c.loop-left.piece, c.requires.small, c.loop-left.auto.piece))
+          (c.in-End.ensures.after start c.args.out.now was.0 output (served_take g.W.Disk.tells start was.0 _ _ _ _ _ c.take.ensures.moves (g.met.W.Outside.said_now _) was.3));
       limit = λ is. absurd (elim c.in-End.ensures.cause [ inl four ↦ let f = four.0 in cc | inr six ↦ let s = six.0 in cc ]);
       most = omega (arith, was.2, length-append was.0 piece, ap length front, length-take c.in-Ok.taken c.take.new.into, c.in-Ok.ensures.count, c.take.auto.into, c.room_for-most.ensures.left, length-take c.room_for-most.result c.loop-left.piece);
     }
@@ -94,3 +97,17 @@ returns-clause-outcome g c start input output holds stand =
       limit = λ is. omega (arith, was.2);
       most = omega (arith, was.2);
     }
+
+-- ---- where it writes
+
+pub returns-in-Err-clause-footprint : goal.returns-in-Err-clause-footprint
+returns-in-Err-clause-footprint g c = log_on _ _ _ c.loop-left.invariant.footprint (log_take _ _ c.take.ensures.moves)
+
+pub returns-then-taken-eq0-clause-footprint : goal.returns-then-taken-eq0-clause-footprint
+returns-then-taken-eq0-clause-footprint g c = log_on _ _ _ c.loop-left.invariant.footprint (log_on _ _ _ (log_take _ _ c.take.ensures.moves) c.end_input.ensures.moves.footprint)
+
+pub returns-in-Quit-clause-footprint : goal.returns-in-Quit-clause-footprint
+returns-in-Quit-clause-footprint g c = log_on _ _ _ c.loop-left.invariant.footprint (log_on _ _ _ (log_take _ _ c.take.ensures.moves) c.feed.ensures.moves.footprint)
+
+pub returns-in-End-clause-footprint : goal.returns-in-End-clause-footprint
+returns-in-End-clause-footprint g c = log_on _ _ _ c.loop-left.invariant.footprint (log_on _ _ _ (log_take _ _ c.take.ensures.moves) c.feed.ensures.moves.footprint)

@@ -4,6 +4,7 @@ use Rattle.log_model.proofs.Ends.{not_both}
 use Rattle.line_model.specs.Replies.{text_of}
 use Rattle.surf_run.specs.Open.{reply_to, status_of}
 use Rattle.surf_run.specs.Run.{IsLastText}
+use Rattle.surf_run.proofs.Footprint.{log_on, log_open, log_say}
 use Rattle.surf_run.proofs.Lifting.{unserved_since, damage_told}
 use Rattle.surf_run.proofs.LastLines.{unserved, fault_text, not_six}
 use Rattle.surf_run.proofs.top.open_and_serve.Goals as goal
@@ -46,3 +47,9 @@ returns-in-Err-clause-answers g c input output =
     (unserved g.W.Disk.tells mid (g.W.Disk.world c.not_opened.new.out) (g.met.W.Outside.said_now _) c.not_opened.ensures.moves c.not_opened.result (status_of fault) (text_of (reply_to fault))
     (subst (λ (i : Image). IsLastText g.W.Disk.tells i (status_of fault) (text_of (reply_to fault))) (sym opened.held) (fault_text g.W.Disk.tells old.seen.held fault c.in-Err.ensures.shape))
     (c.not_opened.ensures.front output) (λ same. c.not_opened.ensures.said output (λ six. not_six fault (sym same ∙ six))) c.not_opened.ensures.ends))
+
+pub returns-in-Ok-clause-footprint : goal.returns-in-Ok-clause-footprint
+returns-in-Ok-clause-footprint g c = log_on _ _ _ (log_open _ _ c.open_store.ensures.moves) c.serve_store.ensures.footprint
+
+pub returns-in-Err-clause-footprint : goal.returns-in-Err-clause-footprint
+returns-in-Err-clause-footprint g c = log_on _ _ _ (log_open _ _ c.open_store.ensures.moves) (log_say _ _ c.not_opened.ensures.moves)

@@ -2,6 +2,7 @@ use Rattle.std.proofs.Common.{◌≡◌, inl, inr, refl, subst, List}
 use Rattle.log_model.proofs.Ends.{one_list}
 use Rattle.entry_model.specs.Entries.{Entry}
 use Rattle.surf_run.specs.Outcome.{Outcome}
+use Rattle.surf_run.proofs.Footprint.{log_say}
 use Rattle.surf_run.proofs.Lifting.{ends_since}
 use Rattle.surf_run.proofs.LastLines.{unserved, completed, not_two}
 use Rattle.surf_run.proofs.top.run.Goals as goal
@@ -32,3 +33,6 @@ returns-clause-complete g c input output words none =
 
 pub returns-clause-told_of_damage : goal.returns-clause-told_of_damage
 returns-clause-told_of_damage g c at rule tells words breaks = c.open_and_serve.ensures.told_of_damage at rule tells breaks
+
+pub returns-then-not-is_serve-clause-footprint : goal.returns-then-not-is_serve-clause-footprint
+returns-then-not-is_serve-clause-footprint g c = log_say _ _ c.say_usage.ensures.moves

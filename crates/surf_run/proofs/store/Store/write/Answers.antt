@@ -1,4 +1,4 @@
-use Rattle.std.proofs.Common.{◌<◌, ◌∙◌, ◌++◌, ◌∷◌, [], ap, sym, arith, inl, inr}
+use Rattle.std.proofs.Common.{◌<◌, ◌+◌, ◌∙◌, ◌++◌, ◌∷◌, ℕ, [], ap, sym, arith, inl, inr}
 use Rattle.std.proofs.lemmas.Bool.{cases_lt}
 use Rattle.gate_log.specs.Kinds.{entry_of_kind}
 use Rattle.entry_model.specs.Entries.{IsEntry, Entry, need, gap}
@@ -15,9 +15,9 @@ returns-then-not-fits-clause-refused g c entries holds =
     let small : gap entries < need (entry_of_kind c.args.kind c.args.key.now c.args.value.now) =
     elim (cases_lt (gap entries) (need (entry_of_kind c.args.kind c.args.key.now c.args.value.now))) [
       | inl lt ↦ lt
-      | inr le ↦ absurd (let no = c.if-not-fits.ensures.1 (omega (arith, size, room, c.gap.ensures)) in cc)
+      | inr le ↦ absurd (let no = c.if-not-fits.ensures.1 (omega (arith, size, room, c.gap.ensures, c.body_length-n.ensures)) in cc)
     ] in
-    (sym size, room, small)
+    (ap (λ (n : ℕ). n + 2) c.body_length-n.ensures ∙ sym size, room, small)
 
 pub returns-in-Ok-clause-done : goal.returns-in-Ok-clause-done
 returns-in-Ok-clause-done g c entries holds =
@@ -29,7 +29,7 @@ returns-in-Ok-clause-done g c entries holds =
     }
 
 pub returns-in-Ok-clause-fits : goal.returns-in-Ok-clause-fits
-returns-in-Ok-clause-fits g c entries holds = omega (arith, need_is c.args.kind c.args.key.now c.args.value.now c.requires.fits, gap_is entries, holds.place, c.if-not-fits.ensures.0)
+returns-in-Ok-clause-fits g c entries holds = omega (arith, need_is c.args.kind c.args.key.now c.args.value.now c.requires.fits, gap_is entries, holds.place, c.if-not-fits.ensures.0, c.body_length-n.ensures)
 
 pub returns-in-Ok-clause-crash : goal.returns-in-Ok-clause-crash
 returns-in-Ok-clause-crash g c entries tells holds =
@@ -39,9 +39,9 @@ returns-in-Ok-clause-crash g c entries tells holds =
 
 pub returns-in-Err-clause-refused : goal.returns-in-Err-clause-refused
 returns-in-Err-clause-refused g c entries holds =
-    omega (arith, need_is c.args.kind c.args.key.now c.args.value.now c.requires.fits, gap_is entries, holds.place, c.if-not-fits.ensures.0)
+    omega (arith, need_is c.args.kind c.args.key.now c.args.value.now c.requires.fits, gap_is entries, holds.place, c.if-not-fits.ensures.0, c.body_length-n.ensures)
 
 pub returns-in-Err-clause-moves : goal.returns-in-Err-clause-moves
 returns-in-Err-clause-moves g c =
     in_area c.args.self.now.log.area c.args.self.now.log.filled (need (entry_of_kind c.args.kind c.args.key.now c.args.value.now)) _ _ c.args.self.now.place
-    (omega (arith, need_is c.args.kind c.args.key.now c.args.value.now c.requires.fits, c.if-not-fits.ensures.0)) c.append.ensures.moves
+    (omega (arith, need_is c.args.kind c.args.key.now c.args.value.now c.requires.fits, c.if-not-fits.ensures.0, c.body_length-n.ensures)) c.append.ensures.moves

@@ -6,7 +6,7 @@ use Rattle.entry_model.specs.Newest.{newest_entries}
 use Rattle.surf_run.specs.declared.store.Store.{Store}
 
 -- its log ends behind their records, they are within the limits, and its table is that of the newest of each key
-pub record Holds (entries : List Entry) (store : Store) : Type 0 where
+pub record StoreIs (entries : List Entry) (store : Store) : Type 0 where
   pub place : store.log.filled ≡ filled entries
   pub sound : AllByRecursion IsEntry entries
   pub table : store.table.entries ≡ newest_entries entries
