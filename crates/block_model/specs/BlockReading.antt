@@ -2,6 +2,7 @@
 use Rattle.std.specs.Prelude.{ℕ, zero, suc, ◌+◌, ◌*◌, nat_lt, ◌==◌, Bool, not, ◌&&◌, ◌||◌, List, [], ◌∷◌, length, take, drop, slice_index, position, Option, Some, None, if◌then◌else◌}
 use Rattle.std.specs.Option.{option_map}
 use Rattle.byteorder.specs.Endian.{little_number}
+use Rattle.key_base.specs.Limits.{max_key_bytes, max_value_bytes}
 use Rattle.map_model.specs.SortedMap.{Bytes}
 use Rattle.entry_model.specs.Entries.{Entry}
 use Rattle.entry_model.specs.Reading.{kind_in, key_length_in, value_length_in, width_in, key_in, entry_in}
@@ -17,7 +18,7 @@ has_no_kind rest = not (kind_in rest == 1) && (not (kind_in rest == 2) || nat_lt
 
 -- a key of no byte or of too many
 abbrev pub is_no_key_length : ℕ → Bool
-is_no_key_length bytes = bytes == 0 || nat_lt 1024 bytes
+is_no_key_length bytes = bytes == 0 || nat_lt max_key_bytes bytes
 
 -- The first rule that the entry at a place breaks, by the bytes from there to the length. 3: it runs past the length, tried
 -- on the seven first bytes and then on the whole; 4: the kind; 5: the lengths; 6: the key does not pass the test.
@@ -25,7 +26,7 @@ unfoldable pub entry_fault : ℕ → (Bytes → Bool) → Bytes → Option Fault
 entry_fault place test rest =
     refuse (nat_lt (length rest) 7) place 3
     (refuse (has_no_kind rest) place 4
-    (refuse (is_no_key_length (key_length_in rest) || nat_lt 65536 (value_length_in rest)) place 5
+    (refuse (is_no_key_length (key_length_in rest) || nat_lt max_value_bytes (value_length_in rest)) place 5
     (refuse (nat_lt (length rest) (width_in rest)) place 3
     (refuse (not (test (key_in rest))) place 6
     None))))

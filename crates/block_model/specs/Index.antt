@@ -1,6 +1,7 @@
 -- The bytes of a table's index: the least key, and for each block its pages, the sum of its bytes and its last key.
 use Rattle.std.specs.Prelude.{◌≡◌, ℕ, ◌≤◌, ◌<◌, ◌^◌, List, [], ◌∷◌, ◌++◌, length, map, flat_map, sum_by}
 use Rattle.std.specs.List.{AllByRecursion}
+use Rattle.key_base.specs.Limits.{max_key_bytes}
 use Rattle.map_model.specs.SortedMap.{Bytes}
 use Rattle.entry_model.specs.Entries.{Entry}
 use Rattle.byte_fields.specs.Fields.{fields}
@@ -56,11 +57,11 @@ pub record IsIndexRow (row : IndexRow) : Type 0 where
   pub few_pages : row.pages ≤ 17
   pub sum : row.sum < 2 ^ 64
   pub some_key : 1 ≤ length row.last
-  pub short_key : length row.last ≤ 1024
+  pub short_key : length row.last ≤ max_key_bytes
 
 pub record IsIndex (pages : ℕ) (index : Index) : Type 0 where
   pub some_key : 1 ≤ length index.least
-  pub short_key : length index.least ≤ 1024
+  pub short_key : length index.least ≤ max_key_bytes
   pub some : 1 ≤ length index.rows
   pub few : length index.rows < 2 ^ 32
   pub each : AllByRecursion IsIndexRow index.rows

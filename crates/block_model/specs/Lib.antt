@@ -6,4 +6,4 @@ pub mod BlockReading
 pub mod Index
 pub mod IndexReading
 pub mod Laws
-pub mod Rows
+pub mod Examples

@@ -1,15 +1,13 @@
 -- How the entries of a table are cut into blocks, and how many bytes and pages its blocks and its index take.
 use Rattle.std.specs.Prelude.{ℕ, ◌+◌, ◌/◌, nat_le, nat_lt, ◌&&◌, Bool, false, List, [], ◌∷◌, ◌++◌, length, fold, flat_map, sum_by, if◌then◌else◌}
+use Rattle.key_base.specs.Limits.{max_block_entries}
+pub use Rattle.key_base.specs.Limits.{page_bytes}
 use Rattle.map_model.specs.SortedMap.{Bytes}
 use Rattle.entry_model.specs.Entries.{Entry, body}
 
--- the bytes of a page
-abbrev pub page_bytes : ℕ
-page_bytes = 4096
-
 -- the most entries of a block
 abbrev pub block_entries : ℕ
-block_entries = 255
+block_entries = max_block_entries
 
 -- so many bytes in whole pages, rounded up
 unfoldable pub pages_for : ℕ → ℕ

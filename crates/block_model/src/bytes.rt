@@ -1,4 +1,4 @@
-// The bytes of blocks and of an index.
+//! The bytes of blocks and of an index.
 ghost use Rattle.std.specs.Prelude.{◌≡◌, ◌-◌, ◌*◌, ◌^◌, ◌<◌, ◌≤◌, ◌++◌, [], ◌∷◌, IfOk, OnOk, length, map, replicate, vec_items};
 ghost use Rattle.std.specs.List.{AllByRecursion};
 ghost use Rattle.entry_model.specs.Entries.{body};
@@ -20,7 +20,7 @@ const INDEX_HEAD_WIDTHS: [usize; 3] = [4, 4, 2];
 
 const INDEX_ROW_WIDTHS: [usize; 3] = [4, 8, 2];
 
-/// `SRFI`.
+// `SRFI`.
 const INDEX_MAGIC: u64 = 0x49465253;
 
 /// The bytes of a block, in whole pages.

@@ -1,4 +1,4 @@
-// How many pages the blocks of a table take, and how many bytes its index.
+//! How many pages the blocks of a table take, and how many bytes its index.
 ghost use Rattle.std.specs.Prelude.{◌≡◌, ◌<◌, ◌^◌, IfOk};
 ghost use Rattle.block_model.specs.Block.{AreEntries};
 ghost use Rattle.block_model.specs.Pages.{data_pages, index_length};

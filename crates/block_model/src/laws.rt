@@ -1,4 +1,4 @@
-// Laws of the formats. They are proved and never called.
+//! Laws of the formats. They are proved and never called.
 ghost use Rattle.block_model.specs.Laws.{BlockFillsItsPages, BlocksAreSound, BlocksAreTheEntries, BlocksFillTheirPages, BlocksGrow, IndexHasItsLength, BlockIsReadAgain, BlockWasWrittenSo, IndexIsReadAgain, IndexIsSound, IndexWasWrittenSo};
 
 /// The blocks of a table, one after the other, are its entries; each more entry goes into the last block or behind it;

@@ -1,4 +1,4 @@
-//! What the bytes of a table's blocks and of its index are: the definitions, their worked rows and laws, and plain
+//! What the bytes of a table's blocks and of its index are: the definitions, examples and laws, and plain
 //! programs that write what they say.
 //!
 //! `specs/` has one file a noun. `Pages` says how entries are cut into blocks and how many pages and bytes come out,
@@ -8,8 +8,8 @@
 //!
 //! The functions are the obvious loops. They copy entries and hold all bytes in memory, so they are for tests and for
 //! comparison; a store writes its tables block by block. Want of memory is the only error. [`are_entries`] tests what
-//! the others ask of their entries. The functions with no parameter have no body: each has rows or laws as its
-//! contract, and none needs to be called.
+//! the others ask of their entries. The functions with no parameter have no body: each has examples or laws
+//! as its contract, and none needs to be called.
 //!
 //! ```text
 //! entries             a with the value b, and a tombstone of ab
@@ -19,23 +19,16 @@
 //! ```
 #![tactic(auto)]
 
-mod block_rows;
 mod bytes;
 mod counts;
-mod index_rows;
+pub mod examples;
 mod laws;
-mod page_rows;
 mod pages;
 
-pub use block_rows::{broken_blocks, small_block_bytes, small_block_is_read, twice_broken_blocks};
 pub use bytes::{block_bytes, data_bytes, first_key, index_bytes, last_key, push_body};
 pub use counts::{data_pages, index_length};
-pub use index_rows::{
-    broken_indexes, small_index_bytes, small_index_is_read, twice_broken_indexes,
-};
 pub use laws::{
     blocks_are_the_entries, blocks_have_one_spelling, indexes_have_one_spelling,
     lengths_are_counted,
 };
-pub use page_rows::{full_blocks, parts_of_a_table, small_blocks, whole_pages};
 pub use pages::{are_entries, block_length, cut, pages_for};

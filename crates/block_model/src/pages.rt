@@ -1,11 +1,11 @@
-// Entries cut into blocks, and how many bytes and pages these take.
+//! Entries cut into blocks, and how many bytes and pages these take.
 ghost use Rattle.std.specs.Prelude.{◌≡◌, ◌≤◌, ◌<◌, ◌+◌, ◌++◌, [], ◌∷◌, IfOk, OnOk, IsTrue, ◌↔◌, length, map, vec_items, sum_by, flat_map, ◌^◌};
 ghost use Rattle.std.specs.List.{AllByRecursion};
 ghost use Rattle.entry_model.specs.Entries.{body, IsEntry};
 ghost use Rattle.block_model.specs.Block.{AreEntries};
 ghost use Rattle.block_model.specs.Pages.{pages_for, block_length, block_pages, blocks_of, blocks_with, data_pages, has_room, last_has_room};
 
-use entry_list::{Entry, push_copy};
+use entry_list::{Entry, body_length, push_copy};
 use key_base::{MAX_BLOCK_ENTRIES, MAX_KEY_BYTES, MAX_VALUE_BYTES, PAGE_BYTES};
 use std::alloc::{AllocError, Global};
 
@@ -52,7 +52,7 @@ fn entry_length(entry: &Entry) -> u64
         Some(bytes) => bytes.len(),
         None => 0,
     };
-    (7 + entry.key().len() + value) as u64
+    body_length(entry.key().len(), value) as u64
 }
 
 /// The entries cut into blocks.

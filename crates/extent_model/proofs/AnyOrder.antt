@@ -36,7 +36,7 @@ filter_all P test (x ∷ xs) all = elim (test x) as (λ b. test x ≡ b → AllB
 not_both : (b : Bool) → b ≡ false → b ≡ true → ⊥
 not_both b off on = let bad : false ≡ true = sym off ∙ on in cc
 
-of_filter : {X : Type 0} (P : X → Type 0) (test : X → Bool) (xs : List X) → AllByRecursion P (filter test xs) → AllByRecursion (λ x. test x ≡ true → P x) xs
+pub of_filter : {X : Type 0} (P : X → Type 0) (test : X → Bool) (xs : List X) → AllByRecursion P (filter test xs) → AllByRecursion (λ x. test x ≡ true → P x) xs
 of_filter P test [] all = tt
 of_filter P test (x ∷ xs) all = elim (test x) as (λ b. test x ≡ b → AllByRecursion P (cond b (x ∷ filter test xs) (filter test xs)) → AllByRecursion (λ x. test x ≡ true → P x) (x ∷ xs)) [
   | true ↦ λ _ kept. (λ _. kept.0, of_filter P test xs kept.1)
@@ -78,7 +78,7 @@ any_same test xs ys there back = same_bool (list_any test xs) (list_any test ys)
 min_first : (n m l : ℕ) → l ≤ min n m → (l ≤ n) × (l ≤ m)
 min_first n m l less = (omega arith, omega arith)
 
-fold_below : (n : ℕ) (xs : List ℕ) → (fold min n xs ≤ n) × AllByRecursion (λ x. fold min n xs ≤ x) xs
+pub fold_below : (n : ℕ) (xs : List ℕ) → (fold min n xs ≤ n) × AllByRecursion (λ x. fold min n xs ≤ x) xs
 fold_below n [] = (omega arith, tt)
 fold_below n (x ∷ xs) = let rest = fold_below (min n x) xs in let parts = min_first n x (fold min (min n x) xs) rest.0 in (parts.0, (parts.1, rest.1))
 

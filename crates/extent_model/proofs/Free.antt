@@ -12,7 +12,7 @@ or_parts : (a b : Bool) → (a || b) ≡ false → (a ≡ false) × (b ≡ false
 or_parts true b e = absurd cc
 or_parts false b e = (refl, e)
 
-le_of : (m n : ℕ) → nat_le m n ≡ true → m ≤ n
+pub le_of : (m n : ℕ) → nat_le m n ≡ true → m ≤ n
 le_of m n e = grind arith
 
 min_upto : (page need pages first : ℕ) → page + need ≤ min pages first → (page + need ≤ pages) × (page + need ≤ first)

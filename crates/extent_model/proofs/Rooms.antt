@@ -4,7 +4,7 @@ use Rattle.std.specs.Prelude.{Option, Some, None, nat_le, max, fold, filter}
 use Rattle.extent_model.specs.Extents.{Extent}
 use Rattle.extent_model.specs.Gaps.{room_at, gap_starts, least, first_gap, largest_gap}
 
-not_le : (m n : ℕ) → nat_le m n ≡ false → n < m
+pub not_le : (m n : ℕ) → nat_le m n ≡ false → n < m
 not_le m n e = grind arith
 
 le_false : (m n : ℕ) → n < m → nat_le m n ≡ false
@@ -13,10 +13,10 @@ le_false m n l = grind arith
 max_less : (a b n : ℕ) → a < n → b < n → max a b < n
 max_less a b n x y = grind arith
 
-max_left : (a b c : ℕ) → max a b ≤ c → a ≤ c
+pub max_left : (a b c : ℕ) → max a b ≤ c → a ≤ c
 max_left a b c l = grind arith
 
-max_right : (a b c : ℕ) → max a b ≤ c → b ≤ c
+pub max_right : (a b c : ℕ) → max a b ≤ c → b ≤ c
 max_right a b c l = grind arith
 
 le_less : (a b c : ℕ) → a ≤ b → b < c → a < c
@@ -49,7 +49,7 @@ none_left room need most (page ∷ more) less =
     ap (λ (t : Bool). cond t (page ∷ filter (λ page. nat_le need (room page)) more) (filter (λ page. nat_le need (room page)) more)) (le_false need (room page) small)
     ∙ none_left room need (max most (room page)) more less
 
-least_none : (pages : List ℕ) → least pages ≡ None → pages ≡ []
+pub least_none : (pages : List ℕ) → least pages ≡ None → pages ≡ []
 least_none [] e = refl
 least_none (page ∷ more) e = cc
 

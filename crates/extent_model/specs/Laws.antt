@@ -1,5 +1,5 @@
 -- Laws of gaps.
-use Rattle.std.specs.Prelude.{◌≡◌, ◌<◌, ℕ, List, Some, None}
+use Rattle.std.specs.Prelude.{◌≡◌, ◌<◌, ◌≤◌, ℕ, List, Some, None}
 use Rattle.std.specs.List.{AllByRecursion}
 use Rattle.std.specs.List.Sorted.{IsPermutation}
 use Rattle.extent_model.specs.Extents.{Extent, IsOnDevice, AreApart}
@@ -20,3 +20,12 @@ pub record NoGapLaws : Type 0 where
 pub record OrderLaws : Type 0 where
   pub first : (pages need : ℕ) (xs ys : List Extent) → IsPermutation xs ys → first_gap pages xs need ≡ first_gap pages ys need
   pub largest : (pages : ℕ) (xs ys : List Extent) → IsPermutation xs ys → largest_gap pages xs ≡ largest_gap pages ys
+
+-- Free pages are in no gap larger than the largest, and no first gap that holds as many begins behind them.
+pub record GapsAreAll : Type 0 where
+  pub largest :
+      (pages page n : ℕ) (extents : List Extent) → IsOnDevice pages (page, n) → AllByRecursion (IsOnDevice pages) extents
+      → AllByRecursion (AreApart (page, n)) extents → n ≤ largest_gap pages extents
+  pub first :
+      (pages page n start : ℕ) (extents : List Extent) → IsOnDevice pages (page, n) → AllByRecursion (IsOnDevice pages) extents
+      → AllByRecursion (AreApart (page, n)) extents → first_gap pages extents n ≡ Some start → start ≤ page

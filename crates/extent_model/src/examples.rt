@@ -1,4 +1,4 @@
-// The definitions, shown by examples. Each computes.
+//! The definitions, shown by examples. Each computes.
 ghost use Rattle.std.specs.Prelude.{◌≡◌, [], ◌∷◌, map, Some, None};
 ghost use Rattle.extent_model.specs.Gaps.{first_gap, largest_gap, room_at};
 

@@ -12,4 +12,4 @@
 pub mod examples;
 mod laws;
 
-pub use laws::{first_gap_is_free, no_gap_laws, order_laws};
+pub use laws::{first_gap_is_free, gaps_are_all, no_gap_laws, order_laws};

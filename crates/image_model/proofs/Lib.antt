@@ -1,4 +1,3 @@
-pub mod Rows
 pub mod Tables
 pub mod NewStores
 pub mod Placed
@@ -6,5 +5,7 @@ pub mod States
 pub mod Frames
 pub mod Installs
 pub mod Ranges
+pub mod InOrder
+pub mod Opened
 pub mod Opening
 pub mod Sound

@@ -5,14 +5,14 @@ use Rattle.filter_api.specs.Ranges.{InRange}
 use Rattle.filter_api.specs.declared.settings.Settings.{Settings}
 use Rattle.log_model.proofs.Appended.{empty}
 use Rattle.manifest_model.specs.Laws.{IsVersion}
-use Rattle.manifest_model.specs.Reading.{extents_fault, levels_fault, of_version, rows_fault}
+use Rattle.manifest_model.specs.Reading.{extents_fault, levels_fault, of_version, table_rows_fault}
 use Rattle.image_model.specs.NewStores.{NewStoreIsReady, NewStoreStands, new_version}
 
 none_placed : (settings : Settings) (pages : ℕ) → of_version (new_version settings pages) ≡ None
-unfolding rows_fault levels_fault extents_fault
+unfolding table_rows_fault levels_fault extents_fault
 none_placed settings pages = refl
 
-new_sound : (settings : Settings) (pages : ℕ) → InRange settings → settings.ratio < 2 ^ 16 → 512 ≤ pages → pages ≤ 16777216 → IsVersion (new_version settings pages)
+new_sound : (settings : Settings) (pages : ℕ) → InRange settings → settings.ratio ≤ 65535 → 512 ≤ pages → pages ≤ 16777216 → IsVersion (new_version settings pages)
 new_sound settings pages range ratio some few = record {
   few_tables = omega arith;
   some_epoch = omega arith;
@@ -21,7 +21,7 @@ new_sound settings pages range ratio some few = record {
   few_pages = few;
   hash_bits = range.hash_bits;
   real_bits = range.real_bits;
-  ratio = ratio;
+  ratio = omega (arith, ratio);
   log_page = inl refl;
   rows = tt;
   placed = none_placed settings pages;

@@ -1,5 +1,5 @@
 -- An image has one first damage, and none where it stands for a state.
-use Rattle.std.proofs.Common.{◌≡◌, inl, inr, ◌*◌, ◌+◌, ℕ, List, [], ◌∷◌, sym, ap, ap₂, subst, arith}
+use Rattle.std.proofs.Common.{◌≡◌, inl, inr, ◌*◌, ◌+◌, ◌++◌, ℕ, List, [], ◌∷◌, sym, ap, ap₂, subst, arith}
 use Rattle.std.specs.Prelude.{Option, Some, None}
 use Rattle.std.specs.List.{AllByRecursion}
 use Rattle.byte_fields.specs.declared.parts.Damage.{Damage}
@@ -22,7 +22,7 @@ use Rattle.state_model.specs.State.{State}
 use Rattle.table_model.specs.Tables.{Table}
 use Rattle.table_model.specs.Damage.{index_damage}
 use Rattle.table_model.proofs.Sound.{filter_has_none, index_has_none, one_filter_damage, sound_filter_has_none}
-use Rattle.image_model.specs.Opening.{IsOpened, NoStoreHasNoDamage, NoStoreHasNoState, OneDamage, StateHasNoDamage, TablesBreak, VersionBreaks, at_a_table, at_the_log, at_the_ranges, at_the_slots, at_the_version}
+use Rattle.image_model.specs.Opening.{IsOpened, NoStoreHasNoDamage, NoStoreHasNoState, OneDamage, RangesAreAtTheBody, RowsComeFirst, StateHasNoDamage, TablesBreak, VersionBreaks, at_a_table, at_the_log, at_the_ranges, at_the_slots, at_the_version}
 use Rattle.image_model.specs.Stands.{IsNamedBy, settings_of}
 use Rattle.image_model.specs.Tables.{AreTablesOf}
 use Rattle.image_model.proofs.Ranges.{ranges_keep}
@@ -31,11 +31,11 @@ some_one : (d e : Damage) (o : Option Damage) → o ≡ Some d → o ≡ Some e 
 some_one d e None a b = absurd cc
 some_one d e (Some f) a b = cc
 
-not_some : (d : Damage) (o : Option Damage) → o ≡ None → o ≡ Some d → ⊥
+pub not_some : (d : Damage) (o : Option Damage) → o ≡ None → o ≡ Some d → ⊥
 not_some d None none some = absurd cc
 not_some d (Some f) none some = absurd cc
 
-none_or_some : (d e : Damage) (o : Option Damage) → o ≡ None → o ≡ Some d → d ≡ e
+pub none_or_some : (d e : Damage) (o : Option Damage) → o ≡ None → o ≡ Some d → d ≡ e
 none_or_some d e o none some = absurd (not_some d o none some)
 
 -- ---- of the tables
@@ -51,13 +51,13 @@ module _ (spelling : Spelling) (first_fault : Bytes → FilterFault) (settings :
   one_of_tables d e (row ∷ rows) (inr (_, inr a)) (inr (_, inl b)) = absurd (sound_filter_has_none spelling first_fault settings row image e one a.0 b)
   one_of_tables d e (row ∷ rows) (inr (_, inr a)) (inr (_, inr b)) = one_of_tables d e rows a.1 b.1
 
-  none_of_opened : (d : Damage) (rows : List Row) → AllByRecursion (IsOpened spelling settings image) rows → TablesBreak spelling first_fault settings image d rows → ⊥
+  pub none_of_opened : (d : Damage) (rows : List Row) → AllByRecursion (IsOpened spelling settings image) rows → TablesBreak spelling first_fault settings image d rows → ⊥
   none_of_opened d [] all a = a
   none_of_opened d (row ∷ rows) all (inl a) = not_some d (index_damage row image) all.0.index a
   none_of_opened d (row ∷ rows) all (inr (_, inl a)) = sound_filter_has_none spelling first_fault settings row image d one all.0.filter a
   none_of_opened d (row ∷ rows) all (inr (_, inr a)) = none_of_opened d rows all.1 a.1
 
-all_opened : (spelling : Spelling) (settings : Settings) (rows : List Row) (tables : List Table) (image : Image) → AreTablesOf spelling settings rows tables image
+pub all_opened : (spelling : Spelling) (settings : Settings) (rows : List Row) (tables : List Table) (image : Image) → AreTablesOf spelling settings rows tables image
     → AllByRecursion (IsOpened spelling settings image) rows
 all_opened spelling settings [] tables image are = tt
 all_opened spelling settings (row ∷ rows) [] image are = elim are [ ]
@@ -68,7 +68,7 @@ all_opened spelling settings (row ∷ rows) (t ∷ ts) image are = (
 
 -- ---- of the log
 
-log_place : (area at rule other more number : ℕ) (image : Image) → area ≡ other → LogBreaks area at rule image → LogBreaks other more number image → (at ≡ more) × (rule ≡ number)
+pub log_place : (area at rule other more number : ℕ) (image : Image) → area ≡ other → LogBreaks area at rule image → LogBreaks other more number image → (at ≡ more) × (rule ≡ number)
 log_place area at rule other more number image same a b =
     let so = one_fault a.0 rule b.0 number (area_in area image) a.2
     (subst (λ (k : ℕ). Breaks b.0 number (area_in k image)) (sym same) b.2) in
@@ -80,14 +80,14 @@ fault_one : (f g : Fault) (o : Option Fault) → o ≡ Some f → o ≡ Some g �
 fault_one f g None a b = absurd cc
 fault_one f g (Some h) a b = cc
 
-not_fault : (f : Fault) (o : Option Fault) → o ≡ None → o ≡ Some f → ⊥
+pub not_fault : (f : Fault) (o : Option Fault) → o ≡ None → o ≡ Some f → ⊥
 not_fault f None none some = absurd cc
 not_fault f (Some g) none some = absurd cc
 
 abbrev range_damage : ℕ → Fault → Damage
 range_damage slot f = damage.Shape part.Manifest (body_place slot + f.place) f.rule
 
-same_area : (log_page area other : ℕ) → log_page ≡ 64 * (area + 1) → log_page ≡ 64 * (other + 1) → area ≡ other
+pub same_area : (log_page area other : ℕ) → log_page ≡ 64 * (area + 1) → log_page ≡ 64 * (other + 1) → area ≡ other
 same_area log_page area other a b = omega (arith, a, b)
 
 module _ (spelling : Spelling) (first_fault : Bytes → FilterFault) (slot : ℕ) (v : Version) (image : Image) (one : SpellsOne spelling) where
@@ -138,3 +138,27 @@ no_store_has_none spelling first_fault image d none (at_the_version slot other v
 
 pub no_store_has_no_state : NoStoreHasNoState
 no_store_has_no_state spelling s image none is = no_store is.0 image none is.1.version_is
+
+-- the place of a fault of the ranges
+pub ranges_at_the_body : RangesAreAtTheBody
+ranges_at_the_body spelling first_fault slot other v image f are is all fault = at_the_version slot other v are is (at_the_ranges f all fault)
+
+-- row by row
+
+module _ (spelling : Spelling) (first_fault : Bytes → FilterFault) (settings : Settings) (image : Image) (d : Damage) where
+  at_the_row : (before rows : List Row) → AllByRecursion (IsOpened spelling settings image) before → TablesBreak spelling first_fault settings image d rows
+      → TablesBreak spelling first_fault settings image d (before ++ rows)
+  at_the_row [] rows all breaks = breaks
+  at_the_row (row ∷ before) rows all breaks = inr (all.0.index, inr (all.0.filter, at_the_row before rows all.1 breaks))
+
+  of_the_row : (all before : List Row) (rows : List Row) → all ≡ before ++ rows → AllByRecursion (IsOpened spelling settings image) before
+      → TablesBreak spelling first_fault settings image d rows → TablesBreak spelling first_fault settings image d all
+  of_the_row all before rows are opened breaks = subst (TablesBreak spelling first_fault settings image d) (sym are) (at_the_row before rows opened breaks)
+
+pub rows_come_first : RowsComeFirst
+rows_come_first spelling first_fault image d = record {
+  index = λ slot other v before later row slots current are opened damaged.
+      at_the_version slot other v slots current (at_a_table d (of_the_row spelling first_fault (settings_of v) image d v.rows before (row ∷ later) are opened (inl damaged)));
+  filter = λ slot other v before later row slots current are opened none damaged.
+      at_the_version slot other v slots current (at_a_table d (of_the_row spelling first_fault (settings_of v) image d v.rows before (row ∷ later) are opened (inr (none, inl damaged))));
+}

@@ -25,7 +25,7 @@ use Rattle.table_model.specs.Damage.{index_part}
 use Rattle.table_model.specs.Images.{IsTableOf, index_of_blocks}
 use Rattle.table_model.proofs.OneTable.{rows_of_index}
 use Rattle.table_model.proofs.Sound.{index_read}
-use Rattle.image_model.specs.Opening.{greatest_in, range_of}
+use Rattle.image_model.specs.Opening.{greatest_in, key_range_of}
 use Rattle.image_model.specs.Tables.{AreTablesOf}
 
 -- ---- the keys of an index
@@ -58,10 +58,10 @@ unfolding index_of_blocks
 least_of_index blocks = refl
 
 -- the range of a table
-abbrev range_of_table : Table → KeyRange
+abbrev pub range_of_table : Table → KeyRange
 range_of_table t = record { level = t.level; least = least_key t; greatest = greatest_key t }
 
-range_is : (spelling : Spelling) (settings : Settings) (row : Row) (t : Table) (image : Image) → IsTableOf spelling settings row t image → range_of image row ≡ range_of_table t
+range_is : (spelling : Spelling) (settings : Settings) (row : Row) (t : Table) (image : Image) → IsTableOf spelling settings row t image → key_range_of image row ≡ range_of_table t
 range_is spelling settings row t image is =
     let read : index_in (index_part row image) ≡ index_of_blocks is.0 = index_read spelling settings row is.0 image is.1 in
     let level : row.level ≡ t.level = sym (ap (λ (u : Table). u.level) is.2) in
@@ -70,8 +70,8 @@ range_is spelling settings row t image is =
     ap (λ (x : Index). greatest_in x.rows) read ∙ ap greatest_in (rows_of_index is.0) ∙ greatest_is is.0 is.1.each ∙ sym (ap greatest_key is.2) in
     λ i. record { level = level i; least = least i; greatest = greatest i }
 
-ranges_are : (spelling : Spelling) (settings : Settings) (rows : List Row) (tables : List Table) (image : Image) → AreTablesOf spelling settings rows tables image
-    → map (range_of image) rows ≡ map range_of_table tables
+pub ranges_are : (spelling : Spelling) (settings : Settings) (rows : List Row) (tables : List Table) (image : Image) → AreTablesOf spelling settings rows tables image
+    → map (key_range_of image) rows ≡ map range_of_table tables
 ranges_are spelling settings [] [] image are = refl
 ranges_are spelling settings [] (t ∷ ts) image are = elim are [ ]
 ranges_are spelling settings (row ∷ rows) [] image are = elim are [ ]
@@ -118,5 +118,5 @@ none_of_tables [] all = refl
 none_of_tables (t ∷ later) all = after_none 128 t later all
 
 pub ranges_keep : (spelling : Spelling) (settings : Settings) (rows : List Row) (tables : List Table) (image : Image) → AreTablesOf spelling settings rows tables image
-    → AllPairs StandsBefore tables → ranges_fault (map (range_of image) rows) ≡ None
+    → AllPairs StandsBefore tables → ranges_fault (map (key_range_of image) rows) ≡ None
 ranges_keep spelling settings rows tables image are order = ap ranges_fault (ranges_are spelling settings rows tables image are) ∙ none_of_tables tables order

@@ -63,7 +63,7 @@ table_sound spelling settings row t image is of_row = subst IsSoundTable (sym of
   few = blocks_joined_small of_row.0 (weaker IsBlock IsSmall (λ block is. is.few) of_row.0 of_row.1.each);
 })
 
-tables_sound : (spelling : Spelling) (settings : Settings) (rows : List Row) (tables : List Table) (image : Image) → AllByRecursion IsLevelled rows
+pub tables_sound : (spelling : Spelling) (settings : Settings) (rows : List Row) (tables : List Table) (image : Image) → AllByRecursion IsLevelled rows
     → AreTablesOf spelling settings rows tables image → AllByRecursion IsSoundTable tables
 tables_sound spelling settings [] [] image is are = tt
 tables_sound spelling settings [] (t ∷ ts) image is are = elim are [ ]
@@ -112,7 +112,7 @@ last_is : last_epoch ≡ 18446744073709551615
 unfolding last_epoch
 last_is = refl
 
-version_sound : (v : Version) (image : Image) → IsVersionOf v image → IsVersion v
+pub version_sound : (v : Version) (image : Image) → IsVersionOf v image → IsVersion v
 version_sound v image (inl is) = is.here.sound
 version_sound v image (inr is) = is.here.sound
 
@@ -120,7 +120,7 @@ module _ (spelling : Spelling) (filter_bytes : FilterBytes) (v : Version) (s : S
   range : InRange s.settings
   range = subst InRange (sym named.settings) (record { hash_bits = is.hash_bits; real_bits = is.real_bits })
 
-  ratio : s.settings.ratio < 65536
+  ratio : s.settings.ratio ≤ 65535
   ratio = omega (arith, ap (λ (x : Settings). x.ratio) named.settings, is.ratio)
 
   extents : taken s ≡ map extent_of_row v.rows

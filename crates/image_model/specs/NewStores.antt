@@ -4,6 +4,7 @@ use Rattle.disk_trait.specs.Image.{Image, Shows}
 use Rattle.filter_api.specs.Ranges.{InRange}
 use Rattle.filter_api.specs.Spellings.{Spelling}
 use Rattle.filter_api.specs.declared.settings.Settings.{Settings}
+use Rattle.key_base.specs.Limits.{max_device_pages, max_ratio, min_device_pages}
 use Rattle.log_model.specs.Area.{start_of}
 use Rattle.manifest_model.specs.Slots.{IsOpen}
 use Rattle.manifest_model.specs.Version.{Version, body_bytes, body_place, slot_a, slot_b}
@@ -31,11 +32,11 @@ pub record IsFormatted (settings : Settings) (pages : ℕ) (image : Image) : Typ
 
 abbrev pub NewStoreStands : Type 0
 NewStoreStands =
-    (spelling : Spelling) (settings : Settings) (pages : ℕ) (image : Image) → InRange settings → settings.ratio < 2 ^ 16 → 512 ≤ pages → pages ≤ 16777216
+    (spelling : Spelling) (settings : Settings) (pages : ℕ) (image : Image) → InRange settings → settings.ratio ≤ max_ratio → min_device_pages ≤ pages → pages ≤ max_device_pages
     → IsFormatted settings pages image → IsStateOf spelling (new_state settings pages) image
 
 -- and what a store keeps of it is this: slot A is in use, and slot B is closed
 abbrev pub NewStoreIsReady : Type 0
 NewStoreIsReady =
-    (spelling : Spelling) (settings : Settings) (pages : ℕ) (image : Image) → InRange settings → settings.ratio < 2 ^ 16 → 512 ≤ pages → pages ≤ 16777216
+    (spelling : Spelling) (settings : Settings) (pages : ℕ) (image : Image) → InRange settings → settings.ratio ≤ max_ratio → min_device_pages ≤ pages → pages ≤ max_device_pages
     → IsFormatted settings pages image → IsReady spelling slot_a slot_b false (new_version settings pages) (new_state settings pages) image

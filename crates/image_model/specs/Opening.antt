@@ -1,5 +1,5 @@
 -- What opening finds wrong with an image: the first damage, in the order in which it looks.
-use Rattle.std.specs.Prelude.{◌≡◌, ◌⊎◌, ◌*◌, ◌+◌, ℕ, List, [], ◌∷◌, map, Some, None}
+use Rattle.std.specs.Prelude.{◌≡◌, ◌⊎◌, ◌*◌, ◌+◌, ◌++◌, ℕ, List, [], ◌∷◌, map, Some, None}
 use Rattle.std.specs.List.{AllByRecursion}
 use Rattle.disk_trait.specs.Image.{Image}
 use Rattle.byte_fields.specs.declared.parts.Damage.{Damage}
@@ -9,17 +9,20 @@ use Rattle.byte_fields.specs.declared.parts.Row.{Row}
 use Rattle.filter_api.specs.Spellings.{Spelling, SpellsOne}
 use Rattle.filter_api.specs.declared.errors.FilterFault.{FilterFault}
 use Rattle.filter_api.specs.declared.settings.Settings.{Settings}
-use Rattle.log_model.specs.Area.{LogBreaks}
+use Rattle.log_model.specs.Area.{LogBreaks, LogIs}
 use Rattle.map_model.specs.SortedMap.{Bytes}
 use Rattle.byte_fields.specs.Faults.{Fault}
 use Rattle.block_model.specs.Index.{IndexRow}
 use Rattle.block_model.specs.IndexReading.{index_in}
-use Rattle.manifest_model.specs.Slots.{AreSlots, IsCurrent, IsNoStore, slots_damage}
+use Rattle.entry_model.specs.Entries.{Entry}
+use Rattle.manifest_model.specs.Slots.{AreSlots, IsCurrent, IsNoStore, IsVersionOf, slots_damage}
 use Rattle.manifest_model.specs.Tables.{KeyRange, ranges_fault}
 use Rattle.manifest_model.specs.Version.{Version, body_place}
 use Rattle.state_model.specs.State.{State}
-use Rattle.table_model.specs.Damage.{IsFilterDamage, IsSoundFilter, index_damage, index_part}
+use Rattle.table_model.specs.Damage.{IsOfBytes, IsDecided, IsFilterDamage, IsSoundFilter, index_damage, index_part}
+use Rattle.table_model.specs.Tables.{Table}
 use Rattle.image_model.specs.Stands.{IsStateOf, settings_of}
+use Rattle.image_model.specs.Tables.{AreTablesOf}
 
 -- ---- the tables, row by row: the index, then the filter
 
@@ -43,16 +46,16 @@ greatest_in (row ∷ []) = row.last
 greatest_in (row ∷ next ∷ later) = greatest_in (next ∷ later)
 
 -- the level of a row, and the least and the greatest key of its index
-abbrev pub range_of : Image → Row → KeyRange
-range_of image row = record { level = row.level; least = (index_in (index_part row image)).least; greatest = greatest_in (index_in (index_part row image)).rows }
+abbrev pub key_range_of : Image → Row → KeyRange
+key_range_of image row = record { level = row.level; least = (index_in (index_part row image)).least; greatest = greatest_in (index_in (index_part row image)).rows }
 
 -- ---- what a version names, in this order: the tables; their ranges, where all are opened; the log, where these have no fault
 
 pub data VersionBreaks (spelling : Spelling) (first_fault : Bytes → FilterFault) (slot : ℕ) (v : Version) (image : Image) : Damage → Type 0 where
   at_a_table : (d : Damage) → TablesBreak spelling first_fault (settings_of v) image d v.rows → VersionBreaks spelling first_fault slot v image d
-  at_the_ranges : (f : Fault) → AllByRecursion (IsOpened spelling (settings_of v) image) v.rows → ranges_fault (map (range_of image) v.rows) ≡ Some f
+  at_the_ranges : (f : Fault) → AllByRecursion (IsOpened spelling (settings_of v) image) v.rows → ranges_fault (map (key_range_of image) v.rows) ≡ Some f
       → VersionBreaks spelling first_fault slot v image (damage.Shape part.Manifest (body_place slot + f.place) f.rule)
-  at_the_log : (area at rule : ℕ) → AllByRecursion (IsOpened spelling (settings_of v) image) v.rows → ranges_fault (map (range_of image) v.rows) ≡ None
+  at_the_log : (area at rule : ℕ) → AllByRecursion (IsOpened spelling (settings_of v) image) v.rows → ranges_fault (map (key_range_of image) v.rows) ≡ None
       → v.log_page ≡ 64 * (area + 1) → LogBreaks area at rule image → VersionBreaks spelling first_fault slot v image (damage.Shape part.Log at rule)
 
 -- the first damage of an image: that of its slots, and then that of what its version names
@@ -61,9 +64,48 @@ pub data FirstDamage (spelling : Spelling) (first_fault : Bytes → FilterFault)
   at_the_version : (slot other : ℕ) (v : Version) → AreSlots slot other → IsCurrent slot other v image
       → VersionBreaks spelling first_fault slot v image d → FirstDamage spelling first_fault image d
 
+-- ---- an image in which opening finds nothing wrong
+
+-- This version is in use, index and filter of each of its tables are sound, their ranges break no rule, and the log in use
+-- spells these entries. Opening reads no block.
+pub record OpensWith (spelling : Spelling) (v : Version) (entries : List Entry) (image : Image) : Type 0 where
+  pub version_is : IsVersionOf v image
+  pub tables : AllByRecursion (IsOpened spelling (settings_of v) image) v.rows
+  pub ranges : ranges_fault (map (key_range_of image) v.rows) ≡ None
+  pub area : ℕ
+  pub area_is : v.log_page ≡ 64 * (area + 1)
+  pub log : LogIs area entries image
+
+-- what is opened then, where the rows' pages spell these tables
+abbrev pub opened_state : Version → List Entry → List Table → State
+opened_state v log tables = record { settings = settings_of v; pages = v.pages; epoch = v.epoch; log = log; tables = tables; job = None; kept = [] }
+
 -- ---- laws
 
--- there is one at most
+-- An image is no store, or has a first damage, or opens, whatever its bytes are; the kind of filter has to tell what spells
+-- nothing.
+abbrev pub AnImageOpens : Type 0
+AnImageOpens =
+    (spelling : Spelling) (first_fault : Bytes → FilterFault) (image : Image) → IsDecided spelling → IsOfBytes image
+    → IsNoStore image ⊎ (((d : Damage) × FirstDamage spelling first_fault image d) ⊎ ((v : Version) × (log : List Entry) × OpensWith spelling v log image))
+
+-- what opens has no damage
+abbrev pub OpenedHasNoDamage : Type 0
+OpenedHasNoDamage =
+    (spelling : Spelling) (first_fault : Bytes → FilterFault) (v : Version) (log : List Entry) (image : Image) (d : Damage) → SpellsOne spelling
+    → OpensWith spelling v log image → FirstDamage spelling first_fault image d → ⊥
+
+-- An image that stands for a state opens with its log, and one that opens stands for a state where each row's pages spell a
+-- table.
+abbrev pub StateOpens : Type 0
+StateOpens = (spelling : Spelling) (s : State) (image : Image) → IsStateOf spelling s image → (v : Version) × OpensWith spelling v s.log image
+
+abbrev pub OpenedIsState : Type 0
+OpenedIsState =
+    (spelling : Spelling) (v : Version) (log : List Entry) (tables : List Table) (image : Image) → OpensWith spelling v log image
+    → AreTablesOf spelling (settings_of v) v.rows tables image → IsStateOf spelling (opened_state v log tables) image
+
+-- there is one damage at most
 abbrev pub OneDamage : Type 0
 OneDamage =
     (spelling : Spelling) (first_fault : Bytes → FilterFault) (image : Image) (d e : Damage) → SpellsOne spelling
@@ -81,3 +123,28 @@ NoStoreHasNoDamage =
 
 abbrev pub NoStoreHasNoState : Type 0
 NoStoreHasNoState = (spelling : Spelling) (s : State) (image : Image) → IsNoStore image → IsStateOf spelling s image → ⊥
+
+-- A fault of the ranges is said of the manifest's body, 8 bytes behind the begin of the slot in use.
+abbrev pub RangesAreAtTheBody : Type 0
+RangesAreAtTheBody =
+    (spelling : Spelling) (first_fault : Bytes → FilterFault) (slot other : ℕ) (v : Version) (image : Image) (f : Fault) → AreSlots slot other
+    → IsCurrent slot other v image → AllByRecursion (IsOpened spelling (settings_of v) image) v.rows → ranges_fault (map (key_range_of image) v.rows) ≡ Some f
+    → FirstDamage spelling first_fault image (damage.Shape part.Manifest (slot + 8 + f.place) f.rule)
+
+-- Of a version in use, where the tables before a row are opened, the damage of its index is the first, whatever its filter,
+-- later tables, ranges and log are; and where the index has none, that of its filter.
+pub record RowsAreInOrder (spelling : Spelling) (first_fault : Bytes → FilterFault) (image : Image) (d : Damage) : Type 0 where
+  pub index :
+      (slot other : ℕ) (v : Version) (before later : List Row) (row : Row) → AreSlots slot other → IsCurrent slot other v image
+      → v.rows ≡ before ++ (row ∷ later) → AllByRecursion (IsOpened spelling (settings_of v) image) before
+      → index_damage row image ≡ Some d → FirstDamage spelling first_fault image d
+  pub filter :
+      (slot other : ℕ) (v : Version) (before later : List Row) (row : Row) → AreSlots slot other → IsCurrent slot other v image
+      → v.rows ≡ before ++ (row ∷ later) → AllByRecursion (IsOpened spelling (settings_of v) image) before
+      → index_damage row image ≡ None → IsFilterDamage spelling first_fault (settings_of v) row image d
+      → FirstDamage spelling first_fault image d
+
+abbrev pub RowsComeFirst : Type 0
+RowsComeFirst =
+    (spelling : Spelling) (first_fault : Bytes → FilterFault) (image : Image) (d : Damage)
+    → RowsAreInOrder spelling first_fault image d

@@ -6,9 +6,9 @@ use Rattle.disk_trait.specs.Image.{Image, Shows, window}
 use Rattle.disk_trait.proofs.Images.{window_size, window_split}
 use Rattle.map_model.specs.SortedMap.{Bytes}
 use Rattle.manifest_model.specs.Laws.{IsVersion}
-use Rattle.manifest_model.specs.Reading.{body_damage, count_in, front_length_in, version_in}
+use Rattle.manifest_model.specs.Reading.{body_damage, table_count_in, front_length_in, version_in}
 use Rattle.manifest_model.specs.SlotLaws.{HeldIsRead, ReadIsHeld}
-use Rattle.manifest_model.specs.Slots.{Holds, body_in, body_room}
+use Rattle.manifest_model.specs.Slots.{HoldsVersion, body_in, body_room}
 use Rattle.manifest_model.specs.Version.{Version, body_bytes, body_place, front_bytes, head_bytes, row_bytes}
 use Rattle.manifest_model.proofs.VersionsRead.{body_again, rows_long}
 use Rattle.manifest_model.proofs.VersionsWritten.{body_few, body_written}
@@ -38,7 +38,7 @@ front_window : (image : Image) (at n room : ℕ) → n ≤ room → window image
 front_window image at n room fits = ap (window image at) (omega (arith, fits)) ∙ window_split image at n (room - n)
 
 -- the body, with whatever follows it
-body_there : (slot : ℕ) (v : Version) (image : Image) → Holds slot v image
+body_there : (slot : ℕ) (v : Version) (image : Image) → HoldsVersion slot v image
     → body_in slot image ≡ body_bytes v ++ window image (body_place slot + length (body_bytes v)) (body_room - length (body_bytes v))
 body_there slot v image holds =
     let n = length (body_bytes v) in
@@ -52,7 +52,7 @@ held_is_read slot v image holds =
     (ap (body_damage slot) there ∙ again.0, ap version_in there ∙ again.1)
 
 -- a slot holds one version
-pub one_held : (slot : ℕ) (v w : Version) (image : Image) → Holds slot v image → Holds slot w image → v ≡ w
+pub one_held : (slot : ℕ) (v w : Version) (image : Image) → HoldsVersion slot v image → HoldsVersion slot w image → v ≡ w
 one_held slot v w image a b = sym (held_is_read slot v image a).1 ∙ (held_is_read slot w image b).1
 
 room_taken : (image : Image) (at n room : ℕ) → n ≤ room → take n (window image at room) ≡ window image at n
@@ -65,7 +65,7 @@ first_shown image at n room bytes fits are =
     let there : bytes ≡ window image at n = are ∙ room_taken image at n room fits in
     ap (window image at) (ap length there ∙ window_size image at n) ∙ sym there
 
-front_fits : (bytes : Bytes) → count_in bytes ≤ 1024 → front_length_in bytes + 8 ≤ 131064
+front_fits : (bytes : Bytes) → table_count_in bytes ≤ 1024 → front_length_in bytes + 8 ≤ 131064
 unfolding front_length_in
 front_fits bytes few = omega (arith, few)
 

@@ -8,7 +8,7 @@ use Rattle.disk_trait.proofs.Calls.{leads_then, through}
 use Rattle.disk_trait.proofs.Images.{overwritten_at, whole, window_kept, window_overwritten}
 use Rattle.manifest_model.specs.Installs.{BeginsClosed, BeginsOpen, ClosesTheGate, Install, InstalledIsInUse, IsClosed, IsInstalled, IsOldOrNew, IsOpenStill, IsWritten, MayInstall, OpensTheGate, Turns, WritesTheBody}
 use Rattle.manifest_model.specs.SlotLaws.{IsInSlot}
-use Rattle.manifest_model.specs.Slots.{Holds, HoldsOlder, IsVersionOf}
+use Rattle.manifest_model.specs.Slots.{HoldsVersion, HoldsOlder, IsVersionOf}
 use Rattle.manifest_model.specs.Version.{Version, body_bytes, body_place}
 use Rattle.manifest_model.proofs.Held.{body_fits}
 use Rattle.manifest_model.proofs.SlotFrames.{slot_kept, slots_apart, turned}
@@ -28,10 +28,10 @@ module _ (i : Install) (may : MayInstall i) where
   body_inside : IsInSlot i.other (body_place i.other) (length (body_bytes i.to))
   body_inside = (omega arith, omega (arith, body_fits i.to may.sound))
 
-  here_kept : (at n : ℕ) (f g : Image) → IsInSlot i.other at n → Torn at n f g → Holds i.slot i.from f → Holds i.slot i.from g
+  here_kept : (at n : ℕ) (f g : Image) → IsInSlot i.other at n → Torn at n f g → HoldsVersion i.slot i.from f → HoldsVersion i.slot i.from g
   here_kept at n f g inside torn here = slot_kept i.slot at n i.from f g (slots_apart i.slot i.other at n may.slots inside) torn here
 
-  old_with : (image : Image) → Holds i.slot i.from image → HoldsOlder i.other i.from.epoch image → IsVersionOf i.from image
+  old_with : (image : Image) → HoldsVersion i.slot i.from image → HoldsOlder i.other i.from.epoch image → IsVersionOf i.from image
   old_with image here there = in_use i.slot i.other i.from image may.slots (record { here = here; there = there })
 
   -- ---- closing the gate

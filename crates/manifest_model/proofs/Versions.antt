@@ -9,7 +9,7 @@ use Rattle.byte_fields.specs.Faults.{refuse}
 use Rattle.disk_trait.specs.Image.{Image}
 use Rattle.manifest_model.specs.Reading.{body_damage, shape_at, version_in}
 use Rattle.manifest_model.specs.SlotLaws.{GreaterEpochIsInUse, NoStoreHasNoVersion, OneVersion, VersionHasNoDamage, VersionIsFound}
-use Rattle.manifest_model.specs.Slots.{AreSlots, Holds, HoldsOlder, IsCurrent, IsNoStore, IsOpen, IsVersionOf, body_in, epochs_damage, slot_damage, slots_damage}
+use Rattle.manifest_model.specs.Slots.{AreSlots, HoldsVersion, HoldsOlder, IsCurrent, IsNoStore, IsOpen, IsVersionOf, body_in, epochs_damage, slot_damage, slots_damage}
 use Rattle.manifest_model.specs.Tables.{epochs_fault}
 use Rattle.manifest_model.specs.Version.{Version, slot_a, slot_b}
 use Rattle.manifest_model.proofs.Held.{held_is_read, one_held, read_is_held}
@@ -17,7 +17,7 @@ use Rattle.manifest_model.proofs.Held.{held_is_read, one_held, read_is_held}
 -- ---- one at most
 
 -- a slot that holds a version and is older than an epoch has a lesser one
-lesser : (slot epoch : ℕ) (v : Version) (image : Image) → Holds slot v image → HoldsOlder slot epoch image → v.epoch < epoch
+lesser : (slot epoch : ℕ) (v : Version) (image : Image) → HoldsVersion slot v image → HoldsOlder slot epoch image → v.epoch < epoch
 lesser slot epoch v image here (inl closed) = elim (closed here.is_open) [ ]
 lesser slot epoch v image here (inr old) = subst (λ (u : Version). u.epoch < epoch) (one_held slot old.0 v image old.1 here) old.2
 
@@ -55,7 +55,7 @@ none_unless false found so = refl
 slot_sound : (slot : ℕ) (image : Image) → (IsOpen slot image → body_damage slot (body_in slot image) ≡ None) → slot_damage slot image ≡ None
 slot_sound slot image so = none_unless (image slot == 1) (body_damage slot (body_in slot image)) (λ opened. so (eqb-true (image slot) 1 opened))
 
-here_sound : (slot : ℕ) (v : Version) (image : Image) → Holds slot v image → slot_damage slot image ≡ None
+here_sound : (slot : ℕ) (v : Version) (image : Image) → HoldsVersion slot v image → slot_damage slot image ≡ None
 here_sound slot v image holds = slot_sound slot image (λ opened. (held_is_read slot v image holds).0)
 
 there_sound : (slot epoch : ℕ) (image : Image) → HoldsOlder slot epoch image → slot_damage slot image ≡ None
@@ -114,7 +114,7 @@ all_none None None c none = (refl, refl, none)
 all_none None (Some b) c none = absurd cc
 all_none (Some a) b c none = absurd cc
 
-open_slot : (slot : ℕ) (image : Image) → IsBytes (body_in slot image) → slot_damage slot image ≡ None → IsOpen slot image → Holds slot (version_in (body_in slot image)) image
+open_slot : (slot : ℕ) (image : Image) → IsBytes (body_in slot image) → slot_damage slot image ≡ None → IsOpen slot image → HoldsVersion slot (version_in (body_in slot image)) image
 open_slot slot image bytes none opened =
     read_is_held slot image opened bytes (sym (cond-true (image slot == 1) (body_damage slot (body_in slot image)) None (eq-eqb (image slot) 1 opened)) ∙ none)
 
@@ -129,7 +129,7 @@ both_open : (image : Image) → IsOpen slot_a image → IsOpen slot_b image → 
 both_open image a b = ap₂ (λ (x y : Bool). x && y) (eq-eqb (image slot_a) 1 a) (eq-eqb (image slot_b) 1 b)
 
 -- of two open slots the one of the greater epoch
-of_both : (v w : Version) (image : Image) → Holds slot_a v image → Holds slot_b w image → (v.epoch ≡ w.epoch → ⊥) → (u : Version) × IsVersionOf u image
+of_both : (v w : Version) (image : Image) → HoldsVersion slot_a v image → HoldsVersion slot_b w image → (v.epoch ≡ w.epoch → ⊥) → (u : Version) × IsVersionOf u image
 of_both v w image a b differ = elim (cases_lt v.epoch w.epoch) [
   | inl less ↦ (w, inr (record { here = b; there = inr (v, a, less) }))
   | inr more ↦ (v, inl (record { here = a; there = inr (w, b, omega (arith, more, differ)) }))

@@ -10,26 +10,27 @@ use Rattle.byte_fields.specs.declared.parts.Damage.{Damage}
 use Rattle.byte_fields.specs.declared.parts.Row.{Row}
 use Rattle.byte_fields.proofs.FieldLemmas.{fields_again}
 use Rattle.byte_fields.proofs.NumberLemmas.{number_again}
+use Rattle.key_base.specs.Limits.{log_pages}
 use Rattle.map_model.specs.SortedMap.{Bytes}
 use Rattle.byte_fields.specs.Faults.{Fault}
 use Rattle.block_model.proofs.EntriesRead.{eqb_zero}
 use Rattle.block_model.proofs.Refusals.{none_of, not_true, passed}
 use Rattle.block_model.proofs.TableIndex.{sum_below}
 use Rattle.manifest_model.specs.Laws.{IsVersion, RowFits, VersionIsReadAgain}
-use Rattle.manifest_model.specs.Reading.{are_no_pages, body_damage, count_in, first_fault, front_length_in, is_no_log_page, kept_sum, later_fault, numbers_fault, of_version, row_in, row_of, row_zeros_fault, rows_in, seen_sum, shape_at, sum_damage, version_in, zeros_fault}
-use Rattle.manifest_model.specs.Version.{Version, body_bytes, front_bytes, head_bytes, log_pages, magic, row_bytes, row_numbers, row_widths}
+use Rattle.manifest_model.specs.Reading.{are_no_pages, body_damage, table_count_in, early_fault, front_length_in, is_no_log_page, kept_sum, later_fault, numbers_fault, of_version, table_row_in, row_of, row_zeros_fault, table_rows_in, seen_sum, shape_at, sum_damage, version_in, zeros_fault}
+use Rattle.manifest_model.specs.Version.{Version, body_bytes, front_bytes, head_bytes, manifest_magic, row_bytes, row_numbers, row_widths}
 
 -- ---- the head, with anything behind it
 
-magic_again : (v : Version) (rest : Bytes) → little_number 4 (head_bytes v ++ rest) ≡ magic
+magic_again : (v : Version) (rest : Bytes) → little_number 4 (head_bytes v ++ rest) ≡ manifest_magic
 unfolding head_bytes
-magic_again v rest = number_again 4 magic (drop 4 (head_bytes v ++ rest)) (omega arith)
+magic_again v rest = number_again 4 manifest_magic (drop 4 (head_bytes v ++ rest)) (omega arith)
 
 format_again : (v : Version) (rest : Bytes) → little_number 2 (drop 4 (head_bytes v ++ rest)) ≡ 1
 unfolding head_bytes
 format_again v rest = number_again 2 1 (drop 6 (head_bytes v ++ rest)) (omega arith)
 
-count_again : (v : Version) (rest : Bytes) → IsVersion v → count_in (head_bytes v ++ rest) ≡ length v.rows
+count_again : (v : Version) (rest : Bytes) → IsVersion v → table_count_in (head_bytes v ++ rest) ≡ length v.rows
 unfolding head_bytes
 count_again v rest is = number_again 2 (length v.rows) (drop 8 (head_bytes v ++ rest)) (omega (arith, is.few_tables))
 
@@ -79,8 +80,8 @@ head_long v = refl
 
 -- ---- the rows
 
-row_again : (row : Row) (rest : Bytes) → RowFits row → row_in (row_bytes row ++ rest) ≡ row
-unfolding row_in row_bytes
+row_again : (row : Row) (rest : Bytes) → RowFits row → table_row_in (row_bytes row ++ rest) ≡ row
+unfolding table_row_in row_bytes
 row_again row rest fits = ap row_of (fields_again row_widths (row_numbers row) rest fits)
 
 past_row : (row : Row) (later rest : Bytes) → drop 64 ((row_bytes row ++ later) ++ rest) ≡ later ++ rest
@@ -90,12 +91,12 @@ past_row row later rest = refl
 regrouped : (row : Row) (later rest : Bytes) → (row_bytes row ++ later) ++ rest ≡ row_bytes row ++ (later ++ rest)
 regrouped row later rest = append_assoc (row_bytes row) later rest
 
-rows_again : (rows : List Row) (rest : Bytes) → AllByRecursion RowFits rows → rows_in (length rows) (flat_map row_bytes rows ++ rest) ≡ rows
-unfolding rows_in
+rows_again : (rows : List Row) (rest : Bytes) → AllByRecursion RowFits rows → table_rows_in (length rows) (flat_map row_bytes rows ++ rest) ≡ rows
+unfolding table_rows_in
 rows_again [] rest fit = refl
 rows_again (row ∷ rows) rest fit =
     let later = flat_map row_bytes rows in
-    ap₂ (λ (x : Row) (l : Bytes). x ∷ rows_in (length rows) l) (ap row_in (regrouped row later rest) ∙ row_again row (later ++ rest) fit.0) (past_row row later rest)
+    ap₂ (λ (x : Row) (l : Bytes). x ∷ table_rows_in (length rows) l) (ap table_row_in (regrouped row later rest) ∙ row_again row (later ++ rest) fit.0) (past_row row later rest)
     ∙ ap (λ (l : List Row). row ∷ l) (rows_again rows rest fit.1)
 
 first_zeros : (place : ℕ) (row : Row) (rest : Bytes) → zeros_fault (place + 1) (take 3 (drop 1 (row_bytes row ++ rest))) ≡ None
@@ -133,17 +134,17 @@ version_again : (v : Version) (rest : Bytes) → IsVersion v → version_in (spe
 unfolding version_in
 version_again v rest is =
     let bytes = flat_map row_bytes v.rows ++ rest in
-    let rows : rows_in (count_in (spelled v rest)) (drop 64 (spelled v rest)) ≡ v.rows =
-    ap₂ rows_in (count_again v bytes is) (behind_head v bytes) ∙ rows_again v.rows rest is.rows in
+    let rows : table_rows_in (table_count_in (spelled v rest)) (drop 64 (spelled v rest)) ≡ v.rows =
+    ap₂ table_rows_in (count_again v bytes is) (behind_head v bytes) ∙ rows_again v.rows rest is.rows in
     rw (epoch_again v bytes is, pages_again v bytes is, hash_again v bytes is, real_again v bytes is, ratio_again v bytes is, area_again v bytes is, rows) refl
 
-first_again : (v : Version) (rest : Bytes) → IsVersion v → first_fault (spelled v rest) ≡ None
-unfolding first_fault
+first_again : (v : Version) (rest : Bytes) → IsVersion v → early_fault (spelled v rest) ≡ None
+unfolding early_fault
 first_again v rest is =
     let bytes = flat_map row_bytes v.rows ++ rest in
     passed _ _ _ _ (not_true _ (eq-eqb _ _ (magic_again v bytes)))
     (passed _ _ _ _ (not_true _ (eq-eqb _ _ (format_again v bytes)))
-    (passed _ _ _ _ (le-ltb 1024 (count_in (spelled v rest)) (omega (arith, count_again v bytes is, is.few_tables))) refl))
+    (passed _ _ _ _ (le-ltb 1024 (table_count_in (spelled v rest)) (omega (arith, count_again v bytes is, is.few_tables))) refl))
 
 area_kept : (page : ℕ) → (page ≡ 64) ⊎ (page ≡ 128) → is_no_log_page page ≡ false
 area_kept page (inl e) = and_left (not (page == 64)) (not (page == 128)) (not_true _ (eq-eqb page 64 e))

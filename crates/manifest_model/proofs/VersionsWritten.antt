@@ -14,14 +14,15 @@ use Rattle.byte_fields.specs.declared.parts.Damage.TheVariants as damage
 use Rattle.byte_fields.specs.declared.parts.Part.TheVariants as part
 use Rattle.byte_fields.proofs.FieldLemmas.{fields_back, fields_below}
 use Rattle.byte_fields.proofs.NumberLemmas.{IsBytes-drop, number_again, number_back, number_below}
+use Rattle.key_base.specs.Limits.{log_pages}
 use Rattle.map_model.specs.SortedMap.{Bytes}
 use Rattle.byte_fields.specs.Faults.{Fault, fault}
 use Rattle.entry_model.proofs.Bodies.{joined}
 use Rattle.block_model.proofs.LastBlocks.{positive}
 use Rattle.block_model.proofs.Refusals.{is_other, kept, neither, not_false, nowhere, zeros_are}
 use Rattle.manifest_model.specs.Laws.{IsVersion, RowFits, VersionWasWrittenSo}
-use Rattle.manifest_model.specs.Reading.{body_damage, count_in, first_fault, front_length_in, is_no_log_page, kept_sum, later_fault, numbers_fault, of_version, row_in, row_of, row_zeros_fault, rows_in, seen_sum, shape_at, sum_damage, version_in, zeros_fault}
-use Rattle.manifest_model.specs.Version.{Version, body_bytes, body_place, front_bytes, head_bytes, log_pages, magic, row_bytes, row_numbers, row_widths}
+use Rattle.manifest_model.specs.Reading.{body_damage, table_count_in, early_fault, front_length_in, is_no_log_page, kept_sum, later_fault, numbers_fault, of_version, table_row_in, row_of, row_zeros_fault, table_rows_in, seen_sum, shape_at, sum_damage, version_in, zeros_fault}
+use Rattle.manifest_model.specs.Version.{Version, body_bytes, body_place, front_bytes, head_bytes, manifest_magic, row_bytes, row_numbers, row_widths}
 
 -- ---- numbers by their places
 
@@ -62,15 +63,15 @@ eight_zeros l z = ap (little_number 8) (sym (take-append-drop 8 l) ∙ ap (λ (x
 row_same : (rest : Bytes) → little_number 3 (drop 1 rest) ≡ 0 → little_number 8 (drop 56 rest) ≡ 0 → row_numbers (row_of (numbers_from 0 row_widths rest)) ≡ numbers_from 0 row_widths rest
 row_same rest first last = rw (first, last) refl
 
-row_is : (rest : Bytes) → little_number 3 (drop 1 rest) ≡ 0 → little_number 8 (drop 56 rest) ≡ 0 → row_numbers (row_in rest) ≡ numbers_in row_widths rest
-unfolding row_in
+row_is : (rest : Bytes) → little_number 3 (drop 1 rest) ≡ 0 → little_number 8 (drop 56 rest) ≡ 0 → row_numbers (table_row_in rest) ≡ numbers_in row_widths rest
+unfolding table_row_in
 row_is rest first last =
     let at = numbers_at row_widths 0 rest in
     ap (λ (ns : List ℕ). row_numbers (row_of ns)) at ∙ row_same rest first last ∙ sym at
 
 record RowWritten (rest : Bytes) : Type 0 where
-  pub written : row_bytes (row_in rest) ≡ take 64 rest
-  pub fits : RowFits (row_in rest)
+  pub written : row_bytes (table_row_in rest) ≡ take 64 rest
+  pub fits : RowFits (table_row_in rest)
 
 row_written : (place : ℕ) (rest : Bytes) → IsBytes rest → 64 ≤ length rest → zeros_fault (place + 1) (take 3 (drop 1 rest)) ≡ None → zeros_fault (place + 56) (take 8 (drop 56 rest)) ≡ None → RowWritten rest
 unfolding row_bytes
@@ -84,12 +85,12 @@ row_written place rest is long first last =
     }
 
 record RowsWritten (n : ℕ) (rest : Bytes) : Type 0 where
-  pub written : flat_map row_bytes (rows_in n rest) ≡ take (64 * n) rest
-  pub fit : AllByRecursion RowFits (rows_in n rest)
-  pub many : length (rows_in n rest) ≡ n
+  pub written : flat_map row_bytes (table_rows_in n rest) ≡ take (64 * n) rest
+  pub fit : AllByRecursion RowFits (table_rows_in n rest)
+  pub many : length (table_rows_in n rest) ≡ n
 
 rows_written : (n place : ℕ) (rest : Bytes) → IsBytes rest → 64 * n ≤ length rest → row_zeros_fault n place rest ≡ None → RowsWritten n rest
-unfolding rows_in row_zeros_fault
+unfolding table_rows_in row_zeros_fault
 rows_written zero place rest is long none = record { written = refl; fit = tt; many = refl }
 rows_written (suc n) place rest is long none =
     let a = neither _ _ none in
@@ -109,7 +110,7 @@ abbrev front_widths : List ℕ
 front_widths = 4 ∷ 2 ∷ 2 ∷ 8 ∷ 4 ∷ 1 ∷ 1 ∷ 2 ∷ 4 ∷ 4 ∷ []
 
 abbrev front_numbers : Version → List ℕ
-front_numbers v = magic ∷ 1 ∷ length v.rows ∷ v.epoch ∷ v.pages ∷ v.hash_bits ∷ v.real_bits ∷ v.ratio ∷ v.log_page ∷ log_pages ∷ []
+front_numbers v = manifest_magic ∷ 1 ∷ length v.rows ∷ v.epoch ∷ v.pages ∷ v.hash_bits ∷ v.real_bits ∷ v.ratio ∷ v.log_page ∷ log_pages ∷ []
 
 head_parts : (v : Version) → head_bytes v ≡ fields front_widths (front_numbers v) ++ replicate 32 0
 unfolding head_bytes
@@ -118,7 +119,7 @@ head_parts v = refl
 record HeadKept (bytes : Bytes) : Type 0 where
   pub magic : little_number 4 bytes ≡ 0x4D465253
   pub format : little_number 2 (drop 4 bytes) ≡ 1
-  pub few : count_in bytes ≤ 1024
+  pub few : table_count_in bytes ≤ 1024
   pub epoch : 1 ≤ little_number 8 (drop 8 bytes)
   pub some_pages : 512 ≤ little_number 4 (drop 16 bytes)
   pub few_pages : little_number 4 (drop 16 bytes) ≤ 16777216
@@ -133,8 +134,8 @@ area_of page e = elim (and_cases (not (page == 64)) (not (page == 128)) e) [
   | inr second ↦ inr (eqb-true page 128 (not_false _ second))
 ]
 
-head_was_kept : (bytes : Bytes) → first_fault bytes ≡ None → numbers_fault bytes ≡ None → HeadKept bytes
-unfolding first_fault numbers_fault
+head_was_kept : (bytes : Bytes) → early_fault bytes ≡ None → numbers_fault bytes ≡ None → HeadKept bytes
+unfolding early_fault numbers_fault
 head_was_kept bytes first none =
     let a = kept _ _ _ _ first in
     let b = kept _ _ _ _ a.1 in
@@ -160,15 +161,15 @@ head_was_kept bytes first none =
       area_pages = eqb-true _ _ (not_false _ j.0);
     }
 
-rows_many : (n : ℕ) (rest : Bytes) → length (rows_in n rest) ≡ n
-unfolding rows_in
+rows_many : (n : ℕ) (rest : Bytes) → length (table_rows_in n rest) ≡ n
+unfolding table_rows_in
 rows_many zero rest = refl
 rows_many (suc n) rest = ap suc (rows_many n (drop 64 rest))
 
 front_same : (bytes : Bytes) → HeadKept bytes → front_numbers (version_in bytes) ≡ numbers_from 0 front_widths bytes
 unfolding version_in
 front_same bytes head =
-    rw (rows_many (count_in bytes) (drop 64 bytes), head.magic, head.format, head.area_pages, one_byte 20 bytes, one_byte 21 bytes) refl
+    rw (rows_many (table_count_in bytes) (drop 64 bytes), head.magic, head.format, head.area_pages, one_byte 20 bytes, one_byte 21 bytes) refl
 
 head_written : (bytes : Bytes) → IsBytes bytes → 64 ≤ length bytes → HeadKept bytes → zeros_fault 32 (take 32 (drop 32 bytes)) ≡ None → head_bytes (version_in bytes) ≡ take 64 bytes
 head_written bytes is long head zeros =
@@ -198,7 +199,7 @@ record BodyKept (bytes : Bytes) : Type 0 where
   pub head : HeadKept bytes
   pub sum : kept_sum bytes ≡ seen_sum bytes
   pub head_zeros : zeros_fault 32 (take 32 (drop 32 bytes)) ≡ None
-  pub row_zeros : row_zeros_fault (count_in bytes) 64 (drop 64 bytes) ≡ None
+  pub row_zeros : row_zeros_fault (table_count_in bytes) 64 (drop 64 bytes) ≡ None
   pub placed : of_version (version_in bytes) ≡ None
 
 body_was_kept : (slot : ℕ) (bytes : Bytes) → body_damage slot bytes ≡ None → BodyKept bytes
@@ -213,17 +214,17 @@ body_was_kept slot bytes none =
     record { head = head_was_kept bytes a.0 d.0; sum = b.0; head_zeros = f.0; row_zeros = g.0; placed = g.1 }
 
 -- a body that breaks no rule has room in its slot
-pub body_few : (slot : ℕ) (bytes : Bytes) → body_damage slot bytes ≡ None → count_in bytes ≤ 1024
+pub body_few : (slot : ℕ) (bytes : Bytes) → body_damage slot bytes ≡ None → table_count_in bytes ≤ 1024
 body_few slot bytes none = (body_was_kept slot bytes none).head.few
 
-version_rows : (bytes : Bytes) → (version_in bytes).rows ≡ rows_in (count_in bytes) (drop 64 bytes)
+version_rows : (bytes : Bytes) → (version_in bytes).rows ≡ table_rows_in (table_count_in bytes) (drop 64 bytes)
 unfolding version_in
 version_rows bytes = refl
 
-front_written : (bytes : Bytes) → IsBytes bytes → 64 + 64 * count_in bytes ≤ length bytes → BodyKept bytes → front_bytes (version_in bytes) ≡ take (64 + 64 * count_in bytes) bytes
+front_written : (bytes : Bytes) → IsBytes bytes → 64 + 64 * table_count_in bytes ≤ length bytes → BodyKept bytes → front_bytes (version_in bytes) ≡ take (64 + 64 * table_count_in bytes) bytes
 unfolding front_bytes
 front_written bytes is long body =
-    let n = count_in bytes in
+    let n = table_count_in bytes in
     let rows = rows_written n 64 (drop 64 bytes) (IsBytes-drop 64 bytes is) (omega (arith, long, length-drop 64 bytes)) body.row_zeros in
     ap₂ (λ (x y : Bytes). x ++ y) (head_written bytes is (omega (arith, long)) body.head body.head_zeros) (ap (flat_map row_bytes) (version_rows bytes) ∙ rows.written)
     ∙ joined 64 (64 * n) 0 bytes
@@ -231,7 +232,7 @@ front_written bytes is long body =
 all_written : (bytes : Bytes) → IsBytes bytes → front_length_in bytes + 8 ≤ length bytes → BodyKept bytes → body_bytes (version_in bytes) ≡ take (front_length_in bytes + 8) bytes
 unfolding body_bytes front_length_in
 all_written bytes is long body =
-    let n = 64 + 64 * count_in bytes in
+    let n = 64 + 64 * table_count_in bytes in
     let front = front_written bytes is (omega (arith, long)) body in
     let sum : little_bytes 8 (fnv_of (take n bytes)) ≡ take 8 (drop n bytes) =
     ap (little_bytes 8) (sym body.sum) ∙ number_back 8 (drop n bytes) (IsBytes-drop n bytes is) (omega (arith, long, length-drop n bytes)) in
@@ -241,7 +242,7 @@ version_sound : (bytes : Bytes) → IsBytes bytes → front_length_in bytes + 8 
 unfolding version_in front_length_in
 version_sound bytes is long body =
     let head = body.head in
-    let rows = rows_written (count_in bytes) 64 (drop 64 bytes) (IsBytes-drop 64 bytes is) (omega (arith, long, length-drop 64 bytes)) body.row_zeros in
+    let rows = rows_written (table_count_in bytes) 64 (drop 64 bytes) (IsBytes-drop 64 bytes is) (omega (arith, long, length-drop 64 bytes)) body.row_zeros in
     record {
       few_tables = omega (arith, rows.many, head.few);
       some_epoch = head.epoch;

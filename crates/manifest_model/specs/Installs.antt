@@ -3,7 +3,7 @@ use Rattle.std.specs.Prelude.{◌≢◌, ◌≡◌, ◌⊎◌, ◌<◌, ℕ, [],
 use Rattle.disk_trait.specs.Image.{Image, Shows, Torn, overwritten}
 use Rattle.map_model.specs.SortedMap.{Bytes}
 use Rattle.manifest_model.specs.Laws.{IsVersion}
-use Rattle.manifest_model.specs.Slots.{AreSlots, Holds, IsCurrent, IsOpen, IsVersionOf}
+use Rattle.manifest_model.specs.Slots.{AreSlots, HoldsVersion, IsCurrent, IsOpen, IsVersionOf}
 use Rattle.manifest_model.specs.Version.{Version, body_bytes, body_place}
 
 -- the slot in use and the other one, the version in use and the one to come
@@ -22,14 +22,14 @@ pub record MayInstall (i : Install) : Type 0 where
 
 -- the version in use stands in its slot, and the other slot is open and holds a lesser one
 pub record IsOpenStill (i : Install) (image : Image) : Type 0 where
-  pub here : Holds i.slot i.from image
+  pub here : HoldsVersion i.slot i.from image
   pub older : Version
-  pub there : Holds i.other older image
+  pub there : HoldsVersion i.other older image
   pub lesser : older.epoch < i.from.epoch
 
 -- the other slot is closed
 pub record IsClosed (i : Install) (image : Image) : Type 0 where
-  pub here : Holds i.slot i.from image
+  pub here : HoldsVersion i.slot i.from image
   pub closed : image i.other ≢ 1
 
 -- the body of the version to come stands behind its closed gate
@@ -39,8 +39,8 @@ pub record IsWritten (i : Install) (image : Image) : Type 0 where
 
 -- the version to come stands in the other slot, and the one before it where it was
 pub record IsInstalled (i : Install) (image : Image) : Type 0 where
-  pub here : Holds i.other i.to image
-  pub there : Holds i.slot i.from image
+  pub here : HoldsVersion i.other i.to image
+  pub there : HoldsVersion i.slot i.from image
 
 -- the version of the image is one of the two
 abbrev pub IsOldOrNew : Install → Image → Type 0

@@ -4,6 +4,7 @@ use Rattle.std.specs.List.{AllByRecursion}
 use Rattle.byte_fields.specs.Fields.{FieldsFit}
 use Rattle.byte_fields.specs.Spelling.{IsBytes}
 use Rattle.byte_fields.specs.declared.parts.Row.{Row}
+use Rattle.key_base.specs.Limits.{max_device_pages, max_hash_bits, max_real_bits, max_tables, min_device_pages}
 use Rattle.map_model.specs.SortedMap.{Bytes}
 use Rattle.manifest_model.specs.Reading.{body_damage, front_length_in, of_version, version_in}
 use Rattle.manifest_model.specs.Version.{Version, body_bytes, row_numbers, row_widths}
@@ -14,13 +15,13 @@ RowFits row = FieldsFit row_widths (row_numbers row)
 
 -- a version that keeps the rules
 pub record IsVersion (v : Version) : Type 0 where
-  pub few_tables : length v.rows ≤ 1024
+  pub few_tables : length v.rows ≤ max_tables
   pub some_epoch : 1 ≤ v.epoch
   pub epoch : v.epoch < 2 ^ 64
-  pub some_pages : 512 ≤ v.pages
-  pub few_pages : v.pages ≤ 16777216
-  pub hash_bits : v.hash_bits ≤ 32
-  pub real_bits : v.real_bits ≤ 32
+  pub some_pages : min_device_pages ≤ v.pages
+  pub few_pages : v.pages ≤ max_device_pages
+  pub hash_bits : v.hash_bits ≤ max_hash_bits
+  pub real_bits : v.real_bits ≤ max_real_bits
   pub ratio : v.ratio < 2 ^ 16
   pub log_page : (v.log_page ≡ 64) ⊎ (v.log_page ≡ 128)
   pub rows : AllByRecursion RowFits v.rows

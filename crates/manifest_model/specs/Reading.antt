@@ -9,16 +9,17 @@ use Rattle.byte_fields.specs.declared.parts.Row.{Row}
 use Rattle.byte_fields.specs.declared.parts.Damage.{Damage}
 use Rattle.byte_fields.specs.declared.parts.Damage.TheVariants as damage
 use Rattle.byte_fields.specs.declared.parts.Part.TheVariants as part
+use Rattle.key_base.specs.Limits.{log_pages, max_device_pages, max_hash_bits, max_real_bits, max_tables, min_device_pages}
 use Rattle.map_model.specs.SortedMap.{Bytes}
 use Rattle.byte_fields.specs.Faults.{Fault, fault, refuse, or_fault}
 use Rattle.block_model.specs.Pages.{pages_for}
 use Rattle.block_model.specs.Places.{end_page}
-use Rattle.manifest_model.specs.Version.{Version, magic, log_pages, row_widths, body_place}
+use Rattle.manifest_model.specs.Version.{Version, manifest_magic, row_widths, body_place}
 
 -- ---- the version that is read
 
-abbrev pub count_in : Bytes → ℕ
-count_in bytes = little_number 2 (drop 6 bytes)
+abbrev pub table_count_in : Bytes → ℕ
+table_count_in bytes = little_number 2 (drop 6 bytes)
 
 -- a row by its numbers
 abbrev pub row_of : List ℕ → Row
@@ -35,12 +36,12 @@ row_of ns = record {
   filter_sum = slice_index ns 10;
 }
 
-unfoldable pub row_in : Bytes → Row
-row_in rest = row_of (numbers_in row_widths rest)
+unfoldable pub table_row_in : Bytes → Row
+table_row_in rest = row_of (numbers_in row_widths rest)
 
-unfoldable pub rows_in : ℕ → Bytes → List Row
-rows_in zero rest = []
-rows_in (suc more) rest = row_in rest ∷ rows_in more (drop 64 rest)
+unfoldable pub table_rows_in : ℕ → Bytes → List Row
+table_rows_in zero rest = []
+table_rows_in (suc more) rest = table_row_in rest ∷ table_rows_in more (drop 64 rest)
 
 unfoldable pub version_in : Bytes → Version
 version_in bytes = record {
@@ -50,22 +51,22 @@ version_in bytes = record {
   real_bits = slice_index bytes 21;
   ratio = little_number 2 (drop 22 bytes);
   log_page = little_number 4 (drop 24 bytes);
-  rows = rows_in (count_in bytes) (drop 64 bytes);
+  rows = table_rows_in (table_count_in bytes) (drop 64 bytes);
 }
 
 -- ---- before the sum: 1, the magic; 2, the version of the format; 3, more than 1,024 tables
 
-unfoldable pub first_fault : Bytes → Option Fault
-first_fault bytes =
-    refuse (not (little_number 4 bytes == magic)) 0 1
+unfoldable pub early_fault : Bytes → Option Fault
+early_fault bytes =
+    refuse (not (little_number 4 bytes == manifest_magic)) 0 1
     (refuse (not (little_number 2 (drop 4 bytes) == 1)) 4 2
-    (refuse (nat_lt 1024 (count_in bytes)) 6 3
+    (refuse (nat_lt max_tables (table_count_in bytes)) 6 3
     None))
 
 -- ---- the sum: the one that is kept behind the rows, and the one of all bytes before it
 
 unfoldable pub front_length_in : Bytes → ℕ
-front_length_in bytes = 64 + 64 * count_in bytes
+front_length_in bytes = 64 + 64 * table_count_in bytes
 
 abbrev pub kept_sum : Bytes → ℕ
 kept_sum bytes = little_number 8 (drop (front_length_in bytes) bytes)
@@ -76,7 +77,7 @@ seen_sum bytes = fnv_of (take (front_length_in bytes) bytes)
 -- ---- 4 to 6: the epoch, the pages and the settings, the log area
 
 abbrev pub are_no_pages : ℕ → Bool
-are_no_pages pages = nat_lt pages 512 || nat_lt 16777216 pages
+are_no_pages pages = nat_lt pages min_device_pages || nat_lt max_device_pages pages
 
 abbrev pub is_no_log_page : ℕ → Bool
 is_no_log_page page = not (page == 64) && not (page == 128)
@@ -85,8 +86,8 @@ unfoldable pub numbers_fault : Bytes → Option Fault
 numbers_fault bytes =
     refuse (little_number 8 (drop 8 bytes) == 0) 8 4
     (refuse (are_no_pages (little_number 4 (drop 16 bytes))) 16 5
-    (refuse (nat_lt 32 (slice_index bytes 20)) 20 5
-    (refuse (nat_lt 32 (slice_index bytes 21)) 21 5
+    (refuse (nat_lt max_hash_bits (slice_index bytes 20)) 20 5
+    (refuse (nat_lt max_real_bits (slice_index bytes 21)) 21 5
     (refuse (is_no_log_page (little_number 4 (drop 24 bytes))) 24 6
     (refuse (not (little_number 4 (drop 28 bytes) == log_pages)) 28 6
     None)))))
@@ -105,8 +106,8 @@ row_zeros_fault (suc more) place rest =
 
 -- ---- 8: a row's level, data pages, index pages, filter pages or entries, row by row
 
-unfoldable pub row_fault : ℕ → Row → Option Fault
-row_fault place row =
+unfoldable pub table_row_fault : ℕ → Row → Option Fault
+table_row_fault place row =
     refuse (nat_lt 6 row.level) place 8
     (refuse (row.data_pages == 0) (place + 8) 8
     (refuse (not (row.index_pages == pages_for row.index_len)) (place + 12) 8
@@ -114,9 +115,9 @@ row_fault place row =
     (refuse (row.entries == 0) (place + 20) 8
     None))))
 
-unfoldable pub rows_fault : ℕ → List Row → Option Fault
-rows_fault place [] = None
-rows_fault place (row ∷ later) = or_fault (row_fault place row) (rows_fault (place + 64) later)
+unfoldable pub table_rows_fault : ℕ → List Row → Option Fault
+table_rows_fault place [] = None
+table_rows_fault place (row ∷ later) = or_fault (table_row_fault place row) (table_rows_fault (place + 64) later)
 
 -- ---- 9: a row of a lesser level than the one before
 
@@ -129,25 +130,25 @@ levels_fault place before (row ∷ later) = refuse (nat_lt row.level before) pla
 abbrev pub leaves : ℕ → Row → Bool
 leaves pages row = nat_lt row.first_page 192 || nat_lt pages (end_page row)
 
-abbrev pub meets : Row → Row → Bool
-meets row other = nat_lt row.first_page (end_page other) && nat_lt other.first_page (end_page row)
+abbrev pub meets_row : Row → Row → Bool
+meets_row row other = nat_lt row.first_page (end_page other) && nat_lt other.first_page (end_page row)
 
 unfoldable pub extents_fault : ℕ → ℕ → List Row → List Row → Option Fault
 extents_fault pages place earlier [] = None
 extents_fault pages place earlier (row ∷ later) =
-    refuse (leaves pages row || list_any (meets row) earlier) (place + 4) 10 (extents_fault pages (place + 64) (row ∷ earlier) later)
+    refuse (leaves pages row || list_any (meets_row row) earlier) (place + 4) 10 (extents_fault pages (place + 64) (row ∷ earlier) later)
 
 -- ---- the rules, in their order
 
 abbrev pub of_version : Version → Option Fault
-of_version v = or_fault (rows_fault 64 v.rows) (or_fault (levels_fault 64 0 v.rows) (extents_fault v.pages 64 [] v.rows))
+of_version v = or_fault (table_rows_fault 64 v.rows) (or_fault (levels_fault 64 0 v.rows) (extents_fault v.pages 64 [] v.rows))
 
 -- behind the sum
 unfoldable pub later_fault : Bytes → Option Fault
 later_fault bytes =
     or_fault (numbers_fault bytes)
     (or_fault (zeros_fault 32 (take 32 (drop 32 bytes)))
-    (or_fault (row_zeros_fault (count_in bytes) 64 (drop 64 bytes))
+    (or_fault (row_zeros_fault (table_count_in bytes) 64 (drop 64 bytes))
     (of_version (version_in bytes))))
 
 -- the damage of a body that stands in a slot, by its place on the device
@@ -159,4 +160,4 @@ unfoldable pub sum_damage : ℕ → Bytes → Option Damage → Option Damage
 sum_damage slot bytes later = if kept_sum bytes == seen_sum bytes then later else Some (damage.Sum part.Manifest (body_place slot) (kept_sum bytes) (seen_sum bytes))
 
 unfoldable pub body_damage : ℕ → Bytes → Option Damage
-body_damage slot bytes = shape_at slot (first_fault bytes) (sum_damage slot bytes (shape_at slot (later_fault bytes) None))
+body_damage slot bytes = shape_at slot (early_fault bytes) (sum_damage slot bytes (shape_at slot (later_fault bytes) None))

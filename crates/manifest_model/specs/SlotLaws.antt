@@ -3,7 +3,7 @@ use Rattle.std.specs.Prelude.{◌≡◌, ◌⊎◌, ◌<◌, ◌≤◌, ◌+◌,
 use Rattle.byte_fields.specs.Spelling.{IsBytes}
 use Rattle.disk_trait.specs.Image.{Image, IsApart, Torn}
 use Rattle.manifest_model.specs.Reading.{body_damage, version_in}
-use Rattle.manifest_model.specs.Slots.{AreSlots, Holds, HoldsOlder, IsCurrent, IsNoStore, IsOpen, IsVersionOf, body_in, slots_damage}
+use Rattle.manifest_model.specs.Slots.{AreSlots, HoldsVersion, HoldsOlder, IsCurrent, IsNoStore, IsOpen, IsVersionOf, body_in, slots_damage}
 use Rattle.manifest_model.specs.Version.{Version, slot_a, slot_b}
 
 -- ---- a slot
@@ -11,14 +11,14 @@ use Rattle.manifest_model.specs.Version.{Version, slot_a, slot_b}
 -- the version that a slot holds is read from it, and breaks no rule
 abbrev pub HeldIsRead : Type 0
 HeldIsRead =
-    (slot : ℕ) (v : Version) (image : Image) → Holds slot v image
+    (slot : ℕ) (v : Version) (image : Image) → HoldsVersion slot v image
     → (body_damage slot (body_in slot image) ≡ None) × (version_in (body_in slot image) ≡ v)
 
 -- what is read from an open slot and breaks no rule is held
 abbrev pub ReadIsHeld : Type 0
 ReadIsHeld =
     (slot : ℕ) (image : Image) → IsOpen slot image → IsBytes (body_in slot image) → body_damage slot (body_in slot image) ≡ None
-    → Holds slot (version_in (body_in slot image)) image
+    → HoldsVersion slot (version_in (body_in slot image)) image
 
 -- ---- the version of an image
 
@@ -29,7 +29,7 @@ OneVersion = (image : Image) (v w : Version) → IsVersionOf v image → IsVersi
 -- of two that are held it is the one of the greater epoch, and not the other one
 abbrev pub GreaterEpochIsInUse : Type 0
 GreaterEpochIsInUse =
-    (slot other : ℕ) (v older : Version) (image : Image) → AreSlots slot other → Holds slot v image → Holds other older image → older.epoch < v.epoch
+    (slot other : ℕ) (v older : Version) (image : Image) → AreSlots slot other → HoldsVersion slot v image → HoldsVersion other older image → older.epoch < v.epoch
     → IsVersionOf v image × (IsVersionOf older image → ⊥)
 
 -- there is none without an open slot, and none where an open slot breaks a rule, or both have one epoch
@@ -56,7 +56,7 @@ abbrev pub IsInSlot : ℕ → ℕ → ℕ → Type 0
 IsInSlot slot at n = (slot ≤ at) × (at + n ≤ slot + 131072)
 
 abbrev pub SlotIsKept : Type 0
-SlotIsKept = (slot at n : ℕ) (v : Version) (old new : Image) → IsApartFromSlot slot at n → Torn at n old new → Holds slot v old → Holds slot v new
+SlotIsKept = (slot at n : ℕ) (v : Version) (old new : Image) → IsApartFromSlot slot at n → Torn at n old new → HoldsVersion slot v old → HoldsVersion slot v new
 
 abbrev pub OlderIsKept : Type 0
 OlderIsKept =
@@ -65,7 +65,7 @@ OlderIsKept =
 -- whatever is written into the other slot, the one in use holds its version
 abbrev pub InUseIsKept : Type 0
 InUseIsKept =
-    (slot other at n : ℕ) (v : Version) (old new : Image) → AreSlots slot other → IsInSlot other at n → Torn at n old new → IsCurrent slot other v old → Holds slot v new
+    (slot other at n : ℕ) (v : Version) (old new : Image) → AreSlots slot other → IsInSlot other at n → Torn at n old new → IsCurrent slot other v old → HoldsVersion slot v new
 
 -- and apart from both the version is the same, in the same slot
 abbrev pub CurrentIsKept : Type 0

@@ -17,14 +17,14 @@ abbrev pub IsOpen : ℕ → Image → Type 0
 IsOpen slot image = image slot ≡ 1
 
 -- the slot is open, and the body of a version that keeps the rules stands in it
-pub record Holds (slot : ℕ) (v : Version) (image : Image) : Type 0 where
+pub record HoldsVersion (slot : ℕ) (v : Version) (image : Image) : Type 0 where
   pub is_open : IsOpen slot image
   pub sound : IsVersion v
   pub body : Shows (body_place slot) (body_bytes v) image
 
 -- the slot is closed, or holds a version of a lesser epoch
 abbrev pub HoldsOlder : ℕ → ℕ → Image → Type 0
-HoldsOlder slot epoch image = (image slot ≢ 1) ⊎ ((v : Version) × Holds slot v image × v.epoch < epoch)
+HoldsOlder slot epoch image = (image slot ≢ 1) ⊎ ((v : Version) × HoldsVersion slot v image × v.epoch < epoch)
 
 -- ---- both slots
 
@@ -34,7 +34,7 @@ AreSlots slot other = ((slot ≡ slot_a) × (other ≡ slot_b)) ⊎ ((slot ≡ s
 
 -- the slot is the one in use
 pub record IsCurrent (slot other : ℕ) (v : Version) (image : Image) : Type 0 where
-  pub here : Holds slot v image
+  pub here : HoldsVersion slot v image
   pub there : HoldsOlder other v.epoch image
 
 -- the version of an image

@@ -4,6 +4,7 @@ use Rattle.byteorder.specs.Endian.{little_bytes}
 use Rattle.byte_fields.specs.Fields.{fields}
 use Rattle.byte_fields.specs.Sums.{fnv_of}
 use Rattle.byte_fields.specs.declared.parts.Row.{Row}
+use Rattle.key_base.specs.Limits.{log_pages}
 use Rattle.map_model.specs.SortedMap.{Bytes}
 
 -- a version: the settings of filters, the pages of the device, the epoch, the first page of the log area in use, and a
@@ -19,11 +20,8 @@ pub record Version : Type 0 where
 
 -- ---- the head
 
-abbrev pub magic : ℕ
-magic = 0x4D465253
-
-abbrev pub log_pages : ℕ
-log_pages = 64
+abbrev pub manifest_magic : ℕ
+manifest_magic = 0x4D465253
 
 abbrev pub head_widths : List ℕ
 head_widths = 4 ∷ 2 ∷ 2 ∷ 8 ∷ 4 ∷ 1 ∷ 1 ∷ 2 ∷ 4 ∷ 4 ∷ 8 ∷ 8 ∷ 8 ∷ 8 ∷ []
@@ -31,7 +29,7 @@ head_widths = 4 ∷ 2 ∷ 2 ∷ 8 ∷ 4 ∷ 1 ∷ 1 ∷ 2 ∷ 4 ∷ 4 ∷ 8 ∷ 
 -- SRFM, version 1, how many tables, the epoch, the pages, the settings, the log area, and 32 bytes 0
 abbrev pub head_numbers : Version → List ℕ
 head_numbers v =
-    magic ∷ 1 ∷ length v.rows ∷ v.epoch ∷ v.pages ∷ v.hash_bits ∷ v.real_bits ∷ v.ratio ∷ v.log_page ∷ log_pages ∷ 0 ∷ 0 ∷ 0 ∷ 0 ∷ []
+    manifest_magic ∷ 1 ∷ length v.rows ∷ v.epoch ∷ v.pages ∷ v.hash_bits ∷ v.real_bits ∷ v.ratio ∷ v.log_page ∷ log_pages ∷ 0 ∷ 0 ∷ 0 ∷ 0 ∷ []
 
 unfoldable pub head_bytes : Version → Bytes
 head_bytes v = fields head_widths (head_numbers v)

@@ -1,4 +1,4 @@
-// Laws of the manifest. They are proved and never called.
+//! Laws of the manifest. They are proved and never called.
 ghost use Rattle.manifest_model.specs.Installs.{BeginsClosed, BeginsOpen, ClosesTheGate, InstalledIsInUse, OpensTheGate, WritesTheBody};
 ghost use Rattle.manifest_model.specs.Laws.{VersionIsReadAgain, VersionWasWrittenSo};
 ghost use Rattle.manifest_model.specs.SlotLaws.{CurrentIsKept, GreaterEpochIsInUse, HeldIsRead, InUseIsKept, NoStoreHasNoVersion, OlderIsKept, OneVersion, ReadIsHeld, SlotIsKept, VersionHasNoDamage, VersionIsFound, VersionIsKept};

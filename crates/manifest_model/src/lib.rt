@@ -1,5 +1,5 @@
-//! What the manifest of a store is: the definitions of its bytes and of their rules, of the two slots that hold it, worked
-//! rows and laws, and a plain program that writes a body.
+//! What the manifest of a store is: the definitions of its bytes and of their rules, of the two slots that hold it, examples
+//! and laws, and a plain program that writes a body.
 //!
 //! `specs/Version` says what a version is and how it is spelled, `specs/Reading` what is read from a body and which rule it
 //! breaks first, and where; the sum is looked at behind the first three rules. `specs/Tables` has the rules that need more
@@ -10,8 +10,8 @@
 //! each of which leaves the old version, but for the last, which leaves the old one or the new one.
 //!
 //! [`body_bytes`] is the obvious loop over the rows, and want of memory is its only error. A store reads and writes its
-//! slots on a device, and is compared with this. The functions with no parameter have no body: each has rows or laws as
-//! its contract, and none needs to be called.
+//! slots on a device, and is compared with this. The functions with no parameter have no body: each has examples or laws
+//! as its contract, and none needs to be called.
 //!
 //! ```text
 //! a body        64 bytes of numbers, 64 bytes for each table, 8 bytes of their sum
@@ -19,15 +19,11 @@
 //! ```
 #![tactic(auto)]
 
+pub mod examples;
 mod laws;
-mod rows;
 mod version;
 
 pub use laws::{
     a_version_is_installed, an_image_has_one_version, slots_are_kept, versions_have_one_spelling,
-};
-pub use rows::{
-    broken_bodies, broken_places, broken_versions, small_bodies, small_bodies_are_read,
-    twice_broken_bodies,
 };
 pub use version::{Version, body_bytes};

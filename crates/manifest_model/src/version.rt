@@ -1,9 +1,10 @@
-// A version as a plain value, and the bytes of its body.
+//! A version as a plain value, and the bytes of its body.
 ghost use Rattle.std.specs.Prelude.{◌≡◌, ◌++◌, OnOk, IfOk};
 ghost use Rattle.manifest_model.specs.Version.{body_bytes, front_bytes, head_bytes, row_bytes};
 
 use byte_fields::{Row, fnv1a};
 use entry_list::{push_fields, push_number};
+use key_base::LOG_PAGES;
 use std::alloc::{AllocError, Global};
 use std::marker::Model;
 
@@ -46,12 +47,10 @@ const HEAD_WIDTHS: [usize; 14] = [4, 2, 2, 8, 4, 1, 1, 2, 4, 4, 8, 8, 8, 8];
 
 const ROW_WIDTHS: [usize; 12] = [1, 3, 4, 4, 4, 4, 4, 8, 8, 8, 8, 8];
 
-/// `SRFM`.
+// `SRFM`.
 const MAGIC: u64 = 0x4D465253;
 
 const FORMAT: u64 = 1;
-
-const LOG_PAGES: u64 = 64;
 
 /// The bytes of a version's body: its head, a row for each table, and the sum of these.
 #[tactic(auto, unfolding(crate::specs::Version::front_bytes, crate::specs::Version::body_bytes))]
@@ -82,7 +81,7 @@ fn push_head(version: &Version, out: &mut Vec<u8>) -> Result<(), AllocError>
         u64::from(version.real_bits),
         u64::from(version.ratio),
         u64::from(version.log_page),
-        LOG_PAGES,
+        u64::from(LOG_PAGES),
         0,
         0,
         0,

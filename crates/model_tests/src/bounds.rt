@@ -1,4 +1,4 @@
-// What a seek may read.
+//! What a seek may read.
 use filter_api::Settings;
 use plain_filter::PlainFilter;
 use plain_store::{Reply, Request, State, get_bound, play, seek_bound};

@@ -1,4 +1,4 @@
-// Scripts that come to a limit.
+//! Scripts that come to a limit.
 use entry_list::Entry;
 use filter_api::Settings;
 use plain_filter::PlainFilter;
@@ -16,12 +16,12 @@ fn zeros(alloc: Global, count: usize) -> Result<Vec<u8>, AllocError> {
     vec![in alloc; 0; count]
 }
 
-/// The state after one request, and its reply.
+// The state after one request, and its reply.
 fn asked(alloc: Global, state: &State, request: Request<'_>) -> Result<Played, AllocError> {
     play::<PlainFilter>(alloc, state, &[request])
 }
 
-/// The store after puts of keys from 1 on, as many as are done, and the reply to the last of them.
+// The store after puts of keys from 1 on, as many as are done, and the reply to the last of them.
 fn filled(alloc: Global, value: &[u8], count: u8) -> Result<(State, usize), AllocError> {
     let mut state = State::new(alloc, BASE, 512);
     let mut done = 0;

@@ -1,4 +1,4 @@
-// Scripts and their replies.
+//! Scripts and their replies.
 use filter_api::Settings;
 use plain_filter::PlainFilter;
 use plain_store::{Played, Reply, Request, State, Table, play};

@@ -1,4 +1,4 @@
-// Merges in slices, compared with whole ones.
+//! Merges in slices, compared with whole ones.
 use filter_api::Settings;
 use plain_filter::PlainFilter;
 use plain_store::{Played, Reply, Request, State, play, play_in_slices, sliced};
@@ -19,7 +19,7 @@ fn get(key: &[u8]) -> Request<'_> {
     Request::Get { key }
 }
 
-/// Four tables in level 0, of one block each.
+// Four tables in level 0, of one block each.
 fn four_tables(alloc: Global) -> Result<State, AllocError> {
     let script = [
         put(b"a"),
@@ -87,7 +87,7 @@ fn slices_answer_as_a_whole_merge_does(rt: HostRuntime) -> Result<(), Fail> {
     Ok(())
 }
 
-/// How many merge slices there are until no job runs, at most ten.
+// How many merge slices there are until no job runs, at most ten.
 fn slices_of(alloc: Global, blocks: u64, state: &State) -> Result<usize, AllocError> {
     let mut state = sliced::<PlainFilter>(alloc, blocks, state)?;
     for count in 1..10 {

@@ -6,11 +6,11 @@ use Rattle.line_model.specs.Replies as model
 use Rattle.plain_store.specs.declared.changes.Refusal.{Refusal}
 use Rattle.plain_store.specs.declared.changes.Refusal.TheVariants.{ManyTables, LastEpoch, Full}
 
-abbrev pub reply_to : Refusal → model.Reply
-reply_to ManyTables = model.ManyTables
-reply_to LastEpoch = model.LastEpoch
-reply_to (Full need gap) = model.Full need gap
+abbrev pub refusal_reply : Refusal → model.Reply
+refusal_reply ManyTables = model.ManyTables
+refusal_reply LastEpoch = model.LastEpoch
+refusal_reply (Full need gap) = model.Full need gap
 
 -- a changed state, or the reply to what was refused
-abbrev pub seen : Result State Refusal → Result State model.Reply
-seen result = result_map_both (λ s. s) reply_to result
+abbrev pub as_replied : Result State Refusal → Result State model.Reply
+as_replied result = result_map_both (λ s. s) refusal_reply result

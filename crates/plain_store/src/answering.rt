@@ -1,4 +1,4 @@
-// A store that is played in memory.
+//! A store that is played in memory.
 ghost use Rattle.std.specs.Prelude.{◌≡◌, ◌∷◌, [], map, IfOk};
 ghost use Rattle.std.specs.Option.{option_map};
 ghost use Rattle.state_model.specs.Changes.{written};
@@ -7,7 +7,7 @@ ghost use Rattle.line_model.specs.Replies.{Bye};
 ghost use Rattle.line_model.specs.Requests.{Estimate, Flush, Compact};
 ghost use Rattle.state_model.specs.Steps as model;
 ghost use Rattle.plain_store.specs.Filters.{filter_bytes_of};
-ghost use Rattle.plain_store.specs.Refusals.{seen, reply_to};
+ghost use Rattle.plain_store.specs.Refusals.{as_replied, refusal_reply};
 ghost use Rattle.plain_store.specs.Slices.{merge_as};
 ghost use Rattle.plain_store.specs.Talk.{asks, says, answered, played_as};
 
@@ -39,7 +39,7 @@ pub struct Played {
 }
 
 fn refusal_reply(refusal: Refusal) -> Reply
-    ensures { says result ≡ reply_to refusal }
+    ensures { says result ≡ refusal_reply refusal }
 {
     match refusal {
         Refusal::ManyTables => Reply::ManyTables,
@@ -48,9 +48,9 @@ fn refusal_reply(refusal: Refusal) -> Reply
     }
 }
 
-/// The answer to a change that was done or refused.
+// The answer to a change that was done or refused.
 fn changed(alloc: Global, old: &State, new: Result<State, Refusal>) -> Result<Answer, AllocError>
-    ensures { IfOk result (λ a. answered a ≡ model.changed old.now (seen new)) }
+    ensures { IfOk result (λ a. answered a ≡ model.done_or_refused old.now (as_replied new)) }
 {
     match new {
         Ok(state) => Ok(Answer {
@@ -67,7 +67,7 @@ fn changed(alloc: Global, old: &State, new: Result<State, Refusal>) -> Result<An
     }
 }
 
-/// The answer that leaves the state as it is.
+// The answer that leaves the state as it is.
 fn unchanged(alloc: Global, state: &State, reply: Reply) -> Result<Answer, AllocError>
     ensures { IfOk result (λ a. answered a ≡ (says reply, state.now)) }
 {
@@ -81,7 +81,7 @@ fn write<F: RangeFilter>(
     key: &[u8],
     value: Option<&[u8]>,
 ) -> Result<Answer, AllocError>
-    ensures { IfOk result (λ a. answered a ≡ model.changed state.now (written (filter_bytes_of F.spelling F.built_cutoff) state.now (record { key = key.now; value = option_map (λ v. v.now) value.entry }))) }
+    ensures { IfOk result (λ a. answered a ≡ model.done_or_refused state.now (written (filter_bytes_of F.spelling F.built_cutoff) state.now (record { key = key.now; value = option_map (λ v. v.now) value.entry }))) }
 {
     let entry = Entry::new(alloc, key, value)?;
     changed(alloc, state, written::<F>(alloc, state, &entry)?)
@@ -113,7 +113,7 @@ fn estimated<F: RangeFilter>(
     Ok(Answer { reply, state })
 }
 
-/// The answer to a request that breaks no limit.
+// The answer to a request that breaks no limit.
 fn answer_within<F: RangeFilter>(
     alloc: Global,
     state: &State,
@@ -168,7 +168,7 @@ pub enum Merge {
     Slices(u64),
 }
 
-/// The state after a merge, or after a slice of one.
+// The state after a merge, or after a slice of one.
 fn merge_by<F: RangeFilter>(alloc: Global, merge: Merge, state: &State) -> Result<State, AllocError>
     ensures { IfOk result (λ s. s ≡ merge_as (filter_bytes_of F.spelling F.built_cutoff) merge state.now) }
 {
@@ -203,7 +203,7 @@ pub fn tend<F: RangeFilter>(
     }
 }
 
-/// A reply before those to what comes behind it.
+// A reply before those to what comes behind it.
 fn with_first(reply: Reply, later: Vec<Reply>) -> Result<Vec<Reply>, AllocError>
     ensures { IfOk result (λ list. map says list.items ≡ says reply ∷ map says later.items) }
 {

@@ -1,4 +1,4 @@
-// How many blocks a get and a closed seek may read, and what `estimate` and `explain` tell.
+//! How many blocks a get and a closed seek may read, and what `estimate` and `explain` tell.
 ghost use Rattle.std.specs.Prelude.{◌≡◌, ◌&&◌, false, suc, filter, count_by, sum_by, Some, IfOk};
 ghost use Rattle.std.specs.Option.{option_map};
 ghost use Rattle.filter_model.specs.Strings.{is_below};
@@ -17,20 +17,20 @@ use filter_api::RangeFilter;
 use plain_map::Pair;
 use std::alloc::{AllocError, Global};
 
-/// Whether the table's filter admits the key.
+// Whether the table's filter admits the key.
 fn admits<F: RangeFilter>(
     alloc: Global,
     state: &State,
     key: &[u8],
     table: &Table,
 ) -> Result<bool, AllocError>
-    ensures { IfOk result (λ yes. yes ≡ model.admits state.now key.now table.now) }
+    ensures { IfOk result (λ yes. yes ≡ model.admits state.now.settings key.now table.now) }
 {
     let filter: F = filter_of(alloc, state.settings, table.entries.as_slice())?;
     Ok(filter.may_hold(key))
 }
 
-/// Whether it admits the keys from `lo` to `hi`.
+// Whether it admits the keys from `lo` to `hi`.
 fn admits_range<F: RangeFilter>(
     alloc: Global,
     state: &State,
@@ -39,13 +39,13 @@ fn admits_range<F: RangeFilter>(
     table: &Table,
 ) -> Result<bool, AllocError>
     requires { is_below hi.now lo.now ≡ false }
-    ensures { IfOk result (λ yes. yes ≡ model.admits_range state.now lo.now hi.now table.now) }
+    ensures { IfOk result (λ yes. yes ≡ model.admits_range state.now.settings lo.now hi.now table.now) }
 {
     let filter: F = filter_of(alloc, state.settings, table.entries.as_slice())?;
     Ok(filter.may_hold_range(lo, hi))
 }
 
-/// How many keys from `lo` to `hi` it counts.
+// How many keys from `lo` to `hi` it counts.
 fn tally_of<F: RangeFilter>(
     alloc: Global,
     state: &State,
@@ -54,32 +54,32 @@ fn tally_of<F: RangeFilter>(
     table: &Table,
 ) -> Result<u64, AllocError>
     requires { is_below hi.now lo.now ≡ false }
-    ensures { IfOk result (λ n. n ≡ tally state.now.settings.real_bits (model.leaves_in state.now table.now) lo.now hi.now) }
+    ensures { IfOk result (λ n. n ≡ tally state.now.settings.real_bits (model.table_leaves state.now.settings table.now) lo.now hi.now) }
 {
     let filter: F = filter_of(alloc, state.settings, table.entries.as_slice())?;
     Ok(u64::from(filter.tally(lo, hi)))
 }
 
-/// Whether the key is not below the table's least key and not above its greatest.
+// Whether the key is not below the table's least key and not above its greatest.
 fn encloses(key: &[u8], table: &Table) -> bool
     ensures { result ≡ model.encloses key.now table.now }
 {
     !is_before(key, table.least_key()) && !is_before(table.greatest_key(), key)
 }
 
-/// Whether a block of the table is read for the key.
+// Whether a block of the table is read for the key.
 fn is_searched<F: RangeFilter>(
     alloc: Global,
     state: &State,
     key: &[u8],
     table: &Table,
 ) -> Result<bool, AllocError>
-    ensures { IfOk result (λ yes. yes ≡ model.is_searched state.now key.now table.now) }
+    ensures { IfOk result (λ yes. yes ≡ model.is_searched state.now.settings key.now table.now) }
 {
     Ok(admits::<F>(alloc, state, key, table)? && encloses(key, table))
 }
 
-/// Nothing more, where some entry has the key.
+// Nothing more, where some entry has the key.
 fn unless_found(entries: &[Entry], key: &[u8], more: u64) -> u64
     ensures { result ≡ model.unless_found (lookup entries.now key.now) more }
 {
@@ -91,14 +91,14 @@ fn unless_found(entries: &[Entry], key: &[u8], more: u64) -> u64
     more
 }
 
-/// The tables that are searched for the key, up to the first that has it.
+// The tables that are searched for the key, up to the first that has it.
 fn searched<F: RangeFilter>(
     alloc: Global,
     state: &State,
     key: &[u8],
     tables: &[Table],
 ) -> Result<u64, AllocError>
-    ensures { IfOk result (λ n. n ≡ model.searched state.now key.now tables.now) }
+    ensures { IfOk result (λ n. n ≡ model.searched state.now.settings key.now tables.now) }
 {
     let Some((table, older)) = tables.split_first() else {
         return Ok(0);
@@ -125,7 +125,7 @@ pub fn get_bound<F: RangeFilter>(
     Ok(unless_found(memory.as_slice(), key, more))
 }
 
-/// Whether the key comes before that of the answer, where there is one.
+// Whether the key comes before that of the answer, where there is one.
 fn is_passed(answer: Option<&Pair>, key: &[u8]) -> bool
     ensures { result ≡ model.is_passed (option_map (λ pair. pair.now) answer.entry) key.now }
 {
@@ -135,7 +135,7 @@ fn is_passed(answer: Option<&Pair>, key: &[u8]) -> bool
     }
 }
 
-/// The entries that a seek with this answer steps over.
+// The entries that a seek with this answer steps over.
 fn stepped(
     lo: &[u8],
     hi: &[u8],
@@ -153,7 +153,7 @@ fn stepped(
     Ok(count)
 }
 
-/// The table's entries that a seek steps over, where this is its answer.
+// The table's entries that a seek steps over, where this is its answer.
 fn stepped_in(
     state: &State,
     lo: &[u8],
@@ -162,7 +162,7 @@ fn stepped_in(
     table: &Table,
 ) -> Result<u64, AllocError>
     requires { option_map (λ pair. pair.now) answer ≡ seek (state_map state.now) lo.now (Some hi.now) }
-    ensures { IfOk result (λ n. n ≡ model.stepped state.now lo.now hi.now table.now) }
+    ensures { IfOk result (λ n. n ≡ model.stepped (state_map state.now) lo.now hi.now table.now) }
 {
     stepped(lo, hi, answer, table.entries.as_slice())
 }
@@ -184,7 +184,7 @@ pub fn seek_bound<F: RangeFilter>(
     seek_blocks::<F>(alloc, state, lo, hi, answer, state.tables.as_slice())
 }
 
-/// The blocks of these tables that a seek with this answer may read.
+// The blocks of these tables that a seek with this answer may read.
 fn seek_blocks<F: RangeFilter>(
     alloc: Global,
     state: &State,
@@ -195,7 +195,7 @@ fn seek_blocks<F: RangeFilter>(
 ) -> Result<u64, AllocError>
     requires order { is_below hi.now lo.now ≡ false }
     requires answer { option_map (λ pair. pair.now) answer ≡ seek (state_map state.now) lo.now (Some hi.now) }
-    ensures { IfOk result (λ n. n ≡ sum_by (λ t. suc (model.stepped state.now lo.now hi.now t)) (filter (model.admits_range state.now lo.now hi.now) tables.now)) }
+    ensures { IfOk result (λ n. n ≡ sum_by (λ t. suc (model.stepped (state_map state.now) lo.now hi.now t)) (filter (model.admits_range state.now.settings lo.now hi.now) tables.now)) }
 {
     let Some((table, older)) = tables.split_first() else {
         return Ok(0);
@@ -209,7 +209,7 @@ fn seek_blocks<F: RangeFilter>(
         .ok_or(AllocError)
 }
 
-/// The entries whose keys lie from `lo` to `hi`.
+// The entries whose keys lie from `lo` to `hi`.
 fn within(lo: &[u8], hi: &[u8], entries: &[Entry]) -> Result<u64, AllocError>
     ensures { IfOk result (λ n. n ≡ count_by (λ e. is_between lo.now (Some hi.now) e.key) entries.now) }
 {

@@ -1,12 +1,12 @@
-// What a put, a flush and a compaction make of a state.
+//! What a put, a flush and a compaction make of a state.
 ghost use Rattle.std.specs.Prelude.{◌≡◌, ◌+◌, map, vec_items, IfOk};
 ghost use Rattle.entry_model.specs.Entries.{need, gap, body, filled};
 ghost use Rattle.state_model.specs.Changes as model;
 ghost use Rattle.state_model.specs.State.{without_job};
 ghost use Rattle.state_model.specs.Taken.{taken};
-ghost use Rattle.state_model.specs.Merges.{cut, placed};
+ghost use Rattle.state_model.specs.Merges.{outputs_for, placed};
 ghost use Rattle.plain_store.specs.Filters.{filter_bytes_of};
-ghost use Rattle.plain_store.specs.Refusals.{seen};
+ghost use Rattle.plain_store.specs.Refusals.{as_replied};
 
 use crate::job::copied_job;
 use crate::lists::{push_entries, push_tables};
@@ -17,6 +17,7 @@ use crate::table::Table;
 use crate::view::newest_entries;
 use entry_list::{Entry, copied, push_copy};
 use filter_api::RangeFilter;
+use key_base::MAX_TABLES;
 use std::alloc::{AllocError, Global};
 
 /// Why a change is refused.
@@ -30,14 +31,14 @@ pub enum Refusal {
     Full { need: u64, gap: u64 },
 }
 
-/// The state with one epoch more, an empty log and other tables.
+// The state with one epoch more, an empty log and other tables.
 #[tactic(auto, unfolding(state_model::specs::State::last_epoch))]
 fn with_tables(
     alloc: Global,
     state: &State,
     tables: Vec<Table>,
 ) -> Result<Result<State, Refusal>, AllocError>
-    ensures { IfOk result (λ changed. seen changed ≡ model.with_tables state.now tables.items) }
+    ensures { IfOk result (λ changed. as_replied changed ≡ model.with_tables state.now tables.items) }
 {
     let Some(epoch) = state.epoch.checked_add(1) else {
         return Ok(Err(Refusal::LastEpoch));
@@ -59,14 +60,14 @@ pub fn flushed<F: RangeFilter>(
     alloc: Global,
     state: &State,
 ) -> Result<Result<State, Refusal>, AllocError>
-    ensures { IfOk result (λ changed. seen changed ≡ model.flushed (filter_bytes_of F.spelling F.built_cutoff) state.now) }
+    ensures { IfOk result (λ changed. as_replied changed ≡ model.flushed (filter_bytes_of F.spelling F.built_cutoff) state.now) }
 {
     let memory = state.memory(alloc)?;
     if memory.is_empty() {
         let same = state.copy(alloc)?;
         return Ok(Ok(same));
     }
-    if state.tables.len() >= 1024 {
+    if state.tables.len() >= MAX_TABLES {
         return Ok(Err(Refusal::ManyTables));
     }
     let mut outputs = Vec::new(alloc);
@@ -85,7 +86,7 @@ pub fn flushed<F: RangeFilter>(
     }
 }
 
-/// The state with an entry more in its log.
+// The state with an entry more in its log.
 fn logged(state: State, entry: &Entry) -> Result<State, AllocError>
     ensures { IfOk result (λ s. s ≡ model.logged state entry.now) }
 {
@@ -100,7 +101,7 @@ pub fn written<F: RangeFilter>(
     state: &State,
     entry: &Entry,
 ) -> Result<Result<State, Refusal>, AllocError>
-    ensures { IfOk result (λ changed. seen changed ≡ model.written (filter_bytes_of F.spelling F.built_cutoff) state.now entry.now) }
+    ensures { IfOk result (λ changed. as_replied changed ≡ model.written (filter_bytes_of F.spelling F.built_cutoff) state.now entry.now) }
 {
     if record_bytes(entry)?.checked_add(1).ok_or(AllocError)? <= log_gap(state)? {
         let same = state.copy(alloc)?;
@@ -116,7 +117,7 @@ pub fn written<F: RangeFilter>(
     }
 }
 
-/// The bytes of an entry's record, with its gate.
+// The bytes of an entry's record, with its gate.
 fn record_bytes(entry: &Entry) -> Result<u64, AllocError>
     ensures { IfOk result (λ n. n + 1 ≡ need entry.now) }
 {
@@ -128,7 +129,7 @@ fn record_bytes(entry: &Entry) -> Result<u64, AllocError>
     Ok(bytes.checked_add(8).ok_or(AllocError)? as u64)
 }
 
-/// The bytes that the log's records take.
+// The bytes that the log's records take.
 #[tactic(auto, unfolding(entry_model::specs::Entries::filled))]
 fn log_bytes(entries: &[Entry]) -> Result<u64, AllocError>
     ensures { IfOk result (λ n. n ≡ filled entries.now) }
@@ -140,7 +141,7 @@ fn log_bytes(entries: &[Entry]) -> Result<u64, AllocError>
     Ok(bytes)
 }
 
-/// The bytes that are left in the log area.
+// The bytes that are left in the log area.
 #[tactic(auto, unfolding(entry_model::specs::Entries::gap))]
 fn log_gap(state: &State) -> Result<u64, AllocError>
     ensures { IfOk result (λ n. n ≡ gap state.now.log) }
@@ -155,7 +156,7 @@ pub fn compacted<F: RangeFilter>(
     alloc: Global,
     state: &State,
 ) -> Result<Result<State, Refusal>, AllocError>
-    ensures { IfOk result (λ changed. seen changed ≡ model.compacted (filter_bytes_of F.spelling F.built_cutoff) state.now) }
+    ensures { IfOk result (λ changed. as_replied changed ≡ model.compacted (filter_bytes_of F.spelling F.built_cutoff) state.now) }
 {
     let entries = state.entries(alloc)?;
     if entries.is_empty() {
@@ -168,9 +169,9 @@ pub fn compacted<F: RangeFilter>(
     compacted_at::<F>(alloc, state, epoch)
 }
 
-/// The live pairs of a store that is not empty, cut into outputs.
+// The live pairs of a store that is not empty, cut into outputs.
 fn live_outputs(alloc: Global, state: &State) -> Result<Vec<Vec<Entry>>, AllocError>
-    ensures { IfOk result (λ outputs. map vec_items outputs.items ≡ cut state.now.tables (model.live_entries state.now)) }
+    ensures { IfOk result (λ outputs. map vec_items outputs.items ≡ outputs_for state.now.tables (model.live_entries state.now)) }
 {
     let entries = state.entries(alloc)?;
     let newest = newest_entries(alloc, entries.as_slice())?;
@@ -178,15 +179,15 @@ fn live_outputs(alloc: Global, state: &State) -> Result<Vec<Vec<Entry>>, AllocEr
     outputs_of(alloc, state.tables.len().saturating_sub(1), live.as_slice())
 }
 
-/// They are placed, and stand alone in the state of the next epoch.
+// They are placed, and stand alone in the state of the next epoch.
 fn compacted_at<F: RangeFilter>(
     alloc: Global,
     state: &State,
     epoch: u64,
 ) -> Result<Result<State, Refusal>, AllocError>
     requires { epoch ≡ state.now.epoch + 1 }
-    ensures { IfOk result (λ changed. seen changed ≡ model.compact_placed state.now
-        (placed (filter_bytes_of F.spelling F.built_cutoff) state.now.settings state.now.pages (taken (without_job state.now)) 6 (cut state.now.tables (model.live_entries state.now)))) }
+    ensures { IfOk result (λ changed. as_replied changed ≡ model.compact_placed state.now
+        (placed (filter_bytes_of F.spelling F.built_cutoff) state.now.settings state.now.pages (taken (without_job state.now)) 6 (outputs_for state.now.tables (model.live_entries state.now)))) }
 {
     let outputs = live_outputs(alloc, state)?;
     let taken = taken_without(alloc, state)?;

@@ -1,4 +1,4 @@
-// The bytes of a table's filter.
+//! The bytes of a table's filter.
 ghost use Rattle.std.specs.Prelude.{◌≡◌, length, IfOk};
 ghost use Rattle.filter_model.specs.Leaves.{leaves_of};
 ghost use Rattle.entry_model.specs.Entries.{keys_of};
@@ -10,7 +10,7 @@ use filter_model::are_keys;
 use key_base::KeyList;
 use std::alloc::{AllocError, Global};
 
-/// The keys of some entries.
+// The keys of some entries.
 fn keys_of(alloc: Global, entries: &[Entry]) -> Result<KeyList, AllocError>
     ensures { IfOk result (λ keys. keys ≡ keys_of entries.now) }
 {

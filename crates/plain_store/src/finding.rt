@@ -1,4 +1,4 @@
-// What a state says of a key, by looking at its newest entries first.
+//! What a state says of a key, by looking at its newest entries first.
 ghost use Rattle.std.specs.Prelude.{◌≡◌, map, vec_items, IfOk};
 ghost use Rattle.std.specs.Option.{option_map};
 ghost use Rattle.entry_model.specs.Newest.{lookup};
@@ -35,7 +35,7 @@ fn copied(alloc: Global, value: Option<&[u8]>) -> Result<Found, AllocError>
     }
 }
 
-/// What the first of some tables that has the key says of it.
+// What the first of some tables that has the key says of it.
 fn first_found(alloc: Global, tables: &[Table], key: &[u8]) -> Result<Option<Found>, AllocError>
     ensures { IfOk result (λ found. option_map (option_map vec_items) found ≡ model.first_found (map (λ t. t.entries) tables.now) key.now) }
 {

@@ -1,4 +1,4 @@
-// Where there is room for a table.
+//! Where there is room for a table.
 ghost use Rattle.std.specs.Prelude.{◌≡◌, ◌+◌, ◌<◌, ◌^◌, All, map, IfOk};
 ghost use Rattle.std.specs.List.{list_any};
 ghost use Rattle.extent_model.specs.Gaps as model;
@@ -20,7 +20,7 @@ fn is_taken(extents: &[Extent], page: u64) -> bool
     extents.iter().any(|extent| has_page(extent, page))
 }
 
-/// The first page of the next extent, or the end of the device.
+// The first page of the next extent, or the end of the device.
 fn next_taken(pages: u64, extents: &[Extent], page: u64) -> u64
     ensures { result ≡ model.next_taken pages extents.now page }
 {
@@ -31,7 +31,7 @@ fn next_taken(pages: u64, extents: &[Extent], page: u64) -> u64
         .fold(pages, |least, first| least.min(first))
 }
 
-/// How many pages are free from this page on.
+// How many pages are free from this page on.
 fn room_at(pages: u64, extents: &[Extent], page: u64) -> u64
     ensures { result ≡ model.room_at pages extents.now page }
 {
@@ -42,7 +42,7 @@ fn room_at(pages: u64, extents: &[Extent], page: u64) -> u64
     }
 }
 
-/// The pages at which a gap may begin: the first one that a table may have, and those behind extents.
+// The pages at which a gap may begin: the first one that a table may have, and those behind extents.
 fn gap_starts(alloc: Global, extents: &[Extent]) -> Result<Vec<u64>, AllocError>
     ensures { IfOk result (λ starts. starts.items ≡ model.gap_starts extents.now) }
 {

@@ -1,4 +1,4 @@
-// A merge that is done whole, or slice by slice.
+//! A merge that is done whole, or slice by slice.
 ghost use Rattle.std.specs.Prelude.{◌≡◌, ◌==◌, ◌++◌, not, if◌then◌else◌, fold, map, drop, length, vec_items, Some, IfOk, OnOk};
 ghost use Rattle.std.specs.List.{list_any};
 ghost use Rattle.state_model.specs.Play as model;
@@ -19,7 +19,7 @@ use entry_list::{Entry, copied};
 use filter_api::RangeFilter;
 use std::alloc::{AllocError, Global};
 
-/// Whether the first is of a lesser level, or of the same one with lesser keys.
+// Whether the first is of a lesser level, or of the same one with lesser keys.
 fn goes_before(table: &Table, other: &Table) -> bool
     ensures { result ≡ goes_before table.now other.now }
 {
@@ -27,7 +27,7 @@ fn goes_before(table: &Table, other: &Table) -> bool
         || (table.level == other.level && is_before(table.least_key(), other.least_key()))
 }
 
-/// The tables with one more, before the first that it goes before.
+// The tables with one more, before the first that it goes before.
 fn inserted(alloc: Global, tables: &[Table], new: &Table) -> Result<Vec<Table>, AllocError>
     ensures { IfOk result (λ list. list.items ≡ inserted tables.now new.now) }
 {
@@ -61,7 +61,7 @@ fn is_left(table: &Table, inputs: &[Table]) -> bool
     !begins_there(table.first_page, inputs)
 }
 
-/// The tables without some of them.
+// The tables without some of them.
 fn without(alloc: Global, inputs: &[Table], tables: &[Table]) -> Result<Vec<Table>, AllocError>
     ensures { IfOk result (λ list. list.items ≡ without inputs.now tables.now) }
 {
@@ -82,7 +82,7 @@ fn push_left(inputs: &[Table], tables: &[Table], list: &mut Vec<Table>) -> Resul
     push_left(inputs, later, list)
 }
 
-/// The tables with some more, each in its place.
+// The tables with some more, each in its place.
 fn with_all(alloc: Global, tables: Vec<Table>, made: &[Table]) -> Result<Vec<Table>, AllocError>
     ensures { IfOk result (λ list. list.items ≡ fold inserted tables.items made.now) }
 {
@@ -93,7 +93,7 @@ fn with_all(alloc: Global, tables: Vec<Table>, made: &[Table]) -> Result<Vec<Tab
     Ok(list)
 }
 
-/// The job that runs, or a new one where one is to be chosen.
+// The job that runs, or a new one where one is to be chosen.
 fn job_of(alloc: Global, state: &State) -> Result<Option<Job>, AllocError>
     ensures { IfOk result (λ job. job ≡ model.job_of state.now.job (choose state.now.tables)) }
 {
@@ -112,7 +112,7 @@ fn job_of(alloc: Global, state: &State) -> Result<Option<Job>, AllocError>
     }
 }
 
-/// The outputs stand in the place of the inputs, unless the epoch is the last one: then the job is dropped.
+// The outputs stand in the place of the inputs, unless the epoch is the last one: then the job is dropped.
 #[tactic(auto, unfolding(state_model::specs::State::last_epoch))]
 fn installed(alloc: Global, state: &State, job: &Job) -> Result<State, AllocError>
     ensures { IfOk result (λ s. s ≡ (if state.now.epoch == last_epoch then without_job state.now else installed state.now job.now)) }
@@ -133,7 +133,7 @@ fn installed(alloc: Global, state: &State, job: &Job) -> Result<State, AllocErro
     })
 }
 
-/// The job once nothing is to read and these tables are written too.
+// The job once nothing is to read and these tables are written too.
 fn finished(job: Job, made: &[Table]) -> Result<Job, AllocError>
     ensures { IfOk result (λ later. later ≡ model.finished job made.now) }
 {
@@ -143,7 +143,7 @@ fn finished(job: Job, made: &[Table]) -> Result<Job, AllocError>
     Ok(job)
 }
 
-/// The outputs of these that are not written yet.
+// The outputs of these that are not written yet.
 #[tactic(auto, using(crate::proofs::Whole::nothing_left, crate::proofs::Whole::left_from))]
 fn left_of<'a>(job: &Job, outputs: &'a [Vec<Entry>]) -> &'a [Vec<Entry>]
     ensures { map vec_items result.now ≡ drop (length job.now.written) (map vec_items outputs.now) }
@@ -154,7 +154,7 @@ fn left_of<'a>(job: &Job, outputs: &'a [Vec<Entry>]) -> &'a [Vec<Entry>]
     &outputs[job.written.len()..]
 }
 
-/// The whole of a job is done: all that is left is written and installed, or the job is dropped.
+// The whole of a job is done: all that is left is written and installed, or the job is dropped.
 fn merged_by<F: RangeFilter>(alloc: Global, state: &State, job: Job) -> Result<State, AllocError>
     ensures { IfOk result (λ s. s ≡ model.merged_by (filter_bytes_of F.spelling F.built_cutoff) state.now (Some job)) }
 {
@@ -180,7 +180,7 @@ pub fn merged<F: RangeFilter>(alloc: Global, state: &State) -> Result<State, All
     }
 }
 
-/// The first of these outputs is written; where none is left the job is installed, or dropped.
+// The first of these outputs is written; where none is left the job is installed, or dropped.
 fn with_next<F: RangeFilter>(
     alloc: Global,
     state: &State,
@@ -203,7 +203,7 @@ fn with_next<F: RangeFilter>(
     }
 }
 
-/// A merge slice of a job: it reads so many blocks, or where none is left writes the next output, or installs.
+// A merge slice of a job: it reads so many blocks, or where none is left writes the next output, or installs.
 fn sliced_by<F: RangeFilter>(
     alloc: Global,
     blocks: u64,

@@ -1,4 +1,4 @@
-// A merge that runs.
+//! A merge that runs.
 ghost use Rattle.std.specs.Prelude.{◌≡◌, sum_by, Some, None, IfOk};
 ghost use Rattle.std.specs.Option.{option_map};
 ghost use Rattle.state_model.specs.Tends as model;
@@ -58,7 +58,7 @@ pub(crate) fn copied_job(alloc: Global, job: &Option<Job>) -> Result<Option<Job>
     }
 }
 
-/// The data blocks of some tables.
+// The data blocks of some tables.
 fn blocks_of(tables: &[Table]) -> Result<u64, AllocError>
     ensures { IfOk result (λ blocks. blocks ≡ sum_by (λ t. t.blocks) tables.now) }
 {

@@ -1,4 +1,4 @@
-// Keys and their order.
+//! Keys and their order.
 ghost use Rattle.std.specs.Prelude.{◌≡◌, Some};
 ghost use Rattle.map_model.specs.Slices.{is_before, is_between};
 

@@ -1,4 +1,4 @@
-// The limits that a request may break.
+//! The limits that a request may break.
 ghost use Rattle.std.specs.Prelude.{◌≡◌, Option, Some, None};
 ghost use Rattle.std.specs.Option.{option_map};
 ghost use Rattle.line_model.specs.Limits as model;
@@ -7,11 +7,12 @@ ghost use Rattle.line_model.specs.Limits.{limit_of};
 ghost use Rattle.plain_store.specs.Talk.{asks, says};
 
 use crate::talk::{Reply, Request};
+use key_base::{MAX_BOUND_BYTES, MAX_KEY_BYTES, MAX_VALUE_BYTES};
 
 fn key_limit(key: &[u8]) -> Option<Reply>
     ensures { option_map says result ≡ model.key_limit key.now }
 {
-    if key.is_empty() || key.len() > 1024 {
+    if key.is_empty() || key.len() > MAX_KEY_BYTES {
         Some(Reply::LongKey(key.len() as u64))
     } else {
         None
@@ -21,7 +22,7 @@ fn key_limit(key: &[u8]) -> Option<Reply>
 fn value_limit(value: &[u8]) -> Option<Reply>
     ensures { option_map says result ≡ model.value_limit value.now }
 {
-    if value.len() > 65_536 {
+    if value.len() > MAX_VALUE_BYTES {
         Some(Reply::LongValue(value.len() as u64))
     } else {
         None
@@ -31,7 +32,7 @@ fn value_limit(value: &[u8]) -> Option<Reply>
 fn bound_limit(bound: &[u8]) -> Option<Reply>
     ensures { option_map says result ≡ model.bound_limit bound.now }
 {
-    if bound.len() > 1024 {
+    if bound.len() > MAX_BOUND_BYTES {
         Some(Reply::LongKey(bound.len() as u64))
     } else {
         None

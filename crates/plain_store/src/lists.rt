@@ -1,4 +1,4 @@
-// Lists of tables.
+//! Lists of tables.
 ghost use Rattle.std.specs.Prelude.{◌≡◌, [], ◌∷◌, ◌++◌, filter, map, reverse, flat_map, IfOk, OnOk};
 ghost use Rattle.state_model.specs.Taken.{extent_of};
 ghost use Rattle.state_model.specs.Merges.{on_level};

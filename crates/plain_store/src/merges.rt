@@ -1,4 +1,4 @@
-// Which tables are merged, and into what.
+//! Which tables are merged, and into what.
 ghost use Rattle.std.specs.Prelude.{◌≡◌, ◌+◌, ◌≤◌, [], ◌∷◌, ◌++◌, filter, take, length, sum_by, IfOk, OnOk};
 ghost use Rattle.std.specs.List.{list_any};
 ghost use Rattle.std.specs.Option.{option_map};
@@ -38,7 +38,7 @@ fn greater<'a>(x: &'a [u8], y: &'a [u8]) -> &'a [u8]
     if is_before(x, y) { y } else { x }
 }
 
-/// The least key of all tables.
+// The least key of all tables.
 fn least_of(tables: &[Table]) -> &[u8]
     ensures { result.now ≡ model.least_of tables.now }
 {
@@ -52,7 +52,7 @@ fn least_of(tables: &[Table]) -> &[u8]
     least
 }
 
-/// The greatest key of all tables.
+// The greatest key of all tables.
 fn greatest_of(tables: &[Table]) -> &[u8]
     ensures { result.now ≡ model.greatest_of tables.now }
 {
@@ -66,14 +66,14 @@ fn greatest_of(tables: &[Table]) -> &[u8]
     greatest
 }
 
-/// Whether the table's keys reach into those from `lo` to `hi`.
+// Whether the table's keys reach into those from `lo` to `hi`.
 fn overlaps(lo: &[u8], hi: &[u8], table: &Table) -> bool
     ensures { result ≡ model.overlaps lo.now hi.now table.now }
 {
     !is_before(table.greatest_key(), lo) && !is_before(hi, table.least_key())
 }
 
-/// Appends copies of the tables that reach into the keys from `lo` to `hi`.
+// Appends copies of the tables that reach into the keys from `lo` to `hi`.
 fn push_met(lo: &[u8], hi: &[u8], tables: &[Table], list: &mut Vec<Table>) -> Result<(), AllocError>
     ensures { OnOk result (list.new.items ≡ list.old.items ++ filter (model.overlaps lo.now hi.now) tables.now) }
 {
@@ -85,7 +85,7 @@ fn push_met(lo: &[u8], hi: &[u8], tables: &[Table], list: &mut Vec<Table>) -> Re
     Ok(())
 }
 
-/// Some tables with those of the output's level that they meet.
+// Some tables with those of the output's level that they meet.
 fn plan_of(alloc: Global, state: &State, tables: &[Table], output: u8) -> Result<Plan, AllocError>
     ensures { IfOk result (λ plan. plan ≡ model.plan_of state.now.tables tables.now output) }
 {
@@ -101,7 +101,7 @@ fn plan_of(alloc: Global, state: &State, tables: &[Table], output: u8) -> Result
     Ok(Plan { inputs, output })
 }
 
-/// The pages that a level may have.
+// The pages that a level may have.
 fn level_limit(level: u8) -> Result<u64, AllocError>
     ensures { IfOk result (λ pages. pages ≡ model.level_limit level) }
 {
@@ -111,7 +111,7 @@ fn level_limit(level: u8) -> Result<u64, AllocError>
     times.checked_mul(256).ok_or(AllocError)
 }
 
-/// The pages of some tables.
+// The pages of some tables.
 fn pages_of(tables: &[Table]) -> Result<u64, AllocError>
     ensures { IfOk result (λ pages. pages ≡ sum_by (λ t. t.pages) tables.now) }
 {
@@ -134,7 +134,7 @@ pub fn choose(alloc: Global, state: &State) -> Result<Option<Plan>, AllocError>
     first_over(alloc, state, &[1, 2, 3, 4, 5])
 }
 
-/// The merge of the first of these levels that has too many pages.
+// The merge of the first of these levels that has too many pages.
 fn first_over(alloc: Global, state: &State, levels: &[u8]) -> Result<Option<Plan>, AllocError>
     ensures { IfOk result (λ plan. plan ≡ model.first_over state.now.tables levels.now) }
 {

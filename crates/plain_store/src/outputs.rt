@@ -1,4 +1,4 @@
-// What a merge makes of its inputs.
+//! What a merge makes of its inputs.
 ghost use Rattle.std.specs.Prelude.{◌≡◌, [], ◌∷◌, ◌++◌, filter, map, length, vec_items, take, drop, nat_lt, ◌≤◌, IfOk, OnOk};
 ghost use Rattle.std.specs.List.{list_any};
 ghost use Rattle.state_model.specs.Merges as model;
@@ -11,9 +11,10 @@ use crate::state::State;
 use crate::table::Table;
 use crate::view::newest_entries;
 use entry_list::{Entry, push_copy};
+use key_base::MERGE_DATA_PAGES;
 use std::alloc::{AllocError, Global};
 
-/// Whether no table lies deeper than the level.
+// Whether no table lies deeper than the level.
 fn is_deepest(state: &State, level: u8) -> bool
     ensures { result ≡ model.is_deepest state.now.tables level }
 {
@@ -50,7 +51,7 @@ pub(crate) fn live_entries(alloc: Global, entries: &[Entry]) -> Result<Vec<Entry
     Ok(list)
 }
 
-/// The entries that a merge keeps: without tombstones where nothing older can lie below them.
+// The entries that a merge keeps: without tombstones where nothing older can lie below them.
 fn lasting(alloc: Global, is_last: bool, entries: Vec<Entry>) -> Result<Vec<Entry>, AllocError>
     ensures { IfOk result (λ list. list.items ≡ model.lasting is_last entries.items) }
 {
@@ -61,7 +62,7 @@ fn lasting(alloc: Global, is_last: bool, entries: Vec<Entry>) -> Result<Vec<Entr
     }
 }
 
-/// The newest entry of each key of some tables, the newest table first.
+// The newest entry of each key of some tables, the newest table first.
 fn newest_of(alloc: Global, tables: &[Table]) -> Result<Vec<Entry>, AllocError>
     ensures { IfOk result (λ list. list.items ≡ model.newest_of tables.now) }
 {
@@ -69,14 +70,14 @@ fn newest_of(alloc: Global, tables: &[Table]) -> Result<Vec<Entry>, AllocError>
     newest_entries(alloc, entries.as_slice())
 }
 
-/// How many of the entries make the first output: those up to the one with which it is full, or all.
+// How many of the entries make the first output: those up to the one with which it is full, or all.
 #[tactic(auto, using(crate::proofs::Cuts::split_step))]
 fn first_output(alloc: Global, entries: &[Entry]) -> Result<usize, AllocError>
     ensures split { IfOk result (λ n. model.split_output [] entries.now ≡ (take n entries.now, drop n entries.now)) }
     ensures within { IfOk result (λ n. n ≤ length entries.now) }
 {
     for n in 0..entries.len() {
-        if data_pages(alloc, &entries[..n + 1])? >= 1024 {
+        if data_pages(alloc, &entries[..n + 1])? >= u64::from(MERGE_DATA_PAGES) {
             return Ok(n + 1);
         }
     }

@@ -1,4 +1,4 @@
-// How many pages tables take.
+//! How many pages tables take.
 ghost use Rattle.std.specs.Prelude.{◌≡◌, length, IfOk};
 ghost use Rattle.block_model.specs.Pages as model;
 ghost use Rattle.table_model.specs.Tables.{table_pages, table_of};
@@ -21,7 +21,7 @@ pub(crate) fn data_pages(alloc: Global, entries: &[Entry]) -> Result<u64, AllocE
     block_model::data_pages(alloc, entries)
 }
 
-/// The pages of the index of some entries. It gives up where they are not entries of a table.
+// The pages of the index of some entries. It gives up where they are not entries of a table.
 fn index_pages(alloc: Global, entries: &[Entry]) -> Result<u64, AllocError>
     ensures { IfOk result (λ pages. pages ≡ model.pages_for (model.index_length entries.now)) }
 {
@@ -49,7 +49,7 @@ pub fn table_pages<F: RangeFilter>(
         .ok_or(AllocError)
 }
 
-/// Of how many blocks a table of some entries is made.
+// Of how many blocks a table of some entries is made.
 fn block_count(alloc: Global, entries: &[Entry]) -> Result<u64, AllocError>
     ensures { IfOk result (λ n. n ≡ length (model.blocks_of entries.now)) }
 {

@@ -1,4 +1,4 @@
-// Outputs that become tables.
+//! Outputs that become tables.
 ghost use Rattle.std.specs.Prelude.{◌≡◌, [], ◌∷◌, ◌++◌, map, vec_items, None, Some, IfOk};
 ghost use Rattle.std.specs.Result.{result_map_both};
 ghost use Rattle.state_model.specs.State.{without_job};
@@ -33,7 +33,7 @@ impl Model for NoRoom {
     ghost view = { λ r. record { need = r.need; gap = r.gap } };
 }
 
-/// The extents that the tables take, and those that a job has written beside them.
+// The extents that the tables take, and those that a job has written beside them.
 #[tactic(auto, using(crate::proofs::Whole::taken_beside))]
 fn taken_beside(alloc: Global, state: &State, written: &[Table]) -> Result<Vec<Extent>, AllocError>
     ensures { IfOk result (λ list. list.items ≡ map extent_of (state.now.tables ++ (written.now ++ state.now.kept))) }

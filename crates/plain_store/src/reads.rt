@@ -1,4 +1,4 @@
-// The replies to requests that change nothing.
+//! The replies to requests that change nothing.
 ghost use Rattle.std.specs.Prelude.{◌≡◌, Some, length, IfOk};
 ghost use Rattle.std.specs.Option.{option_map};
 ghost use Rattle.map_model.specs.Slices.{seek, slice, count};

@@ -1,4 +1,4 @@
-// The state of a store that is played in memory.
+//! The state of a store that is played in memory.
 ghost use Rattle.std.specs.Prelude.{◌≡◌, ◌≤◌, IfOk};
 ghost use Rattle.state_model.specs.State.{new_state, without_job};
 ghost use Rattle.state_model.specs.Tends.{with_job};

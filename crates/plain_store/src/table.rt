@@ -1,4 +1,4 @@
-// A table.
+//! A table.
 ghost use Rattle.std.specs.Prelude.{◌≡◌, IfOk};
 ghost use Rattle.state_model.specs.Taken.{extent_of};
 ghost use Rattle.state_model.specs.Merges as model;

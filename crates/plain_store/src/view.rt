@@ -1,4 +1,4 @@
-// What a state says of a key.
+//! What a state says of a key.
 ghost use Rattle.std.specs.Prelude.{◌≡◌, [], ◌∷◌, ◌++◌, IfOk, OnOk};
 ghost use Rattle.entry_model.specs.Newest.{newest_entries, with_entry};
 ghost use Rattle.entry_model.specs.Entries.{changed};
@@ -11,7 +11,7 @@ use plain_map::PlainMap;
 use std::alloc::{AllocError, Global};
 use std::cmp::Ordering;
 
-/// The entries with a new one at its key's place, where an older one of that key goes.
+// The entries with a new one at its key's place, where an older one of that key goes.
 fn with_entry(alloc: Global, entries: &[Entry], new: &Entry) -> Result<Vec<Entry>, AllocError>
     ensures { IfOk result (λ list. list.items ≡ with_entry entries.now new.now) }
 {

@@ -8,7 +8,7 @@ use Rattle.state_model.specs.State.{State, Job}
 use Rattle.table_model.specs.Tables.{FilterBytes, Table}
 use Rattle.state_model.specs.Merges.{Plan, plan_of, on_level, overlaps, least_of, greatest_of, level_limit, is_over, first_over, choose}
 use Rattle.state_model.specs.Sound.{IsSound, StandsBefore, MayRun, IsJob, plan_of_job}
-use Rattle.state_model.specs.Laws.{IsPart}
+use Rattle.state_model.specs.Laws.{AreSomeOf}
 use Rattle.state_model.proofs.Levels.{deeper}
 use Rattle.state_model.proofs.Orders.{pairs_drop}
 use Rattle.state_model.proofs.Parts.{above, levels_of, parted}
@@ -16,42 +16,42 @@ use Rattle.state_model.proofs.SoundInstalls.{chosen_deep}
 
 -- ---- parts
 
-part_of_more : (xs : List Table) (u : Table) (all : List Table) → IsPart xs all → IsPart xs (u ∷ all)
+part_of_more : (xs : List Table) (u : Table) (all : List Table) → AreSomeOf xs all → AreSomeOf xs (u ∷ all)
 part_of_more [] u all part = tt
 part_of_more (x ∷ xs) u all part = inr part
 
-part_behind : (xs front all : List Table) → IsPart xs all → IsPart xs (front ++ all)
+part_behind : (xs front all : List Table) → AreSomeOf xs all → AreSomeOf xs (front ++ all)
 part_behind xs [] all part = part
 part_behind xs (u ∷ front) all part = part_of_more xs u (front ++ all) (part_behind xs front all part)
 
-part_none : (all : List Table) → IsPart [] all
+part_none : (all : List Table) → AreSomeOf [] all
 part_none all = tt
 
-part_join : (xs ys all others : List Table) → IsPart xs all → IsPart ys others → IsPart (xs ++ ys) (all ++ others)
+part_join : (xs ys all others : List Table) → AreSomeOf xs all → AreSomeOf ys others → AreSomeOf (xs ++ ys) (all ++ others)
 part_join [] ys all others part other = part_behind ys all others other
 part_join (x ∷ xs) ys [] others part other = absurd part
 part_join (x ∷ xs) ys (u ∷ all) others (inl (same, rest)) other = inl (same, part_join xs ys all others rest other)
 part_join (x ∷ xs) ys (u ∷ all) others (inr rest) other = inr (part_join (x ∷ xs) ys all others rest other)
 
-part_kept : (test : Table → Bool) (all : List Table) → IsPart (filter test all) all
+part_kept : (test : Table → Bool) (all : List Table) → AreSomeOf (filter test all) all
 part_kept test [] = tt
-part_kept test (t ∷ more) = elim (test t) as (λ b. IsPart (cond b (t ∷ filter test more) (filter test more)) (t ∷ more)) [
+part_kept test (t ∷ more) = elim (test t) as (λ b. AreSomeOf (cond b (t ∷ filter test more) (filter test more)) (t ∷ more)) [
   | true ↦ inl (refl, part_kept test more)
   | false ↦ part_of_more (filter test more) t more (part_kept test more)
 ]
 
-part_first : (n : ℕ) (all : List Table) → IsPart (take n all) all
+part_first : (n : ℕ) (all : List Table) → AreSomeOf (take n all) all
 part_first zero all = tt
 part_first (suc n) [] = tt
 part_first (suc n) (t ∷ more) = inl (refl, part_first n more)
 
-part_front : (xs all others : List Table) → IsPart xs all → IsPart xs (all ++ others)
+part_front : (xs all others : List Table) → AreSomeOf xs all → AreSomeOf xs (all ++ others)
 part_front [] all others part = tt
 part_front (x ∷ xs) [] others part = absurd part
 part_front (x ∷ xs) (u ∷ all) others (inl (same, rest)) = inl (same, part_front xs all others rest)
 part_front (x ∷ xs) (u ∷ all) others (inr rest) = inr (part_front (x ∷ xs) all others rest)
 
-part_of_rest : (n : ℕ) (xs all : List Table) → IsPart xs (drop n all) → IsPart xs all
+part_of_rest : (n : ℕ) (xs all : List Table) → AreSomeOf xs (drop n all) → AreSomeOf xs all
 part_of_rest zero xs all part = part
 part_of_rest (suc n) xs [] part = part
 part_of_rest (suc n) xs (u ∷ all) part = part_of_more xs u all (part_of_rest n xs all part)
@@ -59,13 +59,13 @@ part_of_rest (suc n) xs (u ∷ all) part = part_of_more xs u all (part_of_rest n
 -- ---- what is chosen
 
 -- some tables of a level, and those of the next that they reach
-level_part : (a : ℕ) (all tables : List Table) → Pairs StandsBefore all → IsPart tables (on_level a all) → IsPart (plan_of all tables (a + 1)).inputs all
+level_part : (a : ℕ) (all tables : List Table) → Pairs StandsBefore all → AreSomeOf tables (on_level a all) → AreSomeOf (plan_of all tables (a + 1)).inputs all
 level_part a all tables order part =
     let reached = filter (overlaps (least_of tables) (greatest_of tables)) (on_level (a + 1) all) in
     let two = part_join tables (reached ++ []) (on_level a all) (on_level (a + 1) all ++ deeper (a + 1) all) part
     (part_join reached [] (on_level (a + 1) all) (deeper (a + 1) all) (part_kept (overlaps (least_of tables) (greatest_of tables)) (on_level (a + 1) all)) (part_none (deeper (a + 1) all))) in
-    subst (λ (l : List Table). IsPart (tables ++ l) all) (Rattle.std.proofs.lemmas.List.append-nil reached)
-    (subst (IsPart (tables ++ (reached ++ []))) (sym (parted a 0 all (levels_of all order)))
+    subst (λ (l : List Table). AreSomeOf (tables ++ l) all) (Rattle.std.proofs.lemmas.List.append-nil reached)
+    (subst (AreSomeOf (tables ++ (reached ++ []))) (sym (parted a 0 all (levels_of all order)))
     (part_behind (tables ++ (reached ++ [])) (above a all) (on_level a all ++ (on_level (a + 1) all ++ deeper (a + 1) all)) two))
 
 -- what a plan of all tables has, whichever level it comes from
@@ -111,20 +111,20 @@ chosen_some all plan e = choice_has (λ _ plan. 1 ≤ length plan.inputs) all pl
 pub chosen_output : (tables : List Table) (plan : Plan) → choose tables ≡ Some plan → (1 ≤ plan.output) × (plan.output ≤ 6)
 chosen_output all plan e = (choice_has (λ _ plan. 1 ≤ plan.output) all plan (λ _. omega arith, λ level low high over. omega arith) e, chosen_deep all plan e)
 
-whole_part : (all : List Table) → IsPart all all
+whole_part : (all : List Table) → AreSomeOf all all
 whole_part [] = tt
 whole_part (t ∷ more) = inl (refl, whole_part more)
 
-part_of_choice : (all : List Table) (plan : Plan) → Pairs StandsBefore all → choose all ≡ Some plan → IsPart plan.inputs all
-part_of_choice all plan order e = choice_has (λ all plan. IsPart plan.inputs all) all plan (
+part_of_choice : (all : List Table) (plan : Plan) → Pairs StandsBefore all → choose all ≡ Some plan → AreSomeOf plan.inputs all
+part_of_choice all plan order e = choice_has (λ all plan. AreSomeOf plan.inputs all) all plan (
   λ some. level_part 0 all (on_level 0 all) order (whole_part (on_level 0 all)),
   λ level low high over. level_part level all (take 1 (on_level level all)) order (part_first 1 (on_level level all)),
 ) e
 
-pub chosen_part : (tables : List Table) (plan : Plan) → AllPairs StandsBefore tables → choose tables ≡ Some plan → IsPart plan.inputs tables
+pub chosen_part : (tables : List Table) (plan : Plan) → AllPairs StandsBefore tables → choose tables ≡ Some plan → AreSomeOf plan.inputs tables
 chosen_part all plan order e = part_of_choice all plan (pairs_of StandsBefore all order) e
 
-pub job_part : (filter_bytes : FilterBytes) (s : State) (job : Job) → IsSound filter_bytes s → s.job ≡ Some job → IsPart job.inputs s.tables
+pub job_part : (filter_bytes : FilterBytes) (s : State) (job : Job) → IsSound filter_bytes s → s.job ≡ Some job → AreSomeOf job.inputs s.tables
 job_part filter_bytes s job sound runs =
     let is : IsJob filter_bytes s.settings s.tables job = subst (MayRun filter_bytes s.settings s.tables) runs sound.job in
     part_of_rest is.flushes job.inputs s.tables

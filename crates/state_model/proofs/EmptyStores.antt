@@ -8,11 +8,11 @@ use Rattle.state_model.specs.State.{State, Job, without_job, last_epoch}
 use Rattle.table_model.specs.Tables.{FilterBytes, Table}
 use Rattle.state_model.specs.View.{entries_of, oldest_first}
 use Rattle.state_model.specs.Taken.{taken}
-use Rattle.state_model.specs.Merges.{NoRoom, choose, placed, cut}
+use Rattle.state_model.specs.Merges.{NoRoom, choose, placed, outputs_for}
 use Rattle.state_model.specs.Changes.{compact_placed, compacted_with, live_entries}
 use Rattle.line_model.specs.Replies.{Reply, LastEpoch}
 use Rattle.line_model.specs.Requests.{Compact}
-use Rattle.state_model.specs.Steps.{changed, Step, answers, no_memory, read_failed, damage_met, write_failed}
+use Rattle.state_model.specs.Steps.{done_or_refused, Step, answers, no_memory, read_failed, damage_met, write_failed}
 use Rattle.state_model.specs.Sound.{IsSound, IsSoundTable, MayRun, plan_of_job}
 use Rattle.state_model.specs.SoundLaws.{Ever}
 use Rattle.state_model.proofs.Sayings.{lists_of, backwards, oldest_first-backwards}
@@ -44,7 +44,7 @@ none_runs filter_bytes s (Some job) none is =
 
 -- a compaction leaves no job
 abbrev NoJob : State → Result State Reply → Type 0
-NoJob old done = (changed (without_job old) done).1.job ≡ None
+NoJob old done = (done_or_refused (without_job old) done).1.job ≡ None
 
 placed_no_job : (s : State) (done : Result (List Table) NoRoom) → NoJob s (compact_placed s done)
 placed_no_job s (Ok made) = refl
@@ -53,7 +53,7 @@ placed_no_job s (Err refusal) = refl
 compacted_no_job : (filter_bytes : FilterBytes) (s : State) (entries : List Entry) → IsSound filter_bytes s → entries_of s ≡ entries → NoJob s (compacted_with filter_bytes s entries)
 compacted_no_job filter_bytes s [] sound e = none_runs filter_bytes s s.job (without_entries filter_bytes s sound e) sound.job
 compacted_no_job filter_bytes s (entry ∷ more) sound e =
-    let done = placed filter_bytes s.settings s.pages (taken (without_job s)) 6 (cut s.tables (live_entries s)) in
+    let done = placed filter_bytes s.settings s.pages (taken (without_job s)) 6 (outputs_for s.tables (live_entries s)) in
     elim (s.epoch == last_epoch) as (λ b. NoJob s (cond b (Err LastEpoch) (compact_placed s done))) [ true ↦ refl | false ↦ placed_no_job s done ]
 
 pub compaction_left : (filter_bytes : FilterBytes) (s after : State) (reply : Reply) → IsSound filter_bytes s → Step Ever filter_bytes s Compact reply after → after.job ≡ None

@@ -1,6 +1,7 @@
 -- An answer tells of no fault, so faults come by their causes alone.
 use Rattle.std.proofs.Common.{◌≡◌, List, [], ◌∷◌, ◌++◌, length, refl, sym, ap, ◌∙◌, Bool, true, false, cond}
 use Rattle.std.specs.Prelude.{Option, Some, None, Result, Ok, Err, nat_le, nat_lt, ◌==◌, ◌||◌, ◌+◌}
+use Rattle.key_base.specs.Limits.{max_tables}
 use Rattle.map_model.specs.SortedMap.{Bytes, get}
 use Rattle.entry_model.specs.Entries.{Entry, need, gap, put_entry, del_entry}
 use Rattle.map_model.specs.Slices.{seek}
@@ -8,13 +9,13 @@ use Rattle.state_model.specs.State.{State, without_job, last_epoch}
 use Rattle.table_model.specs.Tables.{FilterBytes, Table}
 use Rattle.state_model.specs.View.{memory, entries_of, state_map}
 use Rattle.state_model.specs.Taken.{taken}
-use Rattle.state_model.specs.Merges.{NoRoom, placed, cut}
-use Rattle.state_model.specs.Changes.{most_tables, with_tables, flush_placed, flushed_with, flushed, logged, logged_then, written, compact_placed, compacted_with, compacted, live_entries}
+use Rattle.state_model.specs.Merges.{NoRoom, placed, outputs_for}
+use Rattle.state_model.specs.Changes.{with_tables, flush_placed, flushed_with, flushed, logged, logged_then, written, compact_placed, compacted_with, compacted, live_entries}
 use Rattle.line_model.specs.Limits.{key_limit, value_limit, bound_limit, first_limit, limit_of}
 use Rattle.state_model.specs.Causes.{ReadFailed, WriteFailed}
 use Rattle.line_model.specs.Requests.{Request, Put, Del, Get, Seek, Range, Count, Estimate, Explain, Flush, Compact, Quit, Bad}
-use Rattle.line_model.specs.Replies.{Reply, LongKey, LongValue, ManyTables, LastEpoch, Memory, Device, Damaged, got, found}
-use Rattle.state_model.specs.Steps.{Answer, answer, answer_within, changed, unless_limit, left_by, Step, answers, no_memory, read_failed, damage_met, write_failed}
+use Rattle.line_model.specs.Replies.{Reply, LongKey, LongValue, ManyTables, LastEpoch, Pairs, Memory, Device, Damaged, got, found}
+use Rattle.state_model.specs.Steps.{Answer, answer, answer_within, done_or_refused, unless_limit, left_by, Step, answers, no_memory, read_failed, damage_met, write_failed}
 use Rattle.state_model.specs.Tends.{Tended, Refused, Tend, idle, works, installs, last_epoch_reached, no_room, no_memory as none_for_it, read_failed as not_read, damage_met as was_damaged, write_failed as not_written}
 use Rattle.state_model.specs.SoundLaws.{Ever}
 use Rattle.state_model.specs.FaultLaws.{Only, KeepsDevice}
@@ -22,10 +23,11 @@ use Rattle.state_model.specs.FaultLaws.{Only, KeepsDevice}
 -- ---- an answer tells of no fault
 
 -- whether a reply tells of want of memory, of a fault of the device, or of damage
-abbrev is_fault : Reply → Bool
+abbrev pub is_fault : Reply → Bool
 is_fault Memory = true
 is_fault Device = true
 is_fault (Damaged damage) = true
+is_fault (Pairs said end) = is_fault end
 is_fault reply = false
 
 abbrev PlainLimit : Option Reply → Type 0
@@ -37,7 +39,7 @@ abbrev PlainChange : State → Result State Reply → Type 0
 PlainChange s (Ok t) = KeepsDevice s t
 PlainChange s (Err refusal) = is_fault refusal ≡ false
 
-abbrev PlainAnswer : State → Answer → Type 0
+abbrev pub PlainAnswer : State → Answer → Type 0
 PlainAnswer s a = (is_fault a.0 ≡ false) × KeepsDevice s a.1
 
 key_plain : (key : Bytes) → PlainLimit (key_limit key)
@@ -82,7 +84,7 @@ flushed_with_plain : (filter_bytes : FilterBytes) (s : State) (entries : List En
 flushed_with_plain filter_bytes s [] = (refl, refl)
 flushed_with_plain filter_bytes s (entry ∷ more) =
     let done = placed filter_bytes s.settings s.pages (taken s) 0 ((entry ∷ more) ∷ []) in
-    elim (nat_le most_tables (length s.tables)) as (λ t. PlainChange s (cond t (Err ManyTables) (flush_placed s done))) [ true ↦ refl | false ↦ flush_placed_plain s done ]
+    elim (nat_le max_tables (length s.tables)) as (λ t. PlainChange s (cond t (Err ManyTables) (flush_placed s done))) [ true ↦ refl | false ↦ flush_placed_plain s done ]
 
 flushed_plain : (filter_bytes : FilterBytes) (s : State) → PlainChange s (flushed filter_bytes s)
 flushed_plain filter_bytes s = flushed_with_plain filter_bytes s (memory s)
@@ -104,10 +106,10 @@ compact_placed_plain s (Err refusal) = refl
 compacted_plain : (filter_bytes : FilterBytes) (s : State) (entries : List Entry) → PlainChange s (compacted_with filter_bytes s entries)
 compacted_plain filter_bytes s [] = (refl, refl)
 compacted_plain filter_bytes s (entry ∷ more) =
-    let done = placed filter_bytes s.settings s.pages (taken (without_job s)) 6 (cut s.tables (live_entries s)) in
+    let done = placed filter_bytes s.settings s.pages (taken (without_job s)) 6 (outputs_for s.tables (live_entries s)) in
     elim (s.epoch == last_epoch) as (λ t. PlainChange s (cond t (Err LastEpoch) (compact_placed s done))) [ true ↦ refl | false ↦ compact_placed_plain s done ]
 
-changed_plain : (s old : State) (done : Result State Reply) → KeepsDevice s old → PlainChange s done → PlainAnswer s (changed old done)
+changed_plain : (s old : State) (done : Result State Reply) → KeepsDevice s old → PlainChange s done → PlainAnswer s (done_or_refused old done)
 changed_plain s old (Ok t) kept plain = (refl, plain)
 changed_plain s old (Err refusal) kept plain = (plain, kept)
 
@@ -137,12 +139,12 @@ unless_plain : (limit : Option Reply) (s : State) (a : Answer) → PlainLimit li
 unless_plain (Some limit) s a plain within = (plain, (refl, refl))
 unless_plain None s a plain within = within
 
-answer_plain : (filter_bytes : FilterBytes) (s : State) (request : Request) → PlainAnswer s (answer filter_bytes s request)
+pub answer_plain : (filter_bytes : FilterBytes) (s : State) (request : Request) → PlainAnswer s (answer filter_bytes s request)
 answer_plain filter_bytes s request = unless_plain (limit_of request) s (answer_within filter_bytes s request) (limit_plain request) (within_plain filter_bytes s request)
 
 -- ---- where faults are met
 
-no_fault : (reply fault : Reply) → is_fault reply ≡ false → is_fault fault ≡ true → reply ≡ fault → ⊥
+pub no_fault : (reply fault : Reply) → is_fault reply ≡ false → is_fault fault ≡ true → reply ≡ fault → ⊥
 no_fault reply fault plain bad same = let e : false ≡ true = sym plain ∙ ap is_fault same ∙ bad in cc
 
 not_memory : Device ≡ Memory → ⊥
@@ -239,9 +241,9 @@ slice_keeps_device filter_bytes s after tended d = elim d as (λ _ new _. KeepsD
   | last_epoch_reached job later runs goes done last ↦ (refl, refl)
   | no_room job later refusal runs goes refused ↦ (refl, refl)
   | none_for_it cause ↦ (refl, refl)
-  | not_read job runs cause ↦ (refl, refl)
-  | was_damaged job damage runs cause ↦ (refl, refl)
-  | not_written job new runs cause left same ↦ (left.settings, left.pages)
+  | not_read job runs more cause ↦ (refl, refl)
+  | was_damaged job damage runs more cause ↦ (refl, refl)
+  | not_written job new runs may cause left same ↦ (left.settings, left.pages)
 ]
 
 abbrev IfRefused : Tended → Type 0 → Type 0
@@ -256,9 +258,9 @@ slice_left filter_bytes s after tended d = elim d as (λ t new _. IfRefused t (n
   | last_epoch_reached job later runs goes done last ↦ refl
   | no_room job later refusal runs goes refused ↦ refl
   | none_for_it cause ↦ refl
-  | not_read job runs cause ↦ refl
-  | was_damaged job damage runs cause ↦ refl
-  | not_written job new runs cause left same ↦ left.no_job
+  | not_read job runs more cause ↦ refl
+  | was_damaged job damage runs more cause ↦ refl
+  | not_written job new runs may cause left same ↦ left.no_job
 ]
 
 pub refused_slice_left : (filter_bytes : FilterBytes) (s after : State) (why : Reply) → Tend Ever filter_bytes s (Refused why) after → after.job ≡ None

@@ -4,7 +4,8 @@ use Rattle.std.specs.Prelude.{nat_le}
 use Rattle.std.proofs.lemmas.List.{length-append}
 use Rattle.entry_model.specs.Entries.{Entry}
 use Rattle.block_model.specs.Pages.{data_pages, blocks_of}
-use Rattle.state_model.specs.Merges.{split_output, output_pages}
+use Rattle.key_base.specs.Limits.{merge_data_pages}
+use Rattle.state_model.specs.Merges.{split_output}
 
 le_of : (m n : ℕ) → nat_le m n ≡ true → m ≤ n
 le_of m n e = grind arith
@@ -15,7 +16,7 @@ less_of m n e = grind arith
 -- where entries are left, the output is full
 full_from : (output entries : List Entry) → 1 ≤ length (split_output output entries).1 → 1024 ≤ data_pages (split_output output entries).0
 full_from output [] some = absurd (omega arith)
-full_from output (entry ∷ more) some = elim (nat_le output_pages (data_pages (output ++ (entry ∷ [])))) as (λ b. nat_le output_pages (data_pages (output ++ (entry ∷ []))) ≡ b
+full_from output (entry ∷ more) some = elim (nat_le merge_data_pages (data_pages (output ++ (entry ∷ [])))) as (λ b. nat_le merge_data_pages (data_pages (output ++ (entry ∷ []))) ≡ b
     → 1 ≤ length (cond b (output ++ (entry ∷ []), more) (split_output (output ++ (entry ∷ [])) more)).1 → 1024 ≤ data_pages (cond b (output ++ (entry ∷ []), more) (split_output (output ++ (entry ∷ [])) more)).0) [
       | true ↦ λ e _. le_of 1024 (data_pages (output ++ (entry ∷ []))) e
       | false ↦ λ _ some. full_from (output ++ (entry ∷ [])) more some
@@ -49,7 +50,7 @@ no_pages = omega arith
 -- what has been taken so far is less than full, and so is what is before the last entry of the output
 first_from : (output entries front : List Entry) (last : Entry) → data_pages output < 1024 → (split_output output entries).0 ≡ front ++ (last ∷ []) → ((whole : List Entry) (x : Entry) → output ≡ whole ++ (x ∷ []) → data_pages whole < 1024) → data_pages front < 1024
 first_from output [] front last small e before = before front last e
-first_from output (entry ∷ more) front last small e before = elim (nat_le output_pages (data_pages (output ++ (entry ∷ [])))) as (λ b. nat_le output_pages (data_pages (output ++ (entry ∷ []))) ≡ b
+first_from output (entry ∷ more) front last small e before = elim (nat_le merge_data_pages (data_pages (output ++ (entry ∷ [])))) as (λ b. nat_le merge_data_pages (data_pages (output ++ (entry ∷ []))) ≡ b
     → (cond b (output ++ (entry ∷ []), more) (split_output (output ++ (entry ∷ [])) more)).0 ≡ front ++ (last ∷ []) → data_pages front < 1024) [
       | true ↦ λ _ e. subst (λ (l : List Entry). data_pages l < 1024) (fronts output front entry last e) small
       | false ↦ λ off e. first_from (output ++ (entry ∷ [])) more front last (less_of 1024 (data_pages (output ++ (entry ∷ []))) off) e

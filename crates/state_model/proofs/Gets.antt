@@ -6,6 +6,7 @@ use Rattle.std.specs.Ordering.{is_lt}
 use Rattle.std.proofs.lemmas.Bool.{and_parts}
 use Rattle.std.proofs.lemmas.List.Sums.{sum_by-cons}
 use Rattle.extent_model.proofs.Lists.{Pairs, pairs_of}
+use Rattle.filter_api.specs.declared.settings.Settings.{Settings}
 use Rattle.map_model.specs.SortedMap.{Bytes}
 use Rattle.entry_model.specs.Entries.{Entry}
 use Rattle.entry_model.specs.Newest.{lookup}
@@ -14,7 +15,7 @@ use Rattle.state_model.specs.State.{State, without_job, last_epoch}
 use Rattle.table_model.specs.Tables.{FilterBytes, Table}
 use Rattle.state_model.specs.View.{memory, entries_of}
 use Rattle.state_model.specs.Taken.{taken}
-use Rattle.state_model.specs.Merges.{NoRoom, placed, cut, least_key, greatest_key}
+use Rattle.state_model.specs.Merges.{NoRoom, placed, outputs_for, least_key, greatest_key}
 use Rattle.state_model.specs.Changes.{compact_placed, compacted_with, compacted, live_entries}
 use Rattle.line_model.specs.Replies.{Reply, LastEpoch}
 use Rattle.state_model.specs.Bounds.{admits, encloses, is_searched, unless_found, searched, get_bound, admitted}
@@ -36,24 +37,24 @@ one_more true true found rest n l = omega (arith, unless_le found rest, l)
 one_more true false found rest n l = omega (arith, l)
 one_more false encloses found rest n l = omega (arith, l)
 
-searched_few : (s : State) (key : Bytes) (tables : List Table) → searched s key tables ≤ count_by (admits s key) tables
-searched_few s key [] = omega arith
-searched_few s key (t ∷ older) =
+searched_few : (settings : Settings) (key : Bytes) (tables : List Table) → searched settings key tables ≤ count_by (admits settings key) tables
+searched_few settings key [] = omega arith
+searched_few settings key (t ∷ older) =
     omega (
       arith,
-      one_more (admits s key t) (encloses key t) (lookup t.entries key) (searched s key older) (count_by (admits s key) older) (searched_few s key older),
-      sum_by-cons (λ (x : Table). cond (admits s key x) 1 0) t older,
+      one_more (admits settings key t) (encloses key t) (lookup t.entries key) (searched settings key older) (count_by (admits settings key) older) (searched_few settings key older),
+      sum_by-cons (λ (x : Table). cond (admits settings key x) 1 0) t older,
     )
 
 pub get_admitted : (s : State) (key : Bytes) → get_bound s key ≤ admitted s key
-get_admitted s key = omega (arith, unless_le (lookup (memory s) key) (searched s key s.tables), searched_few s key s.tables)
+get_admitted s key = omega (arith, unless_le (lookup (memory s) key) (searched s.settings key s.tables), searched_few s.settings key s.tables)
 
 -- ---- at most one on a level
 
-none_searched : (s : State) (key : Bytes) (tables : List Table) → AllByRecursion (λ (t : Table). is_searched s key t ≡ false) tables → searched s key tables ≡ 0
-none_searched s key [] all = refl
-none_searched s key (t ∷ older) all =
-    ap (λ (b : Bool). cond b (suc (unless_found (lookup t.entries key) (searched s key older))) (searched s key older)) all.0 ∙ none_searched s key older all.1
+none_searched : (settings : Settings) (key : Bytes) (tables : List Table) → AllByRecursion (λ (t : Table). is_searched settings key t ≡ false) tables → searched settings key tables ≡ 0
+none_searched settings key [] all = refl
+none_searched settings key (t ∷ older) all =
+    ap (λ (b : Bool). cond b (suc (unless_found (lookup t.entries key) (searched settings key older))) (searched settings key older)) all.0 ∙ none_searched settings key older all.1
 
 and_off : (a : Bool) → (a && false) ≡ false
 and_off true = refl
@@ -64,32 +65,32 @@ not_on true e = absurd cc
 not_on false e = refl
 
 -- where a table encloses the key, those of its level that come behind it do not
-later_off : (s : State) (level : ℕ) (key : Bytes) (t : Table) (more : List Table) → 1 ≤ level → t.level ≡ level → AllAt level more → is_before (greatest_key t) key ≡ false
-    → AllByRecursion (StandsBefore t) more → AllByRecursion (λ (u : Table). is_searched s key u ≡ false) more
-later_off s level key t [] some at all upto order = tt
-later_off s level key t (u ∷ more) some at all upto order = (off order.0, later_off s level key t more some at all.1 upto order.1)
+later_off : (settings : Settings) (level : ℕ) (key : Bytes) (t : Table) (more : List Table) → 1 ≤ level → t.level ≡ level → AllAt level more → is_before (greatest_key t) key ≡ false
+    → AllByRecursion (StandsBefore t) more → AllByRecursion (λ (u : Table). is_searched settings key u ≡ false) more
+later_off settings level key t [] some at all upto order = tt
+later_off settings level key t (u ∷ more) some at all upto order = (off order.0, later_off settings level key t more some at all.1 upto order.1)
   where
-    off : StandsBefore t u → is_searched s key u ≡ false
+    off : StandsBefore t u → is_searched settings key u ≡ false
     off (inl less) = absurd (omega (arith, at, all.0, less))
     off (inr (same, inl zero_level)) = absurd (omega (arith, at, zero_level, some))
     off (inr (same, inr before)) =
         let first = ap is_lt (upto_before key (greatest_key t) (least_key u) (upto_of key (greatest_key t) upto) before) in
-        ap (λ (b : Bool). admits s key u && (not b && not (is_before (greatest_key u) key))) first ∙ and_off (admits s key u)
+        ap (λ (b : Bool). admits settings key u && (not b && not (is_before (greatest_key u) key))) first ∙ and_off (admits settings key u)
 
-searched_one : (s : State) (level : ℕ) (key : Bytes) (tables : List Table) → 1 ≤ level → AllAt level tables → Pairs StandsBefore tables → searched s key tables ≤ 1
-searched_one s level key [] some all order = omega arith
-searched_one s level key (t ∷ more) some all order =
-    elim (is_searched s key t) as (λ b. is_searched s key t ≡ b → cond b (suc (unless_found (lookup t.entries key) (searched s key more))) (searched s key more) ≤ 1) [
+searched_one : (settings : Settings) (level : ℕ) (key : Bytes) (tables : List Table) → 1 ≤ level → AllAt level tables → Pairs StandsBefore tables → searched settings key tables ≤ 1
+searched_one settings level key [] some all order = omega arith
+searched_one settings level key (t ∷ more) some all order =
+    elim (is_searched settings key t) as (λ b. is_searched settings key t ≡ b → cond b (suc (unless_found (lookup t.entries key) (searched settings key more))) (searched settings key more) ≤ 1) [
       | true ↦ λ e.
-          let inside = (and_parts (admits s key t) (encloses key t) e).1 in
+          let inside = (and_parts (admits settings key t) (encloses key t) e).1 in
           let upto = not_on (is_before (greatest_key t) key) (and_parts (not (is_before key (least_key t))) (not (is_before (greatest_key t) key)) inside).1 in
-          omega (arith, unless_le (lookup t.entries key) (searched s key more), none_searched s key more (later_off s level key t more some all.0 all.1 upto order.0))
-      | false ↦ λ _. searched_one s level key more some all.1 order.1
+          omega (arith, unless_le (lookup t.entries key) (searched settings key more), none_searched settings key more (later_off settings level key t more some all.0 all.1 upto order.0))
+      | false ↦ λ _. searched_one settings level key more some all.1 order.1
     ] refl
 
 pub get_one : (filter_bytes : FilterBytes) (s : State) (level : ℕ) (key : Bytes) → IsSound filter_bytes s → 1 ≤ level → AllAt level s.tables → get_bound s key ≤ 1
 get_one filter_bytes s level key sound some all =
-    omega (arith, unless_le (lookup (memory s) key) (searched s key s.tables), searched_one s level key s.tables some all (pairs_of StandsBefore s.tables sound.order))
+    omega (arith, unless_le (lookup (memory s) key) (searched s.settings key s.tables), searched_one s.settings level key s.tables some all (pairs_of StandsBefore s.tables sound.order))
 
 -- ---- behind a compaction
 
@@ -104,7 +105,7 @@ placed_deep s (Err refusal) all = tt
 compacted_deep : (filter_bytes : FilterBytes) (s : State) (entries : List Entry) → IsSound filter_bytes s → entries_of s ≡ entries → IfDeep (compacted_with filter_bytes s entries)
 compacted_deep filter_bytes s [] sound e = subst (AllAt 6) (sym (without_entries filter_bytes s sound e)) tt
 compacted_deep filter_bytes s (entry ∷ more) sound e =
-    let outputs = cut s.tables (live_entries s) in
+    let outputs = outputs_for s.tables (live_entries s) in
     let done = placed filter_bytes s.settings s.pages (taken (without_job s)) 6 outputs in
     elim (s.epoch == last_epoch) as (λ b. IfDeep (cond b (Err LastEpoch) (compact_placed s done))) [
       | true ↦ tt

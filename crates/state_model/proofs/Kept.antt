@@ -3,6 +3,7 @@ use Rattle.std.proofs.Common.{◌≡◌, List, [], ◌∷◌, ◌++◌, refl, sy
 use Rattle.std.specs.Prelude.{Option, Result, Ok, Err, nat_le, length, ◌==◌, ◌+◌, ◌-◌}
 use Rattle.std.proofs.lemmas.List.{append_assoc, append-nil, map-append}
 use Rattle.std.proofs.lemmas.List.Sums.{fold-append}
+use Rattle.key_base.specs.Limits.{max_tables}
 use Rattle.map_model.specs.SortedMap.{Bytes, Map}
 use Rattle.entry_model.specs.Entries.{Entry, newest, or_else, live, changed, need, gap, map_of as map_of_entries}
 use Rattle.entry_model.specs.Newest.{KeysRise, newest_entries, lookup}
@@ -11,8 +12,8 @@ use Rattle.state_model.specs.State.{State, last_epoch, without_job}
 use Rattle.table_model.specs.Tables.{FilterBytes, Table}
 use Rattle.state_model.specs.View.{memory, entries_of, oldest_first, state_map}
 use Rattle.state_model.specs.Taken.{taken}
-use Rattle.state_model.specs.Merges.{NoRoom, placed, cut, has_value}
-use Rattle.state_model.specs.Changes.{most_tables, with_tables, flush_placed, flushed_with, flushed, logged, logged_then, written, compact_placed, live_entries, compacted_with, compacted}
+use Rattle.state_model.specs.Merges.{NoRoom, placed, outputs_for, has_value}
+use Rattle.state_model.specs.Changes.{with_tables, flush_placed, flushed_with, flushed, logged, logged_then, written, compact_placed, live_entries, compacted_with, compacted}
 use Rattle.line_model.specs.Replies.{Reply, ManyTables, LastEpoch}
 use Rattle.state_model.specs.Laws.{is_done}
 use Rattle.state_model.proofs.SameMaps.{same_map}
@@ -55,7 +56,7 @@ flush_placed_keeps filter_bytes s (Err refusal) e = refl
 
 flushed_with_keeps : (filter_bytes : FilterBytes) (s : State) (entries : List Entry) → memory s ≡ entries → IfDone (KeepsMap s) (flushed_with filter_bytes s entries)
 flushed_with_keeps filter_bytes s [] e = refl
-flushed_with_keeps filter_bytes s (entry ∷ more) e = elim (nat_le most_tables (length s.tables)) as (λ t. IfDone (KeepsMap s) (cond t (Err ManyTables) (flush_placed s (placed filter_bytes s.settings s.pages (taken s) 0 ((entry ∷ more) ∷ []))))) [
+flushed_with_keeps filter_bytes s (entry ∷ more) e = elim (nat_le max_tables (length s.tables)) as (λ t. IfDone (KeepsMap s) (cond t (Err ManyTables) (flush_placed s (placed filter_bytes s.settings s.pages (taken s) 0 ((entry ∷ more) ∷ []))))) [
   | true ↦ refl
   | false ↦ flush_placed_keeps filter_bytes s (placed filter_bytes s.settings s.pages (taken s) 0 ((entry ∷ more) ∷ [])) (ap (λ (l : List Entry). placed filter_bytes s.settings s.pages (taken s) 0 (l ∷ [])) e)
 ]
@@ -92,24 +93,24 @@ written_makes filter_bytes s t entry e = if_done (Makes (state_map s) entry) (wr
 live_says : (s : State) (key : Bytes) → live (lookup (live_entries s) key) ≡ live (newest (entries_of s) key)
 live_says s key = live_without_tombstones (newest_entries (entries_of s)) key (newest_entries_rise (entries_of s)) ∙ ap live (lookup_newest (entries_of s) key)
 
-compact_says : (s : State) (made : List Table) (key : Bytes) → lists_of made ≡ cut s.tables (live_entries s) → newest (oldest_first made ++ []) key ≡ lookup (live_entries s) key
+compact_says : (s : State) (made : List Table) (key : Bytes) → lists_of made ≡ outputs_for s.tables (live_entries s) → newest (oldest_first made ++ []) key ≡ lookup (live_entries s) key
 compact_says s made key lists =
     let whole = outputs_joined (length s.tables - 1) (live_entries s) in
     let rises = rises_filter (λ (e : Entry). has_value e.value) (newest_entries (entries_of s)) (newest_entries_rise (entries_of s)) in
     ap (λ (l : List Entry). newest l key) (append-nil (oldest_first made) ∙ oldest_first-backwards made ∙ ap backwards lists)
-    ∙ newest_backwards (cut s.tables (live_entries s)) key (parts_rise (cut s.tables (live_entries s)) (subst KeysRise (sym whole) rises))
-    ∙ lookup_joined (cut s.tables (live_entries s)) key
+    ∙ newest_backwards (outputs_for s.tables (live_entries s)) key (parts_rise (outputs_for s.tables (live_entries s)) (subst KeysRise (sym whole) rises))
+    ∙ lookup_joined (outputs_for s.tables (live_entries s)) key
     ∙ ap (λ (l : List Entry). lookup l key) whole
 
-compact_placed_keeps : (filter_bytes : FilterBytes) (s : State) (done : Result (List Table) NoRoom) → placed filter_bytes s.settings s.pages (taken (without_job s)) 6 (cut s.tables (live_entries s)) ≡ done → IfDone (KeepsMap s) (compact_placed s done)
+compact_placed_keeps : (filter_bytes : FilterBytes) (s : State) (done : Result (List Table) NoRoom) → placed filter_bytes s.settings s.pages (taken (without_job s)) 6 (outputs_for s.tables (live_entries s)) ≡ done → IfDone (KeepsMap s) (compact_placed s done)
 compact_placed_keeps filter_bytes s (Ok made) e = same_map (oldest_first made ++ []) (entries_of s)
-    (λ key. ap live (compact_says s made key (placed_lists filter_bytes s (taken (without_job s)) 6 (cut s.tables (live_entries s)) made e)) ∙ live_says s key)
+    (λ key. ap live (compact_says s made key (placed_lists filter_bytes s (taken (without_job s)) 6 (outputs_for s.tables (live_entries s)) made e)) ∙ live_says s key)
 compact_placed_keeps filter_bytes s (Err refusal) e = refl
 
 compacted_with_keeps : (filter_bytes : FilterBytes) (s : State) (entries : List Entry) → IfDone (KeepsMap s) (compacted_with filter_bytes s entries)
 compacted_with_keeps filter_bytes s [] = refl
 compacted_with_keeps filter_bytes s (entry ∷ more) =
-    let done = placed filter_bytes s.settings s.pages (taken (without_job s)) 6 (cut s.tables (live_entries s)) in
+    let done = placed filter_bytes s.settings s.pages (taken (without_job s)) 6 (outputs_for s.tables (live_entries s)) in
     elim (s.epoch == last_epoch) as (λ t. IfDone (KeepsMap s) (cond t (Err LastEpoch) (compact_placed s done))) [
       | true ↦ refl
       | false ↦ compact_placed_keeps filter_bytes s done refl

@@ -29,6 +29,10 @@ pub mod Hulls
 pub mod SoundInstalls
 pub mod SoundLines
 pub mod AnyCause
+pub mod Causes
+pub mod Unanswered
+pub mod Chains
+pub mod ToLast
 pub mod OfBytes
 pub mod FaultsMet
 pub mod EmptyStores
@@ -36,6 +40,7 @@ pub mod FullOutputs
 pub mod Choices
 pub mod SoundScripts
 pub mod SoundKeys
+pub mod MostTables
 pub mod Searches
 pub mod Gets
 pub mod Stepped

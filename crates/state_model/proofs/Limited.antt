@@ -5,7 +5,7 @@ use Rattle.map_model.specs.SortedMap.{Bytes}
 use Rattle.line_model.specs.Limits.{key_limit, value_limit, bound_limit, first_limit, limit_of}
 use Rattle.line_model.specs.Requests.{Request, Put, Del, Get, Seek, Range, Count, Estimate, Explain, Flush, Compact, Quit, Bad}
 use Rattle.line_model.specs.Replies.{Reply, LongKey, LongValue}
-use Rattle.state_model.specs.Refusals.{IsKey, IsNoKey, key_of, bounds_of, BreaksLimit, by_key, by_value, by_lower, by_upper}
+use Rattle.state_model.specs.Refusals.{KeyFits, KeyBreaks, key_of, bounds_of, BreaksLimit, by_key, by_value, by_lower, by_upper}
 
 -- ---- tests
 
@@ -47,10 +47,10 @@ if_none : (test : Bool) (limit : Reply) → cond test (Some limit) None ≡ None
 if_none true limit e = cc
 if_none false limit e = refl
 
-key_breaks : (key : Bytes) → IsNoKey key → key_limit key ≡ Some (LongKey (length key))
+key_breaks : (key : Bytes) → KeyBreaks key → key_limit key ≡ Some (LongKey (length key))
 key_breaks key wrong = ap (λ (t : Bool). cond t (Some (LongKey (length key))) None) (no_key_true (length key) 1024 wrong)
 
-key_holds : (key : Bytes) → IsKey key → key_limit key ≡ None
+key_holds : (key : Bytes) → KeyFits key → key_limit key ≡ None
 key_holds key is = ap (λ (t : Bool). cond t (Some (LongKey (length key))) None) (key_false (length key) 1024 is.0 is.1)
 
 value_breaks : (value : Bytes) → 65536 < length value → value_limit value ≡ Some (LongValue (length value))
@@ -62,12 +62,12 @@ bound_breaks bound wide = ap (λ (t : Bool). cond t (Some (LongKey (length bound
 bound_holds : (bound : Bytes) → length bound ≤ 1024 → bound_limit bound ≡ None
 bound_holds bound few = ap (λ (t : Bool). cond t (Some (LongKey (length bound))) None) (lt_false 1024 (length bound) few)
 
-key_broken : (key : Bytes) (reply : Reply) → key_limit key ≡ Some reply → IsNoKey key × (reply ≡ LongKey (length key))
+key_broken : (key : Bytes) (reply : Reply) → key_limit key ≡ Some reply → KeyBreaks key × (reply ≡ LongKey (length key))
 key_broken key reply e =
     let so = if_some (length key == 0 || nat_lt 1024 (length key)) (LongKey (length key)) reply e in
     (no_key_of (length key) 1024 so.0, so.1)
 
-key_kept : (key : Bytes) → key_limit key ≡ None → IsKey key
+key_kept : (key : Bytes) → key_limit key ≡ None → KeyFits key
 key_kept key e =
     let so = if_none (length key == 0 || nat_lt 1024 (length key)) (LongKey (length key)) e in
     (some_of (length key) 1024 so, few_of (length key) 1024 so)

@@ -4,6 +4,7 @@ use Rattle.std.specs.Prelude.{nat_le, flat_map, ◌-◌, ◌+◌}
 use Rattle.std.specs.List.{AllByRecursion}
 use Rattle.std.proofs.lemmas.List.{length-append}
 use Rattle.std.proofs.lemmas.List.Concat.{flat_map-cons}
+use Rattle.key_base.specs.Limits.{merge_data_pages}
 use Rattle.map_model.specs.SortedMap.{Bytes}
 use Rattle.entry_model.specs.Entries.{Entry, live}
 use Rattle.entry_model.specs.Newest.{KeysRise, lookup}
@@ -11,7 +12,7 @@ use Rattle.entry_model.proofs.Newest.{lookup_newest}
 use Rattle.block_model.specs.Pages.{data_pages}
 use Rattle.table_model.specs.Tables.{Table}
 use Rattle.state_model.specs.View.{first_found, oldest_first}
-use Rattle.state_model.specs.Merges.{Plan, planned, lasting, is_deepest, newest_of, split_output, outputs_of, output_pages}
+use Rattle.state_model.specs.Merges.{Plan, planned, lasting, is_deepest, newest_of, split_output, outputs_of}
 use Rattle.state_model.specs.Sound.{IsSoundTable}
 use Rattle.state_model.proofs.Sayings.{lists_of, newest_entries_rise, live_without_tombstones}
 use Rattle.state_model.proofs.Outputs.{joined, outputs_joined, lookup_joined}
@@ -55,11 +56,11 @@ split_grows output [] = omega arith
 split_grows output (entry ∷ more) =
     let longer = length-append output (entry ∷ []) in
     let rest = split_grows (output ++ (entry ∷ [])) more in
-    elim (nat_le output_pages (data_pages (output ++ (entry ∷ [])))) as (λ t. length output ≤ length (cond t (output ++ (entry ∷ []), more) (split_output (output ++ (entry ∷ [])) more)).0) [ true ↦ omega arith | false ↦ omega arith ]
+    elim (nat_le merge_data_pages (data_pages (output ++ (entry ∷ [])))) as (λ t. length output ≤ length (cond t (output ++ (entry ∷ []), more) (split_output (output ++ (entry ∷ [])) more)).0) [ true ↦ omega arith | false ↦ omega arith ]
 
 split_some : (entry : Entry) (more : List Entry) → 1 ≤ length (split_output [] (entry ∷ more)).0
 split_some entry more =
-    elim (nat_le output_pages (data_pages (entry ∷ []))) as (λ t. 1 ≤ length (cond t (entry ∷ [], more) (split_output (entry ∷ []) more)).0) [ true ↦ omega arith | false ↦ split_grows (entry ∷ []) more ]
+    elim (nat_le merge_data_pages (data_pages (entry ∷ []))) as (λ t. 1 ≤ length (cond t (entry ∷ [], more) (split_output (entry ∷ []) more)).0) [ true ↦ omega arith | false ↦ split_grows (entry ∷ []) more ]
 
 pub outputs_some : (beside : ℕ) (entries : List Entry) → AllByRecursion (λ (output : List Entry). 1 ≤ length output) (outputs_of beside entries)
 outputs_some zero [] = tt

@@ -2,6 +2,7 @@
 use Rattle.std.proofs.Common.{◌≡◌, ℕ, zero, suc, List, [], ◌∷◌, ◌++◌, refl, sym, ap, ◌∙◌, subst, true, false, cond}
 use Rattle.std.specs.Prelude.{Option, Some, None, Result, Ok, Err, nat_le}
 use Rattle.std.proofs.lemmas.List.{append_assoc, append-nil}
+use Rattle.key_base.specs.Limits.{merge_data_pages}
 use Rattle.map_model.specs.SortedMap.{Bytes}
 use Rattle.entry_model.specs.Entries.{Entry, or_else}
 use Rattle.entry_model.specs.Newest.{KeysRise, lookup}
@@ -11,7 +12,7 @@ use Rattle.table_model.specs.Tables.{FilterBytes, Table, table_of, table_pages}
 use Rattle.state_model.specs.View.{first_found}
 use Rattle.extent_model.specs.Extents.{Extent}
 use Rattle.extent_model.specs.Gaps.{first_gap, largest_gap}
-use Rattle.state_model.specs.Merges.{NoRoom, before, at_page, placed, split_output, outputs_of, output_pages}
+use Rattle.state_model.specs.Merges.{NoRoom, before, at_page, placed, split_output, outputs_of}
 use Rattle.state_model.proofs.Sayings.{lists_of, lookup-append, rises_parts, AllRise}
 
 -- ---- cut
@@ -24,7 +25,7 @@ joined (entries ∷ more) = entries ++ joined more
 split_joined : (output entries : List Entry) → (split_output output entries).0 ++ (split_output output entries).1 ≡ output ++ entries
 split_joined output [] = refl
 split_joined output (entry ∷ more) =
-    elim (nat_le output_pages (data_pages (output ++ (entry ∷ [])))) as (λ t.
+    elim (nat_le merge_data_pages (data_pages (output ++ (entry ∷ [])))) as (λ t.
     (cond t (output ++ (entry ∷ []), more) (split_output (output ++ (entry ∷ [])) more)).0 ++ (cond t (output ++ (entry ∷ []), more) (split_output (output ++ (entry ∷ [])) more)).1 ≡ output ++ (entry ∷ more)) [
       | true ↦ append_assoc output (entry ∷ []) more
       | false ↦ split_joined (output ++ (entry ∷ [])) more ∙ append_assoc output (entry ∷ []) more

@@ -2,22 +2,23 @@
 use Rattle.std.proofs.Common.{◌≡◌, ◌⊎◌, inl, inr, ℕ, ◌+◌, List, [], ◌∷◌, ◌++◌, length, refl, sym, ap, ◌∙◌, subst, true, false, cond, map}
 use Rattle.std.specs.Prelude.{Option, Some, None, Result, Ok, Err, nat_le, nat_lt, ◌==◌, ◌||◌, flat_map}
 use Rattle.std.proofs.lemmas.List.Concat.{flat_map-cons}
+use Rattle.key_base.specs.Limits.{max_tables}
 use Rattle.map_model.specs.SortedMap.{Bytes, get}
 use Rattle.entry_model.specs.Entries.{Entry, need, gap, put_entry, del_entry}
 use Rattle.state_model.specs.State.{State, without_job, last_epoch}
 use Rattle.table_model.specs.Tables.{FilterBytes, Table}
 use Rattle.state_model.specs.View.{memory, entries_of, state_map}
 use Rattle.state_model.specs.Taken.{taken}
-use Rattle.state_model.specs.Merges.{NoRoom, placed, cut}
+use Rattle.state_model.specs.Merges.{NoRoom, placed, outputs_for}
 use Rattle.state_model.specs.Causes.{Why}
-use Rattle.state_model.specs.Changes.{most_tables, with_tables, flush_placed, flushed_with, flushed, logged, logged_then, written, compact_placed, live_entries, compacted_with, compacted}
+use Rattle.state_model.specs.Changes.{with_tables, flush_placed, flushed_with, flushed, logged, logged_then, written, compact_placed, live_entries, compacted_with, compacted}
 use Rattle.line_model.specs.Limits.{key_limit, value_limit, bound_limit, first_limit, limit_of}
 use Rattle.line_model.specs.Requests.{Request, Put, Del, Get, Seek, Range, Count, Estimate, Explain, Flush, Compact, Quit, Bad, request_of}
 use Rattle.line_model.specs.Replies.{Reply, Done, Value, Missing, At, Pairs, End, Counted, About, Explained, Bye, BadLine, LongKey, LongValue, ManyTables, LastEpoch, Full, Memory, Device, Damaged, text_of, got, found}
 use Rattle.map_model.specs.Slices.{seek}
-use Rattle.state_model.specs.Steps.{Answer, answer, answer_within, changed, unless_limit, Step, answers}
-use Rattle.state_model.specs.Play.{tended, behind, played}
-use Rattle.state_model.specs.Script.{Ending, ToLast, AtQuit, Turn, Onward, turn_of, Between, Ends, AsSaid, Script}
+use Rattle.state_model.specs.Steps.{Answer, answer, answer_within, done_or_refused, unless_limit, Step, answers}
+use Rattle.state_model.specs.Play.{tended, reply_then, played}
+use Rattle.state_model.specs.Script.{Ending, ToLast, AtQuit, Turn, Onward, turn_of, Between, EndsOr, AsSaid, Script}
 use Rattle.state_model.specs.PlayLaws.{AnyState, played_text}
 use Rattle.state_model.proofs.Wholes.{merged_is_a_slice}
 
@@ -59,7 +60,7 @@ flush_placed_calm s (Err refusal) none = refl
 
 flushed_with_calm : (filter_bytes : FilterBytes) (s : State) (entries : List Entry) → s.job ≡ None → CalmResult (flushed_with filter_bytes s entries)
 flushed_with_calm filter_bytes s [] none = none
-flushed_with_calm filter_bytes s (entry ∷ more) none = elim (nat_le most_tables (length s.tables)) as (λ t. CalmResult (cond t (Err ManyTables) (flush_placed s (placed filter_bytes s.settings s.pages (taken s) 0 ((entry ∷ more) ∷ []))))) [
+flushed_with_calm filter_bytes s (entry ∷ more) none = elim (nat_le max_tables (length s.tables)) as (λ t. CalmResult (cond t (Err ManyTables) (flush_placed s (placed filter_bytes s.settings s.pages (taken s) 0 ((entry ∷ more) ∷ []))))) [
   | true ↦ refl
   | false ↦ flush_placed_calm s (placed filter_bytes s.settings s.pages (taken s) 0 ((entry ∷ more) ∷ [])) none
 ]
@@ -84,10 +85,10 @@ compact_placed_calm s (Err refusal) = refl
 compacted_with_calm : (filter_bytes : FilterBytes) (s : State) (entries : List Entry) → s.job ≡ None → CalmResult (compacted_with filter_bytes s entries)
 compacted_with_calm filter_bytes s [] none = none
 compacted_with_calm filter_bytes s (entry ∷ more) none =
-    let done = placed filter_bytes s.settings s.pages (taken (without_job s)) 6 (cut s.tables (live_entries s)) in
+    let done = placed filter_bytes s.settings s.pages (taken (without_job s)) 6 (outputs_for s.tables (live_entries s)) in
     elim (s.epoch == last_epoch) as (λ t. CalmResult (cond t (Err LastEpoch) (compact_placed s done))) [ true ↦ refl | false ↦ compact_placed_calm s done ]
 
-changed_calm : (old : State) (done : Result State Reply) → old.job ≡ None → CalmResult done → Calm (changed old done)
+changed_calm : (old : State) (done : Result State Reply) → old.job ≡ None → CalmResult done → Calm (done_or_refused old done)
 changed_calm old (Ok t) none calm = (inl refl, calm)
 changed_calm old (Err refusal) none calm = (inl calm, none)
 
@@ -147,7 +148,7 @@ tended_between Cause filter_bytes s (Bad code) none = ((refl, refl), none)
 -- ---- the script
 
 -- a reply that goes on stands before the later ones
-behind_onward : (reply : Reply) (later : List Reply × State) (s : State) → turn_of reply ≡ Onward → (behind reply later s).0 ≡ reply ∷ later.0
+behind_onward : (reply : Reply) (later : List Reply × State) (s : State) → turn_of reply ≡ Onward → (reply_then reply later s).0 ≡ reply ∷ later.0
 behind_onward Done later s e = refl
 behind_onward (Value value) later s e = refl
 behind_onward Missing later s e = refl
@@ -176,12 +177,12 @@ IsScript Cause filter_bytes said s lines text = (ending : Ending) × Script Caus
 line_played : (Cause : Why → Type 0) (filter_bytes : FilterBytes) (said : ℕ) (s : State) (line : Bytes) (more : List Bytes) (reply : Reply) (new : State) (later : List Reply × State)
     → Step Cause filter_bytes s (request_of line) reply new → GoesOnOrBye reply → Between Cause filter_bytes (request_of line) new Onward (tended filter_bytes (request_of line) new)
     → IsScript Cause filter_bytes (said + length (text_of reply)) (tended filter_bytes (request_of line) new) more (flat_map text_of later.0)
-    → IsScript Cause filter_bytes said s (line ∷ more) (flat_map text_of (behind reply later new).0)
+    → IsScript Cause filter_bytes said s (line ∷ more) (flat_map text_of (reply_then reply later new).0)
 line_played Cause filter_bytes said s line more reply new later step (inl onward) between rest =
     let text = ap (flat_map text_of) (behind_onward reply later new onward) ∙ flat_map-cons text_of reply later.0 in
     let after = tended filter_bytes (request_of line) new in
     let Next = (turn : Turn) × (after : State) × Between Cause filter_bytes (request_of line) new turn after
-    × Ends turn (flat_map text_of later.0) rest.0 (Script Cause filter_bytes AnyState (said + length (text_of reply)) after more (flat_map text_of later.0) rest.0) in (
+    × EndsOr turn (flat_map text_of later.0) rest.0 (Script Cause filter_bytes AnyState (said + length (text_of reply)) after more (flat_map text_of later.0) rest.0) in (
       rest.0,
       (
         reply,
@@ -190,11 +191,11 @@ line_played Cause filter_bytes said s line more reply new later step (inl onward
         text,
         step,
         subst (λ (t : Turn). AsSaid t (Unit {0})) (sym onward) tt,
-        subst (λ (t : Turn). Ends t (flat_map text_of later.0) rest.0 Next) (sym onward) (Onward, after, between, rest.1),
+        subst (λ (t : Turn). EndsOr t (flat_map text_of later.0) rest.0 Next) (sym onward) (Onward, after, between, rest.1),
       ),
     )
 line_played Cause filter_bytes said s line more reply new later step (inr bye) between rest =
-    subst (λ (r : Reply). Step Cause filter_bytes s (request_of line) r new → IsScript Cause filter_bytes said s (line ∷ more) (flat_map text_of (behind r later new).0)) (sym bye)
+    subst (λ (r : Reply). Step Cause filter_bytes s (request_of line) r new → IsScript Cause filter_bytes said s (line ∷ more) (flat_map text_of (reply_then r later new).0)) (sym bye)
     (λ step. (AtQuit, (Bye, [], new, flat_map-cons text_of Bye [], step, tt, (refl, refl)))) step
 
 pub lines_played : (Cause : Why → Type 0) (filter_bytes : FilterBytes) (s : State) (said : ℕ) (lines : List Bytes) → s.job ≡ None → IsScript Cause filter_bytes said s lines (played_text filter_bytes s lines)

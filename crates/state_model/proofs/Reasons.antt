@@ -1,6 +1,7 @@
 -- The causes of a refusal: what has one is refused by it, and what is refused has one.
 use Rattle.std.proofs.Common.{◌≡◌, ◌≢◌, ℕ, ◌≤◌, ◌<◌, List, [], ◌∷◌, ◌++◌, refl, ap, ◌∙◌, Bool, true, false, cond, arith}
 use Rattle.std.specs.Prelude.{Option, Some, None, Result, Ok, Err, nat_le, length, ◌==◌, ◌+◌}
+use Rattle.key_base.specs.Limits.{max_tables}
 use Rattle.map_model.specs.SortedMap.{Bytes}
 use Rattle.entry_model.specs.Entries.{Entry, put_entry, del_entry, need, gap}
 use Rattle.state_model.specs.State.{State, last_epoch, without_job}
@@ -8,10 +9,10 @@ use Rattle.table_model.specs.Tables.{FilterBytes, Table}
 use Rattle.state_model.specs.View.{memory, entries_of}
 use Rattle.state_model.specs.Taken.{taken}
 use Rattle.state_model.specs.Merges.{NoRoom, placed}
-use Rattle.state_model.specs.Changes.{most_tables, with_tables, flush_placed, flushed_with, flushed, logged, logged_then, written, compact_placed, compacted_with, compacted}
+use Rattle.state_model.specs.Changes.{with_tables, flush_placed, flushed_with, flushed, logged, logged_then, written, compact_placed, compacted_with, compacted}
 use Rattle.line_model.specs.Requests.{Request, Put, Del, Get, Seek, Range, Count, Estimate, Explain, Flush, Compact, Quit, Bad}
 use Rattle.line_model.specs.Replies.{Reply, ManyTables, LastEpoch, Full, got, found}
-use Rattle.state_model.specs.Steps.{Answer, answer, answer_within, changed, unless_limit}
+use Rattle.state_model.specs.Steps.{Answer, answer, answer_within, done_or_refused, unless_limit}
 use Rattle.line_model.specs.Limits.{limit_of}
 use Rattle.state_model.specs.Refusals.{is_refusal, FlushIsDue, CompactionIsDue, flush_places, compaction_places, Refused, by_limit, flush_by_tables, flush_by_room, flush_by_epoch, compaction_by_epoch, compaction_by_room}
 
@@ -44,28 +45,28 @@ not_eq m n e = grind arith
 -- ---- a flush and a compaction are refused so
 
 some_flushed : (filter_bytes : FilterBytes) (s : State) (entries : List Entry) → entries ≢ []
-    → flushed_with filter_bytes s entries ≡ cond (nat_le most_tables (length s.tables)) (Err ManyTables) (flush_placed s (placed filter_bytes s.settings s.pages (taken s) 0 (entries ∷ [])))
+    → flushed_with filter_bytes s entries ≡ cond (nat_le max_tables (length s.tables)) (Err ManyTables) (flush_placed s (placed filter_bytes s.settings s.pages (taken s) 0 (entries ∷ [])))
 some_flushed filter_bytes s [] some = absurd (some refl)
 some_flushed filter_bytes s (entry ∷ more) some = refl
 
-flush_tables : (filter_bytes : FilterBytes) (s : State) → memory s ≢ [] → most_tables ≤ length s.tables → flushed filter_bytes s ≡ Err ManyTables
+pub flush_tables : (filter_bytes : FilterBytes) (s : State) → memory s ≢ [] → max_tables ≤ length s.tables → flushed filter_bytes s ≡ Err ManyTables
 flush_tables filter_bytes s some many =
     some_flushed filter_bytes s (memory s) some
-    ∙ ap (λ (t : Bool). cond t (Err ManyTables) (flush_placed s (flush_places filter_bytes s))) (le_true most_tables (length s.tables) many)
+    ∙ ap (λ (t : Bool). cond t (Err ManyTables) (flush_placed s (flush_places filter_bytes s))) (le_true max_tables (length s.tables) many)
 
-flush_few : (filter_bytes : FilterBytes) (s : State) → memory s ≢ [] → length s.tables < most_tables → flushed filter_bytes s ≡ flush_placed s (flush_places filter_bytes s)
+pub flush_few : (filter_bytes : FilterBytes) (s : State) → memory s ≢ [] → length s.tables < max_tables → flushed filter_bytes s ≡ flush_placed s (flush_places filter_bytes s)
 flush_few filter_bytes s some few =
     some_flushed filter_bytes s (memory s) some
-    ∙ ap (λ (t : Bool). cond t (Err ManyTables) (flush_placed s (flush_places filter_bytes s))) (le_false most_tables (length s.tables) few)
+    ∙ ap (λ (t : Bool). cond t (Err ManyTables) (flush_placed s (flush_places filter_bytes s))) (le_false max_tables (length s.tables) few)
 
 with_tables_last : (s : State) (tables : List Table) → s.epoch ≡ last_epoch → with_tables s tables ≡ Err LastEpoch
 with_tables_last s tables last = ap (λ (t : Bool). cond t (Err LastEpoch) (Ok (record s { epoch = s.epoch + 1; log = []; tables = tables }))) (eq_true s.epoch last_epoch last)
 
-flush_room : (filter_bytes : FilterBytes) (s : State) (refusal : NoRoom) → memory s ≢ [] → length s.tables < most_tables → flush_places filter_bytes s ≡ Err refusal
+flush_room : (filter_bytes : FilterBytes) (s : State) (refusal : NoRoom) → memory s ≢ [] → length s.tables < max_tables → flush_places filter_bytes s ≡ Err refusal
     → flushed filter_bytes s ≡ Err (Full refusal.need refusal.gap)
 flush_room filter_bytes s refusal some few none = flush_few filter_bytes s some few ∙ ap (flush_placed s) none
 
-flush_epoch : (filter_bytes : FilterBytes) (s : State) (made : List Table) → memory s ≢ [] → length s.tables < most_tables → flush_places filter_bytes s ≡ Ok made → s.epoch ≡ last_epoch
+flush_epoch : (filter_bytes : FilterBytes) (s : State) (made : List Table) → memory s ≢ [] → length s.tables < max_tables → flush_places filter_bytes s ≡ Ok made → s.epoch ≡ last_epoch
     → flushed filter_bytes s ≡ Err LastEpoch
 flush_epoch filter_bytes s made some few placed_so last = flush_few filter_bytes s some few ∙ ap (flush_placed s) placed_so ∙ with_tables_last s (made ++ s.tables) last
 
@@ -101,8 +102,8 @@ due_some s Compact due = absurd due
 due_some s Quit due = absurd due
 due_some s (Bad code) due = absurd due
 
-first_of_changed : (s : State) (done : Result State Reply) (reply : Reply) → done ≡ Err reply → (changed s done).0 ≡ reply
-first_of_changed s done reply e = ap (λ (d : Result State Reply). (changed s d).0) e
+first_of_changed : (s : State) (done : Result State Reply) (reply : Reply) → done ≡ Err reply → (done_or_refused s done).0 ≡ reply
+first_of_changed s done reply e = ap (λ (d : Result State Reply). (done_or_refused s d).0) e
 
 -- where a flush is due and refused, the line is answered by its refusal
 due_refused : (filter_bytes : FilterBytes) (s : State) (request : Request) (reply : Reply) → FlushIsDue s request → flushed filter_bytes s ≡ Err reply → (answer_within filter_bytes s request).0 ≡ reply
@@ -161,7 +162,7 @@ HasCause filter_bytes s request (Ok t) = Unit {0}
 HasCause filter_bytes s request (Err reply) = Refused filter_bytes s request reply
 
 flush_placed_cause : (filter_bytes : FilterBytes) (s : State) (request : Request) (done : Result (List Table) NoRoom)
-    → limit_of request ≡ None → FlushIsDue s request → length s.tables < most_tables → flush_places filter_bytes s ≡ done → HasCause filter_bytes s request (flush_placed s done)
+    → limit_of request ≡ None → FlushIsDue s request → length s.tables < max_tables → flush_places filter_bytes s ≡ done → HasCause filter_bytes s request (flush_placed s done)
 flush_placed_cause filter_bytes s request (Err refusal) within due few e = flush_by_room refusal within due few e
 flush_placed_cause filter_bytes s request (Ok made) within due few e =
     elim (s.epoch == last_epoch) as (λ t. (s.epoch == last_epoch) ≡ t → HasCause filter_bytes s request (cond t (Err LastEpoch) (Ok (record s { epoch = s.epoch + 1; log = []; tables = made ++ s.tables })))) [
@@ -175,10 +176,10 @@ flushed_with_cause filter_bytes s request [] e within due = tt
 flushed_with_cause filter_bytes s request (entry ∷ more) e within due =
     let some : memory s ≢ [] = λ none. cc in
     let places = ap (λ (l : List Entry). placed filter_bytes s.settings s.pages (taken s) 0 (l ∷ [])) e in
-    elim (nat_le most_tables (length s.tables)) as (λ t. nat_le most_tables (length s.tables) ≡ t
+    elim (nat_le max_tables (length s.tables)) as (λ t. nat_le max_tables (length s.tables) ≡ t
     → HasCause filter_bytes s request (cond t (Err ManyTables) (flush_placed s (placed filter_bytes s.settings s.pages (taken s) 0 ((entry ∷ more) ∷ []))))) [
-      | true ↦ λ many. flush_by_tables within (due some) (le_of most_tables (length s.tables) many)
-      | false ↦ λ few. flush_placed_cause filter_bytes s request (placed filter_bytes s.settings s.pages (taken s) 0 ((entry ∷ more) ∷ [])) within (due some) (not_le most_tables (length s.tables) few) places
+      | true ↦ λ many. flush_by_tables within (due some) (le_of max_tables (length s.tables) many)
+      | false ↦ λ few. flush_placed_cause filter_bytes s request (placed filter_bytes s.settings s.pages (taken s) 0 ((entry ∷ more) ∷ [])) within (due some) (not_le max_tables (length s.tables) few) places
     ] refl
 
 flushed_cause : (filter_bytes : FilterBytes) (s : State) (request : Request) → limit_of request ≡ None → (memory s ≢ [] → FlushIsDue s request) → HasCause filter_bytes s request (flushed filter_bytes s)
@@ -214,7 +215,7 @@ compacted_with_cause filter_bytes s (entry ∷ more) e =
 abbrev Explains : FilterBytes → State → Request → Answer → Type 0
 Explains filter_bytes s request a = is_refusal a.0 ≡ true → Refused filter_bytes s request a.0
 
-changed_explained : (filter_bytes : FilterBytes) (s old : State) (request : Request) (done : Result State Reply) → HasCause filter_bytes s request done → Explains filter_bytes s request (changed old done)
+changed_explained : (filter_bytes : FilterBytes) (s old : State) (request : Request) (done : Result State Reply) → HasCause filter_bytes s request done → Explains filter_bytes s request (done_or_refused old done)
 changed_explained filter_bytes s old request (Ok t) cause e = cc
 changed_explained filter_bytes s old request (Err reply) cause e = cause
 

@@ -6,6 +6,7 @@ use Rattle.std.proofs.lemmas.List.{length-map}
 use Rattle.std.proofs.lemmas.Bool.{eqb-false}
 use Rattle.block_model.proofs.Cutting.{all_append}
 use Rattle.block_model.proofs.Lengths.{length-body}
+use Rattle.key_base.specs.Limits.{max_tables}
 use Rattle.state_model.proofs.Outputs.{placed_lists}
 use Rattle.filter_api.specs.declared.settings.Settings.{Settings}
 use Rattle.filter_api.specs.Ranges.{InRange}
@@ -15,8 +16,8 @@ use Rattle.state_model.specs.State.{State, Job, new_state, last_epoch}
 use Rattle.table_model.specs.Tables.{FilterBytes, Table}
 use Rattle.state_model.specs.View.{memory}
 use Rattle.state_model.specs.Taken.{extent_of, taken}
-use Rattle.state_model.specs.Merges.{NoRoom, Plan, placed, planned, on_level, cut, lasting, newest_of}
-use Rattle.state_model.specs.Changes.{most_tables, with_tables, flush_placed, flushed_with, flushed, logged, logged_then, written}
+use Rattle.state_model.specs.Merges.{NoRoom, Plan, placed, planned, on_level, outputs_for, lasting, newest_of}
+use Rattle.state_model.specs.Changes.{with_tables, flush_placed, flushed_with, flushed, logged, logged_then, written}
 use Rattle.line_model.specs.Replies.{Reply, ManyTables, LastEpoch}
 use Rattle.extent_model.specs.Extents.{AreApart}
 use Rattle.state_model.specs.Sound.{IsSoundTable, IsSound, StandsBefore, AreMade, IsJob, MayRun, plan_of_job}
@@ -37,7 +38,7 @@ le_last : (n : ℕ) → n < 18446744073709551616 → n ≤ last_epoch
 unfolding last_epoch
 le_last n l = omega arith
 
-pub new_sound : (filter_bytes : FilterBytes) (settings : Settings) (pages : ℕ) → InRange settings → settings.ratio < 65536 → 512 ≤ pages → pages ≤ 16777216 → IsSound filter_bytes (new_state settings pages)
+pub new_sound : (filter_bytes : FilterBytes) (settings : Settings) (pages : ℕ) → InRange settings → settings.ratio ≤ 65535 → 512 ≤ pages → pages ≤ 16777216 → IsSound filter_bytes (new_state settings pages)
 new_sound filter_bytes settings pages ranges ratio least most = record {
   settings = ranges;
   ratio = ratio;
@@ -89,7 +90,7 @@ in_front s t = record s { epoch = s.epoch + 1; log = []; tables = t ∷ s.tables
 planned_again : (tables : List Table) (t : Table) (plan : Plan) → t.level ≡ 0 → planned tables plan ≡ planned (t ∷ tables) plan
 planned_again tables t plan zero_level =
     let shallow : nat_lt plan.output t.level ≡ false = ap (nat_lt plan.output) zero_level ∙ level_0 plan.output in
-    ap (λ (b : Bool). cut plan.inputs (lasting (not (b || list_any (λ (u : Table). nat_lt plan.output u.level) tables)) (newest_of plan.inputs))) (sym shallow)
+    ap (λ (b : Bool). outputs_for plan.inputs (lasting (not (b || list_any (λ (u : Table). nat_lt plan.output u.level) tables)) (newest_of plan.inputs))) (sym shallow)
 
 job_behind : (filter_bytes : FilterBytes) (settings : Settings) (tables : List Table) (t : Table) (job : Job) → t.level ≡ 0 → IsJob filter_bytes settings tables job → IsJob filter_bytes settings (t ∷ tables) job
 job_behind filter_bytes settings tables t job zero_level is = record {
@@ -106,7 +107,7 @@ may_run_behind filter_bytes settings tables t None zero_level may = tt
 may_run_behind filter_bytes settings tables t (Some job) zero_level is = job_behind filter_bytes settings tables t job zero_level is
 
 -- one more table in front of a sound state
-front_sound : (filter_bytes : FilterBytes) (s : State) (t : Table) → IsSound filter_bytes s → t.level ≡ 0 → IsSoundTable t → s.epoch ≢ last_epoch → length s.tables < most_tables
+front_sound : (filter_bytes : FilterBytes) (s : State) (t : Table) → IsSound filter_bytes s → t.level ≡ 0 → IsSoundTable t → s.epoch ≢ last_epoch → length s.tables < max_tables
     → Laid s.pages (extent_of t ∷ taken s) → IsSound filter_bytes (in_front s t)
 front_sound filter_bytes s t sound zero_level table other few laid = record {
   settings = sound.settings;
@@ -123,7 +124,7 @@ front_sound filter_bytes s t sound zero_level table other few laid = record {
   job = may_run_behind filter_bytes s.settings s.tables t s.job zero_level sound.job;
 }
 
-with_tables_sound : (filter_bytes : FilterBytes) (s : State) (made : List Table) → IsSound filter_bytes s → IsTable (memory s) → length s.tables < most_tables
+with_tables_sound : (filter_bytes : FilterBytes) (s : State) (made : List Table) → IsSound filter_bytes s → IsTable (memory s) → length s.tables < max_tables
     → Laid s.pages (map extent_of made ++ taken s) → AreMade filter_bytes s.settings 0 (memory s ∷ []) made → length made ≡ 1 → IfSound filter_bytes (with_tables s (made ++ s.tables))
 with_tables_sound filter_bytes s [] sound table few laid are one = absurd (omega arith)
 with_tables_sound filter_bytes s (t ∷ u ∷ more) sound table few laid are one = absurd (omega arith)
@@ -135,7 +136,7 @@ with_tables_sound filter_bytes s (t ∷ []) sound table few laid are one =
           (eqb-false s.epoch last_epoch e) few laid
     ] refl
 
-flush_placed_sound : (filter_bytes : FilterBytes) (s : State) (done : Result (List Table) NoRoom) → IsSound filter_bytes s → IsTable (memory s) → length s.tables < most_tables
+flush_placed_sound : (filter_bytes : FilterBytes) (s : State) (done : Result (List Table) NoRoom) → IsSound filter_bytes s → IsTable (memory s) → length s.tables < max_tables
     → placed filter_bytes s.settings s.pages (taken s) 0 (memory s ∷ []) ≡ done → IfSound filter_bytes (flush_placed s done)
 flush_placed_sound filter_bytes s (Err refusal) sound table few e = tt
 flush_placed_sound filter_bytes s (Ok made) sound table few e =
@@ -149,9 +150,9 @@ flushed_with_sound filter_bytes s (entry ∷ more) sound e =
     let some : 1 ≤ length (memory s) = subst (λ (l : List Entry). 1 ≤ length l) (sym e) (omega arith) in
     let table = memory_is_table s.log sound.log sound.log_fits some in
     let done = placed filter_bytes s.settings s.pages (taken s) 0 ((entry ∷ more) ∷ []) in
-    elim (nat_le most_tables (length s.tables)) as (λ b. nat_le most_tables (length s.tables) ≡ b → IfSound filter_bytes (cond b (Err ManyTables) (flush_placed s done))) [
+    elim (nat_le max_tables (length s.tables)) as (λ b. nat_le max_tables (length s.tables) ≡ b → IfSound filter_bytes (cond b (Err ManyTables) (flush_placed s done))) [
       | true ↦ λ _. tt
-      | false ↦ λ few. flush_placed_sound filter_bytes s done sound table (not_le most_tables (length s.tables) few) (ap (λ (l : List Entry). placed filter_bytes s.settings s.pages (taken s) 0 (l ∷ [])) e)
+      | false ↦ λ few. flush_placed_sound filter_bytes s done sound table (not_le max_tables (length s.tables) few) (ap (λ (l : List Entry). placed filter_bytes s.settings s.pages (taken s) 0 (l ∷ [])) e)
     ] refl
 
 pub flushed_done : (filter_bytes : FilterBytes) (s : State) → IsSound filter_bytes s → IfSound filter_bytes (flushed filter_bytes s)
@@ -177,7 +178,7 @@ flushed_with_empty : (filter_bytes : FilterBytes) (s : State) (entries : List En
 flushed_with_empty filter_bytes s [] e = newest_none s.log e
 flushed_with_empty filter_bytes s (entry ∷ more) e =
     let done = placed filter_bytes s.settings s.pages (taken s) 0 ((entry ∷ more) ∷ []) in
-    elim (nat_le most_tables (length s.tables)) as (λ b. IfEmpty (cond b (Err ManyTables) (flush_placed s done))) [ true ↦ tt | false ↦ flush_placed_empty s done ]
+    elim (nat_le max_tables (length s.tables)) as (λ b. IfEmpty (cond b (Err ManyTables) (flush_placed s done))) [ true ↦ tt | false ↦ flush_placed_empty s done ]
 
 -- ---- an entry more
 

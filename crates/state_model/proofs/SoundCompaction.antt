@@ -11,7 +11,7 @@ use Rattle.state_model.specs.State.{State, without_job, last_epoch}
 use Rattle.table_model.specs.Tables.{FilterBytes, Table}
 use Rattle.state_model.specs.View.{entries_of, oldest_first}
 use Rattle.state_model.specs.Taken.{taken}
-use Rattle.state_model.specs.Merges.{NoRoom, placed, cut, has_value}
+use Rattle.state_model.specs.Merges.{NoRoom, placed, outputs_for, has_value}
 use Rattle.state_model.specs.Changes.{compact_placed, compacted_with, compacted, live_entries}
 use Rattle.line_model.specs.Replies.{LastEpoch}
 use Rattle.extent_model.specs.Extents.{AreApart}
@@ -35,12 +35,12 @@ live_are_entries filter_bytes s sound =
     (newest_all IsEntry (entries_of s) (all_join IsEntry (oldest_first s.tables) s.log (oldest_all IsEntry s.tables each) sound.log))
 
 compact_placed_sound : (filter_bytes : FilterBytes) (s : State) (done : Result (List Table) NoRoom) → IsSound filter_bytes s → s.epoch ≢ last_epoch
-    → placed filter_bytes s.settings s.pages (taken (without_job s)) 6 (cut s.tables (live_entries s)) ≡ done → IfSound filter_bytes (compact_placed s done)
+    → placed filter_bytes s.settings s.pages (taken (without_job s)) 6 (outputs_for s.tables (live_entries s)) ≡ done → IfSound filter_bytes (compact_placed s done)
 compact_placed_sound filter_bytes s (Err refusal) sound other e = tt
 compact_placed_sound filter_bytes s (Ok made) sound other e =
     let live = live_entries s in
     let beside = length s.tables - 1 in
-    let outputs = cut s.tables live in
+    let outputs = outputs_for s.tables live in
     let some = outputs_some beside live in
     let rises = rises_filter (λ (x : Entry). has_value x.value) (newest_entries (entries_of s)) (newest_entries_rise (entries_of s)) in
     let whole = outputs_joined beside live in
@@ -76,7 +76,7 @@ compact_placed_sound filter_bytes s (Ok made) sound other e =
 compacted_with_sound : (filter_bytes : FilterBytes) (s : State) (entries : List Entry) → IsSound filter_bytes s → IfSound filter_bytes (compacted_with filter_bytes s entries)
 compacted_with_sound filter_bytes s [] sound = sound
 compacted_with_sound filter_bytes s (entry ∷ more) sound =
-    let done = placed filter_bytes s.settings s.pages (taken (without_job s)) 6 (cut s.tables (live_entries s)) in
+    let done = placed filter_bytes s.settings s.pages (taken (without_job s)) 6 (outputs_for s.tables (live_entries s)) in
     elim (s.epoch == last_epoch) as (λ b. (s.epoch == last_epoch) ≡ b → IfSound filter_bytes (cond b (Err LastEpoch) (compact_placed s done))) [
       | true ↦ λ _. tt
       | false ↦ λ e. compact_placed_sound filter_bytes s done sound (eqb-false s.epoch last_epoch e) refl

@@ -57,7 +57,7 @@ planned_few : (tables : List Table) (plan : Plan) → length (planned tables pla
 planned_few tables plan = by_inputs plan.inputs plan.output
   where
     by_inputs : (inputs : List Table) (output : ℕ) → length (planned tables (record { inputs = inputs; output = output })) ≤ length inputs
-    by_inputs [] output = elim (is_deepest tables output) as (λ b. length (Rattle.state_model.specs.Merges.cut [] (lasting b (newest_of []))) ≤ 0) [ true ↦ omega arith | false ↦ omega arith ]
+    by_inputs [] output = elim (is_deepest tables output) as (λ b. length (Rattle.state_model.specs.Merges.outputs_for [] (lasting b (newest_of []))) ≤ 0) [ true ↦ omega arith | false ↦ omega arith ]
     by_inputs (t ∷ more) output = let few = outputs_few (length (t ∷ more) - 1) (lasting (is_deepest tables output) (newest_of (t ∷ more))) in omega arith
 
 -- ---- the tables that stay, and the new ones
@@ -265,9 +265,9 @@ slice_sound filter_bytes s after tended sound d = elim d as (λ _ new _. IsSound
   | last_epoch_reached job later runs goes done last ↦ drop_sound filter_bytes s sound
   | no_room job later refusal runs goes refused ↦ drop_sound filter_bytes s sound
   | no_memory cause ↦ drop_sound filter_bytes s sound
-  | read_failed job runs cause ↦ drop_sound filter_bytes s sound
-  | damage_met job damage runs cause ↦ drop_sound filter_bytes s sound
-  | write_failed job new runs cause left same ↦ left.sound
+  | read_failed job runs more cause ↦ drop_sound filter_bytes s sound
+  | damage_met job damage runs more cause ↦ drop_sound filter_bytes s sound
+  | write_failed job new runs may cause left same ↦ left.sound
 ]
 
 pub slice_keeps : (filter_bytes : FilterBytes) (s after : State) (tended : Tended) → IsSound filter_bytes s → Tend Ever filter_bytes s tended after → state_map after ≡ state_map s
@@ -278,7 +278,7 @@ slice_keeps filter_bytes s after tended sound d = elim d as (λ _ new _. state_m
   | last_epoch_reached job later runs goes done last ↦ refl
   | no_room job later refusal runs goes refused ↦ refl
   | no_memory cause ↦ refl
-  | read_failed job runs cause ↦ refl
-  | damage_met job damage runs cause ↦ refl
-  | write_failed job new runs cause left same ↦ same
+  | read_failed job runs more cause ↦ refl
+  | damage_met job damage runs more cause ↦ refl
+  | write_failed job new runs may cause left same ↦ same
 ]

@@ -11,8 +11,8 @@ use Rattle.state_model.specs.Changes.{written, flushed, compacted}
 use Rattle.line_model.specs.Limits.{key_limit, value_limit, first_limit, limit_of}
 use Rattle.line_model.specs.Requests.{Request, Put, Del, Get, Seek, Range, Count, Estimate, Explain, Flush, Compact, Quit, Bad}
 use Rattle.line_model.specs.Replies.{Reply, Done, Value, Missing, At, Pairs, End, Counted, About, Explained, Bye, BadLine, LongKey, LongValue, ManyTables, LastEpoch, Full, Memory, Device, Damaged}
-use Rattle.state_model.specs.Steps.{answer, answer_within, changed, unless_limit, left_by, Step, answers, no_memory, read_failed, damage_met, write_failed}
-use Rattle.state_model.specs.Play.{merged, tended, behind, played}
+use Rattle.state_model.specs.Steps.{answer, answer_within, done_or_refused, unless_limit, left_by, Step, answers, no_memory, read_failed, damage_met, write_failed}
+use Rattle.state_model.specs.Play.{merged, tended, reply_then, played}
 use Rattle.state_model.specs.Sound.{IsSound}
 use Rattle.state_model.proofs.Wholes.{merged_is_a_slice}
 use Rattle.state_model.proofs.Plays.{answer_is_calm, tended_between}
@@ -51,7 +51,7 @@ del_within key e of_key = let keys = key_within key e in record { some_key = key
 
 -- ---- the answer
 
-changed_sound : (filter_bytes : FilterBytes) (old : State) (done : Result State Reply) → IsSound filter_bytes old → IfSound filter_bytes done → IsSound filter_bytes (changed old done).1
+changed_sound : (filter_bytes : FilterBytes) (old : State) (done : Result State Reply) → IsSound filter_bytes old → IfSound filter_bytes done → IsSound filter_bytes (done_or_refused old done).1
 changed_sound filter_bytes old (Ok t) sound new = new
 changed_sound filter_bytes old (Err refusal) sound new = sound
 
@@ -115,7 +115,7 @@ tended_sound filter_bytes s (Explain key) sound none = sound
 tended_sound filter_bytes s Quit sound none = sound
 tended_sound filter_bytes s (Bad code) sound none = sound
 
-behind_sound : (filter_bytes : FilterBytes) (reply : Reply) (later : List Reply × State) (s : State) → IsSound filter_bytes later.1 → IsSound filter_bytes s → IsSound filter_bytes (behind reply later s).1
+behind_sound : (filter_bytes : FilterBytes) (reply : Reply) (later : List Reply × State) (s : State) → IsSound filter_bytes later.1 → IsSound filter_bytes s → IsSound filter_bytes (reply_then reply later s).1
 behind_sound filter_bytes Bye later s after here = here
 behind_sound filter_bytes Done later s after here = after
 behind_sound filter_bytes (Value value) later s after here = after

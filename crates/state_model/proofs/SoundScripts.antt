@@ -5,12 +5,12 @@ use Rattle.state_model.specs.State.{State}
 use Rattle.table_model.specs.Tables.{FilterBytes}
 use Rattle.line_model.specs.Requests.{Request, Put, Del, Get, Seek, Range, Count, Estimate, Explain, Flush, Compact, Quit, Bad, request_of}
 use Rattle.line_model.specs.Replies.{text_of}
-use Rattle.state_model.specs.Script.{Ending, AtDevice, AtDamage, ToLast, AtQuit, Turn, Onward, Over, turn_of, Between, AsSaid, Ends, Script, WentOn}
+use Rattle.state_model.specs.Script.{Ending, AtDevice, AtDamage, ToLast, AtQuit, Turn, Onward, Over, turn_of, Between, AsSaid, EndsOr, Script, WentOn, Answers, nothing, answered}
 use Rattle.state_model.specs.Sound.{IsSound}
 use Rattle.state_model.specs.SoundLaws.{WithSound}
 use Rattle.state_model.specs.Causes.{Why}
 use Rattle.state_model.proofs.AnyCause.{ever_tends, ever_steps}
-use Rattle.state_model.proofs.OfBytes.{lines_of_bytes}
+use Rattle.state_model.proofs.OfBytes.{lines_ask}
 use Rattle.state_model.proofs.SoundInstalls.{slice_sound}
 use Rattle.state_model.proofs.SoundLines.{step_sound}
 
@@ -36,7 +36,7 @@ as_said (Over ToLast) P Q is also = (is, also)
 as_said (Over AtQuit) P Q is also = (is, also)
 
 -- what follows is turned into what is said of it
-ends_with : (turn : Turn) (rest : Bytes) (ending : Ending) (Next Later : Type 0) → (Next → Later) → Ends turn rest ending Next → Ends turn rest ending Later
+ends_with : (turn : Turn) (rest : Bytes) (ending : Ending) (Next Later : Type 0) → (Next → Later) → EndsOr turn rest ending Next → EndsOr turn rest ending Later
 ends_with Onward rest ending Next Later turned next = turned next
 ends_with (Over why) rest ending Next Later turned end = end
 
@@ -46,7 +46,7 @@ pub script_sound : (Cause : Why → Type 0) (filter_bytes : FilterBytes) (R : �
 script_sound Cause filter_bytes R said s [] text ending sound script = script
 script_sound Cause filter_bytes R said s (line ∷ more) text ending sound (reply, rest, new, whole, step, holds, next) =
     let request = request_of line in
-    let here = step_sound filter_bytes s new request reply sound (lines_of_bytes line) (ever_steps Cause filter_bytes s new request reply step) in
+    let here = step_sound filter_bytes s new request reply sound (lines_ask line) (ever_steps Cause filter_bytes s new request reply step) in
     let so_far = said + length (text_of reply) in (
       reply,
       rest,
@@ -55,8 +55,8 @@ script_sound Cause filter_bytes R said s (line ∷ more) text ending sound (repl
       step,
       as_said (turn_of reply) (R so_far new) (IsSound filter_bytes new) holds here,
       ends_with (turn_of reply) rest ending
-          ((turn : Turn) × (after : State) × Between Cause filter_bytes request new turn after × Ends turn rest ending (Script Cause filter_bytes R so_far after more rest ending))
-          ((turn : Turn) × (after : State) × Between Cause filter_bytes request new turn after × Ends turn rest ending (Script Cause filter_bytes (WithSound filter_bytes R) so_far after more rest ending))
+          ((turn : Turn) × (after : State) × Between Cause filter_bytes request new turn after × EndsOr turn rest ending (Script Cause filter_bytes R so_far after more rest ending))
+          ((turn : Turn) × (after : State) × Between Cause filter_bytes request new turn after × EndsOr turn rest ending (Script Cause filter_bytes (WithSound filter_bytes R) so_far after more rest ending))
           (λ n. (
             n.0,
             n.1,
@@ -72,6 +72,18 @@ pub first_lines_sound : (Cause : Why → Type 0) (filter_bytes : FilterBytes) (R
 first_lines_sound Cause filter_bytes R said s after [] text sound went = (went, subst (IsSound filter_bytes) (sym went.1) sound)
 first_lines_sound Cause filter_bytes R said s after (line ∷ more) text sound (reply, rest, new, next, whole, step, onward, holds, between, went) =
     let request = request_of line in
-    let here = step_sound filter_bytes s new request reply sound (lines_of_bytes line) (ever_steps Cause filter_bytes s new request reply step) in
+    let here = step_sound filter_bytes s new request reply sound (lines_ask line) (ever_steps Cause filter_bytes s new request reply step) in
     let later = first_lines_sound Cause filter_bytes R (said + length (text_of reply)) next after more rest (between_sound Cause filter_bytes request new next Onward here between) went in
     ((reply, rest, new, next, whole, step, onward, (holds, here), between, later.0), later.1)
+
+pub answered_sound : (Cause : Why → Type 0) (filter_bytes : FilterBytes) (R : ℕ → State → Type 0) (said : ℕ) (s after : State) (lines : List Bytes) (text : Bytes)
+    → IsSound filter_bytes s → Answers Cause filter_bytes R said s lines text after
+    → Answers Cause filter_bytes (WithSound filter_bytes R) said s lines text after × IsSound filter_bytes after
+answered_sound Cause filter_bytes R said s after lines text sound d = elim d as (λ ls t new _. Answers Cause filter_bytes (WithSound filter_bytes R) said s ls t new × IsSound filter_bytes new) [
+  | nothing ↦ (nothing, sound)
+  | answered first last went before new reply early step holds ↦
+      let behind = first_lines_sound Cause filter_bytes R said s before first went sound early in
+      let here = step_sound filter_bytes before new (request_of last) reply behind.1 (lines_ask last) (ever_steps Cause filter_bytes before new (request_of last) reply step) in
+      let so_far = said + length went + length (text_of reply) in
+      (answered first last went before new reply behind.0 step (as_said (turn_of reply) (R so_far new) (IsSound filter_bytes new) holds here), here)
+]

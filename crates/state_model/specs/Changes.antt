@@ -1,17 +1,14 @@
 -- What a put, a flush and a compaction make of a state, or the reply by which they are refused.
 use Rattle.std.specs.Prelude.{ℕ, ◌+◌, ◌==◌, nat_le, if◌then◌else◌, List, [], ◌∷◌, ◌++◌, length, filter, None, Result, Ok, Err}
+use Rattle.key_base.specs.Limits.{max_tables}
 use Rattle.entry_model.specs.Entries.{Entry, need, gap}
 use Rattle.entry_model.specs.Newest.{newest_entries}
 use Rattle.state_model.specs.State.{State, without_job, last_epoch}
 use Rattle.table_model.specs.Tables.{FilterBytes, Table}
 use Rattle.state_model.specs.View.{memory, entries_of}
 use Rattle.state_model.specs.Taken.{taken}
-use Rattle.state_model.specs.Merges.{NoRoom, placed, cut, has_value}
+use Rattle.state_model.specs.Merges.{NoRoom, placed, outputs_for, has_value}
 use Rattle.line_model.specs.Replies.{Reply, ManyTables, LastEpoch, Full}
-
--- a version has at most so many tables
-abbrev pub most_tables : ℕ
-most_tables = 1024
 
 -- ---- flush
 
@@ -26,7 +23,7 @@ flush_placed s (Err refusal) = Err (Full refusal.need refusal.gap)
 abbrev pub flushed_with : FilterBytes → State → List Entry → Result State Reply
 flushed_with filter_bytes s [] = Ok s
 flushed_with filter_bytes s (entry ∷ more) =
-    if nat_le most_tables (length s.tables) then Err ManyTables else flush_placed s (placed filter_bytes s.settings s.pages (taken s) 0 ((entry ∷ more) ∷ []))
+    if nat_le max_tables (length s.tables) then Err ManyTables else flush_placed s (placed filter_bytes s.settings s.pages (taken s) 0 ((entry ∷ more) ∷ []))
 
 -- The memory entries become one table, the first of level 0, in the first gap that holds it, and the log is empty. Where
 -- there are none nothing changes.
@@ -61,7 +58,7 @@ abbrev pub compacted_with : FilterBytes → State → List Entry → Result Stat
 compacted_with filter_bytes s [] = Ok s
 compacted_with filter_bytes s (entry ∷ more) =
     if s.epoch == last_epoch then Err LastEpoch
-    else compact_placed s (placed filter_bytes s.settings s.pages (taken (without_job s)) 6 (cut s.tables (live_entries s)))
+    else compact_placed s (placed filter_bytes s.settings s.pages (taken (without_job s)) 6 (outputs_for s.tables (live_entries s)))
 
 -- The live pairs alone stand in tables of level 6, the log is empty and no job runs. An empty store stays as it is.
 abbrev pub compacted : FilterBytes → State → Result State Reply

@@ -65,20 +65,20 @@ pub record MergeLaws : Type 0 where
   pub few : (tables : List Table) (plan : Plan) → 1 ≤ length plan.inputs → length (planned tables plan) ≤ length plan.inputs
 
 -- some tables are a part of all, in their order
-abbrev pub IsPart : List Table → List Table → Type 0
-IsPart [] all = Unit {0}
-IsPart (t ∷ more) [] = ⊥
-IsPart (t ∷ more) (u ∷ all) = ((t ≡ u) × IsPart more all) ⊎ IsPart (t ∷ more) all
+abbrev pub AreSomeOf : List Table → List Table → Type 0
+AreSomeOf [] all = Unit {0}
+AreSomeOf (t ∷ more) [] = ⊥
+AreSomeOf (t ∷ more) (u ∷ all) = ((t ≡ u) × AreSomeOf more all) ⊎ AreSomeOf (t ∷ more) all
 
 -- What is chosen is not empty, and becomes tables of a level from 1 to 6. Of tables in their order it is a part in their
 -- order, and so is what a job merges, also behind later flushes.
 pub record ChoiceLaws : Type 0 where
   pub some : (tables : List Table) (plan : Plan) → choose tables ≡ Some plan → 1 ≤ length plan.inputs
   pub output : (tables : List Table) (plan : Plan) → choose tables ≡ Some plan → (1 ≤ plan.output) × (plan.output ≤ 6)
-  pub part : (tables : List Table) (plan : Plan) → AllPairs StandsBefore tables → choose tables ≡ Some plan → IsPart plan.inputs tables
+  pub part : (tables : List Table) (plan : Plan) → AllPairs StandsBefore tables → choose tables ≡ Some plan → AreSomeOf plan.inputs tables
   pub job_part :
       (filter_bytes : FilterBytes) (s : State) (job : Job) → IsSound filter_bytes s → s.job ≡ Some job
-      → IsPart job.inputs s.tables
+      → AreSomeOf job.inputs s.tables
 
 -- An output that others follow has 1,024 data pages or more, and fewer without its last entry.
 pub record OutputLaws : Type 0 where

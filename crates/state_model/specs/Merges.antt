@@ -2,6 +2,7 @@
 use Rattle.std.specs.Prelude.{ℕ, zero, suc, ◌+◌, ◌-◌, ◌*◌, ◌^◌, ◌==◌, nat_le, nat_lt, Bool, true, false, not, ◌&&◌, if◌then◌else◌, List, [], ◌∷◌, ◌++◌, take, filter, fold, length, Option, Some, None, Result, Ok, Err}
 use Rattle.std.specs.List.{list_any, sum_by}
 use Rattle.filter_api.specs.declared.settings.Settings.{Settings}
+use Rattle.key_base.specs.Limits.{merge_data_pages}
 use Rattle.map_model.specs.SortedMap.{Bytes}
 use Rattle.entry_model.specs.Entries.{Entry}
 use Rattle.entry_model.specs.Newest.{newest_entries}
@@ -85,15 +86,12 @@ lasting is_last entries = if is_last then filter (λ (e : Entry). has_value e.va
 abbrev pub newest_of : List Table → List Entry
 newest_of tables = newest_entries (oldest_first tables)
 
--- an output is closed by the entry with which it has this many data pages
-abbrev pub output_pages : ℕ
-output_pages = 1024
-
--- the first output and what is left, after some entries that it has already
+-- The first output and what is left, after some entries that it has already. It is closed by the entry with which it has the
+-- data pages at which a merge closes a table.
 abbrev pub split_output : List Entry → List Entry → List Entry × List Entry
 split_output output [] = (output, [])
 split_output output (entry ∷ more) =
-    if nat_le output_pages (data_pages (output ++ (entry ∷ []))) then (output ++ (entry ∷ []), more) else split_output (output ++ (entry ∷ [])) more
+    if nat_le merge_data_pages (data_pages (output ++ (entry ∷ []))) then (output ++ (entry ∷ []), more) else split_output (output ++ (entry ∷ [])) more
 
 -- the outputs: each but the last is closed as soon as it is full, and at most so many come beside one. None is empty.
 abbrev pub outputs_of : ℕ → List Entry → List (List Entry)
@@ -104,12 +102,12 @@ outputs_of (suc beside) (entry ∷ more) =
     split.0 ∷ outputs_of beside split.1
 
 -- never more outputs than inputs; with no input, one
-abbrev pub cut : List Table → List Entry → List (List Entry)
-cut inputs entries = outputs_of (length inputs - 1) entries
+abbrev pub outputs_for : List Table → List Entry → List (List Entry)
+outputs_for inputs entries = outputs_of (length inputs - 1) entries
 
 -- the outputs of a plan among some tables
 abbrev pub planned : List Table → Plan → List (List Entry)
-planned tables plan = cut plan.inputs (lasting (is_deepest tables plan.output) (newest_of plan.inputs))
+planned tables plan = outputs_for plan.inputs (lasting (is_deepest tables plan.output) (newest_of plan.inputs))
 
 -- ---- and where
 

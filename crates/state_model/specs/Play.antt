@@ -71,16 +71,16 @@ abbrev pub tended : FilterBytes → Request → State → State
 tended filter_bytes request s = tended_by (merged filter_bytes) request s
 
 -- a reply, and those to the lines behind it; none where it is the last
-abbrev pub behind : Reply → List Reply × State → State → List Reply × State
-behind Bye later s = (Bye ∷ [], s)
-behind reply later s = (reply ∷ later.0, later.1)
+abbrev pub reply_then : Reply → List Reply × State → State → List Reply × State
+reply_then Bye later s = (Bye ∷ [], s)
+reply_then reply later s = (reply ∷ later.0, later.1)
 
 -- the replies to some requests, and the state that they leave
 abbrev pub played_by : FilterBytes → (State → State) → State → List Request → List Reply × State
 played_by filter_bytes merge s [] = ([], s)
 played_by filter_bytes merge s (request ∷ more) =
     let a = answer filter_bytes s request in
-    behind a.0 (played_by filter_bytes merge (tended_by merge request a.1) more) a.1
+    reply_then a.0 (played_by filter_bytes merge (tended_by merge request a.1) more) a.1
 
 -- with a whole merge behind each put and del, or with one slice of so many blocks
 abbrev pub played : FilterBytes → State → List Request → List Reply × State

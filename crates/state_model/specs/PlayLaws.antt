@@ -1,5 +1,5 @@
 -- Laws of a run that computes: it is one of those that the relation allows.
-use Rattle.std.specs.Prelude.{◌≡◌, ◌≤◌, ℕ, List, map, flat_map, None}
+use Rattle.std.specs.Prelude.{◌≡◌, ◌≤◌, ◌+◌, ℕ, Bool, true, List, ◌++◌, length, map, flat_map, None}
 use Rattle.map_model.specs.SortedMap.{Bytes}
 use Rattle.state_model.specs.State.{State}
 use Rattle.table_model.specs.Tables.{FilterBytes}
@@ -9,7 +9,7 @@ use Rattle.line_model.specs.Replies.{text_of}
 use Rattle.state_model.specs.Tends.{Tend, Tended}
 use Rattle.state_model.specs.Steps.{answer}
 use Rattle.state_model.specs.Play.{merged, sliced, tended, played}
-use Rattle.state_model.specs.Script.{Ending, Onward, turn_of_slice, Script}
+use Rattle.state_model.specs.Script.{Ending, ToLast, Onward, turn_of_slice, Script, WentOn}
 
 -- no cause for anything: memory lasts, the device holds, and nothing is damaged
 abbrev pub Never : Why → Type 0
@@ -42,3 +42,25 @@ abbrev pub SlicesAreAllowed : Type 0
 SlicesAreAllowed =
     (filter_bytes : FilterBytes) (blocks : ℕ) (s : State) → 1 ≤ blocks
     → (t : Tended) × Tend Never filter_bytes s t (sliced filter_bytes blocks s) × (Onward ≡ turn_of_slice t)
+
+-- the causes that are allowed, and the states that serve, by tests
+abbrev pub Allowed : (Why → Bool) → Why → Type 0
+Allowed test why = test why ≡ true
+
+abbrev pub Answering : (ℕ → State → Bool) → ℕ → State → Type 0
+Answering test said s = test said s ≡ true
+
+-- First lines that went on, and a script from the state behind them with as much said as their text is long, are a script.
+abbrev pub ScriptsGoOn : Type 0
+ScriptsGoOn =
+    (causes : Why → Bool) (filter_bytes : FilterBytes) (states : ℕ → State → Bool) (said : ℕ) (s after : State) (first lines : List Bytes)
+    (text rest : Bytes) (ending : Ending) → WentOn (Allowed causes) filter_bytes (Answering states) said s first text after
+    → Script (Allowed causes) filter_bytes (Answering states) (said + length text) after lines rest ending
+    → Script (Allowed causes) filter_bytes (Answering states) said s (first ++ lines) (text ++ rest) ending
+
+-- A script to its last line has answered all lines.
+abbrev pub ScriptsToLast : Type 0
+ScriptsToLast =
+    (causes : Why → Bool) (filter_bytes : FilterBytes) (states : ℕ → State → Bool) (said : ℕ) (s : State) (lines : List Bytes) (text : Bytes)
+    → Script (Allowed causes) filter_bytes (Answering states) said s lines text ToLast
+    → (after : State) × WentOn (Allowed causes) filter_bytes (Answering states) said s lines text after

@@ -1,6 +1,7 @@
 -- Why a line is refused.
 use Rattle.std.specs.Prelude.{ℕ, ◌≡◌, ◌≢◌, ◌⊎◌, ◌<◌, ◌≤◌, Bool, true, false, List, [], ◌∷◌, length, Option, Some, None, Result, Ok, Err}
 use Rattle.filter_api.specs.declared.settings.Settings.{Settings}
+use Rattle.key_base.specs.Limits.{max_bound_bytes, max_key_bytes, max_tables, max_value_bytes}
 use Rattle.map_model.specs.SortedMap.{Bytes}
 use Rattle.entry_model.specs.Entries.{Entry, put_entry, del_entry, need, gap}
 use Rattle.state_model.specs.State.{State, without_job, last_epoch}
@@ -9,8 +10,8 @@ use Rattle.state_model.specs.View.{memory, entries_of}
 use Rattle.extent_model.specs.Extents.{Extent}
 use Rattle.extent_model.specs.Gaps.{largest_gap}
 use Rattle.state_model.specs.Taken.{taken}
-use Rattle.state_model.specs.Merges.{NoRoom, placed, cut}
-use Rattle.state_model.specs.Changes.{most_tables, live_entries}
+use Rattle.state_model.specs.Merges.{NoRoom, placed, outputs_for}
+use Rattle.state_model.specs.Changes.{live_entries}
 use Rattle.line_model.specs.Requests.{Request, Put, Del, Get, Seek, Range, Count, Estimate, Explain, Flush, Compact}
 use Rattle.line_model.specs.Replies.{Reply, LongKey, LongValue, ManyTables, LastEpoch, Full}
 use Rattle.state_model.specs.Steps.{answer}
@@ -28,11 +29,11 @@ is_refusal reply = false
 -- ---- limits
 
 -- a key has 1 to 1,024 bytes
-abbrev pub IsKey : Bytes → Type 0
-IsKey key = (1 ≤ length key) × (length key ≤ 1024)
+abbrev pub KeyFits : Bytes → Type 0
+KeyFits key = (1 ≤ length key) × (length key ≤ max_key_bytes)
 
-abbrev pub IsNoKey : Bytes → Type 0
-IsNoKey key = (length key ≡ 0) ⊎ (1024 < length key)
+abbrev pub KeyBreaks : Bytes → Type 0
+KeyBreaks key = (length key ≡ 0) ⊎ (max_key_bytes < length key)
 
 -- the key that a request names
 abbrev pub key_of : Request → Option Bytes
@@ -54,11 +55,11 @@ bounds_of request = []
 -- The limits that a request may break, and the reply: a key, and then a value of more than 65,536 bytes; a bound of more
 -- than 1,024 bytes, the lower one first. A bound may be empty.
 pub data BreaksLimit (request : Request) : Reply → Type 0 where
-  by_key : (key : Bytes) → key_of request ≡ Some key → IsNoKey key → BreaksLimit request (LongKey (length key))
-  by_value : (key value : Bytes) → request ≡ Put key value → IsKey key → 65536 < length value
+  by_key : (key : Bytes) → key_of request ≡ Some key → KeyBreaks key → BreaksLimit request (LongKey (length key))
+  by_value : (key value : Bytes) → request ≡ Put key value → KeyFits key → max_value_bytes < length value
       → BreaksLimit request (LongValue (length value))
-  by_lower : (lo : Bytes) (more : List Bytes) → bounds_of request ≡ lo ∷ more → 1024 < length lo → BreaksLimit request (LongKey (length lo))
-  by_upper : (lo hi : Bytes) → bounds_of request ≡ lo ∷ hi ∷ [] → length lo ≤ 1024 → 1024 < length hi
+  by_lower : (lo : Bytes) (more : List Bytes) → bounds_of request ≡ lo ∷ more → max_bound_bytes < length lo → BreaksLimit request (LongKey (length lo))
+  by_upper : (lo hi : Bytes) → bounds_of request ≡ lo ∷ hi ∷ [] → length lo ≤ max_bound_bytes → max_bound_bytes < length hi
       → BreaksLimit request (LongKey (length hi))
 
 -- ---- causes
@@ -80,17 +81,17 @@ abbrev pub flush_places : FilterBytes → State → Result (List Table) NoRoom
 flush_places filter_bytes s = placed filter_bytes s.settings s.pages (taken s) 0 (memory s ∷ [])
 
 abbrev pub compaction_places : FilterBytes → State → Result (List Table) NoRoom
-compaction_places filter_bytes s = placed filter_bytes s.settings s.pages (taken (without_job s)) 6 (cut s.tables (live_entries s))
+compaction_places filter_bytes s = placed filter_bytes s.settings s.pages (taken (without_job s)) 6 (outputs_for s.tables (live_entries s))
 
 -- The causes for which a line is refused, and the reply by which it is. Limits come first. A flush asks for fewer tables
 -- than the most, then for room, then for a next epoch; a compaction asks for a next epoch, then for room.
 pub data Refused (filter_bytes : FilterBytes) (s : State) (request : Request) : Reply → Type 0 where
   by_limit : (reply : Reply) → limit_of request ≡ Some reply → Refused filter_bytes s request reply
-  flush_by_tables : limit_of request ≡ None → FlushIsDue s request → most_tables ≤ length s.tables
+  flush_by_tables : limit_of request ≡ None → FlushIsDue s request → max_tables ≤ length s.tables
       → Refused filter_bytes s request ManyTables
-  flush_by_room : (refusal : NoRoom) → limit_of request ≡ None → FlushIsDue s request → length s.tables < most_tables
+  flush_by_room : (refusal : NoRoom) → limit_of request ≡ None → FlushIsDue s request → length s.tables < max_tables
       → flush_places filter_bytes s ≡ Err refusal → Refused filter_bytes s request (Full refusal.need refusal.gap)
-  flush_by_epoch : (made : List Table) → limit_of request ≡ None → FlushIsDue s request → length s.tables < most_tables
+  flush_by_epoch : (made : List Table) → limit_of request ≡ None → FlushIsDue s request → length s.tables < max_tables
       → flush_places filter_bytes s ≡ Ok made → s.epoch ≡ last_epoch → Refused filter_bytes s request LastEpoch
   compaction_by_epoch : limit_of request ≡ None → CompactionIsDue s request → s.epoch ≡ last_epoch
       → Refused filter_bytes s request LastEpoch

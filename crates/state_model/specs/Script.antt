@@ -41,9 +41,9 @@ Between Cause filter_bytes (Del key) s turn after = (tended : Tended) × Tend Ca
 Between Cause filter_bytes request s turn after = (turn ≡ Onward) × (after ≡ s)
 
 -- The script's text is said and ended, or goes on.
-abbrev pub Ends : Turn → Bytes → Ending → Type 0 → Type 0
-Ends Onward rest ending Next = Next
-Ends (Over why) rest ending Next = (rest ≡ []) × (ending ≡ why)
+abbrev pub EndsOr : Turn → Bytes → Ending → Type 0 → Type 0
+EndsOr Onward rest ending Next = Next
+EndsOr (Over why) rest ending Next = (rest ≡ []) × (ending ≡ why)
 
 -- what holds as the reply has been said, but for a fault or damage
 abbrev pub AsSaid : Turn → Type 0 → Type 0
@@ -58,9 +58,9 @@ Script Cause filter_bytes R said s [] text ending = (text ≡ []) × (ending ≡
 Script Cause filter_bytes R said s (line ∷ more) text ending =
     (reply : Reply) × (rest : Bytes) × (new : State) × (text ≡ text_of reply ++ rest) × Step Cause filter_bytes s (request_of line) reply new
     × AsSaid (turn_of reply) (R (said + length (text_of reply)) new)
-    × Ends (turn_of reply) rest ending
+    × EndsOr (turn_of reply) rest ending
     ((turn : Turn) × (after : State) × Between Cause filter_bytes (request_of line) new turn after
-    × Ends turn rest ending (Script Cause filter_bytes R (said + length (text_of reply)) after more rest ending))
+    × EndsOr turn rest ending (Script Cause filter_bytes R (said + length (text_of reply)) after more rest ending))
 
 -- ---- some first lines
 
@@ -73,3 +73,12 @@ WentOn Cause filter_bytes R said s (line ∷ more) text after =
     × Step Cause filter_bytes s (request_of line) reply new × (turn_of reply ≡ Onward) × R (said + length (text_of reply)) new
     × Between Cause filter_bytes (request_of line) new Onward next
     × WentOn Cause filter_bytes R (said + length (text_of reply)) next more rest after
+
+-- Nothing was answered yet; or some first lines went on, and the one behind them was answered, with any reply. This state
+-- stands behind that reply: its merge slice is still to come.
+pub data Answers (Cause : Why → Type 0) (filter_bytes : FilterBytes) (R : ℕ → State → Type 0) (said : ℕ) (s : State) : List Bytes → Bytes → State → Type 0 where
+  nothing : Answers Cause filter_bytes R said s [] [] s
+  answered : (first : List Bytes) (last text : Bytes) (before after : State) (reply : Reply)
+      → WentOn Cause filter_bytes R said s first text before → Step Cause filter_bytes before (request_of last) reply after
+      → AsSaid (turn_of reply) (R (said + length text + length (text_of reply)) after)
+      → Answers Cause filter_bytes R said s (first ++ (last ∷ [])) (text ++ text_of reply) after

@@ -4,6 +4,7 @@ use Rattle.std.specs.List.{AllByRecursion, AllPairs, sum_by}
 use Rattle.std.specs.declared.cmp.Ordering.TheVariants.{Less}
 use Rattle.filter_api.specs.declared.settings.Settings.{Settings}
 use Rattle.filter_api.specs.Ranges.{InRange}
+use Rattle.key_base.specs.Limits.{log_bytes, max_block_entries, max_device_pages, max_ratio, max_tables, min_device_pages}
 use Rattle.map_model.specs.SortedMap.{Bytes, byte_order}
 use Rattle.entry_model.specs.Entries.{Entry, filled, IsEntry}
 use Rattle.block_model.specs.Block.{IsTable}
@@ -11,19 +12,18 @@ use Rattle.state_model.specs.State.{State, Job, last_epoch}
 use Rattle.table_model.specs.Tables.{FilterBytes, Table, table_of}
 use Rattle.extent_model.specs.Extents.{IsOnDevice, AreApart}
 use Rattle.state_model.specs.Taken.{taken}
-use Rattle.state_model.specs.Changes.{most_tables}
 use Rattle.state_model.specs.Merges.{Plan, choose, planned, on_level, least_key, greatest_key}
 
 abbrev pub IsBefore : Bytes → Bytes → Type 0
 IsBefore x y = byte_order x y ≡ Less
 
--- a table has one entry or more, with strictly rising keys, and one block or more, each of a page or more and of at most
--- 255 entries
+-- a table has one entry or more, with strictly rising keys, and one block or more, each of a page or more and of not too
+-- many entries
 pub record IsSoundTable (t : Table) : Type 0 where
   pub level : t.level ≤ 6
   pub entries : IsTable t.entries
   pub blocks : (1 ≤ t.blocks) × (t.blocks ≤ t.pages)
-  pub few : length t.entries ≤ 255 * t.blocks
+  pub few : length t.entries ≤ max_block_entries * t.blocks
 
 -- The one stands before the other: it is of a lesser level, or of the same one and then, below level 0, its keys come
 -- before those of the other.
@@ -56,12 +56,12 @@ MayRun filter_bytes settings tables (Some job) = IsJob filter_bytes settings tab
 
 pub record IsSound (filter_bytes : FilterBytes) (s : State) : Type 0 where
   pub settings : InRange s.settings
-  pub ratio : s.settings.ratio < 65536
-  pub device : (512 ≤ s.pages) × (s.pages ≤ 16777216)
+  pub ratio : s.settings.ratio ≤ max_ratio
+  pub device : (min_device_pages ≤ s.pages) × (s.pages ≤ max_device_pages)
   pub epoch : (1 ≤ s.epoch) × (s.epoch ≤ last_epoch)
   pub log : AllByRecursion IsEntry s.log
-  pub log_fits : filled s.log < 262144
-  pub few : length s.tables ≤ most_tables
+  pub log_fits : filled s.log < log_bytes
+  pub few : length s.tables ≤ max_tables
   pub tables : AllByRecursion IsSoundTable s.tables
   pub order : AllPairs StandsBefore s.tables
   pub on_device : AllByRecursion (IsOnDevice s.pages) (taken s)

@@ -1,25 +1,26 @@
 -- Laws of soundness: a store as it is made is sound, and what is done to a sound state leaves one.
-use Rattle.std.specs.Prelude.{◌≡◌, ◌≤◌, ◌<◌, ◌+◌, ◌++◌, ℕ, List, [], ◌∷◌, length, map, Option, Some, None, Ok}
+use Rattle.std.specs.Prelude.{◌≡◌, ◌≢◌, ◌≤◌, ◌<◌, ◌+◌, ◌++◌, ℕ, List, [], ◌∷◌, length, map, Option, Some, None, Ok, Err}
 use Rattle.std.specs.List.{AllByRecursion, sum_by}
 use Rattle.filter_api.specs.declared.settings.Settings.{Settings}
 use Rattle.filter_api.specs.Ranges.{InRange}
 use Rattle.filter_model.specs.Keys.{IsKeyList}
 use Rattle.byte_fields.specs.Spelling.{IsBytes}
+use Rattle.key_base.specs.Limits.{log_bytes, max_device_pages, max_ratio, min_device_pages}
 use Rattle.map_model.specs.SortedMap.{Bytes}
 use Rattle.entry_model.specs.Entries.{Entry, filled, IsEntry, keys_of}
 use Rattle.state_model.specs.State.{State, Job, new_state, without_job}
 use Rattle.table_model.specs.Tables.{FilterBytes, Table}
-use Rattle.state_model.specs.View.{state_map}
+use Rattle.state_model.specs.View.{memory, state_map}
 use Rattle.extent_model.specs.Extents.{Extent, AreLaid}
 use Rattle.state_model.specs.Taken.{extent_of}
 use Rattle.state_model.specs.Merges.{Plan, choose, placed, planned}
 use Rattle.state_model.specs.Changes.{flushed, written, compacted}
 use Rattle.state_model.specs.Causes.{Why}
-use Rattle.line_model.specs.Requests.{Request, request_of, Put, Del}
-use Rattle.line_model.specs.Replies.{Reply}
+use Rattle.line_model.specs.Requests.{Request, request_of, Put, Del, Get, Seek, Range, Count, Estimate, Explain}
+use Rattle.line_model.specs.Replies.{Reply, ManyTables}
 use Rattle.state_model.specs.Steps.{Step, answer}
 use Rattle.state_model.specs.Play.{played}
-use Rattle.state_model.specs.Script.{Ending, Script, WentOn}
+use Rattle.state_model.specs.Script.{Ending, Script, WentOn, Answers}
 use Rattle.state_model.specs.PlayLaws.{Never, AnyState}
 use Rattle.state_model.specs.Tends.{Runs, Progresses, started, with_job, outstanding, Tended, Worked, Tend}
 use Rattle.state_model.specs.Sound.{IsSound, IsSoundTable}
@@ -34,8 +35,8 @@ PlacedAreLaid =
 -- a store as it is made is sound
 abbrev pub NewIsSound : Type 0
 NewIsSound =
-    (filter_bytes : FilterBytes) (settings : Settings) (pages : ℕ) → InRange settings → settings.ratio < 65536 → 512 ≤ pages
-    → pages ≤ 16777216 → IsSound filter_bytes (new_state settings pages)
+    (filter_bytes : FilterBytes) (settings : Settings) (pages : ℕ) → InRange settings → settings.ratio ≤ max_ratio → min_device_pages ≤ pages
+    → pages ≤ max_device_pages → IsSound filter_bytes (new_state settings pages)
 
 -- a flush that is done keeps soundness, whether a job runs or none
 abbrev pub FlushKeepsSound : Type 0
@@ -96,9 +97,25 @@ AsksOfBytes (Put key value) = IsBytes key × IsBytes value
 AsksOfBytes (Del key) = IsBytes key
 AsksOfBytes request = Unit {0}
 
--- so it is in each line
+-- all keys, values and bounds are bytes
+abbrev pub SpeaksBytes : Request → Type 0
+SpeaksBytes (Put key value) = IsBytes key × IsBytes value
+SpeaksBytes (Del key) = IsBytes key
+SpeaksBytes (Get key) = IsBytes key
+SpeaksBytes (Seek lo None) = IsBytes lo
+SpeaksBytes (Seek lo (Some hi)) = IsBytes lo × IsBytes hi
+SpeaksBytes (Range lo hi n) = IsBytes lo × IsBytes hi
+SpeaksBytes (Count lo hi) = IsBytes lo × IsBytes hi
+SpeaksBytes (Estimate lo hi) = IsBytes lo × IsBytes hi
+SpeaksBytes (Explain key) = IsBytes key
+SpeaksBytes request = Unit {0}
+
+-- So they are in each line, and then so is what is put or deleted.
 abbrev pub LinesAreOfBytes : Type 0
-LinesAreOfBytes = (line : Bytes) → AsksOfBytes (request_of line)
+LinesAreOfBytes = (line : Bytes) → SpeaksBytes (request_of line)
+
+abbrev pub SpeakingAsks : Type 0
+SpeakingAsks = (request : Request) → SpeaksBytes request → AsksOfBytes request
 
 -- The state behind a line is sound too.
 abbrev pub LineKeepsSound : Type 0
@@ -117,7 +134,7 @@ abbrev pub WithSound : FilterBytes → (ℕ → State → Type 0) → ℕ → St
 WithSound filter_bytes R said s = R said s × IsSound filter_bytes s
 
 -- Each state of a script from a sound one is sound, as each reply has been said, and so is the state behind some first
--- lines.
+-- lines, and behind the reply to the line after these.
 pub record ScriptsKeepSound : Type 0 where
   pub script :
       (filter_bytes : FilterBytes) (said : ℕ) (s : State) (lines : List Bytes) (text : Bytes) (ending : Ending) → IsSound filter_bytes s
@@ -127,16 +144,23 @@ pub record ScriptsKeepSound : Type 0 where
       (filter_bytes : FilterBytes) (said : ℕ) (s after : State) (lines : List Bytes) (text : Bytes) → IsSound filter_bytes s
       → WentOn Ever filter_bytes AnyState said s lines text after
       → WentOn Ever filter_bytes (WithSound filter_bytes AnyState) said s lines text after × IsSound filter_bytes after
+  pub answered :
+      (filter_bytes : FilterBytes) (said : ℕ) (s after : State) (lines : List Bytes) (text : Bytes) → IsSound filter_bytes s
+      → Answers Ever filter_bytes AnyState said s lines text after
+      → Answers Ever filter_bytes (WithSound filter_bytes AnyState) said s lines text after × IsSound filter_bytes after
 
 -- ---- what is not sound, and what the keys of a table are
 
--- 1,025 tables, a log that fills its area, and a table at page 191 are of no sound state.
+-- 1,025 tables, a log that fills its area, and a table at page 191 are of no sound state. A flush is refused by 1,024 tables
+-- and by no fewer.
 pub record LimitsAreKept : Type 0 where
   pub tables : (filter_bytes : FilterBytes) (s : State) → length s.tables ≡ 1025 → IsSound filter_bytes s → ⊥
-  pub log : (filter_bytes : FilterBytes) (s : State) → filled s.log ≡ 262144 → IsSound filter_bytes s → ⊥
+  pub log : (filter_bytes : FilterBytes) (s : State) → filled s.log ≡ log_bytes → IsSound filter_bytes s → ⊥
   pub first_page :
       (filter_bytes : FilterBytes) (s : State) (t : Table) (more : List Table) → s.tables ≡ t ∷ more → t.first_page ≡ 191
       → IsSound filter_bytes s → ⊥
+  pub flush_over : (filter_bytes : FilterBytes) (s : State) → length s.tables ≡ 1024 → memory s ≢ [] → flushed filter_bytes s ≡ Err ManyTables
+  pub flush_below : (filter_bytes : FilterBytes) (s : State) → length s.tables ≡ 1023 → flushed filter_bytes s ≡ Err ManyTables → ⊥
 
 -- The keys of a sound table are a list of keys, as filters are built of.
 abbrev pub KeysAreAList : Type 0
@@ -145,27 +169,27 @@ KeysAreAList = (t : Table) → IsSoundTable t → IsKeyList (keys_of t.entries)
 -- ---- how many merge slices a job takes
 
 -- the answers Worked that a job may still see: one for each block to read, one for each output to write, one for its install
-abbrev pub steps_of : State → Option Job → ℕ
-steps_of s None = 0
-steps_of s (Some job) = job.to_read + length (outstanding s.tables job) + 1
+abbrev pub steps_of : List Table → Option Job → ℕ
+steps_of tables None = 0
+steps_of tables (Some job) = job.to_read + length (outstanding tables job) + 1
 
 -- A job that begins may see as many as the blocks of its inputs, its outputs and one more.
 abbrev pub StepsAtFirst : Type 0
 StepsAtFirst =
     (s : State) (plan : Plan)
-    → steps_of s (Some (started plan)) ≡ sum_by (λ (t : Table). t.blocks) plan.inputs + length (planned s.tables plan) + 1
+    → steps_of s.tables (Some (started plan)) ≡ sum_by (λ (t : Table). t.blocks) plan.inputs + length (planned s.tables plan) + 1
 
 -- Each answer Worked leaves fewer than before it.
 abbrev pub WorkedLowersSteps : Type 0
 WorkedLowersSteps =
     (filter_bytes : FilterBytes) (s after : State) → Tend Ever filter_bytes s Worked after → (job : Job) × Runs s job
-    × (steps_of after after.job < steps_of s (Some job))
+    × (steps_of after.tables after.job < steps_of s.tables (Some job))
 
 -- No line leaves more.
 abbrev pub LinesRaiseNoSteps : Type 0
 LinesRaiseNoSteps =
     (filter_bytes : FilterBytes) (s : State) (request : Request)
-    → steps_of (answer filter_bytes s request).1 (answer filter_bytes s request).1.job ≤ steps_of s s.job
+    → steps_of (answer filter_bytes s request).1.tables (answer filter_bytes s request).1.job ≤ steps_of s.tables s.job
 
 -- a line, or a merge slice of the job that runs
 pub data Move : Type 0 where
@@ -173,10 +197,10 @@ pub data Move : Type 0 where
   Slice : Move
 
 -- From the one state these moves lead to the other: the lines are answered, and each merge slice is answered as worked.
-abbrev pub Moves : FilterBytes → List Move → State → State → Type 0
-Moves filter_bytes [] s t = s ≡ t
-Moves filter_bytes (Line request ∷ more) s t = Moves filter_bytes more (answer filter_bytes s request).1 t
-Moves filter_bytes (Slice ∷ more) s t = (after : State) × (job : Job) × (s.job ≡ Some job) × Tend Ever filter_bytes s Worked after × Moves filter_bytes more after t
+abbrev pub LeadTo : FilterBytes → List Move → State → State → Type 0
+LeadTo filter_bytes [] s t = s ≡ t
+LeadTo filter_bytes (Line request ∷ more) s t = LeadTo filter_bytes more (answer filter_bytes s request).1 t
+LeadTo filter_bytes (Slice ∷ more) s t = (after : State) × (job : Job) × (s.job ≡ Some job) × Tend Ever filter_bytes s Worked after × LeadTo filter_bytes more after t
 
 abbrev pub slices_in : List Move → ℕ
 slices_in [] = 0
@@ -189,5 +213,5 @@ abbrev pub JobEnds : Type 0
 JobEnds =
     (filter_bytes : FilterBytes) (s after t : State) (plan : Plan) (moves : List Move) → s.job ≡ None
     → choose s.tables ≡ Some plan → Tend Ever filter_bytes s Worked after
-    → Moves filter_bytes moves after t
+    → LeadTo filter_bytes moves after t
     → 1 + slices_in moves ≤ sum_by (λ (u : Table). u.blocks) plan.inputs + length (planned s.tables plan) + 1

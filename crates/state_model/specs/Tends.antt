@@ -1,7 +1,9 @@
 -- What a merge slice makes of a state: some of the work of the merge that runs.
-use Rattle.std.specs.Prelude.{◌≡◌, ◌≢◌, ◌⊎◌, ◌≤◌, ◌+◌, ℕ, nat_lt, ◌==◌, Bool, not, ◌&&◌, ◌||◌, if◌then◌else◌, List, [], ◌∷◌, ◌++◌, length, take, drop, filter, fold, Some, None, Result, Ok, Err}
+use Rattle.std.specs.Prelude.{◌≡◌, ◌≢◌, ◌⊎◌, ◌≤◌, ◌<◌, ◌+◌, ℕ, nat_lt, ◌==◌, Bool, not, ◌&&◌, ◌||◌, if◌then◌else◌, List, [], ◌∷◌, ◌++◌, length, take, drop, filter, fold, Option, Some, None, Result, Ok, Err, IsOk}
 use Rattle.std.specs.List.{list_any, sum_by}
 use Rattle.byte_fields.specs.declared.parts.Damage.{Damage}
+use Rattle.extent_model.specs.Extents.{Extent}
+use Rattle.filter_api.specs.declared.settings.Settings.{Settings}
 use Rattle.map_model.specs.Slices.{is_before}
 use Rattle.entry_model.specs.Entries.{Entry}
 use Rattle.state_model.specs.State.{State, Job, without_job, last_epoch}
@@ -19,9 +21,12 @@ use Rattle.line_model.specs.Replies.{Reply, LastEpoch, Full, Memory, Device, Dam
 abbrev pub started : Plan → Job
 started plan = record { inputs = plan.inputs; output = plan.output; to_read = sum_by (λ (t : Table). t.blocks) plan.inputs; written = [] }
 
--- the job that runs, or where none does a new one
+-- the job that runs among some tables, or where none does a new one
+abbrev pub IsRunning : List Table → Option Job → Job → Type 0
+IsRunning tables running job = (running ≡ Some job) ⊎ ((plan : Plan) × (running ≡ None) × (choose tables ≡ Some plan) × (job ≡ started plan))
+
 abbrev pub Runs : State → Job → Type 0
-Runs s job = (s.job ≡ Some job) ⊎ ((plan : Plan) × (s.job ≡ None) × (choose s.tables ≡ Some plan) × (job ≡ started plan))
+Runs s job = IsRunning s.tables s.job job
 
 abbrev pub with_job : State → Job → State
 with_job s job = record s { job = Some job }
@@ -30,19 +35,25 @@ with_job s job = record s { job = Some job }
 abbrev pub outstanding : List Table → Job → List (List Entry)
 outstanding tables job = drop (length job.written) (planned tables (plan_of_job job))
 
--- the next so many of them, placed
+-- the next so many of them, placed on a device of so many pages beside the extents that are taken
+abbrev pub next_of : FilterBytes → Settings → ℕ → List Extent → List Table → Job → ℕ → Result (List Table) NoRoom
+next_of filter_bytes settings pages taken tables job n = placed filter_bytes settings pages taken job.output (take n (outstanding tables job))
+
 abbrev pub next_placed : FilterBytes → State → Job → ℕ → Result (List Table) NoRoom
-next_placed filter_bytes s job n = placed filter_bytes s.settings s.pages (taken (with_job s job)) job.output (take n (outstanding s.tables job))
+next_placed filter_bytes s job n = next_of filter_bytes s.settings s.pages (taken (with_job s job)) s.tables job n
 
 -- the job goes on: fewer blocks are to read, more outputs are written, or both, or neither
-pub record Progresses (filter_bytes : FilterBytes) (s : State) (job later : Job) : Type 0 where
+pub record Advances (filter_bytes : FilterBytes) (settings : Settings) (pages : ℕ) (taken : List Extent) (tables : List Table) (job later : Job) : Type 0 where
   pub inputs : later.inputs ≡ job.inputs
   pub output : later.output ≡ job.output
   pub to_read : later.to_read ≤ job.to_read
   pub more : ℕ
   pub made : List Table
-  pub placed_so : next_placed filter_bytes s job more ≡ Ok made
+  pub placed_so : next_of filter_bytes settings pages taken tables job more ≡ Ok made
   pub written : later.written ≡ job.written ++ made
+
+abbrev pub Progresses : FilterBytes → State → Job → Job → Type 0
+Progresses filter_bytes s job later = Advances filter_bytes s.settings s.pages (taken (with_job s job)) s.tables job later
 
 -- nothing is to read, and all outputs are written
 pub record IsDone (tables : List Table) (job : Job) : Type 0 where
@@ -72,14 +83,20 @@ installed s job = record s { epoch = s.epoch + 1; tables = installed_tables s.ta
 
 -- ---- the merge slice
 
+-- Something may be written of a job: its next output, which has room, or where none is left its install, which has a next
+-- epoch.
+pub record MayWrite (filter_bytes : FilterBytes) (s : State) (job : Job) : Type 0 where
+  pub room : IsOk (next_placed filter_bytes s job 1)
+  pub epoch : outstanding s.tables job ≡ [] → s.epoch ≢ last_epoch
+
 -- what it is answered; no line is said of it
 pub data Tended : Type 0 where
   Idle : Tended
   Worked : Tended
   Refused : (why : Reply) → Tended
 
--- A merge slice is idle where no job runs and none is to be chosen. Else it works, or is refused and drops the job. `Cause`
--- says what must be so for what the state does not explain.
+-- A merge slice is idle where no job runs and none is to be chosen. Else it works, or is refused and drops the job. It reads
+-- while blocks are to read, and writes where it may. `Cause` says what must be so for what the state does not explain.
 pub data Tend (Cause : Why → Type 0) (filter_bytes : FilterBytes) (s : State) : Tended → State → Type 0 where
   idle : s.job ≡ None → choose s.tables ≡ None → Tend Cause filter_bytes s Idle s
   works : (job later : Job) → Runs s job → Progresses filter_bytes s job later → later ≢ job → Tend Cause filter_bytes s Worked (with_job s later)
@@ -90,7 +107,7 @@ pub data Tend (Cause : Why → Type 0) (filter_bytes : FilterBytes) (s : State) 
   no_room : (job later : Job) (refusal : NoRoom) → Runs s job → Progresses filter_bytes s job later → next_placed filter_bytes s later 1 ≡ Err refusal
       → Tend Cause filter_bytes s (Refused (Full refusal.need refusal.gap)) (without_job s)
   no_memory : Cause NoMemory → Tend Cause filter_bytes s (Refused Memory) (without_job s)
-  read_failed : (job : Job) → Runs s job → Cause ReadFailed → Tend Cause filter_bytes s (Refused Device) (without_job s)
-  damage_met : (job : Job) (damage : Damage) → Runs s job → Cause (DamageMet damage) → Tend Cause filter_bytes s (Refused (Damaged damage)) (without_job s)
-  write_failed : (job : Job) (after : State) → Runs s job → Cause WriteFailed → IsLeft filter_bytes s after → state_map after ≡ state_map s
+  read_failed : (job : Job) → Runs s job → 0 < job.to_read → Cause ReadFailed → Tend Cause filter_bytes s (Refused Device) (without_job s)
+  damage_met : (job : Job) (damage : Damage) → Runs s job → 0 < job.to_read → Cause (DamageMet damage) → Tend Cause filter_bytes s (Refused (Damaged damage)) (without_job s)
+  write_failed : (job : Job) (after : State) → Runs s job → MayWrite filter_bytes s job → Cause WriteFailed → IsLeft filter_bytes s after → state_map after ≡ state_map s
       → Tend Cause filter_bytes s (Refused Device) after

@@ -1,14 +1,19 @@
-// The definitions, shown by examples. Each computes.
-ghost use Rattle.std.specs.Prelude.{◌≡◌, true, false, [], ◌∷◌, ◌++◌, map, replicate, Some, None, codes};
+//! The definitions, shown by examples. Each computes.
+ghost use Rattle.std.specs.Prelude.{◌≡◌, true, false, ⊤, [], ◌∷◌, ◌++◌, map, replicate, Some, None, codes};
 ghost use Rattle.byte_fields.specs.declared.parts.Part.TheVariants.{Block};
 ghost use Rattle.byte_fields.specs.declared.parts.Damage.TheVariants.{Sum};
+ghost use Rattle.entry_model.specs.Entries.{put_entry};
 ghost use Rattle.map_model.specs.SortedMap.{get};
+ghost use Rattle.state_model.specs.Script.{Answers, WentOn};
+ghost use Rattle.state_model.specs.Sound.{IsLeft};
+ghost use Rattle.state_model.specs.Steps.{Reads, TakesMemory, Writes, said_before};
+ghost use Rattle.state_model.specs.Tends.{started, with_job};
 ghost use Rattle.state_model.specs.View.{state_map};
 ghost use Rattle.line_model.specs.Limits.{key_limit, bound_limit};
 ghost use Rattle.state_model.specs.Merges.{choose, is_deepest, level_limit};
 ghost use Rattle.state_model.specs.Bounds.{get_bound, seek_bound};
 ghost use Rattle.state_model.specs.Play.{played, played_in_slices};
-ghost use Rattle.line_model.specs.Replies.{Done, Value, Missing, At, Pairs, End, Counted, About, Explained, Bye, Full, LongKey, ManyTables, LastEpoch, Damaged, at_words, sum_word, text_of};
+ghost use Rattle.line_model.specs.Replies.{Done, Value, Missing, At, Pairs, End, Counted, About, Explained, Bye, Full, LongKey, ManyTables, LastEpoch, Device, Damaged, at_words, sum_word, text_of};
 ghost use Rattle.line_model.specs.Requests.{Put, Del, Get, Seek, Range, Count, Estimate, Explain, Flush, Compact, Quit, Bad, request_of};
 ghost use Rattle.state_model.specs.Examples.{small_store, one_byte, key, put_one, four_tables, three_tables, aa1_and_ab1, tombstone_over_a_value, two_values, table_at, store_with, pages_of_plan, place_of};
 
@@ -61,4 +66,53 @@ pub fn reads_between_keys()
     ensures both_ends_are_counted { (played one_byte small_store (aa1_and_ab1 ++ Count (codes "aa1") (codes "ab1") ∷ Count (codes "ab1") (codes "aa1") ∷ Estimate (codes "ab1") (codes "aa1") ∷ [])).0 ≡ Done ∷ Done ∷ Done ∷ Counted 2 ∷ Counted 0 ∷ About 0 ∷ [] }
     ensures the_memory_is_estimated_too { (played one_byte small_store (aa1_and_ab1 ++ Del (codes "aa7") ∷ Estimate (codes "aa5") (codes "ab0") ∷ [])).0 ≡ Done ∷ Done ∷ Done ∷ Done ∷ About 3 ∷ [] }
     ensures pairs_between_two_keys { (played one_byte small_store (Put (key 0x61) [] ∷ Put (key 0x62) (1 ∷ []) ∷ Range [] (key 0x7a) 1 ∷ Range [] (key 0x7a) 0 ∷ Seek (key 0x63) None ∷ Seek (key 0x62) (Some (key 0x61)) ∷ Seek [] None ∷ Quit ∷ Flush ∷ [])).0 ≡ Done ∷ Done ∷ Pairs ((key 0x61, []) ∷ []) (End 1) ∷ Pairs [] (End 0) ∷ Missing ∷ Missing ∷ At (key 0x61) [] ∷ Bye ∷ [] }
+{}
+
+/// Where want of memory, a failed read and a failed write may be met, and what these leave.
+#[tactic(auto, unfolding(block_model::specs::Pages::pages_for, block_model::specs::Pages::block_length, block_model::specs::Pages::block_pages, block_model::specs::Pages::blocks_of, block_model::specs::Pages::data_pages, block_model::specs::Pages::index_length, entry_model::specs::Entries::filled, entry_model::specs::Entries::gap, crate::specs::State::last_epoch))]
+pub fn where_faults_are_met()
+    ensures a_get_reads_a_table { Reads (played one_byte small_store two_values).1 (Get (key 0x61)) }
+    ensures but_not_where_the_memory_has_the_key { Reads (played one_byte small_store (two_values ++ put_one 0x61 ∷ [])).1 (Get (key 0x61)) → ⊥ }
+    ensures a_range_of_no_pairs_reads_nothing { Reads (played one_byte small_store two_values).1 (Range [] (key 0x7a) 0) → ⊥ }
+    ensures a_flush_of_nothing_takes_no_memory { TakesMemory small_store Flush → ⊥ }
+    ensures one_of_an_entry_writes { Writes one_byte (played one_byte small_store (put_one 0x61 ∷ [])).1 Flush }
+    ensures but_not_at_the_last_epoch { Writes one_byte (record small_store { epoch = 18446744073709551615; log = put_entry (key 0x61) (1 ∷ []) ∷ [] }) Flush → ⊥ }
+    ensures a_range_has_said_its_first_pairs { said_before (played one_byte small_store (put_one 0x61 ∷ put_one 0x62 ∷ [])).1 (Range [] (key 0x7a) 2) Device (Pairs ((key 0x61, 1 ∷ []) ∷ []) Device) }
+    ensures a_failed_write_leaves_the_store_or_another { IsLeft one_byte small_store small_store }
+    ensures but_no_job { IsLeft one_byte small_store (with_job small_store (started (record { inputs = []; output = 1 }))) → ⊥ }
+    ensures a_flush_goes_on { WentOn (λ why. ⊥) one_byte (λ said s. ⊤) 0 small_store (codes "flush" ∷ []) (codes "ok" ++ 10 ∷ []) small_store }
+{}
+
+/// What reads: what a filter admits, and what it does not deny, such as an open seek.
+#[tactic(auto, unfolding(block_model::specs::Pages::pages_for, block_model::specs::Pages::block_length, block_model::specs::Pages::block_pages, block_model::specs::Pages::blocks_of, block_model::specs::Pages::data_pages, block_model::specs::Pages::index_length, entry_model::specs::Entries::filled, entry_model::specs::Entries::gap, crate::specs::State::last_epoch))]
+pub fn where_filters_admit()
+    ensures a_get_that_the_filter_admits { Reads (played one_byte small_store aa1_and_ab1).1 (Get (codes "aa9")) }
+    ensures not_one_that_it_denies { Reads (played one_byte small_store aa1_and_ab1).1 (Get (codes "ac0")) → ⊥ }
+    ensures nor_one_below_all_keys { Reads (played one_byte small_store aa1_and_ab1).1 (Get (codes "aa0")) → ⊥ }
+    ensures a_seek_that_it_admits { Reads (played one_byte small_store aa1_and_ab1).1 (Seek (codes "aa5") (Some (codes "ab0"))) }
+    ensures not_a_seek_that_it_denies { Reads (played one_byte small_store aa1_and_ab1).1 (Seek (codes "ac0") (Some (codes "ad0"))) → ⊥ }
+    ensures an_open_seek { Reads (played one_byte small_store aa1_and_ab1).1 (Seek (codes "ac0") None) }
+    ensures a_range_that_it_admits { Reads (played one_byte small_store aa1_and_ab1).1 (Range (codes "aa5") (codes "ab0") 1) }
+    ensures not_a_range_that_it_denies { Reads (played one_byte small_store aa1_and_ab1).1 (Range (codes "ac0") (codes "ad0") 1) → ⊥ }
+    ensures a_count_that_it_admits { Reads (played one_byte small_store aa1_and_ab1).1 (Count (codes "aa5") (codes "ab0")) }
+    ensures not_a_count_that_it_denies { Reads (played one_byte small_store aa1_and_ab1).1 (Count (codes "ac0") (codes "ad0")) → ⊥ }
+    ensures a_compaction_of_a_table { Reads (played one_byte small_store aa1_and_ab1).1 Compact }
+{}
+
+/// What writes, and what takes memory.
+#[tactic(auto, unfolding(block_model::specs::Pages::pages_for, block_model::specs::Pages::block_length, block_model::specs::Pages::block_pages, block_model::specs::Pages::blocks_of, block_model::specs::Pages::data_pages, block_model::specs::Pages::index_length, entry_model::specs::Entries::filled, entry_model::specs::Entries::gap, crate::specs::State::last_epoch))]
+pub fn where_something_is_written()
+    ensures a_put { Writes one_byte small_store (put_one 0x61) }
+    ensures a_del { Writes one_byte small_store (Del (key 0x61)) }
+    ensures a_compaction { Writes one_byte (played one_byte small_store (put_one 0x61 ∷ [])).1 Compact }
+    ensures not_one_at_the_last_epoch { Writes one_byte (record small_store { epoch = 18446744073709551615; log = put_entry (key 0x61) (1 ∷ []) ∷ [] }) Compact → ⊥ }
+    ensures which_takes_no_memory { TakesMemory (record small_store { epoch = 18446744073709551615; log = put_entry (key 0x61) (1 ∷ []) ∷ [] }) Compact → ⊥ }
+{}
+
+/// Lines that were answered, the last with a reply that ends a script.
+#[tactic(auto, unfolding(block_model::specs::Pages::pages_for, block_model::specs::Pages::block_length, block_model::specs::Pages::block_pages, block_model::specs::Pages::blocks_of, block_model::specs::Pages::data_pages, block_model::specs::Pages::index_length, entry_model::specs::Entries::filled, entry_model::specs::Entries::gap, crate::specs::State::last_epoch, hex::specs::Hex::decode_pairs))]
+pub fn lines_that_were_answered()
+    ensures a_put_goes_on { WentOn (λ why. ⊥) one_byte (λ said s. ⊤) 0 small_store (codes "put 61 62" ∷ []) (codes "ok" ++ 10 ∷ []) (played one_byte small_store (Put (key 0x61) (0x62 ∷ []) ∷ [])).1 }
+    ensures and_a_quit_is_answered { Answers (λ why. ⊥) one_byte (λ said s. ⊤) 0 small_store (codes "put 61 62" ∷ codes "quit" ∷ []) (codes "ok" ++ 10 ∷ codes "bye" ++ 10 ∷ []) (played one_byte small_store (Put (key 0x61) (0x62 ∷ []) ∷ [])).1 }
+    ensures a_fault_answers_in_any_state { Answers (λ why. ⊤) one_byte (λ said s. ⊥) 0 (played one_byte small_store two_values).1 (codes "get 61" ∷ []) (codes "device" ++ 10 ∷ []) (played one_byte small_store two_values).1 }
 {}

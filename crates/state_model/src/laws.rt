@@ -1,4 +1,4 @@
-// The laws of the definitions; the functions do nothing.
+//! The laws of the definitions; the functions do nothing.
 ghost use Rattle.state_model.specs.Laws.{ViewLaws, ChangeLaws, InstallLaws, MergeLaws, ChoiceLaws, OutputLaws};
 
 /// Law: the map of a sound state has at each key what its view says: the memory first, then the tables in their order.

@@ -20,9 +20,14 @@ mod reads;
 mod refusals;
 mod soundness;
 
-pub use faults::{device_is_kept, faults_are_met, no_job_is_left};
+pub use faults::{
+    device_is_kept, faults_are_met, faults_have_causes, no_job_is_left, slices_read_blocks,
+    slices_write, steps_are_answers,
+};
 pub use laws::{change_laws, choice_laws, install_laws, merge_laws, output_laws, view_laws};
-pub use playing::{last_replies, play_laws, played_texts, slices_are_allowed};
+pub use playing::{
+    last_replies, play_laws, played_texts, scripts_go_on, scripts_to_last, slices_are_allowed,
+};
 pub use reads::{estimate_is_enough, gets_are_bounded, held_is_searched, stepped_are_deleted};
 pub use refusals::refusal_laws;
 pub use soundness::{

@@ -1,6 +1,6 @@
-// A run that computes, against the relation. The functions do nothing.
+//! A run that computes, against the relation. The functions do nothing.
 ghost use Rattle.std.specs.Prelude.{◌≡◌, [], ◌∷◌, ◌++◌, map, codes};
-ghost use Rattle.state_model.specs.PlayLaws.{PlayLaws, SlicesAreAllowed, played_text};
+ghost use Rattle.state_model.specs.PlayLaws.{PlayLaws, SlicesAreAllowed, played_text, ScriptsGoOn, ScriptsToLast};
 ghost use Rattle.line_model.specs.Replies.{Done, Pairs, Bye, Memory, Device, Damaged};
 ghost use Rattle.state_model.specs.Script.{Onward, Over, AtQuit, AtDevice, AtDamage, turn_of, turn_of_slice};
 ghost use Rattle.state_model.specs.Tends.{Idle, Refused};
@@ -17,6 +17,16 @@ pub fn play_laws()
 /// Law: a slice of one block or more is a merge slice that ends no script, whether a job runs or is chosen.
 pub fn slices_are_allowed()
     ensures { SlicesAreAllowed }
+{}
+
+/// Law: first lines that went on, and a script from the state behind them, are a script.
+pub fn scripts_go_on()
+    ensures { ScriptsGoOn }
+{}
+
+/// Law: a script to its last line has answered all lines.
+pub fn scripts_to_last()
+    ensures { ScriptsToLast }
 {}
 
 /// The text of lines that are played.

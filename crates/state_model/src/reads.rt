@@ -1,4 +1,4 @@
-// The laws of reads; the functions do nothing.
+//! The laws of reads; the functions do nothing.
 ghost use Rattle.state_model.specs.ReadLaws.{HeldIsSearched, GetsAreBounded, SteppedAreDeleted, EstimateIsEnough};
 
 /// Law: a sound table that has an entry of a key is searched for it, and its filter denies no bounds around one.

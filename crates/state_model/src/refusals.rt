@@ -1,4 +1,4 @@
-// The law of the refusals; the function does nothing.
+//! The law of the refusals; the function does nothing.
 ghost use Rattle.state_model.specs.Refusals.{RefusalLaws};
 
 /// Law: a line is refused by the first limit that it breaks, and a change within the limits by the first cause that holds:

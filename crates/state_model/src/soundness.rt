@@ -1,5 +1,5 @@
-// The laws of soundness; the functions do nothing.
-ghost use Rattle.state_model.specs.SoundLaws.{PlacedAreLaid, NewIsSound, FlushKeepsSound, WriteKeepsSound, CompactionKeepsSound, WorkKeepsSound, DropKeepsSound, SliceKeepsSound, SliceKeepsMap, NeverTends, NeverSteps, PlayedIsSound, LinesAreOfBytes, LineKeepsSound, StepsAtFirst, WorkedLowersSteps, LinesRaiseNoSteps, JobEnds, ScriptsKeepSound, LimitsAreKept, KeysAreAList};
+//! The laws of soundness; the functions do nothing.
+ghost use Rattle.state_model.specs.SoundLaws.{PlacedAreLaid, NewIsSound, FlushKeepsSound, WriteKeepsSound, CompactionKeepsSound, WorkKeepsSound, DropKeepsSound, SliceKeepsSound, SliceKeepsMap, NeverTends, NeverSteps, PlayedIsSound, LinesAreOfBytes, SpeakingAsks, LineKeepsSound, StepsAtFirst, WorkedLowersSteps, LinesRaiseNoSteps, JobEnds, ScriptsKeepSound, LimitsAreKept, KeysAreAList};
 
 /// Law: tables that are placed are on the device, and apart from one another and from what is taken.
 pub fn places_are_free()
@@ -40,11 +40,13 @@ pub fn any_cause()
     ensures steps { NeverSteps }
 {}
 
-/// Law: whatever a line is answered leaves a sound state, and so do all lines that are played.
+/// Law: whatever a line is answered leaves a sound state, and so do all lines that are played. All keys, values and bounds
+/// of a line are bytes.
 pub fn lines_keep_sound()
     ensures line { LineKeepsSound }
     ensures played { PlayedIsSound }
     ensures bytes { LinesAreOfBytes }
+    ensures asks { SpeakingAsks }
 {}
 
 /// Law: a job of so many blocks and so many outputs sees at most these and one more answers of a merge slice that worked.
@@ -55,13 +57,14 @@ pub fn jobs_end()
     ensures ends { JobEnds }
 {}
 
-/// Law: each state of a script from a sound one is sound, and so is the state behind some first lines.
+/// Law: each state of a script from a sound one is sound, and so is the state behind some first lines, and behind the reply
+/// to the next.
 pub fn scripts_keep_sound()
     ensures { ScriptsKeepSound }
 {}
 
 /// Law: a state of more tables than the most, of a log that is full, or with a table before the first page of tables is not
-/// sound.
+/// sound. A flush is refused by the most tables and by no fewer.
 pub fn limits_are_kept()
     ensures { LimitsAreKept }
 {}

@@ -2,5 +2,6 @@ pub mod Shown
 pub mod Blocks
 pub mod OneTable
 pub mod Written
+pub mod Decided
 pub mod Kept
 pub mod Sound

@@ -1,5 +1,5 @@
 -- The parts of a table have no damage, and a filter part has one at most.
-use Rattle.std.proofs.Common.{◌≡◌, ◌+◌, ◌*◌, ℕ, List, [], ◌∷◌, length, refl, sym, ap, ◌∙◌, subst, arith}
+use Rattle.std.proofs.Common.{◌≡◌, ◌≢◌, ◌+◌, ◌*◌, ℕ, List, [], ◌∷◌, length, refl, sym, ap, ◌∙◌, subst, Bool, false, cond, arith}
 use Rattle.std.proofs.lemmas.Bool.{cond-true, eq-eqb}
 use Rattle.std.proofs.lemmas.List.{length-map}
 use Rattle.std.specs.Prelude.{flat_map, map, Option, Some, None, ◌==◌}
@@ -29,7 +29,7 @@ use Rattle.block_model.proofs.IndexesRead.{index_again}
 use Rattle.block_model.proofs.Lengths.{block_fills}
 use Rattle.table_model.specs.Damage.{AreSoundBlocks, IsSoundFilter, block_damage, block_part, filter_part, index_damage, index_part, other_leaves, other_sum, other_widths, no_spelling, part_damage}
 use Rattle.table_model.specs.Images.{IsFilterOfKeys, IsTableAt, index_of_blocks}
-use Rattle.table_model.specs.Laws.{BlocksHaveNone, FilterHasNone, FilterIsOfTheKeys, IndexHasNone, OneFilterDamage, SoundFilterHasNone}
+use Rattle.table_model.specs.Laws.{BlockRules, BlocksHaveNone, FilterHasNone, FilterIsOfTheKeys, FilterRules, IndexHasNone, IndexRules, OneFilterDamage, SoundFilterHasNone}
 use Rattle.table_model.proofs.OneTable.{rows_of_index}
 use Rattle.table_model.proofs.Shown.{shown_is, shown_parts}
 
@@ -145,3 +145,35 @@ sound_filter_has_none spelling first_fault settings row image _ one sound (other
 sound_filter_has_none spelling first_fault settings row image _ one sound (other_widths h r c ls same is many a) =
     let alike = same_many spelling one is sound.spelled in
     a (record { hash = alike.hash_width; real = alike.real_width })
+
+-- the places of the rules of a filter
+pub filter_rules : FilterRules
+filter_rules spelling first_fault settings row image = record { sum = other_sum; rule = no_spelling; leaves = other_leaves; widths = other_widths }
+
+-- ---- the damage of an index and of a block
+
+differs : (m n : ℕ) → m ≢ n → (m == n) ≡ false
+differs m n e = grind arith
+
+part_other : (p : Part) (at kept : ℕ) (bytes : Bytes) (fault : Option Fault) → kept ≢ fnv_of bytes → part_damage p at kept bytes fault ≡ Some (damage.Sum p at kept (fnv_of bytes))
+part_other p at kept bytes fault other =
+    ap (λ (b : Bool). cond b (option_map (λ (f : Fault). damage.Shape p (at + f.place) f.rule) fault) (Some (damage.Sum p at kept (fnv_of bytes)))) (differs kept (fnv_of bytes) other)
+
+part_broken : (p : Part) (at kept : ℕ) (bytes : Bytes) (fault : Option Fault) (f : Fault) → kept ≡ fnv_of bytes → fault ≡ Some f
+    → part_damage p at kept bytes fault ≡ Some (damage.Shape p (at + f.place) f.rule)
+part_broken p at kept bytes fault f same broken =
+    cond-true (kept == fnv_of bytes) (option_map (λ (g : Fault). damage.Shape p (at + g.place) g.rule) fault) (Some (damage.Sum p at kept (fnv_of bytes))) (eq-eqb kept (fnv_of bytes) same)
+    ∙ ap (option_map (λ (g : Fault). damage.Shape p (at + g.place) g.rule)) broken
+
+pub index_rules : IndexRules
+index_rules row image =
+    let bytes = index_part row image in
+    let fault = index_fault row.data_pages bytes in
+    let at = byte_of_page (index_page row) in
+    record { sum = part_other part.Index at row.index_sum bytes fault; rule = part_broken part.Index at row.index_sum bytes fault }
+
+pub block_rules : BlockRules
+block_rules page row image =
+    let bytes = block_part page row image in
+    let at = byte_of_page page in
+    record { sum = part_other part.Block at row.sum bytes (block_fault bytes); rule = part_broken part.Block at row.sum bytes (block_fault bytes) }

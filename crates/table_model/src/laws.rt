@@ -1,5 +1,5 @@
-// The laws of tables. They are proved and never called.
-ghost use Rattle.table_model.specs.Laws.{BlocksHaveNone, FilterHasNone, FilterIsOfTheKeys, IndexHasNone, OneFilterDamage, OneTable, SoundFilterHasNone, TableIsKept, TableStands};
+//! The laws of tables. They are proved and never called.
+ghost use Rattle.table_model.specs.Laws.{BlockRules, BlocksHaveNone, FilterHasNone, FilterIsOfTheKeys, FilterIsSoundOrDamaged, FilterRules, IndexHasNone, IndexRules, OneFilterDamage, OneTable, SoundFilterHasNone, TableIsKept, TableStands};
 
 /// A row's pages spell one table at most. Where the blocks, the index and the filter of some entries stand at the pages of
 /// the row that is made for them, it is the table of these entries.
@@ -22,8 +22,18 @@ pub fn tables_have_no_damage()
 {}
 
 /// A filter part has one damage at most, and none where it keeps its sum, spells as many leaves as the row has entries,
-/// and has the widths of the settings.
+/// and has the widths of the settings; it is one of the two, where the kind of filter can tell what spells nothing. Each
+/// rule has its place.
 pub fn a_filter_has_one_damage()
     ensures one { OneFilterDamage }
     ensures none { SoundFilterHasNone }
+    ensures one_of_two { FilterIsSoundOrDamaged }
+    ensures placed { FilterRules }
+{}
+
+/// What is wrong with an index and with a block: another sum, at the part's first byte, before any rule; else the first
+/// broken rule, at its place.
+pub fn damage_is_placed()
+    ensures index { IndexRules }
+    ensures block { BlockRules }
 {}

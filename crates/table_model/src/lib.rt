@@ -7,7 +7,8 @@
 //! filter is a parameter: how it spells, and the first fault of bytes that spell nothing.
 //!
 //! Nothing here runs. Whoever builds, opens or reads a table is proved against these definitions; the bytes of blocks and
-//! indexes are those of `block_model`. The functions have no body: each has laws as its contract.
+//! indexes are those of `block_model`. The functions have no body: each has laws or examples as its
+//! contract.
 //!
 //! ```text
 //! row      level 1, first page 204, a page of blocks, one of the index, one of the filter
@@ -15,8 +16,10 @@
 //! ```
 #![tactic(auto)]
 
+pub mod examples;
 mod laws;
 
 pub use laws::{
-    a_filter_has_one_damage, a_row_has_one_table, tables_are_kept, tables_have_no_damage,
+    a_filter_has_one_damage, a_row_has_one_table, damage_is_placed, tables_are_kept,
+    tables_have_no_damage,
 };

@@ -15,11 +15,11 @@ returns-then-last_has_room c =
     rw many (on_ok_weaker c.push_copy.result
     (λ pushed. seen_added vec_items blocks c.index_mut.result.now c.push_copy.new.list c.args.entry.now room
     (pushed ∙ ap (λ (b : List Entry). b ++ (c.args.entry.now ∷ [])) is))
-    c.push_copy.ensures.pushed)
+    c.push_copy.ensures.added)
 
 pub returns : goal.returns
 returns c =
     let room = ap (λ bs. last_has_room (map vec_items bs) c.args.entry.now) (sym c.as_slice.ensures.value) ∙ sym c.if-last_has_room.ensures in
     ap (map vec_items) c.in_ok-push.ensures.items
     ∙ seen_begun vec_items c.args.blocks.now.items c.push_copy-2.new.list c.args.entry.now room
-    (c.in_ok-push_copy.ensures.pushed ∙ ap (λ (b : List Entry). b ++ (c.args.entry.now ∷ [])) c.new-block.ensures.items)
+    (c.in_ok-push_copy.ensures.added ∙ ap (λ (b : List Entry). b ++ (c.args.entry.now ∷ [])) c.new-block.ensures.items)

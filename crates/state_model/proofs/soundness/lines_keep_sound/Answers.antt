@@ -1,4 +1,4 @@
-use Rattle.state_model.proofs.OfBytes.{lines_of_bytes}
+use Rattle.state_model.proofs.OfBytes.{lines_of_bytes, speaking_asks}
 use Rattle.state_model.proofs.SoundLines.{step_sound, played_sound}
 use Rattle.state_model.proofs.soundness.lines_keep_sound.Goals as goal
 
@@ -10,3 +10,6 @@ returns-clause-played c = played_sound
 
 pub returns-clause-bytes : goal.returns-clause-bytes
 returns-clause-bytes c = lines_of_bytes
+
+pub returns-clause-asks : goal.returns-clause-asks
+returns-clause-asks c = speaking_asks

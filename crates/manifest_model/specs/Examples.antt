@@ -1,4 +1,4 @@
--- Versions by which the definitions are tried.
+-- Versions by which the definitions are shown.
 use Rattle.std.specs.Prelude.{ℕ, List, [], ◌∷◌, set, Option, Some}
 use Rattle.map_model.specs.SortedMap.{Bytes}
 use Rattle.byte_fields.specs.declared.parts.Row.{Row}
@@ -32,19 +32,19 @@ abbrev pub table_of_none : ℕ → ℕ → Row
 table_of_none level first = record (table level first) { entries = 0 }
 
 -- the store with these tables, at epoch 6
-abbrev pub with_tables : List Row → Version
-with_tables rows = record { hash_bits = 0; real_bits = 0; ratio = 64; pages = 512; epoch = 6; log_page = 128; rows = rows }
+abbrev pub version_with : List Row → Version
+version_with rows = record { hash_bits = 0; real_bits = 0; ratio = 64; pages = 512; epoch = 6; log_page = 128; rows = rows }
 
-abbrev pub merged : Version
-merged = with_tables (table 1 204 ∷ [])
+abbrev pub one_table : Version
+one_table = version_with (table 1 204 ∷ [])
 
--- the body of the merged store with another byte at a place, and the sum of that
-unfoldable pub broken : ℕ → ℕ → Bytes
-broken place byte = summed (set (front_bytes merged) place byte)
+-- the body of that with another byte at a place, and its sum
+unfoldable pub broken_body : ℕ → ℕ → Bytes
+broken_body place byte = summed (set (front_bytes one_table) place byte)
 
 -- with another byte at two places
-unfoldable pub broken_twice : ℕ → ℕ → ℕ → ℕ → Bytes
-broken_twice place byte next other = summed (set (set (front_bytes merged) place byte) next other)
+unfoldable pub twice_broken : ℕ → ℕ → ℕ → ℕ → Bytes
+twice_broken place byte next other = summed (set (set (front_bytes one_table) place byte) next other)
 
 abbrev pub keys_at : ℕ → ℕ → ℕ → KeyRange
 keys_at level least greatest = record { level = level; least = least ∷ []; greatest = greatest ∷ [] }

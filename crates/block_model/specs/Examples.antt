@@ -1,4 +1,4 @@
--- Entries by which the definitions are tried.
+-- Entries by which the definitions are shown.
 use Rattle.std.specs.Prelude.{ℕ, List, [], ◌∷◌, replicate, set, codes}
 use Rattle.byte_fields.specs.declared.parts.Row.{Row}
 use Rattle.map_model.specs.SortedMap.{Bytes}
