@@ -1,0 +1,70 @@
+-- The table that parts make is the one that is opened from them.
+use Rattle.std.proofs.Common.{◌≡◌, ◌≤◌, ℕ, List, length, refl, sym, ap, ◌∙◌, subst}
+use Rattle.std.proofs.lemmas.List.{length-map}
+use Rattle.byte_fields.specs.Sums.{fnv_of}
+use Rattle.byte_fields.specs.declared.parts.Row.{Row}
+use Rattle.disk_trait.specs.Image.{Image}
+use Rattle.filter_api.specs.Spellings.{MayStand, Spelling}
+use Rattle.filter_api.specs.declared.settings.Settings.{Settings}
+use Rattle.filter_model.specs.Leaves.{Leaf}
+use Rattle.map_model.specs.SortedMap.{Bytes}
+use Rattle.entry_model.specs.Entries.{Entry, keys_of}
+use Rattle.block_model.specs.Index.{Index, index_bytes, index_of, row_pages}
+use Rattle.block_model.specs.IndexReading.{index_fault, index_in}
+use Rattle.block_model.specs.Pages.{data_pages, index_length, pages_for}
+use Rattle.block_model.specs.Places.{byte_of_page, end_page, filter_page, index_page}
+use Rattle.block_model.proofs.IndexesRead.{index_again}
+use Rattle.block_model.proofs.Lengths.{index_long}
+use Rattle.block_model.proofs.TableIndex.{index_sound}
+use Rattle.table_model.specs.Damage.{filter_part, index_part}
+use Rattle.table_model.specs.Written.{ArePartsShown, row_for}
+use Rattle.table_model.proofs.Shown.{shown_is}
+use Rattle.table_file.specs.Building.{filter_bytes_of}
+use Rattle.table_file.specs.Opened.{IsOfRow, IsOpen}
+use Rattle.table_file.specs.Parts.{ArePartsOf, Filter, filter_of}
+
+module _ (spelling : Spelling) (built_cutoff : ℕ → List Leaf → ℕ) (settings : Settings) (entries : List Entry) (count : ℕ) (blocks : Bytes) (index : Index) (index_bytes_there : Bytes)
+    (filter : Filter) (filter_there : Bytes) (parts : ArePartsOf spelling built_cutoff settings entries count blocks index index_bytes_there filter filter_there) (level first : ℕ) where
+  abbrev bytes : Bytes
+  bytes = filter_bytes_of spelling built_cutoff settings (keys_of entries)
+
+  abbrev row : Row
+  row = row_for level first entries (filter_bytes_of spelling built_cutoff settings (keys_of entries))
+
+  pub of_row : (r : Row) → r ≡ row_for level first entries (filter_bytes_of spelling built_cutoff settings (keys_of entries)) → end_page r ≤ 16777216 → IsOfRow (record { row = r; index = index; filter = filter })
+  unfolding row_for
+  of_row r is within =
+      let pages = subst (λ (x : Row). (x.index_pages ≡ pages_for x.index_len) × (x.filter_pages ≡ pages_for x.filter_len)) (sym is) (refl, refl) in
+      record {
+        fits = record { index_pages = pages.0; filter_pages = pages.1; within = within };
+        pages = ap (λ (x : Index). row_pages x.rows) parts.index_is ∙ (index_sound entries parts.table).all_pages ∙ sym (ap (λ (x : Row). x.data_pages) is);
+      }
+
+  module _ (image : Image) (shown : ArePartsShown row entries bytes image) where
+    index_there : index_part row image ≡ index_bytes (index_of entries)
+    unfolding row_for
+    index_there = shown_is (byte_of_page (index_page row)) (index_length entries) (index_bytes (index_of entries)) image (index_long entries) shown.index
+
+    filter_is_there : filter_part row image ≡ bytes
+    unfolding row_for
+    filter_is_there = shown_is (byte_of_page (filter_page row)) (length bytes) bytes image refl shown.filter
+
+    made_open : IsOpen spelling (record { row = row; index = index_of entries; filter = filter_of built_cutoff settings (keys_of entries) }) image
+    unfolding row_for
+    made_open =
+        let again = index_again (data_pages entries) (index_of entries) (index_sound entries parts.table) in
+        let stand = subst (λ (f : Filter). MayStand f.hash_bits f.real_bits f.cutoff f.leaves) parts.filter_is parts.may_stand in
+        record {
+          index_sum = ap fnv_of (sym index_there);
+          index_kept = ap (index_fault (data_pages entries)) index_there ∙ again.0;
+          index_is = sym (ap index_in index_there ∙ again.1);
+          filter_sum = ap fnv_of (sym filter_is_there);
+          filter_is = record { may_stand = stand; bytes_are = filter_is_there };
+          many = length-map (keys_of entries) _ ∙ length-map entries _;
+        }
+
+  pub table_open : (r : Row) → r ≡ row_for level first entries (filter_bytes_of spelling built_cutoff settings (keys_of entries)) → (image : Image)
+      → ArePartsShown r entries (filter_bytes_of spelling built_cutoff settings (keys_of entries)) image
+      → IsOpen spelling (record { row = r; index = index_of entries; filter = filter_of built_cutoff settings (keys_of entries) }) image
+  table_open r is image =
+      subst (λ (x : Row). ArePartsShown x entries bytes image → IsOpen spelling (record { row = x; index = index_of entries; filter = filter_of built_cutoff settings (keys_of entries) }) image) (sym is) (made_open image)

@@ -1,0 +1,10 @@
+mod Keys
+mod Builders
+mod IndexWalks
+mod IntoTable
+mod Damages
+mod Lookups
+mod PartsMade
+mod Searches
+mod Stands
+mod Written

@@ -1,0 +1,97 @@
+-- What the faults of reading a table say.
+use Rattle.std.specs.Prelude.{◌≡◌, ◌≢◌, ◌⊎◌, ◌≤◌, ℕ, Option, Some, None}
+use Rattle.byte_fields.specs.Faults.{Fault, fault}
+use Rattle.byte_fields.specs.Sums.{fnv_of}
+use Rattle.byte_fields.specs.declared.parts.Damage.{Damage}
+use Rattle.byte_fields.specs.declared.parts.Damage.TheVariants as damage
+use Rattle.byte_fields.specs.declared.parts.Part.{Part}
+use Rattle.byte_fields.specs.declared.parts.Row.{Row}
+use Rattle.disk_trait.specs.Fault.{IsFaultOf}
+use Rattle.disk_trait.specs.Image.{Image}
+use Rattle.disk_trait.specs.World.{World, Rose}
+use Rattle.disk_trait.specs.declared.fault.Op.TheVariants.{Read}
+use Rattle.filter_api.specs.Spellings.{Spelling}
+use Rattle.filter_api.specs.declared.errors.FilterFault.{FilterFault}
+use Rattle.filter_api.specs.declared.settings.Settings.{Settings}
+use Rattle.map_model.specs.SortedMap.{Bytes}
+use Rattle.block_model.specs.Places.{byte_of_page, filter_page, index_page}
+use Rattle.table_model.specs.Damage.{IsFilterDamage, index_damage}
+use Rattle.table_file.specs.declared.index_fault.IndexFault.{IndexFault}
+use Rattle.table_file.specs.declared.index_fault.IndexFault.TheVariants as index
+use Rattle.table_file.specs.declared.fault.TableFault.{TableFault}
+use Rattle.table_file.specs.declared.fault.TableFault.TheVariants as table
+
+-- a shape, the first rule that is broken at its place
+abbrev pub IsShape : Option Fault → IndexFault → Type 0
+IsShape first index.Memory = ⊥
+IsShape first (index.Shape place rule) = first ≡ Some (fault place rule)
+
+-- want of memory is free
+abbrev pub IsIndexFault : Option Fault → IndexFault → Type 0
+IsIndexFault first index.Memory = Unit {0}
+IsIndexFault first (index.Shape place rule) = first ≡ Some (fault place rule)
+
+-- the place is one of so many bytes, or just behind them
+abbrev pub IsWithin : ℕ → IndexFault → Type 0
+IsWithin bytes index.Memory = Unit {0}
+IsWithin bytes (index.Shape place rule) = place ≤ bytes
+
+-- ---- faults of a table
+
+-- memory or the device, and not what was read
+abbrev pub IsNoDamage : TableFault → Type 0
+IsNoDamage table.Memory = Unit {0}
+IsNoDamage (table.Device cause) = Unit {0}
+IsNoDamage (table.Damaged d) = ⊥
+
+-- the device or what was read, and not memory
+abbrev pub IsNoWant : TableFault → Type 0
+IsNoWant table.Memory = ⊥
+IsNoWant (table.Device cause) = Unit {0}
+IsNoWant (table.Damaged d) = Unit {0}
+
+-- memory or what was read, and not the device
+abbrev pub IsNoDevice : TableFault → Type 0
+IsNoDevice table.Memory = Unit {0}
+IsNoDevice (table.Device cause) = ⊥
+IsNoDevice (table.Damaged d) = Unit {0}
+
+-- this damage, or want of memory
+abbrev pub IsDamage : Option Damage → TableFault → Type 0
+IsDamage first table.Memory = Unit {0}
+IsDamage first (table.Device cause) = ⊥
+IsDamage first (table.Damaged d) = first ≡ Some d
+
+-- the sum of a part is another one than the kept one
+pub record IsOtherSum (part : Part) (at kept : ℕ) (bytes : Bytes) (fault : TableFault) : Type 0 where
+  pub other : kept ≢ fnv_of bytes
+  pub fault_is : fault ≡ table.Damaged (damage.Sum part at kept (fnv_of bytes))
+
+-- the fault that the definitions of tables speak of
+abbrev pub filter_fault_of : (Bytes → Fault) → Bytes → FilterFault
+filter_fault_of first bytes = record { place = (first bytes).place; rule = (first bytes).rule }
+
+abbrev pub IsDamagedFilter : Spelling → (Bytes → Fault) → Settings → Row → Image → TableFault → Type 0
+IsDamagedFilter spelling first settings row image table.Memory = Unit {0}
+IsDamagedFilter spelling first settings row image (table.Device cause) = ⊥
+IsDamagedFilter spelling first settings row image (table.Damaged d) = IsFilterDamage spelling (filter_fault_of first) settings row image d
+
+-- a damage is that of the index, or where it has none, that of the filter
+abbrev pub IsDamagedTable : Spelling → (Bytes → Fault) → Settings → Row → Image → TableFault → Type 0
+IsDamagedTable spelling first settings row image table.Memory = Unit {0}
+IsDamagedTable spelling first settings row image (table.Device cause) = Unit {0}
+IsDamagedTable spelling first settings row image (table.Damaged d) =
+    (index_damage row image ≡ Some d) ⊎ ((index_damage row image ≡ None) × IsFilterDamage spelling (filter_fault_of first) settings row image d)
+
+-- the device fails at this byte, and only where the count of failed reads rose
+abbrev pub HasReadCause : ℕ → World → World → TableFault → Type 0
+HasReadCause at old new table.Memory = Unit {0}
+HasReadCause at old new (table.Device cause) = IsFaultOf Read at cause × Rose old.seen.read_faults new.seen.read_faults
+HasReadCause at old new (table.Damaged d) = Unit {0}
+
+-- at the first byte of index or filter
+abbrev pub HasOpenCause : Row → World → World → TableFault → Type 0
+HasOpenCause row old new table.Memory = Unit {0}
+HasOpenCause row old new (table.Device cause) =
+    (IsFaultOf Read (byte_of_page (index_page row)) cause ⊎ IsFaultOf Read (byte_of_page (filter_page row)) cause) × Rose old.seen.read_faults new.seen.read_faults
+HasOpenCause row old new (table.Damaged d) = Unit {0}

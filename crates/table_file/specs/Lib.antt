@@ -1,0 +1,9 @@
+pub mod Before
+pub mod BlockRows
+pub mod Building
+pub mod Faults
+pub mod Laws
+pub mod Opened
+pub mod Parts
+pub mod Search
+pub mod Writing

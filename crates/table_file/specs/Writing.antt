@@ -1,0 +1,31 @@
+-- What stands on a device when the parts of a table are written, and which call of it failed.
+use Rattle.std.specs.Prelude.{◌⊎◌, ℕ, ◌+◌, ◌++◌, List, length}
+use Rattle.disk_trait.specs.Fault.{IsFaultOf}
+use Rattle.disk_trait.specs.Image.{Image, Shows, overwritten}
+use Rattle.disk_trait.specs.declared.fault.DiskFault.{DiskFault}
+use Rattle.disk_trait.specs.declared.fault.Op.TheVariants.{Sync, Write}
+use Rattle.byte_fields.specs.declared.parts.Row.{Row}
+use Rattle.map_model.specs.SortedMap.{Bytes}
+use Rattle.entry_model.specs.Entries.{Entry}
+use Rattle.block_model.specs.Block.{data_bytes, padding}
+use Rattle.block_model.specs.Index.{index_bytes, index_of}
+use Rattle.block_model.specs.Places.{byte_of_page, filter_page, index_page}
+
+-- bytes, and zero bytes behind them to the end of their last page
+abbrev pub padded : Bytes → Bytes
+padded bytes = bytes ++ padding (length bytes)
+
+-- the blocks exactly, index and filter with zero bytes to the end of their last pages, each at its page
+pub record AreWritten (row : Row) (entries : List Entry) (filter_bytes : Bytes) (image : Image) : Type 0 where
+  pub blocks : Shows (byte_of_page row.first_page) (data_bytes entries) image
+  pub index : Shows (byte_of_page (index_page row)) (padded (index_bytes (index_of entries))) image
+  pub filter : Shows (byte_of_page (filter_page row)) (padded filter_bytes) image
+
+-- three pieces written one behind the other
+abbrev pub three_written : Image → ℕ → Bytes → Bytes → Bytes → Image
+three_written image at first second third =
+    overwritten (overwritten (overwritten image at first) (at + length first) second) (at + length first + length second) third
+
+-- the fault of one of three writes, or of the sync after them
+abbrev pub IsWriteOf : ℕ → ℕ → ℕ → DiskFault → Type 0
+IsWriteOf first second third fault = IsFaultOf Write first fault ⊎ (IsFaultOf Write second fault ⊎ (IsFaultOf Write third fault ⊎ IsFaultOf Sync 0 fault))

@@ -1,0 +1,43 @@
+//! Tables on a device: built in memory, written to pages, opened again with their filter, and searched with one read.
+//!
+//! A [`TableBuilder`] takes entries by rising keys and cuts them into blocks as it goes; [`Parts`] are the blocks, the index
+//! and the filter of its entries, and [`write_parts`] puts them on a device by three writes and a sync. At `Ok` each image
+//! that a crash may leave has the table. [`open_table`] reads index and filter and judges every byte of them before it is
+//! trusted; a [`Table`] then answers a [`get`](Table::get) by one read of one block, or by none where its filter denies the
+//! key. The kind of filter and the device are parameters, known by their traits alone.
+//!
+//! An opened table keeps its index and its filter in memory: about 60 bytes and a key for each block. Building keeps all of
+//! the table's bytes, and its keys twice while the filter is built. Not for entries that come in any order, and not for a
+//! change of a table that is written: one writes another.
+//!
+//! ```text
+//! let mut builder = TableBuilder::new(alloc, settings);
+//! builder.add(b"a", Some(b"b"))?;
+//! let parts: Parts<F> = builder.finish()?;
+//! write_parts(&mut disk, 192, &parts)?;
+//! let table: Table<F> = open_table(alloc, &mut disk, &parts.row(0, 192))?;
+//! table.get(&mut disk, b"a", &mut buf)? == Some(Some(b"b"))      // Some(None) for a tombstone
+//! ```
+#![tactic(auto)]
+
+mod before;
+mod block_row;
+mod builder;
+mod fault;
+mod index;
+mod index_fault;
+mod index_row;
+mod laws;
+mod opening;
+mod padded;
+mod parts;
+mod table;
+mod writing;
+
+pub use builder::TableBuilder;
+pub use fault::TableFault;
+pub use laws::opened_tables_stand;
+pub use opening::open_table;
+pub use parts::{Parts, pages_of};
+pub use table::Table;
+pub use writing::write_parts;

@@ -1,0 +1,146 @@
+// A table is opened: its index and its filter are read and judged.
+ghost use Rattle.std.specs.Prelude.{◌≡◌, ◌≢◌, ◌+◌, ◌*◌, ◌^◌, ◌≤◌, ◌<◌, length, IsTrue, IfOk, IfErr, None};
+ghost use Rattle.byte_fields.specs.Sums.{fnv_of};
+ghost use Rattle.disk_trait.specs.Image.{Image, window};
+ghost use Rattle.disk_trait.specs.World.{ReadMoves};
+ghost use Rattle.filter_api.specs.Spellings.{IsSpelling};
+ghost use Rattle.filter_api.specs.declared.settings.Settings.{Settings};
+ghost use Rattle.block_model.specs.IndexReading.{index_fault, index_in};
+ghost use Rattle.block_model.specs.Places.{byte_of_page, filter_page, index_page};
+ghost use Rattle.table_model.specs.Damage.{filter_part, part_damage};
+ghost use Rattle.table_file.specs.Faults.{HasOpenCause, HasReadCause, IsDamage, IsDamagedFilter, IsDamagedTable, IsNoDamage, IsNoDevice, IsOtherSum};
+ghost use Rattle.table_file.specs.Opened.{FitsDevice, IsOpen};
+
+use crate::fault::TableFault;
+use crate::index::BlockIndex;
+use crate::index_fault::IndexFault;
+use crate::table::Table;
+use byte_fields::{Damage, Part, Row, fnv1a};
+use disk_trait::Disk;
+use filter_api::{DecodeError, RangeFilter};
+use key_base::PAGE_BYTES;
+use std::alloc::Global;
+
+/// The place in a filter that is named where it has other leaves than the table has entries, and that rule.
+const LEAVES_AT: u64 = 12;
+
+const OTHER_LEAVES: u8 = 11;
+
+/// Opens the table of a row: reads its index and its filter, and judges every byte of them. At most two reads, and
+/// memory for both.
+///
+/// `Ok` exactly where index and filter keep their sums and rules and the row's counts, but for want of memory and faults
+/// of the device; else the first damage. The widths of the filter are not compared with any settings.
+pub fn open_table<F: RangeFilter, D: Disk>(
+    alloc: Global,
+    disk: &mut D,
+    row: &Row,
+) -> Result<Table<F>, TableFault>
+    requires { FitsDevice row.now }
+    ensures row { IfOk result (λ t. t.row ≡ row.now) }
+    ensures stands { IsTrue D.tells → IfOk result (λ t. IsOpen F.spelling t (D.world disk.old).seen.held) }
+    ensures damaged { (settings : Settings) → IsTrue D.tells → IfErr result (IsDamagedTable F.spelling F.first_fault settings row.now (D.world disk.old).seen.held) }
+    ensures cause { IfErr result (HasOpenCause row.now (D.world disk.old) (D.world disk.new)) }
+    ensures moves { ReadMoves 2 (D.world disk.old) (D.world disk.new) }
+{
+    let page = u64::from(row.first_page) + u64::from(row.data_pages);
+    let bytes = read_part(alloc, disk, page, row.index_len)?;
+    let index = read_index(alloc, row, &bytes)?;
+    let page = page + u64::from(row.index_pages);
+    let bytes = read_part(alloc, disk, page, row.filter_len)?;
+    let filter = read_filter(alloc, row, &bytes)?;
+    Ok(Table::new(*row, index, filter))
+}
+
+// So many bytes from a page on.
+fn read_part<D: Disk>(
+    alloc: Global,
+    disk: &mut D,
+    page: u64,
+    bytes: u64,
+) -> Result<Vec<u8>, TableFault>
+    requires { byte_of_page page + bytes ≤ 2 ^ 48 }
+    ensures read { IsTrue D.tells → IfOk result (λ read. read.items ≡ window (D.world disk.old).seen.held (byte_of_page page) bytes) }
+    ensures size { IfOk result (λ read. length read.items ≡ bytes) }
+    ensures undamaged { IfErr result IsNoDamage }
+    ensures cause { IfErr result (HasReadCause (byte_of_page page) (D.world disk.old) (D.world disk.new)) }
+    ensures moves { ReadMoves 1 (D.world disk.old) (D.world disk.new) }
+{
+    let mut read = vec![in alloc; 0; bytes as usize]?;
+    disk.read(PAGE_BYTES as u64 * page, &mut read)?;
+    Ok(read)
+}
+
+// Whether the bytes of a part have the sum that is kept.
+pub(crate) fn check_sum(part: Part, at: u64, kept: u64, bytes: &[u8]) -> Result<(), TableFault>
+    ensures other { IfErr result (IsOtherSum part at kept bytes.now) }
+    ensures same { IfOk result (λ _. kept ≡ fnv_of bytes.now) }
+{
+    let seen = fnv1a(bytes);
+    if seen != kept {
+        return Err(TableFault::Damaged(Damage::Sum {
+            part,
+            at,
+            kept,
+            seen,
+        }));
+    }
+    Ok(())
+}
+
+// The index of a row, from its bytes.
+fn read_index(alloc: Global, row: &Row, bytes: &[u8]) -> Result<BlockIndex, TableFault>
+    requires fits { FitsDevice row.now }
+    requires size { length bytes.now ≡ row.now.index_len }
+    ensures damaged { IfErr result (IsDamage (part_damage Part.Index (byte_of_page (index_page row.now)) row.now.index_sum bytes.now (index_fault row.now.data_pages bytes.now))) }
+    ensures sum { IfOk result (λ _. row.now.index_sum ≡ fnv_of bytes.now) }
+    ensures kept { IfOk result (λ _. index_fault row.now.data_pages bytes.now ≡ None) }
+    ensures index { IfOk result (λ x. x ≡ index_in bytes.now) }
+{
+    let at = PAGE_BYTES as u64 * (u64::from(row.first_page) + u64::from(row.data_pages));
+    check_sum(Part::Index, at, row.index_sum, bytes)?;
+    match BlockIndex::read(alloc, bytes, row.data_pages) {
+        Ok(index) => Ok(index),
+        Err(IndexFault::Memory) => Err(TableFault::Memory),
+        Err(IndexFault::Shape { place, rule }) => Err(TableFault::Damaged(Damage::Shape {
+            part: Part::Index,
+            at: at + place as u64,
+            rule,
+        })),
+    }
+}
+
+// The filter of a row, from its bytes.
+fn read_filter<F: RangeFilter>(alloc: Global, row: &Row, bytes: &[u8]) -> Result<F, TableFault>
+    requires fits { FitsDevice row.now }
+    requires size { length bytes.now ≡ row.now.filter_len }
+    ensures damaged { (settings : Settings) (image : Image) → filter_part row.now image ≡ bytes.now → IfErr result (IsDamagedFilter F.spelling F.first_fault settings row.now image) }
+    ensures cause { IfErr result IsNoDevice }
+    ensures sum { IfOk result (λ _. row.now.filter_sum ≡ fnv_of bytes.now) }
+    ensures filter { IfOk result (λ f. IsSpelling F.spelling (F.hash_bits f) (F.real_bits f) (F.cutoff f) (F.leaf_list f) bytes.now) }
+    ensures many { IfOk result (λ f. length (F.leaf_list f) ≡ row.now.entries) }
+{
+    let at = PAGE_BYTES as u64
+        * (u64::from(row.first_page) + u64::from(row.data_pages) + u64::from(row.index_pages));
+    check_sum(Part::Filter, at, row.filter_sum, bytes)?;
+    let filter: F = match F::decode(alloc, bytes) {
+        Ok(filter) => filter,
+        Err(DecodeError::Memory) => return Err(TableFault::Memory),
+        Err(DecodeError::Fault(fault)) => return Err(shape(at + fault.place, fault.rule)),
+    };
+    if filter.leaves() != row.entries {
+        return Err(shape(at + LEAVES_AT, OTHER_LEAVES));
+    }
+    Ok(filter)
+}
+
+// A rule that a filter breaks at a byte of the device.
+fn shape(at: u64, rule: u8) -> TableFault
+    ensures { result ≡ TableFault.Damaged (Damage.Shape Part.Filter at rule) }
+{
+    TableFault::Damaged(Damage::Shape {
+        part: Part::Filter,
+        at,
+        rule,
+    })
+}

@@ -1,0 +1,126 @@
+// The parts of a table in memory, before they are written.
+ghost use Rattle.std.specs.Prelude.{◌≡◌, ◌+◌, ◌≤◌, length, map, vec_items, IfOk};
+ghost use Rattle.entry_model.specs.Entries.{keys_of};
+ghost use Rattle.block_model.specs.Block.{IsTable, data_bytes};
+ghost use Rattle.block_model.specs.Index.{index_of};
+ghost use Rattle.block_model.specs.Laws.{joined};
+ghost use Rattle.filter_api.specs.Ranges.{InRange};
+ghost use Rattle.table_model.specs.Tables.{table_pages};
+ghost use Rattle.table_model.specs.Written.{ArePartsShown, row_for};
+ghost use Rattle.disk_trait.specs.Image.{Image};
+ghost use Rattle.block_model.specs.Places.{end_page};
+ghost use Rattle.table_file.specs.Parts.{filter_of};
+ghost use Rattle.table_file.specs.Building.{closed_in, filter_bytes_of};
+
+use crate::index::BlockIndex;
+use crate::padded::Padded;
+use crate::table::Table;
+use byte_fields::Row;
+use filter_api::{RangeFilter, Settings};
+use key_base::{KeyList, PAGE_BYTES};
+use std::alloc::{AllocError, Global};
+use std::marker::Model;
+
+/// The blocks, the index and the filter of a table, seen as its entries and the settings of its filter.
+#[derive(Drop)]
+pub struct Parts<F: RangeFilter> {
+    pub(crate) settings: Settings,
+    pub(crate) entries: u32,
+    pub(crate) blocks: Vec<u8>,
+    pub(crate) index: BlockIndex,
+    pub(crate) index_part: Padded,
+    pub(crate) filter: F,
+    pub(crate) filter_part: Padded,
+}
+
+impl<F: RangeFilter> Model for Parts<F> {
+    ghost use Rattle.block_model.specs.Laws.{joined};
+    ghost use Rattle.table_file.specs.Building.{Built, closed_in};
+    ghost use Rattle.table_file.specs.Parts.{ArePartsOf};
+
+    ghost Value = { Built };
+
+    ghost view = { λ p. record { settings = p.settings; entries = joined (closed_in p.index.rows p.blocks.items) } };
+
+    ghost invariant = { λ p. ArePartsOf F.spelling F.built_cutoff p.settings (joined (closed_in p.index.rows p.blocks.items))
+        p.entries p.blocks.items p.index p.index_part
+        (record { hash_bits = F.hash_bits p.filter; real_bits = F.real_bits p.filter; cutoff = F.cutoff p.filter; leaves = F.leaf_list p.filter }) p.filter_part };
+}
+
+impl<F: RangeFilter> Parts<F> {
+    // The parts of entries whose blocks, index and keys are there.
+    pub(crate) fn new(
+        alloc: Global,
+        settings: Settings,
+        blocks: Vec<u8>,
+        index: BlockIndex,
+        keys: &KeyList,
+    ) -> Result<Parts<F>, AllocError>
+        requires range { InRange settings }
+        requires table { IsTable (joined (closed_in index.rows blocks.items)) }
+        requires blocks { blocks.items ≡ data_bytes (joined (closed_in index.rows blocks.items)) }
+        requires index { index ≡ index_of (joined (closed_in index.rows blocks.items)) }
+        requires keys { keys.now ≡ keys_of (joined (closed_in index.rows blocks.items)) }
+        ensures { IfOk result (λ p. p ≡ record { settings = settings; entries = joined (closed_in index.rows blocks.items) }) }
+    {
+        let filter = F::build(alloc, keys, settings)?;
+        let index_part = Padded::new(index.bytes(alloc)?)?;
+        let mut bytes = Vec::new(alloc);
+        filter.encode(&mut bytes)?;
+        let filter_part = Padded::new(bytes)?;
+        Ok(Parts {
+            settings,
+            entries: keys.len() as u32,
+            blocks,
+            index,
+            index_part,
+            filter,
+            filter_part,
+        })
+    }
+
+    /// The row of the table that these parts make on a level, from a page on.
+    ///
+    /// It sums the bytes of index and filter.
+    #[tactic(auto, unfolding(table_model::specs::Written::row_for))]
+    pub fn row(&self, level: u8, first_page: u32) -> Row
+        requires { first_page + table_pages (filter_bytes_of F.spelling F.built_cutoff) self.now.settings self.now.entries ≤ 16777216 }
+        ensures { result ≡ row_for level first_page self.now.entries (filter_bytes_of F.spelling F.built_cutoff self.now.settings (keys_of self.now.entries)) }
+    {
+        Row {
+            level,
+            first_page,
+            data_pages: (self.blocks.len() / PAGE_BYTES) as u32,
+            index_pages: self.index_part.pages() as u32,
+            filter_pages: self.filter_part.pages() as u32,
+            entries: self.entries,
+            index_len: self.index_part.len(),
+            filter_len: self.filter_part.len(),
+            index_sum: self.index_part.sum(),
+            filter_sum: self.filter_part.sum(),
+        }
+    }
+}
+
+impl<F: RangeFilter> Parts<F> {
+    ghost use Rattle.table_file.specs.Opened.{IsOpen};
+
+    /// The table that [`open_table`](crate::open_table) would give for a row of these parts, where they are written. No
+    /// read and no memory.
+    pub fn into_table(self, row: Row) -> Table<F>
+        requires row { row ≡ row_for row.level row.first_page self.entries (filter_bytes_of F.spelling F.built_cutoff self.settings (keys_of self.entries)) }
+        requires within { end_page row ≤ 16777216 }
+        ensures table { result ≡ record { row = row; index = index_of self.entries; filter = filter_of F.built_cutoff self.settings (keys_of self.entries) } }
+        ensures opened { (image : Image) → ArePartsShown row self.entries (filter_bytes_of F.spelling F.built_cutoff self.settings (keys_of self.entries)) image → IsOpen F.spelling result image }
+    {
+        let Parts { index, filter, .. } = self;
+        Table::new(row, index, filter)
+    }
+}
+
+/// How many pages a table of these parts takes.
+pub fn pages_of<F: RangeFilter>(parts: &Parts<F>) -> u64
+    ensures { result ≡ table_pages (filter_bytes_of F.spelling F.built_cutoff) parts.now.settings parts.now.entries }
+{
+    (parts.blocks.len() / PAGE_BYTES) as u64 + parts.index_part.pages() + parts.filter_part.pages()
+}

@@ -1,0 +1,202 @@
+// A table that is opened.
+ghost use Rattle.std.specs.Prelude.{◌≡◌, ◌+◌, ◌-◌, ◌*◌, ◌≤◌, ◌<◌, ℕ, List, length, take, IsTrue, IfOk, IfErr, OnOk, Some, None};
+ghost use Rattle.std.specs.Option.{option_map};
+ghost use Rattle.byte_fields.specs.Sums.{fnv_of};
+ghost use Rattle.disk_trait.specs.World.{ReadMoves};
+ghost use Rattle.filter_api.specs.declared.settings.Settings.{Settings};
+ghost use Rattle.entry_model.specs.Entries.{Entry};
+ghost use Rattle.block_model.specs.Laws.{joined};
+ghost use Rattle.entry_model.specs.Newest.{lookup};
+ghost use Rattle.block_model.specs.BlockReading.{block_fault, block_in};
+ghost use Rattle.block_model.specs.Pages.{page_bytes};
+ghost use Rattle.block_model.specs.Places.{byte_of_page};
+ghost use Rattle.table_file.specs.Faults.{HasReadCause, IsNoDamage, IsNoWant};
+ghost use Rattle.table_file.specs.Search.{IsBrokenBlock, IsGetFault, IsOtherBlock, StandsThere, block_for, blocks_read, bytes_at, page_at, row_at};
+
+use crate::fault::TableFault;
+use crate::index::BlockIndex;
+use crate::opening::check_sum;
+use block_format::Block;
+use byte_fields::{Damage, Part, Row};
+use disk_trait::Disk;
+use filter_api::RangeFilter;
+use key_base::PAGE_BYTES;
+use std::marker::Model;
+
+/// A table on a device: its row, its index and its filter in memory.
+#[derive(Drop)]
+pub struct Table<F: RangeFilter> {
+    row: Row,
+    index: BlockIndex,
+    filter: F,
+}
+
+impl<F: RangeFilter> Model for Table<F> {
+    ghost use Rattle.table_file.specs.Opened.{IsOfRow, Opened};
+
+    ghost Value = { Opened };
+
+    ghost view = { λ t. record {
+      row = t.row;
+      index = t.index;
+      filter = record { hash_bits = F.hash_bits t.filter; real_bits = F.real_bits t.filter; cutoff = F.cutoff t.filter; leaves = F.leaf_list t.filter };
+    } };
+
+    ghost invariant = { λ t. IsOfRow (record {
+      row = t.row;
+      index = t.index;
+      filter = record { hash_bits = F.hash_bits t.filter; real_bits = F.real_bits t.filter; cutoff = F.cutoff t.filter; leaves = F.leaf_list t.filter };
+    }) };
+}
+
+impl<F: RangeFilter> Table<F> {
+    ghost use Rattle.table_file.specs.Opened.{IsOfRow, Opened};
+
+    // The table of a row with this index and this filter.
+    pub(crate) fn new(row: Row, index: BlockIndex, filter: F) -> Table<F>
+        requires { IsOfRow (record {
+          row = row;
+          index = index;
+          filter = record { hash_bits = F.hash_bits filter; real_bits = F.real_bits filter; cutoff = F.cutoff filter; leaves = F.leaf_list filter };
+        }) }
+        ensures { result ≡ record {
+          row = row;
+          index = index;
+          filter = record { hash_bits = F.hash_bits filter; real_bits = F.real_bits filter; cutoff = F.cutoff filter; leaves = F.leaf_list filter };
+        } }
+    {
+        Table { row, index, filter }
+    }
+
+    /// The row that it was made from.
+    pub fn row(&self) -> &Row
+        ensures { result.now ≡ self.now.row }
+    {
+        &self.row
+    }
+
+    /// The least of its keys.
+    pub fn least(&self) -> &[u8]
+        ensures { result.now ≡ self.now.index.least }
+    {
+        self.index.least()
+    }
+
+    /// The greatest of its keys.
+    pub fn greatest(&self) -> &[u8]
+        ensures { result.now ≡ (row_at self.now.index.rows (length self.now.index.rows - 1)).last }
+    {
+        self.index.greatest()
+    }
+
+    /// Its filter.
+    pub fn filter(&self) -> &F
+        ensures { record { hash_bits = F.hash_bits result.now; real_bits = F.real_bits result.now; cutoff = F.cutoff result.now; leaves = F.leaf_list result.now } ≡ self.now.filter }
+    {
+        &self.filter
+    }
+
+    /// How many blocks it has, numbered from 0.
+    pub fn blocks(&self) -> u32
+        ensures { result ≡ length self.now.index.rows }
+    {
+        self.index.len()
+    }
+
+    /// What the table says of a key: its value, or `Some(None)` for a tombstone, and `None` where it has no entry of it. The
+    /// value is a part of the buffer, which has room for the largest block. At most one read, none where the filter denies
+    /// the key or it lies outside the least and the greatest key, and no memory.
+    pub fn get<'a, D: Disk>(
+        &self,
+        disk: &mut D,
+        key: &[u8],
+        buf: &'a mut [u8],
+    ) -> Result<Option<Option<&'a [u8]>>, TableFault>
+        requires room { 69632 ≤ length buf.old }
+        ensures taken { IfErr result IsNoWant }
+        ensures cause { (n : ℕ) → block_for self.now key.now ≡ Some n → IfErr result (HasReadCause (byte_of_page (page_at self.now n)) (D.world disk.old) (D.world disk.new)) }
+        ensures fault { (n : ℕ) → IsTrue D.tells → block_for self.now key.now ≡ Some n → IfErr result (IsGetFault self.now n (D.world disk.old).seen.held) }
+        ensures moves { ReadMoves (blocks_read (block_for self.now key.now)) (D.world disk.old) (D.world disk.new) }
+        ensures counted { IsTrue D.tells → OnOk result ((D.world disk.new).seen.reads ≡ (D.world disk.old).seen.reads + blocks_read (block_for self.now key.now)) }
+        ensures answer { (settings : Settings) (blocks : List (List Entry)) → IsTrue D.tells → StandsThere F.spelling settings self.now blocks (D.world disk.old).seen.held
+            → IfOk result (λ found. option_map (λ f. option_map (λ v. v.now) f) found ≡ lookup (joined blocks) key.now) }
+        ensures undamaged { (settings : Settings) (blocks : List (List Entry)) → IsTrue D.tells → StandsThere F.spelling settings self.now blocks (D.world disk.old).seen.held → IfErr result IsNoDamage }
+    {
+        let Some(n) = self.block_for(key) else {
+            return Ok(None);
+        };
+        let size = self.read_block(disk, n, buf)?;
+        self.find_in(n, &buf[..size], key)
+    }
+
+    /// The block that is read for a key: `None` where the key lies outside the least and the greatest key, or the filter
+    /// denies it. No read and no memory.
+    pub fn block_for(&self, key: &[u8]) -> Option<u32>
+        ensures { result ≡ block_for self.now key.now }
+    {
+        let n = self.index.block_of(key)?;
+        if self.filter.may_hold(key) {
+            Some(n)
+        } else {
+            None
+        }
+    }
+
+    /// Reads a block into the front of a buffer that has room for the largest, and answers how many bytes it has. One
+    /// read.
+    ///
+    /// `Damaged` exactly where the bytes have another sum than the index keeps; no rule of the format is looked at.
+    pub fn read_block<D: Disk>(
+        &self,
+        disk: &mut D,
+        n: u32,
+        buf: &mut [u8],
+    ) -> Result<usize, TableFault>
+        requires there { n < length self.now.index.rows }
+        requires room { 69632 ≤ length buf.old }
+        ensures size { IfOk result (λ size. size ≡ page_bytes * (row_at self.now.index.rows n).pages) }
+        ensures large { IfOk result (λ size. size ≤ 69632) }
+        ensures taken { IfErr result IsNoWant }
+        ensures bytes { IsTrue D.tells → IfOk result (λ size. take size buf.new ≡ bytes_at self.now n (D.world disk.old).seen.held) }
+        ensures sum { IsTrue D.tells → IfOk result (λ _. (row_at self.now.index.rows n).sum ≡ fnv_of (bytes_at self.now n (D.world disk.old).seen.held)) }
+        ensures damaged { IsTrue D.tells → IfErr result (IsOtherBlock self.now n (D.world disk.old).seen.held) }
+        ensures length { length buf.new ≡ length buf.old }
+        ensures cause { IfErr result (HasReadCause (byte_of_page (page_at self.now n)) (D.world disk.old) (D.world disk.new)) }
+        ensures moves { ReadMoves 1 (D.world disk.old) (D.world disk.new) }
+        ensures counted { IsTrue D.tells → OnOk result ((D.world disk.new).seen.reads ≡ (D.world disk.old).seen.reads + 1) }
+    {
+        let block = self.index.row(n as usize);
+        let at = PAGE_BYTES as u64 * (u64::from(self.row.first_page) + block.first);
+        let size = PAGE_BYTES * block.pages as usize;
+        let bytes = &mut buf[..size];
+        disk.read(at, bytes)?;
+        check_sum(Part::Block, at, block.sum, bytes)?;
+        Ok(size)
+    }
+
+    /// What the block number `n` says of a key, where these are its bytes: its value, or `Some(None)` for a tombstone;
+    /// or the first rule of the format that the bytes break. One pass over the bytes, and no memory.
+    pub fn find_in<'a>(
+        &self,
+        n: u32,
+        bytes: &'a [u8],
+        key: &[u8],
+    ) -> Result<Option<Option<&'a [u8]>>, TableFault>
+        requires there { n < length self.now.index.rows }
+        requires size { length bytes.now ≤ 69632 }
+        ensures whole { IfOk result (λ _. block_fault bytes.now ≡ None) }
+        ensures said { IfOk result (λ found. option_map (λ f. option_map (λ v. v.now) f) found ≡ lookup (block_in bytes.now) key.now) }
+        ensures damaged { IfErr result (IsBrokenBlock self.now n bytes.now) }
+    {
+        let first = self.index.row(n as usize).first;
+        match Block::read_and_find(bytes, key) {
+            Ok(found) => Ok(found),
+            Err(fault) => Err(TableFault::Damaged(Damage::Shape {
+                part: Part::Block,
+                at: PAGE_BYTES as u64 * (u64::from(self.row.first_page) + first)
+                    + fault.place as u64,
+                rule: fault.rule,
+            })),
+        }
+    }
+}
