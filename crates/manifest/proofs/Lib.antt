@@ -1,0 +1,9 @@
+pub mod Steps
+pub mod News
+pub mod Extents
+pub mod Rows
+pub mod Judged
+pub mod Fronts
+pub mod Bodies
+pub mod Loads
+pub mod Frames

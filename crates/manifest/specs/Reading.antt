@@ -1,0 +1,51 @@
+-- What reading a body looks at, one step after the other.
+use Rattle.std.specs.Prelude.{◌≡◌, ◌+◌, ℕ, [], Option, Some}
+use Rattle.byte_fields.specs.Faults.{Fault, or_fault}
+use Rattle.byte_fields.specs.declared.parts.Row.{Row}
+use Rattle.byte_fields.specs.declared.parts.Damage.{Damage}
+use Rattle.byte_fields.specs.declared.parts.Damage.TheVariants as damage
+use Rattle.byte_fields.specs.declared.parts.Part.TheVariants as part
+use Rattle.block_model.specs.Places.{pages_of}
+use Rattle.extent_model.specs.Extents.{Extent}
+use Rattle.map_model.specs.SortedMap.{Bytes}
+use Rattle.manifest_model.specs.Reading.{extents_fault, kept_sum, levels_fault, row_zeros_fault, table_rows_fault, table_rows_in, seen_sum}
+use Rattle.manifest_model.specs.Version.{body_place}
+use Rattle.manifest.specs.declared.fault.ManifestFault.{ManifestFault}
+use Rattle.manifest.specs.declared.fault.ManifestFault.TheVariants as fault
+
+abbrev pub extent_of : Row → Extent
+extent_of row = (row.first_page, pages_of row)
+
+-- the first of rules 7 to 10 that rows break, on a device of so many pages; the bytes begin with them
+abbrev pub rows_broken : ℕ → ℕ → Bytes → Option Fault
+rows_broken pages count rest =
+    or_fault (row_zeros_fault count 64 rest)
+    (or_fault (table_rows_fault 64 (table_rows_in count rest))
+    (or_fault (levels_fault 64 0 (table_rows_in count rest))
+    (extents_fault pages 64 [] (table_rows_in count rest))))
+
+-- ---- what is wrong with the body of a slot
+
+abbrev pub shape_of : ℕ → Fault → Damage
+shape_of slot f = damage.Shape part.Manifest (body_place slot + f.place) f.rule
+
+abbrev pub sum_of : ℕ → Bytes → Damage
+sum_of slot bytes = damage.Sum part.Manifest (body_place slot) (kept_sum bytes) (seen_sum bytes)
+
+-- want of memory is free, the device may fail, and damage is the one that is found
+abbrev pub IsDamage : Option Damage → ManifestFault → Type 0
+IsDamage found fault.Memory = Unit {0}
+IsDamage found (fault.Device cause) = Unit {0}
+IsDamage found fault.NotAStore = ⊥
+IsDamage found fault.AlreadyAStore = ⊥
+IsDamage found fault.Epoch = ⊥
+IsDamage found (fault.Damaged damage) = found ≡ Some damage
+
+-- the same of bytes that are there, which no device can fail to read
+abbrev pub IsBodyDamage : Option Damage → ManifestFault → Type 0
+IsBodyDamage found fault.Memory = Unit {0}
+IsBodyDamage found (fault.Device cause) = ⊥
+IsBodyDamage found fault.NotAStore = ⊥
+IsBodyDamage found fault.AlreadyAStore = ⊥
+IsBodyDamage found fault.Epoch = ⊥
+IsBodyDamage found (fault.Damaged damage) = found ≡ Some damage

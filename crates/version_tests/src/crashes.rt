@@ -1,0 +1,165 @@
+// Formats and installs that fail or are cut short.
+use crate::disks::{base, install_again};
+use disk_mem::{Choice, MemDisk};
+use disk_trait::{DiskFault, Op};
+use manifest::{ManifestFault, format, load};
+use std::alloc::{AllocError, Global};
+use std::test::Fail;
+
+// A format and two installs, up to the first that fails: how many were done, and the fault.
+fn three_versions(alloc: Global, disk: &mut MemDisk) -> (u64, Option<ManifestFault>) {
+    if let Err(fault) = format(alloc, disk, base(), 512) {
+        return (0, Some(fault));
+    }
+    if let Err(fault) = install_again(alloc, disk) {
+        return (1, Some(fault));
+    }
+    match install_again(alloc, disk) {
+        Ok(()) => (3, None),
+        Err(fault) => (2, Some(fault)),
+    }
+}
+
+// The epoch that is loaded, 0 where there is no store.
+fn epoch_of(alloc: Global, disk: &mut MemDisk) -> Result<u64, Fail> {
+    match load(alloc, disk) {
+        Ok(version) => Ok(version.epoch),
+        Err(ManifestFault::NotAStore) => Ok(0),
+        Err(_) => Err(Fail::from("a damaged slot")),
+    }
+}
+
+// A disk on which the call of this number fails.
+fn failing(alloc: Global, call: u64) -> Result<MemDisk, AllocError> {
+    let faults = Vec::from_slice(alloc, &[call])?;
+    Ok(MemDisk::new(alloc, &[])?.with_faults(faults))
+}
+
+// What a crash leaves of a write.
+#[derive(Clone, Copy)]
+enum Left {
+    Whole,
+    Lost,
+    All(u8),
+    Half,
+}
+
+// The first half of what was written at a place, and bytes 07 behind it.
+fn half(alloc: Global, disk: &MemDisk, at: usize, length: usize) -> Result<Vec<u8>, AllocError> {
+    let mut bytes = vec![in alloc; 7; length]?;
+    let written = disk.bytes().iter().skip(at).take(length / 2);
+    for (byte, other) in bytes.iter_mut().zip(written) {
+        *byte = *other;
+    }
+    Ok(bytes)
+}
+
+// Three versions, of which the sync after a write of so many bytes at a place fails, and then a crash, which leaves this of
+// that write. Answers the epoch that is loaded then.
+fn after_a_crash(
+    alloc: Global,
+    call: u64,
+    at: usize,
+    length: usize,
+    left: Left,
+) -> Result<u64, Fail> {
+    let mut disk = failing(alloc, call)?;
+    three_versions(alloc, &mut disk);
+    let choice = match left {
+        Left::Whole => Choice::Whole,
+        Left::Lost => Choice::Lost,
+        Left::All(byte) => Choice::Bytes(vec![in alloc; byte; length]?),
+        Left::Half => Choice::Bytes(half(alloc, &disk, at, length)?),
+    };
+    let mut crashed = disk.crash(&[choice])?;
+    epoch_of(alloc, &mut crashed)
+}
+
+#[test]
+fn every_write_left_in_every_way(rt: HostRuntime) -> Result<(), Fail> {
+    let alloc = rt.alloc();
+    // The number of the sync after the write, the write's place and length; the epoch where the write is whole or all 01,
+    // and where it is lost, all 07 or half.
+    let rows = [
+        (4, 8, 72, 0, 0),
+        (6, 0, 1, 1, 0),
+        (12, 131_080, 72, 1, 1),
+        (14, 131_072, 1, 2, 1),
+        (22, 0, 1, 2, 2),
+        (24, 8, 72, 2, 2),
+        (26, 0, 1, 3, 2),
+    ];
+    for (call, at, length, with, without) in rows {
+        for left in [Left::Whole, Left::All(1)] {
+            assert_eq!(rt;
+                after_a_crash(alloc, call, at, length, left)?,
+                with,
+                "call {call}"
+            );
+        }
+        for left in [Left::Lost, Left::All(7), Left::Half] {
+            assert_eq!(rt;
+                after_a_crash(alloc, call, at, length, left)?,
+                without,
+                "call {call}"
+            );
+        }
+    }
+    Ok(())
+}
+
+// The calls of a format and two installs, each behind a load.
+const CALLS: [(Op, u64); 27] = [
+    (Op::Sync, 0),
+    (Op::Read, 0),
+    (Op::Read, 131_072),
+    (Op::Write, 8),
+    (Op::Sync, 0),
+    (Op::Write, 0),
+    (Op::Sync, 0),
+    (Op::Read, 0),
+    (Op::Read, 131_072),
+    (Op::Read, 8),
+    (Op::Read, 72),
+    (Op::Write, 131_080),
+    (Op::Sync, 0),
+    (Op::Write, 131_072),
+    (Op::Sync, 0),
+    (Op::Read, 0),
+    (Op::Read, 131_072),
+    (Op::Read, 8),
+    (Op::Read, 72),
+    (Op::Read, 131_080),
+    (Op::Read, 131_144),
+    (Op::Write, 0),
+    (Op::Sync, 0),
+    (Op::Write, 8),
+    (Op::Sync, 0),
+    (Op::Write, 0),
+    (Op::Sync, 0),
+];
+
+#[test]
+fn every_call_fails_in_turn(rt: HostRuntime) -> Result<(), Fail> {
+    let alloc = rt.alloc();
+    for (call, (op, at)) in CALLS.iter().copied().enumerate() {
+        let mut disk = failing(alloc, call as u64)?;
+        let (done, fault) = three_versions(alloc, &mut disk);
+        assert_eq!(rt;
+            fault,
+            Some(ManifestFault::Device(DiskFault { op, at })),
+            "call {call}"
+        );
+        let mut lost = disk.crash(&[Choice::Lost])?;
+        assert_eq!(rt; epoch_of(alloc, &mut lost)?, done, "call {call}");
+        let mut whole = disk.crash(&[Choice::Whole])?;
+        let epoch = epoch_of(alloc, &mut whole)?;
+        assert!(rt;
+            epoch == done || epoch == done.saturating_add(1),
+            "call {call}"
+        );
+    }
+    let mut disk = failing(alloc, CALLS.len() as u64)?;
+    assert_eq!(rt; three_versions(alloc, &mut disk), (3, None));
+    Ok(())
+}

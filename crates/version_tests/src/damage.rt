@@ -1,0 +1,210 @@
+// What is wrong with slots, and where.
+use crate::disks::{formatted, store, table, version_of};
+use byte_fields::{Damage, Part, Row, fnv1a};
+use disk_mem::MemDisk;
+use disk_trait::Disk;
+use manifest::{ManifestFault, load};
+use std::alloc::Global;
+use std::test::Fail;
+
+// The fault of loading a disk.
+fn fault_of(alloc: Global, disk: &mut MemDisk) -> Option<ManifestFault> {
+    match load(alloc, disk) {
+        Ok(_) => None,
+        Err(fault) => Some(fault),
+    }
+}
+
+fn shape(at: u64, rule: u8) -> Option<ManifestFault> {
+    let part = Part::Manifest;
+    Some(ManifestFault::Damaged(Damage::Shape { part, at, rule }))
+}
+
+// The fault of a new store whose body has other bytes from a place on, with the sum of these or with that of the old ones.
+fn changed(
+    alloc: Global,
+    place: usize,
+    bytes: &[u8],
+    mend: bool,
+) -> Result<Option<ManifestFault>, Fail> {
+    let mut disk = formatted(alloc)?;
+    let mut head = [0; 64];
+    let mut done = disk.read(8, &mut head).is_ok();
+    for (byte, other) in head.iter_mut().skip(place).zip(bytes) {
+        *byte = *other;
+    }
+    done = done && disk.write(8, &head).is_ok();
+    if mend {
+        done = done && disk.write(72, &fnv1a(&head).to_le_bytes()).is_ok();
+    }
+    if !done {
+        return Err(Fail::from("the disk failed"));
+    }
+    Ok(fault_of(alloc, &mut disk))
+}
+
+#[test]
+fn each_rule_of_a_head_at_its_place(rt: HostRuntime) -> Result<(), Fail> {
+    let alloc = rt.alloc();
+    let rows: [(usize, &[u8], bool, u64, u8); 12] = [
+        (0, &[0x54], false, 8, 1),
+        (4, &[2], false, 12, 2),
+        (4, &[2], true, 12, 2),
+        (6, &[1, 4], false, 14, 3),
+        (6, &[1, 4], true, 14, 3),
+        (8, &[0], true, 16, 4),
+        (16, &[0xFF, 1], true, 24, 5),
+        (20, &[33], true, 28, 5),
+        (21, &[33], true, 29, 5),
+        (24, &[0x41], true, 32, 6),
+        (28, &[0x41], true, 36, 6),
+        (32, &[1], true, 40, 7),
+    ];
+    for (place, bytes, mend, at, rule) in rows {
+        assert_eq!(rt; changed(alloc, place, bytes, mend)?, shape(at, rule));
+    }
+    Ok(())
+}
+
+#[test]
+fn another_sum_comes_before_the_later_rules(rt: HostRuntime) -> Result<(), Fail> {
+    let alloc = rt.alloc();
+    let rows: [(usize, &[u8]); 4] = [(8, &[0]), (16, &[0xFF, 1]), (24, &[0x41]), (32, &[1])];
+    for (place, bytes) in rows {
+        let fault = changed(alloc, place, bytes, false)?;
+        assert!(rt;
+            matches!(
+                fault,
+                Some(ManifestFault::Damaged(Damage::Sum {
+                    part: Part::Manifest,
+                    at: 8,
+                    kept: 0xE493F517DB6813E7,
+                    ..
+                }))
+            )
+        );
+    }
+    Ok(())
+}
+
+// The fault of a store with these tables.
+fn with_tables(alloc: Global, rows: &[Row]) -> Result<Option<ManifestFault>, Fail> {
+    let mut disk = MemDisk::new(alloc, &[])?;
+    store(alloc, &mut disk, 0, &version_of(alloc, 512, 6, rows)?)?;
+    Ok(fault_of(alloc, &mut disk))
+}
+
+#[test]
+fn each_field_of_a_row(rt: HostRuntime) -> Result<(), Fail> {
+    let alloc = rt.alloc();
+    let sound = table(1, 192);
+    let rows = [
+        (Row { level: 7, ..sound }, 72),
+        (
+            Row {
+                data_pages: 0,
+                ..sound
+            },
+            80,
+        ),
+        (
+            Row {
+                index_pages: 2,
+                ..sound
+            },
+            84,
+        ),
+        (
+            Row {
+                index_len: 4_097,
+                ..sound
+            },
+            84,
+        ),
+        (
+            Row {
+                filter_pages: 0,
+                ..sound
+            },
+            88,
+        ),
+        (
+            Row {
+                filter_len: u64::MAX,
+                ..sound
+            },
+            88,
+        ),
+        (
+            Row {
+                entries: 0,
+                ..sound
+            },
+            92,
+        ),
+    ];
+    for (row, at) in rows {
+        assert_eq!(rt; with_tables(alloc, &[row])?, shape(at, 8));
+    }
+    Ok(())
+}
+
+#[test]
+fn where_tables_stand(rt: HostRuntime) -> Result<(), Fail> {
+    let alloc = rt.alloc();
+    let rows: [(&[Row], Option<ManifestFault>); 8] = [
+        (
+            &[table(0, 195), table(0, 192), table(1, 198), table(1, 509)],
+            None,
+        ),
+        (&[table(1, 192), table(0, 195)], shape(136, 9)),
+        (&[table(1, 191)], shape(76, 10)),
+        (&[table(0, 192), table(1, 510)], shape(140, 10)),
+        (&[table(0, 192), table(1, u32::MAX)], shape(140, 10)),
+        (&[table(0, 192), table(0, 194)], shape(140, 10)),
+        (&[table(0, 194), table(0, 192)], shape(140, 10)),
+        (
+            &[table(0, 300), table(0, 200), table(1, 298)],
+            shape(204, 10),
+        ),
+    ];
+    for (tables, fault) in rows {
+        assert_eq!(rt; with_tables(alloc, tables)?, fault);
+    }
+    Ok(())
+}
+
+#[test]
+fn more_tables_than_a_version_may_have(rt: HostRuntime) -> Result<(), Fail> {
+    let alloc = rt.alloc();
+    let mut version = version_of(alloc, 512, 6, &[])?;
+    for _ in 0..1_025 {
+        version.rows.push(table(0, 192))?;
+    }
+    let mut disk = MemDisk::new(alloc, &[])?;
+    store(alloc, &mut disk, 131_072, &version)?;
+    assert_eq!(rt; fault_of(alloc, &mut disk), shape(131_086, 3));
+    Ok(())
+}
+
+// The fault of two open slots with these epochs, and the epoch that is loaded where there is none.
+fn both(alloc: Global, a: u64, b: u64) -> Result<Result<u64, ManifestFault>, Fail> {
+    let mut disk = MemDisk::new(alloc, &[])?;
+    store(alloc, &mut disk, 0, &version_of(alloc, 512, a, &[])?)?;
+    store(alloc, &mut disk, 131_072, &version_of(alloc, 512, b, &[])?)?;
+    match load(alloc, &mut disk) {
+        Ok(version) => Ok(Ok(version.epoch)),
+        Err(fault) => Ok(Err(fault)),
+    }
+}
+
+#[test]
+fn two_open_slots(rt: HostRuntime) -> Result<(), Fail> {
+    let alloc = rt.alloc();
+    assert_eq!(rt; both(alloc, 1, 2)?, Ok(2));
+    assert_eq!(rt; both(alloc, 3, 2)?, Ok(3));
+    assert_eq!(rt; both(alloc, 7, 7)?.err(), shape(131_088, 11));
+    assert_eq!(rt; both(alloc, 0, 7)?.err(), shape(16, 4));
+    assert_eq!(rt; both(alloc, 7, 0)?.err(), shape(131_088, 4));
+    Ok(())
+}

@@ -1,0 +1,90 @@
+// Disks with manifests.
+ghost use Rattle.std.specs.Prelude.{◌≤◌};
+ghost use Rattle.filter_api.specs.Ranges.{InRange};
+
+use byte_fields::Row;
+use disk_mem::MemDisk;
+use disk_trait::Disk;
+use filter_api::Settings;
+use manifest::{ManifestFault, format, install, load};
+use manifest_model::{Version, body_bytes};
+use std::alloc::Global;
+use std::test::Fail;
+
+/// The first byte of each slot.
+pub const SLOTS: [u64; 2] = [0, 131_072];
+
+/// Filters with no suffix bits.
+pub fn base() -> Settings
+    ensures { InRange result }
+{
+    Settings {
+        hash_bits: 0,
+        real_bits: 0,
+        ratio: 64,
+    }
+}
+
+/// A new store of 512 pages.
+pub fn formatted(alloc: Global) -> Result<MemDisk, Fail> {
+    let mut disk = MemDisk::new(alloc, &[])?;
+    match format(alloc, &mut disk, base(), 512) {
+        Ok(()) => Ok(disk),
+        Err(_) => Err(Fail::from("no format")),
+    }
+}
+
+/// A table of four entries that takes three pages.
+pub fn table(level: u8, first_page: u32) -> Row {
+    Row {
+        level,
+        first_page,
+        data_pages: 1,
+        index_pages: 1,
+        filter_pages: 1,
+        entries: 4,
+        index_len: 27,
+        filter_len: 45,
+        index_sum: 7,
+        filter_sum: 9,
+    }
+}
+
+/// A version of these tables, spelled by the plain program whatever it breaks.
+pub fn version_of(alloc: Global, pages: u32, epoch: u64, rows: &[Row]) -> Result<Version, Fail> {
+    let mut version = Version {
+        hash_bits: 0,
+        real_bits: 0,
+        ratio: 64,
+        pages,
+        epoch,
+        log_page: 64,
+        rows: Vec::new(alloc),
+    };
+    for row in rows {
+        version.rows.push(*row)?;
+    }
+    Ok(version)
+}
+
+/// Writes a body and an open gate before it.
+pub fn store(alloc: Global, disk: &mut MemDisk, slot: u64, version: &Version) -> Result<(), Fail>
+    requires { slot ≤ 131072 }
+{
+    let body = body_bytes(alloc, version)?;
+    if body.len() > 1 << 20 {
+        return Err(Fail::from("a long body"));
+    }
+    if disk.write(slot + 8, &body).is_err() || disk.write(slot, &[1]).is_err() {
+        return Err(Fail::from("no write"));
+    }
+    Ok(())
+}
+
+/// The version that is loaded takes its own place, with its epoch raised.
+pub fn install_again(alloc: Global, disk: &mut MemDisk) -> Result<(), ManifestFault> {
+    match load(alloc, disk) {
+        Ok(version) => install(alloc, disk, &version),
+        Err(fault) => Err(fault),
+    }
+}

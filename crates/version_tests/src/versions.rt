@@ -1,0 +1,125 @@
+// Versions that are formatted, loaded and installed.
+use crate::disks::{base, formatted, install_again, store, table, version_of};
+use disk_mem::MemDisk;
+use disk_trait::Disk;
+use manifest::{ManifestFault, Version, format, is_store, load};
+use std::alloc::Global;
+use std::test::Fail;
+
+// What is loaded, and where: the epoch, the slot, whether the other one is open, and how many tables.
+fn found(alloc: Global, disk: &mut MemDisk) -> Result<(u64, u8, bool, usize), ManifestFault> {
+    match load(alloc, disk) {
+        Ok(version) => Ok((
+            version.epoch,
+            version.slot,
+            version.other_open,
+            version.rows.len(),
+        )),
+        Err(fault) => Err(fault),
+    }
+}
+
+#[test]
+fn a_new_store_is_in_slot_a(rt: HostRuntime) -> Result<(), Fail> {
+    let alloc = rt.alloc();
+    let mut empty = MemDisk::new(alloc, &[])?;
+    assert_eq!(rt; is_store(&mut empty), Ok(false));
+    assert_eq!(rt; found(alloc, &mut empty), Err(ManifestFault::NotAStore));
+    let mut disk = formatted(alloc)?;
+    let front = [
+        1, 0, 0, 0, 0, 0, 0, 0, 0x53, 0x52, 0x46, 0x4D, 1, 0, 0, 0, 1, 0, 0, 0, 0, 0, 0, 0, 0, 2,
+        0, 0, 0, 0, 0x40, 0, 0x40, 0, 0, 0, 0x40, 0, 0, 0,
+    ];
+    let mut slot = [9; 80];
+    assert!(rt; disk.read(0, &mut slot).is_ok());
+    assert!(rt; slot.as_slice().starts_with(front.as_slice()));
+    assert!(rt; slot.iter().skip(40).take(32).all(|byte| *byte == 0));
+    assert!(rt;
+        slot.as_slice().ends_with([0xE7, 0x13, 0x68, 0xDB, 0x17, 0xF5, 0x93, 0xE4].as_slice())
+    );
+    assert_eq!(rt; is_store(&mut disk), Ok(true));
+    assert_eq!(rt; found(alloc, &mut disk), Ok((1, 0, false, 0)));
+    assert_eq!(rt;
+        format(alloc, &mut disk, base(), 512),
+        Err(ManifestFault::AlreadyAStore)
+    );
+    Ok(())
+}
+
+#[test]
+fn installs_change_the_slot(rt: HostRuntime) -> Result<(), Fail> {
+    let alloc = rt.alloc();
+    let mut disk = formatted(alloc)?;
+    let rows = [(2, 1, true), (3, 0, true), (4, 1, true), (5, 0, true)];
+    for (epoch, slot, other_open) in rows {
+        assert_eq!(rt; install_again(alloc, &mut disk), Ok(()));
+        assert_eq!(rt; found(alloc, &mut disk), Ok((epoch, slot, other_open, 0)));
+    }
+    Ok(())
+}
+
+#[test]
+fn the_last_epoch_is_not_left(rt: HostRuntime) -> Result<(), Fail> {
+    let alloc = rt.alloc();
+    let mut disk = MemDisk::new(alloc, &[])?;
+    store(alloc, &mut disk, 0, &version_of(alloc, 512, u64::MAX, &[])?)?;
+    let before = disk.calls();
+    assert_eq!(rt; install_again(alloc, &mut disk), Err(ManifestFault::Epoch));
+    assert_eq!(rt; disk.calls().saturating_sub(before), 4);
+    assert_eq!(rt; found(alloc, &mut disk), Ok((u64::MAX, 0, false, 0)));
+    Ok(())
+}
+
+// A version of so many tables of three pages each, the last of them first.
+fn many(alloc: Global, count: u32) -> Result<MemDisk, Fail> {
+    let mut version = version_of(alloc, 8_192, 1, &[])?;
+    for i in 0..count {
+        let first_page = 192u32.saturating_add(count.saturating_sub(i).saturating_mul(3));
+        version.rows.push(table(0, first_page))?;
+    }
+    let mut disk = MemDisk::new(alloc, &[])?;
+    store(alloc, &mut disk, 0, &version)?;
+    Ok(disk)
+}
+
+#[test]
+fn as_many_tables_as_a_version_may_have(rt: HostRuntime) -> Result<(), Fail> {
+    let alloc = rt.alloc();
+    let mut disk = many(alloc, 1_024)?;
+    assert_eq!(rt; found(alloc, &mut disk), Ok((1, 0, false, 1_024)));
+    assert_eq!(rt; install_again(alloc, &mut disk), Ok(()));
+    assert_eq!(rt; found(alloc, &mut disk), Ok((2, 1, true, 1_024)));
+    Ok(())
+}
+
+#[test]
+fn a_loaded_version_is_the_one_that_was_written(rt: HostRuntime) -> Result<(), Fail> {
+    let alloc = rt.alloc();
+    let mut disk = MemDisk::new(alloc, &[])?;
+    let row = table(3, 204);
+    store(
+        alloc,
+        &mut disk,
+        131_072,
+        &version_of(alloc, 600, 9, &[row])?,
+    )?;
+    let Ok(version) = load(alloc, &mut disk) else {
+        return Err(Fail::from("no version"));
+    };
+    let Version {
+        settings,
+        pages,
+        epoch,
+        log_area,
+        slot,
+        other_open,
+        rows,
+    } = version;
+    assert_eq!(rt; settings, base());
+    assert_eq!(rt;
+        (pages, epoch, log_area, slot, other_open),
+        (600, 9, 0, 1, false)
+    );
+    assert_eq!(rt; rows.as_slice(), [row].as_slice());
+    Ok(())
+}
