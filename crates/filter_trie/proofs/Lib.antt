@@ -1,0 +1,7 @@
+pub mod Reached
+pub mod Down
+pub mod Halves
+pub mod Parts
+pub mod Walking
+pub mod Ways
+pub mod Counting

@@ -1,0 +1,5 @@
+pub mod Nodes
+pub mod Ranks
+pub mod Spelled
+pub mod Built
+pub mod Searches

@@ -1,0 +1,19 @@
+use Rattle.std.proofs.Common.{◌≡◌, ap, arith, length, sym, ◌∙◌}
+use Rattle.louds_dense.proofs.Spelled.{covered_all, counts_are, length_children, length_ends}
+use Rattle.louds_dense.specs.Spelling.{IsSpelled}
+use Rattle.louds_dense.proofs.dense.Dense.counts.Goals as goal
+
+pub rank-requires : goal.rank-requires
+rank-requires g c =
+    let s : IsSpelled c.self.inside.labels c.self.inside.has_child c.self.inside.prefix c.args.self.now = rw c.self.view_is at c.self.invariant in
+    omega (arith, length_children s, length_ends s, c.len-nodes.ensures, ap length c.bits.ensures)
+
+pub leaves_to-requires-clause-covered : goal.leaves_to-requires-clause-covered
+leaves_to-requires-clause-covered g c =
+    let s : IsSpelled c.self.inside.labels c.self.inside.has_child c.self.inside.prefix c.args.self.now = rw c.self.view_is at c.self.invariant in
+    covered_all s c.len-nodes.result (c.len-nodes.ensures ∙ ap length c.bits.ensures)
+
+pub returns-clause-counts : goal.returns-clause-counts
+returns-clause-counts g c =
+    let s : IsSpelled c.self.inside.labels c.self.inside.has_child c.self.inside.prefix c.args.self.now = rw c.self.view_is at c.self.invariant in
+    counts_are s c.len-nodes.result c.rank.result c.leaves_to.result (c.len-nodes.ensures ∙ ap length c.bits.ensures) c.rank.ensures c.leaves_to.ensures.sum

@@ -1,0 +1,14 @@
+use Rattle.std.proofs.Common.{ap, arith}
+use Rattle.louds_dense.proofs.Spelled.{children_counted, length_children}
+use Rattle.louds_dense.specs.Spelling.{IsSpelled}
+use Rattle.louds_dense.proofs.dense.Dense.first_below.Goals as goal
+
+pub rank-requires : goal.rank-requires
+rank-requires g c =
+    let s : IsSpelled c.self.inside.labels c.self.inside.has_child c.self.inside.prefix c.args.self.now = rw c.self.view_is at c.self.invariant in
+    omega (arith, length_children s, c.requires)
+
+pub returns : goal.returns
+returns g c =
+    let s : IsSpelled c.self.inside.labels c.self.inside.has_child c.self.inside.prefix c.args.self.now = rw c.self.view_is at c.self.invariant in
+    omega (arith, c.rank.ensures, children_counted s c.args.place c.requires)

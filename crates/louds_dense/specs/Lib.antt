@@ -1,0 +1,4 @@
+pub mod Places
+pub mod Spelling
+pub mod Building
+pub mod Laws

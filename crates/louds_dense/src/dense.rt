@@ -1,0 +1,199 @@
+//! The half and its calls.
+ghost use Rattle.std.specs.Prelude.{◌≡◌, ◌≤◌, ◌<◌, ◌+◌, ◌*◌, ◌%◌, ◌^◌, length, IsTrue, ◌↔◌};
+ghost use Rattle.bit_words.specs.Counts.{rank_of};
+ghost use Rattle.bit_words.specs.Packed.{packed};
+ghost use Rattle.filter_model.specs.Image.{dense_children, dense_ends, dense_labels};
+ghost use Rattle.louds_dense.specs.Places.{branch_place, child_at, counts_of, end_slot, first_below, next_place, places_in, prev_place, slot_at};
+
+use super::sections::ROW_BITS;
+use bit_rank::Ranked;
+use std::alloc::Allocator;
+use std::marker::Model;
+use trie_model::Before;
+
+/// The nodes of the upper levels of a trie: two bits for each byte, and one for END.
+#[derive(Drop)]
+pub struct Dense<A: Allocator> {
+    pub(crate) labels: Ranked<A>,
+    pub(crate) has_child: Ranked<A>,
+    pub(crate) prefix: Ranked<A>,
+}
+
+impl<A: Allocator> Model for Dense<A> {
+    ghost use Rattle.std.specs.Prelude.{List};
+    ghost use Rattle.filter_model.specs.Nodes.{Node};
+    ghost use Rattle.louds_dense.specs.Spelling.{IsSpelled, nodes_in};
+
+    ghost Value = { List Node };
+
+    ghost view = { λ d. nodes_in d.labels d.has_child d.prefix };
+
+    ghost invariant = { λ d. IsSpelled d.labels d.has_child d.prefix (nodes_in d.labels d.has_child d.prefix) };
+}
+
+impl<A: Allocator> Dense<A> {
+    /// How many nodes it has.
+    pub fn node_count(&self) -> u64
+        ensures count { result ≡ length self.now }
+        ensures few { result ≤ 2 ^ 53 }
+    {
+        self.prefix.bits().len() as u64
+    }
+
+    /// Whether a node is one of this half.
+    pub fn has_node(&self, node: u64) -> bool
+        ensures { IsTrue result ↔ (node < length self.now) }
+    {
+        node < self.node_count()
+    }
+
+    /// How many places it has, 256 for each node.
+    pub fn place_count(&self) -> u64
+        ensures { result ≡ places_in self.now }
+    {
+        ROW_BITS as u64 * self.node_count()
+    }
+
+    /// What stands before the half that follows: the nodes of this one, its branches that lead to a node, and its leaves.
+    pub fn counts(&self) -> Before
+        ensures counts { result ≡ counts_of self.now }
+        ensures few_nodes { result.nodes < 2 ^ 62 }
+        ensures few_children { result.children < 2 ^ 62 }
+        ensures few_slots { result.slots < 2 ^ 62 }
+    {
+        let nodes = self.prefix.bits().len();
+        let places = ROW_BITS * nodes;
+        Before {
+            nodes: nodes as u64,
+            children: self.has_child.rank(places) as u64,
+            slots: self.leaves_to(places, nodes),
+        }
+    }
+
+    /// The place of the node's branch by this byte, `None` where it has none.
+    pub fn branch(&self, node: u64, byte: u8) -> Option<u64>
+        requires { node < length self.now }
+        ensures { result ≡ branch_place self.now node byte }
+    {
+        let labels = self.labels.bits();
+        let place = ROW_BITS * node as usize + usize::from(byte);
+        if labels.get(place) {
+            Some(place as u64)
+        } else {
+            None
+        }
+    }
+
+    /// The place of the node's first branch by this byte or a greater one, `None` where it has none. `byte` is at most 256.
+    pub fn next_branch(&self, node: u64, byte: u16) -> Option<u64>
+        requires node { node < length self.now }
+        requires byte { byte ≤ 256 }
+        ensures { result ≡ next_place self.now node byte }
+    {
+        let labels = self.labels.bits();
+        let start = ROW_BITS * node as usize;
+        match labels.first_one_from(start + usize::from(byte)) {
+            Some(place) if place < start + ROW_BITS => Some(place as u64),
+            _ => None,
+        }
+    }
+
+    /// The place of the node's last branch by a lesser byte, `None` where it has none. `byte` is at most 256.
+    pub fn prev_branch(&self, node: u64, byte: u16) -> Option<u64>
+        requires node { node < length self.now }
+        requires byte { byte ≤ 256 }
+        ensures { result ≡ prev_place self.now node byte }
+    {
+        let labels = self.labels.bits();
+        let start = ROW_BITS * node as usize;
+        match labels.last_one_before(start + usize::from(byte)) {
+            Some(place) if place >= start => Some(place as u64),
+            _ => None,
+        }
+    }
+
+    /// The byte of a place.
+    pub fn byte_at(&self, place: u64) -> u8
+        requires { place < places_in self.now }
+        ensures { result ≡ place % 256 }
+    {
+        (place % ROW_BITS as u64) as u8
+    }
+
+    /// The node that the branch at a place leads to, or `None` where it is a leaf or there is none.
+    pub fn child(&self, place: u64) -> Option<u64>
+        requires { place < places_in self.now }
+        ensures { result ≡ child_at self.now place }
+    {
+        if self.has_child.bits().get(place as usize) {
+            Some(self.first_below(place))
+        } else {
+            None
+        }
+    }
+
+    /// How many leaves stand before a place, whether or not it is a branch: the slot of a leaf there.
+    pub fn leaf_slot(&self, place: u64) -> u64
+        requires { place ≤ places_in self.now }
+        ensures { result ≡ slot_at self.now place }
+    {
+        let nodes = (place as usize / ROW_BITS + 1).min(self.prefix.bits().len());
+        self.leaves_to(place as usize, nodes)
+    }
+
+    /// The first node whose branch stands at a place or later, or the number of these nodes and their children where there
+    /// is none.
+    pub fn first_below(&self, place: u64) -> u64
+        requires { place ≤ places_in self.now }
+        ensures { result ≡ first_below self.now place }
+    {
+        self.has_child.rank(place as usize) as u64 + 1
+    }
+
+    /// The slot of the node's END, or `None` where END is no branch of it.
+    pub fn prefix_slot(&self, node: u64) -> Option<u64>
+        requires { node < length self.now }
+        ensures { result ≡ end_slot self.now node }
+    {
+        let node = node as usize;
+        if self.prefix.bits().get(node) {
+            Some(self.leaves_to(ROW_BITS * node, node))
+        } else {
+            None
+        }
+    }
+
+    /// The words that hold a bit for each byte of each node, set where it is a branch: bit `i` is bit `i mod 64` of word
+    /// `i / 64`.
+    pub fn labels(&self) -> &[u64]
+        ensures { result.now ≡ packed 64 (dense_labels self.now) }
+    {
+        self.labels.words()
+    }
+
+    /// The words that hold a bit for each byte of each node, set where it is a branch that leads to a node.
+    pub fn has_child(&self) -> &[u64]
+        ensures { result.now ≡ packed 64 (dense_children self.now) }
+    {
+        self.has_child.words()
+    }
+
+    /// The words that hold a bit for each node, set where END is a branch.
+    pub fn prefix(&self) -> &[u64]
+        ensures { result.now ≡ packed 64 (dense_ends self.now) }
+    {
+        self.prefix.words()
+    }
+
+    /// How many leaves there are by the bytes before a place and by the END of the first `nodes` nodes.
+    fn leaves_to(&self, place: usize, nodes: usize) -> u64
+        requires place { place ≤ places_in self.now }
+        requires nodes { nodes ≤ length self.now }
+        requires covered { rank_of (dense_children self.now) place ≤ rank_of (dense_labels self.now) place + rank_of (dense_ends self.now) nodes }
+        ensures sum { result + rank_of (dense_children self.now) place ≡ rank_of (dense_labels self.now) place + rank_of (dense_ends self.now) nodes }
+        ensures few { result < 2 ^ 62 }
+    {
+        let branches = self.labels.rank(place) + self.prefix.rank(nodes);
+        (branches - self.has_child.rank(place)) as u64
+    }
+}
