@@ -1,0 +1,4 @@
+pub mod Gives
+pub mod Places
+pub mod Results
+pub mod Shown

@@ -1,0 +1,31 @@
+-- The blocks that are kept, the newest first.
+use Rattle.std.specs.Prelude.{ℕ, ◌==◌, ◌&&◌, Bool, List, ◌∷◌, take, Option}
+use Rattle.std.specs.Option.{option_map_or}
+use Rattle.std.specs.Map.{lookup, remove_entry}
+
+-- where a block is from: the number of its table, and its own in that table
+abbrev pub Place : Type 0
+Place = ℕ × ℕ
+
+-- a block with its bytes
+abbrev pub Kept : Type 0
+Kept = Place × List ℕ
+
+abbrev pub is_place : Place → Place → Bool
+is_place place other = (place.0 == other.0) && (place.1 == other.1)
+
+-- the bytes of a block, where it is kept
+abbrev pub kept_of : Place → List Kept → Option (List ℕ)
+kept_of place kept = lookup (is_place place) kept
+
+-- all but that block
+abbrev pub others : Place → List Kept → List Kept
+others place kept = remove_entry (is_place place) kept
+
+-- the block goes first, where it is kept
+abbrev pub brought_first : Place → List Kept → List Kept
+brought_first place kept = option_map_or (λ bytes. (place, bytes) ∷ others place kept) (kept_of place kept) kept
+
+-- the block is put first, in the stead of an older one of its place, or of the last where 64 others are kept
+abbrev pub with_kept : Place → List ℕ → List Kept → List Kept
+with_kept place bytes kept = (place, bytes) ∷ take 63 (others place kept)
