@@ -1,3 +1,4 @@
 pub mod NumberLemmas
 pub mod FieldLemmas
 pub mod FaultLemmas
+pub mod PushLemmas

@@ -16,9 +16,11 @@
 mod fields;
 mod laws;
 mod parts;
+mod pushes;
 mod sums;
 
 pub use fields::{get_u16, get_u32, get_u64, put_u16, put_u32, put_u64};
 pub use laws::{fields_have_one_spelling, numbers_have_one_spelling};
 pub use parts::{Damage, Part, Row};
+pub use pushes::{push_fields, push_number};
 pub use sums::{Summer, fnv1a};

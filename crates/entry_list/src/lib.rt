@@ -5,8 +5,8 @@
 //! [`Entry::copy`]. An entry owns its bytes, two pieces of memory, which it never grows.
 //!
 //! A slice of entries is seen as the list of entries that the definitions speak of. Beside it stand a few loops over such
-//! lists, and the way in which a format's numbers are appended: as slow as they are plain, each look-up goes through the
-//! whole list. A store looks its entries up in `mem_table` and in its tables, and not here.
+//! lists, as slow as they are plain: each look-up goes through the whole list. A store looks its entries up in `mem_table`
+//! and in its tables, and not here.
 //!
 //! ```text
 //! let mut list = Vec::new(alloc);
@@ -19,10 +19,8 @@
 
 mod body;
 mod entry;
-mod fields;
 mod list;
 
 pub use body::{HEAD_BYTES, body_length};
 pub use entry::Entry;
-pub use fields::{push_fields, push_number};
 pub use list::{copied, lookup, newest_of, push_copy};

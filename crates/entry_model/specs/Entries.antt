@@ -70,9 +70,13 @@ abbrev pub body : Entry → Bytes
 body entry =
     kind_of entry.value ∷ (little_bytes 2 (length entry.key) ++ (little_bytes 4 (length (bytes_of entry.value)) ++ (entry.key ++ bytes_of entry.value)))
 
+-- the bytes before the key: the kind, and the two lengths
+abbrev pub head_length : ℕ
+head_length = 7
+
 -- the bytes of a body whose key and value have so many
 abbrev pub body_length : ℕ → ℕ → ℕ
-body_length key value = 7 + key + value
+body_length key value = head_length + key + value
 
 -- a record is an open gate and a body
 abbrev pub record_bytes : Entry → Bytes

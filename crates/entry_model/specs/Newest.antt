@@ -1,16 +1,15 @@
 -- The newest entry of each key, by rising keys.
-use Rattle.std.specs.Prelude.{◌≡◌, not, List, [], ◌∷◌, fold, filter, Option, Some, None, if◌then◌else◌, bytes_eq}
+use Rattle.std.specs.Prelude.{not, List, [], ◌∷◌, fold, filter, Option, Some, None, if◌then◌else◌, bytes_eq}
 use Rattle.std.specs.List.{AllByRecursion}
-use Rattle.std.specs.Ordering.{is_lt}
-use Rattle.std.specs.declared.cmp.Ordering.TheVariants.{Less}
+use Rattle.key_base.specs.ByteOrder.{IsBefore, is_before}
 use Rattle.map_model.specs.SortedMap.{Bytes, byte_order, in_place}
 use Rattle.entry_model.specs.Entries.{Entry}
 
 abbrev pub IsBelow : Bytes → Entry → Type 0
-IsBelow key entry = byte_order entry.key key ≡ Less
+IsBelow key entry = IsBefore entry.key key
 
 abbrev pub IsAbove : Bytes → Entry → Type 0
-IsAbove key entry = byte_order key entry.key ≡ Less
+IsAbove key entry = IsBefore key entry.key
 
 -- each key is below all that come after it
 abbrev pub KeysRise : List Entry → Type 0
@@ -33,4 +32,4 @@ lookup (entry ∷ later) key = if bytes_eq entry.key key then Some entry.value e
 
 -- the entries whose keys are this one or more
 abbrev pub entries_from : List Entry → Bytes → List Entry
-entries_from entries low = filter (λ e. not (is_lt (byte_order e.key low))) entries
+entries_from entries low = filter (λ e. not (is_before e.key low)) entries

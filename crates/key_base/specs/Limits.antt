@@ -1,4 +1,4 @@
--- The limits of the store, each in its unit. All that is said of keys, values, lines, pages and tables cites these.
+-- The limits of the store, each in its unit.
 use Rattle.std.specs.Prelude.{ℕ, ◌^◌}
 
 -- the bytes of the longest key; the shortest has one
@@ -21,6 +21,10 @@ max_line_bytes = 140000
 abbrev pub max_input_bytes : ℕ
 max_input_bytes = 2 ^ 40
 
+-- the bytes that one read of the input asks for
+abbrev pub piece_bytes : ℕ
+piece_bytes = 65536
+
 -- the most pairs that one range may ask for
 abbrev pub max_range_pairs : ℕ
 max_range_pairs = 1000000
@@ -42,6 +46,14 @@ log_pages = 64
 
 abbrev pub log_bytes : ℕ
 log_bytes = 262144
+
+-- the bytes of a slot of the manifest, of which there are two at the beginning of the device
+abbrev pub slot_bytes : ℕ
+slot_bytes = 131072
+
+-- the first page of the tables: the slots and the log areas stand before it
+abbrev pub first_table_page : ℕ
+first_table_page = 192
 
 -- the most entries of a block; the fewest is one
 abbrev pub max_block_entries : ℕ

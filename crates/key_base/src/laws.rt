@@ -1,11 +1,12 @@
 //! Laws of the limits; the functions do nothing.
-ghost use Rattle.std.specs.Prelude.{◌≡◌, ◌*◌};
-ghost use Rattle.key_base.specs.Limits.{max_key_bytes, max_bound_bytes, max_value_bytes, max_line_bytes, max_input_bytes, max_range_pairs, page_bytes, min_device_pages, max_device_pages, log_pages, log_bytes, max_block_entries, max_tables, merge_data_pages, max_hash_bits, max_real_bits, max_ratio};
+ghost use Rattle.std.specs.Prelude.{◌≡◌, ◌*◌, ◌+◌};
+ghost use Rattle.key_base.specs.Limits.{max_key_bytes, max_bound_bytes, max_value_bytes, max_line_bytes, max_input_bytes, piece_bytes, max_range_pairs, page_bytes, min_device_pages, max_device_pages, log_pages, log_bytes, slot_bytes, first_table_page, max_block_entries, max_tables, merge_data_pages, max_hash_bits, max_real_bits, max_ratio};
 
 use crate::limits::{
-    LOG_BYTES, LOG_PAGES, MAX_BLOCK_ENTRIES, MAX_BOUND_BYTES, MAX_DEVICE_PAGES, MAX_HASH_BITS,
-    MAX_INPUT_BYTES, MAX_KEY_BYTES, MAX_LINE_BYTES, MAX_RANGE_PAIRS, MAX_RATIO, MAX_REAL_BITS,
-    MAX_TABLES, MAX_VALUE_BYTES, MERGE_DATA_PAGES, MIN_DEVICE_PAGES, PAGE_BYTES,
+    FIRST_TABLE_PAGE, LOG_BYTES, LOG_PAGES, MAX_BLOCK_ENTRIES, MAX_BOUND_BYTES, MAX_DEVICE_PAGES,
+    MAX_HASH_BITS, MAX_INPUT_BYTES, MAX_KEY_BYTES, MAX_LINE_BYTES, MAX_RANGE_PAIRS, MAX_RATIO,
+    MAX_REAL_BITS, MAX_TABLES, MAX_VALUE_BYTES, MERGE_DATA_PAGES, MIN_DEVICE_PAGES, PAGE_BYTES,
+    PIECE_BYTES, SLOT_BYTES,
 };
 
 /// Law: each constant for code is the limit of that name.
@@ -15,12 +16,15 @@ pub fn constants_are_limits()
     ensures max_value_bytes { MAX_VALUE_BYTES ≡ max_value_bytes }
     ensures max_line_bytes { MAX_LINE_BYTES ≡ max_line_bytes }
     ensures max_input_bytes { MAX_INPUT_BYTES ≡ max_input_bytes }
+    ensures piece_bytes { PIECE_BYTES ≡ piece_bytes }
     ensures max_range_pairs { MAX_RANGE_PAIRS ≡ max_range_pairs }
     ensures page_bytes { PAGE_BYTES ≡ page_bytes }
     ensures min_device_pages { MIN_DEVICE_PAGES ≡ min_device_pages }
     ensures max_device_pages { MAX_DEVICE_PAGES ≡ max_device_pages }
     ensures log_pages { LOG_PAGES ≡ log_pages }
     ensures log_bytes { LOG_BYTES ≡ log_bytes }
+    ensures slot_bytes { SLOT_BYTES ≡ slot_bytes }
+    ensures first_table_page { FIRST_TABLE_PAGE ≡ first_table_page }
     ensures max_block_entries { MAX_BLOCK_ENTRIES ≡ max_block_entries }
     ensures max_tables { MAX_TABLES ≡ max_tables }
     ensures merge_data_pages { MERGE_DATA_PAGES ≡ merge_data_pages }
@@ -32,4 +36,9 @@ pub fn constants_are_limits()
 /// Law: the bytes of a log area are those of its pages.
 pub fn log_area()
     ensures { log_bytes ≡ page_bytes * log_pages }
+{}
+
+/// Law: the tables begin behind two slots and two log areas.
+pub fn first_table()
+    ensures { page_bytes * first_table_page ≡ 2 * slot_bytes + 2 * log_bytes }
 {}

@@ -15,6 +15,9 @@ pub const MAX_LINE_BYTES: usize = 140_000;
 /// The bytes of input that one run takes at most: 2^40.
 pub const MAX_INPUT_BYTES: u64 = 1_099_511_627_776;
 
+/// The bytes that one read of the input asks for.
+pub const PIECE_BYTES: usize = 65_536;
+
 /// How many tables a version has at most.
 pub const MAX_TABLES: usize = 1_024;
 
@@ -44,6 +47,12 @@ pub const LOG_PAGES: u32 = 64;
 
 /// The bytes of a log area.
 pub const LOG_BYTES: usize = 262_144;
+
+/// The bytes of a slot of the manifest, of which there are two at the beginning of the device.
+pub const SLOT_BYTES: u64 = 131_072;
+
+/// The first page of the tables: the slots and the log areas stand before it.
+pub const FIRST_TABLE_PAGE: u32 = 192;
 
 /// The data pages at which a merge closes an output table.
 pub const MERGE_DATA_PAGES: u32 = 1_024;

@@ -1,14 +1,13 @@
 //! The order of byte strings, and what two of them begin with alike.
 ghost use Rattle.std.specs.Prelude.{◌≡◌, ◌==◌};
-ghost use Rattle.std.specs.Cmp.Lexicographic.{slice_cmp};
 ghost use Rattle.std.specs.List.{common_prefix_len};
-ghost use Rattle.std.specs.Ordering.{nat_cmp};
+ghost use Rattle.key_base.specs.ByteOrder.{byte_order};
 
 use std::cmp::Ordering;
 
 /// How `a` and `b` compare, byte by byte: the first bytes that differ decide, and a proper prefix comes first.
 pub fn compare(a: &[u8], b: &[u8]) -> Ordering
-    ensures { result ≡ slice_cmp nat_cmp a.now b.now }
+    ensures { result ≡ byte_order a.now b.now }
 {
     a.cmp(b)
 }

@@ -1,3 +1,4 @@
+pub use Rattle.key_base.specs.ByteOrder
 pub mod SortedMap
 pub mod Slices
 pub mod Laws

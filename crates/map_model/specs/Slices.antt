@@ -1,11 +1,7 @@
 -- What is read of a sorted map between two keys.
 use Rattle.std.specs.Prelude.{ℕ, Bool, true, not, ◌&&◌, [], ◌∷◌, length, take, filter, Option, Some, None}
-use Rattle.std.specs.Ordering.{is_lt}
-use Rattle.map_model.specs.SortedMap.{Bytes, Map, byte_order}
-
--- x comes before y: byte by byte, a proper prefix first
-abbrev pub is_before : Bytes → Bytes → Bool
-is_before x y = is_lt (byte_order x y)
+pub use Rattle.key_base.specs.ByteOrder.{is_before}
+use Rattle.map_model.specs.SortedMap.{Bytes, Map}
 
 -- the key is not above the upper end, where there is one
 abbrev pub is_up_to : Option Bytes → Bytes → Bool

@@ -1,19 +1,11 @@
 -- The sorted map: pairs of byte strings with strictly rising keys.
-use Rattle.std.specs.Prelude.{◌≡◌, ℕ, List, [], ◌∷◌, Option, Some, None, if◌then◌else◌, bytes_eq}
+use Rattle.std.specs.Prelude.{◌≡◌, List, [], ◌∷◌, Option, Some, None, if◌then◌else◌, bytes_eq}
 use Rattle.std.specs.declared.cmp.Ordering.{Ordering}
 use Rattle.std.specs.declared.cmp.Ordering.TheVariants.{Less, Equal, Greater}
-use Rattle.std.specs.Cmp.Lexicographic.{slice_cmp}
-use Rattle.std.specs.Ordering.{nat_cmp}
-
-abbrev pub Bytes : Type 0
-Bytes = List ℕ
+pub use Rattle.key_base.specs.ByteOrder.{Bytes, byte_order}
 
 abbrev pub Map : Type 0
 Map = List (Bytes × Bytes)
-
--- byte by byte, a proper prefix first
-abbrev pub byte_order : Bytes → Bytes → Ordering
-byte_order a b = slice_cmp nat_cmp a b
 
 -- the value under the key
 abbrev pub get : Map → Bytes → Option Bytes
