@@ -1,3 +1,4 @@
+pub use Rattle.byte_fields.specs.declared.parts
 pub mod Lines
 pub mod Requests
 pub mod Replies

@@ -1,7 +1,6 @@
 -- How a request that breaks a limit of keys, values or bounds is answered.
 use Rattle.std.specs.Prelude.{◌==◌, ◌||◌, nat_lt, if◌then◌else◌, length, Option, Some, None}
 use Rattle.key_base.specs.Limits.{max_key_bytes, max_value_bytes, max_bound_bytes}
-pub use Rattle.key_base.specs.Limits.{max_input_bytes}
 use Rattle.map_model.specs.SortedMap.{Bytes}
 use Rattle.line_model.specs.Requests.{Request, Put, Del, Get, Seek, Range, Count, Estimate, Explain, Flush, Compact, Quit, Bad}
 use Rattle.line_model.specs.Replies.{Reply, LongKey, LongValue}

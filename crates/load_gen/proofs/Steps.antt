@@ -8,25 +8,25 @@ use Rattle.std.proofs.lemmas.List.Sums.{fold-append}
 use Rattle.byteorder.specs.Endian.{little_bytes}
 use Rattle.byte_fields.specs.Spelling.{IsBytes}
 use Rattle.entry_model.specs.Entries.{IsEntry, put_entry, del_entry, changed, map_of}
-use Rattle.load_gen.specs.Generator.{next_number, key_of, step_of, number_after, steps}
+use Rattle.load_gen.specs.Generator.{next_number, key_of, step_of, number_after, first_steps}
 
-pub steps_counted : (seed n : ℕ) → length (steps seed n) ≡ n
+pub steps_counted : (seed n : ℕ) → length (first_steps seed n) ≡ n
 steps_counted seed zero = refl
-steps_counted seed (suc n) = omega (arith, length_push (steps seed n) (step_of (number_after seed (suc n))), steps_counted seed n)
+steps_counted seed (suc n) = omega (arith, length_push (first_steps seed n) (step_of (number_after seed (suc n))), steps_counted seed n)
 
 -- m steps are the first of k more
-front_of_more : (seed m k n : ℕ) → n ≡ k + m → take m (steps seed n) ≡ steps seed m
+front_of_more : (seed m k n : ℕ) → n ≡ k + m → take m (first_steps seed n) ≡ first_steps seed m
 front_of_more seed m zero n is =
     let same : n ≡ m = omega (arith, is) in
-    subst (λ (j : ℕ). take m (steps seed j) ≡ steps seed m) (sym same) (take_all m (steps seed m) (omega (arith, steps_counted seed m)))
+    subst (λ (j : ℕ). take m (first_steps seed j) ≡ first_steps seed m) (sym same) (take_all m (first_steps seed m) (omega (arith, steps_counted seed m)))
 front_of_more seed m (suc k) n is =
     let more : n ≡ suc (k + m) = omega (arith, is) in
-    subst (λ (j : ℕ). take m (steps seed j) ≡ steps seed m) (sym more)
-    (take-append-le m (steps seed (k + m)) (step_of (number_after seed (suc (k + m))) ∷ []) (omega (arith, steps_counted seed (k + m)))
+    subst (λ (j : ℕ). take m (first_steps seed j) ≡ first_steps seed m) (sym more)
+    (take-append-le m (first_steps seed (k + m)) (step_of (number_after seed (suc (k + m))) ∷ []) (omega (arith, steps_counted seed (k + m)))
     ∙ front_of_more seed m k (k + m) refl)
 
-pub steps_front : (seed m n : ℕ) → m ≤ n → take m (steps seed n) ≡ steps seed m
-steps_front seed m n few = front_of_more seed m (n - m) n (omega (arith, few))
+pub steps_prefix : (seed m n : ℕ) → m ≤ n → take m (first_steps seed n) ≡ first_steps seed m
+steps_prefix seed m n few = front_of_more seed m (n - m) n (omega (arith, few))
 
 -- ---- bytes
 
@@ -75,10 +75,10 @@ step_sound x = elim ((x / 2 ^ 32) % 8 == 0) as (λ t. IsEntry (cond t (del_entry
   | false ↦ put_sound x
 ]
 
-pub steps_sound : (seed n : ℕ) → All IsEntry (steps seed n)
+pub steps_sound : (seed n : ℕ) → All IsEntry (first_steps seed n)
 steps_sound seed zero = All-from_recursion IsEntry [] tt
 steps_sound seed (suc n) =
-    All-append IsEntry (steps seed n) (step_of (number_after seed (suc n)) ∷ []) (steps_sound seed n)
+    All-append IsEntry (first_steps seed n) (step_of (number_after seed (suc n)) ∷ []) (steps_sound seed n)
     (All-from_recursion IsEntry (step_of (number_after seed (suc n)) ∷ []) (step_sound (number_after seed (suc n)), tt))
 
 -- ---- one step more
@@ -89,10 +89,10 @@ one_more n = omega arith
 pub number_more : (seed n : ℕ) → number_after seed (n + 1) ≡ next_number (number_after seed n)
 number_more seed n = ap (number_after seed) (one_more n)
 
-pub steps_more : (seed n : ℕ) → steps seed (n + 1) ≡ steps seed n ++ step_of (number_after seed (n + 1)) ∷ []
-steps_more seed n = ap (steps seed) (one_more n) ∙ ap (λ (k : ℕ). steps seed n ++ step_of (number_after seed k) ∷ []) (sym (one_more n))
+pub steps_more : (seed n : ℕ) → first_steps seed (n + 1) ≡ first_steps seed n ++ step_of (number_after seed (n + 1)) ∷ []
+steps_more seed n = ap (first_steps seed) (one_more n) ∙ ap (λ (k : ℕ). first_steps seed n ++ step_of (number_after seed k) ∷ []) (sym (one_more n))
 
-pub map_more : (seed n : ℕ) → map_of (steps seed (n + 1)) ≡ changed (map_of (steps seed n)) (step_of (next_number (number_after seed n)))
+pub map_more : (seed n : ℕ) → map_of (first_steps seed (n + 1)) ≡ changed (map_of (first_steps seed n)) (step_of (next_number (number_after seed n)))
 map_more seed n =
-    ap map_of (steps_more seed n) ∙ fold-append changed [] (steps seed n) (step_of (number_after seed (n + 1)) ∷ [])
-    ∙ ap (λ (x : ℕ). changed (map_of (steps seed n)) (step_of x)) (number_more seed n)
+    ap map_of (steps_more seed n) ∙ fold-append changed [] (first_steps seed n) (step_of (number_after seed (n + 1)) ∷ [])
+    ∙ ap (λ (x : ℕ). changed (map_of (first_steps seed n)) (step_of x)) (number_more seed n)

@@ -22,6 +22,6 @@ number_after seed zero = seed
 number_after seed (suc n) = next_number (number_after seed n)
 
 -- the first n steps of a seed
-abbrev pub steps : ℕ → ℕ → List Entry
-steps seed zero = []
-steps seed (suc n) = steps seed n ++ step_of (number_after seed (suc n)) ∷ []
+abbrev pub first_steps : ℕ → ℕ → List Entry
+first_steps seed zero = []
+first_steps seed (suc n) = first_steps seed n ++ step_of (number_after seed (suc n)) ∷ []

@@ -4,14 +4,14 @@ use Rattle.std.specs.List.{All}
 use Rattle.byteorder.specs.Endian.{little_bytes}
 use Rattle.map_model.specs.SortedMap.{Bytes, Map}
 use Rattle.entry_model.specs.Entries.{IsEntry}
-use Rattle.load_gen.specs.Generator.{steps}
+use Rattle.load_gen.specs.Generator.{first_steps}
 use Rattle.load_gen.specs.Summary.{value_number, summary_of}
 
 -- There are as many steps as are asked for, fewer are the first of more, and a store may have each: no limit is broken.
 pub record StepLaws : Type 0 where
-  pub count : (seed n : ℕ) → length (steps seed n) ≡ n
-  pub front : (seed m n : ℕ) → m ≤ n → take m (steps seed n) ≡ steps seed m
-  pub sound : (seed n : ℕ) → All IsEntry (steps seed n)
+  pub count : (seed n : ℕ) → length (first_steps seed n) ≡ n
+  pub prefix : (seed m n : ℕ) → m ≤ n → take m (first_steps seed n) ≡ first_steps seed m
+  pub sound : (seed n : ℕ) → All IsEntry (first_steps seed n)
 
 -- A summary tells the number of pairs, and the sum of all their numbers, modulo 2^64; the value of a step counts the number
 -- that it was made of.

@@ -8,7 +8,7 @@ use crate::summary::Summary;
 /// No summary's line is longer, in bytes.
 pub const LINE_BYTES: usize = 108;
 
-/// Writes the line that a load says at its end to the front of a buffer, and answers how many bytes it has: how many
+/// Writes the line that a load says at its end to the beginning of a buffer, and answers how many bytes it has: how many
 /// steps it made, how many of them were refused, and the summary of the map then. Takes no memory.
 pub fn spell_summary(count: u64, refused: u64, summary: &Summary, into: &mut [u8]) -> usize
     requires { 108 ≤ length into.old }

@@ -1,7 +1,7 @@
 //! A load, step by step into a sorted map.
 ghost use Rattle.std.specs.Prelude.{◌≡◌, IfOk, OnOk};
 ghost use Rattle.entry_model.specs.Entries.{changed, entry_of, map_of};
-ghost use Rattle.load_gen.specs.Generator.{steps};
+ghost use Rattle.load_gen.specs.Generator.{first_steps};
 ghost use Rattle.load_gen.specs.Summary.{summary_of};
 
 use load_gen::{LoadGen, LoadStep, Summary};
@@ -10,7 +10,7 @@ use std::alloc::{AllocError, Global};
 
 /// The map that so many steps of a seed make of an empty one.
 pub fn loaded(alloc: Global, seed: u64, count: u32) -> Result<PlainMap, AllocError>
-    ensures { IfOk result (λ map. map ≡ map_of (steps seed count)) }
+    ensures { IfOk result (λ map. map ≡ map_of (first_steps seed count)) }
 {
     let mut map = PlainMap::new(alloc);
     let mut generator = LoadGen::new(seed);

@@ -1,5 +1,6 @@
 -- What a line that was read asks.
-use Rattle.std.specs.Prelude.{◌≡◌, ◌<◌, ◌≤◌, ◌+◌, ℕ, List, [], ◌∷◌, length, Result, Ok, Err, option_map}
+use Rattle.std.specs.Prelude.{◌≡◌, ◌<◌, ◌≤◌, ◌+◌, ◌/◌, ℕ, List, [], ◌∷◌, length, Result, Ok, Err, option_map}
+use Rattle.key_base.specs.Limits.{max_line_bytes}
 use Rattle.map_model.specs.SortedMap.{Bytes}
 use Rattle.line_model.specs.Requests as line
 use Rattle.store_commands.specs.declared.request.BadLine.{BadLine}
@@ -34,6 +35,10 @@ AreWords (One first) words = words ≡ first.now ∷ []
 AreWords (Two first second) words = words ≡ first.now ∷ second.now ∷ []
 AreWords (Three first second third) words = words ≡ first.now ∷ second.now ∷ third.now ∷ []
 AreWords More words = 3 < length words
+
+-- the room for what the words of any line spell: two digits a byte
+abbrev pub scratch_bytes : ℕ
+scratch_bytes = max_line_bytes / 2
 
 -- the first two of the words have together at most so many bytes
 abbrev pub AreWithin : ℕ → Words → Type 0

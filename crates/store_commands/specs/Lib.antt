@@ -1,3 +1,4 @@
+pub use Rattle.line_model.specs.Lines
 pub use Rattle.line_model.specs.Replies
 pub use Rattle.line_model.specs.Requests
 pub mod Answered

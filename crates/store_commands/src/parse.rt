@@ -6,7 +6,7 @@ ghost use Rattle.line_model.specs.Requests as grammar;
 ghost use Rattle.line_model.specs.Requests.{Bad, asked_by, request_of, one_of, two_of, none_of, with_two, seek_of, range_of};
 ghost use Rattle.line_model.specs.Lines.{bytes_in};
 ghost use Rattle.store_commands.specs.Verbs.{verb_word};
-ghost use Rattle.store_commands.specs.Asks.{Asks, AreWords, AreWithin};
+ghost use Rattle.store_commands.specs.Asks.{Asks, AreWords, AreWithin, scratch_bytes};
 
 use crate::request::{BadLine, Request};
 use crate::verb::{Verb, verb_in};
@@ -21,7 +21,7 @@ const SCRATCH_BYTES: usize = MAX_LINE_BYTES / 2;
 #[derive(Drop)]
 pub struct Scratch {
     bytes: Vec<u8>,
-    ghost size: { vec_len bytes ≡ 70000 },
+    ghost size: { vec_len bytes ≡ scratch_bytes },
 }
 
 impl Scratch {
@@ -47,7 +47,7 @@ fn decoded_two<'a>(first: &[u8], second: &[u8], room: &'a mut [u8]) -> Option<(&
 
 // The one key behind a verb.
 fn one_key<'a>(words: Words<'_>, room: &'a mut [u8]) -> Result<&'a [u8], BadLine>
-    requires room { length room.old ≡ 70000 }
+    requires room { length room.old ≡ scratch_bytes }
     requires sizes { AreWithin max_line_bytes words }
     ensures key { (list : List Bytes) (asks : Bytes → grammar.Request) → AreWords words.entry list → IfOk result (λ key. one_of asks list ≡ asks key.now) }
     ensures bad { (list : List Bytes) (asks : Bytes → grammar.Request) → AreWords words.entry list → IfErr result (λ bad. one_of asks list ≡ Bad bad.0) }
@@ -63,7 +63,7 @@ fn one_key<'a>(words: Words<'_>, room: &'a mut [u8]) -> Result<&'a [u8], BadLine
 
 // The two keys behind a verb, or the key and the value.
 fn two_keys<'a>(words: Words<'_>, room: &'a mut [u8]) -> Result<(&'a [u8], &'a [u8]), BadLine>
-    requires room { length room.old ≡ 70000 }
+    requires room { length room.old ≡ scratch_bytes }
     requires sizes { AreWithin max_line_bytes words }
     ensures keys { (list : List Bytes) (asks : Bytes → Bytes → grammar.Request) → AreWords words.entry list → IfOk result (λ keys. two_of asks list ≡ asks keys.0.now keys.1.now) }
     ensures bad { (list : List Bytes) (asks : Bytes → Bytes → grammar.Request) → AreWords words.entry list → IfErr result (λ bad. two_of asks list ≡ Bad bad.0) }
@@ -89,7 +89,7 @@ fn no_word(words: Words<'_>) -> Result<(), BadLine>
 }
 
 fn parse_seek<'a>(words: Words<'_>, room: &'a mut [u8]) -> Result<Request<'a>, BadLine>
-    requires room { length room.old ≡ 70000 }
+    requires room { length room.old ≡ scratch_bytes }
     requires sizes { AreWithin max_line_bytes words }
     ensures { (list : List Bytes) → AreWords words.entry list → Asks result (seek_of list) }
 {
@@ -107,7 +107,7 @@ fn parse_seek<'a>(words: Words<'_>, room: &'a mut [u8]) -> Result<Request<'a>, B
 }
 
 fn parse_range<'a>(words: Words<'_>, room: &'a mut [u8]) -> Result<Request<'a>, BadLine>
-    requires room { length room.old ≡ 70000 }
+    requires room { length room.old ≡ scratch_bytes }
     requires sizes { AreWithin max_line_bytes words }
     ensures { (list : List Bytes) → AreWords words.entry list → Asks result (range_of list) }
 {
@@ -125,7 +125,7 @@ fn parse_range<'a>(words: Words<'_>, room: &'a mut [u8]) -> Result<Request<'a>, 
 
 // What a verb asks with the words behind it.
 fn parse_words<'a>(verb: Verb, words: Words<'_>, room: &'a mut [u8]) -> Result<Request<'a>, BadLine>
-    requires room { length room.old ≡ 70000 }
+    requires room { length room.old ≡ scratch_bytes }
     requires sizes { AreWithin max_line_bytes words }
     ensures { (list : List Bytes) → AreWords words.entry list → Asks result (asked_by (verb_word verb ∷ list)) }
 {

@@ -29,7 +29,7 @@ pub enum Reply<'a> {
     Counted(u64),
     /// `about n`: there are about n keys.
     About(u64),
-    /// `tables t admitted a blocks b`: of t tables the filters of a admitted the key, and b blocks were read.
+    /// `tables t admitted a blocks b`: the tables, those whose filter admits the key, those of which a block is read for it.
     Explained {
         tables: u64,
         admitted: u64,

@@ -9,19 +9,19 @@ pub enum Request<'a> {
     Del { key: &'a [u8] },
     /// Look a key up.
     Get { key: &'a [u8] },
-    /// The least key that is `lo` or more and, where there is an upper bound, below `hi`.
+    /// The first pair from `lo` on, up to `hi` where it is named. Both ends belong to the range, here and below.
     Seek { lo: &'a [u8], hi: Option<&'a [u8]> },
-    /// The first `n` pairs from `lo` on, below `hi`.
+    /// The first `n` pairs from `lo` to `hi`.
     Range { lo: &'a [u8], hi: &'a [u8], n: u32 },
-    /// How many keys there are from `lo` on, below `hi`.
+    /// How many pairs lie from `lo` to `hi`.
     Count { lo: &'a [u8], hi: &'a [u8] },
-    /// About how many there are, by the filters alone.
+    /// About how many there are: the memory entries there and what the filters count.
     Estimate { lo: &'a [u8], hi: &'a [u8] },
     /// Which tables a look-up of the key asks.
     Explain { key: &'a [u8] },
     /// Write what is in memory to a table.
     Flush,
-    /// Merge all tables to one.
+    /// Merge all tables and the memory entries.
     Compact,
     /// End the run.
     Quit,

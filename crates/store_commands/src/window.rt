@@ -5,6 +5,11 @@ ghost use Rattle.map_model.specs.SortedMap.{Bytes};
 ghost use Rattle.line_model.specs.Replies.{word_of};
 ghost use Rattle.store_commands.specs.Spoken.{HasPiece};
 
+// How many bytes are spelled at a time, and the digits that they take.
+const CHUNK_BYTES: usize = 512;
+
+const CHUNK_DIGITS: usize = 2 * CHUNK_BYTES;
+
 /// How much of a reply stands in a buffer, and how many of its bytes are still to be passed over.
 #[derive(Clone, Copy)]
 pub struct Window {
@@ -51,7 +56,7 @@ pub fn add_number(into: &mut [u8], window: Window, number: u64) -> Window
 // Some bytes more, in hex. What does not land in the buffer is not spelled.
 fn add_chunk(into: &mut [u8], window: Window, chunk: &[u8]) -> Window
     requires filled { window.filled ≤ length into.old }
-    requires short { length chunk.now ≤ 512 }
+    requires short { length chunk.now ≤ CHUNK_BYTES }
     ensures shows { (from : ℕ) (whole : Bytes) → HasPiece from whole window.filled window.skip into.old → HasPiece from (whole ++ encode_lower chunk.now) result.filled result.skip into.new }
     ensures within { result.filled ≤ length into.old }
 {
@@ -62,7 +67,7 @@ fn add_chunk(into: &mut [u8], window: Window, chunk: &[u8]) -> Window
             skip: window.skip.saturating_sub(n),
         };
     }
-    let mut digits = [0; 1024];
+    let mut digits = [0; CHUNK_DIGITS];
     match hex::encode_to_slice(chunk, &mut digits[..n]) {
         Ok(()) => add(into, window, &digits[..n]),
         Err(_) => unreachable!(),
@@ -78,7 +83,7 @@ pub fn add_hex(into: &mut [u8], window: Window, bytes: &[u8]) -> Window
     let mut window = window;
     let mut rest = bytes;
     while !rest.is_empty() {
-        let (chunk, more) = rest.split_at(rest.len().min(512));
+        let (chunk, more) = rest.split_at(rest.len().min(CHUNK_BYTES));
         window = add_chunk(into, window, chunk);
         rest = more;
     }

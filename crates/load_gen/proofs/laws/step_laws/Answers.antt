@@ -1,5 +1,5 @@
-use Rattle.load_gen.proofs.Steps.{steps_counted, steps_front, steps_sound}
+use Rattle.load_gen.proofs.Steps.{steps_counted, steps_prefix, steps_sound}
 use Rattle.load_gen.proofs.laws.step_laws.Goals as goal
 
 pub returns : goal.returns
-returns c = record { count = steps_counted; front = steps_front; sound = steps_sound }
+returns c = record { count = steps_counted; prefix = steps_prefix; sound = steps_sound }
