@@ -5,7 +5,7 @@ use Rattle.disk_trait.proofs.Images.{torn_same, whole}
 use Rattle.disk_mem.specs.Bytes.{image_of, written}
 use Rattle.disk_mem.specs.Calls.{Call, Left, Becomes, bytes_after, calls_by}
 use Rattle.disk_mem.specs.History.{LeftImage, world_of, raised, read_call, failed_read_call, write_call, sync_call}
-use Rattle.disk_mem.specs.Current.{read_is_left}
+use Rattle.disk_mem.specs.CurrentLaws.{read_is_left}
 use Rattle.disk_mem.proofs.Written.{image_of-written}
 
 -- ---- calls by moments

@@ -1,7 +1,10 @@
+pub use Rattle.disk_trait.specs.declared.fault
+pub use Rattle.disk_trait.specs.Fault
+pub use Rattle.disk_trait.specs.World
 pub mod Bytes
 pub mod Calls
 pub mod Choices
-pub mod Current
+pub mod CurrentLaws
 pub mod History
 pub mod Kept
 pub mod Laws

@@ -11,7 +11,7 @@ use disk_trait::{Disk, DiskFault};
 impl Disk for MemDisk {
     ghost use Rattle.std.specs.Prelude.{true};
     ghost use Rattle.disk_mem.specs.History.{disk_world};
-    ghost use Rattle.disk_mem.specs.Current.{current_is_left};
+    ghost use Rattle.disk_mem.specs.CurrentLaws.{current_is_left};
 
     ghost tells = { true };
 

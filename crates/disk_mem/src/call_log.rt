@@ -9,7 +9,7 @@ use std::marker::Model;
 
 /// A call: its bytes stand in the row, `len` of them from place `from` on.
 #[derive(Clone, Copy)]
-pub struct Entry {
+pub struct CallRow {
     pub op: Op,
     pub at: u64,
     pub from: usize,
@@ -17,9 +17,10 @@ pub struct Entry {
     pub done: bool,
 }
 
+/// The calls of a disk, the first call first.
 #[derive(Drop)]
 pub struct CallLog {
-    entries: Vec<Entry>,
+    entries: Vec<CallRow>,
     moved: Vec<u8>,
 }
 
@@ -79,7 +80,7 @@ impl CallLog {
             Ok(()) => {}
             Err(_) => unreachable!(),
         }
-        self.entries.push_reserved(Entry {
+        self.entries.push_reserved(CallRow {
             op,
             at,
             from,

@@ -1,6 +1,6 @@
 -- The laws of images.
-use Rattle.std.specs.Prelude.{◌≡◌, ◌⊎◌, ℕ, ◌+◌, ◌≤◌, List, length}
-use Rattle.disk_trait.specs.Image.{Image, window, overwritten, Torn}
+use Rattle.std.specs.Prelude.{◌≡◌, ℕ, List, length}
+use Rattle.disk_trait.specs.Image.{Image, IsApart, window, overwritten, Torn}
 
 -- what was written is read
 abbrev pub ReadsBack : Type 0
@@ -8,7 +8,7 @@ ReadsBack = (image : Image) (at : ℕ) (bytes : List ℕ) → window (overwritte
 
 -- what lies apart from a range, done or cut short, is read as before
 abbrev pub ReadsElsewhere : Type 0
-ReadsElsewhere = (at n : ℕ) (old new : Image) (from size : ℕ) → (from + size ≤ at) ⊎ (at + n ≤ from) → Torn at n old new → window new from size ≡ window old from size
+ReadsElsewhere = (at n : ℕ) (old new : Image) (from size : ℕ) → IsApart from size at n → Torn at n old new → window new from size ≡ window old from size
 
 -- a whole write is one of those that may be cut short
 abbrev pub MayBeTorn : Type 0

@@ -4,27 +4,21 @@ ghost use Rattle.disk_trait.specs.Fault.{IsWriteThroughFault};
 ghost use Rattle.disk_trait.specs.Image.{overwritten};
 ghost use Rattle.disk_trait.specs.World.{Now, Leads, ReadMoves, WriteMoves, Rose};
 ghost use Rattle.key_base.specs.Limits.{log_bytes, max_key_bytes, max_value_bytes};
-ghost use Rattle.entry_model.specs.Entries.{filled, need, body_length, record_bytes, IsEntry};
+ghost use Rattle.entry_model.specs.Entries.{filled, need, body_length, record_bytes, entry_of, IsEntry};
 ghost use Rattle.entry_model.specs.Entries as model;
 ghost use Rattle.log_model.specs.Area.{Position, LogIs, WithOrWithout, IsNextRecord, start_of, area_in};
 ghost use Rattle.gate_log.specs.Faults.{IsAppendFault, IsShapeIn, HasReadCause, IsNoShape};
 ghost use Rattle.std.specs.List.{AllByRecursion};
-ghost use Rattle.gate_log.specs.Kinds.{KeepsRules, entry_of_kind};
+ghost use Rattle.gate_log.specs.Values.{value_of};
 
-use crate::entry::Kind;
 use crate::fault::{AreaFault, LogFault};
 use crate::reading::entries_in;
-use crate::writing::put_record;
+use crate::writing::{CLOSED, OPEN, put_record};
 use disk_trait::{Disk, DiskFault, write_through};
 use entry_list::Entry;
 use key_base::LOG_BYTES;
 use std::alloc::Global;
 use std::marker::Model;
-
-/// What a gate reads that is open. Every other byte is a closed one.
-pub(crate) const OPEN: u8 = 1;
-
-const CLOSED: u8 = 0;
 
 /// A log in one of the two areas of a device: where its next record goes.
 #[derive(Drop)]
@@ -135,14 +129,14 @@ impl Log {
         LOG_BYTES - self.filled
     }
 
-    /// Whether a record whose body has `n` bytes fits: its gate, its body and the gate behind it.
-    pub fn fits(&self, n: usize) -> bool
-        ensures { IsTrue result ↔ (self.now.filled + 1 + n + 1 ≤ log_bytes) }
+    /// Whether a record fits that needs so many bytes, its gate and the one behind it among them.
+    pub fn fits(&self, need: usize) -> bool
+        ensures { IsTrue result ↔ (self.now.filled + need ≤ log_bytes) }
     {
-        n < LOG_BYTES - self.filled - 1
+        need <= self.gap()
     }
 
-    /// Adds a record: its body with the closed gate behind it, and, once these are synced, the open gate.
+    /// Adds the record of a key with its value, or without, which deletes it: its body with the closed gate behind it, and, once these are synced, the open gate.
     ///
     /// At `Ok` each image that a crash may leave has the record, and the device holds its bytes and a closed gate behind
     /// them; meanwhile, and after an `Err`, it is there or not, never in part. Two writes and two syncs, no read and no
@@ -151,27 +145,26 @@ impl Log {
         &mut self,
         disk: &mut D,
         buf: &mut [u8],
-        kind: Kind,
         key: &[u8],
-        value: &[u8],
+        value: Option<&[u8]>,
     ) -> Result<(), DiskFault>
-        requires rules { KeepsRules kind key.now value.now }
-        requires fits { self.old.filled + need (entry_of_kind kind key.now value.now) ≤ log_bytes }
-        requires room { need (entry_of_kind kind key.now value.now) ≤ length buf.old + 1 }
+        requires sound { IsEntry (entry_of key.now (value_of value)) }
+        requires fits { self.old.filled + need (entry_of key.now (value_of value)) ≤ log_bytes }
+        requires room { need (entry_of key.now (value_of value)) ≤ length buf.old + 1 }
         ensures crash { (entries : List model.Entry) → IsTrue D.tells → self.old.filled ≡ filled entries
-            → Leads (LogIs self.old.area entries) (WithOrWithout self.old.area entries (entry_of_kind kind key.now value.now)) (LogIs self.old.area (entries ++ entry_of_kind kind key.now value.now ∷ []))
+            → Leads (LogIs self.old.area entries) (WithOrWithout self.old.area entries (entry_of key.now (value_of value.entry))) (LogIs self.old.area (entries ++ entry_of key.now (value_of value.entry) ∷ []))
             result (D.world disk.old) (D.world disk.new) }
         ensures held { IsTrue D.tells → OnOk result ((D.world disk.new).seen.held
-            ≡ overwritten (D.world disk.old).seen.held (start_of self.old.area + self.old.filled) (record_bytes (entry_of_kind kind key.now value.now) ++ 0 ∷ [])) }
+            ≡ overwritten (D.world disk.old).seen.held (start_of self.old.area + self.old.filled) (record_bytes (entry_of key.now (value_of value.entry)) ++ 0 ∷ [])) }
         ensures area { self.new.area ≡ self.old.area }
-        ensures filled { OnOk result (self.new.filled + 1 ≡ self.old.filled + need (entry_of_kind kind key.now value.now)) }
-        ensures stays { OnErr result (self.new ≡ self.old) }
-        ensures moves { WriteMoves (start_of self.old.area + self.old.filled) (need (entry_of_kind kind key.now value.now)) (D.world disk.old) (D.world disk.new) }
+        ensures filled { OnOk result (self.new.filled + 1 ≡ self.old.filled + need (entry_of key.now (value_of value.entry))) }
+        ensures unchanged { OnErr result (self.new ≡ self.old) }
+        ensures moves { WriteMoves (start_of self.old.area + self.old.filled) (need (entry_of key.now (value_of value.entry))) (D.world disk.old) (D.world disk.new) }
         ensures fault { IfErr result (IsAppendFault (start_of self.old.area + self.old.filled)) }
         ensures cause { OnErr result (Rose (D.world disk.old).seen.write_faults (D.world disk.new).seen.write_faults) }
     {
         let gate = area_start(self.area) + self.filled as u64;
-        let length = put_record(buf, kind, key, value);
+        let length = put_record(buf, key, value);
         write_record(disk, gate, &buf[..length])?;
         self.filled += length;
         Ok(())
@@ -190,10 +183,7 @@ impl Log {
         ensures moves { WriteMoves (start_of self.old.area + self.old.filled) (need entry.now) (D.world disk.old) (D.world disk.new) }
         ensures cause { OnErr result (Rose (D.world disk.old).seen.write_faults (D.world disk.new).seen.write_faults) }
     {
-        match entry.value() {
-            Some(value) => self.append(disk, buf, Kind::Put, entry.key(), value),
-            None => self.append(disk, buf, Kind::Delete, entry.key(), &[]),
-        }
+        self.append(disk, buf, entry.key(), entry.value())
     }
 }
 

@@ -7,9 +7,9 @@ ghost use Rattle.log_model.specs.Records.{Spells, broken_rule};
 ghost use Rattle.entry_model.specs.Reading.{entry_in, width_in};
 ghost use Rattle.gate_log.specs.Faults.{IsFaultIn};
 
-use crate::entry::Kind;
 use crate::fault::AreaFault;
-use crate::log::OPEN;
+use crate::kind::Kind;
+use crate::writing::OPEN;
 use byte_fields::{get_u16, get_u32};
 use entry_list::{Entry, HEAD_BYTES};
 use key_base::{MAX_KEY_BYTES, MAX_VALUE_BYTES};

@@ -1,16 +1,23 @@
 //! The bytes of a record.
 ghost use Rattle.std.specs.Prelude.{◌≡◌, ◌+◌, ◌≤◌, ◌++◌, [], ◌∷◌, length, take};
-ghost use Rattle.key_base.specs.Limits.{max_key_bytes, max_value_bytes};
-ghost use Rattle.entry_model.specs.Entries.{body, body_length};
-ghost use Rattle.gate_log.specs.Kinds.{KeepsRules, entry_of_kind};
+ghost use Rattle.entry_model.specs.Entries.{IsEntry, body, bytes_of, entry_of, kind_of, need};
+ghost use Rattle.gate_log.specs.Values.{value_of};
 
-use crate::entry::Kind;
+use crate::kind::Kind;
 use byte_fields::{put_u16, put_u32};
-use entry_list::HEAD_BYTES;
+use entry_list::{HEAD_BYTES, body_length};
 use key_base::{MAX_KEY_BYTES, MAX_VALUE_BYTES};
 
+/// What a gate reads that is open. Every other byte is a closed one.
+pub(crate) const OPEN: u8 = 1;
+
+/// What a gate is closed by.
+pub(crate) const CLOSED: u8 = 0;
+
+const GATE_BYTES: usize = 1;
+
 /// The bytes in which each record is laid out: the longest body, and the gate behind it.
-pub const BUFFER_BYTES: usize = HEAD_BYTES + MAX_KEY_BYTES + MAX_VALUE_BYTES + 1;
+pub const BUFFER_BYTES: usize = HEAD_BYTES + MAX_KEY_BYTES + MAX_VALUE_BYTES + GATE_BYTES;
 
 // Puts bytes behind those that stand at the start of a buffer, and answers where they end.
 fn put(buf: &mut [u8], at: usize, bytes: &[u8]) -> usize
@@ -23,18 +30,47 @@ fn put(buf: &mut [u8], at: usize, bytes: &[u8]) -> usize
     end
 }
 
-/// Lays out an entry's body with a closed gate behind it, and answers how many bytes they are.
-pub(crate) fn put_record(buf: &mut [u8], kind: Kind, key: &[u8], value: &[u8]) -> usize
-    requires rules { KeepsRules kind key.now value.now }
-    requires room { body_length (length key.now) (length value.now) + 1 ≤ length buf.old }
-    ensures end { result ≡ body_length (length key.now) (length value.now) + 1 }
-    ensures bytes { take result buf.new ≡ body (entry_of_kind kind key.now value.now) ++ 0 ∷ [] }
+// The bytes of a value, none of a tombstone.
+fn value_bytes<'a>(value: Option<&'a [u8]>) -> &'a [u8]
+    ensures { result.now ≡ bytes_of (value_of value.entry) }
 {
-    let mut head = [kind as u8; HEAD_BYTES];
+    match value {
+        Some(bytes) => bytes,
+        None => b"",
+    }
+}
+
+// The byte of a record's kind.
+fn kind(value: Option<&[u8]>) -> u8
+    ensures { result ≡ kind_of (value_of value.entry) }
+{
+    match value {
+        Some(_) => Kind::Put as u8,
+        None => Kind::Delete as u8,
+    }
+}
+
+/// The bytes that a record takes of its area: its gate, its body and the gate behind it.
+pub fn record_need(key: &[u8], value: Option<&[u8]>) -> usize
+    requires { IsEntry (entry_of key.now (value_of value)) }
+    ensures { result ≡ need (entry_of key.now (value_of value.entry)) }
+{
+    GATE_BYTES + body_length(key.len(), value_bytes(value).len()) + GATE_BYTES
+}
+
+/// Lays out an entry's body with a closed gate behind it, and answers how many bytes they are.
+pub(crate) fn put_record(buf: &mut [u8], key: &[u8], value: Option<&[u8]>) -> usize
+    requires sound { IsEntry (entry_of key.now (value_of value)) }
+    requires room { need (entry_of key.now (value_of value)) ≤ length buf.old + 1 }
+    ensures end { result + 1 ≡ need (entry_of key.now (value_of value.entry)) }
+    ensures bytes { take result buf.new ≡ body (entry_of key.now (value_of value.entry)) ++ 0 ∷ [] }
+{
+    let mut head = [kind(value); HEAD_BYTES];
+    let value = value_bytes(value);
     put_u16(&mut head, 1, key.len() as u16);
     put_u32(&mut head, 3, value.len() as u32);
     let at = put(buf, 0, &head);
     let at = put(buf, at, key);
     let at = put(buf, at, value);
-    put(buf, at, &[0])
+    put(buf, at, &[CLOSED])
 }

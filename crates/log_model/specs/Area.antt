@@ -11,7 +11,7 @@ pub record Position : Type 0 where
   pub area : ℕ
   pub filled : ℕ
 
--- the bytes of an area
+-- the bytes of an area, under a name that hides the number: else a window of so many bytes is counted out
 unfoldable pub area_size : ℕ
 area_size = log_bytes
 

@@ -1,8 +1,8 @@
 -- The laws of logs.
-use Rattle.std.specs.Prelude.{◌≡◌, ◌⊎◌, ℕ, ◌+◌, ◌<◌, ◌≤◌, List, length}
+use Rattle.std.specs.Prelude.{◌≡◌, ◌⊎◌, ℕ, ◌<◌, List, length}
 use Rattle.byte_fields.specs.Spelling.{IsBytes}
 use Rattle.key_base.specs.Limits.{log_bytes}
-use Rattle.disk_trait.specs.Image.{Image, Torn}
+use Rattle.disk_trait.specs.Image.{Image, IsApart, Torn}
 use Rattle.map_model.specs.SortedMap.{Bytes}
 use Rattle.entry_model.specs.Entries.{Entry}
 use Rattle.log_model.specs.Area.{LogIs, start_of}
@@ -23,5 +23,5 @@ SpellsOrBreaks =
 -- what is written apart from its area changes nothing in a log
 abbrev pub IsKeptElsewhere : Type 0
 IsKeptElsewhere =
-    (area : ℕ) (entries : List Entry) (at n : ℕ) (old new : Image) → (start_of area + log_bytes ≤ at) ⊎ (at + n ≤ start_of area)
+    (area : ℕ) (entries : List Entry) (at n : ℕ) (old new : Image) → IsApart (start_of area) log_bytes at n
     → Torn at n old new → LogIs area entries old → LogIs area entries new

@@ -1,7 +1,7 @@
 //! The log over a disk that crashes, replayed and put into a table.
 use disk_mem::{Choice, MemDisk};
 use disk_trait::{Disk, DiskFault, Op};
-use gate_log::{BUFFER_BYTES, Kind, Log, LogFault, body_length};
+use gate_log::{BUFFER_BYTES, Log, LogFault, record_need};
 use key_base::{LOG_BYTES, MAX_KEY_BYTES, MAX_VALUE_BYTES};
 use mem_table::MemTable;
 use std::alloc::{AllocError, Global};
@@ -10,18 +10,18 @@ use std::test::Fail;
 // Puts a value, where key and value keep their limits and the record fits. Answers whether the record is there.
 fn put<D: Disk>(log: &mut Log, disk: &mut D, buf: &mut [u8], key: &[u8], value: &[u8]) -> bool {
     let short = !key.is_empty() && key.len() <= MAX_KEY_BYTES && value.len() <= MAX_VALUE_BYTES;
-    if !short || buf.len() < BUFFER_BYTES || !log.fits(body_length(key.len(), value.len())) {
+    if !short || buf.len() < BUFFER_BYTES || !log.fits(record_need(key, Some(value))) {
         return false;
     }
-    log.append(disk, buf, Kind::Put, key, value).is_ok()
+    log.append(disk, buf, key, Some(value)).is_ok()
 }
 
 fn delete<D: Disk>(log: &mut Log, disk: &mut D, buf: &mut [u8], key: &[u8]) -> bool {
     let short = !key.is_empty() && key.len() <= MAX_KEY_BYTES;
-    if !short || buf.len() < BUFFER_BYTES || !log.fits(body_length(key.len(), 0)) {
+    if !short || buf.len() < BUFFER_BYTES || !log.fits(record_need(key, None)) {
         return false;
     }
-    log.append(disk, buf, Kind::Delete, key, &[]).is_ok()
+    log.append(disk, buf, key, None).is_ok()
 }
 
 // Five appends, a put or a delete each, up to the first that fails. Answers how many were done.
@@ -209,10 +209,10 @@ fn filled_to(alloc: Global, disk: &mut MemDisk, buf: &mut [u8], left: usize) -> 
     for _ in 0..3 {
         put(&mut log, disk, buf, &key, &value);
     }
-    // A gate, and a body whose key has one byte.
+    // A record whose key has one byte, but for the gate behind it, which stays in the gap.
     let rest = log
         .gap()
-        .saturating_sub(1 + body_length(1, 0))
+        .saturating_sub(record_need(b"k", None) - 1)
         .saturating_sub(left);
     Ok(rest <= value.len() && put(&mut log, disk, buf, b"k", &value[..rest]) && log.gap() == left)
 }

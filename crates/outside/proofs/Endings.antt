@@ -7,7 +7,7 @@ use Rattle.outside.specs.Session.{Session, TakeEnds, SayEnds, StarvesSay, IsCloc
 use Rattle.outside.specs.Streams.{Takes, SayMoves}
 use Rattle.outside.proofs.Sessions.{say_done, say_failed}
 
--- what was taken is the front of what was to take
+-- what was taken is a prefix of what was to take
 pub take_takes : {E : Type 0} (into : List ℕ) (room : ℕ) (result : Result ℕ E) (old new : Session) → 0 < room → 1 ≤ old.pace → TakeEnds room result old new
     → IfOk result (λ n. take n into ≡ take n old.to_take) → IfOk result (λ n. Takes n into (session_world old).beside (session_world new).beside)
 take_takes into room (Ok n) old new some pace ends same = record {

@@ -6,7 +6,7 @@ use Rattle.disk_mem.specs.Calls.{calls_by}
 use Rattle.disk_mem.specs.History.{History, LeftImage, disk_world}
 use Rattle.outside.specs.declared.mark.Mark.{Mark}
 use Rattle.outside.specs.Session.{Session, says_by, bytes_by, now_of, disk_moment, said_by_moment, session_world, AreInOrder, IsClock}
-use Rattle.outside.specs.Present.{disk_moment-now}
+use Rattle.outside.specs.PresentLaws.{disk_moment-now}
 use Rattle.outside.specs.Streams.{TakeMoves, SayMoves}
 use Rattle.outside.proofs.Clocks.{if_lt, if_ge, says_by-now, bytes_by-now, calls_by_moment-le, says_by-before, bytes_by-before}
 

@@ -1,4 +1,5 @@
+pub use Rattle.disk_trait.specs.World
 pub mod During
-pub mod Present
+pub mod PresentLaws
 pub mod Session
 pub mod Streams

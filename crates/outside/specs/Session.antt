@@ -83,7 +83,7 @@ fresh disk input takes says pace = record {
   pace = pace;
 }
 
--- a take of at most so many bytes: as many as it may, off the front of what is left; or its number is listed
+-- a take of at most so many bytes: as many as it may, off the start of what is left; or its number is listed
 abbrev pub TakeEnds : {E : Type 0} → ℕ → Result ℕ E → Session → Session → Type 0
 TakeEnds room result old new = MatchResult result
     (λ n. ¬ Contains old.failing_takes old.takes × (n ≡ min old.pace (min room (length old.to_take)))

@@ -2,13 +2,13 @@
 use Rattle.std.specs.Prelude.{◌<◌, ◌≡◌, ℕ, ◌≤◌, List, [], ◌++◌, length, take}
 use Rattle.disk_trait.specs.World.{World, Streams, Passes, Same}
 
--- so many bytes were taken off the front of what was to take, and none only at its end
+-- so many bytes were taken off the start of what was to take, and none only at its end
 pub record Takes (n : ℕ) (into : List ℕ) (old new : Streams) : Type 0 where
   pub bytes : old.to_take ≡ take n into ++ new.to_take
   pub end : n ≡ 0 → old.to_take ≡ []
 
--- a front of a text was said
-pub record SaysFront (text old new : List ℕ) : Type 0 where
+-- a prefix of a text was said
+pub record SaysPrefix (text old new : List ℕ) : Type 0 where
   pub done : List ℕ
   pub rest : List ℕ
   pub split : text ≡ done ++ rest

@@ -14,7 +14,7 @@ use disk_trait::{Disk, DiskFault};
 impl Disk for MemOutside {
     ghost use Rattle.std.specs.Prelude.{true};
     ghost use Rattle.outside.specs.Session.{session_world};
-    ghost use Rattle.outside.specs.Present.{session_is_left};
+    ghost use Rattle.outside.specs.PresentLaws.{session_is_left};
 
     ghost tells = { true };
 
@@ -65,7 +65,7 @@ impl Disk for MemOutside {
 
 impl Outside for MemOutside {
     ghost use Rattle.std.specs.Prelude.{true};
-    ghost use Rattle.outside.specs.Present.{said_by_now};
+    ghost use Rattle.outside.specs.PresentLaws.{said_by_now};
 
     ghost tells_input = { true };
 

@@ -39,7 +39,7 @@ fn the_input_comes_in_pieces_and_ends(rt: HostRuntime) -> Result<(), Fail> {
 }
 
 #[test]
-fn a_front_is_said_where_a_later_say_fails(rt: HostRuntime) -> Result<(), Fail> {
+fn a_prefix_is_said_where_a_later_say_fails(rt: HostRuntime) -> Result<(), Fail> {
     let alloc = rt.alloc();
     let mut out = outside_over(alloc, b"", &[], &[3])?.with_pace(2);
     assert!(rt; say_both(&mut out) == Err(SayFault));

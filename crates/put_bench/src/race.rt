@@ -1,7 +1,7 @@
 //! The memory table and the map of std behind the same log.
 use crate::keys::{numbers, write_key};
 use crate::records::Records;
-use crate::tables::{Ours, Table, Theirs};
+use crate::tables::{Keeper, Ours, Theirs};
 use anyhow::{Result, bail};
 use gate_log::Log;
 use real_outside::FileOutside;
@@ -98,7 +98,7 @@ fn print(
 }
 
 // All four with one table.
-fn round<T: Table>(
+fn round<T: Keeper>(
     rt: &impl CpuClock,
     alloc: Global,
     disk: &mut FileOutside,
@@ -127,7 +127,7 @@ fn round<T: Table>(
 }
 
 // Puts behind a log that begins anew.
-fn puts<T: Table>(alloc: Global, disk: &mut FileOutside, load: &Load) -> Result<()> {
+fn puts<T: Keeper>(alloc: Global, disk: &mut FileOutside, load: &Load) -> Result<()> {
     let mut table = T::new(alloc);
     let mut key = Vec::with_capacity(alloc, load.width)?;
     let mut records = Records::start(alloc, disk)?;
@@ -139,7 +139,7 @@ fn puts<T: Table>(alloc: Global, disk: &mut FileOutside, load: &Load) -> Result<
 }
 
 // Replays what was put.
-fn starts<T: Table>(alloc: Global, disk: &mut FileOutside) -> Result<()> {
+fn starts<T: Keeper>(alloc: Global, disk: &mut FileOutside) -> Result<()> {
     let Ok((_, entries)) = Log::replay(alloc, disk, 0) else {
         bail!("the log cannot be read");
     };
@@ -148,7 +148,7 @@ fn starts<T: Table>(alloc: Global, disk: &mut FileOutside) -> Result<()> {
 }
 
 // The table without the log.
-fn sets<T: Table>(alloc: Global, load: &Load) -> Result<T> {
+fn sets<T: Keeper>(alloc: Global, load: &Load) -> Result<T> {
     let mut table = T::new(alloc);
     let mut key = Vec::with_capacity(alloc, load.width)?;
     for i in 0..load.numbers.len() {
@@ -159,7 +159,7 @@ fn sets<T: Table>(alloc: Global, load: &Load) -> Result<T> {
 }
 
 // Looks each key up, and answers how many bytes were found.
-fn gets<T: Table>(alloc: Global, load: &Load, table: &T) -> Result<usize> {
+fn gets<T: Keeper>(alloc: Global, load: &Load, table: &T) -> Result<usize> {
     let mut key = Vec::with_capacity(alloc, load.width)?;
     let mut found = 0usize;
     for i in 0..load.numbers.len() {

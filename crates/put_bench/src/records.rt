@@ -1,6 +1,6 @@
 //! A log that records are added to.
 use anyhow::{Result, bail};
-use gate_log::{BUFFER_BYTES, Kind, Log, body_length};
+use gate_log::{BUFFER_BYTES, Log, record_need};
 use key_base::{MAX_KEY_BYTES, MAX_VALUE_BYTES};
 use real_outside::FileOutside;
 use std::alloc::Global;
@@ -26,14 +26,11 @@ impl Records {
         let sound = !key.is_empty() && key.len() <= MAX_KEY_BYTES && value.len() <= MAX_VALUE_BYTES;
         if !sound
             || self.buffer.len() < BUFFER_BYTES
-            || !self.log.fits(body_length(key.len(), value.len()))
+            || !self.log.fits(record_need(key, Some(value)))
         {
             bail!("the log is full");
         }
-        match self
-            .log
-            .append(disk, &mut self.buffer, Kind::Put, key, value)
-        {
+        match self.log.append(disk, &mut self.buffer, key, Some(value)) {
             Ok(()) => Ok(()),
             Err(_) => bail!("the device failed"),
         }

@@ -8,8 +8,9 @@ use std::alloc::{AllocError, AllocFailed, Global};
 use std::boxed::BoxedSlice;
 use std::collections::BTreeMap;
 
-/// A table that stands behind a log.
-pub trait Table: Sized + Drop {
+/// What keeps the entries of a log.
+pub trait Keeper: Sized + Drop {
+    /// With no entry.
     fn new(alloc: Global) -> Self;
 
     /// From the entries of a log.
@@ -31,6 +32,7 @@ pub trait Table: Sized + Drop {
     /// The bytes of the key's value, none where it has no value.
     fn look_up(&self, key: &[u8]) -> usize;
 
+    /// How many keys it keeps.
     fn len(&self) -> usize;
 }
 
@@ -40,7 +42,7 @@ pub struct Ours {
     table: MemTable,
 }
 
-impl Table for Ours {
+impl Keeper for Ours {
     fn new(alloc: Global) -> Ours {
         Ours {
             table: MemTable::new(alloc),
@@ -101,7 +103,7 @@ impl Theirs {
     }
 }
 
-impl Table for Theirs {
+impl Keeper for Theirs {
     fn new(alloc: Global) -> Theirs {
         Theirs {
             map: BTreeMap::new(alloc),

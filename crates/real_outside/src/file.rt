@@ -10,7 +10,7 @@ use std::os::unix::fs::FileExt;
 /// How often a read or a write that a signal interrupts is tried, until it counts as failed.
 pub const TRIES: u32 = 1000;
 
-/// Numbers below this one are those of standard input, output and errors.
+// Numbers below this one are those of standard input, output and errors.
 const AFTER_STANDARD_STREAMS: i32 = 3;
 
 /// The file at the path, opened to read and write, made if it is not there, and locked until it is closed.

@@ -6,6 +6,11 @@
 //!
 //! A call costs one system call, or as many as the system cuts it into. Not for a file that another process writes, and
 //! not for a terminal's lines: a piece of input is what one read gives.
+//!
+//! ```text
+//! let mut outside = FileOutside::at(process, path);      // the file is made at the first disk call
+//! surf_run::run(alloc, words, &mut outside)              // serves standard input
+//! ```
 #![tactic(auto)]
 
 mod file;

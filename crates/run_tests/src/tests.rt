@@ -6,12 +6,12 @@ use std::alloc::{AllocError, Global};
 use std::test::Fail;
 use surf_run::run;
 
-/// Six lines, and what they are answered over an empty store.
+// Six lines, and what they are answered over an empty store.
 const SIX_LINES: &[u8] = b"put 61 31\nput 62 32\nget 61\ndel 61\nget 61\nquit\n";
 
 const SIX_REPLIES: &[u8] = b"ok\nok\nval 31\nok\nnone\nbye\n";
 
-/// More bytes than any input here has.
+// More bytes than any input here has.
 const AT_ONCE: usize = 1 << 20;
 
 // How a run ended.

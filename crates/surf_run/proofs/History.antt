@@ -5,7 +5,7 @@ use Rattle.std.proofs.lemmas.List.{append-nil, take-append-le, take_all, take-ap
 use Rattle.std.specs.Prelude.{Bool, IsTrue}
 use Rattle.disk_trait.specs.World.{Image, World}
 use Rattle.outside.specs.During.{During}
-use Rattle.outside.specs.Streams.{SaidByNow, SaysFront}
+use Rattle.outside.specs.Streams.{SaidByNow, SaysPrefix}
 use Rattle.log_model.specs.Area.{LogIs}
 use Rattle.map_model.specs.SortedMap.{Bytes}
 use Rattle.entry_model.specs.Entries.{Entry}
@@ -30,9 +30,9 @@ pub ack_more : (start : List Entry) (lines more : List Bytes) (before told told'
 ack_more start lines more before told told' done on n image ack =
     let same : take n told' ≡ take n told = ap (take n) on ∙ take-append-le n told done ack.within in
     record {
-      front = ack.front;
+      so_far = ack.so_far;
       later = ack.later ++ more;
-      split = ap (λ (l : List Bytes). l ++ more) ack.split ∙ append_assoc ack.front ack.later more;
+      split = ap (λ (l : List Bytes). l ++ more) ack.split ∙ append_assoc ack.so_far ack.later more;
       text = ack.text;
       now = ack.now;
       answered = ack.answered;
@@ -47,9 +47,9 @@ ack_more start lines more before told told' done on n image ack =
       least = (ack.least.0, same ∙ ack.least.1);
     }
 
--- where all of a front had been said
-take_all_of : (n : ℕ) (told front more : Bytes) → told ≡ front ++ more → n ≡ length front → take n told ≡ front
-take_all_of n told front more is size = ap (take n) is ∙ take-append-le n front more (omega (arith, size)) ∙ take_all n front (omega (arith, size))
+-- where all of a prefix had been said
+take_all_of : (n : ℕ) (told prefix more : Bytes) → told ≡ prefix ++ more → n ≡ length prefix → take n told ≡ prefix
+take_all_of n told prefix more is size = ap (take n) is ∙ take-append-le n prefix more (omega (arith, size)) ∙ take_all n prefix (omega (arith, size))
 
 -- after these lines, with their replies said whole and nothing else
 ack_whole : (start : List Entry) (lines later : List Bytes) (text : Bytes) (now : List Entry) (before told more : Bytes) (n : ℕ) (image : Image) → WentOn Anything 0 start lines text now
@@ -57,7 +57,7 @@ ack_whole : (start : List Entry) (lines later : List Bytes) (text : Bytes) (now 
 ack_whole start lines later text now before told more n image went is size stands =
     let all = take_all_of n told (before ++ text) more is size in
     record {
-      front = lines;
+      so_far = lines;
       later = later;
       split = refl;
       text = text;
@@ -81,12 +81,12 @@ ack_none start lines before told more is n image size stands =
     ack_whole start [] lines [] start before told more n image (refl, refl) (is ∙ ap (λ (l : Bytes). l ++ more) (sym (append-nil before))) (size ∙ ap length (sym (append-nil before))) stands
 
 module _ (start : List Entry) (lines : List Bytes) (line text : Bytes) (now : List Entry) (reply : Reply) (first w w' : World)
-    (went : WentOn Anything 0 start lines text now) (told : w.beside.said ≡ first.beside.said ++ text) (front : SaysFront (text_of reply) w.beside.said w'.beside.said) where
+    (went : WentOn Anything 0 start lines text now) (told : w.beside.said ≡ first.beside.said ++ text) (prefix : SaysPrefix (text_of reply) w.beside.said w'.beside.said) where
   -- what had been said within the reply
-  part : (n : ℕ) → length w.beside.said ≤ n → take n w'.beside.said ≡ w.beside.said ++ take (n - length w.beside.said) front.done
+  part : (n : ℕ) → length w.beside.said ≤ n → take n w'.beside.said ≡ w.beside.said ++ take (n - length w.beside.said) prefix.done
   part n le =
       let size : n ≡ length w.beside.said + (n - length w.beside.said) = omega (arith, le) in
-      ap (λ (k : ℕ). take k w'.beside.said) size ∙ ap (take (length w.beside.said + (n - length w.beside.said))) front.said ∙ take-append-add w.beside.said front.done (n - length w.beside.said)
+      ap (λ (k : ℕ). take k w'.beside.said) size ∙ ap (take (length w.beside.said + (n - length w.beside.said))) prefix.said ∙ take-append-add w.beside.said prefix.done (n - length w.beside.said)
 
   -- in a line
   pub line_ack : (n : ℕ) (image : Image) → InLine now (Step now (asked_here line)) reply (length w.beside.said) (length w'.beside.said) n image
@@ -94,16 +94,16 @@ module _ (start : List Entry) (lines : List Bytes) (line text : Bytes) (now : Li
   line_ack n image at =
       let before = first.beside.said in
       elim at [
-        | inl before_it ↦ ack_whole start lines (line ∷ []) text now before w'.beside.said front.done n image went (front.said ∙ ap (λ (l : Bytes). l ++ front.done) told) (before_it.0 ∙ ap length told) before_it.1
+        | inl before_it ↦ ack_whole start lines (line ∷ []) text now before w'.beside.said prefix.done n image went (prefix.said ∙ ap (λ (l : Bytes). l ++ prefix.done) told) (before_it.0 ∙ ap length told) before_it.1
         | inr after ↦
             let k = n - length w.beside.said in
-            let done = take k front.done in
+            let done = take k prefix.done in
             let here : take n w'.beside.said ≡ before ++ text ++ done = part n after.0 ∙ ap (λ (l : Bytes). l ++ done) told in
-            let whole : text ++ text_of reply ≡ (text ++ done) ++ (drop k front.done ++ front.rest) =
-            ap (λ (l : Bytes). text ++ l) (front.split ∙ ap (λ (l : Bytes). l ++ front.rest) (sym (take-append-drop k front.done)) ∙ append_assoc done (drop k front.done) front.rest)
-            ∙ sym (append_assoc text done (drop k front.done ++ front.rest)) in
+            let whole : text ++ text_of reply ≡ (text ++ done) ++ (drop k prefix.done ++ prefix.rest) =
+            ap (λ (l : Bytes). text ++ l) (prefix.split ∙ ap (λ (l : Bytes). l ++ prefix.rest) (sym (take-append-drop k prefix.done)) ∙ append_assoc done (drop k prefix.done) prefix.rest)
+            ∙ sym (append_assoc text done (drop k prefix.done ++ prefix.rest)) in
             record {
-              front = lines ++ line ∷ [];
+              so_far = lines ++ line ∷ [];
               later = [];
               split = sym (append-nil (lines ++ line ∷ []));
               text = text ++ text_of reply;
@@ -112,9 +112,9 @@ module _ (start : List Entry) (lines : List Bytes) (line text : Bytes) (now : Li
               stands = after.2.2;
               within = after.1;
               most = (
-                drop k front.done ++ front.rest,
-                ap (λ (l : Bytes). before ++ l) whole ∙ sym (append_assoc before (text ++ done) (drop k front.done ++ front.rest))
-                    ∙ ap (λ (l : Bytes). l ++ (drop k front.done ++ front.rest)) (sym (append_assoc before text done) ∙ sym here),
+                drop k prefix.done ++ prefix.rest,
+                ap (λ (l : Bytes). before ++ l) whole ∙ sym (append_assoc before (text ++ done) (drop k prefix.done ++ prefix.rest))
+                    ∙ ap (λ (l : Bytes). l ++ (drop k prefix.done ++ prefix.rest)) (sym (append_assoc before text done) ∙ sym here),
               );
               earlier = lines;
               said = text;

@@ -2,7 +2,7 @@
 use Rattle.std.proofs.Common.{◌≡◌, ◌≢◌, ◌⊎◌, ◌≤◌, ◌∙◌, ◌++◌, inl, inr, refl, ℕ, length}
 use Rattle.std.specs.Prelude.{Bool, IsTrue}
 use Rattle.disk_trait.specs.World.{Image, World}
-use Rattle.outside.specs.Streams.{SayMoves, SaidByNow, SaysFront}
+use Rattle.outside.specs.Streams.{SayMoves, SaidByNow, SaysPrefix}
 use Rattle.outside.proofs.Crossing.{during_say, during_weaker}
 use Rattle.gate_log.specs.Faults.{IsShapeIn}
 use Rattle.gate_log.specs.declared.fault.LogFault.{LogFault}
@@ -14,11 +14,11 @@ use Rattle.surf_run.specs.Open.{reply_to, status_of}
 use Rattle.surf_run.specs.Run.{IsLastText, Unserved, SomeFailed, Completed}
 
 -- a last line was said, whole or in part
-pub unserved : (tells : Bool) (a b : World) → SaidByNow a → SayMoves a b → (status meant : ℕ) (text : Bytes) → IsLastText tells a.seen.held meant text → SaysFront text a.beside.said b.beside.said
+pub unserved : (tells : Bool) (a b : World) → SaidByNow a → SayMoves a b → (status meant : ℕ) (text : Bytes) → IsLastText tells a.seen.held meant text → SaysPrefix text a.beside.said b.beside.said
     → (status ≡ meant → b.beside.said ≡ a.beside.said ++ text) → (status ≡ meant) ⊎ ((status ≡ 6) × SayFailed a b) → Unserved tells status a b
-unserved tells a b now_a moves status meant text is front whole ends = record {
+unserved tells a b now_a moves status meant text is prefix whole ends = record {
   input = moves.to_take;
-  line = (meant, text, is, elim ends [ inl same ↦ inl (same, whole same) | inr six ↦ inr (six.0, front) ]);
+  line = (meant, text, is, elim ends [ inl same ↦ inl (same, whole same) | inr six ↦ inr (six.0, prefix) ]);
   crash = during_weaker (λ k image. (length a.beside.said ≤ k) × (k ≤ length b.beside.said) × a.leaves a.moment image) (λ k image. a.leaves a.moment image) a b
       (during_say a b moves now_a) (λ k image at. at.2);
 }

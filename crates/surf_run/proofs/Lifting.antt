@@ -4,7 +4,7 @@ use Rattle.std.specs.Prelude.{Bool}
 use Rattle.disk_trait.specs.World.{Image, World, Streams, Now, Meanwhile, Same}
 use Rattle.disk_trait.proofs.Moments.{in_call}
 use Rattle.outside.specs.During.{During}
-use Rattle.outside.specs.Streams.{SaidByNow, SaysFront}
+use Rattle.outside.specs.Streams.{SaidByNow, SaysPrefix}
 use Rattle.outside.proofs.Crossing.{during_disk, during_weaker, during_then}
 use Rattle.log_model.specs.Area.{LogIs}
 use Rattle.gate_log.specs.Faults.{IsShapeIn}
@@ -19,7 +19,8 @@ use Rattle.surf_run.specs.Script.{Script, WentOn, Ending, ToLast}
 use Rattle.surf_run.specs.Causes.{IsServing, SayFailed}
 use Rattle.surf_run.specs.Crash.{Reached, Acknowledged}
 use Rattle.surf_run.specs.Open.{OpenMoves, reply_to, status_of}
-use Rattle.surf_run.specs.Outcome.{Said, CutOff, SaidInPart, LeavesEntries, EndsWith, EndsTo, piece_bytes, Settled, Outcome}
+use Rattle.key_base.specs.Limits.{piece_bytes}
+use Rattle.surf_run.specs.Outcome.{Said, CutOff, SaidInPart, LeavesEntries, EndsWith, EndsTo, Settled, Outcome}
 use Rattle.surf_run.specs.Run.{IsLastText, Unserved, Ends, Damaged}
 use Rattle.surf_run.proofs.EndCauses.{rose_since}
 use Rattle.surf_run.proofs.Moments.{now_still}
@@ -78,9 +79,9 @@ module _ (tells : Bool) (start : List Entry) (old mid new : World) (opened : Ope
     reply = part.reply;
     last = part.last;
     step = part.step;
-    front = subst (λ (s : Bytes). SaysFront (text_of part.reply) (s ++ part.text) new.beside.said) said_same part.front;
+    prefix = subst (λ (s : Bytes). SaysPrefix (text_of part.reply) (s ++ part.text) new.beside.said) said_same part.prefix;
     cause = λ device. rose_since old.seen.write_faults mid.seen.write_faults new.seen.write_faults opened.counts.write (part.cause device);
-    crash = λ t. crash_since (part.lines ++ part.line ∷ []) (part.text ++ part.front.done) (out_same (part.text ++ part.front.done) (part.front.said ∙ append_assoc mid.beside.said part.text part.front.done)) (part.crash t);
+    crash = λ t. crash_since (part.lines ++ part.line ∷ []) (part.text ++ part.prefix.done) (out_same (part.text ++ part.prefix.done) (part.prefix.said ∙ append_assoc mid.beside.said part.text part.prefix.done)) (part.crash t);
     stands = part.stands;
   }
 
@@ -148,7 +149,7 @@ unserved_since tells status old mid new opened now_old unserved =
         subst (λ (i : Image). IsLastText tells i unserved.line.0 unserved.line.1) opened.held unserved.line.2,
         elim unserved.line.3 [
           | inl all ↦ inl (all.0, all.1 ∙ ap (λ (s : Bytes). s ++ unserved.line.1) said_same)
-          | inr part ↦ inr (part.0, subst (λ (s : Bytes). SaysFront unserved.line.1 s new.beside.said) said_same part.1)
+          | inr part ↦ inr (part.0, subst (λ (s : Bytes). SaysPrefix unserved.line.1 s new.beside.said) said_same part.1)
         ],
       );
       crash = during_then (λ n image. Left image) old mid new

@@ -3,7 +3,7 @@ use Rattle.std.proofs.Common.{◌≡◌, ◌⊎◌, inl, inr, ◌≤◌, ◌++�
 use Rattle.std.specs.Prelude.{IsTrue}
 use Rattle.disk_trait.specs.World.{Image, World, Streams, Now, Meanwhile, Passes, Same, Rose}
 use Rattle.disk_trait.proofs.Moments.{now_at, in_call, started}
-use Rattle.outside.specs.Streams.{SayMoves, SaysFront, SaidByNow}
+use Rattle.outside.specs.Streams.{SayMoves, SaysPrefix, SaidByNow}
 use Rattle.outside.proofs.Crossing.{during_disk, during_say, during_weaker, during_then}
 use Rattle.log_model.specs.Area.{LogIs}
 use Rattle.map_model.specs.SortedMap.{Bytes}
@@ -31,7 +31,7 @@ module _ (tells : Bool) (old : List Entry) (S : Leaves) (reply : Reply) (new : L
   said_same : mid.beside.said ≡ a.beside.said
   said_same = ap (λ (s : Streams). s.said) same
 
-  module _ (step : S reply new) (front : SaysFront (text_of reply) mid.beside.said b.beside.said)
+  module _ (step : S reply new) (prefix : SaysPrefix (text_of reply) mid.beside.said b.beside.said)
       (first : (image : Image) → P image → LogIs 0 old image ⊎ LogAfter S reply image) (then : IsTrue tells → (image : Image) → mid.leaves mid.moment image → LogAfter S reply image) where
     acting : (k : ℕ) (image : Image) → (k ≡ length a.beside.said) × P image → InLine old S reply (length a.beside.said) (length b.beside.said) k image
     acting k image at = elim (first image at.1) [
@@ -48,7 +48,7 @@ module _ (tells : Bool) (old : List Entry) (S : Leaves) (reply : Reply) (new : L
         let Q = InLine old S reply (length a.beside.said) (length b.beside.said) in
         record {
           step = step;
-          front = subst (λ (s : Bytes). SaysFront (text_of reply) s b.beside.said) said_same front;
+          prefix = subst (λ (s : Bytes). SaysPrefix (text_of reply) s b.beside.said) said_same prefix;
           each = λ t. during_then Q a mid b
               (during_weaker (λ k image. (k ≡ length a.beside.said) × P image) Q a mid (during_disk P a mid (meanwhile t) same now_a) acting)
               (during_weaker (λ k image. (length mid.beside.said ≤ k) × (k ≤ length b.beside.said) × mid.leaves mid.moment image) Q mid b (during_say mid b moves now_mid) (saying t));

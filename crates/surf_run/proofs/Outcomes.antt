@@ -5,7 +5,7 @@ use Rattle.std.proofs.lemmas.List.{append-nil}
 use Rattle.std.proofs.lemmas.List.Elements.{All-nil, All-push}
 use Rattle.disk_trait.specs.World.{World, Rose}
 use Rattle.outside.specs.During.{During}
-use Rattle.outside.specs.Streams.{SaidByNow, SaysFront, TakeMoves}
+use Rattle.outside.specs.Streams.{SaidByNow, SaysPrefix, TakeMoves}
 use Rattle.outside.proofs.Crossing.{during_then, during_weaker, during_take, during_none}
 use Rattle.log_model.specs.Area.{LogIs}
 use Rattle.store_commands.specs.Cutting.{NoNewline}
@@ -18,7 +18,8 @@ use Rattle.surf_run.specs.Script.{Step, Answers, Script, GoesOn, WentOn, Ending,
 use Rattle.surf_run.specs.Crash.{Stands, Reached, Anything, Acknowledged}
 use Rattle.surf_run.specs.Holding.{with_newline}
 use Rattle.surf_run.specs.StoreIs.{StoreIs}
-use Rattle.surf_run.specs.Outcome.{Said, SaidInPart, Settled, LeavesEntries, TakenPast, TakenAll, EndsWith, EndsTo, piece_bytes}
+use Rattle.key_base.specs.Limits.{piece_bytes}
+use Rattle.surf_run.specs.Outcome.{Said, SaidInPart, Settled, LeavesEntries, TakenPast, TakenAll, EndsWith, EndsTo}
 use Rattle.surf_run.specs.Serving.{LineAnswer, Whole, Answered, Served, Closed, EndsPast, EndedBy}
 use Rattle.surf_run.specs.declared.store.Store.{Store}
 use Rattle.surf_run.specs.declared.end.LineEnd.TheVariants.{Next, Quit, End}
@@ -143,12 +144,12 @@ settled_end tells most status start taken first w fits ended = elim ended [
           reply = broken.reply;
           last = broken.last;
           step = broken.step;
-          front = broken.front;
+          prefix = broken.prefix;
           cause = broken.cause;
           crash = broken.history;
           stands = broken.stands;
         };
-        said = (broken.text ++ broken.front.done, broken.front.said ∙ append_assoc first.beside.said broken.text broken.front.done);
+        said = (broken.text ++ broken.prefix.done, broken.prefix.said ∙ append_assoc first.beside.said broken.text broken.prefix.done);
         crash = more_lines tells start taken before first_lines.0 first w (lines_now taken before first_lines.0 first_lines.2) broken.history;
       }
 ]
@@ -218,7 +219,7 @@ module _ (tells : Bool) (start : List Entry) (taken kept : Bytes) (store : Store
 
   module _ (reply : Reply) (new : List Entry) (answer : LineAnswer tells served.now (Step served.now (asked_here served.rest)) reply new w w') where
     grown : (text : Bytes) × (w'.beside.said ≡ first.beside.said ++ text)
-    grown = (served.text ++ answer.front.done, answer.front.said ∙ ap (λ (l : Bytes). l ++ answer.front.done) served.told ∙ append_assoc first.beside.said served.text answer.front.done)
+    grown = (served.text ++ answer.prefix.done, answer.prefix.said ∙ ap (λ (l : Bytes). l ++ answer.prefix.done) served.told ∙ append_assoc first.beside.said served.text answer.prefix.done)
 
     went_before : WentOn Anything 0 start served.lines served.text served.now
     went_before = went_of (Reached tells w) (length first.beside.said) 0 start served.lines served.text served.now served.ran
@@ -226,8 +227,8 @@ module _ (tells : Bool) (start : List Entry) (taken kept : Bytes) (store : Store
     history : IsTrue tells → During (Acknowledged start (served.lines ++ served.rest ∷ []) first.beside.said w'.beside.said) first w'
     history t =
         during_then _ first w w'
-        (during_weaker _ _ first w (served.history t) (ack_more start served.lines (served.rest ∷ []) first.beside.said w.beside.said w'.beside.said answer.front.done answer.front.said))
-        (during_weaker _ _ w w' (answer.each t) (line_ack start served.lines served.rest served.text served.now reply first w w' went_before served.told answer.front))
+        (during_weaker _ _ first w (served.history t) (ack_more start served.lines (served.rest ∷ []) first.beside.said w.beside.said w'.beside.said answer.prefix.done answer.prefix.said))
+        (during_weaker _ _ w w' (answer.each t) (line_ack start served.lines served.rest served.text served.now reply first w w' went_before served.told answer.prefix))
 
     crash : IsTrue tells → During (Acknowledged start (lines_of taken) first.beside.said w'.beside.said) first w'
     crash t = subst (λ (ls : List Bytes). During (Acknowledged start ls first.beside.said w'.beside.said) first w') (sym last) (history t)
@@ -305,7 +306,7 @@ module _ (tells : Bool) (start : List Entry) (taken kept : Bytes) (store : Store
       reply = reply;
       last = new;
       step = answer.step;
-      front = subst (λ (s : Bytes). SaysFront (text_of reply) s w'.beside.said) served.told answer.front;
+      prefix = subst (λ (s : Bytes). SaysPrefix (text_of reply) s w'.beside.said) served.told answer.prefix;
       cause = λ device. rose_since first.seen.write_faults w.seen.write_faults w'.seen.write_faults served.counts.write (rose device);
       crash = history;
       stands = stands;

@@ -7,7 +7,7 @@ use Rattle.std.proofs.lemmas.List.{take_min, length-drop}
 use Rattle.std.proofs.lemmas.Fmt.{length-decimal-le}
 use Rattle.hex.specs.Hex.{lower_digits}
 use Rattle.hex.proofs.HexLemmas.{length-encode_with}
-use Rattle.outside.specs.Streams.{SaysFront}
+use Rattle.outside.specs.Streams.{SaysPrefix}
 use Rattle.map_model.specs.SortedMap.{Bytes}
 use Rattle.line_model.specs.Replies.{text_of, word_of, part_word}
 use Rattle.byte_fields.specs.declared.parts.Part.{Part}
@@ -25,14 +25,14 @@ module _ (text buffer : Bytes) (from n : ℕ) (size : n ≡ min (length buffer) 
   pub next_piece : take from text ++ take n buffer ≡ take (from + n) text
   next_piece = ap (λ (l : Bytes). take from text ++ l) piece_is ∙ sym (take-add from n text)
 
-  pub front_on : (old mid new : Bytes) → mid ≡ old ++ take from text → SaysFront (take n buffer) mid new → SaysFront text old new
-  front_on old mid new so_far front = record {
-    done = take from text ++ front.done;
-    rest = front.rest ++ drop (from + n) text;
+  pub front_on : (old mid new : Bytes) → mid ≡ old ++ take from text → SaysPrefix (take n buffer) mid new → SaysPrefix text old new
+  front_on old mid new so_far prefix = record {
+    done = take from text ++ prefix.done;
+    rest = prefix.rest ++ drop (from + n) text;
     split =
-        sym (take-append-drop (from + n) text) ∙ ap (λ (l : Bytes). l ++ drop (from + n) text) (sym next_piece ∙ ap (λ (l : Bytes). take from text ++ l) front.split ∙ sym (append_assoc (take from text) front.done front.rest))
-        ∙ append_assoc (take from text ++ front.done) front.rest (drop (from + n) text);
-    said = front.said ∙ ap (λ (l : Bytes). l ++ front.done) so_far ∙ append_assoc old (take from text) front.done;
+        sym (take-append-drop (from + n) text) ∙ ap (λ (l : Bytes). l ++ drop (from + n) text) (sym next_piece ∙ ap (λ (l : Bytes). take from text ++ l) prefix.split ∙ sym (append_assoc (take from text) prefix.done prefix.rest))
+        ∙ append_assoc (take from text ++ prefix.done) prefix.rest (drop (from + n) text);
+    said = prefix.said ∙ ap (λ (l : Bytes). l ++ prefix.done) so_far ∙ append_assoc old (take from text) prefix.done;
   }
 
 word_size : (value : Bytes) → length (word_of value) ≤ 1 + 2 * length value
@@ -42,15 +42,15 @@ word_size (b ∷ value) = omega (arith, length-encode_with lower_digits (b ∷ v
 decimal_size : (n : ℕ) → n < 2 ^ 64 → length (decimal n) ≤ 20
 decimal_size n small = length-decimal-le 20 n (omega arith) (omega arith) small
 
-word_end : (front value : Bytes) (most : ℕ) → length value ≤ most → length (front ++ word_of value ++ 10 ∷ []) ≤ length front + 2 * most + 2
-word_end front value most short = omega (arith, length-append (front ++ word_of value) (10 ∷ []), length-append front (word_of value), word_size value)
+word_end : (prefix value : Bytes) (most : ℕ) → length value ≤ most → length (prefix ++ word_of value ++ 10 ∷ []) ≤ length prefix + 2 * most + 2
+word_end prefix value most short = omega (arith, length-append (prefix ++ word_of value) (10 ∷ []), length-append prefix (word_of value), word_size value)
 
-number_end : (front : Bytes) (n : ℕ) → n < 2 ^ 64 → length (front ++ decimal n ++ 10 ∷ []) ≤ length front + 21
-number_end front n small = omega (arith, length-append (front ++ decimal n) (10 ∷ []), length-append front (decimal n), decimal_size n small)
+number_end : (prefix : Bytes) (n : ℕ) → n < 2 ^ 64 → length (prefix ++ decimal n ++ 10 ∷ []) ≤ length prefix + 21
+number_end prefix n small = omega (arith, length-append (prefix ++ decimal n) (10 ∷ []), length-append prefix (decimal n), decimal_size n small)
 
-numbers_end : (front middle : Bytes) (n m : ℕ) → n < 2 ^ 64 → m < 2 ^ 64 → length (front ++ decimal n ++ middle ++ decimal m ++ 10 ∷ []) ≤ length front + length middle + 41
-numbers_end front middle n m small_n small_m =
-    omega (arith, number_end (front ++ decimal n ++ middle) m small_m, length-append (front ++ decimal n) middle, length-append front (decimal n), decimal_size n small_n)
+numbers_end : (prefix middle : Bytes) (n m : ℕ) → n < 2 ^ 64 → m < 2 ^ 64 → length (prefix ++ decimal n ++ middle ++ decimal m ++ 10 ∷ []) ≤ length prefix + length middle + 41
+numbers_end prefix middle n m small_n small_m =
+    omega (arith, number_end (prefix ++ decimal n ++ middle) m small_m, length-append (prefix ++ decimal n) middle, length-append prefix (decimal n), decimal_size n small_n)
 
 part_size : (part : Part) → length (part_word part) ≤ 8
 part_size Manifest = omega arith

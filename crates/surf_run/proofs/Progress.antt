@@ -6,7 +6,7 @@ use Rattle.std.proofs.lemmas.List.{append-nil}
 use Rattle.std.proofs.lemmas.List.Elements.{All-push, All-nil, All-append}
 use Rattle.disk_trait.specs.World.{World, Rose}
 use Rattle.outside.specs.During.{During}
-use Rattle.outside.specs.Streams.{SaidByNow, SaysFront}
+use Rattle.outside.specs.Streams.{SaidByNow, SaysPrefix}
 use Rattle.outside.proofs.Crossing.{during_then, during_weaker}
 use Rattle.store_commands.specs.Cutting.{NoNewline}
 use Rattle.map_model.specs.SortedMap.{Bytes}
@@ -81,8 +81,8 @@ module _ (tells : Bool) (start : List Entry) (bytes kept : Bytes) (store : Store
   module _ (w' : World) (reply : Reply) (new : List Entry) (answer : LineAnswer tells served.now (Step served.now (asked_here (served.rest ++ part))) reply new w w') where
     history : IsTrue tells → During (Acknowledged start (served.lines ++ (served.rest ++ part) ∷ []) first.beside.said w'.beside.said) first w'
     history t =
-        during_then _ first w w' (during_weaker _ _ first w (served.history t) (ack_more start served.lines ((served.rest ++ part) ∷ []) first.beside.said w.beside.said w'.beside.said answer.front.done answer.front.said))
-        (during_weaker _ _ w w' (answer.each t) (line_ack start served.lines (served.rest ++ part) served.text served.now reply first w w' (went_of (Reached tells w) (length first.beside.said) 0 start served.lines served.text served.now served.ran) served.told answer.front))
+        during_then _ first w w' (during_weaker _ _ first w (served.history t) (ack_more start served.lines ((served.rest ++ part) ∷ []) first.beside.said w.beside.said w'.beside.said answer.prefix.done answer.prefix.said))
+        (during_weaker _ _ w w' (answer.each t) (line_ack start served.lines (served.rest ++ part) served.text served.now reply first w w' (went_of (Reached tells w) (length first.beside.said) 0 start served.lines served.text served.now served.ran) served.told answer.prefix))
 
     ran_then : WentOn (Reached tells w') (length first.beside.said) start served.lines served.text served.now
     ran_then = went_as (Reached tells w) (Reached tells w') (reached_on tells _ w w' answer.each) (length first.beside.said) start served.lines served.text served.now served.ran
@@ -156,7 +156,7 @@ module _ (tells : Bool) (start : List Entry) (bytes kept : Bytes) (store : Store
       reply = reply;
       last = new;
       step = answer.step;
-      front = subst (λ (s : Bytes). SaysFront (text_of reply) s w'.beside.said) served.told answer.front;
+      prefix = subst (λ (s : Bytes). SaysPrefix (text_of reply) s w'.beside.said) served.told answer.prefix;
       cause = λ device. rose_since first.seen.write_faults w.seen.write_faults w'.seen.write_faults served.counts.write (rose device);
       stands = stands;
       history = history;
@@ -217,7 +217,7 @@ broken_more tells least most start bytes more first w fits broken = record {
   reply = broken.reply;
   last = broken.last;
   step = broken.step;
-  front = broken.front;
+  prefix = broken.prefix;
   cause = broken.cause;
   stands = broken.stands;
   history = broken.history;

@@ -4,7 +4,7 @@ use Rattle.std.specs.Prelude.{Option, Some, None, ◌||◌, ◌==◌, nat_lt, by
 use Rattle.std.specs.List.{AllByRecursion}
 use Rattle.disk_trait.specs.World.{World}
 use Rattle.disk_trait.proofs.Moments.{started}
-use Rattle.outside.specs.Streams.{SayMoves, SaysFront, SaidByNow}
+use Rattle.outside.specs.Streams.{SayMoves, SaysPrefix, SaidByNow}
 use Rattle.entry_model.specs.Entries.{IsEntry, Entry, bytes_of, map_of, newest, or_else, live}
 use Rattle.log_model.specs.Area.{LogIs}
 use Rattle.map_model.specs.SortedMap.{Bytes, get}
@@ -23,8 +23,8 @@ use Rattle.surf_run.specs.declared.end.LineEnd.TheVariants.{Next, Quit}
 use Rattle.surf_run.proofs.Moments.{stands_still, line_answer, answered_next, answered_quit}
 
 module _ (tells : Bool) (old : List Entry) (S : Leaves) (a b : World) (now : SaidByNow a) (moves : SayMoves a b) (here : Stands tells old a) where
-  quiet : (reply : Reply) → S reply old → SaysFront (text_of reply) a.beside.said b.beside.said → LineAnswer tells old S reply old a b
-  quiet reply step front = line_answer tells old S reply old (LogIs 0 old) a a b (λ t. started (LogIs 0 old) a (here t)) refl now now moves step front (λ image before. inl before) (λ t image left. (old, step, here t image left))
+  quiet : (reply : Reply) → S reply old → SaysPrefix (text_of reply) a.beside.said b.beside.said → LineAnswer tells old S reply old a b
+  quiet reply step prefix = line_answer tells old S reply old (LogIs 0 old) a a b (λ t. started (LogIs 0 old) a (here t)) refl now now moves step prefix (λ image before. inl before) (λ t image left. (old, step, here t image left))
 
   pub quiet_next : (store : Store) (reply : Reply) (result : LineEnd) → StoreIs old store → S reply old → GoesOn reply → Says Next reply result a b → Answered tells result old S store a b
   quiet_next store reply result holds step goes says = answered_next tells old S old store a a b refl reply result (quiet reply step says.0) says goes (stands_still tells old a b moves.time here) holds

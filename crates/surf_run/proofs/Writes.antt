@@ -3,9 +3,6 @@ use Rattle.std.proofs.Common.{◌≡◌, ◌<◌, ◌≤◌, ◌+◌, ◌-◌, �
 use Rattle.std.specs.Prelude.{flat_map, Result, Ok}
 use Rattle.std.proofs.lemmas.List.{append-nil}
 use Rattle.std.proofs.lemmas.Grind.{flat_map-append}
-use Rattle.gate_log.specs.Kinds.{FitsKind, entry_of_kind}
-use Rattle.gate_log.specs.declared.entry.Kind.{Kind}
-use Rattle.gate_log.specs.declared.entry.Kind.TheVariants.{Put, Delete}
 use Rattle.entry_model.specs.Entries.{IsEntry, Entry, bytes_of, record_bytes, filled, need, gap}
 use Rattle.log_model.specs.Area.{LogIs, WithOrWithout, start_of}
 use Rattle.disk_trait.specs.World.{Image, World, Leads, WriteMoves}
@@ -13,10 +10,6 @@ use Rattle.disk_trait.proofs.Calls.{moves_wider}
 use Rattle.map_model.specs.SortedMap.{Bytes}
 use Rattle.line_model.specs.Replies.{Full}
 use Rattle.surf_run.specs.Script.{Write, full}
-
-pub need_is : (kind : Kind) (key value : Bytes) → FitsKind kind value → need (entry_of_kind kind key value) ≡ 7 + length key + length value + 2
-need_is Put key value fits = omega (arith, length-append key value)
-need_is Delete key value fits = omega (arith, length-append key [], ap length fits)
 
 pub filled_more : (entries : List Entry) (entry : Entry) → filled (entries ++ entry ∷ []) + 1 ≡ filled entries + need entry
 unfolding filled

@@ -20,15 +20,15 @@ abbrev pub Anything : ℕ → List Entry → Type 0
 Anything n entries = Unit {0}
 
 -- Of all that was said at the end, `told`, n bytes had been said; `before` was said before the run. The image has the
--- entries after some first lines. What had been said is a front of the replies to these, and all replies but the last had
+-- entries after some first lines. What had been said is a prefix of the replies to these, and all replies but the last had
 -- been said whole: so they are as many as the whole replies said by then, or one more.
 pub record Acknowledged (start : List Entry) (lines : List Bytes) (before told : Bytes) (n : ℕ) (image : Image) : Type 0 where
-  pub front : List Bytes
+  pub so_far : List Bytes
   pub later : List Bytes
-  pub split : lines ≡ front ++ later
+  pub split : lines ≡ so_far ++ later
   pub text : Bytes
   pub now : List Entry
-  pub answered : Answers start front text now
+  pub answered : Answers start so_far text now
   pub stands : LogIs 0 now image
   pub within : n ≤ length told
   pub most : (rest : Bytes) × (before ++ text ≡ take n told ++ rest)
@@ -36,5 +36,5 @@ pub record Acknowledged (start : List Entry) (lines : List Bytes) (before told :
   pub said : Bytes
   pub was : List Entry
   pub went_on : WentOn Anything 0 start earlier said was
-  pub last : (front ≡ earlier) ⊎ ((line : Bytes) × (front ≡ earlier ++ line ∷ []))
+  pub last : (so_far ≡ earlier) ⊎ ((line : Bytes) × (so_far ≡ earlier ++ line ∷ []))
   pub least : (rest : Bytes) × (take n told ≡ before ++ said ++ rest)

@@ -13,15 +13,15 @@ abbrev pub ZerosHoldNothing : Type 0
 ZerosHoldNothing = (image : Image) → ((at : ℕ) → image at ≡ 0) → LogIs 0 [] image
 
 -- the entry that a request writes
-abbrev pub Writes : Request → Entry → Type 0
-Writes (Put key value) entry = entry ≡ put_entry key value
-Writes (Del key) entry = entry ≡ del_entry key
-Writes request entry = ⊥
+abbrev pub WritesEntry : Request → Entry → Type 0
+WritesEntry (Put key value) entry = entry ≡ put_entry key value
+WritesEntry (Del key) entry = entry ≡ del_entry key
+WritesEntry request entry = ⊥
 
 -- The request writes an entry that needs n bytes, of which only g are left; and it changed nothing.
 pub record HasNoRoom (old : List Entry) (request : Request) (n g : ℕ) (new : List Entry) : Type 0 where
   pub entry : Entry
-  pub writes : Writes request entry
+  pub writes : WritesEntry request entry
   pub need_is : n ≡ need entry
   pub gap_is : g ≡ gap old
   pub short : g < n

@@ -1,3 +1,7 @@
+pub use Rattle.disk_trait.specs.World
+pub use Rattle.entry_model.specs.Entries
+pub use Rattle.log_model.specs.Area
+pub use Rattle.outside.specs.Streams
 pub mod Causes
 pub mod Crash
 pub mod Holding

@@ -1,12 +1,13 @@
 -- What a run that served came to.
 use Rattle.std.specs.Prelude.{◌≡◌, ◌≢◌, ◌⊎◌, ◌<◌, ◌≤◌, ◌++◌, ℕ, Bool, IsTrue, List, [], ◌∷◌, length, flat_map, All}
+use Rattle.key_base.specs.Limits.{piece_bytes}
 use Rattle.disk_trait.specs.World.{World, Rose}
 use Rattle.outside.specs.During.{During}
 use Rattle.map_model.specs.SortedMap.{Bytes}
 use Rattle.entry_model.specs.Entries.{Entry}
-use Rattle.outside.specs.Streams.{SaysFront}
+use Rattle.outside.specs.Streams.{SaysPrefix}
 use Rattle.store_commands.specs.Answered.{asked_here}
-use Rattle.line_model.specs.Limits.{max_input_bytes}
+use Rattle.key_base.specs.Limits.{max_input_bytes}
 use Rattle.line_model.specs.Lines.{lines_of, whole_lines}
 use Rattle.line_model.specs.Replies.{Reply, Bye, Device, text_of}
 use Rattle.store_commands.specs.Cutting.{NoNewline}
@@ -66,10 +67,6 @@ pub record EndsWith (tells : Bool) (reply : Reply) (start : List Entry) (lines :
 abbrev pub EndsTo : Bool → ℕ → Reply → List Entry → Bytes → World → World → Type 0
 EndsTo tells most reply start taken old new = (lines : List Bytes) × (line : Bytes) × TakenTo most taken lines line × EndsWith tells reply start lines line old new
 
--- the most bytes that one call takes
-abbrev pub piece_bytes : ℕ
-piece_bytes = 65536
-
 -- The input was cut off: all its whole lines were answered, and a rest without a newline is no line.
 pub record CutOff (tells : Bool) (start : List Entry) (taken : Bytes) (old new : World) : Type 0 where
   pub text : Bytes
@@ -79,7 +76,7 @@ pub record CutOff (tells : Bool) (start : List Entry) (taken : Bytes) (old new :
   pub leaves : LeavesEntries tells start (whole_lines taken) old new
 
 -- The output failed: some first lines were answered whole, none of them with a last reply, and of the next line's reply
--- a front was said. That line has its newline, or the input is at its end; less than one piece was taken behind it. What
+-- a prefix was said. That line has its newline, or the input is at its end; less than one piece was taken behind it. What
 -- a crash may leave at each moment is told over these lines alone. The entries now are those after that line, but for
 -- `device`, which comes only where a write or a sync failed.
 pub record SaidInPart (tells : Bool) (start : List Entry) (taken : Bytes) (old new : World) : Type 0 where
@@ -95,7 +92,7 @@ pub record SaidInPart (tells : Bool) (start : List Entry) (taken : Bytes) (old n
   pub reply : Reply
   pub last : List Entry
   pub step : Step now (asked_here line) reply last
-  pub front : SaysFront (text_of reply) (old.beside.said ++ text) new.beside.said
+  pub prefix : SaysPrefix (text_of reply) (old.beside.said ++ text) new.beside.said
   pub cause : reply ≡ Device → Rose old.seen.write_faults new.seen.write_faults
   pub crash : IsTrue tells → During (Acknowledged start (lines ++ line ∷ []) old.beside.said new.beside.said) old new
   pub stands : reply ≢ Device → Stands tells last new

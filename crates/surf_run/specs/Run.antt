@@ -2,7 +2,7 @@
 use Rattle.std.specs.Prelude.{◌≡◌, ◌⊎◌, ◌<◌, ◌++◌, ℕ, Bool, IsTrue, List, [], ◌∷◌, codes}
 use Rattle.disk_trait.specs.World.{World, Image}
 use Rattle.outside.specs.During.{During}
-use Rattle.outside.specs.Streams.{SaysFront}
+use Rattle.outside.specs.Streams.{SaysPrefix}
 use Rattle.std.specs.List.{AllByRecursion}
 use Rattle.key_base.specs.Limits.{log_bytes}
 use Rattle.log_model.specs.Area.{LogIs, LogBreaks}
@@ -31,10 +31,10 @@ IsLastText tells image status text =
     ((status ≡ 2) × (text ≡ usage_text)) ⊎ ((status ≡ 4) × (text ≡ text_of Device)) ⊎ ((status ≡ 7) × (text ≡ text_of Memory))
     ⊎ ((status ≡ 5) × (at : ℕ) × (rule : ℕ) × IsDamage tells image at rule × (text ≡ text_of (log_damage at rule)))
 
--- it was said whole, or a front of it at 6
+-- it was said whole, or a prefix of it at 6
 abbrev pub LastLine : Bool → ℕ → World → World → Type 0
 LastLine tells status old new = (meant : ℕ) × (text : Bytes) × IsLastText tells old.seen.held meant text
-    × (((status ≡ meant) × (new.beside.said ≡ old.beside.said ++ text)) ⊎ ((status ≡ 6) × SaysFront text old.beside.said new.beside.said))
+    × (((status ≡ meant) × (new.beside.said ≡ old.beside.said ++ text)) ⊎ ((status ≡ 6) × SaysPrefix text old.beside.said new.beside.said))
 
 -- No line was answered: nothing was taken, and each image that a crash may leave at any moment is one that it might have
 -- left at the start.

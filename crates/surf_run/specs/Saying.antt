@@ -2,7 +2,7 @@
 use Rattle.std.specs.Prelude.{◌≡◌, ◌⊎◌, ◌++◌, ◌<◌, ◌≤◌, ◌^◌, length}
 use Rattle.disk_trait.specs.World.{World}
 use Rattle.key_base.specs.Limits.{max_value_bytes}
-use Rattle.outside.specs.Streams.{SaysFront}
+use Rattle.outside.specs.Streams.{SaysPrefix}
 use Rattle.line_model.specs.Replies.{Reply, text_of}
 use Rattle.byte_fields.specs.declared.parts.Damage.TheVariants.{Shape}
 use Rattle.store_commands.specs.declared.reply.Reply.{Reply as Spoken}
@@ -25,7 +25,7 @@ IsShort spoken.Device = Unit {0}
 IsShort (spoken.Damaged (Shape part at rule)) = (at < 2 ^ 64) × (rule < 2 ^ 64)
 IsShort reply = ⊥
 
--- the reply was said whole, and this is the end; or only a front of it was said, and the run ends with 6
+-- the reply was said whole, and this is the end; or only a prefix of it was said, and the run ends with 6
 abbrev pub Says : LineEnd → Reply → LineEnd → World → World → Type 0
 Says end reply result a b =
-    SaysFront (text_of reply) a.beside.said b.beside.said × (((result ≡ end) × (b.beside.said ≡ a.beside.said ++ text_of reply)) ⊎ (result ≡ End 6))
+    SaysPrefix (text_of reply) a.beside.said b.beside.said × (((result ≡ end) × (b.beside.said ≡ a.beside.said ++ text_of reply)) ⊎ (result ≡ End 6))

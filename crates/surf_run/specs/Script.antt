@@ -59,9 +59,9 @@ turn_of reply = Onward
 
 -- Behind a reply that is not the last comes what is next; and what stands as the reply has been said, but for `device`.
 abbrev pub Then : Turn → Bytes → Ending → Type 0 → Type 0 → Type 0
-Then Onward rest ending Stands Next = Stands × Next
-Then (Over AtDevice) rest ending Stands Next = (rest ≡ []) × (ending ≡ AtDevice)
-Then (Over why) rest ending Stands Next = (rest ≡ []) × (ending ≡ why) × Stands
+Then Onward rest ending AsSaid Next = AsSaid × Next
+Then (Over AtDevice) rest ending AsSaid Next = (rest ≡ []) × (ending ≡ AtDevice)
+Then (Over why) rest ending AsSaid Next = (rest ≡ []) × (ending ≡ why) × AsSaid
 
 -- The lines are answered in order with this text, to the last of them or to the first whose reply is the last.
 -- As a reply has been said that is not `device`, with so many bytes said by then, the entries have R.

@@ -2,7 +2,7 @@
 use Rattle.std.specs.Prelude.{◌≡◌, ◌≢◌, ◌⊎◌, ◌≤◌, ℕ, Bool, IsTrue, List, [], ◌∷◌, ◌++◌, length, flat_map, All}
 use Rattle.disk_trait.specs.World.{Image, World, Rose}
 use Rattle.outside.specs.During.{During}
-use Rattle.outside.specs.Streams.{SaysFront}
+use Rattle.outside.specs.Streams.{SaysPrefix}
 use Rattle.log_model.specs.Area.{LogIs}
 use Rattle.store_commands.specs.Cutting.{NoNewline}
 use Rattle.map_model.specs.SortedMap.{Bytes}
@@ -34,10 +34,10 @@ LogAfter S reply image = (new : List Entry) × S reply new × LogIs 0 new image
 abbrev pub InLine : List Entry → Leaves → Reply → ℕ → ℕ → ℕ → Image → Type 0
 InLine old S reply low high n image = ((n ≡ low) × LogIs 0 old image) ⊎ ((low ≤ n) × (n ≤ high) × LogAfter S reply image)
 
--- the line was answered so, with a front of the reply said
+-- the line was answered so, with a prefix of the reply said
 pub record LineAnswer (tells : Bool) (old : List Entry) (S : Leaves) (reply : Reply) (new : List Entry) (a b : World) : Type 0 where
   pub step : S reply new
-  pub front : SaysFront (text_of reply) a.beside.said b.beside.said
+  pub prefix : SaysPrefix (text_of reply) a.beside.said b.beside.said
   pub each : IsTrue tells → During (InLine old S reply (length a.beside.said) (length b.beside.said)) a b
 
 -- all of the reply was said
@@ -88,7 +88,7 @@ pub record Closed (tells : Bool) (ending : Ending) (start : List Entry) (bytes :
   pub script : (more : Bytes) → Script (Reached tells w) (length first.beside.said) start (lines_of (bytes ++ more)) text ending
   pub history : IsTrue tells → During (Acknowledged start lines first.beside.said w.beside.said) first w
 
--- The first lines were answered whole, none of them with a last reply, and of the next line's reply a front was said; behind
+-- The first lines were answered whole, none of them with a last reply, and of the next line's reply a prefix was said; behind
 -- that line stand less bytes than these.
 pub record Broken (tells : Bool) (most : ℕ) (start : List Entry) (bytes : Bytes) (first w : World) : Type 0 where
   pub lines : List Bytes
@@ -101,7 +101,7 @@ pub record Broken (tells : Bool) (most : ℕ) (start : List Entry) (bytes : Byte
   pub reply : Reply
   pub last : List Entry
   pub step : Step now (asked_here line) reply last
-  pub front : SaysFront (text_of reply) (first.beside.said ++ text) w.beside.said
+  pub prefix : SaysPrefix (text_of reply) (first.beside.said ++ text) w.beside.said
   pub cause : reply ≡ Device → Rose first.seen.write_faults w.seen.write_faults
   pub stands : reply ≢ Device → Stands tells last w
   pub history : IsTrue tells → During (Acknowledged start (lines ++ line ∷ []) first.beside.said w.beside.said) first w

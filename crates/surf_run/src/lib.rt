@@ -18,7 +18,7 @@
 mod end;
 mod laws;
 mod line;
-mod opening;
+mod open;
 mod pending;
 mod saying;
 mod serve;

@@ -1,7 +1,7 @@
 //! A line, answered.
 ghost use Rattle.std.specs.Prelude.{◌≡◌, ◌<◌, ◌≤◌, ◌++◌, [], ◌∷◌, List, length, IsTrue, IfSome, None, Some};
-ghost use Rattle.gate_log.specs.Kinds.{KeepsRules, entry_of_kind};
-ghost use Rattle.entry_model.specs.Entries.{Entry};
+ghost use Rattle.gate_log.specs.Values.{value_of};
+ghost use Rattle.entry_model.specs.Entries.{Entry, IsEntry, entry_of};
 ghost use Rattle.store_commands.specs.Answered.{asked_here};
 ghost use Rattle.line_model.specs.Requests.{Put, Del, Get, Bad};
 ghost use Rattle.line_model.specs.Limits.{key_limit, value_limit};
@@ -18,7 +18,6 @@ ghost use Rattle.surf_run.specs.Serving.{Answered};
 use crate::end::LineEnd;
 use crate::saying::say_reply;
 use crate::store::{Store, WriteError};
-use gate_log::Kind;
 use key_base::{MAX_KEY_BYTES, MAX_VALUE_BYTES};
 use outside::Outside;
 use store_commands::{BadLine, Reply, Request, Scratch, parse_answered};
@@ -28,18 +27,17 @@ fn write_line<W: Outside>(
     store: &mut Store,
     buffer: &mut [u8],
     out: &mut W,
-    kind: Kind,
     key: &[u8],
-    value: &[u8],
+    value: Option<&[u8]>,
 ) -> LineEnd
-    requires rules { KeepsRules kind key.now value.now }
+    requires sound { IsEntry (entry_of key.now (value_of value)) }
     requires room { 0 < length buffer.old }
     ensures answered { (entries : List Entry) → IsTrue W.tells_output → StoreIs entries store.old → Stands W.tells entries (W.world out.old)
-        → Answered W.tells result entries (Write entries (entry_of_kind kind key.now value.now)) store.new (W.world out.old) (W.world out.new) }
+        → Answered W.tells result entries (Write entries (entry_of key.now (value_of value.entry))) store.new (W.world out.old) (W.world out.new) }
     ensures cause { EndCause result (W.world out.old) (W.world out.new) }
     ensures moves { LineMoves (W.world out.old) (W.world out.new) }
 {
-    let error = match store.write(out, kind, key, value) {
+    let error = match store.write(out, key, value) {
         Ok(()) => return say_reply(out, buffer, &Reply::Done, LineEnd::Next),
         Err(error) => error,
     };
@@ -98,7 +96,7 @@ fn put_line<W: Outside>(
     if let Some(limit) = value_refusal(value) {
         return say_reply(out, buffer, &limit, LineEnd::Next);
     }
-    write_line(store, buffer, out, Kind::Put, key, value)
+    write_line(store, buffer, out, key, Some(value))
 }
 
 fn del_line<W: Outside>(store: &mut Store, buffer: &mut [u8], out: &mut W, key: &[u8]) -> LineEnd
@@ -111,7 +109,7 @@ fn del_line<W: Outside>(store: &mut Store, buffer: &mut [u8], out: &mut W, key: 
     if let Some(limit) = key_refusal(key) {
         return say_reply(out, buffer, &limit, LineEnd::Next);
     }
-    write_line(store, buffer, out, Kind::Delete, key, &[])
+    write_line(store, buffer, out, key, None)
 }
 
 fn get_line<W: Outside>(store: &Store, buffer: &mut [u8], out: &mut W, key: &[u8]) -> LineEnd

@@ -1,4 +1,4 @@
-//! The front of a line that has not ended.
+//! The prefix of a line that has not ended.
 ghost use Rattle.std.specs.Prelude.{◌≡◌, ◌==◌, ◌++◌, ℕ, List, [], IfOk, length};
 ghost use Rattle.surf_run.specs.Holding.{Held};
 
@@ -33,18 +33,21 @@ impl Pending {
         })
     }
 
+    /// Whether nothing is kept.
     pub fn is_empty(&self) -> bool
         ensures { result ≡ (length self.now == 0) }
     {
         self.bytes.is_empty()
     }
 
+    /// What is kept.
     pub fn as_slice(&self) -> &[u8]
         ensures { result.now ≡ self.now }
     {
         self.bytes.as_slice()
     }
 
+    /// Forgets what is kept.
     pub fn clear(&mut self)
         ensures { self.new ≡ [] }
     {

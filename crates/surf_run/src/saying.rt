@@ -1,7 +1,7 @@
 //! Replies, said whole.
 ghost use Rattle.std.specs.Prelude.{◌≡◌, ◌≢◌, ◌⊎◌, ◌<◌, ◌++◌, length, IsTrue, OnOk, OnErr};
 ghost use Rattle.disk_trait.specs.World.{Rose};
-ghost use Rattle.outside.specs.Streams.{SayMoves, SaysFront};
+ghost use Rattle.outside.specs.Streams.{SayMoves, SaysPrefix};
 ghost use Rattle.line_model.specs.Replies.{text_of};
 ghost use Rattle.store_commands.specs.Spoken.{spoken};
 ghost use Rattle.surf_run.specs.declared.end.LineEnd.TheVariants.{End};
@@ -20,7 +20,7 @@ pub fn say_pieces<W: Outside>(
 ) -> Result<(), SayFault>
     requires { 0 < length buffer.old }
     ensures said { IsTrue W.tells_output → IsShort reply.now → OnOk result ((W.world out.new).beside.said ≡ (W.world out.old).beside.said ++ text_of (spoken reply.now)) }
-    ensures front { IsTrue W.tells_output → SaysFront (text_of (spoken reply.now)) (W.world out.old).beside.said (W.world out.new).beside.said }
+    ensures prefix { IsTrue W.tells_output → SaysPrefix (text_of (spoken reply.now)) (W.world out.old).beside.said (W.world out.new).beside.said }
     ensures moves { SayMoves (W.world out.old) (W.world out.new) }
     ensures cause { OnErr result (SayFailed (W.world out.old) (W.world out.new)) }
 {

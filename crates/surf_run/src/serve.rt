@@ -5,7 +5,8 @@ ghost use Rattle.entry_model.specs.Entries.{Entry};
 ghost use Rattle.surf_run.specs.StoreIs.{StoreIs};
 ghost use Rattle.surf_run.specs.Causes.{EndCause, StatusCause, NoFall, LineMoves, WritesInLog, IsServing};
 ghost use Rattle.surf_run.specs.Crash.{Stands};
-ghost use Rattle.surf_run.specs.Outcome.{Settled, Outcome, piece_bytes};
+ghost use Rattle.key_base.specs.Limits.{piece_bytes};
+ghost use Rattle.surf_run.specs.Outcome.{Settled, Outcome};
 ghost use Rattle.surf_run.specs.Serving.{Served, After};
 
 use crate::end::LineEnd;
@@ -16,7 +17,7 @@ use key_base::MAX_INPUT_BYTES;
 use outside::Outside;
 use store_commands::{Scratch, next_line};
 
-// Answers the line that ends behind this part, with what is kept of its front.
+// Answers the line that ends behind this part, with what is kept of its prefix.
 fn end_line<W: Outside>(
     store: &mut Store,
     pending: &mut Pending,

@@ -4,19 +4,15 @@ ghost use Rattle.std.specs.Option.{option_map};
 ghost use Rattle.disk_trait.specs.World.{Leads, WriteMoves};
 ghost use Rattle.key_base.specs.Limits.{max_key_bytes, max_value_bytes, log_bytes};
 ghost use Rattle.log_model.specs.Area.{LogIs, WithOrWithout, start_of};
-ghost use Rattle.gate_log.specs.Kinds.{KeepsRules, entry_of_kind};
-ghost use Rattle.entry_model.specs.Entries.{need, gap, live, newest, body_length};
+ghost use Rattle.gate_log.specs.Values.{value_of};
+ghost use Rattle.entry_model.specs.Entries.{IsEntry, need, gap, live, newest, entry_of, body_length};
 ghost use Rattle.entry_model.specs.Entries as model;
 ghost use Rattle.surf_run.specs.declared.store.WriteError.TheVariants.{Memory};
 
 use disk_trait::{Disk, DiskFault};
-use entry_list::Entry;
-use gate_log::{Kind, Log, body_length};
+use gate_log::{Log, record_need};
 use mem_table::MemTable;
 use std::alloc::AllocError;
-
-/// The log area that the store uses.
-pub const AREA: u8 = 0;
 
 /// The log, the newest entry of each key, and room for one record.
 #[derive(Drop)]
@@ -47,52 +43,39 @@ impl From<AllocError> for WriteError {
     }
 }
 
-// All the memory of an entry.
-fn prepared(table: &mut MemTable, kind: Kind, key: &[u8], value: &[u8]) -> Result<Entry, AllocError>
-    ensures entry { IfOk result (λ p. p ≡ entry_of_kind kind key.now value.now) }
-    ensures spare { OnOk result (1 ≤ table.new.spare) }
-    ensures kept { table.new.entries ≡ table.old.entries }
-{
-    match kind {
-        Kind::Put => table.reserve_for(key, Some(value)),
-        Kind::Delete => table.reserve_for(key, None),
-    }
-}
-
 impl Store {
     ghost use Rattle.surf_run.specs.Refusals.{RefusedFor, WriteCause, UnlessDevice};
     ghost use Rattle.surf_run.specs.StoreIs.{StoreIs};
 
-    /// Writes an entry. Its memory is taken first; then it goes to the log by two writes, each made to last; then it
-    /// stands in memory.
+    /// Writes a key with its value, or without, which deletes it. Its memory is taken first; then it goes to the log by
+    /// two writes, each made to last; then it stands in memory.
     pub fn write<D: Disk>(
         &mut self,
         disk: &mut D,
-        kind: Kind,
         key: &[u8],
-        value: &[u8],
+        value: Option<&[u8]>,
     ) -> Result<(), WriteError>
-        requires { KeepsRules kind key.now value.now }
-        ensures done { (entries : List model.Entry) → StoreIs entries self.old → OnOk result (StoreIs (entries ++ entry_of_kind kind key.now value.now ∷ []) self.new) }
+        requires { IsEntry (entry_of key.now (value_of value)) }
+        ensures done { (entries : List model.Entry) → StoreIs entries self.old → OnOk result (StoreIs (entries ++ entry_of key.now (value_of value.entry) ∷ []) self.new) }
         ensures unchanged { (entries : List model.Entry) → StoreIs entries self.old → OnErr result (StoreIs entries self.new) }
-        ensures fits { (entries : List model.Entry) → StoreIs entries self.old → OnOk result (need (entry_of_kind kind key.now value.now) ≤ gap entries) }
-        ensures refused { (entries : List model.Entry) → StoreIs entries self.old → IfErr result (RefusedFor entries (entry_of_kind kind key.now value.now)) }
+        ensures fits { (entries : List model.Entry) → StoreIs entries self.old → OnOk result (need (entry_of key.now (value_of value.entry)) ≤ gap entries) }
+        ensures refused { (entries : List model.Entry) → StoreIs entries self.old → IfErr result (RefusedFor entries (entry_of key.now (value_of value.entry))) }
         ensures cause { IfErr result (WriteCause (D.world disk.old) (D.world disk.new)) }
         ensures crash { (entries : List model.Entry) → IsTrue D.tells → StoreIs entries self.old
-            → Leads (LogIs 0 entries) (WithOrWithout 0 entries (entry_of_kind kind key.now value.now)) (LogIs 0 (entries ++ entry_of_kind kind key.now value.now ∷ []))
+            → Leads (LogIs 0 entries) (WithOrWithout 0 entries (entry_of key.now (value_of value.entry))) (LogIs 0 (entries ++ entry_of key.now (value_of value.entry) ∷ []))
             result (D.world disk.old) (D.world disk.new) }
         ensures untouched { IfErr result (UnlessDevice (disk.new ≡ disk.old)) }
         ensures moves { WriteMoves (start_of 0) log_bytes (D.world disk.old) (D.world disk.new) }
     {
-        let kept = prepared(&mut self.table, kind, key, value)?;
-        let n = body_length(key.len(), value.len());
-        if !self.log.fits(n) {
+        let kept = self.table.reserve_for(key, value)?;
+        let need = record_need(key, value);
+        if !self.log.fits(need) {
             return Err(WriteError::Full {
-                need: n as u64 + 2,
+                need: need as u64,
                 gap: self.log.gap() as u64,
             });
         }
-        match self.log.append(disk, &mut self.buffer, kind, key, value) {
+        match self.log.append(disk, &mut self.buffer, key, value) {
             Ok(()) => {
                 self.table.set(kept);
                 Ok(())

@@ -1,7 +1,7 @@
 //! The top call.
 ghost use Rattle.std.specs.Prelude.{◌≡◌, ◌≢◌, ◌<◌, ◌≤◌, ◌^◌, ◌⊎◌, ◌↔◌, ◌++◌, ℕ, [], ◌∷◌, List, length, map, string_bytes, IsTrue, IfOk, vec_len};
 ghost use Rattle.disk_trait.specs.World.{Now};
-ghost use Rattle.outside.specs.Streams.{SayMoves, SaysFront};
+ghost use Rattle.outside.specs.Streams.{SayMoves, SaysPrefix};
 ghost use Rattle.log_model.specs.Area.{LogIs, LogBreaks};
 ghost use Rattle.gate_log.specs.Faults.{IsNoShape, IsShapeIn};
 ghost use Rattle.store_commands.specs.Spoken.{spoken};
@@ -11,23 +11,24 @@ ghost use Rattle.surf_run.specs.Causes.{IsServing, NoFall, WritesInLog, StatusCa
 ghost use Rattle.surf_run.specs.Crash.{Stands};
 ghost use Rattle.surf_run.specs.StoreIs.{StoreIs};
 ghost use Rattle.surf_run.specs.Open.{log_damage, reply_to, status_of};
-ghost use Rattle.surf_run.specs.Outcome.{piece_bytes};
+ghost use Rattle.key_base.specs.Limits.{piece_bytes};
 ghost use Rattle.surf_run.specs.Run.{Ends, Serves, Unserved, Damaged, SomeFailed, Completed, serve_words, usage_text};
 ghost use Rattle.surf_run.specs.Saying.{IsShort};
 
-use crate::opening::open_store;
+use crate::open::open_store;
 use crate::pending::Pending;
 use crate::saying::say_pieces;
 use crate::serve::serve;
 use crate::store::Store;
 use byte_fields::{Damage, Part};
 use gate_log::LogFault;
+use key_base::PIECE_BYTES;
 use outside::{Outside, say_all};
 use std::alloc::{AllocError, Global};
 use store_commands::{Reply, Scratch};
 
-/// The most that is taken, and the most that is said, by one call, in bytes.
-const PIECE_BYTES: usize = 65_536;
+// The bytes in which a last line is laid out, a piece at a time.
+const LAST_LINE_BYTES: usize = 64;
 
 const USAGE: &[u8] = b"usage: surfstore PATH format|serve|load\n";
 
@@ -44,7 +45,7 @@ fn is_serve(words: &[String]) -> bool
 // Says the line that wrong words get.
 fn say_usage<W: Outside>(out: &mut W) -> u8
     ensures said { IsTrue W.tells_output → result ≡ 2 → (W.world out.new).beside.said ≡ (W.world out.old).beside.said ++ usage_text }
-    ensures front { IsTrue W.tells_output → SaysFront usage_text (W.world out.old).beside.said (W.world out.new).beside.said }
+    ensures prefix { IsTrue W.tells_output → SaysPrefix usage_text (W.world out.old).beside.said (W.world out.new).beside.said }
     ensures ends { (result ≡ 2) ⊎ ((result ≡ 6) × SayFailed (W.world out.old) (W.world out.new)) }
     ensures moves { SayMoves (W.world out.old) (W.world out.new) }
 {
@@ -58,11 +59,11 @@ fn say_usage<W: Outside>(out: &mut W) -> u8
 fn last_line<W: Outside>(out: &mut W, reply: &Reply<'_>, status: u8) -> u8
     requires { status ≢ 6 }
     ensures said { IsTrue W.tells_output → IsShort reply.now → result ≡ status → (W.world out.new).beside.said ≡ (W.world out.old).beside.said ++ text_of (spoken reply.now) }
-    ensures front { IsTrue W.tells_output → SaysFront (text_of (spoken reply.now)) (W.world out.old).beside.said (W.world out.new).beside.said }
+    ensures prefix { IsTrue W.tells_output → SaysPrefix (text_of (spoken reply.now)) (W.world out.old).beside.said (W.world out.new).beside.said }
     ensures ends { (result ≡ status) ⊎ ((result ≡ 6) × SayFailed (W.world out.old) (W.world out.new)) }
     ensures moves { SayMoves (W.world out.old) (W.world out.new) }
 {
-    match say_pieces(out, &mut [0; 64], reply) {
+    match say_pieces(out, &mut [0; LAST_LINE_BYTES], reply) {
         Ok(()) => status,
         Err(_) => 6,
     }
@@ -71,7 +72,7 @@ fn last_line<W: Outside>(out: &mut W, reply: &Reply<'_>, status: u8) -> u8
 // Says where and how the log is damaged.
 fn say_damage<W: Outside>(out: &mut W, at: u64, rule: u8) -> u8
     ensures said { IsTrue W.tells_output → result ≡ 5 → (W.world out.new).beside.said ≡ (W.world out.old).beside.said ++ text_of (log_damage at rule) }
-    ensures front { IsTrue W.tells_output → SaysFront (text_of (log_damage at rule)) (W.world out.old).beside.said (W.world out.new).beside.said }
+    ensures prefix { IsTrue W.tells_output → SaysPrefix (text_of (log_damage at rule)) (W.world out.old).beside.said (W.world out.new).beside.said }
     ensures ends { (result ≡ 5) ⊎ ((result ≡ 6) × SayFailed (W.world out.old) (W.world out.new)) }
     ensures moves { SayMoves (W.world out.old) (W.world out.new) }
 {
@@ -86,7 +87,7 @@ fn say_damage<W: Outside>(out: &mut W, at: u64, rule: u8) -> u8
 // Ends a run whose store was not opened.
 fn not_opened<W: Outside>(out: &mut W, fault: LogFault) -> u8
     ensures said { IsTrue W.tells_output → result ≢ 6 → (W.world out.new).beside.said ≡ (W.world out.old).beside.said ++ text_of (reply_to fault) }
-    ensures front { IsTrue W.tells_output → SaysFront (text_of (reply_to fault)) (W.world out.old).beside.said (W.world out.new).beside.said }
+    ensures prefix { IsTrue W.tells_output → SaysPrefix (text_of (reply_to fault)) (W.world out.old).beside.said (W.world out.new).beside.said }
     ensures ends { (result ≡ status_of fault) ⊎ ((result ≡ 6) × SayFailed (W.world out.old) (W.world out.new)) }
     ensures moves { SayMoves (W.world out.old) (W.world out.new) }
 {

@@ -3,8 +3,8 @@ use Rattle.std.specs.Prelude.{IsTrue}
 use Rattle.disk_trait.specs.World.{Image, Rose}
 use Rattle.disk_trait.proofs.Moments.{now_at}
 use Rattle.log_model.specs.Area.{LogIs, WithOrWithout}
-use Rattle.gate_log.specs.Kinds.{entry_of_kind}
-use Rattle.entry_model.specs.Entries.{need, gap}
+use Rattle.gate_log.specs.Values.{value_of}
+use Rattle.entry_model.specs.Entries.{entry_of, need, gap}
 use Rattle.line_model.specs.Replies.{Done, Memory, Full, Device}
 use Rattle.surf_run.specs.Script.{Write, done, memory, failed_before, failed_after}
 use Rattle.surf_run.specs.Refusals.{RefusedFor, WriteCause, UnlessDevice}
@@ -16,7 +16,7 @@ use Rattle.surf_run.proofs.line.write_line.Goals as goal
 
 pub returns-in-Ok-clause-answered : goal.returns-in-Ok-clause-answered
 returns-in-Ok-clause-answered g c entries output holds now =
-    let entry = entry_of_kind c.args.kind c.args.key.now c.args.value.now in
+    let entry = entry_of c.args.key.now (value_of c.args.value) in
     let S = Write entries entry in
     let then = entries ++ entry ∷ [] in
     let a = g.W.Disk.world c.args.out.now in let mid = g.W.Disk.world c.write.new.disk in let b = g.W.Disk.world c.say_reply.new.out in
@@ -31,7 +31,7 @@ returns-in-Ok-clause-answered g c entries output holds now =
 
 pub returns-in-Memory-clause-answered : goal.returns-in-Memory-clause-answered
 returns-in-Memory-clause-answered g c entries output holds now =
-    let entry = entry_of_kind c.args.kind c.args.key.now c.args.value.now in
+    let entry = entry_of c.args.key.now (value_of c.args.value) in
     let S = Write entries entry in
     let a = g.W.Disk.world c.args.out.now in let mid = g.W.Disk.world c.write.new.disk in let b = g.W.Disk.world c.say_reply-in-Memory.new.out in
     let same : c.write.new.disk ≡ c.args.out.now = subst (UnlessDevice (c.write.new.disk ≡ c.args.out.now)) c.in-Memory.is c.in-Err.ensures.untouched in
@@ -46,7 +46,7 @@ returns-in-Memory-clause-answered g c entries output holds now =
 
 pub returns-in-Full-clause-answered : goal.returns-in-Full-clause-answered
 returns-in-Full-clause-answered g c entries output holds now =
-    let entry = entry_of_kind c.args.kind c.args.key.now c.args.value.now in
+    let entry = entry_of c.args.key.now (value_of c.args.value) in
     let S = Write entries entry in
     let a = g.W.Disk.world c.args.out.now in let mid = g.W.Disk.world c.write.new.disk in let b = g.W.Disk.world c.say_reply-in-Full.new.out in
     let same : c.write.new.disk ≡ c.args.out.now = subst (UnlessDevice (c.write.new.disk ≡ c.args.out.now)) c.in-Full.is c.in-Err.ensures.untouched in
@@ -54,7 +54,7 @@ returns-in-Full-clause-answered g c entries output holds now =
     let why = subst (RefusedFor entries entry) c.in-Full.is (c.in-Err.ensures.refused entries holds) in
     let step : S (Full c.in-Full.need c.in-Full.gap) entries = full_for entries entry _ _ why in
     let after = λ (t : IsTrue g.W.Disk.tells). now_at (LogIs 0 entries) a mid (meanwhile t) in
-    let says = c.say_reply-in-Full.ensures.says output (omega (arith, why.0, small_need entry c.requires.rules.sound), omega (arith, why.1, small_gap entries)) in
+    let says = c.say_reply-in-Full.ensures.says output (omega (arith, why.0, small_need entry c.requires.sound), omega (arith, why.1, small_gap entries)) in
     answered_next g.W.Disk.tells entries S entries c.write.new.self a mid b c.write.ensures.moves.beside (Full c.in-Full.need c.in-Full.gap) c.say_reply-in-Full.result
     (line_answer g.W.Disk.tells entries S (Full c.in-Full.need c.in-Full.gap) entries (LogIs 0 entries) a mid b meanwhile c.write.ensures.moves.beside (g.met.W.Outside.said_now _) (g.met.W.Outside.said_now _) c.say_reply-in-Full.ensures.moves step says.0
     (λ image before. inl before) (λ t image left. (entries, step, after t image left)))
@@ -62,7 +62,7 @@ returns-in-Full-clause-answered g c entries output holds now =
 
 pub returns-in-Device-clause-answered : goal.returns-in-Device-clause-answered
 returns-in-Device-clause-answered g c entries output holds now =
-    let entry = entry_of_kind c.args.kind c.args.key.now c.args.value.now in
+    let entry = entry_of c.args.key.now (value_of c.args.value) in
     let S = Write entries entry in
     let a = g.W.Disk.world c.args.out.now in let mid = g.W.Disk.world c.write.new.disk in let b = g.W.Disk.world c.say_reply-in-Device.new.out in
     let meanwhile = λ (t : IsTrue g.W.Disk.tells). (c.in-Err.ensures.crash entries t holds).meanwhile (now t) in

@@ -5,18 +5,18 @@ use Rattle.outside.proofs.Pieces.{says_then}
 use Rattle.surf_run.proofs.Pieces.{next_piece, front_on, short_text, none_over, some_is}
 use Rattle.surf_run.proofs.saying.say_pieces.Goals as goal
 
-pub returns-in_err-say_all-clause-front : goal.returns-in_err-say_all-clause-front
-returns-in_err-say_all-clause-front g c tells =
-    front_on _ c.loop-n.buffer c.loop-n.from c.loop-n.n c.loop-n.invariant.size c.loop-n.invariant.bytes _ _ _ (c.loop-n.invariant.said tells) (c.in_err-say_all.ensures.front tells)
+pub returns-in_err-say_all-clause-prefix : goal.returns-in_err-say_all-clause-prefix
+returns-in_err-say_all-clause-prefix g c tells =
+    front_on _ c.loop-n.buffer c.loop-n.from c.loop-n.n c.loop-n.invariant.size c.loop-n.invariant.bytes _ _ _ (c.loop-n.invariant.said tells) (c.in_err-say_all.ensures.prefix tells)
 
 pub returns-in_default-clause-said : goal.returns-in_default-clause-said
 returns-in_default-clause-said g c tells short =
     let small = short_text c.args.reply.now short in
     absurd (none_over c.checked_add.result _ _ c.checked_add.ensures c.in_default.not-Some (omega (arith, small, c.loop-n.invariant.size, c.loop-n.invariant.within)))
 
-pub returns-in_default-clause-front : goal.returns-in_default-clause-front
-returns-in_default-clause-front g c tells =
-    front_on _ c.loop-n.buffer c.loop-n.from c.loop-n.n c.loop-n.invariant.size c.loop-n.invariant.bytes _ _ _ (c.loop-n.invariant.said tells) (c.in_ok-say_all.ensures.front tells)
+pub returns-in_default-clause-prefix : goal.returns-in_default-clause-prefix
+returns-in_default-clause-prefix g c tells =
+    front_on _ c.loop-n.buffer c.loop-n.from c.loop-n.n c.loop-n.invariant.size c.loop-n.invariant.bytes _ _ _ (c.loop-n.invariant.said tells) (c.in_ok-say_all.ensures.prefix tells)
 
 pub loop-n-preserved : goal.loop-n-preserved
 loop-n-preserved g c =

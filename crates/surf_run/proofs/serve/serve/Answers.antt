@@ -43,11 +43,11 @@ loop-left-preserved g c = record {
   served = λ start input output holds stand.
       let was = c.loop-left.invariant.served start input output holds stand in
       let took = c.in-Ok.ensures.taken input in
-      let front = front_of c.in-Ok.taken c.take.new.into (drop c.room_for-most.result c.loop-left.piece) (omega (arith, c.in-Ok.ensures.count, c.take.auto.into)) in
+      let prefix = front_of c.in-Ok.taken c.take.new.into (drop c.room_for-most.result c.loop-left.piece) (omega (arith, c.in-Ok.ensures.count, c.take.auto.into)) in
       let piece = take c.in-Ok.taken (c.take.new.into ++ drop c.room_for-most.result c.loop-left.piece) in (
         was.0 ++ piece,
-        taken_more _ _ _ was.0 piece was.1 (took.bytes ∙ ap (λ (l : List ℕ). l ++ (g.W.Disk.world c.take.new.self).beside.to_take) (sym front)) ∙ ap (λ (l : List ℕ). (was.0 ++ piece) ++ l) (sym c.feed.ensures.moves.input),
-        omega (arith, was.2, length-append was.0 piece, ap length front, length-take c.in-Ok.taken c.take.new.into, c.in-Ok.ensures.count, c.take.auto.into, c.room_for-most.ensures.left, length-take c.room_for-most.result c.loop-left.piece),
+        taken_more _ _ _ was.0 piece was.1 (took.bytes ∙ ap (λ (l : List ℕ). l ++ (g.W.Disk.world c.take.new.self).beside.to_take) (sym prefix)) ∙ ap (λ (l : List ℕ). (was.0 ++ piece) ++ l) (sym c.feed.ensures.moves.input),
+        omega (arith, was.2, length-append was.0 piece, ap length prefix, length-take c.in-Ok.taken c.take.new.into, c.in-Ok.ensures.count, c.take.auto.into, c.room_for-most.ensures.left, length-take c.room_for-most.result c.loop-left.piece),
         c.in-Next.ensures.after start c.args.out.now was.0 output (served_take g.W.Disk.tells start was.0 _ _ _ _ _ c.take.ensures.moves (g.met.W.Outside.said_now _) was.3),
       );
   footprint = log_on _ _ _ c.loop-left.invariant.footprint (log_on _ _ _ (log_take _ _ c.take.ensures.moves) c.feed.ensures.moves.footprint);
@@ -58,33 +58,33 @@ pub returns-in-Quit-clause-outcome : goal.returns-in-Quit-clause-outcome
 returns-in-Quit-clause-outcome g c start input output holds stand =
     let was = c.loop-left.invariant.served start input output holds stand in
     let took = c.in-Ok.ensures.taken input in
-    let front = front_of c.in-Ok.taken c.take.new.into (drop c.room_for-most.result c.loop-left.piece) (omega (arith, c.in-Ok.ensures.count, c.take.auto.into)) in
+    let prefix = front_of c.in-Ok.taken c.take.new.into (drop c.room_for-most.result c.loop-left.piece) (omega (arith, c.in-Ok.ensures.count, c.take.auto.into)) in
     let piece = take c.in-Ok.taken (c.take.new.into ++ drop c.room_for-most.result c.loop-left.piece) in
     record {
       taken = was.0 ++ piece;
-      input = taken_more _ _ _ was.0 piece was.1 (took.bytes ∙ ap (λ (l : List ℕ). l ++ (g.W.Disk.world c.take.new.self).beside.to_take) (sym front)) ∙ ap (λ (l : List ℕ). (was.0 ++ piece) ++ l) (sym c.feed.ensures.moves.input);
+      input = taken_more _ _ _ was.0 piece was.1 (took.bytes ∙ ap (λ (l : List ℕ). l ++ (g.W.Disk.world c.take.new.self).beside.to_take) (sym prefix)) ∙ ap (λ (l : List ℕ). (was.0 ++ piece) ++ l) (sym c.feed.ensures.moves.input);
       settled =
           let after = c.in-Quit.ensures.after start c.args.out.now was.0 output (served_take g.W.Disk.tells start was.0 _ _ _ _ _ c.take.ensures.moves (g.met.W.Outside.said_now _) was.3) in
           settled_quit g.W.Disk.tells (length piece) start (was.0 ++ piece) _ _
-          (omega (arith, ap length front, length-take c.in-Ok.taken c.take.new.into, c.in-Ok.ensures.count, c.take.auto.into, c.room_for-most.ensures.most, length-take c.room_for-most.result c.loop-left.piece, c.requires.small, c.loop-left.auto.piece)) after.0 after.1;
+          (omega (arith, ap length prefix, length-take c.in-Ok.taken c.take.new.into, c.in-Ok.ensures.count, c.take.auto.into, c.room_for-most.ensures.most, length-take c.room_for-most.result c.loop-left.piece, c.requires.small, c.loop-left.auto.piece)) after.0 after.1;
       limit = λ is. absurd cc;
-      most = omega (arith, was.2, length-append was.0 piece, ap length front, length-take c.in-Ok.taken c.take.new.into, c.in-Ok.ensures.count, c.take.auto.into, c.room_for-most.ensures.left, length-take c.room_for-most.result c.loop-left.piece);
+      most = omega (arith, was.2, length-append was.0 piece, ap length prefix, length-take c.in-Ok.taken c.take.new.into, c.in-Ok.ensures.count, c.take.auto.into, c.room_for-most.ensures.left, length-take c.room_for-most.result c.loop-left.piece);
     }
 
 pub returns-in-End-clause-outcome : goal.returns-in-End-clause-outcome
 returns-in-End-clause-outcome g c start input output holds stand =
     let was = c.loop-left.invariant.served start input output holds stand in
     let took = c.in-Ok.ensures.taken input in
-    let front = front_of c.in-Ok.taken c.take.new.into (drop c.room_for-most.result c.loop-left.piece) (omega (arith, c.in-Ok.ensures.count, c.take.auto.into)) in
+    let prefix = front_of c.in-Ok.taken c.take.new.into (drop c.room_for-most.result c.loop-left.piece) (omega (arith, c.in-Ok.ensures.count, c.take.auto.into)) in
     let piece = take c.in-Ok.taken (c.take.new.into ++ drop c.room_for-most.result c.loop-left.piece) in
     record {
       taken = was.0 ++ piece;
-      input = taken_more _ _ _ was.0 piece was.1 (took.bytes ∙ ap (λ (l : List ℕ). l ++ (g.W.Disk.world c.take.new.self).beside.to_take) (sym front)) ∙ ap (λ (l : List ℕ). (was.0 ++ piece) ++ l) (sym c.feed.ensures.moves.input);
+      input = taken_more _ _ _ was.0 piece was.1 (took.bytes ∙ ap (λ (l : List ℕ). l ++ (g.W.Disk.world c.take.new.self).beside.to_take) (sym prefix)) ∙ ap (λ (l : List ℕ). (was.0 ++ piece) ++ l) (sym c.feed.ensures.moves.input);
       settled = settled_end g.W.Disk.tells (length piece) c.in-End.status start (was.0 ++ piece) _ _
-          (omega (arith, ap length front, length-take c.in-Ok.taken c.take.new.into, c.in-Ok.ensures.count, c.take.auto.into, c.room_for-most.ensures.most, length-take c.room_for-most.result c.loop-left.piece, c.requires.small, c.loop-left.auto.piece))
+          (omega (arith, ap length prefix, length-take c.in-Ok.taken c.take.new.into, c.in-Ok.ensures.count, c.take.auto.into, c.room_for-most.ensures.most, length-take c.room_for-most.result c.loop-left.piece, c.requires.small, c.loop-left.auto.piece))
           (c.in-End.ensures.after start c.args.out.now was.0 output (served_take g.W.Disk.tells start was.0 _ _ _ _ _ c.take.ensures.moves (g.met.W.Outside.said_now _) was.3));
       limit = λ is. absurd (elim c.in-End.ensures.cause [ inl four ↦ let f = four.0 in cc | inr six ↦ let s = six.0 in cc ]);
-      most = omega (arith, was.2, length-append was.0 piece, ap length front, length-take c.in-Ok.taken c.take.new.into, c.in-Ok.ensures.count, c.take.auto.into, c.room_for-most.ensures.left, length-take c.room_for-most.result c.loop-left.piece);
+      most = omega (arith, was.2, length-append was.0 piece, ap length prefix, length-take c.in-Ok.taken c.take.new.into, c.in-Ok.ensures.count, c.take.auto.into, c.room_for-most.ensures.left, length-take c.room_for-most.result c.loop-left.piece);
     }
 
 pub returns-clause-outcome : goal.returns-clause-outcome

@@ -46,7 +46,7 @@ returns-in-Err-clause-answers g c input output =
     inr (unserved_since g.W.Disk.tells _ _ _ _ opened (g.met.W.Outside.said_now _)
     (unserved g.W.Disk.tells mid (g.W.Disk.world c.not_opened.new.out) (g.met.W.Outside.said_now _) c.not_opened.ensures.moves c.not_opened.result (status_of fault) (text_of (reply_to fault))
     (subst (λ (i : Image). IsLastText g.W.Disk.tells i (status_of fault) (text_of (reply_to fault))) (sym opened.held) (fault_text g.W.Disk.tells old.seen.held fault c.in-Err.ensures.shape))
-    (c.not_opened.ensures.front output) (λ same. c.not_opened.ensures.said output (λ six. not_six fault (sym same ∙ six))) c.not_opened.ensures.ends))
+    (c.not_opened.ensures.prefix output) (λ same. c.not_opened.ensures.said output (λ six. not_six fault (sym same ∙ six))) c.not_opened.ensures.ends))
 
 pub returns-in-Ok-clause-footprint : goal.returns-in-Ok-clause-footprint
 returns-in-Ok-clause-footprint g c = log_on _ _ _ (log_open _ _ c.open_store.ensures.moves) c.serve_store.ensures.footprint

@@ -9,11 +9,11 @@ use Rattle.surf_run.proofs.top.run.Goals as goal
 
 pub returns-then-not-is_serve-clause-outcome : goal.returns-then-not-is_serve-clause-outcome
 returns-then-not-is_serve-clause-outcome g c start tells input output now =
-    inr (unserved g.W.Disk.tells _ _ (g.met.W.Outside.said_now _) c.say_usage.ensures.moves _ 2 _ (inl (refl, refl)) (c.say_usage.ensures.front output) (c.say_usage.ensures.said output) c.say_usage.ensures.ends)
+    inr (unserved g.W.Disk.tells _ _ (g.met.W.Outside.said_now _) c.say_usage.ensures.moves _ 2 _ (inl (refl, refl)) (c.say_usage.ensures.prefix output) (c.say_usage.ensures.said output) c.say_usage.ensures.ends)
 
 pub returns-then-not-is_serve-clause-answers : goal.returns-then-not-is_serve-clause-answers
 returns-then-not-is_serve-clause-answers g c input output =
-    inr (unserved g.W.Disk.tells _ _ (g.met.W.Outside.said_now _) c.say_usage.ensures.moves _ 2 _ (inl (refl, refl)) (c.say_usage.ensures.front output) (c.say_usage.ensures.said output) c.say_usage.ensures.ends)
+    inr (unserved g.W.Disk.tells _ _ (g.met.W.Outside.said_now _) c.say_usage.ensures.moves _ 2 _ (inl (refl, refl)) (c.say_usage.ensures.prefix output) (c.say_usage.ensures.said output) c.say_usage.ensures.ends)
 
 pub returns-clause-outcome : goal.returns-clause-outcome
 returns-clause-outcome g c start tells input output now =

@@ -3,7 +3,7 @@ use Rattle.disk_trait.proofs.Moments.{same_then}
 use Rattle.disk_trait.proofs.Calls.{reads_keep}
 use Rattle.disk_trait.specs.World.{Streams}
 use Rattle.log_model.specs.Area.{LogIs, Position}
-use Rattle.surf_run.proofs.opening.open_store.Goals as goal
+use Rattle.surf_run.proofs.open.open_store.Goals as goal
 
 pub returns-clause-opens : goal.returns-clause-opens
 returns-clause-opens g c =

@@ -1,13 +1,16 @@
-//! The store that stands on a device.
-ghost use Rattle.std.specs.Prelude.{IsTrue, IfOk, IfErr};
+//! The store of a device, opened.
+ghost use Rattle.std.specs.Prelude.{IfOk, IfErr, IsTrue};
 ghost use Rattle.gate_log.specs.Faults.{IsShapeIn};
 ghost use Rattle.surf_run.specs.Open.{OpenMoves, OpenCause, Opens};
 
-use crate::store::{AREA, Store};
+use crate::store::Store;
 use disk_trait::Disk;
 use gate_log::{BUFFER_BYTES, Log, LogFault};
 use mem_table::MemTable;
 use std::alloc::Global;
+
+// The log area that the store uses.
+const AREA: u8 = 0;
 
 /// Opens the store that stands on a device: what was written before is made to last, and the log is replayed.
 ///

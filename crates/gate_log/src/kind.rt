@@ -1,7 +1,8 @@
 //! The kinds of records.
+
 /// What a record says of its key.
 #[derive(Clone, Copy, Debug, PartialEq, Eq)]
-pub enum Kind {
+pub(crate) enum Kind {
     /// It has a value.
     Put = 1,
     /// It has none any more.

@@ -5,7 +5,7 @@ use Rattle.std.proofs.Math.Nat.{le_refl}
 use Rattle.std.proofs.lemmas.Bool.{le-ltb}
 use Rattle.disk_mem.specs.Bytes.{image_of}
 use Rattle.disk_mem.specs.Calls.{bytes_after, calls_by}
-use Rattle.disk_mem.specs.Current.{current_is_left}
+use Rattle.disk_mem.specs.CurrentLaws.{current_is_left}
 use Rattle.disk_mem.specs.History.{LeftImage}
 use Rattle.outside.specs.Session.{Session, disk_moment, now_of, says_by, bytes_by, session_world}
 use Rattle.outside.specs.Streams.{SaidByNow}
