@@ -1,1 +1,2 @@
+pub use Rattle.bit_words.specs.Packed
 pub mod Place

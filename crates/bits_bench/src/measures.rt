@@ -14,10 +14,10 @@ use std::time::CpuClock;
 /// How many rounds kernel and plain loop run in turn.
 pub const ROUNDS: u32 = 5;
 
-/// How many calls of a kernel stand against one of a plain loop that begins at the first bit.
+// How many calls of a kernel stand against one of a plain loop that begins at the first bit.
 const PLAIN_SHARE: usize = 5000;
 
-/// As many random bits.
+// As many random bits.
 fn random_bits(alloc: Global, count: u64, numbers: &mut Numbers) -> Result<Bits<Global>> {
     let len = usize::try_from(count)?;
     let bytes = random_bytes(alloc, len.div_ceil(8), numbers)?;
@@ -38,7 +38,7 @@ pub fn sparse_bits(
     Ok(bits)
 }
 
-/// The sum of the ranks at these places, or at `len` where one is greater.
+// The sum of the ranks at these places, or at `len` where one is greater.
 #[inline(never)]
 fn sum_of_ranks(ranked: &Ranked<Global>, len: usize, places: &[u64]) -> u64
     requires { len ≤ length ranked.now }
@@ -50,7 +50,7 @@ fn sum_of_ranks(ranked: &Ranked<Global>, len: usize, places: &[u64]) -> u64
     sum
 }
 
-/// The sum of the plain ranks at these places.
+// The sum of the plain ranks at these places.
 fn sum_of_plain_ranks(words: &[u64], places: &[u64]) -> u64 {
     let mut sum = 0u64;
     for place in places {
@@ -92,7 +92,7 @@ pub fn rank(
     Ok(())
 }
 
-/// The sum of the places of these set bits.
+// The sum of the places of these set bits.
 #[inline(never)]
 fn sum_of_selects(selected: &Selected<Global>, numbers: &[u64]) -> u64 {
     let mut sum = 0u64;
@@ -103,7 +103,7 @@ fn sum_of_selects(selected: &Selected<Global>, numbers: &[u64]) -> u64 {
     sum
 }
 
-/// The sum of the plain places of these set bits.
+// The sum of the plain places of these set bits.
 fn sum_of_plain_selects(words: &[u64], numbers: &[u64]) -> u64 {
     let mut sum = 0u64;
     for n in numbers {
@@ -146,8 +146,8 @@ pub fn select(
     Ok(())
 }
 
-/// The set bits of the words, as often as there are calls. Each call leaves out some words at the start, so that none
-/// is the same as the one before.
+// The set bits of the words, as often as there are calls. Each call leaves out some words at the start, so that none
+// is the same as the one before.
 #[inline(never)]
 fn sum_of_ones(words: &[u64], calls: u64) -> u64
     requires { length words.now < 2 ^ 58 }
@@ -161,7 +161,7 @@ fn sum_of_ones(words: &[u64], calls: u64) -> u64
     sum
 }
 
-/// The same by the plain loop.
+// The same by the plain loop.
 #[inline(never)]
 fn sum_of_plain_ones(words: &[u64], calls: u64) -> u64 {
     let mut sum = 0u64;

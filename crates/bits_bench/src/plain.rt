@@ -30,7 +30,7 @@ pub fn select(words: &[u64], n: u64) -> Option<u64> {
     None
 }
 
-/// The place of the nth set bit of a word, bit by bit.
+// The place of the nth set bit of a word, bit by bit.
 fn nth_bit(word: u64, n: u64) -> u64 {
     let mut left = n;
     for place in 0..64 {

@@ -10,17 +10,17 @@ use bit_words::Bits;
 use std::alloc::{AllocError, Global};
 use std::time::CpuClock;
 
-/// How many nodes are searched.
+// How many nodes are searched.
 const NODES: u64 = 1024;
 
-/// A label to look for, in the node that begins at a place.
+// A label to look for, in the node that begins at a place.
 #[derive(Clone, Copy)]
 struct Query {
     start: usize,
     label: u8,
 }
 
-/// The labels of all nodes, `fan_out` each, which rise in each node.
+// The labels of all nodes, `fan_out` each, which rise in each node.
 fn random_labels(alloc: Global, fan_out: u64, numbers: &mut Numbers) -> Result<Vec<u8>, AllocError>
     requires { (0 < fan_out) × (fan_out ≤ 256) }
 {
@@ -35,7 +35,7 @@ fn random_labels(alloc: Global, fan_out: u64, numbers: &mut Numbers) -> Result<V
     Ok(labels)
 }
 
-/// As many queries of random nodes, half of them for a label that is there and half for any.
+// As many queries of random nodes, half of them for a label that is there and half for any.
 fn random_queries(
     alloc: Global,
     labels: &[u8],
@@ -57,13 +57,13 @@ fn random_queries(
     Ok(queries)
 }
 
-/// The kernel, called as the plain loop is.
+// The kernel, called as the plain loop is.
 #[inline(never)]
 fn kernel_label(bytes: &[u8], label: u8) -> Option<usize> {
     lane_scan::find_label(bytes, label)
 }
 
-/// The sum of the places that the kernel finds, `rounds` times over.
+// The sum of the places that the kernel finds, `rounds` times over.
 #[inline(never)]
 fn sum_of_labels(labels: &[u8], fan_out: usize, queries: &[Query], rounds: u64) -> u64 {
     let mut sum = 0u64;
@@ -77,7 +77,7 @@ fn sum_of_labels(labels: &[u8], fan_out: usize, queries: &[Query], rounds: u64) 
     sum
 }
 
-/// The kernel that searches from place to place in a section.
+// The kernel that searches from place to place in a section.
 #[inline(never)]
 fn kernel_between(section: &[u8], start: usize, end: usize, label: u8) -> Option<usize>
     requires order { start ≤ end }
@@ -86,7 +86,7 @@ fn kernel_between(section: &[u8], start: usize, end: usize, label: u8) -> Option
     lane_scan::find_label_between(section, start, end, label)
 }
 
-/// The sum of the places that it finds, each counted from the node's start, `rounds` times over.
+// The sum of the places that it finds, each counted from the node's start, `rounds` times over.
 #[inline(never)]
 fn sum_in_section(labels: &[u8], fan_out: usize, queries: &[Query], rounds: u64) -> u64 {
     let mut sum = 0u64;
@@ -103,7 +103,7 @@ fn sum_in_section(labels: &[u8], fan_out: usize, queries: &[Query], rounds: u64)
     sum
 }
 
-/// The same by the plain loop.
+// The same by the plain loop.
 #[inline(never)]
 fn sum_of_plain_labels(labels: &[u8], fan_out: usize, queries: &[Query], rounds: u64) -> u64 {
     let mut sum = 0u64;
@@ -117,7 +117,7 @@ fn sum_of_plain_labels(labels: &[u8], fan_out: usize, queries: &[Query], rounds:
     sum
 }
 
-/// How many queries are made, before they are asked again.
+// How many queries are made, before they are asked again.
 const QUERIES: usize = 65536;
 
 /// Measures `find_label` in nodes of `fan_out` labels, or `find_label_between` in one section of all these nodes.
@@ -167,7 +167,7 @@ pub fn find_label(
     Ok(())
 }
 
-/// The sum of the set bits around these places: the last at or before each, and the first behind it.
+// The sum of the set bits around these places: the last at or before each, and the first behind it.
 #[inline(never)]
 fn sum_of_ranges(bits: &Bits<Global>, places: &[u64]) -> u64 {
     let mut sum = 0u64;
@@ -180,7 +180,7 @@ fn sum_of_ranges(bits: &Bits<Global>, places: &[u64]) -> u64 {
     sum
 }
 
-/// The same by the plain loops.
+// The same by the plain loops.
 #[inline(never)]
 fn sum_of_plain_ranges(words: &[u64], places: &[u64]) -> u64 {
     let mut sum = 0u64;

@@ -10,7 +10,7 @@ use lane_scan::{
 use std::alloc::Global;
 use std::test::Fail;
 
-/// How bits are made.
+// How bits are made.
 #[derive(Clone, Copy, Debug)]
 enum Pattern {
     All,
@@ -18,7 +18,7 @@ enum Pattern {
     Random,
 }
 
-/// As many bits of a pattern.
+// As many bits of a pattern.
 fn bits_of(alloc: Global, pattern: Pattern, len: usize) -> Result<Bits<Global>, Fail> {
     let mut numbers = Numbers::new(7);
     let mut bits = Bits::new(alloc);
@@ -33,7 +33,7 @@ fn bits_of(alloc: Global, pattern: Pattern, len: usize) -> Result<Bits<Global>, 
     Ok(bits)
 }
 
-/// Whether each rank and each select of these bits is the plain loop's.
+// Whether each rank and each select of these bits is the plain loop's.
 fn agree(alloc: Global, pattern: Pattern, len: usize) -> Result<bool, Fail> {
     let plain = bits_of(alloc, pattern, len)?;
     let counted = bits_of(alloc, pattern, len)?;
@@ -101,7 +101,7 @@ fn labels_agree_with_the_plain_loops(rt: HostRuntime) -> Result<(), Fail> {
     Ok(())
 }
 
-/// Whether both searches of the labels from `start` on and before `end` answer as those of that slice alone.
+// Whether both searches of the labels from `start` on and before `end` answer as those of that slice alone.
 fn between_agrees(labels: &[u8], start: usize, end: usize, label: u8) -> bool {
     if start > end || end > labels.len() {
         return false;
@@ -132,7 +132,7 @@ fn labels_in_a_section_agree_with_the_plain_loops(rt: HostRuntime) -> Result<(),
     Ok(())
 }
 
-/// As many labels from 0 to 15.
+// As many labels from 0 to 15.
 fn random_labels(alloc: Global, len: usize, numbers: &mut Numbers) -> Result<Vec<u8>, Fail> {
     let mut labels = Vec::new(alloc);
     for _ in 0..len {
