@@ -1,4 +1,5 @@
 pub use Rattle.byte_fields.specs.Faults
+pub use Rattle.byte_fields.specs.Spelling
 pub use Rattle.filter_model.specs.Answers
 pub use Rattle.filter_model.specs.Keys
 pub use Rattle.filter_model.specs.Leaves

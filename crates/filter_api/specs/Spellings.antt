@@ -1,5 +1,6 @@
 -- What a filter stands for, and the bytes that spell it.
-use Rattle.std.specs.Prelude.{◌≡◌, ℕ, ◌≤◌, List}
+use Rattle.std.specs.Prelude.{◌≡◌, ◌⊎◌, ℕ, ◌≤◌, List}
+use Rattle.byte_fields.specs.Spelling.{IsBytes}
 use Rattle.key_base.specs.Limits.{max_hash_bits, max_real_bits}
 use Rattle.filter_model.specs.Leaves.{Leaf}
 use Rattle.filter_model.specs.Trie.{height}
@@ -37,3 +38,10 @@ SpellsOne spelling =
     (hash_bits real_bits cutoff other_hash other_real other_cutoff : ℕ) (leaves others : List Leaf) (bytes : List ℕ)
     → IsSpelling spelling hash_bits real_bits cutoff leaves bytes → IsSpelling spelling other_hash other_real other_cutoff others bytes
     → AreAlike hash_bits real_bits leaves other_hash other_real others
+
+-- of any bytes it can be told whether they spell anything
+abbrev pub IsDecided : Spelling → Type 0
+IsDecided spelling =
+    (bytes : List ℕ) → IsBytes bytes
+    → IsNoSpelling spelling bytes
+    ⊎ ((hash_bits : ℕ) × (real_bits : ℕ) × (cutoff : ℕ) × (leaves : List Leaf) × IsSpelling spelling hash_bits real_bits cutoff leaves bytes)

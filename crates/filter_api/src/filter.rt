@@ -4,9 +4,9 @@ ghost use Rattle.byte_fields.specs.Faults.{Fault, fault as fault_at};
 ghost use Rattle.filter_model.specs.Answers.{begins, first, point, ranged, tally as tally_of};
 ghost use Rattle.filter_model.specs.Keys.{IsKeyList};
 ghost use Rattle.filter_model.specs.Leaves.{Leaf as PlainLeaf, leaves_of};
-ghost use Rattle.filter_model.specs.Strings.{is_below};
+ghost use Rattle.filter_model.specs.Strings.{is_before};
 ghost use Rattle.filter_api.specs.Ranges.{InRange};
-ghost use Rattle.filter_api.specs.Spellings.{IsNoSpelling, IsSpelling, MayStand, Spelling, SpellsOne};
+ghost use Rattle.filter_api.specs.Spellings.{IsDecided, IsNoSpelling, IsSpelling, MayStand, Spelling, SpellsOne};
 ghost use Rattle.filter_api.specs.declared.errors.FilterFault.{FilterFault};
 
 use crate::errors::DecodeError;
@@ -50,7 +50,7 @@ pub trait RangeFilter: Sized + Drop {
 
     /// Whether some leaf may stand for a key from `lo` to `hi`. No range that holds a stored key is denied.
     fn may_hold_range(&self, lo: &[u8], hi: &[u8]) -> bool
-        requires { is_below hi.now lo.now ≡ false }
+        requires { is_before hi.now lo.now ≡ false }
         ensures { result ≡ ranged (real_bits self.now) (leaf_list self.now) lo.now hi.now };
 
     /// The number, in key order from 0, of the first leaf that is not past `lo`. `None` says that all leaves are past it:
@@ -60,7 +60,7 @@ pub trait RangeFilter: Sized + Drop {
 
     /// How many leaves may stand for a key from `lo` to `hi`: never below the true count, and at most two above it.
     fn tally(&self, lo: &[u8], hi: &[u8]) -> u32
-        requires { is_below hi.now lo.now ≡ false }
+        requires { is_before hi.now lo.now ≡ false }
         ensures { result ≡ tally_of (real_bits self.now) (leaf_list self.now) lo.now hi.now };
 
     /// How many leaves there are.
@@ -94,4 +94,7 @@ pub trait RangeFilter: Sized + Drop {
 
     // Bytes spell one list with its widths.
     ghost spells_one: { SpellsOne spelling };
+
+    // Of any bytes it can be told whether they spell anything.
+    ghost decided: { IsDecided spelling };
 }

@@ -10,7 +10,7 @@ use Rattle.filter_model.proofs.Pairs.{Contains-first, Contains-cases, Contains-n
 use Rattle.filter_model.proofs.Stubs.{Contains-more}
 use Rattle.filter_model.specs.Leaves.{Leaf}
 use Rattle.filter_model.specs.Nodes.{Node, node_of, trie_of}
-use Rattle.filter_model.specs.Strings.{extends, is_below}
+use Rattle.filter_model.specs.Strings.{extends, is_before}
 use Rattle.filter_model.specs.Trie.{END, height, letters, level, nodes, nodes_to, path}
 use Rattle.filter_model.specs.Valid.{EndsRightly, IsLeaf, IsValid}
 use Rattle.filter_image_model.specs.Levels.{levels_from as cut_levels}
@@ -240,7 +240,7 @@ path_before (a ∷ x) (b ∷ y) e f v w (inr (same, l)) h =
     ∙ path_before x y e f v.1 w.1 l (λ i. h (ap (λ (t : Bool). t && extends x y) is ∙ i))
 
 all_before : (l : Leaf) (ls : List Leaf) → AreBytes_of l.stub → AllByRecursion (λ (o : Leaf). AreBytes_of o.stub) ls
-    → ((o : Leaf) → Contains ls o → is_below l.stub o.stub ≡ true) → ((o : Leaf) → Contains ls o → extends l.stub o.stub ≡ true → l.ends ≡ true)
+    → ((o : Leaf) → Contains ls o → is_before l.stub o.stub ≡ true) → ((o : Leaf) → Contains ls o → extends l.stub o.stub ≡ true → l.ends ≡ true)
     → AllByRecursion (λ y. before (path l) y ≡ true) (map path ls)
 unfolding path
 all_before l [] v w b e = tt
@@ -249,11 +249,11 @@ all_before l (o ∷ ls) v w b e = (
   all_before l ls v w.1 (λ p c. b p (Contains-more o ls p c)) (λ p c. e p (Contains-more o ls p c)),
 )
 
-pub sorted_paths : (ls : List Leaf) → AllByRecursion (λ (o : Leaf). AreBytes_of o.stub) ls → AllPairs (λ a b. is_below a.stub b.stub ≡ true) ls → EndsRight ls → Sorted (map path ls)
+pub sorted_paths : (ls : List Leaf) → AllByRecursion (λ (o : Leaf). AreBytes_of o.stub) ls → AllPairs (λ a b. is_before a.stub b.stub ≡ true) ls → EndsRight ls → Sorted (map path ls)
 sorted_paths [] w r e = tt
 sorted_paths (l ∷ ls) w r e = (
-  all_before l ls w.0 w.1 (λ o c. AllPairs-head (λ a b. is_below a.stub b.stub ≡ true) l ls r o c) (λ o c. e l o (Contains-first l ls) (Contains-more l ls o c)),
-  sorted_paths ls w.1 (AllPairs-tail (λ a b. is_below a.stub b.stub ≡ true) l ls r) (λ a b c d. e a b (Contains-more l ls a c) (Contains-more l ls b d)),
+  all_before l ls w.0 w.1 (λ o c. AllPairs-head (λ a b. is_before a.stub b.stub ≡ true) l ls r o c) (λ o c. e l o (Contains-first l ls) (Contains-more l ls o c)),
+  sorted_paths ls w.1 (AllPairs-tail (λ a b. is_before a.stub b.stub ≡ true) l ls r) (λ a b c d. e a b (Contains-more l ls a c) (Contains-more l ls b d)),
 )
 
 pub small_paths : (ls : List Leaf) → AllByRecursion (λ (o : Leaf). AreBytes_of o.stub) ls → Small (map path ls)

@@ -8,7 +8,7 @@ use Rattle.std.specs.List.{AllPairs, Contains}
 use Rattle.filter_model.proofs.Order.{Lt, Lt-to}
 use Rattle.filter_model.proofs.Pairs.{AllPairs-nil, AllPairs-cons, Contains-nil, Contains-cases}
 use Rattle.filter_model.specs.Leaves.{Leaf}
-use Rattle.filter_model.specs.Strings.{is_below}
+use Rattle.filter_model.specs.Strings.{is_before}
 use Rattle.filter_model.specs.Trie.{path}
 use Rattle.filter_model.specs.Nodes.{Branch, Node}
 use Rattle.filter_image_model.specs.Reading.{rises}
@@ -112,15 +112,15 @@ stub_lt (a ∷ x) (b ∷ y) e f v w h = go (eqb a b) refl h (stub_lt x y e f v.1
     go false is k ih = inl (omega (arith, ltb-true (order_of a) (order_of b) k, byte_order a v.0, byte_order b w.0))
 
 later : (l : Leaf) (ls : List Leaf) → AreBytes_of l.stub → AllByRecursion (λ (o : Leaf). AreBytes_of o.stub) ls → AllByRecursion (λ y. before (path l) y ≡ true) (map path ls)
-    → (o : Leaf) → Contains ls o → is_below l.stub o.stub ≡ true
+    → (o : Leaf) → Contains ls o → is_before l.stub o.stub ≡ true
 unfolding path
 later l [] v w h o c = absurd (Contains-nil o c)
 later l (x ∷ ls) v w h o c = elim (Contains-cases x ls o c) [
-  | inl here ↦ sym (ap (λ (z : Leaf). is_below l.stub z.stub) here) ∙ Lt-to l.stub x.stub (stub_lt l.stub x.stub l.ends x.ends v w.0 h.0)
+  | inl here ↦ sym (ap (λ (z : Leaf). is_before l.stub z.stub) here) ∙ Lt-to l.stub x.stub (stub_lt l.stub x.stub l.ends x.ends v w.0 h.0)
   | inr there ↦ later l ls v w.1 h.1 o there
 ]
 
 -- leaves whose paths are sorted rise
-pub rising_leaves : (ls : List Leaf) → AllByRecursion (λ (l : Leaf). AreBytes_of l.stub) ls → Sorted (map path ls) → AllPairs (λ a b. is_below a.stub b.stub ≡ true) ls
-rising_leaves [] w s = AllPairs-nil (λ a b. is_below a.stub b.stub ≡ true)
-rising_leaves (l ∷ ls) w s = AllPairs-cons (λ a b. is_below a.stub b.stub ≡ true) l ls (later l ls w.0 w.1 s.0) (rising_leaves ls w.1 s.1)
+pub rising_leaves : (ls : List Leaf) → AllByRecursion (λ (l : Leaf). AreBytes_of l.stub) ls → Sorted (map path ls) → AllPairs (λ a b. is_before a.stub b.stub ≡ true) ls
+rising_leaves [] w s = AllPairs-nil (λ a b. is_before a.stub b.stub ≡ true)
+rising_leaves (l ∷ ls) w s = AllPairs-cons (λ a b. is_before a.stub b.stub ≡ true) l ls (later l ls w.0 w.1 s.0) (rising_leaves ls w.1 s.1)

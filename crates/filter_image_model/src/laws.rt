@@ -1,5 +1,5 @@
 //! Laws of the reading. They are proved and never called.
-ghost use Rattle.filter_api.specs.Spellings.{SpellsOne};
+ghost use Rattle.filter_api.specs.Spellings.{IsDecided, SpellsOne};
 ghost use Rattle.filter_model.specs.Image.{image};
 ghost use Rattle.filter_image_model.specs.Laws.{BytesAreTheImage, ImageIsReadAgain, ImageWasWrittenSo, OneListATrie, TrieIsRead};
 ghost use Rattle.filter_image_model.specs.Sections.{SectionsAreReadAgain, SectionsAreWritten};
@@ -29,7 +29,9 @@ pub fn an_image_has_one_list()
     ensures image { SpellsOne image }
 {}
 
-/// The image of a valid list, with any cutoff from 0 to its height, breaks no rule and is read as that list.
+/// The image of a valid list, with any cutoff from 0 to its height, breaks no rule and is read as that list. So of any bytes
+/// it can be told whether they are an image.
 pub fn an_image_is_read_again()
     ensures law { ImageIsReadAgain }
+    ensures decided { IsDecided image }
 {}

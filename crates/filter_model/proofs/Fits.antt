@@ -5,7 +5,7 @@ use Rattle.std.proofs.lemmas.List.{append-nil, drop_at}
 use native.Mathlib.Nat.{div-mul-le_self, mul-div_cancel, mul-lt-mul_of_pos_right}
 use Rattle.std.proofs.lemmas.Nat.{pow-add}
 use Rattle.byte_fields.specs.Spelling.{IsBytes}
-use Rattle.filter_model.specs.Strings.{is_below, is_prefix, same, front, shortest, bits}
+use Rattle.filter_model.specs.Strings.{is_before, is_prefix, same, front, shortest, bits}
 use Rattle.filter_model.specs.Leaves.{Leaf}
 use Rattle.filter_model.specs.Answers.{fits, begins, is_past, meets}
 use Rattle.filter_model.specs.Valid.{IsLeaf}
@@ -117,11 +117,11 @@ begins_end n l e = ap (λ (u : List ℕ). l.stub ++ u) (cond-true l.ends [] _ e)
 begins_open : (n : ℕ) (l : Leaf) → l.ends ≡ false → begins n l ≡ least n l.stub l.real
 begins_open n l e = ap (λ (u : List ℕ). l.stub ++ u) (cond-false l.ends [] _ e)
 
-past_end : (n : ℕ) (lo : List ℕ) (l : Leaf) → l.ends ≡ true → is_past n lo l ≡ is_below l.stub lo
-past_end n lo l e = cond-true l.ends (is_below l.stub lo) _ e
+past_end : (n : ℕ) (lo : List ℕ) (l : Leaf) → l.ends ≡ true → is_past n lo l ≡ is_before l.stub lo
+past_end n lo l e = cond-true l.ends (is_before l.stub lo) _ e
 
 past_open : (n : ℕ) (lo : List ℕ) (l : Leaf) → l.ends ≡ false → is_past n lo l ≡ passed n l.stub l.real lo
-past_open n lo l e = cond-false l.ends (is_below l.stub lo) _ e
+past_open n lo l e = cond-false l.ends (is_before l.stub lo) _ e
 
 -- what fits a leaf that does not end
 record FitsOpen (n : ℕ) (x : List ℕ) (l : Leaf) : Type 0 where
@@ -190,8 +190,8 @@ fits_between hash_bits n lo l nh leaf h k p = elim (cases_Bool l.ends) [
 -- a leaf that a string from lo to hi fits may stand for a key there
 pub meets_from : (n : ℕ) (lo hi x : List ℕ) (l : Leaf) → IsBytes lo → IsBytes x → Leq lo x → Leq x hi → fits n x l ≡ true → meets n lo hi l ≡ true
 meets_from n lo hi x l h i j k f =
-    and_from (not (is_below hi (begins n l))) (not (is_past n lo l))
-    (not_from_false (is_below hi (begins n l)) (Leq-to (begins n l) hi (Leq-trans (begins n l) x hi (begins_least n x l i f) k)))
+    and_from (not (is_before hi (begins n l))) (not (is_past n lo l))
+    (not_from_false (is_before hi (begins n l)) (Leq-to (begins n l) hi (Leq-trans (begins n l) x hi (begins_least n x l i f) k)))
     (not_from_false (is_past n lo l) (not_past n lo x l h i j f))
 
 -- a string from lo to hi that fits the leaf
@@ -204,8 +204,8 @@ pub record Held (n : ℕ) (lo hi : List ℕ) (l : Leaf) : Type 0 where
 
 pub held_from_meets : (hash_bits n : ℕ) (lo hi : List ℕ) (l : Leaf) → n ≤ 32 → IsLeaf hash_bits n l → IsBytes lo → Leq lo hi → meets n lo hi l ≡ true → Held n lo hi l
 held_from_meets hash_bits n lo hi l nh leaf h between m =
-    let parts = and_parts (not (is_below hi (begins n l))) (not (is_past n lo l)) m in
-    let to = Leq-from (begins n l) hi (not-true (is_below hi (begins n l)) parts.0) in
+    let parts = and_parts (not (is_before hi (begins n l))) (not (is_past n lo l)) m in
+    let to = Leq-from (begins n l) hi (not-true (is_before hi (begins n l)) parts.0) in
     let open_at_lo = not-true (is_past n lo l) parts.1 in
     elim (Lt-or-Leq (begins n l) lo) [
       | inl before ↦ record {

@@ -8,7 +8,7 @@ use Rattle.std.proofs.lemmas.List.{append-nil, length-take, length_push, take_al
 use Rattle.std.proofs.lemmas.List.Elements.{All-head, All-tail, Contains-get_or, Contains-append_left, Contains-append_right, Contains-append_cases, filter-append}
 use Rattle.std.proofs.lemmas.List.FromFn.{length-map-range_with_len, get_or-map-range_with_len, length-range_with_len, get_or-range_with_len}
 use Rattle.byte_fields.specs.Spelling.{IsBytes}
-use Rattle.filter_model.specs.Strings.{extends, is_below, is_prefix, same}
+use Rattle.filter_model.specs.Strings.{extends, is_before, is_prefix, same}
 use Rattle.filter_model.specs.Leaves.{Leaf}
 use Rattle.filter_model.specs.Trie.{END, branches, height, is_node, is_reached, letters, level, nodes, nodes_to, path}
 use Rattle.filter_model.specs.Laws.{AreByteStubs, is_inner, NodesAreThePrefixes, NodesStandInOrder, stands_before}
@@ -308,10 +308,10 @@ nodes_to_rise ls (suc n) h k =
     let q = get_or (level ls n) j d in
     let p_in = in_level ls n p k (Contains-get_or (level ls n) i d (omega arith)) in
     let q_in = in_level ls n q k (Contains-get_or (level ls n) j d within) in
-    or_right (nat_lt (length p) (length q)) ((length p == length q) && is_below p q)
-    (and_from (length p == length q) (is_below p q) (eq-eqb (length p) (length q) (p_in.0 ∙ sym q_in.0)) (Lt-to p q (level_rises ls n h k i j d before within))))
+    or_right (nat_lt (length p) (length q)) ((length p == length q) && is_before p q)
+    (and_from (length p == length q) (is_before p q) (eq-eqb (length p) (length q) (p_in.0 ∙ sym q_in.0)) (Lt-to p q (level_rises ls n h k i j d before within))))
     (λ p q c d.
-    or_left (nat_lt (length p) (length q)) ((length p == length q) && is_below p q)
+    or_left (nat_lt (length p) (length q)) ((length p == length q) && is_before p q)
     (lt-ltb (length p) (length q) (omega (arith, (in_nodes_to ls n p k c).0, (in_level ls n q k d).0))))
 
 no_level : (ls : List Leaf) → AllPairs Before (nodes_to ls 0)

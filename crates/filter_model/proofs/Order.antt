@@ -5,7 +5,7 @@ use Rattle.std.proofs.lemmas.Bool.Decides.{nat_tests}
 use Rattle.std.specs.declared.cmp.Ordering.TheVariants.{Less, Equal, Greater}
 use Rattle.std.specs.Ordering.{nat_cmp, ordering_then, is_lt}
 use Rattle.std.specs.Cmp.Lexicographic.{slice_cmp}
-use Rattle.filter_model.specs.Strings.{is_below}
+use Rattle.filter_model.specs.Strings.{is_before}
 
 pub nat_cmp-less : (a b : ℕ) → a < b → nat_cmp a b ≡ Less
 nat_cmp-less a b h = grind (arith, nat_tests)
@@ -35,16 +35,16 @@ Lt x [] = ⊥
 Lt [] (b ∷ y) = Unit {0}
 Lt (a ∷ x) (b ∷ y) = (a < b) ⊎ ((a ≡ b) × Lt x y)
 
-then_less : (a b : ℕ) (x y : List ℕ) → a < b → is_below (a ∷ x) (b ∷ y) ≡ true
+then_less : (a b : ℕ) (x y : List ℕ) → a < b → is_before (a ∷ x) (b ∷ y) ≡ true
 then_less a b x y h = ap (λ o. is_lt (ordering_then o (slice_cmp nat_cmp x y))) (nat_cmp-less a b h)
 
-then_same : (a b : ℕ) (x y : List ℕ) → a ≡ b → is_below (a ∷ x) (b ∷ y) ≡ is_below x y
+then_same : (a b : ℕ) (x y : List ℕ) → a ≡ b → is_before (a ∷ x) (b ∷ y) ≡ is_before x y
 then_same a b x y h = ap (λ o. is_lt (ordering_then o (slice_cmp nat_cmp x y))) (nat_cmp-same a b h)
 
-then_more : (a b : ℕ) (x y : List ℕ) → b < a → is_below (a ∷ x) (b ∷ y) ≡ false
+then_more : (a b : ℕ) (x y : List ℕ) → b < a → is_before (a ∷ x) (b ∷ y) ≡ false
 then_more a b x y h = ap (λ o. is_lt (ordering_then o (slice_cmp nat_cmp x y))) (nat_cmp-more a b h)
 
-pub Lt-from : (x y : List ℕ) → is_below x y ≡ true → Lt x y
+pub Lt-from : (x y : List ℕ) → is_before x y ≡ true → Lt x y
 Lt-from [] [] e = absurd (false≢true e)
 Lt-from (a ∷ x) [] e = absurd (false≢true e)
 Lt-from [] (b ∷ y) e = tt
@@ -54,14 +54,14 @@ Lt-from (a ∷ x) (b ∷ y) e = elim (thirds a b) [
   | inr (inr more) ↦ absurd (false≢true (sym (then_more a b x y more) ∙ e))
 ]
 
-pub Lt-to : (x y : List ℕ) → Lt x y → is_below x y ≡ true
+pub Lt-to : (x y : List ℕ) → Lt x y → is_before x y ≡ true
 Lt-to [] [] h = absurd h
 Lt-to (a ∷ x) [] h = absurd h
 Lt-to [] (b ∷ y) h = refl
 Lt-to (a ∷ x) (b ∷ y) (inl less) = then_less a b x y less
 Lt-to (a ∷ x) (b ∷ y) (inr (same, rest)) = then_same a b x y same ∙ Lt-to x y rest
 
-pub Leq-from : (x y : List ℕ) → is_below y x ≡ false → Leq x y
+pub Leq-from : (x y : List ℕ) → is_before y x ≡ false → Leq x y
 Leq-from [] y e = tt
 Leq-from (a ∷ x) [] e = absurd (false≢true (sym e))
 Leq-from (a ∷ x) (b ∷ y) e = elim (thirds a b) [
@@ -70,7 +70,7 @@ Leq-from (a ∷ x) (b ∷ y) e = elim (thirds a b) [
   | inr (inr more) ↦ absurd (false≢true (sym e ∙ then_less b a y x more))
 ]
 
-pub Leq-to : (x y : List ℕ) → Leq x y → is_below y x ≡ false
+pub Leq-to : (x y : List ℕ) → Leq x y → is_before y x ≡ false
 Leq-to [] [] h = refl
 Leq-to [] (b ∷ y) h = refl
 Leq-to (a ∷ x) [] h = absurd h
@@ -129,5 +129,5 @@ Lt-trans (a ∷ x) (b ∷ y) (c ∷ z) (inl h) (inr (k, l)) = inl (omega arith)
 Lt-trans (a ∷ x) (b ∷ y) (c ∷ z) (inr (h, i)) (inl k) = inl (omega arith)
 Lt-trans (a ∷ x) (b ∷ y) (c ∷ z) (inr (h, i)) (inr (k, l)) = inr (h ∙ k, Lt-trans x y z i l)
 
-pub is_below-trans : (x y z : List ℕ) → is_below x y ≡ true → is_below y z ≡ true → is_below x z ≡ true
-is_below-trans x y z h k = Lt-to x z (Lt-trans x y z (Lt-from x y h) (Lt-from y z k))
+pub is_before-trans : (x y z : List ℕ) → is_before x y ≡ true → is_before y z ≡ true → is_before x z ≡ true
+is_before-trans x y z h k = Lt-to x z (Lt-trans x y z (Lt-from x y h) (Lt-from y z k))

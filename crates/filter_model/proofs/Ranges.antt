@@ -4,7 +4,7 @@ use Rattle.std.specs.List.{All, list_any}
 use Rattle.std.proofs.lemmas.Bool.{or_cases, or_left, or_right, and_parts, and_from, not_from_false, not-true, false≢true}
 use Rattle.std.proofs.lemmas.List.Elements.{All-head, All-tail}
 use Rattle.byte_fields.specs.Spelling.{IsBytes}
-use Rattle.filter_model.specs.Strings.{is_below}
+use Rattle.filter_model.specs.Strings.{is_before}
 use Rattle.filter_model.specs.Leaves.{Leaf}
 use Rattle.filter_model.specs.Answers.{fits, meets, ranged, is_within}
 use Rattle.filter_model.specs.Valid.{IsLeaf}
@@ -14,12 +14,12 @@ use Rattle.filter_model.proofs.Fits.{Held, held_from_meets, meets_from}
 
 pub within_parts : (lo hi x : List ℕ) → is_within lo hi x ≡ true → Leq lo x × Leq x hi
 within_parts lo hi x e =
-    let parts = and_parts (not (is_below x lo)) (not (is_below hi x)) e in
-    (Leq-from lo x (not-true (is_below x lo) parts.0), Leq-from x hi (not-true (is_below hi x) parts.1))
+    let parts = and_parts (not (is_before x lo)) (not (is_before hi x)) e in
+    (Leq-from lo x (not-true (is_before x lo) parts.0), Leq-from x hi (not-true (is_before hi x) parts.1))
 
 pub within_from : (lo hi x : List ℕ) → Leq lo x → Leq x hi → is_within lo hi x ≡ true
 within_from lo hi x h k =
-    and_from (not (is_below x lo)) (not (is_below hi x)) (not_from_false (is_below x lo) (Leq-to lo x h)) (not_from_false (is_below hi x) (Leq-to x hi k))
+    and_from (not (is_before x lo)) (not (is_before hi x)) (not_from_false (is_before x lo) (Leq-to lo x h)) (not_from_false (is_before hi x) (Leq-to x hi k))
 
 -- what is held by one leaf is held by a list of which it is one
 held_more : (n : ℕ) (lo hi : List ℕ) (l : Leaf) (ls : List Leaf) → ((x : List ℕ) × IsHeldBetween n ls lo hi x) → (x : List ℕ) × IsHeldBetween n (l ∷ ls) lo hi x

@@ -5,7 +5,7 @@ use Rattle.std.proofs.lemmas.Bool.{cases_Bool, and_parts, not-true, cond-true, c
 use Rattle.std.proofs.lemmas.List.{append-nil}
 use Rattle.std.proofs.lemmas.List.Elements.{Contains-get_or}
 use Rattle.byte_fields.specs.Spelling.{IsBytes}
-use Rattle.filter_model.specs.Strings.{is_below, is_prefix, extends, same, bits}
+use Rattle.filter_model.specs.Strings.{is_before, is_prefix, extends, same, bits}
 use Rattle.filter_model.specs.Keys.{IsKey}
 use Rattle.filter_model.specs.Leaves.{Leaf, leaf_of, leaves_of}
 use Rattle.filter_model.specs.Answers.{begins, fits, is_past, meets, is_within}
@@ -38,8 +38,8 @@ met_by hash_bits n keys lo hi k nh bounds key m =
     let leaf = leaf_of_key hash_bits n keys k nh key in
     let own = fits_own hash_bits n keys k in
     let least = begins_least n k l key.bytes own in
-    let parts = and_parts (not (is_below hi (begins n l))) (not (is_past n lo l)) m in
-    let upper = Leq-from (begins n l) hi (not-true (is_below hi (begins n l)) parts.0) in
+    let parts = and_parts (not (is_before hi (begins n l))) (not (is_past n lo l)) m in
+    let upper = Leq-from (begins n l) hi (not-true (is_before hi (begins n l)) parts.0) in
     let open_at_lo = not-true (is_past n lo l) parts.1 in
     elim (Lt-or-Leq k lo) [
       | inl below ↦

@@ -4,7 +4,7 @@ use Rattle.std.specs.List.{All, AllPairs, Contains, list_any}
 use Rattle.std.proofs.lemmas.Bool.{cases_lt, cases_Bool, cond-true, false_from_ne_true, false≢true}
 use Rattle.std.proofs.lemmas.List.{length-map, get_or-map, length-take}
 use Rattle.std.proofs.lemmas.List.Elements.{All-map, All-contains, Contains-get_or}
-use Rattle.filter_model.specs.Strings.{is_below, extends, same, shared}
+use Rattle.filter_model.specs.Strings.{is_before, extends, same, shared}
 use Rattle.filter_model.specs.Keys.{IsKey, IsKeyList}
 use Rattle.filter_model.specs.Leaves.{Leaf, shared_most, stub_of, ends_of, leaf_of, leaves_of}
 use Rattle.filter_model.specs.Valid.{IsLeaf, EndsRightly, IsCrowded}
@@ -30,7 +30,7 @@ apart keys h i j d l k ne e = elim (cases_lt i j) [
     smaller : (i j : ℕ) → j ≤ i → (i ≡ j → ⊥) → j < i
     smaller i j le ne = elim (cases_lt j i) [ inl less ↦ less | inr more ↦ absurd (ne (omega arith)) ]
 
-rising : (hash_bits n : ℕ) (keys : List (List ℕ)) → IsKeyList keys → AllPairs (λ a b. is_below a.stub b.stub ≡ true) (leaves_of hash_bits n keys)
+rising : (hash_bits n : ℕ) (keys : List (List ℕ)) → IsKeyList keys → AllPairs (λ a b. is_before a.stub b.stub ≡ true) (leaves_of hash_bits n keys)
 rising hash_bits n keys h i j d before within =
     let f = leaf_of hash_bits n keys in
     let size = length-map keys f in
@@ -40,8 +40,8 @@ rising hash_bits n keys h i j d before within =
     let y = get_or keys j [] in
     let lt = Lt-from x y (h.rising i j [] before j_in) in
     let up = Lt-to (stub_of keys x) (stub_of keys y) (stubs_rise keys x y (Contains-get_or keys i [] i_in) (Contains-get_or keys j [] j_in) lt) in
-    subst (λ (a : Leaf). is_below a.stub (get_or (map f keys) j d).stub ≡ true) (sym (get_or-map f keys i [] d i_in))
-    (subst (λ (b : Leaf). is_below (stub_of keys x) b.stub ≡ true) (sym (get_or-map f keys j [] d j_in)) up)
+    subst (λ (a : Leaf). is_before a.stub (get_or (map f keys) j d).stub ≡ true) (sym (get_or-map f keys i [] d i_in))
+    (subst (λ (b : Leaf). is_before (stub_of keys x) b.stub ≡ true) (sym (get_or-map f keys j [] d j_in)) up)
 
 ends_rightly : (hash_bits n : ℕ) (keys : List (List ℕ)) → IsKeyList keys → (k : List ℕ) → Contains keys k → EndsRightly (leaves_of hash_bits n keys) (leaf_of hash_bits n keys k)
 ends_rightly hash_bits n keys h k c =

@@ -1,7 +1,7 @@
 -- What a list of leaves answers of a string and of a range.
 use Rattle.std.specs.Prelude.{ℕ, ◌-◌, ◌*◌, ◌^◌, ◌==◌, nat_lt, Bool, cond, not, ◌&&◌, ◌||◌, List, [], ◌++◌, length, drop, count_by, Option}
 use Rattle.std.specs.List.{list_any, position_from}
-use Rattle.filter_model.specs.Strings.{is_below, same, is_prefix, front, shortest, bits}
+use Rattle.filter_model.specs.Strings.{is_before, same, is_prefix, front, shortest, bits}
 use Rattle.filter_model.specs.Leaves.{Leaf, hash_bits_of}
 
 -- x fits the leaf, hash apart: it is the stub of a leaf that ends, or goes on from the stub with the leaf's real bits
@@ -26,11 +26,11 @@ abbrev pub is_past : ℕ → List ℕ → Leaf → Bool
 is_past real_bits lo l =
     let stub = front (length l.stub) l.stub in
     let first = front (length l.stub) lo in
-    cond l.ends (is_below l.stub lo) (nat_lt stub first || ((stub == first) && nat_lt l.real (bits real_bits (drop (length l.stub) lo))))
+    cond l.ends (is_before l.stub lo) (nat_lt stub first || ((stub == first) && nat_lt l.real (bits real_bits (drop (length l.stub) lo))))
 
 -- the leaf may stand for a key from lo to hi
 abbrev pub meets : ℕ → List ℕ → List ℕ → Leaf → Bool
-meets real_bits lo hi l = not (is_below hi (begins real_bits l)) && not (is_past real_bits lo l)
+meets real_bits lo hi l = not (is_before hi (begins real_bits l)) && not (is_past real_bits lo l)
 
 -- some leaf may
 abbrev pub ranged : ℕ → List Leaf → List ℕ → List ℕ → Bool
@@ -46,7 +46,7 @@ tally real_bits leaves lo hi = count_by (meets real_bits lo hi) leaves
 
 -- how many keys of a list lie from lo to hi
 abbrev pub is_within : List ℕ → List ℕ → List ℕ → Bool
-is_within lo hi k = not (is_below k lo) && not (is_below hi k)
+is_within lo hi k = not (is_before k lo) && not (is_before hi k)
 
 abbrev pub true_count : List (List ℕ) → List ℕ → List ℕ → ℕ
 true_count keys lo hi = count_by (is_within lo hi) keys

@@ -3,7 +3,7 @@ use Rattle.std.specs.Prelude.{◌≡◌, ◌==◌, ◌↔◌, ◌<◌, ℕ, ◌+
 use Rattle.std.specs.List.{All, AllPairs, Contains, list_any}
 use Rattle.key_base.specs.Limits.{max_real_bits}
 use Rattle.byte_fields.specs.Spelling.{IsBytes}
-use Rattle.filter_model.specs.Strings.{extends, is_below, same}
+use Rattle.filter_model.specs.Strings.{extends, is_before, same}
 use Rattle.filter_model.specs.Keys.{IsKeyList}
 use Rattle.filter_model.specs.Leaves.{Leaf, leaves_of}
 use Rattle.filter_model.specs.Answers.{fits, point, ranged, tally, is_within, true_count}
@@ -19,7 +19,7 @@ LeavesAreValid =
 pub record AreBounds (lo hi : List ℕ) : Type 0 where
   pub lo_bytes : IsBytes lo
   pub hi_bytes : IsBytes hi
-  pub in_order : is_below hi lo ≡ false
+  pub in_order : is_before hi lo ≡ false
 
 -- a byte string from lo to hi that fits some leaf, hash apart
 pub record IsHeldBetween (real_bits : ℕ) (ls : List Leaf) (lo hi x : List ℕ) : Type 0 where
@@ -65,7 +65,7 @@ NodesAreThePrefixes = (ls : List Leaf) (p : List ℕ) → AreByteStubs ls → Co
 
 -- by length, and then in byte order
 abbrev pub stands_before : List ℕ → List ℕ → Bool
-stands_before p q = nat_lt (length p) (length q) || ((length p == length q) && is_below p q)
+stands_before p q = nat_lt (length p) (length q) || ((length p == length q) && is_before p q)
 
 -- nodes stand by length, and then in byte order
 abbrev pub NodesStandInOrder : Type 0

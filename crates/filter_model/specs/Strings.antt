@@ -1,12 +1,7 @@
 -- Byte strings: their order, what they begin with, and their first bits.
 use Rattle.std.specs.Prelude.{ℕ, zero, suc, ◌+◌, ◌-◌, ◌*◌, ◌/◌, ◌%◌, ◌^◌, ◌==◌, Bool, true, false, cond, ◌&&◌, List, [], ◌∷◌}
 use Rattle.std.specs.List.{common_prefix_len}
-use Rattle.std.specs.Ordering.{nat_cmp, is_lt}
-use Rattle.std.specs.Cmp.Lexicographic.{slice_cmp}
-
--- x comes before y: byte by byte, a proper prefix first
-abbrev pub is_below : List ℕ → List ℕ → Bool
-is_below x y = is_lt (slice_cmp nat_cmp x y)
+pub use Rattle.key_base.specs.ByteOrder.{is_before}
 
 -- the two are one byte string
 abbrev pub same : List ℕ → List ℕ → Bool

@@ -3,7 +3,7 @@ use Rattle.std.specs.Prelude.{◌≡◌, ℕ, ◌-◌, ◌<◌, ◌≤◌, ◌^�
 use Rattle.std.specs.List.{All, AllPairs, list_any}
 use Rattle.key_base.specs.Limits.{max_key_bytes}
 use Rattle.byte_fields.specs.Spelling.{IsBytes}
-use Rattle.filter_model.specs.Strings.{is_below, extends, is_prefix, same}
+use Rattle.filter_model.specs.Strings.{is_before, extends, is_prefix, same}
 use Rattle.filter_model.specs.Leaves.{Leaf}
 
 -- a leaf by itself: a stub as long as a key may be, hash and real bits of their widths, no real bits where it ends
@@ -35,7 +35,7 @@ pub record IsValid (hash_bits real_bits : ℕ) (ls : List Leaf) : Type 0 where
   pub some : 0 < length ls
   pub few : length ls < 2 ^ 32
   pub leaves : All (IsLeaf hash_bits real_bits) ls
-  pub rising : AllPairs (λ a b. is_below a.stub b.stub ≡ true) ls
+  pub rising : AllPairs (λ a b. is_before a.stub b.stub ≡ true) ls
   pub ends : All (EndsRightly ls) ls
   pub single : length ls ≡ 1 → All (λ l. length l.stub ≡ 1) ls
   pub crowded : 1 < length ls → All (IsCrowded ls) ls

@@ -1,7 +1,7 @@
 //! The test whether a filter can be built from a list of keys.
 ghost use Rattle.std.specs.Prelude.{◌≡◌, ◌<◌, ◌-◌, true, [], length, slice_index_or, IsTrue, ◌↔◌};
 ghost use Rattle.filter_model.specs.Keys.{IsKey, IsKeyList};
-ghost use Rattle.filter_model.specs.Strings.{is_below};
+ghost use Rattle.filter_model.specs.Strings.{is_before};
 
 use key_base::{KeyList, MAX_KEY_BYTES, compare};
 
@@ -30,7 +30,7 @@ fn is_key(key: &[u8]) -> bool
 // Whether the key at place `i` is above the one before it, where there is one.
 fn rises(keys: &KeyList, i: usize) -> bool
     requires { i < length keys.now }
-    ensures { IsTrue result ↔ (0 < i → is_below (slice_index_or keys.now (i - 1) []) (slice_index_or keys.now i []) ≡ true) }
+    ensures { IsTrue result ↔ (0 < i → is_before (slice_index_or keys.now (i - 1) []) (slice_index_or keys.now i []) ≡ true) }
 {
     i == 0 || compare(keys.get(i - 1), keys.get(i)).is_lt()
 }

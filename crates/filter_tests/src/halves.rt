@@ -108,18 +108,9 @@ fn check_dense_byte(rt: &impl Abort, dense: &Dense<Global>, plain: &Plain, node:
     assert!(rt; dense.prev_branch(number, byte) == dense_place(plain, node, prev));
 }
 
-/// The slot of a node's END.
-fn end_slot(plain: &Plain, node: usize) -> Option<u64> {
-    if plain.ends(node) {
-        Some(plain.leaf_slot(plain.range(node).0))
-    } else {
-        None
-    }
-}
-
 fn check_dense_node(rt: &impl Abort, dense: &Dense<Global>, plain: &Plain, node: usize) {
     assert!(rt; dense.has_node(node as u64));
-    assert!(rt; dense.prefix_slot(node as u64) == end_slot(plain, node));
+    assert!(rt; dense.prefix_slot(node as u64) == plain.end_slot(node));
     for letter in LETTERS {
         let byte = u16::from(letter);
         check_dense_byte(rt, dense, plain, node, byte.saturating_sub(1));
@@ -144,7 +135,7 @@ fn check_sparse_place(
 
 fn check_sparse_node(rt: &impl Abort, sparse: &Sparse<Global>, plain: &Plain, node: usize) {
     assert!(rt; sparse.has_node(node as u64));
-    assert!(rt; sparse.prefix_slot(node as u64) == end_slot(plain, node));
+    assert!(rt; sparse.prefix_slot(node as u64) == plain.end_slot(node));
 }
 
 fn check_halves(

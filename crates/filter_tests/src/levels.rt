@@ -71,7 +71,7 @@ fn are_counts(levels: &Levels, counts: &[(u64, u64)]) -> bool {
 }
 
 #[test]
-fn levels_of_worked_keys(rt: HostRuntime) -> Result<(), Fail> {
+fn levels_of_keys(rt: HostRuntime) -> Result<(), Fail> {
     let examples: [(&[&[u8]], &[(u64, u64)]); 5] = [
         (
             &[b"far", b"fast", b"s", b"top", b"toy"],
@@ -96,8 +96,8 @@ fn levels_of_worked_keys(rt: HostRuntime) -> Result<(), Fail> {
     Ok(())
 }
 
-// The keys of one byte below `count`.
-fn byte_keys(alloc: Global, count: u16) -> Result<KeyList, AllocError>
+/// The keys of one byte below `count`.
+pub(crate) fn byte_keys(alloc: Global, count: u16) -> Result<KeyList, AllocError>
     requires { count ≤ 256 }
 {
     let mut keys = KeyList::new(alloc);
@@ -107,8 +107,8 @@ fn byte_keys(alloc: Global, count: u16) -> Result<KeyList, AllocError>
     Ok(keys)
 }
 
-// The keys of two bytes below `count`.
-fn pair_keys(alloc: Global, count: u16) -> Result<KeyList, AllocError>
+/// The keys of two bytes below `count`.
+pub(crate) fn pair_keys(alloc: Global, count: u16) -> Result<KeyList, AllocError>
     requires { count ≤ 256 }
 {
     let mut keys = KeyList::new(alloc);

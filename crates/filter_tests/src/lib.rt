@@ -12,6 +12,12 @@ mod keys;
 #[cfg(test)]
 mod levels;
 #[cfg(test)]
+mod places;
+#[cfg(test)]
 mod plain;
 #[cfg(test)]
 mod sparse;
+#[cfg(test)]
+mod tries;
+#[cfg(test)]
+mod walks;

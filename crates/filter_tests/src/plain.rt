@@ -202,4 +202,37 @@ impl Plain {
     pub(crate) fn leaf_slot(&self, place: usize) -> u64 {
         self.count_before(place, false)
     }
+
+    /// The slot of a place's least leaf, by first branches. No key of the sets has ten letters.
+    pub(crate) fn leftmost(&self, place: usize) -> u64 {
+        let mut place = place;
+        for _ in 0..10 {
+            match self.child(place) {
+                Some(node) => place = self.range(node as usize).0,
+                None => return self.leaf_slot(place),
+            }
+        }
+        u64::MAX
+    }
+
+    /// The slot of the leaf that a key leads to.
+    pub(crate) fn walk(&self, key: &[u8]) -> Option<u64> {
+        let mut node = 0;
+        for byte in key {
+            let place = self.branch(node, u16::from(*byte))? as usize;
+            match self.child(place) {
+                Some(child) => node = child as usize,
+                None => return Some(self.leaf_slot(place)),
+            }
+        }
+        self.end_slot(node)
+    }
+
+    /// The slot of a node's END.
+    pub(crate) fn end_slot(&self, node: usize) -> Option<u64> {
+        match self.branch(node, END) {
+            Some(place) => Some(self.leaf_slot(place as usize)),
+            None => None,
+        }
+    }
 }

@@ -1,18 +1,18 @@
 -- From a node's branch to the string that it leads to.
-use Rattle.std.proofs.Common.{◌≡◌, ℕ, zero, suc, ◌+◌, ◌<◌, ◌≤◌, Bool, true, false, List, [], ◌∷◌, ◌++◌, length, get_or, take, refl, ap, subst, sym, ◌∙◌, arith, inl, inr}
+use Rattle.std.proofs.Common.{◌≡◌, ℕ, zero, suc, ◌+◌, ◌<◌, ◌≤◌, true, false, List, [], ◌∷◌, ◌++◌, length, get_or, take, refl, ap, subst, sym, ◌∙◌, arith, inl, inr}
 use Rattle.std.specs.Prelude.{count_by, filter, not}
 use Rattle.std.specs.List.{list_any}
-use Rattle.std.proofs.lemmas.Bool.{cases_lt, false_from_ne_true, false≢true, or_left, or_right}
+use Rattle.std.proofs.lemmas.Bool.{cases_lt, false_from_ne_true, or_left, or_right}
 use Rattle.std.proofs.lemmas.List.{take-map}
 use Rattle.std.proofs.lemmas.List.Elements.{filter_passes}
 use Rattle.filter_model.specs.Leaves.{Leaf}
-use Rattle.filter_model.specs.Nodes.{Branch, IsBranch, all, at, children_before, first_place, leaves_before, trie_of}
+use Rattle.filter_model.specs.Nodes.{Branch, IsBranch, at, children_before, leaves_before, trie_of}
 use Rattle.filter_model.specs.Strings.{extends}
 use Rattle.filter_model.specs.Trie.{height, is_node, is_reached, nodes, path, places, slots}
 use Rattle.filter_trie.specs.Walks.{IsNodeAt, IsSlotAt}
-use Rattle.trie_laws.proofs.Lists.{kept_at, kept_within}
+use Rattle.trie_laws.proofs.Lists.{kept_within}
 use Rattle.trie_laws.proofs.NodeLists.{nodes_is}
-use Rattle.trie_laws.proofs.Places.{all-trie_of, at-trie_of, branch_of, child-trie_of, child_within, count_by-map, first_within, length-trie_of, place_in, place_of, slot-counted}
+use Rattle.trie_laws.proofs.Places.{all-trie_of, at-trie_of, branch_of, child-trie_of, child_within, count_by-map, first_within, place_in, place_of, slot-counted}
 
 extends-nil : (x : List ℕ) → 0 < length x → extends [] x ≡ true
 extends-nil [] l = absurd (omega (arith, l))
@@ -66,7 +66,7 @@ module _ (ls : List Leaf) (some : 0 < height ls) where
       plus_one : (k : ℕ) → k + 1 ≡ suc k
       plus_one k = omega arith
 
-  slot_within : (i : ℕ) → i < length (places ls) → is_node ls (get_or (places ls) i []) ≡ false → leaves_before (trie_of ls) i < length (slots ls)
+  pub slot_within : (i : ℕ) → i < length (places ls) → is_node ls (get_or (places ls) i []) ≡ false → leaves_before (trie_of ls) i < length (slots ls)
   unfolding slots
   slot_within i l e = omega (arith, leaves-trie_of ls i, kept_within (λ (q : List ℕ). not (is_node ls q)) (places ls) i [] l (ap not e))
 

@@ -1,14 +1,14 @@
 -- A branch of a half is a branch of the one list of nodes.
-use Rattle.std.proofs.Common.{◌≡◌, ℕ, zero, suc, ◌+◌, ◌-◌, ◌*◌, ◌/◌, ◌%◌, ◌<◌, ◌≤◌, ◌==◌, Bool, true, false, cond, Option, Some, None, MatchOption, List, [], ◌∷◌, ◌++◌, length, get_or, take, refl, ap, subst, sym, ◌∙◌, arith, inl, inr, length-append}
+use Rattle.std.proofs.Common.{◌≡◌, ℕ, zero, suc, ◌+◌, ◌-◌, ◌*◌, ◌/◌, ◌%◌, ◌<◌, ◌≤◌, ◌==◌, Bool, true, false, cond, Option, Some, None, MatchOption, List, [], ◌∷◌, ◌++◌, length, get_or, take, refl, ap, subst, sym, ◌∙◌, arith, length-append}
 use Rattle.std.specs.Prelude.{◌||◌}
 use Rattle.std.specs.List.{AllByRecursion}
-use Rattle.std.proofs.lemmas.Bool.{cases_lt, eq-eqb, false≢true, or_right}
+use Rattle.std.proofs.lemmas.Bool.{eq-eqb, false≢true, or_right}
 use Rattle.std.proofs.lemmas.List.{append-nil, get_or_append_left, take_more}
 use Rattle.std.proofs.lemmas.List.Concat.{flat_map-append, get_or-flat_map}
 use Rattle.std.proofs.lemmas.List.Folds.{length-flat_map-take}
 use Rattle.filter_image_model.proofs.Lists.{all_of}
 use Rattle.filter_image_model.specs.Nodes.{IsDense}
-use Rattle.filter_image_model.proofs.RisingBytes.{RisingBytes, rising_bytes, are_bytes, in_order_of}
+use Rattle.filter_image_model.proofs.RisingBytes.{RisingBytes, rising_bytes}
 use Rattle.filter_model.specs.Image.{has_child, has_letter}
 use Rattle.filter_model.specs.Nodes.{Branch, IsBranch, Node, all, at, children_before, first_place, leaves_before}
 use Rattle.filter_model.specs.Trie.{END}
@@ -17,7 +17,7 @@ use Rattle.louds_dense.proofs.Ranks.{ahead, before_within, no_end, node_within}
 use Rattle.trie_laws.proofs.Found.{branch_is_found}
 use Rattle.trie_laws.proofs.Joining.{halves_join, second_half_counts_on}
 use Rattle.trie_laws.specs.Halves.{second_half}
-use Rattle.trie_model.specs.Halves.{HasNode, branch_place, child_at, first_below, places_in, slot_at}
+use Rattle.trie_model.specs.Halves.{HasNode, branch_place, first_below, places_in, slot_at}
 
 -- ---- one list
 

@@ -5,3 +5,17 @@ pub mod Parts
 pub mod Walking
 pub mod Ways
 pub mod Counting
+pub mod Sizes
+pub mod Passing
+pub mod Levels
+pub mod OneSpan
+pub mod SameTries
+pub mod PassedSuffixes
+pub mod Whole
+pub mod Numbers
+pub mod Starts
+pub mod Least
+pub mod Suffixes
+pub mod PlaceLaws
+pub mod Finding
+pub mod KeyOrder

@@ -1,5 +1,5 @@
 -- The parts of a valid list's trie are read as that list.
-use Rattle.std.proofs.Common.{◌≡◌, ℕ, ◌+◌, ◌*◌, ◌<◌, Bool, List, ◌++◌, length, take, drop, map, refl, ap, subst, sym, ◌∙◌, arith}
+use Rattle.std.proofs.Common.{◌≡◌, ℕ, ◌+◌, ◌*◌, ◌<◌, Bool, List, ◌++◌, length, map, refl, ap, sym, ◌∙◌}
 use Rattle.std.specs.List.{AllByRecursion, range_with_len}
 use Rattle.std.proofs.lemmas.List.{take-append-drop}
 use Rattle.bit_words.specs.Numbers.{number_at}
@@ -7,7 +7,7 @@ use Rattle.filter_api.specs.Spellings.{IsSpelling}
 use Rattle.filter_image_model.proofs.ImageRead.{read_again}
 use Rattle.filter_image_model.proofs.OneImage.{read_as, room}
 use Rattle.filter_image_model.proofs.Sizes.{some_height}
-use Rattle.filter_image_model.specs.Header.{Bytes, section, suffix_bits_in}
+use Rattle.filter_image_model.specs.Header.{Bytes}
 use Rattle.filter_image_model.specs.Levels.{leaves_behind, levels_from, root_leaves}
 use Rattle.filter_image_model.specs.Nodes.{IsDense}
 use Rattle.filter_image_model.specs.Reading.{FilterImage, image_in, leaves_in, slot_suffix}
@@ -17,7 +17,7 @@ use Rattle.filter_model.specs.Leaves.{Leaf}
 use Rattle.filter_model.specs.Nodes.{Node, trie_of}
 use Rattle.filter_model.specs.Trie.{height, nodes}
 use Rattle.filter_trie.specs.Parts.{AreParts, image_by, leaves_by, lower, upper}
-use Rattle.suffix_bits.specs.Slots.{SuffixArray, array_bits}
+use Rattle.suffix_bits.specs.Slots.{SuffixArray}
 use Rattle.trie_laws.proofs.Places.{length-trie_of}
 use Rattle.trie_levels.proofs.Totals.{valid_lists_have_tries}
 use Rattle.trie_levels.specs.Tries.{HasTrie}

@@ -1,5 +1,5 @@
 -- One step by a half, and what it says of the trie.
-use Rattle.std.proofs.Common.{◌≡◌, ℕ, ◌+◌, ◌-◌, ◌*◌, ◌/◌, ◌%◌, ◌<◌, ◌≤◌, Bool, true, false, cond, Option, Some, None, MatchOption, List, [], ◌∷◌, ◌++◌, length, get_or, take, refl, ap, subst, sym, ◌∙◌, arith, length-append}
+use Rattle.std.proofs.Common.{◌≡◌, ℕ, ◌+◌, ◌-◌, ◌*◌, ◌/◌, ◌%◌, ◌<◌, ◌≤◌, Bool, true, false, cond, Option, Some, None, MatchOption, List, [], ◌∷◌, ◌++◌, length, get_or, refl, ap, subst, sym, ◌∙◌, arith, length-append}
 use Rattle.std.specs.List.{All}
 use Rattle.std.specs.Option.{option_map}
 use Rattle.filter_image_model.specs.Reading.{FilterImage}
@@ -8,7 +8,7 @@ use Rattle.filter_model.specs.Nodes.{Branch, IsBranch, Node, all, at, children_b
 use Rattle.filter_model.specs.Trie.{END, is_reached, nodes}
 use Rattle.filter_trie.specs.Parts.{AreParts, lower, upper}
 use Rattle.filter_trie.specs.Walks.{IsNodeAt, IsSlotAt}
-use Rattle.filter_trie.proofs.Halves.{IsDenseBranch, begins_next, below_is, dense_branch, dense_end, first_in, no_dense_branch, no_sparse_branch, none_given, same_child, slot_is, some_given, sparse_branch, sparse_place, stands}
+use Rattle.filter_trie.proofs.Halves.{begins_next, below_is, dense_branch, dense_end, first_in, no_dense_branch, no_sparse_branch, none_given, same_child, slot_is, some_given, sparse_branch, sparse_place, stands}
 use Rattle.filter_trie.proofs.Parts.{dense_nodes, has_trie, joined, length-nodes, tall}
 use Rattle.filter_trie.proofs.Down.{down, leaf_at, nowhere}
 use Rattle.louds_dense.specs.Places.{branch_place as dense_place, branches_before, child_at as dense_child, end_slot as dense_end_slot, node_at, slot_at as dense_slot}
@@ -23,7 +23,7 @@ use Rattle.trie_model.specs.Halves.{Half, branch_place, child_at, end_slot, firs
 place_parts : (v c q : ℕ) → c < 256 → 256 * v + c ≡ q → (q / 256 ≡ v) × (q % 256 ≡ c)
 place_parts v c q f e = (omega (arith, e, f), omega (arith, e, f))
 
-end_leaf : (ns : List Node) (v b : ℕ) → All IsTrieNode ns → v < length ns → IsBranch ns v END b → (at ns b).1 ≡ false
+pub end_leaf : (ns : List Node) (v b : ℕ) → All IsTrieNode ns → v < length ns → IsBranch ns v END b → (at ns b).1 ≡ false
 end_leaf ns v b forms l h =
     let j = b - first_place ns v in
     let m : j < length (get_or ns v []) = omega (arith, h.0, h.1, begins_next ns v l) in

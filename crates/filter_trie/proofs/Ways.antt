@@ -1,9 +1,8 @@
 -- A walk's way: the node is the prefix of the key that was read.
-use Rattle.std.proofs.Common.{◌≡◌, ℕ, ◌+◌, ◌<◌, ◌≤◌, true, false, Some, None, List, [], ◌∷◌, ◌++◌, length, get_or, take, refl, ap, subst, sym, ◌∙◌, arith}
+use Rattle.std.proofs.Common.{◌≡◌, ℕ, ◌+◌, ◌<◌, ◌≤◌, true, false, Some, None, List, [], ◌∷◌, ◌++◌, length, get_or, take, ap, sym, ◌∙◌, arith}
 use Rattle.std.proofs.lemmas.Bool.{false_from_ne_true, false≢true}
 use Rattle.std.proofs.lemmas.List.{get_or_append_left, get_or_push, length_push, take-append-le, take_all, take_more}
 use Rattle.filter_model.specs.Leaves.{Leaf}
-use Rattle.filter_model.specs.Strings.{is_prefix}
 use Rattle.filter_model.specs.Trie.{END, height, is_node, is_reached, nodes}
 use Rattle.filter_trie.specs.Walks.{IsNodeAt, IsSlotAt}
 use Rattle.filter_trie.proofs.Reached.{found, missed, node_is_reached, prefix_refl, prefix_take, slot_is}

@@ -1,2 +1,14 @@
+pub use Rattle.filter_api.specs.Spellings
+pub use Rattle.filter_image_model.specs.Reading
+pub use Rattle.filter_model.specs.Image
+pub use Rattle.filter_model.specs.Trie
+pub use Rattle.suffix_bits.specs.Slots
+pub use Rattle.trie_model.specs.Halves
 pub mod Parts
 pub mod Walks
+pub mod Building
+pub mod Pending
+pub mod Gathered
+pub mod Places
+pub mod Leads
+pub mod Laws

@@ -1,5 +1,5 @@
 -- What a trie's parts stand for: two halves of one list of nodes, and the suffixes of the leaves by slot.
-use Rattle.std.specs.Prelude.{◌≡◌, ℕ, ◌+◌, ◌*◌, Bool, List, ◌++◌, length, map, take, drop}
+use Rattle.std.specs.Prelude.{◌≡◌, ℕ, ◌+◌, ◌*◌, List, ◌++◌, length, map, take, drop}
 use Rattle.std.specs.List.{range_with_len}
 use Rattle.bit_words.specs.Numbers.{number_at}
 use Rattle.filter_api.specs.Spellings.{MayStand}

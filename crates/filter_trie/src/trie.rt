@@ -1,11 +1,12 @@
 //! The trie and its walks.
-ghost use Rattle.std.specs.Prelude.{◌≡◌, ◌<◌, ◌≤◌, ◌+◌, ◌++◌, [], ◌∷◌, false, length, get_or, MatchOption};
+ghost use Rattle.std.specs.Prelude.{◌≡◌, ◌<◌, ◌≤◌, ◌+◌, ◌++◌, [], ◌∷◌, false, length, get_or, map, MatchOption};
+ghost use Rattle.filter_api.specs.Spellings.{MayStand};
 ghost use Rattle.filter_image_model.specs.Reading.{FilterImage};
-ghost use Rattle.filter_model.specs.Image.{suffixes as suffix_section};
+ghost use Rattle.filter_model.specs.Image.{in_slots, suffixes as suffix_section};
 ghost use Rattle.filter_model.specs.Trie.{END, height as height_of, is_reached, nodes};
 ghost use Rattle.filter_trie.specs.Parts.{AreParts, lower, upper};
 ghost use Rattle.filter_trie.specs.Walks.{IsSlotAt, IsStep, slot_in};
-ghost use Rattle.suffix_bits.specs.Slots.{array_bits};
+ghost use Rattle.suffix_bits.specs.Slots.{array_bits, leaf_suffix};
 ghost use Rattle.trie_laws.specs.Halves.{second_half};
 ghost use Rattle.trie_model.specs.Walks.{slot_of_key, steps as steps_of};
 
@@ -21,11 +22,11 @@ use suffix_bits::Suffixes;
 /// The trie of a filter's leaves, and their suffixes by slot.
 #[derive(Drop)]
 pub struct Trie<A: Allocator> {
-    cutoff: u16,
-    height: u16,
-    dense: Dense<A>,
-    sparse: Sparse<A>,
-    suffixes: Suffixes<A>,
+    pub(crate) cutoff: u16,
+    pub(crate) height: u16,
+    pub(crate) dense: Dense<A>,
+    pub(crate) sparse: Sparse<A>,
+    pub(crate) suffixes: Suffixes<A>,
 }
 
 impl<A: Allocator> Model for Trie<A> {
@@ -68,11 +69,19 @@ impl<A: Allocator> Trie<A> {
         self.cutoff
     }
 
-    /// How many levels of nodes there are.
+    /// How many levels of nodes there are. The leaves are always a list for which a filter may stand.
     pub fn height(&self) -> u16
-        ensures { result ≡ height_of self.now.leaves }
+        ensures height { result ≡ height_of self.now.leaves }
+        ensures stands { MayStand self.now.hash_bits self.now.real_bits self.now.cutoff self.now.leaves }
     {
         self.height
+    }
+
+    /// How many leaves there are.
+    pub fn leaves(&self) -> u32
+        ensures { result ≡ length self.now.leaves }
+    {
+        self.suffixes.len() as u32
     }
 
     /// The nodes of the levels above the cutoff.
@@ -99,6 +108,14 @@ impl<A: Allocator> Trie<A> {
         &self.suffixes
     }
 
+    /// The hash bits and the real bits of the leaf of a slot.
+    pub fn suffix(&self, slot: u64) -> (u32, u32)
+        requires { slot < length self.now.leaves }
+        ensures { result ≡ get_or (map leaf_suffix (in_slots self.now.leaves)) slot (0, 0) }
+    {
+        self.suffixes.get(slot)
+    }
+
     /// The slot of the one leaf that the key reaches: its stub is the key where it ends, and else a prefix of it.
     pub fn walk(&self, key: &[u8]) -> Walk
         ensures { slot_in result ≡ slot_of_key self.now.leaves key.now }
@@ -115,20 +132,13 @@ impl<A: Allocator> Trie<A> {
         let dense_nodes = self.dense.node_count();
         let mut node = 0;
         for byte in key {
-            steps.tick();
-            let step = if node < dense_nodes {
-                self.dense_step(node, *byte)
-            } else {
-                self.sparse_step(node, *byte)
-            };
-            match step {
+            match self.step(node, node < dense_nodes, *byte, steps) {
                 Step::Miss => return Walk::Miss,
                 Step::Leaf(slot) => return Walk::Leaf(slot),
                 Step::Child(child) => node = child,
             }
         }
-        steps.tick();
-        match self.end_slot(node) {
+        match self.end_slot(node, steps) {
             Some(slot) => Walk::Leaf(slot),
             None => Walk::Miss,
         }
@@ -144,46 +154,17 @@ impl<A: Allocator> Trie<A> {
         self.walk_counted(key, &mut Steps::<L>::new(blank))
     }
 
-    /// The slot of the leaf that ends at a node, if one does.
-    fn end_slot(&self, node: u64) -> Option<u64>
+    /// The slot of the leaf that ends at a node, if one does. It is a step.
+    fn end_slot<L: Ledger>(&self, node: u64, steps: &mut Steps<L>) -> Option<u64>
         requires { node < length (nodes self.now.leaves) }
-        ensures { MatchOption result (is_reached self.now.leaves (get_or (nodes self.now.leaves) node [] ++ END ∷ []) ≡ false) (λ slot. IsSlotAt self.now.leaves slot (get_or (nodes self.now.leaves) node [] ++ END ∷ [])) }
+        ensures step { steps.new ≡ steps.old + 1 }
+        ensures slot { MatchOption result (is_reached self.now.leaves (get_or (nodes self.now.leaves) node [] ++ END ∷ []) ≡ false) (λ slot. IsSlotAt self.now.leaves slot (get_or (nodes self.now.leaves) node [] ++ END ∷ [])) }
     {
+        steps.tick();
         if self.dense.has_node(node) {
             self.dense.prefix_slot(node)
         } else {
             self.sparse.prefix_slot(node)
-        }
-    }
-
-    /// Where a byte leads from a node of the dense half.
-    fn dense_step(&self, node: u64, byte: u8) -> Step
-        requires { node < length (upper self.now.cutoff self.now.leaves) }
-        ensures { IsStep self.now.leaves node byte result }
-    {
-        let dense = &self.dense;
-        match dense.branch(node, byte) {
-            None => Step::Miss,
-            Some(place) => match dense.child(place) {
-                Some(child) => Step::Child(child),
-                None => Step::Leaf(dense.leaf_slot(place)),
-            },
-        }
-    }
-
-    /// Where a byte leads from a node of the sparse half.
-    fn sparse_step(&self, node: u64, byte: u8) -> Step
-        requires behind { length (upper self.now.cutoff self.now.leaves) ≤ node }
-        requires there { node < length (nodes self.now.leaves) }
-        ensures { IsStep self.now.leaves node byte result }
-    {
-        let sparse = &self.sparse;
-        match sparse.branch(node, byte) {
-            None => Step::Miss,
-            Some(place) => match sparse.child(place) {
-                Some(child) => Step::Child(child),
-                None => Step::Leaf(sparse.leaf_slot(place)),
-            },
         }
     }
 }

@@ -9,7 +9,7 @@ use Rattle.filter_model.specs.Strings.{shared}
 use Rattle.filter_model.proofs.Order.{Lt, Lt-from}
 use Rattle.filter_model.proofs.Shared.{shared_outer, shared_sym}
 use Rattle.filter_model.proofs.Stubs.{nearest_or_none, shared_most-ge, shared_most-le, different}
-use Rattle.key_truncate.specs.declared.Stub.{Stub}
+use Rattle.key_truncate.specs.declared.stubs.Stub.{Stub}
 use Rattle.key_truncate.specs.Stubs.{shared_next, shared_before, stub_in}
 
 abbrev at : List (List ℕ) → ℕ → List ℕ

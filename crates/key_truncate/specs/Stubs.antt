@@ -1,6 +1,6 @@
 -- The stub of a key, as its length and whether the key ends with it.
 use Rattle.std.specs.Prelude.{ℕ, zero, suc, ◌+◌, nat_lt, min, cond, List, [], map, length, slice_index_or}
-use Rattle.key_truncate.specs.declared.Stub.{Stub}
+use Rattle.key_truncate.specs.declared.stubs.Stub.{Stub}
 use Rattle.filter_model.specs.Leaves.{shared_most, ends_of}
 use Rattle.filter_model.specs.Strings.{shared}
 

@@ -1,16 +1,16 @@
 -- Sections that grow by bytes and nodes, and the nodes that they spell then.
-use Rattle.std.proofs.Common.{◌≡◌, ℕ, zero, suc, ◌+◌, ◌-◌, ◌*◌, ◌<◌, ◌≤◌, ◌==◌, ◌^◌, Bool, true, false, cond, List, [], ◌∷◌, ◌++◌, length, get_or, take, map, refl, ap, subst, sym, ◌∙◌, arith, inl, inr, length-append}
+use Rattle.std.proofs.Common.{◌≡◌, ℕ, zero, suc, ◌+◌, ◌-◌, ◌<◌, ◌≤◌, ◌==◌, ◌^◌, Bool, true, false, List, [], ◌∷◌, ◌++◌, length, get_or, take, map, refl, ap, subst, sym, ◌∙◌, arith, inl, inr, length-append}
 use Rattle.std.specs.Prelude.{◌&&◌, ◌||◌, flat_map}
 use Rattle.std.specs.List.{All, AllByRecursion, AllPairs, range_with_len}
-use Rattle.std.proofs.lemmas.Bool.{cases_lt, eq-eqb, ne_eqb}
-use Rattle.std.proofs.lemmas.List.{append-nil, append_assoc, get_or_default, length-map, map-append, take_more}
+use Rattle.std.proofs.lemmas.Bool.{cases_lt, eq-eqb}
+use Rattle.std.proofs.lemmas.List.{append-nil, append_assoc, get_or_default, map-append, take_more}
 use Rattle.std.proofs.lemmas.List.Concat.{flat_map-append}
 use Rattle.std.proofs.lemmas.List.Elements.{All-append, All-cons, All-nil}
 use Rattle.std.proofs.lemmas.List.FromFn.{length-map-range_with_len, map-range_with_len_more}
 use Rattle.filter_image_model.proofs.DenseNodes.{dense_again}
 use Rattle.filter_image_model.proofs.Lists.{all_append}
 use Rattle.filter_image_model.specs.Nodes.{IsDense}
-use Rattle.filter_image_model.proofs.RisingBytes.{RisingBytes, rising_bytes, are_bytes, in_order_of}
+use Rattle.filter_image_model.proofs.RisingBytes.{RisingBytes, are_bytes, in_order_of}
 use Rattle.filter_model.specs.Image.{dense_children, dense_ends, dense_labels, has_child, has_letter, row}
 use Rattle.filter_model.specs.Nodes.{Branch, Node}
 use Rattle.filter_model.specs.Trie.{END}

@@ -3,3 +3,4 @@ pub mod Ranks
 pub mod Spelled
 pub mod Built
 pub mod Searches
+pub mod Branches

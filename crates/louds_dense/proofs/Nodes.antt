@@ -1,16 +1,13 @@
 -- One dense node: the bits of its bytes, and how they count its branches.
-use Rattle.std.proofs.Common.{add-one, ◌≡◌, ℕ, zero, suc, ◌+◌, ◌-◌, ◌<◌, ◌≤◌, ◌==◌, Bool, true, false, cond, List, [], ◌∷◌, ◌++◌, length, get_or, take, map, refl, ap, subst, sym, ◌∙◌, arith, inl, inr, nat_lt, lt-ltb, le-ltb}
+use Rattle.std.proofs.Common.{add-one, ◌≡◌, ℕ, zero, suc, ◌+◌, ◌<◌, ◌≤◌, ◌==◌, Bool, true, false, cond, List, [], ◌∷◌, length, get_or, take, map, refl, ap, subst, sym, ◌∙◌, arith, inl, inr, nat_lt, lt-ltb, le-ltb}
 use Rattle.std.specs.Prelude.{count_by, ◌&&◌, ◌||◌}
 use Rattle.std.specs.List.{range_with_len}
 use Rattle.std.proofs.lemmas.Bool.{cases_Bool, eqb-true, eqb-false, eq-eqb, false≢true, ne_eqb}
 use Rattle.std.proofs.lemmas.List.Sums.{sum_by-cons}
 use Rattle.filter_image_model.proofs.DenseNodes.{no_child, no_letter}
-use Rattle.filter_image_model.specs.Nodes.{IsDense}
-use Rattle.filter_image_model.proofs.RisingBytes.{RisingBytes, rising_bytes, are_bytes, in_order_of}
-use Rattle.filter_model.specs.Image.{has_child, has_letter, row}
+use Rattle.filter_image_model.proofs.RisingBytes.{RisingBytes}
+use Rattle.filter_model.specs.Image.{has_child, has_letter}
 use Rattle.filter_model.specs.Nodes.{Branch, Node}
-use Rattle.filter_model.specs.Trie.{END}
-use Rattle.louds_dense.specs.Places.{ahead_of}
 
 pub count-cons : {X : Type 0} (test : X → Bool) (x : X) (xs : List X) → count_by test (x ∷ xs) ≡ cond (test x) 1 0 + count_by test xs
 count-cons test x xs = sum_by-cons (λ y. cond (test y) 1 0) x xs

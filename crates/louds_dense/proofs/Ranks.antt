@@ -1,21 +1,20 @@
 -- The bits of dense nodes, and how they count the branches before a place.
-use Rattle.std.proofs.Common.{◌≡◌, ℕ, zero, suc, ◌+◌, ◌*◌, ◌/◌, ◌%◌, ◌<◌, ◌≤◌, ◌==◌, Bool, true, false, cond, List, [], ◌∷◌, ◌++◌, length, get_or, take, map, refl, ap, subst, sym, ◌∙◌, arith, inl, inr, length-append, nat_lt, lt-ltb, le-ltb}
-use Rattle.std.specs.Prelude.{count_by, flat_map, not, ◌||◌}
+use Rattle.std.proofs.Common.{◌≡◌, ℕ, zero, suc, ◌+◌, ◌*◌, ◌/◌, ◌%◌, ◌<◌, ◌≤◌, Bool, true, false, cond, List, [], ◌∷◌, ◌++◌, length, get_or, take, map, refl, ap, subst, sym, ◌∙◌, arith, inl, inr, length-append, nat_lt, lt-ltb, le-ltb}
+use Rattle.std.specs.Prelude.{count_by, flat_map, ◌||◌}
 use Rattle.std.specs.List.{AllByRecursion, range_with_len}
 use Rattle.std.proofs.Math.Seq.{take-append-add}
 use Rattle.std.proofs.lemmas.Bool.{cases_lt, ne_eqb}
-use Rattle.std.proofs.lemmas.List.{get_or_append_left, get_or-append-add, get_or-map, get_or_past, length-map, take-append-le, take_all}
+use Rattle.std.proofs.lemmas.List.{get_or_append_left, get_or-append-add, get_or_past, take-append-le, take_all}
 use Rattle.std.proofs.lemmas.List.FromFn.{get_or-map-range_with_len, length-map-range_with_len, take-map-range_with_len}
 use Rattle.std.proofs.lemmas.List.Folds.{length-flat_map-take}
 use Rattle.std.proofs.lemmas.List.Sums.{sum_by-append}
 use Rattle.bit_words.specs.Counts.{rank_of}
 use Rattle.filter_image_model.specs.Nodes.{IsDense}
-use Rattle.filter_image_model.proofs.RisingBytes.{RisingBytes, rising_bytes, are_bytes, in_order_of}
+use Rattle.filter_image_model.proofs.RisingBytes.{RisingBytes, rising_bytes}
 use Rattle.filter_model.specs.Image.{dense_children, dense_ends, dense_labels, has_child, has_letter, row}
-use Rattle.filter_model.specs.Nodes.{Branch, Node, all, at, children_before, first_place, leaves_before}
+use Rattle.filter_model.specs.Nodes.{Branch, Node, all, at, children_before, first_place}
 use Rattle.filter_model.specs.Trie.{END}
-use Rattle.filter_image_model.proofs.Lists.{all_of, by_recursion}
-use Rattle.louds_dense.specs.Laws.{PlacesAreOfBranches}
+use Rattle.filter_image_model.proofs.Lists.{all_of}
 use Rattle.louds_dense.specs.Places.{ahead_of, branches_before, node_at}
 use Rattle.louds_dense.proofs.Nodes.{below, branch_first, child_bits, count-cons, count_in, count_out, counted, letter_bits, letters_first, other_child, other_letter, same_bits, set_in}
 
@@ -214,7 +213,7 @@ length-rows f (n ∷ ns) = omega (arith, length-append (row (f n)) (flat_map (λ
 
 -- ---- branches
 
-branch_of_byte : (ns : List Node) (v c : ℕ) → AllByRecursion IsDense ns → v < length ns → c < 256 → has_letter (node_at ns v) c ≡ true
+pub branch_of_byte : (ns : List Node) (v c : ℕ) → AllByRecursion IsDense ns → v < length ns → c < 256 → has_letter (node_at ns v) c ≡ true
     → at ns (first_place ns v + ahead_of c (node_at ns v)) ≡ (c, has_child (node_at ns v) c)
 branch_of_byte [] v c w l s on = absurd (omega (arith, l))
 branch_of_byte (n ∷ ns) zero c w l s on =
@@ -227,9 +226,6 @@ branch_of_byte (n ∷ ns) (suc v) c w l s on =
     ap (λ (k : ℕ). get_or (n ++ all ns) k (0, false)) (omega (arith, length-append n (all (take v ns))))
     ∙ get_or-append-add n (all ns) q (0, false)
     ∙ branch_of_byte ns v c w.1 (omega (arith, l)) s on
-
-pub places_are_of_branches : PlacesAreOfBranches
-places_are_of_branches ns p w l on = branch_of_byte ns (p / 256) (p % 256) (by_recursion IsDense ns w) (omega (arith, l)) (omega arith) on
 
 -- ---- there are as many branches
 

@@ -9,7 +9,7 @@ use Rattle.std.proofs.lemmas.List.Sums.{position_or_len_is}
 use Rattle.bit_words.specs.Counts.{is_set_at}
 use Rattle.filter_image_model.proofs.Lists.{all_of}
 use Rattle.filter_image_model.specs.Nodes.{IsDense}
-use Rattle.filter_image_model.proofs.RisingBytes.{RisingBytes, rising_bytes, are_bytes, in_order_of}
+use Rattle.filter_image_model.proofs.RisingBytes.{RisingBytes, rising_bytes}
 use Rattle.filter_model.specs.Image.{has_letter}
 use Rattle.filter_model.specs.Nodes.{Branch, Node}
 use Rattle.filter_model.specs.Trie.{END}
@@ -21,12 +21,12 @@ use Rattle.trie_model.specs.Branching.{last_position, later, next_at, prev_at}
 
 -- ---- first and last places
 
-position_some : (test : Branch → Bool) (n : Node) (i : ℕ) → i < length n → test (get_or n i (0, false)) ≡ true → ((k : ℕ) → k < i → test (get_or n k (0, false)) ≡ false) → position test n ≡ Some i
+pub position_some : (test : Branch → Bool) (n : Node) (i : ℕ) → i < length n → test (get_or n i (0, false)) ≡ true → ((k : ℕ) → k < i → test (get_or n k (0, false)) ≡ false) → position test n ≡ Some i
 position_some test n i l e h =
     let place : position_or_len test n ≡ i = position_or_len_is test n i (0, false) (omega arith) h (λ _. e) in
     ap (λ (b : Bool). cond b (Some (position_or_len test n)) None) (lt-ltb (position_or_len test n) (length n) (omega (arith, place, l))) ∙ ap (λ (k : ℕ). Some k) place
 
-position_none : (test : Branch → Bool) (n : Node) → ((k : ℕ) → k < length n → test (get_or n k (0, false)) ≡ false) → position test n ≡ None
+pub position_none : (test : Branch → Bool) (n : Node) → ((k : ℕ) → k < length n → test (get_or n k (0, false)) ≡ false) → position test n ≡ None
 position_none test n h =
     let place : position_or_len test n ≡ length n = position_or_len_is test n (length n) (0, false) (omega arith) h (λ l. absurd (omega arith)) in
     ap (λ (b : Bool). cond b (Some (position_or_len test n)) None) (le-ltb (position_or_len test n) (length n) (omega (arith, place)))
@@ -49,7 +49,7 @@ letter_at (b ∷ n) c e = elim (or_cases (b.0 == c) (has_letter n c) e) [
   | inr there ↦ let r = letter_at n c there in (suc r.0, omega (arith, r.1), r.2)
 ]
 
-letter_there : (n : Node) (j : ℕ) → j < length n → has_letter n (get_or n j (0, false)).0 ≡ true
+pub letter_there : (n : Node) (j : ℕ) → j < length n → has_letter n (get_or n j (0, false)).0 ≡ true
 letter_there [] j l = absurd (omega arith)
 letter_there (b ∷ n) zero l = ap (λ (t : Bool). t || has_letter n b.0) (eq-eqb b.0 b.0 refl)
 letter_there (b ∷ n) (suc j) l = or_right (b.0 == (get_or n j (0, false)).0) (has_letter n (get_or n j (0, false)).0) (letter_there n j (omega arith))
@@ -73,7 +73,7 @@ rises_behind true m (suc i) zero w up l small = absurd (omega (arith, up))
 rises_behind true m (suc i) (suc j) w up l small = from_rises 0 m i j w (omega (arith, up)) (omega (arith, l))
 rises_behind false m i j w up l small = from_rises 0 m i j w up l
 
-bytes_rise : (n : Node) → IsDense n → (i j : ℕ) → i < j → j < length n → (get_or n i (0, false)).0 < 256 → (get_or n i (0, false)).0 < (get_or n j (0, false)).0
+pub bytes_rise : (n : Node) → IsDense n → (i j : ℕ) → i < j → j < length n → (get_or n i (0, false)).0 < 256 → (get_or n i (0, false)).0 < (get_or n j (0, false)).0
 bytes_rise n w i j = subst (λ (x : Node). i < j → j < length x → (get_or x i (0, false)).0 < 256 → (get_or x i (0, false)).0 < (get_or x j (0, false)).0) (sym w.is) (rises_behind w.ends w.bytes i j (rising_bytes w.bytes w.letters w.rising))
 
 -- ---- the next branch of a node and the one before

@@ -1,19 +1,17 @@
 -- What the sections say of the nodes that they spell.
-use Rattle.std.proofs.Common.{◌≡◌, ℕ, suc, ◌+◌, ◌-◌, ◌*◌, ◌/◌, ◌%◌, ◌^◌, ◌<◌, ◌≤◌, Bool, true, false, cond, Some, None, List, [], ◌∷◌, length, get_or, take, refl, ap, subst, sym, ◌∙◌, arith, inl, inr}
+use Rattle.std.proofs.Common.{◌≡◌, ℕ, suc, ◌+◌, ◌*◌, ◌/◌, ◌%◌, ◌<◌, ◌≤◌, Bool, true, false, cond, Some, None, List, [], ◌∷◌, length, get_or, take, refl, ap, subst, sym, ◌∙◌, arith, inl, inr}
 use Rattle.std.specs.Prelude.{count_by, not}
 use Rattle.std.proofs.lemmas.Bool.{cases_lt}
 use Rattle.std.proofs.lemmas.List.{get_or-map, length-map, length-take-le, take_all}
+use Rattle.std.proofs.lemmas.List.Sums.{count_by-le-length, sum_by-take-le}
 use Rattle.bit_words.specs.Counts.{rank_of}
-use Rattle.bit_words.proofs.Counting.{rank-le-length}
-use Rattle.filter_image_model.specs.Nodes.{IsDense}
 use Rattle.filter_model.specs.Image.{dense_children, dense_ends, dense_labels, has_child, has_letter}
 use Rattle.filter_model.specs.Nodes.{Branch, Node, all, children_before, first_place, leaves_before}
 use Rattle.filter_model.specs.Trie.{END}
-use Rattle.louds_dense.specs.Places.{branch_place, branches_before, child_at, counts_of, end_slot, first_below, node_at, places_in, slot_at}
+use Rattle.louds_dense.specs.Places.{branch_place, branches_before, child_at, counts_of, end_slot, first_below, node_at, node_slot, slot_at}
 use Rattle.louds_dense.specs.Spelling.{IsSpelled}
 use Rattle.louds_dense.proofs.Nodes.{count-cons}
 use Rattle.louds_dense.proofs.Ranks.{AreRanked, before_within, length-rows, node_within, ranks_at, ranks_of_node, rows_at}
-use Rattle.trie_model.specs.declared.parts.Before.{Before}
 
 both_counts : {X : Type 0} (p : X → Bool) (xs : List X) → count_by p xs + count_by (λ x. not (p x)) xs ≡ length xs
 both_counts p [] = refl
@@ -60,6 +58,13 @@ module _ {labels children ends : List Bool} {ns : List Node} (s : IsSpelled labe
   pub end_bit : (v : ℕ) → v < length ns → get_or ends v false ≡ has_letter (node_at ns v) END
   end_bit v l = ap (λ (bits : List Bool). get_or bits v false) s.ends_are ∙ get_or-map (λ (n : Node). has_letter n END) ns v [] false l
 
+  -- the set bits for END are those of the nodes
+  pub ends_to : (k n : ℕ) → n ≡ rank_of ends k → n ≡ rank_of (dense_ends ns) k
+  ends_to k n e = e ∙ ap (λ (bits : List Bool). rank_of bits k) s.ends_are
+
+  pub few_ends : (k n : ℕ) → n ≡ rank_of ends k → n ≤ length ns
+  few_ends k n e = omega (arith, e, length_ends, count_by-le-length (λ (b : Bool). b) ends, sum_by-take-le (λ (b : Bool). cond b 1 0) ends k)
+
   -- ---- the branches before a place
 
   pub ranks : (p k : ℕ) → p ≤ 256 * length ns → (p / 256 < length ns → k ≡ p / 256 + 1) → (length ns ≤ p / 256 → k ≡ length ns) → AreRanked ns p k (branches_before ns p)
@@ -96,17 +101,17 @@ module _ {labels children ends : List Bool} {ns : List Node} (s : IsSpelled labe
       → slot + rank_of (dense_children ns) p ≡ rank_of (dense_labels ns) p + rank_of (dense_ends ns) k → slot ≡ slot_at ns p
   slot_is p k slot l inner last sum = leaves_are ns p k (branches_before ns p) slot (ranks p k l inner last) (before_within ns p s.nodes) sum
 
-  pub covered_node : (v : ℕ) → v < length ns → rank_of (dense_children ns) (256 * v) ≤ rank_of (dense_labels ns) (256 * v) + rank_of (dense_ends ns) v
-  covered_node v l = covered ns (256 * v) v (first_place ns v) (ranks_of_node ns v s.nodes (omega (arith, l))) (node_within ns v (omega (arith, l)))
+  pub covered_node : (v : ℕ) → v ≤ length ns → rank_of (dense_children ns) (256 * v) ≤ rank_of (dense_labels ns) (256 * v) + rank_of (dense_ends ns) v
+  covered_node v l = covered ns (256 * v) v (first_place ns v) (ranks_of_node ns v s.nodes l) (node_within ns v l)
 
-  pub end_some : (v slot : ℕ) → v < length ns → get_or ends v false ≡ true
-      → slot + rank_of (dense_children ns) (256 * v) ≡ rank_of (dense_labels ns) (256 * v) + rank_of (dense_ends ns) v → Some slot ≡ end_slot ns v
-  end_some v slot l on sum =
-      ap (λ (k : ℕ). Some k) (leaves_are ns (256 * v) v (first_place ns v) slot (ranks_of_node ns v s.nodes (omega (arith, l))) (node_within ns v (omega (arith, l))) sum)
-      ∙ ap (λ (t : Bool). cond t (Some (leaves_before ns (first_place ns v))) None) (sym (sym (end_bit v l) ∙ on))
+  pub node_slot_is : (v slot : ℕ) → v ≤ length ns → slot + rank_of (dense_children ns) (256 * v) ≡ rank_of (dense_labels ns) (256 * v) + rank_of (dense_ends ns) v → slot ≡ node_slot ns v
+  node_slot_is v slot l sum = leaves_are ns (256 * v) v (first_place ns v) slot (ranks_of_node ns v s.nodes l) (node_within ns v l) sum
+
+  pub end_some : (v slot : ℕ) → v < length ns → get_or ends v false ≡ true → slot ≡ node_slot ns v → Some slot ≡ end_slot ns v
+  end_some v slot l on is = ap (λ (k : ℕ). Some k) is ∙ ap (λ (t : Bool). cond t (Some (node_slot ns v)) None) (sym (sym (end_bit v l) ∙ on))
 
   pub end_none : (v : ℕ) → v < length ns → get_or ends v false ≡ false → None ≡ end_slot ns v
-  end_none v l off = ap (λ (t : Bool). cond t (Some (leaves_before ns (first_place ns v))) None) (sym (sym (end_bit v l) ∙ off))
+  end_none v l off = ap (λ (t : Bool). cond t (Some (node_slot ns v)) None) (sym (sym (end_bit v l) ∙ off))
 
   -- ---- all of it
 

@@ -1,3 +1,8 @@
+pub use Rattle.bit_words.specs.Packed
+pub use Rattle.filter_model.specs.Image
+pub use Rattle.filter_model.specs.Nodes
+pub use Rattle.trie_model.specs.Given
+pub use Rattle.trie_model.specs.Halves
 pub mod Places
 pub mod Spelling
 pub mod Building

@@ -1,6 +1,6 @@
 -- Places of a dense half: 256 for each node, one for each byte, whether or not it is a branch. Place p is that of byte
 -- p mod 256 at node p / 256. Nothing stands before a dense half, so its nodes and slots are numbered as those of the trie.
-use Rattle.std.specs.Prelude.{ℕ, ◌+◌, ◌*◌, ◌/◌, ◌%◌, nat_lt, false, cond, List, [], length, get_or, count_by, Option, Some, None}
+use Rattle.std.specs.Prelude.{◌≡◌, ℕ, ◌+◌, ◌*◌, ◌/◌, ◌%◌, ◌<◌, nat_lt, true, false, cond, List, [], length, get_or, count_by, Option, Some, None}
 use Rattle.std.specs.Option.{option_map}
 use Rattle.filter_model.specs.Image.{has_child, has_letter}
 use Rattle.filter_model.specs.Nodes.{Branch, Node, all, children_before, first_place, leaves_before}
@@ -27,6 +27,10 @@ branches_before ns p = first_place ns (p / 256) + ahead_of (p % 256) (node_at ns
 abbrev pub place_of : List Node → ℕ → ℕ → ℕ
 place_of ns v i = 256 * v + (get_or (node_at ns v) i (0, false)).0
 
+-- the byte of place p is a branch of its node
+abbrev pub IsTaken : List Node → ℕ → Type 0
+IsTaken ns p = (p < places_in ns) × (has_letter (node_at ns (p / 256)) (p % 256) ≡ true)
+
 -- the place of node v's branch by byte c, of its first by a byte from c on, and of its last by a byte below c
 abbrev pub branch_place : List Node → ℕ → ℕ → Option ℕ
 branch_place ns v c = cond (has_letter (node_at ns v) c) (Some (256 * v + c)) None
@@ -49,9 +53,12 @@ child_at ns p = cond (has_child (node_at ns (p / 256)) (p % 256)) (Some (first_b
 abbrev pub slot_at : List Node → ℕ → ℕ
 slot_at ns p = leaves_before ns (branches_before ns p)
 
--- the slot of node v's END, which is its first branch
+-- how many leaves stand before node v; the slot of its END, which is its first branch
+abbrev pub node_slot : List Node → ℕ → ℕ
+node_slot ns v = leaves_before ns (first_place ns v)
+
 abbrev pub end_slot : List Node → ℕ → Option ℕ
-end_slot ns v = cond (has_letter (node_at ns v) END) (Some (leaves_before ns (first_place ns v))) None
+end_slot ns v = cond (has_letter (node_at ns v) END) (Some (node_slot ns v)) None
 
 -- what stands before the rest of a trie whose first nodes these are
 abbrev pub counts_of : List Node → Before

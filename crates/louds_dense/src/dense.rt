@@ -3,10 +3,12 @@ ghost use Rattle.std.specs.Prelude.{◌≡◌, ◌≤◌, ◌<◌, ◌+◌, ◌*
 ghost use Rattle.bit_words.specs.Counts.{rank_of};
 ghost use Rattle.bit_words.specs.Packed.{packed};
 ghost use Rattle.filter_model.specs.Image.{dense_children, dense_ends, dense_labels};
-ghost use Rattle.louds_dense.specs.Places.{branch_place, child_at, counts_of, end_slot, first_below, next_place, places_in, prev_place, slot_at};
+ghost use Rattle.louds_dense.specs.Places.{branch_place, child_at, counts_of, end_slot, first_below, next_place, node_slot, places_in, prev_place, slot_at};
+ghost use Rattle.louds_dense.specs.Spelling.{IsSpelled, nodes_in};
 
 use super::sections::ROW_BITS;
 use bit_rank::Ranked;
+use bit_words::Bits;
 use std::alloc::Allocator;
 use std::marker::Model;
 use trie_model::Before;
@@ -32,6 +34,18 @@ impl<A: Allocator> Model for Dense<A> {
 }
 
 impl<A: Allocator> Dense<A> {
+    /// The half that these sections spell. Takes no memory.
+    pub fn of(labels: Ranked<A>, has_child: Ranked<A>, prefix: Ranked<A>) -> Dense<A>
+        requires { IsSpelled labels has_child prefix (nodes_in labels has_child prefix) }
+        ensures { result ≡ nodes_in labels has_child prefix }
+    {
+        Dense {
+            labels,
+            has_child,
+            prefix,
+        }
+    }
+
     /// How many nodes it has.
     pub fn node_count(&self) -> u64
         ensures count { result ≡ length self.now }
@@ -42,7 +56,8 @@ impl<A: Allocator> Dense<A> {
 
     /// Whether a node is one of this half.
     pub fn has_node(&self, node: u64) -> bool
-        ensures { IsTrue result ↔ (node < length self.now) }
+        ensures has { IsTrue result ↔ (node < length self.now) }
+        ensures few { IsTrue result → node < 2 ^ 53 }
     {
         node < self.node_count()
     }
@@ -66,8 +81,16 @@ impl<A: Allocator> Dense<A> {
         Before {
             nodes: nodes as u64,
             children: self.has_child.rank(places) as u64,
-            slots: self.leaves_to(places, nodes),
+            slots: self.leaves_to(places, self.prefix.rank(nodes)),
         }
+    }
+
+    /// The first of a node's 256 places. Of the number of these nodes it is the place after the last.
+    pub fn first_place(&self, node: u64) -> u64
+        requires { node ≤ 2 ^ 53 }
+        ensures { result ≡ 256 * node }
+    {
+        ROW_BITS as u64 * node
     }
 
     /// The place of the node's branch by this byte, `None` where it has none.
@@ -138,11 +161,11 @@ impl<A: Allocator> Dense<A> {
         ensures { result ≡ slot_at self.now place }
     {
         let nodes = (place as usize / ROW_BITS + 1).min(self.prefix.bits().len());
-        self.leaves_to(place as usize, nodes)
+        self.leaves_to(place as usize, self.prefix.rank(nodes))
     }
 
     /// The first node whose branch stands at a place or later, or the number of these nodes and their children where there
-    /// is none.
+    /// is none; 1 of a half that has no node.
     pub fn first_below(&self, place: u64) -> u64
         requires { place ≤ places_in self.now }
         ensures { result ≡ first_below self.now place }
@@ -150,14 +173,25 @@ impl<A: Allocator> Dense<A> {
         self.has_child.rank(place as usize) as u64 + 1
     }
 
+    /// How many leaves stand before a node: those of the nodes before it. Of the number of these nodes it is all leaves.
+    ///
+    /// `leaf_slot` at the node's first place counts the node's END too.
+    pub fn node_slot(&self, node: u64) -> u64
+        requires { node ≤ length self.now }
+        ensures { result ≡ node_slot self.now node }
+    {
+        let node = node as usize;
+        let ends = self.prefix.rank(node);
+        self.leaves_to(ROW_BITS * node, ends)
+    }
+
     /// The slot of the node's END, or `None` where END is no branch of it.
     pub fn prefix_slot(&self, node: u64) -> Option<u64>
         requires { node < length self.now }
         ensures { result ≡ end_slot self.now node }
     {
-        let node = node as usize;
-        if self.prefix.bits().get(node) {
-            Some(self.leaves_to(ROW_BITS * node, node))
+        if self.prefix.bits().get(node as usize) {
+            Some(self.node_slot(node))
         } else {
             None
         }
@@ -185,15 +219,36 @@ impl<A: Allocator> Dense<A> {
         self.prefix.words()
     }
 
-    /// How many leaves there are by the bytes before a place and by the END of the first `nodes` nodes.
-    fn leaves_to(&self, place: usize, nodes: usize) -> u64
+    /// The bits of `labels`, 256 for each node.
+    pub fn label_bits(&self) -> &Bits<A>
+        ensures { result.now ≡ dense_labels self.now }
+    {
+        self.labels.bits()
+    }
+
+    /// The bits of `has_child`, 256 for each node.
+    pub fn child_bits(&self) -> &Bits<A>
+        ensures { result.now ≡ dense_children self.now }
+    {
+        self.has_child.bits()
+    }
+
+    /// The bits of `prefix`, one for each node.
+    pub fn end_bits(&self) -> &Bits<A>
+        ensures { result.now ≡ dense_ends self.now }
+    {
+        self.prefix.bits()
+    }
+
+    /// How many leaves stand before a place, where `ends` nodes of those before it have END.
+    fn leaves_to(&self, place: usize, ends: usize) -> u64
         requires place { place ≤ places_in self.now }
-        requires nodes { nodes ≤ length self.now }
-        requires covered { rank_of (dense_children self.now) place ≤ rank_of (dense_labels self.now) place + rank_of (dense_ends self.now) nodes }
-        ensures sum { result + rank_of (dense_children self.now) place ≡ rank_of (dense_labels self.now) place + rank_of (dense_ends self.now) nodes }
+        requires ends { ends ≤ length self.now }
+        requires covered { rank_of (dense_children self.now) place ≤ rank_of (dense_labels self.now) place + ends }
+        ensures sum { result + rank_of (dense_children self.now) place ≡ rank_of (dense_labels self.now) place + ends }
         ensures few { result < 2 ^ 62 }
     {
-        let branches = self.labels.rank(place) + self.prefix.rank(nodes);
+        let branches = self.labels.rank(place) + ends;
         (branches - self.has_child.rank(place)) as u64
     }
 }

@@ -61,8 +61,9 @@ module _ {before : Before} {labels : List ℕ} {children louds : List Bool} {h :
   pub first_there : (v : ℕ) → v < length h.nodes → IsPlaceOfOne louds v (first_place h.nodes v)
   first_there v l = rw s.louds_are (louds_first h.nodes v sparse l)
 
-  pub some_first : (v : ℕ) → v < length h.nodes → count_by (λ (b : Bool). b) louds ≤ v → ⊥
-  some_first v l none = omega (arith, l, none, set_bits)
+  -- behind the last of them the half ends
+  pub behind_last : (v : ℕ) → v ≤ length h.nodes → count_by (λ (b : Bool). b) louds ≤ v → length labels ≡ first_place h.nodes v
+  behind_last v l none = length_labels ∙ first_by_None h.nodes v sparse l (rw s.louds_are at none)
 
   pub few_nodes : length h.nodes ≤ length labels
   few_nodes = let l = length-le-all h.nodes sparse in omega (arith, l, length_labels)

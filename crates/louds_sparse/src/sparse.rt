@@ -5,11 +5,13 @@ ghost use Rattle.filter_model.specs.Image.{sparse_children, sparse_labels, spars
 ghost use Rattle.filter_model.specs.Nodes.{first_place};
 ghost use Rattle.filter_model.specs.Trie.{END};
 ghost use Rattle.louds_sparse.specs.Cuts.{IsCut, StandBytes};
+ghost use Rattle.louds_sparse.specs.Spelling.{IsSpelled, half_in};
 ghost use Rattle.trie_model.specs.Halves.{HasNode, begin_of, branch_place, byte_at, child_at, end_slot, first_below, next_place, places_in, prev_place, slot_at};
 
 use super::sections::END_LABEL;
 use bit_rank::Ranked;
 use bit_select::Selected;
+use bit_words::Bits;
 use lane_scan::{find_label_between, first_at_least_between, ones};
 use std::alloc::Allocator;
 use std::marker::Model;
@@ -36,6 +38,24 @@ impl<A: Allocator> Model for Sparse<A> {
 }
 
 impl<A: Allocator> Sparse<A> {
+    /// The half that these sections spell, with what stands before it. Takes no memory.
+    pub fn of(
+        before: Before,
+        labels: Vec<u8, A>,
+        has_child: Ranked<A>,
+        louds: Selected<A>,
+    ) -> Sparse<A>
+        requires { IsSpelled before labels.items has_child louds (half_in before labels.items has_child louds) }
+        ensures { result ≡ half_in before labels.items has_child louds }
+    {
+        Sparse {
+            before,
+            labels,
+            has_child,
+            louds,
+        }
+    }
+
     /// What stands before this half.
     pub fn before(&self) -> Before
         ensures { result ≡ self.now.before }
@@ -62,6 +82,15 @@ impl<A: Allocator> Sparse<A> {
         ensures { IsTrue result ↔ HasNode self.now node }
     {
         node >= self.before.nodes && node - self.before.nodes < self.node_count()
+    }
+
+    /// The place at which a node begins. Of the number of all nodes it is the place after the last.
+    pub fn first_place(&self, node: u64) -> u64
+        requires behind { self.now.before.nodes ≤ node }
+        requires there { node ≤ self.now.before.nodes + length self.now.nodes }
+        ensures { result ≡ begin_of self.now node }
+    {
+        self.begin((node - self.before.nodes) as usize) as u64
     }
 
     /// The places of a node's labels: the first, and the one after the last.
@@ -186,14 +215,28 @@ impl<A: Allocator> Sparse<A> {
         self.louds.words()
     }
 
-    // The place at which a node begins, by its number in this half.
+    /// The bits of `has_child`, one for each branch.
+    pub fn child_bits(&self) -> &Bits<A>
+        ensures { result.now ≡ sparse_children self.now.nodes }
+    {
+        self.has_child.bits()
+    }
+
+    /// The bits of `louds`, one for each branch.
+    pub fn louds_bits(&self) -> &Bits<A>
+        ensures { result.now ≡ sparse_louds self.now.nodes }
+    {
+        self.louds.bits()
+    }
+
+    // The place at which a node begins, by its number in this half, or the one after the last.
     fn begin(&self, number: usize) -> usize
-        requires { number < length self.now.nodes }
+        requires { number ≤ length self.now.nodes }
         ensures { result ≡ first_place self.now.nodes number }
     {
         match self.louds.select(number) {
             Some(place) => place,
-            None => unreachable!(),
+            None => self.labels.len(),
         }
     }
 

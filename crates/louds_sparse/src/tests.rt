@@ -1,4 +1,4 @@
-//! Halves of worked keys.
+//! Halves of the nodes of a few keys.
 ghost use Rattle.louds_sparse.specs.Spelling.{AreFew};
 
 use super::{Before, Branch, Sparse, SparseBuilder};

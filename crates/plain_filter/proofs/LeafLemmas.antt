@@ -10,7 +10,7 @@ use native.Mathlib.Nat.{mul-le-mul_right, mul-lt-mul_of_pos_right}
 use Rattle.byte_fields.specs.Spelling.{IsBytes}
 use Rattle.filter_model.specs.Answers.{begins, is_past}
 use Rattle.filter_model.specs.Leaves.{Leaf}
-use Rattle.filter_model.specs.Strings.{bits, extends, front, is_below, is_prefix, same, shortest}
+use Rattle.filter_model.specs.Strings.{bits, extends, front, is_before, is_prefix, same, shortest}
 use Rattle.filter_model.proofs.Order.{nat_cmp-less, nat_cmp-same, nat_cmp-more, thirds}
 use Rattle.filter_model.proofs.Fronts.{IsBytes-drop, front_below, pow_pos}
 
@@ -115,7 +115,7 @@ past_by_cmp n lo l o none e =
     let f = front (length l.stub) l.stub in
     let g = front (length l.stub) lo in
     let below = nat_lt l.real (bits n (drop (length l.stub) lo)) in
-    cond-false l.ends (is_below l.stub lo) _ none
+    cond-false l.ends (is_before l.stub lo) _ none
     ∙ elim (thirds f g) [
       | inl less ↦ (λ j. lt-ltb f g less j || ((f == g) && below)) ∙ sym (ap (λ c. by_order c below) (e ∙ nat_cmp-less f g less))
       | inr (inl one) ↦ (λ j. le-ltb f g (omega arith) j || (eq-eqb f g one j && below)) ∙ sym (ap (λ c. by_order c below) (e ∙ nat_cmp-same f g one))
@@ -124,7 +124,7 @@ past_by_cmp n lo l o none e =
     ]
 
 -- where hi does not begin with t, what follows t changes nothing
-pub below_stub : (hi t u : List ℕ) → is_prefix t hi ≡ false → is_below hi (t ++ u) ≡ is_below hi t
+pub below_stub : (hi t u : List ℕ) → is_prefix t hi ≡ false → is_before hi (t ++ u) ≡ is_before hi t
 below_stub hi [] u e = absurd (false≢true (sym e))
 below_stub [] (a ∷ t) u e = refl
 below_stub (b ∷ hi) (a ∷ t) u e = elim (thirds b a) [
@@ -138,7 +138,7 @@ below_stub (b ∷ hi) (a ∷ t) u e = elim (thirds b a) [
 ]
 
 -- where it does, what follows t in both decides
-pub below_after : (hi t u : List ℕ) → is_prefix t hi ≡ true → is_below hi (t ++ u) ≡ is_below (drop (length t) hi) u
+pub below_after : (hi t u : List ℕ) → is_prefix t hi ≡ true → is_before hi (t ++ u) ≡ is_before (drop (length t) hi) u
 below_after hi [] u e = refl
 below_after [] (a ∷ t) u e = absurd (false≢true e)
 below_after (b ∷ hi) (a ∷ t) u e =

@@ -1,3 +1,2 @@
 pub mod LeafLemmas
 pub mod Loops
-pub mod ValidLemmas

@@ -1,4 +1,6 @@
 pub mod Spelling
 pub mod Reading
 pub mod Neighbours
-pub mod Exact
+pub mod ExactLaws
+pub mod ValidLaws
+pub mod DecidedLaws

@@ -1,7 +1,7 @@
 -- A leaf list is valid where each leaf stands rightly between its neighbours.
 use Rattle.std.specs.Prelude.{◌≡◌, ℕ, zero, suc, ◌+◌, ◌==◌, nat_lt, Bool, true, false, cond, ◌&&◌, ◌||◌, List, [], length, slice_index_or}
 use Rattle.filter_model.specs.Leaves.{Leaf}
-use Rattle.filter_model.specs.Strings.{is_below, extends}
+use Rattle.filter_model.specs.Strings.{is_before, extends}
 use Rattle.filter_model.specs.Valid.{IsLeaf, joins}
 
 -- no leaf
@@ -15,7 +15,7 @@ leaf_number ls i = slice_index_or ls i none
 -- the stub at place i is above the one before it
 abbrev pub rises_at : List Leaf → ℕ → Bool
 rises_at ls zero = true
-rises_at ls (suc i) = is_below (leaf_number ls i).stub (leaf_number ls (suc i)).stub
+rises_at ls (suc i) = is_before (leaf_number ls i).stub (leaf_number ls (suc i)).stub
 
 -- the next stub goes on from the one at place i
 abbrev pub next_extends : List Leaf → ℕ → Bool

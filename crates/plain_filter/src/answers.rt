@@ -1,6 +1,7 @@
 //! What a list of leaves answers.
 ghost use Rattle.std.specs.Prelude.{◌≡◌, ◌<◌, ◌≤◌, ◌^◌, length};
 ghost use Rattle.std.specs.List.{All};
+ghost use Rattle.key_base.specs.Limits.{max_hash_bits, max_real_bits};
 ghost use Rattle.filter_model.specs.Answers.{first, point, ranged, tally};
 ghost use Rattle.filter_model.specs.Valid.{IsLeaf};
 
@@ -9,8 +10,8 @@ use filter_api::LeafList;
 use suffix_bits::hash_bits_of;
 
 pub(crate) fn any_fits(leaves: &LeafList, key: &[u8], hash_bits: u8, real_bits: u8) -> bool
-    requires hash { hash_bits ≤ 32 }
-    requires real { real_bits ≤ 32 }
+    requires hash { hash_bits ≤ max_hash_bits }
+    requires real { real_bits ≤ max_real_bits }
     ensures { result ≡ point hash_bits real_bits leaves.now key.now }
 {
     let hash = hash_bits_of(key, hash_bits);
@@ -29,7 +30,7 @@ pub(crate) fn any_meets(
     hash_bits: u8,
     real_bits: u8,
 ) -> bool
-    requires real { real_bits ≤ 32 }
+    requires real { real_bits ≤ max_real_bits }
     requires leaves { All (IsLeaf hash_bits real_bits) leaves.now }
     ensures { result ≡ ranged real_bits leaves.now lo.now hi.now }
 {
@@ -42,7 +43,7 @@ pub(crate) fn any_meets(
 }
 
 pub(crate) fn first_from(leaves: &LeafList, lo: &[u8], real_bits: u8) -> Option<u32>
-    requires real { real_bits ≤ 32 }
+    requires real { real_bits ≤ max_real_bits }
     requires few { length leaves.now < 2 ^ 32 }
     ensures { result ≡ first real_bits leaves.now lo.now }
 {
@@ -61,7 +62,7 @@ pub(crate) fn count_meeting(
     hash_bits: u8,
     real_bits: u8,
 ) -> u32
-    requires real { real_bits ≤ 32 }
+    requires real { real_bits ≤ max_real_bits }
     requires few { length leaves.now < 2 ^ 32 }
     requires leaves { All (IsLeaf hash_bits real_bits) leaves.now }
     ensures { result ≡ tally real_bits leaves.now lo.now hi.now }

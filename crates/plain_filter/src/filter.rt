@@ -1,6 +1,7 @@
 //! The plain filter.
 ghost use Rattle.std.specs.Prelude.{◌≡◌, ◌+◌, ◌<◌, ◌≤◌, ◌^◌, ◌==◌, ◌∷◌, [], ◌++◌, length, take, drop, cond, min, IfOk, IfSome, IfNone};
 ghost use Rattle.std.specs.List.{All};
+ghost use Rattle.key_base.specs.Limits.{max_hash_bits, max_real_bits};
 ghost use Rattle.filter_model.specs.Answers.{begins};
 ghost use Rattle.filter_model.specs.Keys.{IsKeyList};
 ghost use Rattle.filter_model.specs.Leaves.{hash_bits_of as hash_of, leaves_of};
@@ -29,15 +30,16 @@ pub struct PlainFilter {
     leaves: LeafList,
     hash_bits: u8,
     real_bits: u8,
-    ghost hash_width: { hash_bits ≤ 32 },
-    ghost real_width: { real_bits ≤ 32 },
+    ghost hash_width: { hash_bits ≤ max_hash_bits },
+    ghost real_width: { real_bits ≤ max_real_bits },
     ghost few: { length leaves < 2 ^ 32 },
     ghost each: { All (IsLeaf hash_bits real_bits) leaves },
 }
 
 impl RangeFilter for PlainFilter {
     ghost use Rattle.plain_filter.specs.Spelling.{plain_spelling};
-    ghost use Rattle.plain_filter.specs.Exact.{plain_spells_one};
+    ghost use Rattle.plain_filter.specs.ExactLaws.{plain_spells_one};
+    ghost use Rattle.plain_filter.specs.DecidedLaws.{plain_decided};
 
     ghost hash_bits = { λ f. f.hash_bits };
 
@@ -113,6 +115,8 @@ impl RangeFilter for PlainFilter {
     }
 
     ghost spells_one = { plain_spells_one };
+
+    ghost decided = { plain_decided };
 }
 
 // The leaves of a list of keys.
@@ -131,7 +135,7 @@ fn leaves_of_keys(alloc: Global, keys: &KeyList, settings: Settings) -> Result<L
 
 // The least string that fits the leaf.
 fn least_string(alloc: Global, leaf: &Leaf, real_bits: u8) -> Result<Vec<u8>, AllocError>
-    requires width { real_bits ≤ 32 }
+    requires width { real_bits ≤ max_real_bits }
     requires real { leaf.now.real < 2 ^ real_bits }
     ensures { IfOk result (λ least. least.items ≡ begins real_bits (seen leaf.now)) }
 {

@@ -1,8 +1,9 @@
 //! What one leaf answers.
 ghost use Rattle.std.specs.Prelude.{◌≡◌, ◌==◌, ◌&&◌, ◌*◌, ◌-◌, ◌<◌, ◌≤◌, ◌^◌, length, slice_index, take, IsTrue};
 ghost use Rattle.std.specs.Ordering.{nat_cmp};
+ghost use Rattle.key_base.specs.Limits.{max_real_bits};
 ghost use Rattle.filter_model.specs.Answers.{begins, fits, is_past, meets};
-ghost use Rattle.filter_model.specs.Strings.{front, is_below, is_prefix, same, shortest};
+ghost use Rattle.filter_model.specs.Strings.{front, is_before, is_prefix, same, shortest};
 ghost use Rattle.filter_api.specs.Seen.{seen};
 
 use filter_api::Leaf;
@@ -12,7 +13,7 @@ use suffix_bits::real_bits_of;
 
 // Whether `key` fits the leaf, hash apart.
 fn leaf_fits(leaf: &Leaf, key: &[u8], real_bits: u8) -> bool
-    requires { real_bits ≤ 32 }
+    requires { real_bits ≤ max_real_bits }
     ensures { result ≡ fits real_bits key.now (seen leaf.now) }
 {
     let stub = leaf.stub.as_slice();
@@ -25,7 +26,7 @@ fn leaf_fits(leaf: &Leaf, key: &[u8], real_bits: u8) -> bool
 
 /// Whether `key`, whose hash bits are `hash`, fits the leaf as a point.
 pub(crate) fn leaf_fits_point(leaf: &Leaf, key: &[u8], hash: u32, real_bits: u8) -> bool
-    requires { real_bits ≤ 32 }
+    requires { real_bits ≤ max_real_bits }
     ensures { result ≡ (fits real_bits key.now (seen leaf.now) && (hash == leaf.now.hash)) }
 {
     leaf_fits(leaf, key, real_bits) && hash == leaf.hash
@@ -33,7 +34,7 @@ pub(crate) fn leaf_fits_point(leaf: &Leaf, key: &[u8], hash: u32, real_bits: u8)
 
 /// Whether the leaf may stand for a key from `lo` to `hi`.
 pub(crate) fn leaf_meets(leaf: &Leaf, lo: &[u8], hi: &[u8], real_bits: u8) -> bool
-    requires width { real_bits ≤ 32 }
+    requires width { real_bits ≤ max_real_bits }
     requires real { leaf.now.real < 2 ^ real_bits }
     ensures { result ≡ meets real_bits lo.now hi.now (seen leaf.now) }
 {
@@ -42,7 +43,7 @@ pub(crate) fn leaf_meets(leaf: &Leaf, lo: &[u8], hi: &[u8], real_bits: u8) -> bo
 
 /// Whether every string that fits the leaf is below `lo`.
 pub(crate) fn leaf_is_past(leaf: &Leaf, lo: &[u8], real_bits: u8) -> bool
-    requires { real_bits ≤ 32 }
+    requires { real_bits ≤ max_real_bits }
     ensures { result ≡ is_past real_bits lo.now (seen leaf.now) }
 {
     let stub = leaf.stub.as_slice();
@@ -58,9 +59,9 @@ pub(crate) fn leaf_is_past(leaf: &Leaf, lo: &[u8], real_bits: u8) -> bool
 
 // Whether `hi` is below the least string that fits the leaf.
 fn below_least(hi: &[u8], leaf: &Leaf, real_bits: u8) -> bool
-    requires width { real_bits ≤ 32 }
+    requires width { real_bits ≤ max_real_bits }
     requires real { leaf.now.real < 2 ^ real_bits }
-    ensures { result ≡ is_below hi.now (begins real_bits (seen leaf.now)) }
+    ensures { result ≡ is_before hi.now (begins real_bits (seen leaf.now)) }
 {
     let stub = leaf.stub.as_slice();
     if leaf.ends {
@@ -76,7 +77,7 @@ fn below_least(hi: &[u8], leaf: &Leaf, real_bits: u8) -> bool
 /// The real bits, filled with zero bits to 32.
 #[tactic(auto, using(crate::proofs::LeafLemmas::filled_fits))]
 pub(crate) fn filled(real: u32, real_bits: u8) -> u32
-    requires width { real_bits ≤ 32 }
+    requires width { real_bits ≤ max_real_bits }
     requires real { real < 2 ^ real_bits }
     ensures { result ≡ real * 2 ^ (32 - real_bits) }
 {

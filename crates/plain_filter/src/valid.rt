@@ -1,5 +1,6 @@
 //! The test whether a leaf list is valid, by each leaf's neighbours.
 ghost use Rattle.std.specs.Prelude.{◌≡◌, ◌<◌, ◌≤◌, ◌^◌, ◌↔◌, length, IsTrue};
+ghost use Rattle.key_base.specs.Limits.{max_hash_bits, max_real_bits};
 ghost use Rattle.filter_model.specs.Valid.{IsLeaf, IsValid, joins, node};
 ghost use Rattle.filter_model.specs.Strings.{extends};
 ghost use Rattle.filter_api.specs.Seen.{seen};
@@ -10,8 +11,8 @@ use filter_api::{Leaf, LeafList};
 use key_base::{MAX_KEY_BYTES, compare};
 
 pub(crate) fn is_valid(leaves: &LeafList, hash_bits: u8, real_bits: u8) -> bool
-    requires hash { hash_bits ≤ 32 }
-    requires real { real_bits ≤ 32 }
+    requires hash { hash_bits ≤ max_hash_bits }
+    requires real { real_bits ≤ max_real_bits }
     ensures { IsTrue result ↔ IsValid hash_bits real_bits leaves.now }
 {
     if leaves.is_empty() || leaves.len() >= 1 << 32 {
@@ -27,8 +28,8 @@ pub(crate) fn is_valid(leaves: &LeafList, hash_bits: u8, real_bits: u8) -> bool
 
 fn stands(leaves: &LeafList, i: usize, hash_bits: u8, real_bits: u8) -> bool
     requires within { i < length leaves.now }
-    requires hash { hash_bits ≤ 32 }
-    requires real { real_bits ≤ 32 }
+    requires hash { hash_bits ≤ max_hash_bits }
+    requires real { real_bits ≤ max_real_bits }
     ensures { IsTrue result ↔ StandsRightly hash_bits real_bits leaves.now i }
 {
     let leaf = leaves.get(i);
@@ -42,8 +43,8 @@ fn stands(leaves: &LeafList, i: usize, hash_bits: u8, real_bits: u8) -> bool
 }
 
 fn is_leaf(leaf: &Leaf, hash_bits: u8, real_bits: u8) -> bool
-    requires hash { hash_bits ≤ 32 }
-    requires real { real_bits ≤ 32 }
+    requires hash { hash_bits ≤ max_hash_bits }
+    requires real { real_bits ≤ max_real_bits }
     ensures { IsTrue result ↔ IsLeaf hash_bits real_bits (seen leaf.now) }
 {
     let stub = leaf.stub.as_slice();

@@ -1,22 +1,26 @@
 //! The suffix bits of a key.
 ghost use Rattle.std.specs.Prelude.{◌≡◌, ◌≤◌, drop, slice_index};
+ghost use Rattle.key_base.specs.Limits.{max_hash_bits, max_real_bits};
 ghost use Rattle.filter_model.specs.Leaves.{hash_bits_of as hash_of};
 ghost use Rattle.filter_model.specs.Strings.{bits, front};
 
 use byte_fields::fnv1a;
 
-/// The low `n` bits of the key's FNV-1a, `n` at most 32.
+/// The low `n` bits of the key's FNV-1a, `n` at most 32. Where it is 0 the key is not gone over.
 pub fn hash_bits_of(key: &[u8], n: u8) -> u32
-    requires { n ≤ 32 }
+    requires { n ≤ max_hash_bits }
     ensures { result ≡ hash_of n key.now }
 {
+    if n == 0 {
+        return 0;
+    }
     (fnv1a(key) % 2u64.pow(u32::from(n))) as u32
 }
 
 /// The `n` bits of the key that stand from byte `from` on, the highest bit of each byte first, zero bits where the key
 /// has no more. `n` is at most 32.
 pub fn real_bits_of(key: &[u8], from: usize, n: u8) -> u32
-    requires { n ≤ 32 }
+    requires { n ≤ max_real_bits }
     ensures { result ≡ bits n (drop from key.now) }
 {
     let from = from.min(key.len());
@@ -43,7 +47,7 @@ mod tests {
     use super::*;
 
     #[test]
-    fn suffix_bits_of_worked_keys(rt: HostRuntime) {
+    fn suffix_bits_of_keys(rt: HostRuntime) {
         assert_eq!(rt; hash_bits_of(b"a", 8), 0x8C);
         assert_eq!(rt; hash_bits_of(b"a", 32), 0x8601_ec8c);
         assert_eq!(rt; hash_bits_of(b"a", 0), 0);

@@ -1,5 +1,6 @@
 //! Suffixes in room that was made before.
 ghost use Rattle.std.specs.Prelude.{◌≡◌, ◌+◌, ◌≤◌, ◌<◌, [], length, IfOk};
+ghost use Rattle.key_base.specs.Limits.{max_hash_bits, max_real_bits};
 ghost use Rattle.suffix_bits.specs.Slots.{IsOfWidths, with_suffix};
 
 use super::suffixes::{Suffixes, joined};
@@ -19,6 +20,7 @@ pub struct SuffixesBuilder<A: Allocator> {
 
 impl<A: Allocator> Model for SuffixesBuilder<A> {
     ghost use Rattle.std.specs.Prelude.{◌≡◌, ◌+◌, ◌*◌, ◌≤◌, length};
+    ghost use Rattle.key_base.specs.Limits.{max_hash_bits, max_real_bits};
     ghost use Rattle.suffix_bits.specs.Slots.{unpacked_suffixes};
     ghost use Rattle.suffix_bits.specs.Room.{SuffixesInRoom};
 
@@ -26,7 +28,7 @@ impl<A: Allocator> Model for SuffixesBuilder<A> {
 
     ghost view = { λ s. record { array = record { hash_bits = s.hash_bits; real_bits = s.real_bits; slots = unpacked_suffixes s.hash_bits s.real_bits s.bits.bits s.count }; limit = s.limit } };
 
-    ghost invariant = { λ s. (length s.bits.bits ≡ (s.hash_bits + s.real_bits) * s.count) × (s.bits.limit ≡ (s.hash_bits + s.real_bits) * s.limit) × (s.count ≤ s.limit) × (s.hash_bits ≤ 32) × (s.real_bits ≤ 32) };
+    ghost invariant = { λ s. (length s.bits.bits ≡ (s.hash_bits + s.real_bits) * s.count) × (s.bits.limit ≡ (s.hash_bits + s.real_bits) * s.limit) × (s.count ≤ s.limit) × (s.hash_bits ≤ max_hash_bits) × (s.real_bits ≤ max_real_bits) };
 }
 
 impl<A: Allocator> SuffixesBuilder<A> {
@@ -39,8 +41,8 @@ impl<A: Allocator> SuffixesBuilder<A> {
         real_bits: u8,
         limit: u64,
     ) -> Result<SuffixesBuilder<A>, AllocError>
-        requires hash_width { hash_bits ≤ 32 }
-        requires real_width { real_bits ≤ 32 }
+        requires hash_width { hash_bits ≤ max_hash_bits }
+        requires real_width { real_bits ≤ max_real_bits }
         ensures { IfOk result (λ builder. builder ≡ record { array = record { hash_bits = hash_bits; real_bits = real_bits; slots = [] }; limit = limit }) }
     {
         let width = usize::from(hash_bits) + usize::from(real_bits);

@@ -1,5 +1,6 @@
 //! The packed array of suffixes.
 ghost use Rattle.std.specs.Prelude.{◌≡◌, ◌↔◌, ◌+◌, ◌*◌, ◌/◌, ◌%◌, ◌^◌, ◌<◌, ◌≤◌, [], length, slice_index_or, OnOk, OnErr, IsTrue};
+ghost use Rattle.key_base.specs.Limits.{max_hash_bits, max_real_bits};
 ghost use Rattle.suffix_bits.specs.Slots.{IsOfWidths, array_bits, unpacked_suffixes, with_suffix};
 
 use bit_words::Bits;
@@ -18,20 +19,21 @@ pub struct Suffixes<A: Allocator> {
 
 impl<A: Allocator> Model for Suffixes<A> {
     ghost use Rattle.std.specs.Prelude.{◌≡◌, ◌+◌, ◌*◌, ◌≤◌, length};
+    ghost use Rattle.key_base.specs.Limits.{max_hash_bits, max_real_bits};
     ghost use Rattle.suffix_bits.specs.Slots.{SuffixArray, unpacked_suffixes};
 
     ghost Value = { SuffixArray };
 
     ghost view = { λ s. record { hash_bits = s.hash_bits; real_bits = s.real_bits; slots = unpacked_suffixes s.hash_bits s.real_bits s.bits s.count } };
 
-    ghost invariant = { λ s. (length s.bits ≡ (s.hash_bits + s.real_bits) * s.count) × (s.hash_bits ≤ 32) × (s.real_bits ≤ 32) };
+    ghost invariant = { λ s. (length s.bits ≡ (s.hash_bits + s.real_bits) * s.count) × (s.hash_bits ≤ max_hash_bits) × (s.real_bits ≤ max_real_bits) };
 }
 
 impl<A: Allocator> Suffixes<A> {
     /// An array of no suffix, which grows from `alloc`. Each width is at most 32. Takes no memory.
     pub fn new(alloc: A, hash_bits: u8, real_bits: u8) -> Suffixes<A>
-        requires hash_width { hash_bits ≤ 32 }
-        requires real_width { real_bits ≤ 32 }
+        requires hash_width { hash_bits ≤ max_hash_bits }
+        requires real_width { real_bits ≤ max_real_bits }
         ensures { result ≡ record { hash_bits = hash_bits; real_bits = real_bits; slots = [] } }
     {
         Suffixes {
@@ -45,8 +47,8 @@ impl<A: Allocator> Suffixes<A> {
     /// The `count` suffixes that `bits` spell. Each width is at most 32, and there are as many bits as the suffixes
     /// need. Takes no memory.
     pub fn of(bits: Bits<A>, hash_bits: u8, real_bits: u8, count: u64) -> Suffixes<A>
-        requires hash_width { hash_bits ≤ 32 }
-        requires real_width { real_bits ≤ 32 }
+        requires hash_width { hash_bits ≤ max_hash_bits }
+        requires real_width { real_bits ≤ max_real_bits }
         requires enough { length bits ≡ (hash_bits + real_bits) * count }
         ensures { result ≡ record { hash_bits = hash_bits; real_bits = real_bits; slots = unpacked_suffixes hash_bits real_bits bits count } }
     {
@@ -92,7 +94,7 @@ impl<A: Allocator> Suffixes<A> {
     /// How many hash bits, and how many real bits, each suffix has: 32 at most of each.
     pub fn widths(&self) -> (u8, u8)
         ensures widths { result ≡ (self.now.hash_bits, self.now.real_bits) }
-        ensures limits { (result.0 ≤ 32) × (result.1 ≤ 32) }
+        ensures limits { (result.0 ≤ max_hash_bits) × (result.1 ≤ max_real_bits) }
     {
         (self.hash_bits, self.real_bits)
     }
@@ -129,7 +131,7 @@ impl<A: Allocator> Suffixes<A> {
 
 /// One number of the two, the hash bits lowest.
 pub(crate) fn joined(hash: u32, real: u32, hash_bits: u8) -> u64
-    requires width { hash_bits ≤ 32 }
+    requires width { hash_bits ≤ max_hash_bits }
     requires fits { hash < 2 ^ hash_bits }
     ensures { result ≡ hash + 2 ^ hash_bits * real }
 {
@@ -138,7 +140,7 @@ pub(crate) fn joined(hash: u32, real: u32, hash_bits: u8) -> u64
 
 // The two of one number.
 fn split(number: u64, hash_bits: u8) -> (u32, u32)
-    requires width { hash_bits ≤ 32 }
+    requires width { hash_bits ≤ max_hash_bits }
     requires fits { number < 2 ^ (32 + hash_bits) }
     ensures { result ≡ (number % 2 ^ hash_bits, number / 2 ^ hash_bits) }
 {

@@ -132,7 +132,7 @@ begins_is n p q long e =
 take_long : (n : ℕ) (p : List ℕ) → n ≤ length p → length (take n p) ≡ n
 take_long n p h = omega (arith, length-take n p)
 
-take_extends : (n : ℕ) (p : List ℕ) → n < length p → extends (take n p) p ≡ true
+pub take_extends : (n : ℕ) (p : List ℕ) → n < length p → extends (take n p) p ≡ true
 take_extends n [] h = absurd (omega arith)
 take_extends zero (a ∷ p) h = refl
 take_extends (suc n) (a ∷ p) h = and_from (a == a) (extends (take n p) p) (eq-eqb a a refl) (take_extends n p (omega arith))

@@ -20,14 +20,14 @@ use Rattle.trie_levels.proofs.Distinct.{Apart, Lists}
 use Rattle.trie_levels.proofs.Parting.{tail}
 
 -- what is reached by a letter more goes on
-extends_before : (r x : List ℕ) (c : ℕ) → is_prefix (r ++ c ∷ []) x ≡ true → extends r x ≡ true
+pub extends_before : (r x : List ℕ) (c : ℕ) → is_prefix (r ++ c ∷ []) x ≡ true → extends r x ≡ true
 extends_before [] [] c e = absurd (false≢true e)
 extends_before [] (b ∷ x) c e = refl
 extends_before (a ∷ r) [] c e = absurd (false≢true e)
 extends_before (a ∷ r) (b ∷ x) c e =
     let parts = and_parts (a == b) (is_prefix (r ++ c ∷ []) x) e in and_from (a == b) (extends r x) parts.0 (extends_before r x c parts.1)
 
-node_before : (ls : List Leaf) (r : List ℕ) (c : ℕ) → is_reached ls (r ++ c ∷ []) ≡ true → is_node ls r ≡ true
+pub node_before : (ls : List Leaf) (r : List ℕ) (c : ℕ) → is_reached ls (r ++ c ∷ []) ≡ true → is_node ls r ≡ true
 unfolding is_node is_reached
 node_before [] r c e = e
 node_before (l ∷ ls) r c e = elim (or_cases (is_prefix (r ++ c ∷ []) (path l)) (list_any (λ l. is_prefix (r ++ c ∷ []) (path l)) ls) e) [
@@ -36,7 +36,7 @@ node_before (l ∷ ls) r c e = elim (or_cases (is_prefix (r ++ c ∷ []) (path l
 ]
 
 -- the letters of a path are bytes or END
-path_letter : (x : List ℕ) (e : Bool) (k : ℕ) → IsBytes x → get_or (x ++ tail e) k 0 ≤ 256
+pub path_letter : (x : List ℕ) (e : Bool) (k : ℕ) → IsBytes x → get_or (x ++ tail e) k 0 ≤ 256
 path_letter [] true zero h = omega arith
 path_letter [] true (suc k) h = omega arith
 path_letter [] false k h = omega arith
@@ -61,7 +61,7 @@ has_end : Contains letters END
 unfolding letters
 has_end = Contains-first END (range_with_len 0 256)
 
-Contains-letter : (c : ℕ) → c ≤ 256 → Contains letters c
+pub Contains-letter : (c : ℕ) → c ≤ 256 → Contains letters c
 Contains-letter c h = elim (cases_lt c 256) [
   | inl byte ↦ Contains-bytes c byte
   | inr end ↦ subst (Contains letters) (is_end c h end) has_end
@@ -71,7 +71,7 @@ Contains-letter c h = elim (cases_lt c 256) [
     is_end c h k = omega arith
 
 -- a branch of r is r and a letter, and it is reached
-branch_is : (ls : List Leaf) (r q : List ℕ) → Contains (branches ls r) q → (c : ℕ) × (r ++ c ∷ [] ≡ q) × (is_reached ls q ≡ true)
+pub branch_is : (ls : List Leaf) (r q : List ℕ) → Contains (branches ls r) q → (c : ℕ) × (r ++ c ∷ [] ≡ q) × (is_reached ls q ≡ true)
 unfolding branches
 branch_is ls r q k =
     let reached = Contains-filter_back (is_reached ls) (map (λ c. r ++ c ∷ []) letters) q k in

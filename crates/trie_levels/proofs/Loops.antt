@@ -50,7 +50,7 @@ pub height-nil : height [] ≡ 0
 unfolding height
 height-nil = refl
 
-height-cons : (l : Leaf) (ls : List Leaf) → height (l ∷ ls) ≡ max (length (path l)) (height ls)
+pub height-cons : (l : Leaf) (ls : List Leaf) → height (l ∷ ls) ≡ max (length (path l)) (height ls)
 unfolding height
 height-cons l ls = refl
 
@@ -162,3 +162,8 @@ made-at f xs n k d e h = ap (λ (l : List ℕ). get_or l k d) e ∙ get_or-map-r
 pub root-alone : (ls : List Leaf) → 1 ≡ length (level ls 0)
 unfolding level
 root-alone ls = refl
+
+-- a path has the bytes of a key and END at most
+pub height-short : (ls : List Leaf) → All IsStub ls → height ls ≤ 1025
+height-short [] h = omega (arith, height-nil)
+height-short (l ∷ ls) h = omega (arith, height-cons l ls, path-short l (h 0 l (omega arith)), height-short ls (λ i d within. h (suc i) d (omega (arith, within))))

@@ -4,7 +4,7 @@ use Rattle.std.specs.List.{All, AllPairs}
 use Rattle.key_base.specs.Limits.{max_key_bytes}
 use Rattle.byte_fields.specs.Spelling.{IsBytes}
 use Rattle.filter_model.specs.Leaves.{Leaf}
-use Rattle.filter_model.specs.Strings.{is_below}
+use Rattle.filter_model.specs.Strings.{is_before}
 use Rattle.filter_model.specs.Valid.{EndsRightly, IsValid}
 
 -- a stub of one byte or more, as long as a key may be
@@ -18,7 +18,7 @@ pub record HasTrie (ls : List Leaf) : Type 0 where
   pub some : 0 < length ls
   pub few : length ls < 2 ^ 32
   pub stubs : All IsStub ls
-  pub rising : AllPairs (λ a b. is_below a.stub b.stub ≡ true) ls
+  pub rising : AllPairs (λ a b. is_before a.stub b.stub ≡ true) ls
   pub ends : All (EndsRightly ls) ls
 
 -- every leaf list for which a filter may stand has a trie

@@ -18,6 +18,7 @@ impl Model for Levels {
 
     ghost view = { λ levels. record { nodes = map (λ c. c.0) levels.counts.items; labels = map (λ c. c.1) levels.counts.items } };
 
+    // The height is a u16.
     ghost invariant = { λ levels. length levels.counts.items < 65536 };
 }
 
@@ -31,7 +32,7 @@ impl Levels {
         }
     }
 
-    /// Adds a level at the end. Without memory the levels stay as they were.
+    /// Adds a level at the end, of 65,535 at most: the height is a u16. Without memory the levels stay as they were.
     pub fn push(&mut self, nodes: u64, labels: u64) -> Result<(), AllocError>
         requires { length self.old.nodes < 65535 }
         ensures added { OnOk result (self.new ≡ record { nodes = self.old.nodes ++ nodes ∷ []; labels = self.old.labels ++ labels ∷ [] }) }

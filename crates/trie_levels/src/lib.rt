@@ -11,7 +11,9 @@
 //!
 //! A plan costs one comparison for each two neighbours, which reads what they share, and memory for four numbers a
 //! level. It asks that the stubs rise and end rightly, as those of every valid leaf list do
-//! ([`valid_lists_have_tries`]); of another list the counts would be wrong.
+//! ([`valid_lists_have_tries`]); of another list the counts would be wrong. Of a key list no leaf need be made:
+//! [`spans_of`] takes 8 bytes a key, by which [`plan_spans`] counts, and a builder goes over the same spans level by level
+//! ([`gathered_are_nodes`]).
 //!
 //! ```text
 //! keys            far   fast   s   top   toy
@@ -20,6 +22,9 @@
 //!
 //! let levels = plan(alloc, &leaves)?;
 //! let dense = cutoff(&levels, 64);
+//!
+//! let spans = spans_of(alloc, &keys, &truncate(alloc, &keys)?)?;
+//! let levels = plan_spans(alloc, &spans)?;
 //! ```
 #![tactic(auto)]
 
@@ -28,8 +33,15 @@ mod laws;
 mod levels;
 mod planning;
 mod rule;
+mod span_planning;
+mod spans;
 
-pub use laws::{levels_follow, valid_lists_have_tries};
+pub use laws::{
+    gathered_are_nodes, levels_are_last_below, levels_follow, slots_go_by_length,
+    valid_lists_have_tries,
+};
 pub use levels::Levels;
 pub use planning::plan;
 pub use rule::cutoff;
+pub use span_planning::plan_spans;
+pub use spans::{Span, spans_of};

@@ -1,10 +1,11 @@
 //! The levels of a leaf list's trie.
-ghost use Rattle.std.specs.Prelude.{◌≡◌, ◌≤◌, length, map, IfOk};
+ghost use Rattle.std.specs.Prelude.{◌≡◌, ◌+◌, ◌≤◌, List, length, map, IfOk};
 ghost use Rattle.key_base.specs.Limits.{max_key_bytes};
 ghost use Rattle.std.specs.List.{All, range_with_len};
 ghost use Rattle.filter_api.specs.Seen.{seen};
+ghost use Rattle.filter_model.specs.Leaves.{Leaf as PlainLeaf};
 ghost use Rattle.filter_model.specs.Trie.{height, level_labels, level_nodes, path};
-ghost use Rattle.trie_levels.specs.Neighbours.{endings, partings};
+ghost use Rattle.trie_levels.specs.Neighbours.{AreCounts, endings, partings};
 ghost use Rattle.trie_levels.specs.Tries.{HasTrie, IsStub};
 
 use crate::levels::Levels;
@@ -25,9 +26,18 @@ pub fn plan(alloc: Global, leaves: &LeafList) -> Result<Levels, AllocError>
     let count = longest_path(leaves);
     let parted = count_partings(alloc, leaves, count)?;
     let ended = count_endings(alloc, leaves, count)?;
+    levels_of(alloc, parted.as_slice(), ended.as_slice())
+}
+
+/// The levels of a trie in whose nodes so many neighbours part and so many leaves end, by level.
+pub(crate) fn levels_of(alloc: Global, parted: &[u64], ended: &[u64]) -> Result<Levels, AllocError>
+    requires { (leaves : List PlainLeaf) × AreCounts leaves parted.now ended.now }
+    ensures nodes { IfOk result (λ levels. (leaves : List PlainLeaf) → AreCounts leaves parted.now ended.now → levels.nodes ≡ level_nodes leaves) }
+    ensures labels { IfOk result (λ levels. (leaves : List PlainLeaf) → AreCounts leaves parted.now ended.now → levels.labels ≡ level_labels leaves) }
+{
     let mut levels = Levels::new(alloc);
     let mut nodes = 1;
-    for level in 0..count {
+    for level in 0..parted.len() {
         let labels = nodes + parted[level];
         levels.push(nodes, labels)?;
         nodes = labels - ended[level];
@@ -66,7 +76,7 @@ fn count_endings(alloc: Global, leaves: &LeafList, levels: usize) -> Result<Vec<
 fn longest_path(leaves: &LeafList) -> usize
     requires { All IsStub leaves.now }
     ensures height { result ≡ height leaves.now }
-    ensures short { result ≤ 1025 }
+    ensures short { result ≤ max_key_bytes + 1 }
 {
     let mut longest = 0;
     for i in 0..leaves.len() {

@@ -50,7 +50,7 @@ mod tests {
     use std::test::Fail;
 
     #[test]
-    fn cutoffs_of_worked_levels(rt: HostRuntime) -> Result<(), Fail> {
+    fn cutoffs_of_levels(rt: HostRuntime) -> Result<(), Fail> {
         let examples: [(&[(u64, u64)], u16, u16); 6] = [
             (&[(1, 3), (2, 2), (2, 4)], 64, 0),
             (&[(1, 3), (2, 2), (2, 4)], 0, 3),

@@ -8,6 +8,7 @@
 //!
 //! [`Branch`] and [`Before`] are what the builders of halves are given, and [`are_rising`] is the test of a node's
 //! branches. The other functions have no body: each has examples as its contract, and none needs to be called.
+//! Not to compute with: walks and counts begin at the root each time. A program takes a half, as `louds_sparse`.
 //!
 //! ```text
 //! keys            far   fast   s   top   toy

@@ -1,4 +1,3 @@
-use Rattle.std.proofs.Common.{sym}
 use Rattle.filter_trie.proofs.Walking.{dense_down, dense_leaf, dense_none}
 use Rattle.filter_trie.specs.Parts.{AreParts}
 use Rattle.filter_trie.proofs.trie.Trie.dense_step.Goals as goal

@@ -1,7 +1,6 @@
-use Rattle.std.proofs.Common.{sym, arith, ap}
+use Rattle.std.proofs.Common.{arith}
 use Rattle.filter_trie.proofs.Halves.{has_node, sparse_branch, sparse_within}
 use Rattle.filter_trie.proofs.Walking.{sparse_down, sparse_leaf, sparse_none, there_both}
-use Rattle.trie_laws.specs.Halves.{second_half}
 use Rattle.filter_trie.specs.Parts.{AreParts, lower, upper}
 use Rattle.filter_trie.proofs.trie.Trie.sparse_step.Goals as goal
 

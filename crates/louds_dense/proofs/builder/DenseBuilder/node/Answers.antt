@@ -1,6 +1,5 @@
-use Rattle.std.proofs.Common.{◌≡◌, ◌<◌, ◌≤◌, ◌+◌, ◌*◌, ◌^◌, ◌∙◌, false, length, ap, arith, subst, sym}
-use Rattle.filter_model.specs.Nodes.{Node}
-use Rattle.louds_dense.specs.Building.{NodesInRoom, SectionsInRoom, with_bytes, with_end, with_node}
+use Rattle.std.proofs.Common.{◌<◌, ◌^◌, ◌∙◌, false, length, ap, arith, subst, sym}
+use Rattle.louds_dense.specs.Building.{NodesInRoom, SectionsInRoom, with_bytes, with_node}
 use Rattle.louds_dense.specs.Spelling.{IsSpelled, nodes_in}
 use Rattle.louds_dense.proofs.Built.{ends_more, node_added}
 use Rattle.louds_dense.proofs.Spelled.{length_ends, length_labels}

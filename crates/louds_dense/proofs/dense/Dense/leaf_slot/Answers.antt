@@ -1,14 +1,23 @@
-use Rattle.std.proofs.Common.{◌≡◌, ◌+◌, ◌/◌, ap, arith, length}
-use Rattle.louds_dense.proofs.Spelled.{covered_at, length_ends, slot_is}
+use Rattle.std.proofs.Common.{ap, arith, length}
+use Rattle.louds_dense.proofs.Spelled.{covered_at, ends_to, few_ends, length_ends, slot_is}
 use Rattle.louds_dense.specs.Spelling.{IsSpelled}
 use Rattle.louds_dense.proofs.dense.Dense.leaf_slot.Goals as goal
+
+pub leaves_to-requires-clause-ends : goal.leaves_to-requires-clause-ends
+leaves_to-requires-clause-ends g c =
+    let s : IsSpelled c.self.inside.labels c.self.inside.has_child c.self.inside.prefix c.args.self.now = rw c.self.view_is at c.self.invariant in
+    few_ends s c.min-nodes.result c.rank.result c.rank.ensures
 
 pub leaves_to-requires-clause-covered : goal.leaves_to-requires-clause-covered
 leaves_to-requires-clause-covered g c =
     let s : IsSpelled c.self.inside.labels c.self.inside.has_child c.self.inside.prefix c.args.self.now = rw c.self.view_is at c.self.invariant in
-    covered_at s c.args.place c.min-nodes.result c.requires
-    (λ inside. omega (arith, inside, c.min-nodes.ensures, c.len.ensures, length_ends s, ap length c.bits.ensures))
-    (λ past. omega (arith, past, c.min-nodes.ensures, c.len.ensures, length_ends s, ap length c.bits.ensures))
+    omega (
+      arith,
+      ends_to s c.min-nodes.result c.rank.result c.rank.ensures,
+      covered_at s c.args.place c.min-nodes.result c.requires
+          (λ inside. omega (arith, inside, c.min-nodes.ensures, c.len.ensures, length_ends s, ap length c.bits.ensures))
+          (λ past. omega (arith, past, c.min-nodes.ensures, c.len.ensures, length_ends s, ap length c.bits.ensures)),
+    )
 
 pub returns : goal.returns
 returns g c =
@@ -16,4 +25,4 @@ returns g c =
     slot_is s c.args.place c.min-nodes.result c.leaves_to.result c.requires
     (λ inside. omega (arith, inside, c.min-nodes.ensures, c.len.ensures, length_ends s, ap length c.bits.ensures))
     (λ past. omega (arith, past, c.min-nodes.ensures, c.len.ensures, length_ends s, ap length c.bits.ensures))
-    c.leaves_to.ensures.sum
+    (omega (arith, c.leaves_to.ensures.sum, ends_to s c.min-nodes.result c.rank.result c.rank.ensures))

@@ -8,7 +8,7 @@ rank-requires g c =
     let s : IsSpelled c.self.inside.labels c.self.inside.has_child c.self.inside.prefix c.args.self.now = rw c.self.view_is at c.self.invariant in
     omega (arith, length_labels s, c.requires.place)
 
-pub rank-requires-3 : goal.rank-requires-3
-rank-requires-3 g c =
+pub rank-requires-2 : goal.rank-requires-2
+rank-requires-2 g c =
     let s : IsSpelled c.self.inside.labels c.self.inside.has_child c.self.inside.prefix c.args.self.now = rw c.self.view_is at c.self.invariant in
     omega (arith, length_children s, c.requires.place)

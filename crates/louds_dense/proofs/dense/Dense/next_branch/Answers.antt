@@ -1,7 +1,3 @@
-use Rattle.std.proofs.Common.{◌≡◌, ℕ, ◌+◌, ◌*◌, Bool, List, length, subst, sym, ap, ◌∙◌, arith}
-use Rattle.std.specs.Slice.Scan.{HoldsNowhere}
-use Rattle.bit_words.specs.Counts.{is_set_at}
-use Rattle.lane_scan.specs.Places.{IsFirstBetween}
 use Rattle.louds_dense.proofs.Searches.{next_nowhere, next_past, next_some}
 use Rattle.louds_dense.specs.Spelling.{IsSpelled}
 use Rattle.louds_dense.proofs.dense.Dense.next_branch.Goals as goal

@@ -1,4 +1,4 @@
-use Rattle.std.proofs.Common.{◌≡◌, ◌-◌, ◌∙◌, ℕ, ap, arith, true}
+use Rattle.std.proofs.Common.{◌-◌, ◌∙◌, ℕ, ap, arith, true}
 use Rattle.louds_dense.specs.Building.{SectionsInRoom, with_byte, with_gap}
 use Rattle.louds_dense.proofs.Built.{length-gap}
 use Rattle.louds_dense.proofs.sections.Sections.push_branch.Goals as goal

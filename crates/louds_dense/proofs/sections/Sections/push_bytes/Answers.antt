@@ -1,7 +1,7 @@
-use Rattle.std.proofs.Common.{◌≡◌, ◌+◌, ◌-◌, ◌<◌, ◌≤◌, ◌∙◌, ℕ, List, false, true, ap, arith, subst, sym, get_or, length}
+use Rattle.std.proofs.Common.{◌≡◌, ◌+◌, ◌-◌, ◌<◌, ◌∙◌, ℕ, false, ap, arith, subst, sym}
 use Rattle.std.specs.List.{All}
 use Rattle.std.proofs.lemmas.List.{get_or_default, take_all}
-use Rattle.louds_dense.specs.Building.{SectionsInRoom, with_byte, with_bytes, with_gap}
+use Rattle.louds_dense.specs.Building.{SectionsInRoom, with_bytes, with_gap}
 use Rattle.louds_dense.proofs.Built.{any, branch_added, bytes_more, gap_added, length-bytes, no_bytes, none_yet}
 use Rattle.trie_model.specs.Given.{node_given}
 use Rattle.trie_model.specs.declared.parts.Branch.{Branch as ByteBranch}

@@ -1,0 +1,3 @@
+pub use Rattle.filter_image_model.specs.Reading
+pub use Rattle.filter_model.specs.Image
+pub mod Writing

@@ -1,0 +1,190 @@
+//! The tries of random sets at every cutoff, and each of their calls against plain loops.
+ghost use Rattle.std.specs.Prelude.{◌<◌, length};
+ghost use Rattle.filter_model.specs.Trie.{nodes};
+ghost use Rattle.filter_trie.specs.Places.{IsTaken, IsWithin};
+
+use super::keys::{some_keys, step};
+use super::plain::{END, Plain};
+use super::tries::{has_node, list_of, trie_of};
+use filter_trie::{Place, Trie, Walk};
+use key_base::KeyList;
+use std::alloc::{AllocError, Global};
+use std::process::Abort;
+use std::test::Fail;
+
+// The letters of the keys.
+const LETTERS: [u8; 4] = [0x00, 0x61, 0xFE, 0xFF];
+
+// How many sets of keys are drawn; some of them, not ten, are empty.
+const SETS: u64 = 1_010;
+
+// How many keys a set has at most.
+const MAX_KEYS: usize = 24;
+
+// The number of a place among all branches.
+fn plain_number(trie: &Trie<Global>, plain: &Plain, place: Place) -> Option<u64> {
+    match place {
+        Place::Dense(bit) => plain.branch((bit / 256) as usize, (bit % 256) as u16),
+        Place::Sparse(place) => {
+            let first = plain.range(trie.dense().node_count() as usize).0;
+            Some(place.saturating_add(first as u64))
+        }
+    }
+}
+
+fn is_same_place(
+    trie: &Trie<Global>,
+    plain: &Plain,
+    place: Option<Place>,
+    number: Option<u64>,
+) -> bool {
+    match place {
+        Some(place) => number.is_some() && plain_number(trie, plain, place) == number,
+        None => number.is_none(),
+    }
+}
+
+// What the trie says of a place where a branch stands, of this number.
+fn check_place(
+    rt: &impl Abort,
+    trie: &Trie<Global>,
+    plain: &Plain,
+    place: Place,
+    number: Option<u64>,
+)
+    requires { IsTaken trie.now place }
+{
+    assert!(rt; is_same_place(trie, plain, Some(place), number));
+    if let Some(number) = number {
+        let number = number as usize;
+        assert!(rt; u16::from(trie.byte_at(place)) == plain.letter(number).min(0xFF));
+        assert!(rt; trie.child(place) == plain.child(number));
+        assert!(rt; trie.leftmost(place) == plain.leftmost(number));
+        check_before(rt, trie, plain, place, number);
+    }
+}
+
+// What stands before a place.
+fn check_before(rt: &impl Abort, trie: &Trie<Global>, plain: &Plain, place: Place, number: usize)
+    requires { IsWithin trie.now place }
+{
+    assert!(rt; trie.leaf_slot(place) == plain.leaf_slot(number));
+    assert!(rt; trie.first_below(place) == plain.first_below(number));
+}
+
+// The branch by a byte, which is at most FF.
+fn check_branch(rt: &impl Abort, trie: &Trie<Global>, plain: &Plain, node: u64, byte: u8)
+    requires { node < length (nodes trie.now.leaves) }
+{
+    let number = plain.branch(node as usize, u16::from(byte));
+    match trie.branch(node, byte) {
+        Some(place) => check_place(rt, trie, plain, place, number),
+        None => assert!(rt; number.is_none()),
+    }
+}
+
+// The branches beside a byte, which is at most 256.
+fn check_beside(rt: &impl Abort, trie: &Trie<Global>, plain: &Plain, node: u64, byte: u16)
+    requires { node < length (nodes trie.now.leaves) }
+{
+    if byte > END {
+        return;
+    }
+    let next = trie.next_branch(node, byte);
+    assert!(rt; is_same_place(trie, plain, next, plain.next_branch(node as usize, byte)));
+    let prev = trie.prev_branch(node, byte);
+    assert!(rt; is_same_place(trie, plain, prev, plain.prev_branch(node as usize, byte)));
+}
+
+fn check_node(rt: &impl Abort, trie: &Trie<Global>, plain: &Plain, node: u64)
+    requires { node < length (nodes trie.now.leaves) }
+{
+    let first = plain.range(node as usize).0;
+    assert!(rt; trie.prefix_slot(node) == plain.end_slot(node as usize));
+    assert!(rt; trie.slots_before(node) == plain.leaf_slot(first));
+    assert!(rt; trie.first_below(trie.first_place(node)) == plain.first_below(first));
+    for letter in LETTERS {
+        let byte = u16::from(letter);
+        check_branch(rt, trie, plain, node, letter);
+        check_branch(rt, trie, plain, node, letter ^ 1);
+        check_beside(rt, trie, plain, node, byte.saturating_sub(1));
+        check_beside(rt, trie, plain, node, byte);
+        check_beside(rt, trie, plain, node, byte + 1);
+    }
+}
+
+fn slot_in(walk: Walk) -> Option<u64> {
+    match walk {
+        Walk::Leaf(slot) => Some(slot),
+        Walk::Miss => None,
+    }
+}
+
+// A key, and what stands beside it: without its last letter, and one letter longer.
+fn check_walks(
+    rt: &impl Abort,
+    alloc: Global,
+    trie: &Trie<Global>,
+    plain: &Plain,
+    key: &[u8],
+) -> Result<(), AllocError> {
+    assert!(rt; slot_in(trie.walk(key)) == plain.walk(key));
+    let mut longer = Vec::from_slice(alloc, key)?;
+    longer.pop();
+    for letter in LETTERS {
+        longer.push(letter)?;
+        assert!(rt; slot_in(trie.walk(longer.as_slice())) == plain.walk(longer.as_slice()));
+    }
+    Ok(())
+}
+
+fn check_nodes(rt: &impl Abort, trie: &Trie<Global>, plain: &Plain) {
+    for node in 0..plain.node_count() as u64 {
+        let there = has_node(trie, node);
+        assert!(rt; there);
+        check_node(rt, trie, plain, node);
+    }
+    assert!(rt; !has_node(trie, plain.node_count() as u64));
+}
+
+fn check_trie(
+    rt: &impl Abort,
+    alloc: Global,
+    keys: &KeyList,
+    plain: &Plain,
+    trie: &Trie<Global>,
+) -> Result<(), AllocError> {
+    check_nodes(rt, trie, plain);
+    assert!(rt; trie.walk(b"") == Walk::Miss);
+    for i in 0..keys.len() {
+        check_walks(rt, alloc, trie, plain, keys.get(i))?;
+    }
+    Ok(())
+}
+
+fn check_set(rt: &impl Abort, alloc: Global, seed: u64) -> Result<(), Fail> {
+    let count = 2 + (seed >> 40) as usize % 3;
+    let letters = &LETTERS[4 - count..];
+    let keys = some_keys(alloc, letters, seed, 1 + (seed >> 50) % 12, MAX_KEYS)?;
+    if keys.items.is_empty() {
+        return Ok(());
+    }
+    let plain = Plain::of(alloc, &keys)?;
+    let list = list_of(alloc, &keys)?;
+    let height = trie_of(alloc, &list, 0)?.height();
+    for cutoff in 0..=height {
+        let trie = trie_of(alloc, &list, cutoff)?;
+        check_trie(rt, alloc, &list, &plain, &trie)?;
+    }
+    Ok(())
+}
+
+#[test]
+fn random_sets_at_every_cutoff_answer_as_plain_loops(rt: HostRuntime) -> Result<(), Fail> {
+    let mut seed = 11;
+    for _ in 0..SETS {
+        seed = step(seed);
+        check_set(&rt, rt.alloc(), seed)?;
+    }
+    Ok(())
+}

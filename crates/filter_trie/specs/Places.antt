@@ -1,0 +1,39 @@
+-- Places of a trie over both halves. The trie is one list of nodes, and a place the number of a branch among all of them.
+use Rattle.std.specs.Prelude.{◌≡◌, ℕ, ◌+◌, ◌<◌, ◌≤◌, ◌⊎◌, true, List, [], get_or, length}
+use Rattle.filter_image_model.specs.Reading.{FilterImage}
+use Rattle.filter_model.specs.Image.{has_letter}
+use Rattle.filter_model.specs.Nodes.{all, trie_of}
+use Rattle.filter_model.specs.Trie.{END, places}
+use Rattle.filter_trie.specs.Parts.{lower, upper}
+use Rattle.filter_trie.specs.declared.place.Place.{Place}
+use Rattle.filter_trie.specs.declared.place.Place.TheVariants as place
+use Rattle.louds_dense.specs.Places as dense
+use Rattle.trie_model.specs.Halves.{Half, begin_of, first_below, node_at, whole}
+
+-- the trie
+abbrev pub trie : FilterImage → Half
+trie i = whole (trie_of i.leaves)
+
+-- how many branches stand before a place: the number of the branch there
+abbrev pub number_of : FilterImage → Place → ℕ
+number_of i (place.Dense p) = dense.branches_before (upper i.cutoff i.leaves) p
+number_of i (place.Sparse p) = length (all (upper i.cutoff i.leaves)) + p
+
+-- a place, or the one behind the last of its half
+abbrev pub IsWithin : FilterImage → Place → Type 0
+IsWithin i (place.Dense p) = p ≤ dense.places_in (upper i.cutoff i.leaves)
+IsWithin i (place.Sparse p) = p ≤ length (all (lower i.cutoff i.leaves))
+
+-- a branch stands there
+abbrev pub IsTaken : FilterImage → Place → Type 0
+IsTaken i (place.Dense p) = dense.IsTaken (upper i.cutoff i.leaves) p
+IsTaken i (place.Sparse p) = p < length (all (lower i.cutoff i.leaves))
+
+-- node v begins with the branch of this number, or with END and then that branch
+pub record BeginsAt (h : Half) (v n : ℕ) : Type 0 where
+  pub number : (n ≡ begin_of h v) ⊎ ((has_letter (node_at h v) END ≡ true) × (n ≡ begin_of h v + 1))
+  pub below : first_below h n ≡ first_below h (begin_of h v)
+
+-- the string that the branch at a place leads to
+abbrev pub string_at : FilterImage → Place → List ℕ
+string_at i p = get_or (places i.leaves) (number_of i p) []

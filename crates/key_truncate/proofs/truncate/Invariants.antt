@@ -1,7 +1,0 @@
-use Rattle.std.proofs.Common.{◌≡◌, map, take}
-use Rattle.key_truncate.specs.Stubs.{shared_before, stub_in}
-use Rattle.key_truncate.proofs.truncate.Given as goal
-
--- the stubs of the keys passed, and what the last of them shares with the next key
-abbrev pub invariant-loop-i : goal.invariant-loop-i
-invariant-loop-i l = (l.stubs.items ≡ map (stub_in l.keys) (take l.i l.keys)) × (l.before ≡ shared_before l.keys l.i)

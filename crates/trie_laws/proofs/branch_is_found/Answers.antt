@@ -1,5 +1,0 @@
-use Rattle.trie_laws.proofs.Found.{branch_is_found}
-use Rattle.trie_laws.proofs.branch_is_found.Goals as goal
-
-pub returns : goal.returns
-returns c = branch_is_found

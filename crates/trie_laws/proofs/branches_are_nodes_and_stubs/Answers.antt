@@ -1,5 +1,0 @@
-use Rattle.trie_laws.proofs.Endings.{branches_are_nodes_and_stubs}
-use Rattle.trie_laws.proofs.branches_are_nodes_and_stubs.Goals as goal
-
-pub returns : goal.returns
-returns c = branches_are_nodes_and_stubs

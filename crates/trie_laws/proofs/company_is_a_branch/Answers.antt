@@ -1,5 +1,0 @@
-use Rattle.trie_laws.proofs.Company.{company_is_a_branch}
-use Rattle.trie_laws.proofs.company_is_a_branch.Goals as goal
-
-pub returns : goal.returns
-returns c = company_is_a_branch

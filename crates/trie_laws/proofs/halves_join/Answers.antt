@@ -1,5 +1,0 @@
-use Rattle.trie_laws.proofs.Joining.{halves_join, second_half_counts_on}
-use Rattle.trie_laws.proofs.halves_join.Goals as goal
-
-pub returns : goal.returns
-returns c = record { places = halves_join; numbers = second_half_counts_on }

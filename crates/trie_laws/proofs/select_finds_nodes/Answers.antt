@@ -1,5 +1,0 @@
-use Rattle.trie_laws.proofs.Louds.{louds_count, louds_first, nth_one}
-use Rattle.trie_laws.proofs.select_finds_nodes.Goals as goal
-
-pub returns : goal.returns
-returns c = record { find = louds_first; unique = nth_one; count = louds_count }
