@@ -2,7 +2,7 @@
 ghost use Rattle.std.specs.Prelude.{◌≡◌, ◌≤◌, List, [], length, slice_get, is_some, option_map, IfOk, OnOk, OnErr, IfErr, IsTrue, ◌↔◌};
 ghost use Rattle.std.specs.Box.{boxed_slice_items};
 ghost use Rattle.std.specs.Borrow.{sem};
-ghost use Rattle.block_cache.specs.Kept.{kept_of, brought_first, with_kept};
+ghost use Rattle.block_cache.specs.Kept.{kept_of, brought_first, most_blocks, with_kept};
 
 use lru::LruCache;
 use std::alloc::{AllocError, AllocFailed, Global};
@@ -22,13 +22,13 @@ pub struct BlockCache {
 impl Model for BlockCache {
     ghost use Rattle.std.specs.Prelude.{◌≡◌, ◌≤◌, List, length, map};
     ghost use Rattle.std.specs.Box.{boxed_slice_items};
-    ghost use Rattle.block_cache.specs.Kept.{Kept};
+    ghost use Rattle.block_cache.specs.Kept.{Kept, most_blocks};
 
     ghost Value = { List Kept };
 
     ghost view = { λ c. map (λ e. (e.0, boxed_slice_items e.1)) c.kept.entries };
 
-    ghost invariant = { λ c. (c.kept.cap ≡ 64) × (length c.kept.entries ≤ 64) };
+    ghost invariant = { λ c. (c.kept.cap ≡ most_blocks) × (length c.kept.entries ≤ most_blocks) };
 }
 
 impl BlockCache {
@@ -46,7 +46,7 @@ impl BlockCache {
     /// How many blocks are kept.
     pub fn len(&self) -> usize
         ensures count { result ≡ length self.now }
-        ensures most { length self.now ≤ 64 }
+        ensures most { length self.now ≤ most_blocks }
     {
         self.kept.len()
     }

@@ -26,7 +26,7 @@ mod cache;
 mod laws;
 
 pub use cache::{BlockCache, MOST_BLOCKS};
-pub use laws::{get_laws, given_as_kept, keep_laws};
+pub use laws::{constant_is_most, get_laws, given_as_kept, keep_laws};
 
 #[cfg(test)]
 mod tests;

@@ -7,7 +7,7 @@ use Rattle.byte_fields.specs.Fields.{fields}
 use Rattle.block_model.specs.Block.{header_widths}
 use Rattle.entry_model.specs.Entries.{IsEntry}
 use Rattle.block_model.specs.BlockReading.{entries_in}
-use Rattle.block_model.specs.Pages.{block_entries, has_room, page_bytes, pages_for}
+use Rattle.block_model.specs.Pages.{max_block_entries, has_room, page_bytes, pages_for}
 
 -- an empty block takes each entry, and another one those that it has room for
 abbrev pub takes : List Entry → Entry → Bool
@@ -17,7 +17,7 @@ takes block entry = length block == 0 || has_room block entry
 pub record Holds (count : ℕ) (bytes : Bytes) : Type 0 where
   pub spelled : flat_map body (entries_in count bytes) ≡ bytes
   pub each : AllByRecursion IsEntry (entries_in count bytes)
-  pub few : count ≤ block_entries
+  pub few : count ≤ max_block_entries
 
 -- a block of so many entries, which take these bytes
 unfoldable pub laid : ℕ → Bytes → Bytes

@@ -1,16 +1,19 @@
 // A block: the entries that its bytes spell.
-ghost use Rattle.std.specs.Prelude.{◌≡◌, ◌≤◌, ◌<◌, ◌+◌, ◌==◌, true, false, slice_index, length, drop, Some, None, IfOk, IfErr, bytes_eq, if◌then◌else◌};
-ghost use Rattle.entry_model.specs.Entries.{or_else};
+ghost use Rattle.std.specs.Prelude.{◌≡◌, ◌≤◌, ◌<◌, ◌+◌, ◌-◌, ◌^◌, ◌==◌, true, false, slice_index, length, take, drop, Some, None, IfOk, IfErr, bytes_eq, if◌then◌else◌};
+ghost use Rattle.entry_model.specs.Entries.{IsEntry, or_else};
+ghost use Rattle.std.specs.List.{AllByRecursion};
 ghost use Rattle.block_model.specs.BlockReading.{block_fault, block_in, count_in, entries_fault, entries_in, header_fault, tail_fault, used_in};
 ghost use Rattle.byte_fields.specs.Faults.{fault};
 ghost use Rattle.block_model.specs.Order.{is_any};
 ghost use Rattle.std.specs.Option.{option_map};
 ghost use Rattle.entry_model.specs.Newest.{entries_from, lookup};
 ghost use Rattle.block_format.specs.Reading.{Stand, seen};
+ghost use Rattle.block_format.specs.Spans.{StandsIn, kept_from, spanned};
 
 use crate::cursor::BlockCursor;
 use crate::entry::{Row, entry_here, first_entry};
 use crate::fault::BlockFault;
+use crate::span::Span;
 use block_model::pages_for;
 use byte_fields::get_u32;
 use key_base::{PAGE_BYTES, compare};
@@ -57,17 +60,14 @@ impl<'a> Block<'a> {
     /// The block that these bytes spell, or the first rule of the format that they break, and where.
     ///
     /// One pass over the bytes, and no memory.
-    #[tactic(auto, unfolding(block_model::specs::BlockReading::block_fault, block_model::specs::BlockReading::block_in, block_model::specs::BlockReading::entries_part))]
     pub fn read(bytes: &'a [u8]) -> Result<Block<'a>, BlockFault>
         ensures broken { IfErr result (λ found. block_fault bytes.now ≡ Some (seen found)) }
         ensures place { IfErr result (λ found. found.place ≤ length bytes.now) }
         ensures whole { IfOk result (λ _. block_fault bytes.now ≡ None) }
         ensures entries { IfOk result (λ b. b ≡ block_in bytes.now) }
     {
-        let (used, count) = header(bytes)?;
+        let (used, count) = judged(bytes)?;
         let rest = &bytes[HEADER_BYTES..used];
-        search(rest, count, b"")?;
-        check_padding(bytes, used)?;
         Ok(Block { rest, count })
     }
 
@@ -104,8 +104,44 @@ impl<'a> Block<'a> {
     pub fn from(&self, low: &[u8]) -> BlockCursor<'a>
         ensures { result ≡ entries_from self.now low.now }
     {
-        seek_in(self.rest, self.count, low)
+        BlockCursor::new(self.rest, seek_in(self.rest, self.count, low))
     }
+}
+
+/// Where the entries of the block that these bytes spell stand, from a key on where there is a bound, or the first rule of
+/// the format that the bytes break, and where.
+///
+/// One pass over the bytes, as by [`Block::read`], and with a bound another up to it. No memory.
+pub fn read_span(bytes: &[u8], low: Option<&[u8]>) -> Result<Span, BlockFault>
+    ensures broken { IfErr result (λ found. block_fault bytes.now ≡ Some (seen found)) }
+    ensures place { IfErr result (λ found. found.place ≤ length bytes.now) }
+    ensures whole { IfOk result (λ _. block_fault bytes.now ≡ None) }
+    ensures stands { IfOk result (λ span. StandsIn span bytes.now) }
+    ensures entries { IfOk result (λ span. spanned span bytes.now ≡ kept_from (option_map (λ k. k.now) low.entry) (block_in bytes.now)) }
+    ensures some { low.entry ≡ None → IfOk result (λ span. 1 ≤ span.left) }
+    ensures sound { IfOk result (λ span. AllByRecursion IsEntry (spanned span bytes.now)) }
+{
+    let (used, count) = judged(bytes)?;
+    let span = from_bound(&bytes[HEADER_BYTES..used], count, low);
+    Ok(behind_header(span))
+}
+
+// The length that is used and the count of entries of a block that breaks no rule, or the first rule that it breaks.
+#[tactic(auto, unfolding(block_model::specs::BlockReading::block_fault, block_model::specs::BlockReading::block_in, block_model::specs::BlockReading::entries_part))]
+fn judged(bytes: &[u8]) -> Result<(usize, u8), BlockFault>
+    ensures broken { IfErr result (λ found. block_fault bytes.now ≡ Some (seen found)) }
+    ensures place { IfErr result (λ found. found.place ≤ length bytes.now) }
+    ensures whole { IfOk result (λ _. block_fault bytes.now ≡ None) }
+    ensures large { IfOk result (λ h. 8 ≤ h.0) }
+    ensures some { IfOk result (λ h. 1 ≤ h.1) }
+    ensures within { IfOk result (λ h. h.0 ≤ length bytes.now) }
+    ensures stand { IfOk result (λ h. Stand h.1 is_any (take (h.0 - 8) (drop 8 bytes.now))) }
+    ensures entries { IfOk result (λ h. entries_in h.1 (take (h.0 - 8) (drop 8 bytes.now)) ≡ block_in bytes.now) }
+{
+    let (used, count) = header(bytes)?;
+    search(&bytes[HEADER_BYTES..used], count, b"")?;
+    check_padding(bytes, used)?;
+    Ok((used, count))
 }
 
 // The length that is used and the count of entries.
@@ -117,6 +153,7 @@ fn header(bytes: &[u8]) -> Result<(usize, u8), BlockFault>
     ensures used { IfOk result (λ h. h.0 ≡ used_in bytes.now) }
     ensures count { IfOk result (λ h. h.1 ≡ count_in bytes.now) }
     ensures some { IfOk result (λ h. 16 ≤ h.0) }
+    ensures many { IfOk result (λ h. 1 ≤ h.1) }
     ensures within { IfOk result (λ h. h.0 ≤ length bytes.now) }
 {
     if bytes.len() < HEADER_BYTES {
@@ -241,18 +278,52 @@ fn find_in<'a>(bytes: &'a [u8], count: u8, key: &[u8]) -> Option<Option<&'a [u8]
     None
 }
 
-// So many entries without those whose keys are below this one.
-fn seek_in<'a>(bytes: &'a [u8], count: u8, low: &[u8]) -> BlockCursor<'a>
+// Where so many entries stand, without those whose keys are below this one.
+fn seek_in(bytes: &[u8], count: u8, low: &[u8]) -> Span
     requires { Stand count is_any bytes.now }
-    ensures { result ≡ entries_from (entries_in count bytes.now) low.now }
+    ensures stands { StandsIn result bytes.now }
+    ensures end { result.end ≡ length bytes.now }
+    ensures entries { spanned result bytes.now ≡ entries_from (entries_in count bytes.now) low.now }
 {
+    let end = bytes.len();
     let mut at = 0;
     for i in 0..count {
         let row = entry_here(&bytes[at..]);
         if compare(row.key, low).is_ge() {
-            return BlockCursor::new(&bytes[at..], count - i);
+            let left = count - i;
+            return Span { at, end, left };
         }
         at += row.width;
     }
-    BlockCursor::new(&bytes[at..], 0)
+    Span { at, end, left: 0 }
+}
+
+// Where so many entries stand, without those below a bound, if there is one.
+fn from_bound(bytes: &[u8], count: u8, low: Option<&[u8]>) -> Span
+    requires { Stand count is_any bytes.now }
+    ensures stands { StandsIn result bytes.now }
+    ensures end { result.end ≡ length bytes.now }
+    ensures entries { spanned result bytes.now ≡ kept_from (option_map (λ k. k.now) low.entry) (entries_in count bytes.now) }
+    ensures all { low.entry ≡ None → result.left ≡ count }
+{
+    match low {
+        Some(low) => seek_in(bytes, count, low),
+        None => Span {
+            at: 0,
+            end: bytes.len(),
+            left: count,
+        },
+    }
+}
+
+// The same entries in the bytes with a header before them.
+fn behind_header(span: Span) -> Span
+    requires { (span.at ≤ span.end) × (span.end < 2 ^ 63) }
+    ensures { result ≡ record { at = span.at + 8; end = span.end + 8; left = span.left } }
+{
+    Span {
+        at: span.at + HEADER_BYTES,
+        end: span.end + HEADER_BYTES,
+        left: span.left,
+    }
 }

@@ -5,11 +5,11 @@ ghost use Rattle.entry_model.specs.Entries.{entry_of};
 ghost use Rattle.entry_model.specs.Entries.{body, bytes_of, kind_of};
 ghost use Rattle.block_model.specs.Block.{block_bytes};
 ghost use Rattle.entry_model.specs.Entries.{IsEntry};
-ghost use Rattle.block_model.specs.Pages.{block_entries, block_pages, page_bytes};
+ghost use Rattle.block_model.specs.Pages.{max_block_entries, block_pages, page_bytes};
 ghost use Rattle.block_format.specs.Building.{laid, takes};
 
 use crate::block::HEADER_BYTES;
-use crate::entry::HEAD_BYTES;
+use crate::entry::{HEAD_BYTES, TOMBSTONE, VALUE};
 use block_model::pages_for;
 use byte_fields::{put_u16, put_u32};
 use key_base::{MAX_BLOCK_ENTRIES, PAGE_BYTES};
@@ -27,7 +27,7 @@ impl Model for BlockBuilder {
     ghost use Rattle.std.specs.Prelude.{List};
     ghost use Rattle.entry_model.specs.Entries.{Entry};
     ghost use Rattle.block_model.specs.BlockReading.{entries_in};
-    ghost use Rattle.block_model.specs.Pages.{block_entries, page_bytes};
+    ghost use Rattle.block_model.specs.Pages.{max_block_entries, page_bytes};
     ghost use Rattle.block_format.specs.Building.{Holds};
 
     ghost Value = { List Entry };
@@ -79,6 +79,14 @@ impl BlockBuilder {
         Ok(true)
     }
 
+    /// Gives its entries up.
+    pub fn clear(&mut self)
+        ensures { self.new ≡ [] }
+    {
+        self.bytes.clear();
+        self.count = 0;
+    }
+
     /// Appends the block in whole pages, and begins the next one. Without memory all stays as it was.
     pub fn close(&mut self, out: &mut Vec<u8>) -> Result<(), AllocError>
         requires { 1 ≤ length self.old }
@@ -88,8 +96,7 @@ impl BlockBuilder {
         ensures unwritten { OnErr result (out.new.items ≡ out.old.items) }
     {
         push_block(self.bytes.as_slice(), self.count, out)?;
-        self.bytes.clear();
-        self.count = 0;
+        self.clear();
         Ok(())
     }
 }
@@ -97,7 +104,7 @@ impl BlockBuilder {
 // Whether an entry of so many bytes goes into a block with so many entries, which take so many bytes.
 fn fits(count: u8, bytes: usize, width: usize) -> bool
     requires { bytes + width < 2 ^ 32 }
-    ensures { result ≡ (count == 0 || (nat_le (8 + bytes + width) page_bytes && nat_lt count block_entries)) }
+    ensures { result ≡ (count == 0 || (nat_le (8 + bytes + width) page_bytes && nat_lt count max_block_entries)) }
 {
     count == 0
         || (HEADER_BYTES + bytes + width <= PAGE_BYTES && usize::from(count) < MAX_BLOCK_ENTRIES)
@@ -117,8 +124,8 @@ fn kind(value: Option<&[u8]>) -> u8
     ensures { result ≡ kind_of (option_map (λ v. v.now) value.entry) }
 {
     match value {
-        Some(_) => 1,
-        None => 2,
+        Some(_) => VALUE,
+        None => TOMBSTONE,
     }
 }
 

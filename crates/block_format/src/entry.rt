@@ -26,9 +26,11 @@ const OUT_OF_LIMITS: u8 = 5;
 /// The key is not above the one before.
 const NOT_ABOVE: u8 = 6;
 
-const VALUE: u8 = 1;
+/// The kind of an entry with a value.
+pub(crate) const VALUE: u8 = 1;
 
-const TOMBSTONE: u8 = 2;
+/// The kind of an entry without one.
+pub(crate) const TOMBSTONE: u8 = 2;
 
 // An entry as it stands in its block, and how many bytes it takes.
 #[derive(Clone, Copy)]

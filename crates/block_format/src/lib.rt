@@ -5,6 +5,9 @@
 //! [`Block::find`] and a [`BlockCursor`] hand out are parts of the bytes that were read. [`BlockBuilder`] keeps the
 //! entries of the next block as they will be written, and appends it in whole pages.
 //!
+//! Whoever keeps the bytes of a block and cannot keep a cursor that borrows them asks [`read_span`] where the entries stand, and
+//! takes them one by one with [`Span::next`].
+//!
 //! Finding goes from entry to entry, since entries have no index: half a page at the mean. Not for tables as a whole.
 //!
 //! ```text
@@ -20,11 +23,13 @@ mod builder;
 mod cursor;
 mod entry;
 mod fault;
+mod span;
 
-pub use block::Block;
+pub use block::{Block, read_span};
 pub use builder::BlockBuilder;
 pub use cursor::BlockCursor;
 pub use fault::BlockFault;
+pub use span::Span;
 
 #[cfg(test)]
 mod tests {

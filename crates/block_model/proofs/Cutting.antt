@@ -10,7 +10,7 @@ use Rattle.entry_model.specs.Entries.{Entry, IsEntry, keys_of}
 use Rattle.block_model.specs.Block.{IsBlock}
 use Rattle.block_model.specs.Laws.{joined, BlocksAreTheEntries, BlocksGrow, BlocksAreSound}
 use Rattle.block_model.specs.Order.{Follow, is_any, is_above}
-use Rattle.block_model.specs.Pages.{page_bytes, block_entries, block_length, has_room, blocks_with, blocks_of}
+use Rattle.block_model.specs.Pages.{page_bytes, max_block_entries, block_length, has_room, blocks_with, blocks_of}
 
 pub blocks_step : BlocksGrow
 unfolding blocks_of
@@ -82,7 +82,7 @@ part_alone e is = record { each = (is, tt); some = omega arith; few = omega arit
 
 part_more : (block : List Entry) (e : Entry) → IsPart block → IsEntry e → has_room block e ≡ true → IsPart (block ++ (e ∷ []))
 part_more block e part is room =
-    let both = and_parts (nat_le (block_length (block ++ (e ∷ []))) page_bytes) (nat_lt (length block) block_entries) room in
+    let both = and_parts (nat_le (block_length (block ++ (e ∷ []))) page_bytes) (nat_lt (length block) max_block_entries) room in
     let fits = leb-true (block_length (block ++ (e ∷ []))) 4096 both.0 in
     let lt = ltb-true (length block) 255 both.1 in
     record {

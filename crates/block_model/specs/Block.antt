@@ -5,7 +5,7 @@ use Rattle.map_model.specs.SortedMap.{Bytes}
 use Rattle.entry_model.specs.Entries.{Entry, IsEntry, keys_of, body}
 use Rattle.byte_fields.specs.Fields.{fields}
 use Rattle.block_model.specs.Order.{Follow, is_any}
-use Rattle.block_model.specs.Pages.{page_bytes, block_entries, pages_for, block_length, blocks_of}
+use Rattle.block_model.specs.Pages.{page_bytes, max_block_entries, pages_for, block_length, blocks_of}
 
 -- zero bytes to the end of the last page
 unfoldable pub padding : ℕ → Bytes
@@ -36,10 +36,10 @@ pub record IsTable (entries : List Entry) : Type 0 where
   pub some : 1 ≤ length entries
   pub rising : Follow is_any (keys_of entries)
 
--- the entries of a block: 1 to 255 by rising keys, and one alone where it takes more than a page
+-- the entries of a block: at least one and at most so many, by rising keys, and one alone where it takes more than a page
 pub record IsBlock (block : List Entry) : Type 0 where
   pub each : AllByRecursion IsEntry block
   pub rising : Follow is_any (keys_of block)
   pub some : 1 ≤ length block
-  pub few : length block ≤ block_entries
+  pub few : length block ≤ max_block_entries
   pub small : 1 < length block → block_length block ≤ page_bytes

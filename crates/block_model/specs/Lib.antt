@@ -1,3 +1,6 @@
+pub use Rattle.byte_fields.specs.Faults
+pub use Rattle.entry_model.specs.Entries
+pub use Rattle.key_base.specs.Limits
 pub mod Pages
 pub mod Places
 pub mod Order

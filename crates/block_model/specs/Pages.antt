@@ -1,13 +1,8 @@
 -- How the entries of a table are cut into blocks, and how many bytes and pages its blocks and its index take.
 use Rattle.std.specs.Prelude.{ℕ, ◌+◌, ◌/◌, nat_le, nat_lt, ◌&&◌, Bool, false, List, [], ◌∷◌, ◌++◌, length, fold, flat_map, sum_by, if◌then◌else◌}
-use Rattle.key_base.specs.Limits.{max_block_entries}
-pub use Rattle.key_base.specs.Limits.{page_bytes}
+pub use Rattle.key_base.specs.Limits.{max_block_entries, page_bytes}
 use Rattle.map_model.specs.SortedMap.{Bytes}
 use Rattle.entry_model.specs.Entries.{Entry, body}
-
--- the most entries of a block
-abbrev pub block_entries : ℕ
-block_entries = max_block_entries
 
 -- so many bytes in whole pages, rounded up
 unfoldable pub pages_for : ℕ → ℕ
@@ -20,9 +15,9 @@ block_length block = 8 + length (flat_map body block)
 unfoldable pub block_pages : List Entry → ℕ
 block_pages block = pages_for (block_length block)
 
--- an entry is added to a block where that stays within a page and within 255 entries
+-- an entry is added to a block where that stays within a page and within the most entries of a block
 abbrev pub has_room : List Entry → Entry → Bool
-has_room block entry = nat_le (block_length (block ++ (entry ∷ []))) page_bytes && nat_lt (length block) block_entries
+has_room block entry = nat_le (block_length (block ++ (entry ∷ []))) page_bytes && nat_lt (length block) max_block_entries
 
 -- the blocks with one entry more: in the last block where that has room, else in a new one
 abbrev pub blocks_with : List (List Entry) → Entry → List (List Entry)

@@ -7,8 +7,8 @@ ghost use Rattle.block_model.specs.Index.{index_bytes, index_of, index_row_bytes
 ghost use Rattle.block_model.specs.Pages.{first_key, last_key, page_bytes, pages_for};
 
 use crate::pages::{block_length, cut, pages_for};
-use byte_fields::fnv1a;
-use entry_list::{Entry, push_fields};
+use byte_fields::{fnv1a, push_fields};
+use entry_list::Entry;
 use key_base::PAGE_BYTES;
 use std::alloc::{AllocError, Global};
 

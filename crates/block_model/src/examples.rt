@@ -45,7 +45,7 @@ pub fn full_blocks()
     ensures at_most_255 { map length (blocks_of (replicate 256 a_b)) ≡ 255 ∷ 1 ∷ [] }
 {}
 
-/// Where the parts of a table stand: pages have 4,096 bytes, and the first page of tables is 192.
+/// Where the parts of a table stand, from the first page of tables on.
 pub fn parts_of_a_table()
     ensures first_table { byte_of_page 192 ≡ 786432 }
     ensures index { index_page ten_pages ≡ 209 }

@@ -31,4 +31,4 @@ pub use laws::{
     blocks_are_the_entries, blocks_have_one_spelling, indexes_have_one_spelling,
     lengths_are_counted,
 };
-pub use pages::{are_entries, block_length, cut, pages_for};
+pub use pages::{are_entries, block_length, cut, entry_length, pages_for};

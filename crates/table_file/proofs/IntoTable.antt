@@ -1,5 +1,5 @@
 -- The table that parts make is the one that is opened from them.
-use Rattle.std.proofs.Common.{◌≡◌, ◌≤◌, ℕ, List, length, refl, sym, ap, ◌∙◌, subst}
+use Rattle.std.proofs.Common.{◌≡◌, ◌≤◌, ◌*◌, ℕ, List, length, refl, sym, ap, ◌∙◌, subst}
 use Rattle.std.proofs.lemmas.List.{length-map}
 use Rattle.byte_fields.specs.Sums.{fnv_of}
 use Rattle.byte_fields.specs.declared.parts.Row.{Row}
@@ -16,12 +16,15 @@ use Rattle.block_model.specs.Places.{byte_of_page, end_page, filter_page, index_
 use Rattle.block_model.proofs.IndexesRead.{index_again}
 use Rattle.block_model.proofs.Lengths.{index_long}
 use Rattle.block_model.proofs.TableIndex.{index_sound}
+use Rattle.block_model.specs.Laws.{joined}
+use Rattle.table_model.specs.Images.{IsTableAt}
+use Rattle.table_model.specs.Tables.{Table, filter_bytes_of}
 use Rattle.table_model.specs.Damage.{filter_part, index_part}
 use Rattle.table_model.specs.Written.{ArePartsShown, row_for}
 use Rattle.table_model.proofs.Shown.{shown_is}
-use Rattle.table_file.specs.Building.{filter_bytes_of}
 use Rattle.table_file.specs.Opened.{IsOfRow, IsOpen}
 use Rattle.table_file.specs.Parts.{ArePartsOf, Filter, filter_of}
+use Rattle.table_file.proofs.Written.{stands_shown}
 
 module _ (spelling : Spelling) (built_cutoff : ℕ → List Leaf → ℕ) (settings : Settings) (entries : List Entry) (count : ℕ) (blocks : Bytes) (index : Index) (index_bytes_there : Bytes)
     (filter : Filter) (filter_there : Bytes) (parts : ArePartsOf spelling built_cutoff settings entries count blocks index index_bytes_there filter filter_there) (level first : ℕ) where
@@ -68,3 +71,12 @@ module _ (spelling : Spelling) (built_cutoff : ℕ → List Leaf → ℕ) (setti
       → IsOpen spelling (record { row = r; index = index_of entries; filter = filter_of built_cutoff settings (keys_of entries) }) image
   table_open r is image =
       subst (λ (x : Row). ArePartsShown x entries bytes image → IsOpen spelling (record { row = x; index = index_of entries; filter = filter_of built_cutoff settings (keys_of entries) }) image) (sym is) (made_open image)
+
+  pub shown_table : (r : Row) → r ≡ row_for level first entries (filter_bytes_of spelling built_cutoff settings (keys_of entries)) → (image : Image)
+      → ArePartsShown r entries (filter_bytes_of spelling built_cutoff settings (keys_of entries)) image
+      → (made : List (List Entry)) × IsTableAt spelling settings r made image × (joined made ≡ entries)
+  shown_table r is image =
+      subst (λ (x : Row). ArePartsShown x entries bytes image → (made : List (List Entry)) × IsTableAt spelling settings x made image × (joined made ≡ entries)) (sym is)
+      (λ shown.
+      let there = stands_shown spelling built_cutoff settings entries count blocks index index_bytes_there filter filter_there parts level first (4096 * first) refl image shown in
+      (there.0, there.1, sym (ap (λ (t : Table). t.entries) there.2)))

@@ -1,10 +1,13 @@
 mod Keys
 mod Builders
+mod Helds
 mod IndexWalks
 mod IntoTable
 mod Damages
 mod Lookups
 mod PartsMade
 mod Searches
-mod Stands
+mod Standing
+pub mod Stands
+mod Walks
 mod Written

@@ -83,15 +83,15 @@ or_none : (a : Option (Option Bytes)) → or_else a None ≡ a
 or_none None = refl
 or_none (Some v) = refl
 
-front_follows : (test : Bytes → Bool) (a b : List Entry) → Follow test (keys_of (a ++ b)) → Follow test (keys_of a)
+pub front_follows : (test : Bytes → Bool) (a b : List Entry) → Follow test (keys_of (a ++ b)) → Follow test (keys_of a)
 front_follows test [] b f = tt
 front_follows test (e ∷ a) b f = (f.0, front_follows (is_above e.key) a b f.1)
 
-behind_last : (test : Bytes → Bool) (e : Entry) (es rest : List Entry) → Follow test (keys_of ((e ∷ es) ++ rest)) → Follow (is_above (last_key (e ∷ es))) (keys_of rest)
+pub behind_last : (test : Bytes → Bool) (e : Entry) (es rest : List Entry) → Follow test (keys_of ((e ∷ es) ++ rest)) → Follow (is_above (last_key (e ∷ es))) (keys_of rest)
 behind_last test e [] rest f = f.1
 behind_last test e (next ∷ more) rest f = behind_last (is_above e.key) next more rest f.1
 
-row_last : (b : List Entry) → (index_row_of b).last ≡ last_key b
+pub row_last : (b : List Entry) → (index_row_of b).last ≡ last_key b
 unfolding index_row_of
 row_last b = refl
 
@@ -132,3 +132,22 @@ said_is_there (e ∷ more) key value is =
     (λ equal same. (0, omega arith, equal_keys e.key key equal))
     (λ greater same. said_later e more key value (said_is_there more key value) is (sym same))
     (sym (texts_ties e.key key))
+
+-- ---- the last of all
+
+pub last_append : (a : List Entry) (e : Entry) (es : List Entry) → last_key (a ++ (e ∷ es)) ≡ last_key (e ∷ es)
+last_append [] e es = refl
+last_append (x ∷ []) e es = refl
+last_append (x ∷ y ∷ a) e es = last_append (y ∷ a) e es
+
+pub lasts_rise : (b : List Entry) (test : Bytes → Bool) (e : Entry) (es : List Entry) → 1 ≤ length b → Follow test (keys_of (b ++ (e ∷ es))) → is_above (last_key b) (last_key (e ∷ es)) ≡ true
+lasts_rise [] test e es some f = absurd (omega (arith, some))
+lasts_rise (x ∷ b) test e es some f = last_above (last_key (x ∷ b)) e es (behind_last test x b (e ∷ es) f)
+
+-- a key that is not above one is not above what comes later
+pub from_above : (key a b : Bytes) → is_from key a ≡ true → is_above a b ≡ true → is_from key b ≡ true
+from_above key a b from above =
+    elim (is_lt (byte_order b key)) as (λ t. is_lt (byte_order b key) ≡ t → not t ≡ true) [
+      | true ↦ λ under. let never : not true ≡ true = ap not (sym (above_above a b key above under)) ∙ from in absurd cc
+      | false ↦ λ _. refl
+    ] refl

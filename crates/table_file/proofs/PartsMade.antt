@@ -15,9 +15,9 @@ use Rattle.block_model.specs.Pages.{blocks_of, data_pages, first_key, index_leng
 use Rattle.block_model.proofs.Cutting.{blocks_joined}
 use Rattle.block_model.proofs.Lengths.{data_fills, index_long}
 use Rattle.block_model.proofs.TableIndex.{index_sound}
-use Rattle.table_model.specs.Tables.{table_pages}
+use Rattle.table_model.specs.Tables.{filter_bytes_of, table_pages}
 use Rattle.table_model.specs.Written.{row_for}
-use Rattle.table_file.specs.Building.{Holds, closed_in, entries_with, filter_bytes_of}
+use Rattle.table_file.specs.Building.{Holds, closed_in, entries_with}
 use Rattle.table_file.specs.Parts.{ArePartsOf, Filter}
 use Rattle.table_file.proofs.Builders.{holds_closed, is_table, opened}
 

@@ -9,7 +9,7 @@ use Rattle.std.proofs.lemmas.List.{get_or-map as get_or-map_within}
 use Rattle.std.proofs.lemmas.List.Quantifiers.{position-Some}
 use Rattle.std.proofs.lemmas.List.Sums.{sum_by-cons}
 use Rattle.std.proofs.Math.ListN.{get_or-map}
-use Rattle.filter_model.specs.Strings.{is_below}
+use Rattle.filter_model.specs.Strings.{is_before}
 use Rattle.map_model.specs.SortedMap.{Bytes, byte_order}
 use Rattle.block_model.specs.Index.{IndexRow, row_pages}
 use Rattle.block_model.specs.Order.{Follow, is_above, is_from}
@@ -38,9 +38,9 @@ parted key test (r ∷ rows) f zero zero d le lt e = e
 parted key test (r ∷ rows) f zero (suc j) d le lt e =
     let at : get_or (lasts rows) j d.last.items ≡ (get_or rows j d).last.items = get_or-map (λ (row : BlockRow). row.last.items) rows j d in
     let many : length (lasts rows) ≡ length rows = length-map rows (λ (row : BlockRow). row.last.items) in
-    let above : is_below r.last.items (get_or (lasts rows) j d.last.items) ≡ true =
-    all_at (λ k. is_below r.last.items k ≡ true) (lasts rows) j d.last.items (all_above r.last.items (lasts rows) f.1) (omega (arith, many, lt)) in
-    above_above r.last.items (get_or rows j d).last.items key (ap (λ (k : Bytes). is_below r.last.items k) (sym at) ∙ above) e
+    let above : is_before r.last.items (get_or (lasts rows) j d.last.items) ≡ true =
+    all_at (λ k. is_before r.last.items k ≡ true) (lasts rows) j d.last.items (all_above r.last.items (lasts rows) f.1) (omega (arith, many, lt)) in
+    above_above r.last.items (get_or rows j d).last.items key (ap (λ (k : Bytes). is_before r.last.items k) (sym at) ∙ above) e
 parted key test (r ∷ rows) f (suc i) zero d le lt e = absurd (omega (arith, le))
 parted key test (r ∷ rows) f (suc i) (suc j) d le lt e = parted key (is_above r.last.items) rows f.1 i j d (omega (arith, le)) (omega (arith, lt)) e
 

@@ -40,12 +40,12 @@ use Rattle.table_file.specs.Laws.{OpenedStands}
 use Rattle.table_file.specs.declared.fault.TableFault.{TableFault}
 use Rattle.table_file.specs.declared.fault.TableFault.TheVariants as table
 use Rattle.table_file.specs.Opened.{Opened}
-use Rattle.table_file.specs.Search.{IsBrokenBlock, IsOtherBlock, StandsThere, block_for, block_of_key, bytes_at, first_block, page_at, row_at}
+use Rattle.table_file.specs.Search.{IsBrokenBlock, IsOtherBlock, IsSoundBlock, StandsThere, block_for, block_of_key, bytes_at, first_block, page_at, row_at}
 use Rattle.table_file.proofs.Lookups.{nothing_before, said_by_block, said_is_there}
 
 -- ---- one block of those that are shown
 
-row_pages_are : (block : List Entry) → (index_row_of block).pages ≡ block_pages block
+pub row_pages_are : (block : List Entry) → (index_row_of block).pages ≡ block_pages block
 unfolding index_row_of
 row_pages_are block = refl
 
@@ -85,12 +85,33 @@ beyond [] n le = refl
 beyond (b ∷ more) zero le = absurd (omega (arith, le))
 beyond (b ∷ more) (suc n) le = beyond more n (omega (arith, le))
 
-module _ (spelling : Spelling) (settings : Settings) (t : Opened) (blocks : List (List Entry)) (image : Image) (s : StandsThere spelling settings t blocks image) (key : Bytes) where
-  rows_are : t.index.rows ≡ map index_row_of blocks
+module _ (spelling : Spelling) (settings : Settings) (t : Opened) (blocks : List (List Entry)) (image : Image) (s : StandsThere spelling settings t blocks image) where
+  pub rows_are : t.index.rows ≡ map index_row_of blocks
   rows_are = ap (λ (x : Index). x.rows) s.index_is ∙ rows_of_index blocks
 
-  least_is : t.index.least ≡ first_key (joined blocks)
+  pub least_is : t.index.least ≡ first_key (joined blocks)
   least_is = ap (λ (x : Index). x.least) s.index_is ∙ least_of_index blocks
+
+  module _ (n : ℕ) (there : n < length blocks) where
+    -- its bytes are the block's
+    pub bytes_of_block : bytes_at t n image ≡ block_bytes (get_or blocks n [])
+    bytes_of_block =
+        let at : byte_of_page (t.row.first_page + row_pages (take n (map index_row_of blocks))) ≡ byte_of_page t.row.first_page + 4096 * row_pages (take n (map index_row_of blocks)) = omega arith in
+        ap (λ (rs : List IndexRow). window image (byte_of_page (t.row.first_page + row_pages (take n rs))) (4096 * (row_at rs n).pages)) rows_are
+        ∙ ap (λ (p : ℕ). window image p (4096 * (row_at (map index_row_of blocks) n).pages)) at
+        ∙ shown_block (byte_of_page t.row.first_page) blocks image n s.at.blocks_shown there
+
+    pub block_is_sound : IsSoundBlock t n image
+    block_is_sound =
+        let sum = ap (λ (rs : List IndexRow). (row_at rs n).sum) rows_are ∙ ap (λ (r : IndexRow). r.sum) (get_or-map index_row_of blocks n [] no_row there) ∙ row_sum (get_or blocks n []) in
+        record {
+          sum = sum ∙ ap fnv_of (sym bytes_of_block);
+          rules = ap block_fault bytes_of_block ∙ (block_again (get_or blocks n []) (all_at IsBlock blocks n [] s.at.each there)).0;
+        }
+
+module _ (spelling : Spelling) (settings : Settings) (t : Opened) (blocks : List (List Entry)) (image : Image) (s : StandsThere spelling settings t blocks image) (key : Bytes) where
+  rows : t.index.rows ≡ map index_row_of blocks
+  rows = rows_are spelling settings t blocks image s
 
   abbrev place : ℕ
   place = position_or_len (λ (row : IndexRow). is_from key row.last) (map index_row_of blocks)
@@ -101,7 +122,7 @@ module _ (spelling : Spelling) (settings : Settings) (t : Opened) (blocks : List
   module _ (n : ℕ) (is : block_for t key ≡ Some n) where
     first : first_block (map index_row_of blocks) key ≡ Some n
     first =
-        ap (λ (rs : List IndexRow). first_block rs key) (sym rows_are)
+        ap (λ (rs : List IndexRow). first_block rs key) (sym rows)
         ∙ cond_some (is_from t.index.least key) (first_block t.index.rows key) n (cond_some (point t.filter.hash_bits t.filter.real_bits t.filter.leaves key) (block_of_key t.index key) n is)
 
     found : (n < length (map index_row_of blocks)) × (place ≡ n)
@@ -110,32 +131,25 @@ module _ (spelling : Spelling) (settings : Settings) (t : Opened) (blocks : List
         let le : n ≤ length (map index_row_of blocks) = omega (arith, at.0) in
         (at.0, position_or_len_is (λ (row : IndexRow). is_from key row.last) (map index_row_of blocks) n no_row le at.2 (λ _. at.1))
 
-    there : n < length blocks
+    pub there : n < length blocks
     there = omega (arith, found.0, length-map blocks index_row_of)
 
-    -- its bytes are the block's
     pub bytes_are : bytes_at t n image ≡ block_bytes (get_or blocks n [])
-    bytes_are =
-        let at : byte_of_page (t.row.first_page + row_pages (take n (map index_row_of blocks))) ≡ byte_of_page t.row.first_page + 4096 * row_pages (take n (map index_row_of blocks)) = omega arith in
-        ap (λ (rs : List IndexRow). window image (byte_of_page (t.row.first_page + row_pages (take n rs))) (4096 * (row_at rs n).pages)) rows_are
-        ∙ ap (λ (p : ℕ). window image p (4096 * (row_at (map index_row_of blocks) n).pages)) at
-        ∙ shown_block (byte_of_page t.row.first_page) blocks image n s.at.blocks_shown there
+    bytes_are = bytes_of_block spelling settings t blocks image s n there
 
-    kept_sum : (row_at t.index.rows n).sum ≡ fnv_of (block_bytes (get_or blocks n []))
-    kept_sum =
-        ap (λ (rs : List IndexRow). (row_at rs n).sum) rows_are ∙ ap (λ (r : IndexRow). r.sum) (get_or-map index_row_of blocks n [] no_row there) ∙ row_sum (get_or blocks n [])
+    sound : IsSoundBlock t n image
+    sound = block_is_sound spelling settings t blocks image s n there
 
     pub not_other : (f : TableFault) → IsOtherBlock t n image f → IsNoDamage f
     not_other table.Memory other = absurd other
     not_other (table.Device cause) other = tt
-    not_other (table.Damaged d) other = absurd (other.other (kept_sum ∙ ap fnv_of (sym bytes_are)))
+    not_other (table.Damaged d) other = absurd (other.other sound.sum)
 
     pub not_broken : (bytes : Bytes) → bytes ≡ bytes_at t n image → (f : TableFault) → IsBrokenBlock t n bytes f → IsNoDamage f
     not_broken bytes are table.Memory broken = absurd broken
     not_broken bytes are (table.Device cause) broken = absurd broken
     not_broken bytes are (table.Damaged d) broken =
-        let block = block_again (get_or blocks n []) (all_at IsBlock blocks n [] s.at.each there) in
-        let none : block_fault bytes ≡ None = ap block_fault (are ∙ bytes_are) ∙ block.0 in
+        let none : block_fault bytes ≡ None = ap block_fault are ∙ sound.rules in
         let never = sym (ap (option_map (λ (x : Fault). damage.Shape part.Block (byte_of_page (page_at t n) + x.place) x.rule)) none) ∙ broken in
         cc
 
@@ -169,8 +183,8 @@ module _ (spelling : Spelling) (settings : Settings) (t : Opened) (blocks : List
             let denied : block_of_key t.index key ≡ None =
             sym (ap (λ (b : Bool). cond b (block_of_key t.index key) None) (admitted (said_is_there (joined blocks) key value is))) ∙ none in
             sym is ∙ (elim (is_from t.index.least key) as (λ b. is_from t.index.least key ≡ b → cond b (first_block t.index.rows key) None ≡ None → lookup (joined blocks) key ≡ None) [
-              | true ↦ λ _ past. none_past (ap (λ (rs : List IndexRow). first_block rs key) (sym rows_are) ∙ past)
-              | false ↦ λ before _. nothing_before key (joined blocks) (ap (λ (k : Bytes). is_from k key) (sym least_is) ∙ before) s.at.table.rising
+              | true ↦ λ _ past. none_past (ap (λ (rs : List IndexRow). first_block rs key) (sym rows) ∙ past)
+              | false ↦ λ before _. nothing_before key (joined blocks) (ap (λ (k : Bytes). is_from k key) (sym (least_is spelling settings t blocks image s)) ∙ before) s.at.table.rising
             ] refl denied)
       ] refl
 

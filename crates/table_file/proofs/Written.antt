@@ -16,11 +16,11 @@ use Rattle.block_model.specs.Pages.{data_pages, index_length, pages_for}
 use Rattle.block_model.specs.Places.{byte_of_page, filter_page, index_page}
 use Rattle.block_model.proofs.Lengths.{in_pages}
 use Rattle.table_model.specs.Images.{IsFilterOfKeys, IsTableOf}
-use Rattle.table_model.specs.Tables.{table_of, table_pages}
-use Rattle.table_model.specs.Written.{row_for}
+use Rattle.table_model.specs.Tables.{filter_bytes_of, table_of, table_pages}
+use Rattle.table_model.specs.Written.{ArePartsShown, row_for}
 use Rattle.table_model.proofs.Shown.{shown_parts}
 use Rattle.table_model.proofs.Written.{table_stands}
-use Rattle.table_file.specs.Building.{filter_bytes_of}
+use Rattle.table_file.specs.Laws.{WrittenIsShown}
 use Rattle.table_file.specs.Parts.{ArePartsOf, Filter}
 use Rattle.table_file.specs.Writing.{AreWritten, IsWriteOf, padded, three_written}
 use Rattle.table_file.proofs.PartsMade.{blocks_long, filter_part_is, index_part_is, index_part_long}
@@ -60,6 +60,13 @@ pub padded_long : (bytes : Bytes) → length (padded bytes) ≡ 4096 * pages_for
 unfolding padding
 padded_long bytes =
     omega (arith, length-append bytes (replicate (4096 * pages_for (length bytes) - length bytes) 0), length-replicate {A = ℕ} (4096 * pages_for (length bytes) - length bytes) 0, in_pages (length bytes))
+
+pub written_shown : WrittenIsShown
+written_shown row entries filter_bytes image shown = record {
+  blocks = shown.blocks;
+  index = (shown_parts _ (index_bytes (index_of entries)) (padding (length (index_bytes (index_of entries)))) image shown.index).0;
+  filter = (shown_parts _ filter_bytes (padding (length filter_bytes)) image shown.filter).0;
+}
 
 module _ (spelling : Spelling) (built_cutoff : ℕ → List Leaf → ℕ) (settings : Settings) (entries : List Entry) (count : ℕ) (blocks : Bytes) (index : Index) (index_part : Bytes)
     (filter : Filter) (filter_part : Bytes) (parts : ArePartsOf spelling built_cutoff settings entries count blocks index index_part filter filter_part) where
@@ -108,11 +115,10 @@ module _ (spelling : Spelling) (built_cutoff : ℕ → List Leaf → ℕ) (setti
         let stand = subst (λ (f : Filter). MayStand f.hash_bits f.real_bits f.cutoff f.leaves) parts.filter_is parts.may_stand in
         record { cutoff = _; spelled = record { may_stand = stand; bytes_are = refl } }
 
+    pub stands_shown : (f : Image) → ArePartsShown (row_for level first entries bytes) entries bytes f
+        → IsTableOf spelling settings (row_for level first entries bytes) (table_of (filter_bytes_of spelling built_cutoff) settings level first entries) f
+    stands_shown f shown = table_stands spelling (filter_bytes_of spelling built_cutoff) settings level first entries f parts.table of_keys shown
+
     pub stands : (f : Image) → AreWritten (row_for level first entries bytes) entries bytes f
         → IsTableOf spelling settings (row_for level first entries bytes) (table_of (filter_bytes_of spelling built_cutoff) settings level first entries) f
-    stands f shown =
-        table_stands spelling (filter_bytes_of spelling built_cutoff) settings level first entries f parts.table of_keys (record {
-          blocks = shown.blocks;
-          index = (shown_parts _ (index_bytes (index_of entries)) (padding (length (index_bytes (index_of entries)))) f shown.index).0;
-          filter = (shown_parts _ bytes (padding (length bytes)) f shown.filter).0;
-        })
+    stands f shown = stands_shown f (written_shown (row_for level first entries bytes) entries bytes f shown)

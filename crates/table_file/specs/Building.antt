@@ -1,9 +1,7 @@
 -- What a builder of tables holds.
-use Rattle.std.specs.Prelude.{◌≡◌, ℕ, ◌*◌, List, [], ◌∷◌, ◌++◌, take, drop, map, flat_map}
+use Rattle.std.specs.Prelude.{◌≡◌, ◌*◌, List, [], ◌∷◌, ◌++◌, take, drop, map, flat_map}
 use Rattle.std.specs.List.{AllByRecursion}
-use Rattle.filter_api.specs.Spellings.{Spelling}
 use Rattle.filter_api.specs.declared.settings.Settings.{Settings}
-use Rattle.filter_model.specs.Leaves.{Leaf, leaves_of}
 use Rattle.map_model.specs.SortedMap.{Bytes}
 use Rattle.entry_model.specs.Entries.{Entry, keys_of}
 use Rattle.block_model.specs.Block.{AreEntries, IsBlock, block_bytes}
@@ -12,18 +10,11 @@ use Rattle.block_model.specs.Index.{IndexRow, index_row_of}
 use Rattle.block_model.specs.Laws.{joined}
 use Rattle.block_model.specs.Order.{Follow, is_any}
 use Rattle.block_model.specs.Pages.{blocks_of, page_bytes}
-use Rattle.table_model.specs.Tables.{FilterBytes}
 
 -- the entries of a table that is built, and the settings of its filter
 pub record Built : Type 0 where
   pub settings : Settings
   pub entries : List Entry
-
--- the bytes of the filters that a kind of filter builds, by its spelling and the cutoff that it leaves for a ratio
-abbrev pub filter_bytes_of : Spelling → (ℕ → List Leaf → ℕ) → FilterBytes
-filter_bytes_of spelling cutoff settings keys =
-    let leaves = leaves_of settings.hash_bits settings.real_bits keys in
-    spelling settings.hash_bits settings.real_bits (cutoff settings.ratio leaves) leaves
 
 -- the blocks that these bytes are, one after the other, with the pages of these rows
 abbrev pub closed_in : List IndexRow → Bytes → List (List Entry)

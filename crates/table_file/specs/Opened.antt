@@ -1,13 +1,12 @@
 -- A table that is opened: its row, its index and its filter, and what must stand in its pages.
-use Rattle.std.specs.Prelude.{◌≡◌, ◌≤◌, length, None}
+use Rattle.std.specs.Prelude.{◌≡◌, length, None}
 use Rattle.byte_fields.specs.Sums.{fnv_of}
 use Rattle.byte_fields.specs.declared.parts.Row.{Row}
 use Rattle.disk_trait.specs.Image.{Image}
 use Rattle.filter_api.specs.Spellings.{IsSpelling, Spelling}
 use Rattle.block_model.specs.Index.{Index, row_pages}
 use Rattle.block_model.specs.IndexReading.{index_fault, index_in}
-use Rattle.block_model.specs.Pages.{pages_for}
-use Rattle.block_model.specs.Places.{end_page}
+use Rattle.block_model.specs.Places.{FitsDevice}
 use Rattle.table_model.specs.Damage.{filter_part, index_part}
 use Rattle.table_file.specs.Parts.{Filter}
 
@@ -15,12 +14,6 @@ pub record Opened : Type 0 where
   pub row : Row
   pub index : Index
   pub filter : Filter
-
--- the row lies on a device of 16,777,216 pages, and index and filter have the pages that their lengths want
-pub record FitsDevice (row : Row) : Type 0 where
-  pub index_pages : row.index_pages ≡ pages_for row.index_len
-  pub filter_pages : row.filter_pages ≡ pages_for row.filter_len
-  pub within : end_page row ≤ 16777216
 
 -- the blocks have as many pages as the row says
 pub record IsOfRow (t : Opened) : Type 0 where

@@ -57,6 +57,15 @@ page_at t n = t.row.first_page + row_pages (take n t.index.rows)
 abbrev pub bytes_at : Opened → ℕ → Image → Bytes
 bytes_at t n image = block_part (page_at t n) (row_at t.index.rows n) image
 
+-- they have the sum that the index keeps, and break no rule
+pub record IsSoundBlock (t : Opened) (n : ℕ) (image : Image) : Type 0 where
+  pub sum : (row_at t.index.rows n).sum ≡ fnv_of (bytes_at t n image)
+  pub rules : block_fault (bytes_at t n image) ≡ None
+
+-- the bytes of the largest block, of 17 pages
+abbrev pub largest_block : ℕ
+largest_block = 69632
+
 -- how many blocks a get reads
 abbrev pub blocks_read : Option ℕ → ℕ
 blocks_read None = 0

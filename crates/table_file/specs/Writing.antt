@@ -6,10 +6,15 @@ use Rattle.disk_trait.specs.declared.fault.DiskFault.{DiskFault}
 use Rattle.disk_trait.specs.declared.fault.Op.TheVariants.{Sync, Write}
 use Rattle.byte_fields.specs.declared.parts.Row.{Row}
 use Rattle.map_model.specs.SortedMap.{Bytes}
-use Rattle.entry_model.specs.Entries.{Entry}
+use Rattle.filter_api.specs.Spellings.{Spelling}
+use Rattle.filter_model.specs.Leaves.{Leaf}
+use Rattle.entry_model.specs.Entries.{Entry, keys_of}
 use Rattle.block_model.specs.Block.{data_bytes, padding}
 use Rattle.block_model.specs.Index.{index_bytes, index_of}
 use Rattle.block_model.specs.Places.{byte_of_page, filter_page, index_page}
+use Rattle.table_model.specs.Tables.{filter_bytes_of}
+use Rattle.table_model.specs.Written.{row_for}
+use Rattle.table_file.specs.Building.{Built}
 
 -- bytes, and zero bytes behind them to the end of their last page
 abbrev pub padded : Bytes → Bytes
@@ -20,6 +25,13 @@ pub record AreWritten (row : Row) (entries : List Entry) (filter_bytes : Bytes) 
   pub blocks : Shows (byte_of_page row.first_page) (data_bytes entries) image
   pub index : Shows (byte_of_page (index_page row)) (padded (index_bytes (index_of entries))) image
   pub filter : Shows (byte_of_page (filter_page row)) (padded filter_bytes) image
+
+-- the filter's bytes and the row of a table that is built of some entries, on a level and from a page on
+abbrev pub made_filter : Spelling → (ℕ → List Leaf → ℕ) → Built → Bytes
+made_filter spelling built_cutoff built = filter_bytes_of spelling built_cutoff built.settings (keys_of built.entries)
+
+abbrev pub made_row : Spelling → (ℕ → List Leaf → ℕ) → Built → ℕ → ℕ → Row
+made_row spelling built_cutoff built level first_page = row_for level first_page built.entries (made_filter spelling built_cutoff built)
 
 -- three pieces written one behind the other
 abbrev pub three_written : Image → ℕ → Bytes → Bytes → Bytes → Image

@@ -1,15 +1,15 @@
 // A table that is built entry by entry.
-ghost use Rattle.std.specs.Prelude.{◌≡◌, ◌+◌, ◌*◌, ◌-◌, ◌≤◌, ◌<◌, ◌^◌, ◌++◌, [], ◌∷◌, List, length, map, vec_items, IfOk, OnOk, OnErr};
+ghost use Rattle.std.specs.Prelude.{◌≡◌, true, false, ◌==◌, Option, ◌+◌, ◌*◌, ◌-◌, ◌<◌, ◌^◌, ◌++◌, [], ◌∷◌, List, length, map, vec_items, IfOk, OnOk, OnErr};
 ghost use Rattle.std.specs.Option.{option_map};
 ghost use Rattle.entry_model.specs.Entries.{IsEntry, entry_of, keys_of};
+ghost use Rattle.map_model.specs.SortedMap.{Bytes};
 ghost use Rattle.entry_model.specs.Entries as model;
 ghost use Rattle.block_model.specs.Block.{IsBlock, block_bytes};
 ghost use Rattle.block_model.specs.Index.{index_row_of, row_pages};
 ghost use Rattle.block_model.specs.Order.{Follow, is_any};
-ghost use Rattle.block_model.specs.Pages.{block_pages, data_pages, last_key};
-ghost use Rattle.block_format.specs.Building.{takes};
+ghost use Rattle.block_model.specs.Pages.{data_pages, last_key, page_bytes};
 ghost use Rattle.filter_api.specs.Ranges.{InRange};
-ghost use Rattle.table_file.specs.BlockRows.{StandFrom, row_seen, rows_seen};
+ghost use Rattle.table_file.specs.BlockRows.{StandFrom, rows_seen};
 
 use crate::block_row::BlockRow;
 use crate::index::BlockIndex;
@@ -17,35 +17,42 @@ use crate::parts::Parts;
 use block_format::BlockBuilder;
 use byte_fields::fnv1a;
 use filter_api::{RangeFilter, Settings};
-use key_base::{KeyList, PAGE_BYTES};
+use key_base::{KeyList, PAGE_BYTES, compare};
 use std::alloc::{AllocError, Global};
 use std::marker::Model;
+use std::mem;
+
+/// The most entries of a table: a row counts them in four bytes.
+const MOST_ENTRIES: usize = 4_294_967_295;
 
 /// A table that is built entry by entry, seen as its entries so far and the settings of its filter.
 #[derive(Drop)]
 pub struct TableBuilder {
     settings: Settings,
     // the bytes of the closed blocks, and what the index keeps of each
-    data: Vec<u8>,
+    blocks: Vec<u8>,
     rows: Vec<BlockRow>,
     open: BlockBuilder,
+    // the next block, while the open one is closed
+    spare: BlockBuilder,
     // the keys of all entries
     keys: Vec<Vec<u8>>,
 }
 
 impl Model for TableBuilder {
-    ghost use Rattle.std.specs.Prelude.{map, vec_items};
+    ghost use Rattle.std.specs.Prelude.{◌≡◌, [], map, vec_items};
     ghost use Rattle.filter_api.specs.Ranges.{InRange};
     ghost use Rattle.table_file.specs.BlockRows.{StandFrom, rows_seen};
     ghost use Rattle.table_file.specs.Building.{Built, Holds, closed_in, entries_with};
 
     ghost Value = { Built };
 
-    ghost view = { λ b. record { settings = b.settings; entries = entries_with (closed_in (rows_seen b.rows.items) b.data.items) b.«open» } };
+    ghost view = { λ b. record { settings = b.settings; entries = entries_with (closed_in (rows_seen b.rows.items) b.blocks.items) b.«open» } };
 
     ghost invariant = { λ b. InRange b.settings
         × StandFrom 0 b.rows.items
-        × Holds (closed_in (rows_seen b.rows.items) b.data.items) b.data.items (rows_seen b.rows.items) b.«open» (map vec_items b.keys.items) };
+        × Holds (closed_in (rows_seen b.rows.items) b.blocks.items) b.blocks.items (rows_seen b.rows.items) b.«open» (map vec_items b.keys.items)
+        × (b.spare ≡ []) };
 }
 
 impl TableBuilder {
@@ -56,35 +63,69 @@ impl TableBuilder {
     {
         TableBuilder {
             settings,
-            data: Vec::new(alloc),
+            blocks: Vec::new(alloc),
             rows: Vec::new(alloc),
             open: BlockBuilder::new(alloc),
+            spare: BlockBuilder::new(alloc),
             keys: Vec::new(alloc),
         }
     }
 
-    /// Adds an entry with a key above all others, `None` for a tombstone's value. Without memory nothing is added.
+    /// Adds an entry, `None` for a tombstone's value. The key has 1 to 1,024 bytes and is
+    /// [above all others](TableBuilder::is_above_all), the value at most 65,536 bytes. Without memory nothing is added, and
+    /// none behind 2^32 - 1 others, since a row counts them in four bytes.
     ///
     /// It copies the key and the value, and sums a block where the entry begins the next one.
     pub fn add(&mut self, key: &[u8], value: Option<&[u8]>) -> Result<(), AllocError>
         requires sound { IsEntry (entry_of key.now (option_map (λ v. v.now) value)) }
         requires rising { Follow is_any (keys_of (self.old.entries ++ entry_of key.now (option_map (λ v. v.now) value) ∷ [])) }
-        requires few { length self.old.entries < 2 ^ 32 - 1 }
         ensures added { OnOk result (self.new ≡ record self.old { entries = self.old.entries ++ entry_of key.now (option_map (λ v. v.now) value.entry) ∷ [] }) }
         ensures refused { OnErr result (self.new ≡ self.old) }
     {
-        let copy = Vec::from_slice(*self.data.allocator(), key)?;
+        if self.is_full() {
+            return Err(AllocError);
+        }
+        let copy = Vec::from_slice(*self.blocks.allocator(), key)?;
         self.keys.reserve(1)?;
         if self.open.add(key, value)? {
             self.keys.push_reserved(copy);
             return Ok(());
         }
         let last = last_of(self.keys.as_slice());
-        let next = block_of(*self.data.allocator(), key, value)?;
-        close_block(&mut self.open, last, &mut self.data, &mut self.rows)?;
-        self.open = next;
+        begin(&mut self.spare, key, value)?;
+        roll(
+            &mut self.open,
+            &mut self.spare,
+            last,
+            &mut self.blocks,
+            &mut self.rows,
+        )?;
         self.keys.push_reserved(copy);
         Ok(())
+    }
+
+    // Whether a row could count no more entries.
+    fn is_full(&self) -> bool
+        ensures { result ≡ false → length self.now.entries < 2 ^ 32 - 1 }
+    {
+        self.keys.len() >= MOST_ENTRIES
+    }
+
+    /// Whether no entry was added.
+    pub fn is_empty(&self) -> bool
+        ensures { result ≡ (length self.now.entries == 0) }
+    {
+        self.keys.is_empty()
+    }
+
+    /// Whether a key is above those of all entries, as [`add`](TableBuilder::add) asks. The entries rise already.
+    pub fn is_above_all(&self, key: &[u8]) -> bool
+        ensures { (value : Option Bytes) → result ≡ true → Follow is_any (keys_of (self.now.entries ++ entry_of key.now value ∷ [])) }
+    {
+        if self.keys.is_empty() {
+            return true;
+        }
+        compare(last_of(self.keys.as_slice()), key).is_lt()
     }
 
     /// The parts of the table of the entries, one or more.
@@ -96,23 +137,24 @@ impl TableBuilder {
     {
         let TableBuilder {
             settings,
-            mut data,
+            mut blocks,
             mut rows,
             mut open,
             keys,
+            ..
         } = self;
-        let alloc = *data.allocator();
-        close_block(&mut open, last_of(keys.as_slice()), &mut data, &mut rows)?;
+        let alloc = *blocks.allocator();
+        close_block(&mut open, last_of(keys.as_slice()), &mut blocks, &mut rows)?;
         let keys = key_list(alloc, keys.as_slice())?;
         let least = Vec::from_slice(alloc, keys.get(0))?;
-        Parts::new(alloc, settings, data, BlockIndex::new(least, rows), &keys)
+        Parts::new(alloc, settings, blocks, BlockIndex::new(least, rows), &keys)
     }
 
     /// How many pages the blocks of the entries take that were added so far.
     pub fn data_pages(&self) -> u64
         ensures { result ≡ data_pages self.now.entries }
     {
-        let closed = (self.data.len() / PAGE_BYTES) as u64;
+        let closed = (self.blocks.len() / PAGE_BYTES) as u64;
         if self.open.is_empty() {
             return closed;
         }
@@ -139,14 +181,48 @@ pub(crate) fn last_of(keys: &[Vec<u8>]) -> &[u8]
     keys[keys.len() - 1].as_slice()
 }
 
-// A block that begins with an entry.
-fn block_of(alloc: Global, key: &[u8], value: Option<&[u8]>) -> Result<BlockBuilder, AllocError>
-    requires { IsEntry (entry_of key.now (option_map (λ v. v.now) value)) }
-    ensures { IfOk result (λ b. b ≡ entry_of key.now (option_map (λ v. v.now) value.entry) ∷ []) }
+// Begins a block with an entry.
+fn begin(spare: &mut BlockBuilder, key: &[u8], value: Option<&[u8]>) -> Result<(), AllocError>
+    requires sound { IsEntry (entry_of key.now (option_map (λ v. v.now) value)) }
+    requires none { spare.old ≡ [] }
+    ensures begun { OnOk result (spare.new ≡ entry_of key.now (option_map (λ v. v.now) value.entry) ∷ []) }
+    ensures same { OnErr result (spare.new ≡ []) }
 {
-    let mut block = BlockBuilder::new(alloc);
-    block.add(key, value)?;
-    Ok(block)
+    spare.add(key, value)?;
+    Ok(())
+}
+
+// Closes the open block, and opens the one that is begun. Without memory that one goes, and all else stays as it was.
+fn roll(
+    open: &mut BlockBuilder,
+    spare: &mut BlockBuilder,
+    last: &[u8],
+    blocks: &mut Vec<u8>,
+    rows: &mut Vec<BlockRow>,
+) -> Result<(), AllocError>
+    requires sound { IsBlock «open».old }
+    requires last { last.now ≡ last_key «open».old }
+    requires whole { length blocks.old.items ≡ page_bytes * row_pages (rows_seen rows.old.items) }
+    requires stand { StandFrom 0 rows.old.items }
+    ensures written { OnOk result (blocks.new.items ≡ blocks.old.items ++ block_bytes «open».old) }
+    ensures kept { OnOk result (rows_seen rows.new.items ≡ rows_seen rows.old.items ++ index_row_of «open».old ∷ []) }
+    ensures stand { OnOk result (StandFrom 0 rows.new.items) }
+    ensures next { OnOk result («open».new ≡ spare.old) }
+    ensures spare { spare.new ≡ [] }
+    ensures same_blocks { OnErr result (blocks.new.items ≡ blocks.old.items) }
+    ensures same_rows { OnErr result (rows.new.items ≡ rows.old.items) }
+    ensures same { OnErr result («open».new ≡ «open».old) }
+{
+    match close_block(open, last, blocks, rows) {
+        Ok(()) => {
+            mem::swap(open, spare);
+            Ok(())
+        }
+        Err(fault) => {
+            spare.clear();
+            Err(fault)
+        }
+    }
 }
 
 // Appends a block to those that are closed, and its row to theirs. Without memory all stays as it was.
@@ -154,29 +230,30 @@ fn block_of(alloc: Global, key: &[u8], value: Option<&[u8]>) -> Result<BlockBuil
 pub(crate) fn close_block(
     open: &mut BlockBuilder,
     last: &[u8],
-    data: &mut Vec<u8>,
+    blocks: &mut Vec<u8>,
     rows: &mut Vec<BlockRow>,
 ) -> Result<(), AllocError>
     requires sound { IsBlock «open».old }
     requires last { last.now ≡ last_key «open».old }
-    requires whole { length data.old.items ≡ 4096 * row_pages (rows_seen rows.old.items) }
+    requires whole { length blocks.old.items ≡ page_bytes * row_pages (rows_seen rows.old.items) }
     requires stand { StandFrom 0 rows.old.items }
-    ensures written { OnOk result (data.new.items ≡ data.old.items ++ block_bytes «open».old) }
+    ensures written { OnOk result (blocks.new.items ≡ blocks.old.items ++ block_bytes «open».old) }
     ensures kept { OnOk result (rows_seen rows.new.items ≡ rows_seen rows.old.items ++ index_row_of «open».old ∷ []) }
     ensures stand { OnOk result (StandFrom 0 rows.new.items) }
-    ensures same_data { OnErr result (data.new.items ≡ data.old.items) }
+    ensures emptied { OnOk result («open».new ≡ []) }
+    ensures same_blocks { OnErr result (blocks.new.items ≡ blocks.old.items) }
     ensures same_rows { OnErr result (rows.new.items ≡ rows.old.items) }
     ensures same { OnErr result («open».new ≡ «open».old) }
 {
-    let at = data.len();
+    let at = blocks.len();
     let pages = open.pages() as u32;
-    let last = Vec::from_slice(*data.allocator(), last)?;
+    let last = Vec::from_slice(*blocks.allocator(), last)?;
     rows.reserve(1)?;
-    open.close(data)?;
+    open.close(blocks)?;
     rows.push_reserved(BlockRow {
         first: (at / PAGE_BYTES) as u64,
         pages,
-        sum: fnv1a(&data[at..]),
+        sum: fnv1a(&blocks[at..]),
         last,
     });
     Ok(())

@@ -1,5 +1,5 @@
 // The index of a table in memory.
-ghost use Rattle.std.specs.Prelude.{◌≡◌, ◌+◌, ◌-◌, ◌≤◌, ◌<◌, ◌^◌, ◌++◌, [], length, take, flat_map, Some, None, IfOk, IfErr, OnOk};
+ghost use Rattle.std.specs.Prelude.{◌≡◌, ◌+◌, ◌-◌, ◌≤◌, ◌<◌, ◌^◌, ◌++◌, length, take, flat_map, Some, None, IfOk, IfErr, OnOk};
 ghost use Rattle.block_model.specs.Index.{IsIndex, index_bytes, index_row_bytes, row_pages};
 ghost use Rattle.block_model.specs.IndexReading.{index_fault, index_in, rows_fault, rows_in};
 ghost use Rattle.block_model.specs.Order.{Follow, is_any, is_from};
@@ -12,7 +12,7 @@ use crate::before::Before;
 use crate::block_row::BlockRow;
 use crate::index_fault::IndexFault;
 use crate::index_row::{MAGIC, read_head, read_row};
-use entry_list::push_fields;
+use byte_fields::push_fields;
 use key_base::compare;
 use std::alloc::{AllocError, Global};
 use std::marker::Model;
@@ -95,12 +95,16 @@ impl BlockIndex {
         if compare(key, self.least.as_slice()).is_lt() {
             return None;
         }
-        let n = first_from(self.rows.as_slice(), key);
-        if n < self.rows.len() {
-            Some(n as u32)
-        } else {
-            None
-        }
+        let n = self.first_from(key);
+        if n < self.len() { Some(n) } else { None }
+    }
+
+    /// How many blocks have last keys below this one.
+    pub(crate) fn first_from(&self, key: &[u8]) -> u32
+        ensures bound { result ≤ length self.now.rows }
+        ensures first { result ≡ position_or_len (λ row. is_from key.now row.last) self.now.rows }
+    {
+        first_from(self.rows.as_slice(), key) as u32
     }
 
     /// The least key.

@@ -1,5 +1,5 @@
 // One row of an index, in the bytes that begin with it, and the head before the rows.
-ghost use Rattle.std.specs.Prelude.{◌≡◌, ◌≤◌, ◌<◌, ◌+◌, ◌^◌, length, Some, None, IfOk, IfErr};
+ghost use Rattle.std.specs.Prelude.{◌≡◌, ◌≤◌, ◌<◌, ◌+◌, ◌^◌, length, None, IfOk, IfErr};
 ghost use Rattle.block_model.specs.IndexReading.{head_width_in, index_head_fault, last_in, least_in, pages_in, row_fault, row_width_in, rows_count_in, sum_in};
 ghost use Rattle.table_file.specs.Faults.{IsShape, IsWithin};
 ghost use Rattle.table_file.specs.Before.{passes};

@@ -1,7 +1,21 @@
-// The laws of tables that are opened. They are proved and never called.
-ghost use Rattle.table_file.specs.Laws.{OpenedStands};
+// The laws of tables that are opened, and of tables that stand on a device. They are proved and never called.
+ghost use Rattle.table_file.specs.Laws.{OpenedStands, StandingBlocks, StandingKeys, StandingWalks, WrittenIsShown};
 
 /// A table that was opened from bytes that spell the table of some blocks is the table of these blocks.
 pub fn opened_tables_stand()
     ensures { OpenedStands }
+{}
+
+/// What stands on a device once parts were written shows these parts, without the zero bytes behind them.
+pub fn written_parts_are_shown()
+    ensures { WrittenIsShown }
+{}
+
+/// A table that stands on a device is read as its blocks, whether a block is read or was kept from an earlier read: what the
+/// parts of a [`get`](crate::Table::get) and a walk find are its entries. For a key a block is read exactly where the filter
+/// admits it and it lies within the least and the greatest key.
+pub fn standing_tables_are_read()
+    ensures blocks { StandingBlocks }
+    ensures keys { StandingKeys }
+    ensures walks { StandingWalks }
 {}

@@ -1,10 +1,12 @@
-//! Tables on a device: built in memory, written to pages, opened again with their filter, and searched with one read.
+//! Tables on a device: built in memory, written to pages, opened again with their filter, searched with one read, and walked
+//! block by block.
 //!
 //! A [`TableBuilder`] takes entries by rising keys and cuts them into blocks as it goes; [`Parts`] are the blocks, the index
 //! and the filter of its entries, and [`write_parts`] puts them on a device by three writes and a sync. At `Ok` each image
 //! that a crash may leave has the table. [`open_table`] reads index and filter and judges every byte of them before it is
 //! trusted; a [`Table`] then answers a [`get`](Table::get) by one read of one block, or by none where its filter denies the
-//! key. The kind of filter and the device are parameters, known by their traits alone.
+//! key. A [`TableCursor`] walks the entries from a key on: it reads a block where one is due, and hands its entries out where
+//! they lie. The kind of filter and the device are parameters, known by their traits alone.
 //!
 //! An opened table keeps its index and its filter in memory: about 60 bytes and a key for each block. Building keeps all of
 //! the table's bytes, and its keys twice while the filter is built. Not for entries that come in any order, and not for a
@@ -17,13 +19,17 @@
 //! write_parts(&mut disk, 192, &parts)?;
 //! let table: Table<F> = open_table(alloc, &mut disk, &parts.row(0, 192))?;
 //! table.get(&mut disk, b"a", &mut buf)? == Some(Some(b"b"))      // Some(None) for a tombstone
+//! let mut cursor = table.cursor(alloc, b"")?;
+//! while let Some((key, value)) = cursor.next(&mut disk, &table)? { .. }
 //! ```
 #![tactic(auto)]
 
 mod before;
 mod block_row;
 mod builder;
+mod cursor;
 mod fault;
+mod held_block;
 mod index;
 mod index_fault;
 mod index_row;
@@ -32,12 +38,15 @@ mod opening;
 mod padded;
 mod parts;
 mod table;
+mod tables;
 mod writing;
 
 pub use builder::TableBuilder;
+pub use cursor::TableCursor;
 pub use fault::TableFault;
-pub use laws::opened_tables_stand;
-pub use opening::open_table;
+pub use laws::{opened_tables_stand, standing_tables_are_read, written_parts_are_shown};
+pub use opening::{fits_device, open_table};
 pub use parts::{Parts, pages_of};
-pub use table::Table;
+pub use table::{LARGEST_BLOCK_BYTES, Table};
+pub use tables::Tables;
 pub use writing::write_parts;

@@ -1,24 +1,25 @@
 // A table is opened: its index and its filter are read and judged.
-ghost use Rattle.std.specs.Prelude.{◌≡◌, ◌≢◌, ◌+◌, ◌*◌, ◌^◌, ◌≤◌, ◌<◌, length, IsTrue, IfOk, IfErr, None};
+ghost use Rattle.std.specs.Prelude.{◌≡◌, ◌+◌, ◌*◌, ◌^◌, ◌≤◌, ◌<◌, length, IsTrue, true, IfOk, IfErr, None};
 ghost use Rattle.byte_fields.specs.Sums.{fnv_of};
 ghost use Rattle.disk_trait.specs.Image.{Image, window};
 ghost use Rattle.disk_trait.specs.World.{ReadMoves};
 ghost use Rattle.filter_api.specs.Spellings.{IsSpelling};
 ghost use Rattle.filter_api.specs.declared.settings.Settings.{Settings};
 ghost use Rattle.block_model.specs.IndexReading.{index_fault, index_in};
-ghost use Rattle.block_model.specs.Places.{byte_of_page, filter_page, index_page};
+ghost use Rattle.block_model.specs.Places.{FitsDevice, byte_of_page, end_page, index_page};
 ghost use Rattle.table_model.specs.Damage.{filter_part, part_damage};
 ghost use Rattle.table_file.specs.Faults.{HasOpenCause, HasReadCause, IsDamage, IsDamagedFilter, IsDamagedTable, IsNoDamage, IsNoDevice, IsOtherSum};
-ghost use Rattle.table_file.specs.Opened.{FitsDevice, IsOpen};
+ghost use Rattle.table_file.specs.Opened.{IsOpen};
 
 use crate::fault::TableFault;
 use crate::index::BlockIndex;
 use crate::index_fault::IndexFault;
 use crate::table::Table;
+use block_model::pages_for;
 use byte_fields::{Damage, Part, Row, fnv1a};
 use disk_trait::Disk;
 use filter_api::{DecodeError, RangeFilter};
-use key_base::PAGE_BYTES;
+use key_base::{MAX_DEVICE_PAGES, PAGE_BYTES};
 use std::alloc::Global;
 
 /// The place in a filter that is named where it has other leaves than the table has entries, and that rule.
@@ -27,7 +28,7 @@ const LEAVES_AT: u64 = 12;
 const OTHER_LEAVES: u8 = 11;
 
 /// Opens the table of a row: reads its index and its filter, and judges every byte of them. At most two reads, and
-/// memory for both.
+/// memory for both. The row has to [fit the device](fits_device).
 ///
 /// `Ok` exactly where index and filter keep their sums and rules and the row's counts, but for want of memory and faults
 /// of the device; else the first damage. The widths of the filter are not compared with any settings.
@@ -50,6 +51,27 @@ pub fn open_table<F: RangeFilter, D: Disk>(
     let bytes = read_part(alloc, disk, page, row.filter_len)?;
     let filter = read_filter(alloc, row, &bytes)?;
     Ok(Table::new(*row, index, filter))
+}
+
+/// Whether the table of a row lies within the largest device, and index and filter have the pages that their lengths want, as
+/// [`open_table`] asks.
+pub fn fits_device(row: &Row) -> bool
+    ensures fits { result ≡ true → FitsDevice row.now }
+    ensures all { FitsDevice row.now → result ≡ true }
+{
+    u64::from(row.index_pages) == pages_for(row.index_len)
+        && u64::from(row.filter_pages) == pages_for(row.filter_len)
+        && end_of(row) <= u64::from(MAX_DEVICE_PAGES)
+}
+
+// The page behind the table of a row.
+fn end_of(row: &Row) -> u64
+    ensures { result ≡ end_page row.now }
+{
+    u64::from(row.first_page)
+        + u64::from(row.data_pages)
+        + u64::from(row.index_pages)
+        + u64::from(row.filter_pages)
 }
 
 // So many bytes from a page on.

@@ -1,16 +1,18 @@
 // The parts of a table in memory, before they are written.
-ghost use Rattle.std.specs.Prelude.{◌≡◌, ◌+◌, ◌≤◌, length, map, vec_items, IfOk};
+ghost use Rattle.std.specs.Prelude.{◌≡◌, ◌+◌, ◌≤◌, List, IfOk};
 ghost use Rattle.entry_model.specs.Entries.{keys_of};
 ghost use Rattle.block_model.specs.Block.{IsTable, data_bytes};
 ghost use Rattle.block_model.specs.Index.{index_of};
 ghost use Rattle.block_model.specs.Laws.{joined};
 ghost use Rattle.filter_api.specs.Ranges.{InRange};
-ghost use Rattle.table_model.specs.Tables.{table_pages};
-ghost use Rattle.table_model.specs.Written.{ArePartsShown, row_for};
+ghost use Rattle.table_model.specs.Tables.{filter_bytes_of, table_pages};
+ghost use Rattle.table_model.specs.Written.{ArePartsShown};
 ghost use Rattle.disk_trait.specs.Image.{Image};
+ghost use Rattle.key_base.specs.Limits.{max_device_pages};
 ghost use Rattle.block_model.specs.Places.{end_page};
 ghost use Rattle.table_file.specs.Parts.{filter_of};
-ghost use Rattle.table_file.specs.Building.{closed_in, filter_bytes_of};
+ghost use Rattle.table_file.specs.Writing.{made_filter, made_row};
+ghost use Rattle.table_file.specs.Building.{closed_in};
 
 use crate::index::BlockIndex;
 use crate::padded::Padded;
@@ -79,13 +81,14 @@ impl<F: RangeFilter> Parts<F> {
         })
     }
 
-    /// The row of the table that these parts make on a level, from a page on.
+    /// The row of the table that these parts make on a level, from a page on. Its [pages](pages_of) end within the 2^24 of
+    /// the largest device.
     ///
     /// It sums the bytes of index and filter.
     #[tactic(auto, unfolding(table_model::specs::Written::row_for))]
     pub fn row(&self, level: u8, first_page: u32) -> Row
-        requires { first_page + table_pages (filter_bytes_of F.spelling F.built_cutoff) self.now.settings self.now.entries ≤ 16777216 }
-        ensures { result ≡ row_for level first_page self.now.entries (filter_bytes_of F.spelling F.built_cutoff self.now.settings (keys_of self.now.entries)) }
+        requires { first_page + table_pages (filter_bytes_of F.spelling F.built_cutoff) self.now.settings self.now.entries ≤ max_device_pages }
+        ensures { result ≡ made_row F.spelling F.built_cutoff self.now level first_page }
     {
         Row {
             level,
@@ -103,15 +106,19 @@ impl<F: RangeFilter> Parts<F> {
 }
 
 impl<F: RangeFilter> Parts<F> {
+    ghost use Rattle.entry_model.specs.Entries.{Entry};
     ghost use Rattle.table_file.specs.Opened.{IsOpen};
+    ghost use Rattle.table_file.specs.Search.{StandsThere};
 
     /// The table that [`open_table`](crate::open_table) would give for a row of these parts, where they are written. No
     /// read and no memory.
     pub fn into_table(self, row: Row) -> Table<F>
-        requires row { row ≡ row_for row.level row.first_page self.entries (filter_bytes_of F.spelling F.built_cutoff self.settings (keys_of self.entries)) }
-        requires within { end_page row ≤ 16777216 }
+        requires row { row ≡ made_row F.spelling F.built_cutoff self row.level row.first_page }
+        requires within { end_page row ≤ max_device_pages }
         ensures table { result ≡ record { row = row; index = index_of self.entries; filter = filter_of F.built_cutoff self.settings (keys_of self.entries) } }
-        ensures opened { (image : Image) → ArePartsShown row self.entries (filter_bytes_of F.spelling F.built_cutoff self.settings (keys_of self.entries)) image → IsOpen F.spelling result image }
+        ensures opened { (image : Image) → ArePartsShown row self.entries (made_filter F.spelling F.built_cutoff self) image → IsOpen F.spelling result image }
+        ensures stands { (image : Image) → ArePartsShown row self.entries (made_filter F.spelling F.built_cutoff self) image
+            → (blocks : List (List Entry)) × StandsThere F.spelling self.settings result blocks image × (joined blocks ≡ self.entries) }
     {
         let Parts { index, filter, .. } = self;
         Table::new(row, index, filter)

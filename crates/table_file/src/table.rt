@@ -1,5 +1,5 @@
 // A table that is opened.
-ghost use Rattle.std.specs.Prelude.{◌≡◌, ◌+◌, ◌-◌, ◌*◌, ◌≤◌, ◌<◌, ℕ, List, length, take, IsTrue, IfOk, IfErr, OnOk, Some, None};
+ghost use Rattle.std.specs.Prelude.{◌≡◌, ◌+◌, ◌-◌, ◌*◌, ◌≤◌, ◌<◌, ℕ, List, length, take, IsTrue, IfOk, IfErr, OnOk, Ok, Some, None};
 ghost use Rattle.std.specs.Option.{option_map};
 ghost use Rattle.byte_fields.specs.Sums.{fnv_of};
 ghost use Rattle.disk_trait.specs.World.{ReadMoves};
@@ -11,17 +11,24 @@ ghost use Rattle.block_model.specs.BlockReading.{block_fault, block_in};
 ghost use Rattle.block_model.specs.Pages.{page_bytes};
 ghost use Rattle.block_model.specs.Places.{byte_of_page};
 ghost use Rattle.table_file.specs.Faults.{HasReadCause, IsNoDamage, IsNoWant};
-ghost use Rattle.table_file.specs.Search.{IsBrokenBlock, IsGetFault, IsOtherBlock, StandsThere, block_for, blocks_read, bytes_at, page_at, row_at};
+ghost use Rattle.table_file.specs.Search.{IsBrokenBlock, IsGetFault, IsOtherBlock, IsSoundBlock, StandsThere, block_for, blocks_read, bytes_at, largest_block, page_at, row_at};
+ghost use Rattle.table_file.specs.Walks.{walk_from};
 
+use crate::cursor::TableCursor;
 use crate::fault::TableFault;
+use crate::held_block::HeldBlock;
 use crate::index::BlockIndex;
 use crate::opening::check_sum;
-use block_format::Block;
+use block_format::{Block, BlockFault};
 use byte_fields::{Damage, Part, Row};
 use disk_trait::Disk;
 use filter_api::RangeFilter;
 use key_base::PAGE_BYTES;
+use std::alloc::{AllocError, Global};
 use std::marker::Model;
+
+/// The bytes of the largest block, of 17 pages: the room that a buffer needs into which blocks are read.
+pub const LARGEST_BLOCK_BYTES: usize = 69_632;
 
 /// A table on a device: its row, its index and its filter in memory.
 #[derive(Drop)]
@@ -112,10 +119,13 @@ impl<F: RangeFilter> Table<F> {
         key: &[u8],
         buf: &'a mut [u8],
     ) -> Result<Option<Option<&'a [u8]>>, TableFault>
-        requires room { 69632 ≤ length buf.old }
+        requires room { largest_block ≤ length buf.old }
+        ensures denied { block_for self.now key.now ≡ None → result ≡ Ok None }
         ensures taken { IfErr result IsNoWant }
         ensures cause { (n : ℕ) → block_for self.now key.now ≡ Some n → IfErr result (HasReadCause (byte_of_page (page_at self.now n)) (D.world disk.old) (D.world disk.new)) }
         ensures fault { (n : ℕ) → IsTrue D.tells → block_for self.now key.now ≡ Some n → IfErr result (IsGetFault self.now n (D.world disk.old).seen.held) }
+        ensures sound { (n : ℕ) → IsTrue D.tells → block_for self.now key.now ≡ Some n → IfOk result (λ _. IsSoundBlock self.now n (D.world disk.old).seen.held) }
+        ensures said { (n : ℕ) → IsTrue D.tells → block_for self.now key.now ≡ Some n → IfOk result (λ found. option_map (λ f. option_map (λ v. v.now) f) found ≡ lookup (block_in (bytes_at self.now n (D.world disk.old).seen.held)) key.now) }
         ensures moves { ReadMoves (blocks_read (block_for self.now key.now)) (D.world disk.old) (D.world disk.new) }
         ensures counted { IsTrue D.tells → OnOk result ((D.world disk.new).seen.reads ≡ (D.world disk.old).seen.reads + blocks_read (block_for self.now key.now)) }
         ensures answer { (settings : Settings) (blocks : List (List Entry)) → IsTrue D.tells → StandsThere F.spelling settings self.now blocks (D.world disk.old).seen.held
@@ -153,9 +163,9 @@ impl<F: RangeFilter> Table<F> {
         buf: &mut [u8],
     ) -> Result<usize, TableFault>
         requires there { n < length self.now.index.rows }
-        requires room { 69632 ≤ length buf.old }
+        requires room { largest_block ≤ length buf.old }
         ensures size { IfOk result (λ size. size ≡ page_bytes * (row_at self.now.index.rows n).pages) }
-        ensures large { IfOk result (λ size. size ≤ 69632) }
+        ensures large { IfOk result (λ size. size ≤ largest_block) }
         ensures taken { IfErr result IsNoWant }
         ensures bytes { IsTrue D.tells → IfOk result (λ size. take size buf.new ≡ bytes_at self.now n (D.world disk.old).seen.held) }
         ensures sum { IsTrue D.tells → IfOk result (λ _. (row_at self.now.index.rows n).sum ≡ fnv_of (bytes_at self.now n (D.world disk.old).seen.held)) }
@@ -183,20 +193,39 @@ impl<F: RangeFilter> Table<F> {
         key: &[u8],
     ) -> Result<Option<Option<&'a [u8]>>, TableFault>
         requires there { n < length self.now.index.rows }
-        requires size { length bytes.now ≤ 69632 }
+        requires size { length bytes.now ≤ largest_block }
         ensures whole { IfOk result (λ _. block_fault bytes.now ≡ None) }
         ensures said { IfOk result (λ found. option_map (λ f. option_map (λ v. v.now) f) found ≡ lookup (block_in bytes.now) key.now) }
         ensures damaged { IfErr result (IsBrokenBlock self.now n bytes.now) }
     {
-        let first = self.index.row(n as usize).first;
         match Block::read_and_find(bytes, key) {
             Ok(found) => Ok(found),
-            Err(fault) => Err(TableFault::Damaged(Damage::Shape {
-                part: Part::Block,
-                at: PAGE_BYTES as u64 * (u64::from(self.row.first_page) + first)
-                    + fault.place as u64,
-                rule: fault.rule,
-            })),
+            Err(fault) => Err(self.broken(n, fault)),
         }
+    }
+
+    /// A walk over its entries from a bound on. It takes all its memory: the bound, and room for the largest block. No
+    /// read.
+    pub fn cursor(&self, alloc: Global, low: &[u8]) -> Result<TableCursor, AllocError>
+        ensures { IfOk result (λ c. c ≡ walk_from self.now low.now) }
+    {
+        let held = HeldBlock::new(alloc)?;
+        let bound = Vec::from_slice(alloc, low)?;
+        Ok(TableCursor::new(bound, self.index.first_from(low), held))
+    }
+
+    // The fault of the block number `n`, whose bytes break a rule.
+    pub(crate) fn broken(&self, n: u32, fault: BlockFault) -> TableFault
+        requires there { n < length self.now.index.rows }
+        requires place { fault.place ≤ largest_block }
+        ensures { result ≡ TableFault.Damaged (Damage.Shape Part.Block (byte_of_page (page_at self.now n) + fault.place) fault.rule) }
+    {
+        let first = self.index.row(n as usize).first;
+        let at = PAGE_BYTES as u64 * (u64::from(self.row.first_page) + first);
+        TableFault::Damaged(Damage::Shape {
+            part: Part::Block,
+            at: at + fault.place as u64,
+            rule: fault.rule,
+        })
     }
 }

@@ -1,21 +1,20 @@
 // The parts of a table on their way to a device.
 ghost use Rattle.std.specs.Prelude.{◌≡◌, ◌+◌, ◌*◌, ◌^◌, ◌≤◌, ℕ, length, IsTrue, IfErr, OnOk, OnErr};
 ghost use Rattle.disk_trait.specs.World.{IsDurable, Now, Rose, WriteMoves};
-ghost use Rattle.entry_model.specs.Entries.{keys_of};
 ghost use Rattle.block_model.specs.Pages.{page_bytes};
+ghost use Rattle.key_base.specs.Limits.{max_device_pages};
 ghost use Rattle.block_model.specs.Places.{byte_of_page, filter_page, index_page};
 ghost use Rattle.table_model.specs.Images.{IsTableOf};
-ghost use Rattle.table_model.specs.Tables.{table_of, table_pages};
-ghost use Rattle.table_model.specs.Written.{row_for};
-ghost use Rattle.table_file.specs.Building.{filter_bytes_of};
-ghost use Rattle.table_file.specs.Writing.{AreWritten, IsWriteOf, three_written};
+ghost use Rattle.table_model.specs.Tables.{filter_bytes_of, table_of, table_pages};
+ghost use Rattle.table_file.specs.Writing.{AreWritten, IsWriteOf, made_filter, made_row, three_written};
 
 use crate::parts::Parts;
 use disk_trait::{Disk, DiskFault};
 use filter_api::RangeFilter;
 use key_base::PAGE_BYTES;
 
-/// Writes a table's blocks, index and filter from a page on, and makes them last: three writes and a sync, no memory.
+/// Writes a table's blocks, index and filter from a page on, and makes them last: three writes and a sync, no memory. The
+/// [pages of the table](crate::pages_of) end within the 2^24 of the largest device.
 ///
 /// At `Ok` each image that a crash may leave has the table there. At `Err` any bytes may stand in its pages.
 pub fn write_parts<F: RangeFilter, D: Disk>(
@@ -23,16 +22,16 @@ pub fn write_parts<F: RangeFilter, D: Disk>(
     first_page: u32,
     parts: &Parts<F>,
 ) -> Result<(), DiskFault>
-    requires { first_page + table_pages (filter_bytes_of F.spelling F.built_cutoff) parts.now.settings parts.now.entries ≤ 16777216 }
-    ensures written { (level : ℕ) → IsTrue D.tells → OnOk result (Now (AreWritten (row_for level first_page parts.now.entries (filter_bytes_of F.spelling F.built_cutoff parts.now.settings (keys_of parts.now.entries)))
-        parts.now.entries (filter_bytes_of F.spelling F.built_cutoff parts.now.settings (keys_of parts.now.entries))) (D.world disk.new)) }
+    requires { first_page + table_pages (filter_bytes_of F.spelling F.built_cutoff) parts.now.settings parts.now.entries ≤ max_device_pages }
+    ensures written { (level : ℕ) → IsTrue D.tells → OnOk result (Now (AreWritten (made_row F.spelling F.built_cutoff parts.now level first_page)
+        parts.now.entries (made_filter F.spelling F.built_cutoff parts.now)) (D.world disk.new)) }
     ensures table { (level : ℕ) → IsTrue D.tells → OnOk result (Now (IsTableOf F.spelling parts.now.settings
-        (row_for level first_page parts.now.entries (filter_bytes_of F.spelling F.built_cutoff parts.now.settings (keys_of parts.now.entries)))
+        (made_row F.spelling F.built_cutoff parts.now level first_page)
         (table_of (filter_bytes_of F.spelling F.built_cutoff) parts.now.settings level first_page parts.now.entries)) (D.world disk.new)) }
     ensures moves { WriteMoves (byte_of_page first_page) (page_bytes * table_pages (filter_bytes_of F.spelling F.built_cutoff) parts.now.settings parts.now.entries) (D.world disk.old) (D.world disk.new) }
     ensures fault { (level : ℕ) → IfErr result (IsWriteOf (byte_of_page first_page)
-        (byte_of_page (index_page (row_for level first_page parts.now.entries (filter_bytes_of F.spelling F.built_cutoff parts.now.settings (keys_of parts.now.entries)))))
-        (byte_of_page (filter_page (row_for level first_page parts.now.entries (filter_bytes_of F.spelling F.built_cutoff parts.now.settings (keys_of parts.now.entries)))))) }
+        (byte_of_page (index_page (made_row F.spelling F.built_cutoff parts.now level first_page)))
+        (byte_of_page (filter_page (made_row F.spelling F.built_cutoff parts.now level first_page)))) }
     ensures cause { OnErr result (Rose (D.world disk.old).seen.write_faults (D.world disk.new).seen.write_faults) }
 {
     write_three(

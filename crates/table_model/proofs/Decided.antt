@@ -6,13 +6,13 @@ use Rattle.byte_fields.specs.Sums.{fnv_of}
 use Rattle.byte_fields.specs.declared.parts.Damage.{Damage}
 use Rattle.byte_fields.specs.declared.parts.Row.{Row}
 use Rattle.disk_trait.specs.Image.{Image, window}
-use Rattle.filter_api.specs.Spellings.{IsSpelling, Spelling}
+use Rattle.filter_api.specs.Spellings.{IsDecided, IsSpelling, Spelling}
 use Rattle.filter_api.specs.declared.errors.FilterFault.{FilterFault}
 use Rattle.filter_api.specs.declared.settings.Settings.{Settings}
 use Rattle.filter_model.specs.Leaves.{Leaf}
 use Rattle.map_model.specs.SortedMap.{Bytes}
 use Rattle.block_model.specs.Places.{byte_of_page, filter_page}
-use Rattle.table_model.specs.Damage.{IsOfBytes, IsDecided, IsFilterDamage, IsSoundFilter, filter_part, no_spelling, other_leaves, other_sum, other_widths}
+use Rattle.table_model.specs.Damage.{IsOfBytes, IsFilterDamage, IsSoundFilter, filter_part, no_spelling, other_leaves, other_sum, other_widths}
 use Rattle.table_model.specs.Laws.{FilterIsSoundOrDamaged}
 
 pub window_bytes : (image : Image) (at n : ℕ) → IsOfBytes image → IsBytes (window image at n)

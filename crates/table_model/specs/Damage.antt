@@ -1,8 +1,7 @@
 -- What is wrong with a part of a table: another sum than the one that is kept, or the first rule that its bytes break.
-use Rattle.std.specs.Prelude.{◌≡◌, ◌≢◌, ◌⊎◌, ◌<◌, ℕ, ◌+◌, ◌*◌, ◌==◌, List, [], ◌∷◌, length, Option, Some, None, if◌then◌else◌}
+use Rattle.std.specs.Prelude.{◌≡◌, ◌≢◌, ◌<◌, ℕ, ◌+◌, ◌*◌, ◌==◌, List, [], ◌∷◌, length, Option, Some, None, if◌then◌else◌}
 use Rattle.std.specs.Option.{option_map}
 use Rattle.disk_trait.specs.Image.{Image, window}
-use Rattle.byte_fields.specs.Spelling.{IsBytes}
 use Rattle.byte_fields.specs.Sums.{fnv_of}
 use Rattle.byte_fields.specs.declared.parts.Damage.{Damage}
 use Rattle.byte_fields.specs.declared.parts.Damage.TheVariants as damage
@@ -90,15 +89,8 @@ pub record IsSoundFilter (spelling : Spelling) (settings : Settings) (row : Row)
   pub spelled : IsSpelling spelling settings.hash_bits settings.real_bits cutoff leaves (filter_part row image)
   pub many : length leaves ≡ row.entries
 
--- ---- what is known of any image, and of a kind of filter that can tell
+-- ---- what is known of any image
 
 -- an image of bytes
 abbrev pub IsOfBytes : Image → Type 0
 IsOfBytes image = (place : ℕ) → image place < 256
-
--- some bytes spell nothing, or a leaf list
-abbrev pub IsDecided : Spelling → Type 0
-IsDecided spelling =
-    (bytes : Bytes) → IsBytes bytes
-    → IsNoSpelling spelling bytes
-    ⊎ ((hash_bits : ℕ) × (real_bits : ℕ) × (cutoff : ℕ) × (leaves : List Leaf) × IsSpelling spelling hash_bits real_bits cutoff leaves bytes)

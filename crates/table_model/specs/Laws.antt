@@ -6,7 +6,7 @@ use Rattle.byte_fields.specs.declared.parts.Damage.{Damage}
 use Rattle.byte_fields.specs.declared.parts.Damage.TheVariants as damage
 use Rattle.byte_fields.specs.declared.parts.Part.TheVariants as part
 use Rattle.byte_fields.specs.declared.parts.Row.{Row}
-use Rattle.filter_api.specs.Spellings.{IsNoSpelling, IsSpelling, Spelling, SpellsOne}
+use Rattle.filter_api.specs.Spellings.{IsDecided, IsNoSpelling, IsSpelling, Spelling, SpellsOne}
 use Rattle.filter_api.specs.declared.errors.FilterFault.{FilterFault}
 use Rattle.filter_api.specs.declared.settings.Settings.{Settings}
 use Rattle.filter_model.specs.Leaves.{Leaf}
@@ -20,7 +20,7 @@ use Rattle.block_model.specs.IndexReading.{index_fault, index_in}
 use Rattle.block_model.specs.Laws.{joined}
 use Rattle.block_model.specs.Pages.{page_bytes}
 use Rattle.block_model.specs.Places.{byte_of_page, filter_page, index_page, pages_of}
-use Rattle.table_model.specs.Damage.{IsOfBytes, AreSoundBlocks, HasWidths, IsDecided, IsFilterDamage, IsSoundFilter, block_damage, block_part, filter_part, index_damage, index_part}
+use Rattle.table_model.specs.Damage.{IsOfBytes, AreSoundBlocks, HasWidths, IsFilterDamage, IsSoundFilter, block_damage, block_part, filter_part, index_damage, index_part}
 use Rattle.table_model.specs.Images.{IsFilterOfKeys, IsTableAt, IsTableOf}
 use Rattle.table_model.specs.Tables.{FilterBytes, Table, table_of}
 use Rattle.table_model.specs.Written.{ArePartsShown, row_for}

@@ -1,6 +1,8 @@
 -- A table as a state has it, and the one that is made of some entries.
 use Rattle.std.specs.Prelude.{ℕ, ◌+◌, List, length}
+use Rattle.filter_api.specs.Spellings.{Spelling}
 use Rattle.filter_api.specs.declared.settings.Settings.{Settings}
+use Rattle.filter_model.specs.Leaves.{Leaf, leaves_of}
 use Rattle.map_model.specs.SortedMap.{Bytes}
 use Rattle.entry_model.specs.Entries.{Entry, keys_of}
 use Rattle.block_model.specs.Pages.{pages_for, blocks_of, data_pages, index_length}
@@ -17,6 +19,12 @@ pub record Table : Type 0 where
 -- the bytes of the filter that is built of some keys, by the settings: a parameter, for each kind of filter its own
 abbrev pub FilterBytes : Type 0
 FilterBytes = Settings → List Bytes → Bytes
+
+-- those of the filters that a kind of filter builds, by its spelling and the cutoff that it leaves for a ratio
+abbrev pub filter_bytes_of : Spelling → (ℕ → List Leaf → ℕ) → FilterBytes
+filter_bytes_of spelling cutoff settings keys =
+    let leaves = leaves_of settings.hash_bits settings.real_bits keys in
+    spelling settings.hash_bits settings.real_bits (cutoff settings.ratio leaves) leaves
 
 -- data, index and filter, each in whole pages
 abbrev pub table_pages : FilterBytes → Settings → List Entry → ℕ

@@ -9,6 +9,7 @@ use Rattle.block_model.specs.Order.{is_any, is_from}
 use Rattle.entry_model.specs.Newest.{entries_from}
 use Rattle.block_format.specs.Reading.{Stand}
 use Rattle.block_format.proofs.Standing.{behind, fits, ge_not_lt, kept_all, left_out}
+use Rattle.block_format.proofs.Spans.{spanned_to_end, stands_to_end}
 use Rattle.block_format.proofs.block.seek_in.Goals as goal
 
 pub entry_here-row-requires : goal.entry_here-row-requires
@@ -16,8 +17,11 @@ entry_here-row-requires c =
     subst (λ (l : Bytes). width_in l ≤ length l) (sym (take_rest c.args.bytes.now c.loop-i.at))
     (fits (c.args.count - c.loop-i.i) (drop c.loop-i.at c.args.bytes.now) (omega (arith, c.loop-i-test.true)) c.loop-i.invariant.stand)
 
-pub returns-then-is_ge : goal.returns-then-is_ge
-returns-then-is_ge c =
+pub returns-then-is_ge-clause-stands : goal.returns-then-is_ge-clause-stands
+returns-then-is_ge-clause-stands c = stands_to_end c.loop-i.at (c.args.count - c.loop-i.i) c.args.bytes.now c.loop-i.invariant.within c.loop-i.invariant.stand
+
+pub returns-then-is_ge-clause-entries : goal.returns-then-is_ge-clause-entries
+returns-then-is_ge-clause-entries c =
     let bytes = c.args.bytes.now in
     let low = c.args.low.now in
     let at = c.loop-i.at in
@@ -27,7 +31,7 @@ returns-then-is_ge c =
     let keys : c.entry_here-row.result.key.now ≡ key_in here = c.entry_here-row.ensures.key ∙ ap key_in rest in
     let from : is_from low (key_in here) ≡ true =
     ap (is_from low) (sym keys) ∙ ap (λ (o : Ordering). not (is_lt o)) (sym c.compare.ensures) ∙ sym (ge_not_lt c.compare.result) ∙ sym c.is_ge.ensures ∙ c.if-is_ge.true in
-    c.new.ensures ∙ ap (entries_in n) rest
+    spanned_to_end at n bytes
     ∙ sym (kept_all n here (omega (arith, c.loop-i-test.true)) c.loop-i.invariant.stand low from)
     ∙ sym c.loop-i.invariant.same
 
@@ -53,8 +57,11 @@ loop-i-preserved c =
       same = c.loop-i.invariant.same ∙ left_out n here some c.loop-i.invariant.stand low below ∙ ap₂ (λ (k : ℕ) (l : Bytes). entries_from (entries_in k l) low) fewer next;
     }
 
-pub returns : goal.returns
+pub returns-clause-stands : goal.returns-clause-stands
+returns-clause-stands c = stands_to_end c.loop-i.at 0 c.args.bytes.now c.loop-i.invariant.within tt
+
+pub returns-clause-entries : goal.returns-clause-entries
 unfolding entries_in
-returns c =
+returns-clause-entries c =
     let zero : c.args.count - c.loop-i.i ≡ 0 = omega (arith, c.loop-i-test.false) in
-    c.new-2.ensures ∙ sym (c.loop-i.invariant.same ∙ ap (λ (k : ℕ). entries_from (entries_in k (drop c.loop-i.at c.args.bytes.now)) c.args.low.now) zero)
+    sym (c.loop-i.invariant.same ∙ ap (λ (k : ℕ). entries_from (entries_in k (drop c.loop-i.at c.args.bytes.now)) c.args.low.now) zero)

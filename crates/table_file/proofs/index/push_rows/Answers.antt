@@ -15,7 +15,7 @@ loop-row-preserved c =
     let behind = flat_map index_row_bytes (rows_seen (drop (c.loop-row.row-index + 1) c.args.rows.now)) in
     let long : c.len.result ≡ length row.last.items = omega (arith, c.len.ensures) in
     let head : c.push_fields.new.out.items ≡ out ++ fields index_row_widths (row.pages ∷ row.sum ∷ length row.last.items ∷ []) =
-    c.in_ok-push_fields.ensures ∙ ap₂ (λ (p n : ℕ). out ++ fields index_row_widths (p ∷ row.sum ∷ n ∷ [])) c.from.ensures long in
+    c.in_ok-push_fields.ensures.added ∙ ap₂ (λ (p n : ℕ). out ++ fields index_row_widths (p ∷ row.sum ∷ n ∷ [])) c.from.ensures long in
     ap (λ (o : Bytes). o ++ behind) (c.in_ok-extend_from_slice.ensures.items
     ∙ ap₂ (λ (a b : Bytes). a ++ b) head c.as_slice.ensures.value
     ∙ append_assoc out (fields index_row_widths (row.pages ∷ row.sum ∷ length row.last.items ∷ [])) row.last.items)

@@ -1,6 +1,6 @@
 use Rattle.std.proofs.Common.{◌≡◌, ◌+◌, ◌/◌, length, subst, arith}
-use Rattle.table_model.specs.Tables.{table_pages}
-use Rattle.table_file.specs.Building.{Built, filter_bytes_of}
+use Rattle.table_model.specs.Tables.{filter_bytes_of, table_pages}
+use Rattle.table_file.specs.Building.{Built}
 use Rattle.table_file.proofs.PartsMade.{pages_are}
 use Rattle.table_file.proofs.parts.pages_of.Goals as goal
 

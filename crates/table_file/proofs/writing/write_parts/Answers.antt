@@ -7,9 +7,9 @@ use Rattle.map_model.specs.SortedMap.{Bytes}
 use Rattle.entry_model.specs.Entries.{keys_of}
 use Rattle.block_model.specs.Places.{byte_of_page, filter_page, index_page}
 use Rattle.table_model.specs.Images.{IsTableOf}
-use Rattle.table_model.specs.Tables.{table_of, table_pages}
+use Rattle.table_model.specs.Tables.{filter_bytes_of, table_of, table_pages}
 use Rattle.table_model.specs.Written.{row_for}
-use Rattle.table_file.specs.Building.{Built, filter_bytes_of}
+use Rattle.table_file.specs.Building.{Built}
 use Rattle.table_file.specs.Writing.{AreWritten, IsWriteOf, three_written}
 use Rattle.table_file.proofs.Written.{all_long, filter_at, index_at, same_places, stands, written}
 use Rattle.table_file.proofs.writing.write_parts.Goals as goal

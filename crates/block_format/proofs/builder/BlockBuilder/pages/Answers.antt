@@ -1,4 +1,4 @@
-use Rattle.std.proofs.Common.{◌≡◌, ◌+◌, ℕ, List, length, sym, ap, ◌∙◌, arith}
+use Rattle.std.proofs.Common.{◌≡◌, ◌+◌, ℕ, length, sym, ap, ◌∙◌, arith}
 use Rattle.map_model.specs.SortedMap.{Bytes}
 use Rattle.block_model.specs.Pages.{block_length, block_pages, pages_for}
 use Rattle.block_format.proofs.builder.BlockBuilder.pages.Goals as goal

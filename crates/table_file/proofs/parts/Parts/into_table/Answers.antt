@@ -1,11 +1,15 @@
 use Rattle.std.proofs.Common.{◌≡◌, ◌∙◌, sym, ap, subst}
 use Rattle.entry_model.specs.Entries.{keys_of}
 use Rattle.block_model.specs.Index.{index_of}
+use Rattle.filter_api.specs.declared.settings.Settings.{Settings}
+use Rattle.table_model.specs.Images.{IsTableAt}
+use Rattle.table_model.specs.Tables.{filter_bytes_of}
 use Rattle.table_model.specs.Written.{ArePartsShown, row_for}
-use Rattle.table_file.specs.Building.{Built, filter_bytes_of}
+use Rattle.table_file.specs.Building.{Built}
 use Rattle.table_file.specs.Opened.{IsOpen, Opened}
 use Rattle.table_file.specs.Parts.{filter_of}
-use Rattle.table_file.proofs.IntoTable.{of_row, table_open}
+use Rattle.table_file.proofs.IntoTable.{of_row, shown_table, table_open}
+use Rattle.table_file.proofs.Stands.{opened_stands}
 use Rattle.table_file.proofs.parts.Parts.into_table.Goals as goal
 
 pub new-requires : goal.new-requires
@@ -35,3 +39,19 @@ returns-clause-opened g c image shown =
     (subst (λ (b : Built). IsOpen spelling (record { row = row; index = index_of b.entries; filter = filter_of cutoff b.settings (keys_of b.entries) }) image) c.self.view_is
     (table_open spelling cutoff _ _ _ _ _ _ _ _ c.self.invariant row.level row.first_page row is image
     (subst (λ (b : Built). ArePartsShown row b.entries (filter_bytes_of spelling cutoff b.settings (keys_of b.entries)) image) (sym c.self.view_is) shown)))
+
+pub returns-clause-stands : goal.returns-clause-stands
+returns-clause-stands g c image shown =
+    let spelling = g.F.RangeFilter.spelling in
+    let cutoff = g.F.RangeFilter.built_cutoff in
+    let row = c.args.row in
+    let parts = c.self.invariant in
+    let is = c.requires.row ∙ sym (ap (λ (b : Built). row_for row.level row.first_page b.entries (filter_bytes_of spelling cutoff b.settings (keys_of b.entries))) c.self.view_is) in
+    let seen = subst (λ (b : Built). ArePartsShown row b.entries (filter_bytes_of spelling cutoff b.settings (keys_of b.entries)) image) (sym c.self.view_is) shown in
+    let there = shown_table spelling cutoff _ _ _ _ _ _ _ _ parts row.level row.first_page row is image seen in
+    let at = subst (λ (s : Settings). IsTableAt spelling s row there.0 image) (ap (λ (b : Built). b.settings) c.self.view_is) there.1 in
+    let here = subst (λ (t : Opened). IsTableAt spelling c.args.self.settings t.row there.0 image) (sym (returns-clause-table g c)) at in (
+      there.0,
+      opened_stands spelling c.args.self.settings c.new.result there.0 image g.met.F.RangeFilter.spells_one (returns-clause-opened g c image shown) here,
+      there.2 ∙ ap (λ (b : Built). b.entries) c.self.view_is,
+    )

@@ -2,9 +2,9 @@ use Rattle.std.proofs.Common.{◌≡◌, ◌≤◌, ◌/◌, length, refl, ap, s
 use Rattle.byte_fields.specs.declared.parts.Row.{Row}
 use Rattle.entry_model.specs.Entries.{keys_of}
 use Rattle.block_model.specs.Pages.{pages_for}
-use Rattle.table_model.specs.Tables.{table_pages}
+use Rattle.table_model.specs.Tables.{filter_bytes_of, table_pages}
 use Rattle.table_model.specs.Written.{row_for}
-use Rattle.table_file.specs.Building.{Built, filter_bytes_of}
+use Rattle.table_file.specs.Building.{Built}
 use Rattle.table_file.proofs.PartsMade.{pages_are, row_is}
 use Rattle.table_file.proofs.parts.Parts.row.Goals as goal
 

@@ -6,7 +6,7 @@ use Rattle.block_model.specs.Order.{is_any}
 use Rattle.block_format.proofs.Standing.{all_stand}
 use Rattle.block_format.specs.Reading.{seen}
 use Rattle.block_format.proofs.Walks.{no_fault, part_is, tail_broken}
-use Rattle.block_format.proofs.block.Block.read.Goals as goal
+use Rattle.block_format.proofs.block.judged.Goals as goal
 
 pub returns-in_err-check_padding-clause-broken : goal.returns-in_err-check_padding-clause-broken
 returns-in_err-check_padding-clause-broken c =
@@ -28,5 +28,5 @@ returns-clause-entries c =
     let bytes = c.args.bytes.now in
     ap₂ (λ (n : ℕ) (l : Bytes). entries_in n l) c.in_ok-used.ensures.count (part_is bytes c.in_ok-used.used c.in_ok-used.ensures.some c.in_ok-used.ensures.used)
 
-pub invariant_of-result : goal.invariant_of-result
-invariant_of-result c = all_stand c.in_ok-used.count 8 is_any _ c.in_ok-search.ensures.whole
+pub returns-clause-stand : goal.returns-clause-stand
+returns-clause-stand c = all_stand c.in_ok-used.count 8 is_any _ c.in_ok-search.ensures.whole

@@ -1,0 +1,195 @@
+// Changed bytes, and what is said of them.
+use crate::made::{one_entry, opened};
+use byte_fields::{Damage, Part, Row, fnv1a};
+use disk_mem::MemDisk;
+use disk_trait::Disk;
+use std::alloc::Global;
+use std::test::Fail;
+use table_file::{LARGEST_BLOCK_BYTES, TableFault};
+
+// Where the parts of the table of one entry begin.
+const BLOCK: u64 = 786_432;
+
+const INDEX: u64 = 790_528;
+
+const FILTER: u64 = 794_624;
+
+// The sums of its block, its index and its filter.
+const SUMS: [u64; 3] = [0xEBA7FA7C4D3D0FAD, 0x880CE8CE6E0D2AB5, 0x945C728291C39EAE];
+
+fn shape(part: Part, at: u64, rule: u8) -> Option<TableFault> {
+    Some(TableFault::Damaged(Damage::Shape { part, at, rule }))
+}
+
+fn sums(part: Part, at: u64, kept: u64, seen: u64) -> Option<TableFault> {
+    Some(TableFault::Damaged(Damage::Sum {
+        part,
+        at,
+        kept,
+        seen,
+    }))
+}
+
+// The fault of opening a row's table.
+fn fault_of(alloc: Global, disk: &mut MemDisk, row: &Row) -> Result<Option<TableFault>, Fail> {
+    match opened(alloc, disk, row)? {
+        Ok(_) => Ok(None),
+        Err(fault) => Ok(Some(fault)),
+    }
+}
+
+// The bytes with others from a place on.
+fn change(bytes: &mut [u8], place: usize, others: &[u8]) {
+    for (byte, other) in bytes.iter_mut().skip(place).zip(others) {
+        *byte = *other;
+    }
+}
+
+// Changes bytes of the index, and answers its new sum.
+fn change_index(disk: &mut MemDisk, place: usize, others: &[u8]) -> Result<u64, Fail> {
+    let mut bytes = [0; 26];
+    let mut done = disk.read(INDEX, &mut bytes).is_ok();
+    change(&mut bytes, place, others);
+    done = done && disk.write(INDEX, &bytes).is_ok();
+    if !done {
+        return Err(Fail::from("the disk failed"));
+    }
+    Ok(fnv1a(&bytes))
+}
+
+#[test]
+fn each_rule_of_an_index_at_its_byte(rt: HostRuntime) -> Result<(), Fail> {
+    let alloc = rt.alloc();
+    let rows = [
+        (0, 0x00, 0, 2),
+        (4, 0x00, 4, 3),
+        (10, 0x62, 25, 5),
+        (11, 0x00, 11, 6),
+        (11, 0x02, 4, 8),
+    ];
+    for (place, byte, at, rule) in rows {
+        let (mut disk, mut row) = one_entry(alloc)?;
+        row.index_sum = change_index(&mut disk, place, &[byte])?;
+        assert_eq!(rt;
+            fault_of(alloc, &mut disk, &row)?,
+            shape(Part::Index, INDEX + at, rule)
+        );
+    }
+    Ok(())
+}
+
+#[test]
+fn an_index_that_ends_early(rt: HostRuntime) -> Result<(), Fail> {
+    let alloc = rt.alloc();
+    let (mut disk, mut row) = one_entry(alloc)?;
+    let mut bytes = [0; 25];
+    assert!(rt; disk.read(INDEX, &mut bytes).is_ok());
+    row.index_len = 25;
+    row.index_sum = fnv1a(&bytes);
+    assert_eq!(rt;
+        fault_of(alloc, &mut disk, &row)?,
+        shape(Part::Index, INDEX + 25, 1)
+    );
+    Ok(())
+}
+
+// The sums are those of FNV-1a over the 26 and the 22 bytes, worked out by a loop of three lines apart from this program.
+#[test]
+fn another_sum_comes_before_the_rules(rt: HostRuntime) -> Result<(), Fail> {
+    let alloc = rt.alloc();
+    let [_, index, filter] = SUMS;
+    let (mut disk, row) = one_entry(alloc)?;
+    assert_eq!(rt; (row.index_sum, row.filter_sum), (index, filter));
+    assert_eq!(rt; fault_of(alloc, &mut disk, &row)?, None);
+    change_index(&mut disk, 11, &[2])?;
+    assert_eq!(rt;
+        fault_of(alloc, &mut disk, &row)?,
+        sums(Part::Index, INDEX, index, 0x5B1C021F6EFB4BD8)
+    );
+    let (mut disk, row) = one_entry(alloc)?;
+    assert!(rt; disk.write(FILTER + 13, &[1]).is_ok());
+    assert_eq!(rt;
+        fault_of(alloc, &mut disk, &row)?,
+        sums(Part::Filter, FILTER, filter, 0x27C6C7E0265E94C1)
+    );
+    Ok(())
+}
+
+#[test]
+fn a_filter_of_other_leaves(rt: HostRuntime) -> Result<(), Fail> {
+    let alloc = rt.alloc();
+    for entries in [0, 2] {
+        let (mut disk, mut row) = one_entry(alloc)?;
+        row.entries = entries;
+        assert_eq!(rt;
+            fault_of(alloc, &mut disk, &row)?,
+            shape(Part::Filter, FILTER + 12, 11)
+        );
+    }
+    Ok(())
+}
+
+// What a get of a says, and how many blocks were read for it.
+fn get_a(alloc: Global, disk: &mut MemDisk, row: &Row) -> Result<(Option<TableFault>, u64), Fail> {
+    let mut buf = vec![in alloc; 0; LARGEST_BLOCK_BYTES]?;
+    let Ok(table) = opened(alloc, disk, row)? else {
+        return Err(Fail::from("not opened"));
+    };
+    let before = disk.reads();
+    let fault = match table.get(disk, b"a", &mut buf) {
+        Ok(_) => None,
+        Err(fault) => Some(fault),
+    };
+    Ok((fault, disk.reads().saturating_sub(before)))
+}
+
+// The block's sums are those of FNV-1a over its 4,096 bytes, worked out apart like those above.
+#[test]
+fn a_changed_byte_of_a_block(rt: HostRuntime) -> Result<(), Fail> {
+    let alloc = rt.alloc();
+    let [block, _, _] = SUMS;
+    let (mut disk, row) = one_entry(alloc)?;
+    assert_eq!(rt; get_a(alloc, &mut disk, &row)?, (None, 1));
+    assert!(rt; disk.write(BLOCK + 20, &[1]).is_ok());
+    assert_eq!(rt;
+        get_a(alloc, &mut disk, &row)?,
+        (sums(Part::Block, BLOCK, block, 0x38AAAA130B64EF7C), 1)
+    );
+    Ok(())
+}
+
+// Changes a byte of the block, and makes the sums that are kept of it and of the index right again.
+fn change_block(disk: &mut MemDisk, place: usize, other: u8) -> Result<u64, Fail> {
+    let mut bytes = [0; 4_096];
+    let mut done = disk.read(BLOCK, &mut bytes).is_ok();
+    change(&mut bytes, place, &[other]);
+    done = done && disk.write(BLOCK, &bytes).is_ok();
+    if !done {
+        return Err(Fail::from("the disk failed"));
+    }
+    change_index(disk, 15, &fnv1a(&bytes).to_le_bytes())
+}
+
+#[test]
+fn each_rule_of_a_block_at_its_byte(rt: HostRuntime) -> Result<(), Fail> {
+    let alloc = rt.alloc();
+    let rows = [
+        (0, 0x0F, 0, 1),
+        (4, 0x00, 4, 2),
+        (4, 0x02, 17, 3),
+        (8, 0x03, 8, 4),
+        (8, 0x02, 8, 4),
+        (9, 0x00, 8, 5),
+        (0, 0x12, 17, 7),
+        (20, 0x01, 20, 8),
+    ];
+    for (place, byte, at, rule) in rows {
+        let (mut disk, mut row) = one_entry(alloc)?;
+        row.index_sum = change_block(&mut disk, place, byte)?;
+        assert_eq!(rt;
+            get_a(alloc, &mut disk, &row)?,
+            (shape(Part::Block, BLOCK + at, rule), 1)
+        );
+    }
+    Ok(())
+}
