@@ -1,16 +1,16 @@
 -- One pass over extents in the order of their pages: what is known of the gaps before the page that it has come to.
-use Rattle.std.proofs.Common.{◌≡◌, ◌⊎◌, inl, inr, ℕ, ◌<◌, ◌≤◌, ◌+◌, List, [], ◌∷◌, ◌++◌, true, false, length, get_or, take, drop, append_assoc, append-nil, refl, sym, ap, ◌∙◌, subst, arith}
-use Rattle.std.specs.Prelude.{Some, None, max, nat_le}
-use Rattle.std.proofs.lemmas.Bool.{cases_lt}
+use Rattle.std.proofs.Common.{◌≡◌, ◌⊎◌, inl, inr, ℕ, ◌<◌, ◌≤◌, ◌+◌, List, [], ◌∷◌, ◌++◌, Bool, true, false, cond, length, map, get_or, take, drop, append_assoc, append-nil, refl, sym, ap, ◌∙◌, subst, arith}
+use Rattle.std.specs.Prelude.{Some, None, filter, fold, max, min, nat_le}
+use Rattle.std.proofs.lemmas.Bool.{cases_lt, le-leb}
 use Rattle.std.proofs.lemmas.List.{take-append-drop, drop_more, drop_all, take_more}
 use Rattle.std.specs.List.{AllByRecursion}
 use Rattle.extent_model.specs.Extents.{Extent, end_of, IsOnDevice, AreApart}
-use Rattle.extent_model.specs.Gaps.{first_gap, largest_gap}
+use Rattle.extent_model.specs.Gaps.{first_gap, gap_starts, largest_gap, least, room_at}
 use Rattle.extent_model.proofs.AllGaps.{first_is_first, largest_is_enough}
 use Rattle.extent_model.proofs.Free.{gap_is_free}
 use Rattle.extent_model.proofs.Rooms.{no_gap, gap_small}
 use Rattle.extent_map.specs.Taken.{RiseFrom, Taken}
-use Rattle.extent_map.proofs.Order.{from_page, laid, within}
+use Rattle.extent_map.proofs.Order.{from_page, laid, lower, within}
 
 -- so many pages are free from a page on
 abbrev pub IsFree : ℕ → List Extent → ℕ → ℕ → Type 0
@@ -21,7 +21,9 @@ pub record Searched (pages need page largest : ℕ) (done left : List Extent) : 
   pub from : 192 ≤ page
   pub rise : RiseFrom pages page left
   pub behind : AllByRecursion (λ (x : Extent). end_of x ≤ page) done
-  pub small : largest < need
+  pub small : 0 < need → largest < need
+  -- where none are asked for, the first page is a gap
+  pub none_asked : need ≡ 0 → page ≡ 192
   -- free pages that do not lie behind the page are no more than the largest gap so far
   pub most : (first n : ℕ) → IsFree pages done first n → (page ≤ first) ⊎ (n ≤ largest)
   -- and there are as many
@@ -43,8 +45,8 @@ all_weaker : (P Q : Extent → Type 0) (xs : List Extent) → ((x : Extent) → 
 all_weaker P Q [] weaker all = tt
 all_weaker P Q (x ∷ more) weaker all = (weaker x all.0, all_weaker P Q more weaker all.1)
 
-pub begun : (pages need : ℕ) (xs : List Extent) → 0 < need → RiseFrom pages 192 xs → Searched pages need 192 0 [] xs
-begun pages need xs some rise = record { from = omega arith; rise = rise; behind = tt; small = some; most = λ first n free. inl free.0.from; met = inl refl }
+pub begun : (pages need : ℕ) (xs : List Extent) → RiseFrom pages 192 xs → Searched pages need 192 0 [] xs
+begun pages need xs rise = record { from = omega arith; rise = rise; behind = tt; small = λ some. some; none_asked = λ none. refl; most = λ first n free. inl free.0.from; met = inl refl }
 
 -- pages from here up to the next extent, or to the device's end, are free
 module _ (pages need page largest : ℕ) (done : List Extent) where
@@ -77,7 +79,7 @@ is_first pages need page largest done left rise s free =
       | Some start ↦ λ e.
           let le = first_is_first pages page need start xs free.0 on free.1 e in
           let gap = gap_is_free pages xs need start free.0.some on e in
-          let ge : page ≤ start = elim (s.most start need (gap.0, all_before (AreApart (start, need)) done left gap.1)) [ inl l ↦ l | inr l ↦ absurd (omega (arith, l, s.small)) ] in
+          let ge : page ≤ start = elim (s.most start need (gap.0, all_before (AreApart (start, need)) done left gap.1)) [ inl l ↦ l | inr l ↦ absurd (let less = s.small free.0.some in omega (arith, l, less)) ] in
           let same : start ≡ page = omega (arith, le, ge) in ap (λ (p : ℕ). Some p) same
     ] refl
 
@@ -126,7 +128,8 @@ goes_on pages need page largest room done later x s is short = record {
   from = omega (arith, s.from, is);
   rise = s.rise.2;
   behind = all_joined (λ (y : Extent). end_of y ≤ end_of x) done (x ∷ []) (all_weaker (λ (y : Extent). end_of y ≤ page) (λ (y : Extent). end_of y ≤ end_of x) done (λ y l. omega (arith, l, is)) s.behind) (omega arith, tt);
-  small = omega (arith, short, s.small);
+  small = λ some. let less = s.small some in omega (arith, short, less);
+  none_asked = λ none. absurd (omega (arith, short, none));
   most = λ first n free.
       elim (s.most first n (free.0, all_before (AreApart (first, n)) done (x ∷ []) free.1)) [
         | inr le ↦ inr (omega (arith, le))
@@ -146,6 +149,27 @@ goes_on pages need page largest room done later x s is short = record {
     | false ↦ λ e. let is : max room largest ≡ room = grind arith in subst (λ (n : ℕ). (n ≡ 0) ⊎ ((first : ℕ) × IsFree pages (done ++ x ∷ later) first n)) (sym is) last
   ] refl
 
+-- ---- no pages: the first page of tables begins such a gap
+
+all_kept : (room : ℕ → ℕ) (starts : List ℕ) → filter (λ page. nat_le 0 (room page)) starts ≡ starts
+all_kept room [] = refl
+all_kept room (page ∷ starts) =
+    ap (λ (t : Bool). cond t (page ∷ filter (λ page. nat_le 0 (room page)) starts) (filter (λ page. nat_le 0 (room page)) starts)) (le-leb 0 (room page) (omega arith))
+    ∙ ap (λ (l : List ℕ). page ∷ l) (all_kept room starts)
+
+least_stays : (n : ℕ) (ns : List ℕ) → AllByRecursion (λ (m : ℕ). n ≤ m) ns → fold min n ns ≡ n
+least_stays n [] all = refl
+least_stays n (m ∷ ns) all = let here = all.0 in let same : min n m ≡ n = grind (arith, here) in ap (λ (k : ℕ). fold min k ns) same ∙ least_stays n ns all.1
+
+ends_behind : (pages page : ℕ) (xs : List Extent) → RiseFrom pages page xs → AllByRecursion (λ (m : ℕ). page ≤ m) (map end_of xs)
+ends_behind pages page [] rise = tt
+ends_behind pages page (x ∷ later) rise =
+    (omega (arith, rise.0), ends_behind pages page later (lower pages page (end_of x) later (omega (arith, rise.0)) rise.2))
+
+gap_of_none : (pages : ℕ) (xs : List Extent) → RiseFrom pages 192 xs → first_gap pages xs 0 ≡ Some 192
+gap_of_none pages xs rise =
+    ap least (all_kept (room_at pages xs) (gap_starts xs)) ∙ ap (λ (n : ℕ). Some n) (least_stays 192 (map end_of xs) (ends_behind pages 192 xs rise))
+
 -- ---- by the place in the list that the pass has come to
 
 module _ (t : Taken) (xs : List Extent) (is : xs ≡ t.extents) (rise : RiseFrom t.pages 192 t.extents) (need page largest i room : ℕ)
@@ -159,11 +183,18 @@ module _ (t : Taken) (xs : List Extent) (is : xs ≡ t.extents) (rise : RiseFrom
   first_here : IsFree t.pages (take i xs ++ drop i xs) page need → first_gap t.pages t.extents need ≡ Some page
   first_here free = subst (λ (ys : List Extent). first_gap t.pages ys need ≡ Some page) whole (is_first t.pages need page largest (take i xs) (drop i xs) rises s free)
 
-  pub is_next : (d : Extent) → 0 < need → i < length xs → page + room ≡ (get_or xs i d).0 → need ≤ room → first_gap t.pages t.extents need ≡ Some page
-  is_next d some lt at enough =
+  first_page : need ≡ 0 → first_gap t.pages t.extents need ≡ Some page
+  first_page none =
+      ap (first_gap t.pages t.extents) none ∙ gap_of_none t.pages t.extents rise ∙ ap (λ (n : ℕ). Some n) (sym (s.none_asked none))
+
+  next_gap : (d : Extent) → 0 < need → i < length xs → page + room ≡ (get_or xs i d).0 → need ≤ room → first_gap t.pages t.extents need ≡ Some page
+  next_gap d some lt at enough =
       let next = drop_more xs i d lt in
       let free = before_next t.pages need page largest (take i xs) (get_or xs i d) (drop (i + 1) xs) need (subst (Searched t.pages need page largest (take i xs)) next s) some (omega (arith, at, enough)) in
       first_here (subst (λ (ys : List Extent). IsFree t.pages (take i xs ++ ys) page need) (sym next) free)
+
+  pub is_next : (d : Extent) → i < length xs → page + room ≡ (get_or xs i d).0 → need ≤ room → first_gap t.pages t.extents need ≡ Some page
+  is_next d lt at enough = elim (cases_lt 0 need) [ inl some ↦ next_gap d some lt at enough | inr none ↦ first_page (omega (arith, none)) ]
 
   none_left : length xs ≤ i → Searched t.pages need page largest xs []
   none_left all =
@@ -171,10 +202,13 @@ module _ (t : Taken) (xs : List Extent) (is : xs ≡ t.extents) (rise : RiseFrom
       let done : take i xs ≡ xs = sym (append-nil (take i xs)) ∙ ap (λ (ys : List Extent). take i xs ++ ys) (sym none) ∙ take-append-drop i xs in
       subst (λ (ys : List Extent). Searched t.pages need page largest ys []) done (subst (Searched t.pages need page largest (take i xs)) none s)
 
-  pub is_last : 0 < need → length xs ≤ i → page + room ≡ t.pages → need ≤ room → first_gap t.pages t.extents need ≡ Some page
-  is_last some all at enough =
+  last_gap : 0 < need → length xs ≤ i → page + room ≡ t.pages → need ≤ room → first_gap t.pages t.extents need ≡ Some page
+  last_gap some all at enough =
       let free = before_end t.pages need page largest xs need (none_left all) some (omega (arith, at, enough)) in
       subst (λ (ys : List Extent). first_gap t.pages ys need ≡ Some page) (append-nil xs ∙ is) (is_first t.pages need page largest xs [] (subst (RiseFrom t.pages 192) (sym (append-nil xs ∙ is)) rise) (none_left all) free)
+
+  pub is_last : length xs ≤ i → page + room ≡ t.pages → need ≤ room → first_gap t.pages t.extents need ≡ Some page
+  is_last all at enough = elim (cases_lt 0 need) [ inl some ↦ last_gap some all at enough | inr none ↦ first_page (omega (arith, none)) ]
 
   pub largest_is : length xs ≤ i → page + room ≡ t.pages → largest_gap t.pages t.extents ≡ max room largest
   largest_is all at =

@@ -1,1 +1,3 @@
+pub use Rattle.extent_model.specs.Extents
+pub use Rattle.extent_model.specs.Gaps
 pub mod Taken

@@ -3,14 +3,13 @@ ghost use Rattle.std.specs.Prelude.{◌≡◌, ◌<◌, ◌≤◌, ◌↔◌, []
 ghost use Rattle.std.specs.List.{AllByRecursion, Contains};
 ghost use Rattle.std.specs.List.Sorted.{IsPartitionPoint, IsPermutation};
 ghost use Rattle.extent_model.specs.Extents.{AreApart, AreLaid, IsOnDevice};
-ghost use Rattle.extent_map.specs.Taken.{RiseFrom, end_before, first_at};
 ghost use Rattle.extent_model.specs.Gaps.{first_gap, largest_gap};
+ghost use Rattle.key_base.specs.Limits.{first_table_page, max_device_pages, min_device_pages};
+ghost use Rattle.extent_map.specs.Taken.{RiseFrom, end_before, first_at};
 
+use key_base::FIRST_TABLE_PAGE;
 use std::alloc::{AllocError, Global};
 use std::marker::Model;
-
-/// The first page that an extent may have; manifest and logs stand before it.
-const FIRST_TABLE_PAGE: u32 = 192;
 
 /// No gap holds so many pages.
 #[derive(Clone, Copy, Debug, PartialEq, Eq)]
@@ -33,20 +32,21 @@ pub struct Extents {
 
 impl Model for Extents {
     ghost use Rattle.std.specs.Prelude.{◌≤◌};
+    ghost use Rattle.key_base.specs.Limits.{first_table_page, max_device_pages};
     ghost use Rattle.extent_map.specs.Taken.{RiseFrom, Taken};
 
     ghost Value = { Taken };
 
     ghost view = { λ e. record { pages = e.pages; extents = e.items.items } };
 
-    ghost invariant = { λ e. (e.pages ≤ 16777216) × RiseFrom e.pages 192 e.items.items };
+    ghost invariant = { λ e. (e.pages ≤ max_device_pages) × RiseFrom e.pages first_table_page e.items.items };
 }
 
 impl Extents {
     /// No extent, on a device of so many pages. Takes no memory.
     pub fn new(alloc: Global, pages: u32) -> Self
-        requires from { 512 ≤ pages }
-        requires to { pages ≤ 16777216 }
+        requires from { min_device_pages ≤ pages }
+        requires to { pages ≤ max_device_pages }
         ensures { result ≡ record { pages = pages; extents = [] } }
     {
         Extents {
@@ -90,10 +90,8 @@ impl Extents {
         self.items.remove(place);
     }
 
-    /// The first page of the first gap that holds so many pages, one or more; else how many the largest gap has. One pass,
-    /// and no memory.
+    /// The first page of the first gap that holds so many pages; else how many the largest gap has. One pass, and no memory.
     pub fn gap(&self, need: u64) -> Result<u32, NoGap>
-        requires { 0 < need }
         ensures gap { IfOk result (λ page. first_gap self.now.pages self.now.extents need ≡ Some page) }
         ensures no_gap { IfErr result (λ fault. fault ≡ record { need = need; largest = largest_gap self.now.pages self.now.extents }) }
         ensures exact { IsErr result ↔ (largest_gap self.now.pages self.now.extents < need) }
@@ -127,7 +125,7 @@ impl Extents {
     // The page behind the extents before a place.
     fn free_from(&self, place: usize) -> u32
         requires { place ≤ length self.now.extents }
-        ensures { result ≡ end_before 192 self.now.extents place }
+        ensures { result ≡ end_before first_table_page self.now.extents place }
     {
         if place == 0 {
             return FIRST_TABLE_PAGE;
@@ -149,7 +147,7 @@ impl Extents {
     // How many extents begin before a page.
     fn place_of(&self, first: u32) -> usize
         ensures within { result ≤ length self.now.extents }
-        ensures rise { RiseFrom self.now.pages 192 self.now.extents }
+        ensures rise { RiseFrom self.now.pages first_table_page self.now.extents }
         ensures place { IsPartitionPoint (λ e. e.0 < first) (λ e. first ≤ e.0) self.now.extents result }
     {
         self.items.as_slice().partition_point(
@@ -173,7 +171,7 @@ mod tests {
         assert_eq!(rt; extents.gap(321), Err(NoGap { need: 321, largest }));
         extents.add(200, 5)?;
         extents.add(192, 3)?;
-        let rows = [(1, 195), (5, 195), (6, 205), (307, 205)];
+        let rows = [(0, 192), (1, 195), (5, 195), (6, 205), (307, 205)];
         for (need, page) in rows {
             assert_eq!(rt; extents.gap(need), Ok(page));
         }

@@ -64,7 +64,7 @@ least_has P (x ∷ more) n e all = let same : fold min x more ≡ n = cc in subs
 
 ends_from : (pages : ℕ) (xs : List Extent) → AllByRecursion (IsOnDevice pages) xs → AllByRecursion (λ page. first_table_page ≤ page) (map end_of xs)
 ends_from pages [] on = tt
-ends_from pages (e ∷ more) on = (let from : 192 ≤ e.0 = on.0.from in omega arith, ends_from pages more on.1)
+ends_from pages (e ∷ more) on = (let from : first_table_page ≤ e.0 = on.0.from in omega arith, ends_from pages more on.1)
 
 -- the first gap is behind manifest and logs, on the device, and apart from what is taken
 pub gap_is_free : (pages : ℕ) (xs : List Extent) (need page : ℕ) → 0 < need → AllByRecursion (IsOnDevice pages) xs → first_gap pages xs need ≡ Some page

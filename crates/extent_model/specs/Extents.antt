@@ -1,6 +1,7 @@
 -- Runs of pages on a device.
 use Rattle.std.specs.Prelude.{ℕ, ◌+◌, ◌<◌, ◌≤◌, ◌⊎◌, List}
 use Rattle.std.specs.List.{AllByRecursion, AllPairs}
+pub use Rattle.key_base.specs.Limits.{first_table_page}
 
 -- an extent: its first page, and how many pages it has
 abbrev pub Extent : Type 0
@@ -9,10 +10,6 @@ Extent = ℕ × ℕ
 -- the page behind it
 abbrev pub end_of : Extent → ℕ
 end_of extent = extent.0 + extent.1
-
--- the first page that an extent may have; manifest and logs stand before it
-abbrev pub first_table_page : ℕ
-first_table_page = 192
 
 -- the extent has pages, behind manifest and logs and on a device of so many pages
 pub record IsOnDevice (pages : ℕ) (extent : Extent) : Type 0 where

@@ -9,7 +9,8 @@ use Rattle.byte_fields.specs.declared.parts.Row.{Row}
 use Rattle.map_model.specs.SortedMap.{Bytes}
 use Rattle.extent_map.specs.Taken.{Taken}
 use Rattle.manifest_model.specs.Reading.{extents_fault, leaves, levels_fault, meets_row, table_row_fault, table_row_in, row_zeros_fault, table_rows_fault, table_rows_in}
-use Rattle.manifest.specs.Reading.{extent_of, rows_broken}
+use Rattle.manifest_model.specs.Rows.{extent_of}
+use Rattle.manifest.specs.Reading.{rows_broken}
 use Rattle.manifest.proofs.Rows.{before_all, extents_more, last_before, last_level, level_last, levels_more, many, row_zeros, rows_more, shape_more, zeros_more}
 
 -- of the first i rows of some bytes

@@ -1,9 +1,9 @@
 -- What is read of the slots, and what loading answers of it.
 use Rattle.std.proofs.Common.{◌≡◌, ◌⊎◌, inl, inr, ◌<◌, ◌≤◌, ◌+◌, ◌-◌, ◌*◌, ℕ, zero, suc, [], ◌++◌, length, length-append, take, drop, Bool, true, false, refl, sym, ap, ap₂, ◌∙◌, subst, arith}
-use Rattle.std.specs.Prelude.{Option, Some, None, Result, Ok, Err, ◌==◌, cond, ◌&&◌, MatchResult, IfOk, IfErr, OnOk, OnErr}
+use Rattle.std.specs.Prelude.{◌≢◌, Option, Some, None, Result, Ok, Err, ◌==◌, cond, ◌&&◌, MatchResult, IfOk, IfErr, OnOk, OnErr}
 use Rattle.std.specs.Result.{IsErrAnd}
 use Rattle.std.specs.Option.{option_or}
-use Rattle.std.proofs.lemmas.Bool.{eq-eqb, eqb-true, eqb-false}
+use Rattle.std.proofs.lemmas.Bool.{eq-eqb, eqb-true, eqb-false, ne_eqb}
 use Rattle.std.proofs.lemmas.List.{append-nil, drop_all, drop_at, length-drop, take-append-drop, take_at}
 use borrow.Rule.Slice.PartMut.{post_of}
 use Rattle.std.proofs.Math.Seq.{take-length}
@@ -16,7 +16,7 @@ use Rattle.disk_trait.proofs.Images.{window_size, window_split}
 use Rattle.map_model.specs.SortedMap.{Bytes}
 use Rattle.manifest_model.specs.Laws.{IsVersion}
 use Rattle.manifest_model.specs.Reading.{body_damage, table_count_in, early_fault, front_length_in, shape_at, version_in}
-use Rattle.manifest_model.specs.Slots.{HoldsVersion, IsNoStore, IsVersionOf, body_in, body_room, epochs_damage, slot_damage, slots_damage}
+use Rattle.manifest_model.specs.Slots.{HoldsVersion, IsGate, IsNoStore, IsVersionOf, body_in, body_room, epochs_damage, slot_damage, slots_damage}
 use Rattle.manifest_model.specs.Tables.{epochs_fault}
 use Rattle.manifest_model.specs.Version.{Version, body_bytes, body_place, slot_a, slot_b}
 use Rattle.manifest_model.proofs.Held.{held_is_read}
@@ -119,16 +119,49 @@ filled_rest head part old into is size long_old =
 pub filled_size : (head part old : Bytes) → part ≡ head → length head ≡ 64 → 64 ≤ length old → length (part ++ drop 64 old) ≡ length old
 filled_size head part old is size long = omega (arith, length-append part (drop 64 old), ap length is, size, length-drop 64 old, long)
 
+-- ---- the gates
+
+gate_read : (said : Bool) (byte : ℕ) → said ≡ (byte == 1) → IsGate said byte
+gate_read true byte is = eqb-true byte 1 (sym is)
+gate_read false byte is = eqb-false byte 1 (sym is)
+
+-- one after the other, while what the disk reads as stays the same
+pub gates_read : (a b : Bool) (first second : Image) → second ≡ first → a ≡ (first slot_a == 1) → b ≡ (second slot_b == 1) → AreGates a b first
+gates_read a b first second same at_a at_b = record {
+  a = gate_read a (first slot_a) at_a;
+  b = gate_read b (first slot_b) (subst (λ (f : Image). b ≡ (f slot_b == 1)) same at_b);
+}
+
+pub both_open : (a b : Bool) (image : Image) → (a && b) ≡ true → AreGates a b image → AreGates true true image
+both_open true true image is gates = gates
+both_open true false image is gates = absurd cc
+both_open false b image is gates = absurd cc
+
+pub a_alone : (a b : Bool) (image : Image) → (a && b) ≡ false → a ≡ true → AreGates a b image → IsAlone 0 image
+a_alone true true image not_both is gates = absurd cc
+a_alone true false image not_both is gates = record { opened = gates.a; closed = gates.b }
+a_alone false b image not_both is gates = absurd cc
+
+pub b_alone : (a b : Bool) (image : Image) → a ≡ false → b ≡ true → AreGates a b image → IsAlone 1 image
+b_alone false true image is_a is_b gates = record { opened = gates.b; closed = gates.a }
+b_alone false false image is_a is_b gates = absurd cc
+b_alone true b image is_a is_b gates = absurd cc
+
+pub none_is_open : (a b : Bool) (image : Image) → a ≡ false → b ≡ false → AreGates a b image → IsNoStore image
+none_is_open false false image is_a is_b gates = (gates.a, gates.b)
+none_is_open false true image is_a is_b gates = absurd cc
+none_is_open true b image is_a is_b gates = absurd cc
+
 -- ---- the slots
 
 holds : (slot : ℕ) (v : Version) (image : Image) → image slot ≡ 1 → IsHeld slot v image → HoldsVersion slot v image
 holds slot v image opened held = record { is_open = opened; sound = held.sound; body = held.body }
 
 -- one open slot
-pub one_open : (slot : ℕ) (v : Version) (image : Image) → slot ≤ 1 → image (place_of slot) ≡ 1 → (image (other_place slot) == 1) ≡ false → IsHeld (place_of slot) v image
+pub one_open : (slot : ℕ) (v : Version) (image : Image) → slot ≤ 1 → image (place_of slot) ≡ 1 → image (other_place slot) ≢ 1 → IsHeld (place_of slot) v image
     → Stands slot false v image
 one_open slot v image le opened closed held = record {
-  current = record { here = holds (place_of slot) v image opened held; there = inl (eqb-false (image (other_place slot)) 1 closed) };
+  current = record { here = holds (place_of slot) v image opened held; there = inl closed };
   gate = closed;
 }
 
@@ -137,14 +170,14 @@ pub newer_open : (slot : ℕ) (v older : Version) (image : Image) → slot ≤ 1
     → IsHeld (other_place slot) older image → older.epoch < v.epoch → Stands slot true v image
 newer_open slot v older image le opened other held old less = record {
   current = record { here = holds (place_of slot) v image opened held; there = inr (older, holds (other_place slot) older image other old, less) };
-  gate = eq-eqb (image (other_place slot)) 1 other;
+  gate = other;
 }
 
 open_damage : (slot : ℕ) (image : Image) → image slot ≡ 1 → slot_damage slot image ≡ body_damage slot (body_in slot image)
 open_damage slot image opened = ap (λ (t : Bool). cond t (body_damage slot (body_in slot image)) None) (eq-eqb (image slot) 1 opened)
 
-closed_damage : (slot : ℕ) (image : Image) → (image slot == 1) ≡ false → slot_damage slot image ≡ None
-closed_damage slot image closed = ap (λ (t : Bool). cond t (body_damage slot (body_in slot image)) None) closed
+closed_damage : (slot : ℕ) (image : Image) → image slot ≢ 1 → slot_damage slot image ≡ None
+closed_damage slot image closed = ap (λ (t : Bool). cond t (body_damage slot (body_in slot image)) None) (ne_eqb (image slot) 1 closed)
 
 -- damage of slot A, and of slot B behind a sound or a closed one
 pub a_damaged : (image : Image) (d : Damage) → image slot_a ≡ 1 → body_damage slot_a (body_in slot_a image) ≡ Some d → slots_damage image ≡ Some d
@@ -155,7 +188,7 @@ b_damaged image d none opened found =
     ap (λ (o : Option Damage). option_or o (option_or (slot_damage slot_b image) (epochs_damage image))) none
     ∙ ap (λ (o : Option Damage). option_or o (epochs_damage image)) (open_damage slot_b image opened ∙ found)
 
-pub a_closed : (image : Image) → (image slot_a == 1) ≡ false → slot_damage slot_a image ≡ None
+pub a_closed : (image : Image) → image slot_a ≢ 1 → slot_damage slot_a image ≡ None
 a_closed image closed = closed_damage slot_a image closed
 
 pub held_sound : (slot : ℕ) (v : Version) (image : Image) → image slot ≡ 1 → IsHeld slot v image → slot_damage slot image ≡ None
@@ -272,15 +305,14 @@ pub alone_answer : (slot : ℕ) (image : Image) (result : Result Manifest Manife
     → IfErr result (IsDamage (body_damage (place_of slot) (body_in (place_of slot) image)))
     → MatchResult result (IsLoaded image) (IsLoadAnswer image)
 alone_answer slot image (Ok found) le alone held place damage =
-    let opened = eqb-true (image (place_of slot)) 1 (sym alone.opened) in
-    let stands = one_open slot found.version image le opened (sym alone.closed) held in
+    let stands = one_open slot found.version image le alone.opened alone.closed held in
     record {
       slot = subst (λ (n : ℕ). n ≤ 1) (sym place.0) le;
       stands = subst (λ (n : ℕ). Stands n found.other_open found.version image) (sym place.0) (subst (λ (b : Bool). Stands slot b found.version image) (sym place.1) stands);
     }
-alone_answer zero image (Err f) le alone held place damage = a_answer image f (eqb-true (image slot_a) 1 (sym alone.opened)) damage
+alone_answer zero image (Err f) le alone held place damage = a_answer image f alone.opened damage
 alone_answer (suc zero) image (Err f) le alone held place damage =
-    b_answer image f (a_closed image (sym alone.closed)) (eqb-true (image slot_b) 1 (sym alone.opened)) damage
+    b_answer image f (a_closed image alone.closed) alone.opened damage
 alone_answer (suc (suc slot)) image (Err f) le alone held place damage = absurd (omega (arith, le))
 
 pub err_answer : (image : Image) (result : Result Manifest ManifestFault) (f : ManifestFault) → IsErrAnd result (λ e. e ≡ f) → IsLoadAnswer image f
@@ -294,16 +326,14 @@ pub both_answer : (image : Image) (a b : Manifest) (result : Result Manifest Man
     → OnErr result (a.version.epoch ≡ b.version.epoch) → IfErr result (λ f. f ≡ fault.Damaged one_epoch) → MatchResult result (IsLoaded image) (IsLoadAnswer image)
 both_answer image a b (Err f) gates at_a at_b in_a in_b version same damage =
     subst (IsLoadAnswer image) (sym damage)
-    (both_of_one a.version b.version image (eqb-true (image slot_a) 1 (sym gates.a)) (eqb-true (image slot_b) 1 (sym gates.b)) in_a in_b same)
+    (both_of_one a.version b.version image gates.a gates.b in_a in_b same)
 both_answer image a b (Ok v) gates at_a at_b in_a in_b version same damage =
-    let a_open = eqb-true (image slot_a) 1 (sym gates.a) in
-    let b_open = eqb-true (image slot_b) 1 (sym gates.b) in
     elim version [
       | inl first ↦
-          let stands = newer_open 0 a.version b.version image (omega arith) a_open b_open in_a in_b first.1 in
+          let stands = newer_open 0 a.version b.version image (omega arith) gates.a gates.b in_a in_b first.1 in
           subst (IsLoaded image) (sym first.0) (loaded_at 0 a at_a (omega arith) stands)
       | inr second ↦
-          let stands = newer_open 1 b.version a.version image (omega arith) b_open a_open in_b in_a second.1 in
+          let stands = newer_open 1 b.version a.version image (omega arith) gates.b gates.a in_b in_a second.1 in
           subst (IsLoaded image) (sym second.0) (loaded_at 1 b at_b (omega arith) stands)
     ]
   where

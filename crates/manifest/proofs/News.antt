@@ -1,38 +1,19 @@
 -- The first version of a store: its body behind a closed gate, and then the gate.
-use Rattle.std.proofs.Common.{◌≡◌, ◌≤◌, ◌^◌, ◌<◌, inl, inr, ℕ, [], ◌∷◌, length, refl, sym, ap, ◌∙◌, subst, arith}
+use Rattle.std.proofs.Common.{◌≡◌, ◌≤◌, inl, inr, ℕ, [], ◌∷◌, length, sym, ap, ◌∙◌, subst, arith}
 use Rattle.std.proofs.lemmas.Bool.{cases_eq}
 use Rattle.std.specs.Prelude.{Result, Ok, Err, OnOk}
 use Rattle.disk_trait.specs.Image.{Image, Shows, Torn, overwritten}
 use Rattle.disk_trait.specs.World.{IsDurable, Leads, Meanwhile, Moves, Now, World, WriteMoves}
 use Rattle.disk_trait.proofs.Moments.{in_call, meanwhile_weaker, now_at}
 use Rattle.disk_trait.proofs.Images.{overwritten_at, whole, window_kept, window_overwritten}
-use Rattle.filter_api.specs.Ranges.{InRange}
-use Rattle.filter_api.specs.declared.settings.Settings.{Settings}
 use Rattle.map_model.specs.SortedMap.{Bytes}
 use Rattle.manifest_model.specs.Installs.{Turns}
 use Rattle.manifest_model.specs.Laws.{IsVersion}
-use Rattle.manifest_model.specs.Reading.{table_rows_fault, levels_fault, extents_fault}
 use Rattle.manifest_model.specs.Slots.{IsNoStore, IsVersionOf}
 use Rattle.manifest_model.specs.Version.{Version, body_bytes}
 use Rattle.manifest_model.proofs.Held.{body_fits}
 use Rattle.manifest_model.proofs.Installs.{turns_leads}
-use Rattle.manifest.specs.NewManifest.{IsNew, IsNewOrNone, IsPrepared, new_version}
-
-pub new_is : (settings : Settings) (pages : ℕ) → InRange settings → settings.ratio < 2 ^ 16 → 512 ≤ pages → pages ≤ 16777216 → IsVersion (new_version settings pages)
-unfolding table_rows_fault levels_fault extents_fault
-new_is settings pages range ratio from to = record {
-  few_tables = omega arith;
-  some_epoch = omega arith;
-  epoch = omega arith;
-  some_pages = from;
-  few_pages = to;
-  hash_bits = range.hash_bits;
-  real_bits = range.real_bits;
-  ratio = ratio;
-  log_page = inl refl;
-  rows = tt;
-  placed = refl;
-}
+use Rattle.manifest.specs.NewManifest.{IsNew, IsNewOrNone, IsPrepared}
 
 module _ (v : Version) (is : IsVersion v) where
   fits : length (body_bytes v) ≤ 131064

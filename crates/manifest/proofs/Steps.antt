@@ -1,25 +1,25 @@
 -- The parts of an install, over the moments of a disk.
 use Rattle.std.proofs.Common.{◌≡◌, ◌≤◌, ◌+◌, ◌-◌, ◌^◌, inl, inr, ℕ, zero, suc, [], ◌∷◌, Bool, true, false, length, refl, sym, subst, arith}
-use Rattle.std.proofs.lemmas.Bool.{eq-eqb, eqb-true, eqb-false}
-use Rattle.std.specs.Prelude.{Result, Ok, OnOk, ◌==◌}
+use Rattle.std.specs.Prelude.{Result, Ok, Err, OnOk}
 use Rattle.disk_trait.specs.Image.{Image, overwritten}
 use Rattle.disk_trait.specs.World.{IsDurable, Leads, World, WriteMoves}
 use Rattle.disk_trait.proofs.Calls.{leads_none}
 use Rattle.map_model.specs.SortedMap.{Bytes}
 use Rattle.manifest_model.specs.Installs.{Install, IsClosed, IsInstalled, IsOldOrNew, IsOpenStill, IsWritten, MayInstall, Turns}
-use Rattle.manifest_model.specs.Slots.{AreSlots, IsCurrent, IsVersionOf}
+use Rattle.manifest_model.specs.Slots.{AreSlots, IsCurrent, IsGate, IsVersionOf}
 use Rattle.manifest_model.specs.Version.{Version, body_bytes}
 use Rattle.manifest_model.proofs.Installs.{begins_closed, begins_open, closes, installed_in_use, opens, turns_leads, writes}
+use Rattle.manifest_model.proofs.Versions.{in_use}
 use Rattle.manifest_model.specs.Laws.{IsVersion}
 use Rattle.manifest.specs.Manifest.{Manifest, Stands, install_of, other_place, place_of, raised}
 use Rattle.manifest.specs.Steps.{MayClose}
 
 -- the other slot's gate reads 1 where it is said to
 is_open_still : (i : Install) (image : Image) → MayClose i true image → IsOpenStill i image
-is_open_still i image may = begins_open i image may.current (eqb-true (image i.other) 1 may.gate)
+is_open_still i image may = begins_open i image may.current may.gate
 
 is_closed : (i : Install) (image : Image) → MayClose i false image → IsClosed i image
-is_closed i image may = begins_closed i image may.current (eqb-false (image i.other) 1 may.gate)
+is_closed i image may = begins_closed i image may.current may.gate
 
 closing : (i : Install) → MayInstall i → Turns (MayClose i true) (IsVersionOf i.from) (IsClosed i) i.other (0 ∷ [])
 closing i may =
@@ -98,5 +98,16 @@ installed_stands m from image may le is =
     let back : 1 - (1 - m.slot) ≡ m.slot = omega (arith, le) in
     record {
       current = subst (λ (n : ℕ). IsCurrent (other_place m.slot) (place_of n) (raised m.version) image) (sym back) (installed_in_use (install_of m from) image may is);
-      gate = subst (λ (n : ℕ). (image (place_of n) == 1) ≡ true) (sym back) (eq-eqb (image (place_of m.slot)) 1 is.there.is_open);
+      gate = subst (λ (n : ℕ). IsGate true (image (place_of n))) (sym back) is.there.is_open;
+    }
+
+-- an install that was refused before its first call
+pub not_begun : {T E : Type 0} (m : Manifest) (from : Version) (e : E) (a : World) → m.slot ≤ 1
+    → Leads {T = T} (Stands m.slot m.other_open from) (IsOldOrNew (install_of m from)) (IsInstalled (install_of m from)) (Err e) a a
+not_begun {E = E} m from e a le =
+    let stays : (image : Image) → Stands m.slot m.other_open from image → IsOldOrNew (install_of m from) image =
+    λ image stands. inl (in_use (place_of m.slot) (other_place m.slot) from image (are_slots m.slot le) stands.current) in
+    record {
+      meanwhile = (leads_none {E = E} (Stands m.slot m.other_open from) (IsOldOrNew (install_of m from)) (IsOldOrNew (install_of m from)) e a stays stays).meanwhile;
+      after = λ here. tt;
     }

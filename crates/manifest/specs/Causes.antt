@@ -1,6 +1,6 @@
 -- What the faults of these calls say.
 use Rattle.std.specs.Prelude.{◌≡◌, ◌⊎◌, ◌+◌, ℕ, Bool, true, false}
-use Rattle.disk_trait.specs.World.{World, Rose}
+use Rattle.disk_trait.specs.World.{Moves, ReadMoves, Rose, World}
 use Rattle.disk_trait.specs.Fault.{IsFaultOf, IsWriteThroughFault}
 use Rattle.disk_trait.specs.declared.fault.DiskFault.{DiskFault}
 use Rattle.disk_trait.specs.declared.fault.Op.TheVariants.{Read, Sync}
@@ -14,9 +14,10 @@ use Rattle.manifest.specs.declared.fault.ManifestFault.TheVariants as fault
 abbrev pub IsSlotFault : ℕ → DiskFault → Type 0
 IsSlotFault slot cause = IsWriteThroughFault slot cause ⊎ IsWriteThroughFault (slot + 8) cause
 
--- the device fails in the slot, and only where the count of failed writes rose; nothing that is read is refused
+-- memory is wanted before anything is written; the device fails in the slot, and only where the count of failed writes rose;
+-- nothing is read, so nothing that is read is refused
 abbrev pub HasInstallCause : ℕ → World → World → ManifestFault → Type 0
-HasInstallCause slot old new fault.Memory = Unit {0}
+HasInstallCause slot old new fault.Memory = ReadMoves 0 old new
 HasInstallCause slot old new (fault.Device cause) = IsSlotFault slot cause × Rose old.seen.write_faults new.seen.write_faults
 HasInstallCause slot old new fault.NotAStore = ⊥
 HasInstallCause slot old new fault.AlreadyAStore = ⊥
@@ -34,9 +35,10 @@ abbrev pub HasLookCause : World → World → DiskFault → Type 0
 HasLookCause old new cause =
     (IsFaultOf Sync 0 cause × Rose old.seen.write_faults new.seen.write_faults) ⊎ (IsGateFault cause × Rose old.seen.read_faults new.seen.read_faults)
 
--- so did what came before, or a write in slot A
+-- Memory is wanted behind the look, before anything is written. The look failed, or a write in slot A, and only where the
+-- count of failed writes rose.
 abbrev pub HasFormatCause : World → World → ManifestFault → Type 0
-HasFormatCause old new fault.Memory = Unit {0}
+HasFormatCause old new fault.Memory = Moves 0 0 2 old new
 HasFormatCause old new (fault.Device cause) = HasLookCause old new cause ⊎ (IsSlotFault slot_a cause × Rose old.seen.write_faults new.seen.write_faults)
 HasFormatCause old new fault.NotAStore = ⊥
 HasFormatCause old new fault.AlreadyAStore = Unit {0}

@@ -1,3 +1,5 @@
+pub use Rattle.manifest_model.specs.NewVersion
+pub use Rattle.manifest_model.specs.Slots
 pub mod Manifest
 pub mod Causes
 pub mod Steps

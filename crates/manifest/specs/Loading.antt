@@ -1,10 +1,10 @@
 -- What loading answers of an image.
-use Rattle.std.specs.Prelude.{◌≡◌, ◌≤◌, ◌==◌, ℕ, Bool, true, false, Some}
+use Rattle.std.specs.Prelude.{◌≡◌, ◌≤◌, ℕ, Bool, true, false, Some}
 use Rattle.byte_fields.specs.declared.parts.Damage.{Damage}
 use Rattle.byte_fields.specs.Faults.{fault as rule_at}
 use Rattle.disk_trait.specs.Image.{Image, Shows}
 use Rattle.manifest_model.specs.Laws.{IsVersion}
-use Rattle.manifest_model.specs.Slots.{IsNoStore, slots_damage}
+use Rattle.manifest_model.specs.Slots.{IsGate, IsNoStore, slots_damage}
 use Rattle.manifest_model.specs.Version.{Version, body_bytes, body_place, slot_a, slot_b}
 use Rattle.manifest.specs.Manifest.{Manifest, Stands, other_place, place_of}
 use Rattle.manifest.specs.Reading.{shape_of}
@@ -47,13 +47,13 @@ IsNoStoreAnswer (fault.Damaged damage) = ⊥
 
 -- the gates read 1 where they are said to
 pub record AreGates (a_open b_open : Bool) (image : Image) : Type 0 where
-  pub a : a_open ≡ (image slot_a == 1)
-  pub b : b_open ≡ (image slot_b == 1)
+  pub a : IsGate a_open (image slot_a)
+  pub b : IsGate b_open (image slot_b)
 
 -- a slot is open, and the other one is not
 pub record IsAlone (slot : ℕ) (image : Image) : Type 0 where
-  pub opened : true ≡ (image (place_of slot) == 1)
-  pub closed : false ≡ (image (other_place slot) == 1)
+  pub opened : IsGate true (image (place_of slot))
+  pub closed : IsGate false (image (other_place slot))
 
 -- the body of a sound version stands in a slot
 pub record IsHeld (slot : ℕ) (v : Version) (image : Image) : Type 0 where

@@ -1,21 +1,8 @@
--- The first version of a store, and a device that has it or none.
-use Rattle.std.specs.Prelude.{◌≢◌, ◌⊎◌, ◌==◌, ◌||◌, ℕ, Bool, []}
+-- A device that has the version of a new store, or none.
+use Rattle.std.specs.Prelude.{◌≢◌, ◌⊎◌, ◌==◌, ◌||◌, Bool}
 use Rattle.disk_trait.specs.Image.{Image, Shows}
-use Rattle.filter_api.specs.declared.settings.Settings.{Settings}
 use Rattle.manifest_model.specs.Slots.{HoldsVersion, IsNoStore, IsVersionOf}
 use Rattle.manifest_model.specs.Version.{Version, body_bytes, body_place, slot_a, slot_b}
-
--- epoch 1, no tables, and the first log area
-abbrev pub new_version : Settings → ℕ → Version
-new_version settings pages = record {
-  hash_bits = settings.hash_bits;
-  real_bits = settings.real_bits;
-  ratio = settings.ratio;
-  pages = pages;
-  epoch = 1;
-  log_page = 64;
-  rows = [];
-}
 
 -- a gate reads 1
 abbrev pub has_open : Image → Bool

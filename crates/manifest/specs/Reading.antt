@@ -1,20 +1,14 @@
 -- What reading a body looks at, one step after the other.
 use Rattle.std.specs.Prelude.{◌≡◌, ◌+◌, ℕ, [], Option, Some}
 use Rattle.byte_fields.specs.Faults.{Fault, or_fault}
-use Rattle.byte_fields.specs.declared.parts.Row.{Row}
 use Rattle.byte_fields.specs.declared.parts.Damage.{Damage}
 use Rattle.byte_fields.specs.declared.parts.Damage.TheVariants as damage
 use Rattle.byte_fields.specs.declared.parts.Part.TheVariants as part
-use Rattle.block_model.specs.Places.{pages_of}
-use Rattle.extent_model.specs.Extents.{Extent}
 use Rattle.map_model.specs.SortedMap.{Bytes}
 use Rattle.manifest_model.specs.Reading.{extents_fault, kept_sum, levels_fault, row_zeros_fault, table_rows_fault, table_rows_in, seen_sum}
 use Rattle.manifest_model.specs.Version.{body_place}
 use Rattle.manifest.specs.declared.fault.ManifestFault.{ManifestFault}
 use Rattle.manifest.specs.declared.fault.ManifestFault.TheVariants as fault
-
-abbrev pub extent_of : Row → Extent
-extent_of row = (row.first_page, pages_of row)
 
 -- the first of rules 7 to 10 that rows break, on a device of so many pages; the bytes begin with them
 abbrev pub rows_broken : ℕ → ℕ → Bytes → Option Fault

@@ -1,13 +1,15 @@
 // The first version of a store.
-ghost use Rattle.std.specs.Prelude.{◌≡◌, ◌<◌, ◌≤◌, ◌+◌, ◌^◌, length, true, false, IfOk, IfErr, OnOk, OnErr, IsTrue, MatchResult};
+ghost use Rattle.std.specs.Prelude.{◌≡◌, ◌<◌, ◌≤◌, ◌+◌, length, true, false, IfOk, IfErr, OnOk, OnErr, IsTrue, MatchResult};
 ghost use Rattle.disk_trait.specs.World.{IsDurable, Leads, Moves, Rose, WriteMoves};
 ghost use Rattle.filter_api.specs.Ranges.{InRange};
+ghost use Rattle.key_base.specs.Limits.{max_device_pages, max_ratio, min_device_pages, slot_bytes};
 ghost use Rattle.manifest_model.specs.Laws.{IsVersion};
+ghost use Rattle.manifest_model.specs.NewVersion.{new_version};
 ghost use Rattle.manifest_model.specs.Slots.{IsNoStore};
 ghost use Rattle.manifest_model.specs.Version.{body_bytes};
 ghost use Rattle.manifest_model.specs.Version as model;
 ghost use Rattle.manifest.specs.Causes.{HasFormatCause, IsFormatAnswer, HasLookCause, IsSlotFault};
-ghost use Rattle.manifest.specs.NewManifest.{IsNew, IsNewOrNone, has_open, new_version};
+ghost use Rattle.manifest.specs.NewManifest.{IsNew, IsNewOrNone, has_open};
 
 use crate::fault::ManifestFault;
 use crate::slots::{A, B, BODY_AT, OPEN, is_open, slot_place};
@@ -35,8 +37,8 @@ pub fn is_store<D: Disk>(disk: &mut D) -> Result<bool, DiskFault>
 /// Makes the device a new store of so many pages, 512 to 16,777,216, whose version is written into slot A.
 ///
 /// Where no image had an open slot at the start, each image that a crash may leave meanwhile has no version or that one, and
-/// at `Ok` that one alone. [`ManifestFault::AlreadyAStore`] exactly where a gate reads 1, and then nothing is written. Three
-/// syncs, two reads, two writes.
+/// at `Ok` that one alone. [`ManifestFault::AlreadyAStore`] exactly where a gate reads 1, and then nothing is written; nor is
+/// it where memory is wanted. Three syncs, two reads, two writes.
 pub fn format<D: Disk>(
     alloc: Global,
     disk: &mut D,
@@ -44,13 +46,14 @@ pub fn format<D: Disk>(
     pages: u32,
 ) -> Result<(), ManifestFault>
     requires settings { InRange settings }
-    requires from { 512 ≤ pages }
-    requires to { pages ≤ 16777216 }
+    requires from { min_device_pages ≤ pages }
+    requires to { pages ≤ max_device_pages }
     ensures crash { IsTrue D.tells → Leads IsNoStore (IsNewOrNone (new_version settings pages)) (IsNew (new_version settings pages)) result (D.world disk.old) (D.world disk.new) }
     ensures answer { IsTrue D.tells → MatchResult result (λ _. has_open (D.world disk.old).seen.held ≡ false) (IsFormatAnswer (has_open (D.world disk.old).seen.held)) }
-    ensures moves { Moves 0 131072 2 (D.world disk.old) (D.world disk.new) }
+    ensures moves { Moves 0 slot_bytes 2 (D.world disk.old) (D.world disk.new) }
     ensures cause { IfErr result (HasFormatCause (D.world disk.old) (D.world disk.new)) }
     ensures unwritten { (result ≡ Err ManifestFault.AlreadyAStore) → Moves 0 0 2 (D.world disk.old) (D.world disk.new) }
+    ensures over_a_store { IsTrue D.tells → has_open (D.world disk.old).seen.held ≡ true → Moves 0 0 2 (D.world disk.old) (D.world disk.new) }
 {
     if is_store(disk)? {
         return Err(ManifestFault::AlreadyAStore);
@@ -63,7 +66,7 @@ pub fn format<D: Disk>(
 // The body of a new store's version.
 fn first_body(alloc: Global, settings: Settings, pages: u32) -> Result<Vec<u8>, AllocError>
     ensures bytes { IfOk result (λ bytes. bytes.items ≡ body_bytes (new_version settings pages)) }
-    ensures ratio { settings.ratio < 2 ^ 16 }
+    ensures ratio { settings.ratio ≤ max_ratio }
 {
     let version = Version {
         settings,
@@ -82,7 +85,7 @@ fn write_first<D: Disk>(disk: &mut D, body: &[u8]) -> Result<(), DiskFault>
     requires { length body.now ≤ 131064 }
     ensures crash { (v : model.Version) → IsTrue D.tells → IsVersion v → body.now ≡ body_bytes v
         → Leads IsNoStore (IsNewOrNone v) (IsNew v) result (D.world disk.old) (D.world disk.new) }
-    ensures moves { WriteMoves 0 131072 (D.world disk.old) (D.world disk.new) }
+    ensures moves { WriteMoves 0 slot_bytes (D.world disk.old) (D.world disk.new) }
     ensures fault { IfErr result (IsSlotFault 0) }
     ensures cause { OnErr result (Rose (D.world disk.old).seen.write_faults (D.world disk.new).seen.write_faults) }
 {

@@ -1,7 +1,8 @@
 // A new version in the place of the old one.
-ghost use Rattle.std.specs.Prelude.{◌≡◌, ◌≤◌, ◌+◌, ◌-◌, ◌*◌, ◌^◌, ◌==◌, ◌↔◌, ℕ, Bool, true, length, OnOk, OnErr, IfErr, IsTrue};
+ghost use Rattle.std.specs.Prelude.{◌≡◌, ◌≤◌, ◌+◌, ◌-◌, ◌^◌, ◌==◌, ◌↔◌, true, length, OnOk, OnErr, IfErr, IsTrue};
 ghost use Rattle.disk_trait.specs.World.{Leads, Now, ReadMoves, WriteMoves, Rose};
 ghost use Rattle.disk_trait.specs.Fault.{IsWriteThroughFault};
+ghost use Rattle.key_base.specs.Limits.{slot_bytes};
 ghost use Rattle.manifest_model.specs.Installs.{Install, IsClosed, IsInstalled, IsOldOrNew, IsWritten, MayInstall};
 ghost use Rattle.manifest_model.specs.Laws.{IsVersion};
 ghost use Rattle.manifest_model.specs.Slots.{IsVersionOf};
@@ -25,7 +26,7 @@ use std::alloc::Global;
 /// Each image that a crash may leave meanwhile has the old version or the new one, and at `Ok` the new one alone, with both
 /// gates open; outside the other slot nothing changes. Three writes, each with a sync, of which the first is left out where
 /// the other slot is closed; no read, and memory for one body, which is taken first. [`ManifestFault::Epoch`] exactly where
-/// no epoch is left, before any write.
+/// no epoch is left, and it, as want of memory, comes before any write.
 pub fn install<D: Disk>(alloc: Global, disk: &mut D, version: &Version) -> Result<(), ManifestFault>
     requires slot { version.now.slot ≤ 1 }
     requires sound { IsVersion version.now.version }
@@ -36,7 +37,7 @@ pub fn install<D: Disk>(alloc: Global, disk: &mut D, version: &Version) -> Resul
         → OnOk result (Now (Stands (1 - version.now.slot) true (raised version.now.version)) (D.world disk.new)) }
     ensures limit { (result ≡ Err ManifestFault.Epoch) ↔ (version.now.version.epoch ≡ 2 ^ 64 - 1) }
     ensures unwritten { (version.now.version.epoch ≡ 2 ^ 64 - 1) → ReadMoves 0 (D.world disk.old) (D.world disk.new) }
-    ensures moves { WriteMoves (other_place version.now.slot) 131072 (D.world disk.old) (D.world disk.new) }
+    ensures moves { WriteMoves (other_place version.now.slot) slot_bytes (D.world disk.old) (D.world disk.new) }
     ensures cause { IfErr result (HasInstallCause (other_place version.now.slot) (D.world disk.old) (D.world disk.new)) }
 {
     if version.epoch == u64::MAX {
@@ -55,11 +56,11 @@ fn replace<D: Disk>(
     other_open: bool,
     body: &[u8],
 ) -> Result<(), DiskFault>
-    requires place { other ≤ 131072 }
+    requires place { other ≤ slot_bytes }
     requires fits { length body.now ≤ 131064 }
     ensures crash { (i : Install) → IsTrue D.tells → MayInstall i → i.other ≡ other → body.now ≡ body_bytes i.to
         → Leads (MayClose i other_open) (IsOldOrNew i) (IsInstalled i) result (D.world disk.old) (D.world disk.new) }
-    ensures moves { WriteMoves other 131072 (D.world disk.old) (D.world disk.new) }
+    ensures moves { WriteMoves other slot_bytes (D.world disk.old) (D.world disk.new) }
     ensures fault { IfErr result (IsSlotFault other) }
     ensures cause { OnErr result (Rose (D.world disk.old).seen.write_faults (D.world disk.new).seen.write_faults) }
 {
@@ -72,7 +73,7 @@ fn replace<D: Disk>(
 //
 // Where it is closed this is left out: a crash might leave a 1 before a body that is not sound.
 fn close_gate<D: Disk>(disk: &mut D, other: u64, is_open: bool) -> Result<(), DiskFault>
-    requires { other ≤ 131072 }
+    requires { other ≤ slot_bytes }
     ensures crash { (i : Install) → IsTrue D.tells → MayInstall i → i.other ≡ other
         → Leads (MayClose i is_open) (IsVersionOf i.from) (IsClosed i) result (D.world disk.old) (D.world disk.new) }
     ensures moves { WriteMoves other 1 (D.world disk.old) (D.world disk.new) }
@@ -87,7 +88,7 @@ fn close_gate<D: Disk>(disk: &mut D, other: u64, is_open: bool) -> Result<(), Di
 
 // Writes a body behind the closed gate. Each image meanwhile has the old version.
 pub(crate) fn put_body<D: Disk>(disk: &mut D, slot: u64, body: &[u8]) -> Result<(), DiskFault>
-    requires place { slot ≤ 131072 }
+    requires place { slot ≤ slot_bytes }
     requires fits { length body.now ≤ 131064 }
     ensures crash { (i : Install) → IsTrue D.tells → MayInstall i → i.other ≡ slot → body.now ≡ body_bytes i.to
         → Leads (IsClosed i) (IsVersionOf i.from) (IsWritten i) result (D.world disk.old) (D.world disk.new) }
@@ -100,7 +101,7 @@ pub(crate) fn put_body<D: Disk>(disk: &mut D, slot: u64, body: &[u8]) -> Result<
 
 // Opens the gate before a body that stands. Each image meanwhile has the old version or the new one, and at Ok the new one.
 pub(crate) fn open_gate<D: Disk>(disk: &mut D, slot: u64) -> Result<(), DiskFault>
-    requires { slot ≤ 131072 }
+    requires { slot ≤ slot_bytes }
     ensures crash { (i : Install) → IsTrue D.tells → MayInstall i → i.other ≡ slot
         → Leads (IsWritten i) (IsOldOrNew i) (IsInstalled i) result (D.world disk.old) (D.world disk.new) }
     ensures moves { WriteMoves slot 1 (D.world disk.old) (D.world disk.new) }

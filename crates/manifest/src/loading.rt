@@ -1,17 +1,16 @@
 // The version that a device holds.
-ghost use Rattle.std.specs.Prelude.{◌≡◌, ◌≤◌, ◌<◌, ◌+◌, ◌-◌, ◌*◌, ◌^◌, ◌==◌, ◌⊎◌, ℕ, Bool, length, take, drop, true, false, Some, IfOk, IfErr, OnOk, OnErr, IsTrue, MatchResult};
+ghost use Rattle.std.specs.Prelude.{◌≡◌, ◌≤◌, ◌<◌, ◌+◌, ◌-◌, ◌*◌, ◌⊎◌, length, take, drop, true, false, Some, IfOk, IfErr, OnOk, OnErr, IsTrue, MatchResult};
 ghost use Rattle.byte_fields.specs.declared.parts.Damage.{Damage as Found};
 ghost use Rattle.disk_trait.specs.Fault.{IsFaultOf};
-ghost use Rattle.disk_trait.specs.Image.{Shows, window};
+ghost use Rattle.disk_trait.specs.Image.{window};
 ghost use Rattle.disk_trait.specs.World.{ReadMoves, Rose};
 ghost use Rattle.manifest_model.specs.Laws.{IsVersion};
-ghost use Rattle.manifest_model.specs.Reading.{body_damage, table_count_in, early_fault};
+ghost use Rattle.manifest_model.specs.Reading.{body_damage};
 ghost use Rattle.manifest_model.specs.Slots.{IsNoStore, IsVersionOf, body_in, slots_damage};
-ghost use Rattle.manifest_model.specs.Version.{body_bytes, body_place};
 ghost use Rattle.manifest_model.specs.Version as model;
 ghost use Rattle.manifest.specs.Causes.{HasLoadCause, HasSlotCause};
 ghost use Rattle.manifest.specs.Loading.{AreGates, IsAlone, IsFree, IsHeld, IsLoadAnswer, IsLoaded, IsNoStoreAnswer, one_epoch};
-ghost use Rattle.manifest.specs.Manifest.{Manifest, place_of};
+ghost use Rattle.manifest.specs.Manifest.{place_of};
 ghost use Rattle.manifest.specs.Reading.{IsDamage};
 
 use crate::fault::ManifestFault;

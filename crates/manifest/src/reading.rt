@@ -4,11 +4,13 @@ ghost use Rattle.std.specs.List.{list_any};
 ghost use Rattle.std.specs.List.Sorted.{IsPermutation};
 ghost use Rattle.byte_fields.specs.Faults.{or_fault, refuse};
 ghost use Rattle.byte_fields.specs.declared.parts.Row as rows;
+ghost use Rattle.key_base.specs.Limits.{max_device_pages, max_tables, min_device_pages};
 ghost use Rattle.manifest_model.specs.Reading.{body_damage, table_count_in, early_fault, front_length_in, kept_sum, leaves, meets_row, numbers_fault, table_row_in, table_rows_in, seen_sum, version_in};
 ghost use Rattle.manifest_model.specs.Laws.{IsVersion};
+ghost use Rattle.manifest_model.specs.Rows.{extent_of};
 ghost use Rattle.manifest_model.specs.Version.{body_bytes};
 ghost use Rattle.manifest.specs.Manifest.{place_of};
-ghost use Rattle.manifest.specs.Reading.{IsBodyDamage, extent_of, rows_broken, shape_of, sum_of};
+ghost use Rattle.manifest.specs.Reading.{IsBodyDamage, rows_broken, shape_of, sum_of};
 
 use crate::fault::ManifestFault;
 use crate::rules::{
@@ -16,10 +18,11 @@ use crate::rules::{
 };
 use crate::slots::{BODY_AT, slot_place};
 use crate::version::Version;
-use crate::writing::{HEAD_BYTES, LOG_PAGES, ROW_BYTES, SUM_BYTES};
+use crate::writing::{HEAD_BYTES, ROW_BYTES, SUM_BYTES};
 use byte_fields::{Damage, Part, Row, fnv1a, get_u16, get_u32, get_u64};
 use extent_map::Extents;
 use filter_api::Settings;
+use key_base::LOG_PAGES;
 use std::alloc::{AllocError, Global};
 
 // The row that bytes begin with.
@@ -49,10 +52,10 @@ fn judged_rows(
     count: usize,
     pages: u32,
 ) -> Result<(Vec<Row>, Option<Broken>), AllocError>
-    requires few { count ≤ 1024 }
+    requires few { count ≤ max_tables }
     requires long { 64 + 64 * count ≤ length body.now }
-    requires from { 512 ≤ pages }
-    requires to { pages ≤ 16777216 }
+    requires from { min_device_pages ≤ pages }
+    requires to { pages ≤ max_device_pages }
     ensures rows { IfOk result (λ found. found.0.items ≡ table_rows_in count (drop 64 body.now)) }
     ensures broken { IfOk result (λ found. found.1 ≡ rows_broken pages count (drop 64 body.now)) }
 {
@@ -90,7 +93,7 @@ fn met_with(
 ) -> Result<Option<Broken>, AllocError>
     requires place { place ≤ 2 ^ 30 }
     requires pages { taken.old.pages ≡ pages }
-    requires few { pages ≤ 16777216 }
+    requires few { pages ≤ max_device_pages }
     requires some { shape.now ≡ None → 0 < row.now.data_pages }
     ensures met { (earlier : List rows.Row) → shape.now ≡ None → (met ≡ None → IsPermutation (map extent_of earlier) taken.old.extents)
         → IfOk result (λ found. found ≡ or_fault met (refuse (leaves pages row.now || list_any (meets_row row.now) earlier) (place + 4) 10 None)) }
@@ -179,7 +182,7 @@ pub(crate) fn read_body(
 ) -> Result<Version, ManifestFault>
     requires slot { slot ≤ 1 }
     requires head { early_fault body.now ≡ None }
-    requires few { table_count_in body.now ≤ 1024 }
+    requires few { table_count_in body.now ≤ max_tables }
     requires long { length body.now ≡ 72 + 64 * table_count_in body.now }
     ensures version { IfOk result (λ v. v ≡ record { version = version_in body.now; slot = slot; other_open = other_open }) }
     ensures sound { OnOk result (IsVersion (version_in body.now) × (body_bytes (version_in body.now) ≡ body.now)) }

@@ -4,24 +4,19 @@ ghost use Rattle.std.specs.List.{list_any};
 ghost use Rattle.std.specs.List.Sorted.{IsPermutation};
 ghost use Rattle.byte_fields.specs.Faults.{Fault, or_fault, refuse};
 ghost use Rattle.byte_fields.specs.declared.parts.Row as rows;
-ghost use Rattle.block_model.specs.Places.{pages_of};
+ghost use Rattle.key_base.specs.Limits.{max_device_pages};
 ghost use Rattle.manifest_model.specs.Reading.{early_fault, leaves, meets_row, numbers_fault, table_row_fault, zeros_fault};
-ghost use Rattle.manifest.specs.Reading.{extent_of};
+ghost use Rattle.manifest_model.specs.Rows.{extent_of};
 
-use crate::writing::{FORMAT, LOG_PAGES, MAGIC};
+use crate::writing::{FORMAT, MAGIC};
 use block_model::pages_for;
 use byte_fields::{Row, get_u16, get_u32, get_u64};
 use extent_map::Extents;
+use key_base::{
+    LOG_PAGES, MAX_DEVICE_PAGES, MAX_HASH_BITS, MAX_REAL_BITS, MAX_TABLES, MIN_DEVICE_PAGES,
+};
 use std::alloc::AllocError;
 use std::marker::Model;
-
-const MAX_TABLES: u16 = 1024;
-
-const MIN_PAGES: u32 = 512;
-
-const MAX_PAGES: u32 = 16_777_216;
-
-const MAX_BITS: u8 = 32;
 
 const MAX_LEVEL: u8 = 6;
 
@@ -50,7 +45,7 @@ pub(crate) fn first_of(first: Option<Broken>, second: Option<Broken>) -> Option<
     }
 }
 
-/// Rules 1 to 3, which are tried before the sum: the manifest_magic, the version of the format, the count of tables.
+/// Rules 1 to 3, which are tried before the sum: the magic, the version of the format, the count of tables.
 #[tactic(auto, unfolding(manifest_model::specs::Reading::early_fault))]
 pub(crate) fn head_rules(head: &[u8]) -> Option<Broken>
     requires { 64 ≤ length head.now }
@@ -62,7 +57,7 @@ pub(crate) fn head_rules(head: &[u8]) -> Option<Broken>
     if get_u16(head, 4) != FORMAT {
         return Some(Broken { place: 4, rule: 2 });
     }
-    if get_u16(head, 6) > MAX_TABLES {
+    if usize::from(get_u16(head, 6)) > MAX_TABLES {
         return Some(Broken { place: 6, rule: 3 });
     }
     None
@@ -78,13 +73,13 @@ pub(crate) fn number_rules(body: &[u8]) -> Option<Broken>
         return Some(Broken { place: 8, rule: 4 });
     }
     let pages = get_u32(body, 16);
-    if pages < MIN_PAGES || pages > MAX_PAGES {
+    if pages < MIN_DEVICE_PAGES || pages > MAX_DEVICE_PAGES {
         return Some(Broken { place: 16, rule: 5 });
     }
-    if body[20] > MAX_BITS {
+    if body[20] > MAX_HASH_BITS {
         return Some(Broken { place: 20, rule: 5 });
     }
-    if body[21] > MAX_BITS {
+    if body[21] > MAX_REAL_BITS {
         return Some(Broken { place: 21, rule: 5 });
     }
     let log_page = get_u32(body, 24);
@@ -177,7 +172,7 @@ pub(crate) fn level_rule(place: u32, before: u8, row: &Row) -> Option<Broken>
     None
 }
 
-/// Rule 10, of a row with pages that stands at a place: it leaves the pages of tables, or meets_row an earlier one. Where it
+/// Rule 10, of a row with pages that stands at a place: it leaves the pages of tables, or meets an earlier one. Where it
 /// does not, its pages are taken.
 pub(crate) fn extent_rule(
     place: u32,
@@ -187,7 +182,7 @@ pub(crate) fn extent_rule(
 ) -> Result<Option<Broken>, AllocError>
     requires place { place ≤ 2 ^ 30 }
     requires device { taken.old.pages ≡ device_pages }
-    requires few { device_pages ≤ 16777216 }
+    requires few { device_pages ≤ max_device_pages }
     requires some { 0 < row.now.data_pages }
     ensures broken { (earlier : List rows.Row) → IsPermutation (map extent_of earlier) taken.old.extents
         → IfOk result (λ found. found ≡ refuse (leaves device_pages row.now || list_any (meets_row row.now) earlier) (place + 4) 10 None) }

@@ -5,6 +5,7 @@ ghost use Rattle.disk_trait.specs.World.{ReadMoves, Rose};
 ghost use Rattle.manifest.specs.Manifest.{place_of};
 
 use disk_trait::{Disk, DiskFault, Op};
+use key_base::SLOT_BYTES;
 
 /// What the gate of an open slot reads. Every other byte is a closed one.
 pub(crate) const OPEN: u8 = 1;
@@ -18,8 +19,6 @@ pub(crate) const B: u8 = 1;
 
 /// Where a body begins in its slot.
 pub(crate) const BODY_AT: u64 = 8;
-
-const SLOT_BYTES: u64 = 131_072;
 
 /// The first byte of a slot, which is its gate.
 pub(crate) fn slot_place(slot: u8) -> u64

@@ -4,3 +4,5 @@ pub mod Held
 pub mod Versions
 pub mod SlotFrames
 pub mod Installs
+pub mod Rows
+pub mod NewVersions

@@ -7,7 +7,7 @@ use Rattle.byte_fields.specs.declared.parts.Row.{Row}
 use Rattle.key_base.specs.Limits.{max_device_pages, max_hash_bits, max_real_bits, max_tables, min_device_pages}
 use Rattle.map_model.specs.SortedMap.{Bytes}
 use Rattle.manifest_model.specs.Reading.{body_damage, front_length_in, of_version, version_in}
-use Rattle.manifest_model.specs.Version.{Version, body_bytes, row_numbers, row_widths}
+use Rattle.manifest_model.specs.Version.{Version, body_bytes, log_page_of, row_numbers, row_widths}
 
 -- a row whose numbers fit their fields
 abbrev pub RowFits : Row → Type 0
@@ -23,7 +23,7 @@ pub record IsVersion (v : Version) : Type 0 where
   pub hash_bits : v.hash_bits ≤ max_hash_bits
   pub real_bits : v.real_bits ≤ max_real_bits
   pub ratio : v.ratio < 2 ^ 16
-  pub log_page : (v.log_page ≡ 64) ⊎ (v.log_page ≡ 128)
+  pub log_page : (v.log_page ≡ log_page_of 0) ⊎ (v.log_page ≡ log_page_of 1)
   pub rows : AllByRecursion RowFits v.rows
   pub placed : of_version v ≡ None
 

@@ -1,7 +1,14 @@
+pub use Rattle.block_model.specs.Places
+pub use Rattle.byte_fields.specs.Faults
+pub use Rattle.disk_trait.specs.Image
+pub use Rattle.extent_model.specs.Extents
+pub use Rattle.filter_api.specs.Ranges
 pub mod Version
 pub mod Reading
 pub mod Tables
 pub mod Laws
+pub mod Rows
+pub mod NewVersion
 pub mod Examples
 pub mod Slots
 pub mod SlotLaws

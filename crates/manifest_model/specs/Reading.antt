@@ -9,12 +9,12 @@ use Rattle.byte_fields.specs.declared.parts.Row.{Row}
 use Rattle.byte_fields.specs.declared.parts.Damage.{Damage}
 use Rattle.byte_fields.specs.declared.parts.Damage.TheVariants as damage
 use Rattle.byte_fields.specs.declared.parts.Part.TheVariants as part
-use Rattle.key_base.specs.Limits.{log_pages, max_device_pages, max_hash_bits, max_real_bits, max_tables, min_device_pages}
+use Rattle.key_base.specs.Limits.{first_table_page, log_pages, max_device_pages, max_hash_bits, max_real_bits, max_tables, min_device_pages}
 use Rattle.map_model.specs.SortedMap.{Bytes}
 use Rattle.byte_fields.specs.Faults.{Fault, fault, refuse, or_fault}
 use Rattle.block_model.specs.Pages.{pages_for}
 use Rattle.block_model.specs.Places.{end_page}
-use Rattle.manifest_model.specs.Version.{Version, manifest_magic, row_widths, body_place}
+use Rattle.manifest_model.specs.Version.{Version, log_page_of, manifest_magic, row_widths, body_place}
 
 -- ---- the version that is read
 
@@ -54,7 +54,7 @@ version_in bytes = record {
   rows = table_rows_in (table_count_in bytes) (drop 64 bytes);
 }
 
--- ---- before the sum: 1, the magic; 2, the version of the format; 3, more than 1,024 tables
+-- ---- before the sum: 1, the magic; 2, the version of the format; 3, more tables than the most
 
 unfoldable pub early_fault : Bytes → Option Fault
 early_fault bytes =
@@ -80,7 +80,7 @@ abbrev pub are_no_pages : ℕ → Bool
 are_no_pages pages = nat_lt pages min_device_pages || nat_lt max_device_pages pages
 
 abbrev pub is_no_log_page : ℕ → Bool
-is_no_log_page page = not (page == 64) && not (page == 128)
+is_no_log_page page = not (page == log_page_of 0) && not (page == log_page_of 1)
 
 unfoldable pub numbers_fault : Bytes → Option Fault
 numbers_fault bytes =
@@ -125,10 +125,10 @@ unfoldable pub levels_fault : ℕ → ℕ → List Row → Option Fault
 levels_fault place before [] = None
 levels_fault place before (row ∷ later) = refuse (nat_lt row.level before) place 9 (levels_fault (place + 64) row.level later)
 
--- ---- 10: a table leaves the pages from 192 to the end of the device, or meets one of an earlier row
+-- ---- 10: a table leaves the pages from the first of tables to the end of the device, or meets one of an earlier row
 
 abbrev pub leaves : ℕ → Row → Bool
-leaves pages row = nat_lt row.first_page 192 || nat_lt pages (end_page row)
+leaves pages row = nat_lt row.first_page first_table_page || nat_lt pages (end_page row)
 
 abbrev pub meets_row : Row → Row → Bool
 meets_row row other = nat_lt row.first_page (end_page other) && nat_lt other.first_page (end_page row)

@@ -2,6 +2,7 @@
 use Rattle.std.specs.Prelude.{◌≡◌, ◌⊎◌, ◌<◌, ◌≤◌, ◌+◌, ℕ, None}
 use Rattle.byte_fields.specs.Spelling.{IsBytes}
 use Rattle.disk_trait.specs.Image.{Image, IsApart, Torn}
+use Rattle.key_base.specs.Limits.{slot_bytes}
 use Rattle.manifest_model.specs.Reading.{body_damage, version_in}
 use Rattle.manifest_model.specs.Slots.{AreSlots, HoldsVersion, HoldsOlder, IsCurrent, IsNoStore, IsOpen, IsVersionOf, body_in, slots_damage}
 use Rattle.manifest_model.specs.Version.{Version, slot_a, slot_b}
@@ -49,11 +50,11 @@ VersionIsFound =
 
 -- apart from the slot: its gate, the seven bytes behind it and its body
 abbrev pub IsApartFromSlot : ℕ → ℕ → ℕ → Type 0
-IsApartFromSlot slot at n = IsApart slot 131072 at n
+IsApartFromSlot slot at n = IsApart slot slot_bytes at n
 
 -- the range lies in the slot
 abbrev pub IsInSlot : ℕ → ℕ → ℕ → Type 0
-IsInSlot slot at n = (slot ≤ at) × (at + n ≤ slot + 131072)
+IsInSlot slot at n = (slot ≤ at) × (at + n ≤ slot + slot_bytes)
 
 abbrev pub SlotIsKept : Type 0
 SlotIsKept = (slot at n : ℕ) (v : Version) (old new : Image) → IsApartFromSlot slot at n → Torn at n old new → HoldsVersion slot v old → HoldsVersion slot v new

@@ -1,8 +1,9 @@
 -- The two slots of a device, and the version that an image holds: that of the open slot, or of two open ones that of the
 -- greater epoch.
-use Rattle.std.specs.Prelude.{◌≡◌, ◌≢◌, ◌⊎◌, ◌<◌, ◌==◌, ℕ, ◌&&◌, if◌then◌else◌, Option, None}
+use Rattle.std.specs.Prelude.{◌≡◌, ◌≢◌, ◌-◌, ◌⊎◌, ◌<◌, ◌==◌, ℕ, Bool, true, false, ◌&&◌, if◌then◌else◌, Option, None}
 use Rattle.std.specs.Option.{option_or}
 use Rattle.disk_trait.specs.Image.{Image, Shows, window}
+use Rattle.key_base.specs.Limits.{slot_bytes}
 use Rattle.byte_fields.specs.declared.parts.Damage.{Damage}
 use Rattle.map_model.specs.SortedMap.{Bytes}
 use Rattle.manifest_model.specs.Laws.{IsVersion}
@@ -12,7 +13,11 @@ use Rattle.manifest_model.specs.Version.{Version, body_bytes, body_place, slot_a
 
 -- ---- a slot
 
--- the slot is open: its gate reads 1
+-- a gate byte as it is said to be: an open gate reads 1, and every other byte is a closed one
+abbrev pub IsGate : Bool → ℕ → Type 0
+IsGate true byte = byte ≡ 1
+IsGate false byte = byte ≢ 1
+
 abbrev pub IsOpen : ℕ → Image → Type 0
 IsOpen slot image = image slot ≡ 1
 
@@ -49,7 +54,7 @@ IsNoStore image = (image slot_a ≢ 1) × (image slot_b ≢ 1)
 
 -- the bytes of a slot behind its gate and the seven bytes after it
 unfoldable pub body_room : ℕ
-body_room = 131064
+body_room = slot_bytes - 8
 
 abbrev pub body_in : ℕ → Image → Bytes
 body_in slot image = window image (body_place slot) body_room

@@ -1,10 +1,10 @@
 -- What the manifest says of a store, and the bytes that say it.
-use Rattle.std.specs.Prelude.{ℕ, ◌+◌, List, [], ◌∷◌, ◌++◌, length, flat_map}
+use Rattle.std.specs.Prelude.{ℕ, ◌+◌, ◌*◌, List, [], ◌∷◌, ◌++◌, length, flat_map}
 use Rattle.byteorder.specs.Endian.{little_bytes}
 use Rattle.byte_fields.specs.Fields.{fields}
 use Rattle.byte_fields.specs.Sums.{fnv_of}
 use Rattle.byte_fields.specs.declared.parts.Row.{Row}
-use Rattle.key_base.specs.Limits.{log_pages}
+use Rattle.key_base.specs.Limits.{log_pages, slot_bytes}
 use Rattle.map_model.specs.SortedMap.{Bytes}
 
 -- a version: the settings of filters, the pages of the device, the epoch, the first page of the log area in use, and a
@@ -17,6 +17,10 @@ pub record Version : Type 0 where
   pub epoch : ℕ
   pub log_page : ℕ
   pub rows : List Row
+
+-- the first page of a log area: area 0 stands behind as many pages, area 1 behind it
+abbrev pub log_page_of : ℕ → ℕ
+log_page_of area = log_pages * (area + 1)
 
 -- ---- the head
 
@@ -64,7 +68,7 @@ abbrev pub slot_a : ℕ
 slot_a = 0
 
 abbrev pub slot_b : ℕ
-slot_b = 131072
+slot_b = slot_bytes
 
 abbrev pub body_place : ℕ → ℕ
 body_place slot = slot + 8

@@ -1,13 +1,30 @@
 //! Laws of the manifest. They are proved and never called.
 ghost use Rattle.manifest_model.specs.Installs.{BeginsClosed, BeginsOpen, ClosesTheGate, InstalledIsInUse, OpensTheGate, WritesTheBody};
-ghost use Rattle.manifest_model.specs.Laws.{VersionIsReadAgain, VersionWasWrittenSo};
+ghost use Rattle.manifest_model.specs.Laws.{RowFits, VersionIsReadAgain, VersionWasWrittenSo};
+ghost use Rattle.manifest_model.specs.NewVersion.{NewVersionIsOne};
+ghost use Rattle.manifest_model.specs.Rows.{RowsKeepTheRules, TablesFitDevice};
 ghost use Rattle.manifest_model.specs.SlotLaws.{CurrentIsKept, GreaterEpochIsInUse, HeldIsRead, InUseIsKept, NoStoreHasNoVersion, OlderIsKept, OneVersion, ReadIsHeld, SlotIsKept, VersionHasNoDamage, VersionIsFound, VersionIsKept};
+
+use byte_fields::Row;
 
 /// A version is read from the bytes of its body as it was written, whatever follows them, and these break no rule; and
 /// bytes that break none begin with those of the version that is read from them.
 pub fn versions_have_one_spelling()
     ensures again { VersionIsReadAgain }
     ensures written { VersionWasWrittenSo }
+{}
+
+/// The rows of a version break no rule exactly where each is one of a table, levels do not fall and the tables lie apart on
+/// the device; so each of them fits a device of any size. The version of a new store keeps the rules.
+pub fn rows_keep_the_rules()
+    ensures rules { RowsKeepTheRules }
+    ensures fit { TablesFitDevice }
+    ensures new { NewVersionIsOne }
+{}
+
+/// The numbers of a row that code holds fit their fields.
+pub fn a_row_fits(_row: Row)
+    ensures { RowFits _row }
 {}
 
 /// What a slot holds is what is read from it. An image has one version at most: of two that are held that of the greater

@@ -3,14 +3,15 @@
 //!
 //! `specs/Version` says what a version is and how it is spelled, `specs/Reading` what is read from a body and which rule it
 //! breaks first, and where; the sum is looked at behind the first three rules. `specs/Tables` has the rules that need more
-//! than one body: two slots of one epoch, and the key ranges of tables.
+//! than one body: two slots of one epoch, and the key ranges of tables. `specs/Rows` says what the rules of rows come to, for
+//! whoever makes a version, and `specs/NewVersion` which version a new store has.
 //!
 //! `specs/Slots` says which version an image holds, that of the open slot, or of two open ones that of the greater epoch, and
 //! what is wrong with the slots. `specs/Installs` has the change of versions: three writes into the slot that is not in use,
 //! each of which leaves the old version, but for the last, which leaves the old one or the new one.
 //!
-//! [`body_bytes`] is the obvious loop over the rows, and want of memory is its only error. A store reads and writes its
-//! slots on a device, and is compared with this. The functions with no parameter have no body: each has examples or laws
+//! [`body_bytes`] is the obvious loop over the rows, and want of memory is its only error. Do not use it to keep a manifest:
+//! a store reads and writes its slots on a device, and is compared with this. The functions with no parameter have no body: each has examples or laws
 //! as its contract, and none needs to be called.
 //!
 //! ```text
@@ -24,6 +25,7 @@ mod laws;
 mod version;
 
 pub use laws::{
-    a_version_is_installed, an_image_has_one_version, slots_are_kept, versions_have_one_spelling,
+    a_row_fits, a_version_is_installed, an_image_has_one_version, rows_keep_the_rules,
+    slots_are_kept, versions_have_one_spelling,
 };
-pub use version::{Version, body_bytes};
+pub use version::{Version, body_bytes, push_row};

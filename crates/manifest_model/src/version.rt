@@ -2,8 +2,7 @@
 ghost use Rattle.std.specs.Prelude.{◌≡◌, ◌++◌, OnOk, IfOk};
 ghost use Rattle.manifest_model.specs.Version.{body_bytes, front_bytes, head_bytes, row_bytes};
 
-use byte_fields::{Row, fnv1a};
-use entry_list::{push_fields, push_number};
+use byte_fields::{Row, fnv1a, push_fields, push_number};
 use key_base::LOG_PAGES;
 use std::alloc::{AllocError, Global};
 use std::marker::Model;
@@ -90,8 +89,9 @@ fn push_head(version: &Version, out: &mut Vec<u8>) -> Result<(), AllocError>
     push_fields(&HEAD_WIDTHS, &numbers, out)
 }
 
+/// Appends the bytes of a row.
 #[tactic(auto, unfolding(crate::specs::Version::row_bytes))]
-fn push_row(row: &Row, out: &mut Vec<u8>) -> Result<(), AllocError>
+pub fn push_row(row: &Row, out: &mut Vec<u8>) -> Result<(), AllocError>
     ensures { OnOk result (out.new.items ≡ out.old.items ++ row_bytes row.now) }
 {
     let numbers = [

@@ -1,32 +1,47 @@
 // Formats and installs that fail or are cut short.
-use crate::disks::{base, install_again};
+use crate::disks::{base, install_tables, loaded_with, table};
+use byte_fields::Row;
 use disk_mem::{Choice, MemDisk};
 use disk_trait::{DiskFault, Op};
 use manifest::{ManifestFault, format, load};
 use std::alloc::{AllocError, Global};
 use std::test::Fail;
 
-// A format and two installs, up to the first that fails: how many were done, and the fault.
-fn three_versions(alloc: Global, disk: &mut MemDisk) -> (u64, Option<ManifestFault>) {
+// The tables of the third version; the second has the first of them, and the first has none.
+fn tables() -> [Row; 2] {
+    [table(1, 300), table(1, 200)]
+}
+
+// A format and two installs of more tables, up to the first that fails: how many were done, and the fault.
+fn three_versions(alloc: Global, disk: &mut MemDisk) -> Result<(u64, Option<ManifestFault>), Fail> {
+    let [first, second] = tables();
+    let one_table = loaded_with(alloc, &[first])?;
+    let two_tables = loaded_with(alloc, &[first, second])?;
     if let Err(fault) = format(alloc, disk, base(), 512) {
-        return (0, Some(fault));
+        return Ok((0, Some(fault)));
     }
-    if let Err(fault) = install_again(alloc, disk) {
-        return (1, Some(fault));
+    if let Err(fault) = install_tables(alloc, disk, &one_table) {
+        return Ok((1, Some(fault)));
     }
-    match install_again(alloc, disk) {
-        Ok(()) => (3, None),
-        Err(fault) => (2, Some(fault)),
+    match install_tables(alloc, disk, &two_tables) {
+        Ok(()) => Ok((3, None)),
+        Err(fault) => Ok((2, Some(fault))),
     }
 }
 
-// The epoch that is loaded, 0 where there is no store.
+// The epoch of the one of the three that is loaded, 0 where there is no store.
 fn epoch_of(alloc: Global, disk: &mut MemDisk) -> Result<u64, Fail> {
-    match load(alloc, disk) {
-        Ok(version) => Ok(version.epoch),
-        Err(ManifestFault::NotAStore) => Ok(0),
-        Err(_) => Err(Fail::from("a damaged slot")),
+    let version = match load(alloc, disk) {
+        Ok(version) => version,
+        Err(ManifestFault::NotAStore) => return Ok(0),
+        Err(_) => return Err(Fail::from("a damaged slot")),
+    };
+    let tables = tables();
+    let wanted = tables.iter().take(version.epoch.saturating_sub(1) as usize);
+    if version.epoch > 3 || !version.rows.iter().eq(wanted) {
+        return Err(Fail::from("another version"));
     }
+    Ok(version.epoch)
 }
 
 // A disk on which the call of this number fails.
@@ -64,7 +79,7 @@ fn after_a_crash(
     left: Left,
 ) -> Result<u64, Fail> {
     let mut disk = failing(alloc, call)?;
-    three_versions(alloc, &mut disk);
+    three_versions(alloc, &mut disk)?;
     let choice = match left {
         Left::Whole => Choice::Whole,
         Left::Lost => Choice::Lost,
@@ -83,10 +98,10 @@ fn every_write_left_in_every_way(rt: HostRuntime) -> Result<(), Fail> {
     let rows = [
         (4, 8, 72, 0, 0),
         (6, 0, 1, 1, 0),
-        (12, 131_080, 72, 1, 1),
+        (12, 131_080, 136, 1, 1),
         (14, 131_072, 1, 2, 1),
         (22, 0, 1, 2, 2),
-        (24, 8, 72, 2, 2),
+        (24, 8, 200, 2, 2),
         (26, 0, 1, 3, 2),
     ];
     for (call, at, length, with, without) in rows {
@@ -144,7 +159,7 @@ fn every_call_fails_in_turn(rt: HostRuntime) -> Result<(), Fail> {
     let alloc = rt.alloc();
     for (call, (op, at)) in CALLS.iter().copied().enumerate() {
         let mut disk = failing(alloc, call as u64)?;
-        let (done, fault) = three_versions(alloc, &mut disk);
+        let (done, fault) = three_versions(alloc, &mut disk)?;
         assert_eq!(rt;
             fault,
             Some(ManifestFault::Device(DiskFault { op, at })),
@@ -160,6 +175,6 @@ fn every_call_fails_in_turn(rt: HostRuntime) -> Result<(), Fail> {
         );
     }
     let mut disk = failing(alloc, CALLS.len() as u64)?;
-    assert_eq!(rt; three_versions(alloc, &mut disk), (3, None));
+    assert_eq!(rt; three_versions(alloc, &mut disk)?, (3, None));
     Ok(())
 }

@@ -69,19 +69,24 @@ fn each_rule_of_a_head_at_its_place(rt: HostRuntime) -> Result<(), Fail> {
 #[test]
 fn another_sum_comes_before_the_later_rules(rt: HostRuntime) -> Result<(), Fail> {
     let alloc = rt.alloc();
-    let rows: [(usize, &[u8]); 4] = [(8, &[0]), (16, &[0xFF, 1]), (24, &[0x41]), (32, &[1])];
-    for (place, bytes) in rows {
-        let fault = changed(alloc, place, bytes, false)?;
-        assert!(rt;
-            matches!(
-                fault,
-                Some(ManifestFault::Damaged(Damage::Sum {
-                    part: Part::Manifest,
-                    at: 8,
-                    kept: 0xE493F517DB6813E7,
-                    ..
-                }))
-            )
+    let rows: [(usize, &[u8], u64); 4] = [
+        (8, &[0], 0xB1A5EF45E2D38472),
+        (16, &[0xFF, 1], 0xBCB146C442DE5C9D),
+        (24, &[0x41], 0x45F7EC4D68957946),
+        (32, &[1], 0xDF3B42313871D366),
+    ];
+    for (place, bytes, seen) in rows {
+        let kept = 0xE493F517DB6813E7;
+        let (part, at) = (Part::Manifest, 8);
+        let sums = Damage::Sum {
+            part,
+            at,
+            kept,
+            seen,
+        };
+        assert_eq!(rt;
+            changed(alloc, place, bytes, false)?,
+            Some(ManifestFault::Damaged(sums))
         );
     }
     Ok(())
@@ -92,6 +97,38 @@ fn with_tables(alloc: Global, rows: &[Row]) -> Result<Option<ManifestFault>, Fai
     let mut disk = MemDisk::new(alloc, &[])?;
     store(alloc, &mut disk, 0, &version_of(alloc, 512, 6, rows)?)?;
     Ok(fault_of(alloc, &mut disk))
+}
+
+// The fault of a store with one table whose row has 1 at a place of the body, with the sum of that.
+fn changed_row(alloc: Global, place: usize) -> Result<Option<ManifestFault>, Fail> {
+    let mut disk = MemDisk::new(alloc, &[])?;
+    store(
+        alloc,
+        &mut disk,
+        0,
+        &version_of(alloc, 512, 6, &[table(1, 192)])?,
+    )?;
+    let mut front = [0; 128];
+    let mut done = disk.read(8, &mut front).is_ok();
+    for byte in front.iter_mut().skip(place).take(1) {
+        *byte = 1;
+    }
+    done = done && disk.write(8, &front).is_ok();
+    done = done && disk.write(136, &fnv1a(&front).to_le_bytes()).is_ok();
+    if !done {
+        return Err(Fail::from("the disk failed"));
+    }
+    Ok(fault_of(alloc, &mut disk))
+}
+
+#[test]
+fn bytes_of_a_row_that_must_be_0(rt: HostRuntime) -> Result<(), Fail> {
+    let alloc = rt.alloc();
+    for (place, at) in [(65, 73), (66, 74), (67, 75), (120, 128), (127, 135)] {
+        assert_eq!(rt; changed_row(alloc, place)?, shape(at, 7));
+    }
+    assert_eq!(rt; changed_row(alloc, 64)?, None);
+    Ok(())
 }
 
 #[test]

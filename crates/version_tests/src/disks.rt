@@ -1,14 +1,15 @@
 // Disks with manifests.
-ghost use Rattle.std.specs.Prelude.{◌≤◌};
+ghost use Rattle.std.specs.Prelude.{◌≤◌, IfOk};
 ghost use Rattle.filter_api.specs.Ranges.{InRange};
+ghost use Rattle.manifest_model.specs.Laws.{IsVersion};
 
 use byte_fields::Row;
 use disk_mem::MemDisk;
 use disk_trait::Disk;
 use filter_api::Settings;
-use manifest::{ManifestFault, format, install, load};
+use manifest::{ManifestFault, Version as Loaded, format, install, load};
 use manifest_model::{Version, body_bytes};
-use std::alloc::Global;
+use std::alloc::{AllocError, Global};
 use std::test::Fail;
 
 /// The first byte of each slot.
@@ -85,6 +86,51 @@ pub fn store(alloc: Global, disk: &mut MemDisk, slot: u64, version: &Version) ->
 pub fn install_again(alloc: Global, disk: &mut MemDisk) -> Result<(), ManifestFault> {
     match load(alloc, disk) {
         Ok(version) => install(alloc, disk, &version),
+        Err(fault) => Err(fault),
+    }
+}
+
+/// The version of a store of 512 pages with these tables, as it is loaded.
+pub fn loaded_with(alloc: Global, rows: &[Row]) -> Result<Loaded, Fail>
+    ensures { IfOk result (λ v. IsVersion v.version) }
+{
+    let mut disk = MemDisk::new(alloc, &[])?;
+    store(alloc, &mut disk, 0, &version_of(alloc, 512, 6, rows)?)?;
+    match load(alloc, &mut disk) {
+        Ok(version) => Ok(version),
+        Err(_) => Err(Fail::from("no version")),
+    }
+}
+
+// What a version says, at the place and with the epoch of another one.
+fn at_the_place_of(here: &Loaded, version: &Loaded) -> Result<Loaded, AllocError>
+    requires here { IsVersion here.now.version }
+    requires slot { here.now.slot ≤ 1 }
+    requires sound { IsVersion version.now.version }
+    ensures sound { IfOk result (λ v. IsVersion v.version) }
+    ensures slot { IfOk result (λ v. v.slot ≤ 1) }
+{
+    Ok(Loaded {
+        settings: version.settings,
+        pages: version.pages,
+        epoch: here.epoch,
+        log_area: version.log_area,
+        slot: here.slot,
+        other_open: here.other_open,
+        rows: version.rows.clone()?,
+    })
+}
+
+/// The tables of a version take the place of those that are loaded, with the epoch raised.
+pub fn install_tables(
+    alloc: Global,
+    disk: &mut MemDisk,
+    version: &Loaded,
+) -> Result<(), ManifestFault>
+    requires { IsVersion version.now.version }
+{
+    match load(alloc, disk) {
+        Ok(here) => install(alloc, disk, &at_the_place_of(&here, version)?),
         Err(fault) => Err(fault),
     }
 }

@@ -1,5 +1,8 @@
 // Versions that are formatted, loaded and installed.
-use crate::disks::{base, formatted, install_again, store, table, version_of};
+use crate::disks::{
+    base, formatted, install_again, install_tables, loaded_with, store, table, version_of,
+};
+use byte_fields::Row;
 use disk_mem::MemDisk;
 use disk_trait::Disk;
 use manifest::{ManifestFault, Version, format, is_store, load};
@@ -67,6 +70,28 @@ fn the_last_epoch_is_not_left(rt: HostRuntime) -> Result<(), Fail> {
     assert_eq!(rt; install_again(alloc, &mut disk), Err(ManifestFault::Epoch));
     assert_eq!(rt; disk.calls().saturating_sub(before), 4);
     assert_eq!(rt; found(alloc, &mut disk), Ok((u64::MAX, 0, false, 0)));
+    Ok(())
+}
+
+#[test]
+fn new_tables_are_installed(rt: HostRuntime) -> Result<(), Fail> {
+    let alloc = rt.alloc();
+    let mut disk = formatted(alloc)?;
+    let rows: [&[Row]; 4] = [
+        &[table(0, 195), table(0, 192), table(1, 198)],
+        &[table(1, 201)],
+        &[],
+        &[table(6, 509)],
+    ];
+    for (epoch, tables) in (2u64..).zip(rows) {
+        let version = loaded_with(alloc, tables)?;
+        assert_eq!(rt; install_tables(alloc, &mut disk, &version), Ok(()));
+        let Ok(found) = load(alloc, &mut disk) else {
+            return Err(Fail::from("no version"));
+        };
+        assert_eq!(rt; found.epoch, epoch);
+        assert_eq!(rt; found.rows.as_slice(), tables);
+    }
     Ok(())
 }
 

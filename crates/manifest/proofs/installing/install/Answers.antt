@@ -6,8 +6,9 @@ use Rattle.manifest_model.specs.Version.{body_bytes}
 use Rattle.manifest_model.proofs.Held.{body_fits}
 use Rattle.manifest.specs.Manifest.{Manifest, Stands, install_of, raised}
 use Rattle.manifest.specs.Steps.{MayClose}
+use Rattle.manifest.specs.declared.fault.ManifestFault.TheVariants as fault
 use Rattle.manifest.proofs.Frames.{lasts}
-use Rattle.manifest.proofs.Steps.{leads_done, may_install, raised_is, stands_may_close}
+use Rattle.manifest.proofs.Steps.{leads_done, may_install, not_begun, raised_is, stands_may_close}
 use Rattle.manifest.proofs.installing.install.Goals as goal
 
 pub replace-requires-clause-fits : goal.replace-requires-clause-fits
@@ -54,3 +55,12 @@ returns-clause-lasting g c from tells same here =
     let epoch : c.version.inside.epoch ≡ m.version.epoch = ap (λ (m : Manifest). m.version.epoch) c.version.view_is in
     let sound = raised_is m.version c.requires.sound (λ last. c.if-version.false (epoch ∙ last)) in
     lasts m from _ (g.D.Disk.world c.args.disk.now) (g.D.Disk.world c.replace.new.disk) (may_install m from c.requires.slot sound same) c.requires.slot (returns-clause-crash g c from tells same) here
+
+pub returns-then-version-clause-crash : goal.returns-then-version-clause-crash
+returns-then-version-clause-crash g c from tells same = not_begun c.args.version.now from fault.Epoch _ c.requires.slot
+
+pub returns-in_err-body-clause-crash : goal.returns-in_err-body-clause-crash
+returns-in_err-body-clause-crash g c from tells same =
+    let i = install_of c.args.version.now from in
+    leads_stop {T = Unit {0}} (Stands c.args.version.now.slot c.args.version.now.other_open from) (IsOldOrNew i) (IsInstalled i) (IsOldOrNew i) (IsInstalled i) fault.Memory c.from_residual.result _ _ (λ f p. p)
+    c.from_residual.ensures.0 (not_begun c.args.version.now from fault.Memory _ c.requires.slot)

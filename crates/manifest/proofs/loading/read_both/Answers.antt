@@ -1,5 +1,4 @@
-use Rattle.std.proofs.Common.{sym, subst}
-use Rattle.std.proofs.lemmas.Bool.{eqb-true}
+use Rattle.std.proofs.Common.{subst}
 use Rattle.disk_trait.specs.Image.{Image}
 use Rattle.manifest_model.specs.Reading.{body_damage}
 use Rattle.manifest_model.specs.Slots.{body_in}
@@ -14,8 +13,8 @@ returns-in_err-b-clause-answer g c tells gates =
     let held = (g.D.Disk.world c.args.disk.now).seen.held in
     let found = c.in_err-b.field-0.0 in
     let damage = subst (λ (f : Image). IsDamage (body_damage slot_b (body_in slot_b f)) found) c.in_ok-a.ensures.moves.held (c.in_err-b.ensures.damage tells) in
-    let none = held_sound slot_a c.in_ok-a.a.version held (eqb-true (held slot_a) 1 (sym gates.a)) (c.in_ok-a.ensures.held tells) in
-    err_answer held c.from_residual-in_err-b.result found c.from_residual-in_err-b.ensures.1 (b_answer held found none (eqb-true (held slot_b) 1 (sym gates.b)) damage)
+    let none = held_sound slot_a c.in_ok-a.a.version held gates.a (c.in_ok-a.ensures.held tells) in
+    err_answer held c.from_residual-in_err-b.result found c.from_residual-in_err-b.ensures.1 (b_answer held found none gates.b damage)
 
 pub returns-clause-answer : goal.returns-clause-answer
 returns-clause-answer g c tells gates =

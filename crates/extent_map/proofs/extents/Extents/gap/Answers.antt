@@ -15,7 +15,7 @@ returns-then-room-need-clause-gap c =
     let is : xs ≡ t.extents = c.deref-first-items.ensures.value ∙ ap (λ (t : Taken). t.extents) c.self.view_is in
     let rise = subst (λ (t : Taken). RiseFrom t.pages 192 t.extents) c.self.view_is c.self.invariant.1 in
     let on = next_on_device t xs is rise c.args.need c.loop-first.free c.loop-first.largest i c.from-room.result c.loop-first.invariant (0, 0) c.loop-first-test.true in
-    is_next t xs is rise c.args.need c.loop-first.free c.loop-first.largest i c.from-room.result c.loop-first.invariant (0, 0) c.requires c.loop-first-test.true (omega (arith, on.0, c.from-room.ensures)) c.if-room-need.true
+    is_next t xs is rise c.args.need c.loop-first.free c.loop-first.largest i c.from-room.result c.loop-first.invariant (0, 0) c.loop-first-test.true (omega (arith, on.0, c.from-room.ensures)) c.if-room-need.true
 
 pub returns-then-room-need-clause-exact : goal.returns-then-room-need-clause-exact
 returns-then-room-need-clause-exact c = (λ never. absurd cc, λ less. absurd (none_less c.args.self.now c.args.need c.loop-first.free (returns-then-room-need-clause-gap c) less))
@@ -50,7 +50,7 @@ returns-clause-gap c =
     let rise = subst (λ (t : Taken). RiseFrom t.pages 192 t.extents) c.self.view_is c.self.invariant.1 in
     let same = ap (λ (t : Taken). t.pages) c.self.view_is in
     let upto = within t.pages c.loop-first.free (drop i xs) c.loop-first.invariant.rise in
-    is_last t xs is rise c.args.need c.loop-first.free c.loop-first.largest i c.from-room-2.result c.loop-first.invariant c.requires c.loop-first-test.false (omega (arith, upto, c.from-room-2.ensures, same)) c.if-room-need-2.false
+    is_last t xs is rise c.args.need c.loop-first.free c.loop-first.largest i c.from-room-2.result c.loop-first.invariant c.loop-first-test.false (omega (arith, upto, c.from-room-2.ensures, same)) c.if-room-need-2.false
 
 pub returns-clause-exact : goal.returns-clause-exact
 returns-clause-exact c = (λ never. absurd cc, λ less. absurd (none_less c.args.self.now c.args.need c.loop-first.free (returns-clause-gap c) less))
@@ -72,5 +72,6 @@ pub returns-then-room-need-2-clause-exact : goal.returns-then-room-need-2-clause
 returns-then-room-need-2-clause-exact c =
     let t = c.args.self.now in
     let largest : c.max-largest-then-room-need-2.result ≡ largest_gap t.pages t.extents = ap (λ (gap : NoGap). gap.largest) (returns-then-room-need-2-clause-no_gap c) in
-    let less : c.max-largest-then-room-need-2.result < c.args.need = omega (arith, c.max-largest-then-room-need-2.ensures, c.if-room-need-2.true, c.loop-first.invariant.small) in
+    let small = c.loop-first.invariant.small (omega (arith, c.if-room-need-2.true)) in
+    let less : c.max-largest-then-room-need-2.result < c.args.need = omega (arith, c.max-largest-then-room-need-2.ensures, c.if-room-need-2.true, small) in
     (λ _. subst (λ (n : ℕ). n < c.args.need) largest less, λ _. refl)
