@@ -4,6 +4,7 @@ pub mod Placed
 pub mod States
 pub mod Frames
 pub mod Installs
+pub mod Outputs
 pub mod Ranges
 pub mod InOrder
 pub mod Opened

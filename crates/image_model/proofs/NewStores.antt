@@ -1,5 +1,5 @@
 -- A new store stands.
-use Rattle.std.proofs.Common.{◌≡◌, ◌^◌, ◌<◌, ◌≤◌, ℕ, inl, refl, arith}
+use Rattle.std.proofs.Common.{◌≡◌, ◌≤◌, ℕ, inl, refl, arith}
 use Rattle.std.specs.Prelude.{None}
 use Rattle.filter_api.specs.Ranges.{InRange}
 use Rattle.filter_api.specs.declared.settings.Settings.{Settings}

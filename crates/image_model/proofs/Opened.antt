@@ -8,7 +8,7 @@ use Rattle.byte_fields.specs.declared.parts.Row.{Row}
 use Rattle.disk_trait.specs.Image.{Image}
 use Rattle.disk_trait.proofs.Images.{window_size}
 use Rattle.entry_model.specs.Entries.{Entry}
-use Rattle.filter_api.specs.Spellings.{Spelling, SpellsOne}
+use Rattle.filter_api.specs.Spellings.{IsDecided, Spelling, SpellsOne}
 use Rattle.filter_api.specs.declared.errors.FilterFault.{FilterFault}
 use Rattle.filter_api.specs.declared.settings.Settings.{Settings}
 use Rattle.log_model.specs.Area.{LogBreaks, LogIs, area_in, area_size, start_of}
@@ -23,7 +23,7 @@ use Rattle.manifest_model.specs.Tables.{ranges_fault}
 use Rattle.manifest_model.specs.Version.{Version, body_place, slot_a, slot_b}
 use Rattle.manifest_model.proofs.Versions.{found, in_use, no_damage, one_version}
 use Rattle.block_model.proofs.Refusals.{neither}
-use Rattle.table_model.specs.Damage.{IsOfBytes, IsDecided, index_damage}
+use Rattle.table_model.specs.Damage.{IsOfBytes, index_damage}
 use Rattle.table_model.proofs.Decided.{sound_or_damaged, window_bytes}
 use Rattle.image_model.specs.Opening.{AnImageOpens, FirstDamage, IsOpened, OpenedHasNoDamage, OpenedIsState, OpensWith, StateOpens, TablesBreak, VersionBreaks, at_a_table, at_the_log, at_the_ranges, at_the_slots, at_the_version, key_range_of}
 use Rattle.image_model.specs.Stands.{settings_of}

@@ -10,11 +10,12 @@ use Rattle.disk_trait.specs.Image.{Image}
 use Rattle.filter_api.specs.Spellings.{Spelling, SpellsOne}
 use Rattle.filter_api.specs.declared.errors.FilterFault.{FilterFault}
 use Rattle.filter_api.specs.declared.settings.Settings.{Settings}
-use Rattle.log_model.specs.Area.{LogBreaks, LogIs, area_in}
+use Rattle.log_model.specs.Area.{LogBreaks, LogIs, area_in, start_of}
 use Rattle.log_model.specs.Records.{Breaks}
 use Rattle.log_model.proofs.Ends.{not_both, one_fault}
 use Rattle.map_model.specs.SortedMap.{Bytes}
 use Rattle.byte_fields.specs.Faults.{Fault}
+use Rattle.block_model.specs.Places.{byte_of_page}
 use Rattle.manifest_model.specs.Slots.{slots_damage}
 use Rattle.manifest_model.specs.Version.{Version, body_place}
 use Rattle.manifest_model.proofs.Versions.{in_use, no_damage, no_store, none_open, one_slot, one_version}
@@ -22,7 +23,7 @@ use Rattle.state_model.specs.State.{State}
 use Rattle.table_model.specs.Tables.{Table}
 use Rattle.table_model.specs.Damage.{index_damage}
 use Rattle.table_model.proofs.Sound.{filter_has_none, index_has_none, one_filter_damage, sound_filter_has_none}
-use Rattle.image_model.specs.Opening.{IsOpened, NoStoreHasNoDamage, NoStoreHasNoState, OneDamage, RangesAreAtTheBody, RowsComeFirst, StateHasNoDamage, TablesBreak, VersionBreaks, at_a_table, at_the_log, at_the_ranges, at_the_slots, at_the_version}
+use Rattle.image_model.specs.Opening.{IsOpened, LogIsAtItsPage, NoStoreHasNoDamage, NoStoreHasNoState, OneDamage, RangesAreAtTheBody, RowsComeFirst, StateHasNoDamage, TablesBreak, VersionBreaks, at_a_table, at_the_log, at_the_ranges, at_the_slots, at_the_version}
 use Rattle.image_model.specs.Stands.{IsNamedBy, settings_of}
 use Rattle.image_model.specs.Tables.{AreTablesOf}
 use Rattle.image_model.proofs.Ranges.{ranges_keep}
@@ -142,6 +143,12 @@ no_store_has_no_state spelling s image none is = no_store is.0 image none is.1.v
 -- the place of a fault of the ranges
 pub ranges_at_the_body : RangesAreAtTheBody
 ranges_at_the_body spelling first_fault slot other v image f are is all fault = at_the_version slot other v are is (at_the_ranges f all fault)
+
+-- the place of a fault of the log
+pub log_at_its_page : LogIsAtItsPage
+log_at_its_page spelling first_fault slot other v image area place rule slots current all none is breaks =
+    let here : byte_of_page v.log_page + place ≡ start_of area + place = omega (arith, is) in
+    at_the_version slot other v slots current (at_the_log area (byte_of_page v.log_page + place) rule all none is (place, here, breaks))
 
 -- row by row
 

@@ -1,3 +1,9 @@
+pub use Rattle.disk_trait.specs.Image
+pub use Rattle.filter_api.specs.Spellings
+pub use Rattle.manifest_model.specs.Examples
+pub use Rattle.manifest_model.specs.Slots
+pub use Rattle.map_model.specs.SortedMap
+pub use Rattle.state_model.specs.State
 pub mod Tables
 pub mod Stands
 pub mod NewStores

@@ -1,29 +1,18 @@
 -- A new store, and the image that stands for it.
-use Rattle.std.specs.Prelude.{◌≡◌, ◌≢◌, ◌≤◌, ◌<◌, ◌^◌, ℕ, false, []}
+use Rattle.std.specs.Prelude.{◌≡◌, ◌≢◌, ◌≤◌, ℕ, false}
 use Rattle.disk_trait.specs.Image.{Image, Shows}
 use Rattle.filter_api.specs.Ranges.{InRange}
 use Rattle.filter_api.specs.Spellings.{Spelling}
 use Rattle.filter_api.specs.declared.settings.Settings.{Settings}
 use Rattle.key_base.specs.Limits.{max_device_pages, max_ratio, min_device_pages}
 use Rattle.log_model.specs.Area.{start_of}
+pub use Rattle.manifest_model.specs.NewVersion.{new_version}
 use Rattle.manifest_model.specs.Slots.{IsOpen}
-use Rattle.manifest_model.specs.Version.{Version, body_bytes, body_place, slot_a, slot_b}
+use Rattle.manifest_model.specs.Version.{body_bytes, body_place, slot_a, slot_b}
 use Rattle.state_model.specs.State.{new_state}
 use Rattle.image_model.specs.Stands.{IsReady, IsStateOf}
 
--- the version of a new store: epoch 1, no tables, and the first log area
-abbrev pub new_version : Settings → ℕ → Version
-new_version settings pages = record {
-  hash_bits = settings.hash_bits;
-  real_bits = settings.real_bits;
-  ratio = settings.ratio;
-  pages = pages;
-  epoch = 1;
-  log_page = 64;
-  rows = [];
-}
-
--- slot A holds it, slot B is closed, and so is the first gate of the log
+-- slot A holds the version of a new store, slot B is closed, and so is the first gate of the log
 pub record IsFormatted (settings : Settings) (pages : ℕ) (image : Image) : Type 0 where
   pub gate : IsOpen slot_a image
   pub body : Shows (body_place slot_a) (body_bytes (new_version settings pages)) image

@@ -1,25 +1,27 @@
 -- What opening finds wrong with an image: the first damage, in the order in which it looks.
-use Rattle.std.specs.Prelude.{◌≡◌, ◌⊎◌, ◌*◌, ◌+◌, ◌++◌, ℕ, List, [], ◌∷◌, map, Some, None}
+use Rattle.std.specs.Prelude.{◌≡◌, ◌⊎◌, ◌+◌, ◌++◌, ℕ, List, [], ◌∷◌, map, Some, None}
 use Rattle.std.specs.List.{AllByRecursion}
 use Rattle.disk_trait.specs.Image.{Image}
 use Rattle.byte_fields.specs.declared.parts.Damage.{Damage}
 use Rattle.byte_fields.specs.declared.parts.Damage.TheVariants as damage
 use Rattle.byte_fields.specs.declared.parts.Part.TheVariants as part
 use Rattle.byte_fields.specs.declared.parts.Row.{Row}
-use Rattle.filter_api.specs.Spellings.{Spelling, SpellsOne}
+use Rattle.filter_api.specs.Spellings.{IsDecided, Spelling, SpellsOne}
 use Rattle.filter_api.specs.declared.errors.FilterFault.{FilterFault}
 use Rattle.filter_api.specs.declared.settings.Settings.{Settings}
-use Rattle.log_model.specs.Area.{LogBreaks, LogIs}
+use Rattle.log_model.specs.Area.{LogBreaks, LogIs, area_in}
+use Rattle.log_model.specs.Records.{Breaks}
 use Rattle.map_model.specs.SortedMap.{Bytes}
 use Rattle.byte_fields.specs.Faults.{Fault}
 use Rattle.block_model.specs.Index.{IndexRow}
 use Rattle.block_model.specs.IndexReading.{index_in}
+use Rattle.block_model.specs.Places.{byte_of_page}
 use Rattle.entry_model.specs.Entries.{Entry}
 use Rattle.manifest_model.specs.Slots.{AreSlots, IsCurrent, IsNoStore, IsVersionOf, slots_damage}
 use Rattle.manifest_model.specs.Tables.{KeyRange, ranges_fault}
-use Rattle.manifest_model.specs.Version.{Version, body_place}
+use Rattle.manifest_model.specs.Version.{Version, body_place, log_page_of}
 use Rattle.state_model.specs.State.{State}
-use Rattle.table_model.specs.Damage.{IsOfBytes, IsDecided, IsFilterDamage, IsSoundFilter, index_damage, index_part}
+use Rattle.table_model.specs.Damage.{IsOfBytes, IsFilterDamage, IsSoundFilter, index_damage, index_part}
 use Rattle.table_model.specs.Tables.{Table}
 use Rattle.image_model.specs.Stands.{IsStateOf, settings_of}
 use Rattle.image_model.specs.Tables.{AreTablesOf}
@@ -56,7 +58,7 @@ pub data VersionBreaks (spelling : Spelling) (first_fault : Bytes → FilterFaul
   at_the_ranges : (f : Fault) → AllByRecursion (IsOpened spelling (settings_of v) image) v.rows → ranges_fault (map (key_range_of image) v.rows) ≡ Some f
       → VersionBreaks spelling first_fault slot v image (damage.Shape part.Manifest (body_place slot + f.place) f.rule)
   at_the_log : (area at rule : ℕ) → AllByRecursion (IsOpened spelling (settings_of v) image) v.rows → ranges_fault (map (key_range_of image) v.rows) ≡ None
-      → v.log_page ≡ 64 * (area + 1) → LogBreaks area at rule image → VersionBreaks spelling first_fault slot v image (damage.Shape part.Log at rule)
+      → v.log_page ≡ log_page_of area → LogBreaks area at rule image → VersionBreaks spelling first_fault slot v image (damage.Shape part.Log at rule)
 
 -- the first damage of an image: that of its slots, and then that of what its version names
 pub data FirstDamage (spelling : Spelling) (first_fault : Bytes → FilterFault) (image : Image) (d : Damage) : Type 0 where
@@ -73,7 +75,7 @@ pub record OpensWith (spelling : Spelling) (v : Version) (entries : List Entry) 
   pub tables : AllByRecursion (IsOpened spelling (settings_of v) image) v.rows
   pub ranges : ranges_fault (map (key_range_of image) v.rows) ≡ None
   pub area : ℕ
-  pub area_is : v.log_page ≡ 64 * (area + 1)
+  pub area_is : v.log_page ≡ log_page_of area
   pub log : LogIs area entries image
 
 -- what is opened then, where the rows' pages spell these tables
@@ -82,8 +84,8 @@ opened_state v log tables = record { settings = settings_of v; pages = v.pages; 
 
 -- ---- laws
 
--- An image is no store, or has a first damage, or opens, whatever its bytes are; the kind of filter has to tell what spells
--- nothing.
+-- An image of bytes is no store, or has a first damage, or opens. The kind of filter has to tell what spells
+-- nothing, and each one proves that it does (the law `decided` of its interface).
 abbrev pub AnImageOpens : Type 0
 AnImageOpens =
     (spelling : Spelling) (first_fault : Bytes → FilterFault) (image : Image) → IsDecided spelling → IsOfBytes image
@@ -130,6 +132,14 @@ RangesAreAtTheBody =
     (spelling : Spelling) (first_fault : Bytes → FilterFault) (slot other : ℕ) (v : Version) (image : Image) (f : Fault) → AreSlots slot other
     → IsCurrent slot other v image → AllByRecursion (IsOpened spelling (settings_of v) image) v.rows → ranges_fault (map (key_range_of image) v.rows) ≡ Some f
     → FirstDamage spelling first_fault image (damage.Shape part.Manifest (slot + 8 + f.place) f.rule)
+
+-- A fault of the log is said of the area that the version names by its first page.
+abbrev pub LogIsAtItsPage : Type 0
+LogIsAtItsPage =
+    (spelling : Spelling) (first_fault : Bytes → FilterFault) (slot other : ℕ) (v : Version) (image : Image) (area place rule : ℕ) → AreSlots slot other
+    → IsCurrent slot other v image → AllByRecursion (IsOpened spelling (settings_of v) image) v.rows → ranges_fault (map (key_range_of image) v.rows) ≡ None
+    → v.log_page ≡ log_page_of area → Breaks place rule (area_in area image)
+    → FirstDamage spelling first_fault image (damage.Shape part.Log (byte_of_page v.log_page + place) rule)
 
 -- Of a version in use, where the tables before a row are opened, the damage of its index is the first, whatever its filter,
 -- later tables, ranges and log are; and where the index has none, that of its filter.

@@ -9,9 +9,10 @@ ghost use Rattle.manifest_model.specs.Examples.{formatted};
 ghost use Rattle.manifest_model.specs.Slots.{IsNoStore};
 ghost use Rattle.map_model.specs.SortedMap.{Bytes};
 ghost use Rattle.state_model.specs.State.{new_state};
+ghost use Rattle.table_model.specs.Tables.{Table};
 ghost use Rattle.image_model.specs.NewStores.{new_version};
 ghost use Rattle.image_model.specs.Opening.{FirstDamage};
-ghost use Rattle.image_model.specs.Stands.{IsGate, as_shown, settings_of};
+ghost use Rattle.image_model.specs.Stands.{IsGate, UnnamedStand, as_shown, settings_of};
 
 /// Bytes that stand, and a new store on 512 pages, with filters that keep no suffix bits.
 #[tactic(auto)]
@@ -28,4 +29,11 @@ pub fn new_stores()
 pub fn devices_of_one_byte()
     ensures of_zeros { IsNoStore (λ place. 0) }
     ensures of_ones { (spelling : Spelling) (first_fault : Bytes → FilterFault) → FirstDamage spelling first_fault (λ place. 1) (Shape Manifest 8 1) }
+{}
+
+/// No table stands on a device of zeros, also none that is kept.
+#[tactic(auto)]
+pub fn tables_that_are_kept()
+    ensures a_new_store_has_none { (spelling : Spelling) → UnnamedStand spelling (new_state (settings_of formatted) 512) (λ place. 0) }
+    ensures none_on_zeros { (spelling : Spelling) (t : Table) → UnnamedStand spelling (record (new_state (settings_of formatted) 512) { kept = t ∷ [] }) (λ place. 0) → ⊥ }
 {}

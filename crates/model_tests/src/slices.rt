@@ -1,4 +1,4 @@
-//! Merges in slices, compared with whole ones.
+//! Merges in merge slices, compared with whole ones.
 use filter_api::Settings;
 use plain_filter::PlainFilter;
 use plain_store::{Played, Reply, Request, State, play, play_in_slices, sliced};

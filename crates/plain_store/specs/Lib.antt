@@ -1,4 +1,15 @@
-pub mod Filters
+pub use Rattle.entry_model.specs.Newest
+pub use Rattle.extent_model.specs.Gaps
+pub use Rattle.state_model.specs.Bounds
+pub use Rattle.state_model.specs.Changes
+pub use Rattle.state_model.specs.Merges
+pub use Rattle.state_model.specs.Play
+pub use Rattle.state_model.specs.State
+pub use Rattle.state_model.specs.Steps
+pub use Rattle.state_model.specs.Taken
+pub use Rattle.state_model.specs.View
+pub use Rattle.store_commands.specs.Asks
+pub use Rattle.table_model.specs.Tables
 pub mod Refusals
-pub mod Talk
+pub mod Replies
 pub mod Slices

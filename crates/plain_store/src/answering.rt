@@ -1,15 +1,16 @@
 //! A store that is played in memory.
 ghost use Rattle.std.specs.Prelude.{◌≡◌, ◌∷◌, [], map, IfOk};
 ghost use Rattle.std.specs.Option.{option_map};
+ghost use Rattle.table_model.specs.Tables.{filter_bytes_of};
 ghost use Rattle.state_model.specs.Changes.{written};
 ghost use Rattle.state_model.specs.Play.{tended_by, played_by, played, played_in_slices};
 ghost use Rattle.line_model.specs.Replies.{Bye};
 ghost use Rattle.line_model.specs.Requests.{Estimate, Flush, Compact};
 ghost use Rattle.state_model.specs.Steps as model;
-ghost use Rattle.plain_store.specs.Filters.{filter_bytes_of};
 ghost use Rattle.plain_store.specs.Refusals.{as_replied, refusal_reply};
 ghost use Rattle.plain_store.specs.Slices.{merge_as};
-ghost use Rattle.plain_store.specs.Talk.{asks, says, answered, played_as};
+ghost use Rattle.store_commands.specs.Asks.{asked};
+ghost use Rattle.plain_store.specs.Replies.{says, answered, played_as};
 
 use crate::changes::{Refusal, compacted, flushed, written};
 use crate::installing::{merged, sliced};
@@ -18,11 +19,12 @@ use crate::reads::{
     reply_to_count, reply_to_estimate, reply_to_explain, reply_to_get, reply_to_range,
     reply_to_seek,
 };
+use crate::reply::Reply;
 use crate::state::State;
-use crate::talk::{Reply, Request};
 use entry_list::Entry;
 use filter_api::RangeFilter;
 use std::alloc::{AllocError, Global};
+use store_commands::Request;
 
 /// A reply, and the state behind it.
 #[derive(Drop)]
@@ -119,7 +121,7 @@ fn answer_within<F: RangeFilter>(
     state: &State,
     request: Request<'_>,
 ) -> Result<Answer, AllocError>
-    ensures { IfOk result (λ a. answered a ≡ model.answer_within (filter_bytes_of F.spelling F.built_cutoff) state.now (asks request.entry)) }
+    ensures { IfOk result (λ a. answered a ≡ model.answer_within (filter_bytes_of F.spelling F.built_cutoff) state.now (asked request.entry)) }
 {
     match request {
         Request::Put { key, value } => write::<F>(alloc, state, key, Some(value)),
@@ -141,7 +143,6 @@ fn answer_within<F: RangeFilter>(
             reply_to_explain::<F>(alloc, state, key)?,
         ),
         Request::Quit => unchanged(alloc, state, Reply::Bye),
-        Request::Bad { code } => unchanged(alloc, state, Reply::BadLine(code)),
     }
 }
 
@@ -151,7 +152,7 @@ pub fn ask<F: RangeFilter>(
     state: &State,
     request: Request<'_>,
 ) -> Result<Answer, AllocError>
-    ensures { IfOk result (λ a. answered a ≡ model.answer (filter_bytes_of F.spelling F.built_cutoff) state.now (asks request.entry)) }
+    ensures { IfOk result (λ a. answered a ≡ model.answer (filter_bytes_of F.spelling F.built_cutoff) state.now (asked request.entry)) }
 {
     match limit_of(request) {
         Some(reply) => unchanged(alloc, state, reply),
@@ -168,7 +169,7 @@ pub enum Merge {
     Slices(u64),
 }
 
-// The state after a merge, or after a slice of one.
+// The state after a whole merge, or after a merge slice.
 fn merge_by<F: RangeFilter>(alloc: Global, merge: Merge, state: &State) -> Result<State, AllocError>
     ensures { IfOk result (λ s. s ≡ merge_as (filter_bytes_of F.spelling F.built_cutoff) merge state.now) }
 {
@@ -185,7 +186,7 @@ pub fn tend<F: RangeFilter>(
     request: Request<'_>,
     state: State,
 ) -> Result<State, AllocError>
-    ensures { IfOk result (λ s. s ≡ tended_by (merge_as (filter_bytes_of F.spelling F.built_cutoff) merge) (asks request.entry) state) }
+    ensures { IfOk result (λ s. s ≡ tended_by (merge_as (filter_bytes_of F.spelling F.built_cutoff) merge) (asked request.entry) state) }
 {
     match request {
         Request::Put { .. } => merge_by::<F>(alloc, merge, &state),
@@ -199,7 +200,6 @@ pub fn tend<F: RangeFilter>(
         Request::Flush => Ok(state),
         Request::Compact => Ok(state),
         Request::Quit => Ok(state),
-        Request::Bad { .. } => Ok(state),
     }
 }
 
@@ -220,7 +220,7 @@ pub fn play_by<F: RangeFilter>(
     state: &State,
     requests: &[Request<'_>],
 ) -> Result<Played, AllocError>
-    ensures { IfOk result (λ p. played_as p ≡ played_by (filter_bytes_of F.spelling F.built_cutoff) (merge_as (filter_bytes_of F.spelling F.built_cutoff) merge) state.now (map asks requests.now)) }
+    ensures { IfOk result (λ p. played_as p ≡ played_by (filter_bytes_of F.spelling F.built_cutoff) (merge_as (filter_bytes_of F.spelling F.built_cutoff) merge) state.now (map asked requests.now)) }
 {
     let Some((request, more)) = requests.split_first() else {
         return nothing(alloc, state);
@@ -246,7 +246,7 @@ pub fn play<F: RangeFilter>(
     state: &State,
     requests: &[Request<'_>],
 ) -> Result<Played, AllocError>
-    ensures { IfOk result (λ p. played_as p ≡ played (filter_bytes_of F.spelling F.built_cutoff) state.now (map asks requests.now)) }
+    ensures { IfOk result (λ p. played_as p ≡ played (filter_bytes_of F.spelling F.built_cutoff) state.now (map asked requests.now)) }
 {
     play_by::<F>(alloc, Merge::Whole, state, requests)
 }
@@ -258,7 +258,7 @@ pub fn play_in_slices<F: RangeFilter>(
     state: &State,
     requests: &[Request<'_>],
 ) -> Result<Played, AllocError>
-    ensures { IfOk result (λ p. played_as p ≡ played_in_slices (filter_bytes_of F.spelling F.built_cutoff) blocks state.now (map asks requests.now)) }
+    ensures { IfOk result (λ p. played_as p ≡ played_in_slices (filter_bytes_of F.spelling F.built_cutoff) blocks state.now (map asked requests.now)) }
 {
     play_by::<F>(alloc, Merge::Slices(blocks), state, requests)
 }

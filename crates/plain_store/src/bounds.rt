@@ -1,7 +1,7 @@
 //! How many blocks a get and a closed seek may read, and what `estimate` and `explain` tell.
 ghost use Rattle.std.specs.Prelude.{◌≡◌, ◌&&◌, false, suc, filter, count_by, sum_by, Some, IfOk};
 ghost use Rattle.std.specs.Option.{option_map};
-ghost use Rattle.filter_model.specs.Strings.{is_below};
+ghost use Rattle.filter_model.specs.Strings.{is_before};
 ghost use Rattle.filter_model.specs.Answers.{tally};
 ghost use Rattle.map_model.specs.Slices.{is_between, seek};
 ghost use Rattle.entry_model.specs.Newest.{lookup};
@@ -12,7 +12,7 @@ use crate::filters::filter_of;
 use crate::keys::{is_before, is_between};
 use crate::state::State;
 use crate::table::Table;
-use entry_list::Entry;
+use entry_list::{Entry, lookup};
 use filter_api::RangeFilter;
 use plain_map::Pair;
 use std::alloc::{AllocError, Global};
@@ -38,7 +38,7 @@ fn admits_range<F: RangeFilter>(
     hi: &[u8],
     table: &Table,
 ) -> Result<bool, AllocError>
-    requires { is_below hi.now lo.now ≡ false }
+    requires { is_before hi.now lo.now ≡ false }
     ensures { IfOk result (λ yes. yes ≡ model.admits_range state.now.settings lo.now hi.now table.now) }
 {
     let filter: F = filter_of(alloc, state.settings, table.entries.as_slice())?;
@@ -53,7 +53,7 @@ fn tally_of<F: RangeFilter>(
     hi: &[u8],
     table: &Table,
 ) -> Result<u64, AllocError>
-    requires { is_below hi.now lo.now ≡ false }
+    requires { is_before hi.now lo.now ≡ false }
     ensures { IfOk result (λ n. n ≡ tally state.now.settings.real_bits (model.table_leaves state.now.settings table.now) lo.now hi.now) }
 {
     let filter: F = filter_of(alloc, state.settings, table.entries.as_slice())?;
@@ -83,12 +83,10 @@ fn is_searched<F: RangeFilter>(
 fn unless_found(entries: &[Entry], key: &[u8], more: u64) -> u64
     ensures { result ≡ model.unless_found (lookup entries.now key.now) more }
 {
-    for entry in entries {
-        if entry.key() == key {
-            return 0;
-        }
+    match lookup(entries, key) {
+        Some(_) => 0,
+        None => more,
     }
-    more
 }
 
 // The tables that are searched for the key, up to the first that has it.
@@ -193,7 +191,7 @@ fn seek_blocks<F: RangeFilter>(
     answer: Option<&Pair>,
     tables: &[Table],
 ) -> Result<u64, AllocError>
-    requires order { is_below hi.now lo.now ≡ false }
+    requires order { is_before hi.now lo.now ≡ false }
     requires answer { option_map (λ pair. pair.now) answer ≡ seek (state_map state.now) lo.now (Some hi.now) }
     ensures { IfOk result (λ n. n ≡ sum_by (λ t. suc (model.stepped (state_map state.now) lo.now hi.now t)) (filter (model.admits_range state.now.settings lo.now hi.now) tables.now)) }
 {

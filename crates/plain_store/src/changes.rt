@@ -1,11 +1,11 @@
 //! What a put, a flush and a compaction make of a state.
 ghost use Rattle.std.specs.Prelude.{◌≡◌, ◌+◌, map, vec_items, IfOk};
 ghost use Rattle.entry_model.specs.Entries.{need, gap, body, filled};
+ghost use Rattle.table_model.specs.Tables.{filter_bytes_of};
 ghost use Rattle.state_model.specs.Changes as model;
 ghost use Rattle.state_model.specs.State.{without_job};
 ghost use Rattle.state_model.specs.Taken.{taken};
 ghost use Rattle.state_model.specs.Merges.{outputs_for, placed};
-ghost use Rattle.plain_store.specs.Filters.{filter_bytes_of};
 ghost use Rattle.plain_store.specs.Refusals.{as_replied};
 
 use crate::job::copied_job;
@@ -15,15 +15,16 @@ use crate::placing::{placed, taken, taken_without};
 use crate::state::State;
 use crate::table::Table;
 use crate::view::newest_entries;
+use block_model::entry_length;
 use entry_list::{Entry, copied, push_copy};
 use filter_api::RangeFilter;
-use key_base::MAX_TABLES;
+use key_base::{LOG_BYTES, MAX_TABLES};
 use std::alloc::{AllocError, Global};
 
 /// Why a change is refused.
 #[derive(Clone, Copy, Debug, PartialEq, Eq)]
 pub enum Refusal {
-    /// The version has 1,024 tables.
+    /// The version has as many tables as it may.
     ManyTables,
     /// The epoch is the last one.
     LastEpoch,
@@ -103,7 +104,7 @@ pub fn written<F: RangeFilter>(
 ) -> Result<Result<State, Refusal>, AllocError>
     ensures { IfOk result (λ changed. as_replied changed ≡ model.written (filter_bytes_of F.spelling F.built_cutoff) state.now entry.now) }
 {
-    if record_bytes(entry)?.checked_add(1).ok_or(AllocError)? <= log_gap(state)? {
+    if record_length(entry)?.checked_add(1).ok_or(AllocError)? <= log_gap(state)? {
         let same = state.copy(alloc)?;
         let state = logged(same, entry)?;
         return Ok(Ok(state));
@@ -117,16 +118,14 @@ pub fn written<F: RangeFilter>(
     }
 }
 
-// The bytes of an entry's record, with its gate.
-fn record_bytes(entry: &Entry) -> Result<u64, AllocError>
+// The bytes of an entry's record, with its gate. It gives up where a key or a value is out of range.
+fn record_length(entry: &Entry) -> Result<u64, AllocError>
     ensures { IfOk result (λ n. n + 1 ≡ need entry.now) }
 {
-    let value = match entry.value() {
-        Some(bytes) => bytes.len(),
-        None => 0,
-    };
-    let bytes = value.checked_add(entry.key().len()).ok_or(AllocError)?;
-    Ok(bytes.checked_add(8).ok_or(AllocError)? as u64)
+    if !entry.is_sound() {
+        return Err(AllocError);
+    }
+    Ok(1 + entry_length(entry))
 }
 
 // The bytes that the log's records take.
@@ -136,7 +135,7 @@ fn log_bytes(entries: &[Entry]) -> Result<u64, AllocError>
 {
     let mut bytes = 0u64;
     for entry in entries {
-        bytes = bytes.checked_add(record_bytes(entry)?).ok_or(AllocError)?;
+        bytes = bytes.checked_add(record_length(entry)?).ok_or(AllocError)?;
     }
     Ok(bytes)
 }
@@ -147,7 +146,7 @@ fn log_gap(state: &State) -> Result<u64, AllocError>
     ensures { IfOk result (λ n. n ≡ gap state.now.log) }
 {
     let filled = log_bytes(state.log.as_slice())?;
-    Ok(262_144u64.saturating_sub(filled))
+    Ok((LOG_BYTES as u64).saturating_sub(filled))
 }
 
 /// The live pairs alone stand in tables of level 6, and the log is empty. An empty store stays as it is.

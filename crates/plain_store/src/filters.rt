@@ -1,8 +1,8 @@
 //! The bytes of a table's filter.
+ghost use Rattle.table_model.specs.Tables.{filter_bytes_of};
 ghost use Rattle.std.specs.Prelude.{◌≡◌, length, IfOk};
 ghost use Rattle.filter_model.specs.Leaves.{leaves_of};
 ghost use Rattle.entry_model.specs.Entries.{keys_of};
-ghost use Rattle.plain_store.specs.Filters.{filter_bytes_of};
 
 use entry_list::Entry;
 use filter_api::{RangeFilter, Settings};

@@ -1,27 +1,15 @@
 //! What a state says of a key, by looking at its newest entries first.
 ghost use Rattle.std.specs.Prelude.{◌≡◌, map, vec_items, IfOk};
 ghost use Rattle.std.specs.Option.{option_map};
-ghost use Rattle.entry_model.specs.Newest.{lookup};
 ghost use Rattle.state_model.specs.View as model;
 
 use crate::state::State;
 use crate::table::Table;
-use entry_list::Entry;
+use entry_list::lookup;
 use std::alloc::{AllocError, Global};
 
 /// What is said of a key: a value, or that it has none any more.
 pub type Found = Option<Vec<u8>>;
-
-fn lookup<'a>(entries: &'a [Entry], key: &[u8]) -> Option<Option<&'a [u8]>>
-    ensures { option_map (λ found. option_map (λ v. v.now) found) result ≡ lookup entries.now key.now }
-{
-    for entry in entries {
-        if entry.key() == key {
-            return Some(entry.value());
-        }
-    }
-    None
-}
 
 fn copied(alloc: Global, value: Option<&[u8]>) -> Result<Found, AllocError>
     ensures { IfOk result (λ found. option_map vec_items found ≡ option_map (λ v. v.now) value.entry) }

@@ -3,6 +3,7 @@ ghost use Rattle.std.specs.Prelude.{◌≡◌, ◌+◌, ◌<◌, ◌^◌, All, m
 ghost use Rattle.std.specs.List.{list_any};
 ghost use Rattle.extent_model.specs.Gaps as model;
 
+use key_base::FIRST_TABLE_PAGE;
 use std::alloc::{AllocError, Global};
 
 /// An extent: its first page, and how many pages it has.
@@ -47,7 +48,7 @@ fn gap_starts(alloc: Global, extents: &[Extent]) -> Result<Vec<u64>, AllocError>
     ensures { IfOk result (λ starts. starts.items ≡ model.gap_starts extents.now) }
 {
     let mut starts = Vec::with_capacity(alloc, extents.len() + 1)?;
-    starts.push(192)?;
+    starts.push(u64::from(FIRST_TABLE_PAGE))?;
     for extent in extents {
         starts.push(extent.0.checked_add(extent.1).ok_or(AllocError)?)?;
     }

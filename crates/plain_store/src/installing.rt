@@ -1,11 +1,11 @@
-//! A merge that is done whole, or slice by slice.
+//! A merge that is done whole, or merge slice by merge slice.
 ghost use Rattle.std.specs.Prelude.{◌≡◌, ◌==◌, ◌++◌, not, if◌then◌else◌, fold, map, drop, length, vec_items, Some, IfOk, OnOk};
 ghost use Rattle.std.specs.List.{list_any};
+ghost use Rattle.table_model.specs.Tables.{filter_bytes_of};
 ghost use Rattle.state_model.specs.Play as model;
 ghost use Rattle.state_model.specs.State.{without_job, last_epoch};
 ghost use Rattle.state_model.specs.Merges.{choose};
 ghost use Rattle.state_model.specs.Tends.{goes_before, inserted, without, outstanding, installed};
-ghost use Rattle.plain_store.specs.Filters.{filter_bytes_of};
 
 use crate::job::{Job, started};
 use crate::keys::is_before;

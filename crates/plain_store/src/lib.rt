@@ -6,7 +6,7 @@
 //! own. Beside them stand the parts: [`flushed`], [`written`], [`compacted`], [`choose`], [`merged`], [`sliced`], the gaps,
 //! the bounds and the numbers.
 //!
-//! It has no pages, no cache and no device, it copies whatever it changes, and it builds a table's filter anew for each
+//! A line that breaks the grammar is no request, and its reply needs no store. It has no pages, no cache and no device, it copies whatever it changes, and it builds a table's filter anew for each
 //! question: it is what the store is compared with, and no store. Each call gives up with `AllocError` for want of
 //! memory, at a number past 64 bits, and where entries or settings are out of range.
 //!
@@ -33,9 +33,9 @@ mod outputs;
 mod pages;
 mod placing;
 mod reads;
+mod reply;
 mod state;
 mod table;
-mod talk;
 mod view;
 
 pub use answering::{Answer, Merge, Played, ask, play, play_by, play_in_slices, tend};
@@ -48,7 +48,8 @@ pub use job::Job;
 pub use merges::{Plan, choose};
 pub use pages::table_pages;
 pub use placing::NoRoom;
+pub use reply::Reply;
 pub use state::State;
+pub use store_commands::Request;
 pub use table::Table;
-pub use talk::{Reply, Request};
 pub use view::newest_entries;

@@ -4,10 +4,12 @@ ghost use Rattle.std.specs.Option.{option_map};
 ghost use Rattle.line_model.specs.Limits as model;
 ghost use Rattle.line_model.specs.Requests.{Seek};
 ghost use Rattle.line_model.specs.Limits.{limit_of};
-ghost use Rattle.plain_store.specs.Talk.{asks, says};
+ghost use Rattle.plain_store.specs.Replies.{says};
+ghost use Rattle.store_commands.specs.Asks.{asked};
 
-use crate::talk::{Reply, Request};
+use crate::reply::Reply;
 use key_base::{MAX_BOUND_BYTES, MAX_KEY_BYTES, MAX_VALUE_BYTES};
+use store_commands::Request;
 
 fn key_limit(key: &[u8]) -> Option<Reply>
     ensures { option_map says result ≡ model.key_limit key.now }
@@ -68,7 +70,7 @@ fn seek_limit(lo: &[u8], hi: Option<&[u8]>) -> Option<Reply>
 
 /// The limit that a request breaks, the first where it breaks two.
 pub(crate) fn limit_of(request: Request<'_>) -> Option<Reply>
-    ensures { option_map says result ≡ limit_of (asks request.entry) }
+    ensures { option_map says result ≡ limit_of (asked request.entry) }
 {
     match request {
         Request::Put { key, value } => pair_limit(key, value),
@@ -82,6 +84,5 @@ pub(crate) fn limit_of(request: Request<'_>) -> Option<Reply>
         Request::Flush => None,
         Request::Compact => None,
         Request::Quit => None,
-        Request::Bad { .. } => None,
     }
 }

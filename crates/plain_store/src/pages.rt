@@ -1,8 +1,7 @@
 //! How many pages tables take.
 ghost use Rattle.std.specs.Prelude.{◌≡◌, length, IfOk};
 ghost use Rattle.block_model.specs.Pages as model;
-ghost use Rattle.table_model.specs.Tables.{table_pages, table_of};
-ghost use Rattle.plain_store.specs.Filters.{filter_bytes_of};
+ghost use Rattle.table_model.specs.Tables.{filter_bytes_of, table_pages, table_of};
 
 use crate::filters::filter_length;
 use crate::table::Table;

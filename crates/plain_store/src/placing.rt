@@ -1,11 +1,11 @@
 //! Outputs that become tables.
 ghost use Rattle.std.specs.Prelude.{◌≡◌, [], ◌∷◌, ◌++◌, map, vec_items, None, Some, IfOk};
 ghost use Rattle.std.specs.Result.{result_map_both};
+ghost use Rattle.table_model.specs.Tables.{filter_bytes_of};
 ghost use Rattle.state_model.specs.State.{without_job};
 ghost use Rattle.state_model.specs.Taken.{extent_of, taken};
 ghost use Rattle.state_model.specs.Tends.{with_job};
 ghost use Rattle.state_model.specs.Merges as model;
-ghost use Rattle.plain_store.specs.Filters.{filter_bytes_of};
 
 use crate::gaps::{Extent, first_gap, largest_gap};
 use crate::job::Job;

@@ -7,11 +7,11 @@ ghost use Rattle.state_model.specs.Bounds as bounds;
 ghost use Rattle.line_model.specs.Replies as reply;
 ghost use Rattle.state_model.specs.Steps.{pairs};
 ghost use Rattle.state_model.specs.View.{state_map};
-ghost use Rattle.plain_store.specs.Talk.{says};
+ghost use Rattle.plain_store.specs.Replies.{says};
 
 use crate::bounds::{admitted, blocks_read, estimate};
+use crate::reply::Reply;
 use crate::state::State;
-use crate::talk::Reply;
 use filter_api::RangeFilter;
 use std::alloc::{AllocError, Global};
 

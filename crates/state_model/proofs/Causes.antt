@@ -13,12 +13,12 @@ use Rattle.state_model.specs.Bounds.{unless_found, searched, get_bound, seek_bou
 use Rattle.state_model.specs.Changes.{written, flushed, live_entries}
 use Rattle.state_model.specs.Merges.{NoRoom, placed, outputs_for}
 use Rattle.state_model.specs.Taken.{taken}
-use Rattle.line_model.specs.Requests.{Request, Put, Del, Get, Seek, Range, Count, Flush, Compact}
+use Rattle.line_model.specs.Requests.{Request, Put, Del, Get, Seek, Range, Count, Estimate, Explain, Flush, Compact, Quit, Bad}
 use Rattle.line_model.specs.Replies.{Reply, Pairs, Device, Damaged}
 use Rattle.state_model.specs.Causes.{WriteFailed}
 use Rattle.state_model.specs.Steps.{answer, TakesMemory, Reads, Writes, Step, answers, no_memory, read_failed, damage_met, write_failed}
 use Rattle.state_model.specs.SoundLaws.{Ever}
-use Rattle.state_model.specs.FaultLaws.{Only, IsAnswered, OfReads, OfDevice, IsSaidOf}
+use Rattle.state_model.specs.FaultLaws.{Only, is_change, IsAnswered, OfReads, OfDevice, IsSaidOf}
 use Rattle.state_model.proofs.FaultsMet.{answer_plain, no_fault}
 
 -- ---- no cause, no fault
@@ -75,26 +75,26 @@ pub not_placed : (done : Result (List Table) NoRoom) (refusal : NoRoom) → done
 not_placed (Ok made) refusal e ok = absurd cc
 not_placed (Err other) refusal e ok = let wrong : false ≡ true = ok in cc
 
-crossed_bound : (s : State) (lo hi : Bytes) → is_before hi lo ≡ true → seek_bound s lo hi ≡ 0
+pub crossed_bound : (s : State) (lo hi : Bytes) → is_before hi lo ≡ true → seek_bound s lo hi ≡ 0
 crossed_bound s lo hi e = ap (λ (b : Bool). cond b 0 (sum_by (λ (t : Table). suc (stepped (state_map s) lo hi t)) (filter (admits_range s.settings lo hi) s.tables))) e
 
 no_branch : (b : Bool) (n : ℕ) → cond b n n ≡ n
 no_branch true n = refl
 no_branch false n = refl
 
-bare_bound : (s : State) (lo hi : Bytes) → s.tables ≡ [] → seek_bound s lo hi ≡ 0
+pub bare_bound : (s : State) (lo hi : Bytes) → s.tables ≡ [] → seek_bound s lo hi ≡ 0
 bare_bound s lo hi e =
     ap (λ (ts : List Table). cond (is_before hi lo) 0 (sum_by (λ (t : Table). suc (stepped (state_map s) lo hi t)) (filter (admits_range s.settings lo hi) ts))) e
     ∙ no_branch (is_before hi lo) 0
 
-found_bound : (s : State) (key : Bytes) (value : Option Bytes) → lookup (memory s) key ≡ Some value → get_bound s key ≡ 0
+pub found_bound : (s : State) (key : Bytes) (value : Option Bytes) → lookup (memory s) key ≡ Some value → get_bound s key ≡ 0
 found_bound s key value e = ap (λ (o : Option (Option Bytes)). unless_found o (searched s.settings key s.tables)) e
 
 none_more : (o : Option (Option Bytes)) → unless_found o 0 ≡ 0
 none_more None = refl
 none_more (Some value) = refl
 
-bare_get : (s : State) (key : Bytes) → s.tables ≡ [] → get_bound s key ≡ 0
+pub bare_get : (s : State) (key : Bytes) → s.tables ≡ [] → get_bound s key ≡ 0
 bare_get s key e =
     ap (λ (ts : List Table). unless_found (lookup (memory s) key) (searched s.settings key ts)) e
     ∙ none_more (lookup (memory s) key)
@@ -130,36 +130,58 @@ module _ (filter_bytes : FilterBytes) (s after : State) (reply : Reply) where
       → Step (Only WriteFailed) filter_bytes s Compact reply after → IsAnswered filter_bytes s Compact reply after
   compaction_cramped refusal e = by_no_write filter_bytes s after Compact reply (λ w. not_placed _ refusal e w.1)
 
-  pub get_bare : (key : Bytes) → s.tables ≡ [] → Step Ever filter_bytes s (Get key) reply after → IsAnswered filter_bytes s (Get key) reply after
-  get_bare key e = by_nothing filter_bytes s after (Get key) reply (λ t. t) (not_below (get_bound s key) (bare_get s key e)) (λ w. w)
-
-  pub get_found : (key : Bytes) (value : Option Bytes) → lookup (memory s) key ≡ Some value
-      → Step Ever filter_bytes s (Get key) reply after → IsAnswered filter_bytes s (Get key) reply after
-  get_found key value e = by_nothing filter_bytes s after (Get key) reply (λ t. t) (not_below (get_bound s key) (found_bound s key value e)) (λ w. w)
+  pub get_of_none : (key : Bytes) → get_bound s key ≡ 0 → Step Ever filter_bytes s (Get key) reply after → IsAnswered filter_bytes s (Get key) reply after
+  get_of_none key e = by_nothing filter_bytes s after (Get key) reply (λ t. t) (not_below (get_bound s key) e) (λ w. w)
 
   pub open_bare : (lo : Bytes) → s.tables ≡ [] → Step OfDevice filter_bytes s (Seek lo None) reply after → IsAnswered filter_bytes s (Seek lo None) reply after
   open_bare lo e = by_no_device filter_bytes s after (Seek lo None) reply (λ r. r e) (λ w. w)
 
-  pub seek_bare : (lo hi : Bytes) → s.tables ≡ [] → Step OfDevice filter_bytes s (Seek lo (Some hi)) reply after → IsAnswered filter_bytes s (Seek lo (Some hi)) reply after
-  seek_bare lo hi e = by_no_device filter_bytes s after (Seek lo (Some hi)) reply (not_below (seek_bound s lo hi) (bare_bound s lo hi e)) (λ w. w)
+  pub seek_of_none : (lo hi : Bytes) → seek_bound s lo hi ≡ 0 → Step OfDevice filter_bytes s (Seek lo (Some hi)) reply after → IsAnswered filter_bytes s (Seek lo (Some hi)) reply after
+  seek_of_none lo hi e = by_no_device filter_bytes s after (Seek lo (Some hi)) reply (not_below (seek_bound s lo hi) e) (λ w. w)
 
-  pub range_bare : (lo hi : Bytes) (n : ℕ) → s.tables ≡ [] → Step OfDevice filter_bytes s (Range lo hi n) reply after → IsAnswered filter_bytes s (Range lo hi n) reply after
-  range_bare lo hi n e = by_no_device filter_bytes s after (Range lo hi n) reply (λ r. not_below (seek_bound s lo hi) (bare_bound s lo hi e) r.1) (λ w. w)
+  pub range_of_none : (lo hi : Bytes) (n : ℕ) → seek_bound s lo hi ≡ 0 → Step OfDevice filter_bytes s (Range lo hi n) reply after → IsAnswered filter_bytes s (Range lo hi n) reply after
+  range_of_none lo hi n e = by_no_device filter_bytes s after (Range lo hi n) reply (λ r. not_below (seek_bound s lo hi) e r.1) (λ w. w)
 
-  pub count_bare : (lo hi : Bytes) → s.tables ≡ [] → Step OfDevice filter_bytes s (Count lo hi) reply after → IsAnswered filter_bytes s (Count lo hi) reply after
-  count_bare lo hi e = by_no_device filter_bytes s after (Count lo hi) reply (not_below (seek_bound s lo hi) (bare_bound s lo hi e)) (λ w. w)
-
-  pub seek_crossed : (lo hi : Bytes) → is_before hi lo ≡ true → Step OfDevice filter_bytes s (Seek lo (Some hi)) reply after → IsAnswered filter_bytes s (Seek lo (Some hi)) reply after
-  seek_crossed lo hi e = by_no_device filter_bytes s after (Seek lo (Some hi)) reply (not_below (seek_bound s lo hi) (crossed_bound s lo hi e)) (λ w. w)
-
-  pub range_crossed : (lo hi : Bytes) (n : ℕ) → is_before hi lo ≡ true → Step OfDevice filter_bytes s (Range lo hi n) reply after → IsAnswered filter_bytes s (Range lo hi n) reply after
-  range_crossed lo hi n e = by_no_device filter_bytes s after (Range lo hi n) reply (λ r. not_below (seek_bound s lo hi) (crossed_bound s lo hi e) r.1) (λ w. w)
-
-  pub count_crossed : (lo hi : Bytes) → is_before hi lo ≡ true → Step OfDevice filter_bytes s (Count lo hi) reply after → IsAnswered filter_bytes s (Count lo hi) reply after
-  count_crossed lo hi e = by_no_device filter_bytes s after (Count lo hi) reply (not_below (seek_bound s lo hi) (crossed_bound s lo hi e)) (λ w. w)
+  pub count_of_none : (lo hi : Bytes) → seek_bound s lo hi ≡ 0 → Step OfDevice filter_bytes s (Count lo hi) reply after → IsAnswered filter_bytes s (Count lo hi) reply after
+  count_of_none lo hi e = by_no_device filter_bytes s after (Count lo hi) reply (not_below (seek_bound s lo hi) e) (λ w. w)
 
   pub range_none : (lo hi : Bytes) → Step OfDevice filter_bytes s (Range lo hi 0) reply after → IsAnswered filter_bytes s (Range lo hi 0) reply after
   range_none lo hi = by_no_device filter_bytes s after (Range lo hi 0) reply (λ r. not_below 0 refl r.0) (λ w. w)
+
+-- what asks for no change writes nothing
+writes_none : (filter_bytes : FilterBytes) (s : State) (request : Request) → is_change request ≡ false → Writes filter_bytes s request → ⊥
+writes_none filter_bytes s (Get key) other writes = writes
+writes_none filter_bytes s (Seek lo hi) other writes = writes
+writes_none filter_bytes s (Range lo hi n) other writes = writes
+writes_none filter_bytes s (Count lo hi) other writes = writes
+writes_none filter_bytes s (Estimate lo hi) other writes = writes
+writes_none filter_bytes s (Explain key) other writes = writes
+writes_none filter_bytes s Quit other writes = writes
+writes_none filter_bytes s (Bad code) other writes = writes
+writes_none filter_bytes s (Put key value) other writes = let wrong : true ≡ false = other in absurd cc
+writes_none filter_bytes s (Del key) other writes = let wrong : true ≡ false = other in absurd cc
+writes_none filter_bytes s Flush other writes = let wrong : true ≡ false = other in absurd cc
+writes_none filter_bytes s Compact other writes = let wrong : true ≡ false = other in absurd cc
+
+module _ (filter_bytes : FilterBytes) (s after : State) where
+  pub others_write_none : (request : Request) (reply : Reply) → is_change request ≡ false
+      → Step (Only WriteFailed) filter_bytes s request reply after → IsAnswered filter_bytes s request reply after
+  others_write_none request reply other = by_no_write filter_bytes s after request reply (writes_none filter_bytes s request other)
+
+  pub estimate_answered : (reply : Reply) (lo hi : Bytes) → Step Ever filter_bytes s (Estimate lo hi) reply after → IsAnswered filter_bytes s (Estimate lo hi) reply after
+  estimate_answered reply lo hi = by_nothing filter_bytes s after (Estimate lo hi) reply (λ t. t) (λ r. r) (λ w. w)
+
+  pub explain_answered : (reply : Reply) (key : Bytes) → Step Ever filter_bytes s (Explain key) reply after → IsAnswered filter_bytes s (Explain key) reply after
+  explain_answered reply key = by_nothing filter_bytes s after (Explain key) reply (λ t. t) (λ r. r) (λ w. w)
+
+  pub put_reads_none : (reply : Reply) (key value : Bytes) → Step OfReads filter_bytes s (Put key value) reply after → IsAnswered filter_bytes s (Put key value) reply after
+  put_reads_none reply key value = by_no_read filter_bytes s after (Put key value) reply (λ r. r)
+
+  pub del_reads_none : (reply : Reply) (key : Bytes) → Step OfReads filter_bytes s (Del key) reply after → IsAnswered filter_bytes s (Del key) reply after
+  del_reads_none reply key = by_no_read filter_bytes s after (Del key) reply (λ r. r)
+
+  pub flush_reads_none : (reply : Reply) → Step OfReads filter_bytes s Flush reply after → IsAnswered filter_bytes s Flush reply after
+  flush_reads_none reply = by_no_read filter_bytes s after Flush reply (λ r. r)
 
 -- ---- what a range has said
 

@@ -9,11 +9,11 @@ use Rattle.line_model.specs.Replies.{text_of}
 use Rattle.state_model.specs.Script.{Ending, Turn, Onward, AsSaid, EndsOr, Between, Script, WentOn}
 
 -- so much was said, with a reply and what follows it
-said_more : (said : ℕ) (text own more : Bytes) → text ≡ own ++ more → said + length text ≡ said + length own + length more
+pub said_more : (said : ℕ) (text own more : Bytes) → text ≡ own ++ more → said + length text ≡ said + length own + length more
 said_more said text own more whole =
     let long : length text ≡ length own + length more = ap (λ (l : Bytes). length l) whole ∙ length-append own more in omega (arith, long)
 
-none_more : (said : ℕ) (text : Bytes) → text ≡ [] → said + length text ≡ said
+pub none_more : (said : ℕ) (text : Bytes) → text ≡ [] → said + length text ≡ said
 none_more said text none = let long : length text ≡ 0 = ap (λ (l : Bytes). length l) none in omega (arith, long)
 
 pub goes_on : (Cause : Why → Type 0) (filter_bytes : FilterBytes) (R : ℕ → State → Type 0) (said : ℕ) (s after : State) (first lines : List Bytes) (text rest : Bytes) (ending : Ending)

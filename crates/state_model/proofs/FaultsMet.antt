@@ -12,13 +12,12 @@ use Rattle.state_model.specs.Taken.{taken}
 use Rattle.state_model.specs.Merges.{NoRoom, placed, outputs_for}
 use Rattle.state_model.specs.Changes.{with_tables, flush_placed, flushed_with, flushed, logged, logged_then, written, compact_placed, compacted_with, compacted, live_entries}
 use Rattle.line_model.specs.Limits.{key_limit, value_limit, bound_limit, first_limit, limit_of}
-use Rattle.state_model.specs.Causes.{ReadFailed, WriteFailed}
 use Rattle.line_model.specs.Requests.{Request, Put, Del, Get, Seek, Range, Count, Estimate, Explain, Flush, Compact, Quit, Bad}
 use Rattle.line_model.specs.Replies.{Reply, LongKey, LongValue, ManyTables, LastEpoch, Pairs, Memory, Device, Damaged, got, found}
 use Rattle.state_model.specs.Steps.{Answer, answer, answer_within, done_or_refused, unless_limit, left_by, Step, answers, no_memory, read_failed, damage_met, write_failed}
 use Rattle.state_model.specs.Tends.{Tended, Refused, Tend, idle, works, installs, last_epoch_reached, no_room, no_memory as none_for_it, read_failed as not_read, damage_met as was_damaged, write_failed as not_written}
 use Rattle.state_model.specs.SoundLaws.{Ever}
-use Rattle.state_model.specs.FaultLaws.{Only, KeepsDevice}
+use Rattle.state_model.specs.FaultLaws.{KeepsDevice}
 
 -- ---- an answer tells of no fault
 
@@ -160,52 +159,6 @@ get_lasts filter_bytes s after key d = (elim d as (λ reply _ _. reply ≡ Memor
   | read_failed said within reads cause so ↦ λ e. not_memory (sym so ∙ e)
   | damage_met damage said within reads cause so ↦ λ e. no_damage damage (sym so ∙ e)
   | write_failed new within writes cause left same ↦ not_memory
-]) refl
-
-pub estimate_lasts : (filter_bytes : FilterBytes) (s after : State) (lo hi : Bytes) → Step Ever filter_bytes s (Estimate lo hi) Memory after → ⊥
-estimate_lasts filter_bytes s after lo hi d = (elim d as (λ reply _ _. reply ≡ Memory → ⊥) [
-  | answers ↦ no_fault (answer filter_bytes s (Estimate lo hi)).0 Memory (answer_plain filter_bytes s (Estimate lo hi)).0 refl
-  | no_memory within takes cause ↦ λ _. absurd takes
-  | read_failed said within reads cause so ↦ λ _. absurd reads
-  | damage_met damage said within reads cause so ↦ λ _. absurd reads
-  | write_failed new within writes cause left same ↦ λ _. absurd writes
-]) refl
-
-pub explain_lasts : (filter_bytes : FilterBytes) (s after : State) (key : Bytes) → Step Ever filter_bytes s (Explain key) Memory after → ⊥
-explain_lasts filter_bytes s after key d = (elim d as (λ reply _ _. reply ≡ Memory → ⊥) [
-  | answers ↦ no_fault (answer filter_bytes s (Explain key)).0 Memory (answer_plain filter_bytes s (Explain key)).0 refl
-  | no_memory within takes cause ↦ λ _. absurd takes
-  | read_failed said within reads cause so ↦ λ _. absurd reads
-  | damage_met damage said within reads cause so ↦ λ _. absurd reads
-  | write_failed new within writes cause left same ↦ λ _. absurd writes
-]) refl
-
--- the causes of a step that reads nothing are others than a failed read
-reads_none : (filter_bytes : FilterBytes) (s after : State) (request : Request) → (Rattle.state_model.specs.Steps.Reads s request → ⊥) → Step (Only ReadFailed) filter_bytes s request Device after → ⊥
-reads_none filter_bytes s after request none d = (elim d as (λ reply _ _. reply ≡ Device → ⊥) [
-  | answers ↦ no_fault (answer filter_bytes s request).0 Device (answer_plain filter_bytes s request).0 refl
-  | no_memory within takes cause ↦ λ _. absurd cc
-  | read_failed said within reads cause so ↦ λ _. none reads
-  | damage_met damage said within reads cause so ↦ λ _. none reads
-  | write_failed new within writes cause left same ↦ λ _. absurd cc
-]) refl
-
-pub put_reads_none : (filter_bytes : FilterBytes) (s after : State) (key value : Bytes) → Step (Only ReadFailed) filter_bytes s (Put key value) Device after → ⊥
-put_reads_none filter_bytes s after key value d = reads_none filter_bytes s after (Put key value) (λ reads. reads) d
-
-pub del_reads_none : (filter_bytes : FilterBytes) (s after : State) (key : Bytes) → Step (Only ReadFailed) filter_bytes s (Del key) Device after → ⊥
-del_reads_none filter_bytes s after key d = reads_none filter_bytes s after (Del key) (λ reads. reads) d
-
-pub flush_reads_none : (filter_bytes : FilterBytes) (s after : State) → Step (Only ReadFailed) filter_bytes s Flush Device after → ⊥
-flush_reads_none filter_bytes s after d = reads_none filter_bytes s after Flush (λ reads. reads) d
-
-pub get_writes_none : (filter_bytes : FilterBytes) (s after : State) (key : Bytes) → Step (Only WriteFailed) filter_bytes s (Get key) Device after → ⊥
-get_writes_none filter_bytes s after key d = (elim d as (λ reply _ _. reply ≡ Device → ⊥) [
-  | answers ↦ no_fault (answer filter_bytes s (Get key)).0 Device (answer_plain filter_bytes s (Get key)).0 refl
-  | no_memory within takes cause ↦ λ _. absurd takes
-  | read_failed said within reads cause so ↦ λ _. absurd cc
-  | damage_met damage said within reads cause so ↦ λ _. absurd cc
-  | write_failed new within writes cause left same ↦ λ _. absurd writes
 ]) refl
 
 -- ---- what is left

@@ -5,7 +5,7 @@ use Rattle.std.proofs.lemmas.List.{append_assoc, append-nil, map-append}
 use Rattle.std.proofs.lemmas.List.Sums.{fold-append}
 use Rattle.key_base.specs.Limits.{max_tables}
 use Rattle.map_model.specs.SortedMap.{Bytes, Map}
-use Rattle.entry_model.specs.Entries.{Entry, newest, or_else, live, changed, need, gap, map_of as map_of_entries}
+use Rattle.entry_model.specs.Entries.{Entry, newest, or_else, live, changed, need, gap, map_of}
 use Rattle.entry_model.specs.Newest.{KeysRise, newest_entries, lookup}
 use Rattle.entry_model.proofs.Newest.{lookup_newest}
 use Rattle.state_model.specs.State.{State, last_epoch, without_job}
@@ -70,7 +70,7 @@ flushed_keeps filter_bytes s t e = if_done (KeepsMap s) (flushed filter_bytes s)
 -- ---- one entry
 
 logged_changes : (s : State) (entry : Entry) → state_map (logged s entry) ≡ changed (state_map s) entry
-logged_changes s entry = ap map_of_entries (sym (append_assoc (oldest_first s.tables) s.log (entry ∷ []))) ∙ fold-append changed [] (entries_of s) (entry ∷ [])
+logged_changes s entry = ap map_of (sym (append_assoc (oldest_first s.tables) s.log (entry ∷ []))) ∙ fold-append changed [] (entries_of s) (entry ∷ [])
 
 abbrev pub Makes : Map → Entry → State → Type 0
 Makes map entry t = state_map t ≡ changed map entry

@@ -31,8 +31,11 @@ pub mod SoundLines
 pub mod AnyCause
 pub mod Causes
 pub mod Unanswered
+pub mod Tied
+pub mod Told
 pub mod Chains
 pub mod ToLast
+pub mod Ended
 pub mod OfBytes
 pub mod FaultsMet
 pub mod EmptyStores
@@ -46,3 +49,4 @@ pub mod Gets
 pub mod Stepped
 pub mod Estimates
 pub mod Slices
+pub mod Alone

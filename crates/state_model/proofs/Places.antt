@@ -9,7 +9,7 @@ use Rattle.entry_model.specs.Entries.{Entry}
 use Rattle.block_model.specs.Block.{IsTable}
 use Rattle.filter_api.specs.declared.settings.Settings.{Settings}
 use Rattle.block_model.specs.Laws.{joined}
-use Rattle.block_model.specs.Pages.{pages_for, block_length, block_pages, blocks_of, data_pages, has_room, block_entries, page_bytes}
+use Rattle.block_model.specs.Pages.{pages_for, block_length, block_pages, blocks_of, data_pages, has_room, max_block_entries, page_bytes}
 use Rattle.block_model.proofs.Cutting.{each_block, blocks_joined}
 use Rattle.std.proofs.lemmas.Bool.{and_parts, ltb-true}
 use Rattle.table_model.specs.Tables.{FilterBytes, Table, table_of, table_pages}
@@ -37,7 +37,7 @@ IsSmall block = length block ≤ 255
 
 small_more : (block : List Entry) (e : Entry) → IsSmall block → has_room block e ≡ true → IsSmall (block ++ (e ∷ []))
 small_more block e small room =
-    let lt = ltb-true (length block) 255 (and_parts (nat_le (block_length (block ++ (e ∷ []))) page_bytes) (nat_lt (length block) block_entries) room).1 in
+    let lt = ltb-true (length block) 255 (and_parts (nat_le (block_length (block ++ (e ∷ []))) page_bytes) (nat_lt (length block) max_block_entries) room).1 in
     omega (arith, length-append block (e ∷ []), lt)
 
 small_joined : (blocks : List (List Entry)) → AllByRecursion IsSmall blocks → length (joined blocks) ≤ 255 * sum_by block_pages blocks

@@ -1,4 +1,4 @@
--- What a slice of some blocks computes is a merge slice.
+-- What is computed of a merge slice of some blocks is one.
 use Rattle.std.proofs.Common.{◌≡◌, inl, inr, ℕ, ◌≤◌, List, [], ◌∷◌, ◌++◌, length, refl, sym, ap, ◌∙◌, true, false, cond, arith}
 use Rattle.std.specs.Prelude.{Option, Some, None, Result, Ok, Err, nat_lt, ◌==◌, ◌-◌, take}
 use Rattle.std.proofs.lemmas.Bool.{eqb-true, eqb-false}

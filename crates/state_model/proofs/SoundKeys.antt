@@ -6,10 +6,11 @@ use Rattle.std.proofs.lemmas.List.{length-map}
 use Rattle.std.proofs.lemmas.List.Elements.{All-from_recursion}
 use Rattle.block_model.proofs.Bounds.{weaker}
 use Rattle.entry_model.specs.Entries.{IsEntry, Entry, filled, keys_of}
-use Rattle.extent_model.specs.Extents.{IsOnDevice}
+use Rattle.extent_model.specs.Extents.{Extent, IsOnDevice}
 use Rattle.extent_model.proofs.Lists.{Pairs, all_pairs}
 use Rattle.filter_model.specs.Keys.{IsKey, IsKeyList}
-use Rattle.filter_model.specs.Strings.{is_below}
+use Rattle.filter_model.specs.Strings.{is_before}
+use Rattle.key_base.specs.Limits.{first_table_page, log_bytes, max_tables}
 use Rattle.map_model.specs.SortedMap.{Bytes}
 use Rattle.entry_model.specs.Newest.{IsAbove, KeysRise}
 use Rattle.state_model.specs.State.{State, written_by}
@@ -22,9 +23,9 @@ use Rattle.state_model.proofs.Orders.{all_to_map, pairs_to_map}
 key_of_entry : (e : Entry) → IsEntry e → IsKey e.key
 key_of_entry e is = record { bytes = is.key_bytes; filled = is.some_key; short = is.short_key }
 
-rising_pairs : (entries : List Entry) → KeysRise entries → Pairs (λ (x y : Entry). is_below x.key y.key ≡ true) entries
+rising_pairs : (entries : List Entry) → KeysRise entries → Pairs (λ (x y : Entry). is_before x.key y.key ≡ true) entries
 rising_pairs [] rises = tt
-rising_pairs (e ∷ more) rises = (weaker (IsAbove e.key) (λ (y : Entry). is_below e.key y.key ≡ true) (λ y less. ap is_lt less) more rises.0, rising_pairs more rises.1)
+rising_pairs (e ∷ more) rises = (weaker (IsAbove e.key) (λ (y : Entry). is_before e.key y.key ≡ true) (λ y less. ap is_lt less) more rises.0, rising_pairs more rises.1)
 
 pub key_list : (t : Table) → IsSoundTable t → IsKeyList (keys_of t.entries)
 key_list t is =
@@ -34,17 +35,23 @@ key_list t is =
       few = subst (λ (n : ℕ). n < 2 ^ 32) (sym many) is.entries.sound.few;
       each = All-from_recursion IsKey (keys_of t.entries) (all_to_map IsKey (λ (e : Entry). e.key) t.entries
           (weaker IsEntry (λ (e : Entry). IsKey e.key) key_of_entry t.entries is.entries.sound.each));
-      rising = all_pairs (λ (x y : Bytes). is_below x y ≡ true) (keys_of t.entries)
-          (pairs_to_map (λ (x y : Bytes). is_below x y ≡ true) (λ (e : Entry). e.key) t.entries (rising_pairs t.entries (rises_of t is)));
+      rising = all_pairs (λ (x y : Bytes). is_before x y ≡ true) (keys_of t.entries)
+          (pairs_to_map (λ (x y : Bytes). is_before x y ≡ true) (λ (e : Entry). e.key) t.entries (rising_pairs t.entries (rises_of t is)));
     }
 
-pub too_many : (filter_bytes : FilterBytes) (s : State) → length s.tables ≡ 1025 → IsSound filter_bytes s → ⊥
-too_many filter_bytes s many sound = let few : length s.tables ≤ 1024 = sound.few in absurd (omega (arith, many, few))
+pub too_many : (filter_bytes : FilterBytes) (s : State) → max_tables < length s.tables → IsSound filter_bytes s → ⊥
+too_many filter_bytes s many sound = let few : length s.tables ≤ max_tables = sound.few in absurd (omega (arith, many, few))
 
-pub full_log : (filter_bytes : FilterBytes) (s : State) → filled s.log ≡ 262144 → IsSound filter_bytes s → ⊥
+pub full_log : (filter_bytes : FilterBytes) (s : State) → log_bytes ≤ filled s.log → IsSound filter_bytes s → ⊥
 full_log filter_bytes s full sound = absurd (omega (arith, full, sound.log_fits))
 
-pub low_page : (filter_bytes : FilterBytes) (s : State) (t : Table) (more : List Table) → s.tables ≡ t ∷ more → t.first_page ≡ 191 → IsSound filter_bytes s → ⊥
-low_page filter_bytes s t more tables low sound =
+at_one : (P : Extent → Type 0) (before more written kept : List Table) (t : Table) → AllByRecursion P (map extent_of ((before ++ (t ∷ more)) ++ written ++ kept))
+    → P (extent_of t)
+at_one P [] more written kept t all = all.0
+at_one P (u ∷ before) more written kept t all = at_one P before more written kept t all.1
+
+pub low_page : (filter_bytes : FilterBytes) (s : State) (before more : List Table) (t : Table) → s.tables ≡ before ++ (t ∷ more) → t.first_page < first_table_page
+    → IsSound filter_bytes s → ⊥
+low_page filter_bytes s before more t tables low sound =
     let on = subst (λ (l : List Table). AllByRecursion (IsOnDevice s.pages) (map extent_of (l ++ written_by s.job ++ s.kept))) tables sound.on_device in
-    let from : 192 ≤ t.first_page = on.0.from in absurd (omega (arith, from, low))
+    let from : first_table_page ≤ t.first_page = (at_one (IsOnDevice s.pages) before more (written_by s.job) s.kept t on).from in absurd (omega (arith, from, low))

@@ -81,9 +81,17 @@ pub answered_sound : (Cause : Why → Type 0) (filter_bytes : FilterBytes) (R : 
     → Answers Cause filter_bytes (WithSound filter_bytes R) said s lines text after × IsSound filter_bytes after
 answered_sound Cause filter_bytes R said s after lines text sound d = elim d as (λ ls t new _. Answers Cause filter_bytes (WithSound filter_bytes R) said s ls t new × IsSound filter_bytes new) [
   | nothing ↦ (nothing, sound)
-  | answered first last went before new reply early step holds ↦
-      let behind = first_lines_sound Cause filter_bytes R said s before first went sound early in
-      let here = step_sound filter_bytes before new (request_of last) reply behind.1 (lines_ask last) (ever_steps Cause filter_bytes before new (request_of last) reply step) in
-      let so_far = said + length went + length (text_of reply) in
-      (answered first last went before new reply behind.0 step (as_said (turn_of reply) (R so_far new) (IsSound filter_bytes new) holds here), here)
+  | answered first last all reply new d ↦
+      let behind = first_lines_sound Cause filter_bytes R said s d.before first d.early sound d.went in
+      let here = step_sound filter_bytes d.before new (request_of last) reply behind.1 (lines_ask last) (ever_steps Cause filter_bytes d.before new (request_of last) reply d.step) in (
+        answered first last all reply new (record {
+          early = d.early;
+          before = d.before;
+          went = behind.0;
+          step = d.step;
+          whole = d.whole;
+          holds = as_said (turn_of reply) (R (said + length all) new) (IsSound filter_bytes new) d.holds here;
+        }),
+        here,
+      )
 ]

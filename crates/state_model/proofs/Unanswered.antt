@@ -22,7 +22,7 @@ use Rattle.state_model.proofs.Lines.{lines_change}
 
 -- ---- what is left, and what is said
 
-left_unchanged : (s : State) (request : Request) → IsUnchanged request s (left_by request s)
+pub left_unchanged : (s : State) (request : Request) → IsUnchanged request s (left_by request s)
 left_unchanged s Compact = refl
 left_unchanged s (Put key value) = refl
 left_unchanged s (Del key) = refl

@@ -1,5 +1,5 @@
 -- What a put, a flush and a compaction make of a state, or the reply by which they are refused.
-use Rattle.std.specs.Prelude.{ℕ, ◌+◌, ◌==◌, nat_le, if◌then◌else◌, List, [], ◌∷◌, ◌++◌, length, filter, None, Result, Ok, Err}
+use Rattle.std.specs.Prelude.{◌+◌, ◌==◌, nat_le, if◌then◌else◌, List, [], ◌∷◌, ◌++◌, length, filter, None, Result, Ok, Err}
 use Rattle.key_base.specs.Limits.{max_tables}
 use Rattle.entry_model.specs.Entries.{Entry, need, gap}
 use Rattle.entry_model.specs.Newest.{newest_entries}

@@ -3,9 +3,10 @@ use Rattle.std.specs.Prelude.{ℕ, List, [], ◌∷◌, length, map, Option, Som
 use Rattle.filter_api.specs.declared.settings.Settings.{Settings}
 use Rattle.map_model.specs.SortedMap.{Bytes}
 use Rattle.entry_model.specs.Entries.{del_entry}
-use Rattle.state_model.specs.State.{State, new_state}
+use Rattle.state_model.specs.State.{State, Job, new_state}
 use Rattle.table_model.specs.Tables.{FilterBytes, Table}
 use Rattle.state_model.specs.Merges.{Plan}
+use Rattle.state_model.specs.Play.{played}
 use Rattle.line_model.specs.Requests.{Request, Put, Del, Flush, Compact}
 
 -- no suffix bits, and the ratio of a store that names none
@@ -69,6 +70,17 @@ store_with tables = record (new_state base 4096) { tables = tables }
 abbrev pub pages_of_plan : Option Plan → List ℕ
 pages_of_plan None = []
 pages_of_plan (Some plan) = plan.output ∷ map (λ (t : Table). t.first_page) plan.inputs
+
+-- the merge of all tables of a state into level 1, with no block left to read, and the same with its one output
+abbrev pub all_read : State → Job
+all_read s = record { inputs = s.tables; output = 1; to_read = 0; written = [] }
+
+abbrev pub all_written : State → Job
+all_written s = record (all_read s) { written = table_at 1 204 3 (key 0x61) ∷ [] }
+
+-- four tables that take all pages of a store but two
+abbrev pub cramped : State
+cramped = record (played one_byte small_store four_tables).1 { pages = 206 }
 
 -- where a table stands: level, first page, pages, data blocks, entries
 abbrev pub place_of : Table → List ℕ

@@ -1,12 +1,12 @@
 -- Laws of what the state does not explain: where it may be met, and what it leaves.
-use Rattle.std.specs.Prelude.{◌≡◌, ◌⊎◌, ◌<◌, ℕ, true, [], take, Option, Some, None, Err}
+use Rattle.std.specs.Prelude.{◌≡◌, ◌⊎◌, ◌<◌, ℕ, Bool, true, false, [], take, Some, None, Err}
 use Rattle.byte_fields.specs.declared.parts.Damage.{Damage}
 use Rattle.map_model.specs.SortedMap.{Bytes, Map}
-use Rattle.map_model.specs.Slices.{is_before, slice}
+use Rattle.map_model.specs.Slices.{slice}
 use Rattle.entry_model.specs.Entries.{put_entry, del_entry}
-use Rattle.entry_model.specs.Newest.{lookup}
 use Rattle.state_model.specs.State.{State, Job, without_job, last_epoch}
 use Rattle.state_model.specs.View.{memory, entries_of, state_map}
+use Rattle.state_model.specs.Bounds.{get_bound, seek_bound}
 use Rattle.state_model.specs.Changes.{written, flushed, live_entries}
 use Rattle.state_model.specs.Merges.{NoRoom, placed, outputs_for}
 use Rattle.state_model.specs.Taken.{taken}
@@ -24,26 +24,6 @@ use Rattle.state_model.specs.SoundLaws.{Ever}
 abbrev pub Only : Why → Why → Type 0
 Only allowed why = why ≡ allowed
 
--- No want of memory is met by a get, an estimate and an explain; no failed read by a put, a del and a flush; no failed write
--- by a get.
-pub record FaultsAreMet : Type 0 where
-  pub get_takes_none : (filter_bytes : FilterBytes) (s after : State) (key : Bytes) → Step Ever filter_bytes s (Get key) Memory after → ⊥
-  pub estimate_takes_none :
-      (filter_bytes : FilterBytes) (s after : State) (lo hi : Bytes) → Step Ever filter_bytes s (Estimate lo hi) Memory after
-      → ⊥
-  pub explain_takes_none :
-      (filter_bytes : FilterBytes) (s after : State) (key : Bytes) → Step Ever filter_bytes s (Explain key) Memory after → ⊥
-  pub put_reads_nothing :
-      (filter_bytes : FilterBytes) (s after : State) (key value : Bytes)
-      → Step (Only ReadFailed) filter_bytes s (Put key value) Device after → ⊥
-  pub del_reads_nothing :
-      (filter_bytes : FilterBytes) (s after : State) (key : Bytes)
-      → Step (Only ReadFailed) filter_bytes s (Del key) Device after → ⊥
-  pub flush_reads_nothing : (filter_bytes : FilterBytes) (s after : State) → Step (Only ReadFailed) filter_bytes s Flush Device after → ⊥
-  pub get_writes_nothing :
-      (filter_bytes : FilterBytes) (s after : State) (key : Bytes)
-      → Step (Only WriteFailed) filter_bytes s (Get key) Device after → ⊥
-
 -- the step is the answer, which tells of no fault
 abbrev pub IsAnswered : FilterBytes → State → Request → Reply → State → Type 0
 IsAnswered filter_bytes s request reply after = (reply ≡ (answer filter_bytes s request).0) × (after ≡ (answer filter_bytes s request).1)
@@ -59,14 +39,44 @@ abbrev pub OfDevice : Why → Type 0
 OfDevice NoMemory = ⊥
 OfDevice why = Unit {0}
 
+-- the requests that may write
+abbrev pub is_change : Request → Bool
+is_change (Put key value) = true
+is_change (Del key) = true
+is_change Flush = true
+is_change Compact = true
+is_change request = false
+
+-- No want of memory is met by a get, no failed read and no damage by a put, a del and a flush, and no failed write by what
+-- asks for no change. An estimate and an explain meet nothing.
+pub record FaultsAreMet : Type 0 where
+  pub get_takes_none : (filter_bytes : FilterBytes) (s after : State) (key : Bytes) → Step Ever filter_bytes s (Get key) Memory after → ⊥
+  pub estimate_is_answered :
+      (filter_bytes : FilterBytes) (s after : State) (reply : Reply) (lo hi : Bytes) → Step Ever filter_bytes s (Estimate lo hi) reply after
+      → IsAnswered filter_bytes s (Estimate lo hi) reply after
+  pub explain_is_answered :
+      (filter_bytes : FilterBytes) (s after : State) (reply : Reply) (key : Bytes) → Step Ever filter_bytes s (Explain key) reply after
+      → IsAnswered filter_bytes s (Explain key) reply after
+  pub put_reads_nothing :
+      (filter_bytes : FilterBytes) (s after : State) (reply : Reply) (key value : Bytes)
+      → Step OfReads filter_bytes s (Put key value) reply after → IsAnswered filter_bytes s (Put key value) reply after
+  pub del_reads_nothing :
+      (filter_bytes : FilterBytes) (s after : State) (reply : Reply) (key : Bytes)
+      → Step OfReads filter_bytes s (Del key) reply after → IsAnswered filter_bytes s (Del key) reply after
+  pub flush_reads_nothing :
+      (filter_bytes : FilterBytes) (s after : State) (reply : Reply)
+      → Step OfReads filter_bytes s Flush reply after → IsAnswered filter_bytes s Flush reply after
+  pub others_write_nothing :
+      (filter_bytes : FilterBytes) (s after : State) (request : Request) (reply : Reply) → is_change request ≡ false
+      → Step (Only WriteFailed) filter_bytes s request reply after → IsAnswered filter_bytes s request reply after
+
 -- the first of the pairs that the range asks for, and not as many
 abbrev pub IsSaidOf : State → Bytes → Bytes → ℕ → Map → Type 0
 IsSaidOf s lo hi n said = (k : ℕ) × (k < n) × (said ≡ take k (slice (state_map s) lo (Some hi) n))
 
--- No step meets a cause that the state rules out here: what is refused writes nothing, nor does a compaction whose first table
--- has no room; a flush and a compaction of nothing, and a
--- get of what memory has, touch no device; without tables nothing is read, nor between crossed bounds or for no pairs. What
--- a range has said as a read fails are first pairs of its answer.
+-- No step meets a cause that the state rules out here: what is refused writes nothing, nor does a compaction whose first
+-- table has no room; a flush and a compaction of nothing touch no device; nothing is read where the bound allows no block,
+-- nor for no pairs, nor without tables. What a range has said as a read fails are first pairs of its answer.
 pub record FaultsHaveCauses : Type 0 where
   pub refused_put :
       (filter_bytes : FilterBytes) (s after : State) (reply : Reply) (key value : Bytes) (why : Reply) → written filter_bytes s (put_entry key value) ≡ Err why → Step OfDevice filter_bytes s (Put key value) reply after
@@ -93,32 +103,20 @@ pub record FaultsHaveCauses : Type 0 where
       (filter_bytes : FilterBytes) (s after : State) (reply : Reply) (refusal : NoRoom)
       → placed filter_bytes s.settings s.pages (taken (without_job s)) 6 (take 1 (outputs_for s.tables (live_entries s))) ≡ Err refusal
       → Step (Only WriteFailed) filter_bytes s Compact reply after → IsAnswered filter_bytes s Compact reply after
-  pub get_without_tables :
-      (filter_bytes : FilterBytes) (s after : State) (reply : Reply) (key : Bytes) → s.tables ≡ [] → Step Ever filter_bytes s (Get key) reply after
-      → IsAnswered filter_bytes s (Get key) reply after
-  pub get_from_memory :
-      (filter_bytes : FilterBytes) (s after : State) (reply : Reply) (key : Bytes) (value : Option Bytes) → lookup (memory s) key ≡ Some value → Step Ever filter_bytes s (Get key) reply after
+  pub get_of_no_block :
+      (filter_bytes : FilterBytes) (s after : State) (reply : Reply) (key : Bytes) → get_bound s key ≡ 0 → Step Ever filter_bytes s (Get key) reply after
       → IsAnswered filter_bytes s (Get key) reply after
   pub open_seek_without_tables :
       (filter_bytes : FilterBytes) (s after : State) (reply : Reply) (lo : Bytes) → s.tables ≡ [] → Step OfDevice filter_bytes s (Seek lo None) reply after
       → IsAnswered filter_bytes s (Seek lo None) reply after
-  pub seek_without_tables :
-      (filter_bytes : FilterBytes) (s after : State) (reply : Reply) (lo hi : Bytes) → s.tables ≡ [] → Step OfDevice filter_bytes s (Seek lo (Some hi)) reply after
+  pub seek_of_no_block :
+      (filter_bytes : FilterBytes) (s after : State) (reply : Reply) (lo hi : Bytes) → seek_bound s lo hi ≡ 0 → Step OfDevice filter_bytes s (Seek lo (Some hi)) reply after
       → IsAnswered filter_bytes s (Seek lo (Some hi)) reply after
-  pub range_without_tables :
-      (filter_bytes : FilterBytes) (s after : State) (reply : Reply) (lo hi : Bytes) (n : ℕ) → s.tables ≡ [] → Step OfDevice filter_bytes s (Range lo hi n) reply after
+  pub range_of_no_block :
+      (filter_bytes : FilterBytes) (s after : State) (reply : Reply) (lo hi : Bytes) (n : ℕ) → seek_bound s lo hi ≡ 0 → Step OfDevice filter_bytes s (Range lo hi n) reply after
       → IsAnswered filter_bytes s (Range lo hi n) reply after
-  pub count_without_tables :
-      (filter_bytes : FilterBytes) (s after : State) (reply : Reply) (lo hi : Bytes) → s.tables ≡ [] → Step OfDevice filter_bytes s (Count lo hi) reply after
-      → IsAnswered filter_bytes s (Count lo hi) reply after
-  pub crossed_seek :
-      (filter_bytes : FilterBytes) (s after : State) (reply : Reply) (lo hi : Bytes) → is_before hi lo ≡ true → Step OfDevice filter_bytes s (Seek lo (Some hi)) reply after
-      → IsAnswered filter_bytes s (Seek lo (Some hi)) reply after
-  pub crossed_range :
-      (filter_bytes : FilterBytes) (s after : State) (reply : Reply) (lo hi : Bytes) (n : ℕ) → is_before hi lo ≡ true → Step OfDevice filter_bytes s (Range lo hi n) reply after
-      → IsAnswered filter_bytes s (Range lo hi n) reply after
-  pub crossed_count :
-      (filter_bytes : FilterBytes) (s after : State) (reply : Reply) (lo hi : Bytes) → is_before hi lo ≡ true → Step OfDevice filter_bytes s (Count lo hi) reply after
+  pub count_of_no_block :
+      (filter_bytes : FilterBytes) (s after : State) (reply : Reply) (lo hi : Bytes) → seek_bound s lo hi ≡ 0 → Step OfDevice filter_bytes s (Count lo hi) reply after
       → IsAnswered filter_bytes s (Count lo hi) reply after
   pub range_of_no_pairs :
       (filter_bytes : FilterBytes) (s after : State) (reply : Reply) (lo hi : Bytes) → Step OfDevice filter_bytes s (Range lo hi 0) reply after

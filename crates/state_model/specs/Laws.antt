@@ -80,7 +80,7 @@ pub record ChoiceLaws : Type 0 where
       (filter_bytes : FilterBytes) (s : State) (job : Job) → IsSound filter_bytes s → s.job ≡ Some job
       → AreSomeOf job.inputs s.tables
 
--- An output that others follow has 1,024 data pages or more, and fewer without its last entry.
+-- An output that others follow has the data pages at which it is closed, or more, and fewer without its last entry.
 pub record OutputLaws : Type 0 where
   pub full : (entries : List Entry) → 1 ≤ length (split_output [] entries).1 → 1024 ≤ data_pages (split_output [] entries).0
   pub first : (entries front : List Entry) (last : Entry) → (split_output [] entries).0 ≡ front ++ (last ∷ []) → data_pages front < 1024

@@ -1,3 +1,8 @@
+pub use Rattle.entry_model.specs.Entries
+pub use Rattle.line_model.specs.Limits
+pub use Rattle.line_model.specs.Replies
+pub use Rattle.line_model.specs.Requests
+pub use Rattle.map_model.specs.SortedMap
 pub mod State
 pub mod View
 pub mod Taken
@@ -16,4 +21,5 @@ pub mod Laws
 pub mod SoundLaws
 pub mod Refusals
 pub mod FaultLaws
+pub mod CauseLaws
 pub mod ReadLaws

@@ -1,5 +1,5 @@
 -- Runs of the script that compute: memory lasts, the device holds, and each merge is done whole in its first merge slice, or
--- in slices of so many blocks.
+-- in merge slices of so many blocks.
 use Rattle.std.specs.Prelude.{ℕ, ◌-◌, ◌==◌, nat_lt, if◌then◌else◌, List, [], ◌∷◌, ◌++◌, length, Option, Some, None, Result, Ok, Err}
 use Rattle.entry_model.specs.Entries.{Entry}
 use Rattle.state_model.specs.State.{State, Job, without_job, last_epoch}
@@ -36,7 +36,7 @@ merged_by filter_bytes s (Some job) = installed_or_dropped s job (next_placed fi
 abbrev pub merged : FilterBytes → State → State
 merged filter_bytes s = merged_by filter_bytes s (job_of s.job (choose s.tables))
 
--- ---- a merge in slices
+-- ---- a merge in merge slices
 
 -- an output is written as it was placed, or the job is dropped where it has no room
 abbrev pub output_written : State → Job → Result (List Table) NoRoom → State
@@ -61,7 +61,7 @@ sliced filter_bytes blocks s = sliced_by filter_bytes blocks s (job_of s.job (ch
 
 -- ---- lines
 
--- a merge, or a slice of one, behind each put and del
+-- a whole merge, or a merge slice, behind each put and del
 abbrev pub tended_by : (State → State) → Request → State → State
 tended_by merge (Put key value) s = merge s
 tended_by merge (Del key) s = merge s
@@ -82,7 +82,7 @@ played_by filter_bytes merge s (request ∷ more) =
     let a = answer filter_bytes s request in
     reply_then a.0 (played_by filter_bytes merge (tended_by merge request a.1) more) a.1
 
--- with a whole merge behind each put and del, or with one slice of so many blocks
+-- with a whole merge behind each put and del, or with one merge slice of so many blocks
 abbrev pub played : FilterBytes → State → List Request → List Reply × State
 played filter_bytes s requests = played_by filter_bytes (merged filter_bytes) s requests
 

@@ -1,15 +1,15 @@
 -- Laws of a run that computes: it is one of those that the relation allows.
-use Rattle.std.specs.Prelude.{◌≡◌, ◌≤◌, ◌+◌, ℕ, Bool, true, List, ◌++◌, length, map, flat_map, None}
+use Rattle.std.specs.Prelude.{◌≡◌, ◌≢◌, ◌≤◌, ◌+◌, ℕ, Bool, true, false, List, [], ◌∷◌, ◌++◌, length, map, flat_map, None}
 use Rattle.map_model.specs.SortedMap.{Bytes}
 use Rattle.state_model.specs.State.{State}
 use Rattle.table_model.specs.Tables.{FilterBytes}
 use Rattle.state_model.specs.Causes.{Why}
-use Rattle.line_model.specs.Requests.{request_of}
-use Rattle.line_model.specs.Replies.{text_of}
+use Rattle.line_model.specs.Requests.{Request, Put, Del, request_of}
+use Rattle.line_model.specs.Replies.{Reply, text_of}
 use Rattle.state_model.specs.Tends.{Tend, Tended}
 use Rattle.state_model.specs.Steps.{answer}
 use Rattle.state_model.specs.Play.{merged, sliced, tended, played}
-use Rattle.state_model.specs.Script.{Ending, ToLast, Onward, turn_of_slice, Script, WentOn}
+use Rattle.state_model.specs.Script.{Ending, ToLast, Turn, Onward, turn_of, turn_of_slice, Between, EndsThere, Script, WentOn, LastAnswered, Answers}
 
 -- no cause for anything: memory lasts, the device holds, and nothing is damaged
 abbrev pub Never : Why → Type 0
@@ -23,7 +23,7 @@ AnyState said s = Unit {0}
 abbrev pub played_text : FilterBytes → State → List Bytes → Bytes
 played_text filter_bytes s lines = flat_map text_of (played filter_bytes s (map request_of lines)).0
 
--- A whole merge of a state without a job is one merge slice, which ends no script. Behind a line, and behind that slice, no job
+-- A whole merge of a state without a job is one merge slice, which ends no script. Behind a line, and behind that merge slice, no job
 -- runs. So lines that are played from such a state are a script. All of it is so without a cause, so under any.
 pub record PlayLaws : Type 0 where
   pub slice :
@@ -37,7 +37,7 @@ pub record PlayLaws : Type 0 where
       (filter_bytes : FilterBytes) (s : State) (said : ℕ) (lines : List Bytes) → s.job ≡ None
       → (ending : Ending) × Script Never filter_bytes AnyState said s lines (played_text filter_bytes s lines) ending
 
--- What a slice of one block or more computes is a merge slice that ends no script, also while a job runs.
+-- What is computed of a merge slice of one block or more is one that ends no script, also while a job runs.
 abbrev pub SlicesAreAllowed : Type 0
 SlicesAreAllowed =
     (filter_bytes : FilterBytes) (blocks : ℕ) (s : State) → 1 ≤ blocks
@@ -58,9 +58,44 @@ ScriptsGoOn =
     → Script (Allowed causes) filter_bytes (Answering states) (said + length text) after lines rest ending
     → Script (Allowed causes) filter_bytes (Answering states) said s (first ++ lines) (text ++ rest) ending
 
+-- Lines that were answered, the last with a reply that goes on, have gone on behind their merge slice, where it goes on too.
+abbrev pub AnswersGoOn : Type 0
+AnswersGoOn =
+    (causes : Why → Bool) (filter_bytes : FilterBytes) (states : ℕ → State → Bool) (said : ℕ) (s after next : State) (first : List Bytes)
+    (last text : Bytes) (reply : Reply) → LastAnswered (Allowed causes) filter_bytes (Answering states) said s first last text reply after
+    → turn_of reply ≡ Onward → Between (Allowed causes) filter_bytes (request_of last) after Onward next
+    → WentOn (Allowed causes) filter_bytes (Answering states) said s (first ++ (last ∷ [])) text next
+
+-- A script that ends before its last line, at a quit, a fault or damage, has answered some first lines, with all that it
+-- says, and ends at the last of these; what follows them is not looked at.
+pub record ScriptsThatEnd : Type 0 where
+  pub last :
+      (causes : Why → Bool) (filter_bytes : FilterBytes) (states : ℕ → State → Bool) (said : ℕ) (s : State) (lines : List Bytes) (text : Bytes)
+      (ending : Ending) → Script (Allowed causes) filter_bytes (Answering states) said s lines text ending → ending ≢ ToLast
+      → (first : List Bytes) × (last : Bytes) × (later : List Bytes) × (reply : Reply) × (after : State) × (lines ≡ first ++ (last ∷ later))
+      × LastAnswered (Allowed causes) filter_bytes (Answering states) said s first last text reply after
+      × EndsThere (Allowed causes) filter_bytes last reply after ending
+  pub answers :
+      (causes : Why → Bool) (filter_bytes : FilterBytes) (states : ℕ → State → Bool) (said : ℕ) (s : State) (lines : List Bytes) (text : Bytes)
+      (ending : Ending) → Script (Allowed causes) filter_bytes (Answering states) said s lines text ending → ending ≢ ToLast
+      → (done : List Bytes) × (later : List Bytes) × (after : State) × (lines ≡ done ++ later)
+      × Answers (Allowed causes) filter_bytes (Answering states) said s done text after
+
 -- A script to its last line has answered all lines.
 abbrev pub ScriptsToLast : Type 0
 ScriptsToLast =
     (causes : Why → Bool) (filter_bytes : FilterBytes) (states : ℕ → State → Bool) (said : ℕ) (s : State) (lines : List Bytes) (text : Bytes)
     → Script (Allowed causes) filter_bytes (Answering states) said s lines text ToLast
     → (after : State) × WentOn (Allowed causes) filter_bytes (Answering states) said s lines text after
+
+-- the requests behind which a merge slice comes
+abbrev pub has_slice : Request → Bool
+has_slice (Put key value) = true
+has_slice (Del key) = true
+has_slice request = false
+
+-- Behind the others nothing comes: the state stays, and the script goes on.
+abbrev pub OthersHaveNoSlice : Type 0
+OthersHaveNoSlice =
+    (causes : Why → Bool) (filter_bytes : FilterBytes) (request : Request) (s after : State) (turn : Turn) → has_slice request ≡ false
+    → Between (Allowed causes) filter_bytes request s turn after → (turn ≡ Onward) × (after ≡ s)

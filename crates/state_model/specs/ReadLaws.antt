@@ -1,5 +1,5 @@
 -- Laws of reads: which tables are searched, how many blocks are read, and what an estimate counts.
-use Rattle.std.specs.Prelude.{◌≡◌, ◌≤◌, ℕ, true, false, Option, Some, None, Ok}
+use Rattle.std.specs.Prelude.{◌≡◌, ◌≤◌, ℕ, true, false, [], Option, Some, None, Ok}
 use Rattle.std.specs.List.{AllByRecursion}
 use Rattle.byte_fields.specs.Spelling.{IsBytes}
 use Rattle.filter_api.specs.declared.settings.Settings.{Settings}
@@ -8,9 +8,9 @@ use Rattle.entry_model.specs.Newest.{lookup}
 use Rattle.map_model.specs.Slices.{is_before, is_between, seek, count}
 use Rattle.state_model.specs.State.{State}
 use Rattle.table_model.specs.Tables.{FilterBytes, Table}
-use Rattle.state_model.specs.View.{state_map}
+use Rattle.state_model.specs.View.{memory, state_map}
 use Rattle.state_model.specs.Changes.{compacted}
-use Rattle.state_model.specs.Bounds.{admits_range, is_searched, get_bound, is_passed, estimate, admitted}
+use Rattle.state_model.specs.Bounds.{admits_range, is_searched, get_bound, seek_bound, is_passed, estimate, admitted}
 use Rattle.state_model.specs.Sound.{IsSoundTable, IsSound}
 
 -- A sound table that has an entry of a key is searched for it, and none that has one from lo to hi denies these bounds.
@@ -33,6 +33,13 @@ pub record GetsAreBounded : Type 0 where
   pub behind_compaction :
       (filter_bytes : FilterBytes) (s after : State) (key : Bytes) → IsSound filter_bytes s
       → compacted filter_bytes s ≡ Ok after → get_bound after key ≤ 1
+
+-- The bounds allow no block without tables, nor for a get of what the memory has, nor for a seek between crossed bounds.
+pub record NothingIsRead : Type 0 where
+  pub get_without_tables : (s : State) (key : Bytes) → s.tables ≡ [] → get_bound s key ≡ 0
+  pub get_from_memory : (s : State) (key : Bytes) (value : Option Bytes) → lookup (memory s) key ≡ Some value → get_bound s key ≡ 0
+  pub seek_without_tables : (s : State) (lo hi : Bytes) → s.tables ≡ [] → seek_bound s lo hi ≡ 0
+  pub crossed_seek : (s : State) (lo hi : Bytes) → is_before hi lo ≡ true → seek_bound s lo hi ≡ 0
 
 -- A key that a closed seek steps over is not in the map: it is a deleted one.
 abbrev pub SteppedAreDeleted : Type 0

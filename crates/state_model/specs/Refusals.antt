@@ -28,7 +28,7 @@ is_refusal reply = false
 
 -- ---- limits
 
--- a key has 1 to 1,024 bytes
+-- a key has one byte or more, and at most so many
 abbrev pub KeyFits : Bytes → Type 0
 KeyFits key = (1 ≤ length key) × (length key ≤ max_key_bytes)
 
@@ -52,8 +52,8 @@ bounds_of (Count lo hi) = lo ∷ hi ∷ []
 bounds_of (Estimate lo hi) = lo ∷ hi ∷ []
 bounds_of request = []
 
--- The limits that a request may break, and the reply: a key, and then a value of more than 65,536 bytes; a bound of more
--- than 1,024 bytes, the lower one first. A bound may be empty.
+-- The limits that a request may break, and the reply: that of a key, and then that of a value; that of a bound, of the lower
+-- one first. A bound may be empty.
 pub data BreaksLimit (request : Request) : Reply → Type 0 where
   by_key : (key : Bytes) → key_of request ≡ Some key → KeyBreaks key → BreaksLimit request (LongKey (length key))
   by_value : (key value : Bytes) → request ≡ Put key value → KeyFits key → max_value_bytes < length value

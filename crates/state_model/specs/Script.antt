@@ -1,5 +1,5 @@
 -- What the lines are answered, one after the other, and what happens between them.
-use Rattle.std.specs.Prelude.{◌≡◌, ◌+◌, ℕ, List, [], ◌∷◌, ◌++◌, length}
+use Rattle.std.specs.Prelude.{◌≡◌, ◌⊎◌, ◌+◌, ℕ, List, [], ◌∷◌, ◌++◌, length}
 use Rattle.map_model.specs.SortedMap.{Bytes}
 use Rattle.state_model.specs.State.{State}
 use Rattle.table_model.specs.Tables.{FilterBytes}
@@ -74,11 +74,25 @@ WentOn Cause filter_bytes R said s (line ∷ more) text after =
     × Between Cause filter_bytes (request_of line) new Onward next
     × WentOn Cause filter_bytes R (said + length (text_of reply)) next more rest after
 
--- Nothing was answered yet; or some first lines went on, and the one behind them was answered, with any reply. This state
--- stands behind that reply: its merge slice is still to come.
+-- Some first lines went on, and the one behind them was answered, with any reply; this is the text of all these replies.
+-- This state stands behind the last of them: its merge slice is still to come. As it has been said, the state has R.
+pub record LastAnswered (Cause : Why → Type 0) (filter_bytes : FilterBytes) (R : ℕ → State → Type 0) (said : ℕ) (s : State) (first : List Bytes) (last text : Bytes) (reply : Reply) (after : State) : Type 0 where
+  pub early : Bytes
+  pub before : State
+  pub went : WentOn Cause filter_bytes R said s first early before
+  pub step : Step Cause filter_bytes before (request_of last) reply after
+  pub whole : text ≡ early ++ text_of reply
+  pub holds : AsSaid (turn_of reply) (R (said + length text) after)
+
+-- Nothing was answered yet, or some first lines were.
 pub data Answers (Cause : Why → Type 0) (filter_bytes : FilterBytes) (R : ℕ → State → Type 0) (said : ℕ) (s : State) : List Bytes → Bytes → State → Type 0 where
   nothing : Answers Cause filter_bytes R said s [] [] s
-  answered : (first : List Bytes) (last text : Bytes) (before after : State) (reply : Reply)
-      → WentOn Cause filter_bytes R said s first text before → Step Cause filter_bytes before (request_of last) reply after
-      → AsSaid (turn_of reply) (R (said + length text + length (text_of reply)) after)
-      → Answers Cause filter_bytes R said s (first ++ (last ∷ [])) (text ++ text_of reply) after
+  answered : (first : List Bytes) (last text : Bytes) (reply : Reply) (after : State)
+      → LastAnswered Cause filter_bytes R said s first last text reply after
+      → Answers Cause filter_bytes R said s (first ++ (last ∷ [])) text after
+
+-- The script ends behind a line that was answered so: by the reply, or by the merge slice behind it.
+abbrev pub EndsThere : (Why → Type 0) → FilterBytes → Bytes → Reply → State → Ending → Type 0
+EndsThere Cause filter_bytes last reply after ending =
+    (turn_of reply ≡ Over ending)
+    ⊎ ((turn_of reply ≡ Onward) × ((next : State) × Between Cause filter_bytes (request_of last) after (Over ending) next))

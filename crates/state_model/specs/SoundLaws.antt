@@ -5,7 +5,7 @@ use Rattle.filter_api.specs.declared.settings.Settings.{Settings}
 use Rattle.filter_api.specs.Ranges.{InRange}
 use Rattle.filter_model.specs.Keys.{IsKeyList}
 use Rattle.byte_fields.specs.Spelling.{IsBytes}
-use Rattle.key_base.specs.Limits.{log_bytes, max_device_pages, max_ratio, min_device_pages}
+use Rattle.key_base.specs.Limits.{first_table_page, log_bytes, max_device_pages, max_ratio, max_tables, min_device_pages}
 use Rattle.map_model.specs.SortedMap.{Bytes}
 use Rattle.entry_model.specs.Entries.{Entry, filled, IsEntry, keys_of}
 use Rattle.state_model.specs.State.{State, Job, new_state, without_job}
@@ -18,7 +18,7 @@ use Rattle.state_model.specs.Changes.{flushed, written, compacted}
 use Rattle.state_model.specs.Causes.{Why}
 use Rattle.line_model.specs.Requests.{Request, request_of, Put, Del, Get, Seek, Range, Count, Estimate, Explain}
 use Rattle.line_model.specs.Replies.{Reply, ManyTables}
-use Rattle.state_model.specs.Steps.{Step, answer}
+use Rattle.state_model.specs.Steps.{Step}
 use Rattle.state_model.specs.Play.{played}
 use Rattle.state_model.specs.Script.{Ending, Script, WentOn, Answers}
 use Rattle.state_model.specs.PlayLaws.{Never, AnyState}
@@ -151,16 +151,16 @@ pub record ScriptsKeepSound : Type 0 where
 
 -- ---- what is not sound, and what the keys of a table are
 
--- 1,025 tables, a log that fills its area, and a table at page 191 are of no sound state. A flush is refused by 1,024 tables
--- and by no fewer.
+-- More tables than the most, a log that fills its area, and a table before the first page of tables are of no sound state. A
+-- flush is refused by the most tables and by no fewer.
 pub record LimitsAreKept : Type 0 where
-  pub tables : (filter_bytes : FilterBytes) (s : State) → length s.tables ≡ 1025 → IsSound filter_bytes s → ⊥
-  pub log : (filter_bytes : FilterBytes) (s : State) → filled s.log ≡ log_bytes → IsSound filter_bytes s → ⊥
+  pub tables : (filter_bytes : FilterBytes) (s : State) → max_tables < length s.tables → IsSound filter_bytes s → ⊥
+  pub log : (filter_bytes : FilterBytes) (s : State) → log_bytes ≤ filled s.log → IsSound filter_bytes s → ⊥
   pub first_page :
-      (filter_bytes : FilterBytes) (s : State) (t : Table) (more : List Table) → s.tables ≡ t ∷ more → t.first_page ≡ 191
+      (filter_bytes : FilterBytes) (s : State) (before more : List Table) (t : Table) → s.tables ≡ before ++ (t ∷ more) → t.first_page < first_table_page
       → IsSound filter_bytes s → ⊥
-  pub flush_over : (filter_bytes : FilterBytes) (s : State) → length s.tables ≡ 1024 → memory s ≢ [] → flushed filter_bytes s ≡ Err ManyTables
-  pub flush_below : (filter_bytes : FilterBytes) (s : State) → length s.tables ≡ 1023 → flushed filter_bytes s ≡ Err ManyTables → ⊥
+  pub flush_over : (filter_bytes : FilterBytes) (s : State) → max_tables ≤ length s.tables → memory s ≢ [] → flushed filter_bytes s ≡ Err ManyTables
+  pub flush_below : (filter_bytes : FilterBytes) (s : State) → length s.tables < max_tables → flushed filter_bytes s ≡ Err ManyTables → ⊥
 
 -- The keys of a sound table are a list of keys, as filters are built of.
 abbrev pub KeysAreAList : Type 0
@@ -185,21 +185,22 @@ WorkedLowersSteps =
     (filter_bytes : FilterBytes) (s after : State) → Tend Ever filter_bytes s Worked after → (job : Job) × Runs s job
     × (steps_of after.tables after.job < steps_of s.tables (Some job))
 
--- No line leaves more.
+-- No line leaves more, whatever it is answered.
 abbrev pub LinesRaiseNoSteps : Type 0
 LinesRaiseNoSteps =
-    (filter_bytes : FilterBytes) (s : State) (request : Request)
-    → steps_of (answer filter_bytes s request).1.tables (answer filter_bytes s request).1.job ≤ steps_of s.tables s.job
+    (filter_bytes : FilterBytes) (s after : State) (request : Request) (reply : Reply) → Step Ever filter_bytes s request reply after
+    → steps_of after.tables after.job ≤ steps_of s.tables s.job
 
 -- a line, or a merge slice of the job that runs
 pub data Move : Type 0 where
   Line : (request : Request) → Move
   Slice : Move
 
--- From the one state these moves lead to the other: the lines are answered, and each merge slice is answered as worked.
+-- From the one state these moves lead to the other: the lines are answered, also by a fault, and each merge slice is
+-- answered as worked.
 abbrev pub LeadTo : FilterBytes → List Move → State → State → Type 0
 LeadTo filter_bytes [] s t = s ≡ t
-LeadTo filter_bytes (Line request ∷ more) s t = LeadTo filter_bytes more (answer filter_bytes s request).1 t
+LeadTo filter_bytes (Line request ∷ more) s t = (after : State) × (reply : Reply) × Step Ever filter_bytes s request reply after × LeadTo filter_bytes more after t
 LeadTo filter_bytes (Slice ∷ more) s t = (after : State) × (job : Job) × (s.job ≡ Some job) × Tend Ever filter_bytes s Worked after × LeadTo filter_bytes more after t
 
 abbrev pub slices_in : List Move → ℕ

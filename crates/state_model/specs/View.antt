@@ -1,7 +1,7 @@
 -- What a state says of a key, and the sorted map that it is.
 use Rattle.std.specs.Prelude.{List, [], ◌∷◌, ◌++◌, map, flat_map, reverse, Option, None}
 use Rattle.map_model.specs.SortedMap.{Bytes, Map}
-use Rattle.entry_model.specs.Entries.{Entry, map_of as map_of_entries, or_else}
+use Rattle.entry_model.specs.Entries.{Entry, map_of, or_else}
 use Rattle.entry_model.specs.Newest.{newest_entries, lookup}
 use Rattle.state_model.specs.State.{State}
 use Rattle.table_model.specs.Tables.{Table}
@@ -33,4 +33,4 @@ entries_of s = oldest_first s.tables ++ s.log
 
 -- the sorted map that the state is
 abbrev pub state_map : State → Map
-state_map s = map_of_entries (entries_of s)
+state_map s = map_of (entries_of s)

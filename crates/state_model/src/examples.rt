@@ -1,21 +1,23 @@
 //! The definitions, shown by examples. Each computes.
 ghost use Rattle.std.specs.Prelude.{◌≡◌, true, false, ⊤, [], ◌∷◌, ◌++◌, map, replicate, Some, None, codes};
 ghost use Rattle.byte_fields.specs.declared.parts.Part.TheVariants.{Block};
-ghost use Rattle.byte_fields.specs.declared.parts.Damage.TheVariants.{Sum};
+ghost use Rattle.byte_fields.specs.declared.parts.Damage.TheVariants.{Shape, Sum};
 ghost use Rattle.entry_model.specs.Entries.{put_entry};
 ghost use Rattle.map_model.specs.SortedMap.{get};
-ghost use Rattle.state_model.specs.Script.{Answers, WentOn};
+ghost use Rattle.state_model.specs.PlayLaws.{played_text};
+ghost use Rattle.state_model.specs.Script.{Answers, AtDamage, AtDevice, AtQuit, Onward, Over, Script, WentOn, turn_of, turn_of_slice};
 ghost use Rattle.state_model.specs.Sound.{IsLeft};
+ghost use Rattle.state_model.specs.SoundLaws.{SpeaksBytes};
 ghost use Rattle.state_model.specs.Steps.{Reads, TakesMemory, Writes, said_before};
-ghost use Rattle.state_model.specs.Tends.{started, with_job};
+ghost use Rattle.state_model.specs.Tends.{Idle, MayWrite, Refused, Tend, started, with_job};
 ghost use Rattle.state_model.specs.View.{state_map};
 ghost use Rattle.line_model.specs.Limits.{key_limit, bound_limit};
 ghost use Rattle.state_model.specs.Merges.{choose, is_deepest, level_limit};
 ghost use Rattle.state_model.specs.Bounds.{get_bound, seek_bound};
 ghost use Rattle.state_model.specs.Play.{played, played_in_slices};
-ghost use Rattle.line_model.specs.Replies.{Done, Value, Missing, At, Pairs, End, Counted, About, Explained, Bye, Full, LongKey, ManyTables, LastEpoch, Device, Damaged, at_words, sum_word, text_of};
+ghost use Rattle.line_model.specs.Replies.{Done, Value, Missing, At, Pairs, End, Counted, About, Explained, Bye, Full, LongKey, ManyTables, LastEpoch, Memory, Device, Damaged, at_words, sum_word, text_of};
 ghost use Rattle.line_model.specs.Requests.{Put, Del, Get, Seek, Range, Count, Estimate, Explain, Flush, Compact, Quit, Bad, request_of};
-ghost use Rattle.state_model.specs.Examples.{small_store, one_byte, key, put_one, four_tables, three_tables, aa1_and_ab1, tombstone_over_a_value, two_values, table_at, store_with, pages_of_plan, place_of};
+ghost use Rattle.state_model.specs.Examples.{all_read, all_written, cramped, small_store, one_byte, key, put_one, four_tables, three_tables, aa1_and_ab1, tombstone_over_a_value, two_values, table_at, store_with, pages_of_plan, place_of};
 
 /// Tables that are flushed, merged and compacted.
 #[tactic(auto, unfolding(block_model::specs::Pages::pages_for, block_model::specs::Pages::block_length, block_model::specs::Pages::block_pages, block_model::specs::Pages::blocks_of, block_model::specs::Pages::data_pages, block_model::specs::Pages::index_length, entry_model::specs::Entries::filled, entry_model::specs::Entries::gap, crate::specs::State::last_epoch))]
@@ -48,7 +50,7 @@ pub fn levels_and_gaps()
     ensures limits_of_the_levels { map level_limit (1 ∷ 2 ∷ 3 ∷ 4 ∷ 5 ∷ []) ≡ 256 ∷ 2048 ∷ 16384 ∷ 131072 ∷ 1048576 ∷ [] }
 {}
 
-/// A merge in slices of two blocks: two that read, one that writes, one that installs.
+/// A merge in merge slices of two blocks: two that read, one that writes, one that installs.
 #[tactic(auto, unfolding(block_model::specs::Pages::pages_for, block_model::specs::Pages::block_length, block_model::specs::Pages::block_pages, block_model::specs::Pages::blocks_of, block_model::specs::Pages::data_pages, block_model::specs::Pages::index_length, entry_model::specs::Entries::filled, entry_model::specs::Entries::gap, crate::specs::State::last_epoch))]
 pub fn merges_in_slices()
     ensures three_are_too_few { map place_of (played_in_slices one_byte 2 small_store (four_tables ++ replicate 3 (put_one 0x65))).1.tables ≡ (0 ∷ 201 ∷ 3 ∷ 1 ∷ 1 ∷ []) ∷ (0 ∷ 198 ∷ 3 ∷ 1 ∷ 1 ∷ []) ∷ (0 ∷ 195 ∷ 3 ∷ 1 ∷ 1 ∷ []) ∷ (0 ∷ 192 ∷ 3 ∷ 1 ∷ 1 ∷ []) ∷ [] }
@@ -99,7 +101,7 @@ pub fn where_filters_admit()
     ensures a_compaction_of_a_table { Reads (played one_byte small_store aa1_and_ab1).1 Compact }
 {}
 
-/// What writes, and what takes memory.
+/// Which lines write, and which take memory.
 #[tactic(auto, unfolding(block_model::specs::Pages::pages_for, block_model::specs::Pages::block_length, block_model::specs::Pages::block_pages, block_model::specs::Pages::blocks_of, block_model::specs::Pages::data_pages, block_model::specs::Pages::index_length, entry_model::specs::Entries::filled, entry_model::specs::Entries::gap, crate::specs::State::last_epoch))]
 pub fn where_something_is_written()
     ensures a_put { Writes one_byte small_store (put_one 0x61) }
@@ -107,6 +109,29 @@ pub fn where_something_is_written()
     ensures a_compaction { Writes one_byte (played one_byte small_store (put_one 0x61 ∷ [])).1 Compact }
     ensures not_one_at_the_last_epoch { Writes one_byte (record small_store { epoch = 18446744073709551615; log = put_entry (key 0x61) (1 ∷ []) ∷ [] }) Compact → ⊥ }
     ensures which_takes_no_memory { TakesMemory (record small_store { epoch = 18446744073709551615; log = put_entry (key 0x61) (1 ∷ []) ∷ [] }) Compact → ⊥ }
+    ensures a_compaction_of_an_entry_takes_memory { TakesMemory (played one_byte small_store (put_one 0x61 ∷ [])).1 Compact }
+    ensures so_does_a_put { TakesMemory small_store (put_one 0x61) }
+{}
+
+/// What a merge slice writes, and how it is refused. A table of one entry takes three pages.
+#[tactic(auto, unfolding(block_model::specs::Pages::pages_for, block_model::specs::Pages::block_length, block_model::specs::Pages::block_pages, block_model::specs::Pages::blocks_of, block_model::specs::Pages::data_pages, block_model::specs::Pages::index_length, entry_model::specs::Entries::filled, entry_model::specs::Entries::gap, crate::specs::State::last_epoch))]
+pub fn what_a_merge_slice_writes()
+    ensures an_output_that_has_room { MayWrite one_byte (played one_byte small_store four_tables).1 (all_read (played one_byte small_store four_tables).1) }
+    ensures none_without_room { MayWrite one_byte cramped (all_read cramped) → ⊥ }
+    ensures nor_an_install_at_the_last_epoch { MayWrite one_byte (record small_store { epoch = 18446744073709551615; tables = (played one_byte small_store four_tables).1.tables }) (all_written (played one_byte small_store four_tables).1) → ⊥ }
+    ensures need_and_gap_are_told { Tend (λ why. ⊥) one_byte cramped (Refused (Full 3 2)) cramped }
+{}
+
+/// What is no byte string.
+pub fn what_is_not_of_bytes()
+    ensures a_key { SpeaksBytes (Get (256 ∷ [])) → ⊥ }
+    ensures a_bound { SpeaksBytes (Seek [] (Some (256 ∷ []))) → ⊥ }
+    ensures a_lower_bound { SpeaksBytes (Seek (256 ∷ []) None) → ⊥ }
+    ensures a_lower_bound_of_two { SpeaksBytes (Seek (256 ∷ []) (Some [])) → ⊥ }
+    ensures a_bound_of_a_range { SpeaksBytes (Range [] (256 ∷ []) 1) → ⊥ }
+    ensures a_bound_of_a_count { SpeaksBytes (Count (256 ∷ []) []) → ⊥ }
+    ensures a_bound_of_an_estimate { SpeaksBytes (Estimate [] (256 ∷ [])) → ⊥ }
+    ensures an_explained_key { SpeaksBytes (Explain (256 ∷ [])) → ⊥ }
 {}
 
 /// Lines that were answered, the last with a reply that ends a script.
@@ -115,4 +140,26 @@ pub fn lines_that_were_answered()
     ensures a_put_goes_on { WentOn (λ why. ⊥) one_byte (λ said s. ⊤) 0 small_store (codes "put 61 62" ∷ []) (codes "ok" ++ 10 ∷ []) (played one_byte small_store (Put (key 0x61) (0x62 ∷ []) ∷ [])).1 }
     ensures and_a_quit_is_answered { Answers (λ why. ⊥) one_byte (λ said s. ⊤) 0 small_store (codes "put 61 62" ∷ codes "quit" ∷ []) (codes "ok" ++ 10 ∷ codes "bye" ++ 10 ∷ []) (played one_byte small_store (Put (key 0x61) (0x62 ∷ []) ∷ [])).1 }
     ensures a_fault_answers_in_any_state { Answers (λ why. ⊤) one_byte (λ said s. ⊥) 0 (played one_byte small_store two_values).1 (codes "get 61" ∷ []) (codes "device" ++ 10 ∷ []) (played one_byte small_store two_values).1 }
+{}
+
+/// A quit is said in a state that has R, as any reply that is no fault.
+#[tactic(auto, unfolding(block_model::specs::Pages::pages_for, block_model::specs::Pages::block_length, block_model::specs::Pages::block_pages, block_model::specs::Pages::blocks_of, block_model::specs::Pages::data_pages, block_model::specs::Pages::index_length, entry_model::specs::Entries::filled, entry_model::specs::Entries::gap, crate::specs::State::last_epoch, hex::specs::Hex::decode_pairs))]
+pub fn what_a_quit_is_said_in()
+    ensures no_answer_where_no_state_has_it { Answers (λ why. ⊤) one_byte (λ said s. ⊥) 0 small_store (codes "quit" ∷ []) (codes "bye" ++ 10 ∷ []) small_store → ⊥ }
+    ensures and_no_script { Script (λ why. ⊤) one_byte (λ said s. ⊥) 0 small_store (codes "quit" ∷ []) (codes "bye" ++ 10 ∷ []) AtQuit → ⊥ }
+{}
+
+/// The text of lines that are played.
+#[tactic(auto)]
+pub fn played_texts()
+    ensures none_behind_quit { played_text one_byte small_store (codes "flush" ∷ codes "quit" ∷ codes "flush" ∷ []) ≡ codes "ok" ++ 10 ∷ codes "bye" ++ 10 ∷ [] }
+    ensures of_bad_lines { played_text one_byte small_store (codes "flash" ∷ codes "get 6" ∷ []) ≡ codes "bad 2" ++ 10 ∷ codes "bad 4" ++ 10 ∷ [] }
+{}
+
+/// The replies behind which a script ends.
+#[tactic(auto)]
+pub fn last_replies()
+    ensures of_lines { map (λ reply. turn_of reply) (Done ∷ Memory ∷ Bye ∷ Device ∷ Damaged (Shape Block 3 1) ∷ Pairs [] Device ∷ Pairs [] (Damaged (Shape Block 3 1)) ∷ [])
+        ≡ Onward ∷ Onward ∷ Over AtQuit ∷ Over AtDevice ∷ Over AtDamage ∷ Over AtDevice ∷ Over AtDamage ∷ [] }
+    ensures of_merge_slices { map (λ tended. turn_of_slice tended) (Idle ∷ Refused Memory ∷ Refused Device ∷ []) ≡ Onward ∷ Onward ∷ Over AtDevice ∷ [] }
 {}

@@ -13,25 +13,15 @@
 #![tactic(auto)]
 
 pub mod examples;
-mod faults;
 mod laws;
-mod playing;
-mod reads;
-mod refusals;
-mod soundness;
 
-pub use faults::{
-    device_is_kept, faults_are_met, faults_have_causes, no_job_is_left, slices_read_blocks,
-    slices_write, steps_are_answers,
-};
-pub use laws::{change_laws, choice_laws, install_laws, merge_laws, output_laws, view_laws};
-pub use playing::{
-    last_replies, play_laws, played_texts, scripts_go_on, scripts_to_last, slices_are_allowed,
-};
-pub use reads::{estimate_is_enough, gets_are_bounded, held_is_searched, stepped_are_deleted};
-pub use refusals::refusal_laws;
-pub use soundness::{
-    any_cause, changes_keep_sound, compaction_keeps_sound, jobs_end, jobs_keep_sound,
-    keys_are_a_list, limits_are_kept, lines_keep_sound, new_is_sound, places_are_free,
-    scripts_keep_sound, slices_keep_sound,
+pub use laws::{
+    answers_go_on, any_cause, causes_have_replies, change_laws, changes_keep_sound, choice_laws,
+    compaction_keeps_sound, device_is_kept, estimate_is_enough, faults_are_met, faults_have_causes,
+    gets_are_bounded, held_is_searched, install_laws, jobs_end, jobs_keep_sound, keys_are_a_list,
+    limits_are_kept, lines_keep_sound, merge_laws, new_is_sound, no_job_is_left, nothing_is_read,
+    others_have_no_slice, output_laws, places_are_free, play_laws, refusal_laws,
+    replies_have_causes, scripts_go_on, scripts_keep_sound, scripts_that_end, scripts_to_last,
+    slices_are_allowed, slices_have_reasons, slices_have_replies, slices_keep_sound,
+    slices_read_blocks, slices_write, stepped_are_deleted, steps_are_answers, view_laws,
 };

@@ -1,4 +1,4 @@
-use Rattle.image_model.proofs.Opening.{ranges_at_the_body, rows_come_first, no_store_has_no_state, no_store_has_none, one_damage, state_has_none}
+use Rattle.image_model.proofs.Opening.{log_at_its_page, ranges_at_the_body, rows_come_first, no_store_has_no_state, no_store_has_none, one_damage, state_has_none}
 use Rattle.image_model.proofs.laws.opening_finds_one_damage.Goals as goal
 
 pub returns-clause-one : goal.returns-clause-one
@@ -18,3 +18,6 @@ returns-clause-ranges c = ranges_at_the_body
 
 pub returns-clause-rows : goal.returns-clause-rows
 returns-clause-rows c = rows_come_first
+
+pub returns-clause-log : goal.returns-clause-log
+returns-clause-log c = log_at_its_page

@@ -20,8 +20,22 @@ returns-clause-a_put_goes_on c = (Done, [], (played one_byte small_store (Put (k
 
 pub returns-clause-and_a_quit_is_answered : goal.returns-clause-and_a_quit_is_answered
 unfolding pages_for block_length block_pages blocks_of data_pages index_length filled gap last_epoch decode_pairs
-returns-clause-and_a_quit_is_answered c = answered (codes "put 61 62" ∷ []) (codes "quit") (codes "ok" ++ 10 ∷ []) (played one_byte small_store (Put (key 0x61) (0x62 ∷ []) ∷ [])).1 (played one_byte small_store (Put (key 0x61) (0x62 ∷ []) ∷ [])).1 Bye (Done, [], (played one_byte small_store (Put (key 0x61) (0x62 ∷ []) ∷ [])).1, (played one_byte small_store (Put (key 0x61) (0x62 ∷ []) ∷ [])).1, refl, answers, refl, tt, (Idle, idle refl refl, refl), (refl, refl)) answers tt
+returns-clause-and_a_quit_is_answered c = answered (codes "put 61 62" ∷ []) (codes "quit") (codes "ok" ++ 10 ∷ codes "bye" ++ 10 ∷ []) Bye (played one_byte small_store (Put (key 0x61) (0x62 ∷ []) ∷ [])).1 (record {
+  early = codes "ok" ++ 10 ∷ [];
+  before = (played one_byte small_store (Put (key 0x61) (0x62 ∷ []) ∷ [])).1;
+  went = (Done, [], (played one_byte small_store (Put (key 0x61) (0x62 ∷ []) ∷ [])).1, (played one_byte small_store (Put (key 0x61) (0x62 ∷ []) ∷ [])).1, refl, answers, refl, tt, (Idle, idle refl refl, refl), (refl, refl));
+  step = answers;
+  whole = refl;
+  holds = tt;
+})
 
 pub returns-clause-a_fault_answers_in_any_state : goal.returns-clause-a_fault_answers_in_any_state
 unfolding pages_for block_length block_pages blocks_of data_pages index_length filled gap last_epoch decode_pairs
-returns-clause-a_fault_answers_in_any_state c = answered [] (codes "get 61") [] (played one_byte small_store two_values).1 (played one_byte small_store two_values).1 Device (refl, refl) (let one : get_bound (played one_byte small_store two_values).1 (key 0x61) ≡ 1 = refl in read_failed Device refl (omega (arith, one)) tt refl) tt
+returns-clause-a_fault_answers_in_any_state c = answered [] (codes "get 61") (codes "device" ++ 10 ∷ []) Device (played one_byte small_store two_values).1 (record {
+  early = [];
+  before = (played one_byte small_store two_values).1;
+  went = (refl, refl);
+  step = let one : get_bound (played one_byte small_store two_values).1 (key 0x61) ≡ 1 = refl in read_failed Device refl (omega (arith, one)) tt refl;
+  whole = refl;
+  holds = tt;
+})

@@ -1,6 +1,0 @@
-use Rattle.state_model.proofs.FaultsMet.{refused_slice_left}
-use Rattle.state_model.proofs.EmptyStores.{compaction_left}
-use Rattle.state_model.proofs.faults.no_job_is_left.Goals as goal
-
-pub returns : goal.returns
-returns c = record { compaction = compaction_left; slice = refused_slice_left }

@@ -1,5 +1,0 @@
-use Rattle.state_model.proofs.Unanswered.{reads_blocks}
-use Rattle.state_model.proofs.faults.slices_read_blocks.Goals as goal
-
-pub returns : goal.returns
-returns c = reads_blocks

@@ -1,5 +1,0 @@
-use Rattle.state_model.proofs.Stepped.{stepped_deleted}
-use Rattle.state_model.proofs.reads.stepped_are_deleted.Goals as goal
-
-pub returns : goal.returns
-returns c = stepped_deleted

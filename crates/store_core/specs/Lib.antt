@@ -1,0 +1,14 @@
+pub use Rattle.disk_trait.specs.World
+pub use Rattle.image_model.specs.Stands
+pub use Rattle.state_model.specs.Bounds
+pub use Rattle.state_model.specs.State
+pub use Rattle.state_model.specs.Steps
+pub use Rattle.state_model.specs.View
+pub use Rattle.table_model.specs.Tables
+pub mod Faults
+pub mod Kept
+pub mod Tied
+pub mod Answers
+pub mod Getting
+pub mod Ends
+pub mod Formatting

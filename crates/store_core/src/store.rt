@@ -1,0 +1,46 @@
+//! The store in memory.
+ghost use Rattle.std.specs.Prelude.{◌≡◌};
+
+use filter_api::RangeFilter;
+use gate_log::Log;
+use manifest::Version;
+use mem_table::MemTable;
+use std::marker::Model;
+use table_file::Table;
+
+/// The bytes of the largest block: 17 pages.
+pub(crate) const BLOCK_BYTES: usize = 69_632;
+
+/// A store over a device: its version, its tables, its log, and the newest entry of each key in the log.
+#[derive(Drop)]
+pub struct Store<F: RangeFilter> {
+    pub(crate) stopped: bool,
+    pub(crate) version: Version,
+    // one for each row of the version, in their order
+    pub(crate) tables: Vec<Table<F>>,
+    pub(crate) log: Log,
+    pub(crate) memory: MemTable,
+    // room for the largest block, in which records are built too
+    pub(crate) buffer: Vec<u8>,
+}
+
+impl<F: RangeFilter> Model for Store<F> {
+    ghost use Rattle.std.specs.Prelude.{◌≡◌, vec_len};
+    ghost use Rattle.store_core.specs.Kept.{IsWhole, Kept};
+
+    ghost Value = { Kept };
+
+    ghost view = { λ s. record { stopped = s.stopped; manifest = s.version; tables = s.tables.items; log = s.log; memory = s.memory; buffer = s.buffer.items } };
+
+    ghost invariant = { λ s. IsWhole (record { stopped = s.stopped; manifest = s.version; tables = s.tables.items; log = s.log; memory = s.memory; buffer = s.buffer.items })
+        × (vec_len s.buffer ≡ 69632) };
+}
+
+impl<F: RangeFilter> Store<F> {
+    /// Whether a write or a sync has failed. Then every other call answers `Stopped`, until the store is opened again.
+    pub fn is_stopped(&self) -> bool
+        ensures { result ≡ self.now.stopped }
+    {
+        self.stopped
+    }
+}

@@ -1,0 +1,5 @@
+//! Tests of the store over a disk in memory and the plain filter.
+#![tactic(auto)]
+
+#[cfg(test)]
+mod tests;
