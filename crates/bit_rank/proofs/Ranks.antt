@@ -1,32 +1,71 @@
 -- Ranks by words and blocks.
-use Rattle.std.proofs.Common.{◌≡◌, ℕ, ◌+◌, ◌*◌, ◌/◌, ◌%◌, ◌^◌, ◌<◌, ◌≤◌, Bool, List, length, get_or, take, slice_range, ap, ◌∙◌, arith}
+use Rattle.std.proofs.Common.{◌≡◌, ℕ, ◌+◌, ◌*◌, ◌/◌, ◌%◌, ◌^◌, ◌<◌, ◌≤◌, Bool, List, length, get_or, take, drop, cond, ◌==◌, count_by, slice_range, ap, sym, ◌∙◌, arith, lit<, inl, inr, le_refl}
 use Rattle.std.specs.Int.RustNames.{count_ones}
 use Rattle.std.specs.List.{sum_by}
-use Rattle.std.proofs.lemmas.List.{get_or_read}
+use Rattle.std.proofs.Math.Nat.{mod-eq_of_lt}
+use Rattle.std.proofs.lemmas.Bool.{cases_eq, eq-eqb, ne_eqb}
+use Rattle.std.proofs.lemmas.List.{get_or_read, take_all}
 use Rattle.std.proofs.lemmas.List.FromFn.{get_or-map-range_with_len, length-map-range_with_len}
 use Rattle.bit_words.specs.Counts.{rank_of}
 use Rattle.bit_words.specs.Packed.{packed}
-use Rattle.bit_words.proofs.Counting.{rank-add, ones_range, ones_in_words, ones_in_word}
+use Rattle.bit_words.proofs.Counting.{rank-add, ones_range, ones_in_words, ones_in_word, words_cover}
+use Rattle.bit_words.proofs.Packing.{packed-lt}
 use Rattle.bit_rank.specs.Blocks.{block_ranks}
 
--- a kept count, the words after it, and the part of a word
+-- all of a word
+ones_of_word : (bits : List Bool) (words : List ℕ) (k : ℕ) → words ≡ packed 64 bits → count_ones (get_or words k 0) ≡ rank_of (drop (64 * k) bits) 64
+ones_of_word bits words k held =
+    let fits : get_or words k 0 < 2 ^ 64 = rw held (packed-lt 64 bits k (lit< tt)) in
+    ap count_ones (sym (mod-eq_of_lt fits)) ∙ ones_in_word bits words k 64 held (le_refl 64)
+
+-- the set bits before the word of place i, by those before its block and the block's first word
+first_word : (bits : List Bool) (words : List ℕ) (i : ℕ) → words ≡ packed 64 bits
+    → rank_of bits (128 * (i / 128)) + cond (i / 64 % 2 == 1) (count_ones (get_or words (2 * (i / 128)) 0)) 0 ≡ rank_of bits (64 * (i / 64))
+first_word bits words i held = elim (cases_eq (i / 64 % 2) 1) [
+  | inl odd ↦
+      let first : 64 * (2 * (i / 128)) ≡ 128 * (i / 128) = omega arith in
+      let here : 64 * (2 * (i / 128)) + 64 ≡ 64 * (i / 64) = omega (arith, odd) in
+      omega (
+        arith,
+        ap (λ (t : Bool). cond t (count_ones (get_or words (2 * (i / 128)) 0)) 0) (eq-eqb _ _ odd),
+        ones_of_word bits words (2 * (i / 128)) held,
+        rank-add bits (64 * (2 * (i / 128))) 64,
+        ap (rank_of bits) first,
+        ap (rank_of bits) here,
+      )
+  | inr even ↦
+      let here : 128 * (i / 128) ≡ 64 * (i / 64) = omega (arith, even) in
+      omega (arith, ap (λ (t : Bool). cond t (count_ones (get_or words (2 * (i / 128)) 0)) 0) (ne_eqb _ _ even), ap (rank_of bits) here)
+]
+
+-- a kept count, the word of the block before that of the place, and the part of a word
 pub rank_parts : (bits : List Bool) (words : List ℕ) (i : ℕ) → words ≡ packed 64 bits
-    → rank_of bits (512 * (i / 512)) + sum_by count_ones (slice_range words (8 * (i / 512)) (i / 64))
+    → rank_of bits (128 * (i / 128)) + cond (i / 64 % 2 == 1) (count_ones (get_or words (2 * (i / 128)) 0)) 0
     + count_ones (get_or words (i / 64) 0 % 2 ^ (i % 64)) ≡ rank_of bits i
 rank_parts bits words i held =
-    let block : 64 * (8 * (i / 512)) ≡ 512 * (i / 512) = omega arith in
     let part : 64 * (i / 64) + i % 64 ≡ i = omega arith in
-    let ordered : 8 * (i / 512) ≤ i / 64 = omega arith in
     let within : i % 64 ≤ 64 = omega arith in
     omega (
       arith,
-      ap (rank_of bits) block,
-      ones_in_words bits words (8 * (i / 512)) held,
-      ones_range words (8 * (i / 512)) (i / 64) ordered,
-      ones_in_words bits words (i / 64) held,
+      first_word bits words i held,
       ones_in_word bits words (i / 64) (i % 64) held within,
       rank-add bits (64 * (i / 64)) (i % 64),
       ap (rank_of bits) part,
+    )
+
+-- a kept count and all words after it
+pub ones_behind : (bits : List Bool) (words : List ℕ) (i : ℕ) → words ≡ packed 64 bits → 2 * (i / 128) ≤ length words
+    → rank_of bits (128 * (i / 128)) + sum_by count_ones (slice_range words (2 * (i / 128)) (length words)) ≡ count_by (λ (bit : Bool). bit) bits
+ones_behind bits words i held ordered =
+    let first : 64 * (2 * (i / 128)) ≡ 128 * (i / 128) = omega arith in
+    let cover : length bits ≤ 64 * length words = words_cover bits words (length bits) held (le_refl (length bits)) in
+    omega (
+      arith,
+      ap (rank_of bits) first,
+      ones_in_words bits words (2 * (i / 128)) held,
+      ones_range words (2 * (i / 128)) (length words) ordered,
+      ones_in_words bits words (length words) held,
+      ap (count_by (λ (bit : Bool). bit)) (take_all (64 * length words) bits cover),
     )
 
 pub length-block_ranks : (size : ℕ) (bits : List Bool) → length (block_ranks size bits) ≡ length bits / size + 1
@@ -38,17 +77,17 @@ unfolding block_ranks
 get_or-block_ranks size bits k h = get_or-map-range_with_len (λ k. rank_of bits (size * k)) 0 (length bits / size + 1) k k 0 h (omega arith)
 
 -- what a read of the counts gives
-pub kept_count : (bits : List Bool) (counts : List ℕ) (i x : ℕ) → counts ≡ block_ranks 512 bits → i ≤ length bits
-    → x ≡ get_or counts (i / 512) x → x ≡ rank_of bits (512 * (i / 512))
+pub kept_count : (bits : List Bool) (counts : List ℕ) (i x : ℕ) → counts ≡ block_ranks 128 bits → i ≤ length bits
+    → x ≡ get_or counts (i / 128) x → x ≡ rank_of bits (128 * (i / 128))
 kept_count bits counts i x held within read =
-    let place : i / 512 < length bits / 512 + 1 = omega arith in
-    get_or_read counts (i / 512) x (omega (arith, ap length held, length-block_ranks 512 bits)) read 0
-    ∙ ap (λ (ns : List ℕ). get_or ns (i / 512) 0) held ∙ get_or-block_ranks 512 bits (i / 512) place
+    let place : i / 128 < length bits / 128 + 1 = omega arith in
+    get_or_read counts (i / 128) x (omega (arith, ap length held, length-block_ranks 128 bits)) read 0
+    ∙ ap (λ (ns : List ℕ). get_or ns (i / 128) 0) held ∙ get_or-block_ranks 128 bits (i / 128) place
 
 -- one more block
-pub block_added : (bits : List Bool) (words : List ℕ) (k count block : ℕ) → words ≡ packed 64 bits → count ≡ rank_of bits (512 * k)
-    → sum_by count_ones (take (8 * k) words) + block ≡ sum_by count_ones (take (8 * k + 8) words) → count + block ≡ rank_of bits (512 * (k + 1))
+pub block_added : (bits : List Bool) (words : List ℕ) (k count block : ℕ) → words ≡ packed 64 bits → count ≡ rank_of bits (128 * k)
+    → sum_by count_ones (take (2 * k) words) + block ≡ sum_by count_ones (take (2 * k + 2) words) → count + block ≡ rank_of bits (128 * (k + 1))
 block_added bits words k count block held counted added =
-    let here : 64 * (8 * k) ≡ 512 * k = omega arith in
-    let next : 64 * (8 * k + 8) ≡ 512 * (k + 1) = omega arith in
-    omega (arith, ones_in_words bits words (8 * k) held, ones_in_words bits words (8 * k + 8) held, ap (rank_of bits) here, ap (rank_of bits) next)
+    let here : 64 * (2 * k) ≡ 128 * k = omega arith in
+    let next : 64 * (2 * k + 2) ≡ 128 * (k + 1) = omega arith in
+    omega (arith, ones_in_words bits words (2 * k) held, ones_in_words bits words (2 * k + 2) held, ap (rank_of bits) here, ap (rank_of bits) next)

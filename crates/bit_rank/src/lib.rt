@@ -1,7 +1,7 @@
 //! How many bits are set before a place.
 //!
-//! A [`Ranked`] keeps, beside the bits, a count at every 512 of them: one word more for eight. `rank` reads one kept
-//! count and at most eight words.
+//! A [`Ranked`] keeps, beside the bits, a count of four bytes at every 128 of them: half a word more for two. `rank` reads
+//! one kept count and two words, and `bit_and_rank` says of the same words whether the place's own bit is set.
 //!
 //! Do not use it for bits that still grow: the counts are made once, in time of the number of bits. For one count of
 //! all bits take `lane_scan::ones`.
@@ -10,6 +10,7 @@
 //! let ranked = Ranked::new(alloc, Bits::from_bytes(alloc, &[0xB9, 0x00], 9)?)?;
 //! ranked.rank(4)      // 2
 //! ranked.rank(9)      // 5
+//! ranked.bit_and_rank(4)      // (true, 2)
 //! ```
 #![tactic(auto)]
 

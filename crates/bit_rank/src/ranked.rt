@@ -1,5 +1,5 @@
 //! The bits with their counts.
-ghost use Rattle.std.specs.Prelude.{◌≡◌, ◌≤◌, ◌<◌, ◌+◌, ◌*◌, ◌%◌, ◌/◌, ◌^◌, length, take, slice_index, count_by, count_ones, min, IfOk};
+ghost use Rattle.std.specs.Prelude.{◌≡◌, ◌≤◌, ◌<◌, ◌+◌, ◌*◌, ◌%◌, ◌/◌, ◌==◌, cond, false, length, take, slice_index_or, count_by, count_ones, IfOk};
 ghost use Rattle.std.specs.List.{sum_by};
 ghost use Rattle.bit_words.specs.Packed.{packed};
 
@@ -9,16 +9,19 @@ use std::alloc::{AllocError, Allocator};
 use std::marker::Model;
 
 // How many words make a block, before which a count is kept.
-const BLOCK_WORDS: usize = 8;
+const BLOCK_WORDS: usize = 2;
 
 // How many bits make a block.
-const BLOCK_BITS: usize = 512;
+const BLOCK_BITS: usize = 128;
+
+// The most bits: a count is kept in four bytes, so that more of them stand in the processor's caches.
+const MAX_BITS: usize = 0xFFFF_FFFF;
 
 /// A list of truth values that counts its set bits before any place.
 #[derive(Drop)]
 pub struct Ranked<A: Allocator> {
     bits: Bits<A>,
-    counts: Vec<u64, A>,
+    counts: Vec<u32, A>,
 }
 
 impl<A: Allocator> Model for Ranked<A> {
@@ -29,19 +32,23 @@ impl<A: Allocator> Model for Ranked<A> {
 
     ghost view = { λ r. r.bits };
 
-    ghost invariant = { λ r. r.counts.items ≡ block_ranks 512 r.bits };
+    ghost invariant = { λ r. r.counts.items ≡ block_ranks 128 r.bits };
 }
 
 impl<A: Allocator> Ranked<A> {
-    /// Counts the set bits before each block. Takes one block of memory from `alloc`.
+    /// Counts the set bits before each block. Takes one block of memory from `alloc`, and fails where that is refused or
+    /// there are 2^32 bits or more.
     pub fn new(alloc: A, bits: Bits<A>) -> Result<Ranked<A>, AllocError>
         ensures { IfOk result (λ ranked. ranked ≡ bits) }
     {
+        if bits.len() > MAX_BITS {
+            return Err(AllocError);
+        }
         let blocks = bits.len() / BLOCK_BITS + 1;
         let mut counts = Vec::with_capacity(alloc, blocks)?;
         let mut count = 0;
         for k in 0..blocks {
-            counts.push_reserved(count);
+            counts.push_reserved(count as u32);
             count += ones_in_block(bits.words(), k);
         }
         Ok(Ranked { bits, counts })
@@ -52,10 +59,35 @@ impl<A: Allocator> Ranked<A> {
         requires { i ≤ length self.now }
         ensures { result ≡ count_by (λ bit. bit) (take i self.now) }
     {
+        if i < self.bits.len() {
+            self.bit_and_rank(i).1
+        } else {
+            self.rank_of_all()
+        }
+    }
+
+    /// Bit `i`, and how many bits are set below it.
+    ///
+    /// Reads one kept count and two words, of one block.
+    pub fn bit_and_rank(&self, i: usize) -> (bool, usize)
+        requires { i < length self.now }
+        ensures bit { result.0 ≡ slice_index_or self.now i false }
+        ensures rank { result.1 ≡ count_by (λ bit. bit) (take i self.now) }
+    {
         let words = self.bits.words();
-        let block = i / BLOCK_BITS;
-        let before = self.counts[block] + ones(&words[BLOCK_WORDS * block..i / 64]);
-        (before + ones_in_part(words, i)) as usize
+        let before = u64::from(self.counts[i / BLOCK_BITS])
+            + ones_before(words[BLOCK_WORDS * (i / BLOCK_BITS)], i);
+        let rank = before + ones_below(words[i / 64], i % 64);
+        (self.bits.get(i), rank as usize)
+    }
+
+    // How many bits are set in all.
+    fn rank_of_all(&self) -> usize
+        ensures { result ≡ count_by (λ bit. bit) self.now }
+    {
+        let words = self.bits.words();
+        let block = self.bits.len() / BLOCK_BITS;
+        (u64::from(self.counts[block]) + ones(&words[BLOCK_WORDS * block..])) as usize
     }
 
     /// The bits.
@@ -73,7 +105,7 @@ impl<A: Allocator> Ranked<A> {
     }
 }
 
-// How many bits are set in block `k` of eight words, or in the part of it that there is.
+// How many bits are set in block `k` of two words, or in the part of it that there is.
 fn ones_in_block(words: &[u64], k: usize) -> u64
     requires { BLOCK_WORDS * k ≤ length words.now }
     ensures { sum_by count_ones (take (BLOCK_WORDS * k) words.now) + result ≡ sum_by count_ones (take (BLOCK_WORDS * k + BLOCK_WORDS) words.now) }
@@ -82,15 +114,14 @@ fn ones_in_block(words: &[u64], k: usize) -> u64
     ones(&words[BLOCK_WORDS * k..end])
 }
 
-// How many bits are set in the word of place `i` below that place.
-fn ones_in_part(words: &[u64], i: usize) -> u64
-    requires { i ≤ 64 * length words.now }
-    ensures { result ≡ count_ones (slice_index words.now (i / 64) % 2 ^ (i % 64)) }
+// How many bits are set in the first word of the block of place `i`, if the place is in the second.
+fn ones_before(first: u64, i: usize) -> u64
+    ensures { result ≡ cond (i / 64 % 2 == 1) (count_ones first) 0 }
 {
-    if i % 64 == 0 {
-        0
+    if i / 64 % 2 == 1 {
+        u64::from(first.count_ones())
     } else {
-        ones_below(words[i / 64], i % 64)
+        0
     }
 }
 
@@ -109,6 +140,29 @@ mod tests {
             assert_eq!(rt; ranked.rank(i), want, "at {i}");
         }
         assert_eq!(rt; ranked.words(), [0xB9].as_slice());
+        Ok(())
+    }
+
+    #[test]
+    fn a_bit_comes_with_the_count_of_those_before_it(rt: HostRuntime) -> Result<(), Fail> {
+        let bits = Bits::from_bytes(rt.alloc(), &[0b1101_0010; 40], 320)?;
+        let len = bits.len();
+        let ranked = Ranked::new(rt.alloc(), bits)?;
+        for (i, want) in [
+            (0, (false, 0)),
+            (1, (true, 0)),
+            (63, (true, 31)),
+            (64, (false, 32)),
+            (127, (true, 63)),
+            (191, (true, 95)),
+            (192, (false, 96)),
+            (319, (true, 159)),
+        ] {
+            assert!(rt; i < len);
+            assert_eq!(rt; ranked.bit_and_rank(i), want, "at {i}");
+        }
+        assert!(rt; len == 320);
+        assert_eq!(rt; ranked.rank(320), 160);
         Ok(())
     }
 }

@@ -1,0 +1,35 @@
+use Rattle.std.proofs.Common.{◌≡◌, ◌≤◌, ◌<◌, ◌+◌, ap, ◌∙◌, length, arith}
+use Rattle.bit_words.specs.Counts.{rank_of}
+use Rattle.bit_rank.proofs.Ranks.{rank_parts, length-block_ranks, kept_count}
+use Rattle.bit_words.proofs.Packing.{word_place-lt}
+use Rattle.bit_rank.proofs.ranked.Ranked.bit_and_rank.Goals as goal
+
+pub index-requires : goal.index-requires
+index-requires g c =
+    omega (arith, c.requires, ap length c.self.invariant, length-block_ranks 128 c.self.inside.bits, c.self.inside.counts.ok.0, ap length c.self.view_is)
+
+pub bounds-words-i : goal.bounds-words-i
+bounds-words-i g c =
+    let within : c.args.i < length c.self.inside.bits = omega (arith, c.requires, ap length c.self.view_is) in
+    omega (arith, word_place-lt c.self.inside.bits c.words-words.result.now c.args.i c.words-words.ensures.value within)
+
+pub bounds-words-i-2 : goal.bounds-words-i-2
+bounds-words-i-2 g c =
+    let within : c.args.i < length c.self.inside.bits = omega (arith, c.requires, ap length c.self.view_is) in
+    word_place-lt c.self.inside.bits c.words-words.result.now c.args.i c.words-words.ensures.value within
+
+pub returns-clause-rank : goal.returns-clause-rank
+returns-clause-rank g c =
+    let bits = c.self.inside.bits in
+    let words = c.words-words.result.now in
+    let within : c.args.i ≤ length c.self.inside.bits = omega (arith, c.requires, ap length c.self.view_is) in
+    let sum : c.from.result + c.ones_before.result + c.ones_below.result ≡ rank_of c.self.inside.bits c.args.i =
+    omega (
+      arith,
+      c.from.ensures,
+      kept_count bits c.self.inside.counts.items c.args.i c.index.result.now c.self.invariant within c.index.ensures,
+      rank_parts bits words c.args.i c.words-words.ensures.value,
+      c.ones_before.ensures,
+      c.ones_below.ensures,
+    ) in
+    sum ∙ ap (λ (bs : _). rank_of bs c.args.i) c.self.view_is
