@@ -62,7 +62,7 @@ impl<A: Allocator + Clone> DenseBuilder<A> {
     }
 
     /// The half of the nodes given, in their order. Takes three blocks of memory, for counts of its bits, and fails where
-    /// that is refused.
+    /// that is refused or there are 2^24 nodes or more.
     pub fn finish(self) -> Result<Dense<A>, AllocError>
         ensures { IfOk result (λ dense. dense ≡ self.nodes) }
     {

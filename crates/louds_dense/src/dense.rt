@@ -148,11 +148,8 @@ impl<A: Allocator> Dense<A> {
         requires { place < places_in self.now }
         ensures { result ≡ child_at self.now place }
     {
-        if self.has_child.bits().get(place as usize) {
-            Some(self.first_below(place))
-        } else {
-            None
-        }
+        let (leads, before) = self.has_child.bit_and_rank(place as usize);
+        if leads { Some(before as u64 + 1) } else { None }
     }
 
     /// How many leaves stand before a place, whether or not it is a branch: the slot of a leaf there.

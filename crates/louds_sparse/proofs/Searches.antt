@@ -3,12 +3,12 @@ use Rattle.std.proofs.Common.{◌≡◌, ℕ, ◌+◌, ◌-◌, ◌<◌, ◌≤�
 use Rattle.std.specs.Prelude.{◌&&◌}
 use Rattle.std.specs.Option.{option_map}
 use Rattle.std.specs.Slice.Scan.{HoldsNowhere}
-use Rattle.std.proofs.lemmas.Bool.{and_from, cases_lt, eq-eqb, false_from_ne_true, false≢true, le-leb, leb-true, ne_eqb}
-use Rattle.filter_model.specs.Image.{has_letter}
+use Rattle.std.proofs.lemmas.Bool.{and_from, cases_eq, cases_lt, eq-eqb, eqb-true, false_from_ne_true, false≢true, le-leb, leb-true, ne_eqb}
+use Rattle.filter_model.specs.Image.{has_letter, label_of}
 use Rattle.filter_model.specs.Nodes.{Branch, Node}
 use Rattle.filter_model.specs.Trie.{END}
 use Rattle.lane_scan.specs.Places.{IsFirstBetween, is_label_at}
-use Rattle.louds_sparse.specs.Cuts.{IsCut, StandBytes}
+use Rattle.louds_sparse.specs.Cuts.{AreSearched, IsCut, StandBytes}
 use Rattle.louds_sparse.specs.Spelling.{IsSpelled}
 use Rattle.louds_sparse.proofs.Branches.{byte_behind, bytes_rise, end_before, end_first, label-byte, last_none, last_some, letter_there, nth, position_none, position_some}
 use Rattle.louds_sparse.proofs.Spelled.{form, label_in, range_is}
@@ -134,3 +134,59 @@ module _ {before : Before} {labels : List ℕ} {children louds : List Bool} {h :
       let n = node_at h v in
       let none : branch_at n END ≡ None = position_none (λ (x : Branch). x.0 == END) n (λ k kl. ne_eqb (nth n k).0 256 (λ e. false≢true (sym off ∙ letter_there n END k kl e))) in
       sym (ap (λ (q : Option ℕ). option_map (slot_at h) (option_map (λ i. begin_of h v + i) q)) none)
+
+at_most_one : (t : Bool) → cond {A = ℕ} t 1 0 ≤ 1
+at_most_one true = omega arith
+at_most_one false = omega arith
+
+-- a search that passes over END for the byte FF alone
+module _ {before : Before} {labels : List ℕ} {children louds : List Bool} {h : Half} (s : IsSpelled before labels children louds h) (v : ℕ) (in' : HasNode h v) {byte start end : ℕ} (b : AreSearched h v byte start end) where
+  -- the places behind END
+  behind : StandBytes h v (begin_of h v + cond (has_letter (node_at h v) END) 1 0) end
+  behind = record {
+    from = refl;
+    to = b.to;
+    order = omega (arith, at_most_one (has_letter (node_at h v) END), b.to, range_is s v in', (form s v in').filled);
+    within = b.within;
+  }
+
+  from_ff : byte ≡ 255 → start ≡ begin_of h v + cond (has_letter (node_at h v) END) 1 0
+  from_ff ff = b.from ∙ ap (λ (t : Bool). begin_of h v + cond t (cond (has_letter (node_at h v) END) 1 0) 0) (eq-eqb byte 255 ff)
+
+  from_other : (byte ≡ 255 → ⊥) → start ≡ begin_of h v + 0
+  from_other other = b.from ∙ ap (λ (t : Bool). begin_of h v + cond t (cond (has_letter (node_at h v) END) 1 0) 0) (ne_eqb byte 255 other)
+
+  -- END's label is no other byte
+  no_end : has_letter (node_at h v) END ≡ true → is_label_at labels byte (begin_of h v) ≡ true → byte ≡ 255
+  no_end on at =
+      let f = form s v in' in
+      let here : get_or labels (begin_of h v + 0) 0 ≡ 255 = label_in s v in' 0 f.filled ∙ ap label_of (end_first (node_at h v) f on).0 in
+      omega (arith, eqb-true (get_or labels (begin_of h v) 0) byte at, ap (λ (k : ℕ). get_or labels k 0) (plus_zero (begin_of h v)), here)
+    where
+      plus_zero : (p : ℕ) → p ≡ p + 0
+      plus_zero p = omega arith
+
+  past_end : (t : Bool) (p : ℕ) → has_letter (node_at h v) END ≡ t → (byte ≡ 255 → ⊥) → is_label_at labels byte p ≡ true → begin_of h v ≤ p → begin_of h v + cond t 1 0 ≤ p
+  past_end false p on other at from = omega (arith, from)
+  past_end true p on other at from = elim (cases_eq p (begin_of h v)) [
+    | inl same ↦ absurd (other (no_end on (ap (is_label_at labels byte) (sym same) ∙ at)))
+    | inr later ↦ omega (arith, from, later)
+  ]
+
+  pub searched_some : (p : ℕ) → byte < 256 → IsFirstBetween (is_label_at labels byte) start end p → branch_place h v byte ≡ Some p
+  searched_some p small at = elim (cases_eq byte 255) [
+    | inl ff ↦ branch_some s v in' behind byte p small (rw (from_ff ff) at at)
+    | inr other ↦
+        branch_some s v in' behind byte p small (record {
+          from = past_end (has_letter (node_at h v) END) p refl other at.passes (omega (arith, at.from, from_other other));
+          below = at.below;
+          passes = at.passes;
+          before = λ k up to. at.before k (omega (arith, up, from_other other)) to;
+        })
+  ]
+
+  pub searched_none : byte < 256 → HoldsNowhere (is_label_at labels byte) start end → branch_place h v byte ≡ None
+  searched_none small none = elim (cases_eq byte 255) [
+    | inl ff ↦ branch_none s v in' behind byte small (rw (from_ff ff) at none)
+    | inr other ↦ branch_none s v in' behind byte small (λ k up to. none k (omega (arith, up, from_other other)) to)
+  ]

@@ -72,7 +72,7 @@ impl<A: Allocator + Clone> SparseBuilder<A> {
     }
 
     /// The half of the nodes given, in their order. Takes two blocks of memory, for counts of its bits, and fails where
-    /// that is refused or where there are more than 2^32 labels.
+    /// that is refused or where there are 2^32 labels or more.
     pub fn finish(self) -> Result<Sparse<A>, AllocError>
         ensures { IfOk result (λ sparse. sparse ≡ self.half) }
     {

@@ -4,7 +4,7 @@ ghost use Rattle.bit_words.specs.Packed.{packed};
 ghost use Rattle.filter_model.specs.Image.{sparse_children, sparse_labels, sparse_louds};
 ghost use Rattle.filter_model.specs.Nodes.{first_place};
 ghost use Rattle.filter_model.specs.Trie.{END};
-ghost use Rattle.louds_sparse.specs.Cuts.{IsCut, StandBytes};
+ghost use Rattle.louds_sparse.specs.Cuts.{AreSearched, IsCut, StandBytes};
 ghost use Rattle.louds_sparse.specs.Spelling.{IsSpelled, half_in};
 ghost use Rattle.trie_model.specs.Halves.{HasNode, begin_of, branch_place, byte_at, child_at, end_slot, first_below, next_place, places_in, prev_place, slot_at};
 
@@ -108,7 +108,7 @@ impl<A: Allocator> Sparse<A> {
         requires { HasNode self.now node }
         ensures { result ≡ branch_place self.now node byte }
     {
-        let (start, end) = self.bytes_of(node);
+        let (start, end) = self.searched(node, byte);
         match find_label_between(&self.labels, start, end, byte) {
             Some(place) => Some(place as u64),
             None => None,
@@ -158,8 +158,9 @@ impl<A: Allocator> Sparse<A> {
         requires { place < places_in self.now }
         ensures { result ≡ child_at self.now place }
     {
-        if self.has_child.bits().get(place as usize) {
-            Some(self.first_below(place))
+        let (leads, before) = self.has_child.bit_and_rank(place as usize);
+        if leads {
+            Some(self.before.children + before as u64 + 1)
         } else {
             None
         }
@@ -252,6 +253,18 @@ impl<A: Allocator> Sparse<A> {
         match self.louds.bits().first_one_from(from + 1) {
             Some(to) => (from, to),
             None => (from, self.labels.len()),
+        }
+    }
+
+    // The places at which a node's label may be this byte. END is written as the byte FF, so it is passed over for that alone.
+    fn searched(&self, node: u64, byte: u8) -> (usize, usize)
+        requires { HasNode self.now node }
+        ensures { AreSearched self.now node byte result.0 result.1 }
+    {
+        if byte == END_LABEL {
+            self.bytes_of(node)
+        } else {
+            self.labels_of(node)
         }
     }
 
