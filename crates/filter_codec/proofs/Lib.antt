@@ -1,1 +1,12 @@
 pub mod Growing
+pub mod Numbers
+pub mod Places
+pub mod Strays
+pub mod Louds
+pub mod Trees
+pub mod Spelled
+pub mod Within
+pub mod Judged
+pub mod Shapes
+pub mod Endings
+pub mod Joining

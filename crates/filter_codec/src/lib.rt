@@ -1,20 +1,19 @@
-//! A filter's image: the bytes that stand for a trie.
+//! A filter's image: the bytes that stand for a trie, and the trie that bytes are the image of.
 //!
-//! [`encode`] appends the image of a `Trie`: a header of 40 bytes with its widths and counts, and seven sections, each
-//! padded with zero bits to a whole byte. The sections are those that the trie keeps, copied in one pass; the suffixes
-//! stand last. Without memory the bytes that were there before stay as they were. Two valid lists of leaves never have one
-//! image.
-//!
-//! Do not use it where an image goes to a device in pieces: the whole of it stands in memory once, beside the trie.
-//!
-//! ```text
-//! // the trie of a and ab, without hash and real bits, no level dense
-//! encode(&trie, &mut out)?;
-//! out.len()                // 45
-//! &out[40..]               // 61 FF 62   01   03: labels, children, openings; no bit of suffixes
-//! ```
+//! `decode` is exact: a trie only of bytes that are the image of what it stands for, and else the first rule of the format
+//! that they break, and where. It judges the sections as packed bits, and makes no list of nodes.
 #![tactic(auto)]
 
+mod ends;
+mod head;
+mod header;
+mod levels;
+mod reading;
+mod sections;
+mod shape;
+mod tests;
+mod tree;
 mod writing;
 
+pub use reading::decode;
 pub use writing::encode;

@@ -1,0 +1,127 @@
+//! The trie that bytes are the image of.
+ghost use Rattle.std.specs.Prelude.{◌≡◌, ◌≤◌, ◌<◌, ◌^◌, ◌+◌, ◌*◌, ◌/◌, ◌++◌, length, IfOk, IfErr};
+ghost use Rattle.std.specs.Option.{option_map};
+ghost use Rattle.filter_codec.specs.Decoding.{AreOfTrie, IsCause, KeepsSections};
+ghost use Rattle.filter_codec.specs.Judging.{end_by, header_in, places_by, seen};
+ghost use Rattle.filter_codec.specs.Rules.{nodes_rule};
+ghost use Rattle.filter_codec.specs.Tree.{Tree};
+ghost use Rattle.filter_image_model.specs.Laws.{IsImage};
+ghost use Rattle.filter_trie.specs.Parts.{image_by};
+ghost use Rattle.suffix_bits.specs.Slots.{SuffixArray};
+
+use super::ends::ends_fault;
+use super::head::{head_fault, length_fault, read_header};
+use super::header::{Header, Places};
+use super::levels::{counts_fault, louds_fault};
+use super::sections::{cut, padding_fault, section_places, stray_fault};
+use super::shape::shape_fault;
+use super::tree::Packed;
+use bit_words::Bits;
+use filter_api::{DecodeError, FilterFault};
+use filter_trie::Trie;
+use louds_dense::Dense;
+use louds_sparse::Sparse;
+use std::alloc::Allocator;
+use suffix_bits::Suffixes;
+
+/// The trie that the bytes are the image of: what it stands for has this image and no other.
+///
+/// Fails where there is no memory, and exactly where the bytes are no image: then with the first rule that they break and
+/// the place where they do. Takes what the sections and the counts over their bits need, each block once and none before
+/// the bytes of its section are there.
+pub fn decode<A: Allocator + Clone>(alloc: A, bytes: &[u8]) -> Result<Trie<A>, DecodeError>
+    ensures read { IfOk result (λ trie. IsImage trie bytes.now) }
+    ensures refused { IfErr result (IsCause bytes.now) }
+{
+    if let Some(fault) = head_fault(bytes) {
+        return Err(DecodeError::Fault(fault));
+    }
+    let header = read_header(bytes);
+    if let Some(fault) = length_fault(bytes, &header) {
+        return Err(DecodeError::Fault(fault));
+    }
+    let places = section_places(&header);
+    if let Some(fault) = padding_fault(bytes, &header, &places) {
+        return Err(DecodeError::Fault(fault));
+    }
+    let sections = cut(bytes, &header, &places);
+    if let Some(fault) = stray_fault(sections.dense_labels, sections.dense_children) {
+        return Err(DecodeError::Fault(fault));
+    }
+    read_nodes(alloc, bytes, &header, &places)
+}
+
+// The trie of sections, whose bytes are judged.
+fn read_nodes<A: Allocator + Clone>(
+    alloc: A,
+    bytes: &[u8],
+    header: &Header,
+    places: &Places,
+) -> Result<Trie<A>, DecodeError>
+    requires kept { KeepsSections bytes.now }
+    requires header { header.now ≡ header_in bytes.now }
+    requires places { places.now ≡ places_by header.now }
+    requires fits { end_by header.now < 2 ^ 64 }
+    ensures read { IfOk result (λ trie. IsImage trie bytes.now) }
+    ensures refused { IfErr result (IsCause bytes.now) }
+{
+    let sections = cut(bytes, header, places);
+    let louds = Bits::from_bytes(alloc.clone()?, sections.louds, header.labels as usize)?;
+    if let Some(fault) = louds_fault(&louds, header.sparse) {
+        return Err(DecodeError::Fault(fault));
+    }
+    let packed = Packed::of(alloc.clone()?, bytes, header, places, louds)?;
+    let width = usize::from(header.hash_bits) + usize::from(header.real_bits);
+    let bits = Bits::from_bytes(alloc, sections.suffixes, header.leaves as usize * width)?;
+    let suffixes = Suffixes::of(
+        bits,
+        header.hash_bits,
+        header.real_bits,
+        u64::from(header.leaves),
+    );
+    if let Some(fault) = nodes_fault(header, &packed, &suffixes, places.suffixes) {
+        return Err(DecodeError::Fault(fault));
+    }
+    Ok(trie_of(header, packed, suffixes))
+}
+
+// The first of the rules 8 to 10 that the nodes and the suffixes break, which begin at a place.
+fn nodes_fault<A: Allocator>(
+    header: &Header,
+    packed: &Packed<A>,
+    suffixes: &Suffixes<A>,
+    place: usize,
+) -> Option<FilterFault>
+    requires cutoff { header.now.cutoff ≤ header.now.height }
+    requires height { 0 < header.now.height }
+    requires count { length suffixes.now.slots ≡ header.now.leaves }
+    requires place { place + length suffixes.now.slots * (suffixes.now.hash_bits + suffixes.now.real_bits) / 8 < 2 ^ 64 }
+    requires wide { length suffixes.now.slots * (suffixes.now.hash_bits + suffixes.now.real_bits) < 2 ^ 64 }
+    ensures { option_map seen result ≡ nodes_rule header.now.height header.now.cutoff header.now.leaves place suffixes.now packed.now.dense packed.now.sparse }
+{
+    if let Some(fault) = counts_fault(header, packed) {
+        return Some(fault);
+    }
+    if let Some(fault) = shape_fault(header, packed) {
+        return Some(fault);
+    }
+    ends_fault(place, packed, suffixes)
+}
+
+// The trie with these parts.
+fn trie_of<A: Allocator>(header: &Header, packed: Packed<A>, suffixes: Suffixes<A>) -> Trie<A>
+    requires { AreOfTrie header.now.height header.now.cutoff packed.dense packed.sparse suffixes }
+    ensures { result ≡ image_by header.now.cutoff header.now.height packed.dense packed.sparse suffixes }
+{
+    let Packed {
+        dense_labels,
+        dense_children,
+        dense_ends,
+        labels,
+        children,
+        louds,
+    } = packed;
+    let dense = Dense::of(dense_labels, dense_children, dense_ends);
+    let sparse = Sparse::of(dense.counts(), labels, children, louds);
+    Trie::of(header.cutoff, header.height, dense, sparse, suffixes)
+}
