@@ -1,0 +1,9 @@
+mod Groups
+mod Cuts
+mod Leaves
+mod Counts
+mod Starts
+mod Steps
+mod Turns
+mod MetLeaves
+mod Bounds

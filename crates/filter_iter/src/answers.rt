@@ -1,0 +1,87 @@
+//! What a trie answers of bounds and ranges.
+ghost use Rattle.std.specs.Prelude.{◌≡◌, ◌<◌, drop, length};
+ghost use Rattle.filter_api.specs.Spellings.{MayStand};
+ghost use Rattle.filter_iter.specs.Borders.{reached_begun, reached_past};
+ghost use Rattle.filter_iter.specs.Cuts.{FirstPass, has_begun};
+ghost use Rattle.filter_model.specs.Answers.{first, is_past, ranged, tally as tally_of};
+ghost use Rattle.filter_model.specs.Strings.{bits};
+
+use super::parts::{Reach, Reached};
+use super::reaching::reach;
+use filter_trie::Trie;
+use std::alloc::Allocator;
+use suffix_bits::real_bits_of;
+
+/// The bits of a bound that follow the stub of the leaf which it reaches, as many as a leaf has real bits.
+fn real_after<A: Allocator>(trie: &Trie<A>, bound: &[u8], leaf: Reached) -> u32
+    ensures { result ≡ bits trie.now.real_bits (drop leaf.stub bound.now) }
+{
+    real_bits_of(bound, leaf.stub, trie.suffixes().widths().1)
+}
+
+/// Whether the leaf that `lo` reaches is past it: every string that fits the leaf is below `lo`.
+fn is_reached_past<A: Allocator>(trie: &Trie<A>, lo: &[u8], leaf: Reached) -> bool
+    requires { leaf.slot < length trie.now.leaves }
+    ensures { result ≡ reached_past trie.now.real_bits trie.now.leaves lo.now leaf }
+{
+    !leaf.ends && trie.suffix(leaf.slot).1 < real_after(trie, lo, leaf)
+}
+
+/// Whether the leaf that `hi` reaches begins at or below it: so does the least string that fits the leaf.
+fn is_reached_begun<A: Allocator>(trie: &Trie<A>, hi: &[u8], leaf: Reached) -> bool
+    requires { leaf.slot < length trie.now.leaves }
+    ensures { result ≡ reached_begun trie.now.real_bits trie.now.leaves hi.now leaf }
+{
+    leaf.ends || trie.suffix(leaf.slot).1 <= real_after(trie, hi, leaf)
+}
+
+/// How many leaves are past `lo`. They are the first ones in key order.
+fn count_past<A: Allocator>(trie: &Trie<A>, lo: &[u8]) -> u64
+    ensures stands { MayStand trie.now.hash_bits trie.now.real_bits trie.now.cutoff trie.now.leaves }
+    ensures past { FirstPass (is_past trie.now.real_bits lo.now) trie.now.leaves result }
+{
+    let Reach { before, leaf } = reach(trie, lo);
+    match leaf {
+        None => before,
+        Some(leaf) => before + u64::from(is_reached_past(trie, lo, leaf)),
+    }
+}
+
+/// How many leaves begin at or below `hi`. They are the first ones in key order.
+fn count_begun<A: Allocator>(trie: &Trie<A>, hi: &[u8]) -> u64
+    ensures { FirstPass (has_begun trie.now.real_bits hi.now) trie.now.leaves result }
+{
+    let Reach { before, leaf } = reach(trie, hi);
+    match leaf {
+        None => before,
+        Some(leaf) => before + u64::from(is_reached_begun(trie, hi, leaf)),
+    }
+}
+
+/// The number, in key order from 0, of the first leaf that is not past `lo`, `None` where all are.
+///
+/// Looks at a node for each byte of `lo` that leads on, and at two places a level. Takes no memory.
+pub fn seek<A: Allocator>(trie: &Trie<A>, lo: &[u8]) -> Option<u32>
+    ensures { result ≡ first trie.now.real_bits trie.now.leaves lo.now }
+{
+    let past = count_past(trie, lo) as u32;
+    if past < trie.leaves() {
+        Some(past)
+    } else {
+        None
+    }
+}
+
+/// Whether some leaf may stand for a key from `lo` to `hi`. Costs two of `seek`.
+pub fn range<A: Allocator>(trie: &Trie<A>, lo: &[u8], hi: &[u8]) -> bool
+    ensures { result ≡ ranged trie.now.real_bits trie.now.leaves lo.now hi.now }
+{
+    count_past(trie, lo) < count_begun(trie, hi)
+}
+
+/// How many leaves may stand for a key from `lo` to `hi`. Costs two of `seek`.
+pub fn tally<A: Allocator>(trie: &Trie<A>, lo: &[u8], hi: &[u8]) -> u32
+    ensures { result ≡ tally_of trie.now.real_bits trie.now.leaves lo.now hi.now }
+{
+    count_begun(trie, hi).saturating_sub(count_past(trie, lo)) as u32
+}
