@@ -1,0 +1,61 @@
+//! The trie of keys, and how long its making takes.
+ghost use Rattle.filter_model.specs.Keys.{IsKeyList};
+
+use crate::report::{BuildTimes, ROUNDS, Watch};
+use anyhow::{Result, bail};
+use filter_trie::{Trie, build};
+use key_base::KeyList;
+use key_truncate::truncate;
+use std::alloc::Global;
+use std::time::CpuClock;
+use trie_levels::{cutoff, plan_spans, spans_of};
+
+/// The trie of sorted keys with its upper levels dense by a ratio. It is built several times, and how many keys a second
+/// that was at best is printed.
+pub fn build_rounds(
+    rt: &(impl Print + CpuClock),
+    alloc: Global,
+    keys: &KeyList,
+    ratio: u16,
+) -> Result<Trie<Global>>
+    requires { IsKeyList keys.now }
+{
+    let mut times = BuildTimes::new();
+    for _ in 1..ROUNDS {
+        build_timed(rt, alloc, keys, ratio, &mut times)?;
+    }
+    let trie = build_timed(rt, alloc, keys, ratio, &mut times)?;
+    println!(rt;
+        "{} keys, {} levels, {} of them dense",
+        keys.len(),
+        trie.height(),
+        trie.cutoff()
+    )?;
+    times.print(rt)?;
+    Ok(trie)
+}
+
+// Builds it once, from the keys alone.
+fn build_timed(
+    rt: &impl CpuClock,
+    alloc: Global,
+    keys: &KeyList,
+    ratio: u16,
+    times: &mut BuildTimes,
+) -> Result<Trie<Global>>
+    requires { IsKeyList keys.now }
+{
+    let count = keys.len() as u64;
+    let all = Watch::start(rt)?;
+    let stubs = truncate(alloc, keys)?;
+    let spans = spans_of(alloc, keys, stubs.as_slice())?;
+    let levels = plan_spans(alloc, spans.as_slice())?;
+    let dense = cutoff(&levels, ratio);
+    if dense > levels.height() {
+        bail!("a cutoff above the height");
+    }
+    let last = Watch::start(rt)?;
+    let trie = build(alloc, keys, spans, &levels, 0, 0, dense)?;
+    times.keep(all.stop(rt, count)?, last.stop(rt, count)?);
+    Ok(trie)
+}
