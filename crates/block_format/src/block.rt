@@ -235,10 +235,25 @@ fn first_said<'a>(
 ) -> Option<Option<&'a [u8]>>
     ensures { option_map (λ f. option_map (λ v. v.now) f) result ≡ or_else (option_map (λ f. option_map (λ v. v.now) f) found.entry) (if bytes_eq row.entry.key.now key.now then Some (option_map (λ v. v.now) row.entry.value) else None) }
 {
-    if found.is_none() && row.key == key {
+    if found.is_none() && is_same(row.key, key) {
         return Some(row.value);
     }
     found
+}
+
+// Whether two keys are the same. The last bytes are looked at first, since neighbours in a block begin alike.
+#[tactic(auto, using(crate::proofs::Keys::other_length, crate::proofs::Keys::other_byte))]
+fn is_same(one: &[u8], other: &[u8]) -> bool
+    ensures { result ≡ bytes_eq one.now other.now }
+{
+    let len = one.len();
+    if len != other.len() {
+        return false;
+    }
+    if len > 0 && one[len - 1] != other[len - 1] {
+        return false;
+    }
+    one == other
 }
 
 // Whether all bytes behind the length that is used are 0.

@@ -244,6 +244,12 @@ follow_push test [] e some f above = absurd (omega (arith, some))
 follow_push test (x ∷ []) e some f above = (f.0, (above, tt))
 follow_push test (x ∷ y ∷ more) e some f above = (f.0, follow_push (is_above x.key) (y ∷ more) e (omega arith) f.1 above)
 
+-- and back
+pub follow_last : (test : Bytes → Bool) (es : List Entry) (e : Entry) → 1 ≤ length es → Follow test (keys_of (es ++ e ∷ [])) → is_above (last_key es) e.key ≡ true
+follow_last test [] e some f = absurd (omega (arith, some))
+follow_last test (x ∷ []) e some f = f.1.0
+follow_last test (x ∷ y ∷ more) e some f = follow_last (is_above x.key) (y ∷ more) e (omega arith) f.1
+
 pub follow_alone : (es : List Entry) (e : Entry) → length es ≡ 0 → Follow is_any (keys_of (es ++ e ∷ []))
 follow_alone [] e none = (refl, tt)
 follow_alone (x ∷ es) e none = absurd (omega (arith, none))

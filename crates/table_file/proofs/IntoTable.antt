@@ -4,7 +4,7 @@ use Rattle.std.proofs.lemmas.List.{length-map}
 use Rattle.byte_fields.specs.Sums.{fnv_of}
 use Rattle.byte_fields.specs.declared.parts.Row.{Row}
 use Rattle.disk_trait.specs.Image.{Image}
-use Rattle.filter_api.specs.Spellings.{MayStand, Spelling}
+use Rattle.filter_api.specs.Spellings.{MayStand, Spelling, SpellsOne}
 use Rattle.filter_api.specs.declared.settings.Settings.{Settings}
 use Rattle.filter_model.specs.Leaves.{Leaf}
 use Rattle.map_model.specs.SortedMap.{Bytes}
@@ -24,7 +24,9 @@ use Rattle.table_model.specs.Written.{ArePartsShown, row_for}
 use Rattle.table_model.proofs.Shown.{shown_is}
 use Rattle.table_file.specs.Opened.{IsOfRow, IsOpen}
 use Rattle.table_file.specs.Parts.{ArePartsOf, Filter, filter_of}
-use Rattle.table_file.proofs.Written.{stands_shown}
+use Rattle.table_file.specs.Writing.{AreWritten, StandsWith}
+use Rattle.table_file.proofs.Stands.{opened_stands}
+use Rattle.table_file.proofs.Written.{stands_shown, written_shown}
 
 module _ (spelling : Spelling) (built_cutoff : ℕ → List Leaf → ℕ) (settings : Settings) (entries : List Entry) (count : ℕ) (blocks : Bytes) (index : Index) (index_bytes_there : Bytes)
     (filter : Filter) (filter_there : Bytes) (parts : ArePartsOf spelling built_cutoff settings entries count blocks index index_bytes_there filter filter_there) (level first : ℕ) where
@@ -80,3 +82,11 @@ module _ (spelling : Spelling) (built_cutoff : ℕ → List Leaf → ℕ) (setti
       (λ shown.
       let there = stands_shown spelling built_cutoff settings entries count blocks index index_bytes_there filter filter_there parts level first (4096 * first) refl image shown in
       (there.0, there.1, sym (ap (λ (t : Table). t.entries) there.2)))
+
+  -- where the parts are written, the table that is made of them stands
+  pub made_stands : SpellsOne spelling → (image : Image) → AreWritten row entries bytes image
+      → StandsWith spelling settings (record { row = row; index = index_of entries; filter = filter_of built_cutoff settings (keys_of entries) }) entries image
+  made_stands one image are =
+      let shown = written_shown row entries bytes image are in
+      let there = shown_table row refl image shown in
+      (there.0, opened_stands spelling settings _ there.0 image one (table_open row refl image shown) there.1, there.2)

@@ -1,4 +1,5 @@
 mod Keys
+pub mod KeptBlocks
 mod Builders
 mod Helds
 mod IndexWalks

@@ -30,15 +30,27 @@ use Rattle.byte_fields.specs.Faults.{Fault}
 use Rattle.byte_fields.specs.declared.parts.Damage.{Damage}
 use Rattle.block_format.specs.Spans.{kept_from}
 use Rattle.table_file.specs.Faults.{IsNoDamage}
-use Rattle.table_file.specs.Laws.{StandingBlocks, StandingKeys, StandingWalks}
+use Rattle.table_file.specs.Laws.{StandingBlocks, StandingIsKept, StandingKeys, StandingWalks}
 use Rattle.table_file.specs.Opened.{Opened}
 use Rattle.table_file.specs.Search.{IsGetFault, IsSoundBlock, bytes_at, first_block, row_at}
 use Rattle.table_file.specs.Walks.{BeginsWell, Walk, WentOn, blocks_on, blocks_there, joined_from}
 use Rattle.table_file.specs.declared.fault.TableFault.{TableFault}
 use Rattle.table_file.specs.declared.fault.TableFault.TheVariants as table
+use Rattle.table_file.proofs.KeptBlocks.{at_kept}
 use Rattle.table_file.proofs.Lookups.{behind_last, from_above, front_follows, last_append, lasts_rise, row_last}
 use Rattle.table_file.proofs.Stands.{answer, block_is_sound, least_is, no_answer, row_pages_are, rows_are, there}
 use Rattle.table_file.proofs.Walks.{at_block}
+
+-- ---- what is written elsewhere
+
+pub standing_kept : StandingIsKept
+standing_kept spelling settings t blocks at n old new apart torn s = record {
+  at = at_kept spelling settings t.row blocks at n old new apart torn s.at;
+  index_is = s.index_is;
+  hash_is = s.hash_is;
+  real_is = s.real_is;
+  leaves_are = s.leaves_are;
+}
 
 abbrev no_row : IndexRow
 no_row = record { pages = 0; sum = 0; last = [] }

@@ -1,7 +1,7 @@
 -- The laws of tables that are opened, and of tables that stand on a device.
 use Rattle.std.specs.Prelude.{◌≡◌, ◌<◌, ◌-◌, ℕ, not, ◌&&◌, List, [], length, slice_index_or, Some, None, is_some}
 use Rattle.byte_fields.specs.declared.parts.Row.{Row}
-use Rattle.disk_trait.specs.Image.{Image}
+use Rattle.disk_trait.specs.Image.{Image, Torn}
 use Rattle.filter_api.specs.Spellings.{Spelling, SpellsOne}
 use Rattle.filter_api.specs.declared.settings.Settings.{Settings}
 use Rattle.filter_model.specs.Answers.{point}
@@ -14,6 +14,7 @@ use Rattle.block_model.specs.BlockReading.{block_in}
 use Rattle.block_model.specs.Laws.{joined}
 use Rattle.block_model.specs.Pages.{first_key, last_key}
 use Rattle.table_model.specs.Images.{IsTableAt}
+use Rattle.table_model.specs.Laws.{IsApartFromRow}
 use Rattle.table_model.specs.Written.{ArePartsShown}
 use Rattle.table_file.specs.Faults.{IsNoDamage}
 use Rattle.table_file.specs.Opened.{IsOpen, Opened}
@@ -61,6 +62,12 @@ pub record WalksAreWhole (t : Opened) (blocks : List (List Entry)) : Type 0 wher
   pub all : (low : Bytes) → to_come (walk_from t low) blocks ≡ entries_from (joined blocks) low
   pub begins : (low : Bytes) → BeginsWell (walk_from t low) blocks
   pub goes_on : (old new : Walk) → WentOn old new → BeginsWell old blocks → BeginsWell new blocks
+
+-- what is written apart from its pages, done or cut short, keeps it
+abbrev pub StandingIsKept : Type 0
+StandingIsKept =
+    (spelling : Spelling) (settings : Settings) (t : Opened) (blocks : List (List Entry)) (at n : ℕ) (old new : Image) → IsApartFromRow at n t.row
+    → Torn at n old new → StandsThere spelling settings t blocks old → StandsThere spelling settings t blocks new
 
 abbrev pub StandingBlocks : Type 0
 StandingBlocks = (spelling : Spelling) (settings : Settings) (t : Opened) (blocks : List (List Entry)) (image : Image) → StandsThere spelling settings t blocks image → BlocksAreRead t blocks image

@@ -1,5 +1,5 @@
 -- What stands on a device when the parts of a table are written, and which call of it failed.
-use Rattle.std.specs.Prelude.{◌⊎◌, ℕ, ◌+◌, ◌++◌, List, length}
+use Rattle.std.specs.Prelude.{◌≡◌, ◌⊎◌, ℕ, ◌+◌, ◌++◌, List, length}
 use Rattle.disk_trait.specs.Fault.{IsFaultOf}
 use Rattle.disk_trait.specs.Image.{Image, Shows, overwritten}
 use Rattle.disk_trait.specs.declared.fault.DiskFault.{DiskFault}
@@ -7,14 +7,19 @@ use Rattle.disk_trait.specs.declared.fault.Op.TheVariants.{Sync, Write}
 use Rattle.byte_fields.specs.declared.parts.Row.{Row}
 use Rattle.map_model.specs.SortedMap.{Bytes}
 use Rattle.filter_api.specs.Spellings.{Spelling}
+use Rattle.filter_api.specs.declared.settings.Settings.{Settings}
 use Rattle.filter_model.specs.Leaves.{Leaf}
 use Rattle.entry_model.specs.Entries.{Entry, keys_of}
 use Rattle.block_model.specs.Block.{data_bytes, padding}
 use Rattle.block_model.specs.Index.{index_bytes, index_of}
+use Rattle.block_model.specs.Laws.{joined}
 use Rattle.block_model.specs.Places.{byte_of_page, filter_page, index_page}
 use Rattle.table_model.specs.Tables.{filter_bytes_of}
 use Rattle.table_model.specs.Written.{row_for}
 use Rattle.table_file.specs.Building.{Built}
+use Rattle.table_file.specs.Opened.{Opened}
+use Rattle.table_file.specs.Parts.{filter_of}
+use Rattle.table_file.specs.Search.{StandsThere}
 
 -- bytes, and zero bytes behind them to the end of their last page
 abbrev pub padded : Bytes → Bytes
@@ -32,6 +37,14 @@ made_filter spelling built_cutoff built = filter_bytes_of spelling built_cutoff 
 
 abbrev pub made_row : Spelling → (ℕ → List Leaf → ℕ) → Built → ℕ → ℕ → Row
 made_row spelling built_cutoff built level first_page = row_for level first_page built.entries (made_filter spelling built_cutoff built)
+
+-- the table of such a row as it is opened
+abbrev pub opened_of : (ℕ → List Leaf → ℕ) → Built → Row → Opened
+opened_of built_cutoff built row = record { row = row; index = index_of built.entries; filter = filter_of built_cutoff built.settings (keys_of built.entries) }
+
+-- an opened table stands on the device, with these entries
+abbrev pub StandsWith : Spelling → Settings → Opened → List Entry → Image → Type 0
+StandsWith spelling settings t entries image = (blocks : List (List Entry)) × StandsThere spelling settings t blocks image × (joined blocks ≡ entries)
 
 -- three pieces written one behind the other
 abbrev pub three_written : Image → ℕ → Bytes → Bytes → Bytes → Image

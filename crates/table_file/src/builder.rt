@@ -118,9 +118,10 @@ impl TableBuilder {
         self.keys.is_empty()
     }
 
-    /// Whether a key is above those of all entries, as [`add`](TableBuilder::add) asks. The entries rise already.
+    /// Whether a key is above those of all entries, exactly as [`add`](TableBuilder::add) asks. The entries rise already.
     pub fn is_above_all(&self, key: &[u8]) -> bool
-        ensures { (value : Option Bytes) → result ≡ true → Follow is_any (keys_of (self.now.entries ++ entry_of key.now value ∷ [])) }
+        ensures above { (value : Option Bytes) → result ≡ true → Follow is_any (keys_of (self.now.entries ++ entry_of key.now value ∷ [])) }
+        ensures all { (value : Option Bytes) → Follow is_any (keys_of (self.now.entries ++ entry_of key.now value ∷ [])) → result ≡ true }
     {
         if self.keys.is_empty() {
             return true;

@@ -1,5 +1,5 @@
 // The laws of tables that are opened, and of tables that stand on a device. They are proved and never called.
-ghost use Rattle.table_file.specs.Laws.{OpenedStands, StandingBlocks, StandingKeys, StandingWalks, WrittenIsShown};
+ghost use Rattle.table_file.specs.Laws.{OpenedStands, StandingBlocks, StandingIsKept, StandingKeys, StandingWalks, WrittenIsShown};
 
 /// A table that was opened from bytes that spell the table of some blocks is the table of these blocks.
 pub fn opened_tables_stand()
@@ -18,4 +18,9 @@ pub fn standing_tables_are_read()
     ensures blocks { StandingBlocks }
     ensures keys { StandingKeys }
     ensures walks { StandingWalks }
+{}
+
+/// What is written apart from the pages of a table that stands on a device, done or cut short, keeps it there.
+pub fn standing_tables_are_kept()
+    ensures { StandingIsKept }
 {}

@@ -10,7 +10,6 @@ ghost use Rattle.table_model.specs.Written.{ArePartsShown};
 ghost use Rattle.disk_trait.specs.Image.{Image};
 ghost use Rattle.key_base.specs.Limits.{max_device_pages};
 ghost use Rattle.block_model.specs.Places.{end_page};
-ghost use Rattle.table_file.specs.Parts.{filter_of};
 ghost use Rattle.table_file.specs.Writing.{made_filter, made_row};
 ghost use Rattle.table_file.specs.Building.{closed_in};
 
@@ -106,19 +105,18 @@ impl<F: RangeFilter> Parts<F> {
 }
 
 impl<F: RangeFilter> Parts<F> {
-    ghost use Rattle.entry_model.specs.Entries.{Entry};
     ghost use Rattle.table_file.specs.Opened.{IsOpen};
-    ghost use Rattle.table_file.specs.Search.{StandsThere};
+    ghost use Rattle.table_file.specs.Writing.{StandsWith, opened_of};
 
     /// The table that [`open_table`](crate::open_table) would give for a row of these parts, where they are written. No
     /// read and no memory.
     pub fn into_table(self, row: Row) -> Table<F>
         requires row { row ≡ made_row F.spelling F.built_cutoff self row.level row.first_page }
         requires within { end_page row ≤ max_device_pages }
-        ensures table { result ≡ record { row = row; index = index_of self.entries; filter = filter_of F.built_cutoff self.settings (keys_of self.entries) } }
+        ensures table { result ≡ opened_of F.built_cutoff self row }
         ensures opened { (image : Image) → ArePartsShown row self.entries (made_filter F.spelling F.built_cutoff self) image → IsOpen F.spelling result image }
         ensures stands { (image : Image) → ArePartsShown row self.entries (made_filter F.spelling F.built_cutoff self) image
-            → (blocks : List (List Entry)) × StandsThere F.spelling self.settings result blocks image × (joined blocks ≡ self.entries) }
+            → StandsWith F.spelling self.settings result self.entries image }
     {
         let Parts { index, filter, .. } = self;
         Table::new(row, index, filter)

@@ -6,7 +6,7 @@ ghost use Rattle.key_base.specs.Limits.{max_device_pages};
 ghost use Rattle.block_model.specs.Places.{byte_of_page, filter_page, index_page};
 ghost use Rattle.table_model.specs.Images.{IsTableOf};
 ghost use Rattle.table_model.specs.Tables.{filter_bytes_of, table_of, table_pages};
-ghost use Rattle.table_file.specs.Writing.{AreWritten, IsWriteOf, made_filter, made_row, three_written};
+ghost use Rattle.table_file.specs.Writing.{AreWritten, IsWriteOf, StandsWith, made_filter, made_row, opened_of, three_written};
 
 use crate::parts::Parts;
 use disk_trait::{Disk, DiskFault};
@@ -16,7 +16,8 @@ use key_base::PAGE_BYTES;
 /// Writes a table's blocks, index and filter from a page on, and makes them last: three writes and a sync, no memory. The
 /// [pages of the table](crate::pages_of) end within the 2^24 of the largest device.
 ///
-/// At `Ok` each image that a crash may leave has the table there. At `Err` any bytes may stand in its pages.
+/// At `Ok` each image that a crash may leave has the table there, and it is the one that
+/// [`into_table`](crate::Parts::into_table) makes of the parts. At `Err` any bytes may stand in its pages.
 pub fn write_parts<F: RangeFilter, D: Disk>(
     disk: &mut D,
     first_page: u32,
@@ -28,6 +29,8 @@ pub fn write_parts<F: RangeFilter, D: Disk>(
     ensures table { (level : ℕ) → IsTrue D.tells → OnOk result (Now (IsTableOf F.spelling parts.now.settings
         (made_row F.spelling F.built_cutoff parts.now level first_page)
         (table_of (filter_bytes_of F.spelling F.built_cutoff) parts.now.settings level first_page parts.now.entries)) (D.world disk.new)) }
+    ensures stands { (level : ℕ) → IsTrue D.tells → OnOk result (Now (StandsWith F.spelling parts.now.settings
+        (opened_of F.built_cutoff parts.now (made_row F.spelling F.built_cutoff parts.now level first_page)) parts.now.entries) (D.world disk.new)) }
     ensures moves { WriteMoves (byte_of_page first_page) (page_bytes * table_pages (filter_bytes_of F.spelling F.built_cutoff) parts.now.settings parts.now.entries) (D.world disk.old) (D.world disk.new) }
     ensures fault { (level : ℕ) → IfErr result (IsWriteOf (byte_of_page first_page)
         (byte_of_page (index_page (made_row F.spelling F.built_cutoff parts.now level first_page)))

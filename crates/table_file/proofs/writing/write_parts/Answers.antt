@@ -10,7 +10,8 @@ use Rattle.table_model.specs.Images.{IsTableOf}
 use Rattle.table_model.specs.Tables.{filter_bytes_of, table_of, table_pages}
 use Rattle.table_model.specs.Written.{row_for}
 use Rattle.table_file.specs.Building.{Built}
-use Rattle.table_file.specs.Writing.{AreWritten, IsWriteOf, three_written}
+use Rattle.table_file.specs.Writing.{AreWritten, IsWriteOf, StandsWith, opened_of, three_written}
+use Rattle.table_file.proofs.IntoTable.{made_stands}
 use Rattle.table_file.proofs.Written.{all_long, filter_at, index_at, same_places, stands, written}
 use Rattle.table_file.proofs.writing.write_parts.Goals as goal
 
@@ -55,6 +56,23 @@ returns-clause-table g c =
     c.parts.view_is
     (λ level tells. on_ok_two _ (IsDurable (g.D.Disk.world c.write_three.new.disk)) _ c.write_three.result
     (λ held durable f left. stands _ _ _ _ _ _ _ _ _ _ c.parts.invariant level first (4096 * c.from.result) at f
+    (written _ _ _ _ _ _ _ _ _ _ c.parts.invariant level first (4096 * c.from.result) at _ f (durable f left ∙ held ∙ same _)))
+    (c.write_three.ensures.written tells) c.write_three.ensures.durable)
+
+pub returns-clause-stands : goal.returns-clause-stands
+returns-clause-stands g c =
+    let p = c.parts.inside in
+    let spelling = g.F.RangeFilter.spelling in
+    let cutoff = g.F.RangeFilter.built_cutoff in
+    let first = c.args.first_page in
+    let at : 4096 * c.from.result ≡ 4096 * first = ap (λ (n : ℕ). 4096 * n) c.from.ensures in
+    let same = (λ (h : Image). ap (λ (x : Bytes). three_written h (4096 * c.from.result) x c.whole.result.now c.whole-2.result.now) c.as_slice.ensures.value
+    ∙ ap₂ (λ (x y : Bytes). three_written h (4096 * c.from.result) p.blocks.items x y) c.whole.ensures c.whole-2.ensures) in
+    subst (λ (b : Built). (level : ℕ) → IsTrue g.D.Disk.tells → OnOk c.write_three.result
+    (Now (StandsWith spelling b.settings (opened_of cutoff b (row_for level first b.entries (filter_bytes_of spelling cutoff b.settings (keys_of b.entries)))) b.entries) (g.D.Disk.world c.write_three.new.disk)))
+    c.parts.view_is
+    (λ level tells. on_ok_two _ (IsDurable (g.D.Disk.world c.write_three.new.disk)) _ c.write_three.result
+    (λ held durable f left. made_stands _ _ _ _ _ _ _ _ _ _ c.parts.invariant level first g.met.F.RangeFilter.spells_one f
     (written _ _ _ _ _ _ _ _ _ _ c.parts.invariant level first (4096 * c.from.result) at _ f (durable f left ∙ held ∙ same _)))
     (c.write_three.ensures.written tells) c.write_three.ensures.durable)
 

@@ -10,11 +10,11 @@ use Rattle.block_model.specs.Pages.{last_key}
 use Rattle.block_model.proofs.LastBlocks.{positive}
 use Rattle.table_file.specs.BlockRows.{rows_seen}
 use Rattle.table_file.specs.Building.{Built, closed_in, entries_with}
-use Rattle.table_file.proofs.Builders.{follow_alone, follow_push}
+use Rattle.table_file.proofs.Builders.{follow_alone, follow_last, follow_push}
 use Rattle.table_file.proofs.builder.TableBuilder.is_above_all.Goals as goal
 
-pub returns-then-is_empty : goal.returns-then-is_empty
-returns-then-is_empty c value said =
+pub returns-then-is_empty-clause-above : goal.returns-then-is_empty-clause-above
+returns-then-is_empty-clause-above c value said =
     let t = c.self.inside in
     let e = entry_of c.args.key.now value in
     let all = entries_with (closed_in (rows_seen t.rows.items) t.blocks.items) t.«open» in
@@ -25,8 +25,8 @@ returns-then-is_empty c value said =
 pub last_of-requires : goal.last_of-requires
 last_of-requires c = omega (arith, c.as_slice.ensures.len, positive (vec_len c.self.inside.keys) (sym c.if-is_empty.false ∙ c.is_empty.ensures))
 
-pub returns : goal.returns
-returns c value said =
+pub returns-clause-above : goal.returns-clause-above
+returns-clause-above c value said =
     let t = c.self.inside in
     let key = c.args.key.now in
     let e = entry_of key value in
@@ -38,3 +38,15 @@ returns c value said =
     ap (λ (k : Bytes). is_lt (byte_order k key)) (sym last) ∙ sym (ap is_lt c.compare.ensures) ∙ sym c.is_lt.ensures ∙ said in
     subst (λ (es : List Entry). Follow is_any (keys_of (es ++ e ∷ []))) (ap (λ (b : Built). b.entries) c.self.view_is)
     (follow_push is_any all e (omega (arith, some)) c.self.invariant.2.rising above)
+
+pub returns-clause-all : goal.returns-clause-all
+returns-clause-all c value rises =
+    let t = c.self.inside in
+    let key = c.args.key.now in
+    let e = entry_of key value in
+    let all = entries_with (closed_in (rows_seen t.rows.items) t.blocks.items) t.«open» in
+    let filled : 0 < vec_len t.keys = positive (vec_len t.keys) (sym c.if-is_empty.false ∙ c.is_empty.ensures) in
+    let some : 0 < length all = omega (arith, filled, ap length c.self.invariant.2.keys_are, length-map all (λ (x : Entry). x.key), length-map t.keys.items vec_items) in
+    let last : c.last_of.result.now ≡ last_key all = c.last_of.ensures [] all some (c.self.invariant.2.keys_are ∙ ap (map vec_items) (sym c.as_slice.ensures.value)) in
+    let above = follow_last is_any all e (omega (arith, some)) (subst (λ (es : List Entry). Follow is_any (keys_of (es ++ e ∷ []))) (sym (ap (λ (b : Built). b.entries) c.self.view_is)) rises) in
+    c.is_lt.ensures ∙ ap is_lt c.compare.ensures ∙ ap (λ (k : Bytes). is_lt (byte_order k key)) last ∙ above

@@ -1,0 +1,141 @@
+//! The calls that are measured. Each answers a count or a sum, so that none is left out.
+use crate::made::{FIRST_PAGE, Made};
+use anyhow::{Result, bail};
+use byte_fields::fnv1a;
+use disk_trait::Disk;
+use filter_api::RangeFilter;
+use key_base::PAGE_BYTES;
+use real_outside::FileOutside;
+use std::alloc::{AllocError, Global};
+use table_file::LARGEST_BLOCK_BYTES;
+
+/// A key, and the block that is read for it.
+#[derive(Drop)]
+pub struct Query {
+    pub key: Vec<u8>,
+    pub block: u32,
+}
+
+/// The keys with their blocks. One that the table denies has the first block.
+pub fn queries(alloc: Global, made: &Made, keys: Vec<Vec<u8>>) -> Result<Vec<Query>, AllocError> {
+    let mut queries = Vec::with_capacity(alloc, keys.len())?;
+    for key in keys {
+        let block = made.table.block_for(&key).unwrap_or(0);
+        queries.push(Query { key, block })?;
+    }
+    Ok(queries)
+}
+
+/// A whole get of each key: how many have a value.
+pub fn gets(
+    disk: &mut FileOutside,
+    made: &Made,
+    queries: &[Query],
+    buf: &mut [u8],
+) -> Result<usize> {
+    let mut found = 0usize;
+    for query in queries {
+        if buf.len() < LARGEST_BLOCK_BYTES {
+            bail!("no room for a block");
+        }
+        match made.table.get(disk, &query.key, buf) {
+            Ok(Some(Some(_))) => found = found.saturating_add(1),
+            Ok(_) => {}
+            Err(_) => bail!("a get failed"),
+        }
+    }
+    Ok(found)
+}
+
+/// What a get does behind its look-up in index and filter: how many keys have a value.
+pub fn reads_and_finds(
+    disk: &mut FileOutside,
+    made: &Made,
+    queries: &[Query],
+    buf: &mut [u8],
+) -> Result<usize> {
+    let table = &made.table;
+    let mut found = 0usize;
+    for query in queries {
+        let n = query.block;
+        if buf.len() < LARGEST_BLOCK_BYTES || n >= table.blocks() {
+            bail!("no room for a block, or no block");
+        }
+        let Ok(size) = table.read_block(disk, n, buf) else {
+            bail!("a read failed");
+        };
+        match table.find_in(n, &buf[..size], &query.key) {
+            Ok(Some(Some(_))) => found = found.saturating_add(1),
+            Ok(_) => {}
+            Err(_) => bail!("a block is broken"),
+        }
+    }
+    Ok(found)
+}
+
+/// The look-up in index and filter: for how many keys a block would be read.
+pub fn blocks_for(made: &Made, queries: &[Query]) -> usize {
+    let mut some = 0usize;
+    for query in queries {
+        if made.table.block_for(&query.key).is_some() {
+            some = some.saturating_add(1);
+        }
+    }
+    some
+}
+
+/// The filter alone: how many keys it admits.
+pub fn filtered(made: &Made, queries: &[Query]) -> usize {
+    let mut some = 0usize;
+    for query in queries {
+        if made.table.filter().may_hold(&query.key) {
+            some = some.saturating_add(1);
+        }
+    }
+    some
+}
+
+/// Reads each key's block and sums it: the floor of [`reads_and_finds`].
+pub fn reads_and_sums(disk: &mut FileOutside, queries: &[Query], buf: &mut [u8]) -> Result<u64> {
+    let mut sum = 0u64;
+    for query in queries {
+        sum = sum.wrapping_add(page_sum(disk, query.block, buf)?);
+    }
+    Ok(sum)
+}
+
+/// Reads so many pages of the table one after the other and sums each: the floor of a walk, and of a build.
+pub fn pages_summed(disk: &mut FileOutside, pages: u32, buf: &mut [u8]) -> Result<u64> {
+    let mut sum = 0u64;
+    for page in 0..pages {
+        sum = sum.wrapping_add(page_sum(disk, page, buf)?);
+    }
+    Ok(sum)
+}
+
+// The sum of a page of the table.
+fn page_sum(disk: &mut FileOutside, page: u32, buf: &mut [u8]) -> Result<u64> {
+    if buf.len() < PAGE_BYTES {
+        bail!("no room for a page");
+    }
+    let at = PAGE_BYTES as u64 * (u64::from(FIRST_PAGE) + u64::from(page));
+    let bytes = &mut buf[..PAGE_BYTES];
+    if disk.read(at, bytes).is_err() {
+        bail!("a read failed");
+    }
+    Ok(fnv1a(bytes))
+}
+
+/// Walks over the whole table: how many entries there are.
+pub fn walk(alloc: Global, disk: &mut FileOutside, made: &Made, pairs: u32) -> Result<usize> {
+    let mut cursor = made.table.cursor(alloc, b"")?;
+    let mut walked = 0usize;
+    for _ in 0..pairs {
+        match cursor.next(disk, &made.table) {
+            Ok(Some(_)) => walked = walked.saturating_add(1),
+            Ok(None) => return Ok(walked),
+            Err(_) => bail!("a walk failed"),
+        }
+    }
+    Ok(walked)
+}
