@@ -1,7 +1,7 @@
 -- What a format leaves, and why it is refused.
 use Rattle.std.specs.Prelude.{◌≡◌, ◌⊎◌, ℕ, Bool, true, false, ◌||◌, nat_lt, if◌then◌else◌, Option, Some, None}
 use Rattle.disk_trait.specs.Image.{Image}
-use Rattle.disk_trait.specs.World.{Rose, World}
+use Rattle.disk_trait.specs.World.{ReadMoves, World}
 use Rattle.filter_api.specs.Spellings.{Spelling}
 use Rattle.filter_api.specs.declared.settings.Field.{Field}
 use Rattle.filter_api.specs.declared.settings.Field.TheVariants as field
@@ -12,6 +12,7 @@ use Rattle.manifest.specs.declared.fault.ManifestFault.{ManifestFault}
 use Rattle.manifest.specs.declared.fault.ManifestFault.TheVariants as fault
 use Rattle.manifest_model.specs.Slots.{IsNoStore}
 use Rattle.state_model.specs.State.{new_state}
+use Rattle.store_core.specs.Opening.{FaultRose}
 use Rattle.store_core.specs.declared.error.StoreError.{StoreError}
 use Rattle.store_core.specs.declared.error.StoreError.TheVariants as error
 
@@ -27,14 +28,10 @@ first_bad settings pages =
 abbrev pub IsNoneOrNew : Spelling → Settings → ℕ → Image → Type 0
 IsNoneOrNew spelling settings pages image = IsNoStore image ⊎ IsStateOf spelling (new_state settings pages) image
 
--- a count of failures rose
-abbrev pub AnyRose : World → World → Type 0
-AnyRose old new = Rose old.seen.read_faults new.seen.read_faults ⊎ Rose old.seen.write_faults new.seen.write_faults
-
 -- why a manifest is not made
 abbrev pub IsMakeFault : World → World → ManifestFault → Type 0
 IsMakeFault old new fault.Memory = Unit {0}
-IsMakeFault old new (fault.Device cause) = AnyRose old new
+IsMakeFault old new (fault.Device cause) = FaultRose old new cause
 IsMakeFault old new fault.NotAStore = ⊥
 IsMakeFault old new fault.AlreadyAStore = Unit {0}
 IsMakeFault old new fault.Epoch = ⊥
@@ -49,17 +46,17 @@ IsNotThere fault.AlreadyAStore = ⊥
 IsNotThere fault.Epoch = Unit {0}
 IsNotThere (fault.Damaged damage) = Unit {0}
 
--- why a format is refused, of numbers of which the first bad one is this
+-- Why a format is refused, of numbers of which the first bad one is this. That one is told before any call of the device.
 abbrev pub IsFormatRefusal : Option Field → World → World → StoreError → Type 0
 IsFormatRefusal bad old new error.Memory = bad ≡ None
-IsFormatRefusal bad old new (error.Device cause) = (bad ≡ None) × AnyRose old new
+IsFormatRefusal bad old new (error.Device cause) = (bad ≡ None) × FaultRose old new cause
 IsFormatRefusal bad old new error.Stopped = ⊥
 IsFormatRefusal bad old new (error.Limit limit) = ⊥
 IsFormatRefusal bad old new (error.Full need gap) = ⊥
 IsFormatRefusal bad old new (error.Damaged damage) = ⊥
 IsFormatRefusal bad old new error.NotAStore = ⊥
 IsFormatRefusal bad old new error.AlreadyAStore = bad ≡ None
-IsFormatRefusal bad old new (error.BadSettings field) = bad ≡ Some field
+IsFormatRefusal bad old new (error.BadSettings field) = (bad ≡ Some field) × ReadMoves 0 old new
 
 -- a store is there exactly where it is said to be
 abbrev pub IsThereAnswer : Bool → StoreError → Type 0

@@ -11,4 +11,6 @@ pub mod Tied
 pub mod Answers
 pub mod Getting
 pub mod Ends
+pub mod Opening
 pub mod Formatting
+pub mod Flushing

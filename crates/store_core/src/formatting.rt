@@ -1,5 +1,5 @@
 //! A new store.
-ghost use Rattle.std.specs.Prelude.{◌≡◌, ◌≤◌, Some, None, false, IsTrue, IfErr, MatchResult};
+ghost use Rattle.std.specs.Prelude.{◌≡◌, ◌≤◌, ◌+◌, Some, None, true, false, IsTrue, IfErr, MatchResult};
 ghost use Rattle.disk_trait.specs.World.{Leads, Moves};
 ghost use Rattle.filter_api.specs.Ranges.{InRange};
 ghost use Rattle.filter_api.specs.Spellings.{Spelling};
@@ -36,8 +36,9 @@ fn check_numbers(settings: Settings, pages: u64) -> Result<(), BadSettings>
 impl<F: RangeFilter> Store<F> {
     /// Makes the device an empty store of so many pages, 512 to 16,777,216, with filters by these settings.
     ///
-    /// Whether a store stands there already is looked at before anything is written. Where no image had an open slot at the
-    /// start, each image that a crash may leave meanwhile is no store or the new one, and at `Ok` the new one alone.
+    /// Whether a store stands there already is looked at before anything is written, and one that does stays as it is. Where
+    /// no image had an open slot at the start, each image that a crash may leave meanwhile is no store or the new one, and at
+    /// `Ok` the new one alone.
     pub fn format<D: Disk>(
         alloc: Global,
         disk: &mut D,
@@ -47,6 +48,8 @@ impl<F: RangeFilter> Store<F> {
         ensures crash { IsTrue D.tells → Leads IsNoStore (IsNoneOrNew F.spelling settings pages) (IsStateOf F.spelling (new_state settings pages)) result (D.world disk.old) (D.world disk.new) }
         ensures refused { MatchResult result (λ _. first_bad settings pages ≡ None) (IsFormatRefusal (first_bad settings pages) (D.world disk.old) (D.world disk.new)) }
         ensures there { IsTrue D.tells → MatchResult result (λ _. has_open (D.world disk.old).seen.held ≡ false) (IsThereAnswer (has_open (D.world disk.old).seen.held)) }
+        ensures stays { IsTrue D.tells → has_open (D.world disk.old).seen.held ≡ true → Moves 0 0 2 (D.world disk.old) (D.world disk.new) }
+        ensures moves { Moves 0 (start_of 0 + 1) 4 (D.world disk.old) (D.world disk.new) }
     {
         check_numbers(settings, pages)?;
         if is_store(disk)? {
@@ -70,6 +73,7 @@ fn make_store<D: Disk>(
     ensures crash { (spelling : Spelling) → IsTrue D.tells → Leads IsNoStore (IsNoneOrNew spelling settings pages) (IsStateOf spelling (new_state settings pages)) result (D.world disk.old) (D.world disk.new) }
     ensures cause { IfErr result (IsMakeFault (D.world disk.old) (D.world disk.new)) }
     ensures there { IsTrue D.tells → has_open (D.world disk.old).seen.held ≡ false → IfErr result IsNotThere }
+    ensures moves { Moves 0 (start_of 0 + 1) 2 (D.world disk.old) (D.world disk.new) }
 {
     Log::start(disk, 0)?;
     manifest::format(alloc, disk, settings, pages)

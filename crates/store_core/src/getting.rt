@@ -10,6 +10,7 @@ ghost use Rattle.entry_model.specs.Newest.{lookup};
 ghost use Rattle.filter_api.specs.declared.settings.Settings.{Settings};
 ghost use Rattle.line_model.specs.Limits.{key_limit};
 ghost use Rattle.map_model.specs.SortedMap.{get};
+ghost use Rattle.state_model.specs.Bounds.{get_bound, searched};
 ghost use Rattle.state_model.specs.State.{State};
 ghost use Rattle.state_model.specs.View.{first_found, state_map, view};
 ghost use Rattle.store_core.specs.Getting.{IsBlockIn, IsFoundIn, IsGetRefusal, IsLookFault, IsPlaceIn, IsUndamaged, entries_in, said_at, said_in};
@@ -25,7 +26,7 @@ use crate::store::Store;
 use block_format::Block;
 use disk_trait::Disk;
 use filter_api::RangeFilter;
-use table_file::{Table, TableFault};
+use table_file::{Table, TableFault, standing_tables_are_read};
 
 // Where the newest entry of a key stands: in the block that the first so many bytes of the buffer are, if in a table.
 #[derive(Clone, Copy)]
@@ -74,12 +75,16 @@ fn look_in_all<F: RangeFilter, D: Disk>(
     ensures answer { (settings : Settings) (states : List model.Table) → IsTrue D.tells → AreHeld F.spelling settings tables.now states (D.world disk.old).seen.held
         → IfOk result (λ found. said_in found buffer.new key.now ≡ first_found (entries_in states) key.now) }
     ensures undamaged { (settings : Settings) (states : List model.Table) → IsTrue D.tells → AreHeld F.spelling settings tables.now states (D.world disk.old).seen.held → IfErr result IsNoDamage }
+    ensures bounded { (settings : Settings) (states : List model.Table) → IsTrue D.tells → AreHeld F.spelling settings tables.now states (D.world disk.old).seen.held
+        → (D.world disk.new).seen.reads ≤ (D.world disk.old).seen.reads + searched settings key.now states }
     ensures moves { ReadMoves (length tables.now) (D.world disk.old) (D.world disk.new) }
     ensures cause { IfErr result (IsLookFault (D.world disk.old) (D.world disk.new)) }
 {
     let Some((table, older)) = tables.split_first() else {
         return Ok(None);
     };
+    // the law of the bound: a block is read exactly where the state says that its table is searched
+    standing_tables_are_read();
     match look_in(table, disk, key, buffer)? {
         Some(size) => Ok(Some(size)),
         None => look_in_all(older, disk, key, buffer),
@@ -100,6 +105,8 @@ impl<F: RangeFilter> Store<F> {
         ensures tied { (s : State) → Tied F.spelling (filter_bytes_of F.spelling F.built_cutoff) self.old s (D.world disk.old) → Tied F.spelling (filter_bytes_of F.spelling F.built_cutoff) self.old s (D.world disk.new) }
         ensures undamaged { (s : State) → IsTrue D.tells → Tied F.spelling (filter_bytes_of F.spelling F.built_cutoff) self.old s (D.world disk.old) → IfErr result IsUndamaged }
         ensures refused { MatchResult result (λ _. (self.old.stopped ≡ false) × (key_limit key.now ≡ None)) (IsGetRefusal self.old.stopped key.now (D.world disk.old) (D.world disk.new)) }
+        ensures bounded { (s : State) → IsTrue D.tells → Tied F.spelling (filter_bytes_of F.spelling F.built_cutoff) self.old s (D.world disk.old)
+            → (D.world disk.new).seen.reads ≤ (D.world disk.old).seen.reads + get_bound s key.now }
         ensures moves { ReadMoves (length self.old.tables) (D.world disk.old) (D.world disk.new) }
     {
         let place = self.look_for(disk, key)?;
@@ -114,6 +121,8 @@ impl<F: RangeFilter> Store<F> {
             → IfOk result (λ place. said_at place self.new.memory.entries self.new.buffer key.now ≡ view s key.now) }
         ensures undamaged { (s : State) → IsTrue D.tells → Tied F.spelling (filter_bytes_of F.spelling F.built_cutoff) self.old s (D.world disk.old) → IfErr result IsUndamaged }
         ensures refused { MatchResult result (λ _. (self.old.stopped ≡ false) × (key_limit key.now ≡ None)) (IsGetRefusal self.old.stopped key.now (D.world disk.old) (D.world disk.new)) }
+        ensures bounded { (s : State) → IsTrue D.tells → Tied F.spelling (filter_bytes_of F.spelling F.built_cutoff) self.old s (D.world disk.old)
+            → (D.world disk.new).seen.reads ≤ (D.world disk.old).seen.reads + get_bound s key.now }
         ensures moves { ReadMoves (length self.old.tables) (D.world disk.old) (D.world disk.new) }
     {
         if self.stopped {
@@ -123,7 +132,7 @@ impl<F: RangeFilter> Store<F> {
         if self.memory.get(key).is_some() {
             return Ok(Place::InMemory);
         }
-        match look_in_all(&self.tables, disk, key, &mut self.buffer)? {
+        match look_in_all(self.tables.as_slice(), disk, key, &mut self.buffer)? {
             Some(size) => Ok(Place::InBuffer(size)),
             None => Ok(Place::Nowhere),
         }

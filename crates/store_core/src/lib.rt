@@ -1,24 +1,30 @@
 //! A key-value store over a device: its log, its tables, and the newest entry of each key in memory.
 //!
 //! A [`Store`] is generic in the kind of filter that its tables have, and each call takes any device. [`Store::format`] makes
-//! a device an empty store; [`Store::get`] looks for a key in memory and then in the tables, newest first, and reads at most
-//! one block of each. `specs/Tied` has what a caller may rest on: a store value, the device under it and a state of
+//! a device an empty store, and [`Store::open_store`] opens the one that stands there. [`Store::put`] and [`Store::delete`]
+//! write a record to the log before the entry stands in memory; where it does not fit, [`Store::flush`] makes the memory a
+//! table of level 0. [`Store::get`] looks for a key in memory and then in the tables, newest first, and reads at most one
+//! block of each. `specs/Tied` has what a caller may rest on: a store value, the device under it and a state of
 //! `state_model` are one, where each image that a crash may leave stands for that state, and the tables in memory are those
 //! of its pages. Then a get answers what the map of the state has.
 //!
-//! Opening, writing and flushing are not here yet, so no other crate makes a store value. Not for several processes on one
-//! device, and not for a device that others write.
+//! Merges are not here yet. Not for several processes on one device, and not for a device that others write.
 //!
 //! ```text
 //! Store::<PlainFilter>::format(alloc, &mut disk, settings, 512)?;     // an empty store of 512 pages
+//! let mut store = Store::<PlainFilter>::open_store(alloc, &mut disk)?;
+//! store.put(&mut disk, b"k", b"v")?;                                  // no crash takes it back
 //! store.get(&mut disk, b"k")?                                         // Some(b"v"), or None
 //! ```
 #![tactic(auto)]
 
 mod error;
+mod flushing;
 mod formatting;
 mod getting;
 mod limits;
+mod opening;
+mod putting;
 mod store;
 
 pub use error::{Limit, StoreError};

@@ -6,10 +6,7 @@ use gate_log::Log;
 use manifest::Version;
 use mem_table::MemTable;
 use std::marker::Model;
-use table_file::Table;
-
-/// The bytes of the largest block: 17 pages.
-pub(crate) const BLOCK_BYTES: usize = 69_632;
+use table_file::Tables;
 
 /// A store over a device: its version, its tables, its log, and the newest entry of each key in the log.
 #[derive(Drop)]
@@ -17,7 +14,7 @@ pub struct Store<F: RangeFilter> {
     pub(crate) stopped: bool,
     pub(crate) version: Version,
     // one for each row of the version, in their order
-    pub(crate) tables: Vec<Table<F>>,
+    pub(crate) tables: Tables<F>,
     pub(crate) log: Log,
     pub(crate) memory: MemTable,
     // room for the largest block, in which records are built too
@@ -30,9 +27,9 @@ impl<F: RangeFilter> Model for Store<F> {
 
     ghost Value = { Kept };
 
-    ghost view = { λ s. record { stopped = s.stopped; manifest = s.version; tables = s.tables.items; log = s.log; memory = s.memory; buffer = s.buffer.items } };
+    ghost view = { λ s. record { stopped = s.stopped; manifest = s.version; tables = s.tables.tables; log = s.log; memory = s.memory; buffer = s.buffer.items } };
 
-    ghost invariant = { λ s. IsWhole (record { stopped = s.stopped; manifest = s.version; tables = s.tables.items; log = s.log; memory = s.memory; buffer = s.buffer.items })
+    ghost invariant = { λ s. IsWhole (record { stopped = s.stopped; manifest = s.version; tables = s.tables.tables; log = s.log; memory = s.memory; buffer = s.buffer.items })
         × (vec_len s.buffer ≡ 69632) };
 }
 

@@ -1,10 +1,17 @@
-use Rattle.std.proofs.Common.{◌≡◌, ℕ, subst}
-use Rattle.std.specs.Prelude.{IfSome, Option}
+use Rattle.std.proofs.Common.{◌≡◌, ◌≤◌, ◌+◌, ◌-◌, ℕ, refl, sym, subst, arith}
+use Rattle.std.specs.Prelude.{IfSome, Option, None}
 use Rattle.block_model.specs.Laws.{joined}
 use Rattle.entry_model.specs.Newest.{lookup}
+use Rattle.state_model.specs.Bounds.{searched}
 use Rattle.store_core.specs.Getting.{IsFoundIn, said_in}
+use Rattle.store_core.specs.Tied.{AreHeld}
 use Rattle.store_core.proofs.Founds.{found_first}
+use Rattle.store_core.proofs.ReadBounds.{searched_first, searched_on}
 use Rattle.store_core.proofs.getting.+look_in_all.Goals as goal
+
+-- what was read since
+later_reads : (before now most : ℕ) → now ≤ before + most → now - before ≤ most
+later_reads before now most le = omega (arith, le)
 
 pub returns-in-Some-2-clause-answer : goal.returns-in-Some-2-clause-answer
 returns-in-Some-2-clause-answer g t c settings states tells held =
@@ -13,3 +20,28 @@ returns-in-Some-2-clause-answer g t c settings states tells held =
     let place = subst (λ (o : Option ℕ). IfSome o (λ size. IsFoundIn size buffer key)) c.in-Some-2.is c.in_ok-size.ensures.place in
     found_first g.F.RangeFilter.spelling settings c.in-Some.table.now c.in-Some.older.now _ key c.args.tables.now states _ c.in-Some.ensures.cases.0 held place.some
     (λ blocks stands. subst (λ (o : Option ℕ). said_in o buffer key ≡ lookup (joined blocks) key) c.in-Some-2.is (c.in_ok-size.ensures.answer settings blocks tells stands))
+
+pub returns-in_err-size-clause-bounded : goal.returns-in_err-size-clause-bounded
+returns-in_err-size-clause-bounded g t c settings states tells held =
+    let most = searched_first c.standing_tables_are_read.ensures.keys g.F.RangeFilter.spelling settings c.in-Some.table.now c.in-Some.older.now _ c.args.key.now c.args.tables.now states c.in-Some.ensures.cases.0 held in
+    omega (arith, c.look_in.ensures.moves.reads, most)
+
+pub returns-in-Some-2-clause-bounded : goal.returns-in-Some-2-clause-bounded
+returns-in-Some-2-clause-bounded g t c settings states tells held =
+    let most = searched_first c.standing_tables_are_read.ensures.keys g.F.RangeFilter.spelling settings c.in-Some.table.now c.in-Some.older.now _ c.args.key.now c.args.tables.now states c.in-Some.ensures.cases.0 held in
+    omega (arith, c.look_in.ensures.moves.reads, most)
+
+pub returns-in-None-clause-bounded : goal.returns-in-None-clause-bounded
+returns-in-None-clause-bounded g t c settings states tells held =
+    let spelling = g.F.RangeFilter.spelling in
+    let old = g.D.Disk.world c.args.disk.now in
+    let between = g.D.Disk.world c.look_in.new.disk in
+    let new = g.D.Disk.world c.look_in_all.new.disk in
+    let key = c.args.key.now in
+    let most = searched_on c.standing_tables_are_read.ensures.keys spelling settings c.in-Some.table.now c.in-Some.older.now old.seen.held key None refl
+    (λ blocks stands. subst (λ (o : Option ℕ). said_in o c.look_in.new.buffer key ≡ lookup (joined blocks) key) c.in-None.is (c.in_ok-size.ensures.answer settings blocks tells stands))
+    (new.seen.reads - between.seen.reads)
+    (λ older there. later_reads between.seen.reads new.seen.reads (searched settings key older)
+    (c.look_in_all.ensures.bounded settings older tells (subst (AreHeld spelling settings c.in-Some.older.now older) (sym c.look_in.ensures.moves.held) there)))
+    c.args.tables.now states c.in-Some.ensures.cases.0 held in
+    omega (arith, c.look_in.ensures.moves.reads, most)

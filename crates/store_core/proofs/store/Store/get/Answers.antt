@@ -14,6 +14,7 @@ returns-in_err-place g c = (
     tied = λ s tied. tied_read g.F.RangeFilter.spelling (filter_bytes_of g.F.RangeFilter.spelling g.F.RangeFilter.built_cutoff) c.args.self.now s _ _ _ c.look_for.ensures.moves tied;
     undamaged = λ s tells tied. let here = c.in_err-place.ensures.undamaged s tells tied in search rules;
     refused = search rules;
+    bounded = λ s tells tied. c.look_for.ensures.bounded s tells tied;
     moves = c.look_for.ensures.moves;
   },
 )
@@ -27,6 +28,7 @@ returns g c = (
     tied = λ s tied. tied_read g.F.RangeFilter.spelling (filter_bytes_of g.F.RangeFilter.spelling g.F.RangeFilter.built_cutoff) c.args.self.now s _ _ _ c.look_for.ensures.moves tied;
     undamaged = λ s tells tied. tt;
     refused = c.in_ok-place.ensures.refused;
+    bounded = λ s tells tied. c.look_for.ensures.bounded s tells tied;
     moves = c.look_for.ensures.moves;
   },
 )

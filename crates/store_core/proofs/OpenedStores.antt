@@ -1,0 +1,226 @@
+-- What a store that was opened is, and what its opening answers.
+use Rattle.std.proofs.Common.{◌≡◌, ◌⊎◌, inl, inr, ◌≤◌, ◌+◌, ◌*◌, ℕ, false, List, [], ◌∷◌, length, refl, sym, ap, subst, ◌∙◌, arith}
+use Rattle.std.specs.Prelude.{map, None, Result, Ok, Err, IfOk, IfErr, MatchResult}
+use Rattle.std.specs.List.{AllByRecursion}
+use Rattle.std.proofs.lemmas.List.{length-map}
+use Rattle.byte_fields.specs.Faults.{Fault}
+use Rattle.byte_fields.specs.declared.parts.Damage.{Damage}
+use Rattle.byte_fields.specs.declared.parts.Damage.TheVariants as damage
+use Rattle.byte_fields.specs.declared.parts.Part.TheVariants as part
+use Rattle.byte_fields.specs.declared.parts.Row.{Row}
+use Rattle.disk_trait.specs.Image.{Image}
+use Rattle.disk_trait.specs.World.{IsDurable, ReadMoves, SyncMoves, World}
+use Rattle.disk_trait.proofs.Calls.{reads_keep}
+use Rattle.entry_model.specs.Entries.{Entry, filled}
+use Rattle.entry_model.specs.Newest.{newest_entries}
+use Rattle.filter_api.specs.Spellings.{Spelling, SpellsOne}
+use Rattle.filter_api.specs.declared.settings.Settings.{Settings}
+use Rattle.gate_log.specs.Faults.{IsShapeIn}
+use Rattle.gate_log.specs.declared.fault.LogFault.{LogFault}
+use Rattle.gate_log.specs.declared.fault.LogFault.TheVariants as log
+use Rattle.image_model.proofs.Opening.{no_store_has_no_state, state_has_none}
+use Rattle.image_model.proofs.Sound.{state_sound}
+use Rattle.image_model.specs.Opening.{FirstDamage, IsOpened, OpensWith, at_a_table, at_the_log, at_the_ranges, at_the_slots, at_the_version, key_range_of}
+use Rattle.image_model.specs.Stands.{IsNamedBy, IsReady, IsStateOf, UnnamedStand, as_shown, settings_of, unnamed}
+use Rattle.image_model.specs.Tables.{AreTablesOf}
+use Rattle.log_model.proofs.Ends.{one_list}
+use Rattle.log_model.specs.Area.{LogIs, Position, area_in}
+use Rattle.manifest.proofs.Steps.{are_slots}
+use Rattle.manifest.specs.Loading.{IsLoadAnswer, IsLoaded}
+use Rattle.manifest.specs.Manifest.{Manifest, Stands, other_place, place_of}
+use Rattle.manifest.specs.declared.fault.ManifestFault.{ManifestFault}
+use Rattle.manifest.specs.declared.fault.ManifestFault.TheVariants as manifest
+use Rattle.manifest_model.proofs.Versions.{in_use, one_version}
+use Rattle.manifest_model.specs.Slots.{IsVersionOf}
+use Rattle.manifest_model.specs.Tables.{ranges_fault}
+use Rattle.manifest_model.specs.Version.{Version, log_page_of}
+use Rattle.map_model.specs.SortedMap.{Bytes}
+use Rattle.state_model.specs.State.{Job, State, written_by}
+use Rattle.table_file.specs.Faults.{filter_fault_of}
+use Rattle.table_file.specs.Opened.{Opened}
+use Rattle.table_model.specs.Tables.{FilterBytes, Table}
+use Rattle.store_core.specs.Faults.{of_log_fault, of_manifest_fault}
+use Rattle.store_core.specs.Kept.{Kept, rows_of}
+use Rattle.store_core.specs.Opening.{AreOpened, IsFree, IsOpenAnswer, IsOpenRefusal, IsOpenedAs, IsRangesDamage, IsTablesAnswer, IsVersionOpened, range_of}
+use Rattle.store_core.specs.Tied.{AreHeld, IsUnder, Tied}
+use Rattle.store_core.specs.declared.error.StoreError.{StoreError}
+use Rattle.store_core.specs.declared.error.StoreError.TheVariants as error
+use Rattle.store_core.proofs.Causes.{refusal_behind}
+use Rattle.store_core.proofs.OpeningTables.{all_opened, as_many, held_of, ranges_are}
+
+-- ---- what is answered of an image
+
+module _ (spelling : Spelling) (first : Bytes → Fault) (image : Image) where
+  pub load_answer : (fault : ManifestFault) → IsLoadAnswer image fault → IsOpenAnswer spelling first image (of_manifest_fault fault)
+  load_answer manifest.Memory is = tt
+  load_answer (manifest.Device cause) is = tt
+  load_answer manifest.NotAStore is = is
+  load_answer manifest.AlreadyAStore is = is
+  load_answer manifest.Epoch is = is
+  load_answer (manifest.Damaged d) is = at_the_slots is
+
+  -- a version is loaded
+  module _ (m : Manifest) (loaded : IsLoaded image m) where
+    pub in_use_is : IsVersionOf m.version image
+    in_use_is = in_use (place_of m.slot) (other_place m.slot) m.version image (are_slots m.slot loaded.slot) loaded.stands.current
+
+    pub tables_answer : (why : StoreError) → IsTablesAnswer spelling first (settings_of m.version) m.version.rows image why → IsOpenAnswer spelling first image why
+    tables_answer error.Memory is = tt
+    tables_answer (error.Device cause) is = tt
+    tables_answer error.Stopped is = is
+    tables_answer (error.Limit limit) is = is
+    tables_answer (error.Full need gap) is = is
+    tables_answer (error.Damaged d) is = at_the_version (place_of m.slot) (other_place m.slot) m.version (are_slots m.slot loaded.slot) loaded.stands.current (at_a_table d is)
+    tables_answer error.NotAStore is = absurd is
+    tables_answer error.AlreadyAStore is = is
+    tables_answer (error.BadSettings field) is = is
+
+    -- its tables are open
+    module _ (ts : List Opened) (rows : rows_of ts ≡ m.version.rows) (opened : AreOpened spelling (settings_of m.version) ts image) where
+      all_of_rows : AllByRecursion (IsOpened spelling (settings_of m.version) image) m.version.rows
+      all_of_rows = subst (AllByRecursion (IsOpened spelling (settings_of m.version) image)) rows (all_opened spelling (settings_of m.version) image ts opened)
+
+      ranges_of_rows : ranges_fault (map (key_range_of image) m.version.rows) ≡ ranges_fault (map range_of ts)
+      ranges_of_rows = ap (λ (rs : List Row). ranges_fault (map (key_range_of image) rs)) (sym rows) ∙ ap ranges_fault (ranges_are spelling (settings_of m.version) image ts opened)
+
+      pub order_answer : (d : Damage) → IsRangesDamage m.slot (ranges_fault (map range_of ts)) d → IsOpenAnswer spelling first image (error.Damaged d)
+      order_answer d is =
+          subst (λ (x : Damage). IsOpenAnswer spelling first image (error.Damaged x)) (sym is.2)
+          (at_the_version (place_of m.slot) (other_place m.slot) m.version (are_slots m.slot loaded.slot) loaded.stands.current
+          (at_the_ranges is.0 all_of_rows (ranges_of_rows ∙ is.1)))
+
+      -- their ranges have no fault
+      module _ (none : ranges_fault (map range_of ts) ≡ None) (area : ℕ) (area_is : m.version.log_page ≡ log_page_of area) where
+        pub log_answer : (fault : LogFault) → IsShapeIn area image fault → IsOpenAnswer spelling first image (of_log_fault fault)
+        log_answer log.Memory is = tt
+        log_answer (log.Device cause) is = tt
+        log_answer (log.Shape at rule) is =
+            at_the_version (place_of m.slot) (other_place m.slot) m.version (are_slots m.slot loaded.slot) loaded.stands.current
+            (at_the_log area at rule all_of_rows (ranges_of_rows ∙ none) area_is is)
+
+        opens_with : (entries : List Entry) → LogIs area entries image → OpensWith spelling m.version entries image
+        opens_with entries spelled = record {
+          version_is = in_use_is;
+          tables = all_of_rows;
+          ranges = ranges_of_rows ∙ none;
+          area = area;
+          area_is = area_is;
+          log = spelled;
+        }
+
+        -- and its log is replayed: the store of all these
+        pub opened_as : (store : Kept) (p : Position) (entries : List Entry) → store ≡ record { stopped = false; manifest = m; tables = ts; log = p; memory = store.memory; buffer = store.buffer }
+            → LogIs area entries image → p.filled ≡ filled entries → store.memory.entries ≡ newest_entries entries → IsOpenedAs spelling image store
+        opened_as store p entries same spelled filled_is memory_is =
+            subst (IsOpenedAs spelling image) (sym same)
+            (record { loaded = loaded; entries = entries; opens = opens_with entries spelled; rows = rows; tables = opened; log = filled_is; memory = memory_is })
+
+-- what is made of these parts: the store, or there is no memory
+pub parts_answer : (spelling : Spelling) (first : Bytes → Fault) (image : Image) (m : Manifest) (ts : List Opened) (p : Position) (entries : List Entry) (area : ℕ) (r : Result Kept StoreError)
+    → IsVersionOpened spelling image m ts → m.version.log_page ≡ log_page_of area → LogIs area entries image → p.filled ≡ filled entries
+    → IfOk r (λ store. store ≡ record { stopped = false; manifest = m; tables = ts; log = p; memory = store.memory; buffer = store.buffer })
+    → IfOk r (λ store. store.memory.entries ≡ newest_entries entries) → IfErr r (λ why. why ≡ error.Memory)
+    → MatchResult r (IsOpenedAs spelling image) (IsOpenAnswer spelling first image)
+parts_answer spelling first image m ts p entries area (Ok store) found area_is spelled filled_is same memory_is wanted =
+    opened_as spelling first image m found.loaded ts found.rows found.tables found.ranges area area_is store p entries same spelled filled_is memory_is
+parts_answer spelling first image m ts p entries area (Err why) found area_is spelled filled_is same memory_is wanted = subst (IsOpenAnswer spelling first image) (sym wanted) tt
+
+-- ---- the same, of what is as it was
+
+pub same_tables_answer : (spelling : Spelling) (first : Bytes → Fault) (settings others : Settings) (rows more : List Row) (image was : Image) (why : StoreError) → settings ≡ others → rows ≡ more → was ≡ image
+    → IsTablesAnswer spelling first others more was why → IsTablesAnswer spelling first settings rows image why
+same_tables_answer spelling first settings others rows more image was why same_settings same_rows held is =
+    subst (λ (x : Settings). IsTablesAnswer spelling first x rows image why) (sym same_settings)
+    (subst (λ (rs : List Row). IsTablesAnswer spelling first others rs image why) (sym same_rows) (subst (λ (f : Image). IsTablesAnswer spelling first others more f why) held is))
+
+pub same_opened : (spelling : Spelling) (settings others : Settings) (ts : List Opened) (image was : Image) → settings ≡ others → was ≡ image → AreOpened spelling others ts was → AreOpened spelling settings ts image
+same_opened spelling settings others ts image was same_settings held is =
+    subst (λ (x : Settings). AreOpened spelling x ts image) (sym same_settings) (subst (λ (f : Image). AreOpened spelling others ts f) held is)
+
+pub same_ranges : (slot other : ℕ) (ts us : List Opened) (d : Damage) → slot ≡ other → us ≡ ts → IsRangesDamage other (ranges_fault (map range_of us)) d → IsRangesDamage slot (ranges_fault (map range_of ts)) d
+same_ranges slot other ts us d same_slot same is =
+    subst (λ (n : ℕ). IsRangesDamage n (ranges_fault (map range_of ts)) d) (sym same_slot) (subst (λ (xs : List Opened). IsRangesDamage other (ranges_fault (map range_of xs)) d) same is)
+
+pub as_few : (ts : List Opened) (rows : List Row) → rows_of ts ≡ rows → length ts ≡ length rows
+as_few ts rows same = sym (length-map ts _) ∙ ap length same
+
+-- ---- of an image that stands for a state
+
+module _ (spelling : Spelling) (one : SpellsOne spelling) (s : State) (image : Image) (is : IsStateOf spelling s image) where
+  -- nothing is refused but for want of memory, and where the device fails
+  pub free_of : (first : Bytes → Fault) (why : StoreError) → IsOpenAnswer spelling first image why → IsFree why
+  free_of first error.Memory answer = tt
+  free_of first (error.Device cause) answer = tt
+  free_of first error.Stopped answer = answer
+  free_of first (error.Limit limit) answer = answer
+  free_of first (error.Full need gap) answer = answer
+  free_of first (error.Damaged d) answer = state_has_none spelling (filter_fault_of first) s image d one is answer
+  free_of first error.NotAStore answer = no_store_has_no_state spelling s image answer is
+  free_of first error.AlreadyAStore answer = answer
+  free_of first (error.BadSettings field) answer = answer
+
+  module _ (m : Manifest) (loaded : IsLoaded image m) where
+    same_version : is.0 ≡ m.version
+    same_version = one_version image is.0 m.version is.1.version_is (in_use_is spelling (λ bytes. record { place = 0; rule = 0 }) image m loaded)
+
+    named : IsNamedBy spelling m.version s image
+    named = subst (λ (v : Version). IsNamedBy spelling v s image) same_version is.1.named
+
+    -- it has as many tables as its version has rows
+    pub rows_many : length m.version.rows ≡ length s.tables
+    rows_many = as_many spelling s.settings image m.version.rows s.tables named.tables
+
+shown : (s : State) → s.job ≡ None → s.kept ≡ [] → s ≡ as_shown s
+shown s no_job none_kept = λ i. record { settings = s.settings; pages = s.pages; epoch = s.epoch; log = s.log; tables = s.tables; job = no_job i; kept = none_kept i }
+
+none_unnamed : (spelling : Spelling) (s : State) (image : Image) → s.job ≡ None → s.kept ≡ [] → UnnamedStand spelling s image
+none_unnamed spelling s image no_job none_kept = subst (λ (t : State). UnnamedStand spelling t image) (sym (shown s no_job none_kept)) tt
+
+-- the store that was opened is that of the state
+module _ (spelling : Spelling) (filter_bytes : FilterBytes) (one : SpellsOne spelling) (s : State) (store : Kept) (image : Image) (is : IsStateOf spelling s image)
+    (opened : IsOpenedAs spelling image store) where
+  abbrev v : Version
+  v = store.manifest.version
+
+  named_so : IsNamedBy spelling v s image
+  named_so = named spelling one s image is store.manifest opened.loaded
+
+  same_log : opened.entries ≡ s.log
+  same_log =
+      let area : named_so.area ≡ opened.opens.area = omega (arith, named_so.area_is, opened.opens.area_is) in
+      one_list opened.entries s.log (area_in opened.opens.area image) opened.opens.log (subst (λ (n : ℕ). LogIs n s.log image) area named_so.log)
+
+  under : IsUnder spelling store.manifest store.tables s image
+  under = record {
+    ready = record {
+      current = opened.loaded.stands.current;
+      gate = opened.loaded.stands.gate;
+      named = subst (λ (t : State). IsNamedBy spelling v t image) (shown s named_so.no_job named_so.none_kept) named_so;
+      unnamed = none_unnamed spelling s image named_so.no_job named_so.none_kept;
+    };
+    tables = held_of spelling s.settings (settings_of v) image one store.tables s.tables opened.tables
+        (subst (λ (rs : List Row). AreTablesOf spelling s.settings rs s.tables image) (sym opened.rows) named_so.tables);
+  }
+
+  pub tied_of : (n : ℕ) (a b : World) → a.seen.held ≡ image → IsDurable a → ReadMoves n a b → Tied spelling filter_bytes store s b
+  tied_of n a b held_is durable reads = record {
+    sound = state_sound spelling filter_bytes s image is;
+    no_job = named_so.no_job;
+    none_kept = named_so.none_kept;
+    images = reads_keep (IsUnder spelling store.manifest store.tables s) n a b reads
+        (λ left_image left. subst (IsUnder spelling store.manifest store.tables s) (sym (durable left_image left ∙ held_is)) under);
+    log = opened.log ∙ ap filled same_log;
+    memory = opened.memory ∙ ap newest_entries same_log;
+  }
+
+-- an answer of an image that stands for a state
+pub opened_tied : (spelling : Spelling) (first : Bytes → Fault) (filter_bytes : FilterBytes) (one : SpellsOne spelling) (s : State) (image : Image) (n : ℕ) (a b : World) (r : Result Kept StoreError)
+    → IsStateOf spelling s image → a.seen.held ≡ image → IsDurable a → ReadMoves n a b → MatchResult r (IsOpenedAs spelling image) (IsOpenAnswer spelling first image)
+    → MatchResult r (λ store. Tied spelling filter_bytes store s b) IsFree
+opened_tied spelling first filter_bytes one s image n a b (Ok store) is held_is durable reads opened = tied_of spelling filter_bytes one s store image is opened n a b held_is durable reads
+opened_tied spelling first filter_bytes one s image n a b (Err why) is held_is durable reads answer = free_of spelling one s image is first why answer
+
+-- behind a sync
+pub synced_refusal : (a b c : World) (r : Result Kept StoreError) → SyncMoves a b → IfErr r (IsOpenRefusal b c) → IfErr r (IsOpenRefusal a c)
+synced_refusal a b c (Ok store) sync is = tt
+synced_refusal a b c (Err why) sync is = refusal_behind a b c (omega (arith, sync.read_faults)) sync.write_faults why is

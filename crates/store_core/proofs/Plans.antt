@@ -1,0 +1,115 @@
+-- What is planned for a flush: the row of the table, and the version in which it is the first.
+use Rattle.std.proofs.Common.{◌≡◌, ◌∙◌, ◌<◌, ◌≤◌, ◌+◌, ◌^◌, ℕ, List, [], ◌∷◌, length, refl, sym, ap, ap₂, subst, arith, map}
+use Rattle.std.specs.Prelude.{Some}
+use Rattle.std.specs.List.{AllByRecursion}
+use Rattle.block_model.specs.Block.{IsTable}
+use Rattle.block_model.specs.Pages.{data_pages, index_length, pages_for}
+use Rattle.block_model.specs.Places.{pages_of}
+use Rattle.byte_fields.specs.declared.parts.Row.{Row}
+use Rattle.entry_model.specs.Entries.{Entry, keys_of}
+use Rattle.extent_model.proofs.Free.{gap_is_free}
+use Rattle.extent_model.specs.Extents.{AreApart, IsOnDevice}
+use Rattle.extent_model.specs.Gaps.{first_gap}
+use Rattle.filter_api.specs.Spellings.{Spelling}
+use Rattle.filter_api.specs.declared.settings.Settings.{Settings}
+use Rattle.filter_model.specs.Leaves.{Leaf}
+use Rattle.manifest.specs.Manifest.{Manifest}
+use Rattle.manifest_model.proofs.Rows.{rows_keep}
+use Rattle.manifest_model.specs.Laws.{IsVersion, RowFits}
+use Rattle.manifest_model.specs.Rows.{AreTableRows, IsTableRow, extent_of}
+use Rattle.map_model.specs.SortedMap.{Bytes}
+use Rattle.state_model.proofs.Places.{entries_in_pages}
+use Rattle.table_file.specs.Building.{Built}
+use Rattle.table_model.specs.Tables.{FilterBytes, filter_bytes_of, table_pages}
+use Rattle.table_model.specs.Written.{row_for}
+use Rattle.store_core.specs.Flushing.{IsPlan, need_under}
+use Rattle.store_core.proofs.Flushes.{some_pages}
+use Rattle.store_core.proofs.NextVersions.{next_is_version}
+
+-- ---- the row of a table of level 0
+
+row_of_table : (first : ℕ) (entries : List Entry) (filter_bytes : Bytes) → IsTable entries → IsTableRow (row_for 0 first entries filter_bytes)
+unfolding row_for
+row_of_table first entries filter_bytes table = record {
+  level = omega arith;
+  data_pages = omega (arith, table.some, entries_in_pages entries);
+  index_pages = refl;
+  filter_pages = refl;
+  entries = table.some;
+}
+
+row_pages : (first : ℕ) (entries : List Entry) (filter_bytes : Bytes)
+    → pages_of (row_for 0 first entries filter_bytes) ≡ data_pages entries + pages_for (index_length entries) + pages_for (length filter_bytes)
+unfolding row_for
+row_pages first entries filter_bytes = refl
+
+pub row_level : (first : ℕ) (entries : List Entry) (filter_bytes : Bytes) → (row_for 0 first entries filter_bytes).level ≡ 0
+unfolding row_for
+row_level first entries filter_bytes = refl
+
+-- a row whose numbers have the widths of its fields
+pub row_fits : (row : Row) → row.level < 2 ^ 8 → row.first_page < 2 ^ 32 → row.data_pages < 2 ^ 32 → row.index_pages < 2 ^ 32 → row.filter_pages < 2 ^ 32 → row.entries < 2 ^ 32
+    → row.index_len < 2 ^ 64 → row.filter_len < 2 ^ 64 → row.index_sum < 2 ^ 64 → row.filter_sum < 2 ^ 64 → RowFits row
+row_fits row level first blocks index filter entries index_len filter_len index_sum filter_sum = (
+  omega (arith, level),
+  (
+    omega arith,
+    (
+      omega (arith, first),
+      (
+        omega (arith, blocks),
+        (
+          omega (arith, index),
+          (
+            omega (arith, filter),
+            (
+              omega (arith, entries),
+              (omega (arith, index_len), (omega (arith, filter_len), (omega (arith, index_sum), (omega (arith, filter_sum), (omega arith, tt))))),
+            ),
+          ),
+        ),
+      ),
+    ),
+  ),
+)
+
+-- ---- a plan
+
+module _ (spelling : Spelling) (built_cutoff : ℕ → List Leaf → ℕ) (m : Manifest) (entries : List Entry) (parts : Built) (row : Row) (next : Manifest) (is : IsVersion m.version)
+    (plan : IsPlan spelling built_cutoff m entries parts row next) where
+  abbrev filter_bytes : FilterBytes
+  filter_bytes = filter_bytes_of spelling built_cutoff
+
+  abbrev bytes : Bytes
+  bytes = filter_bytes_of spelling built_cutoff parts.settings (keys_of parts.entries)
+
+  row_is : row ≡ row_for 0 row.first_page parts.entries (filter_bytes_of spelling built_cutoff parts.settings (keys_of parts.entries))
+  row_is = plan.row_is
+
+  need_is : need_under (filter_bytes_of spelling built_cutoff) m.version entries ≡ table_pages (filter_bytes_of spelling built_cutoff) parts.settings parts.entries
+  need_is = sym (ap (λ (b : Built). table_pages filter_bytes b.settings b.entries) plan.parts_are)
+
+  pub pages_are : pages_of row ≡ table_pages (filter_bytes_of spelling built_cutoff) parts.settings parts.entries
+  pages_are = ap pages_of row_is ∙ row_pages row.first_page parts.entries bytes
+
+  old : AreTableRows m.version.pages m.version.rows
+  old = rows_keep.kept m.version is.placed
+
+  pub plan_is_free : IsOnDevice m.version.pages (row.first_page, table_pages (filter_bytes_of spelling built_cutoff) parts.settings parts.entries)
+      × AllByRecursion (AreApart (row.first_page, table_pages (filter_bytes_of spelling built_cutoff) parts.settings parts.entries)) (map extent_of m.version.rows)
+  plan_is_free =
+      gap_is_free m.version.pages (map extent_of m.version.rows) (table_pages filter_bytes parts.settings parts.entries) row.first_page (some_pages filter_bytes parts.settings parts.entries)
+      old.laid.on_device (subst (λ (n : ℕ). first_gap m.version.pages (map extent_of m.version.rows) n ≡ Some row.first_page) need_is plan.place)
+
+  -- the version to come keeps the rules
+  pub plan_is_version : IsTable entries → RowFits row → IsVersion next.version
+  plan_is_version table fits =
+      let table_of_parts : IsTable parts.entries = subst IsTable (sym (ap (λ (b : Built). b.entries) plan.parts_are)) table in
+      let free = subst (λ (n : ℕ). IsOnDevice m.version.pages (row.first_page, n) × AllByRecursion (AreApart (row.first_page, n)) (map extent_of m.version.rows)) (sym pages_are) plan_is_free in
+      subst (λ (n : Manifest). IsVersion n.version) (sym plan.next_is)
+      (next_is_version m row is plan.few (ap (λ (r : Row). r.level) row_is ∙ row_level row.first_page parts.entries bytes)
+      (subst IsTableRow (sym row_is) (row_of_table row.first_page parts.entries bytes table_of_parts)) fits free.0 free.1)
+
+  -- and its table ends on its device
+  pub plan_fits : row.first_page + table_pages (filter_bytes_of spelling built_cutoff) parts.settings parts.entries ≤ next.version.pages
+  plan_fits = omega (arith, plan_is_free.0.to, ap (λ (n : Manifest). n.version.pages) plan.next_is)

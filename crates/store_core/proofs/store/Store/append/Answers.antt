@@ -1,0 +1,78 @@
+use Rattle.std.proofs.Common.{◌≡◌, ◌≤◌, ◌+◌, ◌*◌, ◌++◌, ◌∷◌, [], ◌∙◌, refl, sym, ap, subst, arith, true}
+use Rattle.std.specs.Prelude.{Option}
+use Rattle.disk_trait.specs.World.{WriteMoves}
+use Rattle.entry_model.specs.Entries.{Entry, IsEntry, entry_of, need}
+use Rattle.log_model.proofs.Logs.{all_push}
+use Rattle.map_model.specs.SortedMap.{Bytes}
+use Rattle.table_model.specs.Tables.{filter_bytes_of}
+use Rattle.store_core.specs.Kept.{Kept}
+use Rattle.store_core.specs.Tied.{Tied}
+use Rattle.store_core.proofs.Ties.{append_done, append_fails, append_moves, filled_logged}
+use Rattle.store_core.proofs.store.Store.append.Goals as goal
+use Rattle.store_core.proofs.store.Store.append.Goals.{in-Some-1, in-None-1}
+
+-- the entry of its own key and value
+same_entry : (e : Entry) (key : Bytes) (value : Option Bytes) → key ≡ e.key → value ≡ e.value → entry_of key value ≡ e
+same_entry e key value same_key same_value = ap (λ (k : Bytes). entry_of k value) same_key ∙ ap (entry_of e.key) same_value
+
+pub invariant_of-self : goal.invariant_of-self
+invariant_of-self g c =
+    let whole = c.self.invariant.0 in
+    let before = whole.entries in
+    let e = c.args.entry in
+    let same = same_entry e _ _ c.key.ensures c.value.ensures in
+    let fits = subst (λ (k : Kept). k.log.filled + need e ≤ 262144) (sym c.self.view_is) c.requires.fits in
+    let more = subst (λ (x : Entry). c.append.new.self.filled + 1 ≡ c.self.inside.log.filled + need x) same c.in-Ok.ensures.filled in
+    let filled_is = filled_logged before.entries e c.self.inside.log.filled c.append.new.self.filled before.filled_is more in (
+      record {
+        version = whole.version;
+        slot = whole.slot;
+        rows = whole.rows;
+        area = whole.area ∙ ap (λ (n : _). 64 * (n + 1)) (sym c.append.ensures.area);
+        entries = record {
+          entries = before.entries ++ e ∷ [];
+          sound = all_push IsEntry before.entries e before.sound c.requires.sound;
+          fits = omega (arith, filled_is, more, fits);
+          filled_is = filled_is;
+          memory_is = c.set.ensures.newest before.entries before.memory_is;
+        };
+      },
+      c.self.invariant.1,
+    )
+
+pub returns-in-Ok-clause-turns : goal.returns-in-Ok-clause-turns
+returns-in-Ok-clause-turns g c s tells is =
+    let spelling = g.F.RangeFilter.spelling in
+    let bytes = filter_bytes_of g.F.RangeFilter.spelling g.F.RangeFilter.built_cutoff in
+    let e = c.args.entry in
+    let tied = subst (λ (k : Kept). Tied spelling bytes k s (g.D.Disk.world c.args.disk.now)) (sym c.self.view_is) is in
+    let fits = subst (λ (k : Kept). k.log.filled + need e ≤ 262144) (sym c.self.view_is) c.requires.fits in
+    append_done spelling bytes _ s e _ _ _ (same_entry e _ _ c.key.ensures c.value.ensures) tied c.self.invariant.0 fits c.append.ensures.moves _ _ _
+    (c.in-Ok.ensures.crash s.log tells tied.log) refl refl c.in-Ok.ensures.filled (c.set.ensures.newest s.log tied.memory) c.requires.sound
+
+pub returns-in-Ok-clause-moves : goal.returns-in-Ok-clause-moves
+returns-in-Ok-clause-moves g c =
+    let e = c.args.entry in
+    let whole = c.self.invariant.0 in
+    subst (λ (k : Kept). WriteMoves 0 (4096 * k.manifest.version.pages) (g.D.Disk.world c.args.disk.now) (g.D.Disk.world c.append.new.disk)) c.self.view_is
+    (append_moves _ c.self.inside.log.area c.self.inside.log.filled e _ _ _ whole.version whole.area (same_entry e _ _ c.key.ensures c.value.ensures)
+    (subst (λ (k : Kept). k.log.filled + need e ≤ 262144) (sym c.self.view_is) c.requires.fits) c.append.ensures.moves)
+
+pub returns-in-Err-clause-turns : goal.returns-in-Err-clause-turns
+returns-in-Err-clause-turns g c s tells is =
+    let spelling = g.F.RangeFilter.spelling in
+    let bytes = filter_bytes_of g.F.RangeFilter.spelling g.F.RangeFilter.built_cutoff in
+    let e = c.args.entry in
+    let tied = subst (λ (k : Kept). Tied spelling bytes k s (g.D.Disk.world c.args.disk.now)) (sym c.self.view_is) is in
+    let fits = subst (λ (k : Kept). k.log.filled + need e ≤ 262144) (sym c.self.view_is) c.requires.fits in
+    let stopped : c.match-entry.self.stopped ≡ true = elim c.match-entry.branch [ in-Some-1 w ↦ ap (λ (k : Kept). k.stopped) w.self-is | in-None-1 w ↦ ap (λ (k : Kept). k.stopped) w.self-is ] in
+    append_fails spelling bytes _ s e _ _ _ (same_entry e _ _ c.key.ensures c.value.ensures) tied c.self.invariant.0 fits c.append.ensures.moves _ _ _
+    (c.in-Err.ensures.crash s.log tells tied.log) stopped
+
+pub returns-in-Err-clause-moves : goal.returns-in-Err-clause-moves
+returns-in-Err-clause-moves g c =
+    let e = c.args.entry in
+    let whole = c.self.invariant.0 in
+    subst (λ (k : Kept). WriteMoves 0 (4096 * k.manifest.version.pages) (g.D.Disk.world c.args.disk.now) (g.D.Disk.world c.append.new.disk)) c.self.view_is
+    (append_moves _ c.self.inside.log.area c.self.inside.log.filled e _ _ _ whole.version whole.area (same_entry e _ _ c.key.ensures c.value.ensures)
+    (subst (λ (k : Kept). k.log.filled + need e ≤ 262144) (sym c.self.view_is) c.requires.fits) c.append.ensures.moves)

@@ -1,0 +1,16 @@
+use Rattle.std.proofs.Common.{◌∙◌, refl}
+use Rattle.line_model.specs.Requests as request
+use Rattle.state_model.specs.Changes.{flushed}
+use Rattle.table_model.specs.Tables.{filter_bytes_of}
+use Rattle.store_core.proofs.Answering.{is_left, is_made, on_err, wrote_answers}
+use Rattle.store_core.proofs.store.Store.flush.Goals as goal
+
+pub returns-clause-answered : goal.returns-clause-answered
+returns-clause-answered g c s tells runs tied =
+    let spelling = g.F.RangeFilter.spelling in
+    let bytes = filter_bytes_of g.F.RangeFilter.spelling g.F.RangeFilter.built_cutoff in
+    let old = g.D.Disk.world c.args.disk.now in
+    wrote_answers spelling bytes s request.Flush old (g.D.Disk.world c.flush_memory.new.disk) (flushed bytes s) c.flush_memory.result c.flush_memory.new.self refl refl refl
+    (λ failed none. on_err _ c.flush_memory.result c.flush_memory.ensures.some failed (tied.memory ∙ none))
+    (λ failed to made. ((λ none. on_err _ c.flush_memory.result c.flush_memory.ensures.some failed (tied.memory ∙ none)), is_made (flushed bytes s) to made))
+    (is_left spelling bytes c.args.self.now s old tied) c.flush_memory.ensures.refused (c.flush_memory.ensures.wrote s tells tied)

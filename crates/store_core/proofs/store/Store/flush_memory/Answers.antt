@@ -1,0 +1,111 @@
+use Rattle.std.proofs.Common.{◌≡◌, ◌≢◌, List, [], ◌∷◌, ◌∙◌, refl, sym, ap, subst, arith, rules, true}
+use Rattle.std.specs.Prelude.{Result, Err}
+use Rattle.manifest.specs.declared.fault.ManifestFault.TheVariants as fault
+use Rattle.state_model.specs.Changes.{flushed}
+use Rattle.table_file.specs.Opened.{Opened}
+use Rattle.table_file.specs.Writing.{opened_of}
+use Rattle.table_model.specs.Tables.{filter_bytes_of}
+use Rattle.store_core.specs.Answers.{Wrote}
+use Rattle.store_core.specs.Flushing.{IsPlan, IsPlanRefusal}
+use Rattle.store_core.specs.Kept.{IsWhole, Kept}
+use Rattle.store_core.specs.Tied.{Tied}
+use Rattle.store_core.specs.declared.error.StoreError.{StoreError}
+use Rattle.store_core.proofs.FlushAnswers.{flush_done, flush_failed, nothing_to_flush, passed_on, plan_of_memory, plan_refused, row_again, row_within, wanted_with}
+use Rattle.store_core.proofs.Wholes.{begun_where_none, flushed_whole, memory_table}
+use Rattle.store_core.proofs.Writing.{never}
+use Rattle.store_core.proofs.store.Store.flush_memory.Goals as goal
+use Rattle.store_core.proofs.store.Store.flush_memory.Goals.{in-Device, in_default}
+
+pub returns-then-is_empty-clause-wrote : goal.returns-then-is_empty-clause-wrote
+returns-then-is_empty-clause-wrote g c s tells tied =
+    nothing_to_flush g.F.RangeFilter.spelling (filter_bytes_of g.F.RangeFilter.spelling g.F.RangeFilter.built_cutoff) c.args.self.now s _ _
+    (subst IsWhole c.self.view_is c.self.invariant.0) tied (subst (λ (k : Kept). k.memory.entries ≡ []) c.self.view_is (c.is_empty.ensures.0 c.if-is_empty.true))
+
+pub returns-then-is_empty-clause-begun : goal.returns-then-is_empty-clause-begun
+returns-then-is_empty-clause-begun g c =
+    begun_where_none c.args.self.now (subst IsWhole c.self.view_is c.self.invariant.0) (subst (λ (k : Kept). k.memory.entries ≡ []) c.self.view_is (c.is_empty.ensures.0 c.if-is_empty.true))
+
+pub plan_flush-requires-clause-table : goal.plan_flush-requires-clause-table
+plan_flush-requires-clause-table g c = memory_table _ c.self.invariant.0 (λ none. never c.is_empty.result (c.is_empty.ensures.1 none) c.if-is_empty.false)
+
+pub returns-in_err-plan-clause-wrote : goal.returns-in_err-plan-clause-wrote
+returns-in_err-plan-clause-wrote g c s tells tied =
+    let spelling = g.F.RangeFilter.spelling in
+    let bytes = filter_bytes_of g.F.RangeFilter.spelling g.F.RangeFilter.built_cutoff in
+    let x = c.in_err-plan.field-0.0 in
+    let why = subst (λ (k : Kept). IsPlanRefusal bytes k.manifest.version k.memory.entries x) c.self.view_is c.in_err-plan.ensures.refused in
+    subst (λ (r : Result (Unit {0}) StoreError). Wrote spelling bytes s (flushed bytes s) r c.args.self.now (g.D.Disk.world c.args.disk.now) (g.D.Disk.world c.args.disk.now))
+    (passed_on c.from_residual.result x c.from_residual.ensures.1)
+    (plan_refused spelling bytes c.args.self.now s (g.D.Disk.world c.args.disk.now) (g.met.D.Disk.current c.args.disk.now tells) tied
+    (subst (λ (k : Kept). k.memory.entries ≢ []) c.self.view_is (λ none. never c.is_empty.result (c.is_empty.ensures.1 none) c.if-is_empty.false))
+    (subst IsWhole c.self.view_is c.self.invariant.0) x why)
+
+pub returns-in_err-reserve-clause-wrote : goal.returns-in_err-reserve-clause-wrote
+returns-in_err-reserve-clause-wrote g c s tells tied =
+    let spelling = g.F.RangeFilter.spelling in
+    let bytes = filter_bytes_of g.F.RangeFilter.spelling g.F.RangeFilter.built_cutoff in
+    let w = g.D.Disk.world c.args.disk.now in
+    wanted_with spelling bytes _ s (flushed bytes s) c.from_residual-in_err-reserve.result c.reserve.new.self.tables w c.from_residual-in_err-reserve.ensures.1 c.reserve.ensures.tables c.self.invariant.0
+    (subst (λ (k : Kept). Tied spelling bytes k s w) (sym c.self.view_is) tied)
+
+pub into_table-requires-clause-row : goal.into_table-requires-clause-row
+into_table-requires-clause-row g c = row_again g.F.RangeFilter.spelling g.F.RangeFilter.built_cutoff _ _ c.in_ok-plan.plan.parts c.in_ok-plan.plan.row _ c.in_ok-plan.ensures.plan
+
+pub into_table-requires-clause-within : goal.into_table-requires-clause-within
+into_table-requires-clause-within g c =
+    row_within g.F.RangeFilter.spelling g.F.RangeFilter.built_cutoff _ _ c.in_ok-plan.plan.parts c.in_ok-plan.plan.row _ c.in_ok-plan.ensures.plan c.self.invariant.0.version c.in_ok-plan.ensures.next c.in_ok-plan.ensures.fits
+
+pub invariant_of-self-in-Ok : goal.invariant_of-self-in-Ok
+invariant_of-self-in-Ok g c =
+    let plan = c.in_ok-plan.ensures.plan in (
+      flushed_whole _ _ c.into_table.result c.in_ok-plan.plan.row c.in_ok-plan.plan.next c.self.invariant.0 c.in_ok-plan.ensures.next
+          (omega (arith, plan.epoch, ap (λ (m : _). m.version.epoch) plan.next_is)) plan.next_is c.installed.ensures
+          (c.insert.ensures.tables ∙ ap (λ (ts : List Opened). c.into_table.result ∷ ts) c.reserve.ensures.tables) (ap (λ (t : Opened). t.row) c.into_table.ensures.table)
+          c.in-Ok.ensures.log.1 c.in-Ok.ensures.log.0 c.clear.ensures.empty,
+      c.self.invariant.1,
+    )
+
+pub returns-in-Ok-clause-wrote : goal.returns-in-Ok-clause-wrote
+returns-in-Ok-clause-wrote g c s tells tied =
+    let spelling = g.F.RangeFilter.spelling in
+    let cutoff = g.F.RangeFilter.built_cutoff in
+    let store = c.args.self.now in
+    let parts = c.in_ok-plan.plan.parts in
+    let row = c.in_ok-plan.plan.row in
+    let next = c.in_ok-plan.plan.next in
+    let old = g.D.Disk.world c.args.disk.now in
+    let new = g.D.Disk.world c.write_plan.new.disk in
+    let current = g.met.D.Disk.current c.args.disk.now tells in
+    let some = subst (λ (k : Kept). k.memory.entries ≢ []) c.self.view_is (λ none. never c.is_empty.result (c.is_empty.ensures.1 none) c.if-is_empty.false) in
+    let plan = subst (λ (k : Kept). IsPlan spelling cutoff k.manifest k.memory.entries parts row next) c.self.view_is c.in_ok-plan.ensures.plan in
+    let replaces = c.in-Ok.ensures.replaces store s tells (subst IsWhole c.self.view_is c.self.invariant.0) tied (plan_of_memory spelling cutoff store s old new current tied some parts row next plan) in
+    flush_done spelling cutoff store s old new current tied some parts row next plan c.in-Ok.log _ _ replaces c.installed.ensures
+    (c.insert.ensures.tables ∙ ap (λ (t : Opened). t ∷ c.reserve.new.self.tables) c.into_table.ensures.table
+    ∙ ap (λ (ts : List Opened). opened_of cutoff parts row ∷ ts) (c.reserve.ensures.tables ∙ ap (λ (k : Kept). k.tables) c.self.view_is))
+    c.in-Ok.ensures.log.0 c.clear.ensures.empty
+
+pub returns-after-fault-clause-wrote : goal.returns-after-fault-clause-wrote
+returns-after-fault-clause-wrote g c s tells tied =
+    let spelling = g.F.RangeFilter.spelling in
+    let cutoff = g.F.RangeFilter.built_cutoff in
+    let store = c.args.self.now in
+    let parts = c.in_ok-plan.plan.parts in
+    let row = c.in_ok-plan.plan.row in
+    let next = c.in_ok-plan.plan.next in
+    let old = g.D.Disk.world c.args.disk.now in
+    let new = g.D.Disk.world c.write_plan.new.disk in
+    let current = g.met.D.Disk.current c.args.disk.now tells in
+    let some = subst (λ (k : Kept). k.memory.entries ≢ []) c.self.view_is (λ none. never c.is_empty.result (c.is_empty.ensures.1 none) c.if-is_empty.false) in
+    let plan = subst (λ (k : Kept). IsPlan spelling cutoff k.manifest k.memory.entries parts row next) c.self.view_is c.in_ok-plan.ensures.plan in
+    let replaces = c.in-Err.ensures.replaces store s tells (subst IsWhole c.self.view_is c.self.invariant.0) tied (plan_of_memory spelling cutoff store s old new current tied some parts row next plan) in
+    let after = c.match-fault.self in
+    let same_manifest : after.manifest ≡ store.manifest =
+    elim c.match-fault.branch [ in-Device w ↦ ap (λ (k : Kept). k.manifest) w.self-is | in_default w ↦ ap (λ (k : Kept). k.manifest) w.self-is ] ∙ ap (λ (k : Kept). k.manifest) c.self.view_is in
+    let same_tables : after.tables ≡ store.tables =
+    elim c.match-fault.branch [ in-Device w ↦ ap (λ (k : Kept). k.tables) w.self-is | in_default w ↦ ap (λ (k : Kept). k.tables) w.self-is ] ∙ c.reserve.ensures.tables ∙ ap (λ (k : Kept). k.tables) c.self.view_is in
+    let same_log : after.log ≡ store.log =
+    elim c.match-fault.branch [ in-Device w ↦ ap (λ (k : Kept). k.log) w.self-is | in_default w ↦ ap (λ (k : Kept). k.log) w.self-is ] ∙ ap (λ (k : Kept). k.log) c.self.view_is in
+    let same_memory : after.memory ≡ store.memory =
+    elim c.match-fault.branch [ in-Device w ↦ ap (λ (k : Kept). k.memory) w.self-is | in_default w ↦ ap (λ (k : Kept). k.memory) w.self-is ] ∙ ap (λ (k : Kept). k.memory) c.self.view_is in
+    flush_failed spelling cutoff store s old new current tied some parts row next plan after same_manifest same_tables same_log same_memory c.in-Err.fault c.from.result c.from.ensures replaces c.in-Err.ensures.cause
+    (λ cause is. elim c.match-fault.branch [ in-Device w ↦ ap (λ (k : Kept). k.stopped) w.self-is | in_default w ↦ search rules ])

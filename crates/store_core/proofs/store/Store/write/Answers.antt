@@ -1,0 +1,86 @@
+use Rattle.std.proofs.Common.{◌≡◌, ◌+◌, ◌*◌, ◌≤◌, ◌<◌, ℕ, Bool, false, ◌∙◌, refl, sym, ap, subst, arith, inl, inr}
+use Rattle.std.specs.Prelude.{Result, Err, IsTrue}
+use Rattle.disk_trait.proofs.Calls.{moves_then}
+use Rattle.disk_trait.specs.World.{WriteMoves}
+use Rattle.std.proofs.lemmas.Bool.{cases_lt}
+use Rattle.entry_model.specs.Entries.{Entry, entry_of, need}
+use Rattle.gate_log.specs.Values.{value_of}
+use Rattle.state_model.specs.Changes.{written}
+use Rattle.table_model.specs.Tables.{filter_bytes_of}
+use Rattle.store_core.specs.Answers.{Wrote}
+use Rattle.store_core.specs.Kept.{IsWhole, Kept}
+use Rattle.store_core.specs.Tied.{Tied}
+use Rattle.store_core.specs.declared.error.StoreError.{StoreError}
+use Rattle.store_core.proofs.FlushAnswers.{passed_on, wanted_room}
+use Rattle.store_core.proofs.Writing.{flush_failed, flush_then, need_fits, need_over, never, tied_with, whole_with, wrote_as, wrote_logged}
+use Rattle.store_core.proofs.store.Store.write.Goals as goal
+
+pub returns-in_err-entry-clause-wrote : goal.returns-in_err-entry-clause-wrote
+returns-in_err-entry-clause-wrote g c s tells tied =
+    let spelling = g.F.RangeFilter.spelling in
+    let bytes = filter_bytes_of g.F.RangeFilter.spelling g.F.RangeFilter.built_cutoff in
+    let w = g.D.Disk.world c.args.disk.now in
+    wanted_room spelling bytes _ s (written bytes s (entry_of c.args.key.now (value_of c.args.value))) c.from_residual.result c.reserve_for.new.self w c.from_residual.ensures.1 c.reserve_for.ensures.kept c.self.invariant.0
+    (subst (λ (k : Kept). Tied spelling bytes k s w) (sym c.self.view_is) tied)
+
+-- a test that fails
+not_within : (size : ℕ) (test : Bool) → (size ≤ 262144 → IsTrue test) → test ≡ false → 262144 < size
+not_within size test only fails = elim (cases_lt 262144 size) [
+  | inl wide ↦ wide
+  | inr within ↦ absurd (never test (only within) fails)
+]
+
+pub returns-then-fits-clause-wrote : goal.returns-then-fits-clause-wrote
+returns-then-fits-clause-wrote g c s tells tied =
+    let spelling = g.F.RangeFilter.spelling in
+    let bytes = filter_bytes_of g.F.RangeFilter.spelling g.F.RangeFilter.built_cutoff in
+    let old = g.D.Disk.world c.args.disk.now in
+    let new = g.D.Disk.world c.append.new.disk in
+    let e : Entry = c.in_ok-entry.entry in
+    let same = c.in_ok-entry.ensures.prepared in
+    let inside = subst (λ (k : Kept). Tied spelling bytes k s old) (sym c.self.view_is) tied in
+    let within = subst (λ (n : ℕ). c.self.inside.log.filled + n ≤ 262144) (c.record_need.ensures ∙ sym (ap need same)) (c.fits.ensures.0 c.if-fits.true) in
+    wrote_as spelling bytes s e (entry_of c.args.key.now (value_of c.args.value)) c.append.result c.append.new.self old new same
+    (wrote_logged spelling bytes s e c.append.result c.append.new.self old new (need_fits c.self.inside.log.filled (need e) s.log inside.log within) c.append.ensures.failure
+    (c.append.ensures.turns s tells (tied_with spelling bytes _ s old c.reserve_for.new.self c.reserve_for.ensures.kept inside)))
+
+pub returns-in_err-flush_memory-clause-wrote : goal.returns-in_err-flush_memory-clause-wrote
+returns-in_err-flush_memory-clause-wrote g c s tells tied =
+    let spelling = g.F.RangeFilter.spelling in
+    let bytes = filter_bytes_of g.F.RangeFilter.spelling g.F.RangeFilter.built_cutoff in
+    let old = g.D.Disk.world c.args.disk.now in
+    let new = g.D.Disk.world c.flush_memory.new.disk in
+    let x = entry_of c.args.key.now (value_of c.args.value) in
+    let inside = subst (λ (k : Kept). Tied spelling bytes k s old) (sym c.self.view_is) tied in
+    let wide = subst (λ (n : ℕ). 262144 < c.self.inside.log.filled + n) c.record_need.ensures (not_within (c.self.inside.log.filled + c.record_need.result) c.fits.result c.fits.ensures.1 c.if-fits.false) in
+    subst (λ (r : Result (Unit {0}) StoreError). Wrote spelling bytes s (written bytes s x) r c.flush_memory.new.self old new)
+    (passed_on c.from_residual-in_err-flush_memory.result c.in_err-flush_memory.field-0.0 c.from_residual-in_err-flush_memory.ensures.1)
+    (flush_failed spelling bytes s x (need_over c.self.inside.log.filled (need x) s.log inside.log inside.sound.log_fits wide) c.in_err-flush_memory.field-0.0 c.flush_memory.new.self old new
+    (c.in_err-flush_memory.ensures.wrote s tells (tied_with spelling bytes _ s old c.reserve_for.new.self c.reserve_for.ensures.kept inside)))
+
+pub returns-clause-wrote : goal.returns-clause-wrote
+returns-clause-wrote g c s tells tied =
+    let spelling = g.F.RangeFilter.spelling in
+    let bytes = filter_bytes_of g.F.RangeFilter.spelling g.F.RangeFilter.built_cutoff in
+    let old = g.D.Disk.world c.args.disk.now in
+    let flushed_at = g.D.Disk.world c.flush_memory.new.disk in
+    let new = g.D.Disk.world c.append-2.new.disk in
+    let e : Entry = c.in_ok-entry.entry in
+    let same = c.in_ok-entry.ensures.prepared in
+    let inside = subst (λ (k : Kept). Tied spelling bytes k s old) (sym c.self.view_is) tied in
+    let wide = subst (λ (n : ℕ). 262144 < c.self.inside.log.filled + n) (c.record_need.ensures ∙ sym (ap need same))
+    (not_within (c.self.inside.log.filled + c.record_need.result) c.fits.result c.fits.ensures.1 c.if-fits.false) in
+    wrote_as spelling bytes s e (entry_of c.args.key.now (value_of c.args.value)) c.append-2.result c.append-2.new.self old new same
+    (flush_then spelling bytes s e (need_over c.self.inside.log.filled (need e) s.log inside.log inside.sound.log_fits wide) c.in_ok-flush_memory.field-0 c.append-2.result
+    c.flush_memory.new.self c.append-2.new.self old flushed_at new c.append-2.ensures.failure c.append-2.ensures.stopped
+    (c.in_ok-flush_memory.ensures.wrote s tells (tied_with spelling bytes _ s old c.reserve_for.new.self c.reserve_for.ensures.kept inside))
+    (λ to tied_then. c.append-2.ensures.turns to tells tied_then))
+
+pub returns-clause-moves : goal.returns-clause-moves
+returns-clause-moves g c =
+    let old = g.D.Disk.world c.args.disk.now in
+    let flushed_at = g.D.Disk.world c.flush_memory.new.disk in
+    let new = g.D.Disk.world c.append-2.new.disk in
+    subst (λ (k : Kept). WriteMoves 0 (4096 * k.manifest.version.pages) old new) c.self.view_is
+    (moves_then 0 (4096 * c.self.inside.version.version.pages) old flushed_at new c.flush_memory.ensures.moves
+    (subst (λ (n : ℕ). WriteMoves 0 (4096 * n) flushed_at new) c.flush_memory.ensures.pages c.append-2.ensures.moves))

@@ -1,0 +1,115 @@
+-- What a flush writes and installs, why it does not, and what it makes of a store.
+use Rattle.std.specs.Prelude.{◌≡◌, ◌<◌, ◌≤◌, ◌+◌, ◌-◌, ◌^◌, ℕ, List, [], ◌∷◌, length, map, true, Option, Some, Result, IfErr, OnOk}
+use Rattle.byte_fields.specs.declared.parts.Row.{Row}
+use Rattle.disk_trait.specs.World.{Meanwhile, Now, Rose, World}
+use Rattle.entry_model.specs.Entries.{Entry}
+use Rattle.extent_model.specs.Gaps.{first_gap, largest_gap}
+use Rattle.filter_api.specs.Spellings.{Spelling}
+use Rattle.filter_model.specs.Leaves.{Leaf}
+use Rattle.image_model.specs.Stands.{StandsForMap, settings_of}
+use Rattle.key_base.specs.Limits.{max_tables}
+use Rattle.manifest.specs.Manifest.{Manifest, raised}
+use Rattle.manifest.specs.declared.fault.ManifestFault.{ManifestFault}
+use Rattle.manifest.specs.declared.fault.ManifestFault.TheVariants as fault
+use Rattle.manifest_model.specs.Rows.{extent_of}
+use Rattle.manifest_model.specs.Version.{Version, log_page_of}
+use Rattle.state_model.specs.State.{State}
+use Rattle.state_model.specs.View.{memory, state_map}
+use Rattle.store_core.specs.Answers.{is_write}
+use Rattle.store_core.specs.Kept.{Kept}
+use Rattle.store_core.specs.Tied.{IsUnder}
+use Rattle.store_core.specs.declared.error.Limit.{Limit}
+use Rattle.store_core.specs.declared.error.Limit.TheVariants as limit
+use Rattle.store_core.specs.declared.error.StoreError.{StoreError}
+use Rattle.store_core.specs.declared.error.StoreError.TheVariants as error
+use Rattle.table_file.specs.Building.{Built}
+use Rattle.table_file.specs.Writing.{made_row}
+pub use Rattle.table_file.specs.Writing.{opened_of}
+use Rattle.table_model.specs.Tables.{FilterBytes, filter_bytes_of, table_of, table_pages}
+
+-- ---- the version to come
+
+-- the first page of the log area that is not in use
+abbrev pub other_log_page : Version → ℕ
+other_log_page v = log_page_of 0 + log_page_of 1 - v.log_page
+
+-- a row more, before all others, and the other log area; the epoch is raised by the install
+abbrev pub next_manifest : Manifest → Row → Manifest
+next_manifest m row = record m { version = record m.version { log_page = other_log_page m.version; rows = row ∷ m.version.rows } }
+
+-- what it is once it was installed
+abbrev pub installed_manifest : Manifest → Manifest
+installed_manifest m = record { version = raised m.version; slot = 1 - m.slot; other_open = true }
+
+-- ---- what is planned
+
+-- the pages that the table of some entries needs under a version
+abbrev pub need_under : FilterBytes → Version → List Entry → ℕ
+need_under filter_bytes v entries = table_pages filter_bytes (settings_of v) entries
+
+-- The table of the entries, in the first gap that holds it, and the version in which it is the first: fewer tables than the
+-- most stood before it, and an epoch is left.
+pub record IsPlan (spelling : Spelling) (built_cutoff : ℕ → List Leaf → ℕ) (m : Manifest) (entries : List Entry) (parts : Built) (row : Row) (next : Manifest) : Type 0 where
+  pub few : length m.version.rows < max_tables
+  pub parts_are : parts ≡ record { settings = settings_of m.version; entries = entries }
+  pub place : first_gap m.version.pages (map extent_of m.version.rows) (need_under (filter_bytes_of spelling built_cutoff) m.version entries) ≡ Some row.first_page
+  pub epoch : m.version.epoch < 2 ^ 64 - 1
+  pub row_is : row ≡ made_row spelling built_cutoff parts 0 row.first_page
+  pub next_is : next ≡ next_manifest m row
+
+-- no gap holds so many pages, and the largest has fewer
+abbrev pub IsNoPlace : ℕ → ℕ → StoreError → Type 0
+IsNoPlace need largest error.Memory = Unit {0}
+IsNoPlace need largest (error.Device cause) = ⊥
+IsNoPlace need largest error.Stopped = ⊥
+IsNoPlace need largest (error.Limit limit) = ⊥
+IsNoPlace need largest (error.Full wanted gap) = (wanted ≡ need) × (gap ≡ largest) × (largest < need)
+IsNoPlace need largest (error.Damaged damage) = ⊥
+IsNoPlace need largest error.NotAStore = ⊥
+IsNoPlace need largest error.AlreadyAStore = ⊥
+IsNoPlace need largest (error.BadSettings field) = ⊥
+
+-- by a limit: first the tables, and behind the room the epoch
+abbrev pub IsPlanLimit : FilterBytes → Version → List Entry → Limit → Type 0
+IsPlanLimit filter_bytes v entries (limit.Key size) = ⊥
+IsPlanLimit filter_bytes v entries (limit.Value size) = ⊥
+IsPlanLimit filter_bytes v entries limit.Tables = max_tables ≤ length v.rows
+IsPlanLimit filter_bytes v entries limit.Epoch =
+    (length v.rows < max_tables) × (need_under filter_bytes v entries ≤ largest_gap v.pages (map extent_of v.rows)) × (v.epoch ≡ 2 ^ 64 - 1)
+
+-- why nothing is planned for some entries under a version
+abbrev pub IsPlanRefusal : FilterBytes → Version → List Entry → StoreError → Type 0
+IsPlanRefusal filter_bytes v entries error.Memory = Unit {0}
+IsPlanRefusal filter_bytes v entries (error.Device cause) = ⊥
+IsPlanRefusal filter_bytes v entries error.Stopped = ⊥
+IsPlanRefusal filter_bytes v entries (error.Limit limit) = IsPlanLimit filter_bytes v entries limit
+IsPlanRefusal filter_bytes v entries (error.Full need gap) =
+    (length v.rows < max_tables) × IsNoPlace (need_under filter_bytes v entries) (largest_gap v.pages (map extent_of v.rows)) (error.Full need gap)
+IsPlanRefusal filter_bytes v entries (error.Damaged damage) = ⊥
+IsPlanRefusal filter_bytes v entries error.NotAStore = ⊥
+IsPlanRefusal filter_bytes v entries error.AlreadyAStore = ⊥
+IsPlanRefusal filter_bytes v entries (error.BadSettings field) = ⊥
+
+-- ---- what is made of it
+
+-- the state behind a flush whose table begins at a page
+abbrev pub flushed_at : FilterBytes → ℕ → State → State
+flushed_at filter_bytes page s = record s { epoch = s.epoch + 1; log = []; tables = table_of filter_bytes s.settings 0 page (memory s) ∷ s.tables }
+
+-- memory is wanted before a slot is touched; a write or a sync failed, and only where the count of such failures rose
+abbrev pub IsFlushFault : World → World → ManifestFault → Type 0
+IsFlushFault old new fault.Memory = Unit {0}
+IsFlushFault old new (fault.Device cause) = (is_write cause.op ≡ true) × Rose old.seen.write_faults new.seen.write_faults
+IsFlushFault old new fault.NotAStore = ⊥
+IsFlushFault old new fault.AlreadyAStore = ⊥
+IsFlushFault old new fault.Epoch = ⊥
+IsFlushFault old new (fault.Damaged damage) = ⊥
+
+-- What is planned is written: meanwhile a crash leaves the map of the state; at Ok the state behind the flush stands under the
+-- new manifest with the new table; and where memory was wanted all stands as it stood.
+pub record Replaces {T : Type 0} (spelling : Spelling) (built_cutoff : ℕ → List Leaf → ℕ) (store : Kept) (s : State) (parts : Built) (row : Row) (next : Manifest)
+    (result : Result T ManifestFault) (old new : World) : Type 0 where
+  pub meanwhile : Meanwhile (StandsForMap spelling (state_map s)) old new
+  pub done : OnOk result (Now (IsUnder spelling (installed_manifest next) (opened_of built_cutoff parts row ∷ store.tables)
+      (flushed_at (filter_bytes_of spelling built_cutoff) row.first_page s)) new)
+  pub wanted : IfErr result (λ (why : ManifestFault). why ≡ fault.Memory → Now (IsUnder spelling store.manifest store.tables s) new)

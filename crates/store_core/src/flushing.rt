@@ -1,0 +1,231 @@
+//! The memory table becomes a table of level 0.
+ghost use Rattle.std.specs.Prelude.{◌≡◌, ◌≤◌, ◌<◌, ◌+◌, ◌-◌, ◌*◌, ◌^◌, ◌∷◌, ◌||◌, List, [], true, false, Some, None, IsTrue, IfOk, IfErr, OnOk, OnErr, MatchResult, length, map};
+ghost use Rattle.std.specs.List.Sorted.{IsPermutation};
+ghost use Rattle.block_model.specs.Block.{IsTable};
+ghost use Rattle.block_model.specs.Pages.{page_bytes};
+ghost use Rattle.disk_trait.specs.World.{ReadMoves, WriteMoves};
+ghost use Rattle.extent_model.specs.Extents.{AreLaid};
+ghost use Rattle.extent_model.specs.Gaps.{first_gap, largest_gap};
+ghost use Rattle.filter_api.specs.Ranges.{InRange};
+ghost use Rattle.key_base.specs.Limits.{max_device_pages, min_device_pages};
+ghost use Rattle.line_model.specs.Requests.{Flush as flush_line};
+ghost use Rattle.manifest_model.specs.Laws.{IsVersion, RowFits};
+ghost use Rattle.manifest_model.specs.Rows.{extent_of};
+ghost use Rattle.manifest_model.specs.Version.{log_page_of};
+ghost use Rattle.state_model.specs.Changes.{flushed};
+ghost use Rattle.state_model.specs.State.{State};
+ghost use Rattle.state_model.specs.View.{memory};
+ghost use Rattle.store_core.specs.Answers.{Answered, IsRun, IsWriteRefusal, Wrote, stopped_by, told_change};
+ghost use Rattle.store_core.specs.Flushing.{IsFlushFault, IsNoPlace, IsPlan, IsPlanRefusal, Replaces, next_manifest};
+ghost use Rattle.store_core.specs.Kept.{IsWhole, Kept};
+ghost use Rattle.store_core.specs.Tied.{Tied};
+ghost use Rattle.table_model.specs.Tables.{filter_bytes_of, table_pages};
+
+use crate::error::{Limit, StoreError};
+use crate::store::Store;
+use byte_fields::Row;
+use disk_trait::Disk;
+use extent_map::{Extents, NoGap};
+use filter_api::{RangeFilter, Settings};
+use gate_log::Log;
+use key_base::MAX_TABLES;
+use manifest::{ManifestFault, Version, install};
+use mem_table::MemTable;
+use std::alloc::{AllocError, Global};
+use table_file::{Parts, TableBuilder, pages_of, write_parts};
+
+// A table that is built, its row, and the version to come, in which that row is the first and the other log area is in use.
+#[derive(Drop)]
+struct Plan<F: RangeFilter> {
+    parts: Parts<F>,
+    row: Row,
+    next: Version,
+}
+
+// The table of all entries of the memory.
+fn build_table<F: RangeFilter>(
+    alloc: Global,
+    settings: Settings,
+    memory: &MemTable,
+) -> Result<Parts<F>, AllocError>
+    requires settings { InRange settings }
+    requires table { IsTable memory.now.entries }
+    ensures { IfOk result (λ parts. parts ≡ record { settings = settings; entries = memory.now.entries }) }
+{
+    let mut builder = TableBuilder::new(alloc, settings);
+    let mut cursor = memory.cursor(&[]);
+    for _ in 0..memory.len() {
+        match cursor.next() {
+            Some((key, value)) => builder.add(key, value)?,
+            None => break,
+        }
+    }
+    builder.finish()
+}
+
+// The extents of some rows.
+fn extents_of(alloc: Global, pages: u32, rows: &[Row]) -> Result<Extents, AllocError>
+    requires from { min_device_pages ≤ pages }
+    requires to { pages ≤ max_device_pages }
+    requires laid { AreLaid pages (map extent_of rows.now) }
+    ensures pages { IfOk result (λ e. e.pages ≡ pages) }
+    ensures extents { IfOk result (λ e. IsPermutation (map extent_of rows.now) e.extents) }
+{
+    let mut extents = Extents::new(alloc, pages);
+    for row in rows {
+        extents.add(
+            row.first_page,
+            row.data_pages + row.index_pages + row.filter_pages,
+        )?;
+    }
+    Ok(extents)
+}
+
+// A row and then the others.
+fn with_row(alloc: Global, row: Row, rows: &[Row]) -> Result<Vec<Row>, AllocError>
+    ensures { IfOk result (λ all. all.items ≡ row ∷ rows.now) }
+{
+    let mut all = Vec::with_capacity(alloc, rows.len() + 1)?;
+    all.push_reserved(row);
+    all.extend_from_slice(rows)?;
+    Ok(all)
+}
+
+// The first page of the first gap that holds so many pages.
+fn place_for(alloc: Global, version: &Version, need: u64) -> Result<u32, StoreError>
+    requires sound { IsVersion version.now.version }
+    ensures gap { IfOk result (λ page. first_gap version.now.version.pages (map extent_of version.now.version.rows) need ≡ Some page) }
+    ensures no_gap { IfErr result (IsNoPlace need (largest_gap version.now.version.pages (map extent_of version.now.version.rows))) }
+{
+    let extents = extents_of(alloc, version.pages, &version.rows)?;
+    match extents.gap(need) {
+        Ok(page) => Ok(page),
+        Err(NoGap { need, largest }) => Err(StoreError::Full { need, gap: largest }),
+    }
+}
+
+// The version in which a row is the first, and the other log area is in use.
+fn next_version(alloc: Global, version: &Version, row: Row) -> Result<Version, AllocError>
+    requires sound { IsVersion version.now.version }
+    ensures next { IfOk result (λ next. next ≡ next_manifest version.now row) }
+    ensures row { IfOk result (λ _. RowFits row) }
+{
+    Ok(Version {
+        settings: version.settings,
+        pages: version.pages,
+        epoch: version.epoch,
+        log_area: 1 - version.log_area,
+        slot: version.slot,
+        other_open: version.other_open,
+        rows: with_row(alloc, row, &version.rows)?,
+    })
+}
+
+// What is written and installed for the entries of the memory, one or more. Nothing is written here, and all that is refused is
+// refused here, but for memory for the manifest's body.
+fn plan_flush<F: RangeFilter>(
+    alloc: Global,
+    version: &Version,
+    memory: &MemTable,
+) -> Result<Plan<F>, StoreError>
+    requires sound { IsVersion version.now.version }
+    requires table { IsTable memory.now.entries }
+    ensures plan { IfOk result (λ p. IsPlan F.spelling F.built_cutoff version.now memory.now.entries p.parts p.row p.next) }
+    ensures fits { IfOk result (λ p. p.row.first_page + table_pages (filter_bytes_of F.spelling F.built_cutoff) p.parts.settings p.parts.entries ≤ p.next.version.pages) }
+    ensures next { IfOk result (λ p. IsVersion p.next.version) }
+    ensures refused { IfErr result (IsPlanRefusal (filter_bytes_of F.spelling F.built_cutoff) version.now.version memory.now.entries) }
+{
+    if version.rows.len() >= MAX_TABLES {
+        return Err(StoreError::Limit(Limit::Tables));
+    }
+    let parts: Parts<F> = build_table(alloc, version.settings, memory)?;
+    let page = place_for(alloc, version, pages_of(&parts))?;
+    if version.epoch == u64::MAX {
+        return Err(StoreError::Limit(Limit::Epoch));
+    }
+    let row = parts.row(0, page);
+    let next = next_version(alloc, version, row)?;
+    Ok(Plan { parts, row, next })
+}
+
+// Writes the table, begins the other log, and installs the version.
+fn write_plan<F: RangeFilter, D: Disk>(
+    alloc: Global,
+    disk: &mut D,
+    plan: &Plan<F>,
+) -> Result<Log, ManifestFault>
+    requires fits { plan.now.row.first_page + table_pages (filter_bytes_of F.spelling F.built_cutoff) plan.now.parts.settings plan.now.parts.entries ≤ plan.now.next.version.pages }
+    requires slot { plan.now.next.slot ≤ 1 }
+    requires sound { IsVersion plan.now.next.version }
+    requires epoch { plan.now.next.version.epoch < 2 ^ 64 - 1 }
+    ensures replaces { (store : Kept) (s : State) → IsTrue D.tells → IsWhole store → Tied F.spelling (filter_bytes_of F.spelling F.built_cutoff) store s (D.world disk.old)
+        → IsPlan F.spelling F.built_cutoff store.manifest (memory s) plan.now.parts plan.now.row plan.now.next
+        → Replaces F.spelling F.built_cutoff store s plan.now.parts plan.now.row plan.now.next result (D.world disk.old) (D.world disk.new) }
+    ensures log { IfOk result (λ log. (log.filled ≡ 0) × (plan.now.next.version.log_page ≡ log_page_of log.area)) }
+    ensures cause { IfErr result (IsFlushFault (D.world disk.old) (D.world disk.new)) }
+    ensures moves { WriteMoves 0 (page_bytes * plan.now.next.version.pages) (D.world disk.old) (D.world disk.new) }
+{
+    write_parts(disk, plan.row.first_page, &plan.parts)?;
+    let log = Log::start(disk, plan.next.log_area)?;
+    install(alloc, disk, &plan.next)?;
+    Ok(log)
+}
+
+impl<F: RangeFilter> Store<F> {
+    /// Makes the entries in memory a table of level 0, in the first gap that holds it, and begins the other log area. With
+    /// no entry it does nothing.
+    ///
+    /// The table is written and made to last, then the other log area is begun, then the version is installed, then the
+    /// memory is cleared. No read.
+    pub fn flush<D: Disk>(&mut self, disk: &mut D) -> Result<(), StoreError>
+        ensures answered { (s : State) → IsTrue D.tells → self.old.stopped ≡ false → Tied F.spelling (filter_bytes_of F.spelling F.built_cutoff) self.old s (D.world disk.old)
+            → Answered F.spelling (filter_bytes_of F.spelling F.built_cutoff) s flush_line (told_change result) self.new (D.world disk.old) (D.world disk.new) }
+        ensures refused { MatchResult result (λ _. IsRun self.old.stopped None) (IsWriteRefusal self.old.stopped None (D.world disk.old) (D.world disk.new)) }
+        ensures stopped { self.new.stopped ≡ (self.old.stopped || stopped_by result) }
+        ensures still { self.old.stopped ≡ true → ReadMoves 0 (D.world disk.old) (D.world disk.new) }
+        ensures moves { WriteMoves 0 (page_bytes * self.old.manifest.version.pages) (D.world disk.old) (D.world disk.new) }
+    {
+        if self.stopped {
+            return Err(StoreError::Stopped);
+        }
+        self.flush_memory(disk)
+    }
+
+    // The flush of a store that is not stopped.
+    pub(crate) fn flush_memory<D: Disk>(&mut self, disk: &mut D) -> Result<(), StoreError>
+        requires running { self.old.stopped ≡ false }
+        ensures wrote { (s : State) → IsTrue D.tells → Tied F.spelling (filter_bytes_of F.spelling F.built_cutoff) self.old s (D.world disk.old)
+            → Wrote F.spelling (filter_bytes_of F.spelling F.built_cutoff) s (flushed (filter_bytes_of F.spelling F.built_cutoff) s) result self.new (D.world disk.old) (D.world disk.new) }
+        ensures refused { IfErr result (IsWriteRefusal false None (D.world disk.old) (D.world disk.new)) }
+        ensures stopped { self.new.stopped ≡ stopped_by result }
+        ensures some { OnErr result (self.old.memory.entries ≡ [] → ⊥) }
+        ensures empty { OnOk result (self.new.memory.entries ≡ []) }
+        ensures begun { OnOk result (self.new.log.filled ≡ 0) }
+        ensures pages { self.new.manifest.version.pages ≡ self.old.manifest.version.pages }
+        ensures spare { self.old.memory.spare ≤ self.new.memory.spare }
+        ensures moves { WriteMoves 0 (page_bytes * self.old.manifest.version.pages) (D.world disk.old) (D.world disk.new) }
+    {
+        if self.memory.is_empty() {
+            return Ok(());
+        }
+        let alloc = *self.buffer.allocator();
+        let plan: Plan<F> = plan_flush(alloc, &self.version, &self.memory)?;
+        self.tables.reserve(1)?;
+        match write_plan(alloc, disk, &plan) {
+            Ok(log) => {
+                let Plan { parts, row, next } = plan;
+                self.tables.insert(0, parts.into_table(row));
+                self.version = next.installed();
+                self.log = log;
+                self.memory.clear();
+                Ok(())
+            }
+            Err(fault) => {
+                if let ManifestFault::Device(_) = fault {
+                    self.stopped = true;
+                }
+                Err(StoreError::from(fault))
+            }
+        }
+    }
+}

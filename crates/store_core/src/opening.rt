@@ -1,0 +1,209 @@
+//! A store that stands on a device is opened.
+ghost use Rattle.std.specs.Prelude.{◌≡◌, ◌≤◌, ◌<◌, ◌+◌, ◌*◌, length, map, false, None, IsTrue, IfOk, IfErr, MatchResult};
+ghost use Rattle.std.specs.List.{AllByRecursion};
+ghost use Rattle.block_model.specs.Places.{FitsDevice};
+ghost use Rattle.disk_trait.specs.World.{Moves, ReadMoves};
+ghost use Rattle.entry_model.specs.Entries.{IsEntry, filled};
+ghost use Rattle.entry_model.specs.Newest.{newest_entries};
+ghost use Rattle.image_model.specs.Stands.{IsStateOf};
+ghost use Rattle.key_base.specs.Limits.{log_bytes, max_tables};
+ghost use Rattle.manifest_model.specs.Laws.{IsVersion};
+ghost use Rattle.manifest_model.specs.Tables.{follows, ranges_fault};
+ghost use Rattle.manifest_model.specs.Version.{log_page_of};
+ghost use Rattle.state_model.specs.State.{State};
+ghost use Rattle.store_core.specs.Kept.{rows_of};
+ghost use Rattle.store_core.specs.Opening.{AreOpened, IsFree, IsOpenFault, IsOpenRefusal, IsOpenAnswer, IsOpenedAs, IsRangesDamage, IsTableAnswer, IsTablesAnswer, IsVersionOpened, IsWide, range_of};
+ghost use Rattle.store_core.specs.Tied.{Tied};
+ghost use Rattle.table_model.specs.Tables.{filter_bytes_of};
+
+use crate::error::StoreError;
+use crate::store::Store;
+use byte_fields::{Damage, Part, Row};
+use disk_trait::Disk;
+use entry_list::Entry;
+use filter_api::{RangeFilter, Settings};
+use gate_log::Log;
+use key_base::{PAGE_BYTES, SLOT_BYTES, compare};
+use manifest::{Version, load};
+use mem_table::MemTable;
+use std::alloc::Global;
+use std::cmp::Ordering;
+use table_file::{LARGEST_BLOCK_BYTES, Table, Tables, open_table};
+
+/// The place in a filter that is named where it has other widths than the settings say, and that rule.
+const WIDTHS_AT: u64 = 5;
+
+const OTHER_WIDTHS: u8 = 12;
+
+/// The place in the manifest's body of the second row, the bytes of a row, and the rule of tables that do not rise.
+const SECOND_ROW_AT: u64 = 128;
+
+const ROW_BYTES: u64 = 64;
+
+const NOT_RISING: u8 = 12;
+
+/// A body stands so many bytes behind the first of its slot.
+const BODY_AT: u64 = 8;
+
+// The table of a row, with a filter of the widths that the settings say.
+fn open_one<F: RangeFilter, D: Disk>(
+    alloc: Global,
+    disk: &mut D,
+    settings: Settings,
+    row: &Row,
+) -> Result<Table<F>, StoreError>
+    requires { FitsDevice row.now }
+    ensures row { IfOk result (λ t. t.row ≡ row.now) }
+    ensures answer { IsTrue D.tells → MatchResult result (λ t. IsWide F.spelling settings t (D.world disk.old).seen.held) (IsTableAnswer F.spelling F.first_fault settings row.now (D.world disk.old).seen.held) }
+    ensures cause { IfErr result (IsOpenFault (D.world disk.old) (D.world disk.new)) }
+    ensures moves { ReadMoves 2 (D.world disk.old) (D.world disk.new) }
+{
+    let table: Table<F> = open_table(alloc, disk, row)?;
+    if table.filter().widths() != (settings.hash_bits, settings.real_bits) {
+        let page = u64::from(row.first_page)
+            + u64::from(row.data_pages)
+            + u64::from(row.index_pages);
+        return Err(StoreError::Damaged(Damage::Shape {
+            part: Part::Filter,
+            at: PAGE_BYTES as u64 * page + WIDTHS_AT,
+            rule: OTHER_WIDTHS,
+        }));
+    }
+    Ok(table)
+}
+
+// The tables of some rows, in their order.
+fn open_tables<F: RangeFilter, D: Disk>(
+    alloc: Global,
+    disk: &mut D,
+    settings: Settings,
+    rows: &[Row],
+) -> Result<Tables<F>, StoreError>
+    requires { AllByRecursion FitsDevice rows.now }
+    ensures rows { IfOk result (λ opened. rows_of opened.tables ≡ rows.now) }
+    ensures answer { IsTrue D.tells → MatchResult result (λ opened. AreOpened F.spelling settings opened.tables (D.world disk.old).seen.held) (IsTablesAnswer F.spelling F.first_fault settings rows.now (D.world disk.old).seen.held) }
+    ensures cause { IfErr result (IsOpenFault (D.world disk.old) (D.world disk.new)) }
+    ensures moves { ReadMoves (2 * length rows.now) (D.world disk.old) (D.world disk.new) }
+{
+    let mut tables = Tables::new(alloc);
+    tables.reserve(rows.len())?;
+    for row in rows {
+        let table = open_one(alloc, disk, settings, row)?;
+        tables.insert(tables.len(), table);
+    }
+    Ok(tables)
+}
+
+// Whether a table may stand before another one: below level 0 its keys come before those of the other.
+fn may_follow<F: RangeFilter>(before: &Table<F>, table: &Table<F>) -> bool
+    ensures { result ≡ follows (range_of before.now) (range_of table.now) }
+{
+    before.row().level != table.row().level
+        || table.row().level == 0
+        || compare(before.greatest(), table.least()) == Ordering::Less
+}
+
+// Whether the tables of each deeper level rise without overlap; else the damage of the manifest in this slot.
+fn check_order<F: RangeFilter>(tables: &[Table<F>], slot: u8) -> Result<(), Damage>
+    requires few { length tables.now ≤ max_tables }
+    requires slot { slot ≤ 1 }
+    ensures { MatchResult result (λ _. ranges_fault (map range_of tables.now) ≡ None) (IsRangesDamage slot (ranges_fault (map range_of tables.now))) }
+{
+    for i in 1..tables.len() {
+        if !may_follow(&tables[i - 1], &tables[i]) {
+            return Err(Damage::Shape {
+                part: Part::Manifest,
+                at: SLOT_BYTES * u64::from(slot)
+                    + BODY_AT
+                    + SECOND_ROW_AT
+                    + ROW_BYTES * (i as u64 - 1),
+                rule: NOT_RISING,
+            });
+        }
+    }
+    Ok(())
+}
+
+// The version that the device holds, and its tables, of which those of a deeper level rise.
+fn open_version<F: RangeFilter, D: Disk>(
+    alloc: Global,
+    disk: &mut D,
+) -> Result<(Version, Tables<F>), StoreError>
+    ensures sound { IfOk result (λ found. IsVersion found.0.version) }
+    ensures slot { IfOk result (λ found. found.0.slot ≤ 1) }
+    ensures rows { IfOk result (λ found. rows_of found.1.tables ≡ found.0.version.rows) }
+    ensures answer { IsTrue D.tells → MatchResult result (λ found. IsVersionOpened F.spelling (D.world disk.old).seen.held found.0 found.1.tables) (IsOpenAnswer F.spelling F.first_fault (D.world disk.old).seen.held) }
+    ensures cause { IfErr result (IsOpenRefusal (D.world disk.old) (D.world disk.new)) }
+    ensures reads { (s : State) → IsTrue D.tells → IsStateOf F.spelling s (D.world disk.old).seen.held → (D.world disk.new).seen.reads ≤ (D.world disk.old).seen.reads + 6 + 2 * length s.tables }
+    ensures moves { ReadMoves (6 + 2 * max_tables) (D.world disk.old) (D.world disk.new) }
+{
+    let version = load(alloc, disk)?;
+    let tables: Tables<F> = open_tables(alloc, disk, version.settings, &version.rows)?;
+    match check_order(tables.as_slice(), version.slot) {
+        Ok(()) => Ok((version, tables)),
+        Err(damage) => Err(StoreError::Damaged(damage)),
+    }
+}
+
+impl<F: RangeFilter> Store<F> {
+    /// Opens the store that stands on a device: what was written before is made to last; then come the manifest, the
+    /// index and the filter of each table, and the log.
+    ///
+    /// Seven reads at most and two for each table. Nothing is written.
+    pub fn open_store<D: Disk>(alloc: Global, disk: &mut D) -> Result<Store<F>, StoreError>
+        ensures opens { (s : State) → IsTrue D.tells → IsStateOf F.spelling s (D.world disk.old).seen.held
+            → MatchResult result (λ store. Tied F.spelling (filter_bytes_of F.spelling F.built_cutoff) store s (D.world disk.new)) IsFree }
+        ensures answer { IsTrue D.tells → MatchResult result (IsOpenedAs F.spelling (D.world disk.old).seen.held) (IsOpenAnswer F.spelling F.first_fault (D.world disk.old).seen.held) }
+        ensures cause { IfErr result (IsOpenRefusal (D.world disk.old) (D.world disk.new)) }
+        ensures running { IfOk result (λ store. store.stopped ≡ false) }
+        ensures reads { (s : State) → IsTrue D.tells → IsStateOf F.spelling s (D.world disk.old).seen.held → (D.world disk.new).seen.reads ≤ (D.world disk.old).seen.reads + 7 + 2 * length s.tables }
+        ensures moves { Moves 0 0 (7 + 2 * max_tables) (D.world disk.old) (D.world disk.new) }
+    {
+        disk.sync()?;
+        Store::read_store(alloc, disk)
+    }
+
+    // The store that a device reads as.
+    fn read_store<D: Disk>(alloc: Global, disk: &mut D) -> Result<Store<F>, StoreError>
+        ensures answer { IsTrue D.tells → MatchResult result (IsOpenedAs F.spelling (D.world disk.old).seen.held) (IsOpenAnswer F.spelling F.first_fault (D.world disk.old).seen.held) }
+        ensures cause { IfErr result (IsOpenRefusal (D.world disk.old) (D.world disk.new)) }
+        ensures running { IfOk result (λ store. store.stopped ≡ false) }
+        ensures reads { (s : State) → IsTrue D.tells → IsStateOf F.spelling s (D.world disk.old).seen.held → (D.world disk.new).seen.reads ≤ (D.world disk.old).seen.reads + 7 + 2 * length s.tables }
+        ensures moves { ReadMoves (7 + 2 * max_tables) (D.world disk.old) (D.world disk.new) }
+    {
+        let (version, tables) = open_version(alloc, disk)?;
+        let (log, entries) = Log::replay(alloc, disk, version.log_area)?;
+        Store::of_parts(alloc, version, tables, log, entries)
+    }
+
+    // The store of a version, its tables and its log, whose newest entries are in memory.
+    fn of_parts(
+        alloc: Global,
+        version: Version,
+        tables: Tables<F>,
+        log: Log,
+        entries: Vec<Entry>,
+    ) -> Result<Store<F>, StoreError>
+        requires version { IsVersion version.version }
+        requires slot { version.slot ≤ 1 }
+        requires rows { rows_of tables.tables ≡ version.version.rows }
+        requires area { version.version.log_page ≡ log_page_of log.area }
+        requires log { log.filled ≡ filled entries.items }
+        requires sound { AllByRecursion IsEntry entries.items }
+        requires fits { filled entries.items < log_bytes }
+        ensures store { IfOk result (λ store. store ≡ record { stopped = false; manifest = version; tables = tables.tables; log = log; memory = store.memory; buffer = store.buffer }) }
+        ensures memory { IfOk result (λ store. store.memory.entries ≡ newest_entries entries.items) }
+        ensures cause { IfErr result (λ why. why ≡ StoreError.Memory) }
+    {
+        let memory = MemTable::fill(entries)?;
+        let buffer = vec![in alloc; 0; LARGEST_BLOCK_BYTES]?;
+        Ok(Store {
+            stopped: false,
+            version,
+            tables,
+            log,
+            memory,
+            buffer,
+        })
+    }
+}

@@ -1,0 +1,110 @@
+//! Entries that are written.
+ghost use Rattle.std.specs.Prelude.{◌≡◌, ◌≤◌, ◌+◌, ◌*◌, ◌||◌, Bool, true, false, Some, None, IsTrue, IfErr, OnOk, MatchResult};
+ghost use Rattle.block_model.specs.Pages.{page_bytes};
+ghost use Rattle.disk_trait.specs.World.{ReadMoves, WriteMoves};
+ghost use Rattle.entry_model.specs.Entries.{IsEntry, entry_of, need};
+ghost use Rattle.gate_log.specs.Values.{value_of};
+ghost use Rattle.key_base.specs.Limits.{log_bytes};
+ghost use Rattle.line_model.specs.Limits.{limit_of};
+ghost use Rattle.line_model.specs.Requests.{Del, Put};
+ghost use Rattle.state_model.specs.Changes.{logged, written};
+ghost use Rattle.state_model.specs.State.{State};
+ghost use Rattle.store_core.specs.Answers.{Answered, IsRun, IsWriteFailure, IsWriteRefusal, Turns, Wrote, stopped_by, told_change};
+ghost use Rattle.store_core.specs.Tied.{Tied};
+ghost use Rattle.table_model.specs.Tables.{filter_bytes_of};
+
+use crate::error::StoreError;
+use crate::limits::{check_key, check_value};
+use crate::store::Store;
+use disk_trait::Disk;
+use entry_list::Entry;
+use filter_api::RangeFilter;
+use gate_log::record_need;
+
+impl<F: RangeFilter> Store<F> {
+    /// Sets the value of a key.
+    ///
+    /// The memory of the entry is taken first; then, where its record does not fit the log area, the memory table is
+    /// flushed; then the record is written and made to last. At `Ok` no crash takes it back. No read.
+    pub fn put<D: Disk>(&mut self, disk: &mut D, key: &[u8], value: &[u8]) -> Result<(), StoreError>
+        ensures answered { (s : State) → IsTrue D.tells → self.old.stopped ≡ false → Tied F.spelling (filter_bytes_of F.spelling F.built_cutoff) self.old s (D.world disk.old)
+            → Answered F.spelling (filter_bytes_of F.spelling F.built_cutoff) s (Put key.now value.now) (told_change result) self.new (D.world disk.old) (D.world disk.new) }
+        ensures refused { MatchResult result (λ _. IsRun self.old.stopped (limit_of (Put key.now value.now))) (IsWriteRefusal self.old.stopped (limit_of (Put key.now value.now)) (D.world disk.old) (D.world disk.new)) }
+        ensures stopped { self.new.stopped ≡ (self.old.stopped || stopped_by result) }
+        ensures still { self.old.stopped ≡ true → ReadMoves 0 (D.world disk.old) (D.world disk.new) }
+        ensures moves { WriteMoves 0 (page_bytes * self.old.manifest.version.pages) (D.world disk.old) (D.world disk.new) }
+    {
+        if self.stopped {
+            return Err(StoreError::Stopped);
+        }
+        check_key(key)?;
+        check_value(value)?;
+        self.write(disk, key, Some(value))
+    }
+
+    /// Takes the value of a key away: a tombstone is written, in the way of [`Store::put`].
+    pub fn delete<D: Disk>(&mut self, disk: &mut D, key: &[u8]) -> Result<(), StoreError>
+        ensures answered { (s : State) → IsTrue D.tells → self.old.stopped ≡ false → Tied F.spelling (filter_bytes_of F.spelling F.built_cutoff) self.old s (D.world disk.old)
+            → Answered F.spelling (filter_bytes_of F.spelling F.built_cutoff) s (Del key.now) (told_change result) self.new (D.world disk.old) (D.world disk.new) }
+        ensures refused { MatchResult result (λ _. IsRun self.old.stopped (limit_of (Del key.now))) (IsWriteRefusal self.old.stopped (limit_of (Del key.now)) (D.world disk.old) (D.world disk.new)) }
+        ensures stopped { self.new.stopped ≡ (self.old.stopped || stopped_by result) }
+        ensures still { self.old.stopped ≡ true → ReadMoves 0 (D.world disk.old) (D.world disk.new) }
+        ensures moves { WriteMoves 0 (page_bytes * self.old.manifest.version.pages) (D.world disk.old) (D.world disk.new) }
+    {
+        if self.stopped {
+            return Err(StoreError::Stopped);
+        }
+        check_key(key)?;
+        self.write(disk, key, None)
+    }
+
+    // Writes an entry that keeps the limits.
+    fn write<D: Disk>(
+        &mut self,
+        disk: &mut D,
+        key: &[u8],
+        value: Option<&[u8]>,
+    ) -> Result<(), StoreError>
+        requires sound { IsEntry (entry_of key.now (value_of value)) }
+        requires running { self.old.stopped ≡ false }
+        ensures wrote { (s : State) → IsTrue D.tells → Tied F.spelling (filter_bytes_of F.spelling F.built_cutoff) self.old s (D.world disk.old)
+            → Wrote F.spelling (filter_bytes_of F.spelling F.built_cutoff) s (written (filter_bytes_of F.spelling F.built_cutoff) s (entry_of key.now (value_of value.entry))) result self.new (D.world disk.old) (D.world disk.new) }
+        ensures refused { IfErr result (IsWriteRefusal false None (D.world disk.old) (D.world disk.new)) }
+        ensures stopped { self.new.stopped ≡ stopped_by result }
+        ensures moves { WriteMoves 0 (page_bytes * self.old.manifest.version.pages) (D.world disk.old) (D.world disk.new) }
+    {
+        let entry = self.memory.reserve_for(key, value)?;
+        if self.log.fits(record_need(key, value)) {
+            return self.append(disk, entry);
+        }
+        self.flush_memory(disk)?;
+        self.append(disk, entry)
+    }
+
+    // Writes an entry whose record fits the log area. It stands in memory once it lasts.
+    fn append<D: Disk>(&mut self, disk: &mut D, entry: Entry) -> Result<(), StoreError>
+        requires sound { IsEntry entry }
+        requires running { self.old.stopped ≡ false }
+        requires fits { self.old.log.filled + need entry ≤ log_bytes }
+        requires spare { 1 ≤ self.old.memory.spare }
+        ensures turns { (s : State) → IsTrue D.tells → Tied F.spelling (filter_bytes_of F.spelling F.built_cutoff) self.old s (D.world disk.old)
+            → Turns F.spelling (filter_bytes_of F.spelling F.built_cutoff) s (logged s entry) result self.new (D.world disk.old) (D.world disk.new) }
+        ensures stopped { self.new.stopped ≡ stopped_by result }
+        ensures failure { IfErr result (IsWriteFailure (D.world disk.old) (D.world disk.new)) }
+        ensures moves { WriteMoves 0 (page_bytes * self.old.manifest.version.pages) (D.world disk.old) (D.world disk.new) }
+    {
+        match self
+            .log
+            .append(disk, &mut self.buffer, entry.key(), entry.value())
+        {
+            Ok(()) => {
+                self.memory.set(entry);
+                Ok(())
+            }
+            Err(fault) => {
+                self.stopped = true;
+                Err(StoreError::Device(fault))
+            }
+        }
+    }
+}

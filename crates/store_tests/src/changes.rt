@@ -1,0 +1,190 @@
+//! Changes of a store, with faults and crashes between them.
+use disk_mem::{Choice, MemDisk};
+use filter_api::{Field, Settings};
+use plain_filter::PlainFilter;
+use std::alloc::Global;
+use std::test::Fail;
+use store_core::{Limit, Store, StoreError};
+
+type PlainStore = Store<PlainFilter>;
+
+const BASE: Settings = Settings {
+    hash_bits: 0,
+    real_bits: 0,
+    ratio: 64,
+};
+
+const MIXED: Settings = Settings {
+    hash_bits: 8,
+    real_bits: 8,
+    ratio: 64,
+};
+
+// A disk that holds an empty store of 512 pages.
+fn formatted(alloc: Global, settings: Settings) -> Result<MemDisk, Fail> {
+    let mut disk = MemDisk::new(alloc, &[])?;
+    match PlainStore::format(alloc, &mut disk, settings, 512) {
+        Ok(()) => Ok(disk),
+        Err(_) => Err(Fail::from("not formatted")),
+    }
+}
+
+fn opened(alloc: Global, disk: &mut MemDisk) -> Result<PlainStore, Fail> {
+    match PlainStore::open_store(alloc, disk) {
+        Ok(store) => Ok(store),
+        Err(_) => Err(Fail::from("not opened")),
+    }
+}
+
+// One of the six steps of a script, numbered from 1.
+fn step(store: &mut PlainStore, disk: &mut MemDisk, number: usize) -> Result<(), StoreError> {
+    match number {
+        1 => store.put(disk, b"a", b"b"),
+        2 => store.put(disk, b"b", b"c"),
+        4 => store.delete(disk, b"a"),
+        6 => store.put(disk, b"c", b"d"),
+        _ => store.flush(disk),
+    }
+}
+
+// Whether a get finds this value of a key, or none.
+fn finds(store: &mut PlainStore, disk: &mut MemDisk, key: &[u8], value: Option<&[u8]>) -> bool {
+    match store.get(disk, key) {
+        Ok(found) => found == value,
+        Err(_) => false,
+    }
+}
+
+// Whether the store has the map behind so many steps.
+fn is_behind(store: &mut PlainStore, disk: &mut MemDisk, steps: usize) -> bool {
+    let a = steps > 0 && steps < 4;
+    finds(store, disk, b"a", a.then_some(b"b".as_slice()))
+        && finds(store, disk, b"b", (steps > 1).then_some(b"c".as_slice()))
+        && finds(store, disk, b"c", (steps > 5).then_some(b"d".as_slice()))
+}
+
+#[test]
+fn puts_are_there_after_a_flush_and_a_reopening(rt: HostRuntime) -> Result<(), Fail> {
+    let alloc = rt.alloc();
+    for settings in [BASE, MIXED] {
+        let mut disk = formatted(alloc, settings)?;
+        let mut store = opened(alloc, &mut disk)?;
+        for number in 1..7 {
+            assert_eq!(rt; step(&mut store, &mut disk, number), Ok(()));
+            assert!(rt; is_behind(&mut store, &mut disk, number));
+            let mut again = opened(alloc, &mut disk)?;
+            assert!(rt; is_behind(&mut again, &mut disk, number));
+        }
+    }
+    Ok(())
+}
+
+#[test]
+fn refusals_in_their_order(rt: HostRuntime) -> Result<(), Fail> {
+    let alloc = rt.alloc();
+    let mut empty = MemDisk::new(alloc, &[])?;
+    assert!(rt;
+        matches!(
+            PlainStore::open_store(alloc, &mut empty),
+            Err(StoreError::NotAStore)
+        )
+    );
+    let few = PlainStore::format(alloc, &mut empty, BASE, 511);
+    assert_eq!(rt; few, Err(StoreError::BadSettings(Field::Pages)));
+    assert_eq!(rt; empty.calls(), 3);
+    let mut disk = formatted(alloc, BASE)?;
+    assert_eq!(rt;
+        PlainStore::format(alloc, &mut disk, BASE, 512),
+        Err(StoreError::AlreadyAStore)
+    );
+    let mut store = opened(alloc, &mut disk)?;
+    assert_eq!(rt;
+        store.put(&mut disk, b"", b"c"),
+        Err(StoreError::Limit(Limit::Key(0)))
+    );
+    let long = vec![in alloc; 0; 65_537]?;
+    assert_eq!(rt;
+        store.put(&mut disk, b"a", &long),
+        Err(StoreError::Limit(Limit::Value(65_537)))
+    );
+    assert_eq!(rt; store.flush(&mut disk), Ok(()));
+    assert_eq!(rt; store.get(&mut disk, b"a"), Ok(None));
+    Ok(())
+}
+
+#[test]
+fn long_values_until_there_is_no_room(rt: HostRuntime) -> Result<(), Fail> {
+    let alloc = rt.alloc();
+    let mut disk = formatted(alloc, BASE)?;
+    let mut store = opened(alloc, &mut disk)?;
+    let value = vec![in alloc; 7; 65_536]?;
+    for key in 1..22u8 {
+        assert_eq!(rt; store.put(&mut disk, &[key], &value), Ok(()));
+    }
+    let full = StoreError::Full { need: 53, gap: 2 };
+    assert_eq!(rt; store.put(&mut disk, &[22], &value), Err(full));
+    assert_eq!(rt; store.get(&mut disk, &[1]), Ok(Some(value.as_slice())));
+    assert_eq!(rt; store.get(&mut disk, &[22]), Ok(None));
+    assert!(rt; !store.is_stopped());
+    Ok(())
+}
+
+// The script over a disk of which a call fails: the step that failed, 0 for the opening, or none.
+fn with_fault(alloc: Global, disk: &mut MemDisk) -> Result<Option<usize>, Fail> {
+    let mut store = match PlainStore::open_store(alloc, disk) {
+        Ok(store) => store,
+        Err(_) => return Ok(Some(0)),
+    };
+    for number in 1..7 {
+        if step(&mut store, disk, number).is_err() {
+            if store.get(disk, b"a") != Err(StoreError::Stopped) {
+                return Err(Fail::from("not stopped"));
+            }
+            return Ok(Some(number));
+        }
+    }
+    Ok(None)
+}
+
+// Whether a run in which the call of this number fails ends there and, reopened as a crash leaves it, has what was done, or
+// one step more.
+fn fails_well(alloc: Global, first: &MemDisk, call: u64, choice: &[Choice]) -> Result<bool, Fail> {
+    let faults = Vec::from_slice(alloc, &[call])?;
+    let mut disk = MemDisk::new(alloc, first.bytes())?.with_faults(faults);
+    let Some(number) = with_fault(alloc, &mut disk)? else {
+        return Ok(false);
+    };
+    let mut left = disk.crash(choice)?;
+    let mut again = opened(alloc, &mut left)?;
+    Ok(
+        is_behind(&mut again, &mut left, number)
+            || is_behind(&mut again, &mut left, number.saturating_sub(1)),
+    )
+}
+
+// Whether it is so of each of these calls.
+fn each_fails_well(alloc: Global, calls: &[u64], choice: &[Choice]) -> Result<bool, Fail> {
+    let first = formatted(alloc, BASE)?;
+    for call in calls {
+        if !fails_well(alloc, &first, *call, choice)? {
+            return Ok(false);
+        }
+    }
+    Ok(true)
+}
+
+#[test]
+fn calls_fail_and_their_writes_are_whole(rt: HostRuntime) -> Result<(), Fail> {
+    let calls = [0, 3, 6, 9, 12, 15, 18, 21, 24, 27, 30, 33, 36, 39, 42];
+    let whole = [Choice::Whole, Choice::Whole, Choice::Whole];
+    assert!(rt; each_fails_well(rt.alloc(), calls.as_slice(), whole.as_slice())?);
+    Ok(())
+}
+
+#[test]
+fn calls_fail_and_their_writes_are_lost(rt: HostRuntime) -> Result<(), Fail> {
+    let calls = [1, 4, 7, 10, 13, 16, 19, 22, 25, 28, 31, 34, 37, 40, 43];
+    let lost = [Choice::Lost, Choice::Lost, Choice::Lost];
+    assert!(rt; each_fails_well(rt.alloc(), calls.as_slice(), lost.as_slice())?);
+    Ok(())
+}
