@@ -11,8 +11,3 @@ fault place rule = record { place = place; rule = rule }
 -- the rule at the place where it is broken, else what later rules say
 abbrev pub refuse : Bool → ℕ → ℕ → Option Fault → Option Fault
 refuse bad place rule later = if bad then Some (fault place rule) else later
-
--- the first of two
-abbrev pub or_fault : Option Fault → Option Fault → Option Fault
-or_fault (Some found) later = Some found
-or_fault None later = later

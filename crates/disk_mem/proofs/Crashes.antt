@@ -3,7 +3,7 @@ use Rattle.std.proofs.Common.{◌≡◌, ◌⊎◌, ◌≤◌, ◌<◌, ◌+◌,
 use Rattle.std.proofs.lemmas.Bool.{cases_lt}
 use Rattle.disk_trait.specs.declared.fault.Op.{Op}
 use Rattle.disk_trait.specs.declared.fault.Op.TheVariants.{Read, Write, Sync}
-use Rattle.disk_mem.specs.Bytes.{AreBytes}
+use Rattle.byte_fields.specs.Spelling.{IsBytes}
 use Rattle.disk_mem.specs.Calls.{Call, Left, LeftBy, Becomes, bytes_after}
 use Rattle.disk_mem.specs.Choices.{Pick, whole, lost, other, AreBytePicks, crash_bytes, crashed_by, pending, pending_by, picked, pick_at}
 use Rattle.disk_mem.proofs.Picks.{picked-other, picked-short}
@@ -13,7 +13,7 @@ use Rattle.disk_mem.proofs.Picks.{picked-other, picked-short}
 abbrev IsBytePick : Pick → Type 0
 IsBytePick whole = Unit {0}
 IsBytePick lost = Unit {0}
-IsBytePick (other bytes) = AreBytes bytes
+IsBytePick (other bytes) = IsBytes bytes
 
 length_decides : (a b : List ℕ) → (length a ≡ length b) ⊎ (length a ≡ length b → ⊥)
 length_decides a b = elim (cases_lt (length a) (length b)) [

@@ -3,7 +3,7 @@ use Rattle.std.proofs.Common.{◌≡◌, ◌⊎◌, ◌↔◌, ℕ, List, ◌∷
 use Rattle.std.specs.Prelude.{Result, Ok, Err, OnOk, IsErr}
 use Rattle.disk_trait.specs.World.{World, ReadMoves, WriteMoves, SyncMoves, IsDurable, overwritten}
 use Rattle.disk_mem.specs.Calls.{Call, bytes_after}
-use Rattle.disk_mem.specs.History.{History, Adds, StarvesRead, StarvesWrite, ReadEnds, WriteEnds, SyncEnds, IsListed, disk_world, world_of, raised}
+use Rattle.disk_mem.specs.History.{History, Adds, StarvesRead, StarvesWrite, ReadEnds, WriteEnds, SyncEnds, IsListed, disk_world, world_of, counted_on}
 use Rattle.disk_mem.proofs.Worlds.{read_done, read_failed, read_starved, write_done, write_failed, write_starved, sync_done, sync_failed, sync_starved, sync_lasts}
 use Rattle.disk_mem.proofs.Written.{image_of-written}
 
@@ -11,10 +11,10 @@ use Rattle.disk_mem.proofs.Written.{image_of-written}
 added : (call : Call) (old new : History) → Adds call old new → disk_world new ≡ world_of old.first (call ∷ old.calls) old.starved_reads old.starved_writes
 added call old new a = λ i. world_of (a.first i) (a.calls i) (a.starved_reads i) (a.starved_writes i)
 
-starved_read : (old new : History) → StarvesRead old new → disk_world new ≡ world_of old.first old.calls (raised old.starved_reads) old.starved_writes
+starved_read : (old new : History) → StarvesRead old new → disk_world new ≡ world_of old.first old.calls (counted_on old.starved_reads) old.starved_writes
 starved_read old new s = λ i. world_of (s.first i) (s.calls i) (s.starved_reads i) (s.starved_writes i)
 
-starved_write : (old new : History) → StarvesWrite old new → disk_world new ≡ world_of old.first old.calls old.starved_reads (raised old.starved_writes)
+starved_write : (old new : History) → StarvesWrite old new → disk_world new ≡ world_of old.first old.calls old.starved_reads (counted_on old.starved_writes)
 starved_write old new s = λ i. world_of (s.first i) (s.calls i) (s.starved_reads i) (s.starved_writes i)
 
 -- ---- reads

@@ -2,7 +2,7 @@
 use Rattle.std.proofs.Common.{◌≡◌, ◌≤◌, ◌<◌, ℕ, zero, suc, List, [], ◌∷◌, length, get_or, map, refl, sym, ap, ◌∙◌, arith}
 use Rattle.std.proofs.lemmas.Bool.Decides.{nat_tests}
 use Rattle.disk_mem.specs.declared.choice.Choice.{Choice}
-use Rattle.disk_mem.specs.Bytes.{written}
+use Rattle.disk_mem.specs.Bytes.{with_write}
 use Rattle.disk_mem.specs.Choices.{lost, other, pick_of, pick_at, picked}
 
 pub pick_at-past : (choices : List Choice) (n : ℕ) → length choices ≤ n → pick_at (map pick_of choices) n ≡ lost
@@ -17,7 +17,7 @@ pick_at-choice choices n c lt is = there choices n c lt ∙ ap pick_of (sym is) 
   there (x ∷ more) zero d lt = refl
   there (x ∷ more) (suc k) d lt = there more k d (omega (arith, lt))
 
-pub picked-other : (at : ℕ) (list bytes was : List ℕ) → length list ≡ length bytes → picked (other list) at bytes was ≡ written was at list
+pub picked-other : (at : ℕ) (list bytes was : List ℕ) → length list ≡ length bytes → picked (other list) at bytes was ≡ with_write was at list
 picked-other at list bytes was same = grind (arith, nat_tests)
 
 pub picked-short : (at : ℕ) (list bytes was : List ℕ) → (length list ≡ length bytes → ⊥) → picked (other list) at bytes was ≡ was

@@ -2,9 +2,9 @@
 use Rattle.std.proofs.Common.{◌≡◌, ◌≤◌, ◌-◌, Bool, true, false, ℕ, suc, List, ◌∷◌, length, drop, refl, sym, ap, ◌∙◌, subst, arith, inl, inr}
 use Rattle.disk_trait.specs.World.{Image, Torn, Same, Passes, ReadMoves, WriteMoves, SyncMoves, IsDurable}
 use Rattle.disk_trait.proofs.Images.{torn_same, whole}
-use Rattle.disk_mem.specs.Bytes.{image_of, written}
+use Rattle.disk_mem.specs.Bytes.{image_of, with_write}
 use Rattle.disk_mem.specs.Calls.{Call, Left, Becomes, bytes_after, calls_by}
-use Rattle.disk_mem.specs.History.{LeftImage, world_of, raised, read_call, failed_read_call, write_call, sync_call}
+use Rattle.disk_mem.specs.History.{LeftImage, world_of, counted_on, read_call, failed_read_call, write_call, sync_call}
 use Rattle.disk_mem.specs.CurrentLaws.{read_is_left}
 use Rattle.disk_mem.proofs.Written.{image_of-written}
 
@@ -63,14 +63,14 @@ read_failed first calls sr sw at = record {
 still : (step : Image → Image → Type 0) (first : List ℕ) (calls : List Call) (sr sw tr tw : ℕ) → Passes step (world_of first calls sr sw) (world_of first calls tr tw)
 still step first calls sr sw tr tw = record { later = omega arith; kept = λ m image le left. left; steps = λ m image low high left. absurd (omega arith) }
 
-pub read_starved : (first : List ℕ) (calls : List Call) (sr sw : ℕ) → ReadMoves 1 (world_of first calls sr sw) (world_of first calls (raised sr) sw)
+pub read_starved : (first : List ℕ) (calls : List Call) (sr sw : ℕ) → ReadMoves 1 (world_of first calls sr sw) (world_of first calls (counted_on sr) sw)
 read_starved first calls sr sw = record {
   held = refl;
   reads = omega arith;
   reads_later = omega arith;
   read_faults = omega arith;
   write_faults = refl;
-  time = still Same first calls sr sw (raised sr) sw;
+  time = still Same first calls sr sw (counted_on sr) sw;
   beside = refl;
 }
 
@@ -91,7 +91,7 @@ write_passes first calls sr sw at bytes done =
 pub write_done : (first : List ℕ) (calls : List Call) (sr sw at : ℕ) (bytes : List ℕ)
     → WriteMoves at (length bytes) (world_of first calls sr sw) (world_of first (write_call at bytes true ∷ calls) sr sw)
 write_done first calls sr sw at bytes = record {
-  torn = becomes_torn at bytes (bytes_after first calls) (written (bytes_after first calls) at bytes) (inl refl);
+  torn = becomes_torn at bytes (bytes_after first calls) (with_write (bytes_after first calls) at bytes) (inl refl);
   reads = omega arith;
   read_faults = omega arith;
   write_faults = omega arith;
@@ -110,13 +110,13 @@ write_failed first calls sr sw at bytes = record {
   beside = refl;
 }
 
-pub write_starved : (first : List ℕ) (calls : List Call) (sr sw at n : ℕ) → WriteMoves at n (world_of first calls sr sw) (world_of first calls sr (raised sw))
+pub write_starved : (first : List ℕ) (calls : List Call) (sr sw at n : ℕ) → WriteMoves at n (world_of first calls sr sw) (world_of first calls sr (counted_on sw))
 write_starved first calls sr sw at n = record {
   torn = torn_same (image_of (bytes_after first calls)) at n;
   reads = refl;
   read_faults = refl;
   write_faults = omega arith;
-  time = still (Torn at n) first calls sr sw sr (raised sw);
+  time = still (Torn at n) first calls sr sw sr (counted_on sw);
   beside = refl;
 }
 
@@ -142,13 +142,13 @@ sync_failed first calls sr sw = record {
   beside = refl;
 }
 
-pub sync_starved : (first : List ℕ) (calls : List Call) (sr sw : ℕ) → SyncMoves (world_of first calls sr sw) (world_of first calls sr (raised sw))
+pub sync_starved : (first : List ℕ) (calls : List Call) (sr sw : ℕ) → SyncMoves (world_of first calls sr sw) (world_of first calls sr (counted_on sw))
 sync_starved first calls sr sw = record {
   held = refl;
   reads = refl;
   read_faults = refl;
   write_faults = omega arith;
-  time = still Same first calls sr sw sr (raised sw);
+  time = still Same first calls sr sw sr (counted_on sw);
   beside = refl;
 }
 

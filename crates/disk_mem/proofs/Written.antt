@@ -4,7 +4,7 @@ use Rattle.std.proofs.lemmas.Bool.{cases_lt}
 use Rattle.std.proofs.lemmas.List.{get_or_append_left, get_or-append_right, get_or-take, get_or-drop, get_or_past, get_or-replicate, length-replicate, length-take-le}
 use Rattle.disk_trait.specs.World.{overwritten}
 use Rattle.disk_trait.proofs.Images.{overwritten_before, overwritten_after, overwritten_at}
-use Rattle.disk_mem.specs.Bytes.{image_of, padded, written, zeros}
+use Rattle.disk_mem.specs.Bytes.{image_of, padded, with_write, zeros}
 
 length-zeros : (n : ℕ) → length (zeros n) ≡ n
 length-zeros n = length-replicate {A = ℕ} n 0
@@ -28,8 +28,8 @@ padded_size : (bytes : List ℕ) (size : ℕ) → size ≤ length (padded bytes 
 padded_size bytes size = omega (arith, length-append bytes (zeros (size - length bytes)), length-zeros (size - length bytes))
 
 -- at each place
-written_at : (was : List ℕ) (at : ℕ) (bytes : List ℕ) (place : ℕ) → get_or (written was at bytes) place 0 ≡ overwritten (image_of was) at bytes place
-unfolding written
+written_at : (was : List ℕ) (at : ℕ) (bytes : List ℕ) (place : ℕ) → get_or (with_write was at bytes) place 0 ≡ overwritten (image_of was) at bytes place
+unfolding with_write
 written_at was at bytes place =
     let p = padded was (at + length bytes) in
     let front : length (take at p) ≡ at = length-take-le at p (omega (arith, padded_size was (at + length bytes))) in
@@ -52,5 +52,5 @@ written_at was at bytes place =
           ]
     ]
 
-pub image_of-written : (was : List ℕ) (at : ℕ) (bytes : List ℕ) → image_of (written was at bytes) ≡ overwritten (image_of was) at bytes
+pub image_of-written : (was : List ℕ) (at : ℕ) (bytes : List ℕ) → image_of (with_write was at bytes) ≡ overwritten (image_of was) at bytes
 image_of-written was at bytes = λ i place. written_at was at bytes place i

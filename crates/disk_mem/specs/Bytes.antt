@@ -1,5 +1,5 @@
 -- A device's bytes as a list, with zeros past its end.
-use Rattle.std.specs.Prelude.{ℕ, ◌+◌, ◌-◌, List, ◌++◌, length, replicate, slice_index, All, ◌<◌}
+use Rattle.std.specs.Prelude.{ℕ, ◌+◌, ◌-◌, List, ◌++◌, length, replicate, slice_index}
 use Rattle.std.specs.List.{splice}
 use Rattle.disk_trait.specs.Image.{Image}
 
@@ -15,9 +15,5 @@ abbrev pub padded : List ℕ → ℕ → List ℕ
 padded bytes size = bytes ++ zeros (size - length bytes)
 
 -- these bytes written from a place on
-unfoldable pub written : List ℕ → ℕ → List ℕ → List ℕ
-written was at bytes = splice (padded was (at + length bytes)) at (at + length bytes) bytes
-
--- each is a byte
-abbrev pub AreBytes : List ℕ → Type 0
-AreBytes xs = All (λ x. x < 256) xs
+unfoldable pub with_write : List ℕ → ℕ → List ℕ → List ℕ
+with_write was at bytes = splice (padded was (at + length bytes)) at (at + length bytes) bytes

@@ -2,7 +2,8 @@
 use Rattle.std.specs.Prelude.{◌≡◌, ◌⊎◌, ℕ, ◌+◌, ◌-◌, Bool, true, false, List, [], ◌∷◌, length, drop, slice_index_or}
 use Rattle.disk_trait.specs.declared.fault.Op.{Op}
 use Rattle.disk_trait.specs.declared.fault.Op.TheVariants.{Read, Write, Sync}
-use Rattle.disk_mem.specs.Bytes.{written, AreBytes}
+use Rattle.byte_fields.specs.Spelling.{IsBytes}
+use Rattle.disk_mem.specs.Bytes.{with_write}
 
 -- a call that has a number: what it was asked for, its place, the bytes that it moved, and whether it was done
 pub record Call : Type 0 where
@@ -14,7 +15,7 @@ pub record Call : Type 0 where
 -- ---- what it reads as
 
 abbrev pub applied : Op → Bool → ℕ → List ℕ → List ℕ → List ℕ
-applied Write true at bytes was = written was at bytes
+applied Write true at bytes was = with_write was at bytes
 applied Write false at bytes was = was
 applied Read done at bytes was = was
 applied Sync done at bytes was = was
@@ -29,7 +30,7 @@ bytes_after first (call ∷ earlier) = applied call.op call.done call.at call.by
 -- a write of these bytes, done or failed, after a crash: whole, lost, or any bytes in its range
 abbrev pub Becomes : ℕ → List ℕ → List ℕ → List ℕ → Type 0
 Becomes at bytes was now =
-    (now ≡ written was at bytes) ⊎ (now ≡ was) ⊎ ((other : List ℕ) × AreBytes other × (length other ≡ length bytes) × (now ≡ written was at other))
+    (now ≡ with_write was at bytes) ⊎ (now ≡ was) ⊎ ((other : List ℕ) × IsBytes other × (length other ≡ length bytes) × (now ≡ with_write was at other))
 
 -- one call more: what could be left before it, and the bytes that are read by then
 abbrev pub LeftBy : Op → Bool → ℕ → List ℕ → List ℕ → (List ℕ → Type 0) → List ℕ → Type 0

@@ -4,7 +4,8 @@ use Rattle.disk_trait.specs.declared.fault.Op.{Op}
 use Rattle.disk_trait.specs.declared.fault.Op.TheVariants.{Read, Write, Sync}
 use Rattle.disk_mem.specs.declared.choice.Choice.{Choice}
 use Rattle.disk_mem.specs.declared.choice.Choice.TheVariants.{Whole, Lost, Bytes}
-use Rattle.disk_mem.specs.Bytes.{written, AreBytes}
+use Rattle.byte_fields.specs.Spelling.{IsBytes}
+use Rattle.disk_mem.specs.Bytes.{with_write}
 use Rattle.disk_mem.specs.Calls.{Call, bytes_after}
 
 pub data Pick : Type 0 where
@@ -26,9 +27,9 @@ pick_at (pick ∷ more) (suc n) = pick_at more n
 
 -- a write of these bytes as it was picked; a list of another length is as good as lost
 abbrev pub picked : Pick → ℕ → List ℕ → List ℕ → List ℕ
-picked whole at bytes was = written was at bytes
+picked whole at bytes was = with_write was at bytes
 picked lost at bytes was = was
-picked (other list) at bytes was = if length list == length bytes then written was at list else was
+picked (other list) at bytes was = if length list == length bytes then with_write was at list else was
 
 -- how many writes, done or failed, came since the last sync that succeeded
 abbrev pub pending_by : Op → Bool → ℕ → ℕ
@@ -58,4 +59,4 @@ abbrev pub AreBytePicks : List Pick → Type 0
 AreBytePicks [] = ⊤
 AreBytePicks (whole ∷ more) = AreBytePicks more
 AreBytePicks (lost ∷ more) = AreBytePicks more
-AreBytePicks (other bytes ∷ more) = AreBytes bytes × AreBytePicks more
+AreBytePicks (other bytes ∷ more) = IsBytes bytes × AreBytePicks more

@@ -27,8 +27,8 @@ abbrev pub IsListed : History → Type 0
 IsListed h = Contains h.faults (length h.calls)
 
 -- a count in a u64, one higher: it stays at its last value
-abbrev pub raised : ℕ → ℕ
-raised n = max n (min (n + 1) (2 ^ 64 - 1))
+abbrev pub counted_on : ℕ → ℕ
+counted_on n = max n (min (n + 1) (2 ^ 64 - 1))
 
 -- how often a call found no memory
 abbrev pub starved_in : History → ℕ
@@ -62,7 +62,7 @@ pub record StarvesRead (old new : History) : Type 0 where
   pub first : new.first ≡ old.first
   pub calls : new.calls ≡ old.calls
   pub faults : new.faults ≡ old.faults
-  pub starved_reads : new.starved_reads ≡ raised old.starved_reads
+  pub starved_reads : new.starved_reads ≡ counted_on old.starved_reads
   pub starved_writes : new.starved_writes ≡ old.starved_writes
   pub rose : Rose (starved_in old) (starved_in new)
 
@@ -72,7 +72,7 @@ pub record StarvesWrite (old new : History) : Type 0 where
   pub calls : new.calls ≡ old.calls
   pub faults : new.faults ≡ old.faults
   pub starved_reads : new.starved_reads ≡ old.starved_reads
-  pub starved_writes : new.starved_writes ≡ raised old.starved_writes
+  pub starved_writes : new.starved_writes ≡ counted_on old.starved_writes
   pub rose : Rose (starved_in old) (starved_in new)
 
 -- a read of these bytes ends: done; or failed, since its number is listed; or without memory

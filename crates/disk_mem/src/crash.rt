@@ -1,6 +1,6 @@
 //! What a crash leaves, by a choice for each write that no sync made to last.
 ghost use Rattle.std.specs.Prelude.{◌≡◌, ◌+◌, ◌^◌, ◌≤◌, length, map, IfOk, OnOk};
-ghost use Rattle.disk_mem.specs.Bytes.{written};
+ghost use Rattle.disk_mem.specs.Bytes.{with_write};
 ghost use Rattle.disk_mem.specs.Calls.{bytes_after, calls_by};
 ghost use Rattle.disk_mem.specs.Choices.{pick_of, pick_at, picked, crash_bytes};
 
@@ -79,7 +79,7 @@ fn make(
 
 fn grow_and_put(bytes: &mut Vec<u8>, at: usize, from: &[u8]) -> Result<(), AllocError>
     requires { at + length from.now ≤ 2 ^ 48 }
-    ensures { OnOk result (bytes.new.items ≡ written bytes.old.items at from.now) }
+    ensures { OnOk result (bytes.new.items ≡ with_write bytes.old.items at from.now) }
 {
     let end = at + from.len();
     bytes.reserve(end.saturating_sub(bytes.len()))?;

@@ -1,7 +1,7 @@
 //! The bytes of a device: reads past their end give zeros, and writes there grow them.
 ghost use Rattle.std.specs.Prelude.{◌≡◌, ◌+◌, ◌^◌, ◌≤◌, length, max, vec_len, vec_capacity};
 ghost use Rattle.disk_trait.specs.World.{window};
-ghost use Rattle.disk_mem.specs.Bytes.{image_of, padded, written};
+ghost use Rattle.disk_mem.specs.Bytes.{image_of, padded, with_write};
 
 /// Fills the slice with the bytes from a place on.
 pub fn fill(bytes: &[u8], at: usize, into: &mut [u8])
@@ -20,10 +20,10 @@ fn byte_at(bytes: &[u8], place: usize) -> u8
 }
 
 /// Writes the slice's bytes from a place on. There is room.
-#[tactic(auto, unfolding(crate::specs::Bytes::written))]
+#[tactic(auto, unfolding(crate::specs::Bytes::with_write))]
 pub fn put(bytes: &mut Vec<u8>, at: usize, from: &[u8])
     requires { at + length from.now ≤ vec_capacity bytes.old }
-    ensures written { bytes.new.items ≡ written bytes.old.items at from.now }
+    ensures written { bytes.new.items ≡ with_write bytes.old.items at from.now }
     ensures len { vec_len bytes.new ≡ max (vec_len bytes.old) (at + length from.now) }
     ensures capacity { vec_capacity bytes.old ≤ vec_capacity bytes.new }
 {

@@ -25,6 +25,3 @@ mod mem_disk;
 pub use choice::Choice;
 pub use laws::crash_laws;
 pub use mem_disk::MemDisk;
-
-#[cfg(test)]
-mod tests;

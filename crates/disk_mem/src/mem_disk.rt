@@ -6,7 +6,7 @@ ghost use Rattle.disk_trait.specs.declared.fault.Op.TheVariants.{Read, Write, Sy
 ghost use Rattle.disk_mem.specs.Bytes.{image_of};
 ghost use Rattle.disk_mem.specs.Calls.{bytes_after, reads_in};
 ghost use Rattle.disk_mem.specs.Choices.{crash_bytes, pick_of};
-ghost use Rattle.disk_mem.specs.History.{IsNew, ReadEnds, WriteEnds, SyncEnds, Lasts, moved_by, raised, starved_in};
+ghost use Rattle.disk_mem.specs.History.{IsNew, ReadEnds, WriteEnds, SyncEnds, Lasts, moved_by, counted_on, starved_in};
 
 use crate::call_log::CallLog;
 use crate::choice::Choice;
@@ -218,7 +218,7 @@ fn is_listed(faults: &Vec<u64>, number: usize) -> bool
 
 // One higher, or the same at the last value.
 fn raise(count: u64) -> u64
-    ensures { result ≡ raised count }
+    ensures { result ≡ counted_on count }
 {
     count.saturating_add(1)
 }

@@ -1,10 +1,11 @@
 -- The map of some entries.
 use Rattle.std.proofs.Common.{◌≡◌, ◌≢◌, List, [], ◌∷◌, refl, ◌∙◌, subst, true, false, cond}
+use Rattle.std.specs.Option.{option_or}
 use Rattle.std.specs.Prelude.{Option, Some, None, bytes_eq, fold}
 use Rattle.std.proofs.lemmas.Slice.Eq.{bytes_eq-Decides}
 use Rattle.map_model.specs.SortedMap.{Bytes, Map, get, Rises}
 use Rattle.map_model.proofs.Maps.{put_here, put_elsewhere, put_rises, del_here, del_elsewhere, del_rises}
-use Rattle.entry_model.specs.Entries.{Entry, changed, change_by, newest, or_else, live}
+use Rattle.entry_model.specs.Entries.{Entry, changed, change_by, newest, live}
 
 -- what the map has at the key after some entries, the newest of that key being this
 abbrev after : Map → Option (Option Bytes) → Bytes → Option Bytes
@@ -25,7 +26,7 @@ changed_at map entry key = elim (bytes_eq entry.key key) as (λ t. bytes_eq entr
   | false ↦ λ e. changed_elsewhere map entry.key entry.value key (λ same. let yes = (bytes_eq-Decides entry.key key).1 same in cc)
 ] refl
 
-then_newest : (map : Map) (entry : Entry) (key : Bytes) (later : Option (Option Bytes)) → after (changed map entry) later key ≡ after map (or_else later (cond (bytes_eq entry.key key) (Some entry.value) None)) key
+then_newest : (map : Map) (entry : Entry) (key : Bytes) (later : Option (Option Bytes)) → after (changed map entry) later key ≡ after map (option_or later (cond (bytes_eq entry.key key) (Some entry.value) None)) key
 then_newest map entry key (Some value) = refl
 then_newest map entry key None = changed_at map entry key
 

@@ -1,5 +1,6 @@
 -- The newest entries: what they say of each key, that their keys rise, and that no other list does so.
 use Rattle.std.proofs.Common.{◌≡◌, List, [], ◌∷◌, ◌++◌, refl, sym, ap, ◌∙◌, subst, Bool, true, false, cond}
+use Rattle.std.specs.Option.{option_or}
 use Rattle.std.specs.Prelude.{Option, Some, None, bytes_eq, fold}
 use Rattle.std.specs.List.{AllByRecursion}
 use Rattle.std.proofs.lemmas.List.Sums.{fold-append}
@@ -8,7 +9,7 @@ use Rattle.std.specs.Cmp.Lexicographic.{nat_list_cmp_total, texts_ties}
 use Rattle.std.specs.Ordering.{ordering_reverse, is_eq}
 use Rattle.std.specs.declared.cmp.Ordering.TheVariants.{Less, Greater}
 use Rattle.map_model.specs.SortedMap.{Bytes, byte_order, in_place}
-use Rattle.entry_model.specs.Entries.{Entry, newest, or_else}
+use Rattle.entry_model.specs.Entries.{Entry, newest}
 use Rattle.map_model.proofs.Maps.{same_key, other_key, equal_keys, less_of_greater, by_order}
 use Rattle.entry_model.specs.Newest.{IsAbove, KeysRise, with_entry, newest_entries, lookup}
 
@@ -67,17 +68,17 @@ rises_with (entry ∷ more) new rises = by_order (λ o. KeysRise (in_place o new
 
 -- ---- all of them
 
-said_then : (entry : Entry) (key : Bytes) (later older : Option (Option Bytes)) → or_else later (said entry key older) ≡ or_else (or_else later (said entry key None)) older
+said_then : (entry : Entry) (key : Bytes) (later older : Option (Option Bytes)) → option_or later (said entry key older) ≡ option_or (option_or later (said entry key None)) older
 said_then entry key (Some value) older = refl
-said_then entry key None older = elim (bytes_eq entry.key key) as (λ t. cond t (Some entry.value) older ≡ or_else (cond t (Some entry.value) None) older) [ true ↦ refl | false ↦ refl ]
+said_then entry key None older = elim (bytes_eq entry.key key) as (λ t. cond t (Some entry.value) older ≡ option_or (cond t (Some entry.value) None) older) [ true ↦ refl | false ↦ refl ]
 
-pub lookup_after : (start entries : List Entry) (key : Bytes) → lookup (fold with_entry start entries) key ≡ or_else (newest entries key) (lookup start key)
+pub lookup_after : (start entries : List Entry) (key : Bytes) → lookup (fold with_entry start entries) key ≡ option_or (newest entries key) (lookup start key)
 lookup_after start [] key = refl
 lookup_after start (entry ∷ later) key = lookup_after (with_entry start entry) later key
-    ∙ ap (or_else (newest later key)) (lookup_with start entry key)
+    ∙ ap (option_or (newest later key)) (lookup_with start entry key)
     ∙ said_then entry key (newest later key) (lookup start key)
 
-or_none : (found : Option (Option Bytes)) → or_else found None ≡ found
+or_none : (found : Option (Option Bytes)) → option_or found None ≡ found
 or_none None = refl
 or_none (Some value) = refl
 

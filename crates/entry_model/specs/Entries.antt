@@ -1,5 +1,6 @@
 -- Entries, the map that they make in the order of writing, and their bytes.
 use Rattle.std.specs.Prelude.{◌≤◌, ℕ, ◌+◌, ◌-◌, List, [], ◌∷◌, ◌++◌, length, fold, map, flat_map, Option, Some, None, if◌then◌else◌, bytes_eq}
+use Rattle.std.specs.Option.{option_or}
 use Rattle.byteorder.specs.Endian.{little_bytes}
 use Rattle.key_base.specs.Limits.{max_key_bytes, max_value_bytes, log_bytes}
 use Rattle.byte_fields.specs.Spelling.{IsBytes}
@@ -33,14 +34,10 @@ changed map entry = change_by map entry.key entry.value
 abbrev pub map_of : List Entry → Map
 map_of entries = fold changed [] entries
 
-abbrev pub or_else : Option (Option Bytes) → Option (Option Bytes) → Option (Option Bytes)
-or_else (Some value) older = Some value
-or_else None older = older
-
 -- what the last entry of the key says, where there is one
 abbrev pub newest : List Entry → Bytes → Option (Option Bytes)
 newest [] key = None
-newest (entry ∷ later) key = or_else (newest later key) (if bytes_eq entry.key key then Some entry.value else None)
+newest (entry ∷ later) key = option_or (newest later key) (if bytes_eq entry.key key then Some entry.value else None)
 
 -- the value, where an entry is there and is no tombstone
 abbrev pub live : Option (Option Bytes) → Option Bytes

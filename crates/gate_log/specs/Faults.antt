@@ -8,8 +8,8 @@ use Rattle.disk_trait.specs.declared.fault.Op.TheVariants.{Read}
 use Rattle.map_model.specs.SortedMap.{Bytes}
 use Rattle.log_model.specs.Area.{start_of, LogBreaks}
 use Rattle.log_model.specs.Records.{Breaks}
-use Rattle.gate_log.specs.declared.fault.AreaFault.{AreaFault}
-use Rattle.gate_log.specs.declared.fault.AreaFault.TheVariants as area
+use Rattle.byte_fields.specs.declared.part_fault.PartFault.{PartFault}
+use Rattle.byte_fields.specs.declared.part_fault.PartFault.TheVariants as area
 use Rattle.gate_log.specs.declared.fault.LogFault.{LogFault}
 use Rattle.gate_log.specs.declared.fault.LogFault.TheVariants as log
 
@@ -18,7 +18,7 @@ abbrev pub IsAppendFault : ℕ → DiskFault → Type 0
 IsAppendFault gate fault = IsWriteThroughFault (gate + 1) fault ⊎ IsWriteThroughFault gate fault
 
 -- want of memory is free; a shape is the first rule that is broken, at its place
-abbrev pub IsFaultIn : Bytes → AreaFault → Type 0
+abbrev pub IsFaultIn : Bytes → PartFault → Type 0
 IsFaultIn bytes area.Memory = Unit {0}
 IsFaultIn bytes (area.Shape place rule) = Breaks place rule bytes
 

@@ -1,35 +1,9 @@
 //! Why a log is not read.
 ghost use Rattle.std.specs.Prelude.{◌≡◌};
-ghost use Rattle.gate_log.specs.declared.fault.AreaFault.TheVariants.{Memory as area_memory};
-ghost use Rattle.gate_log.specs.declared.fault.LogFault.TheVariants.{Memory as log_memory, Device};
+ghost use Rattle.gate_log.specs.declared.fault.LogFault.TheVariants.{Memory, Device};
 
 use disk_trait::DiskFault;
-use std::alloc::{AllocError, AllocFailed};
-
-/// Why the bytes of a log area are not read.
-#[derive(Clone, Copy, Debug, PartialEq, Eq)]
-pub enum AreaFault {
-    /// There is no memory for the entries.
-    Memory,
-    /// The record whose gate is at this place of the bytes breaks a rule of the format.
-    Shape { place: usize, rule: u8 },
-}
-
-impl From<AllocError> for AreaFault {
-    ghost from_gives = { λ _ fault. fault ≡ area_memory };
-
-    fn from(_: AllocError) -> AreaFault {
-        AreaFault::Memory
-    }
-}
-
-impl<T: Drop> From<AllocFailed<T>> for AreaFault {
-    ghost from_gives = { λ _ fault. fault ≡ area_memory };
-
-    fn from(_: AllocFailed<T>) -> AreaFault {
-        AreaFault::Memory
-    }
-}
+use std::alloc::AllocError;
 
 /// Why a log is not replayed.
 #[derive(Clone, Copy, Debug, PartialEq, Eq)]
@@ -43,7 +17,7 @@ pub enum LogFault {
 }
 
 impl From<AllocError> for LogFault {
-    ghost from_gives = { λ _ fault. fault ≡ log_memory };
+    ghost from_gives = { λ _ fault. fault ≡ Memory };
 
     fn from(_: AllocError) -> LogFault {
         LogFault::Memory

@@ -26,10 +26,7 @@ mod log;
 mod reading;
 mod writing;
 
-pub use fault::{AreaFault, LogFault};
+pub use fault::LogFault;
 pub use log::Log;
 pub use reading::entries_in;
 pub use writing::{BUFFER_BYTES, record_need};
-
-#[cfg(test)]
-mod tests;

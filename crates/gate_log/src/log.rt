@@ -11,9 +11,10 @@ ghost use Rattle.gate_log.specs.Faults.{IsAppendFault, IsShapeIn, HasReadCause, 
 ghost use Rattle.std.specs.List.{AllByRecursion};
 ghost use Rattle.gate_log.specs.Values.{value_of};
 
-use crate::fault::{AreaFault, LogFault};
+use crate::fault::LogFault;
 use crate::reading::entries_in;
 use crate::writing::{CLOSED, OPEN, put_record};
+use byte_fields::PartFault;
 use disk_trait::{Disk, DiskFault, write_through};
 use entry_list::Entry;
 use key_base::LOG_BYTES;
@@ -114,8 +115,8 @@ impl Log {
         let bytes = read_area(alloc, disk, area)?;
         match entries_in(alloc, &bytes) {
             Ok((entries, filled)) => Ok((Log { area, filled }, entries)),
-            Err(AreaFault::Memory) => Err(LogFault::Memory),
-            Err(AreaFault::Shape { place, rule }) => Err(LogFault::Shape {
+            Err(PartFault::Memory) => Err(LogFault::Memory),
+            Err(PartFault::Shape { place, rule }) => Err(LogFault::Shape {
                 at: area_start(area) + place as u64,
                 rule,
             }),
@@ -136,7 +137,8 @@ impl Log {
         need <= self.gap()
     }
 
-    /// Adds the record of a key with its value, or without, which deletes it: its body with the closed gate behind it, and, once these are synced, the open gate.
+    /// Adds the record of a key with its value, or without, which deletes it: its body with the closed gate behind it, and,
+    /// once these are synced, the open gate.
     ///
     /// At `Ok` each image that a crash may leave has the record, and the device holds its bytes and a closed gate behind
     /// them; meanwhile, and after an `Err`, it is there or not, never in part. Two writes and two syncs, no read and no

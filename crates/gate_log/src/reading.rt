@@ -7,10 +7,9 @@ ghost use Rattle.log_model.specs.Records.{Spells, broken_rule};
 ghost use Rattle.entry_model.specs.Reading.{entry_in, width_in};
 ghost use Rattle.gate_log.specs.Faults.{IsFaultIn};
 
-use crate::fault::AreaFault;
 use crate::kind::Kind;
 use crate::writing::OPEN;
-use byte_fields::{get_u16, get_u32};
+use byte_fields::{PartFault, get_u16, get_u32};
 use entry_list::{Entry, HEAD_BYTES};
 use key_base::{MAX_KEY_BYTES, MAX_VALUE_BYTES};
 use std::alloc::Global;
@@ -44,10 +43,12 @@ fn body_in(bytes: &[u8]) -> Result<Body<'_>, u8>
     if bytes.len() < HEAD_BYTES {
         return Err(PAST_THE_AREA);
     }
-    let kind = match bytes[0] {
-        1 => Kind::Put,
-        2 => Kind::Delete,
-        _ => return Err(NO_KIND),
+    let kind = if bytes[0] == Kind::Put as u8 {
+        Kind::Put
+    } else if bytes[0] == Kind::Delete as u8 {
+        Kind::Delete
+    } else {
+        return Err(NO_KIND);
     };
     let key_bytes = usize::from(get_u16(bytes, 1));
     let value_bytes = get_u32(bytes, 3) as usize;
@@ -75,19 +76,19 @@ fn body_in(bytes: &[u8]) -> Result<Body<'_>, u8>
 ///
 /// One pass, and memory for the entries alone. `Ok` exactly where the bytes keep the rules of the format, else the first
 /// rule that is broken and the place of its record's gate.
-pub fn entries_in(alloc: Global, bytes: &[u8]) -> Result<(Vec<Entry>, usize), AreaFault>
+pub fn entries_in(alloc: Global, bytes: &[u8]) -> Result<(Vec<Entry>, usize), PartFault>
     requires { 0 < length bytes.now }
     ensures entries { IfOk result (λ found. Spells found.0.items bytes.now) }
     ensures end { IfOk result (λ found. found.1 ≡ filled found.0.items) }
     ensures fault { IfErr result (IsFaultIn bytes.now) }
-    ensures exact { (entries : List model.Entry) → Spells entries bytes.now → MatchResult result (λ found. found.0.items ≡ entries) (λ fault. fault ≡ AreaFault.Memory) }
+    ensures exact { (entries : List model.Entry) → Spells entries bytes.now → MatchResult result (λ found. found.0.items ≡ entries) (λ fault. fault ≡ PartFault.Memory) }
 {
     let mut entries = Vec::new(alloc);
     let mut at = 0;
     while bytes[at] == OPEN {
         let body = match body_in(&bytes[at + 1..]) {
             Ok(body) => body,
-            Err(rule) => return Err(AreaFault::Shape { place: at, rule }),
+            Err(rule) => return Err(PartFault::Shape { place: at, rule }),
         };
         let entry = Entry::new(alloc, body.key, body.value)?;
         entries.push(entry)?;

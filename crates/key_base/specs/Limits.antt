@@ -1,9 +1,13 @@
 -- The limits of the store, each in its unit.
-use Rattle.std.specs.Prelude.{ℕ, ◌^◌}
+use Rattle.std.specs.Prelude.{ℕ, ◌^◌, Bool, ◌==◌, ◌||◌, nat_lt}
 
 -- the bytes of the longest key; the shortest has one
 abbrev pub max_key_bytes : ℕ
 max_key_bytes = 1024
+
+-- a key of no byte or of too many
+abbrev pub is_no_key_length : ℕ → Bool
+is_no_key_length bytes = bytes == 0 || nat_lt max_key_bytes bytes
 
 -- the bytes of the longest bound of a range; the shortest has none
 abbrev pub max_bound_bytes : ℕ
@@ -58,6 +62,14 @@ first_table_page = 192
 -- the most entries of a block; the fewest is one
 abbrev pub max_block_entries : ℕ
 max_block_entries = 255
+
+-- the pages of the largest block: one entry, of the longest key and value
+abbrev pub max_block_pages : ℕ
+max_block_pages = 17
+
+-- the last number of an epoch
+unfoldable pub last_epoch : ℕ
+last_epoch = 18446744073709551615
 
 -- the most tables of a version
 abbrev pub max_tables : ℕ

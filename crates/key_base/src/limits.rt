@@ -1,4 +1,6 @@
-//! The limits of the store, as constants for code: the numbers of the definitions in `specs/`, as [`crate::constants_are_limits`] says.
+//! The limits of the store, as constants for code.
+//!
+//! They are the numbers of the definitions in `specs/`, as [`crate::constants_are_limits`] says.
 
 /// The bytes of the longest key; the shortest has one.
 pub const MAX_KEY_BYTES: usize = 1_024;
@@ -41,6 +43,12 @@ pub const MAX_RATIO: u16 = 65_535;
 
 /// The most entries of a block; the fewest is one.
 pub const MAX_BLOCK_ENTRIES: usize = 255;
+
+/// The pages of the largest block: one entry, of the longest key and value.
+pub const MAX_BLOCK_PAGES: u32 = 17;
+
+/// The last number of an epoch: 2^64 - 1.
+pub const LAST_EPOCH: u64 = 18_446_744_073_709_551_615;
 
 /// The pages of a log area, of which there are two.
 pub const LOG_PAGES: u32 = 64;

@@ -8,7 +8,7 @@ use Rattle.std.proofs.lemmas.List.Sums.{fold-append}
 use Rattle.byteorder.specs.Endian.{little_bytes}
 use Rattle.byte_fields.specs.Spelling.{IsBytes}
 use Rattle.entry_model.specs.Entries.{IsEntry, put_entry, del_entry, changed, map_of}
-use Rattle.load_gen.specs.Generator.{next_number, key_of, step_of, number_after, first_steps}
+use Rattle.load_gen.specs.Generator.{next_number, loaded_key, step_of, number_after, first_steps}
 
 pub steps_counted : (seed n : ℕ) → length (first_steps seed n) ≡ n
 steps_counted seed zero = refl
@@ -51,7 +51,7 @@ low_bytes i (suc k) n = bytes_more (byte_at i n) (bytes_low_first (suc i) k n) (
 
 -- ---- entries
 
-put_sound : (x : ℕ) → IsEntry (put_entry (key_of x) (little_bytes 8 x))
+put_sound : (x : ℕ) → IsEntry (put_entry (loaded_key x) (little_bytes 8 x))
 put_sound x = record {
   some_key = omega arith;
   short_key = omega arith;
@@ -60,7 +60,7 @@ put_sound x = record {
   value_bytes = low_bytes 0 8 x;
 }
 
-del_sound : (x : ℕ) → IsEntry (del_entry (key_of x))
+del_sound : (x : ℕ) → IsEntry (del_entry (loaded_key x))
 del_sound x = record {
   some_key = omega arith;
   short_key = omega arith;
@@ -70,7 +70,7 @@ del_sound x = record {
 }
 
 step_sound : (x : ℕ) → IsEntry (step_of x)
-step_sound x = elim ((x / 2 ^ 32) % 8 == 0) as (λ t. IsEntry (cond t (del_entry (key_of x)) (put_entry (key_of x) (little_bytes 8 x)))) [
+step_sound x = elim ((x / 2 ^ 32) % 8 == 0) as (λ t. IsEntry (cond t (del_entry (loaded_key x)) (put_entry (loaded_key x) (little_bytes 8 x)))) [
   | true ↦ del_sound x
   | false ↦ put_sound x
 ]

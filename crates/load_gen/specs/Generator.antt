@@ -9,12 +9,12 @@ abbrev pub next_number : ℕ → ℕ
 next_number x = (x * 6364136223846793005 + 1442695040888963407) % 2 ^ 64
 
 -- the key of a number: its three highest bytes, the highest first
-abbrev pub key_of : ℕ → Bytes
-key_of x = big_bytes 3 (x / 2 ^ 40)
+abbrev pub loaded_key : ℕ → Bytes
+loaded_key x = big_bytes 3 (x / 2 ^ 40)
 
 -- where bits 32, 33 and 34 are 0 the number deletes its key; else it puts its eight bytes, the lowest first
 abbrev pub step_of : ℕ → Entry
-step_of x = if (x / 2 ^ 32) % 8 == 0 then del_entry (key_of x) else put_entry (key_of x) (little_bytes 8 x)
+step_of x = if (x / 2 ^ 32) % 8 == 0 then del_entry (loaded_key x) else put_entry (loaded_key x) (little_bytes 8 x)
 
 -- the nth number behind a seed
 abbrev pub number_after : ℕ → ℕ → ℕ

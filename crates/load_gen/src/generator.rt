@@ -55,7 +55,7 @@ impl LoadGen {
 
 // The key of a number.
 fn key_of(number: u64) -> [u8; 3]
-    ensures { result ≡ model.key_of number }
+    ensures { result ≡ model.loaded_key number }
 {
     let [_, high, middle, low] = ((number >> 40) as u32).to_be_bytes();
     [high, middle, low]

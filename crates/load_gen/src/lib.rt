@@ -31,6 +31,3 @@ pub use generator::{LoadGen, LoadStep};
 pub use laws::{step_laws, summary_laws};
 pub use line::{LINE_BYTES, spell_summary};
 pub use summary::Summary;
-
-#[cfg(test)]
-mod tests;

@@ -5,4 +5,8 @@
 #![tactic(auto)]
 
 #[cfg(test)]
+mod records;
+#[cfg(test)]
+mod table;
+#[cfg(test)]
 mod tests;

@@ -1,5 +1,6 @@
 -- A table from sorted entries, of which the last of each key are kept.
 use Rattle.std.proofs.Common.{◌≡◌, ◌≢◌, ℕ, zero, suc, ◌+◌, ◌-◌, ◌<◌, ◌≤◌, List, [], ◌∷◌, ◌++◌, length, take, drop, get_or, set, refl, sym, ap, ◌∙◌, subst, arith, Bool, true, false, cond, not, inl, inr}
+use Rattle.std.specs.Option.{option_or}
 use Rattle.std.specs.Prelude.{Option, Some, None, bytes_eq, filter, ◌&&◌}
 use Rattle.std.specs.List.{AllByRecursion, swap, range_with_len}
 use Rattle.std.specs.List.Sorted.{IsStableBy, ties}
@@ -15,7 +16,7 @@ use Rattle.std.specs.Cmp.Lexicographic.{nat_list_cmp_total}
 use Rattle.std.specs.declared.cmp.Ordering.{Ordering}
 use Rattle.std.specs.declared.cmp.Ordering.TheVariants.{Less, Equal, Greater}
 use Rattle.map_model.specs.SortedMap.{Bytes, byte_order, in_place}
-use Rattle.entry_model.specs.Entries.{Entry, newest, or_else, entry_of}
+use Rattle.entry_model.specs.Entries.{Entry, newest, entry_of}
 use Rattle.map_model.proofs.Maps.{order_same, equal_keys, less_of_greater, by_order}
 use Rattle.entry_model.specs.Newest.{IsBelow, IsAbove, KeysRise, with_entry, newest_entries}
 use Rattle.mem_table.specs.Filling.{DoNotFall}
@@ -28,7 +29,7 @@ use Rattle.mem_table.proofs.Places.{with_behind}
 abbrev pub is_less : Entry → Entry → Bool
 is_less entry other = is_lt (byte_order entry.key other.key)
 
-or_none : (found : Option (Option Bytes)) → or_else found None ≡ found
+or_none : (found : Option (Option Bytes)) → option_or found None ≡ found
 or_none None = refl
 or_none (Some value) = refl
 
@@ -49,12 +50,12 @@ of_key : (x : Entry) (entries : List Entry) → newest (filter (ties is_less x) 
 of_key x [] = refl
 of_key x (entry ∷ more) =
     let other : bytes_eq entry.key x.key ≡ false → newest more x.key ≡ newest (entry ∷ more) x.key =
-    λ no. sym (ap (λ (t : Bool). or_else (newest more x.key) (cond t (Some entry.value) None)) no ∙ or_none (newest more x.key)) in
+    λ no. sym (ap (λ (t : Bool). option_or (newest more x.key) (cond t (Some entry.value) None)) no ∙ or_none (newest more x.key)) in
     by_order (λ _. newest (filter (ties is_less x) (entry ∷ more)) x.key ≡ newest (entry ∷ more) x.key) x.key entry.key
     (λ less. ap (λ (t : Bool). newest (cond t (entry ∷ filter (ties is_less x) more) (filter (ties is_less x) more)) x.key) (untied_below x.key entry.key less)
     ∙ of_key x more ∙ other (above_apart x.key entry.key less))
     (λ equal. ap (λ (t : Bool). newest (cond t (entry ∷ filter (ties is_less x) more) (filter (ties is_less x) more)) x.key) (tied x.key entry.key equal)
-    ∙ ap (λ (later : Option (Option Bytes)). or_else later (cond (bytes_eq entry.key x.key) (Some entry.value) None)) (of_key x more))
+    ∙ ap (λ (later : Option (Option Bytes)). option_or later (cond (bytes_eq entry.key x.key) (Some entry.value) None)) (of_key x more))
     (λ greater. ap (λ (t : Bool). newest (cond t (entry ∷ filter (ties is_less x) more) (filter (ties is_less x) more)) x.key) (untied_above x.key entry.key greater)
     ∙ of_key x more ∙ other (below_apart entry.key x.key (less_of_greater x.key entry.key greater)))
 

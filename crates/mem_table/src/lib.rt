@@ -29,6 +29,3 @@ mod table;
 
 pub use cursor::MemCursor;
 pub use table::MemTable;
-
-#[cfg(test)]
-mod tests;

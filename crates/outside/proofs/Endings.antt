@@ -2,7 +2,7 @@
 use Rattle.std.proofs.Common.{◌↔◌, ◌⊎◌, ◌≡◌, ◌≤◌, ◌<◌, ◌+◌, ◌++◌, ℕ, List, length, take, refl, sym, ap, ◌∙◌, subst, arith, inl, inr, take-append-drop}
 use Rattle.std.specs.Prelude.{Result, Ok, Err, IfOk, IsErr, Contains}
 use Rattle.std.proofs.lemmas.List.{nil_from_length}
-use Rattle.disk_mem.specs.History.{raised}
+use Rattle.disk_mem.specs.History.{counted_on}
 use Rattle.outside.specs.Session.{Session, TakeEnds, SayEnds, StarvesSay, IsClock, session_world}
 use Rattle.outside.specs.Streams.{Takes, SayMoves}
 use Rattle.outside.proofs.Sessions.{say_done, say_failed}
@@ -21,9 +21,9 @@ say_some from (Ok n) old new some pace ends = omega (arith, ends.1, some, pace)
 say_some from (Err e) old new some pace ends = tt
 
 pub say_moves : {E : Type 0} (from : List ℕ) (result : Result ℕ E) (old new : Session) → IsClock (length old.disk.calls) (length old.said) old.marks → SayEnds from result old new → SayMoves (session_world old) (session_world new)
-say_moves from (Ok n) old new clock ends = subst (λ (s : Session). SayMoves (session_world old) (session_world s)) (sym ends.2) (say_done old (take n from) (length old.said + n) (raised old.says) clock)
-say_moves from (Err e) old new clock (inl listed) = subst (λ (s : Session). SayMoves (session_world old) (session_world s)) (sym listed.1) (say_failed old (raised old.says) (raised old.say_faults) clock (omega arith))
-say_moves from (Err e) old new clock (inr starved) = subst (λ (s : Session). SayMoves (session_world old) (session_world s)) (sym starved) (say_failed old old.says (raised old.say_faults) clock (omega arith))
+say_moves from (Ok n) old new clock ends = subst (λ (s : Session). SayMoves (session_world old) (session_world s)) (sym ends.2) (say_done old (take n from) (length old.said + n) (counted_on old.says) clock)
+say_moves from (Err e) old new clock (inl listed) = subst (λ (s : Session). SayMoves (session_world old) (session_world s)) (sym listed.1) (say_failed old (counted_on old.says) (counted_on old.say_faults) clock (omega arith))
+say_moves from (Err e) old new clock (inr starved) = subst (λ (s : Session). SayMoves (session_world old) (session_world s)) (sym starved) (say_failed old old.says (counted_on old.say_faults) clock (omega arith))
 
 -- a say fails exactly where its number is listed, or it was without memory
 pub say_fails : {E : Type 0} (from : List ℕ) (result : Result ℕ E) (old new : Session) → SayEnds from result old new → IsErr result ↔ (Contains old.failing_says old.says ⊎ StarvesSay old new)

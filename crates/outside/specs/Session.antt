@@ -1,7 +1,7 @@
 -- An outside in memory as contracts see it, and the clock on which its disk's calls and its says follow one another.
 use Rattle.std.specs.Prelude.{◌≡◌, ◌⊎◌, ◌≤◌, ◌+◌, ◌-◌, ◌++◌, ℕ, suc, List, [], ◌∷◌, length, min, take, drop, nat_lt, if◌then◌else◌, Contains, Result, MatchResult, ⊤}
 use Rattle.disk_trait.specs.World.{World}
-use Rattle.disk_mem.specs.History.{History, LeftImage, disk_world, raised}
+use Rattle.disk_mem.specs.History.{History, LeftImage, disk_world, counted_on}
 use Rattle.disk_mem.specs.Calls.{calls_by}
 use Rattle.outside.specs.declared.mark.Mark.{Mark}
 
@@ -87,17 +87,17 @@ fresh disk input takes says pace = record {
 abbrev pub TakeEnds : {E : Type 0} → ℕ → Result ℕ E → Session → Session → Type 0
 TakeEnds room result old new = MatchResult result
     (λ n. ¬ Contains old.failing_takes old.takes × (n ≡ min old.pace (min room (length old.to_take)))
-    × (new ≡ record old { to_take = drop n old.to_take; takes = raised old.takes }))
-    (λ _. Contains old.failing_takes old.takes × (new ≡ record old { takes = raised old.takes; take_faults = raised old.take_faults }))
+    × (new ≡ record old { to_take = drop n old.to_take; takes = counted_on old.takes }))
+    (λ _. Contains old.failing_takes old.takes × (new ≡ record old { takes = counted_on old.takes; take_faults = counted_on old.take_faults }))
 
 -- a say without memory: it does nothing and has no number
 abbrev pub StarvesSay : Session → Session → Type 0
-StarvesSay old new = new ≡ record old { say_faults = raised old.say_faults }
+StarvesSay old new = new ≡ record old { say_faults = counted_on old.say_faults }
 
 -- a say of these bytes: as many as it may; or its number is listed; or it is without memory, and has none
 abbrev pub SayEnds : {E : Type 0} → List ℕ → Result ℕ E → Session → Session → Type 0
 SayEnds from result old new = MatchResult result
     (λ n. ¬ Contains old.failing_says old.says × (n ≡ min old.pace (length from))
-    × (new ≡ record old { said = old.said ++ take n from; marks = record { calls = length old.disk.calls; said = length old.said + n } ∷ old.marks; says = raised old.says }))
-    (λ _. (Contains old.failing_says old.says × (new ≡ record old { says = raised old.says; say_faults = raised old.say_faults }))
+    × (new ≡ record old { said = old.said ++ take n from; marks = record { calls = length old.disk.calls; said = length old.said + n } ∷ old.marks; says = counted_on old.says }))
+    (λ _. (Contains old.failing_says old.says × (new ≡ record old { says = counted_on old.says; say_faults = counted_on old.say_faults }))
     ⊎ StarvesSay old new)

@@ -24,6 +24,3 @@ mod stream;
 pub use mem_outside::MemOutside;
 pub use saying::say_all;
 pub use stream::{Outside, SayFault, TakeFault};
-
-#[cfg(test)]
-mod tests;

@@ -1,6 +1,6 @@
 //! A disk in memory with an input and an output beside it.
 ghost use Rattle.std.specs.Prelude.{◌≡◌, ◌+◌, ◌-◌, ◌^◌, ◌≤◌, ◌<◌, ◌↔◌, ◌++◌, length, IsTrue, IsOk, IfOk, OnOk, Contains, drop, take, vec_len, vec_capacity};
-ghost use Rattle.disk_mem.specs.History.{raised};
+ghost use Rattle.disk_mem.specs.History.{counted_on};
 ghost use Rattle.outside.specs.Session.{Session, IsClock, fresh, TakeEnds, SayEnds};
 
 use crate::mark::Mark;
@@ -168,7 +168,7 @@ fn is_listed(list: &Vec<u64>, number: u64) -> bool
 
 // One higher, or the same at the last value.
 fn raise(count: u64) -> u64
-    ensures { result ≡ raised count }
+    ensures { result ≡ counted_on count }
 {
     count.saturating_add(1)
 }

@@ -13,6 +13,3 @@
 mod load;
 
 pub use load::{loaded, summed};
-
-#[cfg(test)]
-mod tests;

@@ -3,11 +3,11 @@ use Rattle.std.specs.Prelude.{nat_le, ◌&&◌, not, Bool, false, List, [], ◌�
 use Rattle.std.specs.List.{slice_split}
 use Rattle.key_base.specs.Limits.{max_line_bytes}
 use Rattle.map_model.specs.SortedMap.{Bytes}
-use Rattle.line_model.specs.Requests.{Request, Bad, request_of}
+use Rattle.line_model.specs.Requests.{Request, Put, Del, Get, Flush, Quit, Bad, request_of}
 
 -- the verbs that it answers
 abbrev pub answered_verbs : List Bytes
-answered_verbs = codes "put" ∷ codes "del" ∷ codes "get" ∷ codes "quit" ∷ []
+answered_verbs = codes "put" ∷ codes "del" ∷ codes "get" ∷ codes "flush" ∷ codes "quit" ∷ []
 
 abbrev pub is_among : Bytes → List Bytes → Bool
 is_among verb [] = false
@@ -22,3 +22,13 @@ is_answered (verb ∷ words) = is_among verb answered_verbs
 abbrev pub asked_here : Bytes → Request
 asked_here line =
     if nat_le (length line) max_line_bytes && not (is_answered (slice_split (λ b. b == 32) line)) then Bad 2 else request_of line
+
+-- what such a line may ask, and nothing else
+abbrev pub IsAskedHere : Request → Type 0
+IsAskedHere (Put key value) = Unit {0}
+IsAskedHere (Del key) = Unit {0}
+IsAskedHere (Get key) = Unit {0}
+IsAskedHere Flush = Unit {0}
+IsAskedHere Quit = Unit {0}
+IsAskedHere (Bad code) = Unit {0}
+IsAskedHere request = ⊥

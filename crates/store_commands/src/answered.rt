@@ -1,6 +1,6 @@
 //! The verbs that the program answers today.
 ghost use Rattle.std.specs.Prelude.{◌≡◌};
-ghost use Rattle.store_commands.specs.Answered.{asked_here, answered_verbs, is_among};
+ghost use Rattle.store_commands.specs.Answered.{answered_verbs, asked_here, is_among};
 ghost use Rattle.store_commands.specs.Asks.{Asks};
 
 use crate::parse::{Scratch, parse_line};
@@ -15,6 +15,7 @@ fn is_answered(verb: &[u8]) -> bool
     verb == b"put".as_slice()
         || verb == b"del".as_slice()
         || verb == b"get".as_slice()
+        || verb == b"flush".as_slice()
         || verb == b"quit".as_slice()
 }
 

@@ -30,6 +30,3 @@ pub use parse::{Scratch, parse_line};
 pub use reply::{Reply, piece};
 pub use request::{BadLine, Request};
 pub use words::next_line;
-
-#[cfg(test)]
-mod tests;

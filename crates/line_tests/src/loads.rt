@@ -1,6 +1,6 @@
-//! Tests of loads beside the standard library's ordered map.
-use super::*;
+//! Loads beside the standard library's ordered map.
 use load_gen::LoadGen;
+use plain_load::{loaded, summed};
 use std::alloc::Global;
 use std::collections::BTreeMap;
 use std::test::Fail;

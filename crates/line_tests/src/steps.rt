@@ -1,5 +1,5 @@
-//! Tests of steps and lines whose answers are known.
-use super::*;
+//! Steps of loads and lines of their summaries whose answers are known.
+use load_gen::{LINE_BYTES, LoadGen, LoadStep, Summary, spell_summary};
 use std::test::Fail;
 
 fn put(key: [u8; 3], value: [u8; 8]) -> LoadStep {

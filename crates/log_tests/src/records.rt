@@ -1,14 +1,15 @@
 //! Tests of the rules of a record, and of where records end.
-use super::*;
+use byte_fields::PartFault;
+use gate_log::entries_in;
 use std::alloc::Global;
 use std::test::Fail;
 
-fn fault_of(alloc: Global, bytes: &[u8]) -> AreaFault {
+fn fault_of(alloc: Global, bytes: &[u8]) -> PartFault {
     if bytes.is_empty() {
-        return AreaFault::Memory;
+        return PartFault::Memory;
     }
     match entries_in(alloc, bytes) {
-        Ok(_) => AreaFault::Memory,
+        Ok(_) => PartFault::Memory,
         Err(fault) => fault,
     }
 }
@@ -28,7 +29,7 @@ fn each_rule_of_a_record_at_its_place(rt: HostRuntime) {
     for (bytes, place, rule) in examples {
         assert_eq!(rt;
             fault_of(rt.alloc(), bytes),
-            AreaFault::Shape { place, rule }
+            PartFault::Shape { place, rule }
         );
     }
 }

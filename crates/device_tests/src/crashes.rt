@@ -1,5 +1,5 @@
 //! Tests of a disk in memory: its calls, their failing, its crashes.
-use super::*;
+use disk_mem::{Choice, MemDisk};
 use disk_trait::{Disk, DiskFault};
 use std::alloc::{AllocError, Global};
 use std::test::Fail;

@@ -1,6 +1,6 @@
 //! Tests of the memory table.
-use super::*;
 use entry_list::Entry;
+use mem_table::MemTable;
 use std::alloc::AllocError;
 use std::test::Fail;
 

@@ -1,6 +1,6 @@
 //! Tests of the input and the output in memory.
-use super::*;
 use disk_mem::MemDisk;
+use outside::{MemOutside, Outside, SayFault, TakeFault, say_all};
 use std::alloc::{AllocError, Global};
 use std::test::Fail;
 
