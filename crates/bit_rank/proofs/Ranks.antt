@@ -1,5 +1,6 @@
 -- Ranks by words and blocks.
-use Rattle.std.proofs.Common.{◌≡◌, ℕ, ◌+◌, ◌*◌, ◌/◌, ◌%◌, ◌^◌, ◌<◌, ◌≤◌, Bool, List, length, get_or, take, drop, cond, ◌==◌, count_by, slice_range, ap, sym, ◌∙◌, arith, lit<, inl, inr, le_refl}
+use Rattle.std.proofs.Common.{◌≡◌, ℕ, ◌+◌, ◌*◌, ◌/◌, ◌%◌, ◌^◌, ◌<◌, ◌≤◌, Bool, List, length, get_or, take, drop, cond, ◌==◌, count_by, slice_range, ap, sym, ◌∙◌, arith, lit<, inl, inr, le_refl, refl, false}
+use Rattle.std.specs.Int.{bit_at}
 use Rattle.std.specs.Int.RustNames.{count_ones}
 use Rattle.std.specs.List.{sum_by}
 use Rattle.std.proofs.Math.Nat.{mod-eq_of_lt}
@@ -9,8 +10,10 @@ use Rattle.std.proofs.lemmas.List.FromFn.{get_or-map-range_with_len, length-map-
 use Rattle.bit_words.specs.Counts.{rank_of}
 use Rattle.bit_words.specs.Packed.{packed}
 use Rattle.bit_words.proofs.Counting.{rank-add, ones_range, ones_in_words, ones_in_word, words_cover}
-use Rattle.bit_words.proofs.Packing.{packed-lt}
+use Rattle.bit_words.proofs.Packing.{packed-lt, packed_bit-packed}
 use Rattle.bit_rank.specs.Blocks.{block_ranks}
+use Rattle.bit_rank.specs.Words.{IsWordOf}
+use Rattle.bit_rank.specs.declared.word.RankedWord.{RankedWord}
 
 -- all of a word
 ones_of_word : (bits : List Bool) (words : List ℕ) (k : ℕ) → words ≡ packed 64 bits → count_ones (get_or words k 0) ≡ rank_of (drop (64 * k) bits) 64
@@ -18,8 +21,8 @@ ones_of_word bits words k held =
     let fits : get_or words k 0 < 2 ^ 64 = rw held (packed-lt 64 bits k (lit< tt)) in
     ap count_ones (sym (mod-eq_of_lt fits)) ∙ ones_in_word bits words k 64 held (le_refl 64)
 
--- the set bits before the word of place i, by those before its block and the block's first word
-first_word : (bits : List Bool) (words : List ℕ) (i : ℕ) → words ≡ packed 64 bits
+-- a kept count and the word of the block before that of the place
+pub first_word : (bits : List Bool) (words : List ℕ) (i : ℕ) → words ≡ packed 64 bits
     → rank_of bits (128 * (i / 128)) + cond (i / 64 % 2 == 1) (count_ones (get_or words (2 * (i / 128)) 0)) 0 ≡ rank_of bits (64 * (i / 64))
 first_word bits words i held = elim (cases_eq (i / 64 % 2) 1) [
   | inl odd ↦
@@ -38,20 +41,27 @@ first_word bits words i held = elim (cases_eq (i / 64 % 2) 1) [
       omega (arith, ap (λ (t : Bool). cond t (count_ones (get_or words (2 * (i / 128)) 0)) 0) (ne_eqb _ _ even), ap (rank_of bits) here)
 ]
 
--- a kept count, the word of the block before that of the place, and the part of a word
-pub rank_parts : (bits : List Bool) (words : List ℕ) (i : ℕ) → words ≡ packed 64 bits
-    → rank_of bits (128 * (i / 128)) + cond (i / 64 % 2 == 1) (count_ones (get_or words (2 * (i / 128)) 0)) 0
-    + count_ones (get_or words (i / 64) 0 % 2 ^ (i % 64)) ≡ rank_of bits i
-rank_parts bits words i held =
+-- the set bits before a place and the bit itself, by the word that holds it
+pub word_rank : (bits : List Bool) (w : RankedWord) (i : ℕ) → IsWordOf bits w → w.number ≡ i / 64
+    → w.before + count_ones (w.word % 2 ^ (i % 64)) ≡ rank_of bits i
+word_rank bits w i of number =
     let part : 64 * (i / 64) + i % 64 ≡ i = omega arith in
     let within : i % 64 ≤ 64 = omega arith in
     omega (
       arith,
-      first_word bits words i held,
-      ones_in_word bits words (i / 64) (i % 64) held within,
+      of.before,
+      ap (λ (k : ℕ). rank_of bits (64 * k)) number,
+      ap (λ (n : ℕ). count_ones (n % 2 ^ (i % 64))) (of.word ∙ ap (λ (k : ℕ). get_or (packed 64 bits) k 0) number),
+      ones_in_word bits (packed 64 bits) (i / 64) (i % 64) refl within,
       rank-add bits (64 * (i / 64)) (i % 64),
       ap (rank_of bits) part,
     )
+
+pub word_bit : (bits : List Bool) (w : RankedWord) (i : ℕ) → IsWordOf bits w → w.number ≡ i / 64
+    → (bit_at w.word (i % 64) == 1) ≡ get_or bits i false
+word_bit bits w i of number =
+    ap (λ (n : ℕ). bit_at n (i % 64) == 1) (of.word ∙ ap (λ (k : ℕ). get_or (packed 64 bits) k 0) number)
+    ∙ packed_bit-packed 64 bits i (lit< tt)
 
 -- a kept count and all words after it
 pub ones_behind : (bits : List Bool) (words : List ℕ) (i : ℕ) → words ≡ packed 64 bits → 2 * (i / 128) ≤ length words

@@ -1,8 +1,10 @@
 //! The bits with their counts.
 ghost use Rattle.std.specs.Prelude.{◌≡◌, ◌≤◌, ◌<◌, ◌+◌, ◌*◌, ◌%◌, ◌/◌, ◌==◌, cond, false, length, take, slice_index_or, count_by, count_ones, IfOk};
 ghost use Rattle.std.specs.List.{sum_by};
+ghost use Rattle.bit_rank.specs.Words.{IsWordOf};
 ghost use Rattle.bit_words.specs.Packed.{packed};
 
+use super::word::RankedWord;
 use bit_words::Bits;
 use lane_scan::{ones, ones_below};
 use std::alloc::{AllocError, Allocator};
@@ -74,11 +76,54 @@ impl<A: Allocator> Ranked<A> {
         ensures bit { result.0 ≡ slice_index_or self.now i false }
         ensures rank { result.1 ≡ count_by (λ bit. bit) (take i self.now) }
     {
+        self.look_in(self.word_of(i), i)
+    }
+
+    /// The word that holds bit `i`, with the count of the bits before it: what `bit_and_rank_by` asks for.
+    ///
+    /// Reads one kept count and two words, of one block.
+    pub fn word_of(&self, i: usize) -> RankedWord
+        requires { i < length self.now }
+        ensures word { IsWordOf self.now result }
+        ensures number { result.number ≡ i / 64 }
+    {
         let words = self.bits.words();
         let before = u64::from(self.counts[i / BLOCK_BITS])
             + ones_before(words[BLOCK_WORDS * (i / BLOCK_BITS)], i);
-        let rank = before + ones_below(words[i / 64], i % 64);
-        (self.bits.get(i), rank as usize)
+        RankedWord {
+            number: i / 64,
+            word: words[i / 64],
+            before,
+        }
+    }
+
+    /// The same as `bit_and_rank`, for whoever read the word of a place near by before it was known which bit is asked for.
+    ///
+    /// Reads nothing where that word holds the bit.
+    pub fn bit_and_rank_by(&self, word: RankedWord, i: usize) -> (bool, usize)
+        requires there { i < length self.now }
+        requires word { IsWordOf self.now word }
+        ensures bit { result.0 ≡ slice_index_or self.now i false }
+        ensures rank { result.1 ≡ count_by (λ bit. bit) (take i self.now) }
+    {
+        if word.number == i / 64 {
+            self.look_in(word, i)
+        } else {
+            self.bit_and_rank(i)
+        }
+    }
+
+    // Bit `i`, and how many bits are set below it, by the word that holds it.
+    fn look_in(&self, word: RankedWord, i: usize) -> (bool, usize)
+        requires there { i < length self.now }
+        requires word { IsWordOf self.now word }
+        requires number { word.number ≡ i / 64 }
+        ensures bit { result.0 ≡ slice_index_or self.now i false }
+        ensures rank { result.1 ≡ count_by (λ bit. bit) (take i self.now) }
+    {
+        let bit = word.word >> (i % 64) & 1 == 1;
+        let rank = word.before + ones_below(word.word, i % 64);
+        (bit, rank as usize)
     }
 
     // How many bits are set in all.
@@ -122,47 +167,5 @@ fn ones_before(first: u64, i: usize) -> u64
         u64::from(first.count_ones())
     } else {
         0
-    }
-}
-
-#[cfg(test)]
-mod tests {
-    use super::*;
-    use std::test::Fail;
-
-    #[test]
-    fn nine_bits_have_two_below_four_and_five_in_all(rt: HostRuntime) -> Result<(), Fail> {
-        let bits = Bits::from_bytes(rt.alloc(), &[0xB9, 0x00], 9)?;
-        let len = bits.len();
-        let ranked = Ranked::new(rt.alloc(), bits)?;
-        for (i, want) in [(0, 0), (4, 2), (8, 5), (9, 5)] {
-            assert!(rt; i <= len);
-            assert_eq!(rt; ranked.rank(i), want, "at {i}");
-        }
-        assert_eq!(rt; ranked.words(), [0xB9].as_slice());
-        Ok(())
-    }
-
-    #[test]
-    fn a_bit_comes_with_the_count_of_those_before_it(rt: HostRuntime) -> Result<(), Fail> {
-        let bits = Bits::from_bytes(rt.alloc(), &[0b1101_0010; 40], 320)?;
-        let len = bits.len();
-        let ranked = Ranked::new(rt.alloc(), bits)?;
-        for (i, want) in [
-            (0, (false, 0)),
-            (1, (true, 0)),
-            (63, (true, 31)),
-            (64, (false, 32)),
-            (127, (true, 63)),
-            (191, (true, 95)),
-            (192, (false, 96)),
-            (319, (true, 159)),
-        ] {
-            assert!(rt; i < len);
-            assert_eq!(rt; ranked.bit_and_rank(i), want, "at {i}");
-        }
-        assert!(rt; len == 320);
-        assert_eq!(rt; ranked.rank(320), 160);
-        Ok(())
     }
 }

@@ -12,8 +12,6 @@ mod measures;
 mod plain;
 mod report;
 mod searches;
-#[cfg(test)]
-mod table;
 
 use anyhow::Result;
 use std::env;

@@ -5,6 +5,7 @@ use Rattle.std.specs.List.{All, AllByRecursion, AllPairs}
 use Rattle.std.proofs.lemmas.Bool.{cases_Bool, cases_eq, false≢true}
 use Rattle.std.proofs.lemmas.List.Elements.{All-cons, All-map, All-tail}
 use Rattle.filter_model.proofs.Counts.{AllPairs-tail}
+use Rattle.filter_model.proofs.Crowds.{parent-path}
 use Rattle.filter_model.specs.Leaves.{Leaf}
 use Rattle.filter_model.specs.Nodes.{Branch, Node, last_letter, node_of, trie_of}
 use Rattle.filter_model.specs.Trie.{END, branches, is_node, is_reached, nodes, parent, path}
@@ -68,7 +69,7 @@ take_pushed (a ∷ b ∷ p) c = ap (λ k. take k (a ∷ b ∷ p ++ c ∷ [])) (l
     less n = omega arith
 
 not_alone : (ls : List Leaf) → HasTrie ls → All (IsCrowded ls) ls → (p : List ℕ) → is_lone_leaf (node_of ls p) ≡ false
-unfolding node_of parent
+unfolding node_of
 not_alone ls t w p = go (branches ls p) refl
   where
     go : (bs : List (List ℕ)) → branches ls p ≡ bs → is_lone_leaf (map (λ (q : List ℕ). (last_letter q, is_node ls q)) bs) ≡ false
@@ -82,7 +83,7 @@ not_alone ls t w p = go (branches ls p) refl
           let whole : path l ≡ p ++ last_letter q ∷ [] =
           sym (prefix_whole q (path l) by.2 (λ on. false≢true (sym off ∙ path_node ls by.0 any_leaf q by.1 on)))
           ∙ subst (All (λ x. x ≡ p ++ last_letter x ∷ [])) e (branches_form ls p) 0 [] (omega arith) in
-          let from : parent l ≡ p = (λ j. take (length (whole j) - 1) (whole j)) ∙ take_pushed p (last_letter q) in
+          let from : parent l ≡ p = parent-path l ∙ (λ j. take (length (whole j) - 1) (whole j)) ∙ take_pushed p (last_letter q) in
           let two : 2 ≤ length (branches ls p) = subst (λ (x : List ℕ). 2 ≤ length (branches ls x)) from ((company_is_a_branch ls t by.0 any_leaf by.1).0 (w by.0 any_leaf by.1)) in
           absurd (omega (arith, two, ap length e))
     ]

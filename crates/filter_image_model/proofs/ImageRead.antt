@@ -175,7 +175,7 @@ no_end_behind g e =
 none_at_end : (h r : ℕ) (ls : List Leaf) → ((k : ℕ) (d : Leaf) → k < length ls → IsLeaf h r (get_or ls k d)) → bytes_of_leaves ls → tails 256 (map path ls) ≡ []
 unfolding path
 none_at_end h r [] v w = refl
-none_at_end h r (l ∷ ls) v w = one l.stub (v 0 l (omega arith)).filled w.0 (none_at_end h r ls (λ k d lt. v (suc k) d (omega (arith, lt))) w.1)
+none_at_end h r (l ∷ ls) v w = one l.stub (v 0 l (omega arith)).stub.filled w.0 (none_at_end h r ls (λ k d lt. v (suc k) d (omega (arith, lt))) w.1)
   where
     one : (x : List ℕ) → 0 < length x → AllByRecursion (λ c. c < 256) x → tails 256 (map path ls) ≡ [] → tails 256 ((x ++ cond l.ends (END ∷ []) []) ∷ map path ls) ≡ []
     one [] lt b e = absurd (omega (arith, lt))

@@ -8,17 +8,18 @@ use Rattle.std.proofs.lemmas.List.FromFn.{length-map-range_with_len}
 use Rattle.bit_words.specs.Numbers.{bits_of}
 use Rattle.bit_words.proofs.Numbers.{bits_back}
 use Rattle.bit_words.proofs.Packing.{length-unpacked}
-use Rattle.filter_model.specs.Image.{header, image, in_slots, suffix_of, suffixes}
+use Rattle.filter_model.specs.Image.{image, in_slots, suffixes}
 use Rattle.filter_model.specs.Leaves.{Leaf}
 use Rattle.filter_model.specs.Nodes.{trie_of}
-use Rattle.filter_model.specs.Strings.{same}
+use Rattle.filter_model.specs.Strings.{bytes_eq}
+use Rattle.filter_model.specs.Suffixes.{Suffix, leaf_suffix, packed_suffixes, suffix_number}
 use Rattle.filter_model.specs.Trie.{height, nodes_to, path, slots}
 use Rattle.filter_image_model.specs.Header.{Bytes, hash_bits_in, real_bits_in, cutoff_in, height_in, leaf_count_in, suffix_bits_in, section, section_bits}
 use Rattle.filter_image_model.specs.Levels.{leaves_behind, leaf_count_of, levels_from}
 use Rattle.filter_image_model.specs.Nodes.{dense_in, sparse_in}
 use Rattle.filter_image_model.specs.Reading.{leaves_in, slot_suffix}
 use Rattle.filter_image_model.specs.Laws.{BytesAreTheImage}
-use Rattle.filter_image_model.specs.Sections.{nodes_image, sections}
+use Rattle.filter_image_model.specs.Sections.{nodes_image}
 use Rattle.filter_image_model.proofs.GroupWords.{gather}
 use Rattle.filter_image_model.proofs.ImageTrie.{KeepsRules, counts_kept, good_nodes, one_group, one_root, read_trie, rules_kept}
 use Rattle.filter_image_model.proofs.LevelsRead.{flat, behind_paths, levelled}
@@ -30,20 +31,16 @@ use Rattle.filter_image_model.proofs.Written.{sections_written}
 
 -- ---- the bits of the suffixes
 
-pub same_suffix : (h r : ℕ) (l : Leaf) → suffix_of h r l ≡ bits_of (h + r) (number h l)
-unfolding bits_of
-same_suffix h r l = refl
-
-picks_are : (h : ℕ) (ls : List Leaf) (q : List ℕ) → map (number h) (filter (λ l. same (path l) q) ls) ≡ picks q (entries h ls)
+picks_are : (h : ℕ) (ls : List Leaf) (q : List ℕ) → map (number h) (filter (λ l. bytes_eq (path l) q) ls) ≡ picks q (entries h ls)
 picks_are h ls q =
-    sym (ap (map (λ (e : Entry). e.1)) (filter-map (λ (e : Entry). same e.0 q) (entry h) ls)
-    ∙ map-map (λ (e : Entry). e.1) (entry h) (filter (λ l. same (path l) q) ls))
+    sym (ap (map (λ (e : Entry). e.1)) (filter-map (λ (e : Entry). bytes_eq e.0 q) (entry h) ls)
+    ∙ map-map (λ (e : Entry). e.1) (entry h) (filter (λ l. bytes_eq (path l) q) ls))
 
 pub suffixes_by_number : (h r : ℕ) (ls : List Leaf) → suffixes h r ls ≡ flat_map (bits_of (h + r)) (flat_map (λ (q : List ℕ). picks q (entries h ls)) (slots ls))
-unfolding in_slots
+unfolding in_slots packed_suffixes
 suffixes_by_number h r ls =
-    let ofs : List ℕ → List Leaf = λ q. filter (λ l. same (path l) q) ls in
-    flat_map_agree (suffix_of h r) (λ l. bits_of (h + r) (number h l)) (same_suffix h r) (flat_map ofs (slots ls))
+    let ofs : List ℕ → List Leaf = λ q. filter (λ l. bytes_eq (path l) q) ls in
+    flat_map-map (λ (s : Suffix). bits_of (h + r) (suffix_number h s)) leaf_suffix (flat_map ofs (slots ls))
     ∙ sym (flat_map-map (bits_of (h + r)) (number h) (flat_map ofs (slots ls)))
     ∙ ap (flat_map (bits_of (h + r))) (map_of-flat_map (number h) ofs (slots ls) ∙ flat_map_agree (λ q. map (number h) (ofs q)) (λ q. picks q (entries h ls)) (picks_are h ls) (slots ls))
 
@@ -110,7 +107,7 @@ suffixes_are bytes k =
 -- ---- the whole
 
 pub same_image : (h r c : ℕ) (ls : List Leaf) → image h r c ls ≡ nodes_image h r c (height ls) (length ls) (take (length (nodes_to ls c)) (trie_of ls)) (drop (length (nodes_to ls c)) (trie_of ls)) (suffixes h r ls)
-unfolding image header sections
+unfolding image
 same_image h r c ls = refl
 
 pub image_is : (bytes : Bytes) → KeepsRules bytes → bytes ≡ image (hash_bits_in bytes) (real_bits_in bytes) (cutoff_in bytes) (leaves_in bytes)

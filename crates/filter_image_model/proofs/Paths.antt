@@ -327,7 +327,7 @@ same_paths ls os f g e =
 
 pub stub_bytes : (h r : ℕ) (ls : List Leaf) → All (IsLeaf h r) ls → bytes_of_leaves ls
 stub_bytes h r [] w = tt
-stub_bytes h r (l ∷ ls) w = (bytes_all l.stub (w 0 l (omega arith)).bytes, stub_bytes h r ls (λ k d lt. w (suc k) d (omega (arith, lt))))
+stub_bytes h r (l ∷ ls) w = (bytes_all l.stub (w 0 l (omega arith)).stub.bytes, stub_bytes h r ls (λ k d lt. w (suc k) d (omega (arith, lt))))
 
 extended : (x : List ℕ) (os : List Leaf) (o : Leaf) → Contains os o → extends x o.stub ≡ true → list_any (λ (p : Leaf). extends x p.stub) os ≡ true
 extended x [] o d e = absurd (Contains-nil o d)
@@ -346,7 +346,7 @@ filled (c ∷ x) e g lt = refl
 goes : (h r : ℕ) (ls : List Leaf) → 0 < length ls → All (IsLeaf h r) ls → goes_on (map path ls) ≡ true
 unfolding path
 goes h r [] s w = absurd (omega (arith, s))
-goes h r (l ∷ ls) s w = filled l.stub l.ends (map path ls) (w 0 l (omega arith)).filled
+goes h r (l ∷ ls) s w = filled l.stub l.ends (map path ls) (w 0 l (omega arith)).stub.filled
 
 pub fine_paths : (h r : ℕ) (ls : List Leaf) → IsValid h r ls → (n : ℕ) → height ls ≤ n → IsFine n (map path ls)
 fine_paths h r ls v n le = record {

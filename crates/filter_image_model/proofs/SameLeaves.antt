@@ -15,7 +15,7 @@ use Rattle.filter_model.proofs.Stubs.{Contains-more}
 use Rattle.filter_model.specs.Image.{suffixes}
 use Rattle.filter_model.specs.Leaves.{Leaf}
 use Rattle.filter_model.specs.Nodes.{trie_of}
-use Rattle.filter_model.specs.Strings.{same}
+use Rattle.filter_model.specs.Strings.{bytes_eq}
 use Rattle.filter_model.specs.Trie.{branches, height, is_node, level, nodes, nodes_to, path, places, slots}
 use Rattle.filter_model.specs.Valid.{IsLeaf, IsValid}
 use Rattle.trie_model.specs.Rests.{rests}
@@ -85,10 +85,10 @@ slot_bits w q E = flat_map (bits_of w) (picks q E)
 abbrev pub firsts : List Entry → Group
 firsts E = map (λ (x : Entry). x.0) E
 
-bits-cons : (w : ℕ) (q : List ℕ) (x : Entry) (E : List Entry) → slot_bits w q (x ∷ E) ≡ cond (same x.0 q) (bits_of w x.1 ++ slot_bits w q E) (slot_bits w q E)
-bits-cons w q x E = go (same x.0 q)
+bits-cons : (w : ℕ) (q : List ℕ) (x : Entry) (E : List Entry) → slot_bits w q (x ∷ E) ≡ cond (bytes_eq x.0 q) (bits_of w x.1 ++ slot_bits w q E) (slot_bits w q E)
+bits-cons w q x E = go (bytes_eq x.0 q)
   where
-    go : (t : Bool) → flat_map (bits_of w) (map (λ (y : Entry). y.1) (cond t (x ∷ filter (λ (y : Entry). same y.0 q) E) (filter (λ (y : Entry). same y.0 q) E))) ≡ cond t (bits_of w x.1 ++ slot_bits w q E) (slot_bits w q E)
+    go : (t : Bool) → flat_map (bits_of w) (map (λ (y : Entry). y.1) (cond t (x ∷ filter (λ (y : Entry). bytes_eq y.0 q) E) (filter (λ (y : Entry). bytes_eq y.0 q) E))) ≡ cond t (bits_of w x.1 ++ slot_bits w q E) (slot_bits w q E)
     go true = refl
     go false = refl
 
@@ -97,8 +97,8 @@ as_long w q [] [] e = refl
 as_long w q [] (y ∷ F) e = absurd cc
 as_long w q (x ∷ E) [] e = absurd cc
 as_long w q (x ∷ E) (y ∷ F) e =
-    ap length (bits-cons w q x E) ∙ go (same x.0 q) (as_long w q E F (rest_of _ _ _ _ e))
-    ∙ ap (λ (p : List ℕ). length (cond (same p q) (bits_of w y.1 ++ slot_bits w q F) (slot_bits w q F))) (first_of _ _ _ _ e)
+    ap length (bits-cons w q x E) ∙ go (bytes_eq x.0 q) (as_long w q E F (rest_of _ _ _ _ e))
+    ∙ ap (λ (p : List ℕ). length (cond (bytes_eq p q) (bits_of w y.1 ++ slot_bits w q F) (slot_bits w q F))) (first_of _ _ _ _ e)
     ∙ sym (ap length (bits-cons w q y F))
   where
     go : (t : Bool) → length (slot_bits w q E) ≡ length (slot_bits w q F)
@@ -118,14 +118,14 @@ same_entries w [] (y ∷ F) e v u h = absurd cc
 same_entries w (x ∷ E) [] e v u h = absurd cc
 same_entries w (x ∷ E) (y ∷ F) e v u h =
     let p : x.0 ≡ y.0 = first_of _ _ _ _ e in
-    let yes : same x.0 x.0 ≡ true = same-itself x.0 in
-    let here = next x.0 true yes (ap (λ (z : List ℕ). same z x.0) (sym p) ∙ yes) (h x.0 (Contains-first x.0 (firsts E))) in
+    let yes : bytes_eq x.0 x.0 ≡ true = same-itself x.0 in
+    let here = next x.0 true yes (ap (λ (z : List ℕ). bytes_eq z x.0) (sym p) ∙ yes) (h x.0 (Contains-first x.0 (firsts E))) in
     let n : x.1 ≡ y.1 = same_number w x.1 y.1 v.0 u.0 here.0 in
     let bits : bits_of w x.1 ≡ bits_of w y.1 = ap (bits_of w) n in
     (λ j. (p j, n j) ∷ same_entries w E F (rest_of _ _ _ _ e) v.1 u.1
-    (λ q c. (next q (same x.0 q) refl (ap (λ (z : List ℕ). same z q) (sym p)) (h q (Contains-more x.0 (firsts E) q c))).1) j)
+    (λ q c. (next q (bytes_eq x.0 q) refl (ap (λ (z : List ℕ). bytes_eq z q) (sym p)) (h q (Contains-more x.0 (firsts E) q c))).1) j)
   where
-    next : (q : List ℕ) (t : Bool) → same x.0 q ≡ t → same y.0 q ≡ t → slot_bits w q (x ∷ E) ≡ slot_bits w q (y ∷ F)
+    next : (q : List ℕ) (t : Bool) → bytes_eq x.0 q ≡ t → bytes_eq y.0 q ≡ t → slot_bits w q (x ∷ E) ≡ slot_bits w q (y ∷ F)
         → (cond t (bits_of w x.1) [] ≡ cond t (bits_of w y.1) []) × (slot_bits w q E ≡ slot_bits w q F)
     next q true i k s =
         parts (bits_of w x.1) (bits_of w y.1) (slot_bits w q E) (slot_bits w q F) (length-bits_of w x.1 ∙ sym (length-bits_of w y.1))

@@ -176,7 +176,7 @@ low_part m ls (l ∷ part) w v e = omega (arith, low_path m ls l w v.0 (e 0 l (o
 
 short_stubs : (h r : ℕ) (ls : List Leaf) → All (IsLeaf h r) ls → AllByRecursion (λ (o : Leaf). length o.stub ≤ 1024) ls
 short_stubs h r [] v = tt
-short_stubs h r (l ∷ ls) v = ((v 0 l (omega arith)).short, short_stubs h r ls (λ k d lt. v (suc k) d (omega (arith, lt))))
+short_stubs h r (l ∷ ls) v = ((v 0 l (omega arith)).stub.short, short_stubs h r ls (λ k d lt. v (suc k) d (omega (arith, lt))))
 
 pub low_height : (h r : ℕ) (ls : List Leaf) → IsValid h r ls → height ls ≤ 1024
 low_height h r ls v = let s = short_stubs h r ls v.leaves in low_part 1024 ls ls s s v.ends
@@ -188,7 +188,7 @@ path_long l lt = omega (arith, lt, length-append l.stub (cond l.ends (END ∷ []
 high_one : (h r : ℕ) (ls : List Leaf) → 0 < length ls → All (IsLeaf h r) ls → 0 < height ls
 unfolding height
 high_one h r [] lt w = absurd (omega (arith, lt))
-high_one h r (l ∷ ls) lt w = omega (arith, path_long l (w 0 l (omega arith)).filled)
+high_one h r (l ∷ ls) lt w = omega (arith, path_long l (w 0 l (omega arith)).stub.filled)
 
 pub some_height : (h r : ℕ) (ls : List Leaf) → IsValid h r ls → 0 < height ls
 some_height h r ls v = high_one h r ls v.some v.leaves

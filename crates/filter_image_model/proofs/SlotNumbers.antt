@@ -10,18 +10,18 @@ use Rattle.bit_words.specs.Numbers.{bits_of}
 use Rattle.bit_words.proofs.Numbers.{length-bits_of, number_back}
 use Rattle.filter_model.specs.Leaves.{Leaf}
 use Rattle.filter_model.specs.Nodes.{Branch, Node, last_letter, trie_of}
-use Rattle.filter_model.specs.Strings.{same}
+use Rattle.filter_model.specs.Strings.{bytes_eq}
 use Rattle.filter_model.specs.Trie.{END, is_node, path, places, slots}
 use Rattle.filter_model.specs.Valid.{IsLeaf, IsValid}
-use Rattle.filter_model.specs.Image.{in_slots, suffix_of, suffixes}
+use Rattle.filter_model.specs.Image.{in_slots, suffixes}
+use Rattle.filter_model.specs.Suffixes.{Suffix, leaf_suffix, packed_suffixes, suffix_number}
 use Rattle.trie_laws.proofs.Places.{all-trie_of}
 use Rattle.trie_laws.proofs.Slots.{leaves_in_slots}
 use Rattle.trie_levels.proofs.Totals.{valid_lists_have_tries}
 use Rattle.filter_image_model.proofs.Lists.{all_filter, all_flat, never}
-use Rattle.filter_image_model.proofs.ImageWritten.{same_suffix}
 use Rattle.filter_image_model.specs.Header.{Bytes, hash_bits_in, section, section_place, suffix_bits_in}
 use Rattle.filter_image_model.specs.Reading.{ends_fault, slot_letters, slot_suffix}
-use Rattle.filter_image_model.proofs.Link.{filter-map, flat_map-map, flat_map_agree, map-map}
+use Rattle.filter_image_model.proofs.Link.{filter-map, flat_map-map, map-map}
 use Rattle.byte_fields.proofs.FaultLemmas.{passed}
 use Rattle.filter_image_model.proofs.SameLeaves.{high_part, number_fits}
 use Rattle.filter_image_model.proofs.Slots.{number}
@@ -41,7 +41,7 @@ leaf_number h r l v = record { fits = number_fits h r l.hash l.real v.hash_fits 
     go false i e =
         let bare : l.stub ++ cond l.ends (END ∷ []) [] ≡ l.stub = ap (λ (t : Bool). l.stub ++ cond t (END ∷ []) []) i ∙ append-nil l.stub in
         let last : last_letter l.stub ≡ 256 = eqb-true _ _ (sym (ap (λ (x : List ℕ). last_letter x == END) bare) ∙ e) in
-        absurd (omega (arith, last, v.bytes (length l.stub - 1)))
+        absurd (omega (arith, last, v.stub.bytes (length l.stub - 1)))
 
 leaf_numbers : (h r : ℕ) (ls : List Leaf) → All (IsLeaf h r) ls → AllByRecursion (HasNumber h (h + r)) ls
 leaf_numbers h r [] v = tt
@@ -53,7 +53,7 @@ pub slots_own : (h r : ℕ) (ls : List Leaf) → IsValid h r ls → AllByRecursi
 unfolding in_slots
 slots_own h r ls v =
     let w = leaf_numbers h r ls v.leaves in
-    all_flat (HasNumber h (h + r)) (λ (q : List ℕ). filter (λ l. same (path l) q) ls) (slots ls) (λ q. all_filter (HasNumber h (h + r)) (λ l. same (path l) q) ls w)
+    all_flat (HasNumber h (h + r)) (λ (q : List ℕ). filter (λ l. bytes_eq (path l) q) ls) (slots ls) (λ q. all_filter (HasNumber h (h + r)) (λ l. bytes_eq (path l) q) ls w)
 
 pub slot_letters_are : (h r : ℕ) (ls : List Leaf) → IsValid h r ls → slot_letters (trie_of ls) ≡ map (λ l. last_letter (path l)) (in_slots ls)
 unfolding slots
@@ -66,8 +66,9 @@ slot_letters_are h r ls v =
     ∙ map-map last_letter path (in_slots ls)
 
 pub suffixes_by_slots : (h r : ℕ) (ls : List Leaf) → suffixes h r ls ≡ flat_map (bits_of (h + r)) (map (number h) (in_slots ls))
+unfolding packed_suffixes
 suffixes_by_slots h r ls =
-    flat_map_agree (suffix_of h r) (λ l. bits_of (h + r) (number h l)) (same_suffix h r) (in_slots ls) ∙ sym (flat_map-map (bits_of (h + r)) (number h) (in_slots ls))
+    flat_map-map (λ (s : Suffix). bits_of (h + r) (suffix_number h s)) leaf_suffix (in_slots ls) ∙ sym (flat_map-map (bits_of (h + r)) (number h) (in_slots ls))
 
 -- ---- rule 10
 

@@ -7,7 +7,7 @@ use Rattle.std.proofs.Math.Nat.{mul_comm}
 use Rattle.std.proofs.lemmas.Bool.{eq-eqb, or_parts}
 use Rattle.filter_model.specs.Leaves.{Leaf}
 use Rattle.filter_model.specs.Nodes.{Branch, Node}
-use Rattle.filter_model.specs.Strings.{same}
+use Rattle.filter_model.specs.Strings.{bytes_eq}
 use Rattle.filter_model.specs.Trie.{path}
 use Rattle.filter_model.proofs.Counts.{count_by-cons}
 use Rattle.filter_image_model.specs.Levels.{leaf_by, under_letter, node_leaves}
@@ -36,21 +36,21 @@ ends_of c ((a ∷ x, s) ∷ g) = cond (a == c) ((x, s) ∷ ends_of c g) (ends_of
 
 -- the numbers of the entries with a path
 abbrev pub picks : List ℕ → List Entry → List ℕ
-picks q g = map (λ (e : Entry). e.1) (filter (λ (e : Entry). same e.0 q) g)
+picks q g = map (λ (e : Entry). e.1) (filter (λ (e : Entry). bytes_eq e.0 q) g)
 
 pub picks_next : (c : ℕ) (q : List ℕ) (g : List Entry) → picks (c ∷ q) g ≡ picks q (ends_of c g)
 picks_next c q [] = refl
 picks_next c q (([], s) ∷ g) = picks_next c q g
-picks_next c q ((a ∷ x, s) ∷ g) = step (a == c) (same x q) refl (picks_next c q g)
+picks_next c q ((a ∷ x, s) ∷ g) = step (a == c) (bytes_eq x q) refl (picks_next c q g)
   where
-    step : (t u : Bool) → same x q ≡ u → picks (c ∷ q) g ≡ picks q (ends_of c g)
-        → map (λ (e : Entry). e.1) (cond (t && u) ((a ∷ x, s) ∷ filter (λ (e : Entry). same e.0 (c ∷ q)) g) (filter (λ (e : Entry). same e.0 (c ∷ q)) g))
-        ≡ map (λ (e : Entry). e.1) (filter (λ (e : Entry). same e.0 q) (cond t ((x, s) ∷ ends_of c g) (ends_of c g)))
+    step : (t u : Bool) → bytes_eq x q ≡ u → picks (c ∷ q) g ≡ picks q (ends_of c g)
+        → map (λ (e : Entry). e.1) (cond (t && u) ((a ∷ x, s) ∷ filter (λ (e : Entry). bytes_eq e.0 (c ∷ q)) g) (filter (λ (e : Entry). bytes_eq e.0 (c ∷ q)) g))
+        ≡ map (λ (e : Entry). e.1) (filter (λ (e : Entry). bytes_eq e.0 q) (cond t ((x, s) ∷ ends_of c g) (ends_of c g)))
     step true true is ih =
         ap (λ (l : List ℕ). s ∷ l) ih
-        ∙ sym (ap (λ (v : Bool). map (λ (e : Entry). e.1) (cond v ((x, s) ∷ filter (λ (e : Entry). same e.0 q) (ends_of c g)) (filter (λ (e : Entry). same e.0 q) (ends_of c g)))) is)
+        ∙ sym (ap (λ (v : Bool). map (λ (e : Entry). e.1) (cond v ((x, s) ∷ filter (λ (e : Entry). bytes_eq e.0 q) (ends_of c g)) (filter (λ (e : Entry). bytes_eq e.0 q) (ends_of c g)))) is)
     step true false is ih =
-        ih ∙ sym (ap (λ (v : Bool). map (λ (e : Entry). e.1) (cond v ((x, s) ∷ filter (λ (e : Entry). same e.0 q) (ends_of c g)) (filter (λ (e : Entry). same e.0 q) (ends_of c g)))) is)
+        ih ∙ sym (ap (λ (v : Bool). map (λ (e : Entry). e.1) (cond v ((x, s) ∷ filter (λ (e : Entry). bytes_eq e.0 q) (ends_of c g)) (filter (λ (e : Entry). bytes_eq e.0 q) (ends_of c g)))) is)
     step false u is ih = ih
 
 -- ---- behind the letters of one node

@@ -9,9 +9,9 @@ use Rattle.std.proofs.lemmas.Bool.{eqb-true, eq-eqb, or_parts, false≢true, tru
 use Rattle.filter_model.proofs.Counts.{count_by-cons}
 use Rattle.filter_model.specs.Leaves.{Leaf}
 use Rattle.filter_model.specs.Nodes.{Branch, Node, all}
-use Rattle.filter_model.specs.Strings.{extends, is_prefix, same}
-use Rattle.filter_model.specs.Trie.{END}
-use Rattle.filter_model.specs.Valid.{EndsRightly, IsCrowded, joins, node}
+use Rattle.filter_model.specs.Strings.{extends, is_prefix, bytes_eq}
+use Rattle.filter_model.specs.Trie.{END, parent}
+use Rattle.filter_model.specs.Valid.{EndsRightly, IsCrowded, joins}
 use Rattle.filter_image_model.specs.Levels.{leaf_by, under_letter, node_leaves, level_leaves, leaves_behind, leaf_count_of}
 use Rattle.filter_image_model.specs.Levels.{children_of as children_count}
 use Rattle.filter_image_model.specs.Reading.{is_lone_end, is_lone_leaf}
@@ -49,13 +49,13 @@ ext_nil (l ∷ ls) e w = ap (λ (t : Bool). t || list_any (λ (o : Leaf). extend
     one [] e = absurd (true≢false e)
     one (b ∷ y) e = refl
 
-same_apart : (x y : List ℕ) → eqb (head_of x) (head_of y) ≡ false → same x y ≡ false
+same_apart : (x y : List ℕ) → eqb (head_of x) (head_of y) ≡ false → bytes_eq x y ≡ false
 same_apart [] [] e = absurd (true≢false e)
 same_apart [] (b ∷ y) e = refl
 same_apart (a ∷ x) [] e = refl
-same_apart (a ∷ x) (b ∷ y) e = ap (λ (t : Bool). t && same x y) e
+same_apart (a ∷ x) (b ∷ y) e = ap (λ (t : Bool). t && bytes_eq x y) e
 
-joins_apart : (l : Leaf) → node l ≡ [] → (ls : List Leaf) → is_cons ls ≡ true → Apart (head_of l.stub) ls → list_any (joins l) ls ≡ true
+joins_apart : (l : Leaf) → parent l ≡ [] → (ls : List Leaf) → is_cons ls ≡ true → Apart (head_of l.stub) ls → list_any (joins l) ls ≡ true
 joins_apart l n [] e w = absurd (false≢true e)
 joins_apart l n (o ∷ ls) e w =
     (λ j. (is_prefix (n j) o.stub && not (same_apart o.stub l.stub w.0 j)) || list_any (joins l) ls)
@@ -93,7 +93,7 @@ sides f c h (a ∷ A) xs B v w e = list_any-append f (a ∷ A) (xs ++ B) ∙ ap 
 abbrev pub Filled : Leaf → Type 0
 Filled l = l.ends ≡ false → 0 < length l.stub
 
-node_behind : (c : ℕ) (l : Leaf) → Filled l → node (under_letter c l) ≡ c ∷ node l
+node_behind : (c : ℕ) (l : Leaf) → Filled l → parent (under_letter c l) ≡ c ∷ parent l
 node_behind c l s = go l.ends l.stub s
   where
     go : (t : Bool) (x : List ℕ) → (t ≡ false → 0 < length x) → cond t (c ∷ x) (take (length (c ∷ x) - 1) (c ∷ x)) ≡ c ∷ cond t x (take (length x - 1) x)
@@ -111,8 +111,8 @@ behind_ends c x (o ∷ g) = (λ j. (eq-eqb c c refl j && extends x o.stub) || be
 behind_joins : (c : ℕ) (l : Leaf) → Filled l → (g : List Leaf) → list_any (joins (under_letter c l)) (map (under_letter c) g) ≡ list_any (joins l) g
 behind_joins c l s [] = refl
 behind_joins c l s (o ∷ g) =
-    (λ j. (is_prefix (node_behind c l s j) (c ∷ o.stub) && not (same (c ∷ o.stub) (c ∷ l.stub))) || behind_joins c l s g j)
-    ∙ (λ j. ((eq-eqb c c refl j && is_prefix (node l) o.stub) && not (eq-eqb c c refl j && same o.stub l.stub)) || list_any (joins l) g)
+    (λ j. (is_prefix (node_behind c l s j) (c ∷ o.stub) && not (bytes_eq (c ∷ o.stub) (c ∷ l.stub))) || behind_joins c l s g j)
+    ∙ (λ j. ((eq-eqb c c refl j && is_prefix (parent l) o.stub) && not (eq-eqb c c refl j && bytes_eq o.stub l.stub)) || list_any (joins l) g)
 
 head_leaf : (h c s : ℕ) → head_of (leaf_by h c s).stub ≡ c
 head_leaf h c s = go (c == END) refl

@@ -164,7 +164,7 @@ are_leaves : (h r most : ℕ) (ls : List Leaf) → most ≤ 1024 → AllByRecurs
 unfolding HasStub
 are_leaves h r most [] le o s n = tt
 are_leaves h r most (l ∷ ls) le o s n = (
-  record { bytes = is_bytes l.stub o.0.bytes; filled = s.0; short = omega (arith, o.0.short, le); hash_fits = o.0.hash_fits; real_fits = o.0.real_fits; end_without_real = n.0 },
+  record { stub = record { bytes = is_bytes l.stub o.0.bytes; filled = s.0; short = omega (arith, o.0.short, le) }; hash_fits = o.0.hash_fits; real_fits = o.0.real_fits; end_without_real = n.0 },
   are_leaves h r most ls le o.1 s.1 n.1,
 )
 

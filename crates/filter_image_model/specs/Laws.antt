@@ -4,23 +4,23 @@ use Rattle.std.specs.Prelude.{◌≡◌, ◌++◌, ℕ, List, length, None}
 use Rattle.byte_fields.specs.Spelling.{IsBytes}
 use Rattle.filter_api.specs.Spellings.{IsSpelling}
 use Rattle.filter_model.specs.Image.{image, suffixes}
-use Rattle.filter_model.specs.Leaves.{Leaf}
+use Rattle.filter_model.specs.Leaves.{Filter, Leaf}
 use Rattle.filter_model.specs.Nodes.{trie_of}
 use Rattle.filter_model.specs.Trie.{height, nodes_to}
 use Rattle.filter_model.specs.Valid.{IsValid}
 use Rattle.filter_image_model.specs.Header.{Bytes, hash_bits_in, real_bits_in, cutoff_in, height_in, leaf_count_in}
 use Rattle.filter_image_model.specs.Nodes.{dense_in, sparse_in}
-use Rattle.filter_image_model.specs.Reading.{FilterImage, image_fault, image_in, leaves_in}
+use Rattle.filter_image_model.specs.Reading.{image_fault, image_in, leaves_in}
 
 -- the bytes are the image of these
-abbrev pub IsImage : FilterImage → Bytes → Type 0
+abbrev pub IsImage : Filter → Bytes → Type 0
 IsImage i bytes = IsSpelling image i.hash_bits i.real_bits i.cutoff i.leaves bytes
 
 abbrev pub ImageWasWrittenSo : Type 0
 ImageWasWrittenSo = (bytes : Bytes) → IsBytes bytes → image_fault bytes ≡ None → IsImage (image_in bytes) bytes
 
 abbrev pub ImageIsReadAgain : Type 0
-ImageIsReadAgain = (i : FilterImage) (bytes : Bytes) → IsImage i bytes → (image_fault bytes ≡ None) × (image_in bytes ≡ i)
+ImageIsReadAgain = (i : Filter) (bytes : Bytes) → IsImage i bytes → (image_fault bytes ≡ None) × (image_in bytes ≡ i)
 
 -- the bytes are so spelled; that what is read is valid is the rest of the first law
 abbrev pub BytesAreTheImage : Type 0

@@ -2,15 +2,15 @@
 use Rattle.std.specs.Prelude.{ℕ, suc, ◌+◌, ◌*◌, ◌/◌, ◌%◌, ◌^◌, nat_lt, ◌==◌, Bool, true, false, not, ◌&&◌, ◌||◌, List, [], ◌∷◌, ◌++◌, map, length, filter, slice_index, position, count_by, zip, Option, None}
 use Rattle.std.specs.Int.{div_ceil}
 use Rattle.std.specs.List.{list_any, range_with_len}
-use Rattle.std.specs.Option.{option_map}
+use Rattle.std.specs.Option.{option_map, option_or}
 use Rattle.key_base.specs.Limits.{max_hash_bits, max_key_bytes, max_real_bits}
 use Rattle.bit_words.specs.Numbers.{number_at}
 use Rattle.filter_model.specs.Image.{has_letter}
-use Rattle.filter_model.specs.Leaves.{Leaf}
+use Rattle.filter_model.specs.Leaves.{Filter, Leaf}
 use Rattle.filter_model.specs.Nodes.{Branch, Node, all}
 use Rattle.filter_model.specs.Trie.{END}
 use Rattle.trie_model.specs.Letters.{order_of}
-use Rattle.byte_fields.specs.Faults.{Fault, fault, refuse, or_fault}
+use Rattle.byte_fields.specs.Faults.{Fault, fault, refuse}
 use Rattle.filter_image_model.specs.Header.{Bytes, hash_bits_in, real_bits_in, cutoff_in, height_in, leaf_count_in, dense_count_in, sparse_count_in, suffix_bits_in, section_bits, section_place, end_place, section}
 use Rattle.filter_image_model.specs.Nodes.{dense_in, sparse_in}
 use Rattle.filter_image_model.specs.Levels.{are_levels, leaves_behind, leaf_count_of, levels_from, nodes_above, root_leaves}
@@ -26,10 +26,10 @@ bytes_fault rule place (want ∷ more) bytes = refuse (not (slice_index bytes pl
 unfoldable pub image_head_fault : Bytes → Option Fault
 image_head_fault bytes =
     refuse (nat_lt (length bytes) 40) (length bytes) 1
-    (or_fault (bytes_fault 2 0 (83 ∷ 85 ∷ 82 ∷ 70 ∷ 1 ∷ []) bytes)
+    (option_or (bytes_fault 2 0 (83 ∷ 85 ∷ 82 ∷ 70 ∷ 1 ∷ []) bytes)
     (refuse (nat_lt max_hash_bits (hash_bits_in bytes)) 5 3
     (refuse (nat_lt max_real_bits (real_bits_in bytes)) 6 3
-    (or_fault (bytes_fault 3 7 (0 ∷ []) bytes)
+    (option_or (bytes_fault 3 7 (0 ∷ []) bytes)
     (refuse ((height_in bytes == 0) || nat_lt max_key_bytes (height_in bytes)) 10 4
     (refuse (nat_lt (height_in bytes) (cutoff_in bytes)) 8 4
     (refuse (leaf_count_in bytes == 0) 12 4
@@ -118,7 +118,7 @@ nodes_fault width leaves place (n ∷ ns) = refuse (is_no_node leaves n) place 9
 unfoldable pub shape_fault : Bytes → List Node → List Node → Option Fault
 shape_fault bytes dense sparse =
     refuse (is_no_root (height_in bytes) (leaf_count_in bytes) (dense ++ sparse)) 40 9
-    (or_fault (nodes_fault (λ n. 32) (leaf_count_in bytes) 40 dense)
+    (option_or (nodes_fault (λ n. 32) (leaf_count_in bytes) 40 dense)
     (nodes_fault length (leaf_count_in bytes) (section_place 3 bytes) sparse))
 
 -- ---- 10: a leaf that ends and has real bits
@@ -141,32 +141,26 @@ ends_fault bytes slot (c ∷ cs) =
 
 unfoldable pub nodes_rules : Bytes → List Node → List Node → Option Fault
 nodes_rules bytes dense sparse =
-    or_fault (counts_fault bytes (dense ++ sparse))
-    (or_fault (shape_fault bytes dense sparse)
+    option_or (counts_fault bytes (dense ++ sparse))
+    (option_or (shape_fault bytes dense sparse)
     (ends_fault bytes 0 (slot_letters (dense ++ sparse))))
 
 unfoldable pub image_fault : Bytes → Option Fault
 image_fault bytes =
-    or_fault (image_head_fault bytes)
-    (or_fault (length_fault bytes)
-    (or_fault (padding_fault 40 (section_bits bytes) bytes)
-    (or_fault (stray_fault bytes)
-    (or_fault (louds_fault bytes)
+    option_or (image_head_fault bytes)
+    (option_or (length_fault bytes)
+    (option_or (padding_fault 40 (section_bits bytes) bytes)
+    (option_or (stray_fault bytes)
+    (option_or (louds_fault bytes)
     (nodes_rules bytes (dense_in bytes) (sparse_in bytes))))))
 
 -- ---- what is read
-
-pub record FilterImage : Type 0 where
-  pub hash_bits : ℕ
-  pub real_bits : ℕ
-  pub cutoff : ℕ
-  pub leaves : List Leaf
 
 unfoldable pub leaves_in : Bytes → List Leaf
 leaves_in bytes =
     root_leaves (leaves_behind (hash_bits_in bytes) (levels_from (height_in bytes) 1 (dense_in bytes ++ sparse_in bytes))
     (map (slot_suffix bytes) (range_with_len 0 (leaf_count_in bytes))))
 
-unfoldable pub image_in : Bytes → FilterImage
+unfoldable pub image_in : Bytes → Filter
 image_in bytes =
     record { hash_bits = hash_bits_in bytes; real_bits = real_bits_in bytes; cutoff = cutoff_in bytes; leaves = leaves_in bytes }

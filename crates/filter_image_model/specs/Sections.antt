@@ -1,34 +1,15 @@
--- The image of two lists of nodes, whatever they are, and of the bits of the suffixes.
-use Rattle.std.specs.Prelude.{◌≡◌, ℕ, ◌*◌, ◌+◌, ◌^◌, ◌<◌, ◌≤◌, Bool, None, List, [], ◌∷◌, ◌++◌, length}
+-- What is read of the image of two lists of nodes, whatever they are, and of the bits of the suffixes.
+use Rattle.std.specs.Prelude.{◌≡◌, ℕ, ◌*◌, ◌+◌, ◌^◌, ◌<◌, ◌≤◌, Bool, None, List, length}
 use Rattle.std.specs.List.{AllByRecursion}
 use Rattle.key_base.specs.Limits.{max_hash_bits, max_key_bytes, max_real_bits}
-use Rattle.bit_words.specs.Packed.{packed}
 use Rattle.byte_fields.specs.Spelling.{IsBytes}
-use Rattle.byteorder.specs.Endian.{little_bytes}
-use Rattle.filter_model.specs.Image.{dense_labels, dense_children, dense_ends, sparse_labels, sparse_children, sparse_louds}
+pub use Rattle.filter_model.specs.Image.{image_head, nodes_image}
+unfoldable pub use Rattle.filter_model.specs.Image.{sections}
 use Rattle.filter_model.specs.Nodes.{Node, all}
 use Rattle.trie_laws.specs.Louds.{IsNode}
 use Rattle.filter_image_model.specs.Header.{Bytes, hash_bits_in, real_bits_in, cutoff_in, height_in, leaf_count_in, section_bits, section}
 use Rattle.filter_image_model.specs.Nodes.{IsDense, dense_in, sparse_in}
 use Rattle.filter_image_model.specs.Reading.{image_head_fault, length_fault, padding_fault, stray_fault, louds_fault}
-
--- the header of these numbers
-abbrev pub image_head : ℕ → ℕ → ℕ → ℕ → ℕ → ℕ → ℕ → ℕ → Bytes
-image_head hash_bits real_bits cutoff height leaves dense sparse labels =
-    (83 ∷ 85 ∷ 82 ∷ 70 ∷ 1 ∷ hash_bits ∷ real_bits ∷ 0 ∷ [])
-    ++ little_bytes 2 cutoff ++ little_bytes 2 height ++ little_bytes 4 leaves
-    ++ little_bytes 8 dense ++ little_bytes 8 sparse ++ little_bytes 8 labels
-
--- the seven sections
-unfoldable pub sections : List Node → List Node → List Bool → Bytes
-sections dense sparse suffixes =
-    packed 8 (dense_labels dense) ++ packed 8 (dense_children dense) ++ packed 8 (dense_ends dense)
-    ++ sparse_labels sparse ++ packed 8 (sparse_children sparse) ++ packed 8 (sparse_louds sparse)
-    ++ packed 8 suffixes
-
-abbrev pub nodes_image : ℕ → ℕ → ℕ → ℕ → ℕ → List Node → List Node → List Bool → Bytes
-nodes_image hash_bits real_bits cutoff height leaves dense sparse suffixes =
-    image_head hash_bits real_bits cutoff height leaves (length dense) (length sparse) (length (all sparse)) ++ sections dense sparse suffixes
 
 -- no rule on the bytes alone is broken, up to the part of 8 that S-LOUDS keeps
 pub record KeepsBytes (bytes : Bytes) : Type 0 where

@@ -1,16 +1,16 @@
 -- Each leaf's node has another branch. A key with END behind it is never a prefix of another such string.
-use Rattle.std.proofs.Common.{false, not, ◌≡◌, ◌<◌, ◌≤◌, ◌+◌, ◌-◌, ◌==◌, ℕ, zero, suc, min, List, [], ◌∷◌, ◌++◌, true, length, take, get_or, map, refl, sym, ap, subst, ◌∙◌, arith, inl, inr, add-one, length-append}
+use Rattle.std.proofs.Common.{Bool, cond, false, not, ◌≡◌, ◌<◌, ◌≤◌, ◌+◌, ◌-◌, ◌==◌, ℕ, zero, suc, min, List, [], ◌∷◌, ◌++◌, true, length, take, get_or, map, refl, sym, ap, subst, ◌∙◌, arith, inl, inr, add-one, length-append}
 use Rattle.std.specs.List.{Contains, range_with_len}
 use Rattle.std.proofs.Math.Seq.{take-suc}
 use Rattle.std.proofs.lemmas.Bool.{not_from_false, cases_lt, cases_eq, cases_Bool, eqb-false, eq-eqb, and_from, cond-true, cond-false}
 use Rattle.std.proofs.lemmas.List.{append-nil, take_all, take-take, take-append-le, length-take, length-map, get_or-map}
 use Rattle.std.proofs.lemmas.List.FromFn.{length-range_with_len, get_or-range_with_len}
 use Rattle.byte_fields.specs.Spelling.{IsBytes}
-use Rattle.filter_model.specs.Strings.{is_prefix, same, shared}
+use Rattle.filter_model.specs.Strings.{is_prefix, bytes_eq, shared}
 use Rattle.filter_model.specs.Keys.{IsKey}
 use Rattle.filter_model.specs.Leaves.{Leaf, shared_most, stub_of, ends_of, leaf_of, leaves_of}
 use Rattle.filter_model.specs.Trie.{END, letters, path, parent, is_reached, branches}
-use Rattle.filter_model.specs.Valid.{IsCrowded, joins, node}
+use Rattle.filter_model.specs.Valid.{IsCrowded, joins}
 use Rattle.filter_model.proofs.Fronts.{IsBytes-tail}
 use Rattle.filter_model.proofs.Order.{Leq, Lt, Lt-or-Leq}
 use Rattle.filter_model.proofs.Shared.{extends-prefix, goes_on, shared-same, shared-other, shared_sym, differ_after, take-shared}
@@ -56,14 +56,30 @@ path-leaf hash_bits n keys k =
     below : (a m : ℕ) → (a ≡ m → ⊥) → m ≤ a → suc m ≤ a
     below a m ne le = elim (cases_lt m a) [ inl less ↦ omega arith | inr more ↦ absurd (ne (omega arith)) ]
 
+-- a leaf's node is its path without the last letter
+pub parent-path : (l : Leaf) → parent l ≡ take (length (path l) - 1) (path l)
+unfolding path
+parent-path l = go l.ends l.stub
+  where
+    whole : (x : List ℕ) → take (length (x ++ 256 ∷ []) - 1) (x ++ 256 ∷ []) ≡ x
+    whole [] = refl
+    whole (a ∷ []) = refl
+    whole (a ∷ b ∷ x) = (λ i. take (less i) (a ∷ b ∷ x ++ 256 ∷ [])) ∙ (λ i. a ∷ whole (b ∷ x) i)
+      where
+        less : length (a ∷ b ∷ x ++ 256 ∷ []) - 1 ≡ suc (length (b ∷ x ++ 256 ∷ []) - 1)
+        less = omega arith
+
+    go : (e : Bool) (x : List ℕ) → cond e x (take (length x - 1) x) ≡ take (length (x ++ cond e (END ∷ []) []) - 1) (x ++ cond e (END ∷ []) [])
+    go true x = sym (whole x)
+    go false x = ap (λ (y : List ℕ). take (length y - 1) y) (sym (append-nil x))
+
 pub parent-leaf : (hash_bits n : ℕ) (keys : List (List ℕ)) (k : List ℕ) → parent (leaf_of hash_bits n keys k) ≡ take (shared_most keys k) (ended k)
-unfolding parent
 parent-leaf hash_bits n keys k =
     let m = shared_most keys k in
     let whole = path-leaf hash_bits n keys k in
     let long : length (path (leaf_of hash_bits n keys k)) ≡ suc m =
     ap (length {A = ℕ}) whole ∙ length-take (suc m) (ended k) ∙ lesser (suc m) (length (ended k)) (omega (arith, ended-length k, shared_most-le keys k)) in
-    (λ i. take (long i - 1) (whole i)) ∙ take_front m (ended k)
+    parent-path (leaf_of hash_bits n keys k) ∙ (λ i. take (long i - 1) (whole i)) ∙ take_front m (ended k)
   where
     lesser : (a b : ℕ) → a ≤ b → min a b ≡ a
     lesser a b h = omega arith
@@ -170,7 +186,7 @@ Leq-cases (a ∷ x) (b ∷ y) (inl less) ne = inl less
 Leq-cases (a ∷ x) (b ∷ y) (inr (e, h)) ne = inr (e, Leq-cases x y h (λ s. ne (λ i. e i ∷ s i)))
 
 -- two keys have two stubs
-stubs_differ : (keys : List (List ℕ)) (x y : List ℕ) → Contains keys x → Contains keys y → (x ≡ y → ⊥) → same (stub_of keys y) (stub_of keys x) ≡ false
+stubs_differ : (keys : List (List ℕ)) (x y : List ℕ) → Contains keys x → Contains keys y → (x ≡ y → ⊥) → bytes_eq (stub_of keys y) (stub_of keys x) ≡ false
 stubs_differ keys x y h i ne = elim (Lt-or-Leq x y) [
   | inl before ↦ same-false (stub_of keys y) (stub_of keys x) (λ e. different (stub_of keys x) (stub_of keys y) (stubs_rise keys x y h i before) (sym e))
   | inr after ↦ same-false (stub_of keys y) (stub_of keys x) (different (stub_of keys y) (stub_of keys x) (stubs_rise keys y x i h (Leq-cases y x after (λ e. ne (sym e)))))
@@ -187,7 +203,7 @@ crowded hash_bits n keys k x h i ne =
     let ne' : y ≡ k → ⊥ = λ s. near.other (sym s) in
     let up = shared_most-ge keys y k h ne' in
     let turned = shared_sym y k in
-    let begun : is_prefix (node l) (stub_of keys y) ≡ true = elim (cases_Bool (ends_of keys k)) [
+    let begun : is_prefix (parent l) (stub_of keys y) ≡ true = elim (cases_Bool (ends_of keys k)) [
       | inl e ↦
           let whole = ends-length keys k e in
           ap (λ (p : List ℕ). is_prefix p (stub_of keys y)) (cond-true (ends_of keys k) (stub_of keys k) (take (length (stub_of keys k) - 1) (stub_of keys k)) e ∙ stub-ends keys k e)
@@ -203,8 +219,8 @@ crowded hash_bits n keys k x h i ne =
           ∙ is_prefix-takes m (shared_most keys y + 1) y (omega (arith, up, turned, near.most))
     ] in
     any_at (joins l) (leaf_of hash_bits n keys) keys y near.here
-    (and_from (is_prefix (node l) (stub_of keys y)) (not (same (stub_of keys y) (stub_of keys k))) begun
-    (not_from_false (same (stub_of keys y) (stub_of keys k)) (stubs_differ keys k y h near.here near.other)))
+    (and_from (is_prefix (parent l) (stub_of keys y)) (not (bytes_eq (stub_of keys y) (stub_of keys k))) begun
+    (not_from_false (bytes_eq (stub_of keys y) (stub_of keys k)) (stubs_differ keys k y h near.here near.other)))
   where
     lesser : (a b : ℕ) → a ≤ b → min a b ≡ a
     lesser a b h = omega arith

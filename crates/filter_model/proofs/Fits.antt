@@ -5,12 +5,12 @@ use Rattle.std.proofs.lemmas.List.{append-nil, drop_at}
 use native.Mathlib.Nat.{div-mul-le_self, mul-div_cancel, mul-lt-mul_of_pos_right}
 use Rattle.std.proofs.lemmas.Nat.{pow-add}
 use Rattle.byte_fields.specs.Spelling.{IsBytes}
-use Rattle.filter_model.specs.Strings.{is_before, is_prefix, same, front, shortest, bits}
+use Rattle.filter_model.specs.Strings.{is_before, is_prefix, bytes_eq, prefix_number, shortest, bits}
 use Rattle.filter_model.specs.Leaves.{Leaf}
 use Rattle.filter_model.specs.Answers.{fits, begins, is_past, meets}
 use Rattle.filter_model.specs.Valid.{IsLeaf}
 use Rattle.filter_model.proofs.Order.{Leq, Leq-from, Leq-to, Leq-itself, Leq-trans, Lt-Leq, Lt-or-Leq, Leq-append}
-use Rattle.filter_model.proofs.Fronts.{IsBytes-drop, IsBytes-append, div-mono, pow_pos, front-mono, rest-mono, prefix_from_front, front-prefix, prefix_parts, is_prefix-append, same-true, same-itself, front-shortest, shortest-bytes, shortest_least}
+use Rattle.filter_model.proofs.Fronts.{IsBytes-drop, IsBytes-append, div-mono, pow_pos, prefix_number-mono, rest-mono, prefix_from_number, prefix_number-prefix, prefix_parts, is_prefix-append, same-true, same-itself, prefix_number-shortest, shortest-bytes, shortest_least}
 
 abbrev pub unit : ℕ → ℕ
 unit n = 2 ^ (32 - n)
@@ -44,33 +44,33 @@ least n t r = t ++ shortest 4 (r * unit n)
 least_leq : (n : ℕ) (t : List ℕ) (r : ℕ) (x : List ℕ) → IsBytes x → is_prefix t x ≡ true → after n t x ≡ r → Leq (least n t r) x
 least_leq n t r x h p e =
     let rest = drop (length t) x in
-    let enough : r * unit n ≤ front 4 rest = omega (arith, div-mul-le_self (front 4 rest) (unit n), ap (λ (z : ℕ). z * unit n) e) in
+    let enough : r * unit n ≤ prefix_number 4 rest = omega (arith, div-mul-le_self (prefix_number 4 rest) (unit n), ap (λ (z : ℕ). z * unit n) e) in
     let step = Leq-append t (shortest 4 (r * unit n)) rest (shortest_least 4 (r * unit n) rest (IsBytes-drop (length t) x h) enough) in
     rw (prefix_parts t x p) step
 
 least_after : (n : ℕ) (t : List ℕ) (r : ℕ) → n ≤ 32 → r < 2 ^ n → after n t (least n t r) ≡ r
 least_after n t r h k =
     ap (bits n) (drop_at t (shortest 4 (r * unit n)) (length t) refl)
-    ∙ ap (λ (z : ℕ). z / unit n) (front-shortest 4 (r * unit n) (filled_below n r h k))
+    ∙ ap (λ (z : ℕ). z / unit n) (prefix_number-shortest 4 (r * unit n) (filled_below n r h k))
     ∙ mul-div_cancel r (unit_pos n)
 
 abbrev pub passed : ℕ → List ℕ → ℕ → List ℕ → Bool
 passed n t r lo =
-    nat_lt (front (length t) t) (front (length t) lo) || ((front (length t) t == front (length t) lo) && nat_lt r (after n t lo))
+    nat_lt (prefix_number (length t) t) (prefix_number (length t) lo) || ((prefix_number (length t) t == prefix_number (length t) lo) && nat_lt r (after n t lo))
 
 -- what fits and is not below lo keeps the leaf from being past it
 not_passed : (n : ℕ) (t : List ℕ) (r : ℕ) (lo x : List ℕ) → IsBytes lo → IsBytes x → Leq lo x → is_prefix t x ≡ true → after n t x ≡ r → passed n t r lo ≡ false
 not_passed n t r lo x h i k p e =
-    let f = front (length t) t in
-    let g = front (length t) lo in
-    let stub = front-prefix t x p in
-    let lower = front-mono (length t) lo x h k in
+    let f = prefix_number (length t) t in
+    let g = prefix_number (length t) lo in
+    let stub = prefix_number-prefix t x p in
+    let lower = prefix_number-mono (length t) lo x h k in
     or_from (nat_lt f g) ((f == g) && nat_lt r (after n t lo)) (le-ltb f g (omega arith))
     (elim (cases_Bool (f == g)) [
       | inl one ↦
-          let same_front : g ≡ front (length t) x = sym (eqb-true f g one) ∙ sym stub in
+          let same_front : g ≡ prefix_number (length t) x = sym (eqb-true f g one) ∙ sym stub in
           let rest = rest-mono (length t) lo x h i k same_front in
-          let more = div-mono (front 4 (drop (length t) lo)) (front 4 (drop (length t) x)) (unit n) (unit_pos n) (front-mono 4 (drop (length t) lo) (drop (length t) x) (IsBytes-drop (length t) lo h) rest) in
+          let more = div-mono (prefix_number 4 (drop (length t) lo)) (prefix_number 4 (drop (length t) x)) (unit n) (unit_pos n) (prefix_number-mono 4 (drop (length t) lo) (drop (length t) x) (IsBytes-drop (length t) lo h) rest) in
           and_right (f == g) (nat_lt r (after n t lo)) (le-ltb r (after n t lo) (omega (arith, more, e)))
       | inr other ↦ and_left (f == g) (nat_lt r (after n t lo)) other
     ])
@@ -78,18 +78,18 @@ not_passed n t r lo x h i k p e =
 -- a string not below the least one fits where the leaf is not past it
 fits_from_passed : (n : ℕ) (t : List ℕ) (r : ℕ) (lo : List ℕ) → n ≤ 32 → r < 2 ^ n → IsBytes t → IsBytes lo → Leq (least n t r) lo → passed n t r lo ≡ false → (is_prefix t lo ≡ true) × (after n t lo ≡ r)
 fits_from_passed n t r lo nh rh h i k p =
-    let f = front (length t) t in
-    let g = front (length t) lo in
+    let f = prefix_number (length t) t in
+    let g = prefix_number (length t) lo in
     let l = least n t r in
     let l_bytes = IsBytes-append t (shortest 4 (r * unit n)) h (shortest-bytes 4 (r * unit n) (filled_below n r nh rh)) in
-    let l_front = front-prefix t l (is_prefix-append t (shortest 4 (r * unit n))) in
-    let upper = front-mono (length t) l lo l_bytes k in
+    let l_front = prefix_number-prefix t l (is_prefix-append t (shortest 4 (r * unit n))) in
+    let upper = prefix_number-mono (length t) l lo l_bytes k in
     let parts = or_parts (nat_lt f g) ((f == g) && nat_lt r (after n t lo)) p in
     let lower = ltb-false f g parts.0 in
     let one : f ≡ g = omega arith in
-    let begun = prefix_from_front t lo h i (Leq-trans t l lo (Leq-append_nil t (shortest 4 (r * unit n))) k) one in
+    let begun = prefix_from_number t lo h i (Leq-trans t l lo (Leq-append_nil t (shortest 4 (r * unit n))) k) one in
     let rest = rest-mono (length t) l lo l_bytes i k (l_front ∙ one) in
-    let more = div-mono (front 4 (drop (length t) l)) (front 4 (drop (length t) lo)) (unit n) (unit_pos n) (front-mono 4 (drop (length t) l) (drop (length t) lo) (IsBytes-drop (length t) l l_bytes) rest) in
+    let more = div-mono (prefix_number 4 (drop (length t) l)) (prefix_number 4 (drop (length t) lo)) (unit n) (unit_pos n) (prefix_number-mono 4 (drop (length t) l) (drop (length t) lo) (IsBytes-drop (length t) l l_bytes) rest) in
     let not_more : after n t lo ≤ r = elim (and_cases (f == g) (nat_lt r (after n t lo)) parts.1) [
       | inl other ↦ absurd (eqb-false f g other one)
       | inr here ↦ ltb-false r (after n t lo) here
@@ -105,11 +105,11 @@ Leq-antisym (a ∷ x) (b ∷ y) (inr (h, i)) (inl k) = absurd (omega arith)
 Leq-antisym (a ∷ x) (b ∷ y) (inr (h, i)) (inr (k, l)) = λ j. h j ∷ Leq-antisym x y i l j
 
 -- of the parts of a leaf, what the definitions say in its two cases
-fits_end : (n : ℕ) (x : List ℕ) (l : Leaf) → l.ends ≡ true → fits n x l ≡ same l.stub x
-fits_end n x l e = cond-true l.ends (same l.stub x) _ e
+fits_end : (n : ℕ) (x : List ℕ) (l : Leaf) → l.ends ≡ true → fits n x l ≡ bytes_eq l.stub x
+fits_end n x l e = cond-true l.ends (bytes_eq l.stub x) _ e
 
 fits_open : (n : ℕ) (x : List ℕ) (l : Leaf) → l.ends ≡ false → fits n x l ≡ (is_prefix l.stub x && (after n l.stub x == l.real))
-fits_open n x l e = cond-false l.ends (same l.stub x) _ e
+fits_open n x l e = cond-false l.ends (bytes_eq l.stub x) _ e
 
 begins_end : (n : ℕ) (l : Leaf) → l.ends ≡ true → begins n l ≡ l.stub
 begins_end n l e = ap (λ (u : List ℕ). l.stub ++ u) (cond-true l.ends [] _ e) ∙ append-nil l.stub
@@ -158,8 +158,8 @@ begins_fits n l h k = elim (cases_Bool l.ends) [
 
 pub begins_bytes : (hash_bits n : ℕ) (l : Leaf) → n ≤ 32 → IsLeaf hash_bits n l → IsBytes (begins n l)
 begins_bytes hash_bits n l h k = elim (cases_Bool l.ends) [
-  | inl e ↦ subst IsBytes (sym (begins_end n l e)) k.bytes
-  | inr e ↦ subst IsBytes (sym (begins_open n l e)) (IsBytes-append l.stub (shortest 4 (l.real * unit n)) k.bytes (shortest-bytes 4 (l.real * unit n) (filled_below n l.real h k.real_fits)))
+  | inl e ↦ subst IsBytes (sym (begins_end n l e)) k.stub.bytes
+  | inr e ↦ subst IsBytes (sym (begins_open n l e)) (IsBytes-append l.stub (shortest 4 (l.real * unit n)) k.stub.bytes (shortest-bytes 4 (l.real * unit n) (filled_below n l.real h k.real_fits)))
 ]
 
 -- a leaf is not past lo where a string that is not below lo fits it
@@ -180,10 +180,10 @@ fits_between hash_bits n lo l nh leaf h k p = elim (cases_Bool l.ends) [
       let upper = Leq-from lo l.stub (sym (past_end n lo l e) ∙ p) in
       let lower = subst (λ (y : List ℕ). Leq y lo) (begins_end n l e) k in
       let one = Leq-antisym l.stub lo lower upper in
-      fits_end n lo l e ∙ ap (same l.stub) (sym one) ∙ same-itself l.stub
+      fits_end n lo l e ∙ ap (bytes_eq l.stub) (sym one) ∙ same-itself l.stub
   | inr e ↦
       let lower = subst (λ (y : List ℕ). Leq y lo) (begins_open n l e) k in
-      let parts = fits_from_passed n l.stub l.real lo nh leaf.real_fits leaf.bytes h lower (sym (past_open n lo l e) ∙ p) in
+      let parts = fits_from_passed n l.stub l.real lo nh leaf.real_fits leaf.stub.bytes h lower (sym (past_open n lo l e) ∙ p) in
       open_from n lo l e parts.0 parts.1
 ]
 

@@ -8,7 +8,7 @@ use Rattle.std.proofs.lemmas.List.{append-nil, length-take, length_push, take_al
 use Rattle.std.proofs.lemmas.List.Elements.{All-head, All-tail, Contains-get_or, Contains-append_left, Contains-append_right, Contains-append_cases, filter-append}
 use Rattle.std.proofs.lemmas.List.FromFn.{length-map-range_with_len, get_or-map-range_with_len, length-range_with_len, get_or-range_with_len}
 use Rattle.byte_fields.specs.Spelling.{IsBytes}
-use Rattle.filter_model.specs.Strings.{extends, is_before, is_prefix, same}
+use Rattle.filter_model.specs.Strings.{extends, is_before, is_prefix, bytes_eq}
 use Rattle.filter_model.specs.Leaves.{Leaf}
 use Rattle.filter_model.specs.Trie.{END, branches, height, is_node, is_reached, letters, level, nodes, nodes_to, path}
 use Rattle.filter_model.specs.Laws.{AreByteStubs, is_inner, NodesAreThePrefixes, NodesStandInOrder, stands_before}
@@ -33,7 +33,7 @@ extends-push (a ∷ c ∷ p) [] e = and_nothing (a == e)
     and_nothing false = refl
 extends-push (a ∷ p) (b ∷ s) e = ap (λ t. (a == b) && t) (extends-push p s e)
 
-prefix-cases : (p s : List ℕ) → is_prefix p s ≡ (extends p s || same s p)
+prefix-cases : (p s : List ℕ) → is_prefix p s ≡ (extends p s || bytes_eq s p)
 prefix-cases [] [] = refl
 prefix-cases [] (b ∷ s) = refl
 prefix-cases (a ∷ p) [] = refl
@@ -51,7 +51,7 @@ or_false true = refl
 or_false false = refl
 
 -- a path goes on after p where the stub does, or where the leaf ends with it
-path_extends : (p : List ℕ) (l : Leaf) → extends p (path l) ≡ (extends p l.stub || (l.ends && same l.stub p))
+path_extends : (p : List ℕ) (l : Leaf) → extends p (path l) ≡ (extends p l.stub || (l.ends && bytes_eq l.stub p))
 unfolding path
 path_extends p l = elim (cases_Bool l.ends) [
   | inl e ↦ rw e (extends-push p l.stub END ∙ prefix-cases p l.stub)
@@ -72,9 +72,9 @@ IsBytes-prefix (a ∷ p) (b ∷ s) e h =
     IsBytes-cons a p (omega (arith, h 0)) (IsBytes-prefix p s parts.1 (IsBytes-tail b s h))
 
 extends_bytes : (p : List ℕ) (l : Leaf) → IsBytes l.stub → extends p (path l) ≡ true → IsBytes p
-extends_bytes p l h e = elim (or_cases (extends p l.stub) (l.ends && same l.stub p) (sym (path_extends p l) ∙ e)) [
+extends_bytes p l h e = elim (or_cases (extends p l.stub) (l.ends && bytes_eq l.stub p) (sym (path_extends p l) ∙ e)) [
   | inl more ↦ IsBytes-prefix p l.stub (extends-prefix p l.stub more) h
-  | inr whole ↦ IsBytes-prefix p l.stub (prefix-cases p l.stub ∙ or_right (extends p l.stub) (same l.stub p) (and_parts l.ends (same l.stub p) whole).1) h
+  | inr whole ↦ IsBytes-prefix p l.stub (prefix-cases p l.stub ∙ or_right (extends p l.stub) (bytes_eq l.stub p) (and_parts l.ends (bytes_eq l.stub p) whole).1) h
 ]
 
 -- a node is a byte string

@@ -7,14 +7,14 @@ use Rattle.std.proofs.lemmas.Nat.{pow-add}
 use native.Mathlib.Nat.{mod-lt, div-lt_iff_lt-mul}
 use Rattle.byte_fields.specs.Spelling.{IsBytes}
 use Rattle.byte_fields.specs.Sums.{fnv_of}
-use Rattle.filter_model.specs.Strings.{is_prefix, extends, same, shared, bits}
+use Rattle.filter_model.specs.Strings.{is_prefix, extends, bytes_eq, shared, bits}
 use Rattle.filter_model.specs.Keys.{IsKey}
 use Rattle.filter_model.specs.Leaves.{shared_most, stub_of, ends_of, real_of, hash_bits_of, leaf_of}
 use Rattle.filter_model.specs.Answers.{fits, fits_point}
 use Rattle.filter_model.specs.Valid.{IsLeaf}
 use Rattle.filter_model.specs.Laws.{NoKeyIsDenied}
 use Rattle.filter_model.proofs.Order.{Leq, Lt, Lt-not_back, Leq-itself}
-use Rattle.filter_model.proofs.Fronts.{IsBytes-nil, IsBytes-cons, IsBytes-tail, IsBytes-drop, front_below, pow_pos, same-true, same-itself}
+use Rattle.filter_model.proofs.Fronts.{IsBytes-nil, IsBytes-cons, IsBytes-tail, IsBytes-drop, prefix_number_below, pow_pos, same-true, same-itself}
 use Rattle.filter_model.proofs.Shared.{shared-le, shared_sym, stubs_Lt, extends-itself, extends-prefix, prefix_of_take, stub_in_other, goes_on, is_prefix-take, drop-length-take}
 
 pub Contains-more : {X : Type 0} (y : X) (ys : List X) (x : X) → Contains ys x → Contains (y ∷ ys) x
@@ -43,14 +43,14 @@ passing_from_any p f (x ∷ xs) e = elim (or_cases (p (f x)) (list_any p (map f 
       record { item = rest.item; here = Contains-more x xs rest.item rest.here; passes = rest.passes }
 ]
 
-pub same-false : (x y : List ℕ) → (x ≡ y → ⊥) → same x y ≡ false
-same-false x y ne = false_from_ne_true (same x y) (λ e. ne (same-true x y e))
+pub same-false : (x y : List ℕ) → (x ≡ y → ⊥) → bytes_eq x y ≡ false
+same-false x y ne = false_from_ne_true (bytes_eq x y) (λ e. ne (same-true x y e))
 
 pub shared_most-le : (keys : List (List ℕ)) (k : List ℕ) → shared_most keys k ≤ length k
 shared_most-le [] k = omega arith
-shared_most-le (x ∷ keys) k = elim (cases_Bool (same k x)) [
-  | inl e ↦ omega (arith, cond-true (same k x) 0 (shared k x) e, shared_most-le keys k)
-  | inr e ↦ omega (arith, cond-false (same k x) 0 (shared k x) e, shared_most-le keys k, shared-le k x)
+shared_most-le (x ∷ keys) k = elim (cases_Bool (bytes_eq k x)) [
+  | inl e ↦ omega (arith, cond-true (bytes_eq k x) 0 (shared k x) e, shared_most-le keys k)
+  | inr e ↦ omega (arith, cond-false (bytes_eq k x) 0 (shared k x) e, shared_most-le keys k, shared-le k x)
 ]
 
 pub shared_most-ge : (keys : List (List ℕ)) (k x : List ℕ) → Contains keys x → (k ≡ x → ⊥) → shared k x ≤ shared_most keys k
@@ -59,9 +59,9 @@ shared_most-ge keys k x h ne = at keys h.0 h.1 h.2
     at : (keys : List (List ℕ)) (i : ℕ) → i < length keys → get_or keys i x ≡ x → shared k x ≤ shared_most keys k
     at [] i l s = absurd (omega arith)
     at (y ∷ keys) zero l s =
-        let e : same k y ≡ false = ap (same k) s ∙ same-false k x ne in
+        let e : bytes_eq k y ≡ false = ap (bytes_eq k) s ∙ same-false k x ne in
         let e' : shared k y ≡ shared k x = ap (shared k) s in
-        omega (arith, cond-false (same k y) 0 (shared k y) e)
+        omega (arith, cond-false (bytes_eq k y) 0 (shared k y) e)
     at (y ∷ keys) (suc i) l s = let rest = at keys i (omega arith) s in omega arith
 
 -- another key with which k shares as much as with any
@@ -74,16 +74,16 @@ pub record Nearest (keys : List (List ℕ)) (k : List ℕ) : Type 0 where
 pub nearest_or_none : (keys : List (List ℕ)) (k : List ℕ) → (shared_most keys k ≡ 0) ⊎ Nearest keys k
 nearest_or_none [] k = inl refl
 nearest_or_none (x ∷ keys) k =
-    let a = cond (same k x) 0 (shared k x) in
+    let a = cond (bytes_eq k x) 0 (shared k x) in
     let b = shared_most keys k in
     elim (cases_lt b a) [
-      | inl first ↦ elim (cases_Bool (same k x)) [
-        | inl e ↦ absurd (omega (arith, cond-true (same k x) 0 (shared k x) e))
+      | inl first ↦ elim (cases_Bool (bytes_eq k x)) [
+        | inl e ↦ absurd (omega (arith, cond-true (bytes_eq k x) 0 (shared k x) e))
         | inr e ↦ inr (record {
           key = x;
           here = (0, omega arith, refl);
-          other = λ s. false≢true (sym e ∙ ap (same k) (sym s) ∙ same-itself k);
-          most = omega (arith, cond-false (same k x) 0 (shared k x) e);
+          other = λ s. false≢true (sym e ∙ ap (bytes_eq k) (sym s) ∙ same-itself k);
+          most = omega (arith, cond-false (bytes_eq k x) 0 (shared k x) e);
         })
       ]
       | inr rest ↦ elim (nearest_or_none keys k) [
@@ -113,9 +113,9 @@ pub fits_own : (hash_bits n : ℕ) (keys : List (List ℕ)) (k : List ℕ) → f
 fits_own hash_bits n keys k =
     let m = shared_most keys k in
     elim (cases_Bool (ends_of keys k)) [
-      | inl e ↦ cond-true (ends_of keys k) (same (stub_of keys k) k) _ e ∙ ap (λ (s : List ℕ). same s k) (stub-ends keys k e) ∙ same-itself k
+      | inl e ↦ cond-true (ends_of keys k) (bytes_eq (stub_of keys k) k) _ e ∙ ap (λ (s : List ℕ). bytes_eq s k) (stub-ends keys k e) ∙ same-itself k
       | inr e ↦
-          cond-false (ends_of keys k) (same (stub_of keys k) k) _ e
+          cond-false (ends_of keys k) (bytes_eq (stub_of keys k) k) _ e
           ∙ and_from (is_prefix (stub_of keys k) k) (bits n (drop (length (stub_of keys k)) k) == real_of n keys k) (is_prefix-take (m + 1) k)
           (eq-eqb (bits n (drop (length (stub_of keys k)) k)) (real_of n keys k)
           (ap (bits n) (drop-length-take (m + 1) k) ∙ sym (cond-false (ends_of keys k) 0 (bits n (drop (m + 1) k)) e)))
@@ -136,7 +136,7 @@ bits_below : (n : ℕ) (x : List ℕ) → n ≤ 32 → IsBytes x → bits n x < 
 bits_below n x h k =
     let e : n + (32 - n) ≡ 32 = omega arith in
     let whole : 2 ^ 32 ≡ 2 ^ n * 2 ^ (32 - n) = ap (λ (m : ℕ). 2 ^ m) (sym e) ∙ pow-add 2 n (32 - n) in
-    (div-lt_iff_lt-mul (pow_pos 2 (32 - n) (omega arith))).1 (omega (arith, whole, front_below 4 x k))
+    (div-lt_iff_lt-mul (pow_pos 2 (32 - n) (omega arith))).1 (omega (arith, whole, prefix_number_below 4 x k))
 
 real_below : (n : ℕ) (keys : List (List ℕ)) (k : List ℕ) → n ≤ 32 → IsBytes k → real_of n keys k < 2 ^ n
 real_below n keys k h i = elim (cases_Bool (ends_of keys k)) [
@@ -148,9 +148,11 @@ pub leaf_of_key : (hash_bits n : ℕ) (keys : List (List ℕ)) (k : List ℕ) �
 leaf_of_key hash_bits n keys k h key =
     let m = shared_most keys k in
     record {
-      bytes = IsBytes-take (m + 1) k key.bytes;
-      filled = omega (arith, length-take (m + 1) k, key.filled);
-      short = omega (arith, length-take (m + 1) k, key.short);
+      stub = record {
+        bytes = IsBytes-take (m + 1) k key.bytes;
+        filled = omega (arith, length-take (m + 1) k, key.filled);
+        short = omega (arith, length-take (m + 1) k, key.short);
+      };
       hash_fits = mod-lt (fnv_of k) (pow_pos 2 hash_bits (omega arith));
       real_fits = real_below n keys k h key.bytes;
       end_without_real = λ e. cond-true (ends_of keys k) 0 (bits n (drop (m + 1) k)) e;

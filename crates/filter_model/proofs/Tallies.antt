@@ -5,7 +5,7 @@ use Rattle.std.proofs.lemmas.Bool.{cases_Bool, and_parts, not-true, cond-true, c
 use Rattle.std.proofs.lemmas.List.{append-nil}
 use Rattle.std.proofs.lemmas.List.Elements.{Contains-get_or}
 use Rattle.byte_fields.specs.Spelling.{IsBytes}
-use Rattle.filter_model.specs.Strings.{is_before, is_prefix, extends, same, bits}
+use Rattle.filter_model.specs.Strings.{is_before, is_prefix, extends, bytes_eq, bits}
 use Rattle.filter_model.specs.Keys.{IsKey}
 use Rattle.filter_model.specs.Leaves.{Leaf, leaf_of, leaves_of}
 use Rattle.filter_model.specs.Answers.{begins, fits, is_past, meets, is_within}
@@ -55,9 +55,9 @@ met_by hash_bits n keys lo hi k nh bounds key m =
 fits_begun : (n : ℕ) (x : List ℕ) (l : Leaf) → fits n x l ≡ true → is_prefix l.stub x ≡ true
 fits_begun n x l f = elim (cases_Bool l.ends) [
   | inl e ↦
-      let one = same-true l.stub x (sym (cond-true l.ends (same l.stub x) _ e) ∙ f) in
+      let one = same-true l.stub x (sym (cond-true l.ends (bytes_eq l.stub x) _ e) ∙ f) in
       subst (λ (y : List ℕ). is_prefix l.stub y ≡ true) one (begins_itself l.stub)
-  | inr e ↦ (and_parts (is_prefix l.stub x) (bits n (drop (length l.stub) x) == l.real) (sym (cond-false l.ends (same l.stub x) _ e) ∙ f)).0
+  | inr e ↦ (and_parts (is_prefix l.stub x) (bits n (drop (length l.stub) x) == l.real) (sym (cond-false l.ends (bytes_eq l.stub x) _ e) ∙ f)).0
 ]
   where
     begins_itself : (x : List ℕ) → is_prefix x x ≡ true
@@ -73,7 +73,7 @@ fit_one hash_bits n ls x valid i j d before within fa fb =
     let more = prefixes_of_one a.stub b.stub x (fits_begun n x a fa) b_begun lt in
     let some = any_at (λ (o : Leaf). extends a.stub o.stub) (λ (o : Leaf). o) ls b (Contains-get_or ls j d within) more in
     let a_ends : a.ends ≡ true = valid.ends i d (omega arith) ∙ ap (list_any (λ (o : Leaf). extends a.stub o.stub)) (sym (map-itself ls)) ∙ some in
-    let one = same-true a.stub x (sym (cond-true a.ends (same a.stub x) _ a_ends) ∙ fa) in
+    let one = same-true a.stub x (sym (cond-true a.ends (bytes_eq a.stub x) _ a_ends) ∙ fa) in
     Lt-not_back a.stub b.stub lt (subst (Leq b.stub) (sym one) (is_prefix_Leq b.stub x b_begun))
   where
     map-itself : (ls : List Leaf) → map (λ (o : Leaf). o) ls ≡ ls

@@ -4,7 +4,7 @@ use Rattle.std.specs.List.{All, AllPairs, Contains, list_any}
 use Rattle.std.proofs.lemmas.Bool.{cases_lt, cases_Bool, cond-true, false_from_ne_true, false≢true}
 use Rattle.std.proofs.lemmas.List.{length-map, get_or-map, length-take}
 use Rattle.std.proofs.lemmas.List.Elements.{All-map, All-contains, Contains-get_or}
-use Rattle.filter_model.specs.Strings.{is_before, extends, same, shared}
+use Rattle.filter_model.specs.Strings.{is_before, extends, bytes_eq, shared}
 use Rattle.filter_model.specs.Keys.{IsKey, IsKeyList}
 use Rattle.filter_model.specs.Leaves.{Leaf, shared_most, stub_of, ends_of, leaf_of, leaves_of}
 use Rattle.filter_model.specs.Valid.{IsLeaf, EndsRightly, IsCrowded}
@@ -61,7 +61,7 @@ ends_rightly hash_bits n keys h k c =
 alone : (keys : List (List ℕ)) (k : List ℕ) → length keys ≡ 1 → Contains keys k → shared_most keys k ≡ 0
 alone [] k one c = refl
 alone (x ∷ y ∷ keys) k one c = absurd (omega arith)
-alone (x ∷ []) k one (zero, l, e) = omega (arith, cond-true (same k x) 0 (shared k x) (ap (same k) e ∙ same-itself k))
+alone (x ∷ []) k one (zero, l, e) = omega (arith, cond-true (bytes_eq k x) 0 (shared k x) (ap (bytes_eq k) e ∙ same-itself k))
 alone (x ∷ []) k one (suc i, l, e) = absurd (omega arith)
 
 single : (hash_bits n : ℕ) (keys : List (List ℕ)) → IsKeyList keys → length keys ≡ 1 → (k : List ℕ) → Contains keys k → length (stub_of keys k) ≡ 1

@@ -1,12 +1,12 @@
 -- What a list of leaves answers of a string and of a range.
 use Rattle.std.specs.Prelude.{ℕ, ◌-◌, ◌*◌, ◌^◌, ◌==◌, nat_lt, Bool, cond, not, ◌&&◌, ◌||◌, List, [], ◌++◌, length, drop, count_by, Option}
 use Rattle.std.specs.List.{list_any, position_from}
-use Rattle.filter_model.specs.Strings.{is_before, same, is_prefix, front, shortest, bits}
+use Rattle.filter_model.specs.Strings.{is_before, bytes_eq, is_prefix, prefix_number, shortest, bits}
 use Rattle.filter_model.specs.Leaves.{Leaf, hash_bits_of}
 
 -- x fits the leaf, hash apart: it is the stub of a leaf that ends, or goes on from the stub with the leaf's real bits
 abbrev pub fits : ℕ → List ℕ → Leaf → Bool
-fits real_bits x l = cond l.ends (same l.stub x) (is_prefix l.stub x && (bits real_bits (drop (length l.stub) x) == l.real))
+fits real_bits x l = cond l.ends (bytes_eq l.stub x) (is_prefix l.stub x && (bits real_bits (drop (length l.stub) x) == l.real))
 
 -- x fits the leaf as a point: the hash bits are those of x too
 abbrev pub fits_point : ℕ → ℕ → List ℕ → Leaf → Bool
@@ -24,8 +24,8 @@ begins real_bits l = l.stub ++ cond l.ends [] (shortest 4 (l.real * 2 ^ (32 - re
 -- below the first bits of lo
 abbrev pub is_past : ℕ → List ℕ → Leaf → Bool
 is_past real_bits lo l =
-    let stub = front (length l.stub) l.stub in
-    let first = front (length l.stub) lo in
+    let stub = prefix_number (length l.stub) l.stub in
+    let first = prefix_number (length l.stub) lo in
     cond l.ends (is_before l.stub lo) (nat_lt stub first || ((stub == first) && nat_lt l.real (bits real_bits (drop (length l.stub) lo))))
 
 -- the leaf may stand for a key from lo to hi

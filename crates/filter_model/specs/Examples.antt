@@ -18,11 +18,7 @@ aa1_ab1 = codes "aa1" ∷ codes "ab1" ∷ []
 abbrev pub a_ab : List (List ℕ)
 a_ab = codes "a" ∷ codes "ab" ∷ []
 
--- their leaves, with no suffix bits
-abbrev pub base_leaves : List (List ℕ) → List Leaf
-base_leaves keys = leaves_of 0 0 keys
-
--- their leaves, with 8 real bits
+-- leaves with 8 real bits
 abbrev pub real_leaves : List (List ℕ) → List Leaf
 real_leaves keys = leaves_of 0 8 keys
 

@@ -1,13 +1,13 @@
--- The bytes of a filter: a header, and seven sections that spell the trie and the suffixes of its leaves.
-use Rattle.std.specs.Prelude.{ℕ, ◌+◌, ◌*◌, ◌^◌, ◌==◌, Bool, true, false, cond, ◌&&◌, ◌||◌, List, [], ◌∷◌, ◌++◌, map, length, take, drop, filter, flat_map}
+-- The bytes of a filter: a head of eight numbers, and seven sections that spell the trie and the suffixes of its leaves.
+use Rattle.std.specs.Prelude.{ℕ, ◌==◌, Bool, true, false, cond, ◌&&◌, ◌||◌, List, [], ◌∷◌, ◌++◌, map, length, take, drop, filter, flat_map}
 use Rattle.std.specs.List.{range_with_len}
-use Rattle.std.specs.Int.{bit_at}
 use Rattle.bit_words.specs.Packed.{packed}
 use Rattle.byteorder.specs.Endian.{little_bytes}
-use Rattle.filter_model.specs.Strings.{same}
+use Rattle.filter_model.specs.Strings.{bytes_eq}
 use Rattle.filter_model.specs.Leaves.{Leaf}
 use Rattle.filter_model.specs.Trie.{END, path, height, nodes_to, slots}
 use Rattle.filter_model.specs.Nodes.{Branch, Node, all, trie_of}
+use Rattle.filter_model.specs.Suffixes.{leaf_suffix, packed_suffixes}
 
 -- the node has a branch by c
 abbrev pub has_letter : Node → ℕ → Bool
@@ -54,28 +54,33 @@ sparse_louds ns = flat_map opening ns
 
 -- the leaves in the order of their slots
 unfoldable pub in_slots : List Leaf → List Leaf
-in_slots ls = flat_map (λ (q : List ℕ). filter (λ l. same (path l) q) ls) (slots ls)
+in_slots ls = flat_map (λ (q : List ℕ). filter (λ l. bytes_eq (path l) q) ls) (slots ls)
 
--- the suffix of a leaf: its hash bits and then its real bits, the lowest bit first
-abbrev pub suffix_of : ℕ → ℕ → Leaf → List Bool
-suffix_of hash_bits real_bits l = map (λ i. bit_at (l.hash + 2 ^ hash_bits * l.real) i == 1) (range_with_len 0 (hash_bits + real_bits))
-
+-- the suffixes in the order of their slots
 abbrev pub suffixes : ℕ → ℕ → List Leaf → List Bool
-suffixes hash_bits real_bits ls = flat_map (suffix_of hash_bits real_bits) (in_slots ls)
+suffixes hash_bits real_bits ls = packed_suffixes hash_bits real_bits (map leaf_suffix (in_slots ls))
 
--- the header: SURF, version 1, widths, cutoff, height, how many leaves, dense nodes, sparse nodes and sparse labels
-unfoldable pub header : ℕ → ℕ → ℕ → List Leaf → List Node → List Node → List ℕ
-header hash_bits real_bits cutoff ls dense sparse =
+-- the head: SURF, version 1, widths, cutoff, height, how many leaves, dense nodes, sparse nodes and sparse labels
+abbrev pub image_head : ℕ → ℕ → ℕ → ℕ → ℕ → ℕ → ℕ → ℕ → List ℕ
+image_head hash_bits real_bits cutoff height leaves dense sparse labels =
     (83 ∷ 85 ∷ 82 ∷ 70 ∷ 1 ∷ hash_bits ∷ real_bits ∷ 0 ∷ [])
-    ++ little_bytes 2 cutoff ++ little_bytes 2 (height ls) ++ little_bytes 4 (length ls)
-    ++ little_bytes 8 (length dense) ++ little_bytes 8 (length sparse) ++ little_bytes 8 (length (all sparse))
+    ++ little_bytes 2 cutoff ++ little_bytes 2 height ++ little_bytes 4 leaves
+    ++ little_bytes 8 dense ++ little_bytes 8 sparse ++ little_bytes 8 labels
+
+-- the seven sections
+unfoldable pub sections : List Node → List Node → List Bool → List ℕ
+sections dense sparse suffix_bits =
+    packed 8 (dense_labels dense) ++ packed 8 (dense_children dense) ++ packed 8 (dense_ends dense)
+    ++ sparse_labels sparse ++ packed 8 (sparse_children sparse) ++ packed 8 (sparse_louds sparse)
+    ++ packed 8 suffix_bits
+
+-- the image of two lists of nodes, whatever they are, and of the bits of the suffixes
+abbrev pub nodes_image : ℕ → ℕ → ℕ → ℕ → ℕ → List Node → List Node → List Bool → List ℕ
+nodes_image hash_bits real_bits cutoff height leaves dense sparse suffix_bits =
+    image_head hash_bits real_bits cutoff height leaves (length dense) (length sparse) (length (all sparse)) ++ sections dense sparse suffix_bits
 
 -- the image of a leaf list whose levels below the cutoff are dense
 unfoldable pub image : ℕ → ℕ → ℕ → List Leaf → List ℕ
 image hash_bits real_bits cutoff ls =
-    let dense = take (length (nodes_to ls cutoff)) (trie_of ls) in
-    let sparse = drop (length (nodes_to ls cutoff)) (trie_of ls) in
-    header hash_bits real_bits cutoff ls dense sparse
-    ++ packed 8 (dense_labels dense) ++ packed 8 (dense_children dense) ++ packed 8 (dense_ends dense)
-    ++ sparse_labels sparse ++ packed 8 (sparse_children sparse) ++ packed 8 (sparse_louds sparse)
-    ++ packed 8 (suffixes hash_bits real_bits ls)
+    let n = length (nodes_to ls cutoff) in
+    nodes_image hash_bits real_bits cutoff (height ls) (length ls) (take n (trie_of ls)) (drop n (trie_of ls)) (suffixes hash_bits real_bits ls)

@@ -3,7 +3,7 @@ use Rattle.std.specs.Prelude.{◌≡◌, ◌==◌, ◌↔◌, ◌<◌, ℕ, ◌+
 use Rattle.std.specs.List.{All, AllPairs, Contains, list_any}
 use Rattle.key_base.specs.Limits.{max_real_bits}
 use Rattle.byte_fields.specs.Spelling.{IsBytes}
-use Rattle.filter_model.specs.Strings.{extends, is_before, same}
+use Rattle.filter_model.specs.Strings.{extends, is_before, bytes_eq}
 use Rattle.filter_model.specs.Keys.{IsKeyList}
 use Rattle.filter_model.specs.Leaves.{Leaf, leaves_of}
 use Rattle.filter_model.specs.Answers.{fits, point, ranged, tally, is_within, true_count}
@@ -57,7 +57,7 @@ AreByteStubs ls = All (λ l. IsBytes l.stub) ls
 
 -- some stub properly extends p, or some leaf ends with the stub p
 abbrev pub is_inner : List Leaf → List ℕ → Bool
-is_inner ls p = list_any (λ l. extends p l.stub || (l.ends && same l.stub p)) ls
+is_inner ls p = list_any (λ l. extends p l.stub || (l.ends && bytes_eq l.stub p)) ls
 
 -- a prefix is among the nodes exactly where some stub properly extends it or some leaf ends with it
 abbrev pub NodesAreThePrefixes : Type 0

@@ -1,9 +1,12 @@
+pub use Rattle.key_base.specs.ByteOrder
+pub use Rattle.key_base.specs.Limits
 pub mod Strings
 pub mod Leaves
 pub mod Answers
 pub mod Trie
 pub mod Valid
 pub mod Nodes
+pub mod Suffixes
 pub mod Image
 pub mod Keys
 pub mod Laws

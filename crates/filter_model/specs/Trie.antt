@@ -16,9 +16,10 @@ letters = END ∷ range_with_len 0 256
 unfoldable pub path : Leaf → List ℕ
 path l = l.stub ++ cond l.ends (END ∷ []) []
 
--- the path without its last letter: the node of which the leaf is a branch
-unfoldable pub parent : Leaf → List ℕ
-parent l = take (length (path l) - 1) (path l)
+-- the node of which the leaf is a branch, its path without the last letter: its stub where it ends, else the stub without
+-- its last byte
+abbrev pub parent : Leaf → List ℕ
+parent l = cond l.ends l.stub (take (length l.stub - 1) l.stub)
 
 -- some path goes on after p
 unfoldable pub is_node : List Leaf → List ℕ → Bool

@@ -1,16 +1,18 @@
 -- The leaf lists that a filter may stand for, without mention of keys.
-use Rattle.std.specs.Prelude.{◌≡◌, ℕ, ◌-◌, ◌<◌, ◌≤◌, ◌^◌, Bool, true, cond, not, ◌&&◌, List, length, take}
+use Rattle.std.specs.Prelude.{◌≡◌, ℕ, ◌<◌, ◌^◌, Bool, true, not, ◌&&◌, List, length}
 use Rattle.std.specs.List.{All, AllPairs, list_any}
-use Rattle.key_base.specs.Limits.{max_key_bytes}
-use Rattle.byte_fields.specs.Spelling.{IsBytes}
-use Rattle.filter_model.specs.Strings.{is_before, extends, is_prefix, same}
+use Rattle.filter_model.specs.Strings.{is_before, extends, is_prefix, bytes_eq}
+use Rattle.filter_model.specs.Keys.{IsKey}
 use Rattle.filter_model.specs.Leaves.{Leaf}
+use Rattle.filter_model.specs.Trie.{parent}
 
--- a leaf by itself: a stub as long as a key may be, hash and real bits of their widths, no real bits where it ends
+-- the stub is as a key may be
+abbrev pub IsStub : Leaf → Type 0
+IsStub l = IsKey l.stub
+
+-- a leaf by itself: its stub, hash and real bits of their widths, no real bits where it ends
 pub record IsLeaf (hash_bits real_bits : ℕ) (l : Leaf) : Type 0 where
-  pub bytes : IsBytes l.stub
-  pub filled : 0 < length l.stub
-  pub short : length l.stub ≤ max_key_bytes
+  pub stub : IsStub l
   pub hash_fits : l.hash < 2 ^ hash_bits
   pub real_fits : l.real < 2 ^ real_bits
   pub end_without_real : l.ends ≡ true → l.real ≡ 0
@@ -19,13 +21,9 @@ pub record IsLeaf (hash_bits real_bits : ℕ) (l : Leaf) : Type 0 where
 abbrev pub EndsRightly : List Leaf → Leaf → Type 0
 EndsRightly ls l = l.ends ≡ list_any (λ o. extends l.stub o.stub) ls
 
--- the node of which the leaf is a branch: its stub where it ends, else the stub without its last byte
-abbrev pub node : Leaf → List ℕ
-node l = cond l.ends l.stub (take (length l.stub - 1) l.stub)
-
 -- another stub goes on from the leaf's node
 abbrev pub joins : Leaf → Leaf → Bool
-joins l o = is_prefix (node l) o.stub && not (same o.stub l.stub)
+joins l o = is_prefix (parent l) o.stub && not (bytes_eq o.stub l.stub)
 
 -- the leaf is a branch of a node of two branches or more
 abbrev pub IsCrowded : List Leaf → Leaf → Type 0

@@ -2,8 +2,8 @@
 ghost use Rattle.std.specs.Prelude.{◌≡◌, ◌==◌, [], ◌∷◌, ◌++◌, true, false, map, length, codes, Some, None};
 ghost use Rattle.filter_model.specs.Answers.{begins, first, point, ranged, tally, true_count};
 ghost use Rattle.filter_model.specs.Image.{image};
-ghost use Rattle.filter_model.specs.Leaves.{leaves_of, hash_bits_of};
-ghost use Rattle.filter_model.specs.Examples.{a_ab, a_ab_dense, a_ab_root_dense, a_ab_sparse, a_and_a_ff, aa1_ab1, base_leaves, far_to_toy, far_to_toy_sparse, real_leaves};
+ghost use Rattle.filter_model.specs.Leaves.{base_leaves, leaves_of, hash_bits_of};
+ghost use Rattle.filter_model.specs.Examples.{a_ab, a_ab_dense, a_ab_root_dense, a_ab_sparse, a_and_a_ff, aa1_ab1, far_to_toy, far_to_toy_sparse, real_leaves};
 ghost use Rattle.filter_model.specs.Trie.{cutoff_of, level_labels, level_nodes, nodes};
 
 /// The stubs of far, fast, s, top and toy, of which none ends.

@@ -6,9 +6,9 @@ use Rattle.filter_image_model.proofs.GroupWords.{heads}
 use Rattle.filter_image_model.proofs.Link.{branches-rests, node-rests, reached-rests}
 use Rattle.filter_image_model.proofs.Paths.{IsFine, fine_paths}
 use Rattle.filter_model.proofs.Fronts.{same-itself, same-true}
-use Rattle.filter_model.specs.Leaves.{Leaf}
+use Rattle.filter_model.specs.Leaves.{Filter, Leaf}
 use Rattle.filter_model.specs.Nodes.{Branch, Node, all, at, children_before, first_place, leaves_before, trie_of}
-use Rattle.filter_model.specs.Strings.{same}
+use Rattle.filter_model.specs.Strings.{bytes_eq}
 use Rattle.filter_model.specs.Trie.{END, branches, height, is_node, is_reached, nodes, path, places, slots}
 use Rattle.filter_trie.proofs.Down.{node_passes, slot_within}
 use Rattle.filter_trie.proofs.Halves.{begins_next, dense_end, none_given, some_given}
@@ -28,7 +28,6 @@ use Rattle.filter_image_model.proofs.Sizes.{some_height}
 use Rattle.louds_dense.proofs.Ranks.{node_within}
 use Rattle.trie_levels.proofs.Totals.{valid_lists_have_tries}
 use Rattle.std.specs.Option.{option_map}
-use Rattle.filter_image_model.specs.Reading.{FilterImage}
 use Rattle.filter_model.specs.Image.{has_letter}
 use Rattle.filter_trie.proofs.Parts.{dense_nodes, has_trie, joined, length-nodes}
 use Rattle.filter_trie.proofs.Numbers.{dense_before, dense_next_is, first_begins, same_node, sparse_node}
@@ -114,8 +113,8 @@ module _ (ls : List Leaf) (t : HasTrie ls) (some : 0 < height ls) (fine : IsFine
   pub leftmost_is : (q : List ℕ) (s : ℕ) → IsOnWay ls q (lead.Leaf s) → Some s ≡ leftmost_slot ls q
   unfolding leftmost_slot
   leftmost_is q s a =
-      sym (position_some (same (least_path ls q)) (slots ls) s [] a.within (ap (same (least_path ls q)) a.is ∙ same-itself (least_path ls q))
-      (λ k l. false_from_ne_true (same (least_path ls q) (get_or (slots ls) k [])) (λ e.
+      sym (position_some (bytes_eq (least_path ls q)) (slots ls) s [] a.within (ap (bytes_eq (least_path ls q)) a.is ∙ same-itself (least_path ls q))
+      (λ k l. false_from_ne_true (bytes_eq (least_path ls q) (get_or (slots ls) k [])) (λ e.
       (leaves_have_slots ls t).once k s [] l a.within (sym (same-true (least_path ls q) (get_or (slots ls) k []) e) ∙ sym a.is))))
 
 -- ---- the same of a list for which a filter may stand
@@ -167,7 +166,7 @@ first_next h v w off = ap (option_map (λ i. begin_of h v + i)) (filled_next (no
     plus : (k : ℕ) → k + 0 ≡ k
     plus k = omega arith
 
-module _ {i : FilterImage} {cutoff levels : ℕ} {dense' : List Node} {sparse : Half} {array : SuffixArray} (s : AreParts i cutoff levels dense' sparse array) where
+module _ {i : Filter} {cutoff levels : ℕ} {dense' : List Node} {sparse : Half} {array : SuffixArray} (s : AreParts i cutoff levels dense' sparse array) where
   form : (v : ℕ) → v < length (nodes i.leaves) → IsTrieNode (node_at (trie i) v)
   form v l = trie_nodes_have_form i.leaves (has_trie s) (v - 0) [] (omega (arith, l, length-trie_of i.leaves))
 

@@ -6,22 +6,23 @@ use Rattle.std.proofs.lemmas.List.{append-nil, append_assoc, drop-append-le, get
 use Rattle.std.proofs.lemmas.List.Elements.{All-drop}
 use Rattle.std.proofs.lemmas.List.Sums.{sum_by-append}
 use Rattle.filter_model.specs.Keys.{IsKeyList}
-use Rattle.filter_model.specs.Leaves.{Leaf}
+use Rattle.filter_model.specs.Leaves.{Leaf, base_leaves}
 use Rattle.filter_model.specs.Nodes.{Branch, Node, node_of, trie_of}
 use Rattle.filter_model.specs.Trie.{END, height, level, nodes, nodes_to, path}
 use Rattle.filter_model.proofs.Validity.{leaves_are_valid}
-use Rattle.filter_trie.specs.Building.{bare_leaves, nodes_behind}
+use Rattle.filter_trie.specs.Building.{nodes_behind}
 use Rattle.trie_laws.specs.Nodes.{IsTrieNode}
 use Rattle.trie_laws.proofs.Forms.{order-byte, trie_nodes_have_form}
-use Rattle.trie_levels.specs.Tries.{HasTrie, IsStub}
+use Rattle.filter_model.specs.Valid.{IsStub}
+use Rattle.trie_levels.specs.Tries.{HasTrie}
 use Rattle.trie_levels.proofs.Totals.{valid_lists_have_tries}
 use Rattle.trie_model.specs.Given.{AreRising, node_given}
 use Rattle.trie_model.specs.Letters.{order_of}
 use Rattle.trie_model.specs.declared.parts.Before.{Before}
 use Rattle.trie_model.specs.declared.parts.Branch.{Branch as GivenBranch}
 
-pub keys_have_trie : (keys : List (List ℕ)) → IsKeyList keys → HasTrie (bare_leaves keys)
-keys_have_trie keys h = valid_lists_have_tries 0 0 (bare_leaves keys) (leaves_are_valid 0 0 keys (omega arith) h)
+pub keys_have_trie : (keys : List (List ℕ)) → IsKeyList keys → HasTrie (base_leaves keys)
+keys_have_trie keys h = valid_lists_have_tries 0 0 (base_leaves keys) (leaves_are_valid 0 0 keys (omega arith) h)
 
 -- ---- one level more
 
@@ -29,10 +30,10 @@ nodes_to-suc : (ls : List Leaf) (n : ℕ) → nodes_to ls (suc n) ≡ nodes_to l
 unfolding nodes_to
 nodes_to-suc ls n = refl
 
-pub nodes_behind-more : (keys : List (List ℕ)) (n : ℕ) (before : Before) → before.nodes ≤ length (nodes_to (bare_leaves keys) n)
-    → nodes_behind keys (n + 1) before ≡ nodes_behind keys n before ++ map (node_of (bare_leaves keys)) (level (bare_leaves keys) n)
+pub nodes_behind-more : (keys : List (List ℕ)) (n : ℕ) (before : Before) → before.nodes ≤ length (nodes_to (base_leaves keys) n)
+    → nodes_behind keys (n + 1) before ≡ nodes_behind keys n before ++ map (node_of (base_leaves keys)) (level (base_leaves keys) n)
 nodes_behind-more keys n before h =
-    let ls = bare_leaves keys in
+    let ls = base_leaves keys in
     let f = node_of ls in
     ap (λ (qs : List (List ℕ)). drop before.nodes (map f qs)) (ap (nodes_to ls) (add-one n) ∙ nodes_to-suc ls n)
     ∙ ap (drop before.nodes) (map-append f (nodes_to ls n) (level ls n))
@@ -73,9 +74,9 @@ forms_to ls m t h =
     All-first IsTrieNode (map (node_of ls) (nodes_to ls m)) (map (node_of ls) b.rest)
     (subst (All IsTrieNode) (ap (map (node_of ls)) b.is ∙ map-append (node_of ls) (nodes_to ls m) b.rest) (trie_nodes_have_form ls t))
 
-pub forms_behind : (keys : List (List ℕ)) (m : ℕ) (before : Before) → IsKeyList keys → m ≤ height (bare_leaves keys) → All IsTrieNode (nodes_behind keys m before)
+pub forms_behind : (keys : List (List ℕ)) (m : ℕ) (before : Before) → IsKeyList keys → m ≤ height (base_leaves keys) → All IsTrieNode (nodes_behind keys m before)
 forms_behind keys m before h tall =
-    All-drop IsTrieNode before.nodes (map (node_of (bare_leaves keys)) (nodes_to (bare_leaves keys) m)) (forms_to (bare_leaves keys) m (keys_have_trie keys h) tall)
+    All-drop IsTrieNode before.nodes (map (node_of (base_leaves keys)) (nodes_to (base_leaves keys) m)) (forms_to (base_leaves keys) m (keys_have_trie keys h) tall)
 
 -- END is the first branch of its node
 pub end_first : (a more : Node) (c : Bool) → IsTrieNode ((a ++ (END, c) ∷ []) ++ more) → a ≡ []
@@ -153,13 +154,13 @@ height_short (l ∷ ls) h =
     let here = path_short l.stub l.ends (h 0 l (omega arith)).short in
     omega arith
 
-pub keys_short : (keys : List (List ℕ)) → IsKeyList keys → height (bare_leaves keys) ≤ 1025
-keys_short keys h = height_short (bare_leaves keys) (keys_have_trie keys h).stubs
+pub keys_short : (keys : List (List ℕ)) → IsKeyList keys → height (base_leaves keys) ≤ 1025
+keys_short keys h = height_short (base_leaves keys) (keys_have_trie keys h).stubs
 
 -- the nodes of fewer levels take no more room
-pub less_room : (keys : List (List ℕ)) (n m : ℕ) (before : Before) (size : Node → ℕ) → n ≤ m → before.nodes ≤ length (nodes_to (bare_leaves keys) n) → sum_by size (nodes_behind keys n before) ≤ sum_by size (nodes_behind keys m before)
+pub less_room : (keys : List (List ℕ)) (n m : ℕ) (before : Before) (size : Node → ℕ) → n ≤ m → before.nodes ≤ length (nodes_to (base_leaves keys) n) → sum_by size (nodes_behind keys n before) ≤ sum_by size (nodes_behind keys m before)
 less_room keys n m before size h within =
-    let ls = bare_leaves keys in
+    let ls = base_leaves keys in
     let f = node_of ls in
     let b = levels_within ls n m h in
     let whole : nodes_behind keys m before ≡ nodes_behind keys n before ++ map f b.rest =

@@ -8,14 +8,14 @@ use Rattle.std.proofs.lemmas.List.Sums.{sum_by-append}
 use Rattle.std.proofs.lemmas.List.Quantifiers.{position-Some}
 use Rattle.filter_image_model.proofs.Lists.{all_of}
 use Rattle.filter_image_model.specs.Nodes.{IsDense}
-use Rattle.filter_image_model.specs.Reading.{FilterImage}
+use Rattle.filter_model.specs.Leaves.{Filter}
 use Rattle.filter_model.specs.Image.{has_letter}
 use Rattle.filter_model.specs.Nodes.{Branch, Node, all, at, children_before, first_place, leaves_before}
 use Rattle.filter_model.specs.Trie.{END, nodes, places}
 use Rattle.filter_trie.proofs.Halves.{begins_next, stands}
 use Rattle.filter_trie.proofs.Parts.{dense_nodes, joined, length-nodes}
 use Rattle.filter_trie.specs.Parts.{AreParts, lower, upper}
-use Rattle.filter_trie.specs.Places.{BeginsAt, IsTaken, number_of, trie}
+use Rattle.filter_trie.specs.Places.{BeginsAt, IsTaken, branch_number, trie}
 use Rattle.filter_trie.specs.declared.place.Place.{Place}
 use Rattle.filter_trie.specs.declared.place.Place.TheVariants as place
 use Rattle.louds_dense.proofs.Branches.{first_end, last-some, places_are_of_branches}
@@ -114,7 +114,7 @@ module _ (ds ss : List Node) (v : ℕ) where
 
 -- ---- the trie
 
-module _ {i : FilterImage} {cutoff levels : ℕ} {dense' : List Node} {sparse : Half} {array : SuffixArray} (s : AreParts i cutoff levels dense' sparse array) where
+module _ {i : Filter} {cutoff levels : ℕ} {dense' : List Node} {sparse : Half} {array : SuffixArray} (s : AreParts i cutoff levels dense' sparse array) where
   abbrev ds : List Node
   ds = upper i.cutoff i.leaves
 
@@ -307,6 +307,6 @@ module _ {i : FilterImage} {cutoff levels : ℕ} {dense' : List Node} {sparse : 
       sym (length-append (all ds) (all ss)) ∙ ap (length {A = Branch}) (sym (flat_map-append (λ (n : Node). n) ds ss))
       ∙ ap (λ (ns : List Node). length (all ns)) (joined i) ∙ length-all i.leaves
 
-  pub number_within : (p : Place) → IsTaken i p → number_of i p < length (places i.leaves)
+  pub number_within : (p : Place) → IsTaken i p → branch_number i p < length (places i.leaves)
   number_within (place.Dense p) t = omega (arith, law.number p t, total)
   number_within (place.Sparse p) t = omega (arith, t, total)

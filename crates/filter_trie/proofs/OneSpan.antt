@@ -8,7 +8,8 @@ use Rattle.std.proofs.lemmas.List.Sums.{sum_by-append}
 use Rattle.filter_model.specs.Keys.{IsKeyList}
 use Rattle.filter_model.specs.Nodes.{Node}
 use Rattle.filter_model.specs.Trie.{END, height, nodes_to, path}
-use Rattle.filter_trie.specs.Building.{bare_leaves, nodes_behind, spans_longer}
+use Rattle.filter_model.specs.Leaves.{base_leaves}
+use Rattle.filter_trie.specs.Building.{nodes_behind, spans_longer}
 use Rattle.filter_trie.specs.Gathered.{StandsAlone, node_with}
 use Rattle.filter_trie.proofs.Levels.{All-middle, end_first, forms_behind, keys_have_trie, nodes_behind-more}
 use Rattle.filter_trie.proofs.Passing.{EndsClosed, IsLetter, IsSpan, begins_node, closed-rest, ends_closed, letter_at, longer_are, node_with-is}
@@ -20,20 +21,20 @@ use Rattle.trie_levels.proofs.Totals.{in_order}
 use Rattle.trie_model.specs.declared.parts.Before.{Before}
 
 abbrev paths : List (List ℕ) → List (List ℕ)
-paths keys = map path (bare_leaves keys)
+paths keys = map path (base_leaves keys)
 
 -- nodes so far, a node begun and paths to come, which are the nodes of the levels to this one
 pub record IsUnderWay (keys : List (List ℕ)) (n : ℕ) (before : Before) (ns : List Node) (a : Node) (rest : List Span) : Type 0 where
-  pub whole : ns ++ gathered (map path (bare_leaves keys)) n a rest ≡ nodes_behind keys (n + 1) before
+  pub whole : ns ++ gathered (map path (base_leaves keys)) n a rest ≡ nodes_behind keys (n + 1) before
   pub closed : EndsClosed n rest
 
 pub begins : (keys : List (List ℕ)) (n : ℕ) (before : Before) (ns : List Node) (spans : List Span) → IsKeyList keys → spans ≡ spans_longer keys n
-    → before.nodes ≤ length (nodes_to (bare_leaves keys) n) → ns ≡ nodes_behind keys n before → IsUnderWay keys n before ns [] spans
+    → before.nodes ≤ length (nodes_to (base_leaves keys) n) → ns ≡ nodes_behind keys n before → IsUnderWay keys n before ns [] spans
 begins keys n before ns spans h e within is = record {
   whole =
-      (λ i. is i ++ (ap (gathered (paths keys) n []) e ∙ gathered_are_nodes (bare_leaves keys) n (keys_have_trie keys h)) i)
+      (λ i. is i ++ (ap (gathered (paths keys) n []) e ∙ gathered_are_nodes (base_leaves keys) n (keys_have_trie keys h)) i)
       ∙ sym (nodes_behind-more keys n before within);
-  closed = subst (EndsClosed n) (sym e) (ends_closed n (bare_leaves keys) (in_order (bare_leaves keys) (keys_have_trie keys h)));
+  closed = subst (EndsClosed n) (sym e) (ends_closed n (base_leaves keys) (in_order (base_leaves keys) (keys_have_trie keys h)));
 }
 
 pub is_done : (keys : List (List ℕ)) (n : ℕ) (before : Before) (ns : List Node) (a : Node) (spans : List Span) (i : ℕ) → length spans ≤ i → IsUnderWay keys n before ns a (drop i spans) → ns ≡ nodes_behind keys (n + 1) before
@@ -47,10 +48,10 @@ next_is keys n before ns a spans i d within u = subst (IsUnderWay keys n before 
 -- the letter of the path
 pub letter_of_span : (keys : List (List ℕ)) (n : ℕ) (spans : List Span) (i : ℕ) (d : Span) → spans ≡ spans_longer keys n → i < length spans → IsLetter keys n (get_or spans i d)
 letter_of_span keys n spans i d e within =
-    letter_at keys n (get_or spans i d) (subst (All (IsSpan (paths keys) n)) (sym e) (longer_are (bare_leaves keys) n) i d within)
+    letter_at keys n (get_or spans i d) (subst (All (IsSpan (paths keys) n)) (sym e) (longer_are (base_leaves keys) n) i d within)
 
 -- END comes first in its node
-pub stands_alone : (keys : List (List ℕ)) (n : ℕ) (before : Before) (ns : List Node) (a : Node) (s : Span) (rest : List Span) (key : List ℕ) → IsKeyList keys → n < height (bare_leaves keys)
+pub stands_alone : (keys : List (List ℕ)) (n : ℕ) (before : Before) (ns : List Node) (a : Node) (s : Span) (rest : List Span) (key : List ℕ) → IsKeyList keys → n < height (base_leaves keys)
     → IsUnderWay keys n before ns a (s ∷ rest) → IsLetter keys n s → key ≡ get_or keys s.leaf [] → StandsAlone key n s a
 stands_alone keys n before ns a s rest key h below u l e past closes =
     let b = begins_node (paths keys) n a s rest u.closed in
@@ -80,7 +81,7 @@ goes_on keys n before ns a b s rest is still u = record {
 
 -- or is whole
 record IsWhole (keys : List (List ℕ)) (n : ℕ) (before : Before) (ns : List Node) (b : Node) (rest : List Span) : Type 0 where
-  is : ns ++ (b ∷ gathered (map path (bare_leaves keys)) n [] rest) ≡ nodes_behind keys (n + 1) before
+  is : ns ++ (b ∷ gathered (map path (base_leaves keys)) n [] rest) ≡ nodes_behind keys (n + 1) before
 
 whole_node : (keys : List (List ℕ)) (n : ℕ) (before : Before) (ns : List Node) (a b : Node) (s : Span) (rest : List Span) → b ≡ with_span (paths keys) n a s → s.closes ≤ n
     → IsUnderWay keys n before ns a (s ∷ rest) → IsWhole keys n before ns b rest
@@ -91,7 +92,7 @@ whole_node keys n before ns a b s rest is closes u = record {
       ∙ u.whole;
 }
 
-pub whole_has_form : (keys : List (List ℕ)) (n : ℕ) (before : Before) (ns : List Node) (a b : Node) (s : Span) (rest : List Span) → IsKeyList keys → n < height (bare_leaves keys)
+pub whole_has_form : (keys : List (List ℕ)) (n : ℕ) (before : Before) (ns : List Node) (a b : Node) (s : Span) (rest : List Span) → IsKeyList keys → n < height (base_leaves keys)
     → b ≡ with_span (paths keys) n a s → s.closes ≤ n → IsUnderWay keys n before ns a (s ∷ rest) → IsTrieNode b
 whole_has_form keys n before ns a b s rest h below is closes u =
     let w = whole_node keys n before ns a b s rest is closes u in

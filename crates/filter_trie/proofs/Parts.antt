@@ -10,10 +10,10 @@ use Rattle.filter_image_model.proofs.Sizes.{some_height}
 use Rattle.filter_image_model.specs.Header.{Bytes}
 use Rattle.filter_image_model.specs.Levels.{leaves_behind, levels_from, root_leaves}
 use Rattle.filter_image_model.specs.Nodes.{IsDense}
-use Rattle.filter_image_model.specs.Reading.{FilterImage, image_in, leaves_in, slot_suffix}
+use Rattle.filter_image_model.specs.Reading.{image_in, leaves_in, slot_suffix}
 use Rattle.filter_image_model.specs.Sections.{AreReadAgain}
 use Rattle.filter_model.specs.Image.{image, suffixes}
-use Rattle.filter_model.specs.Leaves.{Leaf}
+use Rattle.filter_model.specs.Leaves.{Filter, Leaf}
 use Rattle.filter_model.specs.Nodes.{Node, trie_of}
 use Rattle.filter_model.specs.Trie.{height, nodes}
 use Rattle.filter_trie.specs.Parts.{AreParts, image_by, leaves_by, lower, upper}
@@ -34,14 +34,14 @@ read_so h r c levels count ds ss bits bytes a =
     λ j. root_leaves (leaves_behind (a.hash_is j) (levels_from (a.height_is j) 1 (a.dense_are j ++ a.sparse_are j))
     (map (λ slot. number_at (a.suffixes_are j) (slot * (a.hash_is j + a.real_is j)) (a.hash_is j + a.real_is j)) (range_with_len 0 (a.leaves_are j))))
 
-module _ {i : FilterImage} {cutoff levels : ℕ} {dense : List Node} {sparse : Half} {array : SuffixArray} (p : AreParts i cutoff levels dense sparse array) where
+module _ {i : Filter} {cutoff levels : ℕ} {dense : List Node} {sparse : Half} {array : SuffixArray} (p : AreParts i cutoff levels dense sparse array) where
   read_back : leaves_from i.hash_bits i.real_bits (height i.leaves) (upper i.cutoff i.leaves ++ lower i.cutoff i.leaves) (suffixes i.hash_bits i.real_bits i.leaves) (length i.leaves) ≡ i.leaves
   unfolding image_in
   read_back =
       let bytes = image i.hash_bits i.real_bits i.cutoff i.leaves in
       let s : IsSpelling image i.hash_bits i.real_bits i.cutoff i.leaves bytes = record { may_stand = p.may_stand; bytes_are = refl } in
       sym (read_so i.hash_bits i.real_bits i.cutoff (height i.leaves) (length i.leaves) (upper i.cutoff i.leaves) (lower i.cutoff i.leaves) (suffixes i.hash_bits i.real_bits i.leaves) bytes (read_as i.hash_bits i.real_bits i.cutoff i.leaves bytes s).1)
-      ∙ ap (λ (x : FilterImage). x.leaves) (read_again i bytes s).1
+      ∙ ap (λ (x : Filter). x.leaves) (read_again i bytes s).1
 
   leaves_are : leaves_by levels (dense ++ sparse.nodes) array ≡ i.leaves
   unfolding leaves_by leaves_from
@@ -57,10 +57,10 @@ module _ {i : FilterImage} {cutoff levels : ℕ} {dense : List Node} {sparse : H
 
 -- ---- what the parts say of the trie
 
-pub joined : (i : FilterImage) → upper i.cutoff i.leaves ++ lower i.cutoff i.leaves ≡ trie_of i.leaves
+pub joined : (i : Filter) → upper i.cutoff i.leaves ++ lower i.cutoff i.leaves ≡ trie_of i.leaves
 joined i = take-append-drop _ (trie_of i.leaves)
 
-module _ {i : FilterImage} {cutoff levels : ℕ} {dense : List Node} {sparse : Half} {array : SuffixArray} (p : AreParts i cutoff levels dense sparse array) where
+module _ {i : Filter} {cutoff levels : ℕ} {dense : List Node} {sparse : Half} {array : SuffixArray} (p : AreParts i cutoff levels dense sparse array) where
   pub has_trie : HasTrie i.leaves
   has_trie = valid_lists_have_tries i.hash_bits i.real_bits i.leaves p.may_stand.valid
 
@@ -70,5 +70,5 @@ module _ {i : FilterImage} {cutoff levels : ℕ} {dense : List Node} {sparse : H
   pub dense_nodes : AllByRecursion IsDense (upper i.cutoff i.leaves)
   dense_nodes = (room i.hash_bits i.real_bits i.cutoff i.leaves p.may_stand).dense_nodes
 
-pub length-nodes : (i : FilterImage) → length (upper i.cutoff i.leaves ++ lower i.cutoff i.leaves) ≡ length (nodes i.leaves)
+pub length-nodes : (i : Filter) → length (upper i.cutoff i.leaves ++ lower i.cutoff i.leaves) ≡ length (nodes i.leaves)
 length-nodes i = ap length (joined i) ∙ length-trie_of i.leaves

@@ -5,12 +5,12 @@ use Rattle.std.proofs.lemmas.Bool.{cases_eq, cases_lt, eq-eqb, false≢true, lt-
 use Rattle.std.proofs.lemmas.List.{append_assoc, drop_all, drop_more, get_or-map, length-append, length-map, length-take, map-append}
 use Rattle.filter_model.specs.Image.{in_slots}
 use Rattle.filter_model.specs.Keys.{IsKeyList}
-use Rattle.filter_model.specs.Leaves.{Leaf, ends_of, hash_bits_of, leaf_of, leaves_of, real_of, shared_most, stub_of}
+use Rattle.filter_model.specs.Leaves.{Leaf, base_leaves, ends_of, hash_bits_of, leaf_of, leaves_of, real_of, shared_most, stub_of}
 use Rattle.filter_model.specs.Strings.{bits}
 use Rattle.filter_model.specs.Trie.{END, height, path, slots}
 use Rattle.filter_model.proofs.Stubs.{shared_most-le, stub-ends}
 use Rattle.filter_model.proofs.Validity.{leaves_are_valid}
-use Rattle.filter_trie.specs.Building.{bare_leaves, spans_longer}
+use Rattle.filter_trie.specs.Building.{spans_longer}
 use Rattle.filter_trie.proofs.Passing.{IsSpan}
 use Rattle.filter_trie.proofs.SameTries.{same_height, same_spans}
 use Rattle.suffix_bits.specs.Slots.{IsOfWidths, Suffix, leaf_suffix}
@@ -83,7 +83,7 @@ by_length-more ls n (suc k) =
     more : (k n : ℕ) → suc k + n ≡ suc (k + n)
     more k n = omega arith
 
-pub passed_fit : (h r : ℕ) (keys : List (List ℕ)) (n : ℕ) → IsKeyList keys → r ≤ 32 → n ≤ height (bare_leaves keys) → length (by_length n (leaves_of h r keys)) ≤ length keys
+pub passed_fit : (h r : ℕ) (keys : List (List ℕ)) (n : ℕ) → IsKeyList keys → r ≤ 32 → n ≤ height (base_leaves keys) → length (by_length n (leaves_of h r keys)) ≤ length keys
 passed_fit h r keys n k small tall =
     let ls = leaves_of h r keys in
     let t = valid_lists_have_tries h r ls (leaves_are_valid h r keys small k) in
@@ -126,19 +126,19 @@ real_is r keys k = go (ends_of keys k) refl
         ]
 
 -- the suffix of a span, and that it fits
-pub suffix_is : (h r : ℕ) (keys : List (List ℕ)) (n : ℕ) (s : Span) (key : List ℕ) (hash real : ℕ) → IsSpan (map path (bare_leaves keys)) n s → key ≡ get_or keys s.leaf []
+pub suffix_is : (h r : ℕ) (keys : List (List ℕ)) (n : ℕ) (s : Span) (key : List ℕ) (hash real : ℕ) → IsSpan (map path (base_leaves keys)) n s → key ≡ get_or keys s.leaf []
     → hash ≡ hash_bits_of h key → real ≡ bits r (drop s.len key) → (hash, real) ≡ suffix_at h r keys s
 suffix_is h r keys n s key hash real l e p q =
     let k = get_or keys s.leaf [] in
-    let within : s.leaf < length keys = omega (arith, l.within, length-map (bare_leaves keys) path, length-map keys (leaf_of 0 0 keys)) in
-    let is : get_or (map path (bare_leaves keys)) s.leaf [] ≡ path (leaf_of 0 0 keys k) =
-    get_or-map path (bare_leaves keys) s.leaf (leaf_of 0 0 keys []) [] (omega (arith, within, length-map keys (leaf_of 0 0 keys))) ∙ ap path (get_or-map (leaf_of 0 0 keys) keys s.leaf [] (leaf_of 0 0 keys []) within) in
+    let within : s.leaf < length keys = omega (arith, l.within, length-map (base_leaves keys) path, length-map keys (leaf_of 0 0 keys)) in
+    let is : get_or (map path (base_leaves keys)) s.leaf [] ≡ path (leaf_of 0 0 keys k) =
+    get_or-map path (base_leaves keys) s.leaf (leaf_of 0 0 keys []) [] (omega (arith, within, length-map keys (leaf_of 0 0 keys))) ∙ ap path (get_or-map (leaf_of 0 0 keys) keys s.leaf [] (leaf_of 0 0 keys []) within) in
     let long : s.len ≡ length (path (leaf_of 0 0 keys k)) = sym l.long ∙ ap (length {A = ℕ}) is in
     λ i. ((p ∙ ap (hash_bits_of h) e) i, (q ∙ (λ j. bits r (drop (long j) (e j))) ∙ real_is r keys k) i)
 
-pub suffix_fits : (h r : ℕ) (keys : List (List ℕ)) (n : ℕ) (s : Span) → IsKeyList keys → r ≤ 32 → IsSpan (map path (bare_leaves keys)) n s → IsOfWidths h r (suffix_at h r keys s)
+pub suffix_fits : (h r : ℕ) (keys : List (List ℕ)) (n : ℕ) (s : Span) → IsKeyList keys → r ≤ 32 → IsSpan (map path (base_leaves keys)) n s → IsOfWidths h r (suffix_at h r keys s)
 suffix_fits h r keys n s k small l =
-    let within : s.leaf < length keys = omega (arith, l.within, length-map (bare_leaves keys) path, length-map keys (leaf_of 0 0 keys)) in
+    let within : s.leaf < length keys = omega (arith, l.within, length-map (base_leaves keys) path, length-map keys (leaf_of 0 0 keys)) in
     let d = leaf_of h r keys [] in
     let leaf = (leaves_are_valid h r keys small k).leaves s.leaf d (omega (arith, within, length-map keys (leaf_of h r keys))) in
     let is = get_or-map (leaf_of h r keys) keys s.leaf [] d within in
@@ -161,7 +161,7 @@ span_stays h r keys n spans i d slots total within other e =
     ∙ ap (λ (ss : List Span). slots ++ map (suffix_at h r keys) (ending_on n ss)) (sym (drop_more spans i d within))
     ∙ e
 
-pub has_room : (h r : ℕ) (keys : List (List ℕ)) (n : ℕ) (spans : List Span) (i : ℕ) (d : Span) (slots : List Suffix) (x : Suffix) → IsKeyList keys → r ≤ 32 → n < height (bare_leaves keys)
+pub has_room : (h r : ℕ) (keys : List (List ℕ)) (n : ℕ) (spans : List Span) (i : ℕ) (d : Span) (slots : List Suffix) (x : Suffix) → IsKeyList keys → r ≤ 32 → n < height (base_leaves keys)
     → (slots ++ x ∷ []) ++ map (suffix_at h r keys) (ending_on n (drop (i + 1) spans)) ≡ map leaf_suffix (by_length (n + 1) (leaves_of h r keys)) → length slots < length keys
 has_room h r keys n spans i d slots x k small below e =
     omega (
@@ -175,7 +175,7 @@ has_room h r keys n spans i d slots x k small below e =
 
 -- the spans that are left
 pub longer_still : (keys : List (List ℕ)) (n : ℕ) → filter (λ (s : Span). nat_lt (n + 1) s.len) (spans_longer keys n) ≡ spans_longer keys (n + 1)
-longer_still keys n = go (spans_of (bare_leaves keys))
+longer_still keys n = go (spans_of (base_leaves keys))
   where
     go : (ss : List Span) → filter (λ (s : Span). nat_lt (n + 1) s.len) (longer n ss) ≡ longer (n + 1) ss
     go [] = refl

@@ -9,11 +9,10 @@ use Rattle.byte_fields.specs.Spelling.{IsBytes}
 use Rattle.filter_model.specs.Strings.{shared}
 use Rattle.filter_model.proofs.Counts.{AllPairs-head}
 use Rattle.filter_model.proofs.Pairs.{Contains-first}
-use Rattle.filter_model.specs.Leaves.{Leaf, ends_of, leaf_of, shared_most, stub_of}
+use Rattle.filter_model.specs.Leaves.{Leaf, base_leaves, ends_of, leaf_of, shared_most, stub_of}
 use Rattle.filter_model.specs.Nodes.{Node}
 use Rattle.filter_model.specs.Trie.{END, path}
 use Rattle.filter_model.proofs.Stubs.{stub-ends}
-use Rattle.filter_trie.specs.Building.{bare_leaves}
 use Rattle.filter_trie.specs.Gathered.{letter_behind, node_with}
 use Rattle.trie_levels.specs.Gathering.{gathered, longer, with_span}
 use Rattle.trie_levels.specs.declared.spans.Span.{Span}
@@ -161,13 +160,13 @@ letter_of keys k false n e within =
 
 pub record IsLetter (keys : List (List ℕ)) (n : ℕ) (s : Span) : Type 0 where
   pub within : s.leaf < length keys
-  pub letter : get_or (get_or (map path (bare_leaves keys)) s.leaf []) n 0 ≡ letter_behind (get_or keys s.leaf []) n
+  pub letter : get_or (get_or (map path (base_leaves keys)) s.leaf []) n 0 ≡ letter_behind (get_or keys s.leaf []) n
   pub last : length (get_or keys s.leaf []) ≤ n → s.len ≤ suc n
 
-pub letter_at : (keys : List (List ℕ)) (n : ℕ) (s : Span) → IsSpan (map path (bare_leaves keys)) n s → IsLetter keys n s
+pub letter_at : (keys : List (List ℕ)) (n : ℕ) (s : Span) → IsSpan (map path (base_leaves keys)) n s → IsLetter keys n s
 unfolding path
 letter_at keys n s h =
-    let ls = bare_leaves keys in
+    let ls = base_leaves keys in
     let within : s.leaf < length keys = omega (arith, h.within, length-map ls path, length-map keys (leaf_of 0 0 keys)) in
     let k = get_or keys s.leaf [] in
     let is : get_or (map path ls) s.leaf [] ≡ stub_of keys k ++ cond (ends_of keys k) (END ∷ []) [] =
@@ -176,5 +175,5 @@ letter_at keys n s h =
     let at = letter_of keys k (ends_of keys k) n refl (omega (arith, h.long, h.on, long)) in
     record { within = within; letter = ap (λ (p : List ℕ). get_or p n 0) is ∙ at.0; last = λ past. omega (arith, at.1 past, h.long, long) }
 
-pub node_with-is : (keys : List (List ℕ)) (n : ℕ) (a : Node) (s : Span) → IsLetter keys n s → with_span (map path (bare_leaves keys)) n a s ≡ node_with (get_or keys s.leaf []) n s a
+pub node_with-is : (keys : List (List ℕ)) (n : ℕ) (a : Node) (s : Span) → IsLetter keys n s → with_span (map path (base_leaves keys)) n a s ≡ node_with (get_or keys s.leaf []) n s a
 node_with-is keys n a s h = λ i. cond (nat_le s.closes (suc n)) (a ++ (h.letter i, nat_lt (suc n) s.len) ∷ []) a

@@ -2,7 +2,7 @@
 use Rattle.std.proofs.Common.{map, refl, ◌∙◌, arith}
 use Rattle.std.proofs.lemmas.List.{length-map}
 use Rattle.filter_api.specs.Spellings.{MayStand}
-use Rattle.filter_image_model.specs.Reading.{FilterImage}
+use Rattle.filter_model.specs.Leaves.{Filter}
 use Rattle.filter_model.specs.Image.{in_slots}
 use Rattle.filter_model.specs.Trie.{height}
 use Rattle.filter_trie.proofs.Numbers.{number_within}
@@ -10,16 +10,15 @@ use Rattle.filter_trie.proofs.Suffixes.{leaf_count}
 use Rattle.filter_trie.specs.Laws.{PlacesAreNumbers, PlacesAreWithin}
 use Rattle.filter_trie.specs.Parts.{AreParts, lower, upper}
 use Rattle.filter_trie.specs.declared.place.Place.TheVariants as place
-use Rattle.suffix_bits.proofs.Packing.{section}
 use Rattle.suffix_bits.specs.Slots.{SuffixArray, leaf_suffix}
 use Rattle.trie_laws.specs.Halves.{second_half}
 use Rattle.trie_levels.proofs.Totals.{valid_lists_have_tries}
 
 -- the suffixes of an image's leaves
-abbrev pub array_of : FilterImage → SuffixArray
+abbrev pub array_of : Filter → SuffixArray
 array_of i = record { hash_bits = i.hash_bits; real_bits = i.real_bits; slots = map leaf_suffix (in_slots i.leaves) }
 
-pub parts_of : (i : FilterImage) → MayStand i.hash_bits i.real_bits i.cutoff i.leaves
+pub parts_of : (i : Filter) → MayStand i.hash_bits i.real_bits i.cutoff i.leaves
     → AreParts i i.cutoff (height i.leaves) (upper i.cutoff i.leaves) (second_half (upper i.cutoff i.leaves) (lower i.cutoff i.leaves)) (array_of i)
 parts_of i m = record {
   may_stand = m;
@@ -30,7 +29,7 @@ parts_of i m = record {
   hash_bits_are = refl;
   real_bits_are = refl;
   count_is = length-map (in_slots i.leaves) leaf_suffix ∙ leaf_count i.leaves (valid_lists_have_tries i.hash_bits i.real_bits i.leaves m.valid);
-  suffixes_are = section i.hash_bits i.real_bits i.leaves;
+  suffixes_are = refl;
 }
 
 pub places_are_within : PlacesAreWithin

@@ -7,16 +7,15 @@ use Rattle.std.specs.Simd.Lanes.{mask_l}
 use Rattle.bit_words.proofs.Numbers.{length-bits_of, number_back}
 use Rattle.bit_words.specs.Numbers.{bits_of}
 use Rattle.filter_image_model.proofs.Lists.{all_filter, all_flat, all_of, by_recursion}
-use Rattle.filter_image_model.specs.Reading.{FilterImage}
 use Rattle.filter_model.specs.Image.{in_slots}
-use Rattle.filter_model.specs.Leaves.{Leaf}
+use Rattle.filter_model.specs.Leaves.{Filter, Leaf}
 use Rattle.filter_model.specs.Nodes.{Node}
-use Rattle.filter_model.specs.Strings.{same}
+use Rattle.filter_model.specs.Strings.{bytes_eq}
 use Rattle.filter_model.specs.Trie.{path, slots}
 use Rattle.filter_model.specs.Valid.{IsValid}
 use Rattle.filter_trie.proofs.Parts.{has_trie}
 use Rattle.filter_trie.specs.Parts.{AreParts}
-use Rattle.suffix_bits.proofs.Packing.{section, suffix_in-number, suffix_number-lt}
+use Rattle.suffix_bits.proofs.Packing.{suffix_in-number, suffix_number-lt}
 use Rattle.suffix_bits.specs.Slots.{IsOfWidths, Suffix, SuffixArray, leaf_suffix, packed_suffixes, suffix_in, suffix_number}
 use Rattle.trie_laws.proofs.Slots.{leaves_have_slots}
 use Rattle.trie_levels.specs.Tries.{HasTrie}
@@ -27,7 +26,7 @@ unfolding in_slots
 of_widths h r ls v =
     let P : Leaf → Type 0 = λ l. IsOfWidths h r (leaf_suffix l) in
     let each = by_recursion P ls (λ k d lt. ((v.leaves k d lt).hash_fits, (v.leaves k d lt).real_fits)) in
-    all_flat P (λ (q : List ℕ). filter (λ l. same (path l) q) ls) (slots ls) (λ q. all_filter P (λ l. same (path l) q) ls each)
+    all_flat P (λ (q : List ℕ). filter (λ l. bytes_eq (path l) q) ls) (slots ls) (λ q. all_filter P (λ l. bytes_eq (path l) q) ls each)
 
 front : (w : ℕ) (xs rest : List Bool) → length xs ≡ w → take w (xs ++ rest) ≡ xs
 front w xs rest e = take-append-le w xs rest (omega (arith, e)) ∙ take_all w xs (omega (arith, e))
@@ -62,7 +61,7 @@ same_suffix h r s t v u e =
 pub leaf_count : (ls : List Leaf) → HasTrie ls → length (in_slots ls) ≡ length ls
 leaf_count ls t = let h = leaves_have_slots ls t in sym (length-map (in_slots ls) path) ∙ ap length h.leaf_of_slot ∙ h.as_many
 
-module _ {i : FilterImage} {cutoff levels : ℕ} {dense : List Node} {sparse : Half} {array : SuffixArray} (s : AreParts i cutoff levels dense sparse array) where
+module _ {i : Filter} {cutoff levels : ℕ} {dense : List Node} {sparse : Half} {array : SuffixArray} (s : AreParts i cutoff levels dense sparse array) where
   pub suffix_is : (slot : ℕ) (got : Suffix) → slot < length i.leaves → got ≡ get_or array.slots slot (0, 0) → IsOfWidths array.hash_bits array.real_bits got
       → got ≡ get_or (map leaf_suffix (in_slots i.leaves)) slot (0, 0)
   suffix_is slot got l e fits =
@@ -71,7 +70,7 @@ module _ {i : FilterImage} {cutoff levels : ℕ} {dense : List Node} {sparse : H
       let ys = map leaf_suffix (in_slots i.leaves) in
       let long : length ys ≡ length i.leaves = length-map (in_slots i.leaves) leaf_suffix ∙ leaf_count i.leaves (has_trie s) in
       let packed : packed_suffixes h r array.slots ≡ packed_suffixes h r ys =
-      (λ j. packed_suffixes (sym s.hash_bits_are j) (sym s.real_bits_are j) array.slots) ∙ s.suffixes_are ∙ sym (section h r i.leaves) in
+      (λ j. packed_suffixes (sym s.hash_bits_are j) (sym s.real_bits_are j) array.slots) ∙ s.suffixes_are in
       let any : Leaf = record { stub = []; ends = false; hash = 0; real = 0 } in
       let own : get_or ys slot (0, 0) ≡ leaf_suffix (get_or (in_slots i.leaves) slot any) = get_or-map leaf_suffix (in_slots i.leaves) slot any (0, 0) (omega (arith, l, leaf_count i.leaves (has_trie s))) in
       let of : IsOfWidths h r (get_or ys slot (0, 0)) =

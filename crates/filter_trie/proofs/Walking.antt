@@ -2,7 +2,7 @@
 use Rattle.std.proofs.Common.{◌≡◌, ℕ, ◌+◌, ◌-◌, ◌*◌, ◌/◌, ◌%◌, ◌<◌, ◌≤◌, Bool, true, false, cond, Option, Some, None, MatchOption, List, [], ◌∷◌, ◌++◌, length, get_or, refl, ap, subst, sym, ◌∙◌, arith, length-append}
 use Rattle.std.specs.List.{All}
 use Rattle.std.specs.Option.{option_map}
-use Rattle.filter_image_model.specs.Reading.{FilterImage}
+use Rattle.filter_model.specs.Leaves.{Filter}
 use Rattle.filter_model.specs.Image.{has_child, has_letter}
 use Rattle.filter_model.specs.Nodes.{Branch, IsBranch, Node, all, at, children_before, first_place, leaves_before, trie_of}
 use Rattle.filter_model.specs.Trie.{END, is_reached, nodes}
@@ -31,7 +31,7 @@ end_leaf ns v b forms l h =
     let here : get_or (get_or ns v []) j (0, false) ≡ at ns b = sym (stands ns v l j m) ∙ ap (at ns) e in
     ap (λ (x : Branch). x.1) (sym here) ∙ (forms v [] l).end_is_a_leaf j (0, false) m (ap (λ (x : Branch). x.0) here ∙ h.2)
 
-module _ {i : FilterImage} {cutoff levels : ℕ} {dense : List Node} {sparse : Half} {array : SuffixArray} (p : AreParts i cutoff levels dense sparse array) (v : ℕ) where
+module _ {i : Filter} {cutoff levels : ℕ} {dense : List Node} {sparse : Half} {array : SuffixArray} (p : AreParts i cutoff levels dense sparse array) (v : ℕ) where
   abbrev ds : List Node
   ds = upper i.cutoff i.leaves
 

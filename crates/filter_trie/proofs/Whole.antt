@@ -9,20 +9,18 @@ use Rattle.std.proofs.lemmas.List.FromFn.{get_or-map-range_with_len}
 use Rattle.std.proofs.lemmas.List.Sums.{sum_by-append, sum_by-cons, sum_by_more}
 use Rattle.std.proofs.lemmas.List.Elements.{All-map}
 use Rattle.filter_model.specs.Keys.{IsKeyList}
-use Rattle.filter_model.specs.Leaves.{Leaf, leaf_of, leaves_of}
+use Rattle.filter_model.specs.Leaves.{Filter, Leaf, base_leaves, leaf_of, leaves_of}
 use Rattle.filter_model.specs.Nodes.{Branch, Node, last_letter, node_of, trie_of}
 use Rattle.filter_model.specs.Trie.{branches, height, is_node, level, level_labels, level_nodes, nodes, nodes_to, path}
-use Rattle.filter_trie.specs.Building.{AreFewCounts, bare_leaves, nodes_behind}
+use Rattle.filter_trie.specs.Building.{AreFewCounts, nodes_behind}
 use Rattle.filter_trie.specs.Parts.{AreParts, lower, upper}
 use Rattle.filter_trie.specs.Pending.{ArePending, IsNew, suffixes_passed}
 use Rattle.filter_trie.specs.declared.build_pending.Pending.{Pending}
-use Rattle.filter_image_model.specs.Reading.{FilterImage}
 use Rattle.filter_model.specs.Image.{in_slots, suffixes}
 use Rattle.filter_model.proofs.Validity.{leaves_are_valid}
 use Rattle.filter_trie.specs.Building.{half_to}
 use Rattle.louds_dense.specs.Places.{counts_of}
 use Rattle.suffix_bits.specs.Slots.{SuffixArray, array_bits, leaf_suffix, packed_suffixes}
-use Rattle.suffix_bits.proofs.Packing.{section}
 use Rattle.trie_laws.proofs.Slots.{leaves_have_slots}
 use Rattle.trie_levels.proofs.ByLength.{slots_by_length}
 use Rattle.trie_levels.proofs.Totals.{valid_lists_have_tries}
@@ -55,13 +53,13 @@ few_labels_there ls h = counts_small (λ n. length (flat_map (branches ls) (leve
 
 pub few_nodes : (h r : ℕ) (keys : List (List ℕ)) (counts : List ℕ) → IsKeyList keys → counts ≡ level_nodes (leaves_of h r keys) → AreFewCounts counts
 few_nodes h r keys counts k e =
-    let ls = bare_leaves keys in
+    let ls = base_leaves keys in
     let is = e ∙ same_level_nodes h r keys in
     record { few = omega (arith, ap (length {A = ℕ}) is, level_nodes-long ls, keys_short keys k); small = subst (All (λ n. n < 2 ^ 32)) (sym is) (few_nodes_there ls (keys_have_trie keys k)) }
 
 pub few_labels : (h r : ℕ) (keys : List (List ℕ)) (counts : List ℕ) → IsKeyList keys → counts ≡ level_labels (leaves_of h r keys) → AreFewCounts counts
 few_labels h r keys counts k e =
-    let ls = bare_leaves keys in
+    let ls = base_leaves keys in
     let is = e ∙ same_level_labels h r keys in
     record { few = omega (arith, ap (length {A = ℕ}) is, level_labels-long ls, keys_short keys k); small = subst (All (λ n. n < 2 ^ 32)) (sym is) (few_labels_there ls (keys_have_trie keys k)) }
 
@@ -122,10 +120,10 @@ labels_sum ls (suc n) h =
     )
 
 -- the nodes of the dense levels
-pub dense_room : (h r : ℕ) (keys : List (List ℕ)) (counts : List ℕ) (c : ℕ) → counts ≡ level_nodes (leaves_of h r keys) → c ≤ height (bare_leaves keys)
-    → sum_by (λ (n : Node). 1) (map (node_of (bare_leaves keys)) (nodes_to (bare_leaves keys) c)) ≤ sum (take c counts)
+pub dense_room : (h r : ℕ) (keys : List (List ℕ)) (counts : List ℕ) (c : ℕ) → counts ≡ level_nodes (leaves_of h r keys) → c ≤ height (base_leaves keys)
+    → sum_by (λ (n : Node). 1) (map (node_of (base_leaves keys)) (nodes_to (base_leaves keys) c)) ≤ sum (take c counts)
 dense_room h r keys counts c e tall =
-    let ls = bare_leaves keys in
+    let ls = base_leaves keys in
     omega (
       arith,
       one_each (map (node_of ls) (nodes_to ls c)),
@@ -135,10 +133,10 @@ dense_room h r keys counts c e tall =
     )
 
 -- and the labels of the sparse ones
-pub sparse_room : (h r : ℕ) (keys : List (List ℕ)) (counts : List ℕ) (c top : ℕ) (before : Before) → counts ≡ level_labels (leaves_of h r keys) → c ≤ height (bare_leaves keys) → top ≡ height (bare_leaves keys)
-    → before.nodes ≡ length (nodes_to (bare_leaves keys) c) → sum_by (λ (n : Node). length n) (nodes_behind keys top before) ≤ sum (drop c counts)
+pub sparse_room : (h r : ℕ) (keys : List (List ℕ)) (counts : List ℕ) (c top : ℕ) (before : Before) → counts ≡ level_labels (leaves_of h r keys) → c ≤ height (base_leaves keys) → top ≡ height (base_leaves keys)
+    → before.nodes ≡ length (nodes_to (base_leaves keys) c) → sum_by (λ (n : Node). length n) (nodes_behind keys top before) ≤ sum (drop c counts)
 sparse_room h r keys counts c top before e tall at start =
-    let ls = bare_leaves keys in
+    let ls = base_leaves keys in
     let f = node_of ls in
     let b = levels_within ls c (height ls) tall in
     let long : before.nodes ≡ length (map f (nodes_to ls c)) = omega (arith, start, length-map (nodes_to ls c) f) in
@@ -174,7 +172,7 @@ spans_long k (l ∷ ls) = omega (arith, spans_long (suc k) ls)
 
 pub all_pending : (h r : ℕ) (keys : List (List ℕ)) (spans : List Span) (p : Pending) → IsKeyList keys → h ≤ 32 → r ≤ 32 → spans ≡ spans_of (leaves_of h r keys) → IsNew h r spans p → ArePending keys 0 p
 all_pending h r keys spans p k hw rw e new =
-    let ls = bare_leaves keys in
+    let ls = base_leaves keys in
     let is = e ∙ same_spans h r keys in
     record {
       spans_are = new.spans_are ∙ is ∙ sym (all_longer 0 ls (in_order ls (keys_have_trie keys k)));
@@ -192,14 +190,14 @@ all_pending h r keys spans p k hw rw e new =
 
 record AreCut (h r : ℕ) (keys : List (List ℕ)) (c : ℕ) : Type 0 where
   rest : List (List ℕ)
-  above : map (node_of (bare_leaves keys)) (nodes_to (bare_leaves keys) c) ≡ upper c (leaves_of h r keys)
-  below : map (node_of (bare_leaves keys)) rest ≡ lower c (leaves_of h r keys)
-  both : nodes_to (bare_leaves keys) (height (bare_leaves keys)) ≡ nodes_to (bare_leaves keys) c ++ rest
+  above : map (node_of (base_leaves keys)) (nodes_to (base_leaves keys) c) ≡ upper c (leaves_of h r keys)
+  below : map (node_of (base_leaves keys)) rest ≡ lower c (leaves_of h r keys)
+  both : nodes_to (base_leaves keys) (height (base_leaves keys)) ≡ nodes_to (base_leaves keys) c ++ rest
 
-are_cut : (h r : ℕ) (keys : List (List ℕ)) (c : ℕ) → c ≤ height (bare_leaves keys) → AreCut h r keys c
+are_cut : (h r : ℕ) (keys : List (List ℕ)) (c : ℕ) → c ≤ height (base_leaves keys) → AreCut h r keys c
 unfolding trie_of nodes
 are_cut h r keys c tall =
-    let ls = bare_leaves keys in
+    let ls = base_leaves keys in
     let f = node_of ls in
     let b = levels_within ls c (height ls) tall in
     let whole : trie_of (leaves_of h r keys) ≡ map f (nodes_to ls c) ++ map f b.rest = same_trie h r keys ∙ ap (map f) b.is ∙ map-append f (nodes_to ls c) b.rest in
@@ -216,16 +214,15 @@ packed_are h r keys k small top at =
     let ls = leaves_of h r keys in
     ap (λ (n : ℕ). packed_suffixes h r (map leaf_suffix (by_length n ls))) at
     ∙ ap (λ (xs : List Leaf). packed_suffixes h r (map leaf_suffix xs)) (sym (slots_by_length ls (valid_lists_have_tries h r ls (leaves_are_valid h r keys small k))))
-    ∙ section h r ls
 
-abbrev pub image_of : (h r c : ℕ) → List (List ℕ) → FilterImage
+abbrev pub image_of : (h r c : ℕ) → List (List ℕ) → Filter
 image_of h r c keys = record { hash_bits = h; real_bits = r; cutoff = c; leaves = leaves_of h r keys }
 
-pub are_parts : (h r : ℕ) (keys : List (List ℕ)) (c top : ℕ) (dense : List Node) (sparse : Half) (array : SuffixArray) → IsKeyList keys → h ≤ 32 → r ≤ 32 → c ≤ height (bare_leaves keys) → top ≡ height (bare_leaves keys)
-    → dense ≡ map (node_of (bare_leaves keys)) (nodes_to (bare_leaves keys) c) → sparse ≡ half_to keys top (counts_of dense) → array ≡ (suffixes_passed keys h r top).array
+pub are_parts : (h r : ℕ) (keys : List (List ℕ)) (c top : ℕ) (dense : List Node) (sparse : Half) (array : SuffixArray) → IsKeyList keys → h ≤ 32 → r ≤ 32 → c ≤ height (base_leaves keys) → top ≡ height (base_leaves keys)
+    → dense ≡ map (node_of (base_leaves keys)) (nodes_to (base_leaves keys) c) → sparse ≡ half_to keys top (counts_of dense) → array ≡ (suffixes_passed keys h r top).array
     → AreParts (image_of h r c keys) c top dense sparse array
 are_parts h r keys c top dense sparse array k hw rw tall at d s a =
-    let ls = bare_leaves keys in
+    let ls = base_leaves keys in
     let f = node_of ls in
     let cut = are_cut h r keys c tall in
     let full = leaves_of h r keys in

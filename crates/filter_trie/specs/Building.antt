@@ -1,7 +1,7 @@
 -- What a trie is built from and how far it is.
 use Rattle.std.specs.Prelude.{◌≤◌, ◌<◌, ◌^◌, ℕ, length, List, [], ◌∷◌, ◌++◌, map, drop}
 use Rattle.std.specs.List.{All}
-use Rattle.filter_model.specs.Leaves.{Leaf, leaves_of}
+use Rattle.filter_model.specs.Leaves.{base_leaves}
 use Rattle.filter_model.specs.Nodes.{Node, node_of}
 use Rattle.filter_model.specs.Trie.{nodes_to}
 use Rattle.trie_levels.specs.declared.spans.Span.{Span}
@@ -10,17 +10,13 @@ use Rattle.trie_levels.specs.Spans.{spans_of}
 use Rattle.trie_model.specs.Halves.{Half}
 use Rattle.trie_model.specs.declared.parts.Before.{Before}
 
--- leaves of keys, for their paths alone
-abbrev pub bare_leaves : List (List ℕ) → List Leaf
-bare_leaves keys = leaves_of 0 0 keys
-
 -- the spans of the paths with more than n letters
 abbrev pub spans_longer : List (List ℕ) → ℕ → List Span
-spans_longer keys n = longer n (spans_of (bare_leaves keys))
+spans_longer keys n = longer n (spans_of (base_leaves keys))
 
 -- the nodes of the first n levels, behind those of another half
 abbrev pub nodes_behind : List (List ℕ) → ℕ → Before → List Node
-nodes_behind keys n before = drop before.nodes (map (node_of (bare_leaves keys)) (nodes_to (bare_leaves keys) n))
+nodes_behind keys n before = drop before.nodes (map (node_of (base_leaves keys)) (nodes_to (base_leaves keys) n))
 
 -- a half of these nodes
 abbrev pub half_to : List (List ℕ) → ℕ → Before → Half

@@ -1,12 +1,11 @@
 -- What a place says of the trie, and what is found there, by the strings of its nodes and leaves.
 use Rattle.std.specs.Prelude.{◌≡◌, ℕ, ◌+◌, ◌<◌, ◌≤◌, false, List, [], ◌∷◌, ◌++◌, length, map, get_or, Some, None}
 use Rattle.filter_api.specs.Spellings.{MayStand}
-use Rattle.filter_image_model.specs.Reading.{FilterImage}
-use Rattle.filter_model.specs.Leaves.{Leaf}
+use Rattle.filter_model.specs.Leaves.{Filter, Leaf}
 use Rattle.filter_model.specs.Nodes.{first_place, trie_of}
 use Rattle.filter_model.specs.Trie.{END, is_reached, nodes, path, places, slots}
 use Rattle.filter_model.specs.Valid.{IsValid}
-use Rattle.filter_trie.specs.Places.{IsTaken, IsWithin, number_of}
+use Rattle.filter_trie.specs.Places.{IsTaken, IsWithin, branch_number}
 use Rattle.filter_trie.specs.Walks.{IsNodeAt, IsSlotAt}
 use Rattle.filter_trie.specs.declared.place.Place.{Place}
 use Rattle.trie_levels.specs.Tries.{HasTrie}
@@ -15,11 +14,11 @@ use Rattle.trie_model.specs.Halves.{branch_place, child_at, end_slot, next_place
 
 -- where a branch stands is a place
 abbrev pub PlacesAreWithin : Type 0
-PlacesAreWithin = (i : FilterImage) (p : Place) → IsTaken i p → IsWithin i p
+PlacesAreWithin = (i : Filter) (p : Place) → IsTaken i p → IsWithin i p
 
 -- and its number is that of a branch of the trie
 abbrev pub PlacesAreNumbers : Type 0
-PlacesAreNumbers = (i : FilterImage) (p : Place) → MayStand i.hash_bits i.real_bits i.cutoff i.leaves → IsTaken i p → number_of i p < length (places i.leaves)
+PlacesAreNumbers = (i : Filter) (p : Place) → MayStand i.hash_bits i.real_bits i.cutoff i.leaves → IsTaken i p → branch_number i p < length (places i.leaves)
 
 -- ---- what is found
 

@@ -4,9 +4,8 @@ use Rattle.std.specs.List.{range_with_len}
 use Rattle.bit_words.specs.Numbers.{number_at}
 use Rattle.filter_api.specs.Spellings.{MayStand}
 use Rattle.filter_image_model.specs.Levels.{leaves_behind, levels_from, root_leaves}
-use Rattle.filter_image_model.specs.Reading.{FilterImage}
 use Rattle.filter_model.specs.Image.{suffixes}
-use Rattle.filter_model.specs.Leaves.{Leaf}
+use Rattle.filter_model.specs.Leaves.{Filter, Leaf}
 use Rattle.filter_model.specs.Nodes.{Node, trie_of}
 use Rattle.filter_model.specs.Trie.{height, nodes_to}
 use Rattle.suffix_bits.specs.Slots.{SuffixArray, array_bits}
@@ -28,12 +27,12 @@ leaves_by levels ns array =
     (map (λ slot. number_at (array_bits array) (slot * width) width) (range_with_len 0 (length array.slots))))
 
 -- what the parts stand for, whatever they are
-unfoldable pub image_by : ℕ → ℕ → List Node → List Node → SuffixArray → FilterImage
+unfoldable pub image_by : ℕ → ℕ → List Node → List Node → SuffixArray → Filter
 image_by cutoff levels dense sparse array =
     record { hash_bits = array.hash_bits; real_bits = array.real_bits; cutoff = cutoff; leaves = leaves_by levels (dense ++ sparse) array }
 
 -- the parts are those of this
-pub record AreParts (i : FilterImage) (cutoff levels : ℕ) (dense : List Node) (sparse : Half) (array : SuffixArray) : Type 0 where
+pub record AreParts (i : Filter) (cutoff levels : ℕ) (dense : List Node) (sparse : Half) (array : SuffixArray) : Type 0 where
   pub may_stand : MayStand i.hash_bits i.real_bits i.cutoff i.leaves
   pub cutoff_is : cutoff ≡ i.cutoff
   pub levels_are : levels ≡ height i.leaves

@@ -1,6 +1,6 @@
 -- Places of a trie over both halves. The trie is one list of nodes, and a place the number of a branch among all of them.
 use Rattle.std.specs.Prelude.{◌≡◌, ℕ, ◌+◌, ◌<◌, ◌≤◌, ◌⊎◌, true, List, [], get_or, length}
-use Rattle.filter_image_model.specs.Reading.{FilterImage}
+use Rattle.filter_model.specs.Leaves.{Filter}
 use Rattle.filter_model.specs.Image.{has_letter}
 use Rattle.filter_model.specs.Nodes.{all, trie_of}
 use Rattle.filter_model.specs.Trie.{END, places}
@@ -11,21 +11,21 @@ use Rattle.louds_dense.specs.Places as dense
 use Rattle.trie_model.specs.Halves.{Half, begin_of, first_below, node_at, whole}
 
 -- the trie
-abbrev pub trie : FilterImage → Half
+abbrev pub trie : Filter → Half
 trie i = whole (trie_of i.leaves)
 
 -- how many branches stand before a place: the number of the branch there
-abbrev pub number_of : FilterImage → Place → ℕ
-number_of i (place.Dense p) = dense.branches_before (upper i.cutoff i.leaves) p
-number_of i (place.Sparse p) = length (all (upper i.cutoff i.leaves)) + p
+abbrev pub branch_number : Filter → Place → ℕ
+branch_number i (place.Dense p) = dense.branches_before (upper i.cutoff i.leaves) p
+branch_number i (place.Sparse p) = length (all (upper i.cutoff i.leaves)) + p
 
 -- a place, or the one behind the last of its half
-abbrev pub IsWithin : FilterImage → Place → Type 0
+abbrev pub IsWithin : Filter → Place → Type 0
 IsWithin i (place.Dense p) = p ≤ dense.places_in (upper i.cutoff i.leaves)
 IsWithin i (place.Sparse p) = p ≤ length (all (lower i.cutoff i.leaves))
 
 -- a branch stands there
-abbrev pub IsTaken : FilterImage → Place → Type 0
+abbrev pub IsTaken : Filter → Place → Type 0
 IsTaken i (place.Dense p) = dense.IsTaken (upper i.cutoff i.leaves) p
 IsTaken i (place.Sparse p) = p < length (all (lower i.cutoff i.leaves))
 
@@ -35,5 +35,5 @@ pub record BeginsAt (h : Half) (v n : ℕ) : Type 0 where
   pub below : first_below h n ≡ first_below h (begin_of h v)
 
 -- the string that the branch at a place leads to
-abbrev pub string_at : FilterImage → Place → List ℕ
-string_at i p = get_or (places i.leaves) (number_of i p) []
+abbrev pub string_at : Filter → Place → List ℕ
+string_at i p = get_or (places i.leaves) (branch_number i p) []

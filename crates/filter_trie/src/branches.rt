@@ -2,7 +2,7 @@
 ghost use Rattle.std.specs.Prelude.{◌≡◌, ◌<◌, ◌≤◌, length, IfSome};
 ghost use Rattle.std.specs.Option.{option_map};
 ghost use Rattle.filter_model.specs.Trie.{nodes};
-ghost use Rattle.filter_trie.specs.Places.{BeginsAt, IsTaken, IsWithin, number_of, trie};
+ghost use Rattle.filter_trie.specs.Places.{BeginsAt, IsTaken, IsWithin, branch_number, trie};
 ghost use Rattle.trie_model.specs.Halves.{begin_of, branch_place, byte_at, child_at, end_slot, first_below, next_place, prev_place, slot_at};
 
 use super::place::Place;
@@ -13,7 +13,7 @@ impl<A: Allocator> Trie<A> {
     /// The place of the node's branch by this byte, `None` where it has none; END is no byte.
     pub fn branch(&self, node: u64, byte: u8) -> Option<Place>
         requires { node < length (nodes self.now.leaves) }
-        ensures place { option_map (number_of self.now) result ≡ branch_place (trie self.now) node byte }
+        ensures place { option_map (branch_number self.now) result ≡ branch_place (trie self.now) node byte }
         ensures taken { IfSome result (IsTaken self.now) }
     {
         if self.dense.has_node(node) {
@@ -33,7 +33,7 @@ impl<A: Allocator> Trie<A> {
     pub fn next_branch(&self, node: u64, byte: u16) -> Option<Place>
         requires node { node < length (nodes self.now.leaves) }
         requires byte { byte ≤ 256 }
-        ensures place { option_map (number_of self.now) result ≡ next_place (trie self.now) node byte }
+        ensures place { option_map (branch_number self.now) result ≡ next_place (trie self.now) node byte }
         ensures taken { IfSome result (IsTaken self.now) }
     {
         if self.dense.has_node(node) {
@@ -53,7 +53,7 @@ impl<A: Allocator> Trie<A> {
     pub fn prev_branch(&self, node: u64, byte: u16) -> Option<Place>
         requires node { node < length (nodes self.now.leaves) }
         requires byte { byte ≤ 256 }
-        ensures place { option_map (number_of self.now) result ≡ prev_place (trie self.now) node byte }
+        ensures place { option_map (branch_number self.now) result ≡ prev_place (trie self.now) node byte }
         ensures taken { IfSome result (IsTaken self.now) }
     {
         if self.dense.has_node(node) {
@@ -72,7 +72,7 @@ impl<A: Allocator> Trie<A> {
     /// The byte of the branch at a place, FF for END.
     pub fn byte_at(&self, place: Place) -> u8
         requires { IsTaken self.now place }
-        ensures { result ≡ byte_at (trie self.now) (number_of self.now place) }
+        ensures { result ≡ byte_at (trie self.now) (branch_number self.now place) }
     {
         match place {
             Place::Dense(bit) => self.dense.byte_at(bit),
@@ -83,7 +83,7 @@ impl<A: Allocator> Trie<A> {
     /// The node that the branch at a place leads to, or `None` where the branch is a leaf.
     pub fn child(&self, place: Place) -> Option<u64>
         requires { IsTaken self.now place }
-        ensures { result ≡ child_at (trie self.now) (number_of self.now place) }
+        ensures { result ≡ child_at (trie self.now) (branch_number self.now place) }
     {
         match place {
             Place::Dense(bit) => self.dense.child(bit),
@@ -94,7 +94,7 @@ impl<A: Allocator> Trie<A> {
     /// How many leaves stand before a place: the slot of the leaf there.
     pub fn leaf_slot(&self, place: Place) -> u64
         requires { IsWithin self.now place }
-        ensures { result ≡ slot_at (trie self.now) (number_of self.now place) }
+        ensures { result ≡ slot_at (trie self.now) (branch_number self.now place) }
     {
         match place {
             Place::Dense(bit) => self.dense.leaf_slot(bit),
@@ -105,7 +105,7 @@ impl<A: Allocator> Trie<A> {
     /// The first node whose branch stands at a place or later, or the number of all nodes where there is none.
     pub fn first_below(&self, place: Place) -> u64
         requires { IsWithin self.now place }
-        ensures { result ≡ first_below (trie self.now) (number_of self.now place) }
+        ensures { result ≡ first_below (trie self.now) (branch_number self.now place) }
     {
         match place {
             Place::Dense(bit) => self.dense.first_below(bit),
@@ -129,7 +129,7 @@ impl<A: Allocator> Trie<A> {
     /// number of all nodes. How many leaves stand before the node, `slots_before` says.
     pub fn first_place(&self, node: u64) -> Place
         requires { node ≤ length (nodes self.now.leaves) }
-        ensures begins { BeginsAt (trie self.now) node (number_of self.now result) }
+        ensures begins { BeginsAt (trie self.now) node (branch_number self.now result) }
         ensures within { IsWithin self.now result }
     {
         if self.dense.has_node(node) {

@@ -2,7 +2,8 @@
 ghost use Rattle.std.specs.Prelude.{◌≡◌, ◌+◌, ◌<◌, ◌≤◌, ℕ, [], length, sum_by, OnOk};
 ghost use Rattle.filter_model.specs.Keys.{IsKeyList};
 ghost use Rattle.filter_model.specs.Trie.{height, nodes_to};
-ghost use Rattle.filter_trie.specs.Building.{bare_leaves, half_to, nodes_behind, spans_longer};
+ghost use Rattle.filter_model.specs.Leaves.{base_leaves};
+ghost use Rattle.filter_trie.specs.Building.{half_to, nodes_behind, spans_longer};
 ghost use Rattle.filter_trie.specs.Pending.{ArePending};
 
 use super::build_half::GrowingHalf;
@@ -24,8 +25,8 @@ pub(crate) fn add_levels<H: GrowingHalf>(
 ) -> Result<(), AllocError>
     requires keys { IsKeyList keys.now }
     requires order { from ≤ to }
-    requires within { to ≤ height (bare_leaves keys.now) }
-    requires before { (H.half half.old).before.nodes ≤ length (nodes_to (bare_leaves keys.now) from) }
+    requires within { to ≤ height (base_leaves keys.now) }
+    requires before { (H.half half.old).before.nodes ≤ length (nodes_to (base_leaves keys.now) from) }
     requires nodes { (H.half half.old).nodes ≡ nodes_behind keys.now from (H.half half.old).before }
     requires room { sum_by H.size (nodes_behind keys.now to (H.half half.old).before) ≤ H.limit half.old }
     requires pending { ArePending keys.now from pending.old }
@@ -50,9 +51,9 @@ fn add_level<H: GrowingHalf>(
     level: u16,
 ) -> Result<(), AllocError>
     requires keys { IsKeyList keys.now }
-    requires below { level < height (bare_leaves keys.now) }
+    requires below { level < height (base_leaves keys.now) }
     requires spans { spans.now ≡ spans_longer keys.now level }
-    requires before { (H.half half.old).before.nodes ≤ length (nodes_to (bare_leaves keys.now) level) }
+    requires before { (H.half half.old).before.nodes ≤ length (nodes_to (base_leaves keys.now) level) }
     requires nodes { (H.half half.old).nodes ≡ nodes_behind keys.now level (H.half half.old).before }
     requires room { sum_by H.size (nodes_behind keys.now (level + 1) (H.half half.old).before) ≤ H.limit half.old }
     ensures half { OnOk result (H.half half.new ≡ half_to keys.now (level + 1) (H.half half.old).before) }

@@ -2,7 +2,8 @@
 ghost use Rattle.std.specs.Prelude.{◌≡◌, ◌+◌, ◌<◌, ◌≤◌, length, IfOk};
 ghost use Rattle.filter_model.specs.Keys.{IsKeyList};
 ghost use Rattle.filter_model.specs.Trie.{height};
-ghost use Rattle.filter_trie.specs.Building.{bare_leaves, spans_longer};
+ghost use Rattle.filter_model.specs.Leaves.{base_leaves};
+ghost use Rattle.filter_trie.specs.Building.{spans_longer};
 ghost use Rattle.filter_trie.specs.Pending.{ArePending, IsNew, suffixes_passed};
 ghost use Rattle.key_base.specs.Limits.{max_hash_bits, max_real_bits};
 
@@ -51,7 +52,7 @@ impl Pending {
     /// Passes a level: the leaves that are branches of its nodes have their slots now. Takes no memory.
     pub(crate) fn pass(&mut self, keys: &KeyList, level: u16)
         requires keys { IsKeyList keys.now }
-        requires below { level < height (bare_leaves keys.now) }
+        requires below { level < height (base_leaves keys.now) }
         requires pending { ArePending keys.now level self.old }
         ensures pending { ArePending keys.now (level + 1) self.new }
         ensures hash_bits { self.new.hash_bits ≡ self.old.hash_bits }
@@ -87,7 +88,7 @@ fn add_suffixes(
     real_bits: u8,
 )
     requires keys { IsKeyList keys.now }
-    requires below { level < height (bare_leaves keys.now) }
+    requires below { level < height (base_leaves keys.now) }
     requires spans { spans.now ≡ spans_longer keys.now level }
     requires hash_width { hash_bits ≤ max_hash_bits }
     requires real_width { real_bits ≤ max_real_bits }

@@ -4,7 +4,7 @@ ghost use Rattle.filter_api.specs.Spellings.{MayStand};
 ghost use Rattle.filter_model.specs.Trie.{nodes, places};
 ghost use Rattle.filter_trie.specs.Leads.{IsLead};
 ghost use Rattle.filter_trie.specs.Parts.{upper};
-ghost use Rattle.filter_trie.specs.Places.{IsTaken, number_of, string_at, trie};
+ghost use Rattle.filter_trie.specs.Places.{IsTaken, branch_number, string_at, trie};
 ghost use Rattle.trie_model.specs.Halves.{begin_of};
 ghost use Rattle.trie_model.specs.Walks.{leftmost_slot};
 
@@ -27,11 +27,11 @@ impl<A: Allocator> Trie<A> {
         }
     }
 
-    /// Where the branch at a place leads.
+    // Where the branch at a place leads.
     fn lead(&self, place: Place) -> Lead
         requires { IsTaken self.now place }
-        ensures lead { IsLead (trie self.now) (number_of self.now place) result }
-        ensures number { number_of self.now place < length (places self.now.leaves) }
+        ensures lead { IsLead (trie self.now) (branch_number self.now place) result }
+        ensures number { branch_number self.now place < length (places self.now.leaves) }
         ensures stands { MayStand self.now.hash_bits self.now.real_bits self.now.cutoff self.now.leaves }
     {
         match place {
@@ -46,7 +46,7 @@ impl<A: Allocator> Trie<A> {
         }
     }
 
-    /// Where a node's first branch leads.
+    // Where a node's first branch leads.
     fn first_lead(&self, node: u64) -> Lead
         requires { node < length (nodes self.now.leaves) }
         ensures { IsLead (trie self.now) (begin_of (trie self.now) node) result }
@@ -59,7 +59,7 @@ impl<A: Allocator> Trie<A> {
         }
     }
 
-    /// The same in the dense half, where END has no place.
+    // The same in the dense half, where END has no place.
     fn first_dense_lead(&self, node: u64) -> Lead
         requires { node < length (upper self.now.cutoff self.now.leaves) }
         ensures { IsLead (trie self.now) (begin_of (trie self.now) node) result }

@@ -4,16 +4,19 @@
 //! answers is said without its halves. `walk` goes down by a key's bytes, from the root, to the one leaf that the key
 //! reaches.
 //!
-//! [`build`] makes it of sorted keys, level by level, from their spans and the plan of their levels (`trie_levels`). No leaf is
-//! made and nothing is sorted.
+//! [`build`] makes it of sorted keys, level by level, from their spans and the plan of their levels (`trie_levels`). No leaf
+//! is made and nothing is sorted.
 //!
 //! Whoever goes over many leaves asks for a [`Place`]: `branch`, `next_branch` and `prev_branch` find one by a byte of a
-//! node, `child`, `leaf_slot` and `first_below` say what it leads to and what stands before it, and `leftmost` the least leaf
-//! behind it. What a place says is said of the one list of nodes, and whoever holds one need not know of which half it is.
+//! node, `child`, `leaf_slot` and `first_below` say what it leads to and what stands before it, and `leftmost` the least
+//! leaf behind it. What a place says is said of the one list of nodes, and whoever holds one need not know of which half it is.
 //!
 //! A walk looks at one node for each level: in the dense half at two bits and one count, in the sparse half at where the
 //! node begins, its labels and one count. It takes no memory. `walk_counted` counts the nodes, by a [`Steps`] that takes no
-//! bytes and no time.
+//! bytes and no time. `build` reads each letter of each stub once, and makes its room at the start from the plan.
+//!
+//! Do not use it for keys that come and go: it is built once of all of them. Nor where the leaves of a few keys do: a plain
+//! list of leaves is asked by one loop (`plain_filter`).
 //!
 //! ```text
 //! keys            far   fast   s   top   toy

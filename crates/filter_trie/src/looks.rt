@@ -32,7 +32,7 @@ impl<A: Allocator> Trie<A> {
         }
     }
 
-    /// Where a byte leads from a node of the dense half.
+    // Where a byte leads from a node of the dense half.
     fn dense_step(&self, node: u64, byte: u8) -> Step
         requires { node < length (upper self.now.cutoff self.now.leaves) }
         ensures { IsStep self.now.leaves node byte result }
@@ -47,16 +47,16 @@ impl<A: Allocator> Trie<A> {
         }
     }
 
-    /// Where a byte leads from a node of the sparse half.
+    // Where a byte leads from a node of the sparse half.
     fn sparse_step(&self, node: u64, byte: u8) -> Step
         requires behind { length (upper self.now.cutoff self.now.leaves) ≤ node }
         requires there { node < length (nodes self.now.leaves) }
         ensures { IsStep self.now.leaves node byte result }
     {
         let sparse = &self.sparse;
-        match sparse.branch(node, byte) {
+        match sparse.lead(node, byte) {
             None => Step::Miss,
-            Some(place) => match sparse.child(place) {
+            Some((place, leads)) => match leads {
                 Some(child) => Step::Child(child),
                 None => Step::Leaf(sparse.leaf_slot(place)),
             },

@@ -1,7 +1,7 @@
 //! The trie and its walks.
 ghost use Rattle.std.specs.Prelude.{◌≡◌, ◌<◌, ◌≤◌, ◌+◌, ◌++◌, [], ◌∷◌, false, length, get_or, map, MatchOption};
 ghost use Rattle.filter_api.specs.Spellings.{MayStand};
-ghost use Rattle.filter_image_model.specs.Reading.{FilterImage};
+ghost use Rattle.filter_model.specs.Leaves.{Filter};
 ghost use Rattle.filter_model.specs.Image.{in_slots, suffixes as suffix_section};
 ghost use Rattle.filter_model.specs.Trie.{END, height as height_of, is_reached, nodes};
 ghost use Rattle.filter_trie.specs.Parts.{AreParts, lower, upper};
@@ -30,10 +30,10 @@ pub struct Trie<A: Allocator> {
 }
 
 impl<A: Allocator> Model for Trie<A> {
-    ghost use Rattle.filter_image_model.specs.Reading.{FilterImage};
+    ghost use Rattle.filter_model.specs.Leaves.{Filter};
     ghost use Rattle.filter_trie.specs.Parts.{AreParts, image_by};
 
-    ghost Value = { FilterImage };
+    ghost Value = { Filter };
 
     ghost view = { λ t. image_by t.cutoff t.height t.dense t.sparse.nodes t.suffixes };
 
@@ -49,7 +49,7 @@ impl<A: Allocator> Trie<A> {
         sparse: Sparse<A>,
         suffixes: Suffixes<A>,
     ) -> Trie<A>
-        ghost image: { FilterImage }
+        ghost image: { Filter }
         requires { AreParts image cutoff height dense sparse suffixes }
         ensures { result ≡ image }
     {
@@ -69,10 +69,12 @@ impl<A: Allocator> Trie<A> {
         self.cutoff
     }
 
-    /// How many levels of nodes there are. The leaves are always a list for which a filter may stand.
+    /// How many levels of nodes there are: at least as many as are dense. The leaves are always a list for which a filter may
+    /// stand.
     pub fn height(&self) -> u16
         ensures height { result ≡ height_of self.now.leaves }
         ensures stands { MayStand self.now.hash_bits self.now.real_bits self.now.cutoff self.now.leaves }
+        ensures cutoff { self.now.cutoff ≤ result }
     {
         self.height
     }
@@ -144,7 +146,7 @@ impl<A: Allocator> Trie<A> {
         }
     }
 
-    /// A walk whose count of steps nobody asks for.
+    // A walk whose count of steps nobody asks for.
     fn walk_from<L: Ledger>(&self, key: &[u8], blank: Blank) -> Walk
         requires name { blank.name ≡ L.name }
         requires parts { blank.parts ≡ L.parts }
@@ -154,7 +156,7 @@ impl<A: Allocator> Trie<A> {
         self.walk_counted(key, &mut Steps::<L>::new(blank))
     }
 
-    /// The slot of the leaf that ends at a node, if one does. It is a step.
+    // The slot of the leaf that ends at a node, if one does. It is a step.
     fn end_slot<L: Ledger>(&self, node: u64, steps: &mut Steps<L>) -> Option<u64>
         requires { node < length (nodes self.now.leaves) }
         ensures step { steps.new ≡ steps.old + 1 }

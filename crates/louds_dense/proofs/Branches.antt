@@ -16,7 +16,7 @@ use Rattle.filter_model.specs.Image.{dense_ends, dense_labels, has_child, has_le
 use Rattle.filter_model.specs.Nodes.{Branch, Node, all, at, first_place, leaves_before}
 use Rattle.filter_model.specs.Trie.{END}
 use Rattle.louds_dense.specs.Laws.{PlacesAreOfBranches}
-use Rattle.louds_dense.specs.Places.{IsTaken, ahead_of, branch_place, branches_before, child_at, end_slot, first_below, next_place, node_at, place_of, places_in, prev_place}
+use Rattle.louds_dense.specs.Places.{IsTaken, ahead_of, branch_place, branch_place_of, branches_before, child_at, end_slot, first_below, next_place, node_at, places_in, prev_place}
 use Rattle.louds_dense.proofs.Ranks.{AreRanked, ahead, branch_of_byte, no_end, ranks_at}
 use Rattle.louds_dense.proofs.Searches.{bytes_rise, letter_there, position_none, position_some}
 use Rattle.trie_model.specs.Branching.{branch_at, last_position, later, next_at, prev_at}
@@ -128,7 +128,7 @@ module _ (ns : List Node) (w : AllByRecursion IsDense ns) (v : ℕ) (l : v < len
   in_list : (f : Node → Option ℕ) → option_map (λ i. first_place ns v + i) (f (node_at ns v)) ≡ option_map (λ i. list.begin_of (list.whole ns) v + i) (f (list.node_at (list.whole ns) v))
   in_list f = ap (λ (x : ℕ). option_map (λ i. first_place ns x + i) (f (node_at ns x))) (sym (zero_less v))
 
-  place_number : (i : ℕ) → i < length (node_at ns v) → (get_or (node_at ns v) i (0, false)).0 < 256 → branches_before ns (place_of ns v i) ≡ first_place ns v + i
+  place_number : (i : ℕ) → i < length (node_at ns v) → (get_or (node_at ns v) i (0, false)).0 < 256 → branches_before ns (branch_place_of ns v i) ≡ first_place ns v + i
   place_number i il small =
       let c = (get_or (node_at ns v) i (0, false)).0 in
       before_at ns v c small ∙ ap (λ (k : ℕ). first_place ns v + k) (letter_is (node_at ns v) dense c i il refl small)
@@ -141,15 +141,15 @@ module _ (ns : List Node) (w : AllByRecursion IsDense ns) (v : ℕ) (l : v < len
 
   next_in : (c : ℕ) → c ≤ 256 → option_map (branches_before ns) (next_place ns v c) ≡ list.next_place (list.whole ns) v c
   next_in c to =
-      twice (branches_before ns) (place_of ns v) (next_at (node_at ns v) c)
-      ∙ mapped (λ i. branches_before ns (place_of ns v i)) (λ i. first_place ns v + i) (next_at (node_at ns v) c)
+      twice (branches_before ns) (branch_place_of ns v) (next_at (node_at ns v) c)
+      ∙ mapped (λ i. branches_before ns (branch_place_of ns v i)) (λ i. first_place ns v + i) (next_at (node_at ns v) c)
       (λ i e. let r = next_byte (node_at ns v) dense c i e in place_number i r.0 r.1)
       ∙ in_list (λ n. next_at n c)
 
   prev_in : (c : ℕ) → c ≤ 256 → option_map (branches_before ns) (prev_place ns v c) ≡ list.prev_place (list.whole ns) v c
   prev_in c to =
-      twice (branches_before ns) (place_of ns v) (prev_at (node_at ns v) c)
-      ∙ mapped (λ i. branches_before ns (place_of ns v i)) (λ i. first_place ns v + i) (prev_at (node_at ns v) c)
+      twice (branches_before ns) (branch_place_of ns v) (prev_at (node_at ns v) c)
+      ∙ mapped (λ i. branches_before ns (branch_place_of ns v i)) (λ i. first_place ns v + i) (prev_at (node_at ns v) c)
       (λ i e. let r = prev_byte (node_at ns v) dense c i to e in place_number i r.0 r.1)
       ∙ in_list (λ n. prev_at n c)
 
@@ -183,11 +183,11 @@ module _ (ns : List Node) (w : AllByRecursion IsDense ns) (v : ℕ) (l : v < len
       go true on e = let is : p ≡ 256 * v + c = cc in taken_at c p small (sym is) on
       go false off e = absurd (cc)
 
-  search_found : (q : Option ℕ) (p : ℕ) → ((i : ℕ) → q ≡ Some i → (i < length (node_at ns v)) × ((get_or (node_at ns v) i (0, false)).0 < 256)) → Some p ≡ option_map (place_of ns v) q → IsTaken ns p
+  search_found : (q : Option ℕ) (p : ℕ) → ((i : ℕ) → q ≡ Some i → (i < length (node_at ns v)) × ((get_or (node_at ns v) i (0, false)).0 < 256)) → Some p ≡ option_map (branch_place_of ns v) q → IsTaken ns p
   search_found None p h e = absurd (cc)
   search_found (Some i) p h e =
       let r = h i refl in
-      let is : p ≡ place_of ns v i = cc in
+      let is : p ≡ branch_place_of ns v i = cc in
       taken_at (get_or (node_at ns v) i (0, false)).0 p r.1 (sym is) (letter_there (node_at ns v) i r.0)
 
 module _ (ns : List Node) (w : AllByRecursion IsDense ns) (p : ℕ) (taken : IsTaken ns p) where

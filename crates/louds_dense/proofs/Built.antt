@@ -14,7 +14,7 @@ use Rattle.filter_image_model.proofs.RisingBytes.{RisingBytes, are_bytes, in_ord
 use Rattle.filter_model.specs.Image.{dense_children, dense_ends, dense_labels, has_child, has_letter, row}
 use Rattle.filter_model.specs.Nodes.{Branch, Node}
 use Rattle.filter_model.specs.Trie.{END}
-use Rattle.louds_dense.specs.Building.{SectionsInRoom, gap, with_byte, with_bytes, with_end, with_gap}
+use Rattle.louds_dense.specs.Building.{SectionsInRoom, no_branches, with_byte, with_byte_bits, with_end, with_gap}
 use Rattle.louds_dense.specs.Spelling.{IsSpelled, nodes_in}
 use Rattle.louds_dense.proofs.Nodes.{other_child, other_letter, same_bits}
 use Rattle.louds_dense.proofs.Ranks.{no_end}
@@ -73,14 +73,14 @@ add_one k = omega arith
 
 -- the bits of the first `count` bytes, and as many more as are no branches
 gap_more : (f : ℕ → Bool) (count k : ℕ) → ((c : ℕ) → count ≤ c → c < count + k → f c ≡ false)
-    → map f (range_with_len 0 count) ++ gap k ≡ map f (range_with_len 0 (count + k))
+    → map f (range_with_len 0 count) ++ no_branches k ≡ map f (range_with_len 0 (count + k))
 gap_more f count zero off = append-nil (map f (range_with_len 0 count)) ∙ ap (λ (x : ℕ). map f (range_with_len 0 x)) (plus_zero count)
   where
     plus_zero : (k : ℕ) → k ≡ k + 0
     plus_zero k = omega arith
 gap_more f count (suc k) off =
-    ap (λ (bits : List Bool). map f (range_with_len 0 count) ++ bits) (ap gap (add_one k) ∙ map-range_with_len_more (λ (c : ℕ). false) 0 k k (omega arith))
-    ∙ sym (append_assoc (map f (range_with_len 0 count)) (gap k) (false ∷ []))
+    ap (λ (bits : List Bool). map f (range_with_len 0 count) ++ bits) (ap no_branches (add_one k) ∙ map-range_with_len_more (λ (c : ℕ). false) 0 k k (omega arith))
+    ∙ sym (append_assoc (map f (range_with_len 0 count)) (no_branches k) (false ∷ []))
     ∙ ap (λ (bits : List Bool). bits ++ false ∷ []) (gap_more f count k (λ c le lt. off c le (omega (arith, lt))))
     ∙ ap (λ (t : Bool). map f (range_with_len 0 (count + k)) ++ t ∷ []) (sym (off (count + k) (omega arith) (omega arith)))
     ∙ sym (map-range_with_len_more f 0 (count + k) (count + k) (omega arith))
@@ -91,8 +91,8 @@ gap_more f count (suc k) off =
 
 pub with_gap_more : (k : ℕ) (s : SectionsInRoom) → with_byte false false (with_gap k s) ≡ with_gap (k + 1) s
 with_gap_more k s = λ j. record {
-  labels = (append_assoc s.labels (gap k) (false ∷ []) ∙ ap (λ (bits : List Bool). s.labels ++ bits) (sym (map-range_with_len_more (λ (c : ℕ). false) 0 k k (omega arith)))) j;
-  children = (append_assoc s.children (gap k) (false ∷ []) ∙ ap (λ (bits : List Bool). s.children ++ bits) (sym (map-range_with_len_more (λ (c : ℕ). false) 0 k k (omega arith)))) j;
+  labels = (append_assoc s.labels (no_branches k) (false ∷ []) ∙ ap (λ (bits : List Bool). s.labels ++ bits) (sym (map-range_with_len_more (λ (c : ℕ). false) 0 k k (omega arith)))) j;
+  children = (append_assoc s.children (no_branches k) (false ∷ []) ∙ ap (λ (bits : List Bool). s.children ++ bits) (sym (map-range_with_len_more (λ (c : ℕ). false) 0 k k (omega arith)))) j;
   ends = s.ends;
   limit = s.limit;
 }
@@ -100,26 +100,26 @@ with_gap_more k s = λ j. record {
 pub no_gap : (s : SectionsInRoom) → s ≡ with_gap 0 s
 no_gap s = λ j. record { labels = sym (append-nil s.labels) j; children = sym (append-nil s.children) j; ends = s.ends; limit = s.limit }
 
-pub no_bytes : (n : Node) (s : SectionsInRoom) → s ≡ with_bytes 0 n s
+pub no_bytes : (n : Node) (s : SectionsInRoom) → s ≡ with_byte_bits 0 n s
 no_bytes n s = λ j. record { labels = sym (append-nil s.labels) j; children = sym (append-nil s.children) j; ends = s.ends; limit = s.limit }
 
 pub length-gap : (k : ℕ) (s t : SectionsInRoom) → t ≡ with_gap k s → length t.labels ≡ length s.labels + k
-length-gap k s t e = ap (λ (x : SectionsInRoom). length x.labels) e ∙ length-append s.labels (gap k) ∙ ap (λ (x : ℕ). length s.labels + x) (length-map-range_with_len (λ (c : ℕ). false) 0 k)
+length-gap k s t e = ap (λ (x : SectionsInRoom). length x.labels) e ∙ length-append s.labels (no_branches k) ∙ ap (λ (x : ℕ). length s.labels + x) (length-map-range_with_len (λ (c : ℕ). false) 0 k)
 
-pub length-bytes : (k : ℕ) (n : Node) (s t : SectionsInRoom) → t ≡ with_bytes k n s → length t.labels ≡ length s.labels + k
+pub length-bytes : (k : ℕ) (n : Node) (s t : SectionsInRoom) → t ≡ with_byte_bits k n s → length t.labels ≡ length s.labels + k
 length-bytes k n s t e = ap (λ (x : SectionsInRoom). length x.labels) e ∙ length-append s.labels (map (has_letter n) (range_with_len 0 k)) ∙ ap (λ (x : ℕ). length s.labels + x) (length-map-range_with_len (has_letter n) 0 k)
 
 gap_behind : (n : Node) (count k : ℕ) (s : SectionsInRoom) → ((c : ℕ) → count ≤ c → c < count + k → has_letter n c ≡ false) → ((c : ℕ) → count ≤ c → c < count + k → has_child n c ≡ false)
-    → with_gap k (with_bytes count n s) ≡ with_bytes (count + k) n s
+    → with_gap k (with_byte_bits count n s) ≡ with_byte_bits (count + k) n s
 gap_behind n count k s l c = λ j. record {
-  labels = (append_assoc s.labels (map (has_letter n) (range_with_len 0 count)) (gap k) ∙ ap (λ (bits : List Bool). s.labels ++ bits) (gap_more (has_letter n) count k l)) j;
-  children = (append_assoc s.children (map (has_child n) (range_with_len 0 count)) (gap k) ∙ ap (λ (bits : List Bool). s.children ++ bits) (gap_more (has_child n) count k c)) j;
+  labels = (append_assoc s.labels (map (has_letter n) (range_with_len 0 count)) (no_branches k) ∙ ap (λ (bits : List Bool). s.labels ++ bits) (gap_more (has_letter n) count k l)) j;
+  children = (append_assoc s.children (map (has_child n) (range_with_len 0 count)) (no_branches k) ∙ ap (λ (bits : List Bool). s.children ++ bits) (gap_more (has_child n) count k c)) j;
   ends = s.ends;
   limit = s.limit;
 }
 
 byte_behind : (n : Node) (count : ℕ) (label child : Bool) (s : SectionsInRoom) → has_letter n count ≡ label → has_child n count ≡ child
-    → with_byte label child (with_bytes count n s) ≡ with_bytes (count + 1) n s
+    → with_byte label child (with_byte_bits count n s) ≡ with_byte_bits (count + 1) n s
 byte_behind n count label child s l c = λ j. record {
   labels =
       (append_assoc s.labels (map (has_letter n) (range_with_len 0 count)) (label ∷ [])
@@ -154,14 +154,14 @@ module _ (bs : List ByteBranch) (r : AreRising bs) (i next : ℕ) (w : AreBytesT
   ]
 
   pub gap_added : (k : ℕ) (s : SectionsInRoom) → ((j : ℕ) → i ≤ j → j < length bs → next + k ≤ (get_or bs j any).byte)
-      → with_gap k (with_bytes next (node_given false bs) s) ≡ with_bytes (next + k) (node_given false bs) s
+      → with_gap k (with_byte_bits next (node_given false bs) s) ≡ with_byte_bits (next + k) (node_given false bs) s
   gap_added k s later =
       gap_behind (map by_byte bs) next k s
       (λ c le lt. no_letter bs c (apart c le (λ j up l. omega (arith, later j up l, lt))))
       (λ c le lt. no_child bs c (apart c le (λ j up l. omega (arith, later j up l, lt))))
 
-  pub branch_added : (s t : SectionsInRoom) (d : ByteBranch) → i < length bs → t ≡ with_gap ((get_or bs i d).byte - next) (with_bytes next (node_given false bs) s)
-      → with_byte true (get_or bs i d).child t ≡ with_bytes ((get_or bs i d).byte + 1) (node_given false bs) s
+  pub branch_added : (s t : SectionsInRoom) (d : ByteBranch) → i < length bs → t ≡ with_gap ((get_or bs i d).byte - next) (with_byte_bits next (node_given false bs) s)
+      → with_byte true (get_or bs i d).child t ≡ with_byte_bits ((get_or bs i d).byte + 1) (node_given false bs) s
   branch_added s t d l e =
       let b = get_or bs i any in
       let same : get_or bs i d ≡ b = get_or_default bs i d any l in
@@ -172,10 +172,10 @@ module _ (bs : List ByteBranch) (r : AreRising bs) (i next : ℕ) (w : AreBytesT
         | inr here ↦ let is : i ≡ j = omega (arith, le, here) in omega (arith, up, ap (λ (k : ℕ). (get_or bs k any).byte) is)
       ]) in
       let sum : next + (b.byte - next) ≡ b.byte = omega (arith, up) in
-      ap (with_byte true (get_or bs i d).child) (e ∙ ap (λ (x : ByteBranch). with_gap (x.byte - next) (with_bytes next (node_given false bs) s)) same ∙ gap_added (b.byte - next) s later ∙ ap (λ (k : ℕ). with_bytes k (node_given false bs) s) sum)
-      ∙ ap (λ (x : ByteBranch). with_byte true x.child (with_bytes b.byte (node_given false bs) s)) same
+      ap (with_byte true (get_or bs i d).child) (e ∙ ap (λ (x : ByteBranch). with_gap (x.byte - next) (with_byte_bits next (node_given false bs) s)) same ∙ gap_added (b.byte - next) s later ∙ ap (λ (k : ℕ). with_byte_bits k (node_given false bs) s) sum)
+      ∙ ap (λ (x : ByteBranch). with_byte true x.child (with_byte_bits b.byte (node_given false bs) s)) same
       ∙ byte_behind (map by_byte bs) b.byte true b.child s (letter_given bs i l) (child_given bs i r.rising l)
-      ∙ ap (λ (x : ByteBranch). with_bytes (x.byte + 1) (node_given false bs) s) (sym same)
+      ∙ ap (λ (x : ByteBranch). with_byte_bits (x.byte + 1) (node_given false bs) s) (sym same)
 
   pub bytes_more : (d : ByteBranch) → i < length bs → (get_or bs i d).byte < 256 → AreBytesTo bs (i + 1) ((get_or bs i d).byte + 1)
   bytes_more d l small =
@@ -234,7 +234,7 @@ pub record IsAdded (labels children ends : List Bool) (ns : List Node) : Type 0 
   pub spelled : IsSpelled labels children ends ns
 
 pub node_added : (s t : SectionsInRoom) (ns : List Node) (end : Bool) (bs : List ByteBranch) → AreRising bs → All (λ (b : ByteBranch). b.byte < 256) bs
-    → IsSpelled s.labels s.children s.ends ns → length ns < 2 ^ 53 → t ≡ with_end end (with_bytes 256 (node_given false bs) s)
+    → IsSpelled s.labels s.children s.ends ns → length ns < 2 ^ 53 → t ≡ with_end end (with_byte_bits 256 (node_given false bs) s)
     → IsAdded t.labels t.children t.ends (ns ++ node_given end bs ∷ [])
 node_added s t ns end bs r small w few e =
     let n = node_given end bs in

@@ -14,7 +14,7 @@ use Rattle.filter_model.specs.Image.{has_letter}
 use Rattle.filter_model.specs.Nodes.{Branch, Node}
 use Rattle.filter_model.specs.Trie.{END}
 use Rattle.lane_scan.specs.Places.{IsFirstBetween, IsLastBetween}
-use Rattle.louds_dense.specs.Places.{next_place, node_at, place_of, prev_place}
+use Rattle.louds_dense.specs.Places.{branch_place_of, next_place, node_at, prev_place}
 use Rattle.louds_dense.specs.Spelling.{IsSpelled}
 use Rattle.louds_dense.proofs.Spelled.{label_bit, length_labels}
 use Rattle.trie_model.specs.Branching.{last_position, later, next_at, prev_at}
@@ -153,15 +153,15 @@ module _ {labels children ends : List Bool} {ns : List Node} (s : IsSpelled labe
       let e : 256 * v + x ≡ p = omega (arith, at.from) in
       let r = next_is (node_at ns v) dense c x (omega (arith, in', e)) (omega (arith, at.from)) (set_bit x p (omega (arith, in', e)) e at.passes)
       (λ y le lt. clear y (omega (arith, lt, in', e)) (at.before (256 * v + y) (omega (arith, le)) (omega (arith, lt, e)))) in
-      ap (λ (k : ℕ). Some k) (sym e ∙ ap (λ (k : ℕ). 256 * v + k) (sym r.2)) ∙ sym (ap (option_map (place_of ns v)) r.1)
+      ap (λ (k : ℕ). Some k) (sym e ∙ ap (λ (k : ℕ). 256 * v + k) (sym r.2)) ∙ sym (ap (option_map (branch_place_of ns v)) r.1)
 
   pub next_past : (c p : ℕ) → c ≤ 256 → IsFirstBetween (is_set_at labels) (256 * v + c) (length labels) p → 256 * v + 256 ≤ p → None ≡ next_place ns v c
   next_past c p f at out =
-      sym (ap (option_map (place_of ns v)) (next_none (node_at ns v) dense c (λ y le lt. clear y lt (at.before (256 * v + y) (omega (arith, le)) (omega (arith, lt, out))))))
+      sym (ap (option_map (branch_place_of ns v)) (next_none (node_at ns v) dense c (λ y le lt. clear y lt (at.before (256 * v + y) (omega (arith, le)) (omega (arith, lt, out))))))
 
   pub next_nowhere : (c : ℕ) → c ≤ 256 → HoldsNowhere (is_set_at labels) (256 * v + c) (length labels) → None ≡ next_place ns v c
   next_nowhere c f none =
-      sym (ap (option_map (place_of ns v)) (next_none (node_at ns v) dense c (λ y le lt. clear y lt (none (256 * v + y) (omega (arith, le)) (omega (arith, lt, within))))))
+      sym (ap (option_map (branch_place_of ns v)) (next_none (node_at ns v) dense c (λ y le lt. clear y lt (none (256 * v + y) (omega (arith, le)) (omega (arith, lt, within))))))
 
   pub prev_some : (c p : ℕ) → c ≤ 256 → IsLastBetween (is_set_at labels) 0 (256 * v + c) p → 256 * v ≤ p → Some p ≡ prev_place ns v c
   prev_some c p f at in' =
@@ -169,12 +169,12 @@ module _ {labels children ends : List Bool} {ns : List Node} (s : IsSpelled labe
       let e : 256 * v + x ≡ p = omega (arith, in') in
       let r = prev_is (node_at ns v) dense c x f (omega (arith, at.below, e)) (set_bit x p (omega (arith, at.below, e, f)) e at.passes)
       (λ y up lt. clear y (omega (arith, lt, f)) (at.behind (256 * v + y) (omega (arith, up, e)) (omega (arith, lt)))) in
-      ap (λ (k : ℕ). Some k) (sym e ∙ ap (λ (k : ℕ). 256 * v + k) (sym r.2)) ∙ sym (ap (option_map (place_of ns v)) r.1)
+      ap (λ (k : ℕ). Some k) (sym e ∙ ap (λ (k : ℕ). 256 * v + k) (sym r.2)) ∙ sym (ap (option_map (branch_place_of ns v)) r.1)
 
   pub prev_past : (c p : ℕ) → c ≤ 256 → IsLastBetween (is_set_at labels) 0 (256 * v + c) p → p < 256 * v → None ≡ prev_place ns v c
   prev_past c p f at out =
-      sym (ap (option_map (place_of ns v)) (prev_none (node_at ns v) dense c (λ y lt. clear y (omega (arith, lt, f)) (at.behind (256 * v + y) (omega (arith, out)) (omega (arith, lt))))))
+      sym (ap (option_map (branch_place_of ns v)) (prev_none (node_at ns v) dense c (λ y lt. clear y (omega (arith, lt, f)) (at.behind (256 * v + y) (omega (arith, out)) (omega (arith, lt))))))
 
   pub prev_nowhere : (c : ℕ) → c ≤ 256 → HoldsNowhere (is_set_at labels) 0 (256 * v + c) → None ≡ prev_place ns v c
   prev_nowhere c f none =
-      sym (ap (option_map (place_of ns v)) (prev_none (node_at ns v) dense c (λ y lt. clear y (omega (arith, lt, f)) (none (256 * v + y) (omega arith) (omega (arith, lt))))))
+      sym (ap (option_map (branch_place_of ns v)) (prev_none (node_at ns v) dense c (λ y lt. clear y (omega (arith, lt, f)) (none (256 * v + y) (omega arith) (omega (arith, lt))))))

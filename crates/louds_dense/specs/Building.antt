@@ -24,17 +24,17 @@ abbrev pub with_byte : Bool → Bool → SectionsInRoom → SectionsInRoom
 with_byte label child s = record { labels = s.labels ++ label ∷ []; children = s.children ++ child ∷ []; ends = s.ends; limit = s.limit }
 
 -- the bits of bytes that are no branches
-abbrev pub gap : ℕ → List Bool
-gap count = map (λ (c : ℕ). false) (range_with_len 0 count)
+abbrev pub no_branches : ℕ → List Bool
+no_branches count = map (λ (c : ℕ). false) (range_with_len 0 count)
 
 abbrev pub with_gap : ℕ → SectionsInRoom → SectionsInRoom
-with_gap count s = record { labels = s.labels ++ gap count; children = s.children ++ gap count; ends = s.ends; limit = s.limit }
+with_gap count s = record { labels = s.labels ++ no_branches count; children = s.children ++ no_branches count; ends = s.ends; limit = s.limit }
 
 -- a node's bit for END
 abbrev pub with_end : Bool → SectionsInRoom → SectionsInRoom
 with_end end s = record { labels = s.labels; children = s.children; ends = s.ends ++ end ∷ []; limit = s.limit }
 
 -- the bits of a node's first `count` bytes behind them
-abbrev pub with_bytes : ℕ → Node → SectionsInRoom → SectionsInRoom
-with_bytes count n s =
+abbrev pub with_byte_bits : ℕ → Node → SectionsInRoom → SectionsInRoom
+with_byte_bits count n s =
     record { labels = s.labels ++ map (has_letter n) (range_with_len 0 count); children = s.children ++ map (has_child n) (range_with_len 0 count); ends = s.ends; limit = s.limit }

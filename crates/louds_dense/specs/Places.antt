@@ -24,8 +24,8 @@ abbrev pub branches_before : List Node → ℕ → ℕ
 branches_before ns p = first_place ns (p / 256) + ahead_of (p % 256) (node_at ns (p / 256))
 
 -- the place of branch i of node v, where it is by a byte
-abbrev pub place_of : List Node → ℕ → ℕ → ℕ
-place_of ns v i = 256 * v + (get_or (node_at ns v) i (0, false)).0
+abbrev pub branch_place_of : List Node → ℕ → ℕ → ℕ
+branch_place_of ns v i = 256 * v + (get_or (node_at ns v) i (0, false)).0
 
 -- the byte of place p is a branch of its node
 abbrev pub IsTaken : List Node → ℕ → Type 0
@@ -36,10 +36,10 @@ abbrev pub branch_place : List Node → ℕ → ℕ → Option ℕ
 branch_place ns v c = cond (has_letter (node_at ns v) c) (Some (256 * v + c)) None
 
 abbrev pub next_place : List Node → ℕ → ℕ → Option ℕ
-next_place ns v c = option_map (place_of ns v) (next_at (node_at ns v) c)
+next_place ns v c = option_map (branch_place_of ns v) (next_at (node_at ns v) c)
 
 abbrev pub prev_place : List Node → ℕ → ℕ → Option ℕ
-prev_place ns v c = option_map (place_of ns v) (prev_at (node_at ns v) c)
+prev_place ns v c = option_map (branch_place_of ns v) (prev_at (node_at ns v) c)
 
 -- the first node whose branch stands at place p or later, and the number of these nodes and their children where there is none
 abbrev pub first_below : List Node → ℕ → ℕ

@@ -10,7 +10,7 @@ use std::alloc::{AllocError, Allocator};
 use std::marker::Model;
 use trie_model::Branch;
 
-/// The most nodes that a half can have: so few that all its numbers are below 2^62.
+// The most nodes that a half can have: so few that all its numbers are below 2^62.
 const MAX_NODES: usize = 1 << 53;
 
 /// Makes a half of nodes that are given in level order.

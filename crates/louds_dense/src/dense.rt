@@ -237,7 +237,7 @@ impl<A: Allocator> Dense<A> {
         self.prefix.bits()
     }
 
-    /// How many leaves stand before a place, where `ends` nodes of those before it have END.
+    // How many leaves stand before a place, where `ends` nodes of those before it have END.
     fn leaves_to(&self, place: usize, ends: usize) -> u64
         requires place { place ≤ places_in self.now }
         requires ends { ends ≤ length self.now }

@@ -30,8 +30,6 @@ mod builder;
 mod dense;
 mod laws;
 mod sections;
-#[cfg(test)]
-mod tests;
 
 pub use builder::DenseBuilder;
 pub use dense::Dense;

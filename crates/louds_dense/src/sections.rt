@@ -1,7 +1,7 @@
 //! The three sections while they grow.
 ghost use Rattle.std.specs.Prelude.{◌≡◌, ◌≤◌, ◌<◌, ◌+◌, ◌*◌, ◌-◌, ◌^◌, [], false, true, length, IfOk};
 ghost use Rattle.std.specs.List.{All};
-ghost use Rattle.louds_dense.specs.Building.{with_byte, with_bytes, with_end, with_gap};
+ghost use Rattle.louds_dense.specs.Building.{with_byte, with_byte_bits, with_end, with_gap};
 ghost use Rattle.trie_model.specs.Given.{AreRising, node_given};
 ghost use Rattle.trie_model.specs.declared.parts.Branch.{Branch as ByteBranch};
 
@@ -59,7 +59,7 @@ impl<A: Allocator> Sections<A> {
         self.prefix.limit() - self.prefix.len()
     }
 
-    /// Adds the bits of a byte.
+    // Adds the bits of a byte.
     fn push(&mut self, label: bool, child: bool)
         requires { length self.old.labels < 256 * self.old.limit }
         ensures { self.new ≡ with_byte label child self.old }
@@ -68,7 +68,7 @@ impl<A: Allocator> Sections<A> {
         self.has_child.push(child);
     }
 
-    /// Adds the bits of `count` bytes that are no branches.
+    // Adds the bits of `count` bytes that are no branches.
     fn push_gap(&mut self, count: usize)
         requires { length self.old.labels + count ≤ 256 * self.old.limit }
         ensures { self.new ≡ with_gap count self.old }
@@ -78,8 +78,8 @@ impl<A: Allocator> Sections<A> {
         }
     }
 
-    /// Adds the bits of a branch, and of the bytes from `next` on that stand before it. There is room for all bytes from
-    /// `next` on.
+    // Adds the bits of a branch, and of the bytes from `next` on that stand before it. There is room for all bytes from
+    // `next` on.
     fn push_branch(&mut self, next: usize, byte: u8, child: bool)
         requires order { next ≤ byte }
         requires room { length self.old.labels + 256 ≤ 256 * self.old.limit + next }
@@ -90,11 +90,11 @@ impl<A: Allocator> Sections<A> {
         self.push(true, child);
     }
 
-    /// Adds the bits of the bytes of a node with these branches.
+    // Adds the bits of the bytes of a node with these branches.
     fn push_bytes(&mut self, branches: &[Branch])
         requires branches { AreRising branches.now }
         requires room { length self.old.labels + 256 ≤ 256 * self.old.limit }
-        ensures added { self.new ≡ with_bytes 256 (node_given false branches.now) self.old }
+        ensures added { self.new ≡ with_byte_bits 256 (node_given false branches.now) self.old }
         ensures bytes { All (λ (b : ByteBranch). b.byte < 256) branches.now }
     {
         let mut next = 0;
@@ -111,7 +111,7 @@ impl<A: Allocator> Sections<A> {
         requires branches { AreRising branches.now }
         requires bytes { length self.old.labels + 256 ≤ 256 * self.old.limit }
         requires end { length self.old.ends < self.old.limit }
-        ensures added { self.new ≡ with_end end (with_bytes 256 (node_given false branches.now) self.old) }
+        ensures added { self.new ≡ with_end end (with_byte_bits 256 (node_given false branches.now) self.old) }
         ensures bytes { All (λ (b : ByteBranch). b.byte < 256) branches.now }
     {
         self.push_bytes(branches);

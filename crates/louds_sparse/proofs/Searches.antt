@@ -13,7 +13,7 @@ use Rattle.louds_sparse.specs.Spelling.{IsSpelled}
 use Rattle.louds_sparse.proofs.Branches.{byte_behind, bytes_rise, end_before, end_first, label-byte, last_none, last_some, letter_there, nth, position_none, position_some}
 use Rattle.louds_sparse.proofs.Spelled.{form, label_in, range_is}
 use Rattle.trie_model.specs.Branching.{branch_at, next_at, prev_at}
-use Rattle.trie_model.specs.Halves.{Half, HasNode, begin_of, branch_place, end_slot, next_place, node_at, prev_place, slot_at}
+use Rattle.trie_model.specs.Halves.{Half, HasNode, begin_of, branch_place, end_slot, next_place, node_at, places_in, prev_place, slot_at}
 use Rattle.trie_model.specs.declared.parts.Before.{Before}
 
 le-false : (a b : ℕ) → b < a → nat_le a b ≡ false
@@ -190,3 +190,14 @@ module _ {before : Before} {labels : List ℕ} {children louds : List Bool} {h :
     | inl ff ↦ branch_none s v in' behind byte small (rw (from_ff ff) at none)
     | inr other ↦ branch_none s v in' behind byte small (λ k up to. none k (omega (arith, up, from_other other)) to)
   ]
+
+  -- they are one label or more
+  pub searched_there : start < places_in h
+  searched_there = elim (cases_eq byte 255) [
+    | inl ff ↦ omega (arith, from_ff ff, bytes_there (has_letter (node_at h v) END) refl, b.within)
+    | inr other ↦ omega (arith, from_other other, bytes_there (has_letter (node_at h v) END) refl, b.within)
+  ]
+    where
+      bytes_there : (t : Bool) → has_letter (node_at h v) END ≡ t → begin_of h v + cond t 1 0 < end
+      bytes_there true on = omega (arith, (end_first (node_at h v) (form s v in') on).1, b.to, range_is s v in')
+      bytes_there false off = omega (arith, (form s v in').filled, b.to, range_is s v in')

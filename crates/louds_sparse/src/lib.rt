@@ -29,8 +29,6 @@
 mod builder;
 mod sections;
 mod sparse;
-#[cfg(test)]
-mod tests;
 
 pub use builder::SparseBuilder;
 pub use sparse::Sparse;

@@ -1,5 +1,7 @@
 //! The half and its calls.
-ghost use Rattle.std.specs.Prelude.{◌≡◌, ◌≤◌, ◌<◌, ◌+◌, ◌-◌, ◌==◌, ◌&&◌, nat_lt, length, slice_index, IsTrue, ◌↔◌};
+ghost use Rattle.std.specs.Prelude.{◌≡◌, ◌≤◌, ◌<◌, ◌+◌, ◌-◌, ◌==◌, ◌&&◌, nat_lt, length, slice_index, IfSome, IsTrue, ◌↔◌};
+ghost use Rattle.std.specs.Option.{option_map};
+ghost use Rattle.bit_rank.specs.Words.{IsWordOf};
 ghost use Rattle.bit_words.specs.Packed.{packed};
 ghost use Rattle.filter_model.specs.Image.{sparse_children, sparse_labels, sparse_louds};
 ghost use Rattle.filter_model.specs.Nodes.{first_place};
@@ -9,7 +11,7 @@ ghost use Rattle.louds_sparse.specs.Spelling.{IsSpelled, half_in};
 ghost use Rattle.trie_model.specs.Halves.{HasNode, begin_of, branch_place, byte_at, child_at, end_slot, first_below, next_place, places_in, prev_place, slot_at};
 
 use super::sections::END_LABEL;
-use bit_rank::Ranked;
+use bit_rank::{Ranked, RankedWord};
 use bit_select::Selected;
 use bit_words::Bits;
 use lane_scan::{find_label_between, first_at_least_between, ones};
@@ -115,6 +117,22 @@ impl<A: Allocator> Sparse<A> {
         }
     }
 
+    /// The place of the node's branch by this byte, and the node that it leads to, if it is no leaf: what `branch` and `child`
+    /// say. `None` where the node has none; END is no byte.
+    pub fn lead(&self, node: u64, byte: u8) -> Option<(u64, Option<u64>)>
+        requires { HasNode self.now node }
+        ensures place { option_map (λ lead. lead.0) result ≡ branch_place self.now node byte }
+        ensures child { IfSome result (λ lead. lead.1 ≡ child_at self.now lead.0) }
+    {
+        let (start, end) = self.searched(node, byte);
+        // Read before the labels, so that the processor waits for both at once.
+        let word = self.has_child.word_of(start);
+        match find_label_between(&self.labels, start, end, byte) {
+            Some(place) => Some((place as u64, self.child_by(word, place))),
+            None => None,
+        }
+    }
+
     /// The place of the node's first branch by this byte or a greater one, `None` where it has none. `byte` is at most 256.
     pub fn next_branch(&self, node: u64, byte: u16) -> Option<u64>
         requires node { HasNode self.now node }
@@ -158,12 +176,8 @@ impl<A: Allocator> Sparse<A> {
         requires { place < places_in self.now }
         ensures { result ≡ child_at self.now place }
     {
-        let (leads, before) = self.has_child.bit_and_rank(place as usize);
-        if leads {
-            Some(self.before.children + before as u64 + 1)
-        } else {
-            None
-        }
+        let place = place as usize;
+        self.child_by(self.has_child.word_of(place), place)
     }
 
     /// How many leaves stand before a place, those before this half counted in: the slot of the leaf there.
@@ -228,6 +242,20 @@ impl<A: Allocator> Sparse<A> {
         ensures { result.now ≡ sparse_louds self.now.nodes }
     {
         self.louds.bits()
+    }
+
+    // The node that the branch at a place leads to, by a word of `has_child` that was read.
+    fn child_by(&self, word: RankedWord, place: usize) -> Option<u64>
+        requires place { place < places_in self.now }
+        requires word { IsWordOf (sparse_children self.now.nodes) word }
+        ensures { result ≡ child_at self.now place }
+    {
+        let (leads, before) = self.has_child.bit_and_rank_by(word, place);
+        if leads {
+            Some(self.before.children + before as u64 + 1)
+        } else {
+            None
+        }
     }
 
     // The place at which a node begins, by its number in this half, or the one after the last.

@@ -5,14 +5,13 @@ use Rattle.std.specs.Ordering.{nat_cmp, is_lt, ordering_then}
 use Rattle.std.specs.Cmp.Lexicographic.{pointwise, slice_cmp}
 use Rattle.std.proofs.lemmas.Bool.{cases_Bool, eqb-true, eq-eqb, ne_eqb, lt-ltb, le-ltb, and_parts, false≢true, cond-true, cond-false}
 use Rattle.std.proofs.lemmas.List.{append-nil, get_or-drop}
-use Rattle.std.proofs.lemmas.Nat.{pow-add}
-use native.Mathlib.Nat.{mul-le-mul_right, mul-lt-mul_of_pos_right}
+use native.Mathlib.Nat.{mul-le-mul_right}
 use Rattle.byte_fields.specs.Spelling.{IsBytes}
 use Rattle.filter_model.specs.Answers.{begins, is_past}
 use Rattle.filter_model.specs.Leaves.{Leaf}
-use Rattle.filter_model.specs.Strings.{bits, extends, front, is_before, is_prefix, same, shortest}
+use Rattle.filter_model.specs.Strings.{bits, extends, prefix_number, is_before, is_prefix, shortest}
 use Rattle.filter_model.proofs.Order.{nat_cmp-less, nat_cmp-same, nat_cmp-more, thirds}
-use Rattle.filter_model.proofs.Fronts.{IsBytes-drop, front_below, pow_pos}
+use Rattle.filter_model.proofs.Fronts.{IsBytes-drop, prefix_number_below}
 
 -- what a slice says of its numbers
 pub bytes_of : (x : List ℕ) → ((i : ℕ) → Fits w8 (get_or x i 0)) → IsBytes x
@@ -23,19 +22,13 @@ prefix_from_pointwise [] x = refl
 prefix_from_pointwise (a ∷ p) [] = refl
 prefix_from_pointwise (a ∷ p) (b ∷ x) = ap (λ t. (a == b) && t) (prefix_from_pointwise p x)
 
-pub same_from_pointwise : (x y : List ℕ) → pointwise (λ (a b : ℕ). a == b) x y ≡ same x y
-same_from_pointwise [] [] = refl
-same_from_pointwise [] (b ∷ y) = refl
-same_from_pointwise (a ∷ x) [] = refl
-same_from_pointwise (a ∷ x) (b ∷ y) = ap (λ t. (a == b) && t) (same_from_pointwise x y)
+prefix_number-nil : (n : ℕ) → prefix_number n [] ≡ 0
+prefix_number-nil zero = refl
+prefix_number-nil (suc n) = refl
 
-front-nil : (n : ℕ) → front n [] ≡ 0
-front-nil zero = refl
-front-nil (suc n) = refl
-
-front-suc : (n : ℕ) (x : List ℕ) → front (suc n) x ≡ slice_index x 0 * 256 ^ n + front n (drop 1 x)
-front-suc n [] = omega (arith, front-nil n)
-front-suc n (a ∷ x) = refl
+prefix_number-suc : (n : ℕ) (x : List ℕ) → prefix_number (suc n) x ≡ slice_index x 0 * 256 ^ n + prefix_number n (drop 1 x)
+prefix_number-suc n [] = omega (arith, prefix_number-nil n)
+prefix_number-suc n (a ∷ x) = refl
 
 drop-suc : (i : ℕ) (x : List ℕ) → drop 1 (drop i x) ≡ drop (i + 1) x
 drop-suc i x = go i x ∙ ap (λ k. drop k x) (sym (add-one i))
@@ -58,15 +51,15 @@ higher a b p f g h k =
     let out : (a + 1) * p ≡ a * p + p = omega arith in
     omega arith
 
--- the comparison of two padded fronts, from place i on
+-- the comparison of two padded prefixes, from place i on
 abbrev pub padded_cmp : List ℕ → List ℕ → ℕ → Ordering
-padded_cmp t lo i = nat_cmp (front (length t - i) (drop i t)) (front (length t - i) (drop i lo))
+padded_cmp t lo i = nat_cmp (prefix_number (length t - i) (drop i t)) (prefix_number (length t - i) (drop i lo))
 
-front_from : (t x : List ℕ) (i : ℕ) → i < length t → front (length t - i) (drop i x) ≡ slice_index x i * 256 ^ (length t - (i + 1)) + front (length t - (i + 1)) (drop (i + 1) x)
-front_from t x i h =
+prefix_number_from : (t x : List ℕ) (i : ℕ) → i < length t → prefix_number (length t - i) (drop i x) ≡ slice_index x i * 256 ^ (length t - (i + 1)) + prefix_number (length t - (i + 1)) (drop (i + 1) x)
+prefix_number_from t x i h =
     let n : length t - i ≡ suc (length t - (i + 1)) = omega arith in
-    ap (λ k. front k (drop i x)) n ∙ front-suc (length t - (i + 1)) (drop i x)
-    ∙ (λ j. at i x j * 256 ^ (length t - (i + 1)) + front (length t - (i + 1)) (drop-suc i x j))
+    ap (λ k. prefix_number k (drop i x)) n ∙ prefix_number-suc (length t - (i + 1)) (drop i x)
+    ∙ (λ j. at i x j * 256 ^ (length t - (i + 1)) + prefix_number (length t - (i + 1)) (drop-suc i x j))
   where
     at : (i : ℕ) (x : List ℕ) → slice_index (drop i x) 0 ≡ slice_index x i
     at i x = let plain : i + 0 ≡ i = omega arith in get_or-drop i x 0 0 ∙ ap (slice_index x) plain
@@ -74,33 +67,33 @@ front_from t x i h =
 pub padded_more : (t lo : List ℕ) (i : ℕ) → i < length t → slice_index t i ≡ slice_index lo i → padded_cmp t lo i ≡ padded_cmp t lo (i + 1)
 padded_more t lo i h e =
     let n = length t - (i + 1) in
-    (λ j. nat_cmp (front_from t t i h j) (front_from t lo i h j))
-    ∙ ap (λ a. nat_cmp (a * 256 ^ n + front n (drop (i + 1) t)) (slice_index lo i * 256 ^ n + front n (drop (i + 1) lo))) e
-    ∙ nat_cmp-shift (slice_index lo i * 256 ^ n) (front n (drop (i + 1) t)) (front n (drop (i + 1) lo))
+    (λ j. nat_cmp (prefix_number_from t t i h j) (prefix_number_from t lo i h j))
+    ∙ ap (λ a. nat_cmp (a * 256 ^ n + prefix_number n (drop (i + 1) t)) (slice_index lo i * 256 ^ n + prefix_number n (drop (i + 1) lo))) e
+    ∙ nat_cmp-shift (slice_index lo i * 256 ^ n) (prefix_number n (drop (i + 1) t)) (prefix_number n (drop (i + 1) lo))
 
 pub padded_differs : (t lo : List ℕ) (i : ℕ) → IsBytes t → IsBytes lo → i < length t → (slice_index t i ≡ slice_index lo i → ⊥) → padded_cmp t lo i ≡ nat_cmp (slice_index t i) (slice_index lo i)
 padded_differs t lo i ht hlo h ne =
     let n = length t - (i + 1) in
     let a = slice_index t i in
     let b = slice_index lo i in
-    let f = front n (drop (i + 1) t) in
-    let g = front n (drop (i + 1) lo) in
-    let f_in = front_below n (drop (i + 1) t) (IsBytes-drop (i + 1) t ht) in
-    let g_in = front_below n (drop (i + 1) lo) (IsBytes-drop (i + 1) lo hlo) in
-    (λ j. nat_cmp (front_from t t i h j) (front_from t lo i h j))
+    let f = prefix_number n (drop (i + 1) t) in
+    let g = prefix_number n (drop (i + 1) lo) in
+    let f_in = prefix_number_below n (drop (i + 1) t) (IsBytes-drop (i + 1) t ht) in
+    let g_in = prefix_number_below n (drop (i + 1) lo) (IsBytes-drop (i + 1) lo hlo) in
+    (λ j. nat_cmp (prefix_number_from t t i h j) (prefix_number_from t lo i h j))
     ∙ elim (thirds a b) [
       | inl less ↦ nat_cmp-less (a * 256 ^ n + f) (b * 256 ^ n + g) (higher a b (256 ^ n) f g less f_in) ∙ sym (nat_cmp-less a b less)
       | inr (inl one) ↦ absurd (ne one)
       | inr (inr more) ↦ nat_cmp-more (a * 256 ^ n + f) (b * 256 ^ n + g) (higher b a (256 ^ n) g f more g_in) ∙ sym (nat_cmp-more a b more)
     ]
 
-pub padded_none : (t lo : List ℕ) → nat_cmp (front (length t) t) (front (length t) lo) ≡ padded_cmp t lo 0
-padded_none t lo = let all : length t ≡ length t - 0 = omega arith in (λ j. nat_cmp (front (all j) t) (front (all j) lo))
+pub padded_none : (t lo : List ℕ) → nat_cmp (prefix_number (length t) t) (prefix_number (length t) lo) ≡ padded_cmp t lo 0
+padded_none t lo = let all : length t ≡ length t - 0 = omega arith in (λ j. nat_cmp (prefix_number (all j) t) (prefix_number (all j) lo))
 
 pub padded_all : (t lo : List ℕ) → padded_cmp t lo (length t) ≡ Equal
 padded_all t lo =
     let none : length t - length t ≡ 0 = omega arith in
-    (λ j. nat_cmp (front (none j) (drop (length t) t)) (front (none j) (drop (length t) lo)))
+    (λ j. nat_cmp (prefix_number (none j) (drop (length t) t)) (prefix_number (none j) (drop (length t) lo)))
 
 -- yes at Less, no at Greater, and the answer given at Equal
 abbrev pub by_order : Ordering → Bool → Bool
@@ -109,11 +102,11 @@ by_order Equal b = b
 by_order Greater b = false
 
 -- a leaf that does not end is past lo by the padded comparison
-pub past_by_cmp : (n : ℕ) (lo : List ℕ) (l : Leaf) (o : Ordering) → l.ends ≡ false → o ≡ nat_cmp (front (length l.stub) l.stub) (front (length l.stub) lo)
+pub past_by_cmp : (n : ℕ) (lo : List ℕ) (l : Leaf) (o : Ordering) → l.ends ≡ false → o ≡ nat_cmp (prefix_number (length l.stub) l.stub) (prefix_number (length l.stub) lo)
     → is_past n lo l ≡ by_order o (nat_lt l.real (bits n (drop (length l.stub) lo)))
 past_by_cmp n lo l o none e =
-    let f = front (length l.stub) l.stub in
-    let g = front (length l.stub) lo in
+    let f = prefix_number (length l.stub) l.stub in
+    let g = prefix_number (length l.stub) lo in
     let below = nat_lt l.real (bits n (drop (length l.stub) lo)) in
     cond-false l.ends (is_before l.stub lo) _ none
     ∙ elim (thirds f g) [
@@ -145,13 +138,6 @@ below_after (b ∷ hi) (a ∷ t) u e =
     let parts = and_parts (a == b) (is_prefix t hi) e in
     let one = sym (eqb-true a b parts.0) in
     ap (λ o. is_lt (ordering_then o (slice_cmp nat_cmp hi (t ++ u)))) (nat_cmp-same b a one) ∙ below_after hi t u parts.1
-
--- real bits, filled to 32, fit in 32
-pub filled_fits : (n r : ℕ) → n ≤ 32 → r < 2 ^ n → r * 2 ^ (32 - n) < 2 ^ 32
-filled_fits n r h k =
-    let e : n + (32 - n) ≡ 32 = omega arith in
-    let whole : 2 ^ 32 ≡ 2 ^ n * 2 ^ (32 - n) = ap (λ (m : ℕ). 2 ^ m) (sym e) ∙ pow-add 2 n (32 - n) in
-    omega (arith, whole, mul-lt-mul_of_pos_right k (pow_pos 2 (32 - n) (omega arith)))
 
 pub least_end : (n : ℕ) (l : Leaf) → l.ends ≡ true → begins n l ≡ l.stub
 least_end n l e = ap (λ (u : List ℕ). l.stub ++ u) (cond-true l.ends [] (shortest 4 (l.real * 2 ^ (32 - n))) e) ∙ append-nil l.stub

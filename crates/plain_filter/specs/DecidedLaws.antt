@@ -66,14 +66,12 @@ is_leaf hash_bits real_bits l =
     elim (both (are_bytes l.stub) (both (below 0 (length l.stub)) (both (up_to (length l.stub) max_key_bytes)
     (both (below l.hash (2 ^ hash_bits)) (both (below l.real (2 ^ real_bits)) (without_real l)))))) [
       | inl h ↦ inl (record {
-        bytes = h.0;
-        filled = h.1.0;
-        short = h.1.1.0;
+        stub = record { bytes = h.0; filled = h.1.0; short = h.1.1.0 };
         hash_fits = h.1.1.1.0;
         real_fits = h.1.1.1.1.0;
         end_without_real = h.1.1.1.1.1;
       })
-      | inr fails ↦ inr (λ l. fails (l.bytes, (l.filled, (l.short, (l.hash_fits, (l.real_fits, l.end_without_real))))))
+      | inr fails ↦ inr (λ l. fails (l.stub.bytes, (l.stub.filled, (l.stub.short, (l.hash_fits, (l.real_fits, l.end_without_real))))))
     ]
 
 same_test : (a b : Bool) → OrNot (a ≡ b)

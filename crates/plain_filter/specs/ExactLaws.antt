@@ -186,7 +186,7 @@ spells_each hash_bits real_bits ls h k each = All-weaker (IsLeaf hash_bits real_
     one l leaf =
         let hash = pow-le-pow_right {n = 2} (omega arith) h in
         let real = pow-le-pow_right {n = 2} (omega arith) k in
-        record { short = omega (arith, leaf.short); hash = omega (arith, leaf.hash_fits, hash); real = omega (arith, leaf.real_fits, real) }
+        record { short = omega (arith, leaf.stub.short); hash = omega (arith, leaf.hash_fits, hash); real = omega (arith, leaf.real_fits, real) }
 
 -- SURP
 abbrev pub plain_magic : List ℕ

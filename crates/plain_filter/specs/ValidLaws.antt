@@ -4,8 +4,9 @@ use Rattle.std.specs.List.{All, list_any}
 use Rattle.std.proofs.lemmas.Bool.{cases_lt, cases_Bool, and_parts, and_from, or_cases, or_left, or_right, eqb-true, eqb-false, eq-eqb, ne_eqb, lt-ltb, ltb-true, not-true, not_from_false, false≢true, cond-true, cond-false}
 use Rattle.std.proofs.lemmas.List.{get_or_default}
 use Rattle.filter_model.specs.Leaves.{Leaf}
-use Rattle.filter_model.specs.Strings.{extends, is_before, is_prefix, same}
-use Rattle.filter_model.specs.Valid.{EndsRightly, IsCrowded, IsLeaf, IsValid, joins, node}
+use Rattle.filter_model.specs.Strings.{extends, is_before, is_prefix, bytes_eq}
+use Rattle.filter_model.specs.Trie.{parent}
+use Rattle.filter_model.specs.Valid.{EndsRightly, IsCrowded, IsLeaf, IsValid, joins}
 use Rattle.filter_model.proofs.Order.{Leq, Lt, Lt-from, Lt-to, Lt-trans, Lt-Leq, Lt-not_back}
 use Rattle.filter_model.proofs.Fronts.{same-itself}
 use Rattle.filter_model.proofs.Shared.{extends-itself, extends-prefix, is_prefix-take, is_prefix_Leq, prefixes_of_one}
@@ -60,7 +61,7 @@ itself : (x : List ℕ) → is_prefix x x ≡ true
 itself [] = refl
 itself (a ∷ x) = and_from (a == a) (is_prefix x x) (eq-eqb a a refl) (itself x)
 
-node_begins : (l : Leaf) → is_prefix (node l) l.stub ≡ true
+node_begins : (l : Leaf) → is_prefix (parent l) l.stub ≡ true
 node_begins l = elim (cases_Bool l.ends) [
   | inl e ↦ ap (λ (p : List ℕ). is_prefix p l.stub) (cond-true l.ends l.stub (take (length l.stub - 1) l.stub) e) ∙ itself l.stub
   | inr e ↦ ap (λ (p : List ℕ). is_prefix p l.stub) (cond-false l.ends l.stub (take (length l.stub - 1) l.stub) e) ∙ is_prefix-take (length l.stub - 1) l.stub
@@ -94,8 +95,8 @@ any_extends ls i rise h =
       ]
     ]
 
-joins_from : (l o : Leaf) → is_prefix (node l) o.stub ≡ true → (o.stub ≡ l.stub → ⊥) → joins l o ≡ true
-joins_from l o e ne = and_from (is_prefix (node l) o.stub) (not (same o.stub l.stub)) e (not_from_false (same o.stub l.stub) (same-false o.stub l.stub ne))
+joins_from : (l o : Leaf) → is_prefix (parent l) o.stub ≡ true → (o.stub ≡ l.stub → ⊥) → joins l o ≡ true
+joins_from l o e ne = and_from (is_prefix (parent l) o.stub) (not (bytes_eq o.stub l.stub)) e (not_from_false (bytes_eq o.stub l.stub) (same-false o.stub l.stub ne))
 
 -- another stub goes on from the node at place i exactly where a neighbour's does
 any_joins : (ls : List Leaf) (i : ℕ) → Rising ls → i < length ls → list_any (joins (leaf_number ls i)) ls ≡ (joins_before ls i || joins_next ls i)
@@ -103,9 +104,9 @@ any_joins ls i rise h =
     let l = leaf_number ls i in
     bool_iff (list_any (joins l) ls) (joins_before ls i || joins_next ls i)
     (λ e. let found = place_from_any (joins l) ls e in
-    let parts = and_parts (is_prefix (node l) (leaf_number ls found.place).stub) (not (same (leaf_number ls found.place).stub l.stub)) found.passes in
+    let parts = and_parts (is_prefix (parent l) (leaf_number ls found.place).stub) (not (bytes_eq (leaf_number ls found.place).stub l.stub)) found.passes in
     beside found.place found.within parts.0
-    (λ one. false≢true (sym (not-true (same (leaf_number ls found.place).stub l.stub) parts.1) ∙ ap (λ j. same (leaf_number ls j).stub l.stub) one ∙ same-itself l.stub)))
+    (λ one. false≢true (sym (not-true (bytes_eq (leaf_number ls found.place).stub l.stub) parts.1) ∙ ap (λ j. bytes_eq (leaf_number ls j).stub l.stub) one ∙ same-itself l.stub)))
     (λ e. elim (or_cases (joins_before ls i) (joins_next ls i) e) [
       | inl before ↦ any_before ls i h before
       | inr after ↦
@@ -120,29 +121,29 @@ any_joins ls i rise h =
     apart : (a b : ℕ) → a < b → b < length ls → (leaf_number ls a).stub ≡ (leaf_number ls b).stub → ⊥
     apart a b before within = different (leaf_number ls a).stub (leaf_number ls b).stub (rise a b before within)
 
-    next : (j : ℕ) → j < length ls → i < j → is_prefix (node (leaf_number ls i)) (leaf_number ls j).stub ≡ true → joins_next ls i ≡ true
+    next : (j : ℕ) → j < length ls → i < j → is_prefix (parent (leaf_number ls i)) (leaf_number ls j).stub ≡ true → joins_next ls i ≡ true
     next j k after e =
         and_from (nat_lt (i + 1) (length ls)) (joins (leaf_number ls i) (leaf_number ls (i + 1))) (lt-ltb (i + 1) (length ls) (omega arith))
         (joins_from (leaf_number ls i) (leaf_number ls (i + 1))
         (elim (cases_lt (i + 1) j) [
-          | inl further ↦ prefix_between (node (leaf_number ls i)) (leaf_number ls i).stub (leaf_number ls (i + 1)).stub (leaf_number ls j).stub (node_begins (leaf_number ls i)) e
+          | inl further ↦ prefix_between (parent (leaf_number ls i)) (leaf_number ls i).stub (leaf_number ls (i + 1)).stub (leaf_number ls j).stub (node_begins (leaf_number ls i)) e
               (Lt-Leq (leaf_number ls i).stub (leaf_number ls (i + 1)).stub (rise i (i + 1) (omega arith) (omega arith))) (Lt-Leq (leaf_number ls (i + 1)).stub (leaf_number ls j).stub (rise (i + 1) j further k))
-          | inr near ↦ let one : j ≡ i + 1 = omega arith in ap (λ n. is_prefix (node (leaf_number ls i)) (leaf_number ls n).stub) (sym one) ∙ e
+          | inr near ↦ let one : j ≡ i + 1 = omega arith in ap (λ n. is_prefix (parent (leaf_number ls i)) (leaf_number ls n).stub) (sym one) ∙ e
         ])
         (λ s. apart i (i + 1) (omega arith) (omega arith) (sym s)))
 
-    previous : (i j : ℕ) → i < length ls → j < i → is_prefix (node (leaf_number ls i)) (leaf_number ls j).stub ≡ true → joins_before ls i ≡ true
+    previous : (i j : ℕ) → i < length ls → j < i → is_prefix (parent (leaf_number ls i)) (leaf_number ls j).stub ≡ true → joins_before ls i ≡ true
     previous zero j k before e = absurd (omega arith)
     previous (suc i) j k before e =
         joins_from (leaf_number ls (suc i)) (leaf_number ls i)
         (elim (cases_lt j i) [
-          | inl further ↦ prefix_between (node (leaf_number ls (suc i))) (leaf_number ls j).stub (leaf_number ls i).stub (leaf_number ls (suc i)).stub e (node_begins (leaf_number ls (suc i)))
+          | inl further ↦ prefix_between (parent (leaf_number ls (suc i))) (leaf_number ls j).stub (leaf_number ls i).stub (leaf_number ls (suc i)).stub e (node_begins (leaf_number ls (suc i)))
               (Lt-Leq (leaf_number ls j).stub (leaf_number ls i).stub (rise j i further (omega arith))) (Lt-Leq (leaf_number ls i).stub (leaf_number ls (suc i)).stub (rise i (suc i) (omega arith) k))
-          | inr near ↦ let one : j ≡ i = omega arith in ap (λ n. is_prefix (node (leaf_number ls (suc i))) (leaf_number ls n).stub) (sym one) ∙ e
+          | inr near ↦ let one : j ≡ i = omega arith in ap (λ n. is_prefix (parent (leaf_number ls (suc i))) (leaf_number ls n).stub) (sym one) ∙ e
         ])
         (apart i (suc i) (omega arith) k)
 
-    beside : (j : ℕ) → j < length ls → is_prefix (node (leaf_number ls i)) (leaf_number ls j).stub ≡ true → (j ≡ i → ⊥) → (joins_before ls i || joins_next ls i) ≡ true
+    beside : (j : ℕ) → j < length ls → is_prefix (parent (leaf_number ls i)) (leaf_number ls j).stub ≡ true → (j ≡ i → ⊥) → (joins_before ls i || joins_next ls i) ≡ true
     beside j k e ne = elim (cases_lt i j) [
       | inl after ↦ or_right (joins_before ls i) (joins_next ls i) (next j k after e)
       | inr not_after ↦ elim (cases_lt j i) [

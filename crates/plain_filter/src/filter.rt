@@ -15,14 +15,14 @@ ghost use Rattle.plain_filter.specs.Spelling.{plain_spelling};
 use crate::answers::{any_fits, any_meets, count_meeting, first_from};
 use crate::decode::read_leaves;
 use crate::encode::{MAGIC, spelled};
-use crate::leaf::{begins_with, filled, shortest_bytes};
+use crate::leaf::begins_with;
 use crate::valid::is_valid;
 use byte_fields::get_u32;
 use filter_api::{DecodeError, FilterFault, Leaf, LeafList, RangeFilter, Settings};
 use key_base::{KeyList, MAX_HASH_BITS, MAX_REAL_BITS};
 use key_truncate::{Stub, truncate};
 use std::alloc::{AllocError, Global};
-use suffix_bits::{hash_bits_of, real_bits_of};
+use suffix_bits::{filled, hash_bits_of, real_bits_of, shortest_bytes};
 
 /// A filter that is its leaf list.
 #[derive(Drop)]

@@ -1,15 +1,15 @@
 //! What one leaf answers.
-ghost use Rattle.std.specs.Prelude.{◌≡◌, ◌==◌, ◌&&◌, ◌*◌, ◌-◌, ◌<◌, ◌≤◌, ◌^◌, length, slice_index, take, IsTrue};
+ghost use Rattle.std.specs.Prelude.{◌≡◌, ◌==◌, ◌&&◌, ◌*◌, ◌-◌, ◌<◌, ◌≤◌, ◌^◌, length, slice_index, IsTrue};
 ghost use Rattle.std.specs.Ordering.{nat_cmp};
 ghost use Rattle.key_base.specs.Limits.{max_real_bits};
 ghost use Rattle.filter_model.specs.Answers.{begins, fits, is_past, meets};
-ghost use Rattle.filter_model.specs.Strings.{front, is_before, is_prefix, same, shortest};
+ghost use Rattle.filter_model.specs.Strings.{prefix_number, is_before, is_prefix, bytes_eq};
 ghost use Rattle.filter_api.specs.Seen.{seen};
 
 use filter_api::Leaf;
 use key_base::compare;
 use std::cmp::Ordering;
-use suffix_bits::real_bits_of;
+use suffix_bits::{filled, real_bits_of, shortest_bytes};
 
 // Whether `key` fits the leaf, hash apart.
 fn leaf_fits(leaf: &Leaf, key: &[u8], real_bits: u8) -> bool
@@ -74,38 +74,9 @@ fn below_least(hi: &[u8], leaf: &Leaf, real_bits: u8) -> bool
     compare(&hi[stub.len()..], &tail[..len]).is_lt()
 }
 
-/// The real bits, filled with zero bits to 32.
-#[tactic(auto, using(crate::proofs::LeafLemmas::filled_fits))]
-pub(crate) fn filled(real: u32, real_bits: u8) -> u32
-    requires width { real_bits ≤ max_real_bits }
-    requires real { real < 2 ^ real_bits }
-    ensures { result ≡ real * 2 ^ (32 - real_bits) }
-{
-    (u64::from(real) * 2u64.pow(32 - u32::from(real_bits))) as u32
-}
-
-/// The four bytes of `number`, the highest first, and how many of them stand before the zero bytes at the end.
-pub(crate) fn shortest_bytes(number: u32) -> ([u8; 4], usize)
-    ensures len { result.1 ≤ 4 }
-    ensures bytes { take result.1 result.0 ≡ shortest 4 number }
-{
-    let a = (number / 0x100_0000) as u8;
-    let b = (number / 0x1_0000 % 0x100) as u8;
-    let c = (number / 0x100 % 0x100) as u8;
-    let d = (number % 0x100) as u8;
-    let len = match (a, b, c, d) {
-        (0, 0, 0, 0) => 0,
-        (_, 0, 0, 0) => 1,
-        (_, _, 0, 0) => 2,
-        (_, _, _, 0) => 3,
-        _ => 4,
-    };
-    ([a, b, c, d], len)
-}
-
 // How the stub compares with as many first bytes of `lo`, zero bytes where `lo` has no more.
 fn compare_padded(stub: &[u8], lo: &[u8]) -> Ordering
-    ensures { result ≡ nat_cmp (front (length stub.now) stub.now) (front (length stub.now) lo.now) }
+    ensures { result ≡ nat_cmp (prefix_number (length stub.now) stub.now) (prefix_number (length stub.now) lo.now) }
 {
     for i in 0..stub.len() {
         let other = byte_at(lo, i);
@@ -124,7 +95,7 @@ fn byte_at(bytes: &[u8], i: usize) -> u8
 
 /// Whether the two are one byte string.
 pub(crate) fn are_same(a: &[u8], b: &[u8]) -> bool
-    ensures { result ≡ same a.now b.now }
+    ensures { result ≡ bytes_eq a.now b.now }
 {
     a == b
 }

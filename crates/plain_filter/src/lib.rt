@@ -21,6 +21,3 @@ mod leaf;
 mod valid;
 
 pub use filter::PlainFilter;
-
-#[cfg(test)]
-mod tests;

@@ -1,7 +1,8 @@
 //! The test whether a leaf list is valid, by each leaf's neighbours.
 ghost use Rattle.std.specs.Prelude.{◌≡◌, ◌<◌, ◌≤◌, ◌^◌, ◌↔◌, length, IsTrue};
 ghost use Rattle.key_base.specs.Limits.{max_hash_bits, max_real_bits};
-ghost use Rattle.filter_model.specs.Valid.{IsLeaf, IsValid, joins, node};
+ghost use Rattle.filter_model.specs.Trie.{parent};
+ghost use Rattle.filter_model.specs.Valid.{IsLeaf, IsValid, joins};
 ghost use Rattle.filter_model.specs.Strings.{extends};
 ghost use Rattle.filter_api.specs.Seen.{seen};
 ghost use Rattle.plain_filter.specs.Neighbours.{StandsRightly, has_company, joins_before, joins_next, next_extends, rises_at};
@@ -133,7 +134,7 @@ fn leaves_join(leaf: &Leaf, other: &Leaf) -> bool
 }
 
 fn node_of(leaf: &Leaf) -> &[u8]
-    ensures { result.now ≡ node (seen leaf.now) }
+    ensures { result.now ≡ parent (seen leaf.now) }
 {
     let stub = leaf.stub.as_slice();
     if leaf.ends {

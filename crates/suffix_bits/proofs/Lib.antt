@@ -1,1 +1,2 @@
+pub mod FilledBits
 pub mod Packing

@@ -1,9 +1,8 @@
 -- Suffixes and their bits.
-use Rattle.std.proofs.Common.{◌≡◌, ℕ, ◌+◌, ◌*◌, ◌/◌, ◌%◌, ◌^◌, ◌<◌, ◌≤◌, Bool, eqb, List, [], ◌∷◌, ◌++◌, zero, suc, add-one, length, get_or, take, drop, map, flat_map, refl, sym, ap, ap₂, ◌∙◌, arith, lit<}
+use Rattle.std.proofs.Common.{◌≡◌, ℕ, ◌+◌, ◌*◌, ◌/◌, ◌%◌, ◌^◌, ◌<◌, ◌≤◌, Bool, List, [], ◌∷◌, ◌++◌, zero, suc, add-one, length, get_or, take, drop, flat_map, refl, sym, ap, ap₂, ◌∙◌, arith, lit<}
 use Rattle.std.proofs.Math.Nat.{mod-lt, mod-eq_of_lt, mul-le-mul_left, lt_of_lt_of_le, pow-le-pow_right}
 use Rattle.std.proofs.Math.Seq.{take-add}
-use Rattle.std.specs.List.{All, range_with_len}
-use Rattle.std.specs.Int.{bit_at}
+use Rattle.std.specs.List.{All}
 use Rattle.std.specs.Simd.Lanes.{mask_l}
 use Rattle.std.proofs.lemmas.Nat.{pow-add, pow_pos, shr_split, shr_below, shr_high, mod_low}
 use Rattle.std.proofs.lemmas.Simd.{mask_l-lt}
@@ -12,9 +11,7 @@ use Rattle.std.proofs.lemmas.List.{append-nil, length-append, length-take, lengt
 use Rattle.std.proofs.lemmas.List.FromFn.{length-map-range_with_len, get_or-map-range_with_len, map-range_with_len_more}
 use Rattle.bit_words.specs.Numbers.{bits_of, number_at}
 use Rattle.bit_words.proofs.Numbers.{length-bits_of, number_back, bits_back}
-use Rattle.filter_model.specs.Leaves.{Leaf}
-use Rattle.filter_model.specs.Image.{in_slots, suffix_of, suffixes}
-use Rattle.suffix_bits.specs.Slots.{Suffix, IsOfWidths, suffix_number, suffix_in, packed_suffixes, unpacked_suffixes, leaf_suffix}
+use Rattle.suffix_bits.specs.Slots.{Suffix, IsOfWidths, suffix_number, suffix_in, packed_suffixes, unpacked_suffixes}
 
 -- ---- the number of a suffix
 
@@ -173,15 +170,3 @@ pub slot_room : (w n slot len : ℕ) → len ≡ w * n → slot < n → w * slot
 slot_room w n slot len long below =
     let room : w * suc slot ≤ w * n = mul-le-mul_left w below in
     omega (arith, room, long)
-
--- ---- leaves
-
-of_leaves : (h r : ℕ) (ls : List Leaf)
-    → flat_map (λ (s : Suffix). map (λ i. eqb (bit_at (suffix_number h s) i) 1) (range_with_len 0 (h + r))) (map leaf_suffix ls)
-    ≡ flat_map (suffix_of h r) ls
-of_leaves h r [] = refl
-of_leaves h r (l ∷ ls) = ap (λ (bs : List Bool). suffix_of h r l ++ bs) (of_leaves h r ls)
-
-pub section : (h r : ℕ) (ls : List Leaf) → packed_suffixes h r (map leaf_suffix (in_slots ls)) ≡ suffixes h r ls
-unfolding packed_suffixes bits_of
-section h r ls = of_leaves h r (in_slots ls)

@@ -1,15 +1,15 @@
 -- Another stub goes on from a leaf's node exactly where that node has a second branch.
-use Rattle.std.proofs.Common.{◌≡◌, ℕ, suc, ◌-◌, ◌<◌, ◌≤◌, ◌==◌, Bool, true, false, cond, List, [], ◌∷◌, ◌++◌, length, get_or, take, refl, ap, subst, sym, ◌∙◌, arith, inl, inr}
+use Rattle.std.proofs.Common.{◌≡◌, ℕ, suc, ◌-◌, ◌<◌, ◌≤◌, ◌==◌, Bool, true, false, List, [], ◌∷◌, ◌++◌, length, get_or, refl, ap, subst, sym, ◌∙◌, arith, inl, inr}
 use Rattle.std.specs.Prelude.{not}
 use Rattle.std.proofs.lemmas.Bool.{and_from, and_parts, cases_eq, cases_order, eq-eqb, eqb-true, false_from_ne_true, false≢true, not-true, not_from_false, true≢false}
-use Rattle.std.proofs.lemmas.List.{append-nil, get_or_default}
+use Rattle.std.proofs.lemmas.List.{get_or_default}
 use Rattle.std.proofs.lemmas.List.Folds.{list_any_at}
 use Rattle.filter_model.specs.Leaves.{Leaf}
 use Rattle.filter_model.specs.Nodes.{last_letter}
-use Rattle.filter_model.specs.Strings.{extends, is_prefix, same}
+use Rattle.filter_model.specs.Strings.{extends, is_prefix, bytes_eq}
 use Rattle.filter_model.specs.Trie.{END, branches, is_reached, parent, path}
-use Rattle.filter_model.specs.Valid.{IsCrowded, joins, node}
-use Rattle.filter_model.proofs.Crowds.{two_branches}
+use Rattle.filter_model.specs.Valid.{IsCrowded, joins}
+use Rattle.filter_model.proofs.Crowds.{parent-path, two_branches}
 use Rattle.filter_model.proofs.Fronts.{same-itself, same-true}
 use Rattle.filter_model.proofs.Stubs.{different}
 use Rattle.trie_levels.specs.Tries.{HasTrie}
@@ -21,23 +21,6 @@ use Rattle.trie_laws.proofs.Forms.{branches_differ, branches_reached, one_furthe
 use Rattle.trie_laws.proofs.Paths.{any_leaf, one_begins, path_reached, prefix_itself, pushed, reached_by, some_at}
 use Rattle.trie_laws.proofs.Places.{branches_form}
 use Rattle.trie_laws.proofs.Slots.{prefix_whole}
-
--- the leaf's node is its path without the last letter
-node_is_parent : (l : Leaf) → node l ≡ parent l
-unfolding parent path
-node_is_parent l = go l.ends l.stub
-  where
-    whole : (x : List ℕ) → take (length (x ++ 256 ∷ []) - 1) (x ++ 256 ∷ []) ≡ x
-    whole [] = refl
-    whole (a ∷ []) = refl
-    whole (a ∷ b ∷ x) = (λ i. take (less i) (a ∷ b ∷ x ++ 256 ∷ [])) ∙ (λ i. a ∷ whole (b ∷ x) i)
-      where
-        less : length (a ∷ b ∷ x ++ 256 ∷ []) - 1 ≡ suc (length (b ∷ x ++ 256 ∷ []) - 1)
-        less = omega arith
-
-    go : (e : Bool) (x : List ℕ) → cond e x (take (length x - 1) x) ≡ take (length (x ++ cond e (END ∷ []) []) - 1) (x ++ cond e (END ∷ []) [])
-    go true x = sym (whole x)
-    go false x = ap (λ (y : List ℕ). take (length y - 1) y) (sym (append-nil x))
 
 -- a path that goes on from p goes on from it by its stub
 stub_begins : (p x : List ℕ) (e : Bool) → extends p (x ++ tail e) ≡ true → is_prefix p x ≡ true
@@ -59,17 +42,18 @@ record IsCut (ls : List Leaf) (i : ℕ) : Type 0 where
   reached : is_reached ls (parent (get_or ls i any_leaf) ++ letter ∷ []) ≡ true
 
 cut : (ls : List Leaf) (i : ℕ) → HasTrie ls → i < length ls → IsCut ls i
-unfolding parent path
+unfolding path
 cut ls i t il =
     let l = get_or ls i any_leaf in
     let n = length (path l) - 1 in
     let long : length (path l) ≡ suc n = omega (arith, path_filled l ((in_order ls t).filled i any_leaf il)) in
-    let w = pushed (path l) n long in
+    let c = get_or (path l) n 0 in
+    let w : path l ≡ parent l ++ c ∷ [] = pushed (path l) n long ∙ ap (λ (p : List ℕ). p ++ c ∷ []) (sym (parent-path l)) in
     record {
-      letter = get_or (path l) n 0;
+      letter = c;
       small = path_letter l.stub l.ends n ((in_order ls t).bytes i any_leaf il);
       whole = w;
-      reached = path_reached ls i any_leaf (take n (path l) ++ get_or (path l) n 0 ∷ []) il (ap (λ (q : List ℕ). is_prefix q (path l)) (sym w) ∙ prefix_itself (path l));
+      reached = path_reached ls i any_leaf (parent l ++ c ∷ []) il (ap (λ (q : List ℕ). is_prefix q (path l)) (sym w) ∙ prefix_itself (path l));
     }
 
 prefix_push : (p : List ℕ) (c : ℕ) → is_prefix p (p ++ c ∷ []) ≡ true
@@ -86,9 +70,9 @@ second_branch ls i t il h =
     let found = some_at (joins l) ls any_leaf h in
     let k = found.0 in
     let o = get_or ls k any_leaf in
-    let joined = and_parts (is_prefix (node l) o.stub) (not (same o.stub l.stub)) found.2 in
-    let other : (i ≡ k) → ⊥ = λ e. true≢false (sym (same-itself l.stub) ∙ ap (λ (j : ℕ). same (get_or ls j any_leaf).stub l.stub) e ∙ not-true (same o.stub l.stub) joined.1) in
-    let begun : is_prefix p (path o) ≡ true = prefix_more p o.stub (tail o.ends) (ap (λ (q : List ℕ). is_prefix q o.stub) (sym (node_is_parent l)) ∙ joined.0) in
+    let joined = and_parts (is_prefix (parent l) o.stub) (not (bytes_eq o.stub l.stub)) found.2 in
+    let other : (i ≡ k) → ⊥ = λ e. true≢false (sym (same-itself l.stub) ∙ ap (λ (j : ℕ). bytes_eq (get_or ls j any_leaf).stub l.stub) e ∙ not-true (bytes_eq o.stub l.stub) joined.1) in
+    let begun : is_prefix p (path o) ≡ true = prefix_more p o.stub (tail o.ends) joined.0 in
     let on : extends p (path o) ≡ true = true_from_not (extends p (path o)) (λ none.
     let same : p ≡ path o = prefix_whole p (path o) begun none in
     other (sym (one_begins ls t k i any_leaf found.1 il (ap (λ (q : List ℕ). is_prefix q (path l)) (sym same) ∙ ap (is_prefix p) c.whole ∙ prefix_push p c.letter)))) in
@@ -130,11 +114,11 @@ extends_before (a ∷ p) [] d e = absurd (false≢true e)
 extends_before (a ∷ p) (b ∷ x) d e = let parts = and_parts (a == b) (is_prefix (p ++ d ∷ []) x) e in and_from (a == b) (extends p x) parts.0 (extends_before p x d parts.1)
 
 -- stubs of two leaves differ
-stubs_apart : (ls : List Leaf) → HasTrie ls → (i k : ℕ) → i < length ls → k < length ls → (i ≡ k → ⊥) → same (get_or ls k any_leaf).stub (get_or ls i any_leaf).stub ≡ false
+stubs_apart : (ls : List Leaf) → HasTrie ls → (i k : ℕ) → i < length ls → k < length ls → (i ≡ k → ⊥) → bytes_eq (get_or ls k any_leaf).stub (get_or ls i any_leaf).stub ≡ false
 stubs_apart ls t i k il kl apart =
     let x = (get_or ls i any_leaf).stub in
     let y = (get_or ls k any_leaf).stub in
-    false_from_ne_true (same y x) (λ e. elim (cases_order i k) [
+    false_from_ne_true (bytes_eq y x) (λ e. elim (cases_order i k) [
       | inl same ↦ apart same
       | inr sides ↦ elim sides [
         | inl before ↦ different x y ((in_order ls t).pairs i k any_leaf before kl).before (sym (same-true y x e))
@@ -153,9 +137,9 @@ another_stub ls i t il two =
     let k = found.0 in
     let o = get_or ls k any_leaf in
     let other : i ≡ k → ⊥ = λ e. b.apart (last_same p c.letter b.letter (ap (is_prefix (p ++ b.letter ∷ [])) (sym c.whole) ∙ ap (λ (j : ℕ). is_prefix (p ++ b.letter ∷ []) (path (get_or ls j any_leaf))) e ∙ found.2)) in
-    let begun : is_prefix (node l) o.stub ≡ true = ap (λ (q : List ℕ). is_prefix q o.stub) (node_is_parent l) ∙ stub_begins p o.stub o.ends (extends_before p (path o) b.letter found.2) in
+    let begun : is_prefix (parent l) o.stub ≡ true = stub_begins p o.stub o.ends (extends_before p (path o) b.letter found.2) in
     list_any_at (joins l) ls k any_leaf found.1
-    (and_from (is_prefix (node l) o.stub) (not (same o.stub l.stub)) begun (not_from_false (same o.stub l.stub) (stubs_apart ls t i k il found.1 other)))
+    (and_from (is_prefix (parent l) o.stub) (not (bytes_eq o.stub l.stub)) begun (not_from_false (bytes_eq o.stub l.stub) (stubs_apart ls t i k il found.1 other)))
 
 pub company_is_a_branch : CompanyIsABranch
 company_is_a_branch ls t i d il =

@@ -8,7 +8,7 @@ use Rattle.std.proofs.lemmas.List.FromFn.{get_or-range_with_len, length-range_wi
 use Rattle.byte_fields.specs.Spelling.{IsBytes}
 use Rattle.filter_model.specs.Laws.{AreByteStubs}
 use Rattle.filter_model.specs.Leaves.{Leaf}
-use Rattle.filter_model.specs.Strings.{extends, is_prefix, same}
+use Rattle.filter_model.specs.Strings.{extends, is_prefix, bytes_eq}
 use Rattle.filter_model.specs.Trie.{END, branches, is_node, is_reached, letters, path}
 use Rattle.filter_model.proofs.Fronts.{IsBytes-tail}
 use Rattle.trie_levels.proofs.Parting.{tail}
@@ -35,7 +35,7 @@ and_shift false e s = sym (and_false e)
 -- ---- one leaf
 
 -- its path has END behind p where it ends with the stub p
-pub end_follows : (p x : List ℕ) (e : Bool) → IsBytes x → is_prefix (p ++ END ∷ []) (x ++ tail e) ≡ (e && same x p)
+pub end_follows : (p x : List ℕ) (e : Bool) → IsBytes x → is_prefix (p ++ END ∷ []) (x ++ tail e) ≡ (e && bytes_eq x p)
 end_follows [] [] true h = refl
 end_follows [] [] false h = refl
 end_follows [] (b ∷ x) e h = ap (λ (t : Bool). t && true) (ne_eqb 256 b (λ i. omega (arith, i, h 0))) ∙ sym (and_false e)
@@ -43,11 +43,11 @@ end_follows (a ∷ p) [] true h = ap (λ (t : Bool). (a == END) && t) (no_more p
 end_follows (a ∷ p) [] false h = refl
 end_follows (a ∷ p) (b ∷ x) e h =
     ap (λ (t : Bool). (a == b) && t) (end_follows p x e (IsBytes-tail b x h))
-    ∙ and_shift (a == b) e (same x p)
-    ∙ ap (λ (t : Bool). e && (t && same x p)) (turned a b)
+    ∙ and_shift (a == b) e (bytes_eq x p)
+    ∙ ap (λ (t : Bool). e && (t && bytes_eq x p)) (turned a b)
 
 -- and the byte c where it goes on behind it, or does not end and has this stub
-byte_follows : (p x : List ℕ) (c : ℕ) (e : Bool) → c < 256 → is_prefix (p ++ c ∷ []) (x ++ tail e) ≡ (extends (p ++ c ∷ []) (x ++ tail e) || (not e && same x (p ++ c ∷ [])))
+byte_follows : (p x : List ℕ) (c : ℕ) (e : Bool) → c < 256 → is_prefix (p ++ c ∷ []) (x ++ tail e) ≡ (extends (p ++ c ∷ []) (x ++ tail e) || (not e && bytes_eq x (p ++ c ∷ [])))
 byte_follows [] [] c true h = ap (λ (t : Bool). t && true) other ∙ sym (ap (λ (t : Bool). t && false || false) other)
   where
     other : (c == END) ≡ false
@@ -76,8 +76,8 @@ byte_follows (a ∷ p) [] c true h =
 byte_follows (a ∷ p) [] c false h = refl
 byte_follows (a ∷ p) (b ∷ x) c e h =
     ap (λ (t : Bool). (a == b) && t) (byte_follows p x c e h)
-    ∙ spread (a == b) (extends (p ++ c ∷ []) (x ++ tail e)) (not e) (same x (p ++ c ∷ []))
-    ∙ ap (λ (t : Bool). ((a == b) && extends (p ++ c ∷ []) (x ++ tail e)) || (not e && (t && same x (p ++ c ∷ [])))) (turned a b)
+    ∙ spread (a == b) (extends (p ++ c ∷ []) (x ++ tail e)) (not e) (bytes_eq x (p ++ c ∷ []))
+    ∙ ap (λ (t : Bool). ((a == b) && extends (p ++ c ∷ []) (x ++ tail e)) || (not e && (t && bytes_eq x (p ++ c ∷ [])))) (turned a b)
   where
     spread : (t u n s : Bool) → (t && (u || (n && s))) ≡ ((t && u) || (n && (t && s)))
     spread true u n s = refl
@@ -97,7 +97,7 @@ byte_reached [] p c h = refl
 byte_reached (l ∷ ls) p c h =
     let q = p ++ c ∷ [] in
     (λ i. byte_follows p l.stub c l.ends h i || byte_reached ls p c h i)
-    ∙ crossed (extends q (path l)) (not l.ends && same l.stub q) (is_node ls q) (list_any (λ l. not l.ends && same l.stub q) ls)
+    ∙ crossed (extends q (path l)) (not l.ends && bytes_eq l.stub q) (is_node ls q) (list_any (λ l. not l.ends && bytes_eq l.stub q) ls)
   where
     crossed : (t u v w : Bool) → ((t || u) || (v || w)) ≡ ((t || v) || (u || w))
     crossed true u v w = refl

@@ -9,7 +9,7 @@ use Rattle.std.proofs.lemmas.List.FromFn.{get_or-range_with_len, length-range_wi
 use Rattle.byte_fields.specs.Spelling.{IsBytes}
 use Rattle.filter_model.specs.Leaves.{Leaf}
 use Rattle.filter_model.specs.Nodes.{Branch, last_letter, node_of, trie_of}
-use Rattle.filter_model.specs.Strings.{extends, is_prefix, same}
+use Rattle.filter_model.specs.Strings.{extends, is_prefix, bytes_eq}
 use Rattle.filter_model.specs.Trie.{END, branches, height, is_node, is_reached, letters, nodes, path, places}
 use Rattle.filter_model.proofs.Crowds.{two_branches}
 use Rattle.filter_model.proofs.Fronts.{same-true}
@@ -138,7 +138,7 @@ end_is_crowded ls p t e =
     let h = in_order ls t in
     let k = reached_by ls any_leaf (p ++ END ∷ []) e in
     let l = get_or ls k.0 any_leaf in
-    let parts = and_parts l.ends (same l.stub p) (sym (end_follows p l.stub l.ends (h.bytes k.0 any_leaf k.1)) ∙ k.2) in
+    let parts = and_parts l.ends (bytes_eq l.stub p) (sym (end_follows p l.stub l.ends (h.bytes k.0 any_leaf k.1)) ∙ k.2) in
     let stub : l.stub ≡ p = same-true l.stub p parts.1 in
     let o = some_at (λ o. extends l.stub o.stub) ls any_leaf (sym (t.ends k.0 any_leaf k.1) ∙ parts.0) in
     let x = (get_or ls o.0 any_leaf).stub in

@@ -9,7 +9,7 @@ use Rattle.std.proofs.lemmas.List.Elements.{Contains-append_cases, Contains-appe
 use Rattle.std.proofs.lemmas.List.Sums.{length-filter}
 use Rattle.filter_model.specs.Image.{in_slots}
 use Rattle.filter_model.specs.Leaves.{Leaf}
-use Rattle.filter_model.specs.Strings.{extends, is_prefix, same}
+use Rattle.filter_model.specs.Strings.{extends, is_prefix, bytes_eq}
 use Rattle.filter_model.specs.Trie.{branches, height, is_node, is_reached, level, nodes, nodes_to, path, places, slots}
 use Rattle.filter_model.proofs.Counts.{count_one, one_kept}
 use Rattle.filter_model.proofs.Fronts.{same-itself, same-true}
@@ -107,10 +107,10 @@ single [] d e = absurd (omega arith)
 single (x ∷ []) d e = refl
 single (x ∷ y ∷ xs) d e = absurd (omega arith)
 
-leaf_at_slot : (ls : List Leaf) (q : List ℕ) → HasTrie ls → IsPathAt ls q → map path (filter (λ l. same (path l) q) ls) ≡ q ∷ []
+leaf_at_slot : (ls : List Leaf) (q : List ℕ) → HasTrie ls → IsPathAt ls q → map path (filter (λ l. bytes_eq (path l) q) ls) ≡ q ∷ []
 leaf_at_slot ls q t p =
-    let test : Leaf → Bool = λ l. same (path l) q in
-    let passes : test (get_or ls p.at any_leaf) ≡ true = ap (same (path (get_or ls p.at any_leaf))) p.is ∙ same-itself (path (get_or ls p.at any_leaf)) in
+    let test : Leaf → Bool = λ l. bytes_eq (path l) q in
+    let passes : test (get_or ls p.at any_leaf) ≡ true = ap (bytes_eq (path (get_or ls p.at any_leaf))) p.is ∙ same-itself (path (get_or ls p.at any_leaf)) in
     let some = one_kept test ls p.at any_leaf p.within passes in
     let one = count_one test ls (λ i j d before within e f.
     let alike : path (get_or ls i d) ≡ path (get_or ls j d) = same-true (path (get_or ls i d)) q e ∙ sym (same-true (path (get_or ls j d)) q f) in
@@ -128,7 +128,7 @@ flat_back {X} g f (x ∷ xs) h =
 
 pub leaves_in_slots : (ls : List Leaf) → HasTrie ls → map path (in_slots ls) ≡ slots ls
 unfolding in_slots
-leaves_in_slots ls t = flat_back path (λ q. filter (λ l. same (path l) q) ls) (slots ls) (λ q c. leaf_at_slot ls q t (slot_is_path ls q (in_order ls t) c))
+leaves_in_slots ls t = flat_back path (λ q. filter (λ l. bytes_eq (path l) q) ls) (slots ls) (λ q c. leaf_at_slot ls q t (slot_is_path ls q (in_order ls t) c))
 
 -- ---- as many
 

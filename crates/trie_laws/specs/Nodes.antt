@@ -4,7 +4,7 @@ use Rattle.std.specs.List.{All, AllPairs, list_any, range_with_len}
 use Rattle.filter_model.specs.Laws.{AreByteStubs}
 use Rattle.filter_model.specs.Leaves.{Leaf}
 use Rattle.filter_model.specs.Nodes.{Branch, Node, trie_of}
-use Rattle.filter_model.specs.Strings.{same}
+use Rattle.filter_model.specs.Strings.{bytes_eq}
 use Rattle.filter_model.specs.Trie.{END, branches, is_node}
 use Rattle.trie_levels.specs.Tries.{HasTrie}
 use Rattle.trie_model.specs.Letters.{order_of}
@@ -27,11 +27,11 @@ FormsAreSparse = (n : Node) → IsTrieNode n → IsNode n
 
 -- some leaf ends with the stub p
 abbrev pub ends_at : List Leaf → List ℕ → Bool
-ends_at ls p = list_any (λ l. l.ends && same l.stub p) ls
+ends_at ls p = list_any (λ l. l.ends && bytes_eq l.stub p) ls
 
 -- q leads to a node, or is the stub of a leaf that does not end
 abbrev pub leads_on : List Leaf → List ℕ → Bool
-leads_on ls q = is_node ls q || list_any (λ l. not l.ends && same l.stub q) ls
+leads_on ls q = is_node ls q || list_any (λ l. not l.ends && bytes_eq l.stub q) ls
 
 -- the branches of p: END where a leaf ends at p, and then each byte that leads on from p
 abbrev pub BranchesAreNodesAndStubs : Type 0

@@ -8,7 +8,7 @@ use Rattle.std.proofs.lemmas.List.Concat.{flat_map-append}
 use Rattle.std.proofs.lemmas.List.Elements.{Contains-append_cases, filter-append}
 use Rattle.filter_model.specs.Image.{in_slots}
 use Rattle.filter_model.specs.Leaves.{Leaf}
-use Rattle.filter_model.specs.Strings.{is_prefix, same}
+use Rattle.filter_model.specs.Strings.{is_prefix, bytes_eq}
 use Rattle.filter_model.specs.Trie.{branches, height, is_node, is_reached, level, nodes, nodes_to, path, places, slots}
 use Rattle.filter_model.proofs.Fronts.{same-itself, same-true}
 use Rattle.filter_model.proofs.Pairs.{Contains-cases, Contains-filter_back, Contains-first, Contains-nil}
@@ -76,28 +76,28 @@ unfolding slots places nodes
 slots_are ls h = places_by_length ls (height ls) h
 
 -- a leaf is the only one with its path
-none_alike : (ls : List Leaf) (q : List ℕ) → is_reached ls q ≡ false → filter (λ l. same (path l) q) ls ≡ []
-none_alike ls q e = go ls (λ l c. false_from_ne_true (same (path l) q) (λ k.
+none_alike : (ls : List Leaf) (q : List ℕ) → is_reached ls q ≡ false → filter (λ l. bytes_eq (path l) q) ls ≡ []
+none_alike ls q e = go ls (λ l c. false_from_ne_true (bytes_eq (path l) q) (λ k.
     false≢true (sym e ∙ reached_in ls q l c (subst (λ (x : List ℕ). is_prefix x (path l) ≡ true) (same-true (path l) q k) (prefix_all (path l))))))
   where
     prefix_all : (p : List ℕ) → is_prefix p p ≡ true
     prefix_all p = subst (λ (x : List ℕ). is_prefix x p ≡ true) (take_all (length p) p (omega arith)) (is_prefix-take (length p) p)
 
-    go : (xs : List Leaf) → ((l : Leaf) → Contains xs l → same (path l) q ≡ false) → filter (λ l. same (path l) q) xs ≡ []
+    go : (xs : List Leaf) → ((l : Leaf) → Contains xs l → bytes_eq (path l) q ≡ false) → filter (λ l. bytes_eq (path l) q) xs ≡ []
     go [] k = refl
-    go (x ∷ xs) k = filter_no (λ l. same (path l) q) x xs (k x (Contains-first x xs)) ∙ go xs (λ l c. k l (Contains-more x xs l c))
+    go (x ∷ xs) k = filter_no (λ l. bytes_eq (path l) q) x xs (k x (Contains-first x xs)) ∙ go xs (λ l c. k l (Contains-more x xs l c))
 
-alone : (ls : List Leaf) (l : Leaf) → AreInOrder ls → Contains ls l → filter (λ x. same (path x) (path l)) ls ≡ l ∷ []
+alone : (ls : List Leaf) (l : Leaf) → AreInOrder ls → Contains ls l → filter (λ x. bytes_eq (path x) (path l)) ls ≡ l ∷ []
 alone [] l h c = absurd (Contains-nil l c)
 alone (x ∷ ls) l h c =
     let v = leaves_rest x ls h in
     let not_again : is_reached ls (path x) ≡ false = ap (is_reached ls) (sym (take_all (length (path x)) (path x) (omega arith))) ∙ v.apart (length (path x)) v.inside (omega arith) in
     elim (Contains-cases x ls l c) [
       | inl here ↦
-          filter_yes (λ x. same (path x) (path l)) x ls (ap (λ (y : Leaf). same (path x) (path y)) (sym here) ∙ same-itself (path x))
+          filter_yes (λ x. bytes_eq (path x) (path l)) x ls (ap (λ (y : Leaf). bytes_eq (path x) (path y)) (sym here) ∙ same-itself (path x))
           ∙ (λ i. here i ∷ none_alike ls (path l) (ap (λ (y : Leaf). is_reached ls (path y)) (sym here) ∙ not_again) i)
       | inr there ↦
-          filter_no (λ x. same (path x) (path l)) x ls (false_from_ne_true (same (path x) (path l)) (λ e.
+          filter_no (λ x. bytes_eq (path x) (path l)) x ls (false_from_ne_true (bytes_eq (path x) (path l)) (λ e.
           false≢true (sym not_again ∙ reached_in ls (path x) l there (prefix_same (path x) (path l) (same-true (path x) (path l) e)))))
           ∙ alone ls l (in_order-tail x ls h) there
     ]
@@ -112,7 +112,7 @@ held_by_length ls (suc n) l c = elim (Contains-append_cases (by_length n ls) (fi
   | inr here ↦ (Contains-filter_back (ends_on n) ls l here).0
 ]
 
-found_alone : (ls xs : List Leaf) → ((l : Leaf) → Contains xs l → filter (λ x. same (path x) (path l)) ls ≡ l ∷ []) → flat_map (λ (q : List ℕ). filter (λ l. same (path l) q) ls) (map path xs) ≡ xs
+found_alone : (ls xs : List Leaf) → ((l : Leaf) → Contains xs l → filter (λ x. bytes_eq (path x) (path l)) ls ≡ l ∷ []) → flat_map (λ (q : List ℕ). filter (λ l. bytes_eq (path l) q) ls) (map path xs) ≡ xs
 found_alone ls [] h = refl
 found_alone ls (x ∷ xs) h = λ i. h x (Contains-first x xs) i ++ found_alone ls xs (λ l c. h l (Contains-more x xs l c)) i
 
@@ -120,5 +120,5 @@ pub slots_by_length : SlotsGoByLength
 unfolding in_slots
 slots_by_length ls t =
     let h = in_order ls t in
-    ap (flat_map (λ (q : List ℕ). filter (λ l. same (path l) q) ls)) (slots_are ls h)
+    ap (flat_map (λ (q : List ℕ). filter (λ l. bytes_eq (path l) q) ls)) (slots_are ls h)
     ∙ found_alone ls (by_length (height ls) ls) (λ l c. alone ls l h (held_by_length ls (height ls) l c))

@@ -12,7 +12,8 @@ use Rattle.filter_model.specs.Strings.{shared}
 use Rattle.filter_model.specs.Trie.{END, height, level, level_labels, level_nodes, path}
 use Rattle.filter_model.proofs.Counts.{count_by-cons}
 use Rattle.trie_levels.specs.Neighbours.{endings, level_branches, partings}
-use Rattle.trie_levels.specs.Tries.{HasTrie, IsStub}
+use Rattle.filter_model.specs.Valid.{IsStub}
+use Rattle.trie_levels.specs.Tries.{HasTrie}
 use Rattle.trie_levels.proofs.Growth.{Stands, leaves_part}
 use Rattle.trie_levels.proofs.Totals.{in_order, one_if_same}
 use Rattle.std.proofs.lemmas.List.Sums.{count_by-le-length}

@@ -13,8 +13,8 @@ use Rattle.filter_model.proofs.Counts.{count_by-cons}
 use Rattle.filter_model.proofs.Order.{Lt-from}
 use Rattle.filter_model.proofs.Pairs.{Contains-cases, Contains-nil}
 use Rattle.trie_levels.specs.Neighbours.{BranchesAreNodesAndEndings, BranchesAreNodesAndPartings, endings, level_branches, partings}
-use Rattle.trie_levels.specs.Tries.{HasTrie, IsStub, ValidListsHaveTries}
-use Rattle.filter_model.specs.Valid.{IsLeaf}
+use Rattle.trie_levels.specs.Tries.{HasTrie, ValidListsHaveTries}
+use Rattle.filter_model.specs.Valid.{IsLeaf, IsStub}
 use Rattle.trie_levels.proofs.Growth.{AreInOrder, branches_more, in_order-tail, leaves_rest, nodes_more, path_filled}
 use Rattle.trie_levels.proofs.LevelSets.{level_branches-none, level-none}
 
@@ -168,7 +168,7 @@ pub valid_lists_have_tries : ValidListsHaveTries
 valid_lists_have_tries hash_bits real_bits ls h = record {
   some = h.some;
   few = h.few;
-  stubs = All-weaker (IsLeaf hash_bits real_bits) IsStub (λ l leaf. record { bytes = leaf.bytes; filled = leaf.filled; short = leaf.short }) ls h.leaves;
+  stubs = All-weaker (IsLeaf hash_bits real_bits) IsStub (λ l leaf. leaf.stub) ls h.leaves;
   rising = h.rising;
   ends = h.ends;
 }

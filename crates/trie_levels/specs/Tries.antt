@@ -1,17 +1,9 @@
 -- The leaf lists that have a trie, by their stubs alone.
-use Rattle.std.specs.Prelude.{◌≡◌, ℕ, ◌<◌, ◌≤◌, ◌^◌, true, List, length}
+use Rattle.std.specs.Prelude.{◌≡◌, ℕ, ◌<◌, ◌^◌, true, List, length}
 use Rattle.std.specs.List.{All, AllPairs}
-use Rattle.key_base.specs.Limits.{max_key_bytes}
-use Rattle.byte_fields.specs.Spelling.{IsBytes}
 use Rattle.filter_model.specs.Leaves.{Leaf}
 use Rattle.filter_model.specs.Strings.{is_before}
-use Rattle.filter_model.specs.Valid.{EndsRightly, IsValid}
-
--- a stub of one byte or more, as long as a key may be
-pub record IsStub (l : Leaf) : Type 0 where
-  pub bytes : IsBytes l.stub
-  pub filled : 0 < length l.stub
-  pub short : length l.stub ≤ max_key_bytes
+use Rattle.filter_model.specs.Valid.{EndsRightly, IsStub, IsValid}
 
 -- one leaf or more, whose stubs rise strictly; one is a proper prefix of another exactly where it ends
 pub record HasTrie (ls : List Leaf) : Type 0 where

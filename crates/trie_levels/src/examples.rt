@@ -1,9 +1,10 @@
 //! The counts, shown by examples. Each computes.
 ghost use Rattle.std.specs.Prelude.{◌≡◌, [], ◌∷◌, map};
-ghost use Rattle.filter_model.specs.Examples.{a_ab, base_leaves, far_to_toy};
+ghost use Rattle.filter_model.specs.Examples.{a_ab, far_to_toy};
+ghost use Rattle.filter_model.specs.Leaves.{base_leaves};
 ghost use Rattle.filter_model.specs.Trie.{cutoff_of, level_labels, level_nodes};
 ghost use Rattle.trie_levels.specs.Neighbours.{endings, partings};
-ghost use Rattle.trie_levels.specs.Examples.{ending_in_x_y, levels_0_to_2};
+ghost use Rattle.trie_levels.specs.ExampleLevels.{ending_in_x_y, levels_0_to_2};
 
 /// far, fas, s, top and toy part after 2, 0, 0 and 2 bytes; s ends on level 0 and the others on level 2.
 pub fn far_to_toy_counts()

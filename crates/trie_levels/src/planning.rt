@@ -6,7 +6,8 @@ ghost use Rattle.filter_api.specs.Seen.{seen};
 ghost use Rattle.filter_model.specs.Leaves.{Leaf as PlainLeaf};
 ghost use Rattle.filter_model.specs.Trie.{height, level_labels, level_nodes, path};
 ghost use Rattle.trie_levels.specs.Neighbours.{AreCounts, endings, partings};
-ghost use Rattle.trie_levels.specs.Tries.{HasTrie, IsStub};
+ghost use Rattle.filter_model.specs.Valid.{IsStub};
+ghost use Rattle.trie_levels.specs.Tries.{HasTrie};
 
 use crate::levels::Levels;
 use filter_api::{Leaf, LeafList};

@@ -43,30 +43,3 @@ fn is_dense_enough(nodes: u128, labels: u128, ratio: u16) -> bool
 {
     513 * nodes * u128::from(ratio) <= 10 * labels
 }
-
-#[cfg(test)]
-mod tests {
-    use super::*;
-    use std::test::Fail;
-
-    #[test]
-    fn cutoffs_of_levels(rt: HostRuntime) -> Result<(), Fail> {
-        let examples: [(&[(u64, u64)], u16, u16); 6] = [
-            (&[(1, 3), (2, 2), (2, 4)], 64, 0),
-            (&[(1, 3), (2, 2), (2, 4)], 0, 3),
-            (&[(1, 256), (256, 65_536)], 64, 1),
-            (&[(1, 256)], 64, 0),
-            (&[(1, 256)], 0, 1),
-            (&[], 64, 0),
-        ];
-        for (counts, ratio, answer) in examples {
-            let mut levels = Levels::new(rt.alloc());
-            for (nodes, labels) in counts {
-                assert!(rt; levels.height() < 65_535);
-                levels.push(*nodes, *labels)?;
-            }
-            assert_eq!(rt; cutoff(&levels, ratio), answer);
-        }
-        Ok(())
-    }
-}

@@ -1,3 +1,4 @@
+pub use Rattle.filter_model.specs.Examples
 pub use Rattle.filter_model.specs.Nodes
 pub use Rattle.filter_model.specs.Trie
 pub mod Letters
@@ -6,4 +7,4 @@ pub mod Walks
 pub mod Branching
 pub mod Halves
 pub mod Given
-pub mod Examples
+pub mod ExampleTries

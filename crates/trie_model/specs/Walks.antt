@@ -2,7 +2,7 @@
 use Rattle.std.specs.Prelude.{ℕ, ◌+◌, Bool, List, [], ◌∷◌, ◌++◌, map, length, get_or, take, filter, position, Option}
 use Rattle.std.specs.List.{range_with_len}
 use Rattle.filter_model.specs.Leaves.{Leaf}
-use Rattle.filter_model.specs.Strings.{is_prefix, same}
+use Rattle.filter_model.specs.Strings.{is_prefix, bytes_eq}
 use Rattle.filter_model.specs.Trie.{END, is_node, path, slots}
 use Rattle.trie_model.specs.Rests.{first_leaf}
 
@@ -28,4 +28,4 @@ least_path ls q = get_or (map path ls) (first_leaf ls q) []
 
 -- its slot, if any
 unfoldable pub leftmost_slot : List Leaf → List ℕ → Option ℕ
-leftmost_slot ls q = position (same (least_path ls q)) (slots ls)
+leftmost_slot ls q = position (bytes_eq (least_path ls q)) (slots ls)

@@ -1,12 +1,13 @@
 //! The definitions, shown by examples. Each computes.
 ghost use Rattle.std.specs.Prelude.{◌≡◌, [], ◌∷◌, true, false, map, codes, Some, None};
 ghost use Rattle.filter_model.specs.Nodes.{trie_of};
-ghost use Rattle.filter_model.specs.Examples.{a_and_a_ff, base_leaves, far_to_toy};
+ghost use Rattle.filter_model.specs.Examples.{a_and_a_ff, far_to_toy};
+ghost use Rattle.filter_model.specs.Leaves.{base_leaves};
 ghost use Rattle.filter_model.specs.Trie.{slots};
 ghost use Rattle.trie_model.specs.Halves.{whole, begin_of, branch_place, byte_at, child_at, end_slot, first_below, next_place, prev_place, slot_at};
 ghost use Rattle.trie_model.specs.Letters.{comes_before};
 ghost use Rattle.trie_model.specs.Rests.{first_leaf, leaves_below, rests};
-ghost use Rattle.trie_model.specs.Examples.{below_root, end_and_ff_nodes, far_to_toy_nodes};
+ghost use Rattle.trie_model.specs.ExampleTries.{below_root, end_and_ff_nodes, far_to_toy_nodes};
 ghost use Rattle.trie_model.specs.Walks.{leftmost_slot, nodes_on_way, slot_of_key, steps};
 
 /// The nodes of far, fas, s, top and toy, and the order of their slots.

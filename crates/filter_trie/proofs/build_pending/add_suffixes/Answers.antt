@@ -1,8 +1,7 @@
 use Rattle.std.proofs.Common.{◌+◌, ◌++◌, ◌∙◌, drop, get_or, map, ap, arith, subst, sym}
 use Rattle.std.specs.List.{All}
-use Rattle.filter_model.specs.Leaves.{leaves_of}
+use Rattle.filter_model.specs.Leaves.{base_leaves, leaves_of}
 use Rattle.filter_model.specs.Trie.{path}
-use Rattle.filter_trie.specs.Building.{bare_leaves}
 use Rattle.filter_trie.proofs.Levels.{keys_short}
 use Rattle.filter_trie.proofs.OneSpan.{letter_of_span}
 use Rattle.filter_trie.proofs.Passing.{IsSpan, longer_are}
@@ -37,7 +36,7 @@ push-requires-clause-fits c =
     let keys = c.args.keys.now in
     let n = c.args.level in
     let s = get_or c.args.spans.now c.loop-i.i no_span in
-    let is_span : IsSpan (map path (bare_leaves keys)) n s = subst (All (IsSpan (map path (bare_leaves keys)) n)) (sym c.requires.spans) (longer_are (bare_leaves keys) n) c.loop-i.i no_span (omega arith) in
+    let is_span : IsSpan (map path (base_leaves keys)) n s = subst (All (IsSpan (map path (base_leaves keys)) n)) (sym c.requires.spans) (longer_are (base_leaves keys) n) c.loop-i.i no_span (omega arith) in
     let is = suffix_is c.args.hash_bits c.args.real_bits keys n s c.get-key.result.now c.hash_bits_of-hash.result c.real_bits_of-real.result is_span c.get-key.ensures c.hash_bits_of-hash.ensures c.real_bits_of-real.ensures in
     subst (λ h. IsOfWidths h c.loop-i.suffixes.array.real_bits (c.hash_bits_of-hash.result, c.real_bits_of-real.result)) (sym c.loop-i.invariant.1)
     (subst (λ r. IsOfWidths c.args.hash_bits r (c.hash_bits_of-hash.result, c.real_bits_of-real.result)) (sym c.loop-i.invariant.2)
@@ -68,7 +67,7 @@ loop-i-preserved c =
     let total = map leaf_suffix (by_length (n + 1) (leaves_of h r keys)) in
     elim c.if-span-level.branch [
       | then-span-level w ↦
-          let is_span : IsSpan (map path (bare_leaves keys)) n s = subst (All (IsSpan (map path (bare_leaves keys)) n)) (sym c.requires.spans) (longer_are (bare_leaves keys) n) i no_span (omega arith) in
+          let is_span : IsSpan (map path (base_leaves keys)) n s = subst (All (IsSpan (map path (base_leaves keys)) n)) (sym c.requires.spans) (longer_are (base_leaves keys) n) i no_span (omega arith) in
           let is = suffix_is h r keys n s w.get-key.result.now w.hash_bits_of-hash.result w.real_bits_of-real.result is_span w.get-key.ensures w.hash_bits_of-hash.ensures w.real_bits_of-real.ensures in
           let now = w.suffixes-is ∙ w.push.ensures in (
             ap (λ (x : SuffixesInRoom). x.array.slots ++ map (suffix_at h r keys) (ending_on n (drop (i + 1) spans))) now

@@ -1,10 +1,9 @@
 use Rattle.std.proofs.Common.{◌≡◌, ◌∙◌, length, ap, arith, subst, sym}
 use Rattle.std.proofs.lemmas.List.{length-map}
-use Rattle.filter_image_model.specs.Reading.{FilterImage}
-use Rattle.filter_model.specs.Leaves.{leaves_of}
+use Rattle.filter_model.specs.Leaves.{Filter, base_leaves, leaves_of}
 use Rattle.filter_model.specs.Nodes.{Node, node_of}
 use Rattle.filter_model.specs.Trie.{height as height_of, nodes_to}
-use Rattle.filter_trie.specs.Building.{bare_leaves, half_to}
+use Rattle.filter_trie.specs.Building.{half_to}
 use Rattle.filter_trie.specs.Parts.{AreParts}
 use Rattle.filter_trie.specs.Pending.{suffixes_passed}
 use Rattle.suffix_bits.specs.Room.{SuffixesInRoom}
@@ -25,7 +24,7 @@ pub add_levels-requires-clause-within : goal.add_levels-requires-clause-within
 add_levels-requires-clause-within c = omega (arith, c.requires.cutoff, same_height c.args.hash_bits c.args.real_bits c.args.keys.now)
 
 pub add_levels-requires-clause-nodes : goal.add_levels-requires-clause-nodes
-add_levels-requires-clause-nodes c = ap (λ d. d.nodes) c.in_ok-dense.ensures ∙ sym (no_nodes (bare_leaves c.args.keys.now))
+add_levels-requires-clause-nodes c = ap (λ d. d.nodes) c.in_ok-dense.ensures ∙ sym (no_nodes (base_leaves c.args.keys.now))
 
 pub add_levels-requires-clause-room : goal.add_levels-requires-clause-room
 add_levels-requires-clause-room c =
@@ -58,13 +57,13 @@ add_levels-requires-2-clause-within c =
 pub add_levels-requires-2-clause-room : goal.add_levels-requires-2-clause-room
 add_levels-requires-2-clause-room c =
     let keys = c.args.keys.now in
-    let top : c.height-height.result ≡ height_of (bare_leaves keys) = omega (arith, c.height-height.ensures.nodes, tall_nodes (leaves_of c.args.hash_bits c.args.real_bits keys) c.args.levels.now.nodes c.requires.nodes, same_height c.args.hash_bits c.args.real_bits keys) in
+    let top : c.height-height.result ≡ height_of (base_leaves keys) = omega (arith, c.height-height.ensures.nodes, tall_nodes (leaves_of c.args.hash_bits c.args.real_bits keys) c.args.levels.now.nodes c.requires.nodes, same_height c.args.hash_bits c.args.real_bits keys) in
     let start = ap (λ (h : Half). h.before) (ap (λ s. s.half) c.in_ok-sparse.ensures) ∙ c.counts.ensures.counts in
     let dense = c.in_ok-dense-2.ensures ∙ ap (λ (h : Half). h.nodes) c.in_ok-add_levels.ensures.half in
     omega (
       arith,
       sparse_room c.args.hash_bits c.args.real_bits keys c.args.levels.now.labels c.args.cutoff c.height-height.result c.in_ok-sparse.sparse.half.before c.requires.labels (omega (arith, c.requires.cutoff, same_height c.args.hash_bits c.args.real_bits keys)) top
-          (ap (λ b. b.nodes) start ∙ ap (length {A = Node}) dense ∙ length-map (nodes_to (bare_leaves keys) c.args.cutoff) (node_of (bare_leaves keys))),
+          (ap (λ b. b.nodes) start ∙ ap (length {A = Node}) dense ∙ length-map (nodes_to (base_leaves keys) c.args.cutoff) (node_of (base_leaves keys))),
       c.labels_below.ensures,
       ap (λ s. s.limit) c.in_ok-sparse.ensures,
     )
@@ -75,7 +74,7 @@ parts c =
     let h = c.args.hash_bits in
     let r = c.args.real_bits in
     let H = c.height-height.result in
-    let top : H ≡ height_of (bare_leaves keys) = omega (arith, c.height-height.ensures.nodes, tall_nodes (leaves_of h r keys) c.args.levels.now.nodes c.requires.nodes, same_height h r keys) in
+    let top : H ≡ height_of (base_leaves keys) = omega (arith, c.height-height.ensures.nodes, tall_nodes (leaves_of h r keys) c.args.levels.now.nodes c.requires.nodes, same_height h r keys) in
     let hb = c.in_ok-add_levels-2.ensures.hash_bits ∙ c.in_ok-add_levels.ensures.hash_bits ∙ c.in_ok-pending.ensures.hash_bits_are in
     let rb = c.in_ok-add_levels-2.ensures.real_bits ∙ c.in_ok-add_levels.ensures.real_bits ∙ c.in_ok-pending.ensures.real_bits_are in
     are_parts h r keys c.args.cutoff H c.in_ok-dense-2.dense c.in_ok-sparse-2.sparse c.finish-3.result c.requires.keys c.requires.hash_width c.requires.real_width (omega (arith, c.requires.cutoff, same_height h r keys)) top
@@ -85,7 +84,7 @@ parts c =
 
 pub joined-requires : goal.joined-requires
 joined-requires c =
-    subst (λ (x : FilterImage). AreParts x c.args.cutoff c.height-height.result c.in_ok-dense-2.dense c.in_ok-sparse-2.sparse c.finish-3.result) (sym (stands_for (parts c))) (parts c)
+    subst (λ (x : Filter). AreParts x c.args.cutoff c.height-height.result c.in_ok-dense-2.dense c.in_ok-sparse-2.sparse c.finish-3.result) (sym (stands_for (parts c))) (parts c)
 
 pub returns : goal.returns
 returns c = c.joined.ensures ∙ stands_for (parts c.before)

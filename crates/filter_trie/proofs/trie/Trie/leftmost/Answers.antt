@@ -1,12 +1,12 @@
 use Rattle.filter_trie.proofs.Least.{first_way, least_slot, less_below, next_way}
 use Rattle.filter_trie.specs.Leads.{IsOnWay}
-use Rattle.filter_trie.specs.Places.{number_of, string_at}
+use Rattle.filter_trie.specs.Places.{branch_number, string_at}
 use Rattle.filter_trie.specs.declared.place.Lead.TheVariants as lead
 use Rattle.filter_trie.proofs.trie.Trie.leftmost.Goals as goal
 
 pub loop-lead-init : goal.loop-lead-init
 loop-lead-init g c =
-    first_way c.lead-lead.ensures.stands (number_of c.args.self.now c.args.place) c.lead-lead.result c.lead-lead.ensures.number c.lead-lead.ensures.lead
+    first_way c.lead-lead.ensures.stands (branch_number c.args.self.now c.args.place) c.lead-lead.result c.lead-lead.ensures.number c.lead-lead.ensures.lead
 
 pub returns-in-Leaf : goal.returns-in-Leaf
 returns-in-Leaf g c =

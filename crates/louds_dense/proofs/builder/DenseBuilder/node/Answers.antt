@@ -1,5 +1,5 @@
 use Rattle.std.proofs.Common.{◌<◌, ◌^◌, ◌∙◌, false, length, ap, arith, subst, sym}
-use Rattle.louds_dense.specs.Building.{NodesInRoom, SectionsInRoom, with_bytes, with_node}
+use Rattle.louds_dense.specs.Building.{NodesInRoom, SectionsInRoom, with_byte_bits, with_node}
 use Rattle.louds_dense.specs.Spelling.{IsSpelled, nodes_in}
 use Rattle.louds_dense.proofs.Built.{ends_more, node_added}
 use Rattle.louds_dense.proofs.Spelled.{length_ends, length_labels}
@@ -21,7 +21,7 @@ invariant_of-self g c =
         arith,
         c.requires.room,
         length_ends c.self.invariant.0,
-        ends_more c.args.end (with_bytes 256 (node_given false c.args.branches.now) s) c.push_node.new.self c.push_node.ensures.added,
+        ends_more c.args.end (with_byte_bits 256 (node_given false c.args.branches.now) s) c.push_node.new.self c.push_node.ensures.added,
         ap (λ (x : SectionsInRoom). x.limit) c.push_node.ensures.added,
         ap (λ (v : NodesInRoom). length v.nodes) c.self.view_is,
         ap (λ (v : NodesInRoom). v.limit) c.self.view_is,

@@ -1,7 +1,7 @@
 use Rattle.std.proofs.Common.{◌≡◌, ◌+◌, ◌-◌, ◌<◌, ◌∙◌, ℕ, false, ap, arith, subst, sym}
 use Rattle.std.specs.List.{All}
 use Rattle.std.proofs.lemmas.List.{get_or_default, take_all}
-use Rattle.louds_dense.specs.Building.{SectionsInRoom, with_bytes, with_gap}
+use Rattle.louds_dense.specs.Building.{SectionsInRoom, with_byte_bits, with_gap}
 use Rattle.louds_dense.proofs.Built.{any, branch_added, bytes_more, gap_added, length-bytes, no_bytes, none_yet}
 use Rattle.trie_model.specs.Given.{node_given}
 use Rattle.trie_model.specs.declared.parts.Branch.{Branch as ByteBranch}
@@ -28,7 +28,7 @@ loop-i-preserved g c =
     let e = ap (λ (b : ℕ). b + 1) c.from-next.ensures in (
       c.push_branch.ensures.added
           ∙ branch_added bs c.requires.branches c.loop-i.i c.loop-i.next w c.args.self.now _ _ c.loop-i-test.true (ap (with_gap _) c.loop-i.invariant.0)
-          ∙ ap (λ (k : ℕ). with_bytes k (node_given false bs) c.args.self.now) (sym e),
+          ∙ ap (λ (k : ℕ). with_byte_bits k (node_given false bs) c.args.self.now) (sym e),
       rw e (bytes_more bs c.requires.branches c.loop-i.i c.loop-i.next w _ c.loop-i-test.true c.push_branch.ensures.byte),
     )
 
@@ -43,7 +43,7 @@ returns-clause-added g c =
     let e : c.loop-i.next + (256 - c.loop-i.next) ≡ 256 = omega (arith, w.to) in
     c.push_gap.ensures ∙ ap (with_gap (256 - c.loop-i.next)) c.loop-i.invariant.0
     ∙ gap_added bs c.requires.branches c.loop-i.i c.loop-i.next w (256 - c.loop-i.next) c.args.self.now (λ j le l. absurd (omega (arith, le, l, c.loop-i-test.false)))
-    ∙ ap (λ (k : ℕ). with_bytes k (node_given false bs) c.args.self.now) e
+    ∙ ap (λ (k : ℕ). with_byte_bits k (node_given false bs) c.args.self.now) e
 
 pub returns-clause-bytes : goal.returns-clause-bytes
 returns-clause-bytes g c = subst (All (λ (b : ByteBranch). b.byte < 256)) (take_all c.loop-i.i c.args.branches.now c.loop-i-test.false) c.loop-i.invariant.1.bytes

@@ -1,8 +1,9 @@
-use Rattle.std.proofs.Common.{◌≡◌, ◌≤◌, ◌<◌, ◌+◌, ap, ◌∙◌, length, arith}
+use Rattle.std.proofs.Common.{◌≡◌, ◌≤◌, ◌<◌, ◌+◌, ◌*◌, ◌/◌, ap, ◌∙◌, get_or, length, arith}
+use Rattle.bit_words.specs.Packed.{packed}
 use Rattle.bit_words.specs.Counts.{rank_of}
-use Rattle.bit_rank.proofs.Ranks.{rank_parts, length-block_ranks, kept_count}
+use Rattle.bit_rank.proofs.Ranks.{first_word, length-block_ranks, kept_count}
 use Rattle.bit_words.proofs.Packing.{word_place-lt}
-use Rattle.bit_rank.proofs.ranked.Ranked.bit_and_rank.Goals as goal
+use Rattle.bit_rank.proofs.ranked.Ranked.word_of.Goals as goal
 
 pub index-requires : goal.index-requires
 index-requires g c =
@@ -18,18 +19,20 @@ bounds-words-i-2 g c =
     let within : c.args.i < length c.self.inside.bits = omega (arith, c.requires, ap length c.self.view_is) in
     word_place-lt c.self.inside.bits c.words-words.result.now c.args.i c.words-words.ensures.value within
 
-pub returns-clause-rank : goal.returns-clause-rank
-returns-clause-rank g c =
+pub returns-clause-word : goal.returns-clause-word
+returns-clause-word g c =
     let bits = c.self.inside.bits in
     let words = c.words-words.result.now in
     let within : c.args.i ≤ length c.self.inside.bits = omega (arith, c.requires, ap length c.self.view_is) in
-    let sum : c.from.result + c.ones_before.result + c.ones_below.result ≡ rank_of c.self.inside.bits c.args.i =
+    let sum : c.from.result + c.ones_before.result ≡ rank_of c.self.inside.bits (64 * (c.args.i / 64)) =
     omega (
       arith,
       c.from.ensures,
       kept_count bits c.self.inside.counts.items c.args.i c.index.result.now c.self.invariant within c.index.ensures,
-      rank_parts bits words c.args.i c.words-words.ensures.value,
+      first_word bits words c.args.i c.words-words.ensures.value,
       c.ones_before.ensures,
-      c.ones_below.ensures,
     ) in
-    sum ∙ ap (λ (bs : _). rank_of bs c.args.i) c.self.view_is
+    record {
+      word = ap (λ (ns : _). get_or ns (c.args.i / 64) 0) (c.words-words.ensures.value ∙ ap (packed 64) c.self.view_is);
+      before = sum ∙ ap (λ (bs : _). rank_of bs (64 * (c.args.i / 64))) c.self.view_is;
+    }
