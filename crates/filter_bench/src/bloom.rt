@@ -21,24 +21,12 @@ pub struct Bloom {
 impl Bloom {
     pub fn new(alloc: Global, keys: &KeyList) -> Result<Bloom, AllocError> {
         let count = keys.len().saturating_mul(KEY_BITS);
-        let mut bloom = Bloom {
-            words: vec![in alloc; 0u64; count.div_ceil(64)]?,
-            count: count as u64,
-        };
+        let mut words = vec![in alloc; 0u64; count.div_ceil(64)]?;
         for i in 0..keys.len() {
-            bloom.add(keys.get(i));
+            add(words.as_mut_slice(), count as u64, hash_of(keys.get(i)));
         }
-        Ok(bloom)
-    }
-
-    fn add(&mut self, key: &[u8]) {
-        let hash = hash_of(key);
-        for i in 0..PLACES {
-            let place = place_of(hash, i, self.count);
-            if let Some(word) = self.words.get_mut((place / 64) as usize) {
-                *word |= 1 << (place % 64);
-            }
-        }
+        let count = count as u64;
+        Ok(Bloom { words, count })
     }
 
     /// Whether the key may be one of those.
@@ -46,9 +34,7 @@ impl Bloom {
     pub fn may_hold(&self, key: &[u8]) -> bool {
         let hash = hash_of(key);
         for i in 0..PLACES {
-            let place = place_of(hash, i, self.count);
-            let word = self.words.get((place / 64) as usize).copied().unwrap_or(0);
-            if word >> (place % 64) & 1 == 0 {
+            if !is_set(self.words.as_slice(), place_of(hash, i, self.count)) {
                 return false;
             }
         }
@@ -58,6 +44,27 @@ impl Bloom {
     /// The bits that it keeps.
     pub fn bits(&self) -> usize {
         self.words.len().saturating_mul(64)
+    }
+}
+
+// Sets the bits of a hash.
+fn add(words: &mut [u64], count: u64, hash: u64) {
+    for i in 0..PLACES {
+        set(words, place_of(hash, i, count));
+    }
+}
+
+fn set(words: &mut [u64], place: u64) {
+    if let Some(word) = words.get_mut((place / 64) as usize) {
+        *word |= 1 << (place % 64);
+    }
+}
+
+#[inline]
+fn is_set(words: &[u64], place: u64) -> bool {
+    match words.get((place / 64) as usize) {
+        Some(word) => word >> (place % 64) & 1 == 1,
+        None => false,
     }
 }
 

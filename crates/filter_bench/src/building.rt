@@ -1,7 +1,7 @@
 //! The trie of keys, and how long its making takes.
 ghost use Rattle.filter_model.specs.Keys.{IsKeyList};
 
-use crate::report::{BuildTimes, ROUNDS, Watch};
+use crate::report::{Least, ROUNDS, Watch};
 use anyhow::{Result, bail};
 use filter_trie::{Trie, build};
 use key_base::KeyList;
@@ -20,18 +20,16 @@ pub fn build_rounds(
 ) -> Result<Trie<Global>>
     requires { IsKeyList keys.now }
 {
-    let mut times = BuildTimes::new();
+    let mut whole = Least::new();
+    let mut planned = Least::new();
     for _ in 1..ROUNDS {
-        build_timed(rt, alloc, keys, ratio, &mut times)?;
+        build_timed(rt, alloc, keys, ratio, &mut whole, &mut planned)?;
     }
-    let trie = build_timed(rt, alloc, keys, ratio, &mut times)?;
-    println!(rt;
-        "{} keys, {} levels, {} of them dense",
-        keys.len(),
-        trie.height(),
-        trie.cutoff()
-    )?;
-    times.print(rt)?;
+    let trie = build_timed(rt, alloc, keys, ratio, &mut whole, &mut planned)?;
+    println!(rt; "{} keys", keys.len())?;
+    println!(rt; "{} levels, {} of them dense", trie.height(), trie.cutoff())?;
+    println!(rt; "build: {:.2} million keys a second", whole.millions())?;
+    println!(rt; "build from their plan: {:.2} million", planned.millions())?;
     Ok(trie)
 }
 
@@ -41,12 +39,13 @@ fn build_timed(
     alloc: Global,
     keys: &KeyList,
     ratio: u16,
-    times: &mut BuildTimes,
+    whole: &mut Least,
+    planned: &mut Least,
 ) -> Result<Trie<Global>>
     requires { IsKeyList keys.now }
 {
     let count = keys.len() as u64;
-    let all = Watch::start(rt)?;
+    let first = Watch::start(rt)?;
     let stubs = truncate(alloc, keys)?;
     let spans = spans_of(alloc, keys, stubs.as_slice())?;
     let levels = plan_spans(alloc, spans.as_slice())?;
@@ -56,6 +55,7 @@ fn build_timed(
     }
     let last = Watch::start(rt)?;
     let trie = build(alloc, keys, spans, &levels, 0, 0, dense)?;
-    times.keep(all.stop(rt, count)?, last.stop(rt, count)?);
+    planned.keep(last.stop(rt, count)?);
+    whole.keep(first.stop(rt, count)?);
     Ok(trie)
 }

@@ -1,4 +1,5 @@
-//! Measures a filter's trie, beside a Bloom filter and a binary search over stubs, over the same keys.
+//! Measures a filter's trie, beside a Bloom filter and a binary search over stubs, over the same keys; its image, and its
+//! ranges.
 //!
 //! ```text
 //! filter_bench random 1000000 1
@@ -8,15 +9,22 @@
 //!
 //! All three are asked the same keys in the same order, five rounds in turn: each key that was drawn, and as many that the
 //! trie does not have. Times are the thread's own on the processor. The trie has no suffixes, which a walk does not read.
+//! Beside that the trie's image is written and read, a cursor goes over its leaves, and seeks, ranges and tallies from the
+//! same keys are asked beside walks.
 #![tactic(auto)]
+
+ghost use Rattle.filter_model.specs.Keys.{IsKeyList};
 
 mod bloom;
 mod building;
+mod codes;
+mod cursors;
 mod draws;
 mod finder;
 mod keys;
 mod levels;
 mod race;
+mod ranges;
 mod report;
 mod sizes;
 mod stubs;
@@ -24,28 +32,52 @@ mod texts;
 
 use anyhow::{Result, bail};
 use building::build_rounds;
+use codes::code_rounds;
+use cursors::cursor_rounds;
 use draws::Numbers;
 use filter_model::are_keys;
+use filter_trie::Trie;
+use key_base::KeyList;
 use keys::{Kind, draw_absent, draw_keys, sorted};
 use race::{Finders, race};
+use ranges::{highs, range_rounds};
 use std::alloc::Global;
 use std::env;
 use std::time::CpuClock;
 use stubs::StubSearch;
+use texts::Texts;
 
 const USAGE: &str = "usage: filter_bench KIND COUNT SEED [RATIO]
   COUNT keys of a KIND: random (8 bytes) or words (10 to 20 letters, which begin as others do)
   the trie's upper levels are dense by RATIO, or by 64";
 
+// What the words of the command line ask for.
+#[derive(Clone, Copy)]
+struct Asked {
+    kind: Kind,
+    count: u32,
+    seed: u64,
+    ratio: u16,
+}
+
 fn main(rt: HostRuntime) -> Result<()> {
     let words: Vec<String> = env::args(&rt)?.skip(1).collect(rt.alloc())?;
+    match read_words(words.as_slice())? {
+        Some(asked) => measure(&rt, rt.alloc(), asked),
+        None => {
+            println!(rt; "{USAGE}")?;
+            Ok(())
+        }
+    }
+}
+
+// What is asked for, or `None` where the words do not say it.
+fn read_words(words: &[String]) -> Result<Option<Asked>> {
     if words.len() != 3 && words.len() != 4 {
-        println!(rt; "{USAGE}")?;
-        return Ok(());
+        return Ok(None);
     }
     let Some(kind) = Kind::named(words[0].as_str()) else {
-        println!(rt; "{USAGE}")?;
-        return Ok(());
+        return Ok(None);
     };
     let count = words[1].as_str().parse::<u32>()?;
     let seed = words[2].as_str().parse::<u64>()?;
@@ -53,30 +85,67 @@ fn main(rt: HostRuntime) -> Result<()> {
         Some(word) => word.as_str().parse::<u16>()?,
         None => 64,
     };
-    measure(&rt, rt.alloc(), kind, count, seed, ratio)
+    Ok(Some(Asked {
+        kind,
+        count,
+        seed,
+        ratio,
+    }))
 }
 
-// Draws keys, builds what is to be asked, and has the race.
-fn measure(
-    rt: &(impl Print + CpuClock),
-    alloc: Global,
-    kind: Kind,
-    count: u32,
-    seed: u64,
-    ratio: u16,
-) -> Result<()> {
-    let mut numbers = Numbers::new(seed);
-    let present = draw_keys(alloc, kind, count, &mut numbers)?;
+// Draws keys, and measures what is built of them.
+fn measure(rt: &(impl Print + CpuClock), alloc: Global, asked: Asked) -> Result<()> {
+    let mut numbers = Numbers::new(asked.seed);
+    let present = draw_keys(alloc, asked.kind, asked.count, &mut numbers)?;
     let keys = sorted(alloc, &present)?;
     if !are_keys(&keys) {
         bail!("no key to build of");
     }
-    let trie = build_rounds(rt, alloc, &keys, ratio)?;
-    let search = StubSearch::new(alloc, &keys)?;
-    let absent = draw_absent(alloc, kind, &present, &keys, &search, &mut numbers)?;
-    let finders = Finders::new(alloc, &keys, trie, search)?;
-    finders.print_sizes(rt, keys.len())?;
-    race(rt, "present", &finders, &present)?;
-    race(rt, "absent", &finders, &absent)?;
-    Ok(())
+    measure_keys(rt, alloc, asked, &present, &keys, &mut numbers)
+}
+
+// Builds what is to be asked, and has the race.
+fn measure_keys(
+    rt: &(impl Print + CpuClock),
+    alloc: Global,
+    asked: Asked,
+    present: &Texts,
+    keys: &KeyList,
+    numbers: &mut Numbers,
+) -> Result<()>
+    requires { IsKeyList keys.now }
+{
+    let trie = build_rounds(rt, alloc, keys, asked.ratio)?;
+    code_rounds(rt, alloc, &trie)?;
+    cursor_rounds(rt, alloc, &trie)?;
+    let search = StubSearch::new(alloc, keys)?;
+    let absent = draw_absent(alloc, asked.kind, present, keys, &search, numbers)?;
+    ask_ranges(rt, alloc, asked.kind, "present", &trie, present)?;
+    ask_ranges(rt, alloc, asked.kind, "absent", &trie, &absent)?;
+    let finders = Finders::new(alloc, keys, trie, search)?;
+    ask_all(rt, &finders, keys.len(), present, &absent)
+}
+
+fn ask_ranges(
+    rt: &(impl Print + CpuClock),
+    alloc: Global,
+    kind: Kind,
+    name: &str,
+    trie: &Trie<Global>,
+    lows: &Texts,
+) -> Result<()> {
+    let highs = highs(alloc, kind, lows)?;
+    range_rounds(rt, name, trie, lows, &highs)
+}
+
+fn ask_all(
+    rt: &(impl Print + CpuClock),
+    finders: &Finders,
+    count: usize,
+    present: &Texts,
+    absent: &Texts,
+) -> Result<()> {
+    finders.print_sizes(rt, count)?;
+    race(rt, "present", finders, present)?;
+    race(rt, "absent", finders, absent)
 }

@@ -2,7 +2,7 @@
 use crate::bloom::Bloom;
 use crate::finder::{Found, ask};
 use crate::levels::levels;
-use crate::report::{AskTimes, ROUNDS, Watch, share};
+use crate::report::{Least, ROUNDS, Watch, share};
 use crate::sizes::Sizes;
 use crate::stubs::StubSearch;
 use crate::texts::Texts;
@@ -41,15 +41,21 @@ impl Finders {
     pub fn print_sizes(&self, rt: &impl Print, keys: usize) -> io::Result<()> {
         let sizes = Sizes::of(&self.trie);
         let count = keys as u64;
-        println!(rt;
-            "bits a key: sections {:.2}, in memory {:.2}, ratio {:.3}; Bloom {:.2}, search {:.2}",
-            share(sizes.sections, count),
-            share(sizes.memory, count),
-            share(sizes.memory, sizes.sections),
-            share(self.bloom.bits() as u64, count),
-            share(self.search.bits() as u64, count)
-        )
+        let sections = share(sizes.sections, count);
+        let memory = share(sizes.memory, count);
+        println!(rt; "bits a key: sections {sections:.2}, in memory {memory:.2}")?;
+        let bloom = share(self.bloom.bits() as u64, count);
+        let search = share(self.search.bits() as u64, count);
+        println!(rt; "bits a key: Bloom {bloom:.2}, search {search:.2}")
     }
+}
+
+// The least times of a key.
+#[derive(Clone, Copy)]
+struct Times {
+    walk: Least,
+    bloom: Least,
+    search: Least,
 }
 
 // Asks each of the three once, and says what the walks and the Bloom filter found.
@@ -57,18 +63,18 @@ fn round(
     rt: &impl CpuClock,
     finders: &Finders,
     queries: &Texts,
-    times: &mut AskTimes,
+    times: &mut Times,
 ) -> Result<(Found, Found)> {
     let count = queries.len() as u64;
     let watch = Watch::start(rt)?;
     let walked = ask(&finders.trie, queries);
-    let walk = watch.stop(rt, count)?;
+    times.walk.keep(watch.stop(rt, count)?);
     let watch = Watch::start(rt)?;
     let passed = ask(&finders.bloom, queries);
-    let bloom = watch.stop(rt, count)?;
+    times.bloom.keep(watch.stop(rt, count)?);
     let watch = Watch::start(rt)?;
     let searched = ask(&finders.search, queries);
-    times.keep(walk, bloom, watch.stop(rt, count)?);
+    times.search.keep(watch.stop(rt, count)?);
     if walked.count != searched.count {
         bail!("walks and searches do not agree");
     }
@@ -83,7 +89,11 @@ pub fn race(
     finders: &Finders,
     queries: &Texts,
 ) -> Result<()> {
-    let mut times = AskTimes::new();
+    let mut times = Times {
+        walk: Least::new(),
+        bloom: Least::new(),
+        search: Least::new(),
+    };
     let (walked, passed) = round(rt, finders, queries, &mut times)?;
     let mut sum = walked.sum;
     for _ in 1..ROUNDS {
@@ -91,12 +101,31 @@ pub fn race(
         sum = sum.wrapping_add(again.sum);
     }
     let count = queries.len() as u64;
-    times.print(rt, name)?;
-    println!(rt;
-        "{name}: {count} keys, {:.2} levels a walk, {:.4} led to a leaf, {:.4} passed the Bloom filter, sum {sum}",
-        share(levels(&finders.trie, queries), count),
-        share(walked.count, count),
-        share(passed.count, count)
-    )?;
+    print_times(rt, name, times)?;
+    println!(rt; "{name}: {count} keys, sum {sum}")?;
+    let visited = share(levels(&finders.trie, queries), count);
+    println!(rt; "{name}: {visited:.2} levels a walk")?;
+    let (led, passed) = (share(walked.count, count), share(passed.count, count));
+    println!(rt; "{name}: {led:.4} led to a leaf, {passed:.4} passed the Bloom filter")?;
     Ok(())
+}
+
+// Prints all three, and how many times each other's time a walk takes.
+fn print_times(rt: &impl Print, name: &str, times: Times) -> io::Result<()> {
+    let Times {
+        walk,
+        bloom,
+        search,
+    } = times;
+    println!(rt; "{name}: walk {:.1} ns", walk.nanoseconds)?;
+    println!(rt;
+        "{name}: Bloom {:.1} ns, ratio {:.2}",
+        bloom.nanoseconds,
+        walk.over(bloom)
+    )?;
+    println!(rt;
+        "{name}: search {:.1} ns, ratio {:.2}",
+        search.nanoseconds,
+        walk.over(search)
+    )
 }

@@ -6,9 +6,6 @@ use std::time::{CpuClock, Duration};
 /// How many rounds there are, of which the least time counts.
 pub const ROUNDS: u32 = 5;
 
-// More nanoseconds than anything takes.
-const LONG: f64 = 1e300;
-
 /// A stretch of processor time, which other work on the machine does not lengthen.
 #[derive(Clone, Copy)]
 pub struct Watch {
@@ -29,70 +26,33 @@ impl Watch {
     }
 }
 
-/// The least nanoseconds a key of building: all of it, and of it making the trie when its plan stands.
+/// The least time of several rounds, in nanoseconds a call.
 #[derive(Clone, Copy)]
-pub struct BuildTimes {
-    all: f64,
-    trie: f64,
+pub struct Least {
+    pub nanoseconds: f64,
 }
 
-impl BuildTimes {
-    pub fn new() -> BuildTimes {
-        BuildTimes {
-            all: LONG,
-            trie: LONG,
+impl Least {
+    /// More than anything takes.
+    pub fn new() -> Least {
+        Least { nanoseconds: 1e300 }
+    }
+
+    pub fn keep(&mut self, nanoseconds: f64) {
+        if nanoseconds < self.nanoseconds {
+            self.nanoseconds = nanoseconds;
         }
     }
 
-    pub fn keep(&mut self, all: f64, trie: f64) {
-        self.all = least(self.all, all);
-        self.trie = least(self.trie, trie);
+    /// How many million calls a second.
+    pub fn millions(self) -> f64 {
+        1e3 / self.nanoseconds
     }
 
-    /// Prints how many million keys a second both are.
-    pub fn print(&self, rt: &impl Print) -> io::Result<()> {
-        let all = 1e3 / self.all;
-        let trie = 1e3 / self.trie;
-        println!(rt; "build: {all:.2} million keys a second, from their plan {trie:.2} million")
+    /// How many times another's time.
+    pub fn over(self, other: Least) -> f64 {
+        self.nanoseconds / other.nanoseconds
     }
-}
-
-/// The least nanoseconds a key of three that are asked in turn.
-#[derive(Clone, Copy)]
-pub struct AskTimes {
-    walk: f64,
-    bloom: f64,
-    search: f64,
-}
-
-impl AskTimes {
-    pub fn new() -> AskTimes {
-        AskTimes {
-            walk: LONG,
-            bloom: LONG,
-            search: LONG,
-        }
-    }
-
-    pub fn keep(&mut self, walk: f64, bloom: f64, search: f64) {
-        self.walk = least(self.walk, walk);
-        self.bloom = least(self.bloom, bloom);
-        self.search = least(self.search, search);
-    }
-
-    /// Prints all three, and how many times each other's time a walk takes.
-    pub fn print(&self, rt: &impl Print, name: &str) -> io::Result<()> {
-        let to_bloom = self.walk / self.bloom;
-        let to_search = self.walk / self.search;
-        println!(rt;
-            "{name}: walk {:.1} ns, Bloom {:.1} ns, search {:.1} ns, ratios {:.2} and {:.2}",
-            self.walk, self.bloom, self.search, to_bloom, to_search
-        )
-    }
-}
-
-fn least(one: f64, other: f64) -> f64 {
-    if other < one { other } else { one }
 }
 
 /// How many of these there are for each of those.

@@ -1,4 +1,5 @@
 //! How many bits a trie takes.
+use bit_words::Bits;
 use filter_trie::Trie;
 use std::alloc::Global;
 
@@ -8,6 +9,8 @@ const BLOCK: u64 = 128;
 
 const STEP: u64 = 64;
 
+const KEPT_BITS: u64 = 32;
+
 /// Bits of the sections, as an image has them, and of what is in memory, where words are whole and counts and places stand
 /// beside them.
 #[derive(Clone, Copy)]
@@ -16,56 +19,34 @@ pub struct Sizes {
     pub memory: u64,
 }
 
-// Bits in words.
-fn plain(len: usize, words: &[u64]) -> Sizes {
-    Sizes {
-        sections: len as u64,
-        memory: (words.len() as u64).saturating_mul(64),
-    }
-}
-
 impl Sizes {
     /// The sections and the memory of a trie.
     pub fn of(trie: &Trie<Global>) -> Sizes {
         let dense = trie.dense();
         let sparse = trie.sparse();
-        let suffixes = trie.suffixes().bits();
         let labels = sparse.place_count().saturating_mul(8);
-        Sizes {
+        let mut sizes = Sizes {
             sections: labels,
             memory: labels,
+        };
+        sizes.add(sparse.louds_bits(), sparse.node_count().div_ceil(STEP));
+        sizes.add(trie.suffixes().bits(), 0);
+        for bits in [
+            dense.label_bits(),
+            dense.child_bits(),
+            dense.end_bits(),
+            sparse.child_bits(),
+        ] {
+            sizes.add(bits, (bits.len() as u64 / BLOCK).saturating_add(1));
         }
-        .and(plain(dense.label_bits().len(), dense.labels()).counted())
-        .and(plain(dense.child_bits().len(), dense.has_child()).counted())
-        .and(plain(dense.end_bits().len(), dense.prefix()).counted())
-        .and(plain(sparse.child_bits().len(), sparse.has_child()).counted())
-        .and(plain(sparse.louds_bits().len(), sparse.louds()).placed(sparse.node_count()))
-        .and(plain(suffixes.len(), suffixes.words()))
+        sizes
     }
 
-    // Both together.
-    fn and(self, other: Sizes) -> Sizes {
-        Sizes {
-            sections: self.sections.saturating_add(other.sections),
-            memory: self.memory.saturating_add(other.memory),
-        }
-    }
-
-    // With the counts that stand beside the bits.
-    fn counted(self) -> Sizes {
-        let counts = (self.sections / BLOCK).saturating_add(1);
-        Sizes {
-            sections: self.sections,
-            memory: self.memory.saturating_add(counts.saturating_mul(32)),
-        }
-    }
-
-    // With the places that are kept of `ones` set bits.
-    fn placed(self, ones: u64) -> Sizes {
-        let places = ones.div_ceil(STEP);
-        Sizes {
-            sections: self.sections,
-            memory: self.memory.saturating_add(places.saturating_mul(32)),
-        }
+    // Adds a section, and so many counts or places that are kept beside it.
+    fn add(&mut self, bits: &Bits<Global>, kept: u64) {
+        let words = (bits.words().len() as u64).saturating_mul(64);
+        self.sections = self.sections.saturating_add(bits.len() as u64);
+        self.memory = self.memory.saturating_add(words);
+        self.memory = self.memory.saturating_add(kept.saturating_mul(KEPT_BITS));
     }
 }

@@ -4,9 +4,8 @@ use Rattle.std.specs.Prelude.{◌==◌, ◌&&◌, ◌||◌, not, nat_lt, count_b
 use Rattle.std.specs.List.{All, AllByRecursion}
 use Rattle.std.specs.Option.{option_map, option_or, IfSome}
 use Rattle.std.proofs.Math.Seq.{take-suc}
-use Rattle.std.proofs.lemmas.Bool.{cases_lt, eq-eqb, false≢true, ne_eqb}
-use Rattle.std.proofs.lemmas.List.{get_or-append-add, get_or-map, get_or_append_left, length-map, length-take, map-append, take-append-drop}
-use Rattle.std.proofs.lemmas.List.Concat.{flat_map-append}
+use Rattle.std.proofs.lemmas.Bool.{cases_Bool, cases_lt, eq-eqb, false≢true, ne_eqb}
+use Rattle.std.proofs.lemmas.List.{get_or-append-add, get_or-map, get_or_append_left, length-map, length-take, map-append, take-append-drop, take-map}
 use Rattle.std.proofs.lemmas.List.Elements.{All-head, All-tail, filter-append}
 use Rattle.std.proofs.lemmas.List.Sums.{count_by-le-length, length-filter}
 use Rattle.byte_fields.specs.Faults.{Fault, fault, refuse}
@@ -19,12 +18,14 @@ use Rattle.filter_image_model.specs.Levels.{children_of, leaf_count_of}
 use Rattle.filter_image_model.specs.Nodes.{IsDense}
 use Rattle.filter_image_model.specs.Reading.{slot_letters}
 use Rattle.filter_model.specs.Image.{has_letter, label_of, opening, sparse_labels, sparse_louds}
-use Rattle.filter_model.specs.Nodes.{Branch, Node, all, at, first_place}
+use Rattle.filter_model.specs.Nodes.{Branch, Node, all, at, children_before, first_place}
 use Rattle.filter_model.specs.Trie.{END}
 use Rattle.louds_dense.proofs.Ranks.{ranks_of_node}
+use Rattle.louds_dense.proofs.Spelled.{counts_add}
 use Rattle.louds_dense.specs.Places.{node_at}
 use Rattle.louds_dense.specs.Spelling.{IsSpelled}
 use Rattle.suffix_bits.specs.Slots.{SuffixArray}
+use Rattle.trie_laws.proofs.Places.{count_by-map}
 use Rattle.trie_laws.specs.Louds.{IsNode}
 
 -- ---- leaves in parts
@@ -406,19 +407,29 @@ module _ (array : SuffixArray) (base p slot : ℕ) (bs : List Branch) (l : p < l
   pub byte_passed : ((get_or bs p (0, false)).0 == END) ≡ false → wrong_end array base (leaf_letters (take (p + 1) bs)) ≡ None
   byte_passed here = ap (λ k. wrong_end array base (leaf_letters (take k bs))) (plus_one p) ∙ at_leaf false (not (real_of array slot == 0)) here refl
 
-  pub slot_more : slot + 1 ≡ base + length (leaf_letters (take (p + 1) bs))
-  slot_more = omega (ap (λ k. length (leaf_letters (take k bs))) (plus_one p), arith, is, more_letters p bs l, ap (λ (t : Bool). cond {A = ℕ} t 0 1) leaf)
-
 pub child_passed : (array : SuffixArray) (base p : ℕ) (bs : List Branch) → p < length bs → wrong_end array base (leaf_letters (take p bs)) ≡ None → (get_or bs p (0, false)).1 ≡ true
     → wrong_end array base (leaf_letters (take (p + 1) bs)) ≡ None
 child_passed array base p bs l none e = ap (λ k. wrong_end array base (leaf_letters (take k bs))) (plus_one p) ∙ next_child array base p bs l none e
 
-pub slot_kept : (base p : ℕ) (bs : List Branch) → p < length bs → (get_or bs p (0, false)).1 ≡ true → base + length (leaf_letters (take p bs)) ≡ base + length (leaf_letters (take (p + 1) bs))
-slot_kept base p bs l e = omega (ap (λ k. length (leaf_letters (take k bs))) (plus_one p), arith, more_letters p bs l, ap (λ (t : Bool). cond {A = ℕ} t 0 1) e)
+-- a byte, whether or not it is a leaf
+pub no_mark_passed : (array : SuffixArray) (base p : ℕ) (bs : List Branch) → p < length bs → wrong_end array base (leaf_letters (take p bs)) ≡ None → ((get_or bs p (0, false)).0 == END) ≡ false
+    → wrong_end array base (leaf_letters (take (p + 1) bs)) ≡ None
+no_mark_passed array base p bs l none e = elim (cases_Bool (get_or bs p (0, false)).1) [
+  | inl child ↦ child_passed array base p bs l none child
+  | inr leaf ↦ byte_passed array base p (base + length (leaf_letters (take p bs))) bs l none refl leaf e
+]
 
 module _ {labels : List ℕ} {children louds : List Bool} {ss : List Node} (s : AreSparse labels children louds ss) where
   pub child_at : (p : ℕ) → p < length (all ss) → get_or children p false ≡ (get_or (all ss) p (0, false)).1
   child_at p l = ap (λ (bits : List Bool). get_or bits p false) s.children_are ∙ get_or-map (λ (b : Branch). b.1) (all ss) p (0, false) false l
+
+  -- the leaves before a place are what stands there and leads to no node
+  pub leaves_to : (p n : ℕ) → p < length (all ss) → n ≡ rank_of children p → n + length (leaf_letters (take p (all ss))) ≡ p
+  leaves_to p n l e =
+      let below : n ≡ children_before ss p =
+      e ∙ ap (λ (bits : List Bool). rank_of bits p) s.children_are
+      ∙ ap (count_by (λ (b : Bool). b)) (take-map (λ (b : Branch). b.1) p (all ss)) ∙ count_by-map (λ (b : Bool). b) (λ (b : Branch). b.1) (take p (all ss)) in
+      omega (arith, below, length-letters (take p (all ss)), counts_add ss p (omega (arith, l)))
 
 -- ---- the rule
 

@@ -1,5 +1,5 @@
 -- The parts of a trie, put together.
-use Rattle.std.proofs.Common.{◌≡◌, ℕ, zero, suc, ◌+◌, ◌*◌, ◌/◌, ◌<◌, ◌≤◌, ◌^◌, ◌∙◌, refl, sym, ap, subst, arith, length, Bool, true, false, List, [], ◌∷◌, ◌++◌}
+use Rattle.std.proofs.Common.{◌≡◌, ℕ, zero, suc, ◌+◌, ◌*◌, ◌/◌, ◌<◌, ◌≤◌, ◌^◌, ◌∙◌, refl, sym, ap, subst, arith, length, Bool, true, List, [], ◌∷◌}
 use Rattle.std.specs.Prelude.{◌==◌, ◌||◌, drop, not, Result, Ok, Err, IfErr, None}
 use Rattle.std.specs.Int.{div_ceil}
 use Rattle.std.specs.List.{All}
@@ -24,7 +24,8 @@ use Rattle.filter_image_model.specs.Header.{Bytes, cutoff_in, height_in, leaf_co
 use Rattle.filter_image_model.specs.Laws.{IsImage}
 use Rattle.filter_image_model.specs.Levels.{are_levels, leaf_count_of, nodes_above}
 use Rattle.filter_image_model.specs.Nodes.{dense_in, sparse_in, sparse_nodes}
-use Rattle.filter_image_model.specs.Reading.{FilterImage, image_fault, louds_fault, nodes_rules}
+use Rattle.filter_model.specs.Leaves.{Filter}
+use Rattle.filter_image_model.specs.Reading.{image_fault, louds_fault, nodes_rules}
 use Rattle.filter_image_model.specs.Sections.{KeepsBytes}
 use Rattle.filter_model.specs.Nodes.{Node}
 use Rattle.filter_trie.specs.Parts.{AreParts, image_by}
@@ -113,11 +114,11 @@ module _ (bytes : Bytes) (h : Header) (is : h ≡ header_in bytes) where
         (subst (λ (t : Tree). AreOfTrie (height_in bytes) (cutoff_in bytes) t.dense t.sparse array) (sym tree_is)
         (subst (λ (a : SuffixArray). AreOfTrie (height_in bytes) (cutoff_in bytes) (dense_in bytes) (sparse_in bytes) a) (sym array_is) (of_trie bytes are none)))
 
-    pub read_by : IsBytes bytes → image_fault bytes ≡ None → (i : FilterImage) → i ≡ image_by h.cutoff h.height t.dense t.sparse array → IsImage i bytes
+    pub read_by : IsBytes bytes → image_fault bytes ≡ None → (i : Filter) → i ≡ image_by h.cutoff h.height t.dense t.sparse array → IsImage i bytes
     read_by are none i e =
         let read : i ≡ image_by (cutoff_in bytes) (height_in bytes) (dense_in bytes) (sparse_in bytes) (array_in bytes) =
         e ∙ (λ j. image_by (is j).cutoff (is j).height (tree_is j).dense (tree_is j).sparse (array_is j)) in
-        subst (λ (i : FilterImage). IsImage i bytes) (sym (read ∙ image_is bytes are none)) (is_image bytes are none)
+        subst (λ (i : Filter). IsImage i bytes) (sym (read ∙ image_is bytes are none)) (is_image bytes are none)
 
 -- ---- numbers that fit
 

@@ -1,5 +1,6 @@
 -- The rules by the numbers that the code has are those by the bytes, and what is read where none is broken.
-use Rattle.std.proofs.Common.{◌≡◌, ℕ, zero, suc, ◌+◌, ◌*◌, ◌/◌, ◌^◌, ◌<◌, ◌≤◌, ◌∙◌, refl, sym, ap, subst, arith, length, get_or, take, drop, Bool, List, [], ◌∷◌, ◌++◌, map, inl, inr}
+use Rattle.std.proofs.Common.{◌≡◌, ℕ, zero, suc, ◌+◌, ◌*◌, ◌/◌, ◌^◌, ◌≤◌, ◌∙◌, refl, sym, ap, subst, arith, length, take, drop, Bool, List, [], ◌∷◌, ◌++◌, map, inl, inr}
+use Rattle.std.specs.Option.{option_or}
 use Rattle.std.specs.Prelude.{◌==◌, ◌&&◌, ◌||◌, not, Option, Some, None}
 use Rattle.std.specs.Int.{div_ceil}
 use Rattle.std.specs.List.{All, range_with_len}
@@ -8,10 +9,9 @@ use Rattle.std.proofs.lemmas.Nat.{pow_pos}
 use Rattle.std.proofs.lemmas.Bool.{cases_lt}
 use Rattle.std.proofs.lemmas.List.Elements.{All-drop}
 use Rattle.std.proofs.lemmas.List.{drop_all, drop_at, get_or_past, take_at}
-use Rattle.bit_words.proofs.Packing.{length-unpacked}
 use Rattle.bit_words.specs.Numbers.{number_at}
 use Rattle.bit_words.specs.Packed.{number_of}
-use Rattle.byte_fields.specs.Faults.{Fault, refuse, or_fault}
+use Rattle.byte_fields.specs.Faults.{Fault, refuse}
 use Rattle.byte_fields.specs.Spelling.{IsBytes}
 use Rattle.filter_api.specs.declared.errors.FilterFault.{FilterFault}
 use Rattle.filter_codec.proofs.Within.{Within, from_length, from_louds, from_padding, from_strays, place_within}
@@ -30,8 +30,8 @@ use Rattle.filter_image_model.specs.Levels.{are_levels, leaf_count_of, leaves_be
 use Rattle.filter_image_model.specs.Nodes.{dense_in, sparse_in}
 use Rattle.filter_image_model.specs.Reading.{counts_fault, ends_fault, image_fault, image_head_fault, image_in, is_no_root, leaves_in, length_fault, louds_fault, nodes_fault, nodes_rules, padding_fault, shape_fault, slot_letters, slot_suffix, stray_fault}
 use Rattle.filter_model.specs.Leaves.{Leaf}
-use Rattle.filter_model.specs.Nodes.{Node, trie_of}
-use Rattle.filter_model.specs.Trie.{END, height, nodes_to}
+use Rattle.filter_model.specs.Nodes.{trie_of}
+use Rattle.filter_model.specs.Trie.{END, nodes_to}
 use Rattle.filter_trie.specs.Parts.{AreParts, image_by, leaves_by, lower, upper}
 use Rattle.suffix_bits.proofs.Packing as packing
 use Rattle.suffix_bits.specs.Slots.{Suffix, SuffixArray, array_bits, unpacked_suffixes}
@@ -96,7 +96,7 @@ shape_same : (bytes : Bytes) → shape_rule (height_in bytes) (leaf_count_in byt
 unfolding shape_fault
 shape_same bytes =
     λ j. refuse (is_no_root (height_in bytes) (leaf_count_in bytes) (dense_in bytes ++ sparse_in bytes)) 40 9
-    (or_fault (nodes_fault (λ n. 32) (leaf_count_in bytes) 40 (dense_in bytes)) (nodes_fault length (leaf_count_in bytes) (labels_at bytes j) (sparse_in bytes)))
+    (option_or (nodes_fault (λ n. 32) (leaf_count_in bytes) 40 (dense_in bytes)) (nodes_fault length (leaf_count_in bytes) (labels_at bytes j) (sparse_in bytes)))
 
 -- ---- rule 8
 
@@ -114,7 +114,7 @@ pub nodes_same : (bytes : Bytes) (place : ℕ) → place ≡ section_place 6 byt
     ≡ nodes_rules bytes (dense_in bytes) (sparse_in bytes)
 unfolding nodes_rules
 nodes_same bytes place e =
-    λ j. or_fault (counts_same bytes j) (or_fault (shape_same bytes j) (ends_same bytes place 0 (slot_letters (dense_in bytes ++ sparse_in bytes)) e j))
+    λ j. option_or (counts_same bytes j) (option_or (shape_same bytes j) (ends_same bytes place 0 (slot_letters (dense_in bytes ++ sparse_in bytes)) e j))
 
 pub suffixes_at : (bytes : Bytes) → (places_by (header_in bytes)).suffixes ≡ section_place 6 bytes
 unfolding section_place section_bits
@@ -136,11 +136,11 @@ no_image bytes f are e = record {
   place = subst (Within (length bytes)) e (place_within bytes are);
 }
 
-next : (a b : Option Fault) → a ≡ None → or_fault a b ≡ b
-next a b e = ap (λ (x : Option Fault). or_fault x b) e
+next : (a b : Option Fault) → a ≡ None → option_or a b ≡ b
+next a b e = ap (λ (x : Option Fault). option_or x b) e
 
-found : (a b : Option Fault) (f : Fault) → Some f ≡ a → or_fault a b ≡ Some f
-found a b f e = ap (λ (x : Option Fault). or_fault x b) (sym e)
+found : (a b : Option Fault) (f : Fault) → Some f ≡ a → option_or a b ≡ Some f
+found a b f e = ap (λ (x : Option Fault). option_or x b) (sym e)
 
 module _ (bytes : Bytes) (are : IsBytes bytes) where
   -- behind rules that are kept

@@ -8,5 +8,7 @@ pub mod Spelled
 pub mod Within
 pub mod Judged
 pub mod Shapes
+pub mod Openings
 pub mod Endings
 pub mod Joining
+pub mod Again

@@ -1,5 +1,5 @@
 -- Opening bits, and levels one after the other.
-use Rattle.std.proofs.Common.{◌≡◌, ◌≢◌, ℕ, zero, suc, ◌+◌, ◌-◌, ◌<◌, ◌≤◌, ◌∙◌, refl, sym, ap, subst, arith, length, get_or, take, drop, Bool, true, false, List, [], ◌∷◌, ◌++◌, nat_le, eq-eqb, inl, inr}
+use Rattle.std.proofs.Common.{◌≡◌, ◌≢◌, ℕ, suc, ◌+◌, ◌-◌, ◌<◌, ◌≤◌, ◌∙◌, refl, sym, ap, arith, length, get_or, take, drop, Bool, true, false, List, [], ◌∷◌, ◌++◌, nat_le, eq-eqb, inl, inr}
 use Rattle.std.specs.Prelude.{not, ◌&&◌, ◌==◌}
 use Rattle.std.proofs.Common.{length-drop, take-add}
 use Rattle.std.proofs.lemmas.List.{drop-drop}

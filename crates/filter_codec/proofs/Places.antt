@@ -1,8 +1,9 @@
 -- Where the sections stand, by the numbers of a header.
 use Rattle.std.proofs.Common.{◌≡◌, ℕ, ◌+◌, ◌-◌, ◌*◌, ◌/◌, ◌%◌, ◌∙◌, refl, sym, ap, subst, arith, take, drop, length, eq-eqb, true, false, Bool}
-use Rattle.std.specs.Prelude.{◌==◌, ◌^◌, ◌&&◌, not, slice_index, Option, Some, None, List, [], ◌∷◌}
+use Rattle.std.specs.Option.{option_or}
+use Rattle.std.specs.Prelude.{◌==◌, ◌^◌, ◌&&◌, not, slice_index, Option, Some, None, [], ◌∷◌}
 use Rattle.std.specs.Int.{div_ceil}
-use Rattle.byte_fields.specs.Faults.{Fault, refuse, or_fault}
+use Rattle.byte_fields.specs.Faults.{Fault, refuse}
 use Rattle.filter_codec.specs.Judging.{end_by, header_in, places_by}
 use Rattle.filter_codec.specs.declared.header.Header.{Header}
 use Rattle.filter_codec.specs.declared.header.Places.{Places}
@@ -128,17 +129,17 @@ module _ (bytes : Bytes) where
 abbrev pub padding_in : ℕ → ℕ → Bytes → Option Fault
 padding_in place bits bytes = refuse (has_padding place bits bytes) (place + bits / 8) 6 None
 
-or_refuse : (t : Bool) (place rule : ℕ) (later : Option Fault) → refuse t place rule later ≡ or_fault (refuse t place rule None) later
+or_refuse : (t : Bool) (place rule : ℕ) (later : Option Fault) → refuse t place rule later ≡ option_or (refuse t place rule None) later
 or_refuse true place rule later = refl
 or_refuse false place rule later = refl
 
-joined : (place bits : ℕ) (bytes : Bytes) (later others : Option Fault) → later ≡ others → padding_of place bits bytes later ≡ or_fault (padding_in place bits bytes) others
+joined : (place bits : ℕ) (bytes : Bytes) (later others : Option Fault) → later ≡ others → padding_of place bits bytes later ≡ option_or (padding_in place bits bytes) others
 joined place bits bytes later others e =
     ap (padding_of place bits bytes) e ∙ or_refuse (has_padding place bits bytes) (place + bits / 8) 6 others
 
 pub padded_by : (bytes : Bytes) (h : Header) (p : Places) → h ≡ header_in bytes → p ≡ places_by h
     → padding_fault 40 (section_bits bytes) bytes
-    ≡ or_fault (padding_in p.dense_ends h.dense bytes) (or_fault (padding_in p.children h.labels bytes) (or_fault (padding_in p.louds h.labels bytes) (padding_in p.suffixes (h.leaves * (h.hash_bits + h.real_bits)) bytes)))
+    ≡ option_or (padding_in p.dense_ends h.dense bytes) (option_or (padding_in p.children h.labels bytes) (option_or (padding_in p.louds h.labels bytes) (padding_in p.suffixes (h.leaves * (h.hash_bits + h.real_bits)) bytes)))
 unfolding section_bits
 padded_by bytes h p e f =
     let d = dense_count_in bytes in
@@ -150,10 +151,10 @@ padded_by bytes h p e f =
     ∙ (λ j. at_header (sym (f ∙ ap places_by e) j) (sym e j))
   where
     at_header : Places → Header → Option Fault
-    at_header p h = or_fault (padding_in p.dense_ends h.dense bytes) (or_fault (padding_in p.children h.labels bytes) (or_fault (padding_in p.louds h.labels bytes) (padding_in p.suffixes (h.leaves * (h.hash_bits + h.real_bits)) bytes)))
+    at_header p h = option_or (padding_in p.dense_ends h.dense bytes) (option_or (padding_in p.children h.labels bytes) (option_or (padding_in p.louds h.labels bytes) (padding_in p.suffixes (h.leaves * (h.hash_bits + h.real_bits)) bytes)))
 
-pub or_some : (x later : Option Fault) (f : Fault) → Some f ≡ x → Some f ≡ or_fault x later
-or_some x later f e = ap (λ (x : Option Fault). or_fault x later) e
+pub or_some : (x later : Option Fault) (f : Fault) → Some f ≡ x → Some f ≡ option_or x later
+or_some x later f e = ap (λ (x : Option Fault). option_or x later) e
 
-pub or_none : (x later y : Option Fault) → None ≡ x → y ≡ later → y ≡ or_fault x later
-or_none x later y e f = f ∙ ap (λ (x : Option Fault). or_fault x later) e
+pub or_none : (x later y : Option Fault) → None ≡ x → y ≡ later → y ≡ option_or x later
+or_none x later y e f = f ∙ ap (λ (x : Option Fault). option_or x later) e

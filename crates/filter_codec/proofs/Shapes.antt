@@ -1,9 +1,9 @@
 -- Which nodes no trie has, by what the sections say of them.
-use Rattle.std.proofs.Common.{◌≡◌, ℕ, zero, suc, ◌+◌, ◌-◌, ◌*◌, ◌<◌, ◌≤◌, ◌∙◌, refl, sym, ap, subst, arith, length, length-append, get_or, take, drop, Bool, true, false, cond, List, [], ◌∷◌, ◌++◌, map, inl, inr, lt-ltb, le-ltb}
-use Rattle.std.specs.Prelude.{◌==◌, ◌&&◌, ◌||◌, nat_lt, not, count_by, Option, Some, None}
-use Rattle.std.specs.List.{All, AllByRecursion, list_any}
-use Rattle.std.proofs.lemmas.Bool.{and_from, cases_Bool, cases_eq, cases_lt, eq-eqb, ne_eqb}
-use Rattle.std.proofs.lemmas.List.Concat.{flat_map-append, get_or-flat_map}
+use Rattle.std.proofs.Common.{◌≡◌, ℕ, zero, suc, ◌+◌, ◌-◌, ◌*◌, ◌<◌, ◌≤◌, ◌∙◌, refl, sym, ap, arith, length, length-append, get_or, take, drop, Bool, true, false, cond, List, [], ◌∷◌, ◌++◌, map, inl, inr, lt-ltb, le-ltb}
+use Rattle.std.specs.Prelude.{◌==◌, ◌&&◌, ◌||◌, nat_lt, not, Option, Some, None}
+use Rattle.std.specs.List.{AllByRecursion, list_any}
+use Rattle.std.proofs.lemmas.Bool.{and_from, cases_eq, cases_lt, eq-eqb, ne_eqb}
+use Rattle.std.proofs.lemmas.List.Concat.{get_or-flat_map}
 use Rattle.std.proofs.lemmas.List.{append-nil, at_drop_more, at_drop_all, drop-map, drop_at, drop_more, get_or-map, get_or_append_left, length-map, take-append-drop, take-map, take_at, take_more}
 use Rattle.bit_words.specs.Counts.{rank_of}
 use Rattle.byte_fields.specs.Faults.{Fault, fault, refuse}
@@ -15,7 +15,7 @@ use Rattle.filter_image_model.proofs.RisingBytes.{RisingBytes, rising_bytes}
 use Rattle.filter_image_model.proofs.SparseNodes.{AreBytes}
 use Rattle.filter_image_model.specs.Levels.{children_of}
 use Rattle.filter_image_model.specs.Nodes.{IsDense}
-use Rattle.filter_image_model.specs.Reading.{is_lone_end, is_lone_leaf, is_no_node, is_no_root, nodes_fault, rises}
+use Rattle.filter_image_model.specs.Reading.{is_no_node, is_no_root, nodes_fault, rises}
 use Rattle.filter_model.proofs.Counts.{count_by-cons}
 use Rattle.filter_model.specs.Image.{has_letter, label_of}
 use Rattle.filter_model.specs.Nodes.{Branch, Node, all, first_place}

@@ -1,10 +1,10 @@
 -- Bits of one byte string whose bits of another are clear.
-use Rattle.std.proofs.Common.{◌≡◌, ◌≢◌, ℕ, zero, suc, ◌+◌, ◌-◌, ◌*◌, ◌/◌, ◌%◌, ◌^◌, ◌<◌, ◌≤◌, ◌∙◌, refl, sym, ap, subst, arith, length, get_or, Bool, true, false, Option, Some, None, bit_and, min, List, [], ◌∷◌, inl, inr, w8, Fits, cond}
+use Rattle.std.proofs.Common.{◌≡◌, ℕ, zero, suc, ◌+◌, ◌-◌, ◌*◌, ◌/◌, ◌%◌, ◌<◌, ◌≤◌, ◌∙◌, refl, sym, ap, arith, length, get_or, Bool, false, Option, Some, None, bit_and, min, List, [], ◌∷◌, inl, inr, w8, Fits, cond}
 use Rattle.std.specs.Prelude.{◌==◌, ◌&&◌, not, nat_lt, slice_index, position, zip}
 use Rattle.std.specs.List.{position_or_len}
-use Rattle.std.specs.Int.{bit_at, bit_not}
+use Rattle.std.specs.Int.{bit_at}
 use Rattle.std.specs.Option.{option_map}
-use Rattle.std.proofs.lemmas.Bool.{cases_Bool, ltb-false, true≢false, false≢true}
+use Rattle.std.proofs.lemmas.Bool.{cases_Bool, ltb-false, true≢false}
 use Rattle.std.proofs.lemmas.List.Quantifiers.{position-Some}
 use Rattle.std.proofs.lemmas.Nat.Bits.{bit_at-lt, bit_at-zero, bit_at_and, bit_at_not}
 use Rattle.std.proofs.lemmas.Slice.Zip.{get_or-zip, length-zip}
@@ -13,7 +13,7 @@ use Rattle.bit_words.proofs.Numbers.{number_back}
 use Rattle.bit_words.proofs.Packing.{get_or-unpacked, length-unpacked}
 use Rattle.bit_words.specs.Numbers.{bits_of}
 use Rattle.bit_words.specs.Packed.{number_of, packed_bit, unpacked}
-use Rattle.byte_fields.specs.Faults.{Fault, fault}
+use Rattle.byte_fields.specs.Faults.{fault}
 use Rattle.filter_codec.specs.Judging.{stray_rule}
 use Rattle.filter_image_model.specs.Header.{Bytes}
 use Rattle.filter_image_model.specs.Reading.{is_stray}

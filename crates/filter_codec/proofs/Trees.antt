@@ -1,6 +1,6 @@
 -- What packed sections say of the two lists of nodes that they spell.
-use Rattle.std.proofs.Common.{◌≡◌, ℕ, ◌+◌, ◌-◌, ◌*◌, ◌<◌, ◌≤◌, ◌^◌, ◌∙◌, refl, sym, ap, subst, arith, length, length-append, take, drop, Bool, List, ◌++◌}
-use Rattle.std.specs.Prelude.{count_by, not, []}
+use Rattle.std.proofs.Common.{◌≡◌, ℕ, ◌+◌, ◌*◌, ◌<◌, ◌≤◌, ◌^◌, ◌∙◌, refl, sym, ap, subst, arith, length, length-append, take, drop, Bool, List, ◌++◌}
+use Rattle.std.specs.Prelude.{count_by, not}
 use Rattle.std.proofs.Math.Seq.{take-append-add}
 use Rattle.std.proofs.lemmas.List.{length-map, take-append-drop, take-append-le, take-map, take_all, take_at}
 use Rattle.std.proofs.lemmas.List.Concat.{flat_map-append}
@@ -9,7 +9,7 @@ use Rattle.bit_words.specs.Counts.{rank_of}
 use Rattle.filter_codec.specs.Tree.{AreSparse}
 use Rattle.filter_image_model.proofs.LevelsRead.{count-append}
 use Rattle.filter_image_model.specs.Levels.{children_of, leaf_count_of}
-use Rattle.filter_model.specs.Image.{dense_children, has_child, has_letter, sparse_children}
+use Rattle.filter_model.specs.Image.{has_child, has_letter}
 use Rattle.filter_model.specs.Nodes.{Branch, Node, all, children_before, first_place}
 use Rattle.filter_model.specs.Trie.{END}
 use Rattle.louds_dense.proofs.Ranks.{length-rows, ranks_of_node}

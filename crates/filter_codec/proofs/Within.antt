@@ -1,16 +1,16 @@
 -- The place of a fault is one of the bytes, or just behind the last.
-use Rattle.std.proofs.Common.{◌≡◌, ℕ, zero, suc, ◌+◌, ◌*◌, ◌/◌, ◌%◌, ◌<◌, ◌≤◌, ◌∙◌, refl, sym, ap, subst, arith, length, length-append, Bool, true, false, List, [], ◌∷◌, ◌++◌, map, min, inl, inr}
-use Rattle.std.specs.Prelude.{◌==◌, ◌&&◌, ◌||◌, nat_lt, not, filter, Option, Some, None, count_by, position, zip}
+use Rattle.std.proofs.Common.{◌≡◌, ℕ, suc, ◌+◌, ◌*◌, ◌/◌, ◌≤◌, ◌∙◌, refl, sym, ap, subst, arith, length, length-append, Bool, true, false, List, [], ◌∷◌, ◌++◌, min}
+use Rattle.std.specs.Prelude.{◌==◌, ◌||◌, nat_lt, not, filter, Option, Some, None, position, zip}
 use Rattle.std.specs.Int.{div_ceil}
-use Rattle.std.specs.Option.{option_map}
+use Rattle.std.specs.Option.{option_map, option_or}
 use Rattle.std.proofs.Math.Nat.{mul-le-mul_right}
-use Rattle.std.proofs.lemmas.Bool.{and_parts, cases_Bool, eqb-false, ltb-false, ltb-true, true≢false}
+use Rattle.std.proofs.lemmas.Bool.{ltb-false, ltb-true}
 use Rattle.std.proofs.lemmas.List.Sums.{length-filter}
 use Rattle.std.proofs.lemmas.List.{length-map}
 use Rattle.std.proofs.lemmas.List.Quantifiers.{position-Some}
 use Rattle.std.proofs.lemmas.Slice.Zip.{length-zip}
 use Rattle.bit_words.proofs.Packing.{length-unpacked}
-use Rattle.byte_fields.specs.Faults.{Fault, fault, refuse, or_fault}
+use Rattle.byte_fields.specs.Faults.{Fault, fault, refuse}
 use Rattle.byte_fields.specs.Spelling.{IsBytes}
 use Rattle.filter_codec.proofs.Numbers.{ends_there}
 use Rattle.filter_codec.specs.Judging.{end_by, header_in, numbers_rule}
@@ -18,13 +18,12 @@ use Rattle.filter_image_model.proofs.Headers.{header_kept}
 use Rattle.filter_image_model.proofs.ImageTrie.{counts_kept}
 use Rattle.filter_image_model.proofs.Sections.{place_after-le}
 use Rattle.filter_image_model.proofs.Written.{dense_count, sparse_spelled, whole_length}
-use Rattle.filter_image_model.specs.Header.{Bytes, cutoff_in, dense_count_in, end_place, hash_bits_in, height_in, label_count_in, leaf_count_in, place_after, real_bits_in, section, section_bits, section_bytes, section_place, suffix_bits_in}
+use Rattle.filter_image_model.specs.Header.{Bytes, cutoff_in, dense_count_in, end_place, hash_bits_in, height_in, label_count_in, leaf_count_in, place_after, real_bits_in, section, section_bits, section_place, suffix_bits_in}
 use Rattle.filter_image_model.specs.Levels.{leaf_count_of}
 use Rattle.filter_image_model.specs.Nodes.{dense_in, sparse_in}
-use Rattle.filter_image_model.specs.Reading.{bytes_fault, counts_fault, ends_fault, has_padding, image_fault, image_head_fault, is_no_node, is_no_root, is_stray, length_fault, louds_fault, nodes_fault, nodes_rules, padding_fault, shape_fault, slot_letters, slot_suffix, stray_fault}
+use Rattle.filter_image_model.specs.Reading.{bytes_fault, counts_fault, ends_fault, has_padding, image_fault, image_head_fault, is_no_node, is_stray, length_fault, louds_fault, nodes_fault, nodes_rules, padding_fault, shape_fault, slot_letters, stray_fault}
 use Rattle.filter_image_model.specs.Sections.{KeepsBytes}
 use Rattle.filter_model.specs.Nodes.{Branch, Node, all}
-use Rattle.filter_model.specs.Trie.{END}
 use Rattle.key_base.specs.Limits.{max_hash_bits, max_key_bytes, max_real_bits}
 
 -- a fault at a place up to n, or none
@@ -36,7 +35,7 @@ refused : (n : ℕ) (bad : Bool) (place rule : ℕ) (later : Option Fault) → (
 refused n true place rule later here behind = here refl
 refused n false place rule later here behind = behind refl
 
-either : (n : ℕ) (a b : Option Fault) → Within n a → (a ≡ None → Within n b) → Within n (or_fault a b)
+either : (n : ℕ) (a b : Option Fault) → Within n a → (a ≡ None → Within n b) → Within n (option_or a b)
 either n None b here behind = behind refl
 either n (Some f) b here behind = here
 
@@ -55,10 +54,10 @@ numbers_within bytes long =
     refused n (nat_lt (height_in bytes) (cutoff_in bytes)) 8 4 leaves (λ _. omega (arith, long)) (λ _. refused n (leaf_count_in bytes == 0) 12 4 None (λ _. omega (arith, long)) (λ _. tt)))
 
 widths_within : (bytes : Bytes) → 40 ≤ length bytes
-    → Within (length bytes) (refuse (nat_lt max_hash_bits (hash_bits_in bytes)) 5 3 (refuse (nat_lt max_real_bits (real_bits_in bytes)) 6 3 (or_fault (bytes_fault 3 7 (0 ∷ []) bytes) (numbers_rule bytes))))
+    → Within (length bytes) (refuse (nat_lt max_hash_bits (hash_bits_in bytes)) 5 3 (refuse (nat_lt max_real_bits (real_bits_in bytes)) 6 3 (option_or (bytes_fault 3 7 (0 ∷ []) bytes) (numbers_rule bytes))))
 widths_within bytes long =
     let n = length bytes in
-    let zero_byte : Option Fault = or_fault (bytes_fault 3 7 (0 ∷ []) bytes) (numbers_rule bytes) in
+    let zero_byte : Option Fault = option_or (bytes_fault 3 7 (0 ∷ []) bytes) (numbers_rule bytes) in
     refused n (nat_lt max_hash_bits (hash_bits_in bytes)) 5 3 (refuse (nat_lt max_real_bits (real_bits_in bytes)) 6 3 zero_byte) (λ _. omega (arith, long)) (λ _.
     refused n (nat_lt max_real_bits (real_bits_in bytes)) 6 3 zero_byte (λ _. omega (arith, long)) (λ _.
     either n (bytes_fault 3 7 (0 ∷ []) bytes) (numbers_rule bytes) (bytes_within 3 7 (0 ∷ []) bytes n (omega (arith, long))) (λ _. numbers_within bytes long)))
@@ -67,8 +66,8 @@ head_within : (bytes : Bytes) → Within (length bytes) (image_head_fault bytes)
 unfolding image_head_fault
 head_within bytes =
     let n = length bytes in
-    let widths : Option Fault = refuse (nat_lt max_hash_bits (hash_bits_in bytes)) 5 3 (refuse (nat_lt max_real_bits (real_bits_in bytes)) 6 3 (or_fault (bytes_fault 3 7 (0 ∷ []) bytes) (numbers_rule bytes))) in
-    refused n (nat_lt n 40) n 1 (or_fault (bytes_fault 2 0 (83 ∷ 85 ∷ 82 ∷ 70 ∷ 1 ∷ []) bytes) widths) (λ _. omega arith) (λ e.
+    let widths : Option Fault = refuse (nat_lt max_hash_bits (hash_bits_in bytes)) 5 3 (refuse (nat_lt max_real_bits (real_bits_in bytes)) 6 3 (option_or (bytes_fault 3 7 (0 ∷ []) bytes) (numbers_rule bytes))) in
+    refused n (nat_lt n 40) n 1 (option_or (bytes_fault 2 0 (83 ∷ 85 ∷ 82 ∷ 70 ∷ 1 ∷ []) bytes) widths) (λ _. omega arith) (λ e.
     let long = ltb-false n 40 e in
     either n (bytes_fault 2 0 (83 ∷ 85 ∷ 82 ∷ 70 ∷ 1 ∷ []) bytes) widths (bytes_within 2 0 (83 ∷ 85 ∷ 82 ∷ 70 ∷ 1 ∷ []) bytes n (omega (arith, long))) (λ _. widths_within bytes (omega (arith, long))))
 
@@ -224,16 +223,16 @@ nodes_rules_within bytes long whole labels =
 
 -- the rules that follow
 abbrev pub from_louds : Bytes → Option Fault
-from_louds bytes = or_fault (louds_fault bytes) (nodes_rules bytes (dense_in bytes) (sparse_in bytes))
+from_louds bytes = option_or (louds_fault bytes) (nodes_rules bytes (dense_in bytes) (sparse_in bytes))
 
 abbrev pub from_strays : Bytes → Option Fault
-from_strays bytes = or_fault (stray_fault bytes) (from_louds bytes)
+from_strays bytes = option_or (stray_fault bytes) (from_louds bytes)
 
 abbrev pub from_padding : Bytes → Option Fault
-from_padding bytes = or_fault (padding_fault 40 (section_bits bytes) bytes) (from_strays bytes)
+from_padding bytes = option_or (padding_fault 40 (section_bits bytes) bytes) (from_strays bytes)
 
 abbrev pub from_length : Bytes → Option Fault
-from_length bytes = or_fault (length_fault bytes) (from_padding bytes)
+from_length bytes = option_or (length_fault bytes) (from_padding bytes)
 
 -- **the place of the first fault**
 pub place_within : (bytes : Bytes) → IsBytes bytes → Within (length bytes) (image_fault bytes)

@@ -1,5 +1,5 @@
 -- Faults and numbers as the code has them.
-use Rattle.std.specs.Prelude.{ℕ, ◌+◌, ◌*◌, ◌/◌, nat_lt, ◌==◌, ◌||◌, List, Option, None, length, position, zip}
+use Rattle.std.specs.Prelude.{ℕ, ◌+◌, ◌*◌, ◌/◌, nat_lt, ◌==◌, ◌||◌, Option, None, length, position, zip}
 use Rattle.std.specs.Int.{div_ceil}
 use Rattle.std.specs.Option.{option_map}
 use Rattle.bit_words.specs.Packed.{unpacked}

@@ -1,7 +1,8 @@
 -- The rules on nodes and on leaves that end, by the numbers that the code has.
 use Rattle.std.specs.Prelude.{ℕ, suc, ◌+◌, ◌*◌, ◌/◌, ◌==◌, ◌&&◌, ◌||◌, nat_lt, Bool, true, cond, not, List, [], ◌∷◌, ◌++◌, length, slice_index_or, Option, None}
+use Rattle.std.specs.Option.{option_or}
 use Rattle.std.specs.Int.{div_ceil}
-use Rattle.byte_fields.specs.Faults.{Fault, refuse, or_fault}
+use Rattle.byte_fields.specs.Faults.{Fault, refuse}
 use Rattle.filter_codec.specs.Tree.{counts_rule}
 use Rattle.filter_image_model.specs.Reading.{is_no_root, nodes_fault, slot_letters}
 use Rattle.filter_model.specs.Nodes.{Node}
@@ -16,7 +17,7 @@ labels_place dense = 40 + 64 * dense + div_ceil dense 8
 abbrev pub shape_rule : ℕ → ℕ → List Node → List Node → Option Fault
 shape_rule height leaves dense sparse =
     refuse (is_no_root height leaves (dense ++ sparse)) 40 9
-    (or_fault (nodes_fault (λ n. 32) leaves 40 dense)
+    (option_or (nodes_fault (λ n. 32) leaves 40 dense)
     (nodes_fault length leaves (labels_place (length dense)) sparse))
 
 -- each label is below the next
@@ -45,6 +46,6 @@ ends_rule place array slot (c ∷ cs) =
 -- the rules 8 to 10 of nodes and suffixes
 abbrev pub nodes_rule : ℕ → ℕ → ℕ → ℕ → SuffixArray → List Node → List Node → Option Fault
 nodes_rule height cutoff leaves place array dense sparse =
-    or_fault (counts_rule height cutoff (length dense) leaves (dense ++ sparse))
-    (or_fault (shape_rule height leaves dense sparse)
+    option_or (counts_rule height cutoff (length dense) leaves (dense ++ sparse))
+    (option_or (shape_rule height leaves dense sparse)
     (ends_rule place array 0 (slot_letters (dense ++ sparse))))

@@ -1,5 +1,5 @@
 -- The two lists of nodes that packed sections spell, and their levels one after the other.
-use Rattle.std.specs.Prelude.{◌≡◌, ℕ, ◌+◌, ◌-◌, ◌<◌, ◌≤◌, ◌^◌, ◌==◌, ◌&&◌, ◌||◌, not, Bool, List, length, take, drop, count_by, Option, None}
+use Rattle.std.specs.Prelude.{◌≡◌, ℕ, ◌+◌, ◌-◌, ◌<◌, ◌≤◌, ◌^◌, ◌==◌, ◌||◌, not, Bool, List, length, take, drop, count_by, Option, None}
 use Rattle.std.specs.List.{All}
 use Rattle.byte_fields.specs.Faults.{Fault, refuse}
 use Rattle.filter_image_model.specs.Levels.{are_levels, children_of, leaf_count_of, nodes_above}

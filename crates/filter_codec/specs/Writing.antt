@@ -2,7 +2,7 @@
 use Rattle.std.specs.Prelude.{◌++◌, List, length}
 use Rattle.bit_words.specs.Packed.{packed}
 use Rattle.filter_image_model.specs.Header.{Bytes}
-use Rattle.filter_image_model.specs.Reading.{FilterImage}
+use Rattle.filter_model.specs.Leaves.{Filter}
 use Rattle.filter_image_model.specs.Sections.{image_head}
 use Rattle.filter_model.specs.Image.{dense_children, dense_ends, dense_labels, sparse_children, sparse_labels, sparse_louds}
 use Rattle.filter_model.specs.Nodes.{Node, all}
@@ -10,7 +10,7 @@ use Rattle.filter_model.specs.Trie.{height}
 use Rattle.filter_trie.specs.Parts.{lower, upper}
 
 -- the header of a trie's image
-abbrev pub head_of : FilterImage → Bytes
+abbrev pub head_of : Filter → Bytes
 head_of i =
     image_head i.hash_bits i.real_bits i.cutoff (height i.leaves) (length i.leaves)
     (length (upper i.cutoff i.leaves)) (length (lower i.cutoff i.leaves)) (length (all (lower i.cutoff i.leaves)))

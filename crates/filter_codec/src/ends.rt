@@ -1,7 +1,7 @@
 //! Rule 10: leaves that end.
 ghost use Rattle.std.specs.Prelude.{◌≡◌, ◌==◌, ◌≤◌, ◌<◌, ◌^◌, ◌+◌, ◌*◌, ◌/◌, ◌++◌, length, take};
 ghost use Rattle.std.specs.Option.{option_map};
-ghost use Rattle.filter_codec.specs.Ends.{is_mark, wrong_end};
+ghost use Rattle.filter_codec.specs.Ends.{is_mark, leaf_letters, wrong_end};
 ghost use Rattle.filter_codec.specs.Judging.{seen};
 ghost use Rattle.filter_codec.specs.Rules.{ends_rule};
 ghost use Rattle.filter_codec.specs.Tree.{Tree};
@@ -71,16 +71,24 @@ impl<A: Allocator> Packed<A> {
         requires { length suffixes.now.slots ≡ leaf_count_of (self.now.dense ++ self.now.sparse) }
         ensures { result ≡ wrong_end suffixes.now (leaf_count_of self.now.dense) (slot_letters self.now.sparse) }
     {
-        let mut slot = self.leaves_before(self.dense_ends.bits().len());
         for place in 0..self.labels.len() {
-            if !self.children.bits().get(place) {
-                if self.is_end(place) && suffixes.get(slot).1 != 0 {
+            if self.is_end(place) && !self.children.bits().get(place) {
+                let slot = self.slot_at(place);
+                if suffixes.get(slot).1 != 0 {
                     return Some(slot);
                 }
-                slot += 1;
             }
         }
         None
+    }
+
+    // The slot of the first leaf at a place of the labels or behind it.
+    fn slot_at(&self, place: usize) -> u64
+        requires { place < length (all self.now.sparse) }
+        ensures { result ≡ leaf_count_of self.now.dense + length (leaf_letters (take place (all self.now.sparse))) }
+    {
+        let before = self.leaves_before(self.dense_ends.bits().len());
+        before + (place - self.children.rank(place)) as u64
     }
 
     // How many leaves stand before a dense node, or before the sparse ones.

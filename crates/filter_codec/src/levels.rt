@@ -88,13 +88,14 @@ fn is_past(start: u64, end: u64, count: u64) -> bool
 fn next_level<A: Allocator>(packed: &Packed<A>, levels: u16) -> Option<(u64, u64)>
     ensures { MatchOption result ((k : ℕ) → are_levels (levels + k) 1 (packed.now.dense ++ packed.now.sparse) ≡ false) (λ r. IsNextLevel (packed.now.dense ++ packed.now.sparse) levels r.0 r.1) }
 {
+    let count = packed.node_count();
     let mut start = 0;
     let mut end = 1;
     for i in 0..levels {
         if end == start {
             return None;
         }
-        if end > packed.node_count() {
+        if end > count {
             return None;
         }
         start = end;

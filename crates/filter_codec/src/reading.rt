@@ -26,9 +26,10 @@ use suffix_bits::Suffixes;
 
 /// The trie that the bytes are the image of: what it stands for has this image and no other.
 ///
-/// Fails where there is no memory, and exactly where the bytes are no image: then with the first rule that they break and
-/// the place where they do. Takes what the sections and the counts over their bits need, each block once and none before
-/// the bytes of its section are there.
+/// Fails exactly where the bytes are no image, with the first rule that they break and the place where they do, or for want
+/// of memory, which says nothing of the bytes. An image of 2^32 labels, or of 2^24 dense nodes, is want of memory too: the
+/// counts over its bits are not made. Takes what the sections and these counts need, each block once and none before the
+/// bytes of its section are there. Looks at each section a few times, and at each level once.
 pub fn decode<A: Allocator + Clone>(alloc: A, bytes: &[u8]) -> Result<Trie<A>, DecodeError>
     ensures read { IfOk result (λ trie. IsImage trie bytes.now) }
     ensures refused { IfErr result (IsCause bytes.now) }

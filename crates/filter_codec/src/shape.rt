@@ -97,8 +97,8 @@ fn labels_fault<A: Allocator>(leaves: u32, packed: &Packed<A>) -> Option<FilterF
     let dense = packed.dense_count() as usize;
     let place = HEADER_BYTES + 64 * dense + dense.div_ceil(8);
     let mut start = 0;
-    for node in 0..packed.sparse_count() as usize {
-        let end = packed.begin(node + 1);
+    for node in 0..packed.sparse_count() {
+        let end = packed.begin_behind(start);
         let leads_on = children.get(start);
         if is_wrong_node(leaves, leads_on, &labels[start..end]) {
             return fault(place + start);

@@ -1,5 +1,5 @@
 //! The nodes that packed sections spell, whatever they are.
-ghost use Rattle.std.specs.Prelude.{◌≡◌, ◌≤◌, ◌<◌, ◌^◌, ◌+◌, ◌*◌, ◌++◌, [], ◌∷◌, count_by, get_or, length, take, IfOk};
+ghost use Rattle.std.specs.Prelude.{◌≡◌, ◌≤◌, ◌<◌, ◌^◌, ◌+◌, ◌*◌, ◌++◌, [], ◌∷◌, count_by, get_or, length, take, IfOk, ℕ};
 ghost use Rattle.bit_words.specs.Packed.{unpacked};
 ghost use Rattle.filter_codec.specs.Judging.{end_by, header_in, places_by};
 ghost use Rattle.filter_codec.specs.Tree.{AreSparse, Tree};
@@ -7,7 +7,7 @@ ghost use Rattle.filter_image_model.specs.Header.{section, section_bytes};
 ghost use Rattle.filter_image_model.specs.Levels.{children_of, leaf_count_of};
 ghost use Rattle.filter_image_model.specs.Nodes.{dense_in, sparse_in, sparse_nodes};
 ghost use Rattle.filter_image_model.specs.Sections.{KeepsBytes};
-ghost use Rattle.filter_model.specs.Nodes.{first_place};
+ghost use Rattle.filter_model.specs.Nodes.{all, first_place};
 ghost use Rattle.louds_dense.specs.Spelling.{IsSpelled, nodes_in};
 
 use super::header::{Header, Places};
@@ -116,6 +116,18 @@ impl<A: Allocator> Packed<A> {
         ensures { result ≡ first_place self.now.sparse number }
     {
         match self.louds.select(number) {
+            Some(place) => place,
+            None => self.labels.len(),
+        }
+    }
+
+    /// The place of the labels at which the next sparse node begins, behind the one that begins at `start`, or the one behind
+    /// the last.
+    pub(crate) fn begin_behind(&self, start: usize) -> usize
+        requires { start < length (all self.now.sparse) }
+        ensures { (number : ℕ) → number < length self.now.sparse → start ≡ first_place self.now.sparse number → result ≡ first_place self.now.sparse (number + 1) }
+    {
+        match self.louds.bits().first_one_from(start + 1) {
             Some(place) => place,
             None => self.labels.len(),
         }

@@ -29,7 +29,7 @@ pub fn encode<A: Allocator>(trie: &Trie<A>, out: &mut Vec<u8>) -> Result<(), All
 // The same, but without memory a part of the image may stand behind what `out` was.
 fn push_image<A: Allocator>(trie: &Trie<A>, out: &mut Vec<u8>) -> Result<(), AllocError>
     ensures added { OnOk result (out.new.items ≡ out.old.items ++ image trie.now.hash_bits trie.now.real_bits trie.now.cutoff trie.now.leaves) }
-    ensures kept { OnErr result (take (length out.old.items) out.new.items ≡ out.old.items) }
+    ensures unchanged { OnErr result (take (length out.old.items) out.new.items ≡ out.old.items) }
 {
     out.extend_from_slice(&header(trie))?;
     push_dense(trie.dense(), out)?;
@@ -62,7 +62,7 @@ fn header<A: Allocator>(trie: &Trie<A>) -> [u8; 40]
 // The sections of the upper levels.
 fn push_dense<A: Allocator>(dense: &Dense<A>, out: &mut Vec<u8>) -> Result<(), AllocError>
     ensures added { OnOk result (out.new.items ≡ out.old.items ++ dense_part dense.now) }
-    ensures kept { OnErr result (take (length out.old.items) out.new.items ≡ out.old.items) }
+    ensures unchanged { OnErr result (take (length out.old.items) out.new.items ≡ out.old.items) }
 {
     dense.label_bits().to_bytes(out)?;
     dense.child_bits().to_bytes(out)?;
@@ -72,7 +72,7 @@ fn push_dense<A: Allocator>(dense: &Dense<A>, out: &mut Vec<u8>) -> Result<(), A
 // The sections of the other levels.
 fn push_sparse<A: Allocator>(sparse: &Sparse<A>, out: &mut Vec<u8>) -> Result<(), AllocError>
     ensures added { OnOk result (out.new.items ≡ out.old.items ++ sparse_part sparse.now.nodes) }
-    ensures kept { OnErr result (take (length out.old.items) out.new.items ≡ out.old.items) }
+    ensures unchanged { OnErr result (take (length out.old.items) out.new.items ≡ out.old.items) }
 {
     out.extend_from_slice(sparse.labels())?;
     sparse.child_bits().to_bytes(out)?;

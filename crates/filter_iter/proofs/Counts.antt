@@ -1,5 +1,5 @@
 -- Leaves below nodes and behind places, counted in both ways.
-use Rattle.std.proofs.Common.{◌≡◌, ℕ, zero, suc, ◌+◌, ◌-◌, ◌<◌, ◌≤◌, Bool, true, false, cond, List, [], ◌∷◌, length, get_or, take, map, refl, ap, sym, ◌∙◌, arith, inl, inr}
+use Rattle.std.proofs.Common.{◌≡◌, ℕ, zero, suc, ◌+◌, ◌-◌, ◌<◌, ◌≤◌, Bool, true, false, cond, List, [], length, get_or, take, map, refl, ap, sym, ◌∙◌, arith, inl, inr}
 use Rattle.std.specs.Prelude.{count_by, not, sum_by}
 use Rattle.std.proofs.lemmas.Bool.{cases_Bool}
 use Rattle.std.proofs.lemmas.List.{length-map, take-map}
@@ -9,7 +9,7 @@ use Rattle.filter_image_model.proofs.Link.{node-rests, reached-rests}
 use Rattle.filter_image_model.proofs.Paths.{IsFine, fine_paths}
 use Rattle.filter_image_model.proofs.Sizes.{some_height}
 use Rattle.filter_iter.proofs.Groups.{one_string}
-use Rattle.filter_iter.specs.Counts.{LeavesAreCountedByLevels, below_first}
+use Rattle.filter_iter.specs.Counts.{below_first}
 use Rattle.filter_model.specs.Leaves.{Leaf}
 use Rattle.filter_model.specs.Nodes.{Branch, children_before, first_place, leaves_before, trie_of}
 use Rattle.filter_model.specs.Trie.{branches, height, is_node, is_reached, nodes, path, places}
@@ -20,10 +20,10 @@ use Rattle.filter_trie.proofs.KeyOrder.{leaves_are_counted}
 use Rattle.filter_trie.specs.Laws.{CountsAt}
 use Rattle.trie_laws.proofs.Forms.{branches_reached, trie_nodes_have_form}
 use Rattle.trie_laws.proofs.NodeLists.{All-flat_map}
-use Rattle.trie_laws.proofs.Places.{all-trie_of, branch_of, child-trie_of, child_within, children-trie_of, count_by-map, first-suc, first_within, length-trie_of}
+use Rattle.trie_laws.proofs.Places.{all-trie_of, branch_of, child-trie_of, child_within, children-trie_of, count_by-map, first_within, length-trie_of}
 use Rattle.trie_levels.proofs.Totals.{valid_lists_have_tries}
 use Rattle.trie_levels.specs.Tries.{HasTrie}
-use Rattle.trie_model.specs.Rests.{first_leaf, leaves_below, rests}
+use Rattle.trie_model.specs.Rests.{first_leaf, leaves_below}
 
 -- how many leaves stand behind the first p places
 abbrev pub behind_first : List Leaf → ℕ → ℕ

@@ -1,18 +1,18 @@
 -- What one leaf answers of a bound, by its path.
-use Rattle.std.proofs.Common.{◌≡◌, ℕ, zero, suc, ◌+◌, ◌-◌, ◌*◌, ◌/◌, ◌<◌, ◌≤◌, ◌^◌, ◌==◌, Bool, true, false, cond, List, [], ◌∷◌, ◌++◌, length, get_or, take, drop, refl, ap, subst, sym, ◌∙◌, arith, inl, inr, eqb, nat_lt, ltb, le-ltb, lt-ltb}
+use Rattle.std.proofs.Common.{◌≡◌, ℕ, ◌-◌, ◌*◌, ◌/◌, ◌<◌, ◌≤◌, ◌^◌, ◌==◌, Bool, true, false, cond, List, [], ◌∷◌, ◌++◌, length, drop, refl, ap, subst, sym, ◌∙◌, arith, inl, inr, eqb, nat_lt, ltb, le-ltb, lt-ltb}
 use Rattle.std.specs.Prelude.{not, ◌&&◌, ◌||◌}
-use Rattle.std.proofs.lemmas.Bool.{and_parts, and_right, cases_Bool, cases_lt, cond-false, cond-true, eq-eqb, eqb-true, false_from_ne_true, false≢true, ltb-true, true≢false}
+use Rattle.std.proofs.lemmas.Bool.{and_parts, cases_Bool, cases_lt, cond-false, cond-true, eq-eqb, eqb-true, false≢true, true≢false}
 use Rattle.std.proofs.lemmas.List.{append-nil}
 use native.Mathlib.Nat.{div-mul-le_self, mul-div_cancel, mul-le-mul_right}
 use Rattle.byte_fields.specs.Spelling.{IsBytes}
 use Rattle.filter_iter.proofs.Groups.{before_less, before_nil, before_same}
 use Rattle.filter_iter.specs.Cuts.{has_begun}
 use Rattle.filter_model.proofs.Fits.{after, least, passed, unit}
-use Rattle.filter_model.proofs.Fronts.{IsBytes-drop, IsBytes-tail, div-mono, front-mono, front-prefix, front-shortest, pow_pos, prefix_from_front, prefix_parts, rest-mono, shortest-bytes, shortest_least}
+use Rattle.filter_model.proofs.Fronts.{IsBytes-drop, IsBytes-tail, div-mono, prefix_number-mono, prefix_number-prefix, prefix_number-shortest, pow_pos, prefix_from_number, prefix_parts, rest-mono, shortest-bytes, shortest_least}
 use Rattle.filter_model.proofs.Order.{Leq, Leq-append, Leq-to, Lt, Lt-Leq, Lt-or-Leq, Lt-to, thirds}
-use Rattle.filter_model.specs.Answers.{begins, is_past}
+use Rattle.filter_model.specs.Answers.{is_past}
 use Rattle.filter_model.specs.Leaves.{Leaf}
-use Rattle.filter_model.specs.Strings.{front, is_before, is_prefix, shortest}
+use Rattle.filter_model.specs.Strings.{prefix_number, is_before, is_prefix, shortest}
 use Rattle.filter_model.specs.Trie.{END, path}
 use Rattle.filter_model.specs.Valid.{IsLeaf}
 use Rattle.trie_laws.proofs.Forms.{order-byte}
@@ -104,16 +104,16 @@ drop_whole (a ∷ t) = drop_whole t
 
 module _ (n r : ℕ) (t x : List ℕ) (v : IsBytes t) (w : IsBytes x) where
   abbrev f : ℕ
-  f = front (length t) t
+  f = prefix_number (length t) t
 
   abbrev g : ℕ
-  g = front (length t) x
+  g = prefix_number (length t) x
 
   passed_before : comes_before t x ≡ true → passed n t r x ≡ true
   passed_before h =
       let less : Lt t x = subst (λ (y : List ℕ). Lt y x) (append-nil t) (less_than t [] x v w h) in
-      let leq = front-mono (length t) t x v (Lt-Leq t x less) in
-      let apart : f ≡ g → ⊥ = λ e. not_begun (prefix_from_front t x v w (Lt-Leq t x less) e) in
+      let leq = prefix_number-mono (length t) t x v (Lt-Leq t x less) in
+      let apart : f ≡ g → ⊥ = λ e. not_begun (prefix_from_number t x v w (Lt-Leq t x less) e) in
       ap (λ (k : Bool). k || ((f == g) && nat_lt r (after n t x))) (lt-ltb f g (omega (arith, leq, apart)))
     where
       prefix_not_before : (t x : List ℕ) → is_prefix t x ≡ true → comes_before t x ≡ false
@@ -129,12 +129,12 @@ module _ (n r : ℕ) (t x : List ℕ) (v : IsBytes t) (w : IsBytes x) where
   passed_behind : comes_before t x ≡ false → is_prefix t x ≡ false → passed n t r x ≡ false
   passed_behind h e =
       let more : Leq x t = Lt-Leq x t (subst (Lt x) (append-nil t) (more_than t [] x v w h e)) in
-      let leq = front-mono (length t) x t w more in
+      let leq = prefix_number-mono (length t) x t w more in
       let none : g ≡ f → after n t x ≡ 0 = λ s.
-      ap (λ (y : List ℕ). front 4 y / unit n) (Leq-empty (drop (length t) x) (subst (Leq (drop (length t) x)) (drop_whole t) (rest-mono (length t) x t w v more s))) ∙ zero_bits in
+      ap (λ (y : List ℕ). prefix_number 4 y / unit n) (Leq-empty (drop (length t) x) (subst (Leq (drop (length t) x)) (drop_whole t) (rest-mono (length t) x t w v more s))) ∙ zero_bits in
       ap (λ (k : Bool). k || ((f == g) && nat_lt r (after n t x))) (le-ltb f g leq) ∙ rest (f == g) refl none
     where
-      zero_bits : front 4 [] / unit n ≡ 0
+      zero_bits : prefix_number 4 [] / unit n ≡ 0
       zero_bits = omega (arith, div-mul-le_self 0 (unit n), pow_pos 2 (32 - n) (omega arith))
 
       rest : (k : Bool) → (f == g) ≡ k → (g ≡ f → after n t x ≡ 0) → (k && nat_lt r (after n t x)) ≡ false
@@ -143,7 +143,7 @@ module _ (n r : ℕ) (t x : List ℕ) (v : IsBytes t) (w : IsBytes x) where
 
   passed_begun : is_prefix t x ≡ true → passed n t r x ≡ nat_lt r (after n t x)
   passed_begun e =
-      let same : f ≡ g = sym (front-prefix t x e) in
+      let same : f ≡ g = sym (prefix_number-prefix t x e) in
       ap (λ (k : Bool). k || ((f == g) && nat_lt r (after n t x))) (le-ltb f g (omega (arith, same)))
       ∙ ap (λ (k : Bool). k && nat_lt r (after n t x)) (eq-eqb f g same)
 
@@ -154,7 +154,7 @@ module _ (n r : ℕ) (t x : List ℕ) (v : IsBytes t) (w : IsBytes x) where
   least_below : is_prefix t x ≡ true → r * unit n < 256 ^ 4 → r ≤ after n t x → is_before x (least n t r) ≡ false
   least_below e small h =
       let y = drop (length t) x in
-      let enough : r * unit n ≤ front 4 y = omega (arith, div-mul-le_self (front 4 y) (unit n), mul-le-mul_right (unit n) h) in
+      let enough : r * unit n ≤ prefix_number 4 y = omega (arith, div-mul-le_self (prefix_number 4 y) (unit n), mul-le-mul_right (unit n) h) in
       let step = Leq-append t (shortest 4 (r * unit n)) y (shortest_least 4 (r * unit n) y (IsBytes-drop (length t) x w) enough) in
       Leq-to (least n t r) x (subst (Leq (least n t r)) (sym (prefix_parts t x e)) step)
 
@@ -165,9 +165,9 @@ module _ (n r : ℕ) (t x : List ℕ) (v : IsBytes t) (w : IsBytes x) where
         let y = drop (length t) x in
         let s = shortest 4 (r * unit n) in
         let rest : Leq s y = Leq-cancel t s y (subst (Leq (least n t r)) (prefix_parts t x e) leq) in
-        let fronts = front-mono 4 s y (shortest-bytes 4 (r * unit n) small) rest in
-        let whole = front-shortest 4 (r * unit n) small in
-        let up = div-mono (r * unit n) (front 4 y) (unit n) unit_pos (omega (arith, fronts, whole)) in
+        let fronts = prefix_number-mono 4 s y (shortest-bytes 4 (r * unit n) small) rest in
+        let whole = prefix_number-shortest 4 (r * unit n) small in
+        let up = div-mono (r * unit n) (prefix_number 4 y) (unit n) unit_pos (omega (arith, fronts, whole)) in
         absurd (omega (arith, up, mul-div_cancel r unit_pos, h))
   ]
 
@@ -203,15 +203,15 @@ module _ (hash_bits n : ℕ) (l : Leaf) (x : List ℕ) (leaf : IsLeaf hash_bits 
     | inr e ↦
         let t : comes_before l.stub x ≡ true = sym (ap (λ (q : List ℕ). comes_before q x) (open_path e)) ∙ h in
         let s = shortest 4 (l.real * unit n) in (
-          past_open e ∙ passed_before n l.real l.stub x leaf.bytes w t,
-          begun_open e ∙ ap not (Leq-to (l.stub ++ s) x (Lt-Leq (l.stub ++ s) x (less_than l.stub s x leaf.bytes w t))),
+          past_open e ∙ passed_before n l.real l.stub x leaf.stub.bytes w t,
+          begun_open e ∙ ap not (Leq-to (l.stub ++ s) x (Lt-Leq (l.stub ++ s) x (less_than l.stub s x leaf.stub.bytes w t))),
         )
   ]
     where
       by_end : comes_before (l.stub ++ END ∷ []) x ≡ true → Lt l.stub x
       by_end k = elim (Lt-or-Leq l.stub x) [
         | inl less ↦ less
-        | inr leq ↦ absurd (false≢true (sym (end_not_less l.stub x leaf.bytes w leq) ∙ k))
+        | inr leq ↦ absurd (false≢true (sym (end_not_less l.stub x leaf.stub.bytes w leq) ∙ k))
       ]
 
   -- it comes behind it, and does not begin it
@@ -222,16 +222,16 @@ module _ (hash_bits n : ℕ) (l : Leaf) (x : List ℕ) (leaf : IsLeaf hash_bits 
         (past_end e ∙ Leq-to x l.stub leq, begun_end e ∙ ap not (Lt-to x l.stub (above (sym (ap (λ (q : List ℕ). is_prefix q (x ++ END ∷ [])) (end_path e)) ∙ p) leq)))
     | inr e ↦
         let t : comes_before l.stub x ≡ false = sym (ap (λ (q : List ℕ). comes_before q x) (open_path e)) ∙ h in
-        let q : is_prefix l.stub x ≡ false = prefix_bytes l.stub x leaf.bytes ∙ sym (ap (λ (u : List ℕ). is_prefix u (x ++ END ∷ [])) (open_path e)) ∙ p in
+        let q : is_prefix l.stub x ≡ false = prefix_bytes l.stub x leaf.stub.bytes ∙ sym (ap (λ (u : List ℕ). is_prefix u (x ++ END ∷ [])) (open_path e)) ∙ p in
         let s = shortest 4 (l.real * unit n) in (
-          past_open e ∙ passed_behind n l.real l.stub x leaf.bytes w t q,
-          begun_open e ∙ ap not (Lt-to x (l.stub ++ s) (more_than l.stub s x leaf.bytes w t q)),
+          past_open e ∙ passed_behind n l.real l.stub x leaf.stub.bytes w t q,
+          begun_open e ∙ ap not (Lt-to x (l.stub ++ s) (more_than l.stub s x leaf.stub.bytes w t q)),
         )
   ]
     where
       by_end : comes_before (l.stub ++ END ∷ []) x ≡ false → Leq x l.stub
       by_end k = elim (Lt-or-Leq l.stub x) [
-        | inl less ↦ absurd (true≢false (sym (end_less l.stub x leaf.bytes w less) ∙ k))
+        | inl less ↦ absurd (true≢false (sym (end_less l.stub x leaf.stub.bytes w less) ∙ k))
         | inr leq ↦ leq
       ]
 
@@ -248,7 +248,7 @@ module _ (hash_bits n : ℕ) (l : Leaf) (x : List ℕ) (leaf : IsLeaf hash_bits 
   -- it begins it with END: the bound is the leaf's stub
   pub is_met : l.ends ≡ true → is_prefix (path l) (x ++ END ∷ []) ≡ true → (is_past n x l ≡ false) × (has_begun n x l ≡ true)
   is_met e p =
-      let same : l.stub ≡ x = prefix_ended l.stub x leaf.bytes w (sym (ap (λ (q : List ℕ). is_prefix q (x ++ END ∷ [])) (end_path e)) ∙ p) in
+      let same : l.stub ≡ x = prefix_ended l.stub x leaf.stub.bytes w (sym (ap (λ (q : List ℕ). is_prefix q (x ++ END ∷ [])) (end_path e)) ∙ p) in
       let not_less : is_before x x ≡ false = Leq-to x x (itself x) in
       (past_end e ∙ ap (λ (t : List ℕ). is_before t x) same ∙ not_less, begun_end e ∙ ap not (ap (is_before x) same ∙ not_less))
     where
@@ -259,11 +259,11 @@ module _ (hash_bits n : ℕ) (l : Leaf) (x : List ℕ) (leaf : IsLeaf hash_bits 
   -- or without
   pub goes_on : l.ends ≡ false → is_prefix (path l) (x ++ END ∷ []) ≡ true → (is_past n x l ≡ nat_lt l.real (after n l.stub x)) × (has_begun n x l ≡ not (nat_lt (after n l.stub x) l.real))
   goes_on e p =
-      let q : is_prefix l.stub x ≡ true = prefix_bytes l.stub x leaf.bytes ∙ sym (ap (λ (u : List ℕ). is_prefix u (x ++ END ∷ [])) (open_path e)) ∙ p in
-      (past_open e ∙ passed_begun n l.real l.stub x leaf.bytes w q, begun_open e ∙ ap not (by_order q))
+      let q : is_prefix l.stub x ≡ true = prefix_bytes l.stub x leaf.stub.bytes ∙ sym (ap (λ (u : List ℕ). is_prefix u (x ++ END ∷ [])) (open_path e)) ∙ p in
+      (past_open e ∙ passed_begun n l.real l.stub x leaf.stub.bytes w q, begun_open e ∙ ap not (by_order q))
     where
       by_order : is_prefix l.stub x ≡ true → is_before x (least n l.stub l.real) ≡ nat_lt (after n l.stub x) l.real
       by_order q = elim (cases_lt (after n l.stub x) l.real) [
-        | inl less ↦ least_above n l.real l.stub x leaf.bytes w q small less ∙ sym (lt-ltb (after n l.stub x) l.real less)
-        | inr more ↦ least_below n l.real l.stub x leaf.bytes w q small more ∙ sym (le-ltb (after n l.stub x) l.real more)
+        | inl less ↦ least_above n l.real l.stub x leaf.stub.bytes w q small less ∙ sym (lt-ltb (after n l.stub x) l.real less)
+        | inr more ↦ least_below n l.real l.stub x leaf.stub.bytes w q small more ∙ sym (le-ltb (after n l.stub x) l.real more)
       ]

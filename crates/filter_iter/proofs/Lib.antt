@@ -7,3 +7,12 @@ mod Steps
 mod Turns
 mod MetLeaves
 mod Bounds
+mod ByNumber
+mod Branching
+mod WayLists
+mod WayBytes
+mod LeastStrings
+mod Cutting
+mod Standing
+mod Sides
+mod Parting

@@ -1,8 +1,8 @@
 -- The leaf that a bound reaches, and which leaves pass.
-use Rattle.std.proofs.Common.{◌≡◌, ℕ, zero, suc, ◌+◌, ◌-◌, ◌*◌, ◌<◌, ◌≤◌, ◌^◌, Bool, true, false, cond, Option, Some, None, List, [], ◌∷◌, ◌++◌, length, get_or, take, drop, map, refl, ap, subst, sym, ◌∙◌, arith, inl, inr, nat_lt, nat_le, le-ltb, lt-ltb}
+use Rattle.std.proofs.Common.{◌≡◌, ℕ, zero, suc, ◌+◌, ◌-◌, ◌*◌, ◌<◌, ◌≤◌, ◌^◌, Bool, true, false, cond, Some, None, List, [], ◌∷◌, ◌++◌, length, get_or, take, drop, map, refl, ap, subst, sym, ◌∙◌, arith, inl, inr, nat_lt, nat_le, le-ltb, lt-ltb}
 use Rattle.std.specs.Prelude.{filter, not, position, ◌&&◌, ◌||◌}
-use Rattle.std.specs.List.{AllByRecursion, position_or_len}
-use Rattle.std.proofs.lemmas.Bool.{cases_Bool, cases_lt, cases_order, false_from_ne_true, false≢true, le-leb, leb-true, not-true, true≢false}
+use Rattle.std.specs.List.{position_or_len}
+use Rattle.std.proofs.lemmas.Bool.{cases_Bool, cases_lt, cases_order, false_from_ne_true, false≢true, le-leb, leb-true, true≢false}
 use Rattle.std.proofs.lemmas.List.{get_or-map, length-map}
 use Rattle.std.proofs.lemmas.List.Quantifiers.{position-Some}
 use Rattle.std.proofs.lemmas.List.Sums.{fails_before_first}
@@ -13,8 +13,8 @@ use Rattle.byte_fields.specs.Spelling.{IsBytes}
 use Rattle.filter_image_model.proofs.GroupWords.{Sorted}
 use Rattle.filter_image_model.proofs.Lists.{all_filter, all_flat, all_of, by_recursion}
 use Rattle.filter_image_model.proofs.Paths.{fine_paths}
-use Rattle.filter_iter.proofs.Groups.{before_at, reached_not_before, reached_number}
-use Rattle.filter_iter.proofs.Leaves.{comes_first, comes_last, end_path, goes_on, is_met, open_path}
+use Rattle.filter_iter.proofs.Groups.{before_at, reached_number}
+use Rattle.filter_iter.proofs.Leaves.{comes_first, comes_last, goes_on, is_met}
 use Rattle.filter_iter.proofs.Steps.{first_leaf_within}
 use Rattle.filter_iter.specs.Borders.{reached_begun, reached_past, reached_path, real_at}
 use Rattle.filter_iter.specs.Cuts.{FirstPass, has_begun}
@@ -24,7 +24,7 @@ use Rattle.filter_model.proofs.Fronts.{IsBytes-tail, pow_pos}
 use Rattle.filter_model.specs.Answers.{is_past}
 use Rattle.filter_model.specs.Image.{in_slots}
 use Rattle.filter_model.specs.Leaves.{Leaf}
-use Rattle.filter_model.specs.Strings.{bits, is_prefix, same}
+use Rattle.filter_model.specs.Strings.{bits, is_prefix, bytes_eq}
 use Rattle.filter_model.specs.Trie.{END, height, path, slots}
 use Rattle.filter_model.specs.Valid.{IsLeaf, IsValid}
 use Rattle.filter_trie.proofs.Reached.{slot_is}
@@ -83,7 +83,7 @@ pub record IsLeafOf (ls : List Leaf) (slot : ℕ) : Type 0 where
   pub within : at < length ls
   pub is : path (get_or ls at any_leaf) ≡ get_or (slots ls) slot []
 
-leaf_of : (ls : List Leaf) (slot : ℕ) → HasTrie ls → slot < length (slots ls) → IsLeafOf ls slot
+pub leaf_of : (ls : List Leaf) (slot : ℕ) → HasTrie ls → slot < length (slots ls) → IsLeafOf ls slot
 leaf_of ls slot t l =
     let q = get_or (slots ls) slot [] in
     let is = slot_is ls t slot l in
@@ -95,14 +95,14 @@ leaf_of ls slot t l =
     }
 
 -- the suffix of its slot is its own
-own_suffix : (ls : List Leaf) (slot k : ℕ) → HasTrie ls → slot < length (slots ls) → k < length ls → path (get_or ls k any_leaf) ≡ get_or (slots ls) slot []
+pub own_suffix : (ls : List Leaf) (slot k : ℕ) → HasTrie ls → slot < length (slots ls) → k < length ls → path (get_or ls k any_leaf) ≡ get_or (slots ls) slot []
     → get_or (map leaf_suffix (in_slots ls)) slot (0, 0) ≡ leaf_suffix (get_or ls k any_leaf)
 unfolding in_slots
 own_suffix ls slot k t l kl e =
     let own = get_or ls k any_leaf in
     let P : Leaf → Type 0 = λ o. path o ≡ path own → leaf_suffix o ≡ leaf_suffix own in
     let each = by_recursion P ls (λ i d il same. ap (λ (j : ℕ). leaf_suffix (get_or ls j d)) (one_begins ls t i k d il kl (one d il same)) ∙ ap leaf_suffix (other k d kl)) in
-    let all = all_flat P (λ (q : List ℕ). filter (λ o. same (path o) q) ls) (slots ls) (λ q. all_filter P (λ o. same (path o) q) ls each) in
+    let all = all_flat P (λ (q : List ℕ). filter (λ o. bytes_eq (path o) q) ls) (slots ls) (λ q. all_filter P (λ o. bytes_eq (path o) q) ls each) in
     let h = leaves_have_slots ls t in
     let within : slot < length (in_slots ls) = omega (arith, l, h.as_many, leaf_count ls t) in
     let there : path (get_or (in_slots ls) slot any_leaf) ≡ get_or (slots ls) slot [] = sym (get_or-map path (in_slots ls) slot any_leaf [] within) ∙ ap (λ (qs : List (List ℕ)). get_or qs slot []) h.leaf_of_slot in
@@ -120,7 +120,7 @@ own_suffix ls slot k t l kl e =
     one {i} d il same = ap (is_prefix (path (get_or ls i d))) (ap path (other k d kl) ∙ sym same) ∙ prefix_itself (path (get_or ls i d))
 
 -- two stubs with END or without
-ended_alike : (t u : List ℕ) (e f : Bool) → IsBytes t → IsBytes u → t ++ cond e (END ∷ []) [] ≡ u ++ cond f (END ∷ []) [] → (e ≡ f) × (t ≡ u)
+pub ended_alike : (t u : List ℕ) (e f : Bool) → IsBytes t → IsBytes u → t ++ cond e (END ∷ []) [] ≡ u ++ cond f (END ∷ []) [] → (e ≡ f) × (t ≡ u)
 ended_alike [] [] true true v w h = (refl, refl)
 ended_alike [] [] false false v w h = (refl, refl)
 ended_alike [] [] true false v w h = absurd (omega (arith, ap (λ (x : List ℕ). length x) h))
@@ -133,7 +133,7 @@ ended_alike (a ∷ t) (b ∷ u) e f v w h =
     let rest = ended_alike t u e f (IsBytes-tail a t v) (IsBytes-tail b u w) (ap (drop 1) h) in
     (rest.0, λ j. ap (λ (x : List ℕ). get_or x 0 0) h j ∷ rest.1 j)
 
-take_bytes : (n : ℕ) (x : List ℕ) → IsBytes x → IsBytes (take n x)
+pub take_bytes : (n : ℕ) (x : List ℕ) → IsBytes x → IsBytes (take n x)
 take_bytes zero x w = λ i. omega arith
 take_bytes (suc n) [] w = w
 take_bytes (suc n) (a ∷ x) w = both (w 0) (take_bytes n x (IsBytes-tail a x w))
@@ -179,7 +179,7 @@ module _ (hash_bits n : ℕ) (ls : List Leaf) (valid : IsValid hash_bits n ls) (
   is_before : (i : ℕ) (d : Leaf) → i < length ls → comes_before (path (get_or ls i d)) x ≡ nat_lt i k
   is_before i d l = ap (λ (q : List ℕ). comes_before q x) (sym (path_at i d l)) ∙ before_at x (map path ls) i sorted (omega (arith, l, length-map ls path))
 
-  first_ones : (i : ℕ) (d : Leaf) → i < length ls → i < k → (is_past n x (get_or ls i d) ≡ true) × (has_begun n x (get_or ls i d) ≡ true)
+  pub first_ones : (i : ℕ) (d : Leaf) → i < length ls → i < k → (is_past n x (get_or ls i d) ≡ true) × (has_begun n x (get_or ls i d) ≡ true)
   first_ones i d l m =
       let leaf = valid.leaves i d l in
       comes_first hash_bits n (get_or ls i d) x leaf (small (get_or ls i d) leaf) w (is_before i d l ∙ lt-ltb i k m)
@@ -189,7 +189,7 @@ module _ (hash_bits n : ℕ) (ls : List Leaf) (valid : IsValid hash_bits n ls) (
       let leaf = valid.leaves i d l in
       comes_last hash_bits n (get_or ls i d) x leaf (small (get_or ls i d) leaf) w (is_before i d l ∙ le-ltb i k m) e
 
-  number_is : (i : ℕ) (d : Leaf) → i < length ls → is_prefix (path (get_or ls i d)) (x ++ END ∷ []) ≡ true → k ≡ i
+  pub number_is : (i : ℕ) (d : Leaf) → i < length ls → is_prefix (path (get_or ls i d)) (x ++ END ∷ []) ≡ true → k ≡ i
   number_is i d l e = reached_number x (map path ls) i sorted (omega (arith, l, length-map ls path)) (ap (λ (q : List ℕ). is_prefix q (x ++ END ∷ [])) (path_at i d l) ∙ e)
 
   behind : (i : ℕ) (d : Leaf) → i < length ls → k < i → (is_past n x (get_or ls i d) ≡ false) × (has_begun n x (get_or ls i d) ≡ false)
@@ -231,7 +231,7 @@ module _ (hash_bits n : ℕ) (ls : List Leaf) (valid : IsValid hash_bits n ls) (
 
     alike : (l.ends ≡ r.ends) × (l.stub ≡ take r.stub x)
     unfolding path
-    alike = ended_alike l.stub (take r.stub x) l.ends r.ends (valid.leaves leaf_is.at any_leaf leaf_is.within).bytes (take_bytes r.stub x w) (leaf_is.is ∙ at.is)
+    alike = ended_alike l.stub (take r.stub x) l.ends r.ends (valid.leaves leaf_is.at any_leaf leaf_is.within).stub.bytes (take_bytes r.stub x w) (leaf_is.is ∙ at.is)
 
     abbrev real : ℕ
     real = real_at ls r.slot

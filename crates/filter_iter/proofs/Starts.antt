@@ -1,5 +1,5 @@
 -- Where levels begin, and what stands before later nodes and places.
-use Rattle.std.proofs.Common.{◌≡◌, ℕ, zero, suc, ◌+◌, ◌-◌, ◌*◌, ◌^◌, ◌<◌, ◌≤◌, Bool, cond, List, [], ◌∷◌, ◌++◌, length, map, take, refl, ap, sym, ◌∙◌, arith}
+use Rattle.std.proofs.Common.{◌≡◌, ℕ, zero, suc, ◌+◌, ◌-◌, ◌*◌, ◌^◌, ◌<◌, ◌≤◌, cond, List, [], ◌∷◌, ◌++◌, length, map, take, refl, ap, sym, ◌∙◌, arith}
 use Rattle.std.specs.Prelude.{count_by, filter, flat_map, not, sum_by}
 use Rattle.std.proofs.lemmas.List.{length-append, length-take, take-take, take_at}
 use Rattle.std.proofs.lemmas.List.Concat.{flat_map-append}
@@ -8,7 +8,7 @@ use Rattle.std.proofs.lemmas.List.Sums.{length-filter, sum_by-take-le}
 use native.Mathlib.Nat.{mul-le-mul_right}
 use Rattle.filter_image_model.proofs.Paths.{fine_paths, trie_flat}
 use Rattle.filter_image_model.proofs.Sizes.{few_nodes, low_height, total_of}
-use Rattle.filter_iter.proofs.Counts.{behind_first, by_nodes, leaves-trie_of}
+use Rattle.filter_iter.proofs.Counts.{behind_first, leaves-trie_of}
 use Rattle.filter_iter.specs.Counts.{below_first}
 use Rattle.filter_model.specs.Leaves.{Leaf}
 use Rattle.filter_model.specs.Nodes.{Branch, Node, all, children_before, first_place, leaves_before, trie_of}

@@ -1,24 +1,23 @@
 -- Borders, level by level.
-use Rattle.std.proofs.Common.{◌≡◌, ℕ, suc, ◌+◌, ◌-◌, ◌<◌, ◌≤◌, ◌^◌, cond, List, [], length, get_or, map, ap, sym, ◌∙◌, arith}
-use Rattle.std.specs.Prelude.{filter}
+use Rattle.std.proofs.Common.{◌≡◌, ℕ, ◌+◌, ◌<◌, ◌≤◌, ◌^◌, cond, List, length, map, ap, ◌∙◌, arith}
 use Rattle.std.proofs.lemmas.List.{length-map}
 use Rattle.std.proofs.lemmas.List.Sums.{length-filter, sum_by-take-le}
 use Rattle.filter_image_model.proofs.Sizes.{some_height}
-use Rattle.filter_iter.proofs.Counts.{behind_first, by_nodes, counted_by_places, more_nodes}
+use Rattle.filter_iter.proofs.Counts.{behind_first, by_nodes, counted_by_places}
 use Rattle.filter_iter.proofs.Groups.{start_within}
-use Rattle.filter_iter.proofs.Starts.{begins, last_level, leaves_within, level_next, level_within, more_behind, more_below, more_children, more_leaves, more_places, no_level, place_within}
+use Rattle.filter_iter.proofs.Starts.{begins, last_level, leaves_within, level_next, more_behind, more_below, more_children, more_leaves, more_places, place_within}
 use Rattle.filter_iter.specs.Borders.{IsBorder, leaves_at}
 use Rattle.filter_iter.specs.Counts.{LeavesAreCountedByLevels, below_first}
 use Rattle.filter_iter.specs.declared.parts.Border.{Border}
 use Rattle.filter_model.specs.Leaves.{Leaf}
 use Rattle.filter_model.specs.Nodes.{Node, children_before, first_place, leaves_before, trie_of}
-use Rattle.filter_model.specs.Trie.{height, is_node, nodes, nodes_to, path, places}
+use Rattle.filter_model.specs.Trie.{height, is_node, nodes, path, places}
 use Rattle.filter_model.specs.Valid.{IsValid}
 use Rattle.trie_laws.proofs.NodeLists.{nodes_is}
 use Rattle.trie_laws.proofs.Places.{children-trie_of, length-trie_of}
 use Rattle.trie_levels.proofs.Totals.{valid_lists_have_tries}
 use Rattle.trie_model.specs.Halves.{begin_of, first_below, slot_at, whole}
-use Rattle.trie_model.specs.Rests.{first_leaf, leaves_below}
+use Rattle.trie_model.specs.Rests.{first_leaf}
 
 plain : (ns : List Node) (p : ℕ) → first_below (whole ns) p ≡ children_before ns p + 1
 plain ns p = drop_zero (children_before ns p)

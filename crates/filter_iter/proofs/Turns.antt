@@ -1,5 +1,5 @@
 -- Down by a byte of a bound.
-use Rattle.std.proofs.Common.{◌≡◌, ℕ, suc, ◌+◌, ◌-◌, ◌<◌, ◌≤◌, ◌⊎◌, Bool, true, false, cond, Option, Some, None, List, [], ◌∷◌, ◌++◌, length, get_or, map, refl, ap, subst, sym, ◌∙◌, arith, inl, inr, eqb, nat_lt, ltb, le-ltb, lt-ltb}
+use Rattle.std.proofs.Common.{◌≡◌, ℕ, suc, ◌+◌, ◌-◌, ◌<◌, ◌≤◌, Bool, true, false, cond, Option, Some, None, List, [], ◌∷◌, ◌++◌, length, get_or, map, refl, ap, subst, sym, ◌∙◌, arith, inl, inr, eqb, nat_lt, le-ltb, lt-ltb}
 use Rattle.std.specs.List.{AllByRecursion}
 use Rattle.std.specs.Option.{option_map}
 use Rattle.std.proofs.lemmas.Bool.{cases_eq, cases_lt, eqb-true, false≢true, ne_eqb, or_cases}
@@ -9,9 +9,9 @@ use Rattle.filter_image_model.proofs.Paths.{IsFine, Small, fine_paths, heads_som
 use Rattle.filter_image_model.proofs.Sizes.{some_height}
 use Rattle.filter_image_model.proofs.Sorted.{HeadsIn}
 use Rattle.filter_image_model.proofs.Unique.{IsOwn}
-use Rattle.filter_iter.proofs.Counts.{behind_first, by_nodes, by_place, more_nodes}
+use Rattle.filter_iter.proofs.Counts.{by_nodes, by_place, more_nodes}
 use Rattle.filter_iter.proofs.Starts.{begins, more_below, more_places}
-use Rattle.filter_iter.proofs.Steps.{IsDown, down_to, step_border, step_counts}
+use Rattle.filter_iter.proofs.Steps.{IsDown, step_counts}
 use Rattle.filter_iter.specs.Borders.{IsBorder, IsTurn, IsTurnAt, leaves_at}
 use Rattle.filter_iter.specs.Counts.{below_first}
 use Rattle.filter_iter.specs.declared.parts.Border.{Border}
@@ -20,7 +20,7 @@ use Rattle.filter_iter.specs.declared.parts.Turn.TheVariants as turn
 use Rattle.filter_model.specs.Image.{label_of}
 use Rattle.filter_model.specs.Leaves.{Leaf}
 use Rattle.filter_model.specs.Nodes.{Branch, Node, at, first_place, last_letter, trie_of}
-use Rattle.filter_model.specs.Trie.{END, height, is_reached, nodes, path, places}
+use Rattle.filter_model.specs.Trie.{height, is_reached, nodes, path}
 use Rattle.filter_model.specs.Valid.{IsValid}
 use Rattle.filter_trie.proofs.Down.{node_passes}
 use Rattle.filter_trie.proofs.Finding.{branches_lead, searches_find}
@@ -31,7 +31,7 @@ use Rattle.filter_trie.specs.Laws.{IsByteBranch, NoneBetween}
 use Rattle.filter_trie.specs.Walks.{IsNodeAt, IsSlotAt}
 use Rattle.trie_laws.proofs.Forms.{order-byte}
 use Rattle.trie_laws.proofs.NodeLists.{height_above}
-use Rattle.trie_laws.proofs.Places.{at-trie_of, first_within, last_letter-push, length-trie_of}
+use Rattle.trie_laws.proofs.Places.{at-trie_of, last_letter-push, length-trie_of}
 use Rattle.trie_levels.proofs.Totals.{valid_lists_have_tries}
 use Rattle.trie_levels.specs.Tries.{HasTrie}
 use Rattle.trie_model.specs.Branching.{next_at}

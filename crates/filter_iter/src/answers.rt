@@ -3,7 +3,7 @@ ghost use Rattle.std.specs.Prelude.{◌≡◌, ◌<◌, drop, length};
 ghost use Rattle.filter_api.specs.Spellings.{MayStand};
 ghost use Rattle.filter_iter.specs.Borders.{reached_begun, reached_past};
 ghost use Rattle.filter_iter.specs.Cuts.{FirstPass, has_begun};
-ghost use Rattle.filter_model.specs.Answers.{first, is_past, ranged, tally as tally_of};
+ghost use Rattle.filter_model.specs.Answers.{first, is_past, tally as tally_of};
 ghost use Rattle.filter_model.specs.Strings.{bits};
 
 use super::parts::{Reach, Reached};
@@ -12,7 +12,7 @@ use filter_trie::Trie;
 use std::alloc::Allocator;
 use suffix_bits::real_bits_of;
 
-/// The bits of a bound that follow the stub of the leaf which it reaches, as many as a leaf has real bits.
+// The bits of a bound that follow the stub of the leaf which it reaches, as many as a leaf has real bits.
 fn real_after<A: Allocator>(trie: &Trie<A>, bound: &[u8], leaf: Reached) -> u32
     ensures { result ≡ bits trie.now.real_bits (drop leaf.stub bound.now) }
 {
@@ -20,7 +20,7 @@ fn real_after<A: Allocator>(trie: &Trie<A>, bound: &[u8], leaf: Reached) -> u32
 }
 
 /// Whether the leaf that `lo` reaches is past it: every string that fits the leaf is below `lo`.
-fn is_reached_past<A: Allocator>(trie: &Trie<A>, lo: &[u8], leaf: Reached) -> bool
+pub(crate) fn is_reached_past<A: Allocator>(trie: &Trie<A>, lo: &[u8], leaf: Reached) -> bool
     requires { leaf.slot < length trie.now.leaves }
     ensures { result ≡ reached_past trie.now.real_bits trie.now.leaves lo.now leaf }
 {
@@ -28,14 +28,14 @@ fn is_reached_past<A: Allocator>(trie: &Trie<A>, lo: &[u8], leaf: Reached) -> bo
 }
 
 /// Whether the leaf that `hi` reaches begins at or below it: so does the least string that fits the leaf.
-fn is_reached_begun<A: Allocator>(trie: &Trie<A>, hi: &[u8], leaf: Reached) -> bool
+pub(crate) fn is_reached_begun<A: Allocator>(trie: &Trie<A>, hi: &[u8], leaf: Reached) -> bool
     requires { leaf.slot < length trie.now.leaves }
     ensures { result ≡ reached_begun trie.now.real_bits trie.now.leaves hi.now leaf }
 {
     leaf.ends || trie.suffix(leaf.slot).1 <= real_after(trie, hi, leaf)
 }
 
-/// How many leaves are past `lo`. They are the first ones in key order.
+// How many leaves are past `lo`. They are the first ones in key order.
 fn count_past<A: Allocator>(trie: &Trie<A>, lo: &[u8]) -> u64
     ensures stands { MayStand trie.now.hash_bits trie.now.real_bits trie.now.cutoff trie.now.leaves }
     ensures past { FirstPass (is_past trie.now.real_bits lo.now) trie.now.leaves result }
@@ -47,7 +47,7 @@ fn count_past<A: Allocator>(trie: &Trie<A>, lo: &[u8]) -> u64
     }
 }
 
-/// How many leaves begin at or below `hi`. They are the first ones in key order.
+// How many leaves begin at or below `hi`. They are the first ones in key order.
 fn count_begun<A: Allocator>(trie: &Trie<A>, hi: &[u8]) -> u64
     ensures { FirstPass (has_begun trie.now.real_bits hi.now) trie.now.leaves result }
 {
@@ -70,13 +70,6 @@ pub fn seek<A: Allocator>(trie: &Trie<A>, lo: &[u8]) -> Option<u32>
     } else {
         None
     }
-}
-
-/// Whether some leaf may stand for a key from `lo` to `hi`. Costs two of `seek`.
-pub fn range<A: Allocator>(trie: &Trie<A>, lo: &[u8], hi: &[u8]) -> bool
-    ensures { result ≡ ranged trie.now.real_bits trie.now.leaves lo.now hi.now }
-{
-    count_past(trie, lo) < count_begun(trie, hi)
 }
 
 /// How many leaves may stand for a key from `lo` to `hi`. Costs two of `seek`.

@@ -1,13 +1,20 @@
-//! Ranges over a trie: may any key lie between two bounds, which leaf is the first that is not past a bound, and how many
-//! leaves may stand for keys between two.
+//! Ranges over a trie: may any key lie between two bounds, which leaf is the first that is not past a bound, how many leaves
+//! may stand for keys between two, what is the least string of a leaf; and a cursor that goes from leaf to leaf.
 //!
-//! All of it is told by counts. A [`Trie`](filter_trie::Trie) has its leaves level by level and not in key order, so what
-//! comes before a bound is counted on each level: the leaves of that level that stand before the bound's *border* there.
-//! The border goes down by the bound's letters as a walk does, and below the point where the bound leaves the trie by one
-//! count a level. No path is kept, no memory is taken, and the cost goes as the height, whatever the number of leaves.
+//! Where a bound or a leaf stands is told by counts. A [`Trie`](filter_trie::Trie) has its leaves level by level and not in
+//! key order, so what comes before a bound is counted on each level: the leaves of that level that stand before the bound's
+//! *border* there. The border goes down by the bound's letters as a walk does, and below the point where the bound leaves
+//! the trie by one count a level. No path is kept, no memory is taken, and the cost goes as the height, whatever the number
+//! of leaves.
+//!
+//! A [`FilterCursor`] alone keeps a path, that to its leaf: the next leaf is mostly a branch of the same node. `start` takes
+//! memory for that path, and no later call takes any.
 //!
 //! The answers are those of the leaf list (`filter_model`): leaves are numbered in key order, and that number is not the
 //! slot, which goes by levels.
+//!
+//! Do not use `seek` or `tally` where the question is whether a range may hold a key: they count on each level, and `range`
+//! counts nothing. Nor `least_of` for leaf after leaf: a cursor goes on from where it stands.
 //!
 //! ```text
 //! keys               far   fast   s   top   toy
@@ -16,14 +23,25 @@
 //! range(&trie, b"fat", b"r")     // false
 //! range(&trie, b"fat", b"s")     // true
 //! tally(&trie, b"fas", b"tor")   // 3: fas, s and top
+//! FilterCursor::start(alloc, &trie, b"fat")?    // at leaf 2, the leaf s
 //! ```
 #![tactic(auto)]
 
 mod answers;
+mod between;
 mod borders;
+mod branches;
+mod cursor;
 mod laws;
+mod least;
+mod numbers;
 mod parts;
 mod reaching;
+mod stubs;
+mod ways;
 
-pub use answers::{range, seek, tally};
+pub use answers::{seek, tally};
+pub use between::range;
+pub use cursor::FilterCursor;
 pub use laws::leaves_are_counted_by_levels;
+pub use least::least_of;

@@ -5,7 +5,7 @@ ghost use Rattle.std.specs.Option.{option_map};
 ghost use Rattle.filter_api.specs.Spellings.{MayStand};
 ghost use Rattle.filter_iter.specs.Borders.{IsBorder, IsTurn, IsTurnAt, leaves_at, reached_path};
 ghost use Rattle.filter_model.specs.Trie.{nodes};
-ghost use Rattle.filter_trie.specs.Places.{IsTaken, number_of, trie as trie_in};
+ghost use Rattle.filter_trie.specs.Places.{IsTaken, branch_number, trie as trie_in};
 ghost use Rattle.filter_trie.specs.Walks.{IsSlotAt};
 ghost use Rattle.trie_model.specs.Rests.{first_leaf};
 ghost use Rattle.trie_model.specs.Walks.{slot_of_key};
@@ -15,10 +15,10 @@ use super::parts::{Border, Reach, Reached, Turn};
 use filter_trie::{Place, Trie};
 use std::alloc::Allocator;
 
-/// Where the branch at a place leads, if it is by this byte.
+// Where the branch at a place leads, if it is by this byte.
 fn turn_at<A: Allocator>(trie: &Trie<A>, place: Place, byte: u8) -> Turn
     requires { IsTaken trie.now place }
-    ensures { IsTurnAt (trie_in trie.now) (number_of trie.now place) byte result }
+    ensures { IsTurnAt (trie_in trie.now) (branch_number trie.now place) byte result }
 {
     if trie.byte_at(place) != byte {
         Turn::Nowhere
@@ -30,7 +30,7 @@ fn turn_at<A: Allocator>(trie: &Trie<A>, place: Place, byte: u8) -> Turn
 }
 
 /// Goes down by a byte of the bound from the node at the border, which the letters so far lead to.
-fn turn<A: Allocator>(trie: &Trie<A>, border: Border, byte: u8) -> (Border, Turn)
+pub(crate) fn turn<A: Allocator>(trie: &Trie<A>, border: Border, byte: u8) -> (Border, Turn)
     requires stands { MayStand trie.now.hash_bits trie.now.real_bits trie.now.cutoff trie.now.leaves }
     requires node { border.node < length (nodes trie.now.leaves) }
     requires border { IsBorder trie.now.leaves (length (get_or (nodes trie.now.leaves) border.node [])) border }

@@ -1,6 +1,7 @@
 //! Both halves of the tries of random sets, cut at each level, and each of their calls against the plain one.
 use super::keys::{some_keys, step};
 use super::plain::{END, Plain};
+use super::sections::{check_dense_sections, check_sparse_sections};
 use louds_dense::{Dense, DenseBuilder};
 use louds_sparse::{Sparse, SparseBuilder};
 use std::alloc::{AllocError, Global};
@@ -11,8 +12,8 @@ use trie_model::are_rising;
 // The letters of the keys.
 const LETTERS: [u8; 4] = [0x00, 0x61, 0xFE, 0xFF];
 
-// How many sets of keys are drawn.
-const SETS: u64 = 150;
+// How many sets of keys are drawn; six of them are empty.
+const SETS: u64 = 1_010;
 
 // How many keys a set has at most.
 const MAX_KEYS: usize = 60;
@@ -55,7 +56,7 @@ fn sparse_of(
     builder.finish()
 }
 
-/// The dense place of the branch at a plain place of a node.
+// The dense place of the branch at a plain place of a node.
 fn dense_place(plain: &Plain, node: usize, place: Option<u64>) -> Option<u64> {
     match place {
         Some(place) => Some(
@@ -67,7 +68,7 @@ fn dense_place(plain: &Plain, node: usize, place: Option<u64>) -> Option<u64> {
     }
 }
 
-/// The plain place before which the branches of a node stand that come before a byte.
+// The plain place before which the branches of a node stand that come before a byte.
 fn plain_place(plain: &Plain, node: usize, byte: u16) -> usize {
     match plain.next_branch(node, byte) {
         Some(place) => place as usize,
@@ -128,14 +129,90 @@ fn check_sparse_place(
 ) {
     let number = place.saturating_sub(first) as u64;
     assert!(rt; number < sparse.place_count());
+    assert!(rt; u16::from(sparse.byte_at(number)) == plain.letter(place).min(0xFF));
     assert!(rt; sparse.child(number) == plain.child(place));
     assert!(rt; sparse.leaf_slot(number) == plain.leaf_slot(place));
     assert!(rt; sparse.first_below(number) == plain.first_below(place));
 }
 
-fn check_sparse_node(rt: &impl Abort, sparse: &Sparse<Global>, plain: &Plain, node: usize) {
-    assert!(rt; sparse.has_node(node as u64));
-    assert!(rt; sparse.prefix_slot(node as u64) == plain.end_slot(node));
+// The place of a half that has the places from `first` on.
+fn sparse_place(place: Option<u64>, first: usize) -> Option<u64> {
+    match place {
+        Some(place) => Some(place.saturating_sub(first as u64)),
+        None => None,
+    }
+}
+
+fn check_sparse_byte(
+    rt: &impl Abort,
+    sparse: &Sparse<Global>,
+    plain: &Plain,
+    first: usize,
+    node: usize,
+    byte: u16,
+) {
+    if byte > END {
+        return;
+    }
+    let number = node as u64;
+    assert!(rt; sparse.has_node(number));
+    if let Ok(byte) = u8::try_from(byte) {
+        let branch = plain.branch(node, u16::from(byte));
+        assert!(rt; sparse.branch(number, byte) == sparse_place(branch, first));
+    }
+    let next = plain.next_branch(node, byte);
+    assert!(rt; sparse.next_branch(number, byte) == sparse_place(next, first));
+    let prev = plain.prev_branch(node, byte);
+    assert!(rt; sparse.prev_branch(number, byte) == sparse_place(prev, first));
+}
+
+fn check_sparse_node(
+    rt: &impl Abort,
+    sparse: &Sparse<Global>,
+    plain: &Plain,
+    first: usize,
+    node: usize,
+) {
+    let number = node as u64;
+    assert!(rt; sparse.has_node(number));
+    let (from, to) = plain.range(node);
+    let from = from.saturating_sub(first) as u64;
+    let to = to.saturating_sub(first) as u64;
+    assert!(rt; sparse.first_place(number) == from);
+    assert!(rt; sparse.node_range(number) == (from, to));
+    assert!(rt; sparse.prefix_slot(number) == plain.end_slot(node));
+    for letter in LETTERS {
+        let byte = u16::from(letter);
+        check_sparse_byte(rt, sparse, plain, first, node, byte.saturating_sub(1));
+        check_sparse_byte(rt, sparse, plain, first, node, byte);
+        check_sparse_byte(rt, sparse, plain, first, node, byte + 1);
+    }
+}
+
+fn check_dense(rt: &impl Abort, dense: &Dense<Global>, plain: &Plain, cut: usize) {
+    for node in 0..cut {
+        check_dense_node(rt, dense, plain, node);
+    }
+    let first = plain.range(cut).0;
+    let behind = dense.place_count();
+    assert!(rt; dense.leaf_slot(behind) == plain.leaf_slot(first));
+    assert!(rt; dense.first_below(behind) == plain.first_below(first));
+}
+
+fn check_sparse_nodes(rt: &impl Abort, sparse: &Sparse<Global>, plain: &Plain, cut: usize) {
+    let first = plain.range(cut).0;
+    for node in cut..plain.node_count() {
+        check_sparse_node(rt, sparse, plain, first, node);
+    }
+    assert!(rt; sparse.node_count() == plain.node_count().saturating_sub(cut) as u64);
+}
+
+fn check_sparse_places(rt: &impl Abort, sparse: &Sparse<Global>, plain: &Plain, cut: usize) {
+    let first = plain.range(cut).0;
+    for place in first..plain.place_count() {
+        check_sparse_place(rt, sparse, plain, first, place);
+    }
+    assert!(rt; sparse.place_count() == plain.place_count().saturating_sub(first) as u64);
 }
 
 fn check_halves(
@@ -145,24 +222,16 @@ fn check_halves(
     cut: usize,
 ) -> Result<(), AllocError> {
     let dense = dense_of(rt, alloc, plain, cut)?;
+    check_dense(rt, &dense, plain, cut);
+    check_dense_sections(rt, &dense, plain, cut);
     let sparse = sparse_of(rt, alloc, plain, &dense)?;
-    for node in 0..cut {
-        check_dense_node(rt, &dense, plain, node);
-    }
-    let first = plain.range(cut).0;
-    let behind = dense.place_count();
-    assert!(rt; dense.leaf_slot(behind) == plain.leaf_slot(first));
-    assert!(rt; dense.first_below(behind) == plain.first_below(first));
-    for node in cut..plain.node_count() {
-        check_sparse_node(rt, &sparse, plain, node);
-    }
-    for place in first..plain.place_count() {
-        check_sparse_place(rt, &sparse, plain, first, place);
-    }
+    check_sparse_nodes(rt, &sparse, plain, cut);
+    check_sparse_places(rt, &sparse, plain, cut);
+    check_sparse_sections(rt, &sparse, plain, cut);
     Ok(())
 }
 
-/// Cuts a trie before each of its levels, and behind the last.
+// Cuts a trie before each of its levels, and behind the last.
 fn check_cuts(rt: &impl Abort, alloc: Global, plain: &Plain) -> Result<(), AllocError> {
     check_halves(rt, alloc, plain, 0)?;
     let mut cut = 1;

@@ -2,7 +2,11 @@
 
 ghost use Rattle.std.specs.Prelude.{◌<◌};
 
+use key_base::KeyList;
 use std::alloc::{AllocError, Global};
+
+// The letters of most keys: the least and the greatest byte are among them.
+const LETTERS: [u8; 4] = [0x00, 0x61, 0x62, 0xFF];
 
 /// How many letters a key has at most.
 pub(crate) const MAX_LETTERS: usize = 4;
@@ -76,4 +80,28 @@ pub(crate) fn some_keys(
         }
     }
     Ok(Keys { items })
+}
+
+/// The same keys as a list.
+pub(crate) fn list_of(alloc: Global, keys: &Keys) -> Result<KeyList, AllocError> {
+    let mut list = KeyList::new(alloc);
+    for key in &keys.items {
+        list.push(key.as_slice())?;
+    }
+    Ok(list)
+}
+
+/// The keys of these words.
+pub(crate) fn list_of_words(alloc: Global, words: &[&[u8]]) -> Result<KeyList, AllocError> {
+    let mut keys = KeyList::new(alloc);
+    for word in words {
+        keys.push(word)?;
+    }
+    Ok(keys)
+}
+
+/// A list of keys over four letters that a seed draws, at most `limit` of them.
+pub(crate) fn drawn_list(alloc: Global, seed: u64, limit: usize) -> Result<KeyList, AllocError> {
+    let keys = some_keys(alloc, &LETTERS, seed, 1 + (seed >> 50) % 48, limit)?;
+    list_of(alloc, &keys)
 }

@@ -1,22 +1,53 @@
-//! Tests of the filters' room: levels of tries from the keys themselves, and the halves of a trie, cut at each level,
-//! against plain loops over its branches.
+//! Tests of the filters' room: levels of tries from the keys themselves; the halves of a trie, cut at each level, against
+//! plain loops over its branches; ranges over tries against plain filters of the same keys; and the images of tries against
+//! a slow judge.
 //!
 //! Nothing is exported. What the tests show at some keys their crates prove at all; here keys, their stubs, the plan of
-//! their trie and its cutoff come together, and sets of keys, the nodes of their trie and the calls of its halves.
+//! their trie and its cutoff come together, and sets of keys, the nodes of their trie, its calls and its image.
 #![tactic(auto)]
 
 #[cfg(test)]
+mod bits;
+#[cfg(test)]
+mod bounds;
+#[cfg(test)]
+mod changed;
+#[cfg(test)]
+mod codec;
+#[cfg(test)]
+mod cursors;
+#[cfg(test)]
+mod cutoffs;
+#[cfg(test)]
 mod halves;
+#[cfg(test)]
+mod images;
+#[cfg(test)]
+mod judge;
+#[cfg(test)]
+mod kernels;
 #[cfg(test)]
 mod keys;
 #[cfg(test)]
+mod knots;
+#[cfg(test)]
+mod leaf_lists;
+#[cfg(test)]
 mod levels;
+#[cfg(test)]
+mod many;
 #[cfg(test)]
 mod places;
 #[cfg(test)]
 mod plain;
 #[cfg(test)]
-mod sparse;
+mod ranges;
+#[cfg(test)]
+mod rows;
+#[cfg(test)]
+mod sections;
+#[cfg(test)]
+mod sets;
 #[cfg(test)]
 mod tries;
 #[cfg(test)]

@@ -3,9 +3,10 @@ ghost use Rattle.std.specs.Prelude.{◌<◌, length};
 ghost use Rattle.filter_model.specs.Trie.{nodes};
 ghost use Rattle.filter_trie.specs.Places.{IsTaken, IsWithin};
 
-use super::keys::{some_keys, step};
+use super::keys::{list_of, some_keys, step};
 use super::plain::{END, Plain};
-use super::tries::{has_node, list_of, trie_of};
+use super::tries::{has_node, trie_of};
+use super::walks::counted;
 use filter_trie::{Place, Trie, Walk};
 use key_base::KeyList;
 use std::alloc::{AllocError, Global};
@@ -15,7 +16,7 @@ use std::test::Fail;
 // The letters of the keys.
 const LETTERS: [u8; 4] = [0x00, 0x61, 0xFE, 0xFF];
 
-// How many sets of keys are drawn; some of them, not ten, are empty.
+// How many sets of keys are drawn; ten of them are empty.
 const SETS: u64 = 1_010;
 
 // How many keys a set has at most.
@@ -120,20 +121,27 @@ fn slot_in(walk: Walk) -> Option<u64> {
     }
 }
 
-// A key, and what stands beside it: without its last letter, and one letter longer.
-fn check_walks(
+// A walk, and one whose steps are counted.
+fn check_walk(rt: &impl Abort, trie: &Trie<Global>, plain: &Plain, key: &[u8]) {
+    let slot = plain.walk(key);
+    assert!(rt; slot_in(trie.walk(key)) == slot);
+    assert!(rt; slot_in(counted(trie, key)) == slot);
+}
+
+/// A key, and what stands beside it: without its last letter, and one letter longer.
+pub(crate) fn check_walks(
     rt: &impl Abort,
     alloc: Global,
     trie: &Trie<Global>,
     plain: &Plain,
     key: &[u8],
 ) -> Result<(), AllocError> {
-    assert!(rt; slot_in(trie.walk(key)) == plain.walk(key));
+    check_walk(rt, trie, plain, key);
     let mut longer = Vec::from_slice(alloc, key)?;
     longer.pop();
     for letter in LETTERS {
         longer.push(letter)?;
-        assert!(rt; slot_in(trie.walk(longer.as_slice())) == plain.walk(longer.as_slice()));
+        check_walk(rt, trie, plain, longer.as_slice());
     }
     Ok(())
 }

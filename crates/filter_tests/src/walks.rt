@@ -1,7 +1,10 @@
 //! Walks of a trie at every cutoff: examples, and every key of large lists to its own leaf.
-ghost use Rattle.std.specs.Prelude.{◌≡◌, ◌<◌};
+ghost use Rattle.std.specs.Prelude.{◌≡◌, ◌<◌, codes};
+ghost use Rattle.filter_model.specs.Examples.{a_ab};
+ghost use Rattle.filter_model.specs.Leaves.{base_leaves};
+ghost use Rattle.trie_model.specs.Walks.{steps};
 
-use super::keys::step;
+use super::keys::{list_of_words, step};
 use super::levels::{byte_keys, pair_keys};
 use super::tries::{HASH_BITS, trie_of};
 use filter_trie::{Steps, Trie, Walk};
@@ -16,14 +19,6 @@ use suffix_bits::hash_bits_of;
 // How many keys of eight bytes are drawn.
 const RANDOM_KEYS: u64 = 100_000;
 
-fn list_of_words(alloc: Global, words: &[&[u8]]) -> Result<KeyList, AllocError> {
-    let mut keys = KeyList::new(alloc);
-    for word in words {
-        keys.push(word)?;
-    }
-    Ok(keys)
-}
-
 // What keys lead to at every cutoff.
 fn check_rows(
     rt: &impl Abort,
@@ -35,11 +30,26 @@ fn check_rows(
     let keys = list_of_words(alloc, words)?;
     for cutoff in 0..=height {
         let trie = trie_of(alloc, &keys, cutoff)?;
-        assert!(rt; (trie.cutoff(), trie.height()) == (cutoff, height));
-        check_walks(rt, &trie, rows);
-        check_keys(rt, alloc, &keys, &trie)?;
+        check_shape(rt, &trie, cutoff, height);
+        check_trie(rt, alloc, &keys, &trie, rows)?;
     }
     Ok(())
+}
+
+fn check_shape(rt: &impl Abort, trie: &Trie<Global>, cutoff: u16, height: u16) {
+    assert!(rt; trie.cutoff() == cutoff);
+    assert!(rt; trie.height() == height);
+}
+
+fn check_trie(
+    rt: &impl Abort,
+    alloc: Global,
+    keys: &KeyList,
+    trie: &Trie<Global>,
+    rows: &[(&[u8], Walk)],
+) -> Result<(), AllocError> {
+    check_walks(rt, trie, rows);
+    check_keys(rt, alloc, keys, trie)
 }
 
 // The same walk, counted.
@@ -51,7 +61,13 @@ fn walk_again<L: Ledger>(trie: &Trie<Global>, key: &[u8], blank: Blank) -> Walk
     trie.walk_counted(key, &mut Steps::<L>::new(blank))
 }
 
-fn counted(trie: &Trie<Global>, key: &[u8]) -> Walk {
+// Over the keys a and ab the walk of a looks at two nodes, the root and a.
+fn a_looks_at_two_nodes()
+    ensures { steps (base_leaves a_ab) (codes "a") ≡ 2 }
+{}
+
+/// A walk whose steps are counted.
+pub(crate) fn counted(trie: &Trie<Global>, key: &[u8]) -> Walk {
     walk_again::<Brand>(trie, key, Blank::new(1))
 }
 
@@ -94,6 +110,7 @@ fn a_and_ab_at_every_cutoff(rt: HostRuntime) -> Result<(), Fail> {
         (b"b", Walk::Miss),
     ];
     check_rows(&rt, rt.alloc(), &words, &rows, 2)?;
+    a_looks_at_two_nodes();
     Ok(())
 }
 
@@ -107,6 +124,22 @@ fn a_key_goes_on_by_ff_and_not_by_00(rt: HostRuntime) -> Result<(), Fail> {
         (b"\x61\x00", Walk::Miss),
     ];
     check_rows(&rt, rt.alloc(), &words, &rows, 2)?;
+    Ok(())
+}
+
+#[test]
+fn a_chain_by_ff_is_walked_to_its_end(rt: HostRuntime) -> Result<(), Fail> {
+    let words: [&[u8]; 2] = [b"\x62\xFF\xFF\x78", b"\x62\xFF\xFF\x79"];
+    let rows: [(&[u8], Walk); 7] = [
+        (b"\x62\xFF\xFF\x78", Walk::Leaf(0)),
+        (b"\x62\xFF\xFF\x79", Walk::Leaf(1)),
+        (b"\x62\xFF\xFF\x79\x00", Walk::Leaf(1)),
+        (b"\x62", Walk::Miss),
+        (b"\x62\xFF\xFF", Walk::Miss),
+        (b"\x62\xFF\x78", Walk::Miss),
+        (b"\x62\xFF\xFF\xFF", Walk::Miss),
+    ];
+    check_rows(&rt, rt.alloc(), &words, &rows, 4)?;
     Ok(())
 }
 
@@ -151,12 +184,16 @@ fn every_key_of_one_byte_at_every_cutoff(rt: HostRuntime) -> Result<(), Fail> {
     let keys = byte_keys(rt.alloc(), 256)?;
     for cutoff in 0..=1 {
         let trie = trie_of(rt.alloc(), &keys, cutoff)?;
-        for byte in 0..=0xFF {
-            assert!(rt; trie.walk(&[byte]) == Walk::Leaf(u64::from(byte)));
-        }
+        check_bytes(&rt, &trie);
         check_keys(&rt, rt.alloc(), &keys, &trie)?;
     }
     Ok(())
+}
+
+fn check_bytes(rt: &impl Abort, trie: &Trie<Global>) {
+    for byte in 0..=0xFF {
+        assert!(rt; trie.walk(&[byte]) == Walk::Leaf(u64::from(byte)));
+    }
 }
 
 #[test]
@@ -164,14 +201,18 @@ fn every_key_of_two_bytes_at_every_cutoff(rt: HostRuntime) -> Result<(), Fail> {
     let keys = pair_keys(rt.alloc(), 256)?;
     for cutoff in 0..=2 {
         let trie = trie_of(rt.alloc(), &keys, cutoff)?;
-        for pair in 0..=0xFFFF {
-            let [first, second] = u16::to_be_bytes(pair);
-            assert!(rt; trie.walk(&[first]) == Walk::Miss);
-            assert!(rt; trie.walk(&[first, second]) == Walk::Leaf(u64::from(pair)));
-        }
+        check_pairs(&rt, &trie);
         check_keys(&rt, rt.alloc(), &keys, &trie)?;
     }
     Ok(())
+}
+
+fn check_pairs(rt: &impl Abort, trie: &Trie<Global>) {
+    for pair in 0..=0xFFFF {
+        let [first, second] = u16::to_be_bytes(pair);
+        assert!(rt; trie.walk(&[first]) == Walk::Miss);
+        assert!(rt; trie.walk(&[first, second]) == Walk::Leaf(u64::from(pair)));
+    }
 }
 
 // Rising keys of eight bytes, at random distances.

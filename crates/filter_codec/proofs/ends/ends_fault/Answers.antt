@@ -1,6 +1,5 @@
-use Rattle.std.proofs.Common.{◌≡◌, ◌+◌, ◌*◌, ◌/◌, ◌++◌, ◌<◌, ◌∙◌, ap, arith, length, ℕ}
+use Rattle.std.proofs.Common.{◌≡◌, ◌+◌, ◌*◌, ◌++◌, ◌<◌, ◌∙◌, ap, arith, length, ℕ}
 use Rattle.std.specs.Option.{option_map}
-use Rattle.filter_api.specs.declared.errors.FilterFault.{FilterFault}
 use Rattle.filter_codec.proofs.Endings.{less_wide, rule_found, rule_none, slot_within}
 use Rattle.filter_codec.specs.Judging.{seen}
 use Rattle.filter_image_model.specs.Reading.{slot_letters}

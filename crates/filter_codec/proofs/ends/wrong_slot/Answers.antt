@@ -1,7 +1,7 @@
-use Rattle.std.proofs.Common.{◌≡◌, ◌+◌, ◌++◌, ◌∙◌, ap, sym, ℕ}
+use Rattle.std.proofs.Common.{◌∙◌, ap, sym, ℕ}
 use Rattle.std.specs.Prelude.{Option}
 use Rattle.std.specs.Option.{option_or}
-use Rattle.filter_codec.proofs.Endings.{dense_within, in_both}
+use Rattle.filter_codec.proofs.Endings.{in_both}
 use Rattle.filter_codec.specs.Ends.{wrong_end}
 use Rattle.filter_image_model.specs.Levels.{leaf_count_of}
 use Rattle.filter_image_model.specs.Reading.{slot_letters}

@@ -1,4 +1,4 @@
-use Rattle.std.proofs.Common.{◌≡◌, ◌+◌, ◌++◌, ◌∙◌, ap, arith, length, sym, Bool}
+use Rattle.std.proofs.Common.{◌++◌, ◌∙◌, ap, length, sym, Bool}
 use Rattle.std.specs.Prelude.{◌==◌, ◌&&◌}
 use Rattle.filter_image_model.specs.Levels.{nodes_above}
 use Rattle.filter_codec.proofs.Louds.{above_level, no_levels}

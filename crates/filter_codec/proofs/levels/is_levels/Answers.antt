@@ -1,4 +1,4 @@
-use Rattle.std.proofs.Common.{◌≡◌, ◌+◌, ◌++◌, ◌∙◌, ap, arith, length, sym}
+use Rattle.std.proofs.Common.{◌++◌, ◌∙◌, ap, arith, sym}
 use Rattle.std.specs.Prelude.{◌==◌, ◌&&◌}
 use Rattle.filter_codec.proofs.Louds.{last_level, no_levels}
 use Rattle.filter_codec.proofs.levels.is_levels.Goals as goal

@@ -1,4 +1,4 @@
-use Rattle.std.proofs.Common.{◌≡◌, ◌++◌}
+use Rattle.std.proofs.Common.{◌++◌}
 use Rattle.filter_codec.specs.Tree.{IsNextLevel}
 use Rattle.filter_codec.proofs.levels.next_level.Given as goal
 

@@ -1,4 +1,4 @@
-use Rattle.std.proofs.Common.{◌≡◌, ◌+◌, ◌<◌, ◌≤◌, ◌^◌, ◌∙◌, ap, arith, length, sym}
+use Rattle.std.proofs.Common.{◌∙◌, ap, length, sym}
 use Rattle.filter_codec.proofs.Judged.{at_head, at_length, at_padding, at_strays}
 use Rattle.filter_codec.proofs.Spelled.{dense_bytes, few_rows, strays_same, whole}
 use Rattle.filter_codec.proofs.Strays.{bytes_of}

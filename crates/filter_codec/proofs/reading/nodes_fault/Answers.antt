@@ -1,4 +1,4 @@
-use Rattle.std.proofs.Common.{◌≡◌, ◌++◌, ◌<◌, ◌∙◌, length, sym}
+use Rattle.std.proofs.Common.{◌++◌, ◌∙◌, length, sym}
 use Rattle.filter_codec.proofs.Joining.{counted, some_nodes}
 use Rattle.filter_codec.proofs.Places.{or_none, or_some}
 use Rattle.filter_codec.proofs.reading.nodes_fault.Goals as goal

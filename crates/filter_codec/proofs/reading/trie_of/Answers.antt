@@ -1,14 +1,12 @@
-use Rattle.std.proofs.Common.{◌≡◌, ◌<◌, ◌^◌, ◌∙◌, ap, subst, sym, List, ℕ}
+use Rattle.std.proofs.Common.{◌≡◌, ◌∙◌, ap, subst, sym}
 use Rattle.std.specs.List.{All}
 use Rattle.filter_codec.proofs.Joining.{half_is, parts_by, sparse_half}
 use Rattle.filter_codec.specs.Tree.{Tree}
-use Rattle.filter_model.specs.Nodes.{Node}
 use Rattle.filter_trie.specs.Parts.{image_by}
 use Rattle.louds_dense.specs.Places.{counts_of}
 use Rattle.louds_sparse.specs.Spelling.{AreFew}
 use Rattle.trie_laws.specs.Halves.{second_half}
 use Rattle.trie_laws.specs.Nodes.{IsTrieNode}
-use Rattle.trie_model.specs.Halves.{Half}
 use Rattle.filter_codec.proofs.reading.trie_of.Goals as goal
 
 pub of-dense-requires : goal.of-dense-requires

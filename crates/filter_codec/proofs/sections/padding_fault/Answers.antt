@@ -1,5 +1,4 @@
-use Rattle.std.proofs.Common.{◌≡◌, ◌∙◌, ◌+◌, ◌*◌, ap, sym}
-use Rattle.filter_codec.specs.Judging.{end_by, header_in, places_by, seen}
+use Rattle.std.proofs.Common.{◌∙◌, ◌+◌, ◌*◌, sym}
 use Rattle.filter_codec.proofs.Places.{or_none, or_some, padded_by, padding_in}
 use Rattle.filter_codec.proofs.sections.padding_fault.Goals as goal
 

@@ -1,4 +1,4 @@
-use Rattle.std.proofs.Common.{◌≡◌, ◌<◌, ◌∙◌, ap, arith}
+use Rattle.std.proofs.Common.{arith}
 use Rattle.filter_codec.proofs.Strays.{bytes_of, first_stray, none_stray}
 use Rattle.filter_codec.proofs.sections.stray_fault.Goals as goal
 

@@ -1,4 +1,4 @@
-use Rattle.std.proofs.Common.{◌≡◌, ◌<◌, ℕ, slice_index, bit_and, Bool, false, w8}
+use Rattle.std.proofs.Common.{◌≡◌, ◌<◌, ℕ, slice_index, bit_and, w8}
 use Rattle.std.specs.Int.{bit_not}
 use Rattle.filter_codec.proofs.sections.stray_fault.Given as goal
 

@@ -1,6 +1,6 @@
-use Rattle.std.proofs.Common.{◌≡◌, ◌++◌, ◌<◌, ◌≤◌, ◌∙◌, ap, arith, get_or, length, length-append, lt-ltb, le-ltb, rules, subst, sym, Bool, List, [], false, nat_lt, ℕ}
+use Rattle.std.proofs.Common.{◌≡◌, ◌++◌, ◌<◌, ◌∙◌, ap, arith, get_or, length, length-append, lt-ltb, le-ltb, rules, subst, sym, Bool, List, [], false, nat_lt, ℕ}
 use Rattle.std.specs.Prelude.{◌==◌, ◌&&◌}
-use Rattle.filter_codec.proofs.Shapes.{end_at, node_at, next_place, root_of_first, root_of_second, some_branch, sparse_root}
+use Rattle.filter_codec.proofs.Shapes.{end_at, next_place, root_of_first, root_of_second, some_branch, sparse_root}
 use Rattle.filter_codec.proofs.Trees.{ends_count, labels_count}
 use Rattle.filter_codec.specs.Tree.{AreSparse, Tree}
 use Rattle.filter_model.specs.Image.{has_letter}

@@ -1,4 +1,4 @@
-use Rattle.std.proofs.Common.{◌≡◌, ◌++◌, ◌<◌, ◌≤◌, ◌∙◌, ap, arith, sym, get_or, [], le-ltb, lt-ltb, nat_lt, Bool, false}
+use Rattle.std.proofs.Common.{◌≡◌, ◌++◌, ◌∙◌, arith, sym, le-ltb, lt-ltb, nat_lt, false}
 use Rattle.std.specs.Prelude.{◌==◌, ◌&&◌, ◌||◌}
 use Rattle.filter_codec.proofs.Shapes.{root_is}
 use Rattle.filter_codec.proofs.shape.is_wrong_root.Goals as goal

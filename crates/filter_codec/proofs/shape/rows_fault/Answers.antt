@@ -1,4 +1,4 @@
-use Rattle.std.proofs.Common.{◌≡◌, ◌+◌, ◌*◌, ◌<◌, ◌≤◌, ◌∙◌, ap, arith, drop, length, sym}
+use Rattle.std.proofs.Common.{◌≡◌, ◌+◌, ◌*◌, ◌∙◌, ap, arith, drop, sym}
 use Rattle.filter_codec.proofs.Shapes.{ended, passed, stopped}
 use Rattle.filter_image_model.specs.Reading.{nodes_fault}
 use Rattle.filter_codec.proofs.shape.rows_fault.Goals as goal

@@ -9,13 +9,13 @@ use Rattle.trie_model.specs.Halves.{Half}
 use Rattle.filter_codec.proofs.Growing.{joined, kept_before, on_err}
 use Rattle.filter_codec.proofs.writing.push_image.Goals as goal
 
-pub returns-in_err-push_sparse-clause-kept : goal.returns-in_err-push_sparse-clause-kept
-returns-in_err-push_sparse-clause-kept g c =
+pub returns-in_err-push_sparse-clause-unchanged : goal.returns-in_err-push_sparse-clause-unchanged
+returns-in_err-push_sparse-clause-unchanged g c =
     let o = c.args.out.now.items in
     let first : c.push_dense.new.out.items ≡ (o ++ c.header.result) ++ dense_part c.dense.result.now =
     c.in_ok-push_dense.ensures.added ∙ ap (λ (l : List ℕ). l ++ dense_part c.dense.result.now) c.in_ok-extend_from_slice.ensures.items in
     let whole = first ∙ append_assoc o c.header.result (dense_part c.dense.result.now) in
-    on_err c.from_residual-in_err-push_sparse.result (kept_before o _ _ _ whole c.in_err-push_sparse.ensures.kept)
+    on_err c.from_residual-in_err-push_sparse.result (kept_before o _ _ _ whole c.in_err-push_sparse.ensures.unchanged)
 
 pub returns-clause-added : goal.returns-clause-added
 unfolding sections

@@ -1,11 +1,10 @@
-use Rattle.std.proofs.Common.{ℕ, Bool, cond, Option, Some, None, ◌+◌, ap, arith, subst, sym, ◌∙◌}
+use Rattle.std.proofs.Common.{ℕ, Bool, cond, Option, ◌+◌, ap, arith, subst, sym, ◌∙◌}
 use Rattle.std.specs.Prelude.{IfSome}
 use Rattle.std.specs.Option.{option_map}
 use Rattle.filter_iter.proofs.MetLeaves.{byte_of, none_begun, slot_fits, some_begun}
 use Rattle.filter_iter.specs.Borders.{reached_path}
 use Rattle.filter_iter.specs.Cuts.{FirstPass, has_begun}
 use Rattle.filter_iter.specs.declared.parts.Reached.{Reached}
-use Rattle.filter_model.specs.Answers.{is_past}
 use Rattle.filter_trie.specs.Walks.{IsSlotAt}
 use Rattle.filter_iter.proofs.answers.count_begun.Goals as goal
 

@@ -1,9 +1,9 @@
-use Rattle.std.proofs.Common.{ℕ, Bool, cond, Option, Some, None, ◌+◌, ap, arith, subst, sym, ◌∙◌}
+use Rattle.std.proofs.Common.{ℕ, Bool, cond, Option, ◌+◌, ap, arith, subst, sym, ◌∙◌}
 use Rattle.std.specs.Prelude.{IfSome}
 use Rattle.std.specs.Option.{option_map}
 use Rattle.filter_iter.proofs.MetLeaves.{byte_of, none_past, slot_fits, some_past}
 use Rattle.filter_iter.specs.Borders.{reached_path}
-use Rattle.filter_iter.specs.Cuts.{FirstPass, has_begun}
+use Rattle.filter_iter.specs.Cuts.{FirstPass}
 use Rattle.filter_iter.specs.declared.parts.Reached.{Reached}
 use Rattle.filter_model.specs.Answers.{is_past}
 use Rattle.filter_trie.specs.Walks.{IsSlotAt}

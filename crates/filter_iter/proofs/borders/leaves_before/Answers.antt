@@ -1,4 +1,4 @@
-use Rattle.std.proofs.Common.{ℕ, arith, ap, subst, sym, ◌∙◌}
+use Rattle.std.proofs.Common.{ℕ, arith, subst, sym, ◌∙◌}
 use Rattle.filter_iter.proofs.Steps.{below_border, last_border, room}
 use Rattle.filter_iter.specs.Borders.{IsBorder}
 use Rattle.trie_model.specs.Halves.{begin_of}

@@ -1,4 +1,4 @@
-use Rattle.std.proofs.Common.{ℕ, Option, arith, ap, refl, subst, sym, ◌∙◌, get_or, ◌++◌, ◌∷◌, [], length, take}
+use Rattle.std.proofs.Common.{Option, arith, ap, refl, subst, sym, ◌∙◌, get_or, ◌++◌, ◌∷◌, [], take}
 use Rattle.std.specs.Prelude.{IfSome}
 use Rattle.std.specs.Option.{option_map}
 use Rattle.filter_iter.proofs.Bounds.{end_leaf, end_nowhere, end_path, leaf_count, leaf_slot, nowhere_count, nowhere_slot, root_is}
@@ -8,7 +8,6 @@ use Rattle.filter_iter.specs.Borders.{IsTurn, reached_path}
 use Rattle.filter_iter.specs.declared.parts.Turn.{Turn}
 use Rattle.filter_model.specs.Trie.{nodes}
 use Rattle.filter_trie.specs.Walks.{IsSlotAt}
-use Rattle.trie_model.specs.Walks.{slot_of_key}
 use Rattle.filter_iter.proofs.reaching.reach.Goals.{in-Leaf, in-None, in-Nowhere, in-Some}
 use Rattle.filter_iter.proofs.reaching.reach.Goals as goal
 

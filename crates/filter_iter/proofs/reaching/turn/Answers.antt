@@ -4,7 +4,7 @@ use Rattle.filter_iter.proofs.Steps.{down_to, first_leaf_within, room, step_bord
 use Rattle.filter_iter.proofs.Turns.{at_place, behind_node, is_down, leads, node_high, place_order, turns_nowhere}
 use Rattle.filter_model.specs.Nodes.{first_place, trie_of}
 use Rattle.filter_model.specs.Trie.{nodes}
-use Rattle.filter_trie.specs.Places.{number_of, trie}
+use Rattle.filter_trie.specs.Places.{branch_number, trie}
 use Rattle.trie_model.specs.Halves.{begin_of, next_place}
 use Rattle.filter_iter.proofs.reaching.turn.Goals as goal
 
@@ -26,18 +26,18 @@ returns-in-None-clause-turn g c = turns_nowhere c.args.trie.now.hash_bits c.args
 
 pub down-next-requires-clause-slots : goal.down-next-requires-clause-slots
 down-next-requires-clause-slots g c =
-    omega (arith, c.leaf_slot.ensures, slots_to c.args.trie.now.leaves c.args.border.first (number_of c.args.trie.now c.in-Some.place) (place_order c.args.trie.now.hash_bits c.args.trie.now.real_bits c.args.trie.now.leaves c.requires.stands.valid c.args.border.node c.args.byte c.requires.node c.ranges.byte.fits c.args.border c.args.border c.requires.border refl c.requires.before (number_of c.args.trie.now c.in-Some.place) (c.in-Some.ensures.place ∙ ap (next_place (trie c.args.trie.now) c.args.border.node) c.from.ensures)))
+    omega (arith, c.leaf_slot.ensures, slots_to c.args.trie.now.leaves c.args.border.first (branch_number c.args.trie.now c.in-Some.place) (place_order c.args.trie.now.hash_bits c.args.trie.now.real_bits c.args.trie.now.leaves c.requires.stands.valid c.args.border.node c.args.byte c.requires.node c.ranges.byte.fits c.args.border c.args.border c.requires.border refl c.requires.before (branch_number c.args.trie.now c.in-Some.place) (c.in-Some.ensures.place ∙ ap (next_place (trie c.args.trie.now) c.args.border.node) c.from.ensures)))
 
 pub down-next-requires-clause-room : goal.down-next-requires-clause-room
 down-next-requires-clause-room g c =
-    omega (arith, c.leaf_slot.ensures, room c.args.trie.now.hash_bits c.args.trie.now.real_bits c.args.trie.now.leaves c.requires.stands.valid (length (get_or (nodes c.args.trie.now.leaves) c.args.border.node [])) (number_of c.args.trie.now c.in-Some.place) c.args.border c.requires.border (omega (arith, c.requires.before, first_leaf_within c.args.trie.now.leaves (get_or (nodes c.args.trie.now.leaves) c.args.border.node []))))
+    omega (arith, c.leaf_slot.ensures, room c.args.trie.now.hash_bits c.args.trie.now.real_bits c.args.trie.now.leaves c.requires.stands.valid (length (get_or (nodes c.args.trie.now.leaves) c.args.border.node [])) (branch_number c.args.trie.now c.in-Some.place) c.args.border c.requires.border (omega (arith, c.requires.before, first_leaf_within c.args.trie.now.leaves (get_or (nodes c.args.trie.now.leaves) c.args.border.node []))))
 
 pub returns-in-Some-clause-border : goal.returns-in-Some-clause-border
 returns-in-Some-clause-border g c =
-    step_border c.args.trie.now.hash_bits c.args.trie.now.real_bits c.args.trie.now.leaves c.requires.stands.valid (length (get_or (nodes c.args.trie.now.leaves) c.args.border.node [])) (number_of c.args.trie.now c.in-Some.place) c.args.border c.down-next.result c.requires.border (node_high c.args.trie.now.hash_bits c.args.trie.now.real_bits c.args.trie.now.leaves c.requires.stands.valid c.args.border.node c.args.byte c.requires.node c.ranges.byte.fits) (is_down c.args.trie.now.hash_bits c.args.trie.now.real_bits c.args.trie.now.leaves c.requires.stands.valid c.args.border.node c.args.byte c.requires.node c.ranges.byte.fits c.args.border c.down-next.result c.requires.border refl c.requires.before (number_of c.args.trie.now c.in-Some.place) (c.in-Some.ensures.place ∙ ap (next_place (trie c.args.trie.now) c.args.border.node) c.from.ensures) c.down-next.ensures.first (c.down-next.ensures.node ∙ c.first_below.ensures) (c.down-next.ensures.above ∙ ap (λ (n : ℕ). c.args.border.above + n) c.leaf_slot.ensures))
+    step_border c.args.trie.now.hash_bits c.args.trie.now.real_bits c.args.trie.now.leaves c.requires.stands.valid (length (get_or (nodes c.args.trie.now.leaves) c.args.border.node [])) (branch_number c.args.trie.now c.in-Some.place) c.args.border c.down-next.result c.requires.border (node_high c.args.trie.now.hash_bits c.args.trie.now.real_bits c.args.trie.now.leaves c.requires.stands.valid c.args.border.node c.args.byte c.requires.node c.ranges.byte.fits) (is_down c.args.trie.now.hash_bits c.args.trie.now.real_bits c.args.trie.now.leaves c.requires.stands.valid c.args.border.node c.args.byte c.requires.node c.ranges.byte.fits c.args.border c.down-next.result c.requires.border refl c.requires.before (branch_number c.args.trie.now c.in-Some.place) (c.in-Some.ensures.place ∙ ap (next_place (trie c.args.trie.now) c.args.border.node) c.from.ensures) c.down-next.ensures.first (c.down-next.ensures.node ∙ c.first_below.ensures) (c.down-next.ensures.above ∙ ap (λ (n : ℕ). c.args.border.above + n) c.leaf_slot.ensures))
 
 pub returns-in-Some-clause-before : goal.returns-in-Some-clause-before
-returns-in-Some-clause-before g c = at_place c.args.trie.now.hash_bits c.args.trie.now.real_bits c.args.trie.now.leaves c.requires.stands.valid c.args.border.node c.args.byte c.requires.node c.ranges.byte.fits c.args.border c.down-next.result c.requires.border refl c.requires.before (number_of c.args.trie.now c.in-Some.place) (c.in-Some.ensures.place ∙ ap (next_place (trie c.args.trie.now) c.args.border.node) c.from.ensures) (is_down c.args.trie.now.hash_bits c.args.trie.now.real_bits c.args.trie.now.leaves c.requires.stands.valid c.args.border.node c.args.byte c.requires.node c.ranges.byte.fits c.args.border c.down-next.result c.requires.border refl c.requires.before (number_of c.args.trie.now c.in-Some.place) (c.in-Some.ensures.place ∙ ap (next_place (trie c.args.trie.now) c.args.border.node) c.from.ensures) c.down-next.ensures.first (c.down-next.ensures.node ∙ c.first_below.ensures) (c.down-next.ensures.above ∙ ap (λ (n : ℕ). c.args.border.above + n) c.leaf_slot.ensures))
+returns-in-Some-clause-before g c = at_place c.args.trie.now.hash_bits c.args.trie.now.real_bits c.args.trie.now.leaves c.requires.stands.valid c.args.border.node c.args.byte c.requires.node c.ranges.byte.fits c.args.border c.down-next.result c.requires.border refl c.requires.before (branch_number c.args.trie.now c.in-Some.place) (c.in-Some.ensures.place ∙ ap (next_place (trie c.args.trie.now) c.args.border.node) c.from.ensures) (is_down c.args.trie.now.hash_bits c.args.trie.now.real_bits c.args.trie.now.leaves c.requires.stands.valid c.args.border.node c.args.byte c.requires.node c.ranges.byte.fits c.args.border c.down-next.result c.requires.border refl c.requires.before (branch_number c.args.trie.now c.in-Some.place) (c.in-Some.ensures.place ∙ ap (next_place (trie c.args.trie.now) c.args.border.node) c.from.ensures) c.down-next.ensures.first (c.down-next.ensures.node ∙ c.first_below.ensures) (c.down-next.ensures.above ∙ ap (λ (n : ℕ). c.args.border.above + n) c.leaf_slot.ensures))
 
 pub returns-in-Some-clause-turn : goal.returns-in-Some-clause-turn
-returns-in-Some-clause-turn g c = leads c.args.trie.now.hash_bits c.args.trie.now.real_bits c.args.trie.now.leaves c.requires.stands.valid c.args.border.node c.args.byte c.requires.node c.ranges.byte.fits c.args.border c.down-next.result c.requires.border refl c.requires.before (number_of c.args.trie.now c.in-Some.place) (c.in-Some.ensures.place ∙ ap (next_place (trie c.args.trie.now) c.args.border.node) c.from.ensures) c.turn_at.result (c.down-next.ensures.node ∙ c.first_below.ensures) c.turn_at.ensures
+returns-in-Some-clause-turn g c = leads c.args.trie.now.hash_bits c.args.trie.now.real_bits c.args.trie.now.leaves c.requires.stands.valid c.args.border.node c.args.byte c.requires.node c.ranges.byte.fits c.args.border c.down-next.result c.requires.border refl c.requires.before (branch_number c.args.trie.now c.in-Some.place) (c.in-Some.ensures.place ∙ ap (next_place (trie c.args.trie.now) c.args.border.node) c.from.ensures) c.turn_at.result (c.down-next.ensures.node ∙ c.first_below.ensures) c.turn_at.ensures

@@ -1,4 +1,4 @@
-use Rattle.std.proofs.Common.{◌≡◌, ◌≤◌, ◌^◌, ◌∙◌, ap, arith, length, subst}
+use Rattle.std.proofs.Common.{◌∙◌, ap, arith, length, subst}
 use Rattle.filter_codec.proofs.Trees.{ends_count}
 use Rattle.filter_codec.specs.Tree.{Tree}
 use Rattle.louds_dense.specs.Spelling.{IsSpelled}

@@ -1,4 +1,4 @@
-use Rattle.std.proofs.Common.{◌≡◌, ◌<◌, ◌∙◌, ap, arith, length, subst}
+use Rattle.std.proofs.Common.{◌∙◌, ap, arith, length, subst}
 use Rattle.filter_codec.proofs.Endings.{length-louds, mark}
 use Rattle.filter_codec.specs.Ends.{is_mark}
 use Rattle.filter_codec.specs.Tree.{AreSparse, Tree}

@@ -1,10 +1,6 @@
-use Rattle.std.proofs.Common.{◌≡◌, ◌+◌, ◌-◌, ◌++◌, ◌<◌, ◌≤◌, ◌*◌, ◌^◌, ◌∙◌, ap, arith, length, length-append, subst, sym, take, Bool, List}
-use Rattle.std.specs.Prelude.{count_by}
+use Rattle.std.proofs.Common.{◌≡◌, ◌∙◌, ap, arith, length, subst}
 use Rattle.filter_codec.specs.Tree.{AreSparse, Tree}
-use Rattle.filter_codec.proofs.Trees.{behind, both_below, child_bits, children_count, dense_below, ends_count, found, label_bits, labels_count, leaves_left, sparse_below}
-use Rattle.filter_image_model.specs.Levels.{children_of, leaf_count_of}
-use Rattle.filter_model.specs.Nodes.{Node, all, first_place}
-use Rattle.louds_dense.proofs.Ranks.{node_within}
+use Rattle.filter_codec.proofs.Trees.{child_bits, ends_count, label_bits, leaves_left}
 use Rattle.louds_dense.specs.Spelling.{IsSpelled}
 use Rattle.filter_codec.proofs.tree.Packed.leaf_count.Goals as goal
 

@@ -1,8 +1,7 @@
-use Rattle.std.proofs.Common.{◌≡◌, ◌+◌, ◌*◌, ◌≤◌, ap, arith, length, subst, take}
+use Rattle.std.proofs.Common.{ap, arith, subst}
 use Rattle.filter_codec.proofs.Endings.{leaves_at}
 use Rattle.filter_codec.proofs.Trees.{child_bits, label_bits}
 use Rattle.filter_codec.specs.Tree.{Tree}
-use Rattle.filter_image_model.specs.Levels.{leaf_count_of}
 use Rattle.louds_dense.specs.Spelling.{IsSpelled}
 use Rattle.filter_codec.proofs.tree.Packed.leaves_before.Goals as goal
 

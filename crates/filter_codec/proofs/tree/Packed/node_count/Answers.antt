@@ -1,4 +1,4 @@
-use Rattle.std.proofs.Common.{◌≡◌, ◌+◌, ◌++◌, ◌<◌, ◌≤◌, ◌^◌, ◌∙◌, arith, length, length-append, sym}
+use Rattle.std.proofs.Common.{◌+◌, ◌∙◌, arith, length-append, sym}
 use Rattle.filter_codec.proofs.tree.Packed.node_count.Goals as goal
 
 pub overflow_add-result : goal.overflow_add-result

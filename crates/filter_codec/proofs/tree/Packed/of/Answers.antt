@@ -1,4 +1,4 @@
-use Rattle.std.proofs.Common.{◌≡◌, ◌<◌, ◌≤◌, ◌^◌, ◌∙◌, ap, arith, length}
+use Rattle.std.proofs.Common.{◌∙◌, ap, arith}
 use Rattle.filter_codec.proofs.Spelled.{dense_by, sparse_by, tree_by, whole}
 use Rattle.filter_codec.specs.Judging.{end_by}
 use Rattle.filter_codec.specs.declared.header.Header.{Header}

@@ -1,4 +1,4 @@
-use Rattle.std.proofs.Common.{◌≡◌, ◌+◌, ◌-◌, ◌*◌, ◌<◌, ◌≤◌, ◌^◌, ◌∙◌, ap, arith, length, subst, take, get_or, [], ◌∷◌}
+use Rattle.std.proofs.Common.{◌≡◌, ◌+◌, ◌∙◌, ap, arith, subst, take}
 use Rattle.filter_codec.proofs.Shapes.{branches_to, children_to, next_children, next_place}
 use Rattle.filter_codec.proofs.Trees.{child_bits, ends_count, label_bits}
 use Rattle.filter_codec.specs.Tree.{Tree}

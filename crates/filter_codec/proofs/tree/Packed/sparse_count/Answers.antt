@@ -1,4 +1,4 @@
-use Rattle.std.proofs.Common.{◌≡◌, ◌<◌, ◌^◌, ◌∙◌, ap, arith, length, subst, Bool}
+use Rattle.std.proofs.Common.{◌∙◌, ap, arith, subst, Bool}
 use Rattle.std.specs.Prelude.{count_by}
 use Rattle.filter_codec.proofs.Trees.{few_sparse, openings}
 use Rattle.filter_codec.specs.Tree.{AreSparse, Tree}

@@ -1,4 +1,4 @@
-use Rattle.std.proofs.Common.{◌≡◌, ◌+◌, ◌<◌, ◌≤◌, ◌∙◌, ap, arith, get_or, length, subst, sym, take, Bool, List, false, true}
+use Rattle.std.proofs.Common.{◌≡◌, ◌<◌, ◌∙◌, ap, arith, get_or, length, subst, sym, Bool, List, false, true}
 use Rattle.filter_codec.proofs.Endings.{end_found, end_passed, end_within, no_end_passed}
 use Rattle.filter_codec.proofs.Trees.{ends_count}
 use Rattle.filter_codec.specs.Tree.{Tree}

@@ -1,5 +1,5 @@
-use Rattle.std.proofs.Common.{◌≡◌, ◌+◌, ◌*◌, ◌<◌, ◌≤◌, ◌^◌, ◌∙◌, ap, arith, length, sym}
-use Rattle.filter_codec.proofs.Spelled.{AreLong, are_long, bits_0, bits_1, bits_2}
+use Rattle.std.proofs.Common.{◌∙◌, ap, arith, length, sym}
+use Rattle.filter_codec.proofs.Spelled.{are_long, bits_0, bits_1, bits_2}
 use Rattle.filter_codec.specs.Judging.{end_by}
 use Rattle.filter_codec.specs.declared.header.Header.{Header}
 use Rattle.filter_codec.proofs.tree.Upper.of.Goals as goal

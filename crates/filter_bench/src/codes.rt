@@ -1,0 +1,52 @@
+//! A trie's image, written and read.
+use crate::report::{Least, ROUNDS, Watch};
+use anyhow::{Result, bail};
+use filter_codec::{decode, encode};
+use filter_trie::Trie;
+use std::alloc::Global;
+use std::time::CpuClock;
+
+/// Writes the image of a trie and reads it again, several times, and prints how fast both were at best. The first time its
+/// bytes need memory, and later they stand where those of the time before stood.
+pub fn code_rounds(rt: &(impl Print + CpuClock), alloc: Global, trie: &Trie<Global>) -> Result<()> {
+    let mut written = Least::new();
+    let mut read = Least::new();
+    let mut image = Vec::new(alloc);
+    for _ in 0..ROUNDS {
+        image.clear();
+        written.keep(encode_timed(rt, trie, &mut image)?);
+        read.keep(decode_timed(rt, alloc, trie, &image)?);
+    }
+    println!(rt; "image: {} bytes", image.len())?;
+    println!(rt; "image: encode {:.1} MB a second", written.millions())?;
+    println!(rt; "image: decode {:.1} MB a second", read.millions())?;
+    Ok(())
+}
+
+// Appends the image once: nanoseconds a byte.
+fn encode_timed(rt: &impl CpuClock, trie: &Trie<Global>, image: &mut Vec<u8>) -> Result<f64> {
+    let watch = Watch::start(rt)?;
+    encode(trie, image)?;
+    Ok(watch.stop(rt, image.len() as u64)?)
+}
+
+// Reads the image once: nanoseconds a byte.
+fn decode_timed(
+    rt: &impl CpuClock,
+    alloc: Global,
+    trie: &Trie<Global>,
+    image: &[u8],
+) -> Result<f64> {
+    let watch = Watch::start(rt)?;
+    let decoded = decode(alloc, image);
+    let taken = watch.stop(rt, image.len() as u64)?;
+    match decoded {
+        Ok(again) => {
+            if again.leaves() != trie.leaves() {
+                bail!("a trie of other leaves is read");
+            }
+        }
+        Err(_) => bail!("an image is not read"),
+    }
+    Ok(taken)
+}

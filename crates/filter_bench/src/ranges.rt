@@ -1,0 +1,198 @@
+//! Ranges, asked beside walks.
+use crate::finder::ask;
+use crate::keys::Kind;
+use crate::report::{Least, ROUNDS, Watch, share};
+use crate::texts::Texts;
+use anyhow::{Result, bail};
+use filter_iter::{range, seek, tally};
+use filter_trie::Trie;
+use std::alloc::Global;
+use std::io;
+use std::time::CpuClock;
+
+// The byte of a random key at which one more is 2^32 more.
+const RAISED: usize = 3;
+
+/// The upper bounds of ranges that begin at these keys: 2^32 above a random key, and a word with a last letter one higher.
+pub fn highs(alloc: Global, kind: Kind, lows: &Texts) -> Result<Texts> {
+    let mut highs = Texts::new(alloc)?;
+    let mut key = Vec::new(alloc);
+    for i in 0..lows.len() {
+        key.clear();
+        key.extend_from_slice(lows.get(i))?;
+        let place = match kind {
+            Kind::Random => RAISED,
+            Kind::Words => key.len().saturating_sub(1),
+        };
+        raise(&mut key, place);
+        highs.push(&key)?;
+    }
+    Ok(highs)
+}
+
+// Adds one to the byte number `place` of a key, and where that is FF to the one before it too.
+fn raise(key: &mut [u8], place: usize) {
+    for i in 0..=place {
+        if let Some(byte) = key.get_mut(place.saturating_sub(i)) {
+            *byte = byte.wrapping_add(1);
+            if *byte > 0 {
+                return;
+            }
+        }
+    }
+}
+
+// The least times of a query.
+#[derive(Clone, Copy)]
+struct Times {
+    walk: Least,
+    seek: Least,
+    range: Least,
+    tally: Least,
+}
+
+/// Asks for walks and seeks of the lower bounds and for ranges and tallies between both, in turn and in rounds, and prints
+/// the nanoseconds a query and which part of the ranges may hold a key.
+pub fn range_rounds(
+    rt: &(impl Print + CpuClock),
+    name: &str,
+    trie: &Trie<Global>,
+    lows: &Texts,
+    highs: &Texts,
+) -> Result<()> {
+    let mut times = Times {
+        walk: Least::new(),
+        seek: Least::new(),
+        range: Least::new(),
+        tally: Least::new(),
+    };
+    let mut held = 0u64;
+    let mut sum = 0u64;
+    for _ in 0..ROUNDS {
+        times.walk.keep(walks_timed(rt, trie, lows, &mut sum)?);
+        times.seek.keep(seeks_timed(rt, trie, lows, &mut sum)?);
+        times
+            .range
+            .keep(ranges_timed(rt, trie, lows, highs, &mut held)?);
+        times
+            .tally
+            .keep(tallies_timed(rt, trie, lows, highs, held)?);
+    }
+    print_times(rt, name, times)?;
+    println!(rt; "ranges {name}: {} ranges, sum {sum}", lows.len())?;
+    println!(rt;
+        "ranges {name}: {:.4} may hold a key",
+        share(held, lows.len() as u64)
+    )?;
+    Ok(())
+}
+
+// Prints all four, and how many times a walk's time the others take.
+fn print_times(rt: &impl Print, name: &str, times: Times) -> io::Result<()> {
+    println!(rt; "ranges {name}: walk {:.1} ns", times.walk.nanoseconds)?;
+    print_time(rt, name, "seek", times.seek, times.walk)?;
+    print_time(rt, name, "range", times.range, times.walk)?;
+    print_time(rt, name, "tally", times.tally, times.walk)
+}
+
+fn print_time(rt: &impl Print, name: &str, call: &str, time: Least, walk: Least) -> io::Result<()> {
+    println!(rt;
+        "ranges {name}: {call} {:.1} ns, ratio {:.2}",
+        time.nanoseconds,
+        time.over(walk)
+    )
+}
+
+// Walks once: nanoseconds a walk.
+fn walks_timed(
+    rt: &impl CpuClock,
+    trie: &Trie<Global>,
+    lows: &Texts,
+    sum: &mut u64,
+) -> Result<f64> {
+    let watch = Watch::start(rt)?;
+    let found = ask(trie, lows);
+    let taken = watch.stop(rt, lows.len() as u64)?;
+    *sum = sum.wrapping_add(found.sum);
+    Ok(taken)
+}
+
+// Seeks once: nanoseconds a seek.
+fn seeks_timed(
+    rt: &impl CpuClock,
+    trie: &Trie<Global>,
+    lows: &Texts,
+    sum: &mut u64,
+) -> Result<f64> {
+    let watch = Watch::start(rt)?;
+    let found = seek_all(trie, lows);
+    let taken = watch.stop(rt, lows.len() as u64)?;
+    *sum = sum.wrapping_add(found);
+    Ok(taken)
+}
+
+// Asks for ranges once: nanoseconds a range, and `held` is how many may hold a key.
+fn ranges_timed(
+    rt: &impl CpuClock,
+    trie: &Trie<Global>,
+    lows: &Texts,
+    highs: &Texts,
+    held: &mut u64,
+) -> Result<f64> {
+    let watch = Watch::start(rt)?;
+    *held = range_all(trie, lows, highs);
+    Ok(watch.stop(rt, lows.len() as u64)?)
+}
+
+// Asks for tallies once: nanoseconds a tally. Fails where not as many as `held` are above zero.
+fn tallies_timed(
+    rt: &impl CpuClock,
+    trie: &Trie<Global>,
+    lows: &Texts,
+    highs: &Texts,
+    held: u64,
+) -> Result<f64> {
+    let watch = Watch::start(rt)?;
+    let counted = tally_all(trie, lows, highs);
+    let taken = watch.stop(rt, lows.len() as u64)?;
+    if counted != held {
+        bail!("ranges and tallies do not agree");
+    }
+    Ok(taken)
+}
+
+// The sum of the leaves at which seeks end.
+#[inline(never)]
+fn seek_all(trie: &Trie<Global>, lows: &Texts) -> u64 {
+    let mut sum = 0u64;
+    for i in 0..lows.len() {
+        if let Some(leaf) = seek(trie, lows.get(i)) {
+            sum = sum.wrapping_add(u64::from(leaf));
+        }
+    }
+    sum
+}
+
+// How many ranges may hold a key.
+#[inline(never)]
+fn range_all(trie: &Trie<Global>, lows: &Texts, highs: &Texts) -> u64 {
+    let mut count = 0u64;
+    for i in 0..lows.len() {
+        if range(trie, lows.get(i), highs.get(i)) {
+            count = count.wrapping_add(1);
+        }
+    }
+    count
+}
+
+// How many ranges have a tally above zero.
+#[inline(never)]
+fn tally_all(trie: &Trie<Global>, lows: &Texts, highs: &Texts) -> u64 {
+    let mut count = 0u64;
+    for i in 0..lows.len() {
+        if tally(trie, lows.get(i), highs.get(i)) > 0 {
+            count = count.wrapping_add(1);
+        }
+    }
+    count
+}

@@ -1,0 +1,116 @@
+//! A cursor over the leaves of a trie in key order.
+ghost use Rattle.std.specs.Prelude.{◌≡◌, ◌+◌, ◌-◌, ◌++◌, ◌<◌, ◌≤◌, ◌↔◌, IsTrue, IfOk, IfSome, cond, drop, length, slice_get};
+ghost use Rattle.std.specs.Option.{option_map};
+ghost use Rattle.filter_model.specs.Answers.{first};
+ghost use Rattle.key_base.specs.Limits.{max_key_bytes};
+
+use super::answers::seek;
+use super::numbers::find;
+use super::parts::Way;
+use super::stubs::{new_way, write_stub};
+use super::ways::{go_first, go_last, turn_before, turn_behind};
+use filter_trie::Trie;
+use std::alloc::{AllocError, Allocator, Global};
+use std::marker::Model;
+
+/// A leaf of a trie, from which one may go on to the next one and to the one before, in key order.
+///
+/// Keeps the way from the root to its leaf, in memory taken when it starts, and takes none after that.
+#[derive(Drop)]
+pub struct FilterCursor<'a, A: Allocator> {
+    trie: &'a Trie<A>,
+    way: Way,
+    leaf: u32,
+    slot: u64,
+}
+
+impl<'a, A: Allocator> Model for FilterCursor<'a, A> {
+    ghost use Rattle.std.specs.Prelude.{◌≤◌};
+    ghost use Rattle.filter_iter.specs.Cursors.{IsStanding, Standing};
+
+    ghost Value = { Standing };
+
+    ghost view = { λ c. record { image = c.trie.now; leaf = c.leaf } };
+
+    ghost invariant = { λ c. IsStanding c.trie.now c.leaf c.slot c.way };
+}
+
+impl<'a, A: Allocator> FilterCursor<'a, A> {
+    ghost use Rattle.filter_iter.specs.Cursors.{IsSlotOf, moved};
+
+    /// At the first leaf that is not past `lo`, `None` where all are. Takes memory once, and none where the trie is low.
+    pub fn start(
+        alloc: Global,
+        trie: &'a Trie<A>,
+        lo: &[u8],
+    ) -> Result<Option<FilterCursor<'a, A>>, AllocError>
+        ensures leaf { IfOk result (λ found. option_map (λ c. c.leaf) found ≡ first trie.now.real_bits trie.now.leaves lo.now) }
+        ensures trie { IfOk result (λ found. IfSome found (λ c. c.image ≡ trie.now)) }
+    {
+        let Some(leaf) = seek(trie, lo) else {
+            return Ok(None);
+        };
+        let mut way = new_way(alloc, usize::from(trie.height()))?;
+        let slot = find(trie, leaf, &mut way);
+        Ok(Some(FilterCursor {
+            trie,
+            way,
+            leaf,
+            slot,
+        }))
+    }
+
+    /// Goes on to the next leaf. False at the last one, where it stays.
+    pub fn next(&mut self) -> bool
+        ensures moved { self.new ≡ moved self.old (self.old.leaf + cond result 1 0) }
+        ensures end { IsTrue result ↔ (self.old.leaf + 1 < length self.old.image.leaves) }
+    {
+        let trie = self.trie;
+        if self.leaf + 1 == trie.leaves() {
+            return false;
+        }
+        let lead = turn_behind(trie, &mut self.way);
+        self.slot = go_first(trie, lead, &mut self.way);
+        self.leaf += 1;
+        true
+    }
+
+    /// Goes back to the leaf before. False at the first one, where it stays.
+    pub fn prev(&mut self) -> bool
+        ensures moved { self.new ≡ moved self.old (self.old.leaf - cond result 1 0) }
+        ensures end { IsTrue result ↔ (0 < self.old.leaf) }
+    {
+        let trie = self.trie;
+        if self.leaf == 0 {
+            return false;
+        }
+        let lead = turn_before(trie, &mut self.way);
+        self.slot = go_last(trie, lead, &mut self.way);
+        self.leaf -= 1;
+        true
+    }
+
+    /// The leaf's number in key order, from 0.
+    pub fn leaf(&self) -> u32
+        ensures leaf { result ≡ self.now.leaf }
+        ensures within { self.now.leaf < length self.now.image.leaves }
+    {
+        self.leaf
+    }
+
+    /// The leaf's slot, which goes by levels.
+    pub fn slot(&self) -> u64
+        ensures { IsSlotOf self.now.image.leaves self.now.leaf result }
+    {
+        self.slot
+    }
+
+    /// Writes the leaf's stub at the start of `out`, and gives how many bytes it has.
+    pub fn stub(&self, out: &mut [u8]) -> usize
+        requires room { max_key_bytes ≤ length out.old }
+        ensures stub { IfSome (slice_get self.now.image.leaves self.now.leaf) (λ l. out.new ≡ l.stub ++ drop result out.old) }
+        ensures count { IfSome (slice_get self.now.image.leaves self.now.leaf) (λ l. result ≡ length l.stub) }
+    {
+        write_stub(self.way.as_slice(), out)
+    }
+}

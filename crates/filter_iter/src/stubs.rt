@@ -1,0 +1,31 @@
+//! Ways as bytes.
+ghost use Rattle.std.specs.Prelude.{◌≡◌, ◌++◌, [], ◌≤◌, drop, length, IfOk};
+ghost use Rattle.filter_iter.specs.Ways.{stub_in};
+
+use super::parts::{END_LETTER, Pass, Way};
+use smallvec::SmallVec;
+use std::alloc::{AllocError, Global};
+
+/// An empty way with room for this many passes.
+pub(crate) fn new_way(alloc: Global, height: usize) -> Result<Way, AllocError>
+    ensures empty { IfOk result (λ way. way.items ≡ []) }
+    ensures room { IfOk result (λ way. height ≤ way.capacity) }
+{
+    SmallVec::with_capacity(alloc, height)
+}
+
+/// Writes the bytes among the letters of a way at the start of `out`, and gives how many there are.
+pub(crate) fn write_stub(way: &[Pass], out: &mut [u8]) -> usize
+    requires { length way.now ≤ length out.old }
+    ensures stub { out.new ≡ stub_in way.now ++ drop result out.old }
+    ensures count { result ≡ length (stub_in way.now) }
+{
+    let mut count = 0;
+    for pass in way {
+        if pass.letter < END_LETTER {
+            out[count] = pass.letter as u8;
+            count += 1;
+        }
+    }
+    count
+}

@@ -1,0 +1,5 @@
+pub mod Cutoffs
+pub mod SlotLeaves
+pub mod Points
+pub mod Ways
+pub mod Refusals

@@ -1,0 +1,48 @@
+use Rattle.std.proofs.Common.{◌≡◌, ◌∙◌, ℕ, ap, arith}
+use Rattle.std.proofs.lemmas.Result.{IfOk-weaker}
+use Rattle.filter_model.specs.Leaves.{Filter, leaves_of}
+use Rattle.filter_model.specs.Trie.{cutoff_of}
+use Rattle.surf_filter.proofs.Cutoffs.{are_spans, counted_low}
+use Rattle.surf_filter.specs.Cutoffs.{rule_cutoff}
+use Rattle.surf_filter.proofs.building.trie_of_keys.Goals as goal
+
+pub plan_spans-requires : goal.plan_spans-requires
+plan_spans-requires c =
+    let h = c.args.settings.hash_bits in
+    let n = c.args.settings.real_bits in
+    (leaves_of h n c.args.keys.now, are_spans h n c.args.keys.now c.as_slice.result.now c.requires.settings.real_bits c.requires.keys (c.as_slice.ensures.value ∙ c.in_ok-spans.ensures h n))
+
+pub build-requires-clause-spans : goal.build-requires-clause-spans
+build-requires-clause-spans c = c.in_ok-spans.ensures c.args.settings.hash_bits c.args.settings.real_bits
+
+pub build-requires-clause-nodes : goal.build-requires-clause-nodes
+build-requires-clause-nodes c =
+    let h = c.args.settings.hash_bits in
+    let n = c.args.settings.real_bits in
+    let spans = are_spans h n c.args.keys.now c.as_slice.result.now c.requires.settings.real_bits c.requires.keys (c.as_slice.ensures.value ∙ c.in_ok-spans.ensures h n) in
+    c.in_ok-levels.ensures.nodes (leaves_of h n c.args.keys.now) spans
+
+pub build-requires-clause-labels : goal.build-requires-clause-labels
+build-requires-clause-labels c =
+    let h = c.args.settings.hash_bits in
+    let n = c.args.settings.real_bits in
+    let spans = are_spans h n c.args.keys.now c.as_slice.result.now c.requires.settings.real_bits c.requires.keys (c.as_slice.ensures.value ∙ c.in_ok-spans.ensures h n) in
+    c.in_ok-levels.ensures.labels (leaves_of h n c.args.keys.now) spans
+
+pub build-requires-clause-cutoff : goal.build-requires-clause-cutoff
+build-requires-clause-cutoff c =
+    let h = c.args.settings.hash_bits in
+    let n = c.args.settings.real_bits in
+    let ls = leaves_of h n c.args.keys.now in
+    let spans = are_spans h n c.args.keys.now c.as_slice.result.now c.requires.settings.real_bits c.requires.keys (c.as_slice.ensures.value ∙ c.in_ok-spans.ensures h n) in
+    omega (arith, c.cutoff-dense.ensures, counted_low c.args.settings.ratio ls c.in_ok-levels.levels.nodes c.in_ok-levels.levels.labels (c.in_ok-levels.ensures.nodes ls spans))
+
+pub returns : goal.returns
+returns c =
+    let h = c.args.settings.hash_bits in
+    let n = c.args.settings.real_bits in
+    let ls = leaves_of h n c.args.keys.now in
+    let spans = are_spans h n c.args.keys.now c.as_slice.result.now c.requires.settings.real_bits c.requires.keys (c.as_slice.ensures.value ∙ c.in_ok-spans.ensures h n) in
+    let rule : c.cutoff-dense.result ≡ rule_cutoff c.args.settings.ratio ls = c.cutoff-dense.ensures ∙ (λ j. cutoff_of c.args.settings.ratio (c.in_ok-levels.ensures.nodes ls spans j) (c.in_ok-levels.ensures.labels ls spans j)) in
+    let with_cutoff : ℕ → Filter = λ k. record { hash_bits = h; real_bits = n; cutoff = k; leaves = ls } in
+    IfOk-weaker c.build.result _ _ (λ t e. e ∙ ap with_cutoff rule) c.build.ensures
