@@ -8,19 +8,19 @@ use Rattle.std.proofs.lemmas.Map.Made.{lookup-map_values}
 use Rattle.lru.proofs.Pairs.{lookup-lookup_entry}
 use Rattle.lru.proofs.CallerLemmas.{Contains-lookup_entry}
 use Rattle.lru.specs.LruCache.{promoted}
-use Rattle.block_cache.specs.Kept.{BlockPlace, Kept, is_place, kept_of, brought_first, with_kept}
+use Rattle.block_cache.specs.Kept.{BlockPlace, KeptBlock, is_place, kept_of, brought_first, with_kept}
 use Rattle.block_cache.proofs.Places.{its_place, removed_none, removed_one}
 use Rattle.block_cache.proofs.Gives.{missed, hit, get_count, keep_count}
 
 module _ {X : Type 0} (seen : X → List ℕ) where
-  abbrev pub shown : List (BlockPlace × X) → List Kept
+  abbrev pub shown : List (BlockPlace × X) → List KeptBlock
   shown = map (λ e. (e.0, seen e.1))
 
   shown_others : (test : BlockPlace → Bool) (es : List (BlockPlace × X)) → remove_entry test (shown es) ≡ shown (remove_entry test es)
   shown_others test [] = refl
   shown_others test (e ∷ es) = elim (test e.0) as (λ t. cond t (shown es) ((e.0, seen e.1) ∷ remove_entry test (shown es)) ≡ shown (cond t es (e ∷ remove_entry test es))) [
     | true ↦ refl
-    | false ↦ ap (λ (l : List Kept). (e.0, seen e.1) ∷ l) (shown_others test es)
+    | false ↦ ap (λ (l : List KeptBlock). (e.0, seen e.1) ∷ l) (shown_others test es)
   ]
 
   pub shown_kept : (place : BlockPlace) (es : List (BlockPlace × X)) → kept_of place (shown es) ≡ option_map seen (lookup (is_place place) es)
@@ -40,16 +40,16 @@ module _ {X : Type 0} (seen : X → List ℕ) where
   shown_first place es =
       by_entry (λ o. shown (option_map_or (λ e. e ∷ remove_entry (is_place place) es) o es) ≡ brought_first place (shown es)) place es
       (λ none. sym (missed place (shown es) (shown_kept place es ∙ ap (option_map seen) none)))
-      (λ x some. sym (hit place (shown es) (seen x) (shown_kept place es ∙ ap (option_map seen) some) ∙ ap (λ (l : List Kept). (place, seen x) ∷ l) (shown_others (is_place place) es)))
+      (λ x some. sym (hit place (shown es) (seen x) (shown_kept place es ∙ ap (option_map seen) some) ∙ ap (λ (l : List KeptBlock). (place, seen x) ∷ l) (shown_others (is_place place) es)))
 
   -- one pair more, where there are at most 64
   pub shown_with : (place : BlockPlace) (x : X) (es : List (BlockPlace × X)) → length es ≤ 64
       → shown (option_map_or (λ e. (e.0, x) ∷ remove_entry (is_place place) es) (lookup_entry (is_place place) es) ((place, x) ∷ take 63 es)) ≡ with_kept place (seen x) (shown es)
   shown_with place x es few =
       by_entry (λ o. shown (option_map_or (λ e. (e.0, x) ∷ remove_entry (is_place place) es) o ((place, x) ∷ take 63 es)) ≡ with_kept place (seen x) (shown es)) place es
-      (λ none. ap (λ (l : List Kept). (place, seen x) ∷ l)
+      (λ none. ap (λ (l : List KeptBlock). (place, seen x) ∷ l)
       (sym (take-map (λ e. (e.0, seen e.1)) 63 es) ∙ ap (take 63) (sym (removed_none (is_place place) (shown es) (shown_kept place es ∙ ap (option_map seen) none)))))
-      (λ y some. ap (λ (l : List Kept). (place, seen x) ∷ l)
+      (λ y some. ap (λ (l : List KeptBlock). (place, seen x) ∷ l)
       (ap shown (sym (take_all 63 (remove_entry (is_place place) es) (omega (arith, few, removed_one (is_place place) es y some))))
       ∙ sym (take-map (λ e. (e.0, seen e.1)) 63 (remove_entry (is_place place) es))
       ∙ ap (take 63) (sym (shown_others (is_place place) es))))

@@ -12,24 +12,24 @@ abbrev pub BlockPlace : Type 0
 BlockPlace = ℕ × ℕ
 
 -- a block with its bytes
-abbrev pub Kept : Type 0
-Kept = BlockPlace × List ℕ
+abbrev pub KeptBlock : Type 0
+KeptBlock = BlockPlace × List ℕ
 
 abbrev pub is_place : BlockPlace → BlockPlace → Bool
 is_place place other = (place.0 == other.0) && (place.1 == other.1)
 
 -- the bytes of a block, where it is kept
-abbrev pub kept_of : BlockPlace → List Kept → Option (List ℕ)
+abbrev pub kept_of : BlockPlace → List KeptBlock → Option (List ℕ)
 kept_of place kept = lookup (is_place place) kept
 
 -- all but that block
-abbrev pub others : BlockPlace → List Kept → List Kept
+abbrev pub others : BlockPlace → List KeptBlock → List KeptBlock
 others place kept = remove_entry (is_place place) kept
 
 -- the block goes first, where it is kept
-abbrev pub brought_first : BlockPlace → List Kept → List Kept
+abbrev pub brought_first : BlockPlace → List KeptBlock → List KeptBlock
 brought_first place kept = option_map_or (λ bytes. (place, bytes) ∷ others place kept) (kept_of place kept) kept
 
 -- the block is put first, in the stead of an older one of its place, or of the last where as many others are kept as may be
-abbrev pub with_kept : BlockPlace → List ℕ → List Kept → List Kept
+abbrev pub with_kept : BlockPlace → List ℕ → List KeptBlock → List KeptBlock
 with_kept place bytes kept = (place, bytes) ∷ take (most_blocks - 1) (others place kept)

@@ -1,13 +1,13 @@
 -- What may be relied on of the blocks that are kept.
 use Rattle.std.specs.Prelude.{◌≡◌, ◌≢◌, ◌≤◌, ◌<◌, ℕ, List, [], length, fold, if◌then◌else◌, Option, Some, None}
-use Rattle.block_cache.specs.Kept.{BlockPlace, Kept, most_blocks, is_place, kept_of, brought_first, with_kept}
+use Rattle.block_cache.specs.Kept.{BlockPlace, KeptBlock, most_blocks, is_place, kept_of, brought_first, with_kept}
 
 -- what is asked of a cache
 pub data Use : Type 0 where
   Get : (place : BlockPlace) → Use
   Keep : (place : BlockPlace) → (bytes : List ℕ) → Use
 
-abbrev pub after_use : List Kept → Use → List Kept
+abbrev pub after_use : List KeptBlock → Use → List KeptBlock
 after_use kept (Get place) = brought_first place kept
 after_use kept (Keep place bytes) = with_kept place bytes kept
 
@@ -25,13 +25,13 @@ GivenAsKept = (uses : List Use) (place : BlockPlace) (bytes : List ℕ) → kept
 
 -- A get changes no block that is kept, and nothing at all where its own is not.
 pub record GetLaws : Type 0 where
-  pub same : (place other : BlockPlace) (kept : List Kept) → kept_of other (brought_first place kept) ≡ kept_of other kept
-  pub missed : (place : BlockPlace) (kept : List Kept) → kept_of place kept ≡ None → brought_first place kept ≡ kept
-  pub count : (place : BlockPlace) (kept : List Kept) → length (brought_first place kept) ≡ length kept
+  pub same : (place other : BlockPlace) (kept : List KeptBlock) → kept_of other (brought_first place kept) ≡ kept_of other kept
+  pub missed : (place : BlockPlace) (kept : List KeptBlock) → kept_of place kept ≡ None → brought_first place kept ≡ kept
+  pub count : (place : BlockPlace) (kept : List KeptBlock) → length (brought_first place kept) ≡ length kept
 
 -- A keep gives its block, and to no other place; the others stay while there is room; there are never more than may be.
 pub record KeepLaws : Type 0 where
-  pub here : (place : BlockPlace) (bytes : List ℕ) (kept : List Kept) → kept_of place (with_kept place bytes kept) ≡ Some bytes
-  pub elsewhere : (place other : BlockPlace) (bytes found : List ℕ) (kept : List Kept) → other ≢ place → kept_of other (with_kept place bytes kept) ≡ Some found → kept_of other kept ≡ Some found
-  pub stays : (place other : BlockPlace) (bytes : List ℕ) (kept : List Kept) → other ≢ place → length kept < most_blocks → kept_of other (with_kept place bytes kept) ≡ kept_of other kept
-  pub count : (place : BlockPlace) (bytes : List ℕ) (kept : List Kept) → length (with_kept place bytes kept) ≤ most_blocks
+  pub here : (place : BlockPlace) (bytes : List ℕ) (kept : List KeptBlock) → kept_of place (with_kept place bytes kept) ≡ Some bytes
+  pub elsewhere : (place other : BlockPlace) (bytes found : List ℕ) (kept : List KeptBlock) → other ≢ place → kept_of other (with_kept place bytes kept) ≡ Some found → kept_of other kept ≡ Some found
+  pub stays : (place other : BlockPlace) (bytes : List ℕ) (kept : List KeptBlock) → other ≢ place → length kept < most_blocks → kept_of other (with_kept place bytes kept) ≡ kept_of other kept
+  pub count : (place : BlockPlace) (bytes : List ℕ) (kept : List KeptBlock) → length (with_kept place bytes kept) ≤ most_blocks

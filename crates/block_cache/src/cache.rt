@@ -22,9 +22,9 @@ pub struct BlockCache {
 impl Model for BlockCache {
     ghost use Rattle.std.specs.Prelude.{◌≡◌, ◌≤◌, List, length, map};
     ghost use Rattle.std.specs.Box.{boxed_slice_items};
-    ghost use Rattle.block_cache.specs.Kept.{Kept, most_blocks};
+    ghost use Rattle.block_cache.specs.Kept.{KeptBlock, most_blocks};
 
-    ghost Value = { List Kept };
+    ghost Value = { List KeptBlock };
 
     ghost view = { λ c. map (λ e. (e.0, boxed_slice_items e.1)) c.kept.entries };
 

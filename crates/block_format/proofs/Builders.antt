@@ -13,13 +13,13 @@ use Rattle.entry_model.specs.Reading.{width_in}
 use Rattle.block_model.specs.Pages.{block_length}
 use Rattle.block_model.proofs.EntriesRead.{entries_again}
 use Rattle.block_model.proofs.Sizes.{bodies_bound, length_more}
-use Rattle.block_format.specs.Building.{Holds, laid, takes}
+use Rattle.block_format.specs.Building.{SpellsEntries, laid, takes}
 
 pub none_in : (bytes : Bytes) → entries_in 0 bytes ≡ []
 unfolding entries_in
 none_in bytes = refl
 
-pub holds_none : (bytes : Bytes) → bytes ≡ [] → Holds 0 bytes
+pub holds_none : (bytes : Bytes) → bytes ≡ [] → SpellsEntries 0 bytes
 unfolding entries_in
 holds_none bytes none = record { spelled = sym none; each = tt; few = omega arith }
 
@@ -42,7 +42,7 @@ few_more n l e = elim (n == 0) as (λ t. (n == 0) ≡ t → (t || (nat_le l 4096
   | false ↦ λ is e. omega (arith, ltb-true n 255 (second (nat_le l 4096) (nat_lt n 255) e))
 ] refl e
 
-module _ (n : ℕ) (bytes : Bytes) (holds : Holds n bytes) where
+module _ (n : ℕ) (bytes : Bytes) (holds : SpellsEntries n bytes) where
   abbrev es : List Entry
   es = entries_in n bytes
 
@@ -68,7 +68,7 @@ module _ (n : ℕ) (bytes : Bytes) (holds : Holds n bytes) where
         let count : length (es ++ e ∷ []) ≡ n + 1 = omega (arith, length-append es (e ∷ []), many_in n bytes) in
         ap₂ entries_in (sym count) (sym flat) ∙ entries_again (es ++ e ∷ []) (all_push es e holds.each is)
 
-    pub holds_added : n + 1 ≤ 255 → Holds (n + 1) (bytes ++ body e)
+    pub holds_added : n + 1 ≤ 255 → SpellsEntries (n + 1) (bytes ++ body e)
     holds_added few = record {
       spelled = ap (flat_map body) added ∙ flat;
       each = subst (AllByRecursion IsEntry) (sym added) (all_push es e holds.each is);

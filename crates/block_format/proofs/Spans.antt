@@ -14,13 +14,13 @@ use Rattle.block_model.specs.Order.{is_any}
 use Rattle.block_model.proofs.BlocksWritten.{block_written}
 use Rattle.block_format.specs.Reading.{Stand}
 use Rattle.block_format.specs.Spans.{StandsIn, kept_from, part_of, spanned}
-use Rattle.block_format.specs.declared.span.Span.{Span}
+use Rattle.block_format.specs.declared.span.EntrySpan.{EntrySpan}
 use Rattle.block_format.proofs.Standing.{behind}
 
 -- ---- to the end of some bytes
 
 module _ (at n : ℕ) (bytes : Bytes) where
-  abbrev to_end : Span
+  abbrev to_end : EntrySpan
   to_end = record { at = at; end = length bytes; left = n }
 
   part_is : part_of to_end bytes ≡ drop at bytes
@@ -38,7 +38,7 @@ module _ (at n : ℕ) (bytes : Bytes) where
 
 -- ---- behind the first
 
-module _ (span : Span) (bytes : Bytes) (some : 0 < span.left) (stands : StandsIn span bytes) (w : ℕ) (is : w ≡ width_in (part_of span bytes)) (le : w ≤ length (part_of span bytes)) where
+module _ (span : EntrySpan) (bytes : Bytes) (some : 0 < span.left) (stands : StandsIn span bytes) (w : ℕ) (is : w ≡ width_in (part_of span bytes)) (le : w ≤ length (part_of span bytes)) where
   abbrev rest : Bytes
   rest = part_of span bytes
 
@@ -65,7 +65,7 @@ module _ (span : Span) (bytes : Bytes) (some : 0 < span.left) (stands : StandsIn
 
 -- ---- behind a header
 
-module _ (span : Span) (used : ℕ) (bytes : Bytes) (large : 8 ≤ used) (within : used ≤ length bytes)
+module _ (span : EntrySpan) (used : ℕ) (bytes : Bytes) (large : 8 ≤ used) (within : used ≤ length bytes)
     (stands : StandsIn span (take (used - 8) (drop 8 bytes))) (whole : span.end ≡ length (take (used - 8) (drop 8 bytes))) where
   inner_size : length (take (used - 8) (drop 8 bytes)) ≡ used - 8
   inner_size = length-take-le (used - 8) (drop 8 bytes) (omega (arith, length-drop 8 bytes, within))

@@ -9,7 +9,8 @@ use Rattle.std.proofs.lemmas.Bool.{ltb-false}
 use Rattle.map_model.specs.SortedMap.{Bytes, byte_order}
 use Rattle.entry_model.specs.Entries.{Entry}
 use Rattle.entry_model.specs.Newest.{entries_from, lookup}
-use Rattle.block_model.specs.BlockReading.{entries_fault, entries_in, entry_fault, has_no_kind, is_no_key_length}
+use Rattle.key_base.specs.Limits.{is_no_key_length}
+use Rattle.block_model.specs.BlockReading.{entries_fault, entries_in, entry_fault, has_no_kind}
 use Rattle.entry_model.specs.Reading.{entry_in, key_in, key_length_in, value_length_in, width_in}
 use Rattle.byte_fields.specs.Faults.{refuse}
 use Rattle.block_model.specs.Order.{is_above, is_any, is_from}

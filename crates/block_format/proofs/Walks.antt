@@ -1,14 +1,15 @@
 -- How the rules of the entries go on from one entry to the next.
 use Rattle.std.proofs.Common.{◌≡◌, ◌≤◌, ◌<◌, ◌+◌, ◌-◌, ℕ, suc, Bool, true, false, cond, length, take, drop, refl, sym, ap, ap₂, ◌∙◌, arith}
+use Rattle.std.specs.Option.{option_or}
 use Rattle.std.specs.Prelude.{Option, Some, None, bytes_eq, if◌then◌else◌}
 use Rattle.std.proofs.lemmas.List.{drop-take}
 use Rattle.std.proofs.lemmas.Bool.{le-ltb, lt-ltb}
 use Rattle.map_model.specs.SortedMap.{Bytes}
 use Rattle.block_model.specs.BlockReading.{block_fault, count_in, entries_fault, entries_in, entries_part, entry_fault, header_fault, tail_fault, used_in}
-use Rattle.entry_model.specs.Entries.{Entry, or_else}
+use Rattle.entry_model.specs.Entries.{Entry}
 use Rattle.entry_model.specs.Newest.{lookup}
 use Rattle.entry_model.specs.Reading.{entry_in, key_in, width_in}
-use Rattle.byte_fields.specs.Faults.{Fault, fault, or_fault, refuse}
+use Rattle.byte_fields.specs.Faults.{Fault, fault, refuse}
 use Rattle.block_model.specs.Order.{is_above, is_any}
 
 module _ (n place : ℕ) (test : Bytes → Bool) (rest : Bytes) (some : 0 < n) where
@@ -20,13 +21,13 @@ module _ (n place : ℕ) (test : Bytes → Bool) (rest : Bytes) (some : 0 < n) w
   unfolding entries_fault
   next_kept none =
       let later = entries_fault (n - 1) (place + width_in rest) (is_above (key_in rest)) (drop (width_in rest) rest) in
-      ap (λ (k : ℕ). entries_fault k place test rest) one_more ∙ ap (λ (f : Option Fault). or_fault f later) none
+      ap (λ (k : ℕ). entries_fault k place test rest) one_more ∙ ap (λ (f : Option Fault). option_or f later) none
 
   pub next_broken : (f : Fault) → entry_fault place test rest ≡ Some f → entries_fault n place test rest ≡ Some f
   unfolding entries_fault
   next_broken f broken =
       let later = entries_fault (n - 1) (place + width_in rest) (is_above (key_in rest)) (drop (width_in rest) rest) in
-      ap (λ (k : ℕ). entries_fault k place test rest) one_more ∙ ap (λ (g : Option Fault). or_fault g later) broken
+      ap (λ (k : ℕ). entries_fault k place test rest) one_more ∙ ap (λ (g : Option Fault). option_or g later) broken
 
 pub none_is_left : (place : ℕ) (test : Bytes → Bool) (rest : Bytes) → length rest ≤ 0 → entries_fault 0 place test rest ≡ None
 unfolding entries_fault
@@ -51,8 +52,8 @@ unfolding block_fault
 no_fault bytes used count some is counted head entries tail =
     let part : entries_fault (count_in bytes) 8 is_any (entries_part bytes) ≡ None =
     ap₂ (λ (n : ℕ) (l : Bytes). entries_fault n 8 is_any l) (sym counted) (sym (part_is bytes used some is)) ∙ entries in
-    ap (λ (f : Option Fault). or_fault f (or_fault (entries_fault (count_in bytes) 8 is_any (entries_part bytes)) (tail_fault bytes))) head
-    ∙ ap (λ (f : Option Fault). or_fault f (tail_fault bytes)) part
+    ap (λ (f : Option Fault). option_or f (option_or (entries_fault (count_in bytes) 8 is_any (entries_part bytes)) (tail_fault bytes))) head
+    ∙ ap (λ (f : Option Fault). option_or f (tail_fault bytes)) part
     ∙ tail
 
 pub tail_broken : (bytes : Bytes) (used count : ℕ) (f : Fault) → 16 ≤ used → used ≡ used_in bytes → count ≡ count_in bytes
@@ -62,8 +63,8 @@ unfolding block_fault
 tail_broken bytes used count f some is counted head entries tail =
     let part : entries_fault (count_in bytes) 8 is_any (entries_part bytes) ≡ None =
     ap₂ (λ (n : ℕ) (l : Bytes). entries_fault n 8 is_any l) (sym counted) (sym (part_is bytes used some is)) ∙ entries in
-    ap (λ (g : Option Fault). or_fault g (or_fault (entries_fault (count_in bytes) 8 is_any (entries_part bytes)) (tail_fault bytes))) head
-    ∙ ap (λ (g : Option Fault). or_fault g (tail_fault bytes)) part
+    ap (λ (g : Option Fault). option_or g (option_or (entries_fault (count_in bytes) 8 is_any (entries_part bytes)) (tail_fault bytes))) head
+    ∙ ap (λ (g : Option Fault). option_or g (tail_fault bytes)) part
     ∙ tail
 
 -- ---- what entries say of a key, the first of them first
@@ -71,28 +72,28 @@ tail_broken bytes used count f some is counted head entries tail =
 abbrev pub says : Entry → Bytes → Option (Option Bytes)
 says entry key = if bytes_eq entry.key key then Some entry.value else None
 
-first_then : (found here later : Option (Option Bytes)) → or_else found (or_else here later) ≡ or_else (or_else found here) later
+first_then : (found here later : Option (Option Bytes)) → option_or found (option_or here later) ≡ option_or (option_or found here) later
 first_then (Some v) here later = refl
 first_then None here later = refl
 
-or_later : (t : Bool) (value : Option Bytes) (later : Option (Option Bytes)) → cond t (Some value) later ≡ or_else (cond t (Some value) None) later
+or_later : (t : Bool) (value : Option Bytes) (later : Option (Option Bytes)) → cond t (Some value) later ≡ option_or (cond t (Some value) None) later
 or_later true value later = refl
 or_later false value later = refl
 
 pub next_said : (n : ℕ) (rest key : Bytes) (found : Option (Option Bytes)) → 0 < n
-    → or_else found (lookup (entries_in n rest) key) ≡ or_else (or_else found (says (entry_in rest) key)) (lookup (entries_in (n - 1) (drop (width_in rest) rest)) key)
+    → option_or found (lookup (entries_in n rest) key) ≡ option_or (option_or found (says (entry_in rest) key)) (lookup (entries_in (n - 1) (drop (width_in rest) rest)) key)
 unfolding entries_in
 next_said n rest key found some =
     let one : n ≡ suc (n - 1) = omega (arith, some) in
     let later = lookup (entries_in (n - 1) (drop (width_in rest) rest)) key in
-    ap (λ (k : ℕ). or_else found (lookup (entries_in k rest) key)) one
-    ∙ ap (or_else found) (or_later (bytes_eq (entry_in rest).key key) (entry_in rest).value later)
+    ap (λ (k : ℕ). option_or found (lookup (entries_in k rest) key)) one
+    ∙ ap (option_or found) (or_later (bytes_eq (entry_in rest).key key) (entry_in rest).value later)
     ∙ first_then found (says (entry_in rest) key) later
 
-none_more : (found : Option (Option Bytes)) → or_else found None ≡ found
+none_more : (found : Option (Option Bytes)) → option_or found None ≡ found
 none_more None = refl
 none_more (Some v) = refl
 
-pub all_said : (n : ℕ) (rest key : Bytes) (found : Option (Option Bytes)) → n ≡ 0 → or_else found (lookup (entries_in n rest) key) ≡ found
+pub all_said : (n : ℕ) (rest key : Bytes) (found : Option (Option Bytes)) → n ≡ 0 → option_or found (lookup (entries_in n rest) key) ≡ found
 unfolding entries_in
-all_said n rest key found none = ap (λ (k : ℕ). or_else found (lookup (entries_in k rest) key)) none ∙ none_more found
+all_said n rest key found none = ap (λ (k : ℕ). option_or found (lookup (entries_in k rest) key)) none ∙ none_more found

@@ -14,7 +14,7 @@ abbrev pub takes : List Entry → Entry → Bool
 takes block entry = length block == 0 || has_room block entry
 
 -- the bytes are those of so many entries
-pub record Holds (count : ℕ) (bytes : Bytes) : Type 0 where
+pub record SpellsEntries (count : ℕ) (bytes : Bytes) : Type 0 where
   pub spelled : flat_map body (entries_in count bytes) ≡ bytes
   pub each : AllByRecursion IsEntry (entries_in count bytes)
   pub few : count ≤ max_block_entries

@@ -6,18 +6,18 @@ use Rattle.entry_model.specs.Newest.{entries_from}
 use Rattle.block_model.specs.BlockReading.{entries_in}
 use Rattle.block_model.specs.Order.{is_any}
 use Rattle.block_format.specs.Reading.{Stand}
-use Rattle.block_format.specs.declared.span.Span.{Span}
+use Rattle.block_format.specs.declared.span.EntrySpan.{EntrySpan}
 
 -- the bytes in which they stand
-abbrev pub part_of : Span → Bytes → Bytes
+abbrev pub part_of : EntrySpan → Bytes → Bytes
 part_of span bytes = take (span.end - span.at) (drop span.at bytes)
 
 -- the entries
-abbrev pub spanned : Span → Bytes → List Entry
+abbrev pub spanned : EntrySpan → Bytes → List Entry
 spanned span bytes = entries_in span.left (part_of span bytes)
 
 -- so many entries stand there, by rising keys
-pub record StandsIn (span : Span) (bytes : Bytes) : Type 0 where
+pub record StandsIn (span : EntrySpan) (bytes : Bytes) : Type 0 where
   pub within : span.at ≤ span.end
   pub inside : span.end ≤ length bytes
   pub entries : Stand span.left is_any (part_of span bytes)

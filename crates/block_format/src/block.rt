@@ -1,21 +1,22 @@
-// A block: the entries that its bytes spell.
-ghost use Rattle.std.specs.Prelude.{◌≡◌, ◌≤◌, ◌<◌, ◌+◌, ◌-◌, ◌^◌, ◌==◌, true, false, slice_index, length, take, drop, Some, None, IfOk, IfErr, bytes_eq, if◌then◌else◌};
-ghost use Rattle.entry_model.specs.Entries.{IsEntry, or_else};
-ghost use Rattle.std.specs.List.{AllByRecursion};
+//! A block: the entries that its bytes spell.
+ghost use Rattle.std.specs.Prelude.{◌≡◌, ◌≤◌, ◌<◌, ◌+◌, ◌-◌, ◌^◌, ◌==◌, true, false, not, slice_index, length, take, drop, Some, None, IfOk, IfErr, bytes_eq, if◌then◌else◌};
+ghost use Rattle.entry_model.specs.Entries.{IsEntry};
+ghost use Rattle.std.specs.List.{AllByRecursion, position_or_len};
 ghost use Rattle.block_model.specs.BlockReading.{block_fault, block_in, count_in, entries_fault, entries_in, header_fault, tail_fault, used_in};
 ghost use Rattle.byte_fields.specs.Faults.{fault};
 ghost use Rattle.block_model.specs.Order.{is_any};
-ghost use Rattle.std.specs.Option.{option_map};
+ghost use Rattle.std.specs.Option.{option_map, option_or};
 ghost use Rattle.entry_model.specs.Newest.{entries_from, lookup};
 ghost use Rattle.block_format.specs.Reading.{Stand, seen};
 ghost use Rattle.block_format.specs.Spans.{StandsIn, kept_from, spanned};
 
 use crate::cursor::BlockCursor;
-use crate::entry::{Row, entry_here, first_entry};
+use crate::entry::{EntryHere, WORD_BYTES, entry_here, first_entry};
 use crate::fault::BlockFault;
-use crate::span::Span;
+use crate::span::EntrySpan;
 use block_model::pages_for;
 use byte_fields::get_u32;
+use byteorder::{BigEndian, ByteOrder};
 use key_base::{PAGE_BYTES, compare};
 use std::cmp::Ordering;
 use std::marker::Model;
@@ -23,16 +24,16 @@ use std::marker::Model;
 /// The bytes before the first entry.
 pub(crate) const HEADER_BYTES: usize = 8;
 
-/// The length that is used, or the number of pages, is out of its limits.
+// The length that is used, or the number of pages, is out of its limits.
 const NO_LENGTH: u8 = 1;
 
-/// The count is none, or a byte that must be 0 is not.
+// The count is none, or a byte that must be 0 is not.
 const NO_HEADER: u8 = 2;
 
-/// Bytes are left behind the last entry.
+// Bytes are left behind the last entry.
 const BYTES_LEFT: u8 = 7;
 
-/// A byte behind the length that is used is not 0.
+// A byte behind the length that is used is not 0.
 const NO_PADDING: u8 = 8;
 
 /// A block whose bytes keep each rule of the format, seen as its entries.
@@ -112,7 +113,7 @@ impl<'a> Block<'a> {
 /// the format that the bytes break, and where.
 ///
 /// One pass over the bytes, as by [`Block::read`], and with a bound another up to it. No memory.
-pub fn read_span(bytes: &[u8], low: Option<&[u8]>) -> Result<Span, BlockFault>
+pub fn read_span(bytes: &[u8], low: Option<&[u8]>) -> Result<EntrySpan, BlockFault>
     ensures broken { IfErr result (λ found. block_fault bytes.now ≡ Some (seen found)) }
     ensures place { IfErr result (λ found. found.place ≤ length bytes.now) }
     ensures whole { IfOk result (λ _. block_fault bytes.now ≡ None) }
@@ -230,10 +231,10 @@ fn search<'a>(
 // What was found before, else what this entry says of the key.
 fn first_said<'a>(
     found: Option<Option<&'a [u8]>>,
-    row: Row<'a>,
+    row: EntryHere<'a>,
     key: &[u8],
 ) -> Option<Option<&'a [u8]>>
-    ensures { option_map (λ f. option_map (λ v. v.now) f) result ≡ or_else (option_map (λ f. option_map (λ v. v.now) f) found.entry) (if bytes_eq row.entry.key.now key.now then Some (option_map (λ v. v.now) row.entry.value) else None) }
+    ensures { option_map (λ f. option_map (λ v. v.now) f) result ≡ option_or (option_map (λ f. option_map (λ v. v.now) f) found.entry) (if bytes_eq row.entry.key.now key.now then Some (option_map (λ v. v.now) row.entry.value) else None) }
 {
     if found.is_none() && is_same(row.key, key) {
         return Some(row.value);
@@ -265,7 +266,8 @@ fn check_padding(bytes: &[u8], used: usize) -> Result<(), BlockFault>
     ensures place { IfErr result (λ found. found.place ≤ length bytes.now) }
     ensures whole { IfOk result (λ _. tail_fault bytes.now ≡ None) }
 {
-    for place in used..bytes.len() {
+    let from = behind_zeros(bytes, used);
+    for place in from..bytes.len() {
         if bytes[place] != 0 {
             return Err(BlockFault {
                 place,
@@ -274,6 +276,23 @@ fn check_padding(bytes: &[u8], used: usize) -> Result<(), BlockFault>
         }
     }
     Ok(())
+}
+
+// A place from this one on with nothing but zero bytes before it. Eight bytes are looked at as one number.
+fn behind_zeros(bytes: &[u8], from: usize) -> usize
+    requires { from ≤ length bytes.now }
+    ensures from { from ≤ result }
+    ensures within { result ≤ length bytes.now }
+    ensures zeros { position_or_len (λ b. not (b == 0)) (drop from bytes.now) ≡ (result - from) + position_or_len (λ b. not (b == 0)) (drop result bytes.now) }
+{
+    let words = (bytes.len() - from) / WORD_BYTES;
+    for word in 0..words {
+        let at = from + WORD_BYTES * word;
+        if BigEndian::read_u64(&bytes[at..]) != 0 {
+            return at;
+        }
+    }
+    from + WORD_BYTES * words
 }
 
 // What so many entries say of a key.
@@ -294,7 +313,7 @@ fn find_in<'a>(bytes: &'a [u8], count: u8, key: &[u8]) -> Option<Option<&'a [u8]
 }
 
 // Where so many entries stand, without those whose keys are below this one.
-fn seek_in(bytes: &[u8], count: u8, low: &[u8]) -> Span
+fn seek_in(bytes: &[u8], count: u8, low: &[u8]) -> EntrySpan
     requires { Stand count is_any bytes.now }
     ensures stands { StandsIn result bytes.now }
     ensures end { result.end ≡ length bytes.now }
@@ -306,15 +325,15 @@ fn seek_in(bytes: &[u8], count: u8, low: &[u8]) -> Span
         let row = entry_here(&bytes[at..]);
         if compare(row.key, low).is_ge() {
             let left = count - i;
-            return Span { at, end, left };
+            return EntrySpan { at, end, left };
         }
         at += row.width;
     }
-    Span { at, end, left: 0 }
+    EntrySpan { at, end, left: 0 }
 }
 
 // Where so many entries stand, without those below a bound, if there is one.
-fn from_bound(bytes: &[u8], count: u8, low: Option<&[u8]>) -> Span
+fn from_bound(bytes: &[u8], count: u8, low: Option<&[u8]>) -> EntrySpan
     requires { Stand count is_any bytes.now }
     ensures stands { StandsIn result bytes.now }
     ensures end { result.end ≡ length bytes.now }
@@ -323,7 +342,7 @@ fn from_bound(bytes: &[u8], count: u8, low: Option<&[u8]>) -> Span
 {
     match low {
         Some(low) => seek_in(bytes, count, low),
-        None => Span {
+        None => EntrySpan {
             at: 0,
             end: bytes.len(),
             left: count,
@@ -332,11 +351,11 @@ fn from_bound(bytes: &[u8], count: u8, low: Option<&[u8]>) -> Span
 }
 
 // The same entries in the bytes with a header before them.
-fn behind_header(span: Span) -> Span
+fn behind_header(span: EntrySpan) -> EntrySpan
     requires { (span.at ≤ span.end) × (span.end < 2 ^ 63) }
     ensures { result ≡ record { at = span.at + 8; end = span.end + 8; left = span.left } }
 {
-    Span {
+    EntrySpan {
         at: span.at + HEADER_BYTES,
         end: span.end + HEADER_BYTES,
         left: span.left,

@@ -1,4 +1,4 @@
-// A block that is written entry by entry.
+//! A block that is written entry by entry.
 ghost use Rattle.std.specs.Prelude.{◌≡◌, ◌==◌, ◌||◌, ◌&&◌, nat_le, nat_lt, replicate, ◌≤◌, ◌<◌, ◌+◌, ◌^◌, ◌++◌, [], ◌∷◌, length, vec_len, vec_capacity, IfOk, OnOk, OnErr, if◌then◌else◌};
 ghost use Rattle.std.specs.Option.{option_map};
 ghost use Rattle.entry_model.specs.Entries.{entry_of};
@@ -9,9 +9,10 @@ ghost use Rattle.block_model.specs.Pages.{max_block_entries, block_pages, page_b
 ghost use Rattle.block_format.specs.Building.{laid, takes};
 
 use crate::block::HEADER_BYTES;
-use crate::entry::{HEAD_BYTES, TOMBSTONE, VALUE};
+use crate::entry::{TOMBSTONE, VALUE};
 use block_model::pages_for;
 use byte_fields::{put_u16, put_u32};
+use entry_list::HEAD_BYTES;
 use key_base::{MAX_BLOCK_ENTRIES, PAGE_BYTES};
 use std::alloc::{AllocError, Global};
 use std::marker::Model;
@@ -28,13 +29,13 @@ impl Model for BlockBuilder {
     ghost use Rattle.entry_model.specs.Entries.{Entry};
     ghost use Rattle.block_model.specs.BlockReading.{entries_in};
     ghost use Rattle.block_model.specs.Pages.{max_block_entries, page_bytes};
-    ghost use Rattle.block_format.specs.Building.{Holds};
+    ghost use Rattle.block_format.specs.Building.{SpellsEntries};
 
     ghost Value = { List Entry };
 
     ghost view = { λ b. entries_in b.count b.bytes.items };
 
-    ghost invariant = { λ b. Holds b.count b.bytes.items };
+    ghost invariant = { λ b. SpellsEntries b.count b.bytes.items };
 }
 
 impl BlockBuilder {
@@ -68,7 +69,7 @@ impl BlockBuilder {
         requires { IsEntry (entry_of key.now (option_map (λ v. v.now) value)) }
         ensures room { IfOk result (λ added. added ≡ takes self.old (entry_of key.now (option_map (λ v. v.now) value.entry))) }
         ensures added { IfOk result (λ added. self.new ≡ (if added then self.old ++ entry_of key.now (option_map (λ v. v.now) value.entry) ∷ [] else self.old)) }
-        ensures refused { OnErr result (self.new ≡ self.old) }
+        ensures unchanged { OnErr result (self.new ≡ self.old) }
     {
         let width = HEAD_BYTES + key.len() + value_bytes(value).len();
         if !fits(self.count, self.bytes.len(), width) {
@@ -92,7 +93,7 @@ impl BlockBuilder {
         requires { 1 ≤ length self.old }
         ensures written { OnOk result (out.new.items ≡ out.old.items ++ block_bytes self.old) }
         ensures emptied { OnOk result (self.new ≡ []) }
-        ensures kept { OnErr result (self.new ≡ self.old) }
+        ensures unchanged { OnErr result (self.new ≡ self.old) }
         ensures unwritten { OnErr result (out.new.items ≡ out.old.items) }
     {
         push_block(self.bytes.as_slice(), self.count, out)?;
@@ -144,8 +145,8 @@ fn append(more: &[u8], out: &mut Vec<u8>)
 
 fn push_entry(key: &[u8], value: Option<&[u8]>, out: &mut Vec<u8>) -> Result<(), AllocError>
     requires { IsEntry (entry_of key.now (option_map (λ v. v.now) value)) }
-    ensures pushed { OnOk result (out.new.items ≡ out.old.items ++ body (entry_of key.now (option_map (λ v. v.now) value.entry))) }
-    ensures refused { OnErr result (out.new.items ≡ out.old.items) }
+    ensures added { OnOk result (out.new.items ≡ out.old.items ++ body (entry_of key.now (option_map (λ v. v.now) value.entry))) }
+    ensures unchanged { OnErr result (out.new.items ≡ out.old.items) }
 {
     let mut head = [kind(value); HEAD_BYTES];
     let value = value_bytes(value);
@@ -161,8 +162,8 @@ fn push_entry(key: &[u8], value: Option<&[u8]>, out: &mut Vec<u8>) -> Result<(),
 #[tactic(auto, unfolding(crate::specs::Building::laid, block_model::specs::Pages::pages_for))]
 fn push_block(entries: &[u8], count: u8, out: &mut Vec<u8>) -> Result<(), AllocError>
     requires { 8 + length entries.now < 2 ^ 32 }
-    ensures pushed { OnOk result (out.new.items ≡ out.old.items ++ laid count entries.now) }
-    ensures refused { OnErr result (out.new.items ≡ out.old.items) }
+    ensures added { OnOk result (out.new.items ≡ out.old.items ++ laid count entries.now) }
+    ensures unchanged { OnErr result (out.new.items ≡ out.old.items) }
 {
     let used = HEADER_BYTES + entries.len();
     let whole = PAGE_BYTES * pages_for(used as u64) as usize;

@@ -1,17 +1,17 @@
-// The entries of a block, one after the other.
+//! The entries of a block, one after the other.
 ghost use Rattle.std.specs.Prelude.{◌≡◌, [], ◌∷◌, MatchOption};
 ghost use Rattle.std.specs.Option.{option_map};
 ghost use Rattle.entry_model.specs.Entries.{entry_of};
 ghost use Rattle.block_format.specs.Spans.{StandsIn, spanned};
 
-use crate::span::Span;
+use crate::span::EntrySpan;
 use std::marker::Model;
 
 /// The entries of a block from a key on, in order. They lie in the block's bytes, and no memory is taken.
 #[derive(Drop)]
 pub struct BlockCursor<'a> {
     bytes: &'a [u8],
-    rest: Span,
+    rest: EntrySpan,
 }
 
 impl<'a> Model for BlockCursor<'a> {
@@ -27,7 +27,7 @@ impl<'a> Model for BlockCursor<'a> {
 }
 
 impl<'a> BlockCursor<'a> {
-    pub(crate) fn new(bytes: &'a [u8], rest: Span) -> BlockCursor<'a>
+    pub(crate) fn new(bytes: &'a [u8], rest: EntrySpan) -> BlockCursor<'a>
         requires { StandsIn rest bytes.now }
         ensures { result ≡ spanned rest bytes.now }
     {

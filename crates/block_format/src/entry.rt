@@ -1,4 +1,4 @@
-// One entry, in the bytes that begin with it.
+//! One entry, in the bytes that begin with it.
 ghost use Rattle.std.specs.Prelude.{◌≡◌, ◌≤◌, length, Some, None, IfOk, IfErr};
 ghost use Rattle.std.specs.Option.{option_map};
 ghost use Rattle.entry_model.specs.Entries.{entry_of};
@@ -10,25 +10,23 @@ ghost use Rattle.block_format.specs.Reading.{passes_after, seen};
 use crate::fault::BlockFault;
 use byte_fields::{get_u16, get_u32};
 use byteorder::{BigEndian, ByteOrder};
+use entry_list::HEAD_BYTES;
 use key_base::{MAX_KEY_BYTES, MAX_VALUE_BYTES, compare};
 use std::cmp::Ordering;
 
-/// The bytes before the key of an entry: its kind and two lengths.
-pub(crate) const HEAD_BYTES: usize = 7;
+/// The bytes that are read at once, as one number.
+pub(crate) const WORD_BYTES: usize = 8;
 
-/// The bytes of a number that are compared at once.
-const WORD_BYTES: usize = 8;
-
-/// An entry runs past the length.
+// An entry runs past the length.
 const PAST_THE_LENGTH: u8 = 3;
 
-/// Neither a value nor a tombstone, or a tombstone with a value.
+// Neither a value nor a tombstone, or a tombstone with a value.
 const NO_KIND: u8 = 4;
 
-/// A length is out of its limits.
+// A length is out of its limits.
 const OUT_OF_LIMITS: u8 = 5;
 
-/// The key is not above the one before.
+// The key is not above the one before.
 const NOT_ABOVE: u8 = 6;
 
 /// The kind of an entry with a value.
@@ -37,22 +35,22 @@ pub(crate) const VALUE: u8 = 1;
 /// The kind of an entry without one.
 pub(crate) const TOMBSTONE: u8 = 2;
 
-// An entry as it stands in its block, and how many bytes it takes.
+/// An entry as it stands in its block, and how many bytes it takes.
 #[derive(Clone, Copy)]
-pub(crate) struct Row<'a> {
+pub(crate) struct EntryHere<'a> {
     pub key: &'a [u8],
     pub value: Option<&'a [u8]>,
     pub width: usize,
 }
 
-// The entry that the bytes begin with, or the first rule that it breaks. Its place is `place`, and `before` is the key
-// before it.
+/// The entry that the bytes begin with, or the first rule that it breaks. Its place is `place`, and `before` is the key
+/// before it.
 #[tactic(auto, unfolding(block_model::specs::BlockReading::entry_fault, entry_model::specs::Reading::entry_in, entry_model::specs::Reading::key_in, entry_model::specs::Reading::width_in))]
 pub(crate) fn first_entry<'a>(
     bytes: &'a [u8],
     place: usize,
     before: Option<&[u8]>,
-) -> Result<Row<'a>, BlockFault>
+) -> Result<EntryHere<'a>, BlockFault>
     ensures broken { IfErr result (λ found. entry_fault place (passes_after (option_map (λ k. k.now) before.entry)) bytes.now ≡ Some (seen found)) }
     ensures place { IfErr result (λ found. found.place ≡ place) }
     ensures whole { IfOk result (λ _. entry_fault place (passes_after (option_map (λ k. k.now) before.entry)) bytes.now ≡ None) }
@@ -98,9 +96,9 @@ pub(crate) fn first_entry<'a>(
     Ok(row)
 }
 
-// The entry that the bytes begin with, where all of it is there. Nothing is tested.
+/// The entry that the bytes begin with, where all of it is there. Nothing is tested.
 #[tactic(auto, unfolding(entry_model::specs::Reading::entry_in, entry_model::specs::Reading::key_in, entry_model::specs::Reading::width_in))]
-pub(crate) fn entry_here(bytes: &[u8]) -> Row<'_>
+pub(crate) fn entry_here(bytes: &[u8]) -> EntryHere<'_>
     requires { width_in bytes.now ≤ length bytes.now }
     ensures entry { entry_of result.key.now (option_map (λ v. v.now) result.value) ≡ entry_in bytes.now }
     ensures key { result.key.now ≡ key_in bytes.now }
@@ -114,7 +112,7 @@ pub(crate) fn entry_here(bytes: &[u8]) -> Row<'_>
     } else {
         None
     };
-    Row {
+    EntryHere {
         key: &bytes[HEAD_BYTES..value_at],
         value,
         width,

@@ -1,4 +1,4 @@
-// Where entries of a block stand in its bytes.
+//! Where entries of a block stand in its bytes.
 ghost use Rattle.std.specs.Prelude.{◌≡◌, [], ◌∷◌, MatchOption};
 ghost use Rattle.std.specs.Option.{option_map};
 ghost use Rattle.entry_model.specs.Entries.{entry_of};
@@ -9,7 +9,7 @@ use crate::entry::entry_here;
 /// Where some entries of a block stand in its bytes, one after the other. For whoever keeps the bytes and cannot keep a
 /// [`BlockCursor`](crate::BlockCursor), which borrows them.
 #[derive(Clone, Copy, Debug, PartialEq, Eq)]
-pub struct Span {
+pub struct EntrySpan {
     /// The place of the first of them.
     pub at: usize,
     /// The place behind the last of them.
@@ -18,7 +18,7 @@ pub struct Span {
     pub left: u8,
 }
 
-impl Span {
+impl EntrySpan {
     /// The first entry's key and value, `None` for a tombstone's value, or `None` where none is left. The bytes are those
     /// in which the entries stand, and the span is then that of the others.
     pub fn next<'a>(&mut self, bytes: &'a [u8]) -> Option<(&'a [u8], Option<&'a [u8]>)>

@@ -9,7 +9,8 @@ use Rattle.byte_fields.proofs.NumberLemmas.{number_again}
 use Rattle.map_model.specs.SortedMap.{Bytes}
 use Rattle.entry_model.specs.Entries.{Entry, body, bytes_of, kind_of, IsEntry, keys_of}
 use Rattle.entry_model.specs.Reading.{entry_in, key_in, key_length_in, value_length_in, width_in}
-use Rattle.block_model.specs.BlockReading.{entries_fault, entries_in, entry_fault, is_no_key_length}
+use Rattle.key_base.specs.Limits.{is_no_key_length}
+use Rattle.block_model.specs.BlockReading.{entries_fault, entries_in, entry_fault}
 use Rattle.block_model.specs.Order.{Follow, is_above}
 use Rattle.entry_model.proofs.Bodies.{body_size, key_length_again, value_length_again, width_again, key_again, entry_again, behind_body}
 use Rattle.block_model.proofs.Refusals.{none_of, not_true, passed}

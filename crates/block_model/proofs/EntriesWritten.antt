@@ -11,7 +11,8 @@ use Rattle.byte_fields.proofs.NumberLemmas.{IsBytes-drop, IsBytes-take, number_b
 use Rattle.map_model.specs.SortedMap.{Bytes}
 use Rattle.entry_model.specs.Entries.{body, bytes_of, kind_of, IsEntry, keys_of}
 use Rattle.entry_model.specs.Reading.{entry_in, key_in, key_length_in, kind_in, value_length_in, width_in}
-use Rattle.block_model.specs.BlockReading.{entries_fault, entries_in, entry_fault, is_no_key_length}
+use Rattle.key_base.specs.Limits.{is_no_key_length}
+use Rattle.block_model.specs.BlockReading.{entries_fault, entries_in, entry_fault}
 use Rattle.block_model.specs.Order.{Follow, is_above}
 use Rattle.block_model.proofs.LastBlocks.{positive}
 use Rattle.entry_model.proofs.Bodies.{KeepsLimits, sound_read, body_read}

@@ -2,10 +2,10 @@
 use Rattle.std.proofs.Common.{◌≡◌, ◌≤◌, ◌+◌, ℕ, zero, suc, Bool, true, false, cond, List, [], ◌∷◌, length, replicate, refl, ap, ap₂, arith}
 use Rattle.std.specs.Prelude.{Option, Some, None, ◌==◌, nat_lt, not, position}
 use Rattle.std.specs.List.{position_or_len}
-use Rattle.std.specs.Option.{option_map}
+use Rattle.std.specs.Option.{option_map, option_or}
 use Rattle.std.proofs.lemmas.List.{length-replicate}
 use Rattle.std.proofs.lemmas.Bool.{eqb-true, ltb-false, le-ltb}
-use Rattle.byte_fields.specs.Faults.{Fault, refuse, or_fault}
+use Rattle.byte_fields.specs.Faults.{Fault, refuse}
 
 pub kept : (bad : Bool) (place rule : ℕ) (later : Option Fault) → refuse bad place rule later ≡ None → (bad ≡ false) × (later ≡ None)
 kept true place rule later e = absurd cc
@@ -15,11 +15,11 @@ pub passed : (bad : Bool) (place rule : ℕ) (later : Option Fault) → bad ≡ 
 passed true place rule later bad none = absurd cc
 passed false place rule later bad none = none
 
-pub neither : (a b : Option Fault) → or_fault a b ≡ None → (a ≡ None) × (b ≡ None)
+pub neither : (a b : Option Fault) → option_or a b ≡ None → (a ≡ None) × (b ≡ None)
 neither None b e = (refl, e)
 neither (Some f) b e = absurd cc
 
-pub none_of : (a b : Option Fault) → a ≡ None → b ≡ None → or_fault a b ≡ None
+pub none_of : (a b : Option Fault) → a ≡ None → b ≡ None → option_or a b ≡ None
 none_of None b none e = e
 none_of (Some f) b none e = absurd cc
 

@@ -1,12 +1,12 @@
 -- What is read from the bytes of a block, and the first rule that they break.
 use Rattle.std.specs.Prelude.{ℕ, zero, suc, ◌+◌, ◌*◌, nat_lt, ◌==◌, Bool, not, ◌&&◌, ◌||◌, List, [], ◌∷◌, length, take, drop, slice_index, position, Option, Some, None, if◌then◌else◌}
-use Rattle.std.specs.Option.{option_map}
+use Rattle.std.specs.Option.{option_map, option_or}
 use Rattle.byteorder.specs.Endian.{little_number}
-use Rattle.key_base.specs.Limits.{max_key_bytes, max_value_bytes}
+use Rattle.key_base.specs.Limits.{is_no_key_length, max_value_bytes}
 use Rattle.map_model.specs.SortedMap.{Bytes}
-use Rattle.entry_model.specs.Entries.{Entry}
+use Rattle.entry_model.specs.Entries.{Entry, head_length}
 use Rattle.entry_model.specs.Reading.{kind_in, key_length_in, value_length_in, width_in, key_in, entry_in}
-use Rattle.byte_fields.specs.Faults.{Fault, fault, refuse, or_fault}
+use Rattle.byte_fields.specs.Faults.{Fault, fault, refuse}
 use Rattle.block_model.specs.Order.{is_above, is_any}
 use Rattle.block_model.specs.Pages.{page_bytes, pages_for}
 
@@ -16,15 +16,11 @@ use Rattle.block_model.specs.Pages.{page_bytes, pages_for}
 abbrev pub has_no_kind : Bytes → Bool
 has_no_kind rest = not (kind_in rest == 1) && (not (kind_in rest == 2) || nat_lt 0 (value_length_in rest))
 
--- a key of no byte or of too many
-abbrev pub is_no_key_length : ℕ → Bool
-is_no_key_length bytes = bytes == 0 || nat_lt max_key_bytes bytes
-
 -- The first rule that the entry at a place breaks, by the bytes from there to the length. 3: it runs past the length, tried
 -- on the seven first bytes and then on the whole; 4: the kind; 5: the lengths; 6: the key does not pass the test.
 unfoldable pub entry_fault : ℕ → (Bytes → Bool) → Bytes → Option Fault
 entry_fault place test rest =
-    refuse (nat_lt (length rest) 7) place 3
+    refuse (nat_lt (length rest) head_length) place 3
     (refuse (has_no_kind rest) place 4
     (refuse (is_no_key_length (key_length_in rest) || nat_lt max_value_bytes (value_length_in rest)) place 5
     (refuse (nat_lt (length rest) (width_in rest)) place 3
@@ -37,7 +33,7 @@ entry_fault place test rest =
 unfoldable pub entries_fault : ℕ → ℕ → (Bytes → Bool) → Bytes → Option Fault
 entries_fault zero place test rest = refuse (nat_lt 0 (length rest)) place 7 None
 entries_fault (suc more) place test rest =
-    or_fault (entry_fault place test rest) (entries_fault more (place + width_in rest) (is_above (key_in rest)) (drop (width_in rest) rest))
+    option_or (entry_fault place test rest) (entries_fault more (place + width_in rest) (is_above (key_in rest)) (drop (width_in rest) rest))
 
 unfoldable pub entries_in : ℕ → Bytes → List Entry
 entries_in zero rest = []
@@ -74,7 +70,7 @@ tail_fault bytes = option_map (λ k. fault (used_in bytes + k) 8) (position (λ 
 -- the first rule that the bytes break, in the order of the rules, and where
 unfoldable pub block_fault : Bytes → Option Fault
 block_fault bytes =
-    or_fault (header_fault bytes) (or_fault (entries_fault (count_in bytes) 8 is_any (entries_part bytes)) (tail_fault bytes))
+    option_or (header_fault bytes) (option_or (entries_fault (count_in bytes) 8 is_any (entries_part bytes)) (tail_fault bytes))
 
 -- the entries of a block that breaks none
 unfoldable pub block_in : Bytes → List Entry

@@ -1,9 +1,10 @@
 -- What is read from the bytes of an index, and the first rule that they break.
 use Rattle.std.specs.Prelude.{ℕ, zero, suc, ◌+◌, nat_lt, ◌==◌, Bool, not, ◌||◌, List, [], ◌∷◌, length, take, drop, Option, None}
+use Rattle.std.specs.Option.{option_or}
 use Rattle.byteorder.specs.Endian.{little_number}
 use Rattle.map_model.specs.SortedMap.{Bytes}
-use Rattle.block_model.specs.BlockReading.{is_no_key_length}
-use Rattle.byte_fields.specs.Faults.{Fault, refuse, or_fault}
+use Rattle.key_base.specs.Limits.{is_no_key_length, max_block_pages}
+use Rattle.byte_fields.specs.Faults.{Fault, refuse}
 use Rattle.block_model.specs.Index.{Index, IndexRow, index_magic, row_pages}
 use Rattle.block_model.specs.Order.{is_above, is_from}
 
@@ -56,14 +57,14 @@ row_fault place test rest =
     refuse (nat_lt (length rest) 14 || nat_lt (length rest) (row_width_in rest)) (place + length rest) 1
     (refuse (is_no_key_length (last_length_in rest)) (place + 12) 4
     (refuse (not (test (last_in rest))) (place + 14) 5
-    (refuse (pages_in rest == 0 || nat_lt 17 (pages_in rest)) place 6
+    (refuse (pages_in rest == 0 || nat_lt max_block_pages (pages_in rest)) place 6
     None)))
 
 -- row by row; behind the last, 7: bytes are left
 unfoldable pub rows_fault : ℕ → ℕ → (Bytes → Bool) → Bytes → Option Fault
 rows_fault zero place test rest = refuse (nat_lt 0 (length rest)) place 7 None
 rows_fault (suc more) place test rest =
-    or_fault (row_fault place test rest) (rows_fault more (place + row_width_in rest) (is_above (last_in rest)) (drop (row_width_in rest) rest))
+    option_or (row_fault place test rest) (rows_fault more (place + row_width_in rest) (is_above (last_in rest)) (drop (row_width_in rest) rest))
 
 unfoldable pub rows_in : ℕ → Bytes → List IndexRow
 rows_in zero rest = []
@@ -81,6 +82,6 @@ pages_fault pages bytes = refuse (not (row_pages (index_in bytes).rows == pages)
 -- the first rule that the bytes break, in the order of the rules, and where; the table has so many pages of blocks
 unfoldable pub index_fault : ℕ → Bytes → Option Fault
 index_fault pages bytes =
-    or_fault (index_head_fault bytes)
-    (or_fault (rows_fault (rows_count_in bytes) (head_width_in bytes) (is_from (least_in bytes)) (drop (head_width_in bytes) bytes))
+    option_or (index_head_fault bytes)
+    (option_or (rows_fault (rows_count_in bytes) (head_width_in bytes) (is_from (least_in bytes)) (drop (head_width_in bytes) bytes))
     (pages_fault pages bytes))

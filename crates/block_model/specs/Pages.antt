@@ -1,12 +1,12 @@
 -- How the entries of a table are cut into blocks, and how many bytes and pages its blocks and its index take.
-use Rattle.std.specs.Prelude.{ℕ, ◌+◌, ◌/◌, nat_le, nat_lt, ◌&&◌, Bool, false, List, [], ◌∷◌, ◌++◌, length, fold, flat_map, sum_by, if◌then◌else◌}
+use Rattle.std.specs.Prelude.{ℕ, ◌+◌, ◌-◌, ◌/◌, nat_le, nat_lt, ◌&&◌, Bool, false, List, [], ◌∷◌, ◌++◌, length, fold, flat_map, sum_by, if◌then◌else◌}
 pub use Rattle.key_base.specs.Limits.{max_block_entries, page_bytes}
 use Rattle.map_model.specs.SortedMap.{Bytes}
 use Rattle.entry_model.specs.Entries.{Entry, body}
 
 -- so many bytes in whole pages, rounded up
 unfoldable pub pages_for : ℕ → ℕ
-pages_for bytes = (bytes + 4095) / page_bytes
+pages_for bytes = (bytes + (page_bytes - 1)) / page_bytes
 
 -- the bytes of a block that are used: its header of eight bytes and its entries
 unfoldable pub block_length : List Entry → ℕ

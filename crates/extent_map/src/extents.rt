@@ -1,4 +1,4 @@
-// The extents that are taken, in the order of their pages.
+//! The extents that are taken, in the order of their pages.
 ghost use Rattle.std.specs.Prelude.{◌≡◌, ◌<◌, ◌≤◌, ◌↔◌, [], ◌∷◌, length, nat_lt, Some, IfOk, IfErr, OnOk, OnErr, IsErr, IsTrue};
 ghost use Rattle.std.specs.List.{AllByRecursion, Contains};
 ghost use Rattle.std.specs.List.Sorted.{IsPartitionPoint, IsPermutation};

@@ -1,3 +1,4 @@
+pub use Rattle.key_base.specs.Limits
 pub mod Extents
 pub mod Gaps
 pub mod Laws

@@ -11,6 +11,7 @@ use Rattle.filter_api.specs.Ranges.{InRange}
 use Rattle.filter_api.specs.Spellings.{Spelling}
 use Rattle.filter_api.specs.declared.settings.Settings.{Settings}
 use Rattle.entry_model.specs.Entries.{Entry, filled}
+use Rattle.key_base.specs.Limits.{last_epoch}
 use Rattle.log_model.specs.Area.{area_size, start_of}
 use Rattle.log_model.proofs.Logs.{size_is}
 use Rattle.block_model.specs.Index.{index_row_of}
@@ -24,7 +25,7 @@ use Rattle.manifest_model.specs.Laws.{IsVersion}
 use Rattle.manifest_model.specs.Slots.{IsVersionOf}
 use Rattle.manifest_model.specs.Version.{Version}
 use Rattle.state_model.specs.Sound.{IsSound, IsSoundTable, MayRun}
-use Rattle.state_model.specs.State.{Job, State, last_epoch, written_by}
+use Rattle.state_model.specs.State.{Job, State, written_by}
 use Rattle.state_model.specs.Taken.{extent_of, taken}
 use Rattle.state_model.proofs.Places.{IsSmall, blocks_joined_small}
 use Rattle.table_model.specs.Images.{IsTableAt, IsTableOf}

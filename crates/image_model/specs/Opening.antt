@@ -126,12 +126,12 @@ NoStoreHasNoDamage =
 abbrev pub NoStoreHasNoState : Type 0
 NoStoreHasNoState = (spelling : Spelling) (s : State) (image : Image) → IsNoStore image → IsStateOf spelling s image → ⊥
 
--- A fault of the ranges is said of the manifest's body, 8 bytes behind the begin of the slot in use.
+-- A fault of the ranges is said of the body of the slot in use.
 abbrev pub RangesAreAtTheBody : Type 0
 RangesAreAtTheBody =
     (spelling : Spelling) (first_fault : Bytes → FilterFault) (slot other : ℕ) (v : Version) (image : Image) (f : Fault) → AreSlots slot other
     → IsCurrent slot other v image → AllByRecursion (IsOpened spelling (settings_of v) image) v.rows → ranges_fault (map (key_range_of image) v.rows) ≡ Some f
-    → FirstDamage spelling first_fault image (damage.Shape part.Manifest (slot + 8 + f.place) f.rule)
+    → FirstDamage spelling first_fault image (damage.Shape part.Manifest (body_place slot + f.place) f.rule)
 
 -- A fault of the log is said of the area that the version names by its first page.
 abbrev pub LogIsAtItsPage : Type 0

@@ -1,9 +1,10 @@
 -- The damage of a body, by the rules in their order.
 use Rattle.std.proofs.Common.{◌≡◌, ◌⊎◌, inl, inr, ◌≤◌, ℕ, take, drop, Bool, true, false, refl, sym, ap, ◌∙◌}
+use Rattle.std.specs.Option.{option_or}
 use Rattle.std.specs.Prelude.{Option, Some, None, ◌==◌, nat_lt, not, slice_index, ◌||◌, ◌&&◌}
 use Rattle.std.proofs.lemmas.Bool.{eq-eqb, eqb-true, ltb-false}
 use Rattle.byteorder.specs.Endian.{little_number}
-use Rattle.byte_fields.specs.Faults.{Fault, or_fault}
+use Rattle.byte_fields.specs.Faults.{Fault}
 use Rattle.byte_fields.proofs.FaultLemmas.{kept, not_false}
 use Rattle.map_model.specs.SortedMap.{Bytes}
 use Rattle.manifest_model.specs.Reading.{are_no_pages, body_damage, table_count_in, early_fault, is_no_log_page, kept_sum, later_fault, numbers_fault, seen_sum, sum_damage, version_in, zeros_fault}
@@ -53,7 +54,7 @@ numbers_kept bytes none =
 
 -- rules 4 to 10, as they are tried
 pub later_is : (bytes : Bytes) → later_fault bytes
-    ≡ or_fault (or_fault (numbers_fault bytes) (zeros_fault 32 (take 32 (drop 32 bytes)))) (rows_broken (little_number 4 (drop 16 bytes)) (table_count_in bytes) (drop 64 bytes))
+    ≡ option_or (option_or (numbers_fault bytes) (zeros_fault 32 (take 32 (drop 32 bytes)))) (rows_broken (little_number 4 (drop 16 bytes)) (table_count_in bytes) (drop 64 bytes))
 unfolding later_fault version_in
 later_is bytes = sym (or_assoc (numbers_fault bytes) (zeros_fault 32 (take 32 (drop 32 bytes))) (rows_broken (little_number 4 (drop 16 bytes)) (table_count_in bytes) (drop 64 bytes)))
 
@@ -78,10 +79,10 @@ unfolding body_damage sum_damage
 none_broken slot bytes none sum is = let test = eq-eqb (kept_sum bytes) (seen_sum bytes) sum in rw (none, test, is) refl
 
 -- rules 4 to 7 of the head are the first that are broken behind the sum
-pub early_first : (bytes : Bytes) (f : Fault) → or_fault (numbers_fault bytes) (zeros_fault 32 (take 32 (drop 32 bytes))) ≡ Some f → later_fault bytes ≡ Some f
-early_first bytes f is = later_is bytes ∙ ap (λ (o : Option Fault). or_fault o (rows_broken (little_number 4 (drop 16 bytes)) (table_count_in bytes) (drop 64 bytes))) is
+pub early_first : (bytes : Bytes) (f : Fault) → option_or (numbers_fault bytes) (zeros_fault 32 (take 32 (drop 32 bytes))) ≡ Some f → later_fault bytes ≡ Some f
+early_first bytes f is = later_is bytes ∙ ap (λ (o : Option Fault). option_or o (rows_broken (little_number 4 (drop 16 bytes)) (table_count_in bytes) (drop 64 bytes))) is
 
 -- and where they are kept, it is what the rows break
-pub rows_first : (bytes : Bytes) → or_fault (numbers_fault bytes) (zeros_fault 32 (take 32 (drop 32 bytes))) ≡ None
+pub rows_first : (bytes : Bytes) → option_or (numbers_fault bytes) (zeros_fault 32 (take 32 (drop 32 bytes))) ≡ None
     → later_fault bytes ≡ rows_broken (little_number 4 (drop 16 bytes)) (table_count_in bytes) (drop 64 bytes)
-rows_first bytes is = later_is bytes ∙ ap (λ (o : Option Fault). or_fault o (rows_broken (little_number 4 (drop 16 bytes)) (table_count_in bytes) (drop 64 bytes))) is
+rows_first bytes is = later_is bytes ∙ ap (λ (o : Option Fault). option_or o (rows_broken (little_number 4 (drop 16 bytes)) (table_count_in bytes) (drop 64 bytes))) is

@@ -1,14 +1,14 @@
 -- What stands behind the sum of a body is not looked at.
 use Rattle.std.proofs.Common.{◌≡◌, ◌<◌, ◌≤◌, ◌+◌, ◌-◌, ◌*◌, ℕ, zero, suc, List, [], ◌∷◌, take, drop, get_or, refl, ap, ap₂, ◌∙◌, arith}
+use Rattle.std.specs.Option.{option_or}
 use Rattle.std.specs.Prelude.{slice_index}
 use Rattle.std.proofs.lemmas.List.{drop-take, get_or-take, take-take}
 use Rattle.byteorder.specs.Endian.{little_from, little_number}
-use Rattle.byte_fields.specs.Faults.{or_fault}
 use Rattle.byte_fields.specs.Fields.{numbers_in, total_width}
 use Rattle.byte_fields.specs.Sums.{fnv_of}
 use Rattle.byte_fields.specs.declared.parts.Row.{Row}
 use Rattle.map_model.specs.SortedMap.{Bytes}
-use Rattle.manifest_model.specs.Reading.{body_damage, table_count_in, early_fault, front_length_in, kept_sum, later_fault, numbers_fault, of_version, table_row_in, row_of, row_zeros_fault, table_rows_in, seen_sum, sum_damage, version_in, zeros_fault}
+use Rattle.manifest_model.specs.Reading.{body_damage, table_count_in, early_fault, prefix_length_in, kept_sum, later_fault, numbers_fault, of_version, table_row_in, row_of, row_zeros_fault, table_rows_in, seen_sum, sum_damage, version_in, zeros_fault}
 use Rattle.manifest_model.specs.Version.{row_widths}
 
 -- ---- numbers
@@ -56,7 +56,7 @@ row_zeros_front (suc count) place n bytes le =
     let a = ap (zeros_fault (place + 1)) (part_front n 1 3 bytes (omega (arith, le))) in
     let b = ap (zeros_fault (place + 56)) (part_front n 56 8 bytes (omega (arith, le))) in
     let c = ap (row_zeros_fault count (place + 64)) (rest_of n 64 bytes (omega (arith, le))) ∙ row_zeros_front count (place + 64) (n - 64) (drop 64 bytes) (omega (arith, le)) in
-    ap₂ or_fault a (ap₂ or_fault b c)
+    ap₂ option_or a (ap₂ option_or b c)
 
 -- ---- the body
 
@@ -71,8 +71,8 @@ module _ (bytes : Bytes) (n : ℕ) (long : 64 ≤ n) where
       let b = number_at n 4 2 bytes (omega (arith, long)) in
       rw (a, b, count_front) refl
 
-  length_front : front_length_in (take n bytes) ≡ front_length_in bytes
-  unfolding front_length_in
+  length_front : prefix_length_in (take n bytes) ≡ prefix_length_in bytes
+  unfolding prefix_length_in
   length_front = ap (λ (c : ℕ). 64 + 64 * c) count_front
 
   byte_front : (k : ℕ) → k < n → slice_index (take n bytes) k ≡ slice_index bytes k
@@ -89,9 +89,9 @@ module _ (bytes : Bytes) (n : ℕ) (long : 64 ≤ n) where
       let f = number_at n 28 4 bytes (omega (arith, long)) in
       rw (a, b, c, d, e, f) refl
 
-module _ (bytes : Bytes) (n : ℕ) (long : front_length_in bytes + 8 ≤ n) where
+module _ (bytes : Bytes) (n : ℕ) (long : prefix_length_in bytes + 8 ≤ n) where
   past_head : 64 + 64 * table_count_in bytes + 8 ≤ n
-  unfolding front_length_in
+  unfolding prefix_length_in
   past_head = long
 
   is_long : 64 ≤ n
@@ -118,13 +118,13 @@ module _ (bytes : Bytes) (n : ℕ) (long : front_length_in bytes + 8 ≤ n) wher
       let zeros = ap (zeros_fault 32) (part_front n 32 32 bytes (omega (arith, is_long))) in
       let rows = ap (λ (c : ℕ). row_zeros_fault c 64 (drop 64 (take n bytes))) (count_front bytes n is_long)
       ∙ ap (row_zeros_fault (table_count_in bytes) 64) (rest_of n 64 bytes is_long) ∙ row_zeros_front (table_count_in bytes) 64 (n - 64) (drop 64 bytes) (omega (arith, past_head)) in
-      ap₂ or_fault (numbers_kept bytes n is_long) (ap₂ or_fault zeros (ap₂ or_fault rows (ap of_version version_kept)))
+      ap₂ option_or (numbers_kept bytes n is_long) (ap₂ option_or zeros (ap₂ option_or rows (ap of_version version_kept)))
 
   kept_kept : kept_sum (take n bytes) ≡ kept_sum bytes
-  kept_kept = ap (λ (k : ℕ). little_number 8 (drop k (take n bytes))) (length_front bytes n is_long) ∙ number_at n (front_length_in bytes) 8 bytes long
+  kept_kept = ap (λ (k : ℕ). little_number 8 (drop k (take n bytes))) (length_front bytes n is_long) ∙ number_at n (prefix_length_in bytes) 8 bytes long
 
   seen_kept : seen_sum (take n bytes) ≡ seen_sum bytes
-  seen_kept = ap (λ (k : ℕ). fnv_of (take k (take n bytes))) (length_front bytes n is_long) ∙ ap fnv_of (take-take (front_length_in bytes) n bytes (omega (arith, long)))
+  seen_kept = ap (λ (k : ℕ). fnv_of (take k (take n bytes))) (length_front bytes n is_long) ∙ ap fnv_of (take-take (prefix_length_in bytes) n bytes (omega (arith, long)))
 
   pub damage_front : (slot : ℕ) → body_damage slot (take n bytes) ≡ body_damage slot bytes
   unfolding body_damage sum_damage

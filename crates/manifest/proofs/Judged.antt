@@ -1,10 +1,11 @@
 -- Rows that were read and judged so far.
 use Rattle.std.proofs.Common.{◌≡◌, ◌+◌, ◌*◌, ℕ, suc, List, [], ◌∷◌, ◌++◌, length, drop, map, refl, sym, ap, ◌∙◌, subst}
+use Rattle.std.specs.Option.{option_or}
 use Rattle.std.specs.Prelude.{Option, Some, None, nat_lt, ◌||◌}
 use Rattle.std.specs.List.{list_any}
 use Rattle.std.specs.List.Sorted.{IsPermutation}
 use Rattle.std.proofs.lemmas.List.Sorted.{IsPermutation-refl}
-use Rattle.byte_fields.specs.Faults.{Fault, or_fault, refuse}
+use Rattle.byte_fields.specs.Faults.{Fault, refuse}
 use Rattle.byte_fields.specs.declared.parts.Row.{Row}
 use Rattle.map_model.specs.SortedMap.{Bytes}
 use Rattle.extent_map.specs.Taken.{Taken}
@@ -37,7 +38,7 @@ begun pages rest = record {
   device = refl;
 }
 
-neither : (a b : Option Fault) → or_fault a b ≡ None → (a ≡ None) × (b ≡ None)
+neither : (a b : Option Fault) → option_or a b ≡ None → (a ≡ None) × (b ≡ None)
 neither None b e = (refl, e)
 neither (Some f) b e = absurd cc
 
@@ -46,46 +47,46 @@ module _ (pages i : ℕ) (rest : Bytes) (rows : List Row) (level : ℕ) (zeros s
   place_is : 64 + 64 * length rows ≡ 64 + 64 * i
   place_is = ap (λ (n : ℕ). 64 + 64 * n) (ap length so_far.rows_are ∙ many i rest)
 
-  pub still_none : (row : Row) → or_fault shape (table_row_fault (64 + 64 * i) row) ≡ None → shape ≡ None
+  pub still_none : (row : Row) → option_or shape (table_row_fault (64 + 64 * i) row) ≡ None → shape ≡ None
   still_none row none = (neither shape (table_row_fault (64 + 64 * i) row) none).0
 
   pub one_more : (row : Row) (met : Option Fault) → row ≡ table_row_in (drop (64 * i) rest)
-      → (or_fault shape (table_row_fault (64 + 64 * i) row) ≡ None → met ≡ or_fault meeting (refuse (leaves pages row || list_any (meets_row row) (before_all [] rows)) (64 + 64 * i + 4) 10 None))
-      → (or_fault shape (table_row_fault (64 + 64 * i) row) ≡ None → met ≡ None → IsPermutation (map extent_of (row ∷ before_all [] rows)) now.extents) → now.pages ≡ pages
-      → Judged pages (suc i) rest (rows ++ row ∷ []) row.level (or_fault zeros (row_zeros (64 + 64 * i) (drop (64 * i) rest))) (or_fault shape (table_row_fault (64 + 64 * i) row))
-      (or_fault order (refuse (nat_lt row.level level) (64 + 64 * i) 9 None)) met now
+      → (option_or shape (table_row_fault (64 + 64 * i) row) ≡ None → met ≡ option_or meeting (refuse (leaves pages row || list_any (meets_row row) (before_all [] rows)) (64 + 64 * i + 4) 10 None))
+      → (option_or shape (table_row_fault (64 + 64 * i) row) ≡ None → met ≡ None → IsPermutation (map extent_of (row ∷ before_all [] rows)) now.extents) → now.pages ≡ pages
+      → Judged pages (suc i) rest (rows ++ row ∷ []) row.level (option_or zeros (row_zeros (64 + 64 * i) (drop (64 * i) rest))) (option_or shape (table_row_fault (64 + 64 * i) row))
+      (option_or order (refuse (nat_lt row.level level) (64 + 64 * i) 9 None)) met now
   one_more row met is meets_so takes_so device = record {
     rows_are = ap (λ (xs : List Row). xs ++ row ∷ []) so_far.rows_are ∙ ap (λ (x : Row). table_rows_in i rest ++ x ∷ []) is ∙ sym (rows_more i rest);
     level_is = sym (level_last 0 rows row);
-    zeros_are = ap (λ (z : Option Fault). or_fault z (row_zeros (64 + 64 * i) (drop (64 * i) rest))) so_far.zeros_are ∙ sym (zeros_more i 64 rest);
+    zeros_are = ap (λ (z : Option Fault). option_or z (row_zeros (64 + 64 * i) (drop (64 * i) rest))) so_far.zeros_are ∙ sym (zeros_more i 64 rest);
     shape_is =
-        ap (λ (z : Option Fault). or_fault z (table_row_fault (64 + 64 * i) row)) so_far.shape_is
-        ∙ ap (λ (n : ℕ). or_fault (table_rows_fault 64 rows) (table_row_fault n row)) (sym place_is) ∙ sym (shape_more 64 rows row);
+        ap (λ (z : Option Fault). option_or z (table_row_fault (64 + 64 * i) row)) so_far.shape_is
+        ∙ ap (λ (n : ℕ). option_or (table_rows_fault 64 rows) (table_row_fault n row)) (sym place_is) ∙ sym (shape_more 64 rows row);
     order_is =
-        ap (λ (z : Option Fault). or_fault z (refuse (nat_lt row.level level) (64 + 64 * i) 9 None)) so_far.order_is
-        ∙ ap (λ (l : ℕ). or_fault (levels_fault 64 0 rows) (refuse (nat_lt row.level l) (64 + 64 * i) 9 None)) so_far.level_is
-        ∙ ap (λ (n : ℕ). or_fault (levels_fault 64 0 rows) (refuse (nat_lt row.level (last_level 0 rows)) n 9 None)) (sym place_is) ∙ sym (levels_more 64 0 rows row);
+        ap (λ (z : Option Fault). option_or z (refuse (nat_lt row.level level) (64 + 64 * i) 9 None)) so_far.order_is
+        ∙ ap (λ (l : ℕ). option_or (levels_fault 64 0 rows) (refuse (nat_lt row.level l) (64 + 64 * i) 9 None)) so_far.level_is
+        ∙ ap (λ (n : ℕ). option_or (levels_fault 64 0 rows) (refuse (nat_lt row.level (last_level 0 rows)) n 9 None)) (sym place_is) ∙ sym (levels_more 64 0 rows row);
     meeting_is = λ none.
         let bad = leaves pages row || list_any (meets_row row) (before_all [] rows) in
-        meets_so none ∙ ap (λ (z : Option Fault). or_fault z (refuse bad (64 + 64 * i + 4) 10 None)) (so_far.meeting_is (still_none row none))
-        ∙ ap (λ (n : ℕ). or_fault (extents_fault pages 64 [] rows) (refuse bad (n + 4) 10 None)) (sym place_is) ∙ sym (extents_more pages 64 [] rows row);
+        meets_so none ∙ ap (λ (z : Option Fault). option_or z (refuse bad (64 + 64 * i + 4) 10 None)) (so_far.meeting_is (still_none row none))
+        ∙ ap (λ (n : ℕ). option_or (extents_fault pages 64 [] rows) (refuse bad (n + 4) 10 None)) (sym place_is) ∙ sym (extents_more pages 64 [] rows row);
     taken_are = λ none met_none. subst (λ (xs : List Row). IsPermutation (map extent_of xs) now.extents) (sym (last_before [] rows row)) (takes_so none met_none);
     device = device;
   }
 
   -- all of them: the first of the rules that they break
-  pub judged : or_fault zeros (or_fault shape (or_fault order meeting)) ≡ rows_broken pages i rest
+  pub judged : option_or zeros (option_or shape (option_or order meeting)) ≡ rows_broken pages i rest
   judged =
-      ap (λ (z : Option Fault). or_fault z (or_fault shape (or_fault order meeting))) so_far.zeros_are
-      ∙ ap (or_fault (row_zeros_fault i 64 rest)) (first_shape shape so_far.shape_is so_far.meeting_is)
-      ∙ ap (λ (xs : List Row). or_fault (row_zeros_fault i 64 rest) (or_fault (table_rows_fault 64 xs) (or_fault (levels_fault 64 0 xs) (extents_fault pages 64 [] xs)))) so_far.rows_are
+      ap (λ (z : Option Fault). option_or z (option_or shape (option_or order meeting))) so_far.zeros_are
+      ∙ ap (option_or (row_zeros_fault i 64 rest)) (first_shape shape so_far.shape_is so_far.meeting_is)
+      ∙ ap (λ (xs : List Row). option_or (row_zeros_fault i 64 rest) (option_or (table_rows_fault 64 xs) (option_or (levels_fault 64 0 xs) (extents_fault pages 64 [] xs)))) so_far.rows_are
     where
       first_shape : (s : Option Fault) → s ≡ table_rows_fault 64 rows → (s ≡ None → meeting ≡ extents_fault pages 64 [] rows)
-          → or_fault s (or_fault order meeting) ≡ or_fault (table_rows_fault 64 rows) (or_fault (levels_fault 64 0 rows) (extents_fault pages 64 [] rows))
+          → option_or s (option_or order meeting) ≡ option_or (table_rows_fault 64 rows) (option_or (levels_fault 64 0 rows) (extents_fault pages 64 [] rows))
       first_shape None is met =
-          ap (λ (z : Option Fault). or_fault z meeting) so_far.order_is ∙ ap (or_fault (levels_fault 64 0 rows)) (met refl)
-          ∙ ap (λ (z : Option Fault). or_fault z (or_fault (levels_fault 64 0 rows) (extents_fault pages 64 [] rows))) is
-      first_shape (Some f) is met = ap (λ (z : Option Fault). or_fault z (or_fault (levels_fault 64 0 rows) (extents_fault pages 64 [] rows))) is
+          ap (λ (z : Option Fault). option_or z meeting) so_far.order_is ∙ ap (option_or (levels_fault 64 0 rows)) (met refl)
+          ∙ ap (λ (z : Option Fault). option_or z (option_or (levels_fault 64 0 rows) (extents_fault pages 64 [] rows))) is
+      first_shape (Some f) is met = ap (λ (z : Option Fault). option_or z (option_or (levels_fault 64 0 rows) (extents_fault pages 64 [] rows))) is
 
 -- the same of what was computed so
 pub as_found : (pages i j : ℕ) (rest : Bytes) (rows rows2 : List Row) (level : ℕ) (zeros zeros2 shape shape2 order order2 meeting : Option Fault) (taken : Taken)

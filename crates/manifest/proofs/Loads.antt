@@ -15,16 +15,16 @@ use Rattle.disk_trait.specs.World.{World}
 use Rattle.disk_trait.proofs.Images.{window_size, window_split}
 use Rattle.map_model.specs.SortedMap.{Bytes}
 use Rattle.manifest_model.specs.Laws.{IsVersion}
-use Rattle.manifest_model.specs.Reading.{body_damage, table_count_in, early_fault, front_length_in, shape_at, version_in}
+use Rattle.manifest_model.specs.Reading.{body_damage, table_count_in, early_fault, prefix_length_in, shape_at, version_in}
 use Rattle.manifest_model.specs.Slots.{HoldsVersion, IsGate, IsNoStore, IsVersionOf, body_in, body_room, epochs_damage, slot_damage, slots_damage}
 use Rattle.manifest_model.specs.Tables.{epochs_fault}
 use Rattle.manifest_model.specs.Version.{Version, body_bytes, body_place, slot_a, slot_b}
-use Rattle.manifest_model.proofs.Held.{held_is_read}
+use Rattle.manifest_model.proofs.Held.{held_is_read, room_is}
 use Rattle.manifest_model.proofs.Versions.{in_use, no_damage, no_store, none_open, one_version}
 use Rattle.manifest_model.proofs.VersionsWritten.{body_written}
 use Rattle.manifest.specs.Causes.{HasSlotCause}
-use Rattle.manifest.specs.Loading.{AreGates, IsAlone, IsFree, IsHeld, IsLoadAnswer, IsLoaded, IsNoStoreAnswer, one_epoch}
-use Rattle.manifest.specs.Manifest.{Manifest, Stands, other_place, place_of}
+use Rattle.manifest.specs.Loading.{AreGates, IsAlone, IsFree, IsVersionAt, IsLoadAnswer, IsLoaded, IsNoStoreAnswer, one_epoch}
+use Rattle.manifest.specs.Manifest.{Manifest, StandsInSlot, other_place, place_of}
 use Rattle.manifest.specs.Reading.{IsBodyDamage, IsDamage, shape_of}
 use Rattle.manifest.specs.declared.fault.ManifestFault.{ManifestFault}
 use Rattle.manifest.specs.declared.fault.ManifestFault.TheVariants as fault
@@ -33,10 +33,6 @@ use Rattle.manifest.proofs.Fronts.{count_front, damage_front, first_front}
 use Rattle.manifest.proofs.Steps.{are_slots}
 
 -- ---- a body is the front of what stands behind its gate
-
-room_is : body_room ≡ 131064
-unfolding body_room
-room_is = refl
 
 front_taken : (slot n : ℕ) (image : Image) → n ≤ 131064 → take n (body_in slot image) ≡ window image (body_place slot) n
 front_taken slot n image le =
@@ -72,14 +68,14 @@ module _ (slot : ℕ) (image : Image) (head : Bytes) (is : head ≡ window image
     counted : table_count_in (body_in slot image) ≡ table_count_in head
     counted = sym (count_front (body_in slot image) 64 (omega arith)) ∙ ap table_count_in (sym head_taken)
 
-    long_enough : front_length_in (body_in slot image) + 8 ≤ n
-    unfolding front_length_in
+    long_enough : prefix_length_in (body_in slot image) + 8 ≤ n
+    unfolding prefix_length_in
     long_enough = omega (arith, counted)
 
     pub body_damage_is : body_damage slot body ≡ body_damage slot (body_in slot image)
     body_damage_is = ap (body_damage slot) taken ∙ damage_front (body_in slot image) n long_enough slot
 
-    pub shown : IsVersion (version_in body) → body_bytes (version_in body) ≡ body → IsHeld slot (version_in body) image
+    pub shown : IsVersion (version_in body) → body_bytes (version_in body) ≡ body → IsVersionAt slot (version_in body) image
     shown sound spelled = record {
       sound = sound;
       body = ap (window image (body_place slot)) (ap length spelled ∙ size) ∙ sym body_is ∙ sym spelled;
@@ -88,7 +84,7 @@ module _ (slot : ℕ) (image : Image) (head : Bytes) (is : head ≡ window image
 -- what keeps the rules is a version, and is spelled so
 pub is_written : (slot : ℕ) (body : Bytes) → IsBytes body → length body ≡ 72 + 64 * table_count_in body → body_damage slot body ≡ None
     → IsVersion (version_in body) × (body_bytes (version_in body) ≡ body)
-unfolding front_length_in
+unfolding prefix_length_in
 is_written slot body bytes size none =
     let front : 64 + 64 * table_count_in body + 8 ≡ length body = omega (arith, size) in
     let so = body_written slot body bytes (omega (arith, front)) none in
@@ -154,20 +150,20 @@ none_is_open true b image is_a is_b gates = absurd cc
 
 -- ---- the slots
 
-holds : (slot : ℕ) (v : Version) (image : Image) → image slot ≡ 1 → IsHeld slot v image → HoldsVersion slot v image
+holds : (slot : ℕ) (v : Version) (image : Image) → image slot ≡ 1 → IsVersionAt slot v image → HoldsVersion slot v image
 holds slot v image opened held = record { is_open = opened; sound = held.sound; body = held.body }
 
 -- one open slot
-pub one_open : (slot : ℕ) (v : Version) (image : Image) → slot ≤ 1 → image (place_of slot) ≡ 1 → image (other_place slot) ≢ 1 → IsHeld (place_of slot) v image
-    → Stands slot false v image
+pub one_open : (slot : ℕ) (v : Version) (image : Image) → slot ≤ 1 → image (place_of slot) ≡ 1 → image (other_place slot) ≢ 1 → IsVersionAt (place_of slot) v image
+    → StandsInSlot slot false v image
 one_open slot v image le opened closed held = record {
   current = record { here = holds (place_of slot) v image opened held; there = inl closed };
   gate = closed;
 }
 
 -- of two the one of the greater epoch
-pub newer_open : (slot : ℕ) (v older : Version) (image : Image) → slot ≤ 1 → image (place_of slot) ≡ 1 → image (other_place slot) ≡ 1 → IsHeld (place_of slot) v image
-    → IsHeld (other_place slot) older image → older.epoch < v.epoch → Stands slot true v image
+pub newer_open : (slot : ℕ) (v older : Version) (image : Image) → slot ≤ 1 → image (place_of slot) ≡ 1 → image (other_place slot) ≡ 1 → IsVersionAt (place_of slot) v image
+    → IsVersionAt (other_place slot) older image → older.epoch < v.epoch → StandsInSlot slot true v image
 newer_open slot v older image le opened other held old less = record {
   current = record { here = holds (place_of slot) v image opened held; there = inr (older, holds (other_place slot) older image other old, less) };
   gate = other;
@@ -191,7 +187,7 @@ b_damaged image d none opened found =
 pub a_closed : (image : Image) → image slot_a ≢ 1 → slot_damage slot_a image ≡ None
 a_closed image closed = closed_damage slot_a image closed
 
-pub held_sound : (slot : ℕ) (v : Version) (image : Image) → image slot ≡ 1 → IsHeld slot v image → slot_damage slot image ≡ None
+pub held_sound : (slot : ℕ) (v : Version) (image : Image) → image slot ≡ 1 → IsVersionAt slot v image → slot_damage slot image ≡ None
 held_sound slot v image opened held = open_damage slot image opened ∙ (held_is_read slot v image (holds slot v image opened held)).0
 
 pub a_answer : (image : Image) (found : ManifestFault) → image slot_a ≡ 1 → IsDamage (body_damage slot_a (body_in slot_a image)) found → IsLoadAnswer image found
@@ -212,7 +208,7 @@ b_answer image fault.Epoch none opened is = is
 b_answer image (fault.Damaged d) none opened is = b_damaged image d none opened is
 
 -- two sound slots of one epoch
-pub both_of_one : (a b : Version) (image : Image) → image slot_a ≡ 1 → image slot_b ≡ 1 → IsHeld slot_a a image → IsHeld slot_b b image → a.epoch ≡ b.epoch
+pub both_of_one : (a b : Version) (image : Image) → image slot_a ≡ 1 → image slot_b ≡ 1 → IsVersionAt slot_a a image → IsVersionAt slot_b b image → a.epoch ≡ b.epoch
     → slots_damage image ≡ Some one_epoch
 both_of_one a b image a_open b_open in_a in_b same =
     let va = (held_is_read slot_a a image (holds slot_a a image a_open in_a)).1 in
@@ -301,14 +297,14 @@ version_has P Q w slot open_is (Err f) is q gives = tt
 
 -- a slot that is open alone
 pub alone_answer : (slot : ℕ) (image : Image) (result : Result Manifest ManifestFault) → slot ≤ 1 → IsAlone slot image
-    → IfOk result (λ found. IsHeld (place_of slot) found.version image) → IfOk result (λ found. (found.slot ≡ slot) × (found.other_open ≡ false))
+    → IfOk result (λ found. IsVersionAt (place_of slot) found.version image) → IfOk result (λ found. (found.slot ≡ slot) × (found.other_open ≡ false))
     → IfErr result (IsDamage (body_damage (place_of slot) (body_in (place_of slot) image)))
     → MatchResult result (IsLoaded image) (IsLoadAnswer image)
 alone_answer slot image (Ok found) le alone held place damage =
     let stands = one_open slot found.version image le alone.opened alone.closed held in
     record {
       slot = subst (λ (n : ℕ). n ≤ 1) (sym place.0) le;
-      stands = subst (λ (n : ℕ). Stands n found.other_open found.version image) (sym place.0) (subst (λ (b : Bool). Stands slot b found.version image) (sym place.1) stands);
+      stands = subst (λ (n : ℕ). StandsInSlot n found.other_open found.version image) (sym place.0) (subst (λ (b : Bool). StandsInSlot slot b found.version image) (sym place.1) stands);
     }
 alone_answer zero image (Err f) le alone held place damage = a_answer image f alone.opened damage
 alone_answer (suc zero) image (Err f) le alone held place damage =
@@ -321,7 +317,7 @@ err_answer image (Ok v) f is answer = absurd is
 err_answer image (Err e) f is answer = subst (IsLoadAnswer image) (sym is) answer
 
 pub both_answer : (image : Image) (a b : Manifest) (result : Result Manifest ManifestFault) → AreGates true true image → (a.slot ≡ 0) × (a.other_open ≡ true)
-    → (b.slot ≡ 1) × (b.other_open ≡ true) → IsHeld slot_a a.version image → IsHeld slot_b b.version image
+    → (b.slot ≡ 1) × (b.other_open ≡ true) → IsVersionAt slot_a a.version image → IsVersionAt slot_b b.version image
     → IfOk result (λ v. ((v ≡ a) × (b.version.epoch < a.version.epoch)) ⊎ ((v ≡ b) × (a.version.epoch < b.version.epoch)))
     → OnErr result (a.version.epoch ≡ b.version.epoch) → IfErr result (λ f. f ≡ fault.Damaged one_epoch) → MatchResult result (IsLoaded image) (IsLoadAnswer image)
 both_answer image a b (Err f) gates at_a at_b in_a in_b version same damage =
@@ -337,8 +333,8 @@ both_answer image a b (Ok v) gates at_a at_b in_a in_b version same damage =
           subst (IsLoaded image) (sym second.0) (loaded_at 1 b at_b (omega arith) stands)
     ]
   where
-    loaded_at : (slot : ℕ) (m : Manifest) → (m.slot ≡ slot) × (m.other_open ≡ true) → slot ≤ 1 → Stands slot true m.version image → IsLoaded image m
+    loaded_at : (slot : ℕ) (m : Manifest) → (m.slot ≡ slot) × (m.other_open ≡ true) → slot ≤ 1 → StandsInSlot slot true m.version image → IsLoaded image m
     loaded_at slot m at le stands = record {
       slot = subst (λ (n : ℕ). n ≤ 1) (sym at.0) le;
-      stands = subst (λ (n : ℕ). Stands n m.other_open m.version image) (sym at.0) (subst (λ (t : Bool). Stands slot t m.version image) (sym at.1) stands);
+      stands = subst (λ (n : ℕ). StandsInSlot n m.other_open m.version image) (sym at.0) (subst (λ (t : Bool). StandsInSlot slot t m.version image) (sym at.1) stands);
     }

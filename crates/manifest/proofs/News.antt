@@ -7,7 +7,7 @@ use Rattle.disk_trait.specs.World.{IsDurable, Leads, Meanwhile, Moves, Now, Worl
 use Rattle.disk_trait.proofs.Moments.{in_call, meanwhile_weaker, now_at}
 use Rattle.disk_trait.proofs.Images.{overwritten_at, whole, window_kept, window_overwritten}
 use Rattle.map_model.specs.SortedMap.{Bytes}
-use Rattle.manifest_model.specs.Installs.{Turns}
+use Rattle.manifest_model.specs.Installs.{WriteTurns}
 use Rattle.manifest_model.specs.Laws.{IsVersion}
 use Rattle.manifest_model.specs.Slots.{IsNoStore, IsVersionOf}
 use Rattle.manifest_model.specs.Version.{Version, body_bytes}
@@ -29,7 +29,7 @@ module _ (v : Version) (is : IsVersion v) where
     body = subst (λ (h : Image). Shows 8 (body_bytes v) h) (sym done) (window_overwritten f 8 (body_bytes v));
   }
 
-  pub prepares : Turns IsNoStore (IsNewOrNone v) (IsPrepared v) 8 (body_bytes v)
+  pub prepares : WriteTurns IsNoStore (IsNewOrNone v) (IsPrepared v) 8 (body_bytes v)
   prepares = record { first = λ f none. inl none; torn = λ f g none torn. inl (still_none f g none torn); done = prepared }
 
   is_new : (f g : Image) → IsPrepared v f → Torn 0 1 f g → g 0 ≡ 1 → IsNew v g
@@ -50,7 +50,7 @@ module _ (v : Version) (is : IsVersion v) where
   opened : (f g : Image) → IsPrepared v f → g ≡ overwritten f 0 (1 ∷ []) → IsNew v g
   opened f g p done = is_new f g p (whole f g 0 (1 ∷ []) done) (ap (λ (h : Image). h 0) done ∙ overwritten_at f 0 (1 ∷ []) 0 0 (omega arith) (omega arith))
 
-  pub opens_first : Turns (IsPrepared v) (IsNewOrNone v) (IsNew v) 0 (1 ∷ [])
+  pub opens_first : WriteTurns (IsPrepared v) (IsNewOrNone v) (IsNew v) 0 (1 ∷ [])
   opens_first = record { first = λ f p. inl p.closed; torn = opening; done = opened }
 
   -- ---- over the moments of a disk
@@ -60,14 +60,14 @@ module _ (v : Version) (is : IsVersion v) where
         → Leads IsNoStore (IsNewOrNone v) (IsPrepared v) result a b
     prepares_at at here body same moves written =
         turns_leads IsNoStore (IsNewOrNone v) (IsPrepared v) at body result a b
-        (subst (λ (n : ℕ). Turns IsNoStore (IsNewOrNone v) (IsPrepared v) n body) (sym here)
-        (subst (λ (bytes : Bytes). Turns IsNoStore (IsNewOrNone v) (IsPrepared v) 8 bytes) (sym same) prepares)) current moves written durable
+        (subst (λ (n : ℕ). WriteTurns IsNoStore (IsNewOrNone v) (IsPrepared v) n body) (sym here)
+        (subst (λ (bytes : Bytes). WriteTurns IsNoStore (IsNewOrNone v) (IsPrepared v) 8 bytes) (sym same) prepares)) current moves written durable
 
     pub opens_at : (at : ℕ) → at ≡ 0 → WriteMoves at 1 a b → OnOk result (b.seen.held ≡ overwritten a.seen.held at (1 ∷ []))
         → Leads (IsPrepared v) (IsNewOrNone v) (IsNew v) result a b
     opens_at at here moves written =
         turns_leads (IsPrepared v) (IsNewOrNone v) (IsNew v) at (1 ∷ []) result a b
-        (subst (λ (n : ℕ). Turns (IsPrepared v) (IsNewOrNone v) (IsNew v) n (1 ∷ [])) (sym here) opens_first) current moves written durable
+        (subst (λ (n : ℕ). WriteTurns (IsPrepared v) (IsNewOrNone v) (IsNew v) n (1 ∷ [])) (sym here) opens_first) current moves written durable
 
   -- a look at the gates writes nothing
   none_kept : (f g : Image) → IsNoStore f → Torn 0 0 f g → IsNoStore g

@@ -1,26 +1,27 @@
 -- Rules over rows, with one row more.
 use Rattle.std.proofs.Common.{◌≡◌, ◌<◌, ◌+◌, ◌-◌, ◌*◌, ℕ, zero, suc, List, [], ◌∷◌, ◌++◌, length, take, drop, Bool, true, false, refl, sym, ap, ap₂, ◌∙◌, arith}
+use Rattle.std.specs.Option.{option_or}
 use Rattle.std.specs.Prelude.{Option, Some, None, nat_lt, ◌||◌, ◌==◌}
 use Rattle.std.specs.List.{list_any}
 use Rattle.std.proofs.lemmas.List.{drop-drop, take_rest}
 use Rattle.std.proofs.lemmas.Bool.{eqb-false}
 use Rattle.byte_fields.proofs.FaultLemmas.{kept}
-use Rattle.byte_fields.specs.Faults.{Fault, or_fault, refuse}
+use Rattle.byte_fields.specs.Faults.{Fault, refuse}
 use Rattle.byte_fields.specs.declared.parts.Row.{Row}
 use Rattle.map_model.specs.SortedMap.{Bytes}
 use Rattle.manifest_model.specs.Reading.{extents_fault, leaves, levels_fault, meets_row, table_row_fault, table_row_in, row_zeros_fault, table_rows_fault, table_rows_in, zeros_fault}
 
 -- ---- the first of faults
 
-pub or_none : (a : Option Fault) → or_fault a None ≡ a
+pub or_none : (a : Option Fault) → option_or a None ≡ a
 or_none None = refl
 or_none (Some f) = refl
 
-pub or_assoc : (a b c : Option Fault) → or_fault (or_fault a b) c ≡ or_fault a (or_fault b c)
+pub or_assoc : (a b c : Option Fault) → option_or (option_or a b) c ≡ option_or a (option_or b c)
 or_assoc None b c = refl
 or_assoc (Some f) b c = refl
 
-refused_then : (bad : Bool) (place rule : ℕ) (later more : Option Fault) → or_fault (refuse bad place rule later) more ≡ refuse bad place rule (or_fault later more)
+refused_then : (bad : Bool) (place rule : ℕ) (later more : Option Fault) → option_or (refuse bad place rule later) more ≡ refuse bad place rule (option_or later more)
 refused_then true place rule later more = refl
 refused_then false place rule later more = refl
 
@@ -45,13 +46,13 @@ rows_more (suc i) rest = ap (λ (l : List Row). table_row_in rest ∷ l) (rows_m
 
 -- rule 7 of one row
 abbrev pub row_zeros : ℕ → Bytes → Option Fault
-row_zeros place row = or_fault (zeros_fault (place + 1) (take 3 (drop 1 row))) (zeros_fault (place + 56) (take 8 (drop 56 row)))
+row_zeros place row = option_or (zeros_fault (place + 1) (take 3 (drop 1 row))) (zeros_fault (place + 56) (take 8 (drop 56 row)))
 
-pub zeros_more : (i place : ℕ) (rest : Bytes) → row_zeros_fault (suc i) place rest ≡ or_fault (row_zeros_fault i place rest) (row_zeros (place + 64 * i) (drop (64 * i) rest))
+pub zeros_more : (i place : ℕ) (rest : Bytes) → row_zeros_fault (suc i) place rest ≡ option_or (row_zeros_fault i place rest) (row_zeros (place + 64 * i) (drop (64 * i) rest))
 unfolding row_zeros_fault
 zeros_more zero place rest =
     let e : place + 64 * 0 ≡ place = omega arith in
-    ap (or_fault (zeros_fault (place + 1) (take 3 (drop 1 rest)))) (or_none (zeros_fault (place + 56) (take 8 (drop 56 rest)))) ∙ ap (λ (n : ℕ). row_zeros n rest) (sym e)
+    ap (option_or (zeros_fault (place + 1) (take 3 (drop 1 rest)))) (or_none (zeros_fault (place + 56) (take 8 (drop 56 rest)))) ∙ ap (λ (n : ℕ). row_zeros n rest) (sym e)
 zeros_more (suc i) place rest =
     let a = zeros_fault (place + 1) (take 3 (drop 1 rest)) in
     let b = zeros_fault (place + 56) (take 8 (drop 56 rest)) in
@@ -59,15 +60,15 @@ zeros_more (suc i) place rest =
     let last : row_zeros (place + 64 + 64 * i) (drop (64 * i) (drop 64 rest)) ≡ row_zeros (place + 64 * suc i) (drop (64 * suc i) rest) = ap₂ row_zeros at (rest_of i rest) in
     let z = row_zeros_fault i (place + 64) (drop 64 rest) in
     let x = row_zeros (place + 64 * suc i) (drop (64 * suc i) rest) in
-    ap (λ (l : Option Fault). or_fault a (or_fault b l)) (zeros_more i (place + 64) (drop 64 rest) ∙ ap (or_fault z) last)
-    ∙ ap (or_fault a) (sym (or_assoc b z x)) ∙ sym (or_assoc a (or_fault b z) x)
+    ap (λ (l : Option Fault). option_or a (option_or b l)) (zeros_more i (place + 64) (drop 64 rest) ∙ ap (option_or z) last)
+    ∙ ap (option_or a) (sym (or_assoc b z x)) ∙ sym (or_assoc a (option_or b z) x)
 
-pub shape_more : (place : ℕ) (rows : List Row) (row : Row) → table_rows_fault place (rows ++ row ∷ []) ≡ or_fault (table_rows_fault place rows) (table_row_fault (place + 64 * length rows) row)
+pub shape_more : (place : ℕ) (rows : List Row) (row : Row) → table_rows_fault place (rows ++ row ∷ []) ≡ option_or (table_rows_fault place rows) (table_row_fault (place + 64 * length rows) row)
 unfolding table_rows_fault
 shape_more place [] row = let e : place + 64 * 0 ≡ place = omega arith in or_none (table_row_fault place row) ∙ ap (λ (n : ℕ). table_row_fault n row) (sym e)
 shape_more place (x ∷ rows) row =
     let at : place + 64 + 64 * length rows ≡ place + 64 * suc (length rows) = omega arith in
-    ap (or_fault (table_row_fault place x)) (shape_more (place + 64) rows row ∙ ap (λ (n : ℕ). or_fault (table_rows_fault (place + 64) rows) (table_row_fault n row)) at)
+    ap (option_or (table_row_fault place x)) (shape_more (place + 64) rows row ∙ ap (λ (n : ℕ). option_or (table_rows_fault (place + 64) rows) (table_row_fault n row)) at)
     ∙ sym (or_assoc (table_row_fault place x) (table_rows_fault (place + 64) rows) (table_row_fault (place + 64 * suc (length rows)) row))
 
 -- the level of the last row
@@ -80,13 +81,13 @@ level_last before [] row = refl
 level_last before (x ∷ rows) row = level_last x.level rows row
 
 pub levels_more : (place before : ℕ) (rows : List Row) (row : Row)
-    → levels_fault place before (rows ++ row ∷ []) ≡ or_fault (levels_fault place before rows) (refuse (nat_lt row.level (last_level before rows)) (place + 64 * length rows) 9 None)
+    → levels_fault place before (rows ++ row ∷ []) ≡ option_or (levels_fault place before rows) (refuse (nat_lt row.level (last_level before rows)) (place + 64 * length rows) 9 None)
 unfolding levels_fault
 levels_more place before [] row = let e : place + 64 * 0 ≡ place = omega arith in ap (λ (n : ℕ). refuse (nat_lt row.level before) n 9 None) (sym e)
 levels_more place before (x ∷ rows) row =
     let at : place + 64 + 64 * length rows ≡ place + 64 * suc (length rows) = omega arith in
     let bad = nat_lt row.level (last_level x.level rows) in
-    ap (refuse (nat_lt x.level before) place 9) (levels_more (place + 64) x.level rows row ∙ ap (λ (n : ℕ). or_fault (levels_fault (place + 64) x.level rows) (refuse bad n 9 None)) at)
+    ap (refuse (nat_lt x.level before) place 9) (levels_more (place + 64) x.level rows row ∙ ap (λ (n : ℕ). option_or (levels_fault (place + 64) x.level rows) (refuse bad n 9 None)) at)
     ∙ sym (refused_then (nat_lt x.level before) place 9 (levels_fault (place + 64) x.level rows) (refuse bad (place + 64 * suc (length rows)) 9 None))
 
 -- earlier rows, the last of them first
@@ -100,14 +101,14 @@ last_before earlier (x ∷ rows) row = last_before (x ∷ earlier) rows row
 
 pub extents_more : (pages place : ℕ) (earlier rows : List Row) (row : Row)
     → extents_fault pages place earlier (rows ++ row ∷ [])
-    ≡ or_fault (extents_fault pages place earlier rows) (refuse (leaves pages row || list_any (meets_row row) (before_all earlier rows)) (place + 64 * length rows + 4) 10 None)
+    ≡ option_or (extents_fault pages place earlier rows) (refuse (leaves pages row || list_any (meets_row row) (before_all earlier rows)) (place + 64 * length rows + 4) 10 None)
 unfolding extents_fault
 extents_more pages place earlier [] row = let e : place + 64 * 0 + 4 ≡ place + 4 = omega arith in ap (λ (n : ℕ). refuse (leaves pages row || list_any (meets_row row) earlier) n 10 None) (sym e)
 extents_more pages place earlier (x ∷ rows) row =
     let at : place + 64 + 64 * length rows + 4 ≡ place + 64 * suc (length rows) + 4 = omega arith in
     let bad = leaves pages row || list_any (meets_row row) (before_all (x ∷ earlier) rows) in
     let first = leaves pages x || list_any (meets_row x) earlier in
-    ap (refuse first (place + 4) 10) (extents_more pages (place + 64) (x ∷ earlier) rows row ∙ ap (λ (n : ℕ). or_fault (extents_fault pages (place + 64) (x ∷ earlier) rows) (refuse bad n 10 None)) at)
+    ap (refuse first (place + 4) 10) (extents_more pages (place + 64) (x ∷ earlier) rows row ∙ ap (λ (n : ℕ). option_or (extents_fault pages (place + 64) (x ∷ earlier) rows) (refuse bad n 10 None)) at)
     ∙ sym (refused_then first (place + 4) 10 (extents_fault pages (place + 64) (x ∷ earlier) rows) (refuse bad (place + 64 * suc (length rows) + 4) 10 None))
 
 -- where no row has a wrong shape, the last of them has pages

@@ -4,7 +4,7 @@ use Rattle.disk_trait.specs.World.{Moves, ReadMoves, Rose, World}
 use Rattle.disk_trait.specs.Fault.{IsFaultOf, IsWriteThroughFault}
 use Rattle.disk_trait.specs.declared.fault.DiskFault.{DiskFault}
 use Rattle.disk_trait.specs.declared.fault.Op.TheVariants.{Read, Sync}
-use Rattle.manifest_model.specs.Version.{slot_a, slot_b}
+use Rattle.manifest_model.specs.Version.{body_place, slot_a, slot_b}
 use Rattle.manifest.specs.declared.fault.ManifestFault.{ManifestFault}
 use Rattle.manifest.specs.declared.fault.ManifestFault.TheVariants as fault
 
@@ -12,7 +12,7 @@ use Rattle.manifest.specs.declared.fault.ManifestFault.TheVariants as fault
 
 -- the fault of a write of the gate, of the body behind it, or of a sync
 abbrev pub IsSlotFault : ℕ → DiskFault → Type 0
-IsSlotFault slot cause = IsWriteThroughFault slot cause ⊎ IsWriteThroughFault (slot + 8) cause
+IsSlotFault slot cause = IsWriteThroughFault slot cause ⊎ IsWriteThroughFault (body_place slot) cause
 
 -- memory is wanted before anything is written; the device fails in the slot, and only where the count of failed writes rose;
 -- nothing is read, so nothing that is read is refused
@@ -58,7 +58,7 @@ IsFormatAnswer has_open (fault.Damaged damage) = ⊥
 
 -- the head of a slot's body or its rest was not read
 abbrev pub IsBodyFault : ℕ → DiskFault → Type 0
-IsBodyFault slot cause = IsFaultOf Read (slot + 8) cause ⊎ IsFaultOf Read (slot + 72) cause
+IsBodyFault slot cause = IsFaultOf Read (body_place slot) cause ⊎ IsFaultOf Read (body_place slot + 64) cause
 
 -- the device fails at one of these, and only where the count of failed reads rose
 abbrev pub HasSlotCause : ℕ → World → World → ManifestFault → Type 0

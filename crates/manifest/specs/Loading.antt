@@ -6,7 +6,7 @@ use Rattle.disk_trait.specs.Image.{Image, Shows}
 use Rattle.manifest_model.specs.Laws.{IsVersion}
 use Rattle.manifest_model.specs.Slots.{IsGate, IsNoStore, slots_damage}
 use Rattle.manifest_model.specs.Version.{Version, body_bytes, body_place, slot_a, slot_b}
-use Rattle.manifest.specs.Manifest.{Manifest, Stands, other_place, place_of}
+use Rattle.manifest.specs.Manifest.{Manifest, StandsInSlot, other_place, place_of}
 use Rattle.manifest.specs.Reading.{shape_of}
 use Rattle.manifest.specs.declared.fault.ManifestFault.{ManifestFault}
 use Rattle.manifest.specs.declared.fault.ManifestFault.TheVariants as fault
@@ -14,7 +14,7 @@ use Rattle.manifest.specs.declared.fault.ManifestFault.TheVariants as fault
 -- the version that was found stands, in the slot and beside the gate that it says
 pub record IsLoaded (image : Image) (found : Manifest) : Type 0 where
   pub slot : found.slot ≤ 1
-  pub stands : Stands found.slot found.other_open found.version image
+  pub stands : StandsInSlot found.slot found.other_open found.version image
 
 -- no store exactly where no slot is open, and damage is the first of the slots; memory and the device are free
 abbrev pub IsLoadAnswer : Image → ManifestFault → Type 0
@@ -56,7 +56,7 @@ pub record IsAlone (slot : ℕ) (image : Image) : Type 0 where
   pub closed : IsGate false (image (other_place slot))
 
 -- the body of a sound version stands in a slot
-pub record IsHeld (slot : ℕ) (v : Version) (image : Image) : Type 0 where
+pub record IsVersionAt (slot : ℕ) (v : Version) (image : Image) : Type 0 where
   pub sound : IsVersion v
   pub body : Shows (body_place slot) (body_bytes v) image
 

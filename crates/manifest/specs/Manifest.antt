@@ -20,7 +20,7 @@ abbrev pub other_place : ℕ → ℕ
 other_place slot = slot_bytes * (1 - slot)
 
 -- the image has this version in this slot, and the gate of the other one is as it is said to be
-pub record Stands (slot : ℕ) (said : Bool) (v : Version) (image : Image) : Type 0 where
+pub record StandsInSlot (slot : ℕ) (said : Bool) (v : Version) (image : Image) : Type 0 where
   pub current : IsCurrent (place_of slot) (other_place slot) v image
   pub gate : IsGate said (image (other_place slot))
 

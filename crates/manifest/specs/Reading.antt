@@ -1,6 +1,7 @@
 -- What reading a body looks at, one step after the other.
 use Rattle.std.specs.Prelude.{◌≡◌, ◌+◌, ℕ, [], Option, Some}
-use Rattle.byte_fields.specs.Faults.{Fault, or_fault}
+use Rattle.std.specs.Option.{option_or}
+use Rattle.byte_fields.specs.Faults.{Fault}
 use Rattle.byte_fields.specs.declared.parts.Damage.{Damage}
 use Rattle.byte_fields.specs.declared.parts.Damage.TheVariants as damage
 use Rattle.byte_fields.specs.declared.parts.Part.TheVariants as part
@@ -13,9 +14,9 @@ use Rattle.manifest.specs.declared.fault.ManifestFault.TheVariants as fault
 -- the first of rules 7 to 10 that rows break, on a device of so many pages; the bytes begin with them
 abbrev pub rows_broken : ℕ → ℕ → Bytes → Option Fault
 rows_broken pages count rest =
-    or_fault (row_zeros_fault count 64 rest)
-    (or_fault (table_rows_fault 64 (table_rows_in count rest))
-    (or_fault (levels_fault 64 0 (table_rows_in count rest))
+    option_or (row_zeros_fault count 64 rest)
+    (option_or (table_rows_fault 64 (table_rows_in count rest))
+    (option_or (levels_fault 64 0 (table_rows_in count rest))
     (extents_fault pages 64 [] (table_rows_in count rest))))
 
 -- ---- what is wrong with the body of a slot

@@ -1,3 +1,4 @@
+//! Why the manifest of a store is not read or written.
 ghost use Rattle.std.specs.Prelude.{◌≡◌};
 ghost use Rattle.manifest.specs.declared.fault.ManifestFault.TheVariants.{Memory, Device};
 

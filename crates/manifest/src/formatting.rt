@@ -1,11 +1,11 @@
-// The first version of a store.
+//! The first version of a store.
 ghost use Rattle.std.specs.Prelude.{◌≡◌, ◌<◌, ◌≤◌, ◌+◌, length, true, false, IfOk, IfErr, OnOk, OnErr, IsTrue, MatchResult};
 ghost use Rattle.disk_trait.specs.World.{IsDurable, Leads, Moves, Rose, WriteMoves};
 ghost use Rattle.filter_api.specs.Ranges.{InRange};
 ghost use Rattle.key_base.specs.Limits.{max_device_pages, max_ratio, min_device_pages, slot_bytes};
 ghost use Rattle.manifest_model.specs.Laws.{IsVersion};
 ghost use Rattle.manifest_model.specs.NewVersion.{new_version};
-ghost use Rattle.manifest_model.specs.Slots.{IsNoStore};
+ghost use Rattle.manifest_model.specs.Slots.{IsNoStore, body_room};
 ghost use Rattle.manifest_model.specs.Version.{body_bytes};
 ghost use Rattle.manifest_model.specs.Version as model;
 ghost use Rattle.manifest.specs.Causes.{HasFormatCause, IsFormatAnswer, HasLookCause, IsSlotFault};
@@ -81,8 +81,9 @@ fn first_body(alloc: Global, settings: Settings, pages: u32) -> Result<Vec<u8>, 
 }
 
 // Writes a body into slot A and makes it last, and then opens the gate before it.
+#[tactic(auto, unfolding(manifest_model::specs::Slots::body_room))]
 fn write_first<D: Disk>(disk: &mut D, body: &[u8]) -> Result<(), DiskFault>
-    requires { length body.now ≤ 131064 }
+    requires { length body.now ≤ body_room }
     ensures crash { (v : model.Version) → IsTrue D.tells → IsVersion v → body.now ≡ body_bytes v
         → Leads IsNoStore (IsNewOrNone v) (IsNew v) result (D.world disk.old) (D.world disk.new) }
     ensures moves { WriteMoves 0 slot_bytes (D.world disk.old) (D.world disk.new) }

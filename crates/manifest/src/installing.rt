@@ -1,15 +1,15 @@
-// A new version in the place of the old one.
-ghost use Rattle.std.specs.Prelude.{◌≡◌, ◌≤◌, ◌+◌, ◌-◌, ◌^◌, ◌==◌, ◌↔◌, true, length, OnOk, OnErr, IfErr, IsTrue};
+//! A new version in the place of the old one.
+ghost use Rattle.std.specs.Prelude.{◌≡◌, ◌≤◌, ◌+◌, ◌-◌, ◌==◌, ◌↔◌, true, length, OnOk, OnErr, IfErr, IsTrue};
 ghost use Rattle.disk_trait.specs.World.{Leads, Now, ReadMoves, WriteMoves, Rose};
 ghost use Rattle.disk_trait.specs.Fault.{IsWriteThroughFault};
-ghost use Rattle.key_base.specs.Limits.{slot_bytes};
+ghost use Rattle.key_base.specs.Limits.{last_epoch, slot_bytes};
 ghost use Rattle.manifest_model.specs.Installs.{Install, IsClosed, IsInstalled, IsOldOrNew, IsWritten, MayInstall};
 ghost use Rattle.manifest_model.specs.Laws.{IsVersion};
-ghost use Rattle.manifest_model.specs.Slots.{IsVersionOf};
-ghost use Rattle.manifest_model.specs.Version.{body_bytes};
+ghost use Rattle.manifest_model.specs.Slots.{IsVersionOf, body_room};
+ghost use Rattle.manifest_model.specs.Version.{body_bytes, body_place};
 ghost use Rattle.manifest_model.specs.Version as model;
 ghost use Rattle.manifest.specs.Causes.{HasInstallCause, IsSlotFault};
-ghost use Rattle.manifest.specs.Manifest.{Stands, install_of, other_place, raised};
+ghost use Rattle.manifest.specs.Manifest.{StandsInSlot, install_of, other_place, raised};
 ghost use Rattle.manifest.specs.Steps.{MayClose};
 
 use crate::fault::ManifestFault;
@@ -17,6 +17,7 @@ use crate::slots::{B, BODY_AT, CLOSED, OPEN, slot_place};
 use crate::version::Version;
 use crate::writing::body_of;
 use disk_trait::{Disk, DiskFault, write_through};
+use key_base::LAST_EPOCH;
 use std::alloc::Global;
 
 /// Puts a version in the place of the one that the device holds, with its epoch raised. Its slot is the one in use, its epoch
@@ -27,20 +28,21 @@ use std::alloc::Global;
 /// gates open; outside the other slot nothing changes. Three writes, each with a sync, of which the first is left out where
 /// the other slot is closed; no read, and memory for one body, which is taken first. [`ManifestFault::Epoch`] exactly where
 /// no epoch is left, and it, as want of memory, comes before any write.
+#[tactic(auto, unfolding(key_base::specs::Limits::last_epoch))]
 pub fn install<D: Disk>(alloc: Global, disk: &mut D, version: &Version) -> Result<(), ManifestFault>
     requires slot { version.now.slot ≤ 1 }
     requires sound { IsVersion version.now.version }
     ensures crash { (from : model.Version) → IsTrue D.tells → from.epoch ≡ version.now.version.epoch
-        → Leads (Stands version.now.slot version.now.other_open from) (IsOldOrNew (install_of version.now from)) (IsInstalled (install_of version.now from))
+        → Leads (StandsInSlot version.now.slot version.now.other_open from) (IsOldOrNew (install_of version.now from)) (IsInstalled (install_of version.now from))
         result (D.world disk.old) (D.world disk.new) }
-    ensures lasting { (from : model.Version) → IsTrue D.tells → from.epoch ≡ version.now.version.epoch → Now (Stands version.now.slot version.now.other_open from) (D.world disk.old)
-        → OnOk result (Now (Stands (1 - version.now.slot) true (raised version.now.version)) (D.world disk.new)) }
-    ensures limit { (result ≡ Err ManifestFault.Epoch) ↔ (version.now.version.epoch ≡ 2 ^ 64 - 1) }
-    ensures unwritten { (version.now.version.epoch ≡ 2 ^ 64 - 1) → ReadMoves 0 (D.world disk.old) (D.world disk.new) }
+    ensures lasting { (from : model.Version) → IsTrue D.tells → from.epoch ≡ version.now.version.epoch → Now (StandsInSlot version.now.slot version.now.other_open from) (D.world disk.old)
+        → OnOk result (Now (StandsInSlot (1 - version.now.slot) true (raised version.now.version)) (D.world disk.new)) }
+    ensures limit { (result ≡ Err ManifestFault.Epoch) ↔ (version.now.version.epoch ≡ last_epoch) }
+    ensures unwritten { (version.now.version.epoch ≡ last_epoch) → ReadMoves 0 (D.world disk.old) (D.world disk.new) }
     ensures moves { WriteMoves (other_place version.now.slot) slot_bytes (D.world disk.old) (D.world disk.new) }
     ensures cause { IfErr result (HasInstallCause (other_place version.now.slot) (D.world disk.old) (D.world disk.new)) }
 {
-    if version.epoch == u64::MAX {
+    if version.epoch == LAST_EPOCH {
         return Err(ManifestFault::Epoch);
     }
     let body = body_of(alloc, version, version.epoch + 1)?;
@@ -50,6 +52,7 @@ pub fn install<D: Disk>(alloc: Global, disk: &mut D, version: &Version) -> Resul
 }
 
 // The three parts of an install.
+#[tactic(auto, unfolding(manifest_model::specs::Slots::body_room))]
 fn replace<D: Disk>(
     disk: &mut D,
     other: u64,
@@ -57,7 +60,7 @@ fn replace<D: Disk>(
     body: &[u8],
 ) -> Result<(), DiskFault>
     requires place { other ≤ slot_bytes }
-    requires fits { length body.now ≤ 131064 }
+    requires fits { length body.now ≤ body_room }
     ensures crash { (i : Install) → IsTrue D.tells → MayInstall i → i.other ≡ other → body.now ≡ body_bytes i.to
         → Leads (MayClose i other_open) (IsOldOrNew i) (IsInstalled i) result (D.world disk.old) (D.world disk.new) }
     ensures moves { WriteMoves other slot_bytes (D.world disk.old) (D.world disk.new) }
@@ -87,13 +90,14 @@ fn close_gate<D: Disk>(disk: &mut D, other: u64, is_open: bool) -> Result<(), Di
 }
 
 // Writes a body behind the closed gate. Each image meanwhile has the old version.
+#[tactic(auto, unfolding(manifest_model::specs::Slots::body_room))]
 pub(crate) fn put_body<D: Disk>(disk: &mut D, slot: u64, body: &[u8]) -> Result<(), DiskFault>
     requires place { slot ≤ slot_bytes }
-    requires fits { length body.now ≤ 131064 }
+    requires fits { length body.now ≤ body_room }
     ensures crash { (i : Install) → IsTrue D.tells → MayInstall i → i.other ≡ slot → body.now ≡ body_bytes i.to
         → Leads (IsClosed i) (IsVersionOf i.from) (IsWritten i) result (D.world disk.old) (D.world disk.new) }
-    ensures moves { WriteMoves (slot + 8) (length body.now) (D.world disk.old) (D.world disk.new) }
-    ensures fault { IfErr result (IsWriteThroughFault (slot + 8)) }
+    ensures moves { WriteMoves (body_place slot) (length body.now) (D.world disk.old) (D.world disk.new) }
+    ensures fault { IfErr result (IsWriteThroughFault (body_place slot)) }
     ensures cause { OnErr result (Rose (D.world disk.old).seen.write_faults (D.world disk.new).seen.write_faults) }
 {
     write_through(disk, slot + BODY_AT, body)

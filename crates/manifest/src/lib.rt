@@ -10,7 +10,8 @@
 //!
 //! An install takes memory for one body, writes it in one write, and reads nothing. A load makes at most six reads; rows are
 //! judged in one pass, and whether two tables meet is found by the order of their pages. What stands in the pages of tables,
-//! and the log, are not looked at here: whoever names them keeps them apart from the slots, and what is apart stays.
+//! and the log, are not looked at here: whoever names them keeps them apart from the slots, and what is apart stays. Do not
+//! use it for what changes with each entry: an install writes the rows of all tables. That is what a log is for.
 //!
 //! ```text
 //! format(alloc, &mut disk, settings, 512)?;
@@ -35,4 +36,6 @@ pub use fault::ManifestFault;
 pub use formatting::{format, is_store};
 pub use installing::install;
 pub use loading::load;
+pub use slots::BODY_AT;
 pub use version::Version;
+pub use writing::{HEAD_BYTES, ROW_BYTES};

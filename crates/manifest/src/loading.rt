@@ -1,4 +1,4 @@
-// The version that a device holds.
+//! The version that a device holds.
 ghost use Rattle.std.specs.Prelude.{◌≡◌, ◌≤◌, ◌<◌, ◌+◌, ◌-◌, ◌*◌, ◌⊎◌, length, take, drop, true, false, Some, IfOk, IfErr, OnOk, OnErr, IsTrue, MatchResult};
 ghost use Rattle.byte_fields.specs.declared.parts.Damage.{Damage as Found};
 ghost use Rattle.disk_trait.specs.Fault.{IsFaultOf};
@@ -6,10 +6,11 @@ ghost use Rattle.disk_trait.specs.Image.{window};
 ghost use Rattle.disk_trait.specs.World.{ReadMoves, Rose};
 ghost use Rattle.manifest_model.specs.Laws.{IsVersion};
 ghost use Rattle.manifest_model.specs.Reading.{body_damage};
-ghost use Rattle.manifest_model.specs.Slots.{IsNoStore, IsVersionOf, body_in, slots_damage};
+ghost use Rattle.manifest_model.specs.Slots.{IsNoStore, IsVersionOf, body_in, body_room, slots_damage};
+ghost use Rattle.manifest_model.specs.Version.{body_place, slot_b};
 ghost use Rattle.manifest_model.specs.Version as model;
 ghost use Rattle.manifest.specs.Causes.{HasLoadCause, HasSlotCause};
-ghost use Rattle.manifest.specs.Loading.{AreGates, IsAlone, IsFree, IsHeld, IsLoadAnswer, IsLoaded, IsNoStoreAnswer, one_epoch};
+ghost use Rattle.manifest.specs.Loading.{AreGates, IsAlone, IsFree, IsVersionAt, IsLoadAnswer, IsLoaded, IsNoStoreAnswer, one_epoch};
 ghost use Rattle.manifest.specs.Manifest.{place_of};
 ghost use Rattle.manifest.specs.Reading.{IsDamage};
 
@@ -118,7 +119,7 @@ fn read_slot<D: Disk>(
     other_open: bool,
 ) -> Result<Version, ManifestFault>
     requires { slot ≤ 1 }
-    ensures held { IsTrue D.tells → IfOk result (λ found. IsHeld (place_of slot) found.version (D.world disk.old).seen.held) }
+    ensures held { IsTrue D.tells → IfOk result (λ found. IsVersionAt (place_of slot) found.version (D.world disk.old).seen.held) }
     ensures place { IfOk result (λ found. (found.slot ≡ slot) × (found.other_open ≡ other_open)) }
     ensures sound { IfOk result (λ found. IsVersion found.version) }
     ensures damage { IsTrue D.tells → IfErr result (IsDamage (body_damage (place_of slot) (body_in (place_of slot) (D.world disk.old).seen.held))) }
@@ -138,11 +139,12 @@ fn read_slot<D: Disk>(
 }
 
 // Fills a body with its head, which was read already, and with the bytes that follow it on the device.
+#[tactic(auto, unfolding(manifest_model::specs::Slots::body_room))]
 fn fill<D: Disk>(disk: &mut D, at: u64, head: &[u8], body: &mut [u8]) -> Result<(), DiskFault>
-    requires place { at ≤ 131080 }
+    requires place { at ≤ body_place slot_b }
     requires head { length head.now ≡ 64 }
     requires long { 64 ≤ length body.old }
-    requires short { length body.old ≤ 131064 }
+    requires short { length body.old ≤ body_room }
     ensures size { length body.new ≡ length body.old }
     ensures head { take 64 body.new ≡ head.now }
     ensures rest { IsTrue D.tells → OnOk result (drop 64 body.new ≡ window (D.world disk.old).seen.held (at + 64) (length body.old - 64)) }

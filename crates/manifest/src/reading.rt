@@ -1,14 +1,15 @@
-// What the bytes of a body say.
+//! What the bytes of a body say.
 ghost use Rattle.std.specs.Prelude.{◌≡◌, ◌≤◌, ◌<◌, ◌+◌, ◌*◌, ◌^◌, ◌||◌, ◌∷◌, List, map, length, drop, None, Some, ◌≢◌, ◌⊎◌, IfOk, IfErr, IfSome, IfNone, OnOk};
+ghost use Rattle.std.specs.Option.{option_or};
 ghost use Rattle.std.specs.List.{list_any};
 ghost use Rattle.std.specs.List.Sorted.{IsPermutation};
-ghost use Rattle.byte_fields.specs.Faults.{or_fault, refuse};
+ghost use Rattle.byte_fields.specs.Faults.{refuse};
 ghost use Rattle.byte_fields.specs.declared.parts.Row as rows;
 ghost use Rattle.key_base.specs.Limits.{max_device_pages, max_tables, min_device_pages};
-ghost use Rattle.manifest_model.specs.Reading.{body_damage, table_count_in, early_fault, front_length_in, kept_sum, leaves, meets_row, numbers_fault, table_row_in, table_rows_in, seen_sum, version_in};
+ghost use Rattle.manifest_model.specs.Reading.{body_damage, table_count_in, early_fault, prefix_length_in, kept_sum, leaves, meets_row, numbers_fault, table_row_in, table_rows_in, seen_sum, version_in};
 ghost use Rattle.manifest_model.specs.Laws.{IsVersion};
 ghost use Rattle.manifest_model.specs.Rows.{extent_of};
-ghost use Rattle.manifest_model.specs.Version.{body_bytes};
+ghost use Rattle.manifest_model.specs.Version.{body_bytes, log_page_of};
 ghost use Rattle.manifest.specs.Manifest.{place_of};
 ghost use Rattle.manifest.specs.Reading.{IsBodyDamage, rows_broken, shape_of, sum_of};
 
@@ -96,7 +97,7 @@ fn met_with(
     requires few { pages ≤ max_device_pages }
     requires some { shape.now ≡ None → 0 < row.now.data_pages }
     ensures met { (earlier : List rows.Row) → shape.now ≡ None → (met ≡ None → IsPermutation (map extent_of earlier) taken.old.extents)
-        → IfOk result (λ found. found ≡ or_fault met (refuse (leaves pages row.now || list_any (meets_row row.now) earlier) (place + 4) 10 None)) }
+        → IfOk result (λ found. found ≡ option_or met (refuse (leaves pages row.now || list_any (meets_row row.now) earlier) (place + 4) 10 None)) }
     ensures taken { (earlier : List rows.Row) → shape.now ≡ None → (met ≡ None → IsPermutation (map extent_of earlier) taken.old.extents)
         → IfOk result (λ found. found ≡ None → IsPermutation (map extent_of (row.now ∷ earlier)) taken.new.extents) }
     ensures pages { taken.new.pages ≡ taken.old.pages }
@@ -120,7 +121,7 @@ pub(crate) fn shape(slot: u8, broken: Broken) -> ManifestFault
 }
 
 // The damage of a slot whose body has another sum than the one that is kept behind its rows.
-#[tactic(auto, unfolding(manifest_model::specs::Reading::front_length_in))]
+#[tactic(auto, unfolding(manifest_model::specs::Reading::prefix_length_in))]
 fn other_sum(slot: u8, body: &[u8]) -> Option<Damage>
     requires slot { slot ≤ 1 }
     requires long { length body.now ≡ 72 + 64 * table_count_in body.now }
@@ -144,8 +145,8 @@ fn other_sum(slot: u8, body: &[u8]) -> Option<Damage>
 
 // The log area that begins at a page.
 fn area_of(first_page: u32) -> u8
-    requires { (first_page ≡ 64) ⊎ (first_page ≡ 128) }
-    ensures { 64 * (result + 1) ≡ first_page }
+    requires { (first_page ≡ log_page_of 0) ⊎ (first_page ≡ log_page_of 1) }
+    ensures { log_page_of result ≡ first_page }
 {
     if first_page == LOG_PAGES { 0 } else { 1 }
 }

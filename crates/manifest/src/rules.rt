@@ -1,8 +1,9 @@
-// The rules of a body, each with the place at which it is broken.
+//! The rules of a body, each with the place at which it is broken.
 ghost use Rattle.std.specs.Prelude.{◌≡◌, ◌≤◌, ◌<◌, ◌+◌, ◌*◌, ◌^◌, ◌||◌, ◌==◌, not, nat_lt, position, length, take, drop, map, ◌∷◌, None, IfOk, List};
+ghost use Rattle.std.specs.Option.{option_or};
 ghost use Rattle.std.specs.List.{list_any};
 ghost use Rattle.std.specs.List.Sorted.{IsPermutation};
-ghost use Rattle.byte_fields.specs.Faults.{Fault, or_fault, refuse};
+ghost use Rattle.byte_fields.specs.Faults.{Fault, refuse};
 ghost use Rattle.byte_fields.specs.declared.parts.Row as rows;
 ghost use Rattle.key_base.specs.Limits.{max_device_pages};
 ghost use Rattle.manifest_model.specs.Reading.{early_fault, leaves, meets_row, numbers_fault, table_row_fault, zeros_fault};
@@ -37,7 +38,7 @@ impl Model for Broken {
 
 /// The first of two.
 pub(crate) fn first_of(first: Option<Broken>, second: Option<Broken>) -> Option<Broken>
-    ensures { result ≡ or_fault first second }
+    ensures { result ≡ option_or first second }
 {
     match first {
         Some(broken) => Some(broken),
@@ -118,7 +119,7 @@ fn first_other(bytes: &[u8]) -> Option<usize>
 pub(crate) fn row_zeros_rule(place: u32, row: &[u8]) -> Option<Broken>
     requires place { place ≤ 2 ^ 30 }
     requires long { 64 ≤ length row.now }
-    ensures { result ≡ or_fault (zeros_fault (place + 1) (take 3 (drop 1 row.now))) (zeros_fault (place + 56) (take 8 (drop 56 row.now))) }
+    ensures { result ≡ option_or (zeros_fault (place + 1) (take 3 (drop 1 row.now))) (zeros_fault (place + 56) (take 8 (drop 56 row.now))) }
 {
     first_of(
         zeros_rule(place + 1, &row[1..4]),

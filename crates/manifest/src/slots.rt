@@ -1,4 +1,4 @@
-// The two slots of a device.
+//! The two slots of a device.
 ghost use Rattle.std.specs.Prelude.{◌≡◌, ◌≤◌, ◌==◌, IfOk, IfErr, OnErr, IsTrue};
 ghost use Rattle.disk_trait.specs.Fault.{IsFaultOf};
 ghost use Rattle.disk_trait.specs.World.{ReadMoves, Rose};
@@ -17,8 +17,8 @@ pub(crate) const A: u8 = 0;
 
 pub(crate) const B: u8 = 1;
 
-/// Where a body begins in its slot.
-pub(crate) const BODY_AT: u64 = 8;
+/// How many bytes behind the first of its slot a body begins.
+pub const BODY_AT: u64 = 8;
 
 /// The first byte of a slot, which is its gate.
 pub(crate) fn slot_place(slot: u8) -> u64

@@ -1,5 +1,6 @@
-// What a store keeps of its manifest.
-ghost use Rattle.std.specs.Prelude.{◌≡◌, ◌≤◌, ◌<◌, ◌-◌, ◌^◌, true};
+//! What a store keeps of its manifest.
+ghost use Rattle.std.specs.Prelude.{◌≡◌, ◌≤◌, ◌<◌, ◌-◌, true};
+ghost use Rattle.key_base.specs.Limits.{last_epoch};
 ghost use Rattle.manifest.specs.Manifest.{raised};
 
 use byte_fields::Row;
@@ -26,8 +27,8 @@ pub struct Version {
 }
 
 impl Model for Version {
-    ghost use Rattle.std.specs.Prelude.{◌+◌, ◌*◌};
     ghost use Rattle.manifest.specs.Manifest.{Manifest};
+    ghost use Rattle.manifest_model.specs.Version.{log_page_of};
 
     ghost Value = { Manifest };
 
@@ -38,7 +39,7 @@ impl Model for Version {
         ratio = v.settings.ratio;
         pages = v.pages;
         epoch = v.epoch;
-        log_page = 64 * (v.log_area + 1);
+        log_page = log_page_of v.log_area;
         rows = v.rows.items;
       };
       slot = v.slot;
@@ -48,9 +49,10 @@ impl Model for Version {
 
 impl Version {
     /// What it is once it was installed: its epoch is raised, it stands in the other slot, and both gates read 1.
+    #[tactic(auto, unfolding(key_base::specs::Limits::last_epoch))]
     pub fn installed(self) -> Version
         requires slot { self.slot ≤ 1 }
-        requires epoch { self.version.epoch < 2 ^ 64 - 1 }
+        requires epoch { self.version.epoch < last_epoch }
         ensures { result ≡ record { version = raised self.version; slot = 1 - self.slot; other_open = true } }
     {
         Version {

@@ -1,7 +1,7 @@
-// The bytes of a version's body.
+//! The bytes of a version's body.
 ghost use Rattle.std.specs.Prelude.{◌≡◌, ◌≤◌, ◌++◌, length, OnOk, IfOk};
 ghost use Rattle.key_base.specs.Limits.{max_tables};
-ghost use Rattle.manifest_model.specs.Version.{body_bytes, front_bytes, head_bytes};
+ghost use Rattle.manifest_model.specs.Version.{body_bytes, prefix_bytes, head_bytes};
 
 use crate::version::Version;
 use byte_fields::{fnv1a, push_fields, push_number};
@@ -9,11 +9,13 @@ use key_base::LOG_PAGES;
 use manifest_model::push_row;
 use std::alloc::{AllocError, Global};
 
-/// The bytes of a body's head, of each row behind it, and of the sum behind these.
-pub(crate) const HEAD_BYTES: usize = 64;
+/// The bytes of a body's head.
+pub const HEAD_BYTES: usize = 64;
 
-pub(crate) const ROW_BYTES: usize = 64;
+/// The bytes of each row behind it.
+pub const ROW_BYTES: usize = 64;
 
+/// The bytes of the sum behind these.
 pub(crate) const SUM_BYTES: usize = 8;
 
 const HEAD_WIDTHS: [usize; 14] = [4, 2, 2, 8, 4, 1, 1, 2, 4, 4, 8, 8, 8, 8];
@@ -25,7 +27,7 @@ pub(crate) const MAGIC: u32 = 0x4D465253;
 pub(crate) const FORMAT: u16 = 1;
 
 /// The bytes of a version's body, with this epoch in the place of its own.
-#[tactic(auto, unfolding(manifest_model::specs::Version::front_bytes, manifest_model::specs::Version::body_bytes))]
+#[tactic(auto, unfolding(manifest_model::specs::Version::prefix_bytes, manifest_model::specs::Version::body_bytes))]
 pub(crate) fn body_of(alloc: Global, version: &Version, epoch: u64) -> Result<Vec<u8>, AllocError>
     requires { length version.now.version.rows ≤ max_tables }
     ensures { IfOk result (λ bytes. bytes.items ≡ body_bytes (record version.now.version { epoch = epoch })) }

@@ -6,10 +6,10 @@ use Rattle.disk_trait.specs.Image.{Image, Shows, window}
 use Rattle.disk_trait.proofs.Images.{window_size, window_split}
 use Rattle.map_model.specs.SortedMap.{Bytes}
 use Rattle.manifest_model.specs.Laws.{IsVersion}
-use Rattle.manifest_model.specs.Reading.{body_damage, table_count_in, front_length_in, version_in}
+use Rattle.manifest_model.specs.Reading.{body_damage, table_count_in, prefix_length_in, version_in}
 use Rattle.manifest_model.specs.SlotLaws.{HeldIsRead, ReadIsHeld}
 use Rattle.manifest_model.specs.Slots.{HoldsVersion, body_in, body_room}
-use Rattle.manifest_model.specs.Version.{Version, body_bytes, body_place, front_bytes, head_bytes, row_bytes}
+use Rattle.manifest_model.specs.Version.{Version, body_bytes, body_place, prefix_bytes, head_bytes, row_bytes}
 use Rattle.manifest_model.proofs.VersionsRead.{body_again, rows_long}
 use Rattle.manifest_model.proofs.VersionsWritten.{body_few, body_written}
 
@@ -17,15 +17,15 @@ head_long : (v : Version) → length (head_bytes v) ≡ 64
 unfolding head_bytes
 head_long v = refl
 
-front_long : (v : Version) → length (front_bytes v) ≡ 64 + 64 * length v.rows
-unfolding front_bytes
+front_long : (v : Version) → length (prefix_bytes v) ≡ 64 + 64 * length v.rows
+unfolding prefix_bytes
 front_long v = omega (arith, length-append (head_bytes v) (flat_map row_bytes v.rows), head_long v, rows_long v.rows)
 
 pub body_long : (v : Version) → length (body_bytes v) ≡ 72 + 64 * length v.rows
 unfolding body_bytes
-body_long v = let parts : length (body_bytes v) ≡ length (front_bytes v) + 8 = length-append (front_bytes v) _ in omega (arith, parts, front_long v)
+body_long v = let parts : length (body_bytes v) ≡ length (prefix_bytes v) + 8 = length-append (prefix_bytes v) _ in omega (arith, parts, front_long v)
 
-room_is : body_room ≡ 131064
+pub room_is : body_room ≡ 131064
 unfolding body_room
 room_is = refl
 
@@ -65,8 +65,8 @@ first_shown image at n room bytes fits are =
     let there : bytes ≡ window image at n = are ∙ room_taken image at n room fits in
     ap (window image at) (ap length there ∙ window_size image at n) ∙ sym there
 
-front_fits : (bytes : Bytes) → table_count_in bytes ≤ 1024 → front_length_in bytes + 8 ≤ 131064
-unfolding front_length_in
+front_fits : (bytes : Bytes) → table_count_in bytes ≤ 1024 → prefix_length_in bytes + 8 ≤ 131064
+unfolding prefix_length_in
 front_fits bytes few = omega (arith, few)
 
 pub read_is_held : ReadIsHeld
@@ -76,5 +76,5 @@ read_is_held slot image opened bytes none =
     record {
       is_open = opened;
       sound = so.0;
-      body = first_shown image (body_place slot) (front_length_in (body_in slot image) + 8) body_room (body_bytes (version_in (body_in slot image))) (omega (arith, fits, room_is)) so.1;
+      body = first_shown image (body_place slot) (prefix_length_in (body_in slot image) + 8) body_room (body_bytes (version_in (body_in slot image))) (omega (arith, fits, room_is)) so.1;
     }

@@ -6,7 +6,7 @@ use Rattle.disk_trait.specs.Image.{Image, Shows, Torn, overwritten}
 use Rattle.disk_trait.specs.World.{IsDurable, Leads, World, WriteMoves}
 use Rattle.disk_trait.proofs.Calls.{leads_then, through}
 use Rattle.disk_trait.proofs.Images.{overwritten_at, whole, window_kept, window_overwritten}
-use Rattle.manifest_model.specs.Installs.{BeginsClosed, BeginsOpen, ClosesTheGate, Install, InstalledIsInUse, IsClosed, IsInstalled, IsOldOrNew, IsOpenStill, IsWritten, MayInstall, OpensTheGate, Turns, WritesTheBody}
+use Rattle.manifest_model.specs.Installs.{BeginsClosed, BeginsOpen, ClosesTheGate, Install, InstalledIsInUse, IsClosed, IsInstalled, IsOldOrNew, IsOpenStill, IsWritten, MayInstall, OpensTheGate, WriteTurns, WritesTheBody}
 use Rattle.manifest_model.specs.SlotLaws.{IsInSlot}
 use Rattle.manifest_model.specs.Slots.{HoldsVersion, HoldsOlder, IsVersionOf}
 use Rattle.manifest_model.specs.Version.{Version, body_bytes, body_place}
@@ -54,7 +54,7 @@ module _ (i : Install) (may : MayInstall i) where
     closed = λ now. absurd (omega (arith, written_byte i.other 0 f g is, now));
   }
 
-  pub closes_gate : Turns (IsOpenStill i) (IsVersionOf i.from) (IsClosed i) i.other (0 ∷ [])
+  pub closes_gate : WriteTurns (IsOpenStill i) (IsVersionOf i.from) (IsClosed i) i.other (0 ∷ [])
   closes_gate = record { first = open_is_old; torn = closing; done = closed }
 
   -- ---- writing the body
@@ -74,7 +74,7 @@ module _ (i : Install) (may : MayInstall i) where
     body = subst (λ (h : Image). Shows (body_place i.other) (body_bytes i.to) h) (sym is) (window_overwritten f (body_place i.other) (body_bytes i.to));
   }
 
-  pub writes_body : Turns (IsClosed i) (IsVersionOf i.from) (IsWritten i) (body_place i.other) (body_bytes i.to)
+  pub writes_body : WriteTurns (IsClosed i) (IsVersionOf i.from) (IsWritten i) (body_place i.other) (body_bytes i.to)
   writes_body = record { first = closed_is_old; torn = λ f g p torn. closed_is_old g (still_closed f g p torn); done = written }
 
   -- ---- opening the gate
@@ -97,7 +97,7 @@ module _ (i : Install) (may : MayInstall i) where
   opened : (f g : Image) → IsWritten i f → g ≡ overwritten f i.other (1 ∷ []) → IsInstalled i g
   opened f g p is = installed f g p (whole f g i.other (1 ∷ []) is) (written_byte i.other 1 f g is)
 
-  pub opens_gate : Turns (IsWritten i) (IsOldOrNew i) (IsInstalled i) i.other (1 ∷ [])
+  pub opens_gate : WriteTurns (IsWritten i) (IsOldOrNew i) (IsInstalled i) i.other (1 ∷ [])
   opens_gate = record { first = λ f p. inl (closed_is_old f p.before); torn = opening; done = opened }
 
 pub begins_open : BeginsOpen
@@ -123,7 +123,7 @@ installed_in_use i image may p = record { here = p.here; there = inr (i.from, p.
 
 -- ---- over the moments of a disk: a write through to the end leads as its image facts say
 
-pub turns_leads : {T E : Type 0} (P Q R : Image → Type 0) (at : ℕ) (bytes : List ℕ) (result : Result T E) (a b : World) → Turns P Q R at bytes
+pub turns_leads : {T E : Type 0} (P Q R : Image → Type 0) (at : ℕ) (bytes : List ℕ) (result : Result T E) (a b : World) → WriteTurns P Q R at bytes
     → a.leaves a.moment a.seen.held → WriteMoves at (length bytes) a b → OnOk result (b.seen.held ≡ overwritten a.seen.held at bytes) → OnOk result (IsDurable b)
     → Leads P Q R result a b
 turns_leads P Q R at bytes result a b turns current moves written durable =

@@ -9,7 +9,7 @@ use Rattle.byte_fields.specs.Faults.{refuse}
 use Rattle.disk_trait.specs.Image.{Image}
 use Rattle.manifest_model.specs.Reading.{body_damage, shape_at, version_in}
 use Rattle.manifest_model.specs.SlotLaws.{GreaterEpochIsInUse, NoStoreHasNoVersion, OneVersion, VersionHasNoDamage, VersionIsFound}
-use Rattle.manifest_model.specs.Slots.{AreSlots, HoldsVersion, HoldsOlder, IsCurrent, IsNoStore, IsOpen, IsVersionOf, body_in, epochs_damage, slot_damage, slots_damage}
+use Rattle.manifest_model.specs.Slots.{AreSlots, HoldsVersion, HoldsOlder, IsCurrent, IsNoStore, IsOpenSlot, IsVersionOf, body_in, epochs_damage, slot_damage, slots_damage}
 use Rattle.manifest_model.specs.Tables.{epochs_fault}
 use Rattle.manifest_model.specs.Version.{Version, slot_a, slot_b}
 use Rattle.manifest_model.proofs.Held.{held_is_read, one_held, read_is_held}
@@ -52,7 +52,7 @@ none_unless : (test : Bool) (found : Option Damage) → (test ≡ true → found
 none_unless true found so = so refl
 none_unless false found so = refl
 
-slot_sound : (slot : ℕ) (image : Image) → (IsOpen slot image → body_damage slot (body_in slot image) ≡ None) → slot_damage slot image ≡ None
+slot_sound : (slot : ℕ) (image : Image) → (IsOpenSlot slot image → body_damage slot (body_in slot image) ≡ None) → slot_damage slot image ≡ None
 slot_sound slot image so = none_unless (image slot == 1) (body_damage slot (body_in slot image)) (λ opened. so (eqb-true (image slot) 1 opened))
 
 here_sound : (slot : ℕ) (v : Version) (image : Image) → HoldsVersion slot v image → slot_damage slot image ≡ None
@@ -81,7 +81,7 @@ epochs_none v w differ = elim (v.epoch == w.epoch) as (λ t. (v.epoch == w.epoch
 ] refl
 
 -- both slots are open only where the other one holds a lesser epoch
-epochs_differ : (slot other : ℕ) (v : Version) (image : Image) → IsCurrent slot other v image → IsOpen other image
+epochs_differ : (slot other : ℕ) (v : Version) (image : Image) → IsCurrent slot other v image → IsOpenSlot other image
     → (version_in (body_in slot image)).epoch ≡ (version_in (body_in other image)).epoch → ⊥
 epochs_differ slot other v image is opened same = elim is.there [
   | inl closed ↦ closed opened
@@ -92,7 +92,7 @@ epochs_differ slot other v image is opened same = elim is.there [
 ]
 
 epochs_pass : (image : Image)
-    → (IsOpen slot_a image → IsOpen slot_b image → (version_in (body_in slot_a image)).epoch ≡ (version_in (body_in slot_b image)).epoch → ⊥)
+    → (IsOpenSlot slot_a image → IsOpenSlot slot_b image → (version_in (body_in slot_a image)).epoch ≡ (version_in (body_in slot_b image)).epoch → ⊥)
     → epochs_damage image ≡ None
 epochs_pass image differ = none_unless ((image slot_a == 1) && (image slot_b == 1)) (shape_at slot_b (epochs_fault (version_in (body_in slot_a image)) (version_in (body_in slot_b image))) None)
     (λ opened.
@@ -114,7 +114,7 @@ all_none None None c none = (refl, refl, none)
 all_none None (Some b) c none = absurd cc
 all_none (Some a) b c none = absurd cc
 
-open_slot : (slot : ℕ) (image : Image) → IsBytes (body_in slot image) → slot_damage slot image ≡ None → IsOpen slot image → HoldsVersion slot (version_in (body_in slot image)) image
+open_slot : (slot : ℕ) (image : Image) → IsBytes (body_in slot image) → slot_damage slot image ≡ None → IsOpenSlot slot image → HoldsVersion slot (version_in (body_in slot image)) image
 open_slot slot image bytes none opened =
     read_is_held slot image opened bytes (sym (cond-true (image slot == 1) (body_damage slot (body_in slot image)) None (eq-eqb (image slot) 1 opened)) ∙ none)
 
@@ -125,7 +125,7 @@ no_shape v w none same = elim (v.epoch == w.epoch) as (λ t. (v.epoch == w.epoch
   | false ↦ λ is now. eqb-false v.epoch w.epoch is same
 ] refl none
 
-both_open : (image : Image) → IsOpen slot_a image → IsOpen slot_b image → ((image slot_a == 1) && (image slot_b == 1)) ≡ true
+both_open : (image : Image) → IsOpenSlot slot_a image → IsOpenSlot slot_b image → ((image slot_a == 1) && (image slot_b == 1)) ≡ true
 both_open image a b = ap₂ (λ (x y : Bool). x && y) (eq-eqb (image slot_a) 1 a) (eq-eqb (image slot_b) 1 b)
 
 -- of two open slots the one of the greater epoch

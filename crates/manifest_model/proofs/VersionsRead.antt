@@ -17,8 +17,8 @@ use Rattle.block_model.proofs.EntriesRead.{eqb_zero}
 use Rattle.block_model.proofs.Refusals.{none_of, not_true, passed}
 use Rattle.block_model.proofs.TableIndex.{sum_below}
 use Rattle.manifest_model.specs.Laws.{IsVersion, RowFits, VersionIsReadAgain}
-use Rattle.manifest_model.specs.Reading.{are_no_pages, body_damage, table_count_in, early_fault, front_length_in, is_no_log_page, kept_sum, later_fault, numbers_fault, of_version, table_row_in, row_of, row_zeros_fault, table_rows_in, seen_sum, shape_at, sum_damage, version_in, zeros_fault}
-use Rattle.manifest_model.specs.Version.{Version, body_bytes, front_bytes, head_bytes, manifest_magic, row_bytes, row_numbers, row_widths}
+use Rattle.manifest_model.specs.Reading.{are_no_pages, body_damage, table_count_in, early_fault, prefix_length_in, is_no_log_page, kept_sum, later_fault, numbers_fault, of_version, table_row_in, row_of, row_zeros_fault, table_rows_in, seen_sum, shape_at, sum_damage, version_in, zeros_fault}
+use Rattle.manifest_model.specs.Version.{Version, body_bytes, prefix_bytes, head_bytes, manifest_magic, row_bytes, row_numbers, row_widths}
 
 -- ---- the head, with anything behind it
 
@@ -176,33 +176,33 @@ later_again v rest is =
 
 -- ---- the sum
 
-front_long : (v : Version) → length (front_bytes v) ≡ 64 + 64 * length v.rows
-unfolding front_bytes
+front_long : (v : Version) → length (prefix_bytes v) ≡ 64 + 64 * length v.rows
+unfolding prefix_bytes
 front_long v = omega (arith, length-append (head_bytes v) (flat_map row_bytes v.rows), head_long v, rows_long v.rows)
 
-front_parts : (v : Version) (rest : Bytes) → spelled v rest ≡ front_bytes v ++ rest
-unfolding front_bytes
+front_parts : (v : Version) (rest : Bytes) → spelled v rest ≡ prefix_bytes v ++ rest
+unfolding prefix_bytes
 front_parts v rest = sym (append_assoc (head_bytes v) (flat_map row_bytes v.rows) rest)
 
-length_again : (v : Version) (rest : Bytes) → IsVersion v → front_length_in (spelled v rest) ≡ length (front_bytes v)
-unfolding front_length_in
+length_again : (v : Version) (rest : Bytes) → IsVersion v → prefix_length_in (spelled v rest) ≡ length (prefix_bytes v)
+unfolding prefix_length_in
 length_again v rest is = omega (arith, count_again v (flat_map row_bytes v.rows ++ rest) is, front_long v)
 
-seen_again : (v : Version) (rest : Bytes) → IsVersion v → seen_sum (spelled v rest) ≡ fnv_of (front_bytes v)
+seen_again : (v : Version) (rest : Bytes) → IsVersion v → seen_sum (spelled v rest) ≡ fnv_of (prefix_bytes v)
 seen_again v rest is =
-    ap₂ (λ (n : ℕ) (l : Bytes). fnv_of (take n l)) (length_again v rest is) (front_parts v rest) ∙ ap fnv_of (take_at (front_bytes v) rest (length (front_bytes v)) refl)
+    ap₂ (λ (n : ℕ) (l : Bytes). fnv_of (take n l)) (length_again v rest is) (front_parts v rest) ∙ ap fnv_of (take_at (prefix_bytes v) rest (length (prefix_bytes v)) refl)
 
-kept_again : (v : Version) (rest : Bytes) → IsVersion v → kept_sum (spelled v (little_bytes 8 (fnv_of (front_bytes v)) ++ rest)) ≡ fnv_of (front_bytes v)
+kept_again : (v : Version) (rest : Bytes) → IsVersion v → kept_sum (spelled v (little_bytes 8 (fnv_of (prefix_bytes v)) ++ rest)) ≡ fnv_of (prefix_bytes v)
 kept_again v rest is =
-    let sum = little_bytes 8 (fnv_of (front_bytes v)) ++ rest in
+    let sum = little_bytes 8 (fnv_of (prefix_bytes v)) ++ rest in
     ap₂ (λ (n : ℕ) (l : Bytes). little_number 8 (drop n l)) (length_again v sum is) (front_parts v sum)
-    ∙ ap (little_number 8) (drop_at (front_bytes v) sum (length (front_bytes v)) refl)
-    ∙ number_again 8 (fnv_of (front_bytes v)) rest (sum_below (front_bytes v))
+    ∙ ap (little_number 8) (drop_at (prefix_bytes v) sum (length (prefix_bytes v)) refl)
+    ∙ number_again 8 (fnv_of (prefix_bytes v)) rest (sum_below (prefix_bytes v))
 
-body_parts : (v : Version) (rest : Bytes) → body_bytes v ++ rest ≡ spelled v (little_bytes 8 (fnv_of (front_bytes v)) ++ rest)
+body_parts : (v : Version) (rest : Bytes) → body_bytes v ++ rest ≡ spelled v (little_bytes 8 (fnv_of (prefix_bytes v)) ++ rest)
 unfolding body_bytes
 body_parts v rest =
-    append_assoc (front_bytes v) (little_bytes 8 (fnv_of (front_bytes v))) rest ∙ sym (front_parts v (little_bytes 8 (fnv_of (front_bytes v)) ++ rest))
+    append_assoc (prefix_bytes v) (little_bytes 8 (fnv_of (prefix_bytes v))) rest ∙ sym (front_parts v (little_bytes 8 (fnv_of (prefix_bytes v)) ++ rest))
 
 shape_none : (slot : ℕ) (o : Option Fault) (later : Option Damage) → o ≡ None → later ≡ None → shape_at slot o later ≡ None
 shape_none slot None later none e = e
@@ -213,15 +213,15 @@ unfolding sum_damage
 sums_agree slot bytes later same none =
     cond-true (kept_sum bytes == seen_sum bytes) later _ (eq-eqb (kept_sum bytes) (seen_sum bytes) same) ∙ none
 
-damage_again : (slot : ℕ) (v : Version) (rest : Bytes) → IsVersion v → body_damage slot (spelled v (little_bytes 8 (fnv_of (front_bytes v)) ++ rest)) ≡ None
+damage_again : (slot : ℕ) (v : Version) (rest : Bytes) → IsVersion v → body_damage slot (spelled v (little_bytes 8 (fnv_of (prefix_bytes v)) ++ rest)) ≡ None
 unfolding body_damage
 damage_again slot v rest is =
-    let sum = little_bytes 8 (fnv_of (front_bytes v)) ++ rest in
+    let sum = little_bytes 8 (fnv_of (prefix_bytes v)) ++ rest in
     shape_none slot _ _ (first_again v sum is)
     (sums_agree slot (spelled v sum) _ (kept_again v rest is ∙ sym (seen_again v sum is)) (shape_none slot _ None (later_again v sum is) refl))
 
 pub body_again : VersionIsReadAgain
 body_again slot v rest is = (
   ap (body_damage slot) (body_parts v rest) ∙ damage_again slot v rest is,
-  ap version_in (body_parts v rest) ∙ version_again v (little_bytes 8 (fnv_of (front_bytes v)) ++ rest) is,
+  ap version_in (body_parts v rest) ∙ version_again v (little_bytes 8 (fnv_of (prefix_bytes v)) ++ rest) is,
 )

@@ -21,8 +21,8 @@ use Rattle.entry_model.proofs.Bodies.{joined}
 use Rattle.block_model.proofs.LastBlocks.{positive}
 use Rattle.block_model.proofs.Refusals.{is_other, kept, neither, not_false, nowhere, zeros_are}
 use Rattle.manifest_model.specs.Laws.{IsVersion, RowFits, VersionWasWrittenSo}
-use Rattle.manifest_model.specs.Reading.{body_damage, table_count_in, early_fault, front_length_in, is_no_log_page, kept_sum, later_fault, numbers_fault, of_version, table_row_in, row_of, row_zeros_fault, table_rows_in, seen_sum, shape_at, sum_damage, version_in, zeros_fault}
-use Rattle.manifest_model.specs.Version.{Version, body_bytes, body_place, front_bytes, head_bytes, manifest_magic, row_bytes, row_numbers, row_widths}
+use Rattle.manifest_model.specs.Reading.{body_damage, table_count_in, early_fault, prefix_length_in, is_no_log_page, kept_sum, later_fault, numbers_fault, of_version, table_row_in, row_of, row_zeros_fault, table_rows_in, seen_sum, shape_at, sum_damage, version_in, zeros_fault}
+use Rattle.manifest_model.specs.Version.{Version, body_bytes, body_place, prefix_bytes, head_bytes, manifest_magic, row_bytes, row_numbers, row_widths}
 
 -- ---- numbers by their places
 
@@ -221,16 +221,16 @@ version_rows : (bytes : Bytes) → (version_in bytes).rows ≡ table_rows_in (ta
 unfolding version_in
 version_rows bytes = refl
 
-front_written : (bytes : Bytes) → IsBytes bytes → 64 + 64 * table_count_in bytes ≤ length bytes → BodyKept bytes → front_bytes (version_in bytes) ≡ take (64 + 64 * table_count_in bytes) bytes
-unfolding front_bytes
+front_written : (bytes : Bytes) → IsBytes bytes → 64 + 64 * table_count_in bytes ≤ length bytes → BodyKept bytes → prefix_bytes (version_in bytes) ≡ take (64 + 64 * table_count_in bytes) bytes
+unfolding prefix_bytes
 front_written bytes is long body =
     let n = table_count_in bytes in
     let rows = rows_written n 64 (drop 64 bytes) (IsBytes-drop 64 bytes is) (omega (arith, long, length-drop 64 bytes)) body.row_zeros in
     ap₂ (λ (x y : Bytes). x ++ y) (head_written bytes is (omega (arith, long)) body.head body.head_zeros) (ap (flat_map row_bytes) (version_rows bytes) ∙ rows.written)
     ∙ joined 64 (64 * n) 0 bytes
 
-all_written : (bytes : Bytes) → IsBytes bytes → front_length_in bytes + 8 ≤ length bytes → BodyKept bytes → body_bytes (version_in bytes) ≡ take (front_length_in bytes + 8) bytes
-unfolding body_bytes front_length_in
+all_written : (bytes : Bytes) → IsBytes bytes → prefix_length_in bytes + 8 ≤ length bytes → BodyKept bytes → body_bytes (version_in bytes) ≡ take (prefix_length_in bytes + 8) bytes
+unfolding body_bytes prefix_length_in
 all_written bytes is long body =
     let n = 64 + 64 * table_count_in bytes in
     let front = front_written bytes is (omega (arith, long)) body in
@@ -238,8 +238,8 @@ all_written bytes is long body =
     ap (little_bytes 8) (sym body.sum) ∙ number_back 8 (drop n bytes) (IsBytes-drop n bytes is) (omega (arith, long, length-drop n bytes)) in
     ap (λ (l : Bytes). l ++ little_bytes 8 (fnv_of l)) front ∙ ap (λ (l : Bytes). take n bytes ++ l) sum ∙ sym (take-add n 8 bytes)
 
-version_sound : (bytes : Bytes) → IsBytes bytes → front_length_in bytes + 8 ≤ length bytes → BodyKept bytes → IsVersion (version_in bytes)
-unfolding version_in front_length_in
+version_sound : (bytes : Bytes) → IsBytes bytes → prefix_length_in bytes + 8 ≤ length bytes → BodyKept bytes → IsVersion (version_in bytes)
+unfolding version_in prefix_length_in
 version_sound bytes is long body =
     let head = body.head in
     let rows = rows_written (table_count_in bytes) 64 (drop 64 bytes) (IsBytes-drop 64 bytes is) (omega (arith, long, length-drop 64 bytes)) body.row_zeros in

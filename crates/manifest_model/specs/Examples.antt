@@ -5,7 +5,7 @@ use Rattle.byte_fields.specs.declared.parts.Row.{Row}
 use Rattle.byte_fields.specs.declared.parts.Damage.{Damage}
 use Rattle.byte_fields.specs.declared.parts.Damage.TheVariants as damage
 use Rattle.byte_fields.specs.declared.parts.Part.TheVariants as part
-use Rattle.manifest_model.specs.Version.{Version, summed, front_bytes}
+use Rattle.manifest_model.specs.Version.{Version, summed, prefix_bytes}
 use Rattle.manifest_model.specs.Tables.{KeyRange}
 
 -- a new store on 512 pages, with filters that keep no suffix bits
@@ -40,11 +40,11 @@ one_table = version_with (table 1 204 ∷ [])
 
 -- the body of that with another byte at a place, and its sum
 unfoldable pub broken_body : ℕ → ℕ → Bytes
-broken_body place byte = summed (set (front_bytes one_table) place byte)
+broken_body place byte = summed (set (prefix_bytes one_table) place byte)
 
 -- with another byte at two places
 unfoldable pub twice_broken : ℕ → ℕ → ℕ → ℕ → Bytes
-twice_broken place byte next other = summed (set (set (front_bytes one_table) place byte) next other)
+twice_broken place byte next other = summed (set (set (prefix_bytes one_table) place byte) next other)
 
 abbrev pub keys_at : ℕ → ℕ → ℕ → KeyRange
 keys_at level least greatest = record { level = level; least = least ∷ []; greatest = greatest ∷ [] }

@@ -3,7 +3,7 @@ use Rattle.std.specs.Prelude.{◌≢◌, ◌≡◌, ◌⊎◌, ◌<◌, ℕ, [],
 use Rattle.disk_trait.specs.Image.{Image, Shows, Torn, overwritten}
 use Rattle.map_model.specs.SortedMap.{Bytes}
 use Rattle.manifest_model.specs.Laws.{IsVersion}
-use Rattle.manifest_model.specs.Slots.{AreSlots, HoldsVersion, IsCurrent, IsOpen, IsVersionOf}
+use Rattle.manifest_model.specs.Slots.{AreSlots, HoldsVersion, IsCurrent, IsOpenSlot, IsVersionOf}
 use Rattle.manifest_model.specs.Version.{Version, body_bytes, body_place}
 
 -- the slot in use and the other one, the version in use and the one to come
@@ -49,7 +49,7 @@ IsOldOrNew i image = IsVersionOf i.from image ⊎ IsVersionOf i.to image
 -- ---- before the first: the other slot is open and is to be closed, or it is closed, and then that write is left out
 
 abbrev pub BeginsOpen : Type 0
-BeginsOpen = (i : Install) (image : Image) → IsCurrent i.slot i.other i.from image → IsOpen i.other image → IsOpenStill i image
+BeginsOpen = (i : Install) (image : Image) → IsCurrent i.slot i.other i.from image → IsOpenSlot i.other image → IsOpenStill i image
 
 abbrev pub BeginsClosed : Type 0
 BeginsClosed = (i : Install) (image : Image) → IsCurrent i.slot i.other i.from image → image i.other ≢ 1 → IsClosed i image
@@ -57,19 +57,19 @@ BeginsClosed = (i : Install) (image : Image) → IsCurrent i.slot i.other i.from
 -- ---- the three writes
 
 -- A write of some bytes: where an image had P, each that it may leave when cut short has Q, and the whole one has R.
-pub record Turns (P Q R : Image → Type 0) (at : ℕ) (bytes : Bytes) : Type 0 where
+pub record WriteTurns (P Q R : Image → Type 0) (at : ℕ) (bytes : Bytes) : Type 0 where
   pub first : (old : Image) → P old → Q old
   pub torn : (old new : Image) → P old → Torn at (length bytes) old new → Q new
   pub done : (old new : Image) → P old → new ≡ overwritten old at bytes → R new
 
 abbrev pub ClosesTheGate : Type 0
-ClosesTheGate = (i : Install) → MayInstall i → Turns (IsOpenStill i) (IsVersionOf i.from) (IsClosed i) i.other (0 ∷ [])
+ClosesTheGate = (i : Install) → MayInstall i → WriteTurns (IsOpenStill i) (IsVersionOf i.from) (IsClosed i) i.other (0 ∷ [])
 
 abbrev pub WritesTheBody : Type 0
-WritesTheBody = (i : Install) → MayInstall i → Turns (IsClosed i) (IsVersionOf i.from) (IsWritten i) (body_place i.other) (body_bytes i.to)
+WritesTheBody = (i : Install) → MayInstall i → WriteTurns (IsClosed i) (IsVersionOf i.from) (IsWritten i) (body_place i.other) (body_bytes i.to)
 
 abbrev pub OpensTheGate : Type 0
-OpensTheGate = (i : Install) → MayInstall i → Turns (IsWritten i) (IsOldOrNew i) (IsInstalled i) i.other (1 ∷ [])
+OpensTheGate = (i : Install) → MayInstall i → WriteTurns (IsWritten i) (IsOldOrNew i) (IsInstalled i) i.other (1 ∷ [])
 
 -- ---- behind the last: the version to come is in use, and the slots have changed over
 

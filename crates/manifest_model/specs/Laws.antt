@@ -6,7 +6,7 @@ use Rattle.byte_fields.specs.Spelling.{IsBytes}
 use Rattle.byte_fields.specs.declared.parts.Row.{Row}
 use Rattle.key_base.specs.Limits.{max_device_pages, max_hash_bits, max_real_bits, max_tables, min_device_pages}
 use Rattle.map_model.specs.SortedMap.{Bytes}
-use Rattle.manifest_model.specs.Reading.{body_damage, front_length_in, of_version, version_in}
+use Rattle.manifest_model.specs.Reading.{body_damage, prefix_length_in, of_version, version_in}
 use Rattle.manifest_model.specs.Version.{Version, body_bytes, log_page_of, row_numbers, row_widths}
 
 -- a row whose numbers fit their fields
@@ -34,5 +34,5 @@ VersionIsReadAgain =
 
 abbrev pub VersionWasWrittenSo : Type 0
 VersionWasWrittenSo =
-    (slot : ℕ) (bytes : Bytes) → IsBytes bytes → front_length_in bytes + 8 ≤ length bytes → body_damage slot bytes ≡ None
-    → IsVersion (version_in bytes) × (body_bytes (version_in bytes) ≡ take (front_length_in bytes + 8) bytes)
+    (slot : ℕ) (bytes : Bytes) → IsBytes bytes → prefix_length_in bytes + 8 ≤ length bytes → body_damage slot bytes ≡ None
+    → IsVersion (version_in bytes) × (body_bytes (version_in bytes) ≡ take (prefix_length_in bytes + 8) bytes)

@@ -1,7 +1,7 @@
 -- What is read from the bytes of a body, and the first rule that they break. Bytes behind the sum are not looked at.
 use Rattle.std.specs.Prelude.{ℕ, zero, suc, ◌+◌, ◌*◌, nat_lt, ◌==◌, Bool, not, ◌&&◌, ◌||◌, List, [], ◌∷◌, take, drop, slice_index, position, Option, Some, None, if◌then◌else◌}
 use Rattle.std.specs.List.{list_any}
-use Rattle.std.specs.Option.{option_map}
+use Rattle.std.specs.Option.{option_map, option_or}
 use Rattle.byteorder.specs.Endian.{little_number}
 use Rattle.byte_fields.specs.Fields.{numbers_in}
 use Rattle.byte_fields.specs.Sums.{fnv_of}
@@ -11,7 +11,7 @@ use Rattle.byte_fields.specs.declared.parts.Damage.TheVariants as damage
 use Rattle.byte_fields.specs.declared.parts.Part.TheVariants as part
 use Rattle.key_base.specs.Limits.{first_table_page, log_pages, max_device_pages, max_hash_bits, max_real_bits, max_tables, min_device_pages}
 use Rattle.map_model.specs.SortedMap.{Bytes}
-use Rattle.byte_fields.specs.Faults.{Fault, fault, refuse, or_fault}
+use Rattle.byte_fields.specs.Faults.{Fault, fault, refuse}
 use Rattle.block_model.specs.Pages.{pages_for}
 use Rattle.block_model.specs.Places.{end_page}
 use Rattle.manifest_model.specs.Version.{Version, log_page_of, manifest_magic, row_widths, body_place}
@@ -65,14 +65,14 @@ early_fault bytes =
 
 -- ---- the sum: the one that is kept behind the rows, and the one of all bytes before it
 
-unfoldable pub front_length_in : Bytes → ℕ
-front_length_in bytes = 64 + 64 * table_count_in bytes
+unfoldable pub prefix_length_in : Bytes → ℕ
+prefix_length_in bytes = 64 + 64 * table_count_in bytes
 
 abbrev pub kept_sum : Bytes → ℕ
-kept_sum bytes = little_number 8 (drop (front_length_in bytes) bytes)
+kept_sum bytes = little_number 8 (drop (prefix_length_in bytes) bytes)
 
 abbrev pub seen_sum : Bytes → ℕ
-seen_sum bytes = fnv_of (take (front_length_in bytes) bytes)
+seen_sum bytes = fnv_of (take (prefix_length_in bytes) bytes)
 
 -- ---- 4 to 6: the epoch, the pages and the settings, the log area
 
@@ -100,8 +100,8 @@ zeros_fault place bytes = option_map (λ k. fault (place + k) 7) (position (λ b
 unfoldable pub row_zeros_fault : ℕ → ℕ → Bytes → Option Fault
 row_zeros_fault zero place rest = None
 row_zeros_fault (suc more) place rest =
-    or_fault (zeros_fault (place + 1) (take 3 (drop 1 rest)))
-    (or_fault (zeros_fault (place + 56) (take 8 (drop 56 rest)))
+    option_or (zeros_fault (place + 1) (take 3 (drop 1 rest)))
+    (option_or (zeros_fault (place + 56) (take 8 (drop 56 rest)))
     (row_zeros_fault more (place + 64) (drop 64 rest)))
 
 -- ---- 8: a row's level, data pages, index pages, filter pages or entries, row by row
@@ -117,7 +117,7 @@ table_row_fault place row =
 
 unfoldable pub table_rows_fault : ℕ → List Row → Option Fault
 table_rows_fault place [] = None
-table_rows_fault place (row ∷ later) = or_fault (table_row_fault place row) (table_rows_fault (place + 64) later)
+table_rows_fault place (row ∷ later) = option_or (table_row_fault place row) (table_rows_fault (place + 64) later)
 
 -- ---- 9: a row of a lesser level than the one before
 
@@ -141,14 +141,14 @@ extents_fault pages place earlier (row ∷ later) =
 -- ---- the rules, in their order
 
 abbrev pub of_version : Version → Option Fault
-of_version v = or_fault (table_rows_fault 64 v.rows) (or_fault (levels_fault 64 0 v.rows) (extents_fault v.pages 64 [] v.rows))
+of_version v = option_or (table_rows_fault 64 v.rows) (option_or (levels_fault 64 0 v.rows) (extents_fault v.pages 64 [] v.rows))
 
 -- behind the sum
 unfoldable pub later_fault : Bytes → Option Fault
 later_fault bytes =
-    or_fault (numbers_fault bytes)
-    (or_fault (zeros_fault 32 (take 32 (drop 32 bytes)))
-    (or_fault (row_zeros_fault (table_count_in bytes) 64 (drop 64 bytes))
+    option_or (numbers_fault bytes)
+    (option_or (zeros_fault 32 (take 32 (drop 32 bytes)))
+    (option_or (row_zeros_fault (table_count_in bytes) 64 (drop 64 bytes))
     (of_version (version_in bytes))))
 
 -- the damage of a body that stands in a slot, by its place on the device

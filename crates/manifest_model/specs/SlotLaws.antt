@@ -4,7 +4,7 @@ use Rattle.byte_fields.specs.Spelling.{IsBytes}
 use Rattle.disk_trait.specs.Image.{Image, IsApart, Torn}
 use Rattle.key_base.specs.Limits.{slot_bytes}
 use Rattle.manifest_model.specs.Reading.{body_damage, version_in}
-use Rattle.manifest_model.specs.Slots.{AreSlots, HoldsVersion, HoldsOlder, IsCurrent, IsNoStore, IsOpen, IsVersionOf, body_in, slots_damage}
+use Rattle.manifest_model.specs.Slots.{AreSlots, HoldsVersion, HoldsOlder, IsCurrent, IsNoStore, IsOpenSlot, IsVersionOf, body_in, slots_damage}
 use Rattle.manifest_model.specs.Version.{Version, slot_a, slot_b}
 
 -- ---- a slot
@@ -18,7 +18,7 @@ HeldIsRead =
 -- what is read from an open slot and breaks no rule is held
 abbrev pub ReadIsHeld : Type 0
 ReadIsHeld =
-    (slot : ℕ) (image : Image) → IsOpen slot image → IsBytes (body_in slot image) → body_damage slot (body_in slot image) ≡ None
+    (slot : ℕ) (image : Image) → IsOpenSlot slot image → IsBytes (body_in slot image) → body_damage slot (body_in slot image) ≡ None
     → HoldsVersion slot (version_in (body_in slot image)) image
 
 -- ---- the version of an image

@@ -18,12 +18,12 @@ abbrev pub IsGate : Bool → ℕ → Type 0
 IsGate true byte = byte ≡ 1
 IsGate false byte = byte ≢ 1
 
-abbrev pub IsOpen : ℕ → Image → Type 0
-IsOpen slot image = image slot ≡ 1
+abbrev pub IsOpenSlot : ℕ → Image → Type 0
+IsOpenSlot slot image = image slot ≡ 1
 
 -- the slot is open, and the body of a version that keeps the rules stands in it
 pub record HoldsVersion (slot : ℕ) (v : Version) (image : Image) : Type 0 where
-  pub is_open : IsOpen slot image
+  pub is_open : IsOpenSlot slot image
   pub sound : IsVersion v
   pub body : Shows (body_place slot) (body_bytes v) image
 

@@ -53,14 +53,14 @@ row_bytes r = fields row_widths (row_numbers r)
 
 -- ---- the body: the head and the rows, and then the sum of these
 
-unfoldable pub front_bytes : Version → Bytes
-front_bytes v = head_bytes v ++ flat_map row_bytes v.rows
+unfoldable pub prefix_bytes : Version → Bytes
+prefix_bytes v = head_bytes v ++ flat_map row_bytes v.rows
 
 abbrev pub summed : Bytes → Bytes
 summed bytes = bytes ++ little_bytes 8 (fnv_of bytes)
 
 unfoldable pub body_bytes : Version → Bytes
-body_bytes v = summed (front_bytes v)
+body_bytes v = summed (prefix_bytes v)
 
 -- ---- where it stands: slot A and slot B, each with a gate byte, which is 1 where the slot is open, and the body from byte 8 on
 

@@ -7,7 +7,7 @@ ghost use Rattle.manifest_model.specs.Tables.{epochs_fault, is_newer, ranges_fau
 ghost use Rattle.manifest_model.specs.Version.{body_bytes, row_bytes, slot_a, slot_b};
 
 /// The body of slot A after a format on 512 pages, and that of a store with one table in level 1.
-#[tactic(auto, unfolding(crate::specs::Version::head_bytes, crate::specs::Version::row_bytes, crate::specs::Version::front_bytes, crate::specs::Version::body_bytes))]
+#[tactic(auto, unfolding(crate::specs::Version::head_bytes, crate::specs::Version::row_bytes, crate::specs::Version::prefix_bytes, crate::specs::Version::body_bytes))]
 pub fn small_bodies()
     ensures formatted { body_bytes formatted
         ≡ 0x53 ∷ 0x52 ∷ 0x46 ∷ 0x4D ∷ 1 ∷ 0 ∷ 0 ∷ 0
@@ -24,7 +24,7 @@ pub fn small_bodies()
 {}
 
 /// They are read as they were written.
-#[tactic(auto, unfolding(crate::specs::Version::head_bytes, crate::specs::Version::row_bytes, crate::specs::Version::front_bytes, crate::specs::Version::body_bytes, crate::specs::Reading::table_row_in, crate::specs::Reading::table_rows_in, crate::specs::Reading::version_in, crate::specs::Reading::early_fault, crate::specs::Reading::front_length_in, crate::specs::Reading::numbers_fault, crate::specs::Reading::zeros_fault, crate::specs::Reading::row_zeros_fault, crate::specs::Reading::table_row_fault, crate::specs::Reading::table_rows_fault, crate::specs::Reading::levels_fault, crate::specs::Reading::extents_fault, crate::specs::Reading::later_fault, crate::specs::Reading::sum_damage, crate::specs::Reading::body_damage, crate::specs::Examples::broken_body, block_model::specs::Pages::pages_for))]
+#[tactic(auto, unfolding(crate::specs::Version::head_bytes, crate::specs::Version::row_bytes, crate::specs::Version::prefix_bytes, crate::specs::Version::body_bytes, crate::specs::Reading::table_row_in, crate::specs::Reading::table_rows_in, crate::specs::Reading::version_in, crate::specs::Reading::early_fault, crate::specs::Reading::prefix_length_in, crate::specs::Reading::numbers_fault, crate::specs::Reading::zeros_fault, crate::specs::Reading::row_zeros_fault, crate::specs::Reading::table_row_fault, crate::specs::Reading::table_rows_fault, crate::specs::Reading::levels_fault, crate::specs::Reading::extents_fault, crate::specs::Reading::later_fault, crate::specs::Reading::sum_damage, crate::specs::Reading::body_damage, crate::specs::Examples::broken_body, block_model::specs::Pages::pages_for))]
 pub fn small_bodies_are_read()
     ensures formatted { version_in (body_bytes formatted) ≡ formatted }
     ensures no_damage { body_damage slot_a (body_bytes formatted) ≡ None }
@@ -33,7 +33,7 @@ pub fn small_bodies_are_read()
 {}
 
 /// Where one byte of the body is another one, and the sum is of that: rules 1 to 8.
-#[tactic(auto, unfolding(crate::specs::Version::head_bytes, crate::specs::Version::row_bytes, crate::specs::Version::front_bytes, crate::specs::Version::body_bytes, crate::specs::Reading::table_row_in, crate::specs::Reading::table_rows_in, crate::specs::Reading::version_in, crate::specs::Reading::early_fault, crate::specs::Reading::front_length_in, crate::specs::Reading::numbers_fault, crate::specs::Reading::zeros_fault, crate::specs::Reading::row_zeros_fault, crate::specs::Reading::table_row_fault, crate::specs::Reading::table_rows_fault, crate::specs::Reading::levels_fault, crate::specs::Reading::extents_fault, crate::specs::Reading::later_fault, crate::specs::Reading::sum_damage, crate::specs::Reading::body_damage, crate::specs::Examples::broken_body, block_model::specs::Pages::pages_for))]
+#[tactic(auto, unfolding(crate::specs::Version::head_bytes, crate::specs::Version::row_bytes, crate::specs::Version::prefix_bytes, crate::specs::Version::body_bytes, crate::specs::Reading::table_row_in, crate::specs::Reading::table_rows_in, crate::specs::Reading::version_in, crate::specs::Reading::early_fault, crate::specs::Reading::prefix_length_in, crate::specs::Reading::numbers_fault, crate::specs::Reading::zeros_fault, crate::specs::Reading::row_zeros_fault, crate::specs::Reading::table_row_fault, crate::specs::Reading::table_rows_fault, crate::specs::Reading::levels_fault, crate::specs::Reading::extents_fault, crate::specs::Reading::later_fault, crate::specs::Reading::sum_damage, crate::specs::Reading::body_damage, crate::specs::Examples::broken_body, block_model::specs::Pages::pages_for))]
 pub fn broken_bodies()
     ensures magic { body_damage slot_a (broken_body 3 0x49) ≡ shape 8 1 }
     ensures format { body_damage slot_b (broken_body 4 2) ≡ shape 131084 2 }
@@ -58,7 +58,7 @@ pub fn broken_bodies()
 {}
 
 /// Where tables do not stand as they must: rules 9 and 10.
-#[tactic(auto, unfolding(crate::specs::Version::head_bytes, crate::specs::Version::row_bytes, crate::specs::Version::front_bytes, crate::specs::Version::body_bytes, crate::specs::Reading::table_row_in, crate::specs::Reading::table_rows_in, crate::specs::Reading::version_in, crate::specs::Reading::early_fault, crate::specs::Reading::front_length_in, crate::specs::Reading::numbers_fault, crate::specs::Reading::zeros_fault, crate::specs::Reading::row_zeros_fault, crate::specs::Reading::table_row_fault, crate::specs::Reading::table_rows_fault, crate::specs::Reading::levels_fault, crate::specs::Reading::extents_fault, crate::specs::Reading::later_fault, crate::specs::Reading::sum_damage, crate::specs::Reading::body_damage, crate::specs::Examples::broken_body, block_model::specs::Pages::pages_for))]
+#[tactic(auto, unfolding(crate::specs::Version::head_bytes, crate::specs::Version::row_bytes, crate::specs::Version::prefix_bytes, crate::specs::Version::body_bytes, crate::specs::Reading::table_row_in, crate::specs::Reading::table_rows_in, crate::specs::Reading::version_in, crate::specs::Reading::early_fault, crate::specs::Reading::prefix_length_in, crate::specs::Reading::numbers_fault, crate::specs::Reading::zeros_fault, crate::specs::Reading::row_zeros_fault, crate::specs::Reading::table_row_fault, crate::specs::Reading::table_rows_fault, crate::specs::Reading::levels_fault, crate::specs::Reading::extents_fault, crate::specs::Reading::later_fault, crate::specs::Reading::sum_damage, crate::specs::Reading::body_damage, crate::specs::Examples::broken_body, block_model::specs::Pages::pages_for))]
 pub fn broken_places()
     ensures side_by_side { body_damage slot_a (body_bytes (version_with (table 0 195 ∷ table 0 192 ∷ table 1 198 ∷ table 1 509 ∷ []))) ≡ None }
     ensures levels_fall { body_damage slot_a (body_bytes (version_with (table 1 192 ∷ table 0 195 ∷ []))) ≡ shape 136 9 }
@@ -68,7 +68,7 @@ pub fn broken_places()
 {}
 
 /// Where two rules are broken: the first of them in their order, and of rule 8 row by row.
-#[tactic(auto, unfolding(crate::specs::Version::head_bytes, crate::specs::Version::row_bytes, crate::specs::Version::front_bytes, crate::specs::Version::body_bytes, crate::specs::Reading::table_row_in, crate::specs::Reading::table_rows_in, crate::specs::Reading::version_in, crate::specs::Reading::early_fault, crate::specs::Reading::front_length_in, crate::specs::Reading::numbers_fault, crate::specs::Reading::zeros_fault, crate::specs::Reading::row_zeros_fault, crate::specs::Reading::table_row_fault, crate::specs::Reading::table_rows_fault, crate::specs::Reading::levels_fault, crate::specs::Reading::extents_fault, crate::specs::Reading::later_fault, crate::specs::Reading::sum_damage, crate::specs::Reading::body_damage, crate::specs::Examples::broken_body, crate::specs::Examples::twice_broken, block_model::specs::Pages::pages_for))]
+#[tactic(auto, unfolding(crate::specs::Version::head_bytes, crate::specs::Version::row_bytes, crate::specs::Version::prefix_bytes, crate::specs::Version::body_bytes, crate::specs::Reading::table_row_in, crate::specs::Reading::table_rows_in, crate::specs::Reading::version_in, crate::specs::Reading::early_fault, crate::specs::Reading::prefix_length_in, crate::specs::Reading::numbers_fault, crate::specs::Reading::zeros_fault, crate::specs::Reading::row_zeros_fault, crate::specs::Reading::table_row_fault, crate::specs::Reading::table_rows_fault, crate::specs::Reading::levels_fault, crate::specs::Reading::extents_fault, crate::specs::Reading::later_fault, crate::specs::Reading::sum_damage, crate::specs::Reading::body_damage, crate::specs::Examples::broken_body, crate::specs::Examples::twice_broken, block_model::specs::Pages::pages_for))]
 pub fn twice_broken_bodies()
     ensures magic_then_format { body_damage slot_a (twice_broken 3 0x49 4 2) ≡ shape 8 1 }
     ensures format_then_tables { body_damage slot_a (twice_broken 4 2 7 4) ≡ shape 12 2 }

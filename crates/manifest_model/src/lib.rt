@@ -11,8 +11,8 @@
 //! each of which leaves the old version, but for the last, which leaves the old one or the new one.
 //!
 //! [`body_bytes`] is the obvious loop over the rows, and want of memory is its only error. Do not use it to keep a manifest:
-//! a store reads and writes its slots on a device, and is compared with this. The functions with no parameter have no body: each has examples or laws
-//! as its contract, and none needs to be called.
+//! a store reads and writes its slots on a device, and is compared with this. The functions with no parameter have no body:
+//! each has examples or laws as its contract, and none needs to be called.
 //!
 //! ```text
 //! a body        64 bytes of numbers, 64 bytes for each table, 8 bytes of their sum

@@ -1,6 +1,6 @@
 //! A version as a plain value, and the bytes of its body.
 ghost use Rattle.std.specs.Prelude.{◌≡◌, ◌++◌, OnOk, IfOk};
-ghost use Rattle.manifest_model.specs.Version.{body_bytes, front_bytes, head_bytes, row_bytes};
+ghost use Rattle.manifest_model.specs.Version.{body_bytes, prefix_bytes, head_bytes, row_bytes};
 
 use byte_fields::{Row, fnv1a, push_fields, push_number};
 use key_base::LOG_PAGES;
@@ -52,7 +52,7 @@ const MAGIC: u64 = 0x4D465253;
 const FORMAT: u64 = 1;
 
 /// The bytes of a version's body: its head, a row for each table, and the sum of these.
-#[tactic(auto, unfolding(crate::specs::Version::front_bytes, crate::specs::Version::body_bytes))]
+#[tactic(auto, unfolding(crate::specs::Version::prefix_bytes, crate::specs::Version::body_bytes))]
 pub fn body_bytes(alloc: Global, version: &Version) -> Result<Vec<u8>, AllocError>
     ensures { IfOk result (λ bytes. bytes.items ≡ body_bytes version.now) }
 {
@@ -109,61 +109,4 @@ pub fn push_row(row: &Row, out: &mut Vec<u8>) -> Result<(), AllocError>
         0,
     ];
     push_fields(&ROW_WIDTHS, &numbers, out)
-}
-
-#[cfg(test)]
-mod tests {
-    use super::*;
-    use std::test::Fail;
-
-    fn formatted(alloc: Global) -> Version {
-        Version {
-            hash_bits: 0,
-            real_bits: 0,
-            ratio: 64,
-            pages: 512,
-            epoch: 1,
-            log_page: 64,
-            rows: Vec::new(alloc),
-        }
-    }
-
-    #[test]
-    fn the_body_after_a_format(rt: HostRuntime) -> Result<(), Fail> {
-        let bytes = body_bytes(rt.alloc(), &formatted(rt.alloc()))?;
-        let front = [
-            0x53, 0x52, 0x46, 0x4D, 1, 0, 0, 0, 1, 0, 0, 0, 0, 0, 0, 0, 0, 2, 0, 0, 0, 0, 0x40, 0,
-            0x40, 0, 0, 0, 0x40, 0, 0, 0,
-        ];
-        assert_eq!(rt; bytes.len(), 72);
-        assert!(rt; bytes.as_slice().starts_with(front.as_slice()));
-        assert!(rt;
-            bytes.as_slice().ends_with([0xE7, 0x13, 0x68, 0xDB, 0x17, 0xF5, 0x93, 0xE4].as_slice())
-        );
-        Ok(())
-    }
-
-    #[test]
-    fn a_row_of_a_merged_table(rt: HostRuntime) -> Result<(), Fail> {
-        let mut version = formatted(rt.alloc());
-        version.epoch = 6;
-        version.rows.push(Row {
-            level: 1,
-            first_page: 204,
-            data_pages: 1,
-            index_pages: 1,
-            filter_pages: 1,
-            entries: 4,
-            index_len: 27,
-            filter_len: 45,
-            index_sum: 7,
-            filter_sum: 9,
-        })?;
-        let bytes = body_bytes(rt.alloc(), &version)?;
-        let front = [0x53, 0x52, 0x46, 0x4D, 1, 0, 1, 0, 6, 0, 0, 0, 0, 0, 0, 0];
-        assert_eq!(rt; bytes.len(), 136);
-        assert!(rt; bytes.as_slice().starts_with(front.as_slice()));
-        assert_eq!(rt; bytes.as_slice().get(68), Some(&204));
-        Ok(())
-    }
 }

@@ -33,7 +33,7 @@ pub enum Refusal {
 }
 
 // The state with one epoch more, an empty log and other tables.
-#[tactic(auto, unfolding(state_model::specs::State::last_epoch))]
+#[tactic(auto, unfolding(key_base::specs::Limits::last_epoch))]
 fn with_tables(
     alloc: Global,
     state: &State,
@@ -150,7 +150,7 @@ fn log_gap(state: &State) -> Result<u64, AllocError>
 }
 
 /// The live pairs alone stand in tables of level 6, and the log is empty. An empty store stays as it is.
-#[tactic(auto, unfolding(state_model::specs::State::last_epoch))]
+#[tactic(auto, unfolding(key_base::specs::Limits::last_epoch))]
 pub fn compacted<F: RangeFilter>(
     alloc: Global,
     state: &State,

@@ -1,9 +1,10 @@
 //! A merge that is done whole, or merge slice by merge slice.
 ghost use Rattle.std.specs.Prelude.{◌≡◌, ◌==◌, ◌++◌, not, if◌then◌else◌, fold, map, drop, length, vec_items, Some, IfOk, OnOk};
 ghost use Rattle.std.specs.List.{list_any};
+ghost use Rattle.key_base.specs.Limits.{last_epoch};
 ghost use Rattle.table_model.specs.Tables.{filter_bytes_of};
 ghost use Rattle.state_model.specs.Play as model;
-ghost use Rattle.state_model.specs.State.{without_job, last_epoch};
+ghost use Rattle.state_model.specs.State.{without_job};
 ghost use Rattle.state_model.specs.Merges.{choose};
 ghost use Rattle.state_model.specs.Tends.{goes_before, inserted, without, outstanding, installed};
 
@@ -113,7 +114,7 @@ fn job_of(alloc: Global, state: &State) -> Result<Option<Job>, AllocError>
 }
 
 // The outputs stand in the place of the inputs, unless the epoch is the last one: then the job is dropped.
-#[tactic(auto, unfolding(state_model::specs::State::last_epoch))]
+#[tactic(auto, unfolding(key_base::specs::Limits::last_epoch))]
 fn installed(alloc: Global, state: &State, job: &Job) -> Result<State, AllocError>
     ensures { IfOk result (λ s. s ≡ (if state.now.epoch == last_epoch then without_job state.now else installed state.now job.now)) }
 {

@@ -6,9 +6,10 @@
 //! own. Beside them stand the parts: [`flushed`], [`written`], [`compacted`], [`choose`], [`merged`], [`sliced`], the gaps,
 //! the bounds and the numbers.
 //!
-//! A line that breaks the grammar is no request, and its reply needs no store. It has no pages, no cache and no device, it copies whatever it changes, and it builds a table's filter anew for each
-//! question: it is what the store is compared with, and no store. Each call gives up with `AllocError` for want of
-//! memory, at a number past 64 bits, and where entries or settings are out of range.
+//! A line that breaks the grammar is no request, and its reply needs no store. What is played here has no pages, no
+//! cache and no device, it copies whatever it changes, and it builds a table's filter anew for each question: it is what
+//! the store is compared with, and no store. Each call gives up with `AllocError` for want of memory, at a number past
+//! 64 bits, and where entries or settings are out of range.
 //!
 //! ```text
 //! let state = State::new(alloc, settings, 512);

@@ -1,6 +1,6 @@
 //! The limits that a request may break.
 ghost use Rattle.std.specs.Prelude.{◌≡◌, Option, Some, None};
-ghost use Rattle.std.specs.Option.{option_map};
+ghost use Rattle.std.specs.Option.{option_map, option_or};
 ghost use Rattle.line_model.specs.Limits as model;
 ghost use Rattle.line_model.specs.Requests.{Seek};
 ghost use Rattle.line_model.specs.Limits.{limit_of};
@@ -42,7 +42,7 @@ fn bound_limit(bound: &[u8]) -> Option<Reply>
 }
 
 fn pair_limit(key: &[u8], value: &[u8]) -> Option<Reply>
-    ensures { option_map says result ≡ model.first_limit (model.key_limit key.now) (model.value_limit value.now) }
+    ensures { option_map says result ≡ option_or (model.key_limit key.now) (model.value_limit value.now) }
 {
     match key_limit(key) {
         Some(reply) => Some(reply),
@@ -51,7 +51,7 @@ fn pair_limit(key: &[u8], value: &[u8]) -> Option<Reply>
 }
 
 fn bounds_limit(lo: &[u8], hi: &[u8]) -> Option<Reply>
-    ensures { option_map says result ≡ model.first_limit (model.bound_limit lo.now) (model.bound_limit hi.now) }
+    ensures { option_map says result ≡ option_or (model.bound_limit lo.now) (model.bound_limit hi.now) }
 {
     match bound_limit(lo) {
         Some(reply) => Some(reply),

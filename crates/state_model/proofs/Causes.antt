@@ -2,11 +2,12 @@
 use Rattle.std.proofs.Common.{◌≡◌, ◌⊎◌, inl, inr, ℕ, ◌<◌, List, [], refl, sym, ap, ◌∙◌, Bool, true, false, cond, arith}
 use Rattle.std.specs.Prelude.{Option, Some, None, Result, Ok, Err, IsOk, filter, sum_by, suc, take}
 use Rattle.byte_fields.specs.declared.parts.Damage.{Damage}
+use Rattle.key_base.specs.Limits.{last_epoch}
 use Rattle.map_model.specs.SortedMap.{Bytes, Map}
 use Rattle.map_model.specs.Slices.{is_before, slice}
 use Rattle.entry_model.specs.Entries.{put_entry, del_entry}
 use Rattle.entry_model.specs.Newest.{lookup}
-use Rattle.state_model.specs.State.{State, without_job, last_epoch}
+use Rattle.state_model.specs.State.{State, without_job}
 use Rattle.table_model.specs.Tables.{FilterBytes, Table}
 use Rattle.state_model.specs.View.{memory, entries_of, state_map}
 use Rattle.state_model.specs.Bounds.{unless_found, searched, get_bound, seek_bound, stepped, admits_range}

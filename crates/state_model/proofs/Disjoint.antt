@@ -1,12 +1,13 @@
 -- Tables whose keys do not meet: at most one of them has a key.
 use Rattle.std.proofs.Common.{◌≡◌, ◌⊎◌, inl, inr, ℕ, ◌≤◌, List, [], ◌∷◌, refl, sym, ap, ◌∙◌, subst, Bool, true, false, cond, arith}
+use Rattle.std.specs.Option.{option_or}
 use Rattle.std.specs.Prelude.{Option, Some, None, bytes_eq, not, ◌&&◌, filter, fold}
 use Rattle.std.specs.List.{AllByRecursion}
 use Rattle.std.proofs.lemmas.Slice.Eq.{bytes_eq-Decides}
 use Rattle.std.specs.Ordering.{is_lt}
 use Rattle.std.specs.Cmp.Lexicographic.{nat_list_cmp_total}
 use Rattle.map_model.specs.SortedMap.{Bytes}
-use Rattle.entry_model.specs.Entries.{Entry, or_else}
+use Rattle.entry_model.specs.Entries.{Entry}
 use Rattle.map_model.proofs.Maps.{equal_keys, less_of_greater, by_order, order_same}
 use Rattle.entry_model.specs.Newest.{IsAbove, KeysRise, lookup}
 use Rattle.entry_model.proofs.Newest.{greater_of_less}
@@ -14,7 +15,8 @@ use Rattle.block_model.specs.Pages.{first_key, last_key}
 use Rattle.map_model.specs.Slices.{is_before}
 use Rattle.table_model.specs.Tables.{Table}
 use Rattle.state_model.specs.Merges.{least_key, greatest_key, lesser, greater, least_of, greatest_of, overlaps}
-use Rattle.state_model.specs.Sound.{IsBefore, StandsBefore}
+use Rattle.key_base.specs.ByteOrder.{IsBefore}
+use Rattle.state_model.specs.Sound.{StandsBefore}
 use Rattle.state_model.proofs.Levels.{says, EitherNone, AtMostOne}
 use Rattle.extent_model.proofs.Lists.{Pairs}
 
@@ -105,7 +107,7 @@ none_of_all : (a : Option (Option Bytes)) (tables : List Table) (key : Bytes) �
 none_of_all a [] key all = inr refl
 none_of_all a (u ∷ more) key all = elim all.0 [
   | inl e ↦ inl e
-  | inr none ↦ elim (none_of_all a more key all.1) [ inl e ↦ inl e | inr rest ↦ inr (ap (λ (o : Option (Option Bytes)). or_else o (says more key)) none ∙ rest) ]
+  | inr none ↦ elim (none_of_all a more key all.1) [ inl e ↦ inl e | inr rest ↦ inr (ap (λ (o : Option (Option Bytes)). option_or o (says more key)) none ∙ rest) ]
 ]
 
 stands_apart : (level : ℕ) (t u : Table) (key : Bytes) → 1 ≤ level → t.level ≡ level → u.level ≡ level → KeysRise t.entries → KeysRise u.entries → StandsBefore t u → EitherNone (lookup t.entries key) (lookup u.entries key)
@@ -137,7 +139,7 @@ abbrev Found : Bytes → List Table → Type 0
 Found key tables = IsSome (says tables key)
 
 found_in : (t : Table) (more : List Table) (key : Bytes) → Found key (t ∷ more) → IsSome (lookup t.entries key) ⊎ Found key more
-found_in t more key found = elim (lookup t.entries key) as (λ o. IsSome (or_else o (says more key)) → IsSome o ⊎ Found key more) [ None ↦ λ f. inr f | Some v ↦ λ _. inl tt ] found
+found_in t more key found = elim (lookup t.entries key) as (λ o. IsSome (option_or o (says more key)) → IsSome o ⊎ Found key more) [ None ↦ λ f. inr f | Some v ↦ λ _. inl tt ] found
 
 lower_upto : (start : Bytes) (tables : List Table) (key : Bytes) → Rise tables → Upto start key ⊎ Found key tables → Upto (lower_of start tables) key
 lower_upto start [] key rise (inl upto) = upto
@@ -175,7 +177,7 @@ outside_none lo hi key (t ∷ more) rise from to = let rest = outside_none lo hi
     elim (overlaps lo hi t) as (λ b. overlaps lo hi t ≡ b → says (cond (not b) (t ∷ filter (λ (u : Table). not (overlaps lo hi u)) more) (filter (λ (u : Table). not (overlaps lo hi u)) more)) key ≡ None) [
       | true ↦ λ _. rest
       | false ↦ λ e. elim (some_or_none (lookup t.entries key)) [
-        | inl none ↦ ap (λ (o : Option (Option Bytes)). or_else o (says (filter (λ (u : Table). not (overlaps lo hi u)) more) key)) none ∙ rest
+        | inl none ↦ ap (λ (o : Option (Option Bytes)). option_or o (says (filter (λ (u : Table). not (overlaps lo hi u)) more) key)) none ∙ rest
         | inr some ↦ let bad = sym (meets_found lo hi key t rise.0 from to some) ∙ e in absurd cc
       ]
     ] refl

@@ -4,7 +4,8 @@ use Rattle.std.specs.Prelude.{Option, Some, None, Result, Ok, Err, ◌==◌, dro
 use Rattle.std.specs.List.{AllByRecursion}
 use Rattle.std.proofs.lemmas.List.{length-append}
 use Rattle.entry_model.specs.Entries.{Entry}
-use Rattle.state_model.specs.State.{State, Job, without_job, last_epoch}
+use Rattle.key_base.specs.Limits.{last_epoch}
+use Rattle.state_model.specs.State.{State, Job, without_job}
 use Rattle.table_model.specs.Tables.{FilterBytes, Table}
 use Rattle.state_model.specs.View.{entries_of, oldest_first}
 use Rattle.state_model.specs.Taken.{taken}

@@ -1,12 +1,13 @@
 -- An estimate is not below the true count.
 use Rattle.std.proofs.Common.{◌≡◌, ℕ, ◌≤◌, ◌+◌, List, [], ◌∷◌, ◌++◌, refl, sym, ap, ◌∙◌, true, false, cond, arith}
+use Rattle.std.specs.Option.{option_or}
 use Rattle.std.specs.Prelude.{Option, Some, None, bytes_eq, fold, count_by, sum_by}
 use Rattle.std.specs.List.{AllByRecursion}
 use Rattle.std.proofs.lemmas.List.Sums.{sum_by-cons, sum_by-append}
 use Rattle.byte_fields.specs.Spelling.{IsBytes}
 use Rattle.filter_api.specs.declared.settings.Settings.{Settings}
 use Rattle.map_model.specs.SortedMap.{Bytes, Map, put, del, in_place}
-use Rattle.entry_model.specs.Entries.{Entry, newest, or_else, live, change_by, changed, map_of, keys_of}
+use Rattle.entry_model.specs.Entries.{Entry, newest, live, change_by, changed, map_of, keys_of}
 use Rattle.map_model.proofs.Maps.{by_order}
 use Rattle.map_model.specs.Slices.{is_before, is_between, count}
 use Rattle.map_model.proofs.Between.{counted, count_crossed}
@@ -99,7 +100,7 @@ tallies_enough settings lo hi (t ∷ more) bits low high order sound =
 -- the memory entries make the same map as the log
 same_as_memory : (s : State) → map_of (oldest_first s.tables ++ memory s) ≡ state_map s
 same_as_memory s = same_map (oldest_first s.tables ++ memory s) (oldest_first s.tables ++ s.log) (λ key.
-    ap live (newest-append (oldest_first s.tables) (memory s) key ∙ ap (λ (o : Option (Option Bytes)). or_else o (newest (oldest_first s.tables) key)) (newest_again s.log key)
+    ap live (newest-append (oldest_first s.tables) (memory s) key ∙ ap (λ (o : Option (Option Bytes)). option_or o (newest (oldest_first s.tables) key)) (newest_again s.log key)
     ∙ sym (newest-append (oldest_first s.tables) s.log key)))
 
 map_few : (s : State) (lo hi : Bytes) → pairs_in lo hi (state_map s) ≤ tables_in lo hi s.tables + entries_in lo hi (memory s)

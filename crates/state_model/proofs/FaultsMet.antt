@@ -1,17 +1,18 @@
 -- An answer tells of no fault, so faults come by their causes alone.
 use Rattle.std.proofs.Common.{◌≡◌, List, [], ◌∷◌, ◌++◌, length, refl, sym, ap, ◌∙◌, Bool, true, false, cond}
+use Rattle.std.specs.Option.{option_or}
 use Rattle.std.specs.Prelude.{Option, Some, None, Result, Ok, Err, nat_le, nat_lt, ◌==◌, ◌||◌, ◌+◌}
-use Rattle.key_base.specs.Limits.{max_tables}
+use Rattle.key_base.specs.Limits.{last_epoch, max_tables}
 use Rattle.map_model.specs.SortedMap.{Bytes, get}
 use Rattle.entry_model.specs.Entries.{Entry, need, gap, put_entry, del_entry}
 use Rattle.map_model.specs.Slices.{seek}
-use Rattle.state_model.specs.State.{State, without_job, last_epoch}
+use Rattle.state_model.specs.State.{State, without_job}
 use Rattle.table_model.specs.Tables.{FilterBytes, Table}
 use Rattle.state_model.specs.View.{memory, entries_of, state_map}
 use Rattle.state_model.specs.Taken.{taken}
 use Rattle.state_model.specs.Merges.{NoRoom, placed, outputs_for}
 use Rattle.state_model.specs.Changes.{with_tables, flush_placed, flushed_with, flushed, logged, logged_then, written, compact_placed, compacted_with, compacted, live_entries}
-use Rattle.line_model.specs.Limits.{key_limit, value_limit, bound_limit, first_limit, limit_of}
+use Rattle.line_model.specs.Limits.{key_limit, value_limit, bound_limit, limit_of}
 use Rattle.line_model.specs.Requests.{Request, Put, Del, Get, Seek, Range, Count, Estimate, Explain, Flush, Compact, Quit, Bad}
 use Rattle.line_model.specs.Replies.{Reply, LongKey, LongValue, ManyTables, LastEpoch, Pairs, Memory, Device, Damaged, got, found}
 use Rattle.state_model.specs.Steps.{Answer, answer, answer_within, done_or_refused, unless_limit, left_by, Step, answers, no_memory, read_failed, damage_met, write_failed}
@@ -50,11 +51,11 @@ value_plain value = elim (nat_lt 65536 (length value)) as (λ t. PlainLimit (con
 bound_plain : (bound : Bytes) → PlainLimit (bound_limit bound)
 bound_plain bound = elim (nat_lt 1024 (length bound)) as (λ t. PlainLimit (cond t (Some (LongKey (length bound))) None)) [ true ↦ refl | false ↦ tt ]
 
-first_plain : (a b : Option Reply) → PlainLimit a → PlainLimit b → PlainLimit (first_limit a b)
+first_plain : (a b : Option Reply) → PlainLimit a → PlainLimit b → PlainLimit (option_or a b)
 first_plain (Some limit) b plain other = plain
 first_plain None b plain other = other
 
-bounds_plain : (lo hi : Bytes) → PlainLimit (first_limit (bound_limit lo) (bound_limit hi))
+bounds_plain : (lo hi : Bytes) → PlainLimit (option_or (bound_limit lo) (bound_limit hi))
 bounds_plain lo hi = first_plain (bound_limit lo) (bound_limit hi) (bound_plain lo) (bound_plain hi)
 
 limit_plain : (request : Request) → PlainLimit (limit_of request)

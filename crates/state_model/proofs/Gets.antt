@@ -7,11 +7,12 @@ use Rattle.std.proofs.lemmas.Bool.{and_parts}
 use Rattle.std.proofs.lemmas.List.Sums.{sum_by-cons}
 use Rattle.extent_model.proofs.Lists.{Pairs, pairs_of}
 use Rattle.filter_api.specs.declared.settings.Settings.{Settings}
+use Rattle.key_base.specs.Limits.{last_epoch}
 use Rattle.map_model.specs.SortedMap.{Bytes}
 use Rattle.entry_model.specs.Entries.{Entry}
 use Rattle.entry_model.specs.Newest.{lookup}
 use Rattle.map_model.specs.Slices.{is_before}
-use Rattle.state_model.specs.State.{State, without_job, last_epoch}
+use Rattle.state_model.specs.State.{State, without_job}
 use Rattle.table_model.specs.Tables.{FilterBytes, Table}
 use Rattle.state_model.specs.View.{memory, entries_of}
 use Rattle.state_model.specs.Taken.{taken}

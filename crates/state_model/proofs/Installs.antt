@@ -1,5 +1,6 @@
 -- A job that is installed keeps the map.
 use Rattle.std.proofs.Common.{◌≡◌, inl, inr, ℕ, ◌≤◌, ◌<◌, ◌+◌, List, [], ◌∷◌, ◌++◌, length, refl, sym, ap, ◌∙◌, subst, Bool, true, false, cond, arith, map}
+use Rattle.std.specs.Option.{option_or}
 use Rattle.std.specs.Prelude.{Option, Some, None, bytes_eq, nat_le, nat_lt, not, ◌==◌, ◌||◌, ◌-◌, filter, fold, take, drop}
 use Rattle.std.specs.List.{AllByRecursion, list_any}
 use Rattle.std.proofs.lemmas.List.{append_assoc, append-nil, take-append-drop}
@@ -7,7 +8,7 @@ use Rattle.std.proofs.lemmas.List.Elements.{filter-append}
 use Rattle.std.proofs.lemmas.Slice.Eq.{bytes_eq-Decides}
 use Rattle.block_model.proofs.Bounds.{weaker}
 use Rattle.map_model.specs.SortedMap.{Bytes}
-use Rattle.entry_model.specs.Entries.{Entry, newest, or_else, live}
+use Rattle.entry_model.specs.Entries.{Entry, newest, live}
 use Rattle.entry_model.specs.Newest.{KeysRise, lookup}
 use Rattle.entry_model.proofs.Newest.{none_above}
 use Rattle.block_model.specs.Order.{is_any}
@@ -36,7 +37,7 @@ Says = Option (Option Bytes)
 -- ---- what is said in one order and in the other
 
 reordered : (b p i s j x d : Says) → EitherNone i s → EitherNone i x → EitherNone j x
-    → or_else b (or_else (or_else p (or_else i s)) (or_else (or_else j x) d)) ≡ or_else (or_else b (or_else (or_else p s) x)) (or_else (or_else i j) d)
+    → option_or b (option_or (option_or p (option_or i s)) (option_or (option_or j x) d)) ≡ option_or (option_or b (option_or (option_or p s) x)) (option_or (option_or i j) d)
 reordered (Some v) p i s j x d is ix jx = refl
 reordered None (Some v) i s j x d is ix jx = refl
 reordered None None None (Some v) j x d is ix jx = refl
@@ -51,11 +52,11 @@ reordered None None (Some v) None j None d is ix jx = refl
 reordered None None (Some v) None j (Some w) d is (inl e) jx = absurd cc
 reordered None None (Some v) None j (Some w) d is (inr e) jx = absurd cc
 
-either_joined : (i j x : Says) → EitherNone i x → EitherNone j x → EitherNone (or_else i j) x
+either_joined : (i j x : Says) → EitherNone i x → EitherNone j x → EitherNone (option_or i j) x
 either_joined None j x ix jx = jx
 either_joined (Some v) j x ix jx = ix
 
-live_behind : (u w i : Says) → live w ≡ live i → live (or_else u w) ≡ live (or_else u i)
+live_behind : (u w i : Says) → live w ≡ live i → live (option_or u w) ≡ live (option_or u i)
 live_behind None w i same = same
 live_behind (Some v) w i same = refl
 
@@ -185,11 +186,11 @@ left all b p i s x d test parts pairs =
     ∙ ap (λ (l : List Table). (filter out p ++ filter out s) ++ l) (filter-append out x d))
     ∙ (λ n. keep b b_i b_x n ++ ((keep p p_i (cross_flip x p x_zero.0) n ++ keep s s_i (cross_flip x s x_s) n) ++ (parts_stay test i x own_1 x_i n ++ keep d d_i d_x n)))
 
-says_five : (b p s x d : List Table) (key : Bytes) → says (five b p s x d) key ≡ or_else (says b key) (or_else (or_else (says p key) (says s key)) (or_else (says x key) (says d key)))
+says_five : (b p s x d : List Table) (key : Bytes) → says (five b p s x d) key ≡ option_or (says b key) (option_or (option_or (says p key) (says s key)) (option_or (says x key) (says d key)))
 says_five b p s x d key = says-append b ((p ++ s) ++ (x ++ d)) key
-    ∙ ap (or_else (says b key)) (says-append (p ++ s) (x ++ d) key
-    ∙ ap (λ (o : Says). or_else o (says (x ++ d) key)) (says-append p s key)
-    ∙ ap (or_else (or_else (says p key) (says s key))) (says-append x d key))
+    ∙ ap (option_or (says b key)) (says-append (p ++ s) (x ++ d) key
+    ∙ ap (λ (o : Says). option_or o (says (x ++ d) key)) (says-append p s key)
+    ∙ ap (option_or (option_or (says p key) (says s key))) (says-append x d key))
 
 -- ---- the outputs
 
@@ -300,16 +301,16 @@ next_some a = omega arith
 -- ---- the install
 
 same_rest : (filter_bytes : FilterBytes) (s : State) (plan : Plan) (key : Bytes) (u : Says) → AllByRecursion IsSoundTable plan.inputs
-    → live (or_else u (or_else (first_found (planned s.tables plan) key) (says (deeper plan.output s.tables) key))) ≡ live (or_else u (or_else (says plan.inputs key) (says (deeper plan.output s.tables) key)))
+    → live (option_or u (option_or (first_found (planned s.tables plan) key) (says (deeper plan.output s.tables) key))) ≡ live (option_or u (option_or (says plan.inputs key) (says (deeper plan.output s.tables) key)))
 same_rest filter_bytes s plan key u sound =
     let w = first_found (planned s.tables plan) key in
     let d = says (deeper plan.output s.tables) key in
-    elim (list_any (λ (t : Table). nat_lt plan.output t.level) s.tables) as (λ b. list_any (λ (t : Table). nat_lt plan.output t.level) s.tables ≡ b → live (or_else u (or_else w d)) ≡ live (or_else u (or_else (says plan.inputs key) d))) [
-      | true ↦ λ e. ap (λ (o : Says). live (or_else u (or_else o d))) (tombstones_last s.tables plan key sound (ap not e))
+    elim (list_any (λ (t : Table). nat_lt plan.output t.level) s.tables) as (λ b. list_any (λ (t : Table). nat_lt plan.output t.level) s.tables ≡ b → live (option_or u (option_or w d)) ≡ live (option_or u (option_or (says plan.inputs key) d))) [
+      | true ↦ λ e. ap (λ (o : Says). live (option_or u (option_or o d))) (tombstones_last s.tables plan key sound (ap not e))
       | false ↦ λ e.
           let none : d ≡ None = ap (λ (l : List Table). says l key) (deeper_none plan.output s.tables e) in
-          live_behind u (or_else w d) (or_else (says plan.inputs key) d)
-          (ap (λ (o : Says). live (or_else w o)) none ∙ ap live (or_none w) ∙ merge_says s.tables plan key sound ∙ sym (ap (λ (o : Says). live (or_else (says plan.inputs key) o)) none ∙ ap live (or_none (says plan.inputs key))))
+          live_behind u (option_or w d) (option_or (says plan.inputs key) d)
+          (ap (λ (o : Says). live (option_or w o)) none ∙ ap live (or_none w) ∙ merge_says s.tables plan key sound ∙ sym (ap (λ (o : Says). live (option_or (says plan.inputs key) o)) none ∙ ap live (or_none (says plan.inputs key))))
     ] refl
 
 install_says : (filter_bytes : FilterBytes) (s : State) (job : Job) (key : Bytes) → IsSound filter_bytes s → IsJob filter_bytes s.settings s.tables job → outstanding s.tables job ≡ []
@@ -369,7 +370,7 @@ install_says filter_bytes s job key sound is done =
     let sound_in : AllByRecursion IsSoundTable job.inputs = subst (AllByRecursion IsSoundTable) (sym c.inputs) (all_join IsSoundTable i j sound_i sound_j) in
     let x_parts = part_says m x key (one_on (a + 1) all key (next_some a) rise order) in
     let i_n = hull_apart i x key rise_i rise_x in
-    let ins : says job.inputs key ≡ or_else (says i key) (says j key) = ap (λ (l : List Table). says l key) c.inputs ∙ says-append i j key in
+    let ins : says job.inputs key ≡ option_or (says i key) (says j key) = ap (λ (l : List Table). says l key) c.inputs ∙ says-append i j key in
     let made = made_lists filter_bytes s job.output (planned s.tables plan) job.written is.written done in
     let w : says job.written key ≡ first_found (planned s.tables plan) key = ap (λ (l : List (List Entry)). first_found l key) made.0 in
     let lasts = is_deepest s.tables job.output in
@@ -381,27 +382,27 @@ install_says filter_bytes s job key sound is done =
       | inl none ↦ inl (w ∙ planned_say s.tables plan key ∙ lasting_none lasts (newest_of job.inputs) key (inputs_say job.inputs key sound_in ∙ ins ∙ none))
       | inr none ↦ inr (n_on ∙ none)
     ] in
-    let u = or_else (says b key) (or_else (or_else (says p key) (says k key)) (says n key)) in
+    let u = option_or (says b key) (option_or (option_or (says p key) (says k key)) (says n key)) in
     let up_says : says (upto (a + 1) rest) key ≡ u = ap (λ (l : List Table). says l key) up ∙ says_five b p k n [] key
-    ∙ ap (λ (o : Says). or_else (says b key) (or_else (or_else (says p key) (says k key)) o)) (or_none (says n key)) in
+    ∙ ap (λ (o : Says). option_or (says b key) (option_or (option_or (says p key) (says k key)) o)) (or_none (says n key)) in
     let down_says : says (deeper (a + 1) rest) key ≡ says d key = ap (λ (l : List Table). says l key) down in
-    let new_says : says (fold inserted (without job.inputs all) job.written) key ≡ or_else u (or_else (first_found (planned s.tables plan) key) (says d key)) =
+    let new_says : says (fold inserted (without job.inputs all) job.written) key ≡ option_or u (option_or (first_found (planned s.tables plan) key) (says d key)) =
     ap (λ (l : List Table). says (fold inserted l job.written) key) remain
     ∙ fold_says (a + 1) job.written rest key levels at one either
-    ∙ (λ z. or_else (up_says z) (or_else (w z) (down_says z))) in
-    let old_says : says all key ≡ or_else u (or_else (says job.inputs key) (says d key)) =
+    ∙ (λ z. option_or (up_says z) (option_or (w z) (down_says z))) in
+    let old_says : says all key ≡ option_or u (option_or (says job.inputs key) (says d key)) =
     ap (λ (l : List Table). says l key) parts
     ∙ says-append b ((p ++ (i ++ k)) ++ (x ++ d)) key
-    ∙ ap (or_else (says b key)) (says-append (p ++ (i ++ k)) (x ++ d) key
-    ∙ ap (λ (o : Says). or_else o (says (x ++ d) key)) (says-append p (i ++ k) key ∙ ap (or_else (says p key)) (says-append i k key))
-    ∙ ap (or_else (or_else (says p key) (or_else (says i key) (says k key)))) (says-append x d key ∙ ap (λ (o : Says). or_else o (says d key)) x_parts.0))
+    ∙ ap (option_or (says b key)) (says-append (p ++ (i ++ k)) (x ++ d) key
+    ∙ ap (λ (o : Says). option_or o (says (x ++ d) key)) (says-append p (i ++ k) key ∙ ap (option_or (says p key)) (says-append i k key))
+    ∙ ap (option_or (option_or (says p key) (option_or (says i key) (says k key)))) (says-append x d key ∙ ap (λ (o : Says). option_or o (says d key)) x_parts.0))
     ∙ reordered (says b key) (says p key) (says i key) (says k key) (says j key) (says n key) (says d key) c.shape.apart i_n x_parts.1
-    ∙ sym (ap (λ (o : Says). or_else u (or_else o (says d key))) ins) in
+    ∙ sym (ap (λ (o : Says). option_or u (option_or o (says d key))) ins) in
     let deep : says (deeper job.output all) key ≡ says d key = ap (λ (l : ℕ). says (deeper l all) key) c.output in
     ap live new_says
-    ∙ ap (λ (o : Says). live (or_else u (or_else (first_found (planned s.tables plan) key) o))) (sym deep)
+    ∙ ap (λ (o : Says). live (option_or u (option_or (first_found (planned s.tables plan) key) o))) (sym deep)
     ∙ same_rest filter_bytes s plan key u sound_in
-    ∙ ap (λ (o : Says). live (or_else u (or_else (says job.inputs key) o))) deep
+    ∙ ap (λ (o : Says). live (option_or u (option_or (says job.inputs key) o))) deep
     ∙ sym (ap live old_says)
 
 -- ---- the map

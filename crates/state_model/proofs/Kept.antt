@@ -1,14 +1,15 @@
 -- What a flush, an entry that is written and a compaction make of the map.
 use Rattle.std.proofs.Common.{◌≡◌, List, [], ◌∷◌, ◌++◌, refl, sym, ap, ◌∙◌, subst, true, false, cond, map}
+use Rattle.std.specs.Option.{option_or}
 use Rattle.std.specs.Prelude.{Option, Result, Ok, Err, nat_le, length, ◌==◌, ◌+◌, ◌-◌}
 use Rattle.std.proofs.lemmas.List.{append_assoc, append-nil, map-append}
 use Rattle.std.proofs.lemmas.List.Sums.{fold-append}
-use Rattle.key_base.specs.Limits.{max_tables}
+use Rattle.key_base.specs.Limits.{last_epoch, max_tables}
 use Rattle.map_model.specs.SortedMap.{Bytes, Map}
-use Rattle.entry_model.specs.Entries.{Entry, newest, or_else, live, changed, need, gap, map_of}
+use Rattle.entry_model.specs.Entries.{Entry, newest, live, changed, need, gap, map_of}
 use Rattle.entry_model.specs.Newest.{KeysRise, newest_entries, lookup}
 use Rattle.entry_model.proofs.Newest.{lookup_newest}
-use Rattle.state_model.specs.State.{State, last_epoch, without_job}
+use Rattle.state_model.specs.State.{State, without_job}
 use Rattle.table_model.specs.Tables.{FilterBytes, Table}
 use Rattle.state_model.specs.View.{memory, entries_of, oldest_first, state_map}
 use Rattle.state_model.specs.Taken.{taken}
@@ -41,7 +42,7 @@ flush_says s made key lists =
     ∙ ap backwards (map-append (λ (t : Table). t.entries) made s.tables ∙ ap (λ (l : List (List Entry)). l ++ lists_of s.tables) lists)
     ∙ ap (λ (l : List Entry). l ++ memory s) (sym (oldest_first-backwards s.tables)))
     ∙ newest-append (oldest_first s.tables) (memory s) key
-    ∙ ap (λ (o : Option (Option Bytes)). or_else o (newest (oldest_first s.tables) key)) (newest_again s.log key)
+    ∙ ap (λ (o : Option (Option Bytes)). option_or o (newest (oldest_first s.tables) key)) (newest_again s.log key)
     ∙ sym (newest-append (oldest_first s.tables) s.log key)
 
 with_tables_keeps : (s : State) (made : List Table) → lists_of made ≡ memory s ∷ [] → IfDone (KeepsMap s) (with_tables s (made ++ s.tables))

@@ -1,9 +1,9 @@
 -- Tables by rising levels: what they say together, and what more tables of one level make of it.
 use Rattle.std.proofs.Common.{◌≡◌, ◌⊎◌, inl, inr, ℕ, ◌≤◌, ◌<◌, List, [], ◌∷◌, ◌++◌, refl, sym, ap, ◌∙◌, subst, Bool, true, false, cond, arith}
+use Rattle.std.specs.Option.{option_or}
 use Rattle.std.specs.Prelude.{Option, Some, None, nat_le, nat_lt, not, ◌==◌, ◌&&◌, ◌||◌, filter, fold}
 use Rattle.std.specs.List.{AllByRecursion}
 use Rattle.map_model.specs.SortedMap.{Bytes}
-use Rattle.entry_model.specs.Entries.{or_else}
 use Rattle.entry_model.specs.Newest.{lookup}
 use Rattle.map_model.specs.Slices.{is_before}
 use Rattle.table_model.specs.Tables.{Table}
@@ -31,9 +31,9 @@ stays_le new t b e = grind arith
 abbrev pub says : List Table → Bytes → Option (Option Bytes)
 says tables key = first_found (lists_of tables) key
 
-pub says-append : (xs ys : List Table) (key : Bytes) → says (xs ++ ys) key ≡ or_else (says xs key) (says ys key)
+pub says-append : (xs ys : List Table) (key : Bytes) → says (xs ++ ys) key ≡ option_or (says xs key) (says ys key)
 says-append [] ys key = refl
-says-append (x ∷ xs) ys key = ap (or_else (lookup x.entries key)) (says-append xs ys key) ∙ sym (or_assoc (lookup x.entries key) (says xs key) (says ys key))
+says-append (x ∷ xs) ys key = ap (option_or (lookup x.entries key)) (says-append xs ys key) ∙ sym (or_assoc (lookup x.entries key) (says xs key) (says ys key))
 
 -- levels do not fall
 abbrev pub Levels : ℕ → List Table → Type 0
@@ -59,14 +59,14 @@ all_deeper level low (t ∷ more) rise less =
     ap (λ (b : Bool). cond (not b) (t ∷ deeper level more) (deeper level more)) (le_false t.level level here) ∙ ap (λ (l : List Table). t ∷ l) (all_deeper level t.level more rise.1 here)
 
 -- those down to a level speak first
-pub split_says : (level low : ℕ) (tables : List Table) (key : Bytes) → Levels low tables → says tables key ≡ or_else (says (upto level tables) key) (says (deeper level tables) key)
+pub split_says : (level low : ℕ) (tables : List Table) (key : Bytes) → Levels low tables → says tables key ≡ option_or (says (upto level tables) key) (says (deeper level tables) key)
 split_says level low [] key rise = refl
 split_says level low (t ∷ more) key rise =
-    elim (nat_le t.level level) as (λ b. nat_le t.level level ≡ b → or_else (lookup t.entries key) (says more key) ≡ or_else (says (cond b (t ∷ upto level more) (upto level more)) key) (says (cond (not b) (t ∷ deeper level more) (deeper level more)) key)) [
-      | true ↦ λ _. ap (or_else (lookup t.entries key)) (split_says level t.level more key rise.1) ∙ sym (or_assoc (lookup t.entries key) (says (upto level more) key) (says (deeper level more) key))
+    elim (nat_le t.level level) as (λ b. nat_le t.level level ≡ b → option_or (lookup t.entries key) (says more key) ≡ option_or (says (cond b (t ∷ upto level more) (upto level more)) key) (says (cond (not b) (t ∷ deeper level more) (deeper level more)) key)) [
+      | true ↦ λ _. ap (option_or (lookup t.entries key)) (split_says level t.level more key rise.1) ∙ sym (or_assoc (lookup t.entries key) (says (upto level more) key) (says (deeper level more) key))
       | false ↦ λ e. let less = not_le t.level level e in
-          sym (ap (λ (l : List Table). or_else (says l key) (or_else (lookup t.entries key) (says (deeper level more) key))) (none_upto level t.level more rise.1 less)
-          ∙ ap (λ (l : List Table). or_else (lookup t.entries key) (says l key)) (all_deeper level t.level more rise.1 less))
+          sym (ap (λ (l : List Table). option_or (says l key) (option_or (lookup t.entries key) (says (deeper level more) key))) (none_upto level t.level more rise.1 less)
+          ∙ ap (λ (l : List Table). option_or (lookup t.entries key) (says l key)) (all_deeper level t.level more rise.1 less))
     ] refl
 
 -- from a level on, what stands down to it stands on it
@@ -86,17 +86,17 @@ upto_on level low (t ∷ more) rise from =
 abbrev pub EitherNone : Option (Option Bytes) → Option (Option Bytes) → Type 0
 EitherNone a b = (a ≡ None) ⊎ (b ≡ None)
 
-pub in_front : (a b rest : Option (Option Bytes)) → EitherNone a b → or_else a (or_else b rest) ≡ or_else b (or_else a rest)
+pub in_front : (a b rest : Option (Option Bytes)) → EitherNone a b → option_or a (option_or b rest) ≡ option_or b (option_or a rest)
 in_front None b rest either = refl
 in_front (Some v) None rest either = refl
 in_front (Some v) (Some x) rest (inl e) = absurd cc
 in_front (Some v) (Some x) rest (inr e) = absurd cc
 
-pub none_front : (a b : Option (Option Bytes)) → or_else a b ≡ None → a ≡ None
+pub none_front : (a b : Option (Option Bytes)) → option_or a b ≡ None → a ≡ None
 none_front None b e = refl
 none_front (Some v) b e = absurd cc
 
-pub none_behind : (a b : Option (Option Bytes)) → or_else a b ≡ None → b ≡ None
+pub none_behind : (a b : Option (Option Bytes)) → option_or a b ≡ None → b ≡ None
 none_behind None b e = e
 none_behind (Some v) b e = absurd cc
 
@@ -108,22 +108,22 @@ later_none level t more key a (inr e) = inr (elim (t.level == level) as (λ b. s
 ] e)
 
 insert_says : (low : ℕ) (w : Table) (tables : List Table) (key : Bytes) → Levels low tables → EitherNone (lookup w.entries key) (says (on_level w.level tables) key)
-    → says (inserted tables w) key ≡ or_else (says (upto w.level tables) key) (or_else (lookup w.entries key) (says (deeper w.level tables) key))
+    → says (inserted tables w) key ≡ option_or (says (upto w.level tables) key) (option_or (lookup w.entries key) (says (deeper w.level tables) key))
 insert_says low w [] key rise either = refl
 insert_says low w (t ∷ more) key rise either =
-    elim (goes_before w t) as (λ b. goes_before w t ≡ b → says (cond b (w ∷ t ∷ more) (t ∷ inserted more w)) key ≡ or_else (says (upto w.level (t ∷ more)) key) (or_else (lookup w.entries key) (says (deeper w.level (t ∷ more)) key))) [
+    elim (goes_before w t) as (λ b. goes_before w t ≡ b → says (cond b (w ∷ t ∷ more) (t ∷ inserted more w)) key ≡ option_or (says (upto w.level (t ∷ more)) key) (option_or (lookup w.entries key) (says (deeper w.level (t ∷ more)) key))) [
       | true ↦ λ e.
           let le = goes_le w.level t.level (is_before (least_key w) (least_key t)) e in
           let own : Levels t.level (t ∷ more) = (omega arith, rise.1) in
-          ap (or_else (lookup w.entries key)) (split_says w.level t.level (t ∷ more) key own)
+          ap (option_or (lookup w.entries key)) (split_says w.level t.level (t ∷ more) key own)
           ∙ in_front (lookup w.entries key) (says (upto w.level (t ∷ more)) key) (says (deeper w.level (t ∷ more)) key)
           (subst (λ (l : List Table). EitherNone (lookup w.entries key) (says l key)) (sym (upto_on w.level t.level (t ∷ more) own le)) either)
       | false ↦ λ e.
           let le = stays_le w.level t.level (is_before (least_key w) (least_key t)) e in
           let yes : nat_le t.level w.level ≡ true = grind arith in
-          ap (or_else (lookup t.entries key)) (insert_says t.level w more key rise.1 (later_none w.level t more key (lookup w.entries key) either))
-          ∙ sym (or_assoc (lookup t.entries key) (says (upto w.level more) key) (or_else (lookup w.entries key) (says (deeper w.level more) key)))
-          ∙ sym (ap (λ (b : Bool). or_else (says (cond b (t ∷ upto w.level more) (upto w.level more)) key) (or_else (lookup w.entries key) (says (cond (not b) (t ∷ deeper w.level more) (deeper w.level more)) key))) yes)
+          ap (option_or (lookup t.entries key)) (insert_says t.level w more key rise.1 (later_none w.level t more key (lookup w.entries key) either))
+          ∙ sym (or_assoc (lookup t.entries key) (says (upto w.level more) key) (option_or (lookup w.entries key) (says (deeper w.level more) key)))
+          ∙ sym (ap (λ (b : Bool). option_or (says (cond b (t ∷ upto w.level more) (upto w.level more)) key) (option_or (lookup w.entries key) (says (cond (not b) (t ∷ deeper w.level more) (deeper w.level more)) key))) yes)
     ] refl
 
 insert_levels : (low : ℕ) (w : Table) (tables : List Table) → low ≤ w.level → Levels low tables → Levels low (inserted tables w)
@@ -136,25 +136,25 @@ insert_levels low w (t ∷ more) from rise = elim (goes_before w t) as (λ b. go
 -- a table without the key changes nothing that is said of it, whichever tables are looked at
 silent_insert : (test : Table → Bool) (w : Table) (tables : List Table) (key : Bytes) → lookup w.entries key ≡ None → says (filter test (inserted tables w)) key ≡ says (filter test tables) key
 silent_insert test w [] key none = elim (test w) as (λ b. says (cond b (w ∷ []) []) key ≡ None) [
-  | true ↦ ap (λ (o : Option (Option Bytes)). or_else o None) none
+  | true ↦ ap (λ (o : Option (Option Bytes)). option_or o None) none
   | false ↦ refl
 ]
 silent_insert test w (t ∷ more) key none = elim (goes_before w t) as (λ b. says (filter test (cond b (w ∷ t ∷ more) (t ∷ inserted more w))) key ≡ says (filter test (t ∷ more)) key) [
   | true ↦ elim (test w) as (λ b. says (cond b (w ∷ filter test (t ∷ more)) (filter test (t ∷ more))) key ≡ says (filter test (t ∷ more)) key) [
-    | true ↦ ap (λ (o : Option (Option Bytes)). or_else o (says (filter test (t ∷ more)) key)) none
+    | true ↦ ap (λ (o : Option (Option Bytes)). option_or o (says (filter test (t ∷ more)) key)) none
     | false ↦ refl
   ]
   | false ↦ elim (test t) as (λ b. says (cond b (t ∷ filter test (inserted more w)) (filter test (inserted more w))) key ≡ says (cond b (t ∷ filter test more) (filter test more)) key) [
-    | true ↦ ap (or_else (lookup t.entries key)) (silent_insert test w more key none)
+    | true ↦ ap (option_or (lookup t.entries key)) (silent_insert test w more key none)
     | false ↦ silent_insert test w more key none
   ]
 ]
 
 silent : (w : Table) (tables : List Table) (key : Bytes) → lookup w.entries key ≡ None → says (inserted tables w) key ≡ says tables key
-silent w [] key none = ap (λ (o : Option (Option Bytes)). or_else o None) none
+silent w [] key none = ap (λ (o : Option (Option Bytes)). option_or o None) none
 silent w (t ∷ more) key none = elim (goes_before w t) as (λ b. says (cond b (w ∷ t ∷ more) (t ∷ inserted more w)) key ≡ says (t ∷ more) key) [
-  | true ↦ ap (λ (o : Option (Option Bytes)). or_else o (says (t ∷ more) key)) none
-  | false ↦ ap (or_else (lookup t.entries key)) (silent w more key none)
+  | true ↦ ap (λ (o : Option (Option Bytes)). option_or o (says (t ∷ more) key)) none
+  | false ↦ ap (option_or (lookup t.entries key)) (silent w more key none)
 ]
 
 -- ---- some tables of one level
@@ -172,25 +172,25 @@ AtMostOne key (w ∷ more) = EitherNone (lookup w.entries key) (says more key) �
 abbrev pub AllAt : ℕ → List Table → Type 0
 AllAt level tables = AllByRecursion (λ (t : Table). t.level ≡ level) tables
 
-either_front : (a b c : Option (Option Bytes)) → EitherNone (or_else a b) c → EitherNone a c
+either_front : (a b c : Option (Option Bytes)) → EitherNone (option_or a b) c → EitherNone a c
 either_front a b c (inl e) = inl (none_front a b e)
 either_front a b c (inr e) = inr e
 
-either_behind : (a b c d : Option (Option Bytes)) → d ≡ c → EitherNone (or_else a b) c → EitherNone b d
+either_behind : (a b c d : Option (Option Bytes)) → d ≡ c → EitherNone (option_or a b) c → EitherNone b d
 either_behind a b c d same (inl e) = inl (none_behind a b e)
 either_behind a b c d same (inr e) = inr (same ∙ e)
 
 pub fold_says : (level : ℕ) (new tables : List Table) (key : Bytes) → Levels 0 tables → AllAt level new → AtMostOne key new → EitherNone (says new key) (says (on_level level tables) key)
-    → says (fold inserted tables new) key ≡ or_else (says (upto level tables) key) (or_else (says new key) (says (deeper level tables) key))
+    → says (fold inserted tables new) key ≡ option_or (says (upto level tables) key) (option_or (says new key) (says (deeper level tables) key))
 fold_says level [] tables key rise at one either = split_says level 0 tables key rise
 fold_says level (w ∷ new) tables key rise at one either = elim one.0 [
   | inl none ↦ fold_says level new (inserted tables w) key (insert_levels 0 w tables (omega arith) rise) at.1 one.1
       (either_behind (lookup w.entries key) (says new key) (says (on_level level tables) key) (says (on_level level (inserted tables w)) key) (silent_insert (λ (t : Table). t.level == level) w tables key none) either)
-      ∙ ap (λ (o : Option (Option Bytes)). or_else o (or_else (says new key) (says (deeper level (inserted tables w)) key))) (silent_insert (λ (t : Table). nat_le t.level level) w tables key none)
-      ∙ ap (λ (o : Option (Option Bytes)). or_else (says (upto level tables) key) (or_else (says new key) o)) (silent_insert (λ (t : Table). not (nat_le t.level level)) w tables key none)
-      ∙ sym (ap (λ (o : Option (Option Bytes)). or_else (says (upto level tables) key) (or_else (or_else o (says new key)) (says (deeper level tables) key))) none)
+      ∙ ap (λ (o : Option (Option Bytes)). option_or o (option_or (says new key) (says (deeper level (inserted tables w)) key))) (silent_insert (λ (t : Table). nat_le t.level level) w tables key none)
+      ∙ ap (λ (o : Option (Option Bytes)). option_or (says (upto level tables) key) (option_or (says new key) o)) (silent_insert (λ (t : Table). not (nat_le t.level level)) w tables key none)
+      ∙ sym (ap (λ (o : Option (Option Bytes)). option_or (says (upto level tables) key) (option_or (option_or o (says new key)) (says (deeper level tables) key))) none)
   | inr none ↦ fold_silent new (inserted tables w) key none
-      ∙ subst (λ (l : ℕ). EitherNone (lookup w.entries key) (says (on_level l tables) key) → says (inserted tables w) key ≡ or_else (says (upto l tables) key) (or_else (lookup w.entries key) (says (deeper l tables) key))) at.0 (insert_says 0 w tables key rise)
+      ∙ subst (λ (l : ℕ). EitherNone (lookup w.entries key) (says (on_level l tables) key) → says (inserted tables w) key ≡ option_or (says (upto l tables) key) (option_or (lookup w.entries key) (says (deeper l tables) key))) at.0 (insert_says 0 w tables key rise)
       (either_front (lookup w.entries key) (says new key) (says (on_level level tables) key) either)
-      ∙ sym (ap (λ (o : Option (Option Bytes)). or_else (says (upto level tables) key) (or_else o (says (deeper level tables) key))) (ap (or_else (lookup w.entries key)) none ∙ or_none (lookup w.entries key)))
+      ∙ sym (ap (λ (o : Option (Option Bytes)). option_or (says (upto level tables) key) (option_or o (says (deeper level tables) key))) (ap (option_or (lookup w.entries key)) none ∙ or_none (lookup w.entries key)))
 ]

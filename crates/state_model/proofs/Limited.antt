@@ -1,8 +1,9 @@
 -- The limit of a request is the one that it breaks.
 use Rattle.std.proofs.Common.{◌≡◌, ◌⊎◌, inl, inr, ℕ, ◌≤◌, ◌<◌, List, [], ◌∷◌, refl, sym, ap, ◌∙◌, subst, Bool, true, false, cond, arith}
+use Rattle.std.specs.Option.{option_or}
 use Rattle.std.specs.Prelude.{Option, Some, None, nat_lt, length, ◌==◌, ◌||◌}
 use Rattle.map_model.specs.SortedMap.{Bytes}
-use Rattle.line_model.specs.Limits.{key_limit, value_limit, bound_limit, first_limit, limit_of}
+use Rattle.line_model.specs.Limits.{key_limit, value_limit, bound_limit, limit_of}
 use Rattle.line_model.specs.Requests.{Request, Put, Del, Get, Seek, Range, Count, Estimate, Explain, Flush, Compact, Quit, Bad}
 use Rattle.line_model.specs.Replies.{Reply, LongKey, LongValue}
 use Rattle.state_model.specs.Refusals.{KeyFits, KeyBreaks, key_of, bounds_of, BreaksLimit, by_key, by_value, by_lower, by_upper}
@@ -87,11 +88,11 @@ bound_kept bound e = not_lt 1024 (length bound) (if_none (nat_lt 1024 (length bo
 
 -- ---- a broken limit is the one of the request
 
-first_breaks : (a b : Option Reply) (reply : Reply) → a ≡ Some reply → first_limit a b ≡ Some reply
-first_breaks a b reply e = ap (λ (l : Option Reply). first_limit l b) e
+first_breaks : (a b : Option Reply) (reply : Reply) → a ≡ Some reply → option_or a b ≡ Some reply
+first_breaks a b reply e = ap (λ (l : Option Reply). option_or l b) e
 
-then_breaks : (a b : Option Reply) (reply : Reply) → a ≡ None → b ≡ Some reply → first_limit a b ≡ Some reply
-then_breaks a b reply none e = ap (λ (l : Option Reply). first_limit l b) none ∙ e
+then_breaks : (a b : Option Reply) (reply : Reply) → a ≡ None → b ≡ Some reply → option_or a b ≡ Some reply
+then_breaks a b reply none e = ap (λ (l : Option Reply). option_or l b) none ∙ e
 
 limit_by_key : (request : Request) (key : Bytes) (reply : Reply) → key_of request ≡ Some key → key_limit key ≡ Some reply → limit_of request ≡ Some reply
 limit_by_key (Put k value) key reply named e = let same : k ≡ key = cc in first_breaks (key_limit k) (value_limit value) reply (ap key_limit same ∙ e)
@@ -111,7 +112,7 @@ limit_by_key (Bad code) key reply named e = cc
 abbrev limit_by : List Bytes → Option Reply
 limit_by [] = None
 limit_by (lo ∷ []) = bound_limit lo
-limit_by (lo ∷ hi ∷ more) = first_limit (bound_limit lo) (bound_limit hi)
+limit_by (lo ∷ hi ∷ more) = option_or (bound_limit lo) (bound_limit hi)
 
 limit_by_bounds : (request : Request) (lo : Bytes) (more : List Bytes) → bounds_of request ≡ lo ∷ more → limit_of request ≡ limit_by (lo ∷ more)
 limit_by_bounds (Seek a None) lo more named = ap limit_by named
@@ -142,7 +143,7 @@ broken_limits request _ (by_upper lo hi named few wide) =
 
 -- ---- the limit of a request is broken
 
-first_of : (a b : Option Reply) (reply : Reply) → first_limit a b ≡ Some reply → (a ≡ Some reply) ⊎ ((a ≡ None) × (b ≡ Some reply))
+first_of : (a b : Option Reply) (reply : Reply) → option_or a b ≡ Some reply → (a ≡ Some reply) ⊎ ((a ≡ None) × (b ≡ Some reply))
 first_of (Some limit) b reply e = inl e
 first_of None b reply e = inr (refl, e)
 

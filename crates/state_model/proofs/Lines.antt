@@ -1,5 +1,6 @@
 -- What each line makes of the map.
 use Rattle.std.proofs.Common.{◌≡◌, refl, sym, ap, Bool, true, false, cond}
+use Rattle.std.specs.Option.{option_or}
 use Rattle.std.specs.Prelude.{Option, Some, None, Result, Ok, Err, nat_lt, length, ◌==◌, ◌||◌}
 use Rattle.map_model.specs.SortedMap.{Bytes, put, del}
 use Rattle.entry_model.specs.Entries.{put_entry, del_entry}
@@ -7,7 +8,7 @@ use Rattle.state_model.specs.State.{State, without_job}
 use Rattle.state_model.specs.View.{state_map}
 use Rattle.table_model.specs.Tables.{FilterBytes}
 use Rattle.state_model.specs.Changes.{flushed, written, compacted}
-use Rattle.line_model.specs.Limits.{key_limit, value_limit, first_limit, limit_of}
+use Rattle.line_model.specs.Limits.{key_limit, value_limit, limit_of}
 use Rattle.line_model.specs.Requests.{Request, Put, Del, Get, Seek, Range, Count, Estimate, Explain, Flush, Compact, Quit, Bad}
 use Rattle.line_model.specs.Replies.{Reply, LongKey, LongValue}
 use Rattle.state_model.specs.Steps.{Answer, answer, answer_within, done_or_refused, unless_limit}
@@ -29,7 +30,7 @@ key_limited key = elim (length key == 0 || nat_lt 1024 (length key)) as (λ t. I
 value_limited : (value : Bytes) → IsLimit (value_limit value)
 value_limited value = elim (nat_lt 65536 (length value)) as (λ t. IsLimit (cond t (Some (LongValue (length value))) None)) [ true ↦ refl | false ↦ tt ]
 
-first_limited : (a b : Option Reply) → IsLimit a → IsLimit b → IsLimit (first_limit a b)
+first_limited : (a b : Option Reply) → IsLimit a → IsLimit b → IsLimit (option_or a b)
 first_limited (Some reply) b limited other = limited
 first_limited None b limited other = other
 

@@ -1,9 +1,9 @@
 -- A flush is refused by the most tables and by no fewer.
 use Rattle.std.proofs.Common.{◌≡◌, ◌≢◌, ◌≤◌, ◌<◌, List, [], ◌∷◌, ◌++◌, length, refl, sym, ◌∙◌, ap, true, false, cond}
 use Rattle.std.specs.Prelude.{Result, Ok, Err, ◌==◌, ◌+◌}
-use Rattle.key_base.specs.Limits.{max_tables}
+use Rattle.key_base.specs.Limits.{last_epoch, max_tables}
 use Rattle.entry_model.specs.Entries.{Entry}
-use Rattle.state_model.specs.State.{State, last_epoch}
+use Rattle.state_model.specs.State.{State}
 use Rattle.table_model.specs.Tables.{FilterBytes, Table}
 use Rattle.state_model.specs.View.{memory}
 use Rattle.state_model.specs.Merges.{NoRoom}

@@ -1,10 +1,11 @@
 -- Outputs are their entries cut in order, and become tables of just these entries.
 use Rattle.std.proofs.Common.{◌≡◌, ℕ, zero, suc, List, [], ◌∷◌, ◌++◌, refl, sym, ap, ◌∙◌, subst, true, false, cond}
+use Rattle.std.specs.Option.{option_or}
 use Rattle.std.specs.Prelude.{Option, Some, None, Result, Ok, Err, nat_le}
 use Rattle.std.proofs.lemmas.List.{append_assoc, append-nil}
 use Rattle.key_base.specs.Limits.{merge_data_pages}
 use Rattle.map_model.specs.SortedMap.{Bytes}
-use Rattle.entry_model.specs.Entries.{Entry, or_else}
+use Rattle.entry_model.specs.Entries.{Entry}
 use Rattle.entry_model.specs.Newest.{KeysRise, lookup}
 use Rattle.block_model.specs.Pages.{data_pages}
 use Rattle.state_model.specs.State.{State}
@@ -45,7 +46,7 @@ parts_rise (entries ∷ more) rises = let parts = rises_parts entries (joined mo
 
 pub lookup_joined : (lists : List (List Entry)) (key : Bytes) → first_found lists key ≡ lookup (joined lists) key
 lookup_joined [] key = refl
-lookup_joined (entries ∷ more) key = ap (or_else (lookup entries key)) (lookup_joined more key) ∙ sym (lookup-append entries (joined more) key)
+lookup_joined (entries ∷ more) key = ap (option_or (lookup entries key)) (lookup_joined more key) ∙ sym (lookup-append entries (joined more) key)
 
 -- ---- placed
 

@@ -1,18 +1,19 @@
 -- Lines that are played are a script.
 use Rattle.std.proofs.Common.{◌≡◌, ◌⊎◌, inl, inr, ℕ, ◌+◌, List, [], ◌∷◌, ◌++◌, length, refl, sym, ap, ◌∙◌, subst, true, false, cond, map}
+use Rattle.std.specs.Option.{option_or}
 use Rattle.std.specs.Prelude.{Option, Some, None, Result, Ok, Err, nat_le, nat_lt, ◌==◌, ◌||◌, flat_map}
 use Rattle.std.proofs.lemmas.List.Concat.{flat_map-cons}
-use Rattle.key_base.specs.Limits.{max_tables}
+use Rattle.key_base.specs.Limits.{last_epoch, max_tables}
 use Rattle.map_model.specs.SortedMap.{Bytes, get}
 use Rattle.entry_model.specs.Entries.{Entry, need, gap, put_entry, del_entry}
-use Rattle.state_model.specs.State.{State, without_job, last_epoch}
+use Rattle.state_model.specs.State.{State, without_job}
 use Rattle.table_model.specs.Tables.{FilterBytes, Table}
 use Rattle.state_model.specs.View.{memory, entries_of, state_map}
 use Rattle.state_model.specs.Taken.{taken}
 use Rattle.state_model.specs.Merges.{NoRoom, placed, outputs_for}
 use Rattle.state_model.specs.Causes.{Why}
 use Rattle.state_model.specs.Changes.{with_tables, flush_placed, flushed_with, flushed, logged, logged_then, written, compact_placed, live_entries, compacted_with, compacted}
-use Rattle.line_model.specs.Limits.{key_limit, value_limit, bound_limit, first_limit, limit_of}
+use Rattle.line_model.specs.Limits.{key_limit, value_limit, bound_limit, limit_of}
 use Rattle.line_model.specs.Requests.{Request, Put, Del, Get, Seek, Range, Count, Estimate, Explain, Flush, Compact, Quit, Bad, request_of}
 use Rattle.line_model.specs.Replies.{Reply, Done, Value, Missing, At, Pairs, End, Counted, About, Explained, Bye, BadLine, LongKey, LongValue, ManyTables, LastEpoch, Full, Memory, Device, Damaged, text_of, got, found}
 use Rattle.map_model.specs.Slices.{seek}
@@ -47,7 +48,7 @@ value_calm value = elim (nat_lt 65536 (length value)) as (λ t. CalmLimit (cond 
 bound_calm : (bound : Bytes) → CalmLimit (bound_limit bound)
 bound_calm bound = elim (nat_lt 1024 (length bound)) as (λ t. CalmLimit (cond t (Some (LongKey (length bound))) None)) [ true ↦ refl | false ↦ tt ]
 
-first_calm : (a b : Option Reply) → CalmLimit a → CalmLimit b → CalmLimit (first_limit a b)
+first_calm : (a b : Option Reply) → CalmLimit a → CalmLimit b → CalmLimit (option_or a b)
 first_calm (Some limit) b calm other = calm
 first_calm None b calm other = other
 

@@ -1,10 +1,10 @@
 -- The causes of a refusal: what has one is refused by it, and what is refused has one.
 use Rattle.std.proofs.Common.{◌≡◌, ◌≢◌, ℕ, ◌≤◌, ◌<◌, List, [], ◌∷◌, ◌++◌, refl, ap, ◌∙◌, Bool, true, false, cond, arith}
 use Rattle.std.specs.Prelude.{Option, Some, None, Result, Ok, Err, nat_le, length, ◌==◌, ◌+◌}
-use Rattle.key_base.specs.Limits.{max_tables}
+use Rattle.key_base.specs.Limits.{last_epoch, max_tables}
 use Rattle.map_model.specs.SortedMap.{Bytes}
 use Rattle.entry_model.specs.Entries.{Entry, put_entry, del_entry, need, gap}
-use Rattle.state_model.specs.State.{State, last_epoch, without_job}
+use Rattle.state_model.specs.State.{State, without_job}
 use Rattle.table_model.specs.Tables.{FilterBytes, Table}
 use Rattle.state_model.specs.View.{memory, entries_of}
 use Rattle.state_model.specs.Taken.{taken}

@@ -1,5 +1,6 @@
 -- What entries in the order of writing, and lists of entries with rising keys, say of a key.
 use Rattle.std.proofs.Common.{◌≡◌, List, [], ◌∷◌, ◌++◌, refl, sym, ap, ◌∙◌, subst, Bool, true, false, cond, map}
+use Rattle.std.specs.Option.{option_or}
 use Rattle.std.specs.Prelude.{Option, Some, None, bytes_eq, flat_map, reverse, filter}
 use Rattle.std.specs.List.{AllByRecursion}
 use Rattle.std.proofs.lemmas.List.{append-nil, reverse-append}
@@ -10,7 +11,7 @@ use Rattle.std.specs.Ordering.{is_lt}
 use Rattle.std.specs.declared.cmp.Ordering.{Ordering}
 use Rattle.std.specs.declared.cmp.Ordering.TheVariants.{Less, Equal, Greater}
 use Rattle.map_model.specs.SortedMap.{Bytes, byte_order}
-use Rattle.entry_model.specs.Entries.{Entry, newest, or_else, live, keys_of}
+use Rattle.entry_model.specs.Entries.{Entry, newest, live, keys_of}
 use Rattle.entry_model.specs.Newest.{IsAbove, KeysRise, newest_entries, lookup}
 use Rattle.entry_model.proofs.Newest.{none_above, above_lower, rises_after, lookup_newest}
 use Rattle.block_model.specs.Order.{Follow, is_above}
@@ -18,28 +19,28 @@ use Rattle.table_model.specs.Tables.{Table}
 use Rattle.state_model.specs.View.{first_found, oldest_first}
 use Rattle.state_model.specs.Merges.{has_value}
 
-pub or_none : (found : Option (Option Bytes)) → or_else found None ≡ found
+pub or_none : (found : Option (Option Bytes)) → option_or found None ≡ found
 or_none None = refl
 or_none (Some value) = refl
 
-pub or_assoc : (a b c : Option (Option Bytes)) → or_else (or_else a b) c ≡ or_else a (or_else b c)
+pub or_assoc : (a b c : Option (Option Bytes)) → option_or (option_or a b) c ≡ option_or a (option_or b c)
 or_assoc None b c = refl
 or_assoc (Some value) b c = refl
 
 -- ---- entries in the order of writing
 
-pub newest-append : (xs ys : List Entry) (key : Bytes) → newest (xs ++ ys) key ≡ or_else (newest ys key) (newest xs key)
+pub newest-append : (xs ys : List Entry) (key : Bytes) → newest (xs ++ ys) key ≡ option_or (newest ys key) (newest xs key)
 newest-append [] ys key = sym (or_none (newest ys key))
 newest-append (x ∷ xs) ys key = let own = cond (bytes_eq x.key key) (Some x.value) None in
-    ap (λ (o : Option (Option Bytes)). or_else o own) (newest-append xs ys key) ∙ or_assoc (newest ys key) (newest xs key) own
+    ap (λ (o : Option (Option Bytes)). option_or o own) (newest-append xs ys key) ∙ or_assoc (newest ys key) (newest xs key) own
 
 -- where keys rise, the newest entry is the only one
 pub newest_of_rising : (entries : List Entry) (key : Bytes) → KeysRise entries → newest entries key ≡ lookup entries key
 newest_of_rising [] key rises = refl
 newest_of_rising (entry ∷ later) key rises =
-    ap (λ (o : Option (Option Bytes)). or_else o (cond (bytes_eq entry.key key) (Some entry.value) None)) (newest_of_rising later key rises.1)
-    ∙ elim (bytes_eq entry.key key) as (λ t. bytes_eq entry.key key ≡ t → or_else (lookup later key) (cond t (Some entry.value) None) ≡ cond t (Some entry.value) (lookup later key)) [
-      | true ↦ λ e. ap (λ (o : Option (Option Bytes)). or_else o (Some entry.value)) (subst (λ (k : Bytes). lookup later k ≡ None) ((bytes_eq-Decides entry.key key).0 e) (none_above entry.key later rises.0))
+    ap (λ (o : Option (Option Bytes)). option_or o (cond (bytes_eq entry.key key) (Some entry.value) None)) (newest_of_rising later key rises.1)
+    ∙ elim (bytes_eq entry.key key) as (λ t. bytes_eq entry.key key ≡ t → option_or (lookup later key) (cond t (Some entry.value) None) ≡ cond t (Some entry.value) (lookup later key)) [
+      | true ↦ λ e. ap (λ (o : Option (Option Bytes)). option_or o (Some entry.value)) (subst (λ (k : Bytes). lookup later k ≡ None) ((bytes_eq-Decides entry.key key).0 e) (none_above entry.key later rises.0))
       | false ↦ λ e. or_none (lookup later key)
     ] refl
 
@@ -63,8 +64,8 @@ backwards (entries ∷ older) = backwards older ++ entries
 pub newest_backwards : (lists : List (List Entry)) (key : Bytes) → AllRise lists → newest (backwards lists) key ≡ first_found lists key
 newest_backwards [] key rise = refl
 newest_backwards (entries ∷ older) key rise = newest-append (backwards older) entries key
-    ∙ ap (λ (o : Option (Option Bytes)). or_else o (newest (backwards older) key)) (newest_of_rising entries key rise.0)
-    ∙ ap (or_else (lookup entries key)) (newest_backwards older key rise.1)
+    ∙ ap (λ (o : Option (Option Bytes)). option_or o (newest (backwards older) key)) (newest_of_rising entries key rise.0)
+    ∙ ap (option_or (lookup entries key)) (newest_backwards older key rise.1)
 
 abbrev pub lists_of : List Table → List (List Entry)
 lists_of tables = map (λ (t : Table). t.entries) tables
@@ -94,9 +95,9 @@ pub rises_follow : (test : Bytes → Bool) (entries : List Entry) → Follow tes
 rises_follow test [] follow = tt
 rises_follow test (entry ∷ later) follow = above_follow entry.key later follow.1
 
-pub lookup-append : (xs ys : List Entry) (key : Bytes) → lookup (xs ++ ys) key ≡ or_else (lookup xs key) (lookup ys key)
+pub lookup-append : (xs ys : List Entry) (key : Bytes) → lookup (xs ++ ys) key ≡ option_or (lookup xs key) (lookup ys key)
 lookup-append [] ys key = refl
-lookup-append (x ∷ xs) ys key = elim (bytes_eq x.key key) as (λ t. cond t (Some x.value) (lookup (xs ++ ys) key) ≡ or_else (cond t (Some x.value) (lookup xs key)) (lookup ys key)) [
+lookup-append (x ∷ xs) ys key = elim (bytes_eq x.key key) as (λ t. cond t (Some x.value) (lookup (xs ++ ys) key) ≡ option_or (cond t (Some x.value) (lookup xs key)) (lookup ys key)) [
   | true ↦ refl
   | false ↦ lookup-append xs ys key
 ]

@@ -6,13 +6,13 @@ use Rattle.std.proofs.lemmas.List.{length-map}
 use Rattle.std.proofs.lemmas.Bool.{eqb-false}
 use Rattle.block_model.proofs.Cutting.{all_append}
 use Rattle.block_model.proofs.Lengths.{length-body}
-use Rattle.key_base.specs.Limits.{max_tables}
+use Rattle.key_base.specs.Limits.{last_epoch, max_tables}
 use Rattle.state_model.proofs.Outputs.{placed_lists}
 use Rattle.filter_api.specs.declared.settings.Settings.{Settings}
 use Rattle.filter_api.specs.Ranges.{InRange}
 use Rattle.entry_model.specs.Entries.{Entry, body, filled, need, gap, IsEntry}
 use Rattle.block_model.specs.Block.{IsTable}
-use Rattle.state_model.specs.State.{State, Job, new_state, last_epoch}
+use Rattle.state_model.specs.State.{State, Job, new_state}
 use Rattle.table_model.specs.Tables.{FilterBytes, Table}
 use Rattle.state_model.specs.View.{memory}
 use Rattle.state_model.specs.Taken.{extent_of, taken}

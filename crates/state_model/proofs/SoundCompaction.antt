@@ -7,7 +7,8 @@ use Rattle.std.proofs.lemmas.List.{append_assoc, length-map}
 use Rattle.block_model.proofs.Bounds.{weaker}
 use Rattle.entry_model.specs.Entries.{Entry, IsEntry}
 use Rattle.entry_model.specs.Newest.{KeysRise, newest_entries}
-use Rattle.state_model.specs.State.{State, without_job, last_epoch}
+use Rattle.key_base.specs.Limits.{last_epoch}
+use Rattle.state_model.specs.State.{State, without_job}
 use Rattle.table_model.specs.Tables.{FilterBytes, Table}
 use Rattle.state_model.specs.View.{entries_of, oldest_first}
 use Rattle.state_model.specs.Taken.{taken}

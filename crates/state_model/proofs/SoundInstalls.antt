@@ -5,8 +5,10 @@ use Rattle.std.specs.List.{AllByRecursion, list_any}
 use Rattle.std.proofs.lemmas.List.{append_assoc, append-nil, length-append, length-map}
 use Rattle.block_model.proofs.Bounds.{weaker}
 use Rattle.entry_model.specs.Entries.{Entry, IsEntry}
+use Rattle.key_base.specs.Limits.{last_epoch}
+use Rattle.key_base.specs.ByteOrder.{IsBefore}
 use Rattle.entry_model.specs.Newest.{KeysRise}
-use Rattle.state_model.specs.State.{State, Job, last_epoch}
+use Rattle.state_model.specs.State.{State, Job}
 use Rattle.table_model.specs.Tables.{FilterBytes, Table}
 use Rattle.state_model.specs.View.{oldest_first, state_map}
 use Rattle.state_model.specs.Taken.{taken}
@@ -169,10 +171,10 @@ install_order filter_bytes s job sound is done new =
     separate_all : (filter_bytes : FilterBytes) (s : State) (job : Job) (t : Table) → IsJob filter_bytes s.settings s.tables job → outstanding s.tables job ≡ [] → AllByRecursion (λ (w : Table). 1 ≤ length w.entries) job.written
         → Beside job.inputs t → AllByRecursion (λ (w : Table). Separate w t) job.written
     separate_all filter_bytes s job t is done some (inl below) =
-        let P = λ (e : Entry). Rattle.state_model.specs.Sound.IsBefore (greatest_key t) e.key in
+        let P = λ (e : Entry). IsBefore (greatest_key t) e.key in
         separate_below t job.written some (made_have (λ (l : List Entry). AllByRecursion P l) filter_bytes s.settings job.output (planned s.tables (plan_of_job job)) job.written is.written (planned_all P s.tables (plan_of_job job) below))
     separate_all filter_bytes s job t is done some (inr over) =
-        let P = λ (e : Entry). Rattle.state_model.specs.Sound.IsBefore e.key (least_key t) in
+        let P = λ (e : Entry). IsBefore e.key (least_key t) in
         separate_above t job.written some (made_have (λ (l : List Entry). AllByRecursion P l) filter_bytes s.settings job.output (planned s.tables (plan_of_job job)) job.written is.written (planned_all P s.tables (plan_of_job job) over))
 
     counted : (all b p i k x d : List Table) (m : Table → Bool) (inputs remain : List Table) → all ≡ b ++ ((p ++ (i ++ k)) ++ (x ++ d)) → inputs ≡ i ++ filter m x

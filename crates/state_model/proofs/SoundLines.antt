@@ -1,5 +1,6 @@
 -- Whatever a line is answered leaves a sound state.
 use Rattle.std.proofs.Common.{◌≡◌, ◌≤◌, List, [], ◌∷◌, length, refl, true, false, cond, arith}
+use Rattle.std.specs.Option.{option_or}
 use Rattle.std.specs.List.{AllByRecursion}
 use Rattle.std.specs.Prelude.{Option, Some, None, Result, Ok, Err, nat_lt, ◌==◌, ◌||◌}
 use Rattle.byte_fields.specs.Spelling.{IsBytes}
@@ -8,7 +9,7 @@ use Rattle.entry_model.specs.Entries.{put_entry, del_entry, IsEntry}
 use Rattle.state_model.specs.State.{State, without_job}
 use Rattle.table_model.specs.Tables.{FilterBytes}
 use Rattle.state_model.specs.Changes.{written, flushed, compacted}
-use Rattle.line_model.specs.Limits.{key_limit, value_limit, first_limit, limit_of}
+use Rattle.line_model.specs.Limits.{key_limit, value_limit, limit_of}
 use Rattle.line_model.specs.Requests.{Request, Put, Del, Get, Seek, Range, Count, Estimate, Explain, Flush, Compact, Quit, Bad}
 use Rattle.line_model.specs.Replies.{Reply, Done, Value, Missing, At, Pairs, End, Counted, About, Explained, Bye, BadLine, LongKey, LongValue, ManyTables, LastEpoch, Full, Memory, Device, Damaged}
 use Rattle.state_model.specs.Steps.{answer, answer_within, done_or_refused, unless_limit, left_by, Step, answers, no_memory, read_failed, damage_met, write_failed}
@@ -36,11 +37,11 @@ value_within value e = elim (nat_lt 65536 (length value)) as (λ b. nat_lt 65536
   | false ↦ λ off _. grind arith
 ] refl e
 
-first_within : (a b : Option Reply) → first_limit a b ≡ None → (a ≡ None) × (b ≡ None)
+first_within : (a b : Option Reply) → option_or a b ≡ None → (a ≡ None) × (b ≡ None)
 first_within (Some limit) b e = absurd cc
 first_within None b e = (refl, e)
 
-put_within : (key value : Bytes) → first_limit (key_limit key) (value_limit value) ≡ None → IsBytes key → IsBytes value → IsEntry (put_entry key value)
+put_within : (key value : Bytes) → option_or (key_limit key) (value_limit value) ≡ None → IsBytes key → IsBytes value → IsEntry (put_entry key value)
 put_within key value e of_key of_value =
     let both = first_within (key_limit key) (value_limit value) e in
     let keys = key_within key both.0 in

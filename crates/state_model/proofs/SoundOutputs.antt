@@ -10,7 +10,8 @@ use Rattle.block_model.specs.Pages.{first_key, last_key}
 use Rattle.table_model.specs.Tables.{FilterBytes, Table, table_of, table_pages}
 use Rattle.state_model.specs.View.{oldest_first}
 use Rattle.state_model.specs.Merges.{Plan, planned, lasting, is_deepest, newest_of, has_value, greatest_key, outputs_of}
-use Rattle.state_model.specs.Sound.{IsSoundTable, IsBefore, StandsBefore, AreMade}
+use Rattle.key_base.specs.ByteOrder.{IsBefore}
+use Rattle.state_model.specs.Sound.{IsSoundTable, StandsBefore, AreMade}
 use Rattle.state_model.proofs.Levels.{AllAt}
 use Rattle.extent_model.proofs.Lists.{Pairs, all_kept}
 use Rattle.state_model.proofs.Taken.{all_parts, all_join}

@@ -1,11 +1,11 @@
 -- What stays of some tables without the inputs of a merge.
 use Rattle.std.proofs.Common.{◌≡◌, ◌≢◌, inl, inr, ℕ, List, [], ◌∷◌, ◌++◌, refl, sym, ap, ◌∙◌, subst, Bool, true, false, cond, arith}
+use Rattle.std.specs.Option.{option_or}
 use Rattle.std.specs.Prelude.{Option, not, ◌==◌, ◌||◌, filter}
 use Rattle.std.specs.List.{AllByRecursion, list_any}
 use Rattle.std.proofs.lemmas.List.Folds.{list_any-append}
 use Rattle.block_model.proofs.Bounds.{weaker}
 use Rattle.map_model.specs.SortedMap.{Bytes}
-use Rattle.entry_model.specs.Entries.{or_else}
 use Rattle.entry_model.specs.Newest.{lookup}
 use Rattle.table_model.specs.Tables.{Table}
 use Rattle.state_model.specs.Tends.{without}
@@ -115,26 +115,26 @@ parts_stay test inputs tables pairs cross = keep_same (λ (t : Table). not (is_i
 -- ---- tables of which at most one has the key
 
 pub part_says : (test : Table → Bool) (tables : List Table) (key : Bytes) → AtMostOne key tables
-    → (says tables key ≡ or_else (says (filter test tables) key) (says (filter (λ (t : Table). not (test t)) tables) key)) × EitherNone (says (filter test tables) key) (says (filter (λ (t : Table). not (test t)) tables) key)
+    → (says tables key ≡ option_or (says (filter test tables) key) (says (filter (λ (t : Table). not (test t)) tables) key)) × EitherNone (says (filter test tables) key) (says (filter (λ (t : Table). not (test t)) tables) key)
 part_says test [] key one = (refl, inl refl)
 part_says test (t ∷ more) key one =
     let f = filter test more in let g = filter (λ (u : Table). not (test u)) more in
     let rest = part_says test more key one.1 in
     let own = lookup t.entries key in
-    elim (test t) as (λ b. (or_else own (says more key) ≡ or_else (says (cond b (t ∷ f) f) key) (says (cond (not b) (t ∷ g) g) key)) × EitherNone (says (cond b (t ∷ f) f) key) (says (cond (not b) (t ∷ g) g) key)) [
+    elim (test t) as (λ b. (option_or own (says more key) ≡ option_or (says (cond b (t ∷ f) f) key) (says (cond (not b) (t ∷ g) g) key)) × EitherNone (says (cond b (t ∷ f) f) key) (says (cond (not b) (t ∷ g) g) key)) [
       | true ↦ (
-        ap (or_else own) rest.0 ∙ sym (or_assoc own (says f key) (says g key)),
+        ap (option_or own) rest.0 ∙ sym (or_assoc own (says f key) (says g key)),
         elim one.0 [
-          | inl none ↦ subst (λ (o : Option (Option Bytes)). EitherNone (or_else o (says f key)) (says g key)) (sym none) rest.1
+          | inl none ↦ subst (λ (o : Option (Option Bytes)). EitherNone (option_or o (says f key)) (says g key)) (sym none) rest.1
           | inr none ↦ inr (none_behind (says f key) (says g key) (sym rest.0 ∙ none))
         ],
       )
       | false ↦ elim one.0 [
         | inl none ↦ (
-          ap (or_else own) rest.0 ∙ in_front own (says f key) (says g key) (inl none),
-          subst (λ (o : Option (Option Bytes)). EitherNone (says f key) (or_else o (says g key))) (sym none) rest.1,
+          ap (option_or own) rest.0 ∙ in_front own (says f key) (says g key) (inl none),
+          subst (λ (o : Option (Option Bytes)). EitherNone (says f key) (option_or o (says g key))) (sym none) rest.1,
         )
         | inr none ↦ let silent = none_front (says f key) (says g key) (sym rest.0 ∙ none) in
-            (ap (or_else own) rest.0 ∙ in_front own (says f key) (says g key) (inr silent), inl silent)
+            (ap (option_or own) rest.0 ∙ in_front own (says f key) (says g key) (inr silent), inl silent)
       ]
     ]

@@ -2,12 +2,13 @@
 use Rattle.std.proofs.Common.{◌≡◌, ◌⊎◌, inl, inr, ℕ, refl, sym, subst, Bool, true, false}
 use Rattle.std.specs.Prelude.{◌≢◌, Some, None, Err, take}
 use Rattle.byte_fields.specs.declared.parts.Damage.{Damage}
+use Rattle.key_base.specs.Limits.{last_epoch}
 use Rattle.map_model.specs.SortedMap.{Map}
 use Rattle.map_model.specs.Slices.{slice}
 use Rattle.line_model.specs.Requests.{Request, Put, Del, Get, Seek, Range, Count, Estimate, Explain, Flush, Compact, Quit, Bad}
 use Rattle.line_model.specs.Replies.{Reply, Done, Value, Missing, At, Pairs, End, Counted, About, Explained, Bye, BadLine, LongKey, LongValue, ManyTables, LastEpoch, Full, Memory, Device, Damaged}
 use Rattle.table_model.specs.Tables.{FilterBytes}
-use Rattle.state_model.specs.State.{State, Job, last_epoch}
+use Rattle.state_model.specs.State.{State, Job}
 use Rattle.state_model.specs.View.{state_map}
 use Rattle.state_model.specs.Causes.{Why, ReadFailed, DamageMet}
 use Rattle.state_model.specs.Merges.{choose}

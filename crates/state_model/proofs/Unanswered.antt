@@ -1,9 +1,10 @@
 -- A step that is not the answer tells of a fault, and changes nothing but where a write failed.
 use Rattle.std.proofs.Common.{◌≡◌, ◌⊎◌, inl, inr, ℕ, ◌<◌, refl, sym, ap, ◌∙◌, subst, Bool, true, false, cond, arith}
 use Rattle.std.specs.Prelude.{[], Err, Some, None, take}
+use Rattle.key_base.specs.Limits.{last_epoch}
 use Rattle.map_model.specs.SortedMap.{Map, put, del}
 use Rattle.map_model.specs.Slices.{slice}
-use Rattle.state_model.specs.State.{State, Job, last_epoch}
+use Rattle.state_model.specs.State.{State, Job}
 use Rattle.table_model.specs.Tables.{FilterBytes}
 use Rattle.state_model.specs.View.{state_map}
 use Rattle.state_model.specs.Causes.{WriteFailed}

@@ -1,9 +1,10 @@
 -- The map of a state is its view.
 use Rattle.std.proofs.Common.{◌≡◌, List, [], ◌∷◌, sym, ap, ◌∙◌}
+use Rattle.std.specs.Option.{option_or}
 use Rattle.std.specs.Prelude.{Option}
 use Rattle.std.specs.List.{AllByRecursion}
 use Rattle.map_model.specs.SortedMap.{Bytes, get}
-use Rattle.entry_model.specs.Entries.{newest, or_else, live}
+use Rattle.entry_model.specs.Entries.{newest, live}
 use Rattle.entry_model.proofs.Maps.{newest_counts}
 use Rattle.entry_model.specs.Newest.{newest_entries, lookup}
 use Rattle.entry_model.proofs.Newest.{lookup_newest}
@@ -24,8 +25,8 @@ newest_of_tables tables key rise = ap (λ l. newest l key) (oldest_first-backwar
 -- what all the entries of a state say of a key is what its view says
 pub newest_of_state : (s : State) (key : Bytes) → AllRise (lists_of s.tables) → newest (entries_of s) key ≡ view s key
 newest_of_state s key rise = newest-append (oldest_first s.tables) s.log key
-    ∙ ap (λ (o : Option (Option Bytes)). or_else o (newest (oldest_first s.tables) key)) (sym (lookup_newest s.log key))
-    ∙ ap (or_else (lookup (newest_entries s.log) key)) (newest_of_tables s.tables key rise)
+    ∙ ap (λ (o : Option (Option Bytes)). option_or o (newest (oldest_first s.tables) key)) (sym (lookup_newest s.log key))
+    ∙ ap (option_or (lookup (newest_entries s.log) key)) (newest_of_tables s.tables key rise)
 
 pub view_says : (filter_bytes : FilterBytes) (s : State) (key : Bytes) → IsSound filter_bytes s → get (state_map s) key ≡ live (view s key)
 view_says filter_bytes s key sound = newest_counts (entries_of s) key ∙ ap live (newest_of_state s key (tables_rise s.tables sound.tables))

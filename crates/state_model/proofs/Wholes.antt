@@ -4,7 +4,8 @@ use Rattle.std.specs.Prelude.{Option, Some, None, Result, Ok, Err, ◌==◌, tak
 use Rattle.std.proofs.lemmas.Bool.{eqb-true, eqb-false}
 use Rattle.std.proofs.lemmas.List.{append-nil, map-append, take_all, length-map, drop_all}
 use Rattle.entry_model.specs.Entries.{Entry}
-use Rattle.state_model.specs.State.{State, Job, without_job, last_epoch}
+use Rattle.key_base.specs.Limits.{last_epoch}
+use Rattle.state_model.specs.State.{State, Job, without_job}
 use Rattle.table_model.specs.Tables.{FilterBytes, Table, table_of, table_pages}
 use Rattle.extent_model.specs.Extents.{Extent}
 use Rattle.extent_model.specs.Gaps.{first_gap, largest_gap}

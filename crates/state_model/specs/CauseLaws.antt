@@ -2,12 +2,13 @@
 -- And what a reply says of its cause where several may be met, of a line and of a merge slice.
 use Rattle.std.specs.Prelude.{◌≡◌, ◌≢◌, ◌⊎◌, ◌<◌, ℕ, Bool, Some, None, Err}
 use Rattle.byte_fields.specs.declared.parts.Damage.{Damage}
+use Rattle.key_base.specs.Limits.{last_epoch}
 use Rattle.map_model.specs.SortedMap.{Map}
 use Rattle.line_model.specs.Limits.{limit_of}
 use Rattle.line_model.specs.Requests.{Request, Range}
 use Rattle.line_model.specs.Replies.{Reply, Pairs, Full, LastEpoch, Memory, Device, Damaged}
 use Rattle.table_model.specs.Tables.{FilterBytes}
-use Rattle.state_model.specs.State.{State, Job, last_epoch}
+use Rattle.state_model.specs.State.{State, Job}
 use Rattle.state_model.specs.View.{state_map}
 use Rattle.state_model.specs.Causes.{Why, NoMemory, ReadFailed, WriteFailed, DamageMet}
 use Rattle.state_model.specs.Merges.{choose}

@@ -1,9 +1,9 @@
 -- What a put, a flush and a compaction make of a state, or the reply by which they are refused.
 use Rattle.std.specs.Prelude.{◌+◌, ◌==◌, nat_le, if◌then◌else◌, List, [], ◌∷◌, ◌++◌, length, filter, None, Result, Ok, Err}
-use Rattle.key_base.specs.Limits.{max_tables}
+use Rattle.key_base.specs.Limits.{last_epoch, max_tables}
 use Rattle.entry_model.specs.Entries.{Entry, need, gap}
 use Rattle.entry_model.specs.Newest.{newest_entries}
-use Rattle.state_model.specs.State.{State, without_job, last_epoch}
+use Rattle.state_model.specs.State.{State, without_job}
 use Rattle.table_model.specs.Tables.{FilterBytes, Table}
 use Rattle.state_model.specs.View.{memory, entries_of}
 use Rattle.state_model.specs.Taken.{taken}

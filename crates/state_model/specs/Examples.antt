@@ -83,5 +83,5 @@ abbrev pub cramped : State
 cramped = record (played one_byte small_store four_tables).1 { pages = 206 }
 
 -- where a table stands: level, first page, pages, data blocks, entries
-abbrev pub place_of : Table → List ℕ
-place_of t = t.level ∷ t.first_page ∷ t.pages ∷ t.blocks ∷ length t.entries ∷ []
+abbrev pub place_and_size : Table → List ℕ
+place_and_size t = t.level ∷ t.first_page ∷ t.pages ∷ t.blocks ∷ length t.entries ∷ []

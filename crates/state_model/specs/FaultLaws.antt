@@ -1,10 +1,11 @@
 -- Laws of what the state does not explain: where it may be met, and what it leaves.
 use Rattle.std.specs.Prelude.{◌≡◌, ◌⊎◌, ◌<◌, ℕ, Bool, true, false, [], take, Some, None, Err}
 use Rattle.byte_fields.specs.declared.parts.Damage.{Damage}
+use Rattle.key_base.specs.Limits.{last_epoch}
 use Rattle.map_model.specs.SortedMap.{Bytes, Map}
 use Rattle.map_model.specs.Slices.{slice}
 use Rattle.entry_model.specs.Entries.{put_entry, del_entry}
-use Rattle.state_model.specs.State.{State, Job, without_job, last_epoch}
+use Rattle.state_model.specs.State.{State, Job, without_job}
 use Rattle.state_model.specs.View.{memory, entries_of, state_map}
 use Rattle.state_model.specs.Bounds.{get_bound, seek_bound}
 use Rattle.state_model.specs.Changes.{written, flushed, live_entries}

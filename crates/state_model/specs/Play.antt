@@ -2,7 +2,8 @@
 -- in merge slices of so many blocks.
 use Rattle.std.specs.Prelude.{ℕ, ◌-◌, ◌==◌, nat_lt, if◌then◌else◌, List, [], ◌∷◌, ◌++◌, length, Option, Some, None, Result, Ok, Err}
 use Rattle.entry_model.specs.Entries.{Entry}
-use Rattle.state_model.specs.State.{State, Job, without_job, last_epoch}
+use Rattle.key_base.specs.Limits.{last_epoch}
+use Rattle.state_model.specs.State.{State, Job, without_job}
 use Rattle.table_model.specs.Tables.{FilterBytes, Table}
 use Rattle.state_model.specs.Merges.{NoRoom, Plan, choose}
 use Rattle.state_model.specs.Tends.{started, with_job, outstanding, next_placed, installed}

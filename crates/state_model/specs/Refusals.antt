@@ -1,10 +1,10 @@
 -- Why a line is refused.
 use Rattle.std.specs.Prelude.{ℕ, ◌≡◌, ◌≢◌, ◌⊎◌, ◌<◌, ◌≤◌, Bool, true, false, List, [], ◌∷◌, length, Option, Some, None, Result, Ok, Err}
 use Rattle.filter_api.specs.declared.settings.Settings.{Settings}
-use Rattle.key_base.specs.Limits.{max_bound_bytes, max_key_bytes, max_tables, max_value_bytes}
+use Rattle.key_base.specs.Limits.{last_epoch, max_bound_bytes, max_key_bytes, max_tables, max_value_bytes}
 use Rattle.map_model.specs.SortedMap.{Bytes}
 use Rattle.entry_model.specs.Entries.{Entry, put_entry, del_entry, need, gap}
-use Rattle.state_model.specs.State.{State, without_job, last_epoch}
+use Rattle.state_model.specs.State.{State, without_job}
 use Rattle.table_model.specs.Tables.{FilterBytes, Table, table_pages}
 use Rattle.state_model.specs.View.{memory, entries_of}
 use Rattle.extent_model.specs.Extents.{Extent}

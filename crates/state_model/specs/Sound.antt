@@ -1,21 +1,17 @@
 -- Which states a store may be in.
 use Rattle.std.specs.Prelude.{◌≡◌, ◌⊎◌, ◌<◌, ◌≤◌, ◌*◌, ℕ, List, [], ◌∷◌, length, drop, Option, Some, None}
 use Rattle.std.specs.List.{AllByRecursion, AllPairs, sum_by}
-use Rattle.std.specs.declared.cmp.Ordering.TheVariants.{Less}
 use Rattle.filter_api.specs.declared.settings.Settings.{Settings}
 use Rattle.filter_api.specs.Ranges.{InRange}
-use Rattle.key_base.specs.Limits.{log_bytes, max_block_entries, max_device_pages, max_ratio, max_tables, min_device_pages}
-use Rattle.map_model.specs.SortedMap.{Bytes, byte_order}
+use Rattle.key_base.specs.Limits.{last_epoch, log_bytes, max_block_entries, max_device_pages, max_ratio, max_tables, min_device_pages}
+use Rattle.key_base.specs.ByteOrder.{IsBefore}
 use Rattle.entry_model.specs.Entries.{Entry, filled, IsEntry}
 use Rattle.block_model.specs.Block.{IsTable}
-use Rattle.state_model.specs.State.{State, Job, last_epoch}
+use Rattle.state_model.specs.State.{State, Job}
 use Rattle.table_model.specs.Tables.{FilterBytes, Table, table_of}
 use Rattle.extent_model.specs.Extents.{IsOnDevice, AreApart}
 use Rattle.state_model.specs.Taken.{taken}
 use Rattle.state_model.specs.Merges.{Plan, choose, planned, on_level, least_key, greatest_key}
-
-abbrev pub IsBefore : Bytes → Bytes → Type 0
-IsBefore x y = byte_order x y ≡ Less
 
 -- a table has one entry or more, with strictly rising keys, and one block or more, each of a page or more and of not too
 -- many entries

@@ -36,7 +36,3 @@ without_job s = record s { job = None }
 abbrev pub written_by : Option Job → List Table
 written_by None = []
 written_by (Some job) = job.written
-
--- the last number of an epoch
-unfoldable pub last_epoch : ℕ
-last_epoch = 18446744073709551615

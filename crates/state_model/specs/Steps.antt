@@ -1,10 +1,11 @@
 -- What one line is answered, and the state that it leaves.
 use Rattle.std.specs.Prelude.{◌≡◌, ◌≢◌, ◌⊎◌, ◌<◌, ℕ, [], length, take, Option, Some, None, Result, Ok, Err, IsOk}
 use Rattle.byte_fields.specs.declared.parts.Damage.{Damage}
+use Rattle.key_base.specs.Limits.{last_epoch}
 use Rattle.map_model.specs.SortedMap.{Map, get}
 use Rattle.entry_model.specs.Entries.{put_entry, del_entry}
 use Rattle.map_model.specs.Slices.{slice, seek, count}
-use Rattle.state_model.specs.State.{State, without_job, last_epoch}
+use Rattle.state_model.specs.State.{State, without_job}
 use Rattle.state_model.specs.View.{memory, entries_of, state_map}
 use Rattle.table_model.specs.Tables.{FilterBytes}
 use Rattle.state_model.specs.Changes.{written, flushed, compacted, live_entries}

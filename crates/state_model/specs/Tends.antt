@@ -4,9 +4,10 @@ use Rattle.std.specs.List.{list_any, sum_by}
 use Rattle.byte_fields.specs.declared.parts.Damage.{Damage}
 use Rattle.extent_model.specs.Extents.{Extent}
 use Rattle.filter_api.specs.declared.settings.Settings.{Settings}
+use Rattle.key_base.specs.Limits.{last_epoch}
 use Rattle.map_model.specs.Slices.{is_before}
 use Rattle.entry_model.specs.Entries.{Entry}
-use Rattle.state_model.specs.State.{State, Job, without_job, last_epoch}
+use Rattle.state_model.specs.State.{State, Job, without_job}
 use Rattle.table_model.specs.Tables.{FilterBytes, Table}
 use Rattle.state_model.specs.View.{state_map}
 use Rattle.state_model.specs.Taken.{taken}

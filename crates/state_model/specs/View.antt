@@ -1,7 +1,8 @@
 -- What a state says of a key, and the sorted map that it is.
 use Rattle.std.specs.Prelude.{List, [], ◌∷◌, ◌++◌, map, flat_map, reverse, Option, None}
+use Rattle.std.specs.Option.{option_or}
 use Rattle.map_model.specs.SortedMap.{Bytes, Map}
-use Rattle.entry_model.specs.Entries.{Entry, map_of, or_else}
+use Rattle.entry_model.specs.Entries.{Entry, map_of}
 use Rattle.entry_model.specs.Newest.{newest_entries, lookup}
 use Rattle.state_model.specs.State.{State}
 use Rattle.table_model.specs.Tables.{Table}
@@ -17,7 +18,7 @@ sources s = memory s ∷ map (λ (t : Table). t.entries) s.tables
 -- what the first of them that has the key says of it
 abbrev pub first_found : List (List Entry) → Bytes → Option (Option Bytes)
 first_found [] key = None
-first_found (entries ∷ older) key = or_else (lookup entries key) (first_found older key)
+first_found (entries ∷ older) key = option_or (lookup entries key) (first_found older key)
 
 -- what the state says of the key: a value, a tombstone, or nothing
 abbrev pub view : State → Bytes → Option (Option Bytes)

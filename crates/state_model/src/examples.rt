@@ -17,28 +17,28 @@ ghost use Rattle.state_model.specs.Bounds.{get_bound, seek_bound};
 ghost use Rattle.state_model.specs.Play.{played, played_in_slices};
 ghost use Rattle.line_model.specs.Replies.{Done, Value, Missing, At, Pairs, End, Counted, About, Explained, Bye, Full, LongKey, ManyTables, LastEpoch, Memory, Device, Damaged, at_words, sum_word, text_of};
 ghost use Rattle.line_model.specs.Requests.{Put, Del, Get, Seek, Range, Count, Estimate, Explain, Flush, Compact, Quit, Bad, request_of};
-ghost use Rattle.state_model.specs.Examples.{all_read, all_written, cramped, small_store, one_byte, key, put_one, four_tables, three_tables, aa1_and_ab1, tombstone_over_a_value, two_values, table_at, store_with, pages_of_plan, place_of};
+ghost use Rattle.state_model.specs.Examples.{all_read, all_written, cramped, small_store, one_byte, key, put_one, four_tables, three_tables, aa1_and_ab1, tombstone_over_a_value, two_values, table_at, store_with, pages_of_plan, place_and_size};
 
 /// Tables that are flushed, merged and compacted.
-#[tactic(auto, unfolding(block_model::specs::Pages::pages_for, block_model::specs::Pages::block_length, block_model::specs::Pages::block_pages, block_model::specs::Pages::blocks_of, block_model::specs::Pages::data_pages, block_model::specs::Pages::index_length, entry_model::specs::Entries::filled, entry_model::specs::Entries::gap, crate::specs::State::last_epoch))]
+#[tactic(auto, unfolding(block_model::specs::Pages::pages_for, block_model::specs::Pages::block_length, block_model::specs::Pages::block_pages, block_model::specs::Pages::blocks_of, block_model::specs::Pages::data_pages, block_model::specs::Pages::index_length, entry_model::specs::Entries::filled, entry_model::specs::Entries::gap, key_base::specs::Limits::last_epoch))]
 pub fn merges_and_flushes()
     ensures a_tombstone_hides_and_a_compaction_drops_it { (played one_byte small_store (Put (key 0x61) (0x62 ∷ []) ∷ Flush ∷ Del (key 0x61) ∷ Flush ∷ Get (key 0x61) ∷ Compact ∷ Get (key 0x61) ∷ Explain (key 0x61) ∷ [])).0 ≡ Done ∷ Done ∷ Done ∷ Done ∷ Missing ∷ Done ∷ Missing ∷ Explained 0 0 0 ∷ [] }
-    ensures tables_stand_in_the_first_gaps { map place_of (played one_byte small_store four_tables).1.tables ≡ (0 ∷ 201 ∷ 3 ∷ 1 ∷ 1 ∷ []) ∷ (0 ∷ 198 ∷ 3 ∷ 1 ∷ 1 ∷ []) ∷ (0 ∷ 195 ∷ 3 ∷ 1 ∷ 1 ∷ []) ∷ (0 ∷ 192 ∷ 3 ∷ 1 ∷ 1 ∷ []) ∷ [] }
-    ensures four_tables_become_one { map place_of (played one_byte small_store (four_tables ++ put_one 0x65 ∷ [])).1.tables ≡ (1 ∷ 204 ∷ 3 ∷ 1 ∷ 4 ∷ []) ∷ [] }
+    ensures tables_stand_in_the_first_gaps { map place_and_size (played one_byte small_store four_tables).1.tables ≡ (0 ∷ 201 ∷ 3 ∷ 1 ∷ 1 ∷ []) ∷ (0 ∷ 198 ∷ 3 ∷ 1 ∷ 1 ∷ []) ∷ (0 ∷ 195 ∷ 3 ∷ 1 ∷ 1 ∷ []) ∷ (0 ∷ 192 ∷ 3 ∷ 1 ∷ 1 ∷ []) ∷ [] }
+    ensures four_tables_become_one { map place_and_size (played one_byte small_store (four_tables ++ put_one 0x65 ∷ [])).1.tables ≡ (1 ∷ 204 ∷ 3 ∷ 1 ∷ 4 ∷ []) ∷ [] }
     ensures the_merge_has_the_sixth_epoch { (played one_byte small_store (four_tables ++ put_one 0x65 ∷ [])).1.epoch ≡ 6 }
     ensures a_compaction_has_the_next_epoch { (played one_byte small_store (put_one 0x61 ∷ Compact ∷ [])).1.epoch ≡ 2 }
     ensures no_flush_at_the_last_epoch { (played one_byte (record small_store { epoch = 18446744073709551615 }) (put_one 0x61 ∷ Flush ∷ Get (key 0x61) ∷ Compact ∷ [])).0 ≡ Done ∷ LastEpoch ∷ Value (1 ∷ []) ∷ LastEpoch ∷ [] }
 {}
 
 /// What hides what, and where tables go.
-#[tactic(auto, unfolding(block_model::specs::Pages::pages_for, block_model::specs::Pages::block_length, block_model::specs::Pages::block_pages, block_model::specs::Pages::blocks_of, block_model::specs::Pages::data_pages, block_model::specs::Pages::index_length, entry_model::specs::Entries::filled, entry_model::specs::Entries::gap, crate::specs::State::last_epoch))]
+#[tactic(auto, unfolding(block_model::specs::Pages::pages_for, block_model::specs::Pages::block_length, block_model::specs::Pages::block_pages, block_model::specs::Pages::blocks_of, block_model::specs::Pages::data_pages, block_model::specs::Pages::index_length, entry_model::specs::Entries::filled, entry_model::specs::Entries::gap, key_base::specs::Limits::last_epoch))]
 pub fn levels_and_gaps()
-    ensures a_merge_keeps_a_tombstone_over_a_deeper_value { map place_of (played one_byte small_store (tombstone_over_a_value ++ put_one 0x65 ∷ [])).1.tables ≡ (1 ∷ 207 ∷ 3 ∷ 1 ∷ 4 ∷ []) ∷ (6 ∷ 192 ∷ 3 ∷ 1 ∷ 1 ∷ []) ∷ [] }
+    ensures a_merge_keeps_a_tombstone_over_a_deeper_value { map place_and_size (played one_byte small_store (tombstone_over_a_value ++ put_one 0x65 ∷ [])).1.tables ≡ (1 ∷ 207 ∷ 3 ∷ 1 ∷ 4 ∷ []) ∷ (6 ∷ 192 ∷ 3 ∷ 1 ∷ 1 ∷ []) ∷ [] }
     ensures it_still_hides_it { get (state_map (played one_byte small_store (tombstone_over_a_value ++ put_one 0x65 ∷ [])).1) (key 0x61) ≡ None }
     ensures the_newest_table_counts { (played one_byte small_store (two_values ++ Get (key 0x61) ∷ Put (key 0x61) (3 ∷ []) ∷ Get (key 0x61) ∷ [])).0 ≡ Done ∷ Done ∷ Done ∷ Done ∷ Value (2 ∷ []) ∷ Done ∷ Value (3 ∷ []) ∷ [] }
     ensures its_block_alone_is_read { get_bound (played one_byte small_store two_values).1 (key 0x61) ≡ 1 }
     ensures none_is_read_where_the_memory_has_it { get_bound (played one_byte small_store (two_values ++ put_one 0x61 ∷ [])).1 (key 0x61) ≡ 0 }
-    ensures a_table_goes_into_the_first_of_two_gaps { map place_of (played one_byte small_store (four_tables ++ put_one 0x65 ∷ Flush ∷ [])).1.tables ≡ (0 ∷ 192 ∷ 3 ∷ 1 ∷ 1 ∷ []) ∷ (1 ∷ 204 ∷ 3 ∷ 1 ∷ 4 ∷ []) ∷ [] }
+    ensures a_table_goes_into_the_first_of_two_gaps { map place_and_size (played one_byte small_store (four_tables ++ put_one 0x65 ∷ Flush ∷ [])).1.tables ≡ (0 ∷ 192 ∷ 3 ∷ 1 ∷ 1 ∷ []) ∷ (1 ∷ 204 ∷ 3 ∷ 1 ∷ 4 ∷ []) ∷ [] }
     ensures a_flush_of_nothing_changes_nothing { (played one_byte small_store (Flush ∷ Compact ∷ [])).1 ≡ small_store }
     ensures a_flush_empties_the_log { (played one_byte small_store (put_one 0x61 ∷ Flush ∷ [])).1.log ≡ [] }
     ensures a_compaction_too { (played one_byte small_store (put_one 0x61 ∷ Compact ∷ [])).1.log ≡ [] }
@@ -51,15 +51,15 @@ pub fn levels_and_gaps()
 {}
 
 /// A merge in merge slices of two blocks: two that read, one that writes, one that installs.
-#[tactic(auto, unfolding(block_model::specs::Pages::pages_for, block_model::specs::Pages::block_length, block_model::specs::Pages::block_pages, block_model::specs::Pages::blocks_of, block_model::specs::Pages::data_pages, block_model::specs::Pages::index_length, entry_model::specs::Entries::filled, entry_model::specs::Entries::gap, crate::specs::State::last_epoch))]
+#[tactic(auto, unfolding(block_model::specs::Pages::pages_for, block_model::specs::Pages::block_length, block_model::specs::Pages::block_pages, block_model::specs::Pages::blocks_of, block_model::specs::Pages::data_pages, block_model::specs::Pages::index_length, entry_model::specs::Entries::filled, entry_model::specs::Entries::gap, key_base::specs::Limits::last_epoch))]
 pub fn merges_in_slices()
-    ensures three_are_too_few { map place_of (played_in_slices one_byte 2 small_store (four_tables ++ replicate 3 (put_one 0x65))).1.tables ≡ (0 ∷ 201 ∷ 3 ∷ 1 ∷ 1 ∷ []) ∷ (0 ∷ 198 ∷ 3 ∷ 1 ∷ 1 ∷ []) ∷ (0 ∷ 195 ∷ 3 ∷ 1 ∷ 1 ∷ []) ∷ (0 ∷ 192 ∷ 3 ∷ 1 ∷ 1 ∷ []) ∷ [] }
-    ensures four_are_enough { map place_of (played_in_slices one_byte 2 small_store (four_tables ++ replicate 4 (put_one 0x65))).1.tables ≡ (1 ∷ 204 ∷ 3 ∷ 1 ∷ 4 ∷ []) ∷ [] }
-    ensures a_flush_between_them_stays { map place_of (played_in_slices one_byte 2 small_store (four_tables ++ put_one 0x65 ∷ Flush ∷ replicate 3 (put_one 0x66))).1.tables ≡ (0 ∷ 204 ∷ 3 ∷ 1 ∷ 1 ∷ []) ∷ (1 ∷ 207 ∷ 3 ∷ 1 ∷ 4 ∷ []) ∷ [] }
+    ensures three_are_too_few { map place_and_size (played_in_slices one_byte 2 small_store (four_tables ++ replicate 3 (put_one 0x65))).1.tables ≡ (0 ∷ 201 ∷ 3 ∷ 1 ∷ 1 ∷ []) ∷ (0 ∷ 198 ∷ 3 ∷ 1 ∷ 1 ∷ []) ∷ (0 ∷ 195 ∷ 3 ∷ 1 ∷ 1 ∷ []) ∷ (0 ∷ 192 ∷ 3 ∷ 1 ∷ 1 ∷ []) ∷ [] }
+    ensures four_are_enough { map place_and_size (played_in_slices one_byte 2 small_store (four_tables ++ replicate 4 (put_one 0x65))).1.tables ≡ (1 ∷ 204 ∷ 3 ∷ 1 ∷ 4 ∷ []) ∷ [] }
+    ensures a_flush_between_them_stays { map place_and_size (played_in_slices one_byte 2 small_store (four_tables ++ put_one 0x65 ∷ Flush ∷ replicate 3 (put_one 0x66))).1.tables ≡ (0 ∷ 204 ∷ 3 ∷ 1 ∷ 1 ∷ []) ∷ (1 ∷ 207 ∷ 3 ∷ 1 ∷ 4 ∷ []) ∷ [] }
 {}
 
 /// Reads between two keys, and their bounds.
-#[tactic(auto, unfolding(block_model::specs::Pages::pages_for, block_model::specs::Pages::block_length, block_model::specs::Pages::block_pages, block_model::specs::Pages::blocks_of, block_model::specs::Pages::data_pages, block_model::specs::Pages::index_length, entry_model::specs::Entries::filled, entry_model::specs::Entries::gap, crate::specs::State::last_epoch))]
+#[tactic(auto, unfolding(block_model::specs::Pages::pages_for, block_model::specs::Pages::block_length, block_model::specs::Pages::block_pages, block_model::specs::Pages::blocks_of, block_model::specs::Pages::data_pages, block_model::specs::Pages::index_length, entry_model::specs::Entries::filled, entry_model::specs::Entries::gap, key_base::specs::Limits::last_epoch))]
 pub fn reads_between_keys()
     ensures a_seek_steps_over_deleted_keys { (played one_byte small_store (three_tables ++ Seek (key 1) (Some (key 10)) ∷ [])).0 ≡ Done ∷ Done ∷ Done ∷ Done ∷ Done ∷ Done ∷ Done ∷ Done ∷ Done ∷ Done ∷ Done ∷ Done ∷ Done ∷ Done ∷ Done ∷ At (key 3) (1 ∷ []) ∷ [] }
     ensures its_bound_counts_them { seek_bound (played one_byte small_store three_tables).1 (key 1) (key 10) ≡ 7 }
@@ -71,7 +71,7 @@ pub fn reads_between_keys()
 {}
 
 /// Where want of memory, a failed read and a failed write may be met, and what these leave.
-#[tactic(auto, unfolding(block_model::specs::Pages::pages_for, block_model::specs::Pages::block_length, block_model::specs::Pages::block_pages, block_model::specs::Pages::blocks_of, block_model::specs::Pages::data_pages, block_model::specs::Pages::index_length, entry_model::specs::Entries::filled, entry_model::specs::Entries::gap, crate::specs::State::last_epoch))]
+#[tactic(auto, unfolding(block_model::specs::Pages::pages_for, block_model::specs::Pages::block_length, block_model::specs::Pages::block_pages, block_model::specs::Pages::blocks_of, block_model::specs::Pages::data_pages, block_model::specs::Pages::index_length, entry_model::specs::Entries::filled, entry_model::specs::Entries::gap, key_base::specs::Limits::last_epoch))]
 pub fn where_faults_are_met()
     ensures a_get_reads_a_table { Reads (played one_byte small_store two_values).1 (Get (key 0x61)) }
     ensures but_not_where_the_memory_has_the_key { Reads (played one_byte small_store (two_values ++ put_one 0x61 ∷ [])).1 (Get (key 0x61)) → ⊥ }
@@ -86,7 +86,7 @@ pub fn where_faults_are_met()
 {}
 
 /// What reads: what a filter admits, and what it does not deny, such as an open seek.
-#[tactic(auto, unfolding(block_model::specs::Pages::pages_for, block_model::specs::Pages::block_length, block_model::specs::Pages::block_pages, block_model::specs::Pages::blocks_of, block_model::specs::Pages::data_pages, block_model::specs::Pages::index_length, entry_model::specs::Entries::filled, entry_model::specs::Entries::gap, crate::specs::State::last_epoch))]
+#[tactic(auto, unfolding(block_model::specs::Pages::pages_for, block_model::specs::Pages::block_length, block_model::specs::Pages::block_pages, block_model::specs::Pages::blocks_of, block_model::specs::Pages::data_pages, block_model::specs::Pages::index_length, entry_model::specs::Entries::filled, entry_model::specs::Entries::gap, key_base::specs::Limits::last_epoch))]
 pub fn where_filters_admit()
     ensures a_get_that_the_filter_admits { Reads (played one_byte small_store aa1_and_ab1).1 (Get (codes "aa9")) }
     ensures not_one_that_it_denies { Reads (played one_byte small_store aa1_and_ab1).1 (Get (codes "ac0")) → ⊥ }
@@ -102,7 +102,7 @@ pub fn where_filters_admit()
 {}
 
 /// Which lines write, and which take memory.
-#[tactic(auto, unfolding(block_model::specs::Pages::pages_for, block_model::specs::Pages::block_length, block_model::specs::Pages::block_pages, block_model::specs::Pages::blocks_of, block_model::specs::Pages::data_pages, block_model::specs::Pages::index_length, entry_model::specs::Entries::filled, entry_model::specs::Entries::gap, crate::specs::State::last_epoch))]
+#[tactic(auto, unfolding(block_model::specs::Pages::pages_for, block_model::specs::Pages::block_length, block_model::specs::Pages::block_pages, block_model::specs::Pages::blocks_of, block_model::specs::Pages::data_pages, block_model::specs::Pages::index_length, entry_model::specs::Entries::filled, entry_model::specs::Entries::gap, key_base::specs::Limits::last_epoch))]
 pub fn where_something_is_written()
     ensures a_put { Writes one_byte small_store (put_one 0x61) }
     ensures a_del { Writes one_byte small_store (Del (key 0x61)) }
@@ -114,7 +114,7 @@ pub fn where_something_is_written()
 {}
 
 /// What a merge slice writes, and how it is refused. A table of one entry takes three pages.
-#[tactic(auto, unfolding(block_model::specs::Pages::pages_for, block_model::specs::Pages::block_length, block_model::specs::Pages::block_pages, block_model::specs::Pages::blocks_of, block_model::specs::Pages::data_pages, block_model::specs::Pages::index_length, entry_model::specs::Entries::filled, entry_model::specs::Entries::gap, crate::specs::State::last_epoch))]
+#[tactic(auto, unfolding(block_model::specs::Pages::pages_for, block_model::specs::Pages::block_length, block_model::specs::Pages::block_pages, block_model::specs::Pages::blocks_of, block_model::specs::Pages::data_pages, block_model::specs::Pages::index_length, entry_model::specs::Entries::filled, entry_model::specs::Entries::gap, key_base::specs::Limits::last_epoch))]
 pub fn what_a_merge_slice_writes()
     ensures an_output_that_has_room { MayWrite one_byte (played one_byte small_store four_tables).1 (all_read (played one_byte small_store four_tables).1) }
     ensures none_without_room { MayWrite one_byte cramped (all_read cramped) → ⊥ }
@@ -135,7 +135,7 @@ pub fn what_is_not_of_bytes()
 {}
 
 /// Lines that were answered, the last with a reply that ends a script.
-#[tactic(auto, unfolding(block_model::specs::Pages::pages_for, block_model::specs::Pages::block_length, block_model::specs::Pages::block_pages, block_model::specs::Pages::blocks_of, block_model::specs::Pages::data_pages, block_model::specs::Pages::index_length, entry_model::specs::Entries::filled, entry_model::specs::Entries::gap, crate::specs::State::last_epoch, hex::specs::Hex::decode_pairs))]
+#[tactic(auto, unfolding(block_model::specs::Pages::pages_for, block_model::specs::Pages::block_length, block_model::specs::Pages::block_pages, block_model::specs::Pages::blocks_of, block_model::specs::Pages::data_pages, block_model::specs::Pages::index_length, entry_model::specs::Entries::filled, entry_model::specs::Entries::gap, key_base::specs::Limits::last_epoch, hex::specs::Hex::decode_pairs))]
 pub fn lines_that_were_answered()
     ensures a_put_goes_on { WentOn (λ why. ⊥) one_byte (λ said s. ⊤) 0 small_store (codes "put 61 62" ∷ []) (codes "ok" ++ 10 ∷ []) (played one_byte small_store (Put (key 0x61) (0x62 ∷ []) ∷ [])).1 }
     ensures and_a_quit_is_answered { Answers (λ why. ⊥) one_byte (λ said s. ⊤) 0 small_store (codes "put 61 62" ∷ codes "quit" ∷ []) (codes "ok" ++ 10 ∷ codes "bye" ++ 10 ∷ []) (played one_byte small_store (Put (key 0x61) (0x62 ∷ []) ∷ [])).1 }
@@ -143,7 +143,7 @@ pub fn lines_that_were_answered()
 {}
 
 /// A quit is said in a state that has R, as any reply that is no fault.
-#[tactic(auto, unfolding(block_model::specs::Pages::pages_for, block_model::specs::Pages::block_length, block_model::specs::Pages::block_pages, block_model::specs::Pages::blocks_of, block_model::specs::Pages::data_pages, block_model::specs::Pages::index_length, entry_model::specs::Entries::filled, entry_model::specs::Entries::gap, crate::specs::State::last_epoch, hex::specs::Hex::decode_pairs))]
+#[tactic(auto, unfolding(block_model::specs::Pages::pages_for, block_model::specs::Pages::block_length, block_model::specs::Pages::block_pages, block_model::specs::Pages::blocks_of, block_model::specs::Pages::data_pages, block_model::specs::Pages::index_length, entry_model::specs::Entries::filled, entry_model::specs::Entries::gap, key_base::specs::Limits::last_epoch, hex::specs::Hex::decode_pairs))]
 pub fn what_a_quit_is_said_in()
     ensures no_answer_where_no_state_has_it { Answers (λ why. ⊤) one_byte (λ said s. ⊥) 0 small_store (codes "quit" ∷ []) (codes "bye" ++ 10 ∷ []) small_store → ⊥ }
     ensures and_no_script { Script (λ why. ⊤) one_byte (λ said s. ⊥) 0 small_store (codes "quit" ∷ []) (codes "bye" ++ 10 ∷ []) AtQuit → ⊥ }

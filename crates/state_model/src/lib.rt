@@ -8,7 +8,8 @@
 //! that runs is not here.
 //!
 //! ```text
-//! played filter_bytes (new_state settings 512) (Put key value ∷ Flush ∷ Get key ∷ [])   -- the replies, and the state behind them
+//! -- the replies, and the state behind them
+//! played filter_bytes (new_state settings 512) (Put key value ∷ Flush ∷ Get key ∷ [])
 //! ```
 #![tactic(auto)]
 

@@ -7,7 +7,7 @@ use filter_api::RangeFilter;
 use key_base::PAGE_BYTES;
 use real_outside::FileOutside;
 use std::alloc::{AllocError, Global};
-use table_file::LARGEST_BLOCK_BYTES;
+use table_file::{LARGEST_BLOCK_BYTES, TableCursor};
 
 /// A key, and the block that is read for it.
 #[derive(Drop)]
@@ -35,16 +35,20 @@ pub fn gets(
 ) -> Result<usize> {
     let mut found = 0usize;
     for query in queries {
-        if buf.len() < LARGEST_BLOCK_BYTES {
-            bail!("no room for a block");
-        }
-        match made.table.get(disk, &query.key, buf) {
-            Ok(Some(Some(_))) => found = found.saturating_add(1),
-            Ok(_) => {}
-            Err(_) => bail!("a get failed"),
-        }
+        found = found.saturating_add(get(disk, made, query, buf)?);
     }
     Ok(found)
+}
+
+// 1 where a get gives a value.
+fn get(disk: &mut FileOutside, made: &Made, query: &Query, buf: &mut [u8]) -> Result<usize> {
+    if buf.len() < LARGEST_BLOCK_BYTES {
+        bail!("no room for a block");
+    }
+    match made.table.get(disk, &query.key, buf) {
+        Ok(found) => Ok(usize::from(matches!(found, Some(Some(_))))),
+        Err(_) => bail!("a get failed"),
+    }
 }
 
 /// What a get does behind its look-up in index and filter: how many keys have a value.
@@ -54,32 +58,46 @@ pub fn reads_and_finds(
     queries: &[Query],
     buf: &mut [u8],
 ) -> Result<usize> {
-    let table = &made.table;
     let mut found = 0usize;
     for query in queries {
-        let n = query.block;
-        if buf.len() < LARGEST_BLOCK_BYTES || n >= table.blocks() {
-            bail!("no room for a block, or no block");
-        }
-        let Ok(size) = table.read_block(disk, n, buf) else {
-            bail!("a read failed");
-        };
-        match table.find_in(n, &buf[..size], &query.key) {
-            Ok(Some(Some(_))) => found = found.saturating_add(1),
-            Ok(_) => {}
-            Err(_) => bail!("a block is broken"),
-        }
+        found = found.saturating_add(read_and_find(disk, made, query, buf)?);
     }
     Ok(found)
+}
+
+// 1 where the key has a value in its block.
+fn read_and_find(
+    disk: &mut FileOutside,
+    made: &Made,
+    query: &Query,
+    buf: &mut [u8],
+) -> Result<usize> {
+    let n = query.block;
+    if buf.len() < LARGEST_BLOCK_BYTES || n >= made.table.blocks() {
+        bail!("no room for a block, or no block");
+    }
+    match made.table.read_block(disk, n, buf) {
+        Ok(size) => find(made, n, &buf[..size], &query.key),
+        Err(_) => bail!("a read failed"),
+    }
+}
+
+// 1 where the key has a value among the bytes of a block.
+fn find(made: &Made, n: u32, bytes: &[u8], key: &[u8]) -> Result<usize> {
+    if bytes.len() > LARGEST_BLOCK_BYTES || n >= made.table.blocks() {
+        bail!("no block");
+    }
+    match made.table.find_in(n, bytes, key) {
+        Ok(found) => Ok(usize::from(matches!(found, Some(Some(_))))),
+        Err(_) => bail!("a block is broken"),
+    }
 }
 
 /// The look-up in index and filter: for how many keys a block would be read.
 pub fn blocks_for(made: &Made, queries: &[Query]) -> usize {
     let mut some = 0usize;
     for query in queries {
-        if made.table.block_for(&query.key).is_some() {
-            some = some.saturating_add(1);
-        }
+        some = some.saturating_add(usize::from(made.table.block_for(&query.key).is_some()));
     }
     some
 }
@@ -88,9 +106,7 @@ pub fn blocks_for(made: &Made, queries: &[Query]) -> usize {
 pub fn filtered(made: &Made, queries: &[Query]) -> usize {
     let mut some = 0usize;
     for query in queries {
-        if made.table.filter().may_hold(&query.key) {
-            some = some.saturating_add(1);
-        }
+        some = some.saturating_add(usize::from(made.table.filter().may_hold(&query.key)));
     }
     some
 }
@@ -131,11 +147,15 @@ pub fn walk(alloc: Global, disk: &mut FileOutside, made: &Made, pairs: u32) -> R
     let mut cursor = made.table.cursor(alloc, b"")?;
     let mut walked = 0usize;
     for _ in 0..pairs {
-        match cursor.next(disk, &made.table) {
-            Ok(Some(_)) => walked = walked.saturating_add(1),
-            Ok(None) => return Ok(walked),
-            Err(_) => bail!("a walk failed"),
-        }
+        walked = walked.saturating_add(step(disk, made, &mut cursor)?);
     }
     Ok(walked)
+}
+
+// 1 where a walk has another entry.
+fn step(disk: &mut FileOutside, made: &Made, cursor: &mut TableCursor) -> Result<usize> {
+    match cursor.next(disk, &made.table) {
+        Ok(entry) => Ok(usize::from(entry.is_some())),
+        Err(_) => bail!("a walk failed"),
+    }
 }

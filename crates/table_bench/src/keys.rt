@@ -18,6 +18,20 @@ pub struct Load {
 }
 
 impl Load {
+    /// The load that these words say: pairs, bytes of a key and of a value, calls, seed.
+    pub fn parse(words: &[String]) -> Result<Load> {
+        let [pairs, key, value, calls, seed] = words else {
+            bail!("five numbers are wanted");
+        };
+        Ok(Load {
+            pairs: u32::try_from(number(pairs)?)?,
+            key: number(key)? as usize,
+            value: number(value)? as usize,
+            calls: number(calls)? as usize,
+            seed: number(seed)?,
+        })
+    }
+
     /// Whether there are pairs, whose keys are long enough to differ, and short enough.
     pub fn check(&self) -> Result<()> {
         if self.pairs == 0 || self.calls == 0 {
@@ -28,6 +42,11 @@ impl Load {
         }
         Ok(())
     }
+}
+
+// The number that a word says.
+fn number(word: &String) -> Result<u64> {
+    Ok(word.as_str().parse::<u64>()?)
 }
 
 /// Makes `key` the last `width` bytes of a number, highest first. The pairs have the even numbers from 0 on.

@@ -11,6 +11,7 @@
 #![tactic(auto)]
 
 mod calls;
+mod counts;
 mod keys;
 mod made;
 mod report;
@@ -30,23 +31,17 @@ const USAGE: &str = "usage: table_bench times|counts PATH PAIRS KEY VALUE CALLS 
 
 fn main(rt: HostRuntime) -> Result<()> {
     let words: Vec<String> = env::args(&rt)?.skip(1).collect(rt.alloc())?;
-    let [what, path, pairs, key, value, calls, seed] = words.as_slice() else {
+    let [what, path, numbers @ ..] = words.as_slice() else {
         println!(rt; "{USAGE}")?;
         return Ok(());
     };
-    let load = Load {
-        pairs: pairs.as_str().parse::<u32>()?,
-        key: key.as_str().parse::<usize>()?,
-        value: value.as_str().parse::<usize>()?,
-        calls: calls.as_str().parse::<usize>()?,
-        seed: seed.as_str().parse::<u64>()?,
-    };
+    let load = Load::parse(numbers)?;
     let copy = String::from_str(rt.alloc(), path.as_str())?;
     let mut disk = FileOutside::at(rt, copy);
     let made = Made::new(rt.alloc(), &mut disk, &load)?;
     match what.as_str() {
         "times" => rounds::times(&rt, rt.alloc(), &mut disk, &load, &made),
-        "counts" => rounds::counts(&rt, rt.alloc(), &mut disk, &load, &made),
+        "counts" => counts::counts(&rt, rt.alloc(), &mut disk, &load, &made),
         _ => bail!("neither times nor counts"),
     }
 }

@@ -46,8 +46,30 @@ impl Least {
     }
 }
 
-/// Prints nanoseconds of a call, those of its floor, what lies between, and their ratio.
-pub fn print(rt: &impl Print, name: &str, call: f64, floor: f64) -> io::Result<()> {
+/// The least times of some calls, and of their floor.
+#[derive(Clone, Copy)]
+pub struct Measured {
+    pub call: Least,
+    pub floor: Least,
+}
+
+impl Measured {
+    pub fn new() -> Measured {
+        Measured {
+            call: Least::new(),
+            floor: Least::new(),
+        }
+    }
+
+    /// Nanoseconds of one of so many, and of its floor.
+    pub fn of_one(&self, count: usize) -> (f64, f64) {
+        (self.call.of_one(count), self.floor.of_one(count))
+    }
+}
+
+/// Prints nanoseconds of a call and of its floor, what lies between, and their ratio.
+pub fn print(rt: &impl Print, name: &str, times: (f64, f64)) -> io::Result<()> {
+    let (call, floor) = times;
     println!(rt;
         "{name}: {call:.0} ns, floor {floor:.0} ns, beyond it {:.0} ns, ratio {:.2}",
         call - floor,

@@ -1,46 +1,18 @@
-//! The calls of a load, once or in rounds.
+//! The calls of a load, in rounds that measure them.
 use crate::calls::{
-    Query, blocks_for, filtered, gets, pages_summed, queries, reads_and_finds, reads_and_sums, walk,
+    Query, blocks_for, filtered, pages_summed, queries, reads_and_finds, reads_and_sums, walk,
 };
 use crate::keys::{Load, random_keys};
 use crate::made::{Made, build};
-use crate::report::{Least, Watch, print};
+use crate::report::{Least, Measured, Watch, print};
 use anyhow::{Result, bail};
 use real_outside::FileOutside;
 use std::alloc::Global;
-use std::time::CpuClock;
+use std::time::{CpuClock, Duration};
 use table_file::{LARGEST_BLOCK_BYTES, pages_of};
 
 // The least time of so many counts.
-const ROUNDS: u32 = 15;
-
-/// Prints what the calls of a load find, once.
-pub fn counts(
-    rt: &impl Print,
-    alloc: Global,
-    disk: &mut FileOutside,
-    load: &Load,
-    made: &Made,
-) -> Result<()> {
-    let mut buf = vec![in alloc; 0; LARGEST_BLOCK_BYTES]?;
-    let there = queries(alloc, made, random_keys(alloc, load, 0)?)?;
-    let others = queries(alloc, made, random_keys(alloc, load, 1)?)?;
-    let found = gets(disk, made, &there, &mut buf)?;
-    let found_among_others = gets(disk, made, &others, &mut buf)?;
-    let walked = walk(alloc, disk, made, load.pairs)?;
-    println!(rt;
-        "{} pairs, {} blocks, {} pages of index, {} of filter",
-        load.pairs, made.row.data_pages, made.row.index_pages, made.row.filter_pages
-    )?;
-    println!(rt; "found {found} of {} keys that are there", there.len())?;
-    println!(rt;
-        "found {found_among_others} of {} others, {} admitted by the filter",
-        others.len(),
-        filtered(made, &others)
-    )?;
-    println!(rt; "walked {walked}")?;
-    Ok(())
-}
+const ROUNDS: u32 = 100;
 
 /// Prints what each call of a load takes, beside its floor.
 pub fn times(
@@ -50,12 +22,14 @@ pub fn times(
     load: &Load,
     made: &Made,
 ) -> Result<()> {
-    let there = queries(alloc, made, random_keys(alloc, load, 0)?)?;
-    let others = queries(alloc, made, random_keys(alloc, load, 1)?)?;
-    times_of_gets(rt, alloc, disk, made, &there)?;
-    times_of_denials(rt, made, &others)?;
-    times_of_walks(rt, alloc, disk, load, made)?;
-    times_of_builds(rt, alloc, disk, load)
+    times_of_gets(rt, alloc, disk, load, made)?;
+    times_of_denials(rt, alloc, load, made)?;
+    let pairs = load.pairs as usize;
+    let walks = measure_walks(rt, alloc, disk, made, load.pairs)?;
+    print(rt, "a step of a walk", walks.of_one(pairs))?;
+    let builds = measure_builds(rt, alloc, disk, load)?;
+    print(rt, "an entry of a build", builds.of_one(pairs))?;
+    Ok(())
 }
 
 // A get of a key that is there: its block in the index, a read, a sum and a search. The filter is told apart.
@@ -63,122 +37,188 @@ fn times_of_gets(
     rt: &(impl CpuClock + Print),
     alloc: Global,
     disk: &mut FileOutside,
+    load: &Load,
     made: &Made,
-    there: &[Query],
 ) -> Result<()> {
-    let mut buf = vec![in alloc; 0; LARGEST_BLOCK_BYTES]?;
-    let mut search = Least::new();
-    let mut floor = Least::new();
-    let sum = reads_and_sums(disk, there, &mut buf)?;
-    for _ in 0..ROUNDS {
-        let watch = Watch::start(rt)?;
-        let found = reads_and_finds(disk, made, there, &mut buf)?;
-        search.keep(watch.stop(rt)?);
-        let watch = Watch::start(rt)?;
-        let again = reads_and_sums(disk, there, &mut buf)?;
-        floor.keep(watch.stop(rt)?);
-        if found != there.len() || again != sum {
-            bail!("a key was lost");
-        }
-    }
-    let (index, filter) = times_of_look_ups(rt, made, there)?;
+    let there = queries(alloc, made, random_keys(alloc, load, 0)?)?;
+    let (index, filter) = measure_look_ups(rt, made, &there)?;
     println!(rt; "of a key that is there: index {index:.0} ns, filter {filter:.0} ns")?;
-    let of_one = index + search.of_one(there.len());
+    let (search, floor) = measure_searches(rt, alloc, disk, made, &there)?.of_one(there.len());
     print(
         rt,
         "a get of it, without the filter",
-        of_one,
-        floor.of_one(there.len()),
+        (index + search, floor),
     )?;
     Ok(())
 }
 
 // A get of a key that the filter denies reads nothing.
-fn times_of_denials(rt: &(impl CpuClock + Print), made: &Made, others: &[Query]) -> Result<()> {
-    let (index, filter) = times_of_look_ups(rt, made, others)?;
+fn times_of_denials(
+    rt: &(impl CpuClock + Print),
+    alloc: Global,
+    load: &Load,
+    made: &Made,
+) -> Result<()> {
+    let others = queries(alloc, made, random_keys(alloc, load, 1)?)?;
+    let (index, filter) = measure_look_ups(rt, made, &others)?;
     println!(rt; "of another key: index {index:.0} ns, filter {filter:.0} ns")?;
     Ok(())
 }
 
+// ---- least times
+
+fn measure_searches(
+    rt: &impl CpuClock,
+    alloc: Global,
+    disk: &mut FileOutside,
+    made: &Made,
+    there: &[Query],
+) -> Result<Measured> {
+    let mut buf = vec![in alloc; 0; LARGEST_BLOCK_BYTES]?;
+    let mut measured = Measured::new();
+    for _ in 0..ROUNDS {
+        measured
+            .call
+            .keep(time_searches(rt, disk, made, there, &mut buf)?);
+        measured.floor.keep(time_sums(rt, disk, there, &mut buf)?);
+    }
+    Ok(measured)
+}
+
 // Nanoseconds that a key takes in the index, and in the filter.
-fn times_of_look_ups(rt: &impl CpuClock, made: &Made, queries: &[Query]) -> Result<(f64, f64)> {
+fn measure_look_ups(rt: &impl CpuClock, made: &Made, queries: &[Query]) -> Result<(f64, f64)> {
     let mut both = Least::new();
     let mut filter = Least::new();
     for _ in 0..ROUNDS {
-        let watch = Watch::start(rt)?;
-        let some = blocks_for(made, queries);
-        both.keep(watch.stop(rt)?);
-        let watch = Watch::start(rt)?;
-        let admitted = filtered(made, queries);
-        filter.keep(watch.stop(rt)?);
-        if some != admitted {
-            bail!("a key was lost");
-        }
+        let (all, admitted) = time_look_ups(rt, made, queries)?;
+        both.keep(all);
+        filter.keep(admitted);
     }
     let filter = filter.of_one(queries.len());
     Ok((both.of_one(queries.len()) - filter, filter))
 }
 
-// A step of a walk over the whole table.
-fn times_of_walks(
-    rt: &(impl CpuClock + Print),
+fn measure_walks(
+    rt: &impl CpuClock,
     alloc: Global,
     disk: &mut FileOutside,
-    load: &Load,
     made: &Made,
-) -> Result<()> {
+    pairs: u32,
+) -> Result<Measured> {
     let mut buf = vec![in alloc; 0; LARGEST_BLOCK_BYTES]?;
-    let pairs = load.pairs as usize;
-    let mut walks = Least::new();
-    let mut floor = Least::new();
-    let sum = pages_summed(disk, made.row.data_pages, &mut buf)?;
+    let mut measured = Measured::new();
     for _ in 0..ROUNDS {
-        let watch = Watch::start(rt)?;
-        let walked = walk(alloc, disk, made, load.pairs)?;
-        walks.keep(watch.stop(rt)?);
-        let watch = Watch::start(rt)?;
-        let again = pages_summed(disk, made.row.data_pages, &mut buf)?;
-        floor.keep(watch.stop(rt)?);
-        if walked != pairs || again != sum {
-            bail!("an entry was lost");
-        }
+        measured.call.keep(time_walk(rt, alloc, disk, made, pairs)?);
+        measured
+            .floor
+            .keep(time_pages(rt, disk, made.row.data_pages, &mut buf)?);
     }
-    print(
-        rt,
-        "a step of a walk",
-        walks.of_one(pairs),
-        floor.of_one(pairs),
-    )?;
-    Ok(())
+    Ok(measured)
 }
 
-// An entry of a build: blocks, index and filter in memory. Its floor reads and sums the pages of all three.
-fn times_of_builds(
-    rt: &(impl CpuClock + Print),
+// Blocks, index and filter in memory. The floor reads and sums the pages of all three.
+fn measure_builds(
+    rt: &impl CpuClock,
     alloc: Global,
     disk: &mut FileOutside,
     load: &Load,
-) -> Result<()> {
+) -> Result<Measured> {
     let mut buf = vec![in alloc; 0; LARGEST_BLOCK_BYTES]?;
-    let pairs = load.pairs as usize;
-    let mut builds = Least::new();
-    let mut floor = Least::new();
-    let mut sum = 0u64;
+    let mut measured = Measured::new();
     for _ in 0..ROUNDS {
-        let watch = Watch::start(rt)?;
-        let parts = build(alloc, load)?;
-        builds.keep(watch.stop(rt)?);
-        let pages = u32::try_from(pages_of(&parts))?;
-        let watch = Watch::start(rt)?;
-        sum = sum.wrapping_add(pages_summed(disk, pages, &mut buf)?);
-        floor.keep(watch.stop(rt)?);
+        let (time, pages) = time_build(rt, alloc, load)?;
+        measured.call.keep(time);
+        measured.floor.keep(time_pages(rt, disk, pages, &mut buf)?);
     }
-    println!(rt; "sum of all pages {sum}")?;
-    print(
-        rt,
-        "an entry of a build",
-        builds.of_one(pairs),
-        floor.of_one(pairs),
-    )?;
-    Ok(())
+    Ok(measured)
+}
+
+// ---- one time
+
+fn time_searches(
+    rt: &impl CpuClock,
+    disk: &mut FileOutside,
+    made: &Made,
+    there: &[Query],
+    buf: &mut [u8],
+) -> Result<Duration> {
+    let watch = Watch::start(rt)?;
+    let found = reads_and_finds(disk, made, there, buf)?;
+    let time = watch.stop(rt)?;
+    if found != there.len() {
+        bail!("a key was lost");
+    }
+    Ok(time)
+}
+
+fn time_sums(
+    rt: &impl CpuClock,
+    disk: &mut FileOutside,
+    there: &[Query],
+    buf: &mut [u8],
+) -> Result<Duration> {
+    let watch = Watch::start(rt)?;
+    let sum = reads_and_sums(disk, there, buf)?;
+    let time = watch.stop(rt)?;
+    if sum == 0 {
+        bail!("no sum");
+    }
+    Ok(time)
+}
+
+// Of index and filter, and of the filter alone.
+fn time_look_ups(
+    rt: &impl CpuClock,
+    made: &Made,
+    queries: &[Query],
+) -> Result<(Duration, Duration)> {
+    let watch = Watch::start(rt)?;
+    let some = blocks_for(made, queries);
+    let both = watch.stop(rt)?;
+    let watch = Watch::start(rt)?;
+    let admitted = filtered(made, queries);
+    let filter = watch.stop(rt)?;
+    if some != admitted {
+        bail!("a key was lost");
+    }
+    Ok((both, filter))
+}
+
+fn time_walk(
+    rt: &impl CpuClock,
+    alloc: Global,
+    disk: &mut FileOutside,
+    made: &Made,
+    pairs: u32,
+) -> Result<Duration> {
+    let watch = Watch::start(rt)?;
+    let walked = walk(alloc, disk, made, pairs)?;
+    let time = watch.stop(rt)?;
+    if walked != pairs as usize {
+        bail!("an entry was lost");
+    }
+    Ok(time)
+}
+
+fn time_pages(
+    rt: &impl CpuClock,
+    disk: &mut FileOutside,
+    pages: u32,
+    buf: &mut [u8],
+) -> Result<Duration> {
+    let watch = Watch::start(rt)?;
+    let sum = pages_summed(disk, pages, buf)?;
+    let time = watch.stop(rt)?;
+    if sum == 0 {
+        bail!("no sum");
+    }
+    Ok(time)
+}
+
+// Of the parts, and how many pages they have.
+fn time_build(rt: &impl CpuClock, alloc: Global, load: &Load) -> Result<(Duration, u32)> {
+    let watch = Watch::start(rt)?;
+    let parts = build(alloc, load)?;
+    let time = watch.stop(rt)?;
+    Ok((time, u32::try_from(pages_of(&parts))?))
 }

@@ -9,10 +9,10 @@ use Rattle.block_model.specs.BlockReading.{entries_in}
 use Rattle.block_model.specs.Order.{is_any}
 use Rattle.block_format.specs.Reading.{Stand}
 use Rattle.block_format.specs.Spans.{StandsIn, part_of, spanned}
-use Rattle.block_format.specs.declared.span.Span.{Span}
-use Rattle.table_file.specs.Walks.{Held, first_of}
+use Rattle.block_format.specs.declared.span.EntrySpan.{EntrySpan}
+use Rattle.table_file.specs.Walks.{BlockInHand, first_of}
 
-abbrev pub nowhere : Span
+abbrev pub nowhere : EntrySpan
 nowhere = record { at = 0; end = 0; left = 0 }
 
 pub stands_nowhere : (bytes : Bytes) → StandsIn (record { at = 0; end = 0; left = 0 }) bytes
@@ -36,7 +36,7 @@ pub filled : (n : ℕ) (new old : Bytes) → length new ≡ length old → lengt
 filled n new old same long = take_at new (drop (length new) old) n (same ∙ long)
 
 -- what stands in the front of a buffer stands in it
-module _ (span : Span) (n : ℕ) (bytes : Bytes) (le : n ≤ length bytes) (stands : StandsIn span (take n bytes)) where
+module _ (span : EntrySpan) (n : ℕ) (bytes : Bytes) (le : n ≤ length bytes) (stands : StandsIn span (take n bytes)) where
   front : length (take n bytes) ≡ n
   front = length-take-le n bytes le
 
@@ -59,7 +59,7 @@ module _ (span : Span) (n : ℕ) (bytes : Bytes) (le : n ≤ length bytes) (stan
   pub spanned_wider : spanned span bytes ≡ spanned span (take n bytes)
   spanned_wider = ap (entries_in span.left) (sym same_part)
 
-abbrev pub held : List Entry → List Entry → Held
+abbrev pub held : List Entry → List Entry → BlockInHand
 held here rest = record { now = first_of here; later = rest }
 
 -- a buffer of which nothing is held

@@ -1,11 +1,12 @@
 -- How the rules of an index go on from one row to the next, and when none is broken.
 use Rattle.std.proofs.Common.{◌≡◌, ◌≤◌, ◌<◌, ◌+◌, ◌-◌, ℕ, suc, Bool, List, [], ◌∷◌, ◌++◌, length, drop, refl, sym, ap, ap₂, ◌∙◌, subst, arith, append_assoc, get_or}
+use Rattle.std.specs.Option.{option_or}
 use Rattle.std.specs.Prelude.{Option, Some, None, flat_map}
 use Rattle.std.proofs.lemmas.List.{append-nil, map-append}
 use Rattle.std.proofs.Math.Seq.{drop-cons}
 use Rattle.std.proofs.lemmas.List.Sums.{sum_by-cons}
 use Rattle.std.proofs.lemmas.Bool.{eq-eqb, le-ltb, lt-ltb}
-use Rattle.byte_fields.specs.Faults.{Fault, fault, or_fault, refuse}
+use Rattle.byte_fields.specs.Faults.{Fault, fault, refuse}
 use Rattle.byte_fields.specs.Spelling.{IsBytes}
 use Rattle.map_model.specs.SortedMap.{Bytes}
 use Rattle.block_model.specs.Index.{Index, IndexRow, IsIndex, index_row_bytes, row_pages}
@@ -15,8 +16,8 @@ use Rattle.block_model.proofs.IndexesRead.{index_written}
 use Rattle.block_model.proofs.Refusals.{not_true}
 use Rattle.table_file.specs.BlockRows.{StandFrom, row_seen, rows_seen}
 use Rattle.table_file.specs.Faults.{IsIndexFault, IsShape}
-use Rattle.table_file.specs.declared.index_fault.IndexFault.{IndexFault}
-use Rattle.table_file.specs.declared.index_fault.IndexFault.TheVariants as index
+use Rattle.byte_fields.specs.declared.part_fault.PartFault.{PartFault}
+use Rattle.byte_fields.specs.declared.part_fault.PartFault.TheVariants as index
 use Rattle.table_file.specs.declared.block_row.BlockRow.{BlockRow}
 
 module _ (n place : ℕ) (test : Bytes → Bool) (rest : Bytes) (some : 0 < n) where
@@ -28,13 +29,13 @@ module _ (n place : ℕ) (test : Bytes → Bool) (rest : Bytes) (some : 0 < n) w
   unfolding rows_fault
   next_kept none =
       let later = rows_fault (n - 1) (place + row_width_in rest) (is_above (last_in rest)) (drop (row_width_in rest) rest) in
-      ap (λ (k : ℕ). rows_fault k place test rest) one_more ∙ ap (λ (f : Option Fault). or_fault f later) none
+      ap (λ (k : ℕ). rows_fault k place test rest) one_more ∙ ap (λ (f : Option Fault). option_or f later) none
 
   pub next_broken : (f : Fault) → row_fault place test rest ≡ Some f → rows_fault n place test rest ≡ Some f
   unfolding rows_fault
   next_broken f broken =
       let later = rows_fault (n - 1) (place + row_width_in rest) (is_above (last_in rest)) (drop (row_width_in rest) rest) in
-      ap (λ (k : ℕ). rows_fault k place test rest) one_more ∙ ap (λ (g : Option Fault). or_fault g later) broken
+      ap (λ (k : ℕ). rows_fault k place test rest) one_more ∙ ap (λ (g : Option Fault). option_or g later) broken
 
 pub none_is_left : (n place : ℕ) (test : Bytes → Bool) (rest : Bytes) → n ≡ 0 → length rest ≤ 0 → rows_fault n place test rest ≡ None
 unfolding rows_fault
@@ -74,7 +75,7 @@ stand_more page [] row stand is = (omega (arith, is), tt)
 stand_more page (r ∷ rows) row stand is = (stand.0, stand_more (page + r.pages) rows row stand.1 (omega (arith, is, pages_of_cons r rows)))
 
 -- a shape goes on as what is broken first does
-pub shape_first : (first whole : Option Fault) (e : IndexFault) → ((f : Fault) → first ≡ Some f → whole ≡ Some f) → IsShape first e → IsIndexFault whole e
+pub shape_first : (first whole : Option Fault) (e : PartFault) → ((f : Fault) → first ≡ Some f → whole ≡ Some f) → IsShape first e → IsIndexFault whole e
 shape_first first whole index.Memory on is = absurd is
 shape_first first whole (index.Shape place rule) on is = on (fault place rule) is
 
@@ -100,8 +101,8 @@ module _ (pages : ℕ) (bytes : Bytes) (count width : ℕ) (least : Bytes) (rows
     unfolding index_fault pages_fault
     no_fault all =
         let same : row_pages (index_in bytes).rows ≡ pages = ap (λ (x : Index). row_pages x.rows) (sym index_is) ∙ all in
-        ap (λ (f : Option Fault). or_fault f (or_fault (rows_fault (rows_count_in bytes) (head_width_in bytes) (is_from (least_in bytes)) (drop (head_width_in bytes) bytes)) (pages_fault pages bytes))) head
-        ∙ ap (λ (f : Option Fault). or_fault f (pages_fault pages bytes)) rows_kept
+        ap (λ (f : Option Fault). option_or f (option_or (rows_fault (rows_count_in bytes) (head_width_in bytes) (is_from (least_in bytes)) (drop (head_width_in bytes) bytes)) (pages_fault pages bytes))) head
+        ∙ ap (λ (f : Option Fault). option_or f (pages_fault pages bytes)) rows_kept
         ∙ ap (λ (t : Bool). refuse t 4 8 None) (not_true _ (eq-eqb _ _ same))
 
     pub sound : IsBytes bytes → row_pages rows ≡ pages → IsIndex (row_pages rows) (record { least = least; rows = rows })

@@ -6,7 +6,7 @@ use Rattle.byte_fields.specs.declared.parts.Row.{Row}
 use Rattle.disk_trait.specs.Image.{Image}
 use Rattle.filter_api.specs.Spellings.{MayStand, Spelling, SpellsOne}
 use Rattle.filter_api.specs.declared.settings.Settings.{Settings}
-use Rattle.filter_model.specs.Leaves.{Leaf}
+use Rattle.filter_model.specs.Leaves.{Filter, Leaf}
 use Rattle.map_model.specs.SortedMap.{Bytes}
 use Rattle.entry_model.specs.Entries.{Entry, keys_of}
 use Rattle.block_model.specs.Index.{Index, index_bytes, index_of, row_pages}
@@ -23,7 +23,7 @@ use Rattle.table_model.specs.Damage.{filter_part, index_part}
 use Rattle.table_model.specs.Written.{ArePartsShown, row_for}
 use Rattle.table_model.proofs.Shown.{shown_is}
 use Rattle.table_file.specs.Opened.{IsOfRow, IsOpen}
-use Rattle.table_file.specs.Parts.{ArePartsOf, Filter, filter_of}
+use Rattle.table_file.specs.Parts.{ArePartsOf, filter_of}
 use Rattle.table_file.specs.Writing.{AreWritten, StandsWith}
 use Rattle.table_file.proofs.Stands.{opened_stands}
 use Rattle.table_file.proofs.Written.{stands_shown, written_shown}

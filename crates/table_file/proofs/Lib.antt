@@ -1,5 +1,4 @@
 mod Keys
-pub mod KeptBlocks
 mod Builders
 mod Helds
 mod IndexWalks

@@ -1,5 +1,6 @@
 -- What a table says of a key, by its blocks.
 use Rattle.std.proofs.Common.{◌≡◌, ◌≤◌, ◌+◌, ℕ, suc, Bool, true, false, cond, not, List, [], ◌∷◌, ◌++◌, length, get_or, refl, sym, ap, ◌∙◌, subst, arith}
+use Rattle.std.specs.Option.{option_or}
 use Rattle.std.specs.Prelude.{Option, Some, None, bytes_eq, map}
 use Rattle.std.specs.List.{AllByRecursion, Contains, position_or_len}
 use Rattle.std.specs.Cmp.Lexicographic.{nat_list_cmp_total, texts_ties}
@@ -7,7 +8,7 @@ use Rattle.std.specs.Ordering.{is_eq, is_lt, ordering_reverse}
 use Rattle.std.specs.declared.cmp.Ordering.{Ordering}
 use Rattle.map_model.specs.SortedMap.{Bytes, byte_order}
 use Rattle.map_model.proofs.Maps.{by_order, equal_keys}
-use Rattle.entry_model.specs.Entries.{Entry, keys_of, or_else}
+use Rattle.entry_model.specs.Entries.{Entry, keys_of}
 use Rattle.entry_model.specs.Newest.{lookup}
 use Rattle.block_model.specs.Index.{IndexRow, index_row_of}
 use Rattle.block_model.specs.Laws.{joined}
@@ -71,15 +72,15 @@ nothing_under key test (e ∷ next ∷ more) under f =
 
 -- ---- the one block that says it
 
-step : (t : Bool) (value : Option Bytes) (a b c : Option (Option Bytes)) → a ≡ or_else b c → cond t (Some value) a ≡ or_else (cond t (Some value) b) c
+step : (t : Bool) (value : Option Bytes) (a b c : Option (Option Bytes)) → a ≡ option_or b c → cond t (Some value) a ≡ option_or (cond t (Some value) b) c
 step true value a b c is = refl
 step false value a b c is = is
 
-lookup_append : (xs ys : List Entry) (key : Bytes) → lookup (xs ++ ys) key ≡ or_else (lookup xs key) (lookup ys key)
+lookup_append : (xs ys : List Entry) (key : Bytes) → lookup (xs ++ ys) key ≡ option_or (lookup xs key) (lookup ys key)
 lookup_append [] ys key = refl
 lookup_append (x ∷ xs) ys key = step (bytes_eq x.key key) x.value (lookup (xs ++ ys) key) (lookup xs key) (lookup ys key) (lookup_append xs ys key)
 
-or_none : (a : Option (Option Bytes)) → or_else a None ≡ a
+or_none : (a : Option (Option Bytes)) → option_or a None ≡ a
 or_none None = refl
 or_none (Some v) = refl
 
@@ -107,10 +108,10 @@ said_by_block key test ((e ∷ es) ∷ more) some f =
     let later = behind_last test e es (joined more) f in
     elim (is_lt (byte_order (last_key b) key)) as (λ t. is_lt (byte_order (last_key b) key) ≡ t
     → lookup (b ++ joined more) key ≡ lookup (get_or (b ∷ more) (cond (not (not t)) (1 + place_of more key) 0) []) key) [
-      | true ↦ λ is. lookup_append b (joined more) key ∙ ap (λ (a : Option (Option Bytes)). or_else a (lookup (joined more) key)) (nothing_under key test b is (front_follows test b (joined more) f))
+      | true ↦ λ is. lookup_append b (joined more) key ∙ ap (λ (a : Option (Option Bytes)). option_or a (lookup (joined more) key)) (nothing_under key test b is (front_follows test b (joined more) f))
           ∙ said_by_block key (is_above (last_key b)) more some.1 later ∙ next more key
       | false ↦ λ is. lookup_append b (joined more) key
-          ∙ ap (or_else (lookup b key)) (nothing_above key (last_key b) (joined more) (ap not is) later) ∙ or_none (lookup b key)
+          ∙ ap (option_or (lookup b key)) (nothing_above key (last_key b) (joined more) (ap not is) later) ∙ or_none (lookup b key)
     ] refl ∙ ap (λ (k : Bytes). lookup (get_or (b ∷ more) (cond (not (is_from key k)) (1 + place_of more key) 0) []) key) (sym (row_last b))
   where
     next : (more : List (List Entry)) (key : Bytes) → lookup (get_or more (place_of more key) []) key ≡ lookup (get_or ((e ∷ es) ∷ more) (1 + place_of more key) []) key

@@ -5,7 +5,7 @@ use Rattle.byte_fields.specs.Sums.{fnv_of}
 use Rattle.byte_fields.specs.declared.parts.Row.{Row}
 use Rattle.filter_api.specs.Spellings.{Spelling}
 use Rattle.filter_api.specs.declared.settings.Settings.{Settings}
-use Rattle.filter_model.specs.Leaves.{Leaf}
+use Rattle.filter_model.specs.Leaves.{Filter, Leaf}
 use Rattle.map_model.specs.SortedMap.{Bytes}
 use Rattle.entry_model.specs.Entries.{Entry, keys_of}
 use Rattle.block_model.specs.Block.{IsTable, block_bytes, data_bytes}
@@ -18,7 +18,7 @@ use Rattle.block_model.proofs.TableIndex.{index_sound}
 use Rattle.table_model.specs.Tables.{filter_bytes_of, table_pages}
 use Rattle.table_model.specs.Written.{row_for}
 use Rattle.table_file.specs.Building.{Holds, closed_in, entries_with}
-use Rattle.table_file.specs.Parts.{ArePartsOf, Filter}
+use Rattle.table_file.specs.Parts.{ArePartsOf}
 use Rattle.table_file.proofs.Builders.{holds_closed, is_table, opened}
 
 module _ (spelling : Spelling) (built_cutoff : ℕ → List Leaf → ℕ) (settings : Settings) (entries : List Entry) (count : ℕ) (blocks : Bytes) (index : Index) (index_part : Bytes)

@@ -33,10 +33,10 @@ use Rattle.table_file.specs.Faults.{IsNoDamage}
 use Rattle.table_file.specs.Laws.{StandingBlocks, StandingIsKept, StandingKeys, StandingWalks}
 use Rattle.table_file.specs.Opened.{Opened}
 use Rattle.table_file.specs.Search.{IsGetFault, IsSoundBlock, bytes_at, first_block, row_at}
-use Rattle.table_file.specs.Walks.{BeginsWell, Walk, WentOn, blocks_on, blocks_there, joined_from}
+use Rattle.table_file.specs.Walks.{BeginsWell, CursorWalk, WalkGoesOn, blocks_on, blocks_there, joined_from}
 use Rattle.table_file.specs.declared.fault.TableFault.{TableFault}
 use Rattle.table_file.specs.declared.fault.TableFault.TheVariants as table
-use Rattle.table_file.proofs.KeptBlocks.{at_kept}
+use Rattle.table_model.proofs.Kept.{at_kept}
 use Rattle.table_file.proofs.Lookups.{behind_last, from_above, front_follows, last_append, lasts_rise, row_last}
 use Rattle.table_file.proofs.Stands.{answer, block_is_sound, least_is, no_answer, row_pages_are, rows_are, there}
 use Rattle.table_file.proofs.Walks.{at_block}
@@ -255,7 +255,7 @@ standing_walks spelling settings t blocks image s =
       goes_on = λ old new on. on_from old new each on;
     }
   where
-    on_from : (old new : Walk) → AllByRecursion (λ b. 1 ≤ length b) blocks → WentOn old new → BeginsWell old blocks → BeginsWell new blocks
+    on_from : (old new : CursorWalk) → AllByRecursion (λ b. 1 ≤ length b) blocks → WalkGoesOn old new → BeginsWell old blocks → BeginsWell new blocks
     on_from old new each (inl none) well lt =
         subst (λ (bound : Option Bytes). 1 ≤ length (kept_from bound (get_or blocks new.block []))) (sym none) (all_at (λ b. 1 ≤ length b) blocks new.block [] each lt)
     on_from old new each (inr same) well lt =

@@ -13,7 +13,7 @@ use Rattle.block_format.specs.Spans.{kept_from}
 use Rattle.table_model.specs.Damage.{block_part}
 use Rattle.table_file.specs.Opened.{Opened}
 use Rattle.table_file.specs.Search.{bytes_at, row_at}
-use Rattle.table_file.specs.Walks.{BeginsWell, HandsOut, Walk, blocks_on, blocks_there, first_of, is_due, joined_from, others_of, to_come}
+use Rattle.table_file.specs.Walks.{BeginsWell, HandsOut, CursorWalk, blocks_on, blocks_there, first_of, is_due, joined_from, others_of, to_come}
 
 -- ---- the blocks of a table
 
@@ -76,7 +76,7 @@ no_later later n blocks due = (
   ltb-true n blocks (second_true (length later == 0) (nat_lt n blocks) due),
 )
 
-module _ (t : Opened) (image : Image) (old new : Walk) (due : is_due old (length t.index.rows) ≡ true) where
+module _ (t : Opened) (image : Image) (old new : CursorWalk) (due : is_due old (length t.index.rows) ≡ true) where
   pub is_there : old.block < length t.index.rows
   is_there = (no_later old.later old.block (length t.index.rows) due).1
 
@@ -144,7 +144,7 @@ step_on (e ∷ before) bound new_bound block new_block now later all blocks same
     ∙ ap (λ (es : List Entry). e ∷ (es ++ joined_from bound (drop block blocks))) (sym is_later)
     ∙ ap₂ (λ (b : Option Bytes) (n : ℕ). e ∷ (later ++ joined_from b (drop n blocks))) (sym is_bound) (sym is_block))
 
-pub steps : (old mid new : Walk) (blocks : List (List Entry)) → to_come mid blocks ≡ to_come old blocks → is_due mid (length blocks) ≡ false
+pub steps : (old mid new : CursorWalk) (blocks : List (List Entry)) → to_come mid blocks ≡ to_come old blocks → is_due mid (length blocks) ≡ false
     → new.now ≡ first_of mid.later → new.later ≡ others_of mid.later → new.bound ≡ mid.bound → new.block ≡ mid.block → HandsOut old new blocks
 steps old mid new blocks same idle now later bound block =
     step_on mid.later mid.bound new.bound mid.block new.block new.now new.later (to_come old blocks) blocks same idle now later bound block

@@ -7,7 +7,7 @@ use Rattle.disk_trait.specs.Image.{Image, Shows, overwritten}
 use Rattle.disk_trait.proofs.Images.{whole, window_kept, window_overwritten}
 use Rattle.filter_api.specs.Spellings.{MayStand, Spelling}
 use Rattle.filter_api.specs.declared.settings.Settings.{Settings}
-use Rattle.filter_model.specs.Leaves.{Leaf}
+use Rattle.filter_model.specs.Leaves.{Filter, Leaf}
 use Rattle.map_model.specs.SortedMap.{Bytes}
 use Rattle.entry_model.specs.Entries.{Entry, keys_of}
 use Rattle.block_model.specs.Block.{data_bytes, padding}
@@ -21,8 +21,8 @@ use Rattle.table_model.specs.Written.{ArePartsShown, row_for}
 use Rattle.table_model.proofs.Shown.{shown_parts}
 use Rattle.table_model.proofs.Written.{table_stands}
 use Rattle.table_file.specs.Laws.{WrittenIsShown}
-use Rattle.table_file.specs.Parts.{ArePartsOf, Filter}
-use Rattle.table_file.specs.Writing.{AreWritten, IsWriteOf, padded, three_written}
+use Rattle.table_file.specs.Parts.{ArePartsOf}
+use Rattle.table_file.specs.Writing.{AreWritten, IsWriteOf, in_whole_pages, three_written}
 use Rattle.table_file.proofs.PartsMade.{blocks_long, filter_part_is, index_part_is, index_part_long}
 
 module _ (image : Image) (at : ℕ) (a b c : Bytes) where
@@ -56,7 +56,7 @@ pub same_places : {T : Type 0} (r : Result T DiskFault) (a b c x y z : ℕ) → 
 same_places r a b c x y z first second third is =
     subst (λ (n : ℕ). IfErr r (IsWriteOf n y z)) first (subst (λ (n : ℕ). IfErr r (IsWriteOf a n z)) second (subst (λ (n : ℕ). IfErr r (IsWriteOf a b n)) third is))
 
-pub padded_long : (bytes : Bytes) → length (padded bytes) ≡ 4096 * pages_for (length bytes)
+pub padded_long : (bytes : Bytes) → length (in_whole_pages bytes) ≡ 4096 * pages_for (length bytes)
 unfolding padding
 padded_long bytes =
     omega (arith, length-append bytes (replicate (4096 * pages_for (length bytes) - length bytes) 0), length-replicate {A = ℕ} (4096 * pages_for (length bytes) - length bytes) 0, in_pages (length bytes))
@@ -73,16 +73,16 @@ module _ (spelling : Spelling) (built_cutoff : ℕ → List Leaf → ℕ) (setti
   abbrev bytes : Bytes
   bytes = filter_bytes_of spelling built_cutoff settings (keys_of entries)
 
-  index_pages : length (padded index_part) ≡ 4096 * pages_for (index_length entries)
+  index_pages : length (in_whole_pages index_part) ≡ 4096 * pages_for (index_length entries)
   index_pages = padded_long index_part ∙ ap (λ (n : ℕ). 4096 * pages_for n) (index_part_long spelling built_cutoff settings entries count blocks index index_part filter filter_part parts)
 
-  filter_pages : length (padded filter_part) ≡ 4096 * pages_for (length bytes)
+  filter_pages : length (in_whole_pages filter_part) ≡ 4096 * pages_for (length bytes)
   filter_pages = padded_long filter_part ∙ ap (λ (b : Bytes). 4096 * pages_for (length b)) (filter_part_is spelling built_cutoff settings entries count blocks index index_part filter filter_part parts)
 
   blocks_pages : length blocks ≡ 4096 * data_pages entries
   blocks_pages = blocks_long spelling built_cutoff settings entries count blocks index index_part filter filter_part parts
 
-  pub all_long : length blocks + length (padded index_part) + length (padded filter_part) ≡ 4096 * table_pages (filter_bytes_of spelling built_cutoff) settings entries
+  pub all_long : length blocks + length (in_whole_pages index_part) + length (in_whole_pages filter_part) ≡ 4096 * table_pages (filter_bytes_of spelling built_cutoff) settings entries
   all_long = omega (arith, blocks_pages, index_pages, filter_pages)
 
   module _ (level first at : ℕ) (at_is : at ≡ 4096 * first) where
@@ -90,24 +90,24 @@ module _ (spelling : Spelling) (built_cutoff : ℕ → List Leaf → ℕ) (setti
     unfolding row_for
     index_at = omega (arith, at_is, blocks_pages)
 
-    pub filter_at : at + length blocks + length (padded index_part) ≡ byte_of_page (filter_page (row_for level first entries bytes))
+    pub filter_at : at + length blocks + length (in_whole_pages index_part) ≡ byte_of_page (filter_page (row_for level first entries bytes))
     unfolding row_for
     filter_at = omega (arith, at_is, blocks_pages, index_pages)
 
-    pub written : (image f : Image) → f ≡ three_written image at blocks (padded index_part) (padded filter_part) → AreWritten (row_for level first entries bytes) entries bytes f
+    pub written : (image f : Image) → f ≡ three_written image at blocks (in_whole_pages index_part) (in_whole_pages filter_part) → AreWritten (row_for level first entries bytes) entries bytes f
     unfolding row_for
     written image f is = record {
       blocks = subst (λ (g : Image). Shows (byte_of_page first) (data_bytes entries) g) (sym is)
-          (subst (λ (n : ℕ). Shows n (data_bytes entries) (three_written image at blocks (padded index_part) (padded filter_part))) at_is
-          (subst (λ (x : Bytes). Shows at x (three_written image at blocks (padded index_part) (padded filter_part))) parts.blocks_are (first_shown image at blocks (padded index_part) (padded filter_part))));
-      index = subst (λ (g : Image). Shows (byte_of_page (index_page (row_for level first entries bytes))) (padded (index_bytes (index_of entries))) g) (sym is)
-          (subst (λ (n : ℕ). Shows n (padded (index_bytes (index_of entries))) (three_written image at blocks (padded index_part) (padded filter_part))) index_at
-          (subst (λ (x : Bytes). Shows (at + length blocks) (padded x) (three_written image at blocks (padded index_part) (padded filter_part)))
-          (index_part_is spelling built_cutoff settings entries count blocks index index_part filter filter_part parts) (second_shown image at blocks (padded index_part) (padded filter_part))));
-      filter = subst (λ (g : Image). Shows (byte_of_page (filter_page (row_for level first entries bytes))) (padded bytes) g) (sym is)
-          (subst (λ (n : ℕ). Shows n (padded bytes) (three_written image at blocks (padded index_part) (padded filter_part))) filter_at
-          (subst (λ (x : Bytes). Shows (at + length blocks + length (padded index_part)) (padded x) (three_written image at blocks (padded index_part) (padded filter_part)))
-          (filter_part_is spelling built_cutoff settings entries count blocks index index_part filter filter_part parts) (third_shown image at blocks (padded index_part) (padded filter_part))));
+          (subst (λ (n : ℕ). Shows n (data_bytes entries) (three_written image at blocks (in_whole_pages index_part) (in_whole_pages filter_part))) at_is
+          (subst (λ (x : Bytes). Shows at x (three_written image at blocks (in_whole_pages index_part) (in_whole_pages filter_part))) parts.blocks_are (first_shown image at blocks (in_whole_pages index_part) (in_whole_pages filter_part))));
+      index = subst (λ (g : Image). Shows (byte_of_page (index_page (row_for level first entries bytes))) (in_whole_pages (index_bytes (index_of entries))) g) (sym is)
+          (subst (λ (n : ℕ). Shows n (in_whole_pages (index_bytes (index_of entries))) (three_written image at blocks (in_whole_pages index_part) (in_whole_pages filter_part))) index_at
+          (subst (λ (x : Bytes). Shows (at + length blocks) (in_whole_pages x) (three_written image at blocks (in_whole_pages index_part) (in_whole_pages filter_part)))
+          (index_part_is spelling built_cutoff settings entries count blocks index index_part filter filter_part parts) (second_shown image at blocks (in_whole_pages index_part) (in_whole_pages filter_part))));
+      filter = subst (λ (g : Image). Shows (byte_of_page (filter_page (row_for level first entries bytes))) (in_whole_pages bytes) g) (sym is)
+          (subst (λ (n : ℕ). Shows n (in_whole_pages bytes) (three_written image at blocks (in_whole_pages index_part) (in_whole_pages filter_part))) filter_at
+          (subst (λ (x : Bytes). Shows (at + length blocks + length (in_whole_pages index_part)) (in_whole_pages x) (three_written image at blocks (in_whole_pages index_part) (in_whole_pages filter_part)))
+          (filter_part_is spelling built_cutoff settings entries count blocks index index_part filter filter_part parts) (third_shown image at blocks (in_whole_pages index_part) (in_whole_pages filter_part))));
     }
 
     of_keys : IsFilterOfKeys spelling settings (keys_of entries) bytes

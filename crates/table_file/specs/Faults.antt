@@ -16,25 +16,25 @@ use Rattle.filter_api.specs.declared.settings.Settings.{Settings}
 use Rattle.map_model.specs.SortedMap.{Bytes}
 use Rattle.block_model.specs.Places.{byte_of_page, filter_page, index_page}
 use Rattle.table_model.specs.Damage.{IsFilterDamage, index_damage}
-use Rattle.table_file.specs.declared.index_fault.IndexFault.{IndexFault}
-use Rattle.table_file.specs.declared.index_fault.IndexFault.TheVariants as index
+use Rattle.byte_fields.specs.declared.part_fault.PartFault.{PartFault}
+use Rattle.byte_fields.specs.declared.part_fault.PartFault.TheVariants as index
 use Rattle.table_file.specs.declared.fault.TableFault.{TableFault}
 use Rattle.table_file.specs.declared.fault.TableFault.TheVariants as table
 
 -- a shape, the first rule that is broken at its place
-abbrev pub IsShape : Option Fault → IndexFault → Type 0
+abbrev pub IsShape : Option Fault → PartFault → Type 0
 IsShape first index.Memory = ⊥
 IsShape first (index.Shape place rule) = first ≡ Some (fault place rule)
 
 -- want of memory is free
-abbrev pub IsIndexFault : Option Fault → IndexFault → Type 0
+abbrev pub IsIndexFault : Option Fault → PartFault → Type 0
 IsIndexFault first index.Memory = Unit {0}
 IsIndexFault first (index.Shape place rule) = first ≡ Some (fault place rule)
 
 -- the place is one of so many bytes, or just behind them
-abbrev pub IsWithin : ℕ → IndexFault → Type 0
-IsWithin bytes index.Memory = Unit {0}
-IsWithin bytes (index.Shape place rule) = place ≤ bytes
+abbrev pub IsPlaceWithin : ℕ → PartFault → Type 0
+IsPlaceWithin bytes index.Memory = Unit {0}
+IsPlaceWithin bytes (index.Shape place rule) = place ≤ bytes
 
 -- ---- faults of a table
 

@@ -19,7 +19,7 @@ use Rattle.table_model.specs.Written.{ArePartsShown}
 use Rattle.table_file.specs.Faults.{IsNoDamage}
 use Rattle.table_file.specs.Opened.{IsOpen, Opened}
 use Rattle.table_file.specs.Search.{IsGetFault, IsSoundBlock, StandsThere, block_for, bytes_at, row_at}
-use Rattle.table_file.specs.Walks.{BeginsWell, Walk, WentOn, blocks_on, to_come, walk_from}
+use Rattle.table_file.specs.Walks.{BeginsWell, CursorWalk, WalkGoesOn, blocks_on, to_come, walk_from}
 use Rattle.table_file.specs.Writing.{AreWritten}
 use Rattle.table_file.specs.declared.fault.TableFault.{TableFault}
 
@@ -61,7 +61,7 @@ pub record KeysAreFound (settings : Settings) (t : Opened) (blocks : List (List 
 pub record WalksAreWhole (t : Opened) (blocks : List (List Entry)) : Type 0 where
   pub all : (low : Bytes) → to_come (walk_from t low) blocks ≡ entries_from (joined blocks) low
   pub begins : (low : Bytes) → BeginsWell (walk_from t low) blocks
-  pub goes_on : (old new : Walk) → WentOn old new → BeginsWell old blocks → BeginsWell new blocks
+  pub goes_on : (old new : CursorWalk) → WalkGoesOn old new → BeginsWell old blocks → BeginsWell new blocks
 
 -- what is written apart from its pages, done or cut short, keeps it
 abbrev pub StandingIsKept : Type 0

@@ -12,7 +12,7 @@ pub use Rattle.table_model.specs.Damage
 pub use Rattle.table_model.specs.Images
 pub use Rattle.table_model.specs.Tables
 pub use Rattle.table_model.specs.Written
-pub mod Before
+pub mod BeforeLast
 pub mod BlockRows
 pub mod Building
 pub mod Ends

@@ -8,7 +8,7 @@ use Rattle.block_model.specs.Index.{Index, row_pages}
 use Rattle.block_model.specs.IndexReading.{index_fault, index_in}
 use Rattle.block_model.specs.Places.{FitsDevice}
 use Rattle.table_model.specs.Damage.{filter_part, index_part}
-use Rattle.table_file.specs.Parts.{Filter}
+use Rattle.filter_model.specs.Leaves.{Filter}
 
 pub record Opened : Type 0 where
   pub row : Row

@@ -3,18 +3,11 @@ use Rattle.std.specs.Prelude.{◌≡◌, ℕ, List, length}
 use Rattle.filter_api.specs.Ranges.{InRange}
 use Rattle.filter_api.specs.Spellings.{MayStand, Spelling}
 use Rattle.filter_api.specs.declared.settings.Settings.{Settings}
-use Rattle.filter_model.specs.Leaves.{Leaf, leaves_of}
+use Rattle.filter_model.specs.Leaves.{Filter, Leaf, leaves_of}
 use Rattle.map_model.specs.SortedMap.{Bytes}
 use Rattle.entry_model.specs.Entries.{Entry, keys_of}
 use Rattle.block_model.specs.Block.{IsTable, data_bytes}
 use Rattle.block_model.specs.Index.{Index, index_bytes, index_of}
-
--- what a filter stands for, and its cutoff
-pub record Filter : Type 0 where
-  pub hash_bits : ℕ
-  pub real_bits : ℕ
-  pub cutoff : ℕ
-  pub leaves : List Leaf
 
 -- the filter that is built of some keys
 abbrev pub filter_of : (ℕ → List Leaf → ℕ) → Settings → List Bytes → Filter

@@ -1,5 +1,5 @@
 -- Which block of a table is read for a key, and what the table says of it.
-use Rattle.std.specs.Prelude.{◌≡◌, ◌⊎◌, ℕ, ◌+◌, List, [], take, slice_index_or, Option, Some, None, position, if◌then◌else◌}
+use Rattle.std.specs.Prelude.{◌≡◌, ◌⊎◌, ℕ, ◌+◌, ◌*◌, List, [], take, slice_index_or, Option, Some, None, position, if◌then◌else◌}
 use Rattle.std.specs.Option.{option_map}
 use Rattle.byte_fields.specs.Faults.{Fault}
 use Rattle.byte_fields.specs.Sums.{fnv_of}
@@ -10,6 +10,7 @@ use Rattle.filter_api.specs.Spellings.{Spelling}
 use Rattle.filter_api.specs.declared.settings.Settings.{Settings}
 use Rattle.filter_model.specs.Answers.{point}
 use Rattle.filter_model.specs.Leaves.{leaves_of}
+use Rattle.key_base.specs.Limits.{max_block_pages, page_bytes}
 use Rattle.map_model.specs.SortedMap.{Bytes}
 use Rattle.entry_model.specs.Entries.{Entry, keys_of}
 use Rattle.block_model.specs.Index.{Index, IndexRow, row_pages}
@@ -62,14 +63,14 @@ pub record IsSoundBlock (t : Opened) (n : ℕ) (image : Image) : Type 0 where
   pub sum : (row_at t.index.rows n).sum ≡ fnv_of (bytes_at t n image)
   pub rules : block_fault (bytes_at t n image) ≡ None
 
--- the bytes of the largest block, of 17 pages
+-- the bytes of the largest block
 abbrev pub largest_block : ℕ
-largest_block = 69632
+largest_block = page_bytes * max_block_pages
 
 -- how many blocks a get reads
-abbrev pub blocks_read : Option ℕ → ℕ
-blocks_read None = 0
-blocks_read (Some n) = 1
+abbrev pub blocks_of_get : Option ℕ → ℕ
+blocks_of_get None = 0
+blocks_of_get (Some n) = 1
 
 -- the block has another sum than the one that its index keeps
 abbrev pub IsOtherBlock : Opened → ℕ → Image → TableFault → Type 0

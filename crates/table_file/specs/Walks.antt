@@ -23,7 +23,7 @@ blocks_on t image = blocks_there t.row.first_page t.index.rows image
 
 -- Where a walk stands: its bound until a block was read, the block that is read next, the entry at hand, and those of the
 -- last block that are still to come.
-pub record Walk : Type 0 where
+pub record CursorWalk : Type 0 where
   pub bound : Option Bytes
   pub block : ℕ
   pub now : Option Entry
@@ -35,11 +35,11 @@ joined_from bound [] = []
 joined_from bound (block ∷ more) = kept_from bound block ++ joined more
 
 -- the entries that are still to come, in a table of these blocks
-abbrev pub to_come : Walk → List (List Entry) → List Entry
+abbrev pub to_come : CursorWalk → List (List Entry) → List Entry
 to_come walk blocks = walk.later ++ joined_from walk.bound (drop walk.block blocks)
 
 -- a walk from a bound on begins at the first block whose last key is not below it
-abbrev pub walk_from : Opened → Bytes → Walk
+abbrev pub walk_from : Opened → Bytes → CursorWalk
 walk_from t low = record {
   bound = Some low;
   block = position_or_len (λ (row : IndexRow). is_from low row.last) t.index.rows;
@@ -48,24 +48,24 @@ walk_from t low = record {
 }
 
 -- the next step reads a block, in a table of so many
-abbrev pub is_due : Walk → ℕ → Bool
+abbrev pub is_due : CursorWalk → ℕ → Bool
 is_due walk blocks = length walk.later == 0 && nat_lt walk.block blocks
 
 -- no block is due, or one was read: then the next one has an entry
-abbrev pub IsSettled : Walk → ℕ → Type 0
+abbrev pub IsSettled : CursorWalk → ℕ → Type 0
 IsSettled walk blocks = (is_due walk blocks ≡ false) ⊎ (walk.bound ≡ None)
 
 -- a step hands out the first of the entries that are still to come, and none where there are none
-abbrev pub HandsOut : Walk → Walk → List (List Entry) → Type 0
+abbrev pub HandsOut : CursorWalk → CursorWalk → List (List Entry) → Type 0
 HandsOut old new blocks = MatchOption new.now (to_come old blocks ≡ []) (λ entry. to_come old blocks ≡ entry ∷ to_come new blocks)
 
 -- the block that is read next has an entry for the walk
-abbrev pub BeginsWell : Walk → List (List Entry) → Type 0
+abbrev pub BeginsWell : CursorWalk → List (List Entry) → Type 0
 BeginsWell walk blocks = walk.block < length blocks → 1 ≤ length (kept_from walk.bound (slice_index_or blocks walk.block []))
 
 -- the same bound and block, or none any more
-abbrev pub WentOn : Walk → Walk → Type 0
-WentOn old new = (new.bound ≡ None) ⊎ ((new.bound ≡ old.bound) × (new.block ≡ old.block))
+abbrev pub WalkGoesOn : CursorWalk → CursorWalk → Type 0
+WalkGoesOn old new = (new.bound ≡ None) ⊎ ((new.bound ≡ old.bound) × (new.block ≡ old.block))
 
 -- ---- a block in memory: the first of some entries, and the others
 
@@ -77,6 +77,6 @@ abbrev pub others_of : List Entry → List Entry
 others_of [] = []
 others_of (entry ∷ later) = later
 
-pub record Held : Type 0 where
+pub record BlockInHand : Type 0 where
   pub now : Option Entry
   pub later : List Entry

@@ -22,14 +22,14 @@ use Rattle.table_file.specs.Parts.{filter_of}
 use Rattle.table_file.specs.Search.{StandsThere}
 
 -- bytes, and zero bytes behind them to the end of their last page
-abbrev pub padded : Bytes → Bytes
-padded bytes = bytes ++ padding (length bytes)
+abbrev pub in_whole_pages : Bytes → Bytes
+in_whole_pages bytes = bytes ++ padding (length bytes)
 
 -- the blocks exactly, index and filter with zero bytes to the end of their last pages, each at its page
 pub record AreWritten (row : Row) (entries : List Entry) (filter_bytes : Bytes) (image : Image) : Type 0 where
   pub blocks : Shows (byte_of_page row.first_page) (data_bytes entries) image
-  pub index : Shows (byte_of_page (index_page row)) (padded (index_bytes (index_of entries))) image
-  pub filter : Shows (byte_of_page (filter_page row)) (padded filter_bytes) image
+  pub index : Shows (byte_of_page (index_page row)) (in_whole_pages (index_bytes (index_of entries))) image
+  pub filter : Shows (byte_of_page (filter_page row)) (in_whole_pages filter_bytes) image
 
 -- the filter's bytes and the row of a table that is built of some entries, on a level and from a page on
 abbrev pub made_filter : Spelling → (ℕ → List Leaf → ℕ) → Built → Bytes

@@ -1,3 +1,5 @@
+//! What an index keeps of its blocks.
+
 /// What an index says of a block, and where the block stands.
 #[derive(Drop)]
 pub(crate) struct BlockRow {

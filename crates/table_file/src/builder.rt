@@ -1,4 +1,4 @@
-// A table that is built entry by entry.
+//! A table that is built entry by entry.
 ghost use Rattle.std.specs.Prelude.{◌≡◌, true, false, ◌==◌, Option, ◌+◌, ◌*◌, ◌-◌, ◌<◌, ◌^◌, ◌++◌, [], ◌∷◌, List, length, map, vec_items, IfOk, OnOk, OnErr};
 ghost use Rattle.std.specs.Option.{option_map};
 ghost use Rattle.entry_model.specs.Entries.{IsEntry, entry_of, keys_of};
@@ -22,7 +22,7 @@ use std::alloc::{AllocError, Global};
 use std::marker::Model;
 use std::mem;
 
-/// The most entries of a table: a row counts them in four bytes.
+// The most entries of a table: a row counts them in four bytes.
 const MOST_ENTRIES: usize = 4_294_967_295;
 
 /// A table that is built entry by entry, seen as its entries so far and the settings of its filter.
@@ -80,7 +80,7 @@ impl TableBuilder {
         requires sound { IsEntry (entry_of key.now (option_map (λ v. v.now) value)) }
         requires rising { Follow is_any (keys_of (self.old.entries ++ entry_of key.now (option_map (λ v. v.now) value) ∷ [])) }
         ensures added { OnOk result (self.new ≡ record self.old { entries = self.old.entries ++ entry_of key.now (option_map (λ v. v.now) value.entry) ∷ [] }) }
-        ensures refused { OnErr result (self.new ≡ self.old) }
+        ensures unchanged { OnErr result (self.new ≡ self.old) }
     {
         if self.is_full() {
             return Err(AllocError);
@@ -93,15 +93,18 @@ impl TableBuilder {
         }
         let last = last_of(self.keys.as_slice());
         begin(&mut self.spare, key, value)?;
-        roll(
-            &mut self.open,
-            &mut self.spare,
-            last,
-            &mut self.blocks,
-            &mut self.rows,
-        )?;
-        self.keys.push_reserved(copy);
-        Ok(())
+        match close_block(&mut self.open, last, &mut self.blocks, &mut self.rows) {
+            Ok(()) => {
+                mem::swap(&mut self.open, &mut self.spare);
+                self.keys.push_reserved(copy);
+                Ok(())
+            }
+            // without memory the block that is begun goes, and all else stays as it was
+            Err(fault) => {
+                self.spare.clear();
+                Err(fault)
+            }
+        }
     }
 
     // Whether a row could count no more entries.
@@ -175,7 +178,7 @@ fn key_list(alloc: Global, keys: &[Vec<u8>]) -> Result<KeyList, AllocError>
 }
 
 // The last of some keys: those of entries, of which the last ones are not none.
-pub(crate) fn last_of(keys: &[Vec<u8>]) -> &[u8]
+fn last_of(keys: &[Vec<u8>]) -> &[u8]
     requires { 0 < length keys.now }
     ensures { (front back : List model.Entry) → 0 < length back → keys_of (front ++ back) ≡ map vec_items keys.now → result.now ≡ last_key back }
 {
@@ -187,48 +190,15 @@ fn begin(spare: &mut BlockBuilder, key: &[u8], value: Option<&[u8]>) -> Result<(
     requires sound { IsEntry (entry_of key.now (option_map (λ v. v.now) value)) }
     requires none { spare.old ≡ [] }
     ensures begun { OnOk result (spare.new ≡ entry_of key.now (option_map (λ v. v.now) value.entry) ∷ []) }
-    ensures same { OnErr result (spare.new ≡ []) }
+    ensures unchanged { OnErr result (spare.new ≡ []) }
 {
     spare.add(key, value)?;
     Ok(())
 }
 
-// Closes the open block, and opens the one that is begun. Without memory that one goes, and all else stays as it was.
-fn roll(
-    open: &mut BlockBuilder,
-    spare: &mut BlockBuilder,
-    last: &[u8],
-    blocks: &mut Vec<u8>,
-    rows: &mut Vec<BlockRow>,
-) -> Result<(), AllocError>
-    requires sound { IsBlock «open».old }
-    requires last { last.now ≡ last_key «open».old }
-    requires whole { length blocks.old.items ≡ page_bytes * row_pages (rows_seen rows.old.items) }
-    requires stand { StandFrom 0 rows.old.items }
-    ensures written { OnOk result (blocks.new.items ≡ blocks.old.items ++ block_bytes «open».old) }
-    ensures kept { OnOk result (rows_seen rows.new.items ≡ rows_seen rows.old.items ++ index_row_of «open».old ∷ []) }
-    ensures stand { OnOk result (StandFrom 0 rows.new.items) }
-    ensures next { OnOk result («open».new ≡ spare.old) }
-    ensures spare { spare.new ≡ [] }
-    ensures same_blocks { OnErr result (blocks.new.items ≡ blocks.old.items) }
-    ensures same_rows { OnErr result (rows.new.items ≡ rows.old.items) }
-    ensures same { OnErr result («open».new ≡ «open».old) }
-{
-    match close_block(open, last, blocks, rows) {
-        Ok(()) => {
-            mem::swap(open, spare);
-            Ok(())
-        }
-        Err(fault) => {
-            spare.clear();
-            Err(fault)
-        }
-    }
-}
-
 // Appends a block to those that are closed, and its row to theirs. Without memory all stays as it was.
 #[tactic(auto, unfolding(block_model::specs::Index::index_row_of))]
-pub(crate) fn close_block(
+fn close_block(
     open: &mut BlockBuilder,
     last: &[u8],
     blocks: &mut Vec<u8>,
@@ -244,7 +214,7 @@ pub(crate) fn close_block(
     ensures emptied { OnOk result («open».new ≡ []) }
     ensures same_blocks { OnErr result (blocks.new.items ≡ blocks.old.items) }
     ensures same_rows { OnErr result (rows.new.items ≡ rows.old.items) }
-    ensures same { OnErr result («open».new ≡ «open».old) }
+    ensures unchanged { OnErr result («open».new ≡ «open».old) }
 {
     let at = blocks.len();
     let pages = open.pages() as u32;

@@ -1,4 +1,4 @@
-// The walk over a table's entries.
+//! The walk over a table's entries.
 ghost use Rattle.std.specs.Prelude.{◌≡◌, ◌<◌, ◌≤◌, ◌+◌, ◌^◌, ℕ, true, false, [], length, is_some, Option, Some, None, IsTrue, IsOk, IfOk, IfErr, IfSome, OnOk, OnErr, if◌then◌else◌};
 ghost use Rattle.std.specs.Option.{option_map};
 ghost use Rattle.std.specs.Borrow.{sem};
@@ -9,7 +9,7 @@ ghost use Rattle.block_model.specs.Places.{byte_of_page};
 ghost use Rattle.block_format.specs.Spans.{kept_from};
 ghost use Rattle.table_file.specs.Faults.{HasReadCause, IsNoWant};
 ghost use Rattle.table_file.specs.Search.{IsGetFault, IsSoundBlock, bytes_at, page_at};
-ghost use Rattle.table_file.specs.Walks.{BeginsWell, HandsOut, IsSettled, WentOn, blocks_on, first_of, is_due, others_of, to_come};
+ghost use Rattle.table_file.specs.Walks.{BeginsWell, HandsOut, IsSettled, WalkGoesOn, blocks_on, first_of, is_due, others_of, to_come};
 
 use crate::fault::TableFault;
 use crate::held_block::HeldBlock;
@@ -32,9 +32,9 @@ pub struct TableCursor {
 
 impl Model for TableCursor {
     ghost use Rattle.std.specs.Prelude.{Some, None, if◌then◌else◌};
-    ghost use Rattle.table_file.specs.Walks.{Walk};
+    ghost use Rattle.table_file.specs.Walks.{CursorWalk};
 
-    ghost Value = { Walk };
+    ghost Value = { CursorWalk };
 
     ghost view = { λ c. record { bound = if c.begun then None else Some c.low.items; block = c.block; now = c.held.now; later = c.held.later } };
 }
@@ -42,7 +42,7 @@ impl Model for TableCursor {
 impl TableCursor {
     ghost use Rattle.table_file.specs.Ends.{cursor_ends};
 
-    // A walk from a bound on that begins at a block.
+    /// A walk from a bound on that begins at a block.
     pub(crate) fn new(low: Vec<u8>, block: u32, held: HeldBlock) -> TableCursor
         requires { held ≡ record { now = None; later = [] } }
         ensures { result ≡ record { bound = Some low.items; block = block; now = None; later = [] } }
@@ -78,7 +78,7 @@ impl TableCursor {
         ensures none_at_hand { OnErr result (self.new.now ≡ None) }
         ensures idle { is_due self.old (length table.now.index.rows) ≡ false → IsOk result × ReadMoves 0 (D.world disk.old) (D.world disk.new) }
         ensures onward { self.old.block ≤ self.new.block }
-        ensures goes_on { WentOn self.old self.new }
+        ensures goes_on { WalkGoesOn self.old self.new }
         ensures one { IsTrue D.tells → BeginsWell self.old (blocks_on table.now (D.world disk.old).seen.held) → OnOk result (self.new.block ≡ self.old.block + (if is_due self.old (length table.now.index.rows) then 1 else 0)) }
         ensures sound { (n : ℕ) → IsTrue D.tells → self.old.block ≤ n → n < self.new.block → IsSoundBlock table.now n (D.world disk.old).seen.held }
         ensures taken { IfErr result IsNoWant }
@@ -109,7 +109,9 @@ impl TableCursor {
         table: &Table<F>,
     ) -> Result<Option<(&[u8], Option<&[u8]>)>, TableFault>
         ensures* after { sem 𝓛 (cursor_ends self.entry (λ walk. (IsTrue D.tells → OnOk result (HandsOut self.old walk (blocks_on table.now (D.world disk.old).seen.held))) × IfOk result (λ found. option_map (λ f. entry_of f.0.now (option_map (λ v. v.now) f.1)) found ≡ walk.now)
-            × (IsTrue D.tells → OnErr result (to_come walk (blocks_on table.now (D.world disk.old).seen.held) ≡ to_come self.old (blocks_on table.now (D.world disk.old).seen.held))) × OnErr result (walk.now ≡ None))) }
+            × (IsTrue D.tells → OnErr result (to_come walk (blocks_on table.now (D.world disk.old).seen.held) ≡ to_come self.old (blocks_on table.now (D.world disk.old).seen.held))) × OnErr result (walk.now ≡ None)
+            × WalkGoesOn self.old walk × (self.old.block ≤ walk.block)
+            × (IsTrue D.tells → BeginsWell self.old (blocks_on table.now (D.world disk.old).seen.held) → OnOk result (walk.block ≡ self.old.block + (if is_due self.old (length table.now.index.rows) then 1 else 0))))) }
         ensures sound { IfOk result (λ found. IfSome found (λ f. IsEntry (entry_of f.0.now (option_map (λ v. v.now) f.1)))) }
         ensures idle { is_due self.old (length table.now.index.rows) ≡ false → IsOk result × ReadMoves 0 (D.world disk.old) (D.world disk.new) }
         ensures taken { IfErr result IsNoWant }
@@ -144,7 +146,7 @@ impl TableCursor {
         ensures none_at_hand { OnErr result (self.new.now ≡ None) }
         ensures idle { is_due self.old (length table.now.index.rows) ≡ false → IsOk result × (self.new ≡ self.old) × ReadMoves 0 (D.world disk.old) (D.world disk.new) }
         ensures onward { self.old.block ≤ self.new.block }
-        ensures goes_on { WentOn self.old self.new }
+        ensures goes_on { WalkGoesOn self.old self.new }
         ensures one { IsTrue D.tells → is_due self.old (length table.now.index.rows) ≡ true → BeginsWell self.old (blocks_on table.now (D.world disk.old).seen.held) → OnOk result ((is_due self.new (length table.now.index.rows) ≡ false) × (self.new.block ≡ self.old.block + 1)) }
         ensures sound { (n : ℕ) → IsTrue D.tells → self.old.block ≤ n → n < self.new.block → IsSoundBlock table.now n (D.world disk.old).seen.held }
         ensures taken { IfErr result IsNoWant }

@@ -1,3 +1,4 @@
+//! Why a table is not opened, or not read.
 ghost use Rattle.std.specs.Prelude.{◌≡◌};
 ghost use Rattle.table_file.specs.declared.fault.TableFault.TheVariants.{Device, Memory as want_of_memory};
 
@@ -5,7 +6,7 @@ use byte_fields::Damage;
 use disk_trait::DiskFault;
 use std::alloc::AllocError;
 
-/// Why a table is not opened, or not read.
+/// What ends an opening or a read: want of memory, the device, or damage.
 #[derive(Clone, Copy, Debug, PartialEq, Eq)]
 pub enum TableFault {
     /// There is no memory.

@@ -1,4 +1,4 @@
-// A block in memory, and where a walk stands in it.
+//! A block in memory, and where a walk stands in it.
 ghost use Rattle.std.specs.Prelude.{◌≡◌, ◌<◌, ◌≤◌, ◌+◌, ◌==◌, [], length, is_some, IsTrue, IfOk, IfErr, IfSome, OnOk, OnErr, None};
 ghost use Rattle.std.specs.Option.{option_map};
 ghost use Rattle.disk_trait.specs.World.{ReadMoves};
@@ -12,14 +12,14 @@ ghost use Rattle.table_file.specs.Walks.{first_of, others_of};
 
 use crate::fault::TableFault;
 use crate::table::{LARGEST_BLOCK_BYTES, Table};
-use block_format::{Span, read_span};
+use block_format::{EntrySpan, read_span};
 use disk_trait::Disk;
 use filter_api::RangeFilter;
 use std::alloc::{AllocError, Global};
 use std::marker::Model;
 
-/// No entry.
-const NO_ENTRY: Span = Span {
+// No entry.
+const NO_ENTRY: EntrySpan = EntrySpan {
     at: 0,
     end: 0,
     left: 0,
@@ -31,8 +31,8 @@ pub(crate) struct HeldBlock {
     // room for the largest block
     bytes: Vec<u8>,
     // the entry at hand is the first of these
-    here: Span,
-    rest: Span,
+    here: EntrySpan,
+    rest: EntrySpan,
 }
 
 impl Model for HeldBlock {
@@ -41,9 +41,9 @@ impl Model for HeldBlock {
     ghost use Rattle.entry_model.specs.Entries.{IsEntry};
     ghost use Rattle.block_format.specs.Spans.{StandsIn, spanned};
     ghost use Rattle.table_file.specs.Search.{largest_block};
-    ghost use Rattle.table_file.specs.Walks.{Held, first_of};
+    ghost use Rattle.table_file.specs.Walks.{BlockInHand, first_of};
 
-    ghost Value = { Held };
+    ghost Value = { BlockInHand };
 
     ghost view = { λ b. record { now = first_of (spanned b.here b.bytes.items); later = spanned b.rest b.bytes.items } };
 

@@ -1,32 +1,32 @@
-// The index of a table in memory.
+//! The index of a table in memory.
 ghost use Rattle.std.specs.Prelude.{◌≡◌, ◌+◌, ◌-◌, ◌≤◌, ◌<◌, ◌^◌, ◌++◌, length, take, flat_map, Some, None, IfOk, IfErr, OnOk};
+ghost use Rattle.key_base.specs.Limits.{max_block_pages};
 ghost use Rattle.block_model.specs.Index.{IsIndex, index_bytes, index_row_bytes, row_pages};
 ghost use Rattle.block_model.specs.IndexReading.{index_fault, index_in, rows_fault, rows_in};
 ghost use Rattle.block_model.specs.Order.{Follow, is_any, is_from};
 ghost use Rattle.std.specs.List.{position_or_len};
 ghost use Rattle.table_file.specs.Search.{block_of_key, row_at};
 ghost use Rattle.table_file.specs.BlockRows.{StandFrom, lasts, row_seen, rows_seen};
-ghost use Rattle.table_file.specs.Faults.{IsIndexFault, IsWithin};
+ghost use Rattle.table_file.specs.Faults.{IsIndexFault, IsPlaceWithin};
 
-use crate::before::Before;
+use crate::before::BeforeLast;
 use crate::block_row::BlockRow;
-use crate::index_fault::IndexFault;
 use crate::index_row::{MAGIC, read_head, read_row};
-use byte_fields::push_fields;
+use byte_fields::{PartFault, push_fields};
 use key_base::compare;
 use std::alloc::{AllocError, Global};
 use std::marker::Model;
 
-/// The magic, the count of rows, and the length of the least key.
+// The magic, the count of rows, and the length of the least key.
 const HEAD_WIDTHS: [usize; 3] = [4, 4, 2];
 
-/// The pages and the sum of a block, and the length of its last key.
+// The pages and the sum of a block, and the length of its last key.
 const ROW_WIDTHS: [usize; 3] = [4, 8, 2];
 
-/// Bytes are left behind the last row.
+// Bytes are left behind the last row.
 const BYTES_LEFT: u8 = 7;
 
-/// The blocks have other pages than the table.
+// The blocks have other pages than the table.
 const OTHER_PAGES: u8 = 8;
 
 /// The least key of a table, and what is kept of each of its blocks.
@@ -54,10 +54,10 @@ impl BlockIndex {
     ///
     /// One pass over the bytes. Memory is taken for the rows that are there, whatever their count says.
     #[tactic(auto, unfolding(block_model::specs::IndexReading::index_fault, block_model::specs::IndexReading::index_in, block_model::specs::IndexReading::pages_fault))]
-    pub(crate) fn read(alloc: Global, bytes: &[u8], pages: u32) -> Result<BlockIndex, IndexFault>
+    pub(crate) fn read(alloc: Global, bytes: &[u8], pages: u32) -> Result<BlockIndex, PartFault>
         requires { length bytes.now < 2 ^ 63 }
         ensures broken { IfErr result (IsIndexFault (index_fault pages bytes.now)) }
-        ensures place { IfErr result (IsWithin (length bytes.now)) }
+        ensures place { IfErr result (IsPlaceWithin (length bytes.now)) }
         ensures whole { IfOk result (λ _. index_fault pages bytes.now ≡ None) }
         ensures index { IfOk result (λ x. x ≡ index_in bytes.now) }
     {
@@ -70,7 +70,7 @@ impl BlockIndex {
             head.least,
         )?;
         if all != u64::from(pages) {
-            return Err(IndexFault::Shape {
+            return Err(PartFault::Shape {
                 place: 4,
                 rule: OTHER_PAGES,
             });
@@ -127,7 +127,7 @@ impl BlockIndex {
         ensures row { row_seen result.now ≡ row_at self.now.rows n }
         ensures first { result.now.first ≡ row_pages (take n self.now.rows) }
         ensures within { result.now.first + result.now.pages ≤ row_pages self.now.rows }
-        ensures few { result.now.pages ≤ 17 }
+        ensures few { result.now.pages ≤ max_block_pages }
     {
         let rows = self.rows.as_slice();
         &rows[n]
@@ -194,10 +194,10 @@ fn read_rows(
     place: usize,
     count: u32,
     least: &[u8],
-) -> Result<(Vec<BlockRow>, u64), IndexFault>
+) -> Result<(Vec<BlockRow>, u64), PartFault>
     requires { place + length bytes.now < 2 ^ 64 }
     ensures broken { IfErr result (IsIndexFault (rows_fault count place (is_from least.now) bytes.now)) }
-    ensures place { IfErr result (IsWithin (place + length bytes.now)) }
+    ensures place { IfErr result (IsPlaceWithin (place + length bytes.now)) }
     ensures whole { IfOk result (λ _. rows_fault count place (is_from least.now) bytes.now ≡ None) }
     ensures rows { IfOk result (λ found. rows_seen found.0.items ≡ rows_in count bytes.now) }
     ensures pages { IfOk result (λ found. found.1 ≡ row_pages (rows_seen found.0.items)) }
@@ -206,7 +206,7 @@ fn read_rows(
     let mut rows = Vec::new(alloc);
     let mut at = 0;
     let mut first = 0;
-    let mut before = Before::Least(least);
+    let mut before = BeforeLast::Least(least);
     for i in 0..count {
         let row = read_row(&bytes[at..], place + at, before)?;
         let last = Vec::from_slice(alloc, row.last)?;
@@ -216,54 +216,15 @@ fn read_rows(
             sum: row.sum,
             last,
         })?;
-        before = Before::Last(row.last);
+        before = BeforeLast::Last(row.last);
         first += u64::from(row.pages);
         at += row.width;
     }
     if at < bytes.len() {
-        return Err(IndexFault::Shape {
+        return Err(PartFault::Shape {
             place: place + at,
             rule: BYTES_LEFT,
         });
     }
     Ok((rows, first))
-}
-
-#[cfg(test)]
-mod tests {
-    use super::*;
-
-    // The index of one block that begins and ends with a. Its sum is left 0.
-    const INDEX: [u8; 26] = [
-        0x53, 0x52, 0x46, 0x49, 1, 0, 0, 0, 1, 0, 0x61, 1, 0, 0, 0, 0, 0, 0, 0, 0, 0, 0, 0, 1, 0,
-        0x61,
-    ];
-
-    // The place and the rule, where the index of a table with one page of blocks breaks one.
-    fn fault_of(alloc: Global, bytes: &[u8]) -> Option<(usize, u8)>
-        requires { length bytes.now < 2 ^ 63 }
-    {
-        match BlockIndex::read(alloc, bytes, 1) {
-            Err(IndexFault::Shape { place, rule }) => Some((place, rule)),
-            _ => None,
-        }
-    }
-
-    #[test]
-    fn the_first_rule_that_is_broken(rt: HostRuntime) {
-        let rows = [
-            (0, 0x00, 2, 0),
-            (4, 0x00, 3, 4),
-            (10, 0x62, 5, 25),
-            (11, 0x00, 6, 11),
-            (11, 0x02, 8, 4),
-        ];
-        for (at, byte, rule, place) in rows {
-            let mut bytes = INDEX;
-            bytes[at] = byte;
-            assert_eq!(rt; fault_of(rt.alloc(), &bytes), Some((place, rule)));
-        }
-        assert_eq!(rt; fault_of(rt.alloc(), &INDEX[..25]), Some((25, 1)));
-        assert_eq!(rt; fault_of(rt.alloc(), &INDEX), None);
-    }
 }

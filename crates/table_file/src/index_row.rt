@@ -1,44 +1,41 @@
-// One row of an index, in the bytes that begin with it, and the head before the rows.
+//! One row of an index, in the bytes that begin with it, and the head before the rows.
 ghost use Rattle.std.specs.Prelude.{◌≡◌, ◌≤◌, ◌<◌, ◌+◌, ◌^◌, length, None, IfOk, IfErr};
+ghost use Rattle.key_base.specs.Limits.{max_block_pages};
 ghost use Rattle.block_model.specs.IndexReading.{head_width_in, index_head_fault, last_in, least_in, pages_in, row_fault, row_width_in, rows_count_in, sum_in};
-ghost use Rattle.table_file.specs.Faults.{IsShape, IsWithin};
-ghost use Rattle.table_file.specs.Before.{passes};
+ghost use Rattle.table_file.specs.Faults.{IsShape, IsPlaceWithin};
+ghost use Rattle.table_file.specs.BeforeLast.{passes};
 
-use crate::before::Before;
-use crate::index_fault::IndexFault;
-use byte_fields::{get_u16, get_u32, get_u64};
-use key_base::MAX_KEY_BYTES;
+use crate::before::BeforeLast;
+use byte_fields::{PartFault, get_u16, get_u32, get_u64};
+use key_base::{MAX_BLOCK_PAGES, MAX_KEY_BYTES};
 
 /// `SRFI`.
 pub(crate) const MAGIC: u32 = 0x49465253;
 
-/// The bytes of the head before the least key.
+// The bytes of the head before the least key.
 const HEAD_BYTES: usize = 10;
 
-/// The bytes of a row before the last key.
+// The bytes of a row before the last key.
 const ROW_BYTES: usize = 14;
 
-/// The most pages of a block.
-const MAX_BLOCK_PAGES: u32 = 17;
-
-/// A field runs past the end.
+// A field runs past the end.
 const PAST_THE_END: u8 = 1;
 
 const NO_MAGIC: u8 = 2;
 
-/// There are no blocks.
+// There are no blocks.
 const NO_BLOCKS: u8 = 3;
 
-/// A key's length is out of its limits.
+// A key's length is out of its limits.
 const OUT_OF_LIMITS: u8 = 4;
 
-/// The key is not above the one before, or the first one is below the least key.
+// The key is not above the one before, or the first one is below the least key.
 const NOT_ABOVE: u8 = 5;
 
-/// No pages, or more than a block takes.
+// No pages, or more than a block takes.
 const NO_PAGES: u8 = 6;
 
-// The head of an index: how many rows follow, the least key, and how many bytes it takes.
+/// The head of an index: how many rows follow, the least key, and how many bytes it takes.
 #[derive(Clone, Copy)]
 pub(crate) struct Head<'a> {
     pub count: u32,
@@ -46,7 +43,7 @@ pub(crate) struct Head<'a> {
     pub width: usize,
 }
 
-// A row as it stands in its index, and how many bytes it takes.
+/// A row as it stands in its index, and how many bytes it takes.
 #[derive(Clone, Copy)]
 pub(crate) struct RowHere<'a> {
     pub pages: u32,
@@ -55,11 +52,11 @@ pub(crate) struct RowHere<'a> {
     pub width: usize,
 }
 
-// The head that the bytes begin with, or the first rule that it breaks.
+/// The head that the bytes begin with, or the first rule that it breaks.
 #[tactic(auto, unfolding(block_model::specs::IndexReading::index_head_fault, block_model::specs::IndexReading::head_width_in, block_model::specs::IndexReading::least_in))]
-pub(crate) fn read_head(bytes: &[u8]) -> Result<Head<'_>, IndexFault>
+pub(crate) fn read_head(bytes: &[u8]) -> Result<Head<'_>, PartFault>
     ensures broken { IfErr result (IsShape (index_head_fault bytes.now)) }
-    ensures place { IfErr result (IsWithin (length bytes.now)) }
+    ensures place { IfErr result (IsPlaceWithin (length bytes.now)) }
     ensures whole { IfOk result (λ _. index_head_fault bytes.now ≡ None) }
     ensures count { IfOk result (λ h. h.count ≡ rows_count_in bytes.now) }
     ensures least { IfOk result (λ h. h.least.now ≡ least_in bytes.now) }
@@ -91,23 +88,23 @@ pub(crate) fn read_head(bytes: &[u8]) -> Result<Head<'_>, IndexFault>
     })
 }
 
-// The row that the bytes begin with, or the first rule that it breaks. Its place is `place`.
+/// The row that the bytes begin with, or the first rule that it breaks. Its place is `place`.
 #[tactic(auto, unfolding(block_model::specs::IndexReading::row_fault, block_model::specs::IndexReading::row_width_in, block_model::specs::IndexReading::last_in))]
 pub(crate) fn read_row<'a>(
     bytes: &'a [u8],
     place: usize,
-    before: Before<'_>,
-) -> Result<RowHere<'a>, IndexFault>
+    before: BeforeLast<'_>,
+) -> Result<RowHere<'a>, PartFault>
     requires { place + length bytes.now < 2 ^ 64 }
     ensures broken { IfErr result (IsShape (row_fault place (passes before.entry) bytes.now)) }
-    ensures place { IfErr result (IsWithin (place + length bytes.now)) }
+    ensures place { IfErr result (IsPlaceWithin (place + length bytes.now)) }
     ensures whole { IfOk result (λ _. row_fault place (passes before.entry) bytes.now ≡ None) }
     ensures pages { IfOk result (λ r. r.pages ≡ pages_in bytes.now) }
     ensures sum { IfOk result (λ r. r.sum ≡ sum_in bytes.now) }
     ensures last { IfOk result (λ r. r.last.now ≡ last_in bytes.now) }
     ensures width { IfOk result (λ r. r.width ≡ row_width_in bytes.now) }
     ensures within { IfOk result (λ r. r.width ≤ length bytes.now) }
-    ensures few { IfOk result (λ r. r.pages ≤ 17) }
+    ensures few { IfOk result (λ r. r.pages ≤ max_block_pages) }
 {
     if bytes.len() < ROW_BYTES {
         return Err(shape(place + bytes.len(), PAST_THE_END));
@@ -136,8 +133,8 @@ pub(crate) fn read_row<'a>(
     })
 }
 
-fn shape(place: usize, rule: u8) -> IndexFault
-    ensures { result ≡ IndexFault.Shape place rule }
+fn shape(place: usize, rule: u8) -> PartFault
+    ensures { result ≡ PartFault.Shape place rule }
 {
-    IndexFault::Shape { place, rule }
+    PartFault::Shape { place, rule }
 }

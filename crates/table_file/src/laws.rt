@@ -1,4 +1,4 @@
-// The laws of tables that are opened, and of tables that stand on a device. They are proved and never called.
+//! The laws of tables that are opened, and of tables that stand on a device. They are proved and never called.
 ghost use Rattle.table_file.specs.Laws.{OpenedStands, StandingBlocks, StandingIsKept, StandingKeys, StandingWalks, WrittenIsShown};
 
 /// A table that was opened from bytes that spell the table of some blocks is the table of these blocks.

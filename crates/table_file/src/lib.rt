@@ -31,7 +31,6 @@ mod cursor;
 mod fault;
 mod held_block;
 mod index;
-mod index_fault;
 mod index_row;
 mod laws;
 mod opening;
@@ -44,7 +43,10 @@ mod writing;
 pub use builder::TableBuilder;
 pub use cursor::TableCursor;
 pub use fault::TableFault;
-pub use laws::{opened_tables_stand, standing_tables_are_read, written_parts_are_shown};
+pub use laws::{
+    opened_tables_stand, standing_tables_are_kept, standing_tables_are_read,
+    written_parts_are_shown,
+};
 pub use opening::{fits_device, open_table};
 pub use parts::{Parts, pages_of};
 pub use table::{LARGEST_BLOCK_BYTES, Table};

@@ -1,4 +1,4 @@
-// A table is opened: its index and its filter are read and judged.
+//! A table is opened: its index and its filter are read and judged.
 ghost use Rattle.std.specs.Prelude.{◌≡◌, ◌+◌, ◌*◌, ◌^◌, ◌≤◌, ◌<◌, length, IsTrue, true, IfOk, IfErr, None};
 ghost use Rattle.byte_fields.specs.Sums.{fnv_of};
 ghost use Rattle.disk_trait.specs.Image.{Image, window};
@@ -13,16 +13,15 @@ ghost use Rattle.table_file.specs.Opened.{IsOpen};
 
 use crate::fault::TableFault;
 use crate::index::BlockIndex;
-use crate::index_fault::IndexFault;
 use crate::table::Table;
 use block_model::pages_for;
-use byte_fields::{Damage, Part, Row, fnv1a};
+use byte_fields::{Damage, Part, PartFault, Row, fnv1a};
 use disk_trait::Disk;
 use filter_api::{DecodeError, RangeFilter};
 use key_base::{MAX_DEVICE_PAGES, PAGE_BYTES};
 use std::alloc::Global;
 
-/// The place in a filter that is named where it has other leaves than the table has entries, and that rule.
+// The place in a filter that is named where it has other leaves than the table has entries, and that rule.
 const LEAVES_AT: u64 = 12;
 
 const OTHER_LEAVES: u8 = 11;
@@ -93,7 +92,7 @@ fn read_part<D: Disk>(
     Ok(read)
 }
 
-// Whether the bytes of a part have the sum that is kept.
+/// Whether the bytes of a part have the sum that is kept.
 pub(crate) fn check_sum(part: Part, at: u64, kept: u64, bytes: &[u8]) -> Result<(), TableFault>
     ensures other { IfErr result (IsOtherSum part at kept bytes.now) }
     ensures same { IfOk result (λ _. kept ≡ fnv_of bytes.now) }
@@ -123,8 +122,8 @@ fn read_index(alloc: Global, row: &Row, bytes: &[u8]) -> Result<BlockIndex, Tabl
     check_sum(Part::Index, at, row.index_sum, bytes)?;
     match BlockIndex::read(alloc, bytes, row.data_pages) {
         Ok(index) => Ok(index),
-        Err(IndexFault::Memory) => Err(TableFault::Memory),
-        Err(IndexFault::Shape { place, rule }) => Err(TableFault::Damaged(Damage::Shape {
+        Err(PartFault::Memory) => Err(TableFault::Memory),
+        Err(PartFault::Shape { place, rule }) => Err(TableFault::Damaged(Damage::Shape {
             part: Part::Index,
             at: at + place as u64,
             rule,

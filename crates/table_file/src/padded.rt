@@ -1,4 +1,4 @@
-// The bytes of a part in whole pages.
+//! The bytes of a part in whole pages.
 ghost use Rattle.std.specs.Prelude.{◌≡◌, ◌≤◌, ◌^◌, ◌++◌, length, IfOk};
 ghost use Rattle.byte_fields.specs.Sums.{fnv_of};
 ghost use Rattle.block_model.specs.Block.{padding};

@@ -1,4 +1,4 @@
-// The parts of a table in memory, before they are written.
+//! The parts of a table in memory, before they are written.
 ghost use Rattle.std.specs.Prelude.{◌≡◌, ◌+◌, ◌≤◌, List, IfOk};
 ghost use Rattle.entry_model.specs.Entries.{keys_of};
 ghost use Rattle.block_model.specs.Block.{IsTable, data_bytes};
@@ -49,7 +49,7 @@ impl<F: RangeFilter> Model for Parts<F> {
 }
 
 impl<F: RangeFilter> Parts<F> {
-    // The parts of entries whose blocks, index and keys are there.
+    /// The parts of entries whose blocks, index and keys are there.
     pub(crate) fn new(
         alloc: Global,
         settings: Settings,

@@ -1,4 +1,4 @@
-// A table that is opened.
+//! A table that is opened.
 ghost use Rattle.std.specs.Prelude.{◌≡◌, ◌+◌, ◌-◌, ◌*◌, ◌≤◌, ◌<◌, ℕ, List, length, take, IsTrue, IfOk, IfErr, OnOk, Ok, Some, None};
 ghost use Rattle.std.specs.Option.{option_map};
 ghost use Rattle.byte_fields.specs.Sums.{fnv_of};
@@ -11,7 +11,7 @@ ghost use Rattle.block_model.specs.BlockReading.{block_fault, block_in};
 ghost use Rattle.block_model.specs.Pages.{page_bytes};
 ghost use Rattle.block_model.specs.Places.{byte_of_page};
 ghost use Rattle.table_file.specs.Faults.{HasReadCause, IsNoDamage, IsNoWant};
-ghost use Rattle.table_file.specs.Search.{IsBrokenBlock, IsGetFault, IsOtherBlock, IsSoundBlock, StandsThere, block_for, blocks_read, bytes_at, largest_block, page_at, row_at};
+ghost use Rattle.table_file.specs.Search.{IsBrokenBlock, IsGetFault, IsOtherBlock, IsSoundBlock, StandsThere, block_for, blocks_of_get, bytes_at, largest_block, page_at, row_at};
 ghost use Rattle.table_file.specs.Walks.{walk_from};
 
 use crate::cursor::TableCursor;
@@ -23,12 +23,12 @@ use block_format::{Block, BlockFault};
 use byte_fields::{Damage, Part, Row};
 use disk_trait::Disk;
 use filter_api::RangeFilter;
-use key_base::PAGE_BYTES;
+use key_base::{MAX_BLOCK_PAGES, PAGE_BYTES};
 use std::alloc::{AllocError, Global};
 use std::marker::Model;
 
-/// The bytes of the largest block, of 17 pages: the room that a buffer needs into which blocks are read.
-pub const LARGEST_BLOCK_BYTES: usize = 69_632;
+/// The bytes of the largest block: the room that a buffer needs into which blocks are read.
+pub const LARGEST_BLOCK_BYTES: usize = PAGE_BYTES * MAX_BLOCK_PAGES as usize;
 
 /// A table on a device: its row, its index and its filter in memory.
 #[derive(Drop)]
@@ -59,7 +59,7 @@ impl<F: RangeFilter> Model for Table<F> {
 impl<F: RangeFilter> Table<F> {
     ghost use Rattle.table_file.specs.Opened.{IsOfRow, Opened};
 
-    // The table of a row with this index and this filter.
+    /// The table of a row with this index and this filter.
     pub(crate) fn new(row: Row, index: BlockIndex, filter: F) -> Table<F>
         requires { IsOfRow (record {
           row = row;
@@ -126,8 +126,8 @@ impl<F: RangeFilter> Table<F> {
         ensures fault { (n : ℕ) → IsTrue D.tells → block_for self.now key.now ≡ Some n → IfErr result (IsGetFault self.now n (D.world disk.old).seen.held) }
         ensures sound { (n : ℕ) → IsTrue D.tells → block_for self.now key.now ≡ Some n → IfOk result (λ _. IsSoundBlock self.now n (D.world disk.old).seen.held) }
         ensures said { (n : ℕ) → IsTrue D.tells → block_for self.now key.now ≡ Some n → IfOk result (λ found. option_map (λ f. option_map (λ v. v.now) f) found ≡ lookup (block_in (bytes_at self.now n (D.world disk.old).seen.held)) key.now) }
-        ensures moves { ReadMoves (blocks_read (block_for self.now key.now)) (D.world disk.old) (D.world disk.new) }
-        ensures counted { IsTrue D.tells → OnOk result ((D.world disk.new).seen.reads ≡ (D.world disk.old).seen.reads + blocks_read (block_for self.now key.now)) }
+        ensures moves { ReadMoves (blocks_of_get (block_for self.now key.now)) (D.world disk.old) (D.world disk.new) }
+        ensures counted { IsTrue D.tells → OnOk result ((D.world disk.new).seen.reads ≡ (D.world disk.old).seen.reads + blocks_of_get (block_for self.now key.now)) }
         ensures answer { (settings : Settings) (blocks : List (List Entry)) → IsTrue D.tells → StandsThere F.spelling settings self.now blocks (D.world disk.old).seen.held
             → IfOk result (λ found. option_map (λ f. option_map (λ v. v.now) f) found ≡ lookup (joined blocks) key.now) }
         ensures undamaged { (settings : Settings) (blocks : List (List Entry)) → IsTrue D.tells → StandsThere F.spelling settings self.now blocks (D.world disk.old).seen.held → IfErr result IsNoDamage }
@@ -152,8 +152,8 @@ impl<F: RangeFilter> Table<F> {
         }
     }
 
-    /// Reads a block into the front of a buffer that has room for the largest, and answers how many bytes it has. One
-    /// read.
+    /// Reads a block into a buffer that has room for the largest, from the buffer's first byte on, and answers how many
+    /// bytes it has. One read.
     ///
     /// `Damaged` exactly where the bytes have another sum than the index keeps; no rule of the format is looked at.
     pub fn read_block<D: Disk>(
@@ -214,7 +214,7 @@ impl<F: RangeFilter> Table<F> {
         Ok(TableCursor::new(bound, self.index.first_from(low), held))
     }
 
-    // The fault of the block number `n`, whose bytes break a rule.
+    /// The fault of the block number `n`, whose bytes break a rule.
     pub(crate) fn broken(&self, n: u32, fault: BlockFault) -> TableFault
         requires there { n < length self.now.index.rows }
         requires place { fault.place ≤ largest_block }

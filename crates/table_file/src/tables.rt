@@ -1,4 +1,4 @@
-// The tables of a version.
+//! The tables of a version.
 ghost use Rattle.std.specs.Prelude.{◌≡◌, ◌≤◌, ◌<◌, ◌+◌, ◌==◌, [], length, slice_get, Some, OnOk};
 ghost use Rattle.std.specs.List.{insert as inserted, remove as removed};
 

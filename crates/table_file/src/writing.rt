@@ -1,4 +1,4 @@
-// The parts of a table on their way to a device.
+//! The parts of a table on their way to a device.
 ghost use Rattle.std.specs.Prelude.{◌≡◌, ◌+◌, ◌*◌, ◌^◌, ◌≤◌, ℕ, length, IsTrue, IfErr, OnOk, OnErr};
 ghost use Rattle.disk_trait.specs.World.{IsDurable, Now, Rose, WriteMoves};
 ghost use Rattle.block_model.specs.Pages.{page_bytes};

@@ -31,7 +31,7 @@ module _ (row : Row) (at n : ℕ) (apart : IsApartFromRow at n row) where
   filter_apart : row.filter_pages ≡ pages_for row.filter_len → IsApart (byte_of_page (filter_page row)) row.filter_len at n
   filter_apart pages = inner _ _ (byte_of_page row.first_page) (4096 * pages_of row) at n (omega arith) (omega (arith, pages, in_pages row.filter_len)) apart
 
-at_kept : (spelling : Spelling) (settings : Settings) (row : Row) (blocks : List (List Entry)) (at n : ℕ) (f g : Image) → IsApartFromRow at n row → Torn at n f g
+pub at_kept : (spelling : Spelling) (settings : Settings) (row : Row) (blocks : List (List Entry)) (at n : ℕ) (f g : Image) → IsApartFromRow at n row → Torn at n f g
     → IsTableAt spelling settings row blocks f → IsTableAt spelling settings row blocks g
 at_kept spelling settings row blocks at n f g apart torn t = record {
   each = t.each;

@@ -1,3 +1,15 @@
+pub use Rattle.block_model.specs.BlockReading
+pub use Rattle.block_model.specs.Index
+pub use Rattle.block_model.specs.IndexReading
+pub use Rattle.block_model.specs.Pages
+pub use Rattle.block_model.specs.Places
+pub use Rattle.byte_fields.specs.declared.parts
+pub use Rattle.byte_fields.specs.Faults
+pub use Rattle.disk_trait.specs.Image
+pub use Rattle.entry_model.specs.Entries
+pub use Rattle.filter_api.specs.Spellings
+pub use Rattle.filter_model.specs.Leaves
+pub use Rattle.map_model.specs.SortedMap
 pub mod Tables
 pub mod Images
 pub mod Damage

@@ -1,4 +1,4 @@
-// Changed bytes, and what is said of them.
+//! Changed bytes, and what is said of them.
 use crate::made::{one_entry, opened};
 use byte_fields::{Damage, Part, Row, fnv1a};
 use disk_mem::MemDisk;
@@ -63,6 +63,8 @@ fn each_rule_of_an_index_at_its_byte(rt: HostRuntime) -> Result<(), Fail> {
     let rows = [
         (0, 0x00, 0, 2),
         (4, 0x00, 4, 3),
+        (8, 0x00, 8, 4),
+        (23, 0x00, 23, 4),
         (10, 0x62, 25, 5),
         (11, 0x00, 11, 6),
         (11, 0x02, 4, 8),
@@ -78,22 +80,27 @@ fn each_rule_of_an_index_at_its_byte(rt: HostRuntime) -> Result<(), Fail> {
     Ok(())
 }
 
+// The index of 26 bytes, a byte shorter and a byte longer.
 #[test]
-fn an_index_that_ends_early(rt: HostRuntime) -> Result<(), Fail> {
+fn an_index_of_another_length(rt: HostRuntime) -> Result<(), Fail> {
     let alloc = rt.alloc();
     let (mut disk, mut row) = one_entry(alloc)?;
-    let mut bytes = [0; 25];
+    let mut bytes = [0; 27];
     assert!(rt; disk.read(INDEX, &mut bytes).is_ok());
-    row.index_len = 25;
-    row.index_sum = fnv1a(&bytes);
-    assert_eq!(rt;
-        fault_of(alloc, &mut disk, &row)?,
-        shape(Part::Index, INDEX + 25, 1)
-    );
+    let rows: [(&[u8], u64, u8); 2] = [(&bytes[..25], 25, 1), (&bytes, 26, 7)];
+    for (index, at, rule) in rows {
+        row.index_len = index.len() as u64;
+        row.index_sum = fnv1a(index);
+        assert_eq!(rt;
+            fault_of(alloc, &mut disk, &row)?,
+            shape(Part::Index, INDEX + at, rule)
+        );
+    }
     Ok(())
 }
 
-// The sums are those of FNV-1a over the 26 and the 22 bytes, worked out by a loop of three lines apart from this program.
+// The sums are those of FNV-1a over the 26 and the 22 bytes, worked out by a loop of three lines apart from this
+// program.
 #[test]
 fn another_sum_comes_before_the_rules(rt: HostRuntime) -> Result<(), Fail> {
     let alloc = rt.alloc();
@@ -158,11 +165,11 @@ fn a_changed_byte_of_a_block(rt: HostRuntime) -> Result<(), Fail> {
     Ok(())
 }
 
-// Changes a byte of the block, and makes the sums that are kept of it and of the index right again.
-fn change_block(disk: &mut MemDisk, place: usize, other: u8) -> Result<u64, Fail> {
+// Changes bytes of the block, and makes the sums that are kept of it and of the index right again.
+fn change_block(disk: &mut MemDisk, place: usize, others: &[u8]) -> Result<u64, Fail> {
     let mut bytes = [0; 4_096];
     let mut done = disk.read(BLOCK, &mut bytes).is_ok();
-    change(&mut bytes, place, &[other]);
+    change(&mut bytes, place, others);
     done = done && disk.write(BLOCK, &bytes).is_ok();
     if !done {
         return Err(Fail::from("the disk failed"));
@@ -182,14 +189,43 @@ fn each_rule_of_a_block_at_its_byte(rt: HostRuntime) -> Result<(), Fail> {
         (9, 0x00, 8, 5),
         (0, 0x12, 17, 7),
         (20, 0x01, 20, 8),
+        (4_095, 0x01, 4_095, 8),
     ];
     for (place, byte, at, rule) in rows {
         let (mut disk, mut row) = one_entry(alloc)?;
-        row.index_sum = change_block(&mut disk, place, byte)?;
+        row.index_sum = change_block(&mut disk, place, &[byte])?;
         assert_eq!(rt;
             get_a(alloc, &mut disk, &row)?,
             (shape(Part::Block, BLOCK + at, rule), 1)
         );
     }
+    Ok(())
+}
+
+// The entry twice, in a block of 26 bytes.
+#[test]
+fn a_block_of_equal_keys(rt: HostRuntime) -> Result<(), Fail> {
+    let alloc = rt.alloc();
+    let (mut disk, mut row) = one_entry(alloc)?;
+    let entry = [1, 1, 0, 1, 0, 0, 0, 0x61, 0x62];
+    change_block(&mut disk, 17, &entry)?;
+    row.index_sum = change_block(&mut disk, 0, &[26, 0, 0, 0, 2])?;
+    assert_eq!(rt;
+        get_a(alloc, &mut disk, &row)?,
+        (shape(Part::Block, BLOCK + 17, 6), 1)
+    );
+    Ok(())
+}
+
+// Its length is that of the largest block, 66,575 bytes in 17 pages, where the index says one page: one page is read.
+#[test]
+fn a_block_that_claims_seventeen_pages(rt: HostRuntime) -> Result<(), Fail> {
+    let alloc = rt.alloc();
+    let (mut disk, mut row) = one_entry(alloc)?;
+    row.index_sum = change_block(&mut disk, 0, &66_575u32.to_le_bytes())?;
+    assert_eq!(rt;
+        get_a(alloc, &mut disk, &row)?,
+        (shape(Part::Block, BLOCK, 1), 1)
+    );
     Ok(())
 }

@@ -1,5 +1,5 @@
-// Tables on a device whose calls fail in turn.
-use crate::made::{BASE, add};
+//! Tables on a device whose calls fail in turn.
+use crate::made::{BASE, FIRST_PAGE, Made, add, key_of, numbered, value_of};
 use disk_mem::MemDisk;
 use disk_trait::{DiskFault, Op};
 use plain_filter::PlainFilter;
@@ -27,10 +27,10 @@ fn run(alloc: Global, disk: &mut MemDisk) -> Result<Option<TableFault>, Fail> {
     if pages_of(&parts) > 1_000_000 {
         return Err(Fail::from("too long"));
     }
-    if let Err(fault) = write_parts(disk, 192, &parts) {
+    if let Err(fault) = write_parts(disk, FIRST_PAGE, &parts) {
         return Ok(Some(TableFault::Device(fault)));
     }
-    let row = parts.row(0, 192);
+    let row = parts.row(0, FIRST_PAGE);
     if !fits_device(&row) {
         return Err(Fail::from("no row"));
     }
@@ -109,5 +109,35 @@ fn every_call_fails_in_turn(rt: HostRuntime) -> Result<(), Fail> {
     let mut disk = MemDisk::new(alloc, b"")?;
     assert_eq!(rt; run(alloc, &mut disk)?, None);
     assert_eq!(rt; disk.calls(), CALLS.len());
+    Ok(())
+}
+
+// How many steps of a walk over a table of 300 entries fail where this call does. Behind each the next step goes on
+// with the entry that was due.
+fn failed_steps(alloc: Global, call: u64) -> Result<usize, Fail> {
+    let disk = MemDisk::new(alloc, b"")?.with_faults(Vec::from_slice(alloc, &[call])?);
+    let mut made = Made::on(disk, alloc, numbered(alloc, 300)?)?;
+    let mut cursor = made.table.cursor(alloc, b"")?;
+    let mut failed = 0usize;
+    for i in 0..300 {
+        let key = key_of(i);
+        let want = Some((key.as_slice(), value_of(i)));
+        if made.steps_to(&mut cursor, want) {
+            continue;
+        }
+        failed = failed.saturating_add(1);
+        if !made.steps_to(&mut cursor, want) {
+            return Err(Fail::from("an entry was lost"));
+        }
+    }
+    Ok(failed)
+}
+
+// The reads of its two blocks are the calls number 6 and 7.
+#[test]
+fn a_walk_loses_no_entry_at_a_fault(rt: HostRuntime) -> Result<(), Fail> {
+    for (call, failed) in [(6, 1), (7, 1), (8, 0)] {
+        assert_eq!(rt; failed_steps(rt.alloc(), call)?, failed);
+    }
     Ok(())
 }

@@ -1,12 +1,21 @@
 //! Tests of tables over a disk in memory and the plain filter.
 //!
-//! Nothing is exported. What the tests show at some values the crates prove at all; here building, writing, opening, getting
-//! and walking come together, with changed bytes and with a device that fails.
+//! Nothing is exported. What the tests show at some values the crates prove at all; here building, writing, opening,
+//! getting and walking come together: blocks that are full to the byte, tables of 4,000 entries, changed bytes, and a
+//! device whose calls fail.
 #![tactic(auto)]
 
+#[cfg(test)]
+mod blocks;
 #[cfg(test)]
 mod damage;
 #[cfg(test)]
 mod faults;
 #[cfg(test)]
 mod made;
+#[cfg(test)]
+mod sizes;
+#[cfg(test)]
+mod spellings;
+#[cfg(test)]
+mod tables;

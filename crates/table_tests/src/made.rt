@@ -1,4 +1,4 @@
-// Tables that are built and written.
+//! Tables that are built and written.
 ghost use Rattle.std.specs.Prelude.{◌≡◌, length, IfOk};
 ghost use Rattle.std.specs.Option.{option_map};
 ghost use Rattle.byte_fields.specs.Spelling.{IsBytes};
@@ -13,7 +13,8 @@ use plain_filter::PlainFilter;
 use std::alloc::Global;
 use std::test::Fail;
 use table_file::{
-    Parts, Table, TableBuilder, TableFault, fits_device, open_table, pages_of, write_parts,
+    LARGEST_BLOCK_BYTES, Parts, Table, TableBuilder, TableCursor, TableFault, fits_device,
+    open_table, pages_of, write_parts,
 };
 
 /// Filters with no suffix bits.
@@ -57,7 +58,10 @@ pub fn add(builder: &mut TableBuilder, key: &[u8], value: Option<&[u8]>) -> Resu
     Ok(())
 }
 
-/// The parts of the entries, at page 192 of a disk, and their row.
+/// The page at which tables begin.
+pub const FIRST_PAGE: u32 = 192;
+
+/// The parts of the entries, written to a disk, and their row.
 pub fn written(builder: TableBuilder, disk: &mut MemDisk) -> Result<(Parts<PlainFilter>, Row), Fail>
     ensures { IfOk result (λ w. FitsDevice w.1) }
 {
@@ -68,10 +72,10 @@ pub fn written(builder: TableBuilder, disk: &mut MemDisk) -> Result<(Parts<Plain
     if pages_of(&parts) > 1_000_000 {
         return Err(Fail::from("too long"));
     }
-    if write_parts(disk, 192, &parts).is_err() {
+    if write_parts(disk, FIRST_PAGE, &parts).is_err() {
         return Err(Fail::from("not written"));
     }
-    let row = parts.row(0, 192);
+    let row = parts.row(0, FIRST_PAGE);
     if !fits_device(&row) {
         return Err(Fail::from("no row"));
     }
@@ -97,4 +101,83 @@ pub fn opened(
         return Err(Fail::from("no row"));
     }
     Ok(open_table(alloc, disk, row))
+}
+
+/// The value of the entry number i: none for a seventh of them.
+pub fn value_of(i: u16) -> Option<&'static [u8]> {
+    if i % 7 == 0 { None } else { Some(b"value") }
+}
+
+/// Its key: the even numbers from 0 on are keys.
+pub fn key_of(i: u16) -> [u8; 2] {
+    i.wrapping_mul(2).to_be_bytes()
+}
+
+/// A builder with so many entries.
+pub fn numbered(alloc: Global, entries: u16) -> Result<TableBuilder, Fail> {
+    let mut builder = TableBuilder::new(alloc, BASE);
+    for i in 0..entries {
+        add(&mut builder, &key_of(i), value_of(i))?;
+    }
+    Ok(builder)
+}
+
+/// A table that was written and opened, its disk, and room for a block.
+#[derive(Drop)]
+pub struct Made {
+    pub disk: MemDisk,
+    pub table: Table<PlainFilter>,
+    buf: Vec<u8>,
+}
+
+impl Made {
+    /// The table of the entries, on a new disk.
+    pub fn new(alloc: Global, builder: TableBuilder) -> Result<Made, Fail> {
+        Made::on(MemDisk::new(alloc, b"")?, alloc, builder)
+    }
+
+    /// The table of the entries, on a disk.
+    pub fn on(mut disk: MemDisk, alloc: Global, builder: TableBuilder) -> Result<Made, Fail> {
+        let (_, row) = written(builder, &mut disk)?;
+        let Ok(table) = opened(alloc, &mut disk, &row)? else {
+            return Err(Fail::from("not opened"));
+        };
+        let buf = vec![in alloc; 0; LARGEST_BLOCK_BYTES]?;
+        Ok(Made { disk, table, buf })
+    }
+
+    /// How many blocks it has, and how many pages of them.
+    pub fn size(&self) -> (u32, u32) {
+        (self.table.blocks(), self.table.row().data_pages)
+    }
+
+    /// Whether a get of a key says this, with so many calls of the disk.
+    pub fn gives(&mut self, key: &[u8], want: Option<Option<&[u8]>>, calls: usize) -> bool {
+        let before = self.disk.calls();
+        let said = says(&self.table, &mut self.disk, key, want, &mut self.buf);
+        said && self.disk.calls() == before.saturating_add(calls)
+    }
+
+    /// Whether the next step of a walk says this, and calls the disk once where a block is due, else not at all.
+    pub fn steps_to(
+        &mut self,
+        cursor: &mut TableCursor,
+        want: Option<(&[u8], Option<&[u8]>)>,
+    ) -> bool {
+        let calls = usize::from(cursor.due(&self.table));
+        let before = self.disk.calls();
+        let said = cursor.next(&mut self.disk, &self.table) == Ok(want);
+        said && self.disk.calls() == before.saturating_add(calls)
+    }
+}
+
+// Whether a get of a key says this.
+fn says(
+    table: &Table<PlainFilter>,
+    disk: &mut MemDisk,
+    key: &[u8],
+    want: Option<Option<&[u8]>>,
+    buf: &mut [u8],
+) -> bool {
+    buf.len() >= LARGEST_BLOCK_BYTES && table.get(disk, key, buf) == Ok(want)
 }

@@ -1,4 +1,4 @@
-// Formats and installs that fail or are cut short.
+//! Formats and installs that fail or are cut short.
 use crate::disks::{base, install_tables, loaded_with, table};
 use byte_fields::Row;
 use disk_mem::{Choice, MemDisk};

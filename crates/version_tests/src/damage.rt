@@ -1,4 +1,4 @@
-// What is wrong with slots, and where.
+//! What is wrong with slots, and where.
 use crate::disks::{formatted, store, table, version_of};
 use byte_fields::{Damage, Part, Row, fnv1a};
 use disk_mem::MemDisk;

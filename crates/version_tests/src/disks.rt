@@ -1,4 +1,4 @@
-// Disks with manifests.
+//! Disks with manifests.
 ghost use Rattle.std.specs.Prelude.{◌≤◌, IfOk};
 ghost use Rattle.filter_api.specs.Ranges.{InRange};
 ghost use Rattle.manifest_model.specs.Laws.{IsVersion};

@@ -1,4 +1,4 @@
-// Versions that are formatted, loaded and installed.
+//! Versions that are formatted, loaded and installed.
 use crate::disks::{
     base, formatted, install_again, install_tables, loaded_with, store, table, version_of,
 };

@@ -1,10 +1,10 @@
 use Rattle.std.proofs.Common.{rules, ◌≡◌, ◌+◌, ◌-◌, ℕ, length, drop, sym, ap, ap₂, ◌∙◌, arith, length-drop}
 use Rattle.std.specs.Prelude.{Option, Some, None}
-use Rattle.std.specs.Option.{option_map}
+use Rattle.std.specs.Option.{option_map, option_or}
 use Rattle.std.proofs.lemmas.List.{take_rest, drop-drop}
 use Rattle.map_model.specs.SortedMap.{Bytes}
 use Rattle.block_model.specs.BlockReading.{entries_fault, entries_in, entry_fault}
-use Rattle.entry_model.specs.Entries.{Entry, entry_of, or_else}
+use Rattle.entry_model.specs.Entries.{Entry, entry_of}
 use Rattle.entry_model.specs.Newest.{lookup}
 use Rattle.entry_model.specs.Reading.{entry_in, key_in, width_in}
 use Rattle.block_model.specs.Order.{is_above, is_any}
@@ -50,9 +50,9 @@ loop-i-preserved c =
           ∙ ap (entries_fault (c.args.count - (c.loop-i.i + 1)) (8 + (at + w)) (is_above c.in_ok-row.row.key.now)) (drop-drop w at bytes);
       said = c.loop-i.invariant.said
           ∙ next_said n here c.args.key.now found (omega (arith, c.loop-i-test.true))
-          ∙ ap (λ (e : Entry). or_else (or_else found (says e c.args.key.now)) (lookup (entries_in (n - 1) (drop (width_in here) here)) c.args.key.now)) (sym entry)
-          ∙ ap (λ (f : Option (Option Bytes)). or_else f (lookup (entries_in (n - 1) (drop (width_in here) here)) c.args.key.now)) (sym c.first_said-found.ensures)
-          ∙ ap₂ (λ (m : ℕ) (l : Bytes). or_else (option_map (λ f. option_map (λ v. v.now) f) c.first_said-found.result) (lookup (entries_in m l) c.args.key.now)) fewer next;
+          ∙ ap (λ (e : Entry). option_or (option_or found (says e c.args.key.now)) (lookup (entries_in (n - 1) (drop (width_in here) here)) c.args.key.now)) (sym entry)
+          ∙ ap (λ (f : Option (Option Bytes)). option_or f (lookup (entries_in (n - 1) (drop (width_in here) here)) c.args.key.now)) (sym c.first_said-found.ensures)
+          ∙ ap₂ (λ (m : ℕ) (l : Bytes). option_or (option_map (λ f. option_map (λ v. v.now) f) c.first_said-found.result) (lookup (entries_in m l) c.args.key.now)) fewer next;
     }
 
 pub returns-clause-said : goal.returns-clause-said

@@ -5,7 +5,7 @@ use Rattle.std.specs.Prelude.{Ok}
 use Rattle.manifest_model.specs.Slots.{IsNoStore}
 use Rattle.manifest_model.specs.Version.{body_bytes}
 use Rattle.manifest_model.specs.NewVersion.{new_version}
-use Rattle.manifest_model.proofs.Held.{body_fits}
+use Rattle.manifest_model.proofs.Held.{body_fits, room_is}
 use Rattle.manifest_model.proofs.NewVersions.{new_is_one}
 use Rattle.manifest.specs.NewManifest.{IsNew, IsNewOrNone}
 use Rattle.manifest.proofs.News.{looked}
@@ -17,7 +17,7 @@ write_first-requires g c =
     let v = new_version c.args.settings c.args.pages in
     let is = new_is_one c.args.settings c.args.pages c.requires.settings c.in_ok-body.ensures.ratio c.requires.from c.requires.to in
     let body : c.deref.result.now ≡ body_bytes v = c.deref.ensures.value ∙ c.in_ok-body.ensures.bytes in
-    omega (arith, ap length body, body_fits v is)
+    omega (arith, ap length body, body_fits v is, room_is)
 
 pub returns-in_err-write_first-clause-crash : goal.returns-in_err-write_first-clause-crash
 returns-in_err-write_first-clause-crash g c tells =

@@ -5,7 +5,8 @@ use Rattle.manifest_model.specs.Laws.{IsVersion}
 use Rattle.manifest_model.specs.Reading.{body_damage, table_count_in, early_fault, version_in}
 use Rattle.manifest_model.specs.Slots.{body_in}
 use Rattle.manifest_model.specs.Version.{Version, body_bytes, body_place}
-use Rattle.manifest.specs.Loading.{IsHeld}
+use Rattle.manifest_model.proofs.Held.{room_is}
+use Rattle.manifest.specs.Loading.{IsVersionAt}
 use Rattle.manifest.specs.Manifest.{place_of}
 use Rattle.manifest.specs.Reading.{IsDamage}
 use Rattle.manifest.proofs.Bodies.{few_kept}
@@ -22,7 +23,7 @@ returns-in-Some-clause-damage g c tells =
 pub fill-requires-clause-short : goal.fill-requires-clause-short
 fill-requires-clause-short g c =
     let few = few_kept c.read.new.into (sym c.head_rules.ensures ∙ c.in_default.is) in
-    omega (arith, c.deref_mut.ensures.len, c.in_ok-body.ensures.len, c.from-count.ensures, c.get_u16.ensures, few)
+    omega (arith, c.deref_mut.ensures.len, c.in_ok-body.ensures.len, c.from-count.ensures, c.get_u16.ensures, few, room_is)
 
 pub read_body-requires-clause-head : goal.read_body-requires-clause-head
 read_body-requires-clause-head g c =
@@ -55,7 +56,7 @@ returns-clause-held g c tells =
     let rest : drop 64 here ≡ window held (body_place slot + 64) (length here - 64) =
     ap (drop 64) is ∙ c.in_ok-fill.ensures.rest tells ∙ ap (λ (f : Image). window f (c.slot_place-at.result + 8 + 64) (length c.deref_mut.result.now - 64)) c.in_ok-read.ensures.moves.held
     ∙ ap₂ (λ (n m : ℕ). window held (n + 8 + 64) m) c.slot_place-at.ensures long in
-    version_has (λ (v : Version). IsHeld slot v held) (IsVersion (version_in here) × (body_bytes (version_in here) ≡ here)) (version_in here) c.args.slot c.args.other_open c.read_body.result
+    version_has (λ (v : Version). IsVersionAt slot v held) (IsVersion (version_in here) × (body_bytes (version_in here) ≡ here)) (version_in here) c.args.slot c.args.other_open c.read_body.result
     c.read_body.ensures.version c.read_body.ensures.sound (λ so. shown slot held head at here size few front rest so.0 so.1)
 
 pub returns-clause-sound : goal.returns-clause-sound

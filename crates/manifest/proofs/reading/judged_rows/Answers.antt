@@ -1,6 +1,7 @@
 use Rattle.std.proofs.Common.{◌≡◌, ◌+◌, ◌*◌, suc, List, [], ◌∷◌, ◌++◌, drop, sym, ap, ◌∙◌, subst, arith}
+use Rattle.std.specs.Option.{option_or}
 use Rattle.std.specs.Prelude.{None, nat_lt}
-use Rattle.byte_fields.specs.Faults.{or_fault, refuse}
+use Rattle.byte_fields.specs.Faults.{refuse}
 use Rattle.byte_fields.specs.declared.parts.Row.{Row}
 use Rattle.extent_map.specs.Taken.{Taken}
 use Rattle.manifest_model.specs.Reading.{table_row_fault, table_row_in}
@@ -18,7 +19,7 @@ pub met_with-requires-clause-some : goal.met_with-requires-clause-some
 met_with-requires-clause-some c none =
     let place = 64 + 64 * c.loop-i.i in
     let row = c.row_of-row.result in
-    let shape : or_fault c.loop-i.shape (table_row_fault place row) ≡ None = ap (or_fault c.loop-i.shape) (sym c.row_rule.ensures) ∙ sym c.first_of-shape.ensures ∙ none in
+    let shape : option_or c.loop-i.shape (table_row_fault place row) ≡ None = ap (option_or c.loop-i.shape) (sym c.row_rule.ensures) ∙ sym c.first_of-shape.ensures ∙ none in
     has_pages place row (neither c.loop-i.shape (table_row_fault place row) shape).1
 
 pub loop-i-preserved : goal.loop-i-preserved
@@ -30,14 +31,14 @@ loop-i-preserved c =
     let row = c.row_of-row.result in
     let so_far = c.loop-i.invariant in
     let here = behind_head i c.args.body.now in
-    let zeros = c.first_of-zeros.ensures ∙ ap (or_fault c.loop-i.zeros) (c.row_zeros_rule.ensures ∙ ap (row_zeros place) here) in
-    let shape : c.first_of-shape.result ≡ or_fault c.loop-i.shape (table_row_fault place row) = c.first_of-shape.ensures ∙ ap (or_fault c.loop-i.shape) c.row_rule.ensures in
-    let order = c.first_of-order.ensures ∙ ap (or_fault c.loop-i.order) c.level_rule.ensures in
+    let zeros = c.first_of-zeros.ensures ∙ ap (option_or c.loop-i.zeros) (c.row_zeros_rule.ensures ∙ ap (row_zeros place) here) in
+    let shape : c.first_of-shape.result ≡ option_or c.loop-i.shape (table_row_fault place row) = c.first_of-shape.ensures ∙ ap (option_or c.loop-i.shape) c.row_rule.ensures in
+    let order = c.first_of-order.ensures ∙ ap (option_or c.loop-i.order) c.level_rule.ensures in
     let earlier = before_all [] c.loop-i.rows.items in
     let next : i + 1 ≡ suc i = omega arith in
     as_found pages (suc i) (i + 1) rest (c.loop-i.rows.items ++ row ∷ []) c.push.new.self.items row.level
-    (or_fault c.loop-i.zeros (row_zeros place (drop (64 * i) rest))) c.first_of-zeros.result (or_fault c.loop-i.shape (table_row_fault place row)) c.first_of-shape.result
-    (or_fault c.loop-i.order (refuse (nat_lt row.level c.loop-i.level) place 9 None)) c.first_of-order.result c.in_ok-meeting.meeting c.met_with.new.taken
+    (option_or c.loop-i.zeros (row_zeros place (drop (64 * i) rest))) c.first_of-zeros.result (option_or c.loop-i.shape (table_row_fault place row)) c.first_of-shape.result
+    (option_or c.loop-i.order (refuse (nat_lt row.level c.loop-i.level) place 9 None)) c.first_of-order.result c.in_ok-meeting.meeting c.met_with.new.taken
     next c.in_ok-push.ensures.items zeros shape order
     (one_more pages i rest c.loop-i.rows.items c.loop-i.level c.loop-i.zeros c.loop-i.shape c.loop-i.order c.loop-i.meeting c.loop-i.taken c.met_with.new.taken so_far row c.in_ok-meeting.meeting
     (c.row_of-row.ensures ∙ ap table_row_in here)

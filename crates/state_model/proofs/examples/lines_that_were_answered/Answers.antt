@@ -3,10 +3,10 @@ use Rattle.std.specs.Prelude.{◌++◌, codes}
 use Rattle.block_model.specs.Pages.{block_length, block_pages, blocks_of, data_pages, index_length, pages_for}
 use Rattle.hex.specs.Hex.{decode_pairs}
 use Rattle.entry_model.specs.Entries.{filled, gap}
+use Rattle.key_base.specs.Limits.{last_epoch}
 use Rattle.state_model.specs.Bounds.{get_bound}
 use Rattle.state_model.specs.Examples.{key, one_byte, small_store, two_values}
 use Rattle.state_model.specs.Play.{played}
-use Rattle.state_model.specs.State.{last_epoch}
 use Rattle.line_model.specs.Replies.{Bye, Device, Done}
 use Rattle.line_model.specs.Requests.{Put}
 use Rattle.state_model.specs.Script.{answered}

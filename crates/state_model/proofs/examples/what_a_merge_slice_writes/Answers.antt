@@ -1,9 +1,9 @@
 use Rattle.std.proofs.Common.{◌≡◌, inr, true, false, [], refl, arith}
 use Rattle.block_model.specs.Pages.{block_length, block_pages, blocks_of, data_pages, index_length, pages_for}
 use Rattle.entry_model.specs.Entries.{filled, gap}
+use Rattle.key_base.specs.Limits.{last_epoch}
 use Rattle.state_model.specs.Examples.{cramped}
 use Rattle.state_model.specs.Merges.{Plan}
-use Rattle.state_model.specs.State.{last_epoch}
 use Rattle.state_model.specs.Tends.{no_room, started}
 use Rattle.state_model.proofs.examples.what_a_merge_slice_writes.Goals as goal
 

@@ -2,11 +2,11 @@ use Rattle.std.proofs.Common.{◌≡◌, inr, [], ◌∷◌, ◌++◌, refl, ari
 use Rattle.std.specs.Prelude.{Some, None}
 use Rattle.block_model.specs.Pages.{block_length, block_pages, blocks_of, data_pages, index_length, pages_for}
 use Rattle.entry_model.specs.Entries.{filled, gap, put_entry}
+use Rattle.key_base.specs.Limits.{last_epoch}
 use Rattle.line_model.specs.Replies.{Done}
 use Rattle.state_model.specs.Bounds.{get_bound}
 use Rattle.state_model.specs.Examples.{base, key, one_byte, put_one, small_store, two_values}
 use Rattle.state_model.specs.Play.{played}
-use Rattle.state_model.specs.State.{last_epoch}
 use Rattle.state_model.specs.Steps.{answers}
 use Rattle.state_model.specs.Tends.{started}
 use Rattle.state_model.proofs.SoundChanges.{new_sound}

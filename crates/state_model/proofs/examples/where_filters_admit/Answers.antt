@@ -2,10 +2,10 @@ use Rattle.std.proofs.Common.{◌≡◌, List, [], ◌∷◌, length, refl, ap, 
 use Rattle.std.specs.Prelude.{codes}
 use Rattle.block_model.specs.Pages.{block_length, block_pages, blocks_of, data_pages, index_length, pages_for}
 use Rattle.entry_model.specs.Entries.{filled, gap, put_entry}
+use Rattle.key_base.specs.Limits.{last_epoch}
 use Rattle.state_model.specs.Bounds.{get_bound, seek_bound}
 use Rattle.state_model.specs.Examples.{aa1_and_ab1, one_byte, small_store}
 use Rattle.state_model.specs.Play.{played}
-use Rattle.state_model.specs.State.{last_epoch}
 use Rattle.table_model.specs.Tables.{Table}
 use Rattle.state_model.proofs.examples.where_filters_admit.Goals as goal
 

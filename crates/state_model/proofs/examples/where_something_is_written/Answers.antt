@@ -1,8 +1,8 @@
 use Rattle.std.proofs.Common.{◌≡◌, [], ◌∷◌, refl, arith}
 use Rattle.block_model.specs.Pages.{block_length, block_pages, blocks_of, data_pages, index_length, pages_for}
 use Rattle.entry_model.specs.Entries.{filled, gap, put_entry}
+use Rattle.key_base.specs.Limits.{last_epoch}
 use Rattle.state_model.specs.Examples.{key}
-use Rattle.state_model.specs.State.{last_epoch}
 use Rattle.state_model.proofs.examples.where_something_is_written.Goals as goal
 
 pub returns-clause-a_put : goal.returns-clause-a_put

@@ -5,7 +5,7 @@ use Rattle.map_model.specs.SortedMap.{Bytes}
 use Rattle.block_model.specs.Index.{row_pages}
 use Rattle.block_model.specs.IndexReading.{last_in, pages_in, row_fault, row_in, row_width_in, rows_fault, rows_in, sum_in}
 use Rattle.block_model.specs.Order.{is_above, is_from}
-use Rattle.table_file.specs.Before.{passes}
+use Rattle.table_file.specs.BeforeLast.{passes}
 use Rattle.table_file.specs.BlockRows.{StandFrom, row_seen, rows_seen}
 use Rattle.table_file.specs.Faults.{IsIndexFault, IsShape}
 use Rattle.table_file.specs.declared.block_row.BlockRow.{BlockRow}

@@ -2,7 +2,7 @@ use Rattle.std.proofs.Common.{◌≡◌, ◌≤◌, ◌+◌, ◌-◌, ◌*◌, �
 use Rattle.block_model.specs.Index.{row_pages}
 use Rattle.block_model.specs.IndexReading.{rows_fault, rows_in}
 use Rattle.block_model.specs.Order.{is_from}
-use Rattle.table_file.specs.Before.{passes}
+use Rattle.table_file.specs.BeforeLast.{passes}
 use Rattle.table_file.specs.BlockRows.{StandFrom, rows_seen}
 use Rattle.table_file.proofs.index.read_rows.Given as goal
 

@@ -1,7 +1,7 @@
 use Rattle.std.proofs.Common.{List, length, sym, ap, ◌∙◌, arith}
 use Rattle.std.specs.Prelude.{is_some}
 use Rattle.std.specs.Box.{boxed_slice_items}
-use Rattle.block_cache.specs.Kept.{BlockPlace, Kept, kept_of, brought_first}
+use Rattle.block_cache.specs.Kept.{BlockPlace, KeptBlock, kept_of, brought_first}
 use Rattle.block_cache.proofs.Shown.{shown, shown_kept, shown_first, first_count, is_some-seen}
 use Rattle.block_cache.proofs.cache.BlockCache.bring_first.Goals as goal
 
@@ -9,7 +9,7 @@ pub returns-clause-is_kept : goal.returns-clause-is_kept
 returns-clause-is_kept c =
     let place : BlockPlace = (c.args.table, c.args.block) in
     let es = c.self.inside.kept.entries in
-    c.promote.ensures.value ∙ sym (ap is_some (shown_kept boxed_slice_items place es) ∙ is_some-seen boxed_slice_items _) ∙ ap (λ (l : List Kept). is_some (kept_of place l)) c.self.view_is
+    c.promote.ensures.value ∙ sym (ap is_some (shown_kept boxed_slice_items place es) ∙ is_some-seen boxed_slice_items _) ∙ ap (λ (l : List KeptBlock). is_some (kept_of place l)) c.self.view_is
 
 pub returns-clause-brought : goal.returns-clause-brought
 returns-clause-brought c =

@@ -5,7 +5,7 @@ use Rattle.entry_model.specs.Entries.{entry_of}
 use Rattle.entry_model.specs.Entries.{Entry, body}
 use Rattle.block_model.specs.BlockReading.{entries_in}
 use Rattle.block_model.proofs.Lengths.{length-body}
-use Rattle.block_format.specs.Building.{Holds, takes}
+use Rattle.block_format.specs.Building.{SpellsEntries, takes}
 use Rattle.block_format.proofs.Builders.{added, few_more, holds_added, short, takes_is}
 use Rattle.block_format.proofs.builder.BlockBuilder.add.Goals as goal
 
@@ -45,12 +45,12 @@ returns-clause-room c =
 pub invariant_of-self-2 : goal.invariant_of-self-2
 invariant_of-self-2 c =
     let e = entry_of c.args.key.now (option_map (λ v. v.now) c.args.value) in
-    subst (Holds (c.self.inside.count + 1)) (sym c.in_ok-push_entry.ensures.pushed) (holds_added c.self.inside.count c.self.inside.bytes.items c.self.invariant e c.requires
+    subst (SpellsEntries (c.self.inside.count + 1)) (sym c.in_ok-push_entry.ensures.added) (holds_added c.self.inside.count c.self.inside.bytes.items c.self.invariant e c.requires
     (few_more c.self.inside.count _ (sym c.fits.ensures ∙ c.if-not-fits.false)))
 
 pub returns-clause-added : goal.returns-clause-added
 returns-clause-added c =
     let e = entry_of c.args.key.now (option_map (λ v. v.now) c.args.value) in
-    ap (entries_in (c.self.inside.count + 1)) c.in_ok-push_entry.ensures.pushed
+    ap (entries_in (c.self.inside.count + 1)) c.in_ok-push_entry.ensures.added
     ∙ added c.self.inside.count c.self.inside.bytes.items c.self.invariant e c.requires
     ∙ ap (λ (es : List Entry). es ++ e ∷ []) c.self.view_is

@@ -14,16 +14,16 @@ use Rattle.table_file.specs.Building.{Built, closed_in, entries_with}
 use Rattle.table_file.proofs.Builders.{are_more, keys_pushed, built_behind, built_in_place, bytes_long, open_is, some_open}
 use Rattle.table_file.proofs.builder.TableBuilder.add.Goals as goal
 
-pub roll-requires-clause-sound : goal.roll-requires-clause-sound
-roll-requires-clause-sound c =
+pub close_block-requires-clause-sound : goal.close_block-requires-clause-sound
+close_block-requires-clause-sound c =
     let t = c.self.inside in
     let e = entry_of c.args.key.now (option_map (λ v. v.now) c.args.value) in
     let unadded : c.add.new.self ≡ t.«open» = c.in_ok-add.ensures.added ∙ ap (λ (b : Bool). cond b (t.«open» ++ e ∷ []) t.«open») c.if-branch.false in
     let full : takes t.«open» e ≡ false = sym c.in_ok-add.ensures.room ∙ c.if-branch.false in
     subst IsBlock (sym unadded) (open_is _ t.blocks.items (rows_seen t.rows.items) t.«open» (map vec_items t.keys.items) c.self.invariant.2 (some_open t.«open» e full))
 
-pub roll-requires-clause-last : goal.roll-requires-clause-last
-roll-requires-clause-last c =
+pub close_block-requires-clause-last : goal.close_block-requires-clause-last
+close_block-requires-clause-last c =
     let t = c.self.inside in
     let e = entry_of c.args.key.now (option_map (λ v. v.now) c.args.value) in
     let unadded : c.add.new.self ≡ t.«open» = c.in_ok-add.ensures.added ∙ ap (λ (b : Bool). cond b (t.«open» ++ e ∷ []) t.«open») c.if-branch.false in
@@ -31,8 +31,8 @@ roll-requires-clause-last c =
     let keys = c.self.invariant.2.keys_are ∙ ap (map vec_items) (sym (c.as_slice.ensures.value ∙ c.in_ok-reserve.ensures.items)) in
     c.last_of-last.ensures (joined (closed_in (rows_seen t.rows.items) t.blocks.items)) t.«open» (some_open t.«open» e full) keys ∙ ap last_key (sym unadded)
 
-pub roll-requires-clause-whole : goal.roll-requires-clause-whole
-roll-requires-clause-whole c =
+pub close_block-requires-clause-whole : goal.close_block-requires-clause-whole
+close_block-requires-clause-whole c =
     let t = c.self.inside in
     bytes_long _ t.blocks.items (rows_seen t.rows.items) t.«open» (map vec_items t.keys.items) c.self.invariant.2
 
@@ -77,8 +77,8 @@ returns-then-branch-clause-added c =
     ∙ ap (λ (es : List Entry). es ++ e ∷ []) entries in
     (λ i. record { settings = (c.self.view_is i).settings; entries = all i })
 
-pub invariant_of-self-2 : goal.invariant_of-self-2
-invariant_of-self-2 c =
+pub invariant_of-self-in-Ok : goal.invariant_of-self-in-Ok
+invariant_of-self-in-Ok c =
     let t = c.self.inside in
     let e = entry_of c.args.key.now (option_map (λ v. v.now) c.args.value) in
     let entries : entries_with (closed_in (rows_seen t.rows.items) t.blocks.items) t.«open» ≡ c.args.self.now.entries = ap (λ (b : Built). b.entries) c.self.view_is in
@@ -87,15 +87,15 @@ invariant_of-self-2 c =
     let rises = subst (λ (es : List Entry). Follow is_any (keys_of (es ++ e ∷ []))) (sym entries) c.requires.rising in
     let unadded : c.add.new.self ≡ t.«open» = c.in_ok-add.ensures.added ∙ ap (λ (b : Bool). cond b (t.«open» ++ e ∷ []) t.«open») c.if-branch.false in
     let full : takes t.«open» e ≡ false = sym c.in_ok-add.ensures.room ∙ c.if-branch.false in
-    let keys = keys_pushed t.keys.items c.in_ok-copy.copy c.args.key.now c.push_reserved-2.new.self.items (c.push_reserved-2.ensures.items ∙ ap (λ ks. ks ++ c.in_ok-copy.copy ∷ []) c.in_ok-reserve.ensures.items) c.in_ok-copy.ensures.items in
+    let keys = keys_pushed t.keys.items c.in_ok-copy.copy c.args.key.now c.push_reserved-in-Ok.new.self.items (c.push_reserved-in-Ok.ensures.items ∙ ap (λ ks. ks ++ c.in_ok-copy.copy ∷ []) c.in_ok-reserve.ensures.items) c.in_ok-copy.ensures.items in
     let built = built_behind _ t.blocks.items (rows_seen t.rows.items) t.«open» (map vec_items t.keys.items) c.self.invariant.2 e is rises full
-    c.roll.new.blocks.items (rows_seen c.roll.new.rows.items) c.roll.new.«open» (map vec_items c.push_reserved-2.new.self.items)
-    (c.in_ok-roll.ensures.written ∙ ap (λ (o : List Entry). t.blocks.items ++ block_bytes o) unadded)
-    (c.in_ok-roll.ensures.kept ∙ ap (λ (o : List Entry). rows_seen t.rows.items ++ index_row_of o ∷ []) unadded) (c.in_ok-roll.ensures.next ∙ c.in_ok-begin.ensures.begun) keys in
-    (c.self.invariant.0, c.in_ok-roll.ensures.stand, built.0, c.in_ok-roll.ensures.spare)
+    c.close_block.new.blocks.items (rows_seen c.close_block.new.rows.items) c.swap.new.x (map vec_items c.push_reserved-in-Ok.new.self.items)
+    (c.in-Ok.ensures.written ∙ ap (λ (o : List Entry). t.blocks.items ++ block_bytes o) unadded)
+    (c.in-Ok.ensures.kept ∙ ap (λ (o : List Entry). rows_seen t.rows.items ++ index_row_of o ∷ []) unadded) (c.swap.ensures.x_after ∙ c.in_ok-begin.ensures.begun) keys in
+    (c.self.invariant.0, c.in-Ok.ensures.stand, built.0, c.swap.ensures.y_after ∙ c.in-Ok.ensures.emptied)
 
-pub returns-clause-added : goal.returns-clause-added
-returns-clause-added c =
+pub returns-in-Ok-clause-added : goal.returns-in-Ok-clause-added
+returns-in-Ok-clause-added c =
     let t = c.self.inside in
     let e = entry_of c.args.key.now (option_map (λ v. v.now) c.args.value) in
     let entries : entries_with (closed_in (rows_seen t.rows.items) t.blocks.items) t.«open» ≡ c.args.self.now.entries = ap (λ (b : Built). b.entries) c.self.view_is in
@@ -104,10 +104,10 @@ returns-clause-added c =
     let rises = subst (λ (es : List Entry). Follow is_any (keys_of (es ++ e ∷ []))) (sym entries) c.requires.rising in
     let unadded : c.add.new.self ≡ t.«open» = c.in_ok-add.ensures.added ∙ ap (λ (b : Bool). cond b (t.«open» ++ e ∷ []) t.«open») c.if-branch.false in
     let full : takes t.«open» e ≡ false = sym c.in_ok-add.ensures.room ∙ c.if-branch.false in
-    let keys = keys_pushed t.keys.items c.in_ok-copy.copy c.args.key.now c.push_reserved-2.new.self.items (c.push_reserved-2.ensures.items ∙ ap (λ ks. ks ++ c.in_ok-copy.copy ∷ []) c.in_ok-reserve.ensures.items) c.in_ok-copy.ensures.items in
+    let keys = keys_pushed t.keys.items c.in_ok-copy.copy c.args.key.now c.push_reserved-in-Ok.new.self.items (c.push_reserved-in-Ok.ensures.items ∙ ap (λ ks. ks ++ c.in_ok-copy.copy ∷ []) c.in_ok-reserve.ensures.items) c.in_ok-copy.ensures.items in
     let built = built_behind _ t.blocks.items (rows_seen t.rows.items) t.«open» (map vec_items t.keys.items) c.self.invariant.2 e is rises full
-    c.roll.new.blocks.items (rows_seen c.roll.new.rows.items) c.roll.new.«open» (map vec_items c.push_reserved-2.new.self.items)
-    (c.in_ok-roll.ensures.written ∙ ap (λ (o : List Entry). t.blocks.items ++ block_bytes o) unadded)
-    (c.in_ok-roll.ensures.kept ∙ ap (λ (o : List Entry). rows_seen t.rows.items ++ index_row_of o ∷ []) unadded) (c.in_ok-roll.ensures.next ∙ c.in_ok-begin.ensures.begun) keys in
+    c.close_block.new.blocks.items (rows_seen c.close_block.new.rows.items) c.swap.new.x (map vec_items c.push_reserved-in-Ok.new.self.items)
+    (c.in-Ok.ensures.written ∙ ap (λ (o : List Entry). t.blocks.items ++ block_bytes o) unadded)
+    (c.in-Ok.ensures.kept ∙ ap (λ (o : List Entry). rows_seen t.rows.items ++ index_row_of o ∷ []) unadded) (c.swap.ensures.x_after ∙ c.in_ok-begin.ensures.begun) keys in
     let all = built.1 ∙ ap (λ (es : List Entry). es ++ e ∷ []) entries in
     (λ i. record { settings = (c.self.view_is i).settings; entries = all i })

@@ -1,6 +1,6 @@
 use Rattle.std.proofs.Common.{◌≡◌, ◌∙◌, false, length, ap, subst}
 use Rattle.disk_trait.specs.Image.{Image}
-use Rattle.table_file.specs.Walks.{Walk, blocks_on, first_of, is_due, others_of, to_come}
+use Rattle.table_file.specs.Walks.{CursorWalk, blocks_on, first_of, is_due, others_of, to_come}
 use Rattle.table_file.proofs.Walks.{blocks_many, steps}
 use Rattle.table_file.proofs.cursor.TableCursor.advance.Goals as goal
 
@@ -15,7 +15,7 @@ returns-clause-hands_out g c tells =
     let idle : is_due mid (length (blocks_on t held)) ≡ false =
     ap (is_due mid) (blocks_many t.row.first_page t.index.rows held) ∙ c.in_ok-fill-2.ensures.done c.in_ok-fill.ensures.settled in
     steps c.args.self.now mid _ (blocks_on t held) (again ∙ c.fill.ensures.same tells) idle
-    (c.step.ensures.now ∙ ap (λ (w : Walk). first_of w.later) c.self.view_is)
-    (c.step.ensures.later ∙ ap (λ (w : Walk). others_of w.later) c.self.view_is)
-    (ap (λ (w : Walk). w.bound) c.self.view_is)
-    (ap (λ (w : Walk). w.block) c.self.view_is)
+    (c.step.ensures.now ∙ ap (λ (w : CursorWalk). first_of w.later) c.self.view_is)
+    (c.step.ensures.later ∙ ap (λ (w : CursorWalk). others_of w.later) c.self.view_is)
+    (ap (λ (w : CursorWalk). w.bound) c.self.view_is)
+    (ap (λ (w : CursorWalk). w.block) c.self.view_is)

@@ -40,6 +40,9 @@ returns-in_err-advance g c =
           no_value c.from_residual.result _ failed,
           (λ tells. at_err c.from_residual.result _ (c.in_err-advance.ensures.stays tells)),
           at_err c.from_residual.result _ c.in_err-advance.ensures.none_at_hand,
+          c.advance.ensures.goes_on,
+          c.advance.ensures.onward,
+          (λ tells begins. no_ok c.from_residual.result _ failed),
         ),
       ),
       record {

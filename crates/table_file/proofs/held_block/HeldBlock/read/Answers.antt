@@ -5,6 +5,7 @@ use Rattle.map_model.specs.SortedMap.{Bytes}
 use Rattle.entry_model.specs.Entries.{IsEntry}
 use Rattle.block_model.specs.BlockReading.{block_in}
 use Rattle.block_format.specs.Spans.{StandsIn, kept_from, part_of, spanned}
+use Rattle.table_file.specs.Search.{largest_block}
 use Rattle.table_file.specs.Walks.{first_of}
 use Rattle.table_file.proofs.Helds.{filled, many_in, no_entries, nothing, spanned_wider, stands_nowhere, stands_wider}
 use Rattle.table_file.proofs.held_block.HeldBlock.read.Goals as goal
@@ -15,7 +16,7 @@ invariant_of-self g c =
     let items = take old.len (c.read_block.new.buf ++ drop (length c.read_block.new.buf) old.items) in
     let all : items ≡ c.read_block.new.buf =
     filled old.len c.read_block.new.buf old.items (c.read_block.ensures.length ∙ ap length c.deref_mut.ensures.value) (omega (arith, c.deref_mut.ensures.len)) in
-    let long : length items ≡ 69632 = ap length all ∙ c.read_block.ensures.length ∙ ap length c.deref_mut.ensures.value ∙ c.self.invariant.0 in
+    let long : length items ≡ largest_block = ap length all ∙ c.read_block.ensures.length ∙ ap length c.deref_mut.ensures.value ∙ c.self.invariant.0 in
     (long, stands_nowhere items, no_entries items, stands_nowhere items, no_entries items)
 
 pub returns-in_err-size-clause-none : goal.returns-in_err-size-clause-none
@@ -37,7 +38,7 @@ invariant_of-self-in-Err g c =
     let items = take old.len (c.read_block.new.buf ++ drop (length c.read_block.new.buf) old.items) in
     let all : items ≡ c.read_block.new.buf =
     filled old.len c.read_block.new.buf old.items (c.read_block.ensures.length ∙ ap length c.deref_mut.ensures.value) (omega (arith, c.deref_mut.ensures.len)) in
-    let long : length items ≡ 69632 = ap length all ∙ c.read_block.ensures.length ∙ ap length c.deref_mut.ensures.value ∙ c.self.invariant.0 in
+    let long : length items ≡ largest_block = ap length all ∙ c.read_block.ensures.length ∙ ap length c.deref_mut.ensures.value ∙ c.self.invariant.0 in
     (long, stands_nowhere items, no_entries items, stands_nowhere items, no_entries items)
 
 pub invariant_of-self-in-Ok : goal.invariant_of-self-in-Ok
@@ -47,7 +48,7 @@ invariant_of-self-in-Ok g c =
     let size = c.in_ok-size.size in
     let all : items ≡ c.read_block.new.buf =
     filled old.len c.read_block.new.buf old.items (c.read_block.ensures.length ∙ ap length c.deref_mut.ensures.value) (omega (arith, c.deref_mut.ensures.len)) in
-    let long : length items ≡ 69632 = ap length all ∙ c.read_block.ensures.length ∙ ap length c.deref_mut.ensures.value ∙ c.self.invariant.0 in
+    let long : length items ≡ largest_block = ap length all ∙ c.read_block.ensures.length ∙ ap length c.deref_mut.ensures.value ∙ c.self.invariant.0 in
     let le : size ≤ length items = omega (arith, long, c.in_ok-size.ensures.large) in
     let front : StandsIn c.in-Ok.span (take size items) = subst (λ (l : Bytes). StandsIn c.in-Ok.span (take size l)) c.deref.ensures.value c.in-Ok.ensures.stands in
     let sound : AllByRecursion IsEntry (spanned c.in-Ok.span (take size items)) =
@@ -72,7 +73,7 @@ returns-in-Ok-clause-entries g c tells =
     let size = c.in_ok-size.size in
     let all : items ≡ c.read_block.new.buf =
     filled old.len c.read_block.new.buf old.items (c.read_block.ensures.length ∙ ap length c.deref_mut.ensures.value) (omega (arith, c.deref_mut.ensures.len)) in
-    let long : length items ≡ 69632 = ap length all ∙ c.read_block.ensures.length ∙ ap length c.deref_mut.ensures.value ∙ c.self.invariant.0 in
+    let long : length items ≡ largest_block = ap length all ∙ c.read_block.ensures.length ∙ ap length c.deref_mut.ensures.value ∙ c.self.invariant.0 in
     let le : size ≤ length items = omega (arith, long, c.in_ok-size.ensures.large) in
     let front : StandsIn c.in-Ok.span (take size items) = subst (λ (l : Bytes). StandsIn c.in-Ok.span (take size l)) c.deref.ensures.value c.in-Ok.ensures.stands in
     let low = option_map (λ k. k.now) c.args.low in

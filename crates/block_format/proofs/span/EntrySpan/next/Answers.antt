@@ -4,7 +4,7 @@ use Rattle.block_model.specs.BlockReading.{entries_in}
 use Rattle.block_format.specs.Spans.{part_of}
 use Rattle.block_format.proofs.Standing.{cells, fits}
 use Rattle.block_format.proofs.Spans.{spanned_behind, stands_behind}
-use Rattle.block_format.proofs.span.Span.next.Goals as goal
+use Rattle.block_format.proofs.span.EntrySpan.next.Goals as goal
 
 pub entry_here-row-requires : goal.entry_here-row-requires
 entry_here-row-requires c = fits c.args.self.now.left (part_of c.args.self.now c.args.bytes.now) (omega (arith, c.if-self-eq0.false)) c.requires.entries

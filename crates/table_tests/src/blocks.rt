@@ -1,0 +1,35 @@
+//! Blocks that are built, read and searched.
+use block_format::{Block, BlockBuilder};
+use std::test::Fail;
+
+// The block of a with the value b.
+fn a_b() -> [u8; 4096] {
+    let mut page = [0; 4096];
+    let used = [0x11, 0, 0, 0, 1, 0, 0, 0, 1, 1, 0, 1, 0, 0, 0, 0x61, 0x62];
+    page[..17].copy_from_slice(&used);
+    page
+}
+
+#[test]
+fn what_a_builder_wrote_is_read(rt: HostRuntime) -> Result<(), Fail> {
+    let mut builder = BlockBuilder::new(rt.alloc());
+    let mut out = Vec::new(rt.alloc());
+    assert!(rt; builder.add(b"a", Some(b"b"))?);
+    builder.close(&mut out)?;
+    assert_eq!(rt; out.as_slice(), a_b().as_slice());
+    assert!(rt; builder.add(b"a", Some(b"b"))?);
+    assert!(rt; builder.add(b"ab", None)?);
+    out.clear();
+    builder.close(&mut out)?;
+    let Ok(block) = Block::read(out.as_slice()) else {
+        return Err(Fail::from("no block"));
+    };
+    assert_eq!(rt; block.find(b"a"), Some(Some(b"b".as_slice())));
+    assert_eq!(rt; block.find(b"ab"), Some(None));
+    assert_eq!(rt; block.find(b"aa"), None);
+    assert_eq!(rt; Block::read_and_find(out.as_slice(), b"ab"), Ok(Some(None)));
+    let mut cursor = block.from(b"aa");
+    assert!(rt; matches!(cursor.next(), Some((b"ab", None))));
+    assert!(rt; cursor.next().is_none());
+    Ok(())
+}

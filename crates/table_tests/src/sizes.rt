@@ -1,0 +1,62 @@
+//! Blocks of one page and of many, full to the byte.
+use crate::made::{BASE, Made, add, numbered};
+use std::alloc::Global;
+use std::test::Fail;
+use table_file::TableBuilder;
+
+#[test]
+fn a_block_takes_255_entries(rt: HostRuntime) -> Result<(), Fail> {
+    for (entries, blocks) in [(255, 1), (256, 2), (510, 2), (511, 3)] {
+        let made = Made::new(rt.alloc(), numbered(rt.alloc(), entries)?)?;
+        assert_eq!(rt; made.size(), (blocks, blocks));
+    }
+    Ok(())
+}
+
+// The bytes of a key and of a value. The key is that many of a letter, and so is the value.
+type Entry = (usize, usize);
+
+const FIRST_LETTER: u8 = b'a';
+
+// A builder with these entries, of the letters from a on.
+fn builder_of(alloc: Global, entries: &[Entry]) -> Result<TableBuilder, Fail> {
+    let mut builder = TableBuilder::new(alloc, BASE);
+    for ((key, value), letter) in entries.iter().copied().zip(FIRST_LETTER..) {
+        let key = vec![in alloc; letter; key]?;
+        let value = vec![in alloc; letter; value]?;
+        add(&mut builder, &key, Some(&value))?;
+    }
+    Ok(builder)
+}
+
+// Whether a table has each of these entries, and finds it by one read.
+fn has_all(alloc: Global, made: &mut Made, entries: &[Entry]) -> Result<bool, Fail> {
+    let mut all = true;
+    for ((key, value), letter) in entries.iter().copied().zip(FIRST_LETTER..) {
+        let key = vec![in alloc; letter; key]?;
+        let value = vec![in alloc; letter; value]?;
+        all = all && made.gives(&key, Some(Some(&value)), 1);
+    }
+    Ok(all)
+}
+
+#[test]
+fn blocks_that_are_full_to_the_byte(rt: HostRuntime) -> Result<(), Fail> {
+    let alloc = rt.alloc();
+    // The entries, the blocks and their pages. A block has 8 bytes before its entries, an entry 7 before its key.
+    let rows: [(&[Entry], u32, u32); 7] = [
+        (&[(1, 4_080)], 1, 1),
+        (&[(1, 4_081)], 1, 2),
+        (&[(1_024, 65_536)], 1, 17),
+        (&[(1, 100), (1, 3_972)], 1, 1),
+        (&[(1, 100), (1, 3_973)], 2, 2),
+        (&[(1, 4_081), (1, 1)], 2, 3),
+        (&[(1, 1), (1_024, 65_536), (1, 1)], 3, 19),
+    ];
+    for (entries, blocks, pages) in rows {
+        let mut made = Made::new(alloc, builder_of(alloc, entries)?)?;
+        assert_eq!(rt; made.size(), (blocks, pages));
+        assert!(rt; has_all(alloc, &mut made, entries)?);
+    }
+    Ok(())
+}

@@ -1,0 +1,57 @@
+//! The bytes of blocks and of an index, as the format has them.
+use block_model::{are_entries, block_bytes, data_bytes, data_pages, index_bytes, index_length};
+use entry_list::{Entry, push_copy};
+use std::alloc::{AllocError, Global};
+use std::test::Fail;
+
+fn a_and_ab(alloc: Global) -> Result<Vec<Entry>, AllocError> {
+    let mut list = Vec::new(alloc);
+    push_copy(&Entry::new(alloc, b"a", Some(b"b"))?, &mut list)?;
+    push_copy(&Entry::new(alloc, b"ab", None)?, &mut list)?;
+    Ok(list)
+}
+
+#[test]
+fn a_block_of_two_entries(rt: HostRuntime) -> Result<(), Fail> {
+    let list = a_and_ab(rt.alloc())?;
+    assert!(rt; are_entries(list.as_slice()));
+    let bytes = block_bytes(rt.alloc(), list.as_slice())?;
+    let used = [
+        0x1A, 0, 0, 0, 2, 0, 0, 0, 1, 1, 0, 1, 0, 0, 0, 0x61, 0x62, 2, 2, 0, 0, 0, 0, 0, 0x61, 0x62,
+    ];
+    assert_eq!(rt; bytes.len(), 4096);
+    assert!(rt; bytes.as_slice().starts_with(used.as_slice()));
+    assert_eq!(rt; data_pages(rt.alloc(), list.as_slice())?, 1);
+    Ok(())
+}
+
+#[test]
+fn an_index_of_one_block(rt: HostRuntime) -> Result<(), Fail> {
+    let list = a_and_ab(rt.alloc())?;
+    assert!(rt; are_entries(list.as_slice()));
+    let bytes = index_bytes(rt.alloc(), list.as_slice())?;
+    let index = [
+        0x53, 0x52, 0x46, 0x49, 1, 0, 0, 0, 1, 0, 0x61, 1, 0, 0, 0, 0xD2, 0xE6, 0x56, 0xD0, 0x62,
+        0xCC, 0xE3, 0xC5, 2, 0, 0x61, 0x62,
+    ];
+    assert_eq!(rt; bytes.as_slice(), index.as_slice());
+    assert_eq!(rt; index_length(rt.alloc(), list.as_slice())?, 27);
+    Ok(())
+}
+
+fn wide(alloc: Global, key: u8, bytes: usize) -> Result<Entry, AllocError> {
+    let value = vec![in alloc; 7; bytes]?;
+    Entry::new(alloc, &[key], Some(value.as_slice()))
+}
+
+#[test]
+fn three_values_of_65_536_bytes(rt: HostRuntime) -> Result<(), Fail> {
+    let mut list = Vec::new(rt.alloc());
+    for key in 1..4 {
+        push_copy(&wide(rt.alloc(), key, 65_536)?, &mut list)?;
+    }
+    assert!(rt; are_entries(list.as_slice()));
+    assert_eq!(rt; data_pages(rt.alloc(), list.as_slice())?, 51);
+    assert_eq!(rt; data_bytes(rt.alloc(), list.as_slice())?.len(), 208_896);
+    Ok(())
+}

@@ -1,0 +1,56 @@
+//! The bytes of a version's body, as the format has them.
+use byte_fields::Row;
+use manifest_model::{Version, body_bytes};
+use std::alloc::Global;
+use std::test::Fail;
+
+fn formatted(alloc: Global) -> Version {
+    Version {
+        hash_bits: 0,
+        real_bits: 0,
+        ratio: 64,
+        pages: 512,
+        epoch: 1,
+        log_page: 64,
+        rows: Vec::new(alloc),
+    }
+}
+
+#[test]
+fn the_body_after_a_format(rt: HostRuntime) -> Result<(), Fail> {
+    let bytes = body_bytes(rt.alloc(), &formatted(rt.alloc()))?;
+    let front = [
+        0x53, 0x52, 0x46, 0x4D, 1, 0, 0, 0, 1, 0, 0, 0, 0, 0, 0, 0, 0, 2, 0, 0, 0, 0, 0x40, 0,
+        0x40, 0, 0, 0, 0x40, 0, 0, 0,
+    ];
+    assert_eq!(rt; bytes.len(), 72);
+    assert!(rt; bytes.as_slice().starts_with(front.as_slice()));
+    assert!(rt;
+        bytes.as_slice().ends_with([0xE7, 0x13, 0x68, 0xDB, 0x17, 0xF5, 0x93, 0xE4].as_slice())
+    );
+    Ok(())
+}
+
+#[test]
+fn a_row_of_a_merged_table(rt: HostRuntime) -> Result<(), Fail> {
+    let mut version = formatted(rt.alloc());
+    version.epoch = 6;
+    version.rows.push(Row {
+        level: 1,
+        first_page: 204,
+        data_pages: 1,
+        index_pages: 1,
+        filter_pages: 1,
+        entries: 4,
+        index_len: 27,
+        filter_len: 45,
+        index_sum: 7,
+        filter_sum: 9,
+    })?;
+    let bytes = body_bytes(rt.alloc(), &version)?;
+    let front = [0x53, 0x52, 0x46, 0x4D, 1, 0, 1, 0, 6, 0, 0, 0, 0, 0, 0, 0];
+    assert_eq!(rt; bytes.len(), 136);
+    assert!(rt; bytes.as_slice().starts_with(front.as_slice()));
+    assert_eq!(rt; bytes.as_slice().get(68), Some(&204));
+    Ok(())
+}
