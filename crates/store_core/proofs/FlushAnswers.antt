@@ -1,5 +1,5 @@
 -- What a flush makes of the state under a store, and why it makes nothing of it.
-use Rattle.std.proofs.Common.{◌≡◌, ◌≢◌, ◌⊎◌, inl, inr, ◌∙◌, ◌<◌, ◌≤◌, ◌+◌, ◌-◌, ◌^◌, ℕ, Bool, true, false, List, [], ◌∷◌, length, map, refl, sym, ap, subst, arith}
+use Rattle.std.proofs.Common.{◌≡◌, ◌≢◌, ◌⊎◌, inl, inr, ◌∙◌, ◌<◌, ◌≤◌, ◌+◌, ℕ, Bool, true, false, List, [], ◌∷◌, length, map, refl, sym, ap, subst, arith}
 use Rattle.std.specs.Prelude.{Option, Some, None, Result, Ok, Err, IfErr, IsErrAnd, ◌==◌}
 use Rattle.block_model.specs.Places.{end_page}
 use Rattle.byte_fields.specs.declared.parts.Row.{Row}
@@ -15,6 +15,7 @@ use Rattle.filter_api.specs.Spellings.{Spelling}
 use Rattle.filter_api.specs.declared.settings.Settings.{Settings}
 use Rattle.filter_model.specs.Leaves.{Leaf}
 use Rattle.image_model.specs.Stands.{StandsForMap, settings_of}
+use Rattle.key_base.specs.Limits.{last_epoch}
 use Rattle.line_model.specs.Replies.{Reply, ManyTables, LastEpoch, Full}
 use Rattle.log_model.proofs.Logs.{none_filled}
 use Rattle.manifest.specs.Manifest.{Manifest}
@@ -27,7 +28,7 @@ use Rattle.mem_table.specs.Table.{MemoryTable}
 use Rattle.state_model.proofs.MostTables.{over_tables}
 use Rattle.state_model.proofs.SoundChanges.{flushed_sound}
 use Rattle.state_model.specs.Changes.{flushed}
-use Rattle.state_model.specs.State.{State, last_epoch}
+use Rattle.state_model.specs.State.{State}
 use Rattle.state_model.specs.Taken.{taken}
 use Rattle.state_model.specs.View.{memory, state_map}
 use Rattle.table_file.specs.Building.{Built}
@@ -43,14 +44,10 @@ use Rattle.store_core.specs.declared.error.Limit.TheVariants as limit
 use Rattle.store_core.specs.declared.error.StoreError.{StoreError}
 use Rattle.store_core.specs.declared.error.StoreError.TheVariants as error
 use Rattle.store_core.proofs.Agreed.{Agree, tied_agree}
-use Rattle.store_core.proofs.Flushed.{flushed_done, flushed_full, flushed_last, flushed_none}
+use Rattle.store_core.proofs.Flushed.{flushed_done, flushed_full, flushed_last, flushed_none, last_is}
 use Rattle.store_core.proofs.Frames.{under_stands}
 use Rattle.store_core.proofs.Plans.{pages_are, row_level}
 use Rattle.store_core.proofs.Writing.{never, tied_with}
-
-last_is : last_epoch ≡ 18446744073709551615
-unfolding last_epoch
-last_is = refl
 
 eq_true : (m n : ℕ) → m ≡ n → (m == n) ≡ true
 eq_true m n e = grind arith
@@ -136,7 +133,7 @@ module _ (spelling : Spelling) (bytes : FilterBytes) (store : Kept) (s : State) 
         ∙ ap (λ (n : ℕ). Err (Full n (largest_gap s.pages (taken s)))) (need_is ∙ sym need_so)
         ∙ ap (λ (g : ℕ). Err (Full need g)) (largest_is ∙ sym gap_so)
 
-    last_refuses : length v.rows < 1024 → need_under bytes v store.memory.entries ≤ largest_gap v.pages (map extent_of v.rows) → v.epoch ≡ 2 ^ 64 - 1 → flushed bytes s ≡ Err LastEpoch
+    last_refuses : length v.rows < 1024 → need_under bytes v store.memory.entries ≤ largest_gap v.pages (map extent_of v.rows) → v.epoch ≡ last_epoch → flushed bytes s ≡ Err LastEpoch
     last_refuses less room last =
         flushed_last bytes s some_memory (few less) (omega (arith, room, need_is, largest_is)) (eq_true s.epoch last_epoch (omega (arith, agrees.epoch, last, last_is)))
 

@@ -4,15 +4,21 @@ use Rattle.std.specs.Prelude.{Option, Some, None, Ok, Err, ◌==◌}
 use Rattle.entry_model.specs.Entries.{Entry}
 use Rattle.extent_model.proofs.Rooms.{no_gap}
 use Rattle.extent_model.specs.Gaps.{first_gap, largest_gap}
+use Rattle.key_base.specs.Limits.{last_epoch}
 use Rattle.line_model.specs.Replies.{Reply, LastEpoch, Full}
 use Rattle.state_model.proofs.Reasons.{flush_few}
 use Rattle.state_model.specs.Changes.{flush_placed, flushed, flushed_with}
 use Rattle.state_model.specs.Merges.{NoRoom, at_page, placed}
-use Rattle.state_model.specs.State.{State, last_epoch}
+use Rattle.state_model.specs.State.{State}
 use Rattle.state_model.specs.Taken.{taken}
 use Rattle.state_model.specs.View.{memory}
 use Rattle.store_core.specs.Flushing.{flushed_at}
 use Rattle.table_model.specs.Tables.{FilterBytes, Table, table_of, table_pages}
+
+-- the last epoch as a number, for arithmetic
+pub last_is : last_epoch ≡ 18446744073709551615
+unfolding last_epoch
+last_is = refl
 
 module _ (filter_bytes : FilterBytes) (s : State) where
   pub flushed_none : memory s ≡ [] → flushed filter_bytes s ≡ Ok s

@@ -24,11 +24,12 @@ use Rattle.image_model.proofs.Frames.{free_apart, named_behind_slots, other_log_
 use Rattle.image_model.proofs.Installs.{installed_ready}
 use Rattle.image_model.proofs.Placed.{behind_logs}
 use Rattle.image_model.specs.Stands.{IsNamedBy, IsReady, StandsForMap, UnnamedStand, as_shown}
+use Rattle.key_base.specs.Limits.{last_epoch}
 use Rattle.log_model.proofs.Logs.{log_kept}
 use Rattle.log_model.specs.Area.{LogIs, start_of}
 use Rattle.manifest.proofs.Steps.{may_install, raised_is}
 use Rattle.manifest.specs.Causes.{HasInstallCause}
-use Rattle.manifest.specs.Manifest.{Manifest, Stands, install_of, other_place, place_of, raised}
+use Rattle.manifest.specs.Manifest.{Manifest, StandsInSlot, install_of, other_place, place_of, raised}
 use Rattle.manifest.specs.declared.fault.ManifestFault.{ManifestFault}
 use Rattle.manifest.specs.declared.fault.ManifestFault.TheVariants as fault
 use Rattle.manifest_model.specs.Installs.{Install, IsInstalled, IsOldOrNew, MayInstall}
@@ -38,7 +39,7 @@ use Rattle.manifest_model.specs.Version.{Version, log_page_of}
 use Rattle.state_model.proofs.Kept.{flushed_keeps}
 use Rattle.state_model.proofs.SoundChanges.{flushed_sound}
 use Rattle.state_model.specs.Changes.{flushed}
-use Rattle.state_model.specs.State.{Job, State, last_epoch, written_by}
+use Rattle.state_model.specs.State.{Job, State, written_by}
 use Rattle.state_model.specs.Taken.{extent_of, taken}
 use Rattle.state_model.specs.View.{memory, state_map}
 use Rattle.table_file.specs.Building.{Built}
@@ -60,7 +61,7 @@ pub some_pages : (filter_bytes : FilterBytes) (settings : Settings) (entries : L
 unfolding index_length pages_for
 some_pages filter_bytes settings entries = omega arith
 
-below_last : (n : ℕ) → n < 18446744073709551615 → (n == last_epoch) ≡ false
+below_last : (n : ℕ) → n < last_epoch → (n == last_epoch) ≡ false
 unfolding last_epoch
 below_last n below = ne_eqb n 18446744073709551615 (λ is. absurd (omega (arith, below, is)))
 
@@ -288,19 +289,19 @@ module _ (spelling : Spelling) (built_cutoff : ℕ → List Leaf → ℕ) (store
           }
 
       pub install_leads : {T E : Type 0} (result : Result T E) (c d : World) → MayInstall i → WriteMoves (other_place next.slot) 131072 c d
-          → Leads (Stands next.slot next.other_open v) (IsOldOrNew (install_of next v)) (IsInstalled (install_of next v)) result c d
+          → Leads (StandsInSlot next.slot next.other_open v) (IsOldOrNew (install_of next v)) (IsInstalled (install_of next v)) result c d
           → Leads (λ image. (Under image × Held image) × LogIs area [] image) (StandsForMap spelling (state_map s))
           (IsUnder spelling (installed_manifest next) (opened_of built_cutoff parts row ∷ store.tables) to) result c d
       install_leads result c d may moves leads =
           let moved : WriteMoves (other_place m.slot) 131072 c d = subst (λ (n : Manifest). WriteMoves (other_place n.slot) 131072 c d) plan.next_is moves in
-          let own : Leads (Stands m.slot m.other_open v) (IsOldOrNew i) (IsInstalled i) result c d =
-          subst (λ (n : Manifest). Leads (Stands n.slot n.other_open v) (IsOldOrNew (install_of n v)) (IsInstalled (install_of n v)) result c d) plan.next_is leads in
+          let own : Leads (StandsInSlot m.slot m.other_open v) (IsOldOrNew i) (IsInstalled i) result c d =
+          subst (λ (n : Manifest). Leads (StandsInSlot n.slot n.other_open v) (IsOldOrNew (install_of n v)) (IsInstalled (install_of n v)) result c d) plan.next_is leads in
           subst (λ (n : Manifest). Leads (λ image. (Under image × Held image) × LogIs area [] image) (StandsForMap spelling (state_map s))
           (IsUnder spelling (installed_manifest n) (opened_of built_cutoff parts row ∷ store.tables) to) result c d) (sym plan.next_is)
-          (leads_weaker (λ image. Behind image × Stands m.slot m.other_open v image) (λ image. Behind image × IsOldOrNew i image) (λ image. Behind image × IsInstalled i image)
+          (leads_weaker (λ image. Behind image × StandsInSlot m.slot m.other_open v image) (λ image. Behind image × IsOldOrNew i image) (λ image. Behind image × IsInstalled i image)
           (λ image. (Under image × Held image) × LogIs area [] image) (StandsForMap spelling (state_map s))
           (IsUnder spelling (installed_manifest new) (opened_of built_cutoff parts row ∷ store.tables) to) result c d
-          (leads_framed Behind (Stands m.slot m.other_open v) (IsOldOrNew i) (IsInstalled i) (other_place m.slot) 131072 result c d slots_keep moved.time own)
+          (leads_framed Behind (StandsInSlot m.slot m.other_open v) (IsOldOrNew i) (IsInstalled i) (other_place m.slot) 131072 result c d slots_keep moved.time own)
           (λ image all. (
             (all.0.0.ready.named, all.0.0.tables, all.0.1, all.1),
             record { current = all.0.0.ready.current; gate = all.0.0.ready.gate },
@@ -345,13 +346,13 @@ module _ (spelling : Spelling) (built_cutoff : ℕ → List Leaf → ℕ) (store
         }
 
         module _ (d : World) (log : Now (LogIs area []) c) (sound : IsVersion next.version) (moves : WriteMoves (other_place next.slot) 131072 c d) where
-          all_leads : {T E : Type 0} (first : Result T E) → Leads (Stands next.slot next.other_open v) (IsOldOrNew (install_of next v)) (IsInstalled (install_of next v)) first c d
+          all_leads : {T E : Type 0} (first : Result T E) → Leads (StandsInSlot next.slot next.other_open v) (IsOldOrNew (install_of next v)) (IsInstalled (install_of next v)) first c d
               → Leads Under Map Done first a d
           all_leads first leads =
               leads_then {T = Unit {0}} {E = Unit {0}} Under Map Started Map Done tt first a c d (λ f map. map) (begun {T = Unit {0}} {E = Unit {0}} (Ok tt) log) (install_leads first c d (may sound) moves leads)
 
           pub no_install : {T U E : Type 0} (first : Result T E) (result : Result U ManifestFault)
-              → Leads (Stands next.slot next.other_open v) (IsOldOrNew (install_of next v)) (IsInstalled (install_of next v)) first c d
+              → Leads (StandsInSlot next.slot next.other_open v) (IsOldOrNew (install_of next v)) (IsInstalled (install_of next v)) first c d
               → IsErr result → IfErr result (λ why. why ≡ fault.Memory → ReadMoves 0 c d) → Replaces spelling built_cutoff store s parts row next result a d
           no_install first result leads failed still = record {
             meanwhile = (all_leads first leads).meanwhile tied.images;
@@ -360,7 +361,7 @@ module _ (spelling : Spelling) (built_cutoff : ℕ → List Leaf → ℕ) (store
                 (λ why reads is image here. (reads_keep Started 0 c d (reads is) ((begun {T = Unit {0}} {E = Unit {0}} (Ok tt) log).after tied.images) image here).0.0) still;
           }
 
-          pub installed : {T U E : Type 0} (x : T) (y : U) → Leads {E = E} (Stands next.slot next.other_open v) (IsOldOrNew (install_of next v)) (IsInstalled (install_of next v)) (Ok x) c d
+          pub installed : {T U E : Type 0} (x : T) (y : U) → Leads {E = E} (StandsInSlot next.slot next.other_open v) (IsOldOrNew (install_of next v)) (IsInstalled (install_of next v)) (Ok x) c d
               → Replaces spelling built_cutoff store s parts row next (Ok y) a d
           installed x y leads =
               let all = all_leads (Ok x) leads in

@@ -22,7 +22,7 @@ use Rattle.state_model.specs.Taken.{taken}
 use Rattle.state_model.specs.View.{state_map}
 use Rattle.table_file.specs.Opened.{Opened}
 use Rattle.table_file.specs.Search.{StandsThere}
-use Rattle.table_file.proofs.KeptBlocks.{at_kept}
+use Rattle.table_model.proofs.Kept.{at_kept}
 use Rattle.table_model.specs.Laws.{IsApartFromRow}
 use Rattle.table_model.specs.Tables.{Table}
 use Rattle.store_core.specs.Kept.{rows_of}

@@ -17,6 +17,7 @@ pub mod PlannedRows
 pub mod Plans
 pub mod PlansMade
 pub mod ReadBounds
+pub mod ShownBlocks
 pub mod Taken
 pub mod Ties
 pub mod Wholes

@@ -1,12 +1,13 @@
 -- A limit of the key or the value that is broken, or that is kept.
 use Rattle.std.proofs.Common.{◌≡◌, ◌≤◌, ◌<◌, ℕ, Bool, true, false, cond, refl, sym, ap, ◌∙◌, length, arith}
+use Rattle.std.specs.Option.{option_or}
 use Rattle.std.specs.Prelude.{Option, Some, None, nat_lt, ◌==◌, ◌||◌}
 use Rattle.byte_fields.specs.Spelling.{IsBytes}
 use Rattle.disk_trait.specs.World.{Meanwhile, World}
 use Rattle.entry_model.specs.Entries.{IsEntry, bytes_of, entry_of}
 use Rattle.filter_api.specs.Spellings.{Spelling}
 use Rattle.image_model.specs.Stands.{StandsForMap}
-use Rattle.line_model.specs.Limits.{first_limit, key_limit, limit_of, value_limit}
+use Rattle.line_model.specs.Limits.{key_limit, limit_of, value_limit}
 use Rattle.line_model.specs.Replies.{Reply, LongKey, LongValue, ManyTables, LastEpoch}
 use Rattle.line_model.specs.Requests.{Request}
 use Rattle.map_model.specs.SortedMap.{Bytes}
@@ -23,8 +24,8 @@ use Rattle.store_core.proofs.Answering.{limited}
 
 -- ---- of two limits the first
 
-pub first_broken : (a b : Option Reply) (x : StoreError) → IsLimitOf a x → IsLimitOf (first_limit a b) x
-first_broken a b (error.Limit l) is = ap (λ (o : Option Reply). first_limit o b) is
+pub first_broken : (a b : Option Reply) (x : StoreError) → IsLimitOf a x → IsLimitOf (option_or a b) x
+first_broken a b (error.Limit l) is = ap (λ (o : Option Reply). option_or o b) is
 first_broken a b error.Memory is = absurd is
 first_broken a b (error.Device cause) is = absurd is
 first_broken a b error.Stopped is = absurd is
@@ -34,8 +35,8 @@ first_broken a b error.NotAStore is = absurd is
 first_broken a b error.AlreadyAStore is = absurd is
 first_broken a b (error.BadSettings field) is = absurd is
 
-pub second_broken : (a b : Option Reply) (x : StoreError) → a ≡ None → IsLimitOf b x → IsLimitOf (first_limit a b) x
-second_broken a b (error.Limit l) none is = ap (λ (o : Option Reply). first_limit o b) none ∙ is
+pub second_broken : (a b : Option Reply) (x : StoreError) → a ≡ None → IsLimitOf b x → IsLimitOf (option_or a b) x
+second_broken a b (error.Limit l) none is = ap (λ (o : Option Reply). option_or o b) none ∙ is
 second_broken a b error.Memory none is = absurd is
 second_broken a b (error.Device cause) none is = absurd is
 second_broken a b error.Stopped none is = absurd is
@@ -46,8 +47,8 @@ second_broken a b error.AlreadyAStore none is = absurd is
 second_broken a b (error.BadSettings field) none is = absurd is
 
 -- both are kept
-pub none_broken : (a b : Option Reply) → a ≡ None → b ≡ None → first_limit a b ≡ None
-none_broken a b first second = ap (λ (o : Option Reply). first_limit o b) first ∙ second
+pub none_broken : (a b : Option Reply) → a ≡ None → b ≡ None → option_or a b ≡ None
+none_broken a b first second = ap (λ (o : Option Reply). option_or o b) first ∙ second
 
 -- ---- they are no limits of tables or of the epoch
 
@@ -71,11 +72,11 @@ of_value value = (
   by_test (nat_lt 65536 (length value)) (LongValue (length value)) LastEpoch (λ e. cc),
 )
 
-of_first : (a b : Option Reply) → IsOfEntry a → IsOfEntry b → IsOfEntry (first_limit a b)
+of_first : (a b : Option Reply) → IsOfEntry a → IsOfEntry b → IsOfEntry (option_or a b)
 of_first (Some limit) b first second = first
 of_first None b first second = second
 
-pub of_both : (key value : Bytes) → IsOfEntry (first_limit (key_limit key) (value_limit value))
+pub of_both : (key value : Bytes) → IsOfEntry (option_or (key_limit key) (value_limit value))
 of_both key value = of_first (key_limit key) (value_limit value) (of_key key) (of_value value)
 
 -- ---- what it is answered

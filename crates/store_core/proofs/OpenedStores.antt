@@ -27,7 +27,7 @@ use Rattle.log_model.proofs.Ends.{one_list}
 use Rattle.log_model.specs.Area.{LogIs, Position, area_in}
 use Rattle.manifest.proofs.Steps.{are_slots}
 use Rattle.manifest.specs.Loading.{IsLoadAnswer, IsLoaded}
-use Rattle.manifest.specs.Manifest.{Manifest, Stands, other_place, place_of}
+use Rattle.manifest.specs.Manifest.{Manifest, StandsInSlot, other_place, place_of}
 use Rattle.manifest.specs.declared.fault.ManifestFault.{ManifestFault}
 use Rattle.manifest.specs.declared.fault.ManifestFault.TheVariants as manifest
 use Rattle.manifest_model.proofs.Versions.{in_use, one_version}
@@ -41,7 +41,8 @@ use Rattle.table_file.specs.Opened.{Opened}
 use Rattle.table_model.specs.Tables.{FilterBytes, Table}
 use Rattle.store_core.specs.Faults.{of_log_fault, of_manifest_fault}
 use Rattle.store_core.specs.Kept.{Kept, rows_of}
-use Rattle.store_core.specs.Opening.{AreOpened, IsFree, IsOpenAnswer, IsOpenRefusal, IsOpenedAs, IsRangesDamage, IsTablesAnswer, IsVersionOpened, range_of}
+use Rattle.store_core.specs.Answers.{IsFailure}
+use Rattle.store_core.specs.Opening.{AreOpened, IsOpenAnswer, IsOpenRefusal, IsOpenedAs, IsRangesDamage, IsTablesAnswer, IsVersionOpened, opened_range}
 use Rattle.store_core.specs.Tied.{AreHeld, IsUnder, Tied}
 use Rattle.store_core.specs.declared.error.StoreError.{StoreError}
 use Rattle.store_core.specs.declared.error.StoreError.TheVariants as error
@@ -80,17 +81,17 @@ module _ (spelling : Spelling) (first : Bytes → Fault) (image : Image) where
       all_of_rows : AllByRecursion (IsOpened spelling (settings_of m.version) image) m.version.rows
       all_of_rows = subst (AllByRecursion (IsOpened spelling (settings_of m.version) image)) rows (all_opened spelling (settings_of m.version) image ts opened)
 
-      ranges_of_rows : ranges_fault (map (key_range_of image) m.version.rows) ≡ ranges_fault (map range_of ts)
+      ranges_of_rows : ranges_fault (map (key_range_of image) m.version.rows) ≡ ranges_fault (map opened_range ts)
       ranges_of_rows = ap (λ (rs : List Row). ranges_fault (map (key_range_of image) rs)) (sym rows) ∙ ap ranges_fault (ranges_are spelling (settings_of m.version) image ts opened)
 
-      pub order_answer : (d : Damage) → IsRangesDamage m.slot (ranges_fault (map range_of ts)) d → IsOpenAnswer spelling first image (error.Damaged d)
+      pub order_answer : (d : Damage) → IsRangesDamage m.slot (ranges_fault (map opened_range ts)) d → IsOpenAnswer spelling first image (error.Damaged d)
       order_answer d is =
           subst (λ (x : Damage). IsOpenAnswer spelling first image (error.Damaged x)) (sym is.2)
           (at_the_version (place_of m.slot) (other_place m.slot) m.version (are_slots m.slot loaded.slot) loaded.stands.current
           (at_the_ranges is.0 all_of_rows (ranges_of_rows ∙ is.1)))
 
       -- their ranges have no fault
-      module _ (none : ranges_fault (map range_of ts) ≡ None) (area : ℕ) (area_is : m.version.log_page ≡ log_page_of area) where
+      module _ (none : ranges_fault (map opened_range ts) ≡ None) (area : ℕ) (area_is : m.version.log_page ≡ log_page_of area) where
         pub log_answer : (fault : LogFault) → IsShapeIn area image fault → IsOpenAnswer spelling first image (of_log_fault fault)
         log_answer log.Memory is = tt
         log_answer (log.Device cause) is = tt
@@ -137,9 +138,9 @@ pub same_opened : (spelling : Spelling) (settings others : Settings) (ts : List 
 same_opened spelling settings others ts image was same_settings held is =
     subst (λ (x : Settings). AreOpened spelling x ts image) (sym same_settings) (subst (λ (f : Image). AreOpened spelling others ts f) held is)
 
-pub same_ranges : (slot other : ℕ) (ts us : List Opened) (d : Damage) → slot ≡ other → us ≡ ts → IsRangesDamage other (ranges_fault (map range_of us)) d → IsRangesDamage slot (ranges_fault (map range_of ts)) d
+pub same_ranges : (slot other : ℕ) (ts us : List Opened) (d : Damage) → slot ≡ other → us ≡ ts → IsRangesDamage other (ranges_fault (map opened_range us)) d → IsRangesDamage slot (ranges_fault (map opened_range ts)) d
 same_ranges slot other ts us d same_slot same is =
-    subst (λ (n : ℕ). IsRangesDamage n (ranges_fault (map range_of ts)) d) (sym same_slot) (subst (λ (xs : List Opened). IsRangesDamage other (ranges_fault (map range_of xs)) d) same is)
+    subst (λ (n : ℕ). IsRangesDamage n (ranges_fault (map opened_range ts)) d) (sym same_slot) (subst (λ (xs : List Opened). IsRangesDamage other (ranges_fault (map opened_range xs)) d) same is)
 
 pub as_few : (ts : List Opened) (rows : List Row) → rows_of ts ≡ rows → length ts ≡ length rows
 as_few ts rows same = sym (length-map ts _) ∙ ap length same
@@ -148,7 +149,7 @@ as_few ts rows same = sym (length-map ts _) ∙ ap length same
 
 module _ (spelling : Spelling) (one : SpellsOne spelling) (s : State) (image : Image) (is : IsStateOf spelling s image) where
   -- nothing is refused but for want of memory, and where the device fails
-  pub free_of : (first : Bytes → Fault) (why : StoreError) → IsOpenAnswer spelling first image why → IsFree why
+  pub free_of : (first : Bytes → Fault) (why : StoreError) → IsOpenAnswer spelling first image why → IsFailure why
   free_of first error.Memory answer = tt
   free_of first (error.Device cause) answer = tt
   free_of first error.Stopped answer = answer
@@ -216,7 +217,7 @@ module _ (spelling : Spelling) (filter_bytes : FilterBytes) (one : SpellsOne spe
 -- an answer of an image that stands for a state
 pub opened_tied : (spelling : Spelling) (first : Bytes → Fault) (filter_bytes : FilterBytes) (one : SpellsOne spelling) (s : State) (image : Image) (n : ℕ) (a b : World) (r : Result Kept StoreError)
     → IsStateOf spelling s image → a.seen.held ≡ image → IsDurable a → ReadMoves n a b → MatchResult r (IsOpenedAs spelling image) (IsOpenAnswer spelling first image)
-    → MatchResult r (λ store. Tied spelling filter_bytes store s b) IsFree
+    → MatchResult r (λ store. Tied spelling filter_bytes store s b) IsFailure
 opened_tied spelling first filter_bytes one s image n a b (Ok store) is held_is durable reads opened = tied_of spelling filter_bytes one s store image is opened n a b held_is durable reads
 opened_tied spelling first filter_bytes one s image n a b (Err why) is held_is durable reads answer = free_of spelling one s image is first why answer
 

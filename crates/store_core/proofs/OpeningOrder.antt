@@ -8,7 +8,7 @@ use Rattle.byte_fields.specs.declared.parts.Part.TheVariants as part
 use Rattle.manifest.specs.Manifest.{place_of}
 use Rattle.manifest_model.specs.Tables.{KeyRange, follows, ranges_after, ranges_fault}
 use Rattle.table_file.specs.Opened.{Opened}
-use Rattle.store_core.specs.Opening.{IsRangesDamage, range_of}
+use Rattle.store_core.specs.Opening.{IsRangesDamage, opened_range}
 
 -- of ranges whose first has none before it, where the second one's row stands at this place
 abbrev pub fault_from : ℕ → List KeyRange → Option Fault
@@ -37,21 +37,21 @@ unfolding ranges_after
 after_none place a = refl
 
 -- one range alone has no fault
-pub from_last : (place : ℕ) (ts : List Opened) → length ts ≤ 1 → fault_from place (map range_of ts) ≡ None
+pub from_last : (place : ℕ) (ts : List Opened) → length ts ≤ 1 → fault_from place (map opened_range ts) ≡ None
 from_last place [] few = refl
-from_last place (t ∷ []) few = after_none place (range_of t)
+from_last place (t ∷ []) few = after_none place (opened_range t)
 from_last place (t ∷ u ∷ more) few = absurd (omega (arith, few))
 
 -- ---- at a place of the list
 
 -- the fault of all is that of those from one place before on
 abbrev pub StoodTo : List Opened → ℕ → Type 0
-StoodTo ts i = ranges_fault (map range_of ts) ≡ fault_from (64 + 64 * i) (map range_of (drop (i - 1) ts))
+StoodTo ts i = ranges_fault (map opened_range ts) ≡ fault_from (64 + 64 * i) (map opened_range (drop (i - 1) ts))
 
 pub stood_first : (ts : List Opened) → StoodTo ts 1
-stood_first ts = from_first (map range_of ts)
+stood_first ts = from_first (map opened_range ts)
 
-pub stood_end : (ts : List Opened) (i : ℕ) → length ts ≤ i → StoodTo ts i → ranges_fault (map range_of ts) ≡ None
+pub stood_end : (ts : List Opened) (i : ℕ) → length ts ≤ i → StoodTo ts i → ranges_fault (map opened_range ts) ≡ None
 stood_end ts i all stood = stood ∙ from_last (64 + 64 * i) (drop (i - 1) ts) (omega (arith, all, length-drop (i - 1) ts))
 
 module _ (ts : List Opened) (i : ℕ) (a b : Opened) (some : 1 ≤ i) (within : i < length ts) (a_is : a ≡ get_or ts (i - 1) a) (b_is : b ≡ get_or ts i b) where
@@ -66,21 +66,21 @@ module _ (ts : List Opened) (i : ℕ) (a b : Opened) (some : 1 ≤ i) (within : 
       ∙ ap (λ (n : ℕ). a ∷ drop n ts) next
       ∙ ap (λ (xs : List Opened). a ∷ xs) here
 
-  pub stood_next : follows (range_of a) (range_of b) ≡ true → StoodTo ts i → StoodTo ts (i + 1)
+  pub stood_next : follows (opened_range a) (opened_range b) ≡ true → StoodTo ts i → StoodTo ts (i + 1)
   stood_next behind stood =
       let place : 64 + 64 * i + 64 ≡ 64 + 64 * (i + 1) = omega arith in
       let index : i ≡ i + 1 - 1 = omega arith in
       stood
-      ∙ ap (λ (xs : List Opened). fault_from (64 + 64 * i) (map range_of xs)) two
-      ∙ from_next (64 + 64 * i) (range_of a) (range_of b) (map range_of (drop (suc i) ts)) behind
-      ∙ ap (λ (n : ℕ). fault_from n (map range_of (b ∷ drop (suc i) ts))) place
-      ∙ ap (λ (xs : List Opened). fault_from (64 + 64 * (i + 1)) (map range_of xs)) (sym here)
-      ∙ ap (λ (n : ℕ). fault_from (64 + 64 * (i + 1)) (map range_of (drop n ts))) index
+      ∙ ap (λ (xs : List Opened). fault_from (64 + 64 * i) (map opened_range xs)) two
+      ∙ from_next (64 + 64 * i) (opened_range a) (opened_range b) (map opened_range (drop (suc i) ts)) behind
+      ∙ ap (λ (n : ℕ). fault_from n (map opened_range (b ∷ drop (suc i) ts))) place
+      ∙ ap (λ (xs : List Opened). fault_from (64 + 64 * (i + 1)) (map opened_range xs)) (sym here)
+      ∙ ap (λ (n : ℕ). fault_from (64 + 64 * (i + 1)) (map opened_range (drop n ts))) index
 
-  pub stood_broken : (slot at : ℕ) → follows (range_of a) (range_of b) ≡ false → StoodTo ts i → at ≡ place_of slot + 8 + (64 + 64 * i)
-      → IsRangesDamage slot (ranges_fault (map range_of ts)) (damage.Shape part.Manifest at 12)
+  pub stood_broken : (slot at : ℕ) → follows (opened_range a) (opened_range b) ≡ false → StoodTo ts i → at ≡ place_of slot + 8 + (64 + 64 * i)
+      → IsRangesDamage slot (ranges_fault (map opened_range ts)) (damage.Shape part.Manifest at 12)
   stood_broken slot at never stood at_is = (
     fault (64 + 64 * i) 12,
-    stood ∙ ap (λ (xs : List Opened). fault_from (64 + 64 * i) (map range_of xs)) two ∙ from_broken (64 + 64 * i) (range_of a) (range_of b) (map range_of (drop (suc i) ts)) never,
+    stood ∙ ap (λ (xs : List Opened). fault_from (64 + 64 * i) (map opened_range xs)) two ∙ from_broken (64 + 64 * i) (opened_range a) (opened_range b) (map opened_range (drop (suc i) ts)) never,
     ap (λ (n : ℕ). damage.Shape part.Manifest n 12) at_is,
   )

@@ -31,7 +31,7 @@ use Rattle.image_model.specs.Tables.{AreTablesOf}
 use Rattle.manifest_model.specs.Tables.{KeyRange}
 use Rattle.store_core.specs.Faults.{of_table_fault}
 use Rattle.store_core.specs.Kept.{rows_of}
-use Rattle.store_core.specs.Opening.{AreOpened, IsTableAnswer, IsTablesAnswer, IsWide, range_of}
+use Rattle.store_core.specs.Opening.{AreOpened, IsTableAnswer, IsTablesAnswer, IsWide, opened_range}
 use Rattle.store_core.specs.Tied.{AreHeld}
 use Rattle.store_core.specs.declared.error.StoreError.{StoreError}
 use Rattle.store_core.specs.declared.error.StoreError.TheVariants as error
@@ -120,17 +120,17 @@ greatest_row (row ∷ next ∷ later) =
     let one : suc (length (next ∷ later) - 1) ≡ length (row ∷ next ∷ later) - 1 = omega arith in
     greatest_row (next ∷ later) ∙ ap (λ (k : ℕ). (row_at (row ∷ next ∷ later) k).last) one
 
-range_is : (spelling : Spelling) (image : Image) (t : Opened) → IsOpen spelling t image → key_range_of image t.row ≡ range_of t
+range_is : (spelling : Spelling) (image : Image) (t : Opened) → IsOpen spelling t image → key_range_of image t.row ≡ opened_range t
 range_is spelling image t is =
     ap (λ (x : Index). record { level = t.row.level; least = x.least; greatest = greatest_in x.rows }) (sym is.index_is)
     ∙ ap (λ (key : Bytes). record { level = t.row.level; least = t.index.least; greatest = key }) (greatest_row t.index.rows)
 
 pub ranges_are : (spelling : Spelling) (settings : Settings) (image : Image) (ts : List Opened) → AreOpened spelling settings ts image
-    → map (key_range_of image) (rows_of ts) ≡ map range_of ts
+    → map (key_range_of image) (rows_of ts) ≡ map opened_range ts
 ranges_are spelling settings image [] are = refl
 ranges_are spelling settings image (t ∷ ts) are =
     ap (λ (r : KeyRange). r ∷ map (key_range_of image) (rows_of ts)) (range_is spelling image t are.0.is_open)
-    ∙ ap (λ (rs : List KeyRange). range_of t ∷ rs) (ranges_are spelling settings image ts are.1)
+    ∙ ap (λ (rs : List KeyRange). opened_range t ∷ rs) (ranges_are spelling settings image ts are.1)
 
 -- ---- the tables of a state
 

@@ -1,5 +1,5 @@
 -- A plan is made of a gap that was found, and of the parts of a table.
-use Rattle.std.proofs.Common.{◌≡◌, ◌⊎◌, inl, inr, ◌∙◌, ◌<◌, ◌≤◌, ◌+◌, ◌-◌, ◌^◌, ℕ, List, length, refl, sym, ap, subst, arith, map}
+use Rattle.std.proofs.Common.{◌≡◌, ◌⊎◌, inl, inr, ◌∙◌, ◌<◌, ◌≤◌, ◌+◌, ℕ, List, length, refl, sym, ap, subst, arith, map}
 use Rattle.std.specs.Prelude.{Some, None}
 use Rattle.std.specs.List.Sorted.{IsPermutation}
 use Rattle.std.proofs.lemmas.Bool.{cases_lt}
@@ -13,6 +13,7 @@ use Rattle.extent_model.specs.Gaps.{first_gap, largest_gap}
 use Rattle.filter_api.specs.Spellings.{Spelling}
 use Rattle.filter_model.specs.Leaves.{Leaf}
 use Rattle.image_model.specs.Stands.{settings_of}
+use Rattle.key_base.specs.Limits.{last_epoch}
 use Rattle.manifest.specs.Manifest.{Manifest}
 use Rattle.manifest_model.proofs.Rows.{rows_keep}
 use Rattle.manifest_model.specs.Laws.{IsVersion}
@@ -72,10 +73,10 @@ module _ (spelling : Spelling) (built_cutoff : ℕ → List Leaf → ℕ) (m : M
     | inr room ↦ room
   ]
 
-  pub no_epoch : m.version.epoch ≡ 2 ^ 64 - 1 → IsPlanLimit (filter_bytes_of spelling built_cutoff) m.version entries limit.Epoch
+  pub no_epoch : m.version.epoch ≡ last_epoch → IsPlanLimit (filter_bytes_of spelling built_cutoff) m.version entries limit.Epoch
   no_epoch last = (few, omega (arith, has_room, under_is), last)
 
-  pub plan_is : (row : Row) (next : Manifest) → row ≡ made_row spelling built_cutoff parts 0 page → next ≡ next_manifest m row → m.version.epoch < 2 ^ 64 - 1
+  pub plan_is : (row : Row) (next : Manifest) → row ≡ made_row spelling built_cutoff parts 0 page → next ≡ next_manifest m row → m.version.epoch < last_epoch
       → IsPlan spelling built_cutoff m entries parts row next
   plan_is row next row_is next_is epoch =
       let at : row.first_page ≡ page = ap (λ (r : Row). r.first_page) row_is ∙ page_of_row page parts.entries (filter_bytes parts.settings (keys_of parts.entries)) in

@@ -17,18 +17,22 @@ use Rattle.state_model.specs.State.{State}
 use Rattle.state_model.specs.View.{memory}
 use Rattle.table_file.specs.Laws.{StandingKeys}
 use Rattle.table_file.specs.Opened.{Opened}
-use Rattle.table_file.specs.Search.{StandsThere, block_for, blocks_read}
+use Rattle.table_file.specs.Search.{StandsThere, block_for, blocks_of_get}
 use Rattle.table_model.specs.Tables.{Table}
 use Rattle.store_core.proofs.Founds.{held_entries}
 use Rattle.store_core.specs.Tied.{AreHeld, IsHeld}
 
-blocks_counted : (o : Option ℕ) → blocks_read o ≡ cond (is_some o) 1 0
+blocks_counted : (o : Option ℕ) → blocks_of_get o ≡ cond (is_some o) 1 0
 blocks_counted None = refl
 blocks_counted (Some n) = refl
 
+-- one is read where one is named
+pub some_read : (o : Option ℕ) (n : ℕ) → o ≡ Some n → 1 ≤ blocks_of_get o
+some_read o n is = subst (λ (p : Option ℕ). 1 ≤ blocks_of_get p) (sym is) (omega arith)
+
 module _ (laws : StandingKeys) (spelling : Spelling) (settings : Settings) (opened : Opened) (t : Table) (image : Image) (held : IsHeld spelling settings opened t image) (key : Bytes) where
   -- a block is read exactly where the state's table is searched
-  blocks_are : blocks_read (block_for opened key) ≡ cond (is_searched settings key t) 1 0
+  blocks_are : blocks_of_get (block_for opened key) ≡ cond (is_searched settings key t) 1 0
   blocks_are =
       blocks_counted (block_for opened key)
       ∙ ap (λ (b : Bool). cond b 1 0) ((laws spelling settings opened held.blocks image held.stands).searched key)
@@ -40,7 +44,7 @@ module _ (laws : StandingKeys) (spelling : Spelling) (settings : Settings) (open
     one_at_least true more later = omega arith
     one_at_least false more later = omega arith
 
-    pub first_bound : blocks_read (block_for opened key) ≤ searched settings key (t ∷ older)
+    pub first_bound : blocks_of_get (block_for opened key) ≤ searched settings key (t ∷ older)
     first_bound = subst (λ (n : ℕ). n ≤ searched settings key (t ∷ older)) (sym blocks_are) (one_at_least (is_searched settings key t) _ _)
 
     one_and_later : (is : Bool) (said : Option (Option Bytes)) (later : ℕ) → said ≡ None → cond is 1 0 + later ≡ cond is (suc (unless_found said later)) later
@@ -49,24 +53,24 @@ module _ (laws : StandingKeys) (spelling : Spelling) (settings : Settings) (open
     one_and_later false said later none = omega arith
 
     -- where it has no entry of the key, the older ones are searched too
-    pub next_bound : lookup t.entries key ≡ None → blocks_read (block_for opened key) + searched settings key older ≡ searched settings key (t ∷ older)
+    pub next_bound : lookup t.entries key ≡ None → blocks_of_get (block_for opened key) + searched settings key older ≡ searched settings key (t ∷ older)
     next_bound none = ap (λ (n : ℕ). n + searched settings key older) blocks_are ∙ one_and_later (is_searched settings key t) (lookup t.entries key) (searched settings key older) none
 
 -- ---- of some open tables, the first one
 
 module _ (laws : StandingKeys) (spelling : Spelling) (settings : Settings) (first : Opened) (more : List Opened) (image : Image) (key : Bytes) where
-  first_of_cells : (states : List Table) → AreHeld spelling settings (first ∷ more) states image → blocks_read (block_for first key) ≤ searched settings key states
+  first_of_cells : (states : List Table) → AreHeld spelling settings (first ∷ more) states image → blocks_of_get (block_for first key) ≤ searched settings key states
   first_of_cells [] held = elim held [ ]
   first_of_cells (t ∷ older) held = first_bound laws spelling settings first t image held.0 key older
 
   -- what is read of it is no more than what the state says
   pub searched_first : (opened : List Opened) (states : List Table) → opened ≡ first ∷ more → AreHeld spelling settings opened states image
-      → blocks_read (block_for first key) ≤ searched settings key states
+      → blocks_of_get (block_for first key) ≤ searched settings key states
   searched_first opened states split held = first_of_cells states (subst (λ (ts : List Opened). AreHeld spelling settings ts states image) split held)
 
   module _ (said : Option (Option Bytes)) (none : said ≡ None) (says : (blocks : List (List Entry)) → StandsThere spelling settings first blocks image → said ≡ lookup (joined blocks) key)
       (reads : ℕ) (later : (older : List Table) → AreHeld spelling settings more older image → reads ≤ searched settings key older) where
-    next_of_cells : (states : List Table) → AreHeld spelling settings (first ∷ more) states image → blocks_read (block_for first key) + reads ≤ searched settings key states
+    next_of_cells : (states : List Table) → AreHeld spelling settings (first ∷ more) states image → blocks_of_get (block_for first key) + reads ≤ searched settings key states
     next_of_cells [] held = elim held [ ]
     next_of_cells (t ∷ older) held =
         let missing : lookup t.entries key ≡ None =
@@ -75,7 +79,7 @@ module _ (laws : StandingKeys) (spelling : Spelling) (settings : Settings) (firs
 
     -- where it has no entry of the key, nor is what is read of all
     pub searched_on : (opened : List Opened) (states : List Table) → opened ≡ first ∷ more → AreHeld spelling settings opened states image
-        → blocks_read (block_for first key) + reads ≤ searched settings key states
+        → blocks_of_get (block_for first key) + reads ≤ searched settings key states
     searched_on opened states split held = next_of_cells states (subst (λ (ts : List Opened). AreHeld spelling settings ts states image) split held)
 
 -- where the memory has no entry of the key, as many as of the tables

@@ -1,8 +1,9 @@
 -- What is so of a store behind a flush, whatever its device holds.
-use Rattle.std.proofs.Common.{◌≡◌, ◌≢◌, ◌∙◌, ◌<◌, ◌≤◌, ◌-◌, ◌^◌, ℕ, List, [], ◌∷◌, length, refl, sym, ap, subst, arith}
+use Rattle.std.proofs.Common.{◌≡◌, ◌≢◌, ◌∙◌, ◌<◌, ◌≤◌, ℕ, List, [], ◌∷◌, length, refl, sym, ap, subst, arith}
 use Rattle.block_model.specs.Block.{IsTable}
 use Rattle.byte_fields.specs.declared.parts.Row.{Row}
 use Rattle.entry_model.specs.Entries.{Entry, filled}
+use Rattle.key_base.specs.Limits.{last_epoch}
 use Rattle.log_model.proofs.Logs.{none_filled}
 use Rattle.manifest.proofs.Steps.{raised_is}
 use Rattle.manifest.specs.Manifest.{Manifest}
@@ -23,7 +24,7 @@ none_of store begun cleared = record {
   memory_is = cleared;
 }
 
-module _ (store after : Kept) (opened : Opened) (row : Row) (next : Manifest) (whole : IsWhole store) (is : IsVersion next.version) (epoch : next.version.epoch < 2 ^ 64 - 1)
+module _ (store after : Kept) (opened : Opened) (row : Row) (next : Manifest) (whole : IsWhole store) (is : IsVersion next.version) (epoch : next.version.epoch < last_epoch)
     (next_is : next ≡ next_manifest store.manifest row) (manifest_is : after.manifest ≡ installed_manifest next) (tables_are : after.tables ≡ opened ∷ store.tables) (row_is : opened.row ≡ row) where
   rows_behind : rows_of after.tables ≡ (installed_manifest next).version.rows
   rows_behind =

@@ -1,5 +1,5 @@
 -- What a flush writes and installs, why it does not, and what it makes of a store.
-use Rattle.std.specs.Prelude.{◌≡◌, ◌<◌, ◌≤◌, ◌+◌, ◌-◌, ◌^◌, ℕ, List, [], ◌∷◌, length, map, true, Option, Some, Result, IfErr, OnOk}
+use Rattle.std.specs.Prelude.{◌≡◌, ◌<◌, ◌≤◌, ◌+◌, ◌-◌, ℕ, List, [], ◌∷◌, length, map, true, Option, Some, Result, IfErr, OnOk}
 use Rattle.byte_fields.specs.declared.parts.Row.{Row}
 use Rattle.disk_trait.specs.World.{Meanwhile, Now, Rose, World}
 use Rattle.entry_model.specs.Entries.{Entry}
@@ -7,7 +7,7 @@ use Rattle.extent_model.specs.Gaps.{first_gap, largest_gap}
 use Rattle.filter_api.specs.Spellings.{Spelling}
 use Rattle.filter_model.specs.Leaves.{Leaf}
 use Rattle.image_model.specs.Stands.{StandsForMap, settings_of}
-use Rattle.key_base.specs.Limits.{max_tables}
+use Rattle.key_base.specs.Limits.{last_epoch, max_tables}
 use Rattle.manifest.specs.Manifest.{Manifest, raised}
 use Rattle.manifest.specs.declared.fault.ManifestFault.{ManifestFault}
 use Rattle.manifest.specs.declared.fault.ManifestFault.TheVariants as fault
@@ -53,7 +53,7 @@ pub record IsPlan (spelling : Spelling) (built_cutoff : ℕ → List Leaf → �
   pub few : length m.version.rows < max_tables
   pub parts_are : parts ≡ record { settings = settings_of m.version; entries = entries }
   pub place : first_gap m.version.pages (map extent_of m.version.rows) (need_under (filter_bytes_of spelling built_cutoff) m.version entries) ≡ Some row.first_page
-  pub epoch : m.version.epoch < 2 ^ 64 - 1
+  pub epoch : m.version.epoch < last_epoch
   pub row_is : row ≡ made_row spelling built_cutoff parts 0 row.first_page
   pub next_is : next ≡ next_manifest m row
 
@@ -75,7 +75,7 @@ IsPlanLimit filter_bytes v entries (limit.Key size) = ⊥
 IsPlanLimit filter_bytes v entries (limit.Value size) = ⊥
 IsPlanLimit filter_bytes v entries limit.Tables = max_tables ≤ length v.rows
 IsPlanLimit filter_bytes v entries limit.Epoch =
-    (length v.rows < max_tables) × (need_under filter_bytes v entries ≤ largest_gap v.pages (map extent_of v.rows)) × (v.epoch ≡ 2 ^ 64 - 1)
+    (length v.rows < max_tables) × (need_under filter_bytes v entries ≤ largest_gap v.pages (map extent_of v.rows)) × (v.epoch ≡ last_epoch)
 
 -- why nothing is planned for some entries under a version
 abbrev pub IsPlanRefusal : FilterBytes → Version → List Entry → StoreError → Type 0

@@ -1,6 +1,7 @@
 -- Where a key's newest entry was found, and why none was.
-use Rattle.std.specs.Prelude.{◌≡◌, ◌≤◌, ℕ, Bool, true, false, List, map, take, is_some, Option, Some, None}
+use Rattle.std.specs.Prelude.{◌≡◌, ◌≤◌, ℕ, Bool, true, false, List, Contains, map, take, is_some, Option, Some, None}
 use Rattle.block_model.specs.BlockReading.{block_fault, block_in}
+use Rattle.disk_trait.specs.Image.{Image}
 use Rattle.disk_trait.specs.World.{Rose, World}
 use Rattle.disk_trait.specs.declared.fault.DiskFault.{DiskFault}
 use Rattle.disk_trait.specs.declared.fault.Op.TheVariants.{Read}
@@ -13,16 +14,18 @@ use Rattle.store_core.specs.declared.error.StoreError.{StoreError}
 use Rattle.store_core.specs.declared.error.StoreError.TheVariants as error
 use Rattle.store_core.specs.declared.getting.Place.{Place}
 use Rattle.store_core.specs.declared.getting.Place.TheVariants as place
+use Rattle.table_file.specs.Opened.{Opened}
+use Rattle.table_file.specs.Search.{IsGetFault, block_for, largest_block}
 use Rattle.table_file.specs.declared.fault.TableFault.{TableFault}
 use Rattle.table_file.specs.declared.fault.TableFault.TheVariants as table
 use Rattle.table_model.specs.Tables.{Table}
 
-abbrev pub entries_in : List Table → List (List Entry)
-entries_in tables = map (λ (t : Table). t.entries) tables
+abbrev pub entries_by_table : List Table → List (List Entry)
+entries_by_table tables = map (λ (t : Table). t.entries) tables
 
 -- the first bytes of a buffer are a block that breaks no rule
 pub record IsBlockIn (size : ℕ) (buffer : Bytes) : Type 0 where
-  pub fits : size ≤ 69632
+  pub fits : size ≤ largest_block
   pub whole : block_fault (take size buffer) ≡ None
 
 -- and they have an entry of the key
@@ -56,6 +59,31 @@ IsLookFault old new table.Memory = ⊥
 IsLookFault old new (table.Device cause) = ReadRose old new cause
 IsLookFault old new (table.Damaged damage) = Unit {0}
 
+-- the block of a table that is read for a key has this fault: another sum than the index keeps, or where the sum agrees, the
+-- first rule that its bytes break
+abbrev pub IsBlockFault : Opened → Bytes → Image → TableFault → Type 0
+IsBlockFault t key image table.Memory = Unit {0}
+IsBlockFault t key image (table.Device cause) = Unit {0}
+IsBlockFault t key image (table.Damaged damage) = (n : ℕ) × (block_for t key ≡ Some n) × IsGetFault t n image (table.Damaged damage)
+
+-- that block of one of these tables
+abbrev pub IsFaultIn : List Opened → Bytes → Image → TableFault → Type 0
+IsFaultIn tables key image table.Memory = Unit {0}
+IsFaultIn tables key image (table.Device cause) = Unit {0}
+IsFaultIn tables key image (table.Damaged damage) = (t : Opened) × Contains tables t × IsBlockFault t key image (table.Damaged damage)
+
+-- damage is that of a block which is read for the key, and the image shows it
+abbrev pub IsShown : List Opened → Bytes → Image → StoreError → Type 0
+IsShown tables key image (error.Damaged damage) = IsFaultIn tables key image (table.Damaged damage)
+IsShown tables key image error.Memory = Unit {0}
+IsShown tables key image (error.Device cause) = Unit {0}
+IsShown tables key image error.Stopped = Unit {0}
+IsShown tables key image (error.Limit limit) = Unit {0}
+IsShown tables key image (error.Full need gap) = Unit {0}
+IsShown tables key image error.NotAStore = Unit {0}
+IsShown tables key image error.AlreadyAStore = Unit {0}
+IsShown tables key image (error.BadSettings field) = Unit {0}
+
 -- why a get is refused, of a store that was stopped or not
 abbrev pub IsGetRefusal : Bool → Bytes → World → World → StoreError → Type 0
 IsGetRefusal stopped key old new error.Memory = ⊥
@@ -67,6 +95,18 @@ IsGetRefusal stopped key old new (error.Damaged damage) = (stopped ≡ false) ×
 IsGetRefusal stopped key old new error.NotAStore = ⊥
 IsGetRefusal stopped key old new error.AlreadyAStore = ⊥
 IsGetRefusal stopped key old new (error.BadSettings field) = ⊥
+
+-- a read failed only where some block may be read
+abbrev pub IsMet : ℕ → StoreError → Type 0
+IsMet most (error.Device cause) = 1 ≤ most
+IsMet most (error.Damaged damage) = Unit {0}
+IsMet most error.Memory = Unit {0}
+IsMet most error.Stopped = Unit {0}
+IsMet most (error.Limit limit) = Unit {0}
+IsMet most (error.Full need gap) = Unit {0}
+IsMet most error.NotAStore = Unit {0}
+IsMet most error.AlreadyAStore = Unit {0}
+IsMet most (error.BadSettings field) = Unit {0}
 
 -- what was read is not damaged
 abbrev pub IsUndamaged : StoreError → Type 0

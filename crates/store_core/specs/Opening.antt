@@ -18,6 +18,7 @@ use Rattle.manifest.specs.Loading.{IsLoaded}
 use Rattle.manifest.specs.Manifest.{Manifest, place_of}
 use Rattle.manifest_model.specs.Slots.{IsNoStore}
 use Rattle.manifest_model.specs.Tables.{KeyRange, ranges_fault}
+use Rattle.manifest_model.specs.Version.{body_place}
 use Rattle.map_model.specs.SortedMap.{Bytes}
 use Rattle.store_core.specs.Answers.{is_write}
 use Rattle.store_core.specs.Getting.{ReadRose}
@@ -41,8 +42,8 @@ AreOpened spelling settings [] image = Unit {0}
 AreOpened spelling settings (opened ∷ more) image = IsWide spelling settings opened image × AreOpened spelling settings more image
 
 -- the level of an open table, and its least and its greatest key
-abbrev pub range_of : Opened → KeyRange
-range_of t = record { level = t.row.level; least = t.index.least; greatest = (row_at t.index.rows (length t.index.rows - 1)).last }
+abbrev pub opened_range : Opened → KeyRange
+opened_range t = record { level = t.row.level; least = t.index.least; greatest = (row_at t.index.rows (length t.index.rows - 1)).last }
 
 -- the damage of the tables of some rows is the first of them
 abbrev pub IsTablesAnswer : Spelling → (Bytes → Fault) → Settings → List Row → Image → StoreError → Type 0
@@ -62,28 +63,16 @@ IsTableAnswer spelling first settings row image why = IsTablesAnswer spelling fi
 
 -- the fault of the ranges, by its place on the device in the slot in use
 abbrev pub IsRangesDamage : ℕ → Option Fault → Damage → Type 0
-IsRangesDamage slot found d = (f : Fault) × (found ≡ Some f) × (d ≡ damage.Shape part.Manifest (place_of slot + 8 + f.place) f.rule)
+IsRangesDamage slot found d = (f : Fault) × (found ≡ Some f) × (d ≡ damage.Shape part.Manifest (body_place (place_of slot) + f.place) f.rule)
 
 -- ---- the whole
-
--- memory or the device, and not what was read
-abbrev pub IsFree : StoreError → Type 0
-IsFree error.Memory = Unit {0}
-IsFree (error.Device cause) = Unit {0}
-IsFree error.Stopped = ⊥
-IsFree (error.Limit limit) = ⊥
-IsFree (error.Full need gap) = ⊥
-IsFree (error.Damaged damage) = ⊥
-IsFree error.NotAStore = ⊥
-IsFree error.AlreadyAStore = ⊥
-IsFree (error.BadSettings field) = ⊥
 
 -- a version of the image is loaded, these are the open tables of its rows, and their ranges break no rule
 pub record IsVersionOpened (spelling : Spelling) (image : Image) (m : Manifest) (ts : List Opened) : Type 0 where
   pub loaded : IsLoaded image m
   pub rows : rows_of ts ≡ m.version.rows
   pub tables : AreOpened spelling (settings_of m.version) ts image
-  pub ranges : ranges_fault (map range_of ts) ≡ None
+  pub ranges : ranges_fault (map opened_range ts) ≡ None
 
 -- The image opens with the version of the store, which stands in its slot, and with some log: the one in memory ends behind its
 -- entries, the newest of them are in the memory table, and the open tables are those of the version's rows.

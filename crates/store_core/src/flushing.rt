@@ -1,5 +1,5 @@
 //! The memory table becomes a table of level 0.
-ghost use Rattle.std.specs.Prelude.{◌≡◌, ◌≤◌, ◌<◌, ◌+◌, ◌-◌, ◌*◌, ◌^◌, ◌∷◌, ◌||◌, List, [], true, false, Some, None, IsTrue, IfOk, IfErr, OnOk, OnErr, MatchResult, length, map};
+ghost use Rattle.std.specs.Prelude.{◌≡◌, ◌≤◌, ◌<◌, ◌+◌, ◌-◌, ◌*◌, ◌∷◌, ◌||◌, List, [], true, false, Some, None, IsTrue, IfOk, IfErr, OnOk, OnErr, MatchResult, length, map};
 ghost use Rattle.std.specs.List.Sorted.{IsPermutation};
 ghost use Rattle.block_model.specs.Block.{IsTable};
 ghost use Rattle.block_model.specs.Pages.{page_bytes};
@@ -7,7 +7,7 @@ ghost use Rattle.disk_trait.specs.World.{ReadMoves, WriteMoves};
 ghost use Rattle.extent_model.specs.Extents.{AreLaid};
 ghost use Rattle.extent_model.specs.Gaps.{first_gap, largest_gap};
 ghost use Rattle.filter_api.specs.Ranges.{InRange};
-ghost use Rattle.key_base.specs.Limits.{max_device_pages, min_device_pages};
+ghost use Rattle.key_base.specs.Limits.{last_epoch, max_device_pages, min_device_pages};
 ghost use Rattle.line_model.specs.Requests.{Flush as flush_line};
 ghost use Rattle.manifest_model.specs.Laws.{IsVersion, RowFits};
 ghost use Rattle.manifest_model.specs.Rows.{extent_of};
@@ -28,7 +28,7 @@ use disk_trait::Disk;
 use extent_map::{Extents, NoGap};
 use filter_api::{RangeFilter, Settings};
 use gate_log::Log;
-use key_base::MAX_TABLES;
+use key_base::{LAST_EPOCH, MAX_TABLES};
 use manifest::{ManifestFault, Version, install};
 use mem_table::MemTable;
 use std::alloc::{AllocError, Global};
@@ -140,7 +140,7 @@ fn plan_flush<F: RangeFilter>(
     }
     let parts: Parts<F> = build_table(alloc, version.settings, memory)?;
     let page = place_for(alloc, version, pages_of(&parts))?;
-    if version.epoch == u64::MAX {
+    if version.epoch == LAST_EPOCH {
         return Err(StoreError::Limit(Limit::Epoch));
     }
     let row = parts.row(0, page);
@@ -157,7 +157,7 @@ fn write_plan<F: RangeFilter, D: Disk>(
     requires fits { plan.now.row.first_page + table_pages (filter_bytes_of F.spelling F.built_cutoff) plan.now.parts.settings plan.now.parts.entries ≤ plan.now.next.version.pages }
     requires slot { plan.now.next.slot ≤ 1 }
     requires sound { IsVersion plan.now.next.version }
-    requires epoch { plan.now.next.version.epoch < 2 ^ 64 - 1 }
+    requires epoch { plan.now.next.version.epoch < last_epoch }
     ensures replaces { (store : Kept) (s : State) → IsTrue D.tells → IsWhole store → Tied F.spelling (filter_bytes_of F.spelling F.built_cutoff) store s (D.world disk.old)
         → IsPlan F.spelling F.built_cutoff store.manifest (memory s) plan.now.parts plan.now.row plan.now.next
         → Replaces F.spelling F.built_cutoff store s plan.now.parts plan.now.row plan.now.next result (D.world disk.old) (D.world disk.new) }

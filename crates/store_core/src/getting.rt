@@ -1,5 +1,5 @@
 //! What the store says of a key.
-ghost use Rattle.std.specs.Prelude.{◌≡◌, ◌≤◌, ◌+◌, List, length, true, false, Some, None, IsTrue, IfOk, IfErr, IfSome, OnOk, MatchResult};
+ghost use Rattle.std.specs.Prelude.{◌≡◌, ◌≤◌, ◌+◌, List, length, true, false, Some, None, IsTrue, IfOk, IfErr, IfSome, OnErr, OnOk, MatchResult};
 ghost use Rattle.std.specs.Option.{option_map};
 ghost use Rattle.std.specs.Borrow.{sem};
 ghost use Rattle.block_model.specs.BlockReading.{block_fault, block_in};
@@ -13,11 +13,11 @@ ghost use Rattle.map_model.specs.SortedMap.{get};
 ghost use Rattle.state_model.specs.Bounds.{get_bound, searched};
 ghost use Rattle.state_model.specs.State.{State};
 ghost use Rattle.state_model.specs.View.{first_found, state_map, view};
-ghost use Rattle.store_core.specs.Getting.{IsBlockIn, IsFoundIn, IsGetRefusal, IsLookFault, IsPlaceIn, IsUndamaged, entries_in, said_at, said_in};
+ghost use Rattle.store_core.specs.Getting.{IsBlockFault, IsBlockIn, IsFaultIn, IsFoundIn, IsGetRefusal, IsLookFault, IsMet, IsPlaceIn, IsShown, IsUndamaged, entries_by_table, said_at, said_in};
 ghost use Rattle.store_core.specs.Tied.{AreHeld, Tied};
 ghost use Rattle.table_model.specs.Tables.{filter_bytes_of};
 ghost use Rattle.table_file.specs.Faults.{IsNoDamage};
-ghost use Rattle.table_file.specs.Search.{StandsThere, block_for, blocks_read};
+ghost use Rattle.table_file.specs.Search.{StandsThere, block_for, blocks_of_get, largest_block};
 ghost use Rattle.table_model.specs.Tables as model;
 
 use crate::error::StoreError;
@@ -43,13 +43,15 @@ fn look_in<F: RangeFilter, D: Disk>(
     key: &[u8],
     buffer: &mut [u8],
 ) -> Result<Option<usize>, TableFault>
-    requires room { 69632 ≤ length buffer.old }
+    requires room { largest_block ≤ length buffer.old }
     ensures place { IfOk result (λ found. IfSome found (λ size. IsFoundIn size buffer.new key.now)) }
     ensures length { length buffer.new ≡ length buffer.old }
     ensures answer { (settings : Settings) (blocks : List (List Entry)) → IsTrue D.tells → StandsThere F.spelling settings table.now blocks (D.world disk.old).seen.held
         → IfOk result (λ found. said_in found buffer.new key.now ≡ lookup (joined blocks) key.now) }
     ensures undamaged { (settings : Settings) (blocks : List (List Entry)) → IsTrue D.tells → StandsThere F.spelling settings table.now blocks (D.world disk.old).seen.held → IfErr result IsNoDamage }
-    ensures moves { ReadMoves (blocks_read (block_for table.now key.now)) (D.world disk.old) (D.world disk.new) }
+    ensures shown { IsTrue D.tells → IfErr result (IsBlockFault table.now key.now (D.world disk.old).seen.held) }
+    ensures met { OnErr result (1 ≤ blocks_of_get (block_for table.now key.now)) }
+    ensures moves { ReadMoves (blocks_of_get (block_for table.now key.now)) (D.world disk.old) (D.world disk.new) }
     ensures cause { IfErr result (IsLookFault (D.world disk.old) (D.world disk.new)) }
 {
     let Some(block) = table.block_for(key) else {
@@ -69,14 +71,17 @@ fn look_in_all<F: RangeFilter, D: Disk>(
     key: &[u8],
     buffer: &mut [u8],
 ) -> Result<Option<usize>, TableFault>
-    requires room { 69632 ≤ length buffer.old }
+    requires room { largest_block ≤ length buffer.old }
     ensures place { IfOk result (λ found. IfSome found (λ size. IsFoundIn size buffer.new key.now)) }
     ensures length { length buffer.new ≡ length buffer.old }
     ensures answer { (settings : Settings) (states : List model.Table) → IsTrue D.tells → AreHeld F.spelling settings tables.now states (D.world disk.old).seen.held
-        → IfOk result (λ found. said_in found buffer.new key.now ≡ first_found (entries_in states) key.now) }
+        → IfOk result (λ found. said_in found buffer.new key.now ≡ first_found (entries_by_table states) key.now) }
     ensures undamaged { (settings : Settings) (states : List model.Table) → IsTrue D.tells → AreHeld F.spelling settings tables.now states (D.world disk.old).seen.held → IfErr result IsNoDamage }
+    ensures shown { IsTrue D.tells → IfErr result (IsFaultIn tables.now key.now (D.world disk.old).seen.held) }
     ensures bounded { (settings : Settings) (states : List model.Table) → IsTrue D.tells → AreHeld F.spelling settings tables.now states (D.world disk.old).seen.held
         → (D.world disk.new).seen.reads ≤ (D.world disk.old).seen.reads + searched settings key.now states }
+    ensures met { (settings : Settings) (states : List model.Table) → IsTrue D.tells → AreHeld F.spelling settings tables.now states (D.world disk.old).seen.held
+        → OnErr result (1 ≤ searched settings key.now states) }
     ensures moves { ReadMoves (length tables.now) (D.world disk.old) (D.world disk.new) }
     ensures cause { IfErr result (IsLookFault (D.world disk.old) (D.world disk.new)) }
 {
@@ -104,9 +109,12 @@ impl<F: RangeFilter> Store<F> {
             → IfOk result (λ found. option_map (λ v. v.now) found ≡ get (state_map s) key.now) }
         ensures tied { (s : State) → Tied F.spelling (filter_bytes_of F.spelling F.built_cutoff) self.old s (D.world disk.old) → Tied F.spelling (filter_bytes_of F.spelling F.built_cutoff) self.old s (D.world disk.new) }
         ensures undamaged { (s : State) → IsTrue D.tells → Tied F.spelling (filter_bytes_of F.spelling F.built_cutoff) self.old s (D.world disk.old) → IfErr result IsUndamaged }
+        ensures shown { IsTrue D.tells → IfErr result (IsShown self.old.tables key.now (D.world disk.old).seen.held) }
+        ensures met { (s : State) → IsTrue D.tells → Tied F.spelling (filter_bytes_of F.spelling F.built_cutoff) self.old s (D.world disk.old) → IfErr result (IsMet (get_bound s key.now)) }
         ensures refused { MatchResult result (λ _. (self.old.stopped ≡ false) × (key_limit key.now ≡ None)) (IsGetRefusal self.old.stopped key.now (D.world disk.old) (D.world disk.new)) }
         ensures bounded { (s : State) → IsTrue D.tells → Tied F.spelling (filter_bytes_of F.spelling F.built_cutoff) self.old s (D.world disk.old)
             → (D.world disk.new).seen.reads ≤ (D.world disk.old).seen.reads + get_bound s key.now }
+        ensures still { self.old.stopped ≡ true → ReadMoves 0 (D.world disk.old) (D.world disk.new) }
         ensures moves { ReadMoves (length self.old.tables) (D.world disk.old) (D.world disk.new) }
     {
         let place = self.look_for(disk, key)?;
@@ -120,9 +128,12 @@ impl<F: RangeFilter> Store<F> {
         ensures answer { (s : State) → IsTrue D.tells → Tied F.spelling (filter_bytes_of F.spelling F.built_cutoff) self.old s (D.world disk.old)
             → IfOk result (λ place. said_at place self.new.memory.entries self.new.buffer key.now ≡ view s key.now) }
         ensures undamaged { (s : State) → IsTrue D.tells → Tied F.spelling (filter_bytes_of F.spelling F.built_cutoff) self.old s (D.world disk.old) → IfErr result IsUndamaged }
+        ensures shown { IsTrue D.tells → IfErr result (IsShown self.old.tables key.now (D.world disk.old).seen.held) }
+        ensures met { (s : State) → IsTrue D.tells → Tied F.spelling (filter_bytes_of F.spelling F.built_cutoff) self.old s (D.world disk.old) → IfErr result (IsMet (get_bound s key.now)) }
         ensures refused { MatchResult result (λ _. (self.old.stopped ≡ false) × (key_limit key.now ≡ None)) (IsGetRefusal self.old.stopped key.now (D.world disk.old) (D.world disk.new)) }
         ensures bounded { (s : State) → IsTrue D.tells → Tied F.spelling (filter_bytes_of F.spelling F.built_cutoff) self.old s (D.world disk.old)
             → (D.world disk.new).seen.reads ≤ (D.world disk.old).seen.reads + get_bound s key.now }
+        ensures still { self.old.stopped ≡ true → ReadMoves 0 (D.world disk.old) (D.world disk.new) }
         ensures moves { ReadMoves (length self.old.tables) (D.world disk.old) (D.world disk.new) }
     {
         if self.stopped {

@@ -12,7 +12,8 @@ ghost use Rattle.manifest_model.specs.Tables.{follows, ranges_fault};
 ghost use Rattle.manifest_model.specs.Version.{log_page_of};
 ghost use Rattle.state_model.specs.State.{State};
 ghost use Rattle.store_core.specs.Kept.{rows_of};
-ghost use Rattle.store_core.specs.Opening.{AreOpened, IsFree, IsOpenFault, IsOpenRefusal, IsOpenAnswer, IsOpenedAs, IsRangesDamage, IsTableAnswer, IsTablesAnswer, IsVersionOpened, IsWide, range_of};
+ghost use Rattle.store_core.specs.Answers.{IsFailure};
+ghost use Rattle.store_core.specs.Opening.{AreOpened, IsOpenFault, IsOpenRefusal, IsOpenAnswer, IsOpenedAs, IsRangesDamage, IsTableAnswer, IsTablesAnswer, IsVersionOpened, IsWide, opened_range};
 ghost use Rattle.store_core.specs.Tied.{Tied};
 ghost use Rattle.table_model.specs.Tables.{filter_bytes_of};
 
@@ -24,26 +25,19 @@ use entry_list::Entry;
 use filter_api::{RangeFilter, Settings};
 use gate_log::Log;
 use key_base::{PAGE_BYTES, SLOT_BYTES, compare};
-use manifest::{Version, load};
+use manifest::{BODY_AT, HEAD_BYTES, ROW_BYTES, Version, load};
 use mem_table::MemTable;
 use std::alloc::Global;
 use std::cmp::Ordering;
 use table_file::{LARGEST_BLOCK_BYTES, Table, Tables, open_table};
 
-/// The place in a filter that is named where it has other widths than the settings say, and that rule.
+// The place in a filter that is named where it has other widths than the settings say, and that rule.
 const WIDTHS_AT: u64 = 5;
 
 const OTHER_WIDTHS: u8 = 12;
 
-/// The place in the manifest's body of the second row, the bytes of a row, and the rule of tables that do not rise.
-const SECOND_ROW_AT: u64 = 128;
-
-const ROW_BYTES: u64 = 64;
-
+// The rule of tables that do not rise.
 const NOT_RISING: u8 = 12;
-
-/// A body stands so many bytes behind the first of its slot.
-const BODY_AT: u64 = 8;
 
 // The table of a row, with a filter of the widths that the settings say.
 fn open_one<F: RangeFilter, D: Disk>(
@@ -96,7 +90,7 @@ fn open_tables<F: RangeFilter, D: Disk>(
 
 // Whether a table may stand before another one: below level 0 its keys come before those of the other.
 fn may_follow<F: RangeFilter>(before: &Table<F>, table: &Table<F>) -> bool
-    ensures { result ≡ follows (range_of before.now) (range_of table.now) }
+    ensures { result ≡ follows (opened_range before.now) (opened_range table.now) }
 {
     before.row().level != table.row().level
         || table.row().level == 0
@@ -107,16 +101,13 @@ fn may_follow<F: RangeFilter>(before: &Table<F>, table: &Table<F>) -> bool
 fn check_order<F: RangeFilter>(tables: &[Table<F>], slot: u8) -> Result<(), Damage>
     requires few { length tables.now ≤ max_tables }
     requires slot { slot ≤ 1 }
-    ensures { MatchResult result (λ _. ranges_fault (map range_of tables.now) ≡ None) (IsRangesDamage slot (ranges_fault (map range_of tables.now))) }
+    ensures { MatchResult result (λ _. ranges_fault (map opened_range tables.now) ≡ None) (IsRangesDamage slot (ranges_fault (map opened_range tables.now))) }
 {
     for i in 1..tables.len() {
         if !may_follow(&tables[i - 1], &tables[i]) {
             return Err(Damage::Shape {
                 part: Part::Manifest,
-                at: SLOT_BYTES * u64::from(slot)
-                    + BODY_AT
-                    + SECOND_ROW_AT
-                    + ROW_BYTES * (i as u64 - 1),
+                at: SLOT_BYTES * u64::from(slot) + BODY_AT + (HEAD_BYTES + ROW_BYTES * i) as u64,
                 rule: NOT_RISING,
             });
         }
@@ -152,7 +143,7 @@ impl<F: RangeFilter> Store<F> {
     /// Seven reads at most and two for each table. Nothing is written.
     pub fn open_store<D: Disk>(alloc: Global, disk: &mut D) -> Result<Store<F>, StoreError>
         ensures opens { (s : State) → IsTrue D.tells → IsStateOf F.spelling s (D.world disk.old).seen.held
-            → MatchResult result (λ store. Tied F.spelling (filter_bytes_of F.spelling F.built_cutoff) store s (D.world disk.new)) IsFree }
+            → MatchResult result (λ store. Tied F.spelling (filter_bytes_of F.spelling F.built_cutoff) store s (D.world disk.new)) IsFailure }
         ensures answer { IsTrue D.tells → MatchResult result (IsOpenedAs F.spelling (D.world disk.old).seen.held) (IsOpenAnswer F.spelling F.first_fault (D.world disk.old).seen.held) }
         ensures cause { IfErr result (IsOpenRefusal (D.world disk.old) (D.world disk.new)) }
         ensures running { IfOk result (λ store. store.stopped ≡ false) }

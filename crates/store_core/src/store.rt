@@ -24,16 +24,27 @@ pub struct Store<F: RangeFilter> {
 impl<F: RangeFilter> Model for Store<F> {
     ghost use Rattle.std.specs.Prelude.{◌≡◌, vec_len};
     ghost use Rattle.store_core.specs.Kept.{IsWhole, Kept};
+    ghost use Rattle.table_file.specs.Search.{largest_block};
 
     ghost Value = { Kept };
 
     ghost view = { λ s. record { stopped = s.stopped; manifest = s.version; tables = s.tables.tables; log = s.log; memory = s.memory; buffer = s.buffer.items } };
 
     ghost invariant = { λ s. IsWhole (record { stopped = s.stopped; manifest = s.version; tables = s.tables.tables; log = s.log; memory = s.memory; buffer = s.buffer.items })
-        × (vec_len s.buffer ≡ 69632) };
+        × (vec_len s.buffer ≡ largest_block) };
 }
 
 impl<F: RangeFilter> Store<F> {
+    ghost use Rattle.store_core.specs.Kept.{IsWhole};
+
+    /// Law: what is so of each store, whatever its device holds. It does nothing.
+    pub fn whole_law(&self)
+        ensures { IsWhole self.now }
+    {
+        // so that the struct's invariant is known
+        let _ = &self.stopped;
+    }
+
     /// Whether a write or a sync has failed. Then every other call answers `Stopped`, until the store is opened again.
     pub fn is_stopped(&self) -> bool
         ensures { result ≡ self.now.stopped }

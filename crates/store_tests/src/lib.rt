@@ -1,7 +1,16 @@
-//! Tests of the store over a disk in memory and the plain filter.
+//! Tests of the store over a disk in memory, and of scripts that the plain program plays, both with the plain filter.
+//!
+//! Nothing is exported. What the tests show at some values `store_core` and `plain_store` prove at all; here formats,
+//! changes, faults, crashes and reopenings come together, and the lines of a script and their replies.
 #![tactic(auto)]
 
 #[cfg(test)]
+mod bounds;
+#[cfg(test)]
 mod changes;
 #[cfg(test)]
-mod tests;
+mod limits;
+#[cfg(test)]
+mod scripts;
+#[cfg(test)]
+mod slices;

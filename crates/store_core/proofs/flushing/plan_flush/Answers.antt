@@ -1,6 +1,8 @@
-use Rattle.std.proofs.Common.{◌≡◌, ◌∙◌, ◌<◌, ◌-◌, ◌^◌, length, sym, ap, arith}
+use Rattle.std.proofs.Common.{◌≡◌, ◌∙◌, ◌<◌, length, sym, ap, arith}
+use Rattle.key_base.specs.Limits.{last_epoch}
 use Rattle.manifest.specs.Manifest.{Manifest}
 use Rattle.store_core.specs.Flushing.{IsPlan}
+use Rattle.store_core.proofs.Flushed.{last_is}
 use Rattle.store_core.proofs.Plans.{plan_fits, plan_is_version}
 use Rattle.store_core.proofs.PlansMade.{no_epoch, page_fits, parts_of, plan_is}
 use Rattle.store_core.proofs.flushing.plan_flush.Goals as goal
@@ -10,7 +12,7 @@ returns-then-version-clause-refused g c =
     let m = c.args.version.now in
     let few : length m.version.rows < 1024 = omega (arith, ap (λ (x : Manifest). length x.version.rows) c.version.view_is) in
     let parts_are = parts_of _ m c.version.view_is c.args.memory.now.entries c.in_ok-parts.parts c.in_ok-parts.ensures in
-    let last = sym (ap (λ (x : Manifest). x.version.epoch) c.version.view_is) ∙ c.if-version.true in
+    let last = sym (ap (λ (x : Manifest). x.version.epoch) c.version.view_is) ∙ c.if-version.true ∙ sym last_is in
     no_epoch g.F.RangeFilter.spelling g.F.RangeFilter.built_cutoff m c.args.memory.now.entries c.in_ok-parts.parts c.in_ok-page.page c.pages_of.result c.requires.sound few
     parts_are c.pages_of.ensures c.in_ok-page.ensures.gap last
 
@@ -28,7 +30,7 @@ returns-clause-plan g c =
     let few : length m.version.rows < 1024 = omega (arith, ap (λ (x : Manifest). length x.version.rows) c.version.view_is) in
     let parts_are = parts_of _ m c.version.view_is c.args.memory.now.entries c.in_ok-parts.parts c.in_ok-parts.ensures in
     let not_last = c.if-version.false in
-    let epoch : m.version.epoch < 2 ^ 64 - 1 = omega (arith, not_last, ap (λ (x : Manifest). x.version.epoch) c.version.view_is, c.requires.sound.epoch) in
+    let epoch : m.version.epoch < last_epoch = omega (arith, not_last, ap (λ (x : Manifest). x.version.epoch) c.version.view_is, c.requires.sound.epoch, last_is) in
     plan_is g.F.RangeFilter.spelling g.F.RangeFilter.built_cutoff m c.args.memory.now.entries c.in_ok-parts.parts c.in_ok-page.page c.pages_of.result c.requires.sound few
     parts_are c.pages_of.ensures c.in_ok-page.ensures.gap c.row-row.result c.in_ok-next.next c.row-row.ensures c.in_ok-next.ensures.next epoch
 

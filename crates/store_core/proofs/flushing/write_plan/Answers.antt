@@ -1,7 +1,7 @@
 use Rattle.std.proofs.Common.{◌≡◌, ◌⊎◌, inl, inr, ◌≤◌, ◌+◌, ◌*◌, ℕ, sym, ap, refl, subst, arith}
 use Rattle.manifest_model.specs.Laws.{IsVersion}
 use Rattle.disk_trait.specs.World.{Leads, WriteMoves}
-use Rattle.manifest.specs.Manifest.{Manifest, Stands, install_of, other_place}
+use Rattle.manifest.specs.Manifest.{Manifest, StandsInSlot, install_of, other_place}
 use Rattle.manifest.specs.declared.fault.ManifestFault.{ManifestFault}
 use Rattle.manifest_model.specs.Installs.{IsInstalled, IsOldOrNew}
 use Rattle.std.specs.Prelude.{Ok}
@@ -60,7 +60,7 @@ returns-in_err-install-clause-replaces g c store s tells whole tied plan =
     let same = ap (λ (m : Manifest). m.version.epoch) (sym plan.next_is) in
     let from = store.manifest.version in
     let moves = subst (λ (p : Plan g.row.F.Denot). WriteMoves (other_place p.next.slot) 131072 d e) (sym c.plan.view_is) c.install.ensures.moves in
-    let leads = subst (λ (p : Plan g.row.F.Denot). Leads (Stands p.next.slot p.next.other_open from) (IsOldOrNew (install_of p.next from)) (IsInstalled (install_of p.next from)) c.install.result d e)
+    let leads = subst (λ (p : Plan g.row.F.Denot). Leads (StandsInSlot p.next.slot p.next.other_open from) (IsOldOrNew (install_of p.next from)) (IsInstalled (install_of p.next from)) c.install.result d e)
     (sym c.plan.view_is) (c.install.ensures.crash from tells same) in
     subst (λ (p : Plan g.row.F.Denot). Replaces spelling cutoff store s p.parts p.row p.next c.from_residual-in_err-install.result a e) c.plan.view_is
     (no_install spelling cutoff store s _ _ _ whole seen a tied (g.met.D.Disk.current c.args.disk.now tells)
@@ -81,7 +81,7 @@ returns-clause-replaces g c store s tells whole tied plan =
     let same = ap (λ (m : Manifest). m.version.epoch) (sym plan.next_is) in
     let from = store.manifest.version in
     let moves = subst (λ (p : Plan g.row.F.Denot). WriteMoves (other_place p.next.slot) 131072 d e) (sym c.plan.view_is) c.install.ensures.moves in
-    let leads = subst (λ (p : Plan g.row.F.Denot). Leads {E = ManifestFault} (Stands p.next.slot p.next.other_open from) (IsOldOrNew (install_of p.next from)) (IsInstalled (install_of p.next from)) (Ok c.in_ok-install.field-0) d e)
+    let leads = subst (λ (p : Plan g.row.F.Denot). Leads {E = ManifestFault} (StandsInSlot p.next.slot p.next.other_open from) (IsOldOrNew (install_of p.next from)) (IsInstalled (install_of p.next from)) (Ok c.in_ok-install.field-0) d e)
     (sym c.plan.view_is) (c.in_ok-install.ensures.crash from tells same) in
     subst (λ (p : Plan g.row.F.Denot). Replaces spelling cutoff store s p.parts p.row p.next (Ok c.in_ok-log.log) a e) c.plan.view_is
     (installed spelling cutoff store s _ _ _ whole seen a tied (g.met.D.Disk.current c.args.disk.now tells)

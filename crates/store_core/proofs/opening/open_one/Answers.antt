@@ -1,7 +1,7 @@
 use Rattle.std.proofs.Common.{rules, ◌≡◌, ◌∙◌, ℕ, Bool, true, not, sym, ap, ap₂, arith}
 use Rattle.std.specs.Prelude.{◌==◌, ◌&&◌}
 use Rattle.std.proofs.lemmas.Bool.{eq-eqb}
-use Rattle.table_file.specs.Parts.{Filter}
+use Rattle.filter_model.specs.Leaves.{Filter}
 use Rattle.store_core.proofs.OpeningTables.{table_answer, widths_answer}
 use Rattle.store_core.proofs.opening.open_one.Goals as goal
 

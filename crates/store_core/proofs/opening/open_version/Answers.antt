@@ -8,7 +8,7 @@ use Rattle.manifest.specs.Manifest.{Manifest}
 use Rattle.manifest_model.proofs.Rows.{tables_fit}
 use Rattle.manifest_model.specs.Tables.{ranges_fault}
 use Rattle.table_file.specs.Opened.{Opened}
-use Rattle.store_core.specs.Opening.{range_of}
+use Rattle.store_core.specs.Opening.{opened_range}
 use Rattle.store_core.proofs.Causes.{load_cause, refusal_behind, tables_cause}
 use Rattle.store_core.proofs.Moved.{loaded_then_opened}
 use Rattle.store_core.proofs.OpenedStores.{as_few, load_answer, order_answer, rows_many, same_opened, same_ranges, same_tables_answer, tables_answer}
@@ -89,7 +89,7 @@ returns-in-Ok-clause-answer g c tells =
       rows = c.in_ok-tables.ensures.rows ∙ sym rows;
       tables = same_opened g.F.RangeFilter.spelling (settings_of m.version) c.version.inside.settings c.in_ok-tables.tables.tables (g.D.Disk.world c.args.disk.now).seen.held (g.D.Disk.world c.load.new.disk).seen.held
           (ap (λ (x : Manifest). settings_of x.version) (sym c.version.view_is)) c.load.ensures.moves.held (c.in_ok-tables.ensures.answer tells);
-      ranges = ap (λ (ts : List Opened). ranges_fault (map range_of ts)) (sym c.as_slice.ensures) ∙ c.in-Ok.ensures;
+      ranges = ap (λ (ts : List Opened). ranges_fault (map opened_range ts)) (sym c.as_slice.ensures) ∙ c.in-Ok.ensures;
     }
 
 pub returns-in-Ok-clause-rows : goal.returns-in-Ok-clause-rows

@@ -13,8 +13,11 @@ returns-in_err-place g c = (
     answer = λ s tells tied. search rules;
     tied = λ s tied. tied_read g.F.RangeFilter.spelling (filter_bytes_of g.F.RangeFilter.spelling g.F.RangeFilter.built_cutoff) c.args.self.now s _ _ _ c.look_for.ensures.moves tied;
     undamaged = λ s tells tied. let here = c.in_err-place.ensures.undamaged s tells tied in search rules;
+    shown = λ tells. let here = c.in_err-place.ensures.shown tells in search rules;
+    met = λ s tells tied. let here = c.in_err-place.ensures.met s tells tied in search rules;
     refused = search rules;
     bounded = λ s tells tied. c.look_for.ensures.bounded s tells tied;
+    still = c.look_for.ensures.still;
     moves = c.look_for.ensures.moves;
   },
 )
@@ -27,8 +30,11 @@ returns g c = (
     answer = λ s tells tied. c.value_at.ensures ∙ ap live (c.in_ok-place.ensures.answer s tells tied) ∙ sym (view_says (filter_bytes_of g.F.RangeFilter.spelling g.F.RangeFilter.built_cutoff) s c.args.key.now tied.sound);
     tied = λ s tied. tied_read g.F.RangeFilter.spelling (filter_bytes_of g.F.RangeFilter.spelling g.F.RangeFilter.built_cutoff) c.args.self.now s _ _ _ c.look_for.ensures.moves tied;
     undamaged = λ s tells tied. tt;
+    shown = λ tells. tt;
+    met = λ s tells tied. tt;
     refused = c.in_ok-place.ensures.refused;
     bounded = λ s tells tied. c.look_for.ensures.bounded s tells tied;
+    still = c.look_for.ensures.still;
     moves = c.look_for.ensures.moves;
   },
 )

@@ -1,0 +1,57 @@
+//! What a seek may read.
+use filter_api::Settings;
+use plain_filter::PlainFilter;
+use plain_store::{Reply, Request, State, get_bound, play, seek_bound};
+use std::test::Fail;
+
+const BASE: Settings = Settings {
+    hash_bits: 0,
+    real_bits: 0,
+    ratio: 64,
+};
+
+fn put(key: &[u8]) -> Request<'_> {
+    Request::Put { key, value: b"V" }
+}
+
+#[test]
+fn a_seek_steps_over_deleted_keys(rt: HostRuntime) -> Result<(), Fail> {
+    let script = [
+        put(b"\x01"),
+        put(b"\x02"),
+        put(b"\x03"),
+        put(b"\x04"),
+        Request::Flush,
+        put(b"\x05"),
+        put(b"\x06"),
+        put(b"\x07"),
+        put(b"\x08"),
+        Request::Flush,
+        put(b"\x09"),
+        put(b"\x0a"),
+        Request::Del { key: b"\x01" },
+        Request::Del { key: b"\x02" },
+        Request::Flush,
+        Request::Seek {
+            lo: b"\x01",
+            hi: Some(b"\x0a"),
+        },
+    ];
+    let state = State::new(rt.alloc(), BASE, 512);
+    let end = play::<PlainFilter>(rt.alloc(), &state, &script)?;
+    assert_eq!(rt; end.replies.len(), 16);
+    assert!(rt; matches!(end.replies[15], Reply::At { .. }));
+    assert_eq!(rt;
+        seek_bound::<PlainFilter>(rt.alloc(), &end.state, b"\x01", b"\x0a")?,
+        7
+    );
+    assert_eq!(rt;
+        seek_bound::<PlainFilter>(rt.alloc(), &end.state, b"\x0a", b"\x01")?,
+        0
+    );
+    assert_eq!(rt;
+        get_bound::<PlainFilter>(rt.alloc(), &end.state, b"\x03")?,
+        1
+    );
+    Ok(())
+}

@@ -1,0 +1,174 @@
+//! Scripts and their replies.
+use filter_api::Settings;
+use plain_filter::PlainFilter;
+use plain_store::{Played, Reply, Request, State, Table, play};
+use std::alloc::{AllocError, Global};
+use std::test::Fail;
+
+const BASE: Settings = Settings {
+    hash_bits: 0,
+    real_bits: 0,
+    ratio: 64,
+};
+
+fn played(alloc: Global, pages: u64, requests: &[Request<'_>]) -> Result<Played, AllocError> {
+    let state = State::new(alloc, BASE, pages);
+    play::<PlainFilter>(alloc, &state, requests)
+}
+
+fn put<'a>(key: &'a [u8], value: &'a [u8]) -> Request<'a> {
+    Request::Put { key, value }
+}
+
+fn get(key: &[u8]) -> Request<'_> {
+    Request::Get { key }
+}
+
+fn explain(key: &[u8]) -> Request<'_> {
+    Request::Explain { key }
+}
+
+fn all_done(replies: &[Reply]) -> bool {
+    for reply in replies {
+        if !matches!(reply, Reply::Done) {
+            return false;
+        }
+    }
+    true
+}
+
+#[test]
+fn a_tombstone_hides_and_a_compaction_drops_it(rt: HostRuntime) -> Result<(), Fail> {
+    let script = [
+        put(b"a", b"b"),
+        Request::Flush,
+        Request::Del { key: b"a" },
+        Request::Flush,
+        get(b"a"),
+        Request::Compact,
+        get(b"a"),
+        explain(b"a"),
+    ];
+    let end = played(rt.alloc(), 512, &script)?;
+    assert_eq!(rt; end.replies.len(), 8);
+    assert!(rt; all_done(&end.replies[..4]));
+    assert!(rt; matches!(end.replies[4], Reply::Missing));
+    assert!(rt; matches!(end.replies[5], Reply::Done));
+    assert!(rt; matches!(end.replies[6], Reply::Missing));
+    assert!(rt;
+        matches!(
+            end.replies[7],
+            Reply::Explained {
+                tables: 0,
+                admitted: 0,
+                blocks: 0
+            }
+        )
+    );
+    Ok(())
+}
+
+#[test]
+fn numbers_of_one_table(rt: HostRuntime) -> Result<(), Fail> {
+    let (lo, hi) = (b"aa5".as_slice(), b"ab0".as_slice());
+    let script = [
+        put(b"aa1", b"\x01"),
+        put(b"ab1", b"\x02"),
+        Request::Flush,
+        Request::Count { lo, hi },
+        Request::Estimate { lo, hi },
+        explain(b"aa9"),
+        explain(b"aa0"),
+        explain(b"ac0"),
+        get(b"aa9"),
+    ];
+    let end = played(rt.alloc(), 512, &script)?;
+    assert_eq!(rt; end.replies.len(), 9);
+    assert!(rt; all_done(&end.replies[..3]));
+    assert!(rt; matches!(end.replies[3], Reply::Counted(0)));
+    assert!(rt; matches!(end.replies[4], Reply::About(2)));
+    assert!(rt;
+        matches!(
+            end.replies[5],
+            Reply::Explained {
+                tables: 1,
+                admitted: 1,
+                blocks: 1
+            }
+        )
+    );
+    assert!(rt;
+        matches!(
+            end.replies[6],
+            Reply::Explained {
+                tables: 1,
+                admitted: 1,
+                blocks: 0
+            }
+        )
+    );
+    assert!(rt;
+        matches!(
+            end.replies[7],
+            Reply::Explained {
+                tables: 1,
+                admitted: 0,
+                blocks: 0
+            }
+        )
+    );
+    assert!(rt; matches!(end.replies[8], Reply::Missing));
+    Ok(())
+}
+
+fn stands_at(table: &Table, level: u8, first_page: u64, entries: usize) -> bool {
+    table.level == level
+        && table.first_page == first_page
+        && table.pages == 3
+        && table.blocks == 1
+        && table.entries.len() == entries
+}
+
+#[test]
+fn four_tables_become_one(rt: HostRuntime) -> Result<(), Fail> {
+    let script = [
+        put(b"a", b"\x01"),
+        Request::Flush,
+        put(b"b", b"\x01"),
+        Request::Flush,
+        put(b"c", b"\x01"),
+        Request::Flush,
+        put(b"d", b"\x01"),
+        Request::Flush,
+        put(b"e", b"\x01"),
+    ];
+    let before = played(rt.alloc(), 512, &script[..8])?;
+    let tables = before.state.tables.as_slice();
+    assert_eq!(rt; tables.len(), 4);
+    for i in 0..4 {
+        let table = &tables[i];
+        assert!(rt; stands_at(table, 0, 201 - 3 * i as u64, 1));
+    }
+    let end = played(rt.alloc(), 512, &script)?;
+    assert!(rt; all_done(end.replies.as_slice()));
+    let tables = end.state.tables.as_slice();
+    assert_eq!(rt; tables.len(), 1);
+    let table = &tables[0];
+    assert!(rt; stands_at(table, 1, 204, 4));
+    assert_eq!(rt; end.state.epoch, 6);
+    Ok(())
+}
+
+#[test]
+fn nothing_is_flushed_at_the_last_epoch(rt: HostRuntime) -> Result<(), Fail> {
+    let mut state = State::new(rt.alloc(), BASE, 512);
+    state.epoch = u64::MAX;
+    let script = [put(b"a", b"b"), Request::Flush, get(b"a"), Request::Compact];
+    let end = play::<PlainFilter>(rt.alloc(), &state, &script)?;
+    assert_eq!(rt; end.replies.len(), 4);
+    assert!(rt; matches!(end.replies[0], Reply::Done));
+    assert!(rt; matches!(end.replies[1], Reply::LastEpoch));
+    assert!(rt; matches!(end.replies[2], Reply::Value(_)));
+    assert!(rt; matches!(end.replies[3], Reply::LastEpoch));
+    Ok(())
+}

@@ -1,0 +1,110 @@
+//! Merges in merge slices, compared with whole ones.
+use filter_api::Settings;
+use plain_filter::PlainFilter;
+use plain_store::{Played, Reply, Request, State, play, play_in_slices, sliced};
+use std::alloc::{AllocError, Global};
+use std::test::Fail;
+
+const BASE: Settings = Settings {
+    hash_bits: 0,
+    real_bits: 0,
+    ratio: 64,
+};
+
+fn put(key: &[u8]) -> Request<'_> {
+    Request::Put { key, value: b"v" }
+}
+
+fn get(key: &[u8]) -> Request<'_> {
+    Request::Get { key }
+}
+
+// Four tables in level 0, of one block each.
+fn four_tables(alloc: Global) -> Result<State, AllocError> {
+    let script = [
+        put(b"a"),
+        Request::Flush,
+        put(b"b"),
+        Request::Flush,
+        put(b"c"),
+        Request::Flush,
+        Request::Del { key: b"a" },
+        Request::Flush,
+    ];
+    let end = play::<PlainFilter>(alloc, &State::new(alloc, BASE, 512), &script)?;
+    Ok(end.state)
+}
+
+fn same_reply(one: &Reply, other: &Reply) -> bool {
+    match (one, other) {
+        (Reply::Done, Reply::Done) => true,
+        (Reply::Missing, Reply::Missing) => true,
+        (Reply::Value(value), Reply::Value(other)) => value.as_slice() == other.as_slice(),
+        (Reply::Counted(count), Reply::Counted(other)) => count == other,
+        _ => false,
+    }
+}
+
+fn same_replies(one: &Played, other: &Played) -> bool {
+    if one.replies.len() != other.replies.len() {
+        return false;
+    }
+    for i in 0..one.replies.len() {
+        if !same_reply(&one.replies[i], &other.replies[i]) {
+            return false;
+        }
+    }
+    true
+}
+
+#[test]
+fn slices_answer_as_a_whole_merge_does(rt: HostRuntime) -> Result<(), Fail> {
+    let alloc = rt.alloc();
+    let state = four_tables(alloc)?;
+    let script = [
+        put(b"d"),
+        get(b"a"),
+        get(b"b"),
+        put(b"b"),
+        Request::Flush,
+        put(b"e"),
+        put(b"f"),
+        put(b"g"),
+        put(b"h"),
+        get(b"a"),
+        get(b"c"),
+        Request::Count { lo: b"", hi: b"z" },
+        Request::Compact,
+        Request::Count { lo: b"", hi: b"z" },
+    ];
+    let whole = play::<PlainFilter>(alloc, &state, &script)?;
+    assert!(rt; whole.replies.len() > 11);
+    assert!(rt; matches!(whole.replies[11], Reply::Counted(7)));
+    for blocks in 1..5 {
+        let slices = play_in_slices::<PlainFilter>(alloc, blocks, &state, &script)?;
+        assert!(rt; same_replies(&whole, &slices));
+    }
+    Ok(())
+}
+
+// How many merge slices there are until no job runs, at most ten.
+fn slices_of(alloc: Global, blocks: u64, state: &State) -> Result<usize, AllocError> {
+    let mut state = sliced::<PlainFilter>(alloc, blocks, state)?;
+    for count in 1..10 {
+        if state.job.is_none() {
+            return Ok(count);
+        }
+        state = sliced::<PlainFilter>(alloc, blocks, &state)?;
+    }
+    Ok(10)
+}
+
+#[test]
+fn four_blocks_and_one_output_take_six_slices_at_most(rt: HostRuntime) -> Result<(), Fail> {
+    let alloc = rt.alloc();
+    let state = four_tables(alloc)?;
+    assert_eq!(rt; slices_of(alloc, 1, &state)?, 6);
+    assert_eq!(rt; slices_of(alloc, 3, &state)?, 4);
+    assert_eq!(rt; slices_of(alloc, 9, &state)?, 3);
+    Ok(())
+}
