@@ -4,4 +4,16 @@
 #![tactic(auto)]
 
 #[cfg(test)]
-mod tests;
+mod damage;
+#[cfg(test)]
+mod faults;
+#[cfg(test)]
+mod many_tables;
+#[cfg(test)]
+mod played;
+#[cfg(test)]
+mod replies;
+#[cfg(test)]
+mod runs;
+#[cfg(test)]
+mod words;

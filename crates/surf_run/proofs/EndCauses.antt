@@ -1,11 +1,14 @@
 -- How causes and counts go on.
-use Rattle.std.proofs.Common.{◌∙◌, refl, ap, inl, inr, ◌≤◌, ℕ, arith}
-use Rattle.disk_trait.specs.World.{World, Seen, Streams, Rose, WriteMoves}
-use Rattle.outside.specs.Streams.{TakeMoves, SayMoves}
-use Rattle.surf_run.specs.Causes.{EndCause, NoFall, LineMoves}
+use Rattle.std.proofs.Common.{◌≡◌, ◌∙◌, refl, sym, ap, inl, inr, ◌≤◌, ℕ, List, arith}
+use Rattle.disk_trait.specs.World.{ReadMoves, Rose, Seen, Streams, World, WriteMoves}
+use Rattle.line_model.specs.Requests.{Request}
+use Rattle.outside.specs.Streams.{SayMoves, TakeMoves}
+use Rattle.state_model.specs.Causes.{DamageMet, NoMemory, ReadFailed, Why, WriteFailed}
+use Rattle.store_core.specs.Answers.{HasCause}
+use Rattle.surf_run.specs.Causes.{DiskFailed, EndCause, LineMoves, LineShows, NoFall, RunShows, SaysSomeDamage, StatusCause}
 use Rattle.surf_run.specs.declared.end.LineEnd.{LineEnd}
-use Rattle.surf_run.specs.declared.end.LineEnd.TheVariants.{Next, Quit, End}
-use Rattle.surf_run.proofs.Footprint.{log_none, log_on, log_say, log_write}
+use Rattle.surf_run.specs.declared.end.LineEnd.TheVariants.{End, Next, Quit}
+use Rattle.table_file.specs.Opened.{Opened}
 
 pub rose_since : (a b c : ℕ) → a ≤ b → Rose b c → Rose a c
 rose_since a b c le rose = omega arith
@@ -13,13 +16,95 @@ rose_since a b c le rose = omega arith
 pub rose_then : (a b c : ℕ) → Rose a b → b ≤ c → Rose a c
 rose_then a b c rose le = omega arith
 
-pub cause_since : (end : LineEnd) (a b c : World) → NoFall a b → EndCause end b c → EndCause end a c
-cause_since Next a b c none cause = tt
-cause_since Quit a b c none cause = tt
-cause_since (End status) a b c none cause = elim cause [
-  | inl disk ↦ inl (disk.0, rose_since a.seen.write_faults b.seen.write_faults c.seen.write_faults none.write disk.1)
-  | inr say ↦ inr (say.0, rose_since a.beside.say_faults b.beside.say_faults c.beside.say_faults none.say say.1)
+-- ---- a cause of a part is one of the whole
+
+pub causes_later : (a b c : World) → NoFall b c → (why : Why) → HasCause a b why → HasCause a c why
+causes_later a b c on NoMemory cause = tt
+causes_later a b c on ReadFailed cause = rose_then a.seen.read_faults b.seen.read_faults c.seen.read_faults cause on.read
+causes_later a b c on WriteFailed cause = rose_then a.seen.write_faults b.seen.write_faults c.seen.write_faults cause on.write
+causes_later a b c on (DamageMet damage) cause = absurd cause
+
+pub causes_since : (a b c : World) → NoFall a b → (why : Why) → HasCause b c why → HasCause a c why
+causes_since a b c on NoMemory cause = tt
+causes_since a b c on ReadFailed cause = rose_since a.seen.read_faults b.seen.read_faults c.seen.read_faults on.read cause
+causes_since a b c on WriteFailed cause = rose_since a.seen.write_faults b.seen.write_faults c.seen.write_faults on.write cause
+causes_since a b c on (DamageMet damage) cause = absurd cause
+
+pub disk_since : (a b c : World) → NoFall a b → DiskFailed b c → DiskFailed a c
+disk_since a b c on failed = elim failed [
+  | inl read ↦ inl (rose_since a.seen.read_faults b.seen.read_faults c.seen.read_faults on.read read)
+  | inr write ↦ inr (rose_since a.seen.write_faults b.seen.write_faults c.seen.write_faults on.write write)
 ]
+
+pub disk_then : (a b c : World) → DiskFailed a b → NoFall b c → DiskFailed a c
+disk_then a b c failed on = elim failed [
+  | inl read ↦ inl (rose_then a.seen.read_faults b.seen.read_faults c.seen.read_faults read on.read)
+  | inr write ↦ inr (rose_then a.seen.write_faults b.seen.write_faults c.seen.write_faults write on.write)
+]
+
+pub cause_since : (Shows : World → Type 0) (end : LineEnd) (a b c : World) → NoFall a b → EndCause Shows end b c → EndCause Shows end a c
+cause_since Shows Next a b c none cause = tt
+cause_since Shows Quit a b c none cause = tt
+cause_since Shows (End status) a b c none cause = elim cause [
+  | inl disk ↦ inl (disk.0, disk_since a b c none disk.1)
+  | inr more ↦ elim more [
+    | inl five ↦ inr (inl five)
+    | inr say ↦ inr (inr (say.0, rose_since a.beside.say_faults b.beside.say_faults c.beside.say_faults none.say say.1))
+  ]
+]
+
+-- ---- by the status
+
+-- of a line, and so of the run
+pub cause_runs : (Told : Type 0) (tables : List Opened) (request : Request) (end : LineEnd) (a b : World) → EndCause (LineShows Told tables request) end a b → EndCause (RunShows Told) end a b
+cause_runs Told tables request Next a b cause = tt
+cause_runs Told tables request Quit a b cause = tt
+cause_runs Told tables request (End status) a b cause = elim cause [
+  | inl disk ↦ inl disk
+  | inr more ↦ elim more [
+    | inl damage ↦ inr (inl (damage.0, λ told. (tables, request, damage.1 told)))
+    | inr say ↦ inr (inr say)
+  ]
+]
+
+pub end_shows : (Told : Type 0) (status : ℕ) (a b : World) → EndCause (RunShows Told) (End status) a b → Told → status ≡ 5 → SaysSomeDamage b
+end_shows Told status a b cause told five = elim cause [
+  | inl disk ↦ absurd (let e : 4 ≡ 5 = sym disk.0 ∙ five in cc)
+  | inr more ↦ elim more [
+    | inl damage ↦ damage.1 told
+    | inr say ↦ absurd (let e : 6 ≡ 5 = sym say.0 ∙ five in cc)
+  ]
+]
+
+pub end_causes : (Shows : World → Type 0) (status : ℕ) (a b : World) → EndCause Shows (End status) a b → StatusCause status a b
+end_causes Shows status a b cause = elim cause [
+  | inl disk ↦ record {
+    taking = λ three. absurd (let e : 4 ≡ 3 = sym disk.0 ∙ three in cc);
+    device = λ four. disk.1;
+    saying = λ six. absurd (let e : 4 ≡ 6 = sym disk.0 ∙ six in cc);
+  }
+  | inr more ↦ elim more [
+    | inl damage ↦ record {
+      taking = λ three. absurd (let e : 5 ≡ 3 = sym damage.0 ∙ three in cc);
+      device = λ four. absurd (let e : 5 ≡ 4 = sym damage.0 ∙ four in cc);
+      saying = λ six. absurd (let e : 5 ≡ 6 = sym damage.0 ∙ six in cc);
+    }
+    | inr say ↦ record {
+      taking = λ three. absurd (let e : 6 ≡ 3 = sym say.0 ∙ three in cc);
+      device = λ four. absurd (let e : 6 ≡ 4 = sym say.0 ∙ four in cc);
+      saying = λ six. say.1;
+    }
+  ]
+]
+
+pub causes_on : (status : ℕ) (a b c : World) → NoFall a b → StatusCause status b c → StatusCause status a c
+causes_on status a b c on causes = record {
+  taking = λ three. rose_since a.beside.take_faults b.beside.take_faults c.beside.take_faults on.take (causes.taking three);
+  device = λ four. disk_since a b c on (causes.device four);
+  saying = λ six. rose_since a.beside.say_faults b.beside.say_faults c.beside.say_faults on.say (causes.saying six);
+}
+
+-- ---- counts
 
 pub no_fall_none : (w : World) → NoFall w w
 no_fall_none w = record { read = omega arith; write = omega arith; take = omega arith; say = omega arith }
@@ -33,7 +118,10 @@ no_fall_on a b c first then = record {
 }
 
 pub lines_on : (a b c : World) → LineMoves a b → LineMoves b c → LineMoves a c
-lines_on a b c first then = record { input = then.input ∙ first.input; footprint = log_on a b c first.footprint then.footprint; counts = no_fall_on a b c first.counts then.counts }
+lines_on a b c first then = record { input = then.input ∙ first.input; counts = no_fall_on a b c first.counts then.counts }
+
+pub lines_none : (w : World) → LineMoves w w
+lines_none w = record { input = refl; counts = no_fall_none w }
 
 pub no_fall_take : (a b : World) → TakeMoves a b → NoFall a b
 no_fall_take a b moves = record {
@@ -43,30 +131,37 @@ no_fall_take a b moves = record {
   say = omega (arith, moves.say_faults);
 }
 
-pub lines_none : (w : World) → LineMoves w w
-lines_none w = record { input = refl; footprint = log_none w; counts = no_fall_none w }
+pub no_fall_say : (a b : World) → SayMoves a b → NoFall a b
+no_fall_say a b moves = record {
+  read = omega (arith, ap (λ (s : Seen). s.read_faults) moves.seen);
+  write = omega (arith, ap (λ (s : Seen). s.write_faults) moves.seen);
+  take = omega (arith, moves.take_faults);
+  say = moves.say_faults;
+}
 
 -- a reply was said
 pub line_say : (a b : World) → SayMoves a b → LineMoves a b
-line_say a b moves = record {
-  input = moves.to_take;
-  footprint = log_say a b moves;
-  counts = record {
-    read = omega (arith, ap (λ (s : Seen). s.read_faults) moves.seen);
-    write = omega (arith, ap (λ (s : Seen). s.write_faults) moves.seen);
-    take = omega (arith, moves.take_faults);
-    say = moves.say_faults;
-  };
-}
+line_say a b moves = record { input = moves.to_take; counts = no_fall_say a b moves }
 
--- an entry was written
-pub line_write : (a b : World) → WriteMoves 262144 262144 a b → LineMoves a b
-line_write a b moves = record {
+-- a change was written
+pub line_write : (at n : ℕ) (a b : World) → WriteMoves at n a b → LineMoves a b
+line_write at n a b moves = record {
   input = ap (λ (s : Streams). s.to_take) moves.beside;
-  footprint = log_write a b moves;
   counts = record {
     read = omega (arith, moves.read_faults);
     write = moves.write_faults;
+    take = omega (arith, ap (λ (s : Streams). s.take_faults) moves.beside);
+    say = omega (arith, ap (λ (s : Streams). s.say_faults) moves.beside);
+  };
+}
+
+-- blocks were read
+pub line_read : (n : ℕ) (a b : World) → ReadMoves n a b → LineMoves a b
+line_read n a b moves = record {
+  input = ap (λ (s : Streams). s.to_take) moves.beside;
+  counts = record {
+    read = moves.read_faults;
+    write = omega (arith, moves.write_faults);
     take = omega (arith, ap (λ (s : Streams). s.take_faults) moves.beside);
     say = omega (arith, ap (λ (s : Streams). s.say_faults) moves.beside);
   };

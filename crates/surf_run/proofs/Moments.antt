@@ -1,96 +1,141 @@
 -- What a line leads to at each moment.
-use Rattle.std.proofs.Common.{◌≡◌, ◌⊎◌, inl, inr, ◌≤◌, ◌++◌, ℕ, Bool, List, length, refl, sym, ap, ◌∙◌, subst, arith}
-use Rattle.std.specs.Prelude.{IsTrue}
-use Rattle.disk_trait.specs.World.{Image, World, Streams, Now, Meanwhile, Passes, Same, Rose}
-use Rattle.disk_trait.proofs.Moments.{now_at, in_call, started}
-use Rattle.outside.specs.Streams.{SayMoves, SaysPrefix, SaidByNow}
-use Rattle.outside.proofs.Crossing.{during_disk, during_say, during_weaker, during_then}
-use Rattle.log_model.specs.Area.{LogIs}
+use Rattle.std.proofs.Common.{◌≡◌, inl, inr, ◌≤◌, ◌+◌, ◌*◌, ◌++◌, ℕ, [], length, refl, sym, ap, ◌∙◌, subst, arith}
+use Rattle.std.specs.Prelude.{None}
+use Rattle.block_model.specs.Pages.{page_bytes}
+use Rattle.disk_trait.specs.World.{Image, Meanwhile, Now, Passes, Same, Seen, Streams, World}
+use Rattle.disk_trait.proofs.Moments.{in_call, now_at}
+use Rattle.filter_api.specs.Spellings.{Spelling}
+use Rattle.image_model.proofs.Frames.{ready_is_state}
+use Rattle.image_model.specs.Stands.{IsStateOf, as_shown}
+use Rattle.line_model.specs.Replies.{Bye, Device, Reply, text_of}
+use Rattle.line_model.specs.Requests.{Request}
+use Rattle.manifest.specs.Manifest.{other_place, place_of}
 use Rattle.map_model.specs.SortedMap.{Bytes}
-use Rattle.entry_model.specs.Entries.{Entry}
-use Rattle.line_model.specs.Replies.{Reply, Bye, Device, text_of}
-use Rattle.surf_run.specs.Crash.{Stands}
-use Rattle.surf_run.specs.StoreIs.{StoreIs}
+use Rattle.outside.specs.Streams.{SaidByNow, SayMoves, SaysPrefix}
+use Rattle.outside.proofs.Crossing.{during_disk, during_say, during_then, during_weaker}
+use Rattle.state_model.specs.Script.{Onward, turn_of}
+use Rattle.state_model.specs.State.{State}
+use Rattle.state_model.specs.Steps.{Step}
+use Rattle.store_core.proofs.Frames.{are_slots}
+use Rattle.store_core.specs.Answers.{HasCause}
+use Rattle.store_core.specs.Kept.{Kept}
+use Rattle.store_core.specs.Tied.{IsUnder, Tied}
+use Rattle.surf_run.specs.Answering.{EndsLine, InLine, LineAnswer}
+use Rattle.surf_run.specs.Causes.{WritesWithin}
+use Rattle.surf_run.specs.Crash.{HasBehind, HasEither, HasMap, Stands}
+use Rattle.surf_run.specs.Dialogue.{line_bound}
+use Rattle.surf_run.specs.Kind.{Kind}
 use Rattle.surf_run.specs.Saying.{Says}
-use Rattle.surf_run.specs.Script.{GoesOn}
-use Rattle.surf_run.specs.Serving.{Leaves, LogAfter, InLine, LineAnswer, Answered}
-use Rattle.surf_run.specs.declared.store.Store.{Store}
 use Rattle.surf_run.specs.declared.end.LineEnd.{LineEnd}
-use Rattle.surf_run.specs.declared.end.LineEnd.TheVariants.{Next, Quit, End}
+use Rattle.surf_run.specs.declared.end.LineEnd.TheVariants.{End, Next, Quit}
+use Rattle.surf_run.proofs.Dialogues.{step_as}
+use Rattle.surf_run.proofs.EndCauses.{causes_later, no_fall_say}
+use Rattle.surf_run.proofs.Footprint.{within_on, within_say}
+use Rattle.table_model.specs.Tables.{FilterBytes}
+
+-- ---- what stands on
 
 -- what a call that writes nothing leaves
 pub now_still : (P : Image → Type 0) (a b : World) → Passes Same a b → Now P a → Now P b
 now_still P a b time here = now_at P a b (in_call P Same a b here time (λ was image left same. subst P (sym same) (here was left)))
 
--- the same of entries, where the device tells
-pub stands_still : (tells : Bool) (entries : List Entry) (a b : World) → Passes Same a b → Stands tells entries a → Stands tells entries b
-stands_still tells entries a b time here t = now_still (LogIs 0 entries) a b time (here t)
+pub stands_still : (kind : Kind) (s : State) (a b : World) → Passes Same a b → Stands kind s a → Stands kind s b
+stands_still kind s a b time here = now_still (IsStateOf kind.spelling s) a b time here
 
-module _ (tells : Bool) (old : List Entry) (S : Leaves) (reply : Reply) (new : List Entry) (P : Image → Type 0) (a mid b : World)
-    (meanwhile : IsTrue tells → Meanwhile P a mid) (same : mid.beside ≡ a.beside) (now_a : SaidByNow a) (now_mid : SaidByNow mid) (moves : SayMoves mid b) where
+pub tied_still : (spelling : Spelling) (filter_bytes : FilterBytes) (store : Kept) (s : State) (a b : World) → Passes Same a b → Tied spelling filter_bytes store s a → Tied spelling filter_bytes store s b
+tied_still spelling filter_bytes store s a b time tied = record {
+  sound = tied.sound;
+  no_job = tied.no_job;
+  none_kept = tied.none_kept;
+  images = now_still (IsUnder spelling store.manifest store.tables s) a b time tied.images;
+  log = tied.log;
+  memory = tied.memory;
+}
+
+-- a state without a job and with nothing kept is shown as it is
+shown : (s : State) → s.job ≡ None → s.kept ≡ [] → s ≡ as_shown s
+shown s no_job none_kept = λ i. record { settings = s.settings; pages = s.pages; epoch = s.epoch; log = s.log; tables = s.tables; job = no_job i; kept = none_kept i }
+
+-- what a store is tied to stands on its device
+pub tied_stands : (kind : Kind) (store : Kept) (s : State) (w : World) → store.manifest.slot ≤ 1 → Tied kind.spelling kind.filter_bytes store s w → Stands kind s w
+tied_stands kind store s w few tied image left =
+    let m = store.manifest in
+    let under = tied.images image left in
+    subst (λ (t : State). IsStateOf kind.spelling t image) (sym (shown s tied.no_job tied.none_kept))
+    (m.version, ready_is_state kind.spelling (place_of m.slot) (other_place m.slot) m.other_open m.version s image (are_slots m.slot few) under.ready)
+
+pub map_of_state : (kind : Kind) (s : State) (image : Image) → IsStateOf kind.spelling s image → HasMap kind s image
+map_of_state kind s image is = (s, subst (λ (t : State). IsStateOf kind.spelling t image) (shown s is.1.named.no_job is.1.named.none_kept) is, refl)
+
+-- its device has the pages of its state
+pub tied_pages : (spelling : Spelling) (filter_bytes : FilterBytes) (store : Kept) (s : State) (w : World) (image : Image) → w.leaves w.moment image → Tied spelling filter_bytes store s w
+    → s.pages ≡ store.manifest.version.pages
+tied_pages spelling filter_bytes store s w image left tied = (tied.images image left).ready.named.pages
+
+-- ---- a call of the store, and then a reply
+
+module _ (kind : Kind) (old : State) (request : Request) (reply : Reply) (new : State) (P : Image → Type 0) (a mid b : World)
+    (meanwhile : Meanwhile P a mid) (same : mid.beside ≡ a.beside) (now_a : SaidByNow a) (now_mid : SaidByNow mid) (moves : SayMoves mid b) where
   said_same : mid.beside.said ≡ a.beside.said
   said_same = ap (λ (s : Streams). s.said) same
 
-  module _ (step : S reply new) (prefix : SaysPrefix (text_of reply) mid.beside.said b.beside.said)
-      (first : (image : Image) → P image → LogIs 0 old image ⊎ LogAfter S reply image) (then : IsTrue tells → (image : Image) → mid.leaves mid.moment image → LogAfter S reply image) where
-    acting : (k : ℕ) (image : Image) → (k ≡ length a.beside.said) × P image → InLine old S reply (length a.beside.said) (length b.beside.said) k image
-    acting k image at = elim (first image at.1) [
-      | inl before ↦ inl (at.0, before)
-      | inr after ↦ inr (omega (arith, at.0), omega (arith, at.0, ap length said_same, moves.told.longer), after)
-    ]
+  module _ (step : Step (HasCause a mid) kind.filter_bytes old request reply new) (prefix : SaysPrefix (text_of reply) mid.beside.said b.beside.said)
+      (first : (image : Image) → P image → HasEither kind old request image) (then : (image : Image) → mid.leaves mid.moment image → HasBehind kind old request reply new image)
+      (reads : mid.seen.reads ≤ a.seen.reads + line_bound old request) (writes : WritesWithin (page_bytes * old.pages) a mid) where
+    acting : (k : ℕ) (image : Image) → (k ≡ length a.beside.said) × P image → InLine kind old request reply new (length a.beside.said) (length b.beside.said) k image
+    acting k image at = inl (at.0, first image at.1)
 
-    saying : IsTrue tells → (k : ℕ) (image : Image) → (length mid.beside.said ≤ k) × (k ≤ length b.beside.said) × mid.leaves mid.moment image → InLine old S reply (length a.beside.said) (length b.beside.said) k image
-    saying t k image at = inr (omega (arith, at.0, ap length said_same), at.1, then t image at.2)
+    saying : (k : ℕ) (image : Image) → (length mid.beside.said ≤ k) × (k ≤ length b.beside.said) × mid.leaves mid.moment image
+        → InLine kind old request reply new (length a.beside.said) (length b.beside.said) k image
+    saying k image at = inr (omega (arith, at.0, ap length said_same), at.1, then image at.2)
 
-    -- a call of the disk, and then a reply
-    pub line_answer : LineAnswer tells old S reply new a b
+    pub line_answer : LineAnswer kind old request reply new a b
     line_answer =
-        let Q = InLine old S reply (length a.beside.said) (length b.beside.said) in
+        let Q = InLine kind old request reply new (length a.beside.said) (length b.beside.said) in
         record {
-          step = step;
+          step = step_as (HasCause a mid) (HasCause a b) kind.filter_bytes (causes_later a mid b (no_fall_say mid b moves)) old request reply new step;
           prefix = subst (λ (s : Bytes). SaysPrefix (text_of reply) s b.beside.said) said_same prefix;
-          each = λ t. during_then Q a mid b
-              (during_weaker (λ k image. (k ≡ length a.beside.said) × P image) Q a mid (during_disk P a mid (meanwhile t) same now_a) acting)
-              (during_weaker (λ k image. (length mid.beside.said ≤ k) × (k ≤ length b.beside.said) × mid.leaves mid.moment image) Q mid b (during_say mid b moves now_mid) (saying t));
+          each = during_then Q a mid b
+              (during_weaker (λ k image. (k ≡ length a.beside.said) × P image) Q a mid (during_disk P a mid meanwhile same now_a) acting)
+              (during_weaker (λ k image. (length mid.beside.said ≤ k) × (k ≤ length b.beside.said) × mid.leaves mid.moment image) Q mid b (during_say mid b moves now_mid) saying);
+          reads = omega (arith, reads, ap (λ (s : Seen). s.reads) moves.seen);
+          writes = within_on (page_bytes * old.pages) a mid b writes (within_say (page_bytes * old.pages) mid b moves);
         }
 
-module _ (tells : Bool) (old : List Entry) (S : Leaves) (new : List Entry) (store : Store) (a mid b : World) (same : mid.beside ≡ a.beside) where
+module _ (kind : Kind) (old : State) (request : Request) (new : State) (store : Kept) (a mid b : World) (same : mid.beside ≡ a.beside) where
   whole : (text : Bytes) → b.beside.said ≡ mid.beside.said ++ text → b.beside.said ≡ a.beside.said ++ text
   whole text is = is ∙ ap (λ (s : Streams). s.said ++ text) same
 
   -- a reply that is not the last
-  pub answered_next : (reply : Reply) (result : LineEnd) → LineAnswer tells old S reply new a b → Says Next reply result mid b → GoesOn reply → Stands tells new b → StoreIs new store → Answered tells result old S store a b
-  answered_next reply Next answer says goes now holds = elim says.1 [
-    | inl all ↦ (reply, new, answer, goes, whole (text_of reply) all.1, now, holds)
+  pub ends_next : (reply : Reply) (result : LineEnd) → LineAnswer kind old request reply new a b → Says Next reply result mid b → turn_of reply ≡ Onward
+      → Tied kind.spelling kind.filter_bytes store new b → Stands kind new b → EndsLine kind result old request store a b
+  ends_next reply Next answer says goes tied stand = elim says.1 [
+    | inl all ↦ (reply, new, answer, goes, whole (text_of reply) all.1, tied, stand)
     | inr six ↦ absurd cc
   ]
-  answered_next reply Quit answer says goes now holds = elim says.1 [ inl all ↦ absurd (let is = all.0 in cc) | inr six ↦ absurd cc ]
-  answered_next reply (End status) answer says goes now holds = elim says.1 [
+  ends_next reply Quit answer says goes tied stand = elim says.1 [ inl all ↦ absurd (let is = all.0 in cc) | inr six ↦ absurd cc ]
+  ends_next reply (End status) answer says goes tied stand = elim says.1 [
     | inl all ↦ absurd (let is = all.0 in cc)
-    | inr six ↦ (reply, new, answer, inr (let is : status ≡ 6 = cc in is, λ other. now, λ is. absurd (subst GoesOn is goes)))
+    | inr six ↦ (reply, new, answer, inr (let is : status ≡ 6 = cc in is, λ other. stand))
   ]
 
   -- `device`
-  pub answered_device : (result : LineEnd) → Rose a.seen.write_faults b.seen.write_faults → LineAnswer tells old S Device new a b → Says (End 4) Device result mid b → Answered tells result old S store a b
-  answered_device Next rose answer says = elim says.1 [ inl all ↦ absurd (let is = all.0 in cc) | inr six ↦ absurd cc ]
-  answered_device Quit rose answer says = elim says.1 [ inl all ↦ absurd (let is = all.0 in cc) | inr six ↦ absurd cc ]
-  answered_device (End status) rose answer says = elim says.1 [
-    | inl all ↦ (Device, new, answer, inl (let is = all.0 in let four : status ≡ 4 = cc in four, refl, whole (text_of Device) all.1, rose))
-    | inr six ↦ (Device, new, answer, inr (let is : status ≡ 6 = cc in is, λ other. absurd (other refl), λ same. rose))
+  pub ends_device : (result : LineEnd) → LineAnswer kind old request Device new a b → Says (End 4) Device result mid b → EndsLine kind result old request store a b
+  ends_device Next answer says = elim says.1 [ inl all ↦ absurd (let is = all.0 in cc) | inr six ↦ absurd cc ]
+  ends_device Quit answer says = elim says.1 [ inl all ↦ absurd (let is = all.0 in cc) | inr six ↦ absurd cc ]
+  ends_device (End status) answer says = elim says.1 [
+    | inl all ↦ (Device, new, answer, inl (let is = all.0 in let four : status ≡ 4 = cc in four, refl, whole (text_of Device) all.1))
+    | inr six ↦ (Device, new, answer, inr (let is : status ≡ 6 = cc in is, λ other. absurd (other refl)))
   ]
 
   -- `bye`
-  pub answered_quit : (result : LineEnd) → LineAnswer tells old S Bye new a b → Says Quit Bye result mid b → Stands tells new b → Answered tells result old S store a b
-  answered_quit Next answer says now = elim says.1 [ inl all ↦ absurd (let is = all.0 in cc) | inr six ↦ absurd cc ]
-  answered_quit Quit answer says now = elim says.1 [
-    | inl all ↦ (new, answer, whole (text_of Bye) all.1, now)
+  pub ends_quit : (result : LineEnd) → LineAnswer kind old request Bye new a b → Says Quit Bye result mid b → Stands kind new b → EndsLine kind result old request store a b
+  ends_quit Next answer says stand = elim says.1 [ inl all ↦ absurd (let is = all.0 in cc) | inr six ↦ absurd cc ]
+  ends_quit Quit answer says stand = elim says.1 [
+    | inl all ↦ (new, answer, whole (text_of Bye) all.1, stand)
     | inr six ↦ absurd cc
   ]
-  answered_quit (End status) answer says now = elim says.1 [
+  ends_quit (End status) answer says stand = elim says.1 [
     | inl all ↦ absurd (let is = all.0 in cc)
-    | inr six ↦ (Bye, new, answer, inr (let is : status ≡ 6 = cc in is, λ other. now, λ is. absurd cc))
+    | inr six ↦ (Bye, new, answer, inr (let is : status ≡ 6 = cc in is, λ other. stand))
   ]
-
--- where no call was made
-pub still : {D : Type 0} (world : D → World) (P : Image → Type 0) (old new : D) → new ≡ old → Now P (world old) → Meanwhile P (world old) (world new)
-still world P old new same here = subst (λ (d : _). Meanwhile P (world old) (world d)) (sym same) (started P (world old) here)

@@ -1,133 +1,173 @@
 -- How a run ends.
-use Rattle.std.proofs.Common.{◌≡◌, ◌≢◌, ◌⊎◌, inl, inr, ◌<◌, ◌≤◌, ◌+◌, ◌++◌, ℕ, zero, List, [], ◌∷◌, length, refl, sym, ap, ◌∙◌, subst, arith, append_assoc, length-append}
-use Rattle.std.specs.Prelude.{flat_map, Bool, IsTrue, ◌==◌, false}
+use Rattle.std.proofs.Common.{◌≡◌, ◌≢◌, ◌⊎◌, inl, inr, ◌<◌, ◌≤◌, ◌+◌, ◌*◌, ◌++◌, ℕ, zero, List, [], ◌∷◌, length, refl, sym, ap, ◌∙◌, subst, arith, append_assoc}
+use Rattle.std.specs.Prelude.{flat_map, ◌==◌, false}
 use Rattle.std.proofs.lemmas.List.{append-nil}
 use Rattle.std.proofs.lemmas.List.Elements.{All-nil, All-push}
-use Rattle.disk_trait.specs.World.{World, Rose}
+use Rattle.block_model.specs.Pages.{page_bytes}
+use Rattle.disk_trait.specs.World.{Seen, World}
+use Rattle.key_base.specs.Limits.{piece_bytes}
+use Rattle.line_model.specs.Lines.{lines_of, whole_lines}
+use Rattle.line_model.specs.Replies.{Bye, Device, Reply, text_of}
+use Rattle.map_model.specs.SortedMap.{Bytes}
 use Rattle.outside.specs.During.{During}
 use Rattle.outside.specs.Streams.{SaidByNow, SaysPrefix, TakeMoves}
-use Rattle.outside.proofs.Crossing.{during_then, during_weaker, during_take, during_none}
-use Rattle.log_model.specs.Area.{LogIs}
-use Rattle.store_commands.specs.Cutting.{NoNewline}
-use Rattle.map_model.specs.SortedMap.{Bytes}
-use Rattle.entry_model.specs.Entries.{Entry}
+use Rattle.outside.proofs.Crossing.{during_take, during_then, during_weaker}
+use Rattle.state_model.specs.Script.{AtDevice, AtQuit, Ending, Onward, ToLast, turn_of}
+use Rattle.state_model.specs.State.{State}
 use Rattle.store_commands.specs.Answered.{asked_here}
-use Rattle.line_model.specs.Lines.{lines_of, whole_lines}
-use Rattle.line_model.specs.Replies.{Reply, Bye, Device, text_of}
-use Rattle.surf_run.specs.Script.{Step, Answers, Script, GoesOn, WentOn, Ending, ToLast, AtQuit, AtDevice}
-use Rattle.surf_run.specs.Crash.{Stands, Reached, Anything, Acknowledged}
+use Rattle.store_commands.specs.Cutting.{NoNewline}
+use Rattle.store_core.specs.Answers.{HasCause}
+use Rattle.store_core.specs.Kept.{Kept}
+use Rattle.store_core.specs.Tied.{Tied}
+use Rattle.surf_run.specs.Answering.{EndsLine, LineAnswer, Whole}
+use Rattle.surf_run.specs.Causes.{NoFall, WritesWithin}
+use Rattle.surf_run.specs.Crash.{Acknowledged, HasMap, Reached, Stands}
+use Rattle.surf_run.specs.Dialogue.{Dialogue, SoFar, line_bound}
 use Rattle.surf_run.specs.Holding.{with_newline}
-use Rattle.surf_run.specs.StoreIs.{StoreIs}
-use Rattle.key_base.specs.Limits.{piece_bytes}
-use Rattle.surf_run.specs.Outcome.{Said, SaidInPart, Settled, LeavesEntries, TakenPast, TakenAll, EndsWith, EndsTo}
-use Rattle.surf_run.specs.Serving.{LineAnswer, Whole, Answered, Served, Closed, EndsPast, EndedBy}
-use Rattle.surf_run.specs.declared.store.Store.{Store}
-use Rattle.surf_run.specs.declared.end.LineEnd.TheVariants.{Next, Quit, End}
-use Rattle.surf_run.proofs.Moments.{stands_still}
-use Rattle.surf_run.proofs.Texts.{lines_first, whole_first, last_line, held_none, held_some, held_same}
-use Rattle.surf_run.proofs.Answering.{answers_on, answers_of, went_of, went_on, went_as, script_of, script_ends, IsLast}
-use Rattle.surf_run.proofs.History.{reached_on, reached_here, ack_more, ack_none, ack_here, line_ack}
-use Rattle.surf_run.specs.Causes.{NoFall}
-use Rattle.surf_run.proofs.EndCauses.{no_fall_on, no_fall_none, no_fall_take, rose_since}
-use Rattle.surf_run.proofs.Progress.{device_last, past_wider}
+use Rattle.surf_run.specs.Kind.{Kind}
+use Rattle.surf_run.specs.Outcome.{EndsTo, LeavesState, Said, SaidInPart, Settled, TakenAll}
+use Rattle.surf_run.specs.Serving.{Closed, EndedBy, EndsPast, Served}
+use Rattle.surf_run.specs.declared.end.LineEnd.TheVariants.{End, Next, Quit}
+use Rattle.surf_run.proofs.Dialogues.{IsLast, device_last, dialogue_ends, dialogue_of, so_far_any, so_far_as}
+use Rattle.surf_run.proofs.EndCauses.{causes_later, no_fall_on, no_fall_take}
+use Rattle.surf_run.proofs.Footprint.{within_on, within_take}
+use Rattle.surf_run.proofs.History.{ack_here, ack_more, reached_on}
+use Rattle.surf_run.proofs.Moments.{map_of_state, stands_still, tied_still}
+use Rattle.surf_run.proofs.Progress.{ends_with, history_then, past_wider, ran_on, ran_then, reached_then, reads_then, said_then, step_whole, told_then, writes_then}
+use Rattle.surf_run.proofs.Texts.{held_none, held_same, held_some, last_line, lines_first, whole_first}
 
--- before anything was taken
-pub served_none : (tells : Bool) (start : List Entry) (kept : Bytes) (store : Store) (w : World) → kept ≡ [] → SaidByNow w → StoreIs start store → Stands tells start w → Served tells start [] kept store w w
-served_none tells start kept store w none now holds stand = record {
+-- ---- before a line was answered
+
+-- before anything was taken, since a first world
+pub served_none : (kind : Kind) (start : State) (base : ℕ) (store : Kept) (first w : World) → w.beside.said ≡ first.beside.said
+    → During (Acknowledged (HasCause first w) kind start [] first.beside.said w.beside.said) first w → Tied kind.spelling kind.filter_bytes store start w → Stands kind start w
+    → NoFall first w → w.seen.reads ≤ base → WritesWithin (page_bytes * start.pages) first w → Served kind start base [] [] store first w
+served_none kind start base store first w same history tied stand counts reads writes = record {
   lines = [];
   rest = [];
   text = [];
+  most = 0;
   now = start;
   split = refl;
   whole = All-nil NoNewline;
   open_end = All-nil (λ (b : ℕ). (b == 10) ≡ false);
-  ran = (refl, refl);
-  told = sym (append-nil w.beside.said);
-  held = held_same [] kept none (omega arith);
-  history = λ t. during_weaker (λ k image. (k ≡ length w.beside.said) × LogIs 0 start image) _ w w (during_none (LogIs 0 start) w (stand t) now) (λ k image at. ack_none start [] w.beside.said w.beside.said [] (sym (append-nil w.beside.said)) k image at.0 at.1);
+  ran = (refl, refl, refl);
+  told = same ∙ sym (append-nil first.beside.said);
+  held = held_same [] [] refl (omega arith);
+  history = history;
+  tied = tied;
   stand = stand;
-  counts = no_fall_none w;
-  holds = holds;
+  counts = counts;
+  reads = omega (arith, reads);
+  pages = refl;
+  writes = writes;
 }
 
 -- a take, done or failed
-pub served_take : (tells : Bool) (start : List Entry) (bytes kept : Bytes) (store : Store) (first w w' : World) → TakeMoves w w' → SaidByNow w → Served tells start bytes kept store first w → Served tells start bytes kept store first w'
-served_take tells start bytes kept store first w w' moves now served =
-    let low = length first.beside.said in
-    let taking = λ (t : IsTrue tells). during_take (LogIs 0 served.now) w w' (served.stand t) moves now in
-    let went = went_of (Reached tells w) low 0 start served.lines served.text served.now served.ran in
-    record {
-      lines = served.lines;
-      rest = served.rest;
-      text = served.text;
-      now = served.now;
-      split = served.split;
-      whole = served.whole;
-      open_end = served.open_end;
-      ran = went_as (Reached tells w) (Reached tells w') (reached_on tells _ w w' taking) low start served.lines served.text served.now served.ran;
-      told = moves.said ∙ served.told;
-      held = served.held;
-      history = λ t.
-          let told = moves.said ∙ served.told in
-          during_then (Acknowledged start served.lines first.beside.said w'.beside.said) first w w' (subst (λ (s : Bytes). During (Acknowledged start served.lines first.beside.said s) first w) (sym moves.said) (served.history t))
-          (during_weaker (λ k image. (k ≡ length w.beside.said) × LogIs 0 served.now image) _ w w' (taking t)
-          (λ k image at. ack_here start served.lines served.text served.now first.beside.said w'.beside.said told k image went (at.0 ∙ ap length (sym moves.said)) at.1));
-      stand = stands_still tells served.now w w' moves.time served.stand;
-      counts = no_fall_on first w w' served.counts (no_fall_take w w' moves);
-      holds = served.holds;
-    }
+module _ (kind : Kind) (start : State) (base : ℕ) (bytes kept : Bytes) (store : Kept) (first w w' : World) (moves : TakeMoves w w') (now : SaidByNow w) (served : Served kind start base bytes kept store first w) where
+  taking : During (λ k image. (k ≡ length w.beside.said) × HasMap kind served.now image) w w'
+  taking = during_take (HasMap kind served.now) w w' (λ image left. map_of_state kind served.now image (served.stand image left)) moves now
+
+  ran : SoFar (HasCause first w') kind.filter_bytes (Reached kind w') (length first.beside.said) start served.lines served.text served.most served.now
+  ran = so_far_as (HasCause first w) (HasCause first w') kind.filter_bytes (Reached kind w) (Reached kind w') (causes_later first w w' (no_fall_take w w' moves)) (reached_on kind _ w w' taking)
+      (length first.beside.said) start served.lines served.text served.most served.now served.ran
+
+  told : w'.beside.said ≡ first.beside.said ++ served.text
+  told = moves.said ∙ served.told
+
+  history : During (Acknowledged (HasCause first w') kind start served.lines first.beside.said w'.beside.said) first w'
+  history =
+      let went = so_far_any (HasCause first w') kind.filter_bytes (Reached kind w') (length first.beside.said) 0 start served.lines served.text served.most served.now ran in
+      during_then _ first w w'
+      (during_weaker _ _ first w served.history (λ n image ack.
+      subst (λ (ls : List Bytes). Acknowledged (HasCause first w') kind start ls first.beside.said w'.beside.said n image) (append-nil served.lines)
+      (ack_more (HasCause first w) (HasCause first w') (causes_later first w w' (no_fall_take w w' moves)) kind start served.lines [] first.beside.said w.beside.said w'.beside.said []
+      (moves.said ∙ sym (append-nil w.beside.said)) n image ack)))
+      (during_weaker (λ k image. (k ≡ length w.beside.said) × HasMap kind served.now image) _ w w' taking
+      (λ k image at. ack_here (HasCause first w') kind start served.lines served.text served.most served.now first.beside.said w'.beside.said told k image went (at.0 ∙ ap length (sym moves.said)) at.1))
+
+  pub served_take : Served kind start base bytes kept store first w'
+  served_take = record {
+    lines = served.lines;
+    rest = served.rest;
+    text = served.text;
+    most = served.most;
+    now = served.now;
+    split = served.split;
+    whole = served.whole;
+    open_end = served.open_end;
+    ran = ran;
+    told = told;
+    held = served.held;
+    history = history;
+    tied = tied_still kind.spelling kind.filter_bytes store served.now w w' moves.time served.tied;
+    stand = stands_still kind served.now w w' moves.time served.stand;
+    counts = no_fall_on first w w' served.counts (no_fall_take w w' moves);
+    reads = omega (arith, served.reads, ap (λ (s : Seen). s.reads) moves.seen);
+    pages = served.pages;
+    writes = within_on (page_bytes * start.pages) first w w' served.writes (within_take (page_bytes * start.pages) w w' moves);
+  }
 
 -- ---- a line that ended the run
 
 lines_now : (taken : Bytes) (lines : List Bytes) (more : List Bytes) → lines_of (taken ++ []) ≡ lines ++ more → lines_of taken ≡ lines ++ more
 lines_now taken lines more is = ap lines_of (sym (append-nil taken)) ∙ is
 
-pub said_closed : (tells : Bool) (ending : Ending) (start : List Entry) (taken : Bytes) (first w : World) → Closed tells ending start taken first w → Said tells ending start taken first w
-said_closed tells ending start taken first w closed = record {
+pub said_closed : (kind : Kind) (ending : Ending) (start : State) (taken : Bytes) (first w : World) → Closed kind ending start taken first w → Said kind ending start taken first w
+said_closed kind ending start taken first w closed = record {
   text = closed.text;
   output = closed.told;
-  script = subst (λ (l : Bytes). Script (Reached tells w) (length first.beside.said) start (lines_of l) closed.text ending) (append-nil taken) (closed.script []);
-  settled = inr closed.script;
+  dialogue = subst (λ (l : Bytes). Dialogue (HasCause first w) kind.filter_bytes (Reached kind w) (length first.beside.said) start (lines_of l) closed.text ending) (append-nil taken) (closed.dialogue []);
+  settled = inr closed.dialogue;
 }
 
-more_lines : (tells : Bool) (start : List Entry) (taken : Bytes) (lines later : List Bytes) (first w : World) → lines_of taken ≡ lines ++ later → (IsTrue tells → During (Acknowledged start lines first.beside.said w.beside.said) first w)
-    → IsTrue tells → During (Acknowledged start (lines_of taken) first.beside.said w.beside.said) first w
-more_lines tells start taken lines later first w is history t =
-    subst (λ (ls : List Bytes). During (Acknowledged start ls first.beside.said w.beside.said) first w) (sym is)
-    (during_weaker _ _ first w (history t) (ack_more start lines later first.beside.said w.beside.said w.beside.said [] (sym (append-nil w.beside.said))))
+more_lines : (kind : Kind) (start : State) (taken : Bytes) (lines later : List Bytes) (first w : World) → lines_of taken ≡ lines ++ later
+    → During (Acknowledged (HasCause first w) kind start lines first.beside.said w.beside.said) first w → During (Acknowledged (HasCause first w) kind start (lines_of taken) first.beside.said w.beside.said) first w
+more_lines kind start taken lines later first w is history =
+    subst (λ (ls : List Bytes). During (Acknowledged (HasCause first w) kind start ls first.beside.said w.beside.said) first w) (sym is)
+    (during_weaker _ _ first w history
+    (ack_more (HasCause first w) (HasCause first w) (λ why cause. cause) kind start lines later first.beside.said w.beside.said w.beside.said [] (sym (append-nil w.beside.said))))
 
-ends_to : (tells : Bool) (most : ℕ) (reply : Reply) (start : List Entry) (taken : Bytes) (first w : World) → most ≤ piece_bytes → EndsPast tells most reply start taken first w → EndsTo tells piece_bytes reply start taken first w
-ends_to tells most reply start taken first w fits ends = (ends.0, ends.1, inl (past_wider most piece_bytes taken (ends.0 ++ ends.1 ∷ []) fits ends.2), ends.3)
+ends_to : (kind : Kind) (most : ℕ) (reply : Reply) (start : State) (base : ℕ) (taken : Bytes) (first w : World) → most ≤ piece_bytes → EndsPast kind most reply start base taken first w
+    → EndsTo kind piece_bytes reply start base taken first w
+ends_to kind most reply start base taken first w fits ends = (ends.0, ends.1, inl (past_wider most piece_bytes taken (ends.0 ++ ends.1 ∷ []) fits ends.2), ends.3)
 
-pub settled_quit : (tells : Bool) (most : ℕ) (start : List Entry) (taken : Bytes) (first w : World) → most ≤ piece_bytes → Closed tells AtQuit start taken first w → EndsPast tells most Bye start taken first w → Settled tells 0 start taken first w
-settled_quit tells most start taken first w fits closed ends =
+pub settled_quit : (kind : Kind) (most : ℕ) (start : State) (base : ℕ) (taken : Bytes) (first w : World) → most ≤ piece_bytes → Closed kind AtQuit start taken first w → EndsPast kind most Bye start base taken first w
+    → Settled kind 0 start base taken first w
+settled_quit kind most start base taken first w fits closed ends =
     let first_lines = closed.first_lines [] in
     record {
-      ended = λ _. inr (said_closed tells AtQuit start taken first w closed, ends_to tells most Bye start taken first w fits ends);
+      serving = inl refl;
+      ended = λ _. inr (said_closed kind AtQuit start taken first w closed, ends_to kind most Bye start base taken first w fits ends);
       device = λ is. absurd (omega arith);
       cut = λ is. absurd (elim is [ inl three ↦ omega arith | inr nine ↦ omega arith ]);
       output = λ is. absurd (omega arith);
       said = (closed.text, closed.told);
-      crash = more_lines tells start taken closed.lines first_lines.0 first w (lines_now taken closed.lines first_lines.0 first_lines.2) closed.history;
+      crash = more_lines kind start taken closed.lines first_lines.0 first w (lines_now taken closed.lines first_lines.0 first_lines.2) closed.history;
+      writes = closed.writes;
     }
 
-pub settled_end : (tells : Bool) (most status : ℕ) (start : List Entry) (taken : Bytes) (first w : World) → most ≤ piece_bytes → EndedBy tells most status start taken first w → Settled tells status start taken first w
-settled_end tells most status start taken first w fits ended = elim ended [
+pub settled_end : (kind : Kind) (most status : ℕ) (start : State) (base : ℕ) (taken : Bytes) (first w : World) → most ≤ piece_bytes → EndedBy kind most status start base taken first w
+    → Settled kind status start base taken first w
+settled_end kind most status start base taken first w fits ended = elim ended [
   | inl four ↦
       let first_lines = four.1.first_lines [] in
       record {
+        serving = inr (inr (inl four.0));
         ended = λ is. absurd (let e = four.0 in omega arith);
-        device = λ _. (said_closed tells AtDevice start taken first w four.1, ends_to tells most Device start taken first w fits four.2);
+        device = λ _. (said_closed kind AtDevice start taken first w four.1, ends_to kind most Device start base taken first w fits four.2);
         cut = λ is. absurd (let e = four.0 in elim is [ inl three ↦ omega arith | inr nine ↦ omega arith ]);
         output = λ is. absurd (let e = four.0 in omega arith);
         said = (four.1.text, four.1.told);
-        crash = more_lines tells start taken four.1.lines first_lines.0 first w (lines_now taken four.1.lines first_lines.0 first_lines.2) four.1.history;
+        crash = more_lines kind start taken four.1.lines first_lines.0 first w (lines_now taken four.1.lines first_lines.0 first_lines.2) four.1.history;
+        writes = four.1.writes;
       }
   | inr six ↦
       let broken = six.1 in
       let first_lines = broken.first_lines [] in
       let before = broken.lines ++ broken.line ∷ [] in
       record {
+        serving = inr (inr (inr (inl six.0)));
         ended = λ is. absurd (let e = six.0 in omega arith);
         device = λ is. absurd (let e = six.0 in omega arith);
         cut = λ is. absurd (let e = six.0 in elim is [ inl three ↦ omega arith | inr nine ↦ omega arith ]);
@@ -139,77 +179,90 @@ settled_end tells most status start taken first w fits ended = elim ended [
           ended = inl (first_lines.1, ap whole_lines (sym (append-nil taken)) ∙ first_lines.3 ∙ append_assoc broken.lines (broken.line ∷ []) first_lines.1);
           taken_to = inl (past_wider most piece_bytes taken before fits broken.taken_past);
           text = broken.text;
+          most = broken.most;
           now = broken.now;
-          went_on = broken.ran;
+          so_far = broken.ran;
           reply = broken.reply;
           last = broken.last;
           step = broken.step;
+          reads = broken.reads;
           prefix = broken.prefix;
-          cause = broken.cause;
           crash = broken.history;
           stands = broken.stands;
         };
         said = (broken.text ++ broken.prefix.done, broken.prefix.said ∙ append_assoc first.beside.said broken.text broken.prefix.done);
-        crash = more_lines tells start taken before first_lines.0 first w (lines_now taken before first_lines.0 first_lines.2) broken.history;
+        crash = more_lines kind start taken before first_lines.0 first w (lines_now taken before first_lines.0 first_lines.2) broken.history;
+        writes = broken.writes;
       }
 ]
 
-leaves_now : (tells : Bool) (start : List Entry) (taken kept : Bytes) (store : Store) (first w : World) (lines : List Bytes) (served : Served tells start taken kept store first w) → lines ≡ served.lines → LeavesEntries tells start lines first w
-leaves_now tells start taken kept store first w lines served is = record {
-  text = served.text;
-  output = served.told;
-  last = served.now;
-  answered = subst (λ (ls : List Bytes). Answers start ls served.text served.now) (sym is) (answers_of (Reached tells w) (length first.beside.said) start served.lines served.text served.now served.ran);
-  stands = served.stand;
-}
+-- ---- what was served so far
 
--- ---- the input is cut off
-
-pub settled_cut : (tells : Bool) (status : ℕ) (start : List Entry) (taken kept : Bytes) (store : Store) (first w : World) → (status ≡ 3) ⊎ (status ≡ 9) → Served tells start taken kept store first w → Settled tells status start taken first w
-settled_cut tells status start taken kept store first w is served = record {
-  ended = λ e. absurd (elim is [ inl three ↦ omega arith | inr nine ↦ omega arith ]);
-  device = λ e. absurd (elim is [ inl three ↦ omega arith | inr nine ↦ omega arith ]);
-  cut = λ _. record {
+module _ (kind : Kind) (start : State) (base : ℕ) (taken kept : Bytes) (store : Kept) (first w : World) (served : Served kind start base taken kept store first w) where
+  leaves_now : (lines : List Bytes) → lines ≡ served.lines → LeavesState kind start base lines first w
+  leaves_now lines is = record {
     text = served.text;
     output = served.told;
-    script =
-        let lines : whole_lines taken ≡ served.lines = ap whole_lines served.split ∙ whole_first served.lines served.rest served.whole served.open_end in
-        subst (λ (ls : List Bytes). Script (Reached tells w) (length first.beside.said) start ls served.text ToLast) (sym lines) (script_of (Reached tells w) (length first.beside.said) start served.lines served.text served.now served.ran);
-    crash = λ t.
-        let lines : whole_lines taken ≡ served.lines = ap whole_lines served.split ∙ whole_first served.lines served.rest served.whole served.open_end in
-        subst (λ (ls : List Bytes). During (Acknowledged start ls first.beside.said w.beside.said) first w) (sym lines) (served.history t);
-    leaves = leaves_now tells start taken kept store first w (whole_lines taken) served (ap whole_lines served.split ∙ whole_first served.lines served.rest served.whole served.open_end);
-  };
-  output = λ e. absurd (elim is [ inl three ↦ omega arith | inr nine ↦ omega arith ]);
-  said = (served.text, served.told);
-  crash = more_lines tells start taken served.lines (lines_of served.rest) first w (ap lines_of served.split ∙ lines_first served.lines served.rest served.whole) served.history;
-}
+    most = served.most;
+    last = served.now;
+    so_far = subst (λ (ls : List Bytes). SoFar (HasCause first w) kind.filter_bytes (Reached kind w) (length first.beside.said) start ls served.text served.most served.now) (sym is) served.ran;
+    reads = served.reads;
+    stands = served.stand;
+  }
 
--- ---- the end of the input
+  dialogue_now : (lines : List Bytes) → lines ≡ served.lines → Dialogue (HasCause first w) kind.filter_bytes (Reached kind w) (length first.beside.said) start lines served.text ToLast
+  dialogue_now lines is =
+      subst (λ (ls : List Bytes). Dialogue (HasCause first w) kind.filter_bytes (Reached kind w) (length first.beside.said) start ls served.text ToLast) (sym is)
+      (dialogue_of (HasCause first w) kind.filter_bytes (Reached kind w) (length first.beside.said) start served.lines served.text served.most served.now served.ran)
 
-pub settled_empty : (tells : Bool) (start : List Entry) (taken kept : Bytes) (store : Store) (first w : World) → w.beside.to_take ≡ [] → Served tells start taken kept store first w → length kept ≡ 0 → Settled tells 0 start taken first w
-settled_empty tells start taken kept store first w none served nothing_kept =
-    let empty = held_none served.rest kept served.held nothing_kept in
-    let lines : lines_of taken ≡ served.lines =
-    ap lines_of (served.split ∙ ap (λ (l : Bytes). flat_map with_newline served.lines ++ l) empty) ∙ lines_first served.lines [] served.whole ∙ append-nil served.lines in
-    record {
-      ended = λ _. inl (
-        record {
+  crash_now : (lines : List Bytes) → lines ≡ served.lines → During (Acknowledged (HasCause first w) kind start lines first.beside.said w.beside.said) first w
+  crash_now lines is = subst (λ (ls : List Bytes). During (Acknowledged (HasCause first w) kind start ls first.beside.said w.beside.said) first w) (sym is) served.history
+
+  -- the input is cut off
+  pub settled_cut : (status : ℕ) → (status ≡ 3) ⊎ (status ≡ 9) → Settled kind status start base taken first w
+  settled_cut status is =
+      let lines : whole_lines taken ≡ served.lines = ap whole_lines served.split ∙ whole_first served.lines served.rest served.whole served.open_end in
+      record {
+        serving = elim is [ inl three ↦ inr (inl three) | inr nine ↦ inr (inr (inr (inr nine))) ];
+        ended = λ e. absurd (elim is [ inl three ↦ omega arith | inr nine ↦ omega arith ]);
+        device = λ e. absurd (elim is [ inl three ↦ omega arith | inr nine ↦ omega arith ]);
+        cut = λ _. record {
           text = served.text;
           output = served.told;
-          script = subst (λ (ls : List Bytes). Script (Reached tells w) (length first.beside.said) start ls served.text ToLast) (sym lines) (script_of (Reached tells w) (length first.beside.said) start served.lines served.text served.now served.ran);
-          settled = inl none;
-        },
-        leaves_now tells start taken kept store first w (lines_of taken) served lines,
-      );
-      device = λ e. absurd (omega arith);
-      cut = λ is. absurd (elim is [ inl three ↦ omega arith | inr nine ↦ omega arith ]);
-      output = λ e. absurd (omega arith);
-      said = (served.text, served.told);
-      crash = λ t. subst (λ (ls : List Bytes). During (Acknowledged start ls first.beside.said w.beside.said) first w) (sym lines) (served.history t);
-    }
+          dialogue = dialogue_now (whole_lines taken) lines;
+          crash = crash_now (whole_lines taken) lines;
+          leaves = leaves_now (whole_lines taken) lines;
+        };
+        output = λ e. absurd (elim is [ inl three ↦ omega arith | inr nine ↦ omega arith ]);
+        said = (served.text, served.told);
+        crash = more_lines kind start taken served.lines (lines_of served.rest) first w (ap lines_of served.split ∙ lines_first served.lines served.rest served.whole) served.history;
+        writes = served.writes;
+      }
 
-module _ (tells : Bool) (start : List Entry) (taken kept : Bytes) (store : Store) (first w w' : World) (served : Served tells start taken kept store first w) (some : zero < length kept) (none : w'.beside.to_take ≡ []) where
+  -- the end of the input, with no line begun
+  pub settled_empty : w.beside.to_take ≡ [] → length kept ≡ 0 → Settled kind 0 start base taken first w
+  settled_empty none nothing_kept =
+      let empty = held_none served.rest kept served.held nothing_kept in
+      let lines : lines_of taken ≡ served.lines =
+      ap lines_of (served.split ∙ ap (λ (l : Bytes). flat_map with_newline served.lines ++ l) empty) ∙ lines_first served.lines [] served.whole ∙ append-nil served.lines in
+      record {
+        serving = inl refl;
+        ended = λ _. inl (
+          record { text = served.text; output = served.told; dialogue = dialogue_now (lines_of taken) lines; settled = inl none },
+          leaves_now (lines_of taken) lines,
+        );
+        device = λ e. absurd (omega arith);
+        cut = λ is. absurd (elim is [ inl three ↦ omega arith | inr nine ↦ omega arith ]);
+        output = λ e. absurd (omega arith);
+        said = (served.text, served.told);
+        crash = crash_now (lines_of taken) lines;
+        writes = served.writes;
+      }
+
+-- ---- a last line without its newline
+
+module _ (kind : Kind) (start : State) (base : ℕ) (taken kept : Bytes) (store : Kept) (first w w' : World) (served : Served kind start base taken kept store first w)
+    (some : zero < length kept) (none : w'.beside.to_take ≡ []) (counts : NoFall w w') where
   last : lines_of taken ≡ served.lines ++ served.rest ∷ []
   last = ap lines_of served.split ∙ lines_first served.lines served.rest served.whole
       ∙ ap (λ (ls : List Bytes). served.lines ++ ls) (last_line served.rest served.open_end (held_some served.rest kept served.held some))
@@ -217,83 +270,19 @@ module _ (tells : Bool) (start : List Entry) (taken kept : Bytes) (store : Store
   taken_all : TakenAll taken served.lines served.rest
   taken_all = record { whole = All-push NoNewline served.lines served.rest served.whole served.open_end; split = served.split }
 
-  module _ (reply : Reply) (new : List Entry) (answer : LineAnswer tells served.now (Step served.now (asked_here served.rest)) reply new w w') where
+  module _ (reply : Reply) (new : State) (answer : LineAnswer kind served.now (asked_here served.rest) reply new w w') where
     grown : (text : Bytes) × (w'.beside.said ≡ first.beside.said ++ text)
     grown = (served.text ++ answer.prefix.done, answer.prefix.said ∙ ap (λ (l : Bytes). l ++ answer.prefix.done) served.told ∙ append_assoc first.beside.said served.text answer.prefix.done)
 
-    went_before : WentOn Anything 0 start served.lines served.text served.now
-    went_before = went_of (Reached tells w) (length first.beside.said) 0 start served.lines served.text served.now served.ran
+    crash : During (Acknowledged (HasCause first w') kind start (lines_of taken) first.beside.said w'.beside.said) first w'
+    crash = subst (λ (ls : List Bytes). During (Acknowledged (HasCause first w') kind start ls first.beside.said w'.beside.said) first w') (sym last)
+        (history_then kind start base taken kept store first w served served.rest w' counts reply new answer)
 
-    history : IsTrue tells → During (Acknowledged start (served.lines ++ served.rest ∷ []) first.beside.said w'.beside.said) first w'
-    history t =
-        during_then _ first w w'
-        (during_weaker _ _ first w (served.history t) (ack_more start served.lines (served.rest ∷ []) first.beside.said w.beside.said w'.beside.said answer.prefix.done answer.prefix.said))
-        (during_weaker _ _ w w' (answer.each t) (line_ack start served.lines served.rest served.text served.now reply first w w' went_before served.told answer.prefix))
+    writes : WritesWithin (page_bytes * start.pages) first w'
+    writes = writes_then kind start base taken kept store first w served served.rest w' counts reply new answer
 
-    crash : IsTrue tells → During (Acknowledged start (lines_of taken) first.beside.said w'.beside.said) first w'
-    crash t = subst (λ (ls : List Bytes). During (Acknowledged start ls first.beside.said w'.beside.said) first w') (sym last) (history t)
-
-    ran_then : WentOn (Reached tells w') (length first.beside.said) start served.lines served.text served.now
-    ran_then = went_as (Reached tells w) (Reached tells w') (reached_on tells _ w w' answer.each) (length first.beside.said) start served.lines served.text served.now served.ran
-
-    told : Whole reply w w' → w'.beside.said ≡ first.beside.said ++ (served.text ++ text_of reply)
-    told all = all ∙ ap (λ (l : Bytes). l ++ text_of reply) served.told ∙ append_assoc first.beside.said served.text (text_of reply)
-
-    abbrev then_said : ℕ
-    then_said = length first.beside.said + length served.text + length (text_of reply)
-
-    reached : Whole reply w w' → SaidByNow w' → Stands tells new w' → Reached tells w' then_said new
-    reached all now stand = reached_here tells w' new then_said now (omega (arith, ap length (told all), length-append first.beside.said (served.text ++ text_of reply), length-append served.text (text_of reply))) stand
-
-    said_next : GoesOn reply → Whole reply w w' → Reached tells w' then_said new → Said tells ToLast start taken first w'
-    said_next goes all stands = record {
-      text = served.text ++ text_of reply;
-      output = told all;
-      script = subst (λ (ls : List Bytes). Script (Reached tells w') (length first.beside.said) start ls (served.text ++ text_of reply) ToLast) (sym last)
-          (script_of (Reached tells w') (length first.beside.said) start (served.lines ++ served.rest ∷ []) (served.text ++ text_of reply) new
-          (went_on (Reached tells w') (length first.beside.said) start served.lines served.text served.now served.rest reply new ran_then answer.step goes then_said refl stands));
-      settled = inl none;
-    }
-
-    said_last : (ending : Ending) → IsLast reply ending (Reached tells w' then_said new) → Whole reply w w' → Said tells ending start taken first w'
-    said_last ending is_last all = record {
-      text = served.text ++ text_of reply;
-      output = told all;
-      script = subst (λ (ls : List Bytes). Script (Reached tells w') (length first.beside.said) start ls (served.text ++ text_of reply) ending) (sym last)
-          (script_ends (Reached tells w') (length first.beside.said) start served.lines served.text served.now served.rest reply new [] ending ran_then answer.step then_said refl is_last);
-      settled = inl none;
-    }
-
-    leaves_next : Whole reply w w' → Stands tells new w' → LeavesEntries tells start (lines_of taken) first w'
-    leaves_next all stands = record {
-      text = served.text ++ text_of reply;
-      output = told all;
-      last = new;
-      answered = subst (λ (ls : List Bytes). Answers start ls (served.text ++ text_of reply) new) (sym last)
-          (answers_on start served.lines served.text served.now served.rest reply new (answers_of (Reached tells w) (length first.beside.said) start served.lines served.text served.now served.ran) answer.step);
-      stands = stands;
-    }
-
-    ends_all : (reply ≢ Device → Stands tells new w') → (reply ≡ Device → Rose w.seen.write_faults w'.seen.write_faults) → Whole reply w w' → EndsTo tells piece_bytes reply start taken first w'
-    ends_all stands rose all = (
-      served.lines,
-      served.rest,
-      inr taken_all,
-      record {
-        text = served.text;
-        now = served.now;
-        went_on = went_before;
-        last = new;
-        step = answer.step;
-        output = told all;
-        cause = λ device. rose_since first.seen.write_faults w.seen.write_faults w'.seen.write_faults served.counts.write (rose device);
-        crash = history;
-        stands = stands;
-      },
-    )
-
-    said_in_part : (reply ≢ Device → Stands tells new w') → (reply ≡ Device → Rose w.seen.write_faults w'.seen.write_faults) → SaidInPart tells start taken first w'
-    said_in_part stands rose = record {
+    said_in_part : (reply ≢ Device → Stands kind new w') → SaidInPart kind start base taken first w'
+    said_in_part stands = record {
       lines = served.lines;
       line = served.rest;
       later = [];
@@ -301,56 +290,114 @@ module _ (tells : Bool) (start : List Entry) (taken kept : Bytes) (store : Store
       ended = inr none;
       taken_to = inr taken_all;
       text = served.text;
+      most = served.most;
       now = served.now;
-      went_on = ran_then;
+      so_far = ran_then kind start base taken kept store first w served served.rest w' counts reply new answer;
       reply = reply;
       last = new;
-      step = answer.step;
+      step = step_whole kind start base taken kept store first w served served.rest w' counts reply new answer;
+      reads = reads_then kind start base taken kept store first w served served.rest w' counts reply new answer;
       prefix = subst (λ (s : Bytes). SaysPrefix (text_of reply) s w'.beside.said) served.told answer.prefix;
-      cause = λ device. rose_since first.seen.write_faults w.seen.write_faults w'.seen.write_faults served.counts.write (rose device);
-      crash = history;
+      crash = history_then kind start base taken kept store first w served served.rest w' counts reply new answer;
       stands = stands;
     }
 
-  pub settled_next : (store' : Store) → SaidByNow w' → Answered tells Next served.now (Step served.now (asked_here served.rest)) store' w w' → Settled tells 0 start taken first w'
+    module _ (all : Whole reply w w') where
+      told_all : w'.beside.said ≡ first.beside.said ++ (served.text ++ text_of reply)
+      told_all = told_then kind start base taken kept store first w served served.rest w' counts reply new answer all
+
+      abbrev then_said : ℕ
+      then_said = said_then kind start base taken kept store first w served served.rest w' counts reply new answer all
+
+      went_on : turn_of reply ≡ Onward → SaidByNow w' → Stands kind new w'
+          → SoFar (HasCause first w') kind.filter_bytes (Reached kind w') (length first.beside.said) start (served.lines ++ served.rest ∷ []) (served.text ++ text_of reply) (served.most + line_bound served.now (asked_here served.rest)) new
+      went_on goes now stand = ran_on kind start base taken kept store first w served served.rest w' counts reply new answer all goes
+          (reached_then kind start base taken kept store first w served served.rest w' counts reply new answer all now stand)
+
+      said_next : turn_of reply ≡ Onward → SaidByNow w' → Stands kind new w' → Said kind ToLast start taken first w'
+      said_next goes now stand = record {
+        text = served.text ++ text_of reply;
+        output = told_all;
+        dialogue = subst (λ (ls : List Bytes). Dialogue (HasCause first w') kind.filter_bytes (Reached kind w') (length first.beside.said) start ls (served.text ++ text_of reply) ToLast) (sym last)
+            (dialogue_of (HasCause first w') kind.filter_bytes (Reached kind w') (length first.beside.said) start (served.lines ++ served.rest ∷ []) (served.text ++ text_of reply) _ new (went_on goes now stand));
+        settled = inl none;
+      }
+
+      leaves_next : turn_of reply ≡ Onward → SaidByNow w' → Stands kind new w' → LeavesState kind start base (lines_of taken) first w'
+      leaves_next goes now stand = record {
+        text = served.text ++ text_of reply;
+        output = told_all;
+        most = served.most + line_bound served.now (asked_here served.rest);
+        last = new;
+        so_far = subst (λ (ls : List Bytes). SoFar (HasCause first w') kind.filter_bytes (Reached kind w') (length first.beside.said) start ls (served.text ++ text_of reply) (served.most + line_bound served.now (asked_here served.rest)) new)
+            (sym last) (went_on goes now stand);
+        reads = let few = reads_then kind start base taken kept store first w served served.rest w' counts reply new answer in omega (arith, few);
+        stands = stand;
+      }
+
+      said_last : (ending : Ending) → IsLast reply ending (Reached kind w' then_said new) → Said kind ending start taken first w'
+      said_last ending is_last = record {
+        text = served.text ++ text_of reply;
+        output = told_all;
+        dialogue = subst (λ (ls : List Bytes). Dialogue (HasCause first w') kind.filter_bytes (Reached kind w') (length first.beside.said) start ls (served.text ++ text_of reply) ending) (sym last)
+            (dialogue_ends (HasCause first w') kind.filter_bytes (Reached kind w') (length first.beside.said) start served.lines served.text served.most served.now served.rest reply new [] ending
+            (ran_then kind start base taken kept store first w served served.rest w' counts reply new answer) (step_whole kind start base taken kept store first w served served.rest w' counts reply new answer) then_said refl is_last);
+        settled = inl none;
+      }
+
+      ends_all : (reply ≢ Device → Stands kind new w') → EndsTo kind piece_bytes reply start base taken first w'
+      ends_all stands = (served.lines, served.rest, inr taken_all, ends_with kind start base taken kept store first w served served.rest w' counts reply new answer all stands)
+
+  pub settled_next : (store' : Kept) → SaidByNow w' → EndsLine kind Next served.now (asked_here served.rest) store' w w' → Settled kind 0 start base taken first w'
   settled_next store' now a = record {
-    ended = λ _. inl (said_next a.0 a.1 a.2 a.3 a.4 (reached a.0 a.1 a.2 a.4 now a.5), leaves_next a.0 a.1 a.2 a.4 a.5);
+    serving = inl refl;
+    ended = λ _. inl (said_next a.0 a.1 a.2 a.4 a.3 now a.6, leaves_next a.0 a.1 a.2 a.4 a.3 now a.6);
     device = λ e. absurd (omega arith);
     cut = λ is. absurd (elim is [ inl three ↦ omega arith | inr nine ↦ omega arith ]);
     output = λ e. absurd (omega arith);
     said = grown a.0 a.1 a.2;
     crash = crash a.0 a.1 a.2;
+    writes = writes a.0 a.1 a.2;
   }
 
-  pub settled_bye : (store' : Store) → SaidByNow w' → Answered tells Quit served.now (Step served.now (asked_here served.rest)) store' w w' → Settled tells 0 start taken first w'
+  pub settled_bye : (store' : Kept) → SaidByNow w' → EndsLine kind Quit served.now (asked_here served.rest) store' w w' → Settled kind 0 start base taken first w'
   settled_bye store' now a = record {
-    ended = λ _. inr (said_last Bye a.0 a.1 AtQuit (refl, refl, reached Bye a.0 a.1 a.2 now a.3) a.2, ends_all Bye a.0 a.1 (λ other. a.3) (λ is. absurd cc) a.2);
+    serving = inl refl;
+    ended = λ _. inr (
+      said_last Bye a.0 a.1 a.2 AtQuit (reached_then kind start base taken kept store first w served served.rest w' counts Bye a.0 a.1 a.2 now a.3, (refl, refl)),
+      ends_all Bye a.0 a.1 a.2 (λ other. a.3),
+    );
     device = λ e. absurd (omega arith);
     cut = λ is. absurd (elim is [ inl three ↦ omega arith | inr nine ↦ omega arith ]);
     output = λ e. absurd (omega arith);
     said = grown Bye a.0 a.1;
     crash = crash Bye a.0 a.1;
+    writes = writes Bye a.0 a.1;
   }
 
-  pub settled_status : (status : ℕ) (store' : Store) → Answered tells (End status) served.now (Step served.now (asked_here served.rest)) store' w w' → Settled tells status start taken first w'
+  pub settled_status : (status : ℕ) (store' : Kept) → EndsLine kind (End status) served.now (asked_here served.rest) store' w w' → Settled kind status start base taken first w'
   settled_status status store' a = elim a.3 [
     | inl four ↦ record {
+      serving = inr (inr (inl four.0));
       ended = λ e. absurd (let f = four.0 in omega arith);
       device = λ _. (
-        said_last a.0 a.1 a.2 AtDevice (device_last a.0 _ four.1) four.2,
-        subst (λ (r : Reply). EndsTo tells piece_bytes r start taken first w') four.1 (ends_all a.0 a.1 a.2 (λ other. absurd (other four.1)) (λ is. four.3) four.2),
+        said_last a.0 a.1 a.2 four.2 AtDevice (device_last a.0 _ four.1),
+        subst (λ (r : Reply). EndsTo kind piece_bytes r start base taken first w') four.1 (ends_all a.0 a.1 a.2 four.2 (λ other. absurd (other four.1))),
       );
       cut = λ is. absurd (let f = four.0 in elim is [ inl three ↦ omega arith | inr nine ↦ omega arith ]);
       output = λ e. absurd (let f = four.0 in omega arith);
       said = grown a.0 a.1 a.2;
       crash = crash a.0 a.1 a.2;
+      writes = writes a.0 a.1 a.2;
     }
     | inr six ↦ record {
-      ended = λ e. absurd (omega arith);
-      device = λ e. absurd (omega arith);
-      cut = λ is. absurd (elim is [ inl three ↦ omega arith | inr nine ↦ omega arith ]);
-      output = λ _. said_in_part a.0 a.1 a.2 six.1 six.2;
+      serving = inr (inr (inr (inl six.0)));
+      ended = λ e. absurd (let f = six.0 in omega arith);
+      device = λ e. absurd (let f = six.0 in omega arith);
+      cut = λ is. absurd (let f = six.0 in elim is [ inl three ↦ omega arith | inr nine ↦ omega arith ]);
+      output = λ _. said_in_part a.0 a.1 a.2 six.1;
       said = grown a.0 a.1 a.2;
       crash = crash a.0 a.1 a.2;
+      writes = writes a.0 a.1 a.2;
     }
   ]

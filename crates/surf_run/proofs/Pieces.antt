@@ -5,11 +5,13 @@ use Rattle.std.specs.Option.{SomeIff}
 use Rattle.std.proofs.Math.Seq.{take-add}
 use Rattle.std.proofs.lemmas.List.{take_min, length-drop}
 use Rattle.std.proofs.lemmas.Fmt.{length-decimal-le}
+use Rattle.byteorder.specs.Endian.{big_bytes}
+use Rattle.byteorder.specs.Numbers.{length-bytes_high_first}
 use Rattle.hex.specs.Hex.{lower_digits}
 use Rattle.hex.proofs.HexLemmas.{length-encode_with}
 use Rattle.outside.specs.Streams.{SaysPrefix}
 use Rattle.map_model.specs.SortedMap.{Bytes}
-use Rattle.line_model.specs.Replies.{text_of, word_of, part_word}
+use Rattle.line_model.specs.Replies.{text_of, word_of, part_word, sum_word}
 use Rattle.byte_fields.specs.declared.parts.Part.{Part}
 use Rattle.byte_fields.specs.declared.parts.Part.TheVariants.{Manifest, Log, Index, Filter, Block}
 use Rattle.byte_fields.specs.declared.parts.Damage.TheVariants.{Sum, Shape}
@@ -52,6 +54,25 @@ numbers_end : (prefix middle : Bytes) (n m : ℕ) → n < 2 ^ 64 → m < 2 ^ 64 
 numbers_end prefix middle n m small_n small_m =
     omega (arith, number_end (prefix ++ decimal n ++ middle) m small_m, length-append (prefix ++ decimal n) middle, length-append prefix (decimal n), decimal_size n small_n)
 
+-- a sum has sixteen digits
+sum_size : (sum : ℕ) → length (sum_word sum) ≡ 16
+sum_size sum = length-encode_with lower_digits (big_bytes 8 sum) ∙ ap (λ (n : ℕ). 2 * n) (length-bytes_high_first 8 sum)
+
+sums_end : (prefix : Bytes) (at kept seen : ℕ) → at < 2 ^ 64 → length (prefix ++ decimal at ++ codes " sum " ++ sum_word kept ++ codes " " ++ sum_word seen ++ 10 ∷ []) ≤ length prefix + 59
+sums_end prefix at kept seen small =
+    omega (
+      arith,
+      length-append (prefix ++ decimal at ++ codes " sum " ++ sum_word kept ++ codes " " ++ sum_word seen) (10 ∷ []),
+      length-append (prefix ++ decimal at ++ codes " sum " ++ sum_word kept ++ codes " ") (sum_word seen),
+      length-append (prefix ++ decimal at ++ codes " sum " ++ sum_word kept) (codes " "),
+      length-append (prefix ++ decimal at ++ codes " sum ") (sum_word kept),
+      length-append (prefix ++ decimal at) (codes " sum "),
+      length-append prefix (decimal at),
+      decimal_size at small,
+      sum_size kept,
+      sum_size seen,
+    )
+
 part_size : (part : Part) → length (part_word part) ≤ 8
 part_size Manifest = omega arith
 part_size Log = omega arith
@@ -72,12 +93,12 @@ short_text Bye short = omega arith
 short_text (BadLine code) short = omega (arith, number_end (codes "bad ") code short)
 short_text (LongKey size) short = omega (arith, number_end (codes "limit key ") size short)
 short_text (LongValue size) short = omega (arith, number_end (codes "limit value ") size short)
-short_text ManyTables short = absurd short
-short_text LastEpoch short = absurd short
+short_text ManyTables short = omega arith
+short_text LastEpoch short = omega arith
 short_text (Full need gap) short = omega (arith, numbers_end (codes "full need ") (codes " gap ") need gap short.0 short.1)
 short_text Memory short = omega arith
 short_text Device short = omega arith
-short_text (Damaged (Sum part at kept seen)) short = absurd short
+short_text (Damaged (Sum part at kept seen)) short = omega (arith, sums_end (codes "damaged " ++ part_word part ++ codes " ") at kept seen short, length-append (codes "damaged " ++ part_word part) (codes " "), length-append (codes "damaged ") (part_word part), part_size part)
 short_text (Damaged (Shape part at rule)) short = omega (arith, numbers_end (codes "damaged " ++ part_word part ++ codes " ") (codes " rule ") at rule short.0 short.1, length-append (codes "damaged " ++ part_word part) (codes " "), length-append (codes "damaged ") (part_word part), part_size part)
 
 pub none_over : (r : Option ℕ) (P : Type 0) (v : ℕ) → SomeIff r P v → ((x : ℕ) → r ≡ Some x → ⊥) → P → ⊥

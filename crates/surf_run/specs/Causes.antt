@@ -1,51 +1,56 @@
 -- Why a run ends, what it may change, and what never falls.
-use Rattle.std.specs.Prelude.{◌≡◌, ◌⊎◌, ◌≤◌, ℕ}
-use Rattle.key_base.specs.Limits.{log_bytes}
-use Rattle.disk_trait.specs.World.{World, Rose, Passes, Torn}
-use Rattle.log_model.specs.Area.{start_of}
+use Rattle.std.specs.Prelude.{◌≡◌, ◌⊎◌, ◌++◌, ℕ, List}
+use Rattle.byte_fields.specs.declared.parts.Damage.{Damage}
+use Rattle.disk_trait.specs.World.{Passes, Torn, World}
+pub use Rattle.format_command.specs.Ends.{DiskFailed, NoFall, SayFailed, StatusCause, TakeFailed}
+use Rattle.line_model.specs.Replies.{text_of}
+use Rattle.line_model.specs.Replies as line
+use Rattle.line_model.specs.Requests.{Get, Request}
+use Rattle.map_model.specs.SortedMap.{Bytes}
+use Rattle.store_core.specs.Getting.{IsFaultIn}
 use Rattle.surf_run.specs.declared.end.LineEnd.{LineEnd}
 use Rattle.surf_run.specs.declared.end.LineEnd.TheVariants.{Next, Quit, End}
+use Rattle.table_file.specs.Opened.{Opened}
+use Rattle.table_file.specs.declared.fault.TableFault.TheVariants.{Damaged}
 
--- no count of faults falls
-pub record NoFall (old new : World) : Type 0 where
-  pub read : old.seen.read_faults ≤ new.seen.read_faults
-  pub write : old.seen.write_faults ≤ new.seen.write_faults
-  pub take : old.beside.take_faults ≤ new.beside.take_faults
-  pub say : old.beside.say_faults ≤ new.beside.say_faults
-
--- Nothing changes outside the log area in use: neither what the device reads as, nor what a crash may leave at any later
+-- Nothing changes behind the first so many bytes: neither what the device reads as, nor what a crash may leave at any later
 -- moment, beside what it might have left at the start.
-pub record WritesInLog (old new : World) : Type 0 where
-  pub held : Torn (start_of 0) log_bytes old.seen.held new.seen.held
-  pub time : Passes (Torn (start_of 0) log_bytes) old new
+pub record WritesWithin (n : ℕ) (old new : World) : Type 0 where
+  pub held : Torn 0 n old.seen.held new.seen.held
+  pub time : Passes (Torn 0 n) old new
 
--- What answering lines does: nothing is taken, what is written is written in the log area, and no count of faults falls.
+-- what answering lines does: nothing is taken, and no count of faults falls
 pub record LineMoves (old new : World) : Type 0 where
   pub input : new.beside.to_take ≡ old.beside.to_take
-  pub footprint : WritesInLog old new
   pub counts : NoFall old new
 
--- a read, or a write or a sync, failed in this call
-abbrev pub DiskFailed : World → World → Type 0
-DiskFailed old new = Rose old.seen.read_faults new.seen.read_faults ⊎ Rose old.seen.write_faults new.seen.write_faults
+-- The request is a get, and what was said ends with the damage of the block that is read for its key in one of these tables. The
+-- device shows it: the block has another sum than the one that the table's index keeps, or where the sum agrees, this rule is the
+-- first that it breaks.
+pub record SaysDamage (tables : List Opened) (request : Request) (w : World) : Type 0 where
+  pub key : Bytes
+  pub asked : request ≡ Get key
+  pub damage : Damage
+  pub shown : IsFaultIn tables key w.seen.held (Damaged damage)
+  pub before : Bytes
+  pub said : w.beside.said ≡ before ++ text_of (line.Damaged damage)
 
-abbrev pub TakeFailed : World → World → Type 0
-TakeFailed old new = Rose old.beside.take_faults new.beside.take_faults
+-- the same of some tables and some request
+abbrev pub SaysSomeDamage : World → Type 0
+SaysSomeDamage w = (tables : List Opened) × (request : Request) × SaysDamage tables request w
 
-abbrev pub SayFailed : World → World → Type 0
-SayFailed old new = Rose old.beside.say_faults new.beside.say_faults
+-- An end of the run by a line has its cause, and damage has this one.
+abbrev pub EndCause : (World → Type 0) → LineEnd → World → World → Type 0
+EndCause Shows Next old new = Unit {0}
+EndCause Shows Quit old new = Unit {0}
+EndCause Shows (End status) old new = ((status ≡ 4) × DiskFailed old new) ⊎ ((status ≡ 5) × Shows new) ⊎ ((status ≡ 6) × SayFailed old new)
 
--- an end of the run by a line has its cause
-abbrev pub EndCause : LineEnd → World → World → Type 0
-EndCause Next old new = Unit {0}
-EndCause Quit old new = Unit {0}
-EndCause (End status) old new = ((status ≡ 4) × Rose old.seen.write_faults new.seen.write_faults) ⊎ ((status ≡ 6) × SayFailed old new)
+-- where bytes are told: the damage of these tables that a get met, and some damage
+abbrev pub LineShows : Type 0 → List Opened → Request → World → Type 0
+LineShows Told tables request w = Told → SaysDamage tables request w
 
--- a status that tells of a fault comes only where the count of such faults rose
-pub record StatusCause (status : ℕ) (old new : World) : Type 0 where
-  pub taking : status ≡ 3 → TakeFailed old new
-  pub device : status ≡ 4 → DiskFailed old new
-  pub saying : status ≡ 6 → SayFailed old new
+abbrev pub RunShows : Type 0 → World → Type 0
+RunShows Told w = Told → SaysSomeDamage w
 
 -- the statuses with which serving ends
 abbrev pub IsServing : ℕ → Type 0

@@ -1,40 +1,59 @@
 -- What an image that a crash may leave stands for, beside how many bytes had been said by its moment.
-use Rattle.std.specs.Prelude.{◌≡◌, ◌⊎◌, ◌≤◌, ℕ, Bool, IsTrue, List, [], ◌∷◌, ◌++◌, length, take}
-use Rattle.disk_trait.specs.World.{Image, World, Now}
-use Rattle.log_model.specs.Area.{LogIs}
+use Rattle.std.specs.Prelude.{◌≡◌, ◌⊎◌, ◌≤◌, ℕ, List, ◌∷◌, ◌++◌, length, take}
+use Rattle.disk_trait.specs.World.{Image, Now, World}
+use Rattle.image_model.specs.Stands.{IsStateOf, StandsForMap}
+use Rattle.line_model.specs.Replies.{Device, Reply, text_of}
+use Rattle.line_model.specs.Requests.{Request}
 use Rattle.map_model.specs.SortedMap.{Bytes}
-use Rattle.entry_model.specs.Entries.{Entry}
-use Rattle.surf_run.specs.Script.{Answers, WentOn}
+use Rattle.state_model.specs.Causes.{Why}
+use Rattle.state_model.specs.PlayLaws.{AnyState}
+use Rattle.state_model.specs.State.{State}
+use Rattle.state_model.specs.Steps.{Step, answer}
+use Rattle.state_model.specs.View.{state_map}
+use Rattle.store_commands.specs.Answered.{asked_here}
+use Rattle.surf_run.specs.Dialogue.{SoFar}
+use Rattle.surf_run.specs.Kind.{Kind}
 
--- where the device tells, each image that a crash may leave now has these entries
-abbrev pub Stands : Bool → List Entry → World → Type 0
-Stands tells entries w = IsTrue tells → Now (LogIs 0 entries) w
+-- each image that a crash may leave now stands for this state
+abbrev pub Stands : Kind → State → World → Type 0
+Stands kind s w = Now (IsStateOf kind.spelling s) w
 
--- Where the device tells, at some moment up to now so many bytes had been said, and each image that a crash may then leave
--- has these entries.
-abbrev pub Reached : Bool → World → ℕ → List Entry → Type 0
-Reached tells w n entries = IsTrue tells → (m : ℕ) × (m ≤ w.moment) × (w.beside.said_by m ≡ n) × ((image : Image) → w.leaves m image → LogIs 0 entries image)
+-- at some moment up to now so many bytes had been said, and each image that a crash may then leave stands for this state
+abbrev pub Reached : Kind → World → ℕ → State → Type 0
+Reached kind w n s = (m : ℕ) × (m ≤ w.moment) × (w.beside.said_by m ≡ n) × ((image : Image) → w.leaves m image → IsStateOf kind.spelling s image)
 
--- of any entries, whatever was said
-abbrev pub Anything : ℕ → List Entry → Type 0
-Anything n entries = Unit {0}
+-- the image stands for the map of this state
+abbrev pub HasMap : Kind → State → Image → Type 0
+HasMap kind s image = StandsForMap kind.spelling (state_map s) image
 
--- Of all that was said at the end, `told`, n bytes had been said; `before` was said before the run. The image has the
--- entries after some first lines. What had been said is a prefix of the replies to these, and all replies but the last had
--- been said whole: so they are as many as the whole replies said by then, or one more.
-pub record Acknowledged (start : List Entry) (lines : List Bytes) (before told : Bytes) (n : ℕ) (image : Image) : Type 0 where
+-- or the map that the answer to a request leaves
+abbrev pub HasEither : Kind → State → Request → Image → Type 0
+HasEither kind s request image = HasMap kind s image ⊎ HasMap kind (answer kind.filter_bytes s request).1 image
+
+-- the map behind this reply to the request; behind `device` the map before the request or that of its answer
+abbrev pub HasBehind : Kind → State → Request → Reply → State → Image → Type 0
+HasBehind kind s request reply next image = HasMap kind next image ⊎ ((reply ≡ Device) × HasEither kind s request image)
+
+-- Behind some lines, with this state and this text: nothing more had been said, and the image has the state's map, or, where
+-- a line follows, that of its answer; or a part of the reply to that line had been said, and the image has the map behind it.
+abbrev pub IsBehind : (Why → Type 0) → Kind → State → List Bytes → Bytes → Bytes → Image → Type 0
+IsBehind Cause kind now later answered told image =
+    ((told ≡ answered) × (HasMap kind now image ⊎ ((line : Bytes) × (more : List Bytes) × (later ≡ line ∷ more) × HasEither kind now (asked_here line) image)))
+    ⊎ ((line : Bytes) × (more : List Bytes) × (reply : Reply) × (next : State) × (part : Bytes) × (rest : Bytes) × (later ≡ line ∷ more)
+    × Step Cause kind.filter_bytes now (asked_here line) reply next × (text_of reply ≡ part ++ rest) × (told ≡ answered ++ part)
+    × HasBehind kind now (asked_here line) reply next image)
+
+-- Of all that was said at the end, `told`, n bytes had been said; `before` was said before the run. They are the replies to
+-- some first lines, all of them whole, and maybe a part of the next line's reply; and the image has the map after those
+-- lines, or after that one more. So the lines whose change it has are at least those whose whole reply had been said by
+-- then, and one more at most.
+pub record Acknowledged (Cause : Why → Type 0) (kind : Kind) (start : State) (lines : List Bytes) (before told : Bytes) (n : ℕ) (image : Image) : Type 0 where
   pub so_far : List Bytes
   pub later : List Bytes
   pub split : lines ≡ so_far ++ later
   pub text : Bytes
-  pub now : List Entry
-  pub answered : Answers start so_far text now
-  pub stands : LogIs 0 now image
+  pub most : ℕ
+  pub now : State
+  pub answered : SoFar Cause kind.filter_bytes AnyState 0 start so_far text most now
   pub within : n ≤ length told
-  pub most : (rest : Bytes) × (before ++ text ≡ take n told ++ rest)
-  pub earlier : List Bytes
-  pub said : Bytes
-  pub was : List Entry
-  pub went_on : WentOn Anything 0 start earlier said was
-  pub last : (so_far ≡ earlier) ⊎ ((line : Bytes) × (so_far ≡ earlier ++ line ∷ []))
-  pub least : (rest : Bytes) × (take n told ≡ before ++ said ++ rest)
+  pub behind : IsBehind Cause kind now later (before ++ text) (take n told) image

@@ -1,19 +1,18 @@
--- What opening does, and why it fails.
-use Rattle.std.specs.Prelude.{◌≡◌, ◌<◌, ℕ, Bool, IsTrue, List}
-use Rattle.disk_trait.specs.World.{World, Passes, Same}
-use Rattle.key_base.specs.Limits.{log_bytes}
-use Rattle.log_model.specs.Area.{LogIs}
-use Rattle.gate_log.specs.declared.fault.LogFault.{LogFault}
-use Rattle.gate_log.specs.declared.fault.LogFault.TheVariants.{Memory, Device, Shape}
-use Rattle.entry_model.specs.Entries.{Entry, filled}
-use Rattle.line_model.specs.Replies.{Reply}
+-- What opening does, and how a run ends whose store was not opened.
+use Rattle.std.specs.Prelude.{◌≡◌, ◌⊎◌, ◌++◌, ℕ, [], ◌∷◌, codes}
+use Rattle.byte_fields.specs.Faults.{Fault}
+use Rattle.byte_fields.specs.declared.parts.Damage.{Damage}
+use Rattle.disk_trait.specs.World.{Image, Passes, Same, World}
+use Rattle.filter_api.specs.Spellings.{Spelling}
+use Rattle.image_model.specs.Opening.{FirstDamage}
+use Rattle.line_model.specs.Replies.{text_of}
 use Rattle.line_model.specs.Replies as replies
-use Rattle.byte_fields.specs.declared.parts.Part.TheVariants.{Log}
-use Rattle.byte_fields.specs.declared.parts.Damage.TheVariants as damage
-use Rattle.surf_run.specs.Causes.{NoFall, DiskFailed}
-use Rattle.surf_run.specs.Crash.{Stands}
-use Rattle.surf_run.specs.StoreIs.{StoreIs}
-use Rattle.surf_run.specs.declared.store.Store.{Store}
+use Rattle.manifest_model.specs.Slots.{IsNoStore}
+use Rattle.map_model.specs.SortedMap.{Bytes}
+use Rattle.store_core.specs.declared.error.StoreError.{StoreError}
+use Rattle.store_core.specs.declared.error.StoreError.TheVariants as error
+use Rattle.surf_run.specs.Causes.{NoFall}
+use Rattle.table_file.specs.Faults.{filter_fault_of}
 
 -- nothing is written, and nothing changes beside the device
 pub record OpenMoves (old new : World) : Type 0 where
@@ -22,32 +21,52 @@ pub record OpenMoves (old new : World) : Type 0 where
   pub beside : new.beside ≡ old.beside
   pub time : Passes Same old new
 
--- want of memory is free; the device failed only where a call of it did
-abbrev pub OpenCause : World → World → LogFault → Type 0
-OpenCause old new Memory = Unit {0}
-OpenCause old new (Device fault) = DiskFailed old new
-OpenCause old new (Shape at rule) = Unit {0}
+-- why opening is refused, and nothing else
+abbrev pub IsOpening : StoreError → Type 0
+IsOpening error.Memory = Unit {0}
+IsOpening (error.Device cause) = Unit {0}
+IsOpening (error.Damaged damage) = Unit {0}
+IsOpening error.NotAStore = Unit {0}
+IsOpening error.Stopped = ⊥
+IsOpening (error.Limit limit) = ⊥
+IsOpening (error.Full need gap) = ⊥
+IsOpening error.AlreadyAStore = ⊥
+IsOpening (error.BadSettings field) = ⊥
 
--- The store is that of some entries, which fit the log area. Where the device tells, they are those that it held, and each
--- image that a crash may leave now has them.
-pub record Opens (tells : Bool) (old new : World) (store : Store) : Type 0 where
-  pub entries : List Entry
-  pub within : filled entries < log_bytes
-  pub holds : StoreIs entries store
-  pub held : IsTrue tells → LogIs 0 entries old.seen.held
-  pub stands : Stands tells entries new
-
--- the log breaks a rule of its format
-abbrev pub log_damage : ℕ → ℕ → Reply
-log_damage at rule = replies.Damaged (damage.Shape Log at rule)
+-- the line of a device that holds no store
+abbrev pub no_store_text : Bytes
+no_store_text = codes "not a store" ++ 10 ∷ []
 
 -- the last line and the status of a run whose store was not opened
-abbrev pub reply_to : LogFault → Reply
-reply_to Memory = replies.Memory
-reply_to (Device fault) = replies.Device
-reply_to (Shape at rule) = log_damage at rule
+abbrev pub opening_text : StoreError → Bytes
+opening_text error.Memory = text_of replies.Memory
+opening_text (error.Device cause) = text_of replies.Device
+opening_text error.Stopped = []
+opening_text (error.Limit limit) = []
+opening_text (error.Full need gap) = []
+opening_text (error.Damaged damage) = text_of (replies.Damaged damage)
+opening_text error.NotAStore = no_store_text
+opening_text error.AlreadyAStore = []
+opening_text (error.BadSettings field) = []
 
-abbrev pub status_of : LogFault → ℕ
-status_of Memory = 7
-status_of (Device fault) = 4
-status_of (Shape at rule) = 5
+abbrev pub opening_status : StoreError → ℕ
+opening_status error.Memory = 7
+opening_status (error.Device cause) = 4
+opening_status error.Stopped = 4
+opening_status (error.Limit limit) = 4
+opening_status (error.Full need gap) = 4
+opening_status (error.Damaged damage) = 5
+opening_status error.NotAStore = 8
+opening_status error.AlreadyAStore = 4
+opening_status (error.BadSettings field) = 4
+
+-- the statuses and last lines of a run whose device, or memory, failed it before the first line
+abbrev pub IsFreeText : ℕ → Bytes → Type 0
+IsFreeText status text = ((status ≡ 4) × (text ≡ text_of replies.Device)) ⊎ ((status ≡ 7) × (text ≡ text_of replies.Memory))
+
+-- or whose image has this damage first, or is no store
+abbrev pub IsOpeningText : Spelling → (Bytes → Fault) → Image → ℕ → Bytes → Type 0
+IsOpeningText spelling first image status text =
+    IsFreeText status text
+    ⊎ ((status ≡ 5) × (d : Damage) × FirstDamage spelling (filter_fault_of first) image d × (text ≡ text_of (replies.Damaged d)))
+    ⊎ ((status ≡ 8) × IsNoStore image × (text ≡ no_store_text))

@@ -1,24 +1,21 @@
--- When an entry is not written.
-use Rattle.std.specs.Prelude.{◌≡◌, ◌<◌, ◌≤◌, List}
-use Rattle.disk_trait.specs.World.{World, Rose}
-use Rattle.entry_model.specs.Entries.{Entry, need, gap}
-use Rattle.surf_run.specs.declared.store.WriteError.{WriteError}
-use Rattle.surf_run.specs.declared.store.WriteError.TheVariants.{Memory, Full, Device}
+-- How a line ends whose call of the store was refused.
+use Rattle.std.specs.Prelude.{Result, Ok, Err}
+use Rattle.store_core.specs.declared.error.StoreError.{StoreError}
+use Rattle.store_core.specs.declared.error.StoreError.TheVariants as error
+use Rattle.surf_run.specs.declared.end.LineEnd.{LineEnd}
+use Rattle.surf_run.specs.declared.end.LineEnd.TheVariants.{End, Next}
 
--- Want of memory is free; the room is named exactly; the device may fail only where there was room.
-abbrev pub RefusedFor : List Entry → Entry → WriteError → Type 0
-RefusedFor old entry Memory = Unit {0}
-RefusedFor old entry (Full n g) = (n ≡ need entry) × (g ≡ gap old) × (gap old < need entry)
-RefusedFor old entry (Device fault) = need entry ≤ gap old
+abbrev pub end_of_refusal : StoreError → LineEnd
+end_of_refusal error.Memory = Next
+end_of_refusal (error.Device cause) = End 4
+end_of_refusal error.Stopped = Next
+end_of_refusal (error.Limit limit) = Next
+end_of_refusal (error.Full need gap) = Next
+end_of_refusal (error.Damaged damage) = End 5
+end_of_refusal error.NotAStore = Next
+end_of_refusal error.AlreadyAStore = Next
+end_of_refusal (error.BadSettings field) = Next
 
--- the device failed only where a write or a sync did
-abbrev pub WriteCause : World → World → WriteError → Type 0
-WriteCause before after Memory = Unit {0}
-WriteCause before after (Full n g) = Unit {0}
-WriteCause before after (Device fault) = Rose before.seen.write_faults after.seen.write_faults
-
--- where the device was not the cause
-abbrev pub UnlessDevice : Type 0 → WriteError → Type 0
-UnlessDevice P Memory = P
-UnlessDevice P (Full n g) = P
-UnlessDevice P (Device fault) = Unit {0}
+abbrev pub end_of_change : {T : Type 0} → Result T StoreError → LineEnd
+end_of_change (Ok done) = Next
+end_of_change (Err why) = end_of_refusal why

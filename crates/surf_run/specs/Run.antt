@@ -1,74 +1,104 @@
--- What a run promises.
-use Rattle.std.specs.Prelude.{◌≡◌, ◌⊎◌, ◌<◌, ◌++◌, ℕ, Bool, IsTrue, List, [], ◌∷◌, codes}
-use Rattle.disk_trait.specs.World.{World, Image}
-use Rattle.outside.specs.During.{During}
-use Rattle.outside.specs.Streams.{SaysPrefix}
-use Rattle.std.specs.List.{AllByRecursion}
-use Rattle.key_base.specs.Limits.{log_bytes}
-use Rattle.log_model.specs.Area.{LogIs, LogBreaks}
-use Rattle.entry_model.specs.Entries.{IsEntry, Entry, filled}
+-- What a run says that answers no line, by what its words ask for.
+use Rattle.std.specs.Prelude.{◌≡◌, ◌⊎◌, ◌++◌, ◌∷◌, [], ℕ, List, Some, codes}
+use Rattle.clap.specs.Walk.{Text}
+use Rattle.disk_trait.specs.World.{World}
+use Rattle.filter_api.specs.Spellings.{Spelling}
+use Rattle.filter_api.specs.declared.settings.Field.{Field}
+use Rattle.format_command.specs.Ends.{Unserved}
+use Rattle.format_command.specs.Formats.{Formatted, WritesInFront, bad_settings_text}
+use Rattle.line_model.specs.Replies.{Memory, text_of}
 use Rattle.map_model.specs.SortedMap.{Bytes}
-use Rattle.line_model.specs.Replies.{Device, Memory, text_of}
-use Rattle.surf_run.specs.Causes.{IsServing, TakeFailed, DiskFailed, SayFailed}
-use Rattle.surf_run.specs.Open.{OpenMoves, log_damage}
-use Rattle.surf_run.specs.Outcome.{Outcome}
-
--- the one word that this program knows
-abbrev pub serve_words : List Bytes
-serve_words = codes "serve" ∷ []
+use Rattle.program_words.specs.Asked.{AreRefusedWords, IsFormat, IsHelp}
+use Rattle.program_words.specs.NewStores.{first_bad_word}
+use Rattle.program_words.specs.declared.asked.Asked.{Asked}
+use Rattle.program_words.specs.declared.asked.Asked.TheVariants as asked
+use Rattle.program_words.specs.declared.new_store.NewStore.{NewStore}
+use Rattle.program_words.specs.declared.new_store.Wanted.{Wanted}
 
 -- the line that wrong words get
 abbrev pub usage_text : Bytes
 usage_text = codes "usage: surfstore PATH format|serve|load" ++ 10 ∷ []
 
--- the log is damaged, there and so, where the device tells
-abbrev pub IsDamage : Bool → Image → ℕ → ℕ → Type 0
-IsDamage tells image at rule = IsTrue tells → LogBreaks 0 at rule image
+-- there was no memory to find out what the words ask for
+abbrev pub IsMemoryText : ℕ → Bytes → Type 0
+IsMemoryText status text = (status ≡ 7) × (text ≡ text_of Memory)
 
--- the last line of a run that answers no line, by its status, over what the device held
-abbrev pub IsLastText : Bool → Image → ℕ → Bytes → Type 0
-IsLastText tells image status text =
-    ((status ≡ 2) × (text ≡ usage_text)) ⊎ ((status ≡ 4) × (text ≡ text_of Device)) ⊎ ((status ≡ 7) × (text ≡ text_of Memory))
-    ⊎ ((status ≡ 5) × (at : ℕ) × (rule : ℕ) × IsDamage tells image at rule × (text ≡ text_of (log_damage at rule)))
+abbrev pub IsUsageText : ℕ → Bytes → Type 0
+IsUsageText status text = ((status ≡ 2) × (text ≡ usage_text)) ⊎ IsMemoryText status text
 
--- it was said whole, or a prefix of it at 6
-abbrev pub LastLine : Bool → ℕ → World → World → Type 0
-LastLine tells status old new = (meant : ℕ) × (text : Bytes) × IsLastText tells old.seen.held meant text
-    × (((status ≡ meant) × (new.beside.said ≡ old.beside.said ++ text)) ⊎ ((status ≡ 6) × SaysPrefix text old.beside.said new.beside.said))
+abbrev pub IsBadSettingsText : Field → ℕ → Bytes → Type 0
+IsBadSettingsText field status text = ((status ≡ 8) × (text ≡ bad_settings_text field)) ⊎ IsMemoryText status text
 
--- No line was answered: nothing was taken, and each image that a crash may leave at any moment is one that it might have
--- left at the start.
-pub record Unserved (tells : Bool) (status : ℕ) (old new : World) : Type 0 where
-  pub input : new.beside.to_take ≡ old.beside.to_take
-  pub line : LastLine tells status old new
-  pub crash : During (λ n image. old.leaves old.moment image) old new
+-- help, or the version: a text of clap's
+abbrev pub IsHelpText : ℕ → Bytes → Type 0
+IsHelpText status text = (status ≡ 0) ⊎ IsMemoryText status text
 
--- the lines were answered, or none was
-abbrev pub Ends : Bool → ℕ → List Entry → World → World → Type 0
-Ends tells status start old new = (IsServing status × Outcome tells status start old new) ⊎ Unserved tells status old new
+-- The store was made or refused, with nothing taken and nothing written behind the first log area's first gate; or there was no
+-- memory to find out which one is wanted.
+abbrev pub FormatEnds : Spelling → NewStore → ℕ → World → World → Type 0
+FormatEnds spelling store status old new =
+    (Formatted spelling store.settings store.pages status old new × (new.beside.to_take ≡ old.beside.to_take) × WritesInFront old new)
+    ⊎ Unserved IsMemoryText status old new
 
--- The store was opened, with nothing written, taken or said by then, over entries that keep the limits and fit the log
--- area, where the device tells over those that it held; and lines were answered from them.
-pub record Serves (tells : Bool) (status : ℕ) (old opened new : World) : Type 0 where
-  pub opens : OpenMoves old opened
-  pub start : List Entry
-  pub sound : AllByRecursion IsEntry start
-  pub within : filled start < log_bytes
-  pub held : IsTrue tells → LogIs 0 start old.seen.held
-  pub serving : IsServing status
-  pub outcome : Outcome tells status start opened new
+-- words that clap refuses or answers, or that want a store with a number out of range
+abbrev pub AskNothing : List Text → Type 0
+AskNothing words = AreRefusedWords words ⊎ IsHelp words ⊎ ((wanted : Wanted) × (field : Field) × IsFormat words wanted × (first_bad_word wanted ≡ Some field))
 
--- the log of an image is damaged, and the last line says where and how
-abbrev pub Damaged : Image → World → World → Type 0
-Damaged image old new = (at : ℕ) × (rule : ℕ) × LogBreaks 0 at rule image × (new.beside.said ≡ old.beside.said ++ text_of (log_damage at rule))
+-- ---- what is so where this was asked for, or there was no memory
 
--- some call failed
-abbrev pub SomeFailed : World → World → Type 0
-SomeFailed old new = TakeFailed old new ⊎ DiskFailed old new ⊎ SayFailed old new
+abbrev pub IfServe : Asked → Type 0 → Type 0
+IfServe asked.Serve Holds = Holds
+IfServe asked.Memory Holds = Holds
+IfServe (asked.Format store) Holds = Unit {0}
+IfServe (asked.BadSettings field) Holds = Unit {0}
+IfServe (asked.Help text) Holds = Unit {0}
+IfServe asked.Refused Holds = Unit {0}
 
--- the input was read to its end or to `quit`, or 2^40 bytes of it were; or nothing was taken, since there was no memory or
--- the log is damaged
-abbrev pub Completed : Bool → ℕ → World → World → Type 0
-Completed tells status old new =
-    (status ≡ 0) ⊎ (status ≡ 9) ⊎ ((status ≡ 7) × (new.beside.to_take ≡ old.beside.to_take))
-    ⊎ ((status ≡ 5) × (new.beside.to_take ≡ old.beside.to_take) × (at : ℕ) × (rule : ℕ) × IsDamage tells old.seen.held at rule)
+abbrev pub IfRefused : Asked → Type 0 → Type 0
+IfRefused asked.Serve Holds = Unit {0}
+IfRefused asked.Memory Holds = Holds
+IfRefused (asked.Format store) Holds = Unit {0}
+IfRefused (asked.BadSettings field) Holds = Unit {0}
+IfRefused (asked.Help text) Holds = Unit {0}
+IfRefused asked.Refused Holds = Holds
+
+abbrev pub IfUnserved : Asked → Type 0 → Type 0
+IfUnserved asked.Serve Holds = Unit {0}
+IfUnserved asked.Memory Holds = Holds
+IfUnserved (asked.Format store) Holds = Unit {0}
+IfUnserved (asked.BadSettings field) Holds = Holds
+IfUnserved (asked.Help text) Holds = Holds
+IfUnserved asked.Refused Holds = Holds
+
+abbrev pub IfHelp : Asked → Type 0 → Type 0
+IfHelp asked.Serve Holds = Unit {0}
+IfHelp asked.Memory Holds = Holds
+IfHelp (asked.Format store) Holds = Unit {0}
+IfHelp (asked.BadSettings field) Holds = Unit {0}
+IfHelp (asked.Help text) Holds = Holds
+IfHelp asked.Refused Holds = Unit {0}
+
+abbrev pub IfFormat : Asked → (NewStore → Type 0) → Type 0 → Type 0
+IfFormat asked.Serve Holds Starved = Unit {0}
+IfFormat asked.Memory Holds Starved = Starved
+IfFormat (asked.Format store) Holds Starved = Holds store
+IfFormat (asked.BadSettings field) Holds Starved = Unit {0}
+IfFormat (asked.Help text) Holds Starved = Unit {0}
+IfFormat asked.Refused Holds Starved = Unit {0}
+
+abbrev pub IfBadSettings : Asked → (Field → Type 0) → Type 0 → Type 0
+IfBadSettings asked.Serve Holds Starved = Unit {0}
+IfBadSettings asked.Memory Holds Starved = Starved
+IfBadSettings (asked.Format store) Holds Starved = Unit {0}
+IfBadSettings (asked.BadSettings field) Holds Starved = Holds field
+IfBadSettings (asked.Help text) Holds Starved = Unit {0}
+IfBadSettings asked.Refused Holds Starved = Unit {0}
+
+-- only where it was refused, and nothing else
+abbrev pub IsRefusedAsk : Asked → Type 0
+IsRefusedAsk asked.Serve = ⊥
+IsRefusedAsk asked.Memory = ⊥
+IsRefusedAsk (asked.Format store) = ⊥
+IsRefusedAsk (asked.BadSettings field) = ⊥
+IsRefusedAsk (asked.Help text) = ⊥
+IsRefusedAsk asked.Refused = Unit {0}

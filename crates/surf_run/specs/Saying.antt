@@ -1,14 +1,15 @@
 -- How the saying of a reply ended.
 use Rattle.std.specs.Prelude.{◌≡◌, ◌⊎◌, ◌++◌, ◌<◌, ◌≤◌, ◌^◌, length}
+use Rattle.byte_fields.specs.declared.parts.Damage.TheVariants.{Shape, Sum}
 use Rattle.disk_trait.specs.World.{World}
 use Rattle.key_base.specs.Limits.{max_value_bytes}
-use Rattle.outside.specs.Streams.{SaysPrefix}
+use Rattle.line_model.specs.Replies as line
 use Rattle.line_model.specs.Replies.{Reply, text_of}
-use Rattle.byte_fields.specs.declared.parts.Damage.TheVariants.{Shape}
+use Rattle.outside.specs.Streams.{SaysPrefix}
 use Rattle.store_commands.specs.declared.reply.Reply.{Reply as Spoken}
 use Rattle.store_commands.specs.declared.reply.Reply.TheVariants as spoken
 use Rattle.surf_run.specs.declared.end.LineEnd.{LineEnd}
-use Rattle.surf_run.specs.declared.end.LineEnd.TheVariants.{End}
+use Rattle.surf_run.specs.declared.end.LineEnd.TheVariants.{End, Next, Quit}
 
 -- a reply that the program says: with a value that keeps its limit, and with numbers below 2^64
 abbrev pub IsShort : Spoken → Type 0
@@ -19,9 +20,12 @@ IsShort spoken.Bye = Unit {0}
 IsShort (spoken.BadLine code) = code < 2 ^ 64
 IsShort (spoken.LongKey size) = size < 2 ^ 64
 IsShort (spoken.LongValue size) = size < 2 ^ 64
+IsShort spoken.ManyTables = Unit {0}
+IsShort spoken.LastEpoch = Unit {0}
 IsShort (spoken.Full need gap) = (need < 2 ^ 64) × (gap < 2 ^ 64)
 IsShort spoken.Memory = Unit {0}
 IsShort spoken.Device = Unit {0}
+IsShort (spoken.Damaged (Sum part at kept seen)) = at < 2 ^ 64
 IsShort (spoken.Damaged (Shape part at rule)) = (at < 2 ^ 64) × (rule < 2 ^ 64)
 IsShort reply = ⊥
 
@@ -29,3 +33,10 @@ IsShort reply = ⊥
 abbrev pub Says : LineEnd → Reply → LineEnd → World → World → Type 0
 Says end reply result a b =
     SaysPrefix (text_of reply) a.beside.said b.beside.said × (((result ≡ end) × (b.beside.said ≡ a.beside.said ++ text_of reply)) ⊎ (result ≡ End 6))
+
+-- how a line ends whose reply was said whole
+abbrev pub end_by : Reply → LineEnd
+end_by line.Bye = Quit
+end_by line.Device = End 4
+end_by (line.Damaged damage) = End 5
+end_by reply = Next

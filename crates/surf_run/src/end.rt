@@ -7,6 +7,6 @@ pub enum LineEnd {
     Next,
     /// The line was `quit`.
     Quit,
-    /// The run ends with this status.
+    /// The run ends with this status: 4 where the device failed, 5 where it is damaged, 6 where the output failed.
     End(u8),
 }

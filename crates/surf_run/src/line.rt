@@ -1,181 +1,286 @@
 //! A line, answered.
-ghost use Rattle.std.specs.Prelude.{◌≡◌, ◌<◌, ◌≤◌, ◌++◌, [], ◌∷◌, List, length, IsTrue, IfSome, None, Some};
-ghost use Rattle.gate_log.specs.Values.{value_of};
-ghost use Rattle.entry_model.specs.Entries.{Entry, IsEntry, entry_of};
-ghost use Rattle.store_commands.specs.Answered.{asked_here};
-ghost use Rattle.line_model.specs.Requests.{Put, Del, Get, Bad};
-ghost use Rattle.line_model.specs.Limits.{key_limit, value_limit};
-ghost use Rattle.surf_run.specs.Script.{Step, Write};
+ghost use Rattle.std.specs.Prelude.{◌≡◌, ◌≢◌, ◌⊎◌, ◌<◌, false, length, IfSome, IsTrue, Some, None};
 ghost use Rattle.std.specs.Option.{option_map};
+ghost use Rattle.line_model.specs.Requests.{Bad, Del, Flush, Get, Put, Quit};
+ghost use Rattle.line_model.specs.Replies.{Reply as LineReply};
+ghost use Rattle.outside.specs.Streams.{SayMoves};
+ghost use Rattle.state_model.specs.State.{State};
+ghost use Rattle.store_commands.specs.Answered.{IsAskedHere, asked_here};
 ghost use Rattle.store_commands.specs.Asks.{asked};
 ghost use Rattle.store_commands.specs.Spoken.{spoken};
-ghost use Rattle.surf_run.specs.StoreIs.{StoreIs};
-ghost use Rattle.surf_run.specs.Causes.{EndCause, LineMoves};
-ghost use Rattle.surf_run.specs.Crash.{Stands};
-ghost use Rattle.surf_run.specs.Saying.{IsShort};
-ghost use Rattle.surf_run.specs.Serving.{Answered};
+ghost use Rattle.store_core.specs.Answers.{told, told_change, told_limit};
+ghost use Rattle.store_core.specs.Tied.{Tied};
+ghost use Rattle.surf_run.specs.declared.end.LineEnd.TheVariants.{End};
+ghost use Rattle.surf_run.specs.Answering.{EndsLine, RunsOn};
+ghost use Rattle.surf_run.specs.Causes.{EndCause, LineMoves, LineShows, SayFailed};
+ghost use Rattle.surf_run.specs.Kind.{filter_kind};
+ghost use Rattle.surf_run.specs.Saying.{IsShort, Says, end_by};
+ghost use Rattle.surf_run.specs.Refusals.{end_of_change, end_of_refusal};
+ghost use Rattle.table_model.specs.Tables.{filter_bytes_of};
 
 use crate::end::LineEnd;
 use crate::saying::say_reply;
-use crate::store::{Store, WriteError};
-use key_base::{MAX_KEY_BYTES, MAX_VALUE_BYTES};
+use filter_api::RangeFilter;
 use outside::Outside;
 use store_commands::{BadLine, Reply, Request, Scratch, parse_answered};
+use store_core::{Limit, Store, StoreError};
 
-// Writes an entry that keeps the limits.
-fn write_line<W: Outside>(
-    store: &mut Store,
-    buffer: &mut [u8],
+// The bytes in which a reply is laid out, a piece at a time.
+const REPLY_BYTES: usize = 4_096;
+
+// The reply that tells a limit.
+fn limit_reply<'a>(limit: Limit) -> Reply<'a>
+    ensures told { spoken result ≡ told_limit limit }
+    ensures short { IsShort result }
+{
+    match limit {
+        Limit::Key(size) => Reply::LongKey(size),
+        Limit::Value(size) => Reply::LongValue(size),
+        Limit::Tables => Reply::ManyTables,
+        Limit::Epoch => Reply::LastEpoch,
+    }
+}
+
+// The reply that tells a refusal, if a running store refuses so.
+fn reply_of<'a>(why: StoreError) -> Option<Reply<'a>>
+    ensures told { option_map spoken result ≡ told why }
+    ensures short { IfSome result IsShort }
+{
+    match why {
+        StoreError::Memory => Some(Reply::Memory),
+        StoreError::Device(_) => Some(Reply::Device),
+        StoreError::Limit(limit) => Some(limit_reply(limit)),
+        StoreError::Full { need, gap } => Some(Reply::Full { need, gap }),
+        StoreError::Damaged(damage) => Some(Reply::Damaged(damage)),
+        StoreError::Stopped
+        | StoreError::NotAStore
+        | StoreError::AlreadyAStore
+        | StoreError::BadSettings(_) => None,
+    }
+}
+
+// How a line ends whose call was refused.
+fn end_of(why: StoreError) -> LineEnd
+    ensures { result ≡ end_of_refusal why }
+{
+    match why {
+        StoreError::Device(_) => LineEnd::End(4),
+        StoreError::Damaged(_) => LineEnd::End(5),
+        _ => LineEnd::Next,
+    }
+}
+
+// Says why a call was refused.
+fn say_refusal<W: Outside>(out: &mut W, buffer: &mut [u8], why: StoreError) -> LineEnd
+    requires buffer { 0 < length buffer.old }
+    requires told { told why ≢ None }
+    ensures says { (reply : LineReply) → IsTrue W.tells_output → told why ≡ Some reply → Says (end_by reply) reply result (W.world out.old) (W.world out.new) }
+    ensures ends { (result ≡ end_of_refusal why) ⊎ ((result ≡ End 6) × SayFailed (W.world out.old) (W.world out.new)) }
+    ensures moves { SayMoves (W.world out.old) (W.world out.new) }
+{
+    match reply_of(why) {
+        Some(reply) => say_reply(out, buffer, &reply, end_of(why)),
+        None => unreachable!(),
+    }
+}
+
+// Says that a change is done, or why it was refused.
+fn say_change<W: Outside>(
     out: &mut W,
-    key: &[u8],
-    value: Option<&[u8]>,
+    buffer: &mut [u8],
+    changed: Result<(), StoreError>,
 ) -> LineEnd
-    requires sound { IsEntry (entry_of key.now (value_of value)) }
-    requires room { 0 < length buffer.old }
-    ensures answered { (entries : List Entry) → IsTrue W.tells_output → StoreIs entries store.old → Stands W.tells entries (W.world out.old)
-        → Answered W.tells result entries (Write entries (entry_of key.now (value_of value.entry))) store.new (W.world out.old) (W.world out.new) }
-    ensures cause { EndCause result (W.world out.old) (W.world out.new) }
-    ensures moves { LineMoves (W.world out.old) (W.world out.new) }
+    requires buffer { 0 < length buffer.old }
+    requires told { told_change changed ≢ None }
+    ensures says { (reply : LineReply) → IsTrue W.tells_output → told_change changed ≡ Some reply → Says (end_by reply) reply result (W.world out.old) (W.world out.new) }
+    ensures ends { (result ≡ end_of_change changed) ⊎ ((result ≡ End 6) × SayFailed (W.world out.old) (W.world out.new)) }
+    ensures moves { SayMoves (W.world out.old) (W.world out.new) }
 {
-    let error = match store.write(out, key, value) {
-        Ok(()) => return say_reply(out, buffer, &Reply::Done, LineEnd::Next),
-        Err(error) => error,
-    };
-    match error {
-        WriteError::Memory => say_reply(out, buffer, &Reply::Memory, LineEnd::Next),
-        WriteError::Full { need, gap } => say_reply(
-            out,
-            buffer,
-            &Reply::Full { need, gap },
-            LineEnd::Next,
-        ),
-        WriteError::Device(_) => say_reply(out, buffer, &Reply::Device, LineEnd::End(4)),
+    match changed {
+        Ok(()) => say_reply(out, buffer, &Reply::Done, LineEnd::Next),
+        Err(why) => say_refusal(out, buffer, why),
     }
 }
 
-// Why a key is refused.
-fn key_refusal<'a>(key: &[u8]) -> Option<Reply<'a>>
-    ensures limit { option_map spoken result ≡ key_limit key.now }
-    ensures short { IfSome result IsShort }
-{
-    if key.is_empty() || key.len() > MAX_KEY_BYTES {
-        Some(Reply::LongKey(key.len() as u64))
-    } else {
-        None
-    }
-}
-
-// Why a value is refused.
-fn value_refusal<'a>(value: &[u8]) -> Option<Reply<'a>>
-    ensures limit { option_map spoken result ≡ value_limit value.now }
-    ensures short { IfSome result IsShort }
-{
-    if value.len() > MAX_VALUE_BYTES {
-        Some(Reply::LongValue(value.len() as u64))
-    } else {
-        None
-    }
-}
-
-fn put_line<W: Outside>(
-    store: &mut Store,
+fn put_line<F: RangeFilter, W: Outside>(
+    store: &mut Store<F>,
     buffer: &mut [u8],
     out: &mut W,
     key: &[u8],
     value: &[u8],
 ) -> LineEnd
-    requires { 0 < length buffer.old }
-    ensures answered { (entries : List Entry) → IsTrue W.tells_output → StoreIs entries store.old → Stands W.tells entries (W.world out.old)
-        → Answered W.tells result entries (Step entries (Put key.now value.now)) store.new (W.world out.old) (W.world out.new) }
-    ensures cause { EndCause result (W.world out.old) (W.world out.new) }
+    requires buffer { 0 < length buffer.old }
+    requires running { store.old.stopped ≡ false }
+    ensures answered { (s : State) → IsTrue W.tells → IsTrue W.tells_output → Tied F.spelling (filter_bytes_of F.spelling F.built_cutoff) store.old s (W.world out.old)
+        → EndsLine (filter_kind F.spelling F.built_cutoff) result s (Put key.now value.now) store.new (W.world out.old) (W.world out.new) }
+    ensures running { RunsOn result store.new.stopped }
+    ensures cause { EndCause (LineShows (IsTrue W.tells × IsTrue W.tells_output) store.old.tables (Put key.now value.now)) result (W.world out.old) (W.world out.new) }
     ensures moves { LineMoves (W.world out.old) (W.world out.new) }
 {
-    if let Some(limit) = key_refusal(key) {
-        return say_reply(out, buffer, &limit, LineEnd::Next);
-    }
-    if let Some(limit) = value_refusal(value) {
-        return say_reply(out, buffer, &limit, LineEnd::Next);
-    }
-    write_line(store, buffer, out, key, Some(value))
+    let changed = store.put(out, key, value);
+    store.whole_law();
+    say_change(out, buffer, changed)
 }
 
-fn del_line<W: Outside>(store: &mut Store, buffer: &mut [u8], out: &mut W, key: &[u8]) -> LineEnd
-    requires { 0 < length buffer.old }
-    ensures answered { (entries : List Entry) → IsTrue W.tells_output → StoreIs entries store.old → Stands W.tells entries (W.world out.old)
-        → Answered W.tells result entries (Step entries (Del key.now)) store.new (W.world out.old) (W.world out.new) }
-    ensures cause { EndCause result (W.world out.old) (W.world out.new) }
+fn del_line<F: RangeFilter, W: Outside>(
+    store: &mut Store<F>,
+    buffer: &mut [u8],
+    out: &mut W,
+    key: &[u8],
+) -> LineEnd
+    requires buffer { 0 < length buffer.old }
+    requires running { store.old.stopped ≡ false }
+    ensures answered { (s : State) → IsTrue W.tells → IsTrue W.tells_output → Tied F.spelling (filter_bytes_of F.spelling F.built_cutoff) store.old s (W.world out.old)
+        → EndsLine (filter_kind F.spelling F.built_cutoff) result s (Del key.now) store.new (W.world out.old) (W.world out.new) }
+    ensures running { RunsOn result store.new.stopped }
+    ensures cause { EndCause (LineShows (IsTrue W.tells × IsTrue W.tells_output) store.old.tables (Del key.now)) result (W.world out.old) (W.world out.new) }
     ensures moves { LineMoves (W.world out.old) (W.world out.new) }
 {
-    if let Some(limit) = key_refusal(key) {
-        return say_reply(out, buffer, &limit, LineEnd::Next);
-    }
-    write_line(store, buffer, out, key, None)
+    let changed = store.delete(out, key);
+    store.whole_law();
+    say_change(out, buffer, changed)
 }
 
-fn get_line<W: Outside>(store: &Store, buffer: &mut [u8], out: &mut W, key: &[u8]) -> LineEnd
-    requires { 0 < length buffer.old }
-    ensures answered { (entries : List Entry) → IsTrue W.tells_output → StoreIs entries store.now → Stands W.tells entries (W.world out.old)
-        → Answered W.tells result entries (Step entries (Get key.now)) store.now (W.world out.old) (W.world out.new) }
-    ensures cause { EndCause result (W.world out.old) (W.world out.new) }
+fn flush_line<F: RangeFilter, W: Outside>(
+    store: &mut Store<F>,
+    buffer: &mut [u8],
+    out: &mut W,
+) -> LineEnd
+    requires buffer { 0 < length buffer.old }
+    requires running { store.old.stopped ≡ false }
+    ensures answered { (s : State) → IsTrue W.tells → IsTrue W.tells_output → Tied F.spelling (filter_bytes_of F.spelling F.built_cutoff) store.old s (W.world out.old)
+        → EndsLine (filter_kind F.spelling F.built_cutoff) result s Flush store.new (W.world out.old) (W.world out.new) }
+    ensures running { RunsOn result store.new.stopped }
+    ensures cause { EndCause (LineShows (IsTrue W.tells × IsTrue W.tells_output) store.old.tables Flush) result (W.world out.old) (W.world out.new) }
     ensures moves { LineMoves (W.world out.old) (W.world out.new) }
 {
-    if let Some(limit) = key_refusal(key) {
-        return say_reply(out, buffer, &limit, LineEnd::Next);
-    }
-    match store.get(key) {
-        Some(value) => say_reply(out, buffer, &Reply::Value(value), LineEnd::Next),
-        None => say_reply(out, buffer, &Reply::Missing, LineEnd::Next),
+    let changed = store.flush(out);
+    store.whole_law();
+    say_change(out, buffer, changed)
+}
+
+fn get_line<F: RangeFilter, W: Outside>(
+    store: &mut Store<F>,
+    buffer: &mut [u8],
+    out: &mut W,
+    key: &[u8],
+) -> LineEnd
+    requires buffer { 0 < length buffer.old }
+    requires running { store.old.stopped ≡ false }
+    ensures answered { (s : State) → IsTrue W.tells → IsTrue W.tells_output → Tied F.spelling (filter_bytes_of F.spelling F.built_cutoff) store.old s (W.world out.old)
+        → EndsLine (filter_kind F.spelling F.built_cutoff) result s (Get key.now) store.new (W.world out.old) (W.world out.new) }
+    ensures running { RunsOn result store.new.stopped }
+    ensures cause { EndCause (LineShows (IsTrue W.tells × IsTrue W.tells_output) store.old.tables (Get key.now)) result (W.world out.old) (W.world out.new) }
+    ensures moves { LineMoves (W.world out.old) (W.world out.new) }
+{
+    store.whole_law();
+    match store.get(out, key) {
+        Ok(Some(value)) => say_reply(out, buffer, &Reply::Value(value), LineEnd::Next),
+        Ok(None) => say_reply(out, buffer, &Reply::Missing, LineEnd::Next),
+        Err(why) => say_refusal(out, buffer, why),
     }
 }
 
-fn bad_line<W: Outside>(store: &Store, buffer: &mut [u8], out: &mut W, code: u8) -> LineEnd
-    requires { 0 < length buffer.old }
-    ensures answered { (entries : List Entry) → IsTrue W.tells_output → StoreIs entries store.now → Stands W.tells entries (W.world out.old)
-        → Answered W.tells result entries (Step entries (Bad code)) store.now (W.world out.old) (W.world out.new) }
-    ensures cause { EndCause result (W.world out.old) (W.world out.new) }
+fn bad_line<F: RangeFilter, W: Outside>(
+    store: &Store<F>,
+    buffer: &mut [u8],
+    out: &mut W,
+    code: u8,
+) -> LineEnd
+    requires buffer { 0 < length buffer.old }
+    requires running { store.now.stopped ≡ false }
+    ensures answered { (s : State) → IsTrue W.tells → IsTrue W.tells_output → Tied F.spelling (filter_bytes_of F.spelling F.built_cutoff) store.now s (W.world out.old)
+        → EndsLine (filter_kind F.spelling F.built_cutoff) result s (Bad code) store.now (W.world out.old) (W.world out.new) }
+    ensures running { RunsOn result store.now.stopped }
+    ensures cause { EndCause (LineShows (IsTrue W.tells × IsTrue W.tells_output) store.now.tables (Bad code)) result (W.world out.old) (W.world out.new) }
     ensures moves { LineMoves (W.world out.old) (W.world out.new) }
 {
+    store.whole_law();
     say_reply(out, buffer, &Reply::BadLine(code), LineEnd::Next)
 }
 
+fn quit_line<F: RangeFilter, W: Outside>(
+    store: &Store<F>,
+    buffer: &mut [u8],
+    out: &mut W,
+) -> LineEnd
+    requires buffer { 0 < length buffer.old }
+    requires running { store.now.stopped ≡ false }
+    ensures answered { (s : State) → IsTrue W.tells → IsTrue W.tells_output → Tied F.spelling (filter_bytes_of F.spelling F.built_cutoff) store.now s (W.world out.old)
+        → EndsLine (filter_kind F.spelling F.built_cutoff) result s Quit store.now (W.world out.old) (W.world out.new) }
+    ensures running { RunsOn result store.now.stopped }
+    ensures cause { EndCause (LineShows (IsTrue W.tells × IsTrue W.tells_output) store.now.tables Quit) result (W.world out.old) (W.world out.new) }
+    ensures moves { LineMoves (W.world out.old) (W.world out.new) }
+{
+    store.whole_law();
+    say_reply(out, buffer, &Reply::Bye, LineEnd::Quit)
+}
+
 // Answers what a line asks.
-fn answer_request<W: Outside>(
-    store: &mut Store,
+fn answer_request<F: RangeFilter, W: Outside>(
+    store: &mut Store<F>,
     buffer: &mut [u8],
     out: &mut W,
     request: Request<'_>,
 ) -> LineEnd
-    requires { 0 < length buffer.old }
-    ensures answered { (entries : List Entry) → IsTrue W.tells_output → StoreIs entries store.old → Stands W.tells entries (W.world out.old)
-        → Answered W.tells result entries (Step entries (asked request.entry)) store.new (W.world out.old) (W.world out.new) }
-    ensures cause { EndCause result (W.world out.old) (W.world out.new) }
+    requires buffer { 0 < length buffer.old }
+    requires running { store.old.stopped ≡ false }
+    requires asked { IsAskedHere (asked request) }
+    ensures answered { (s : State) → IsTrue W.tells → IsTrue W.tells_output → Tied F.spelling (filter_bytes_of F.spelling F.built_cutoff) store.old s (W.world out.old)
+        → EndsLine (filter_kind F.spelling F.built_cutoff) result s (asked request.entry) store.new (W.world out.old) (W.world out.new) }
+    ensures running { RunsOn result store.new.stopped }
+    ensures cause { EndCause (LineShows (IsTrue W.tells × IsTrue W.tells_output) store.old.tables (asked request.entry)) result (W.world out.old) (W.world out.new) }
     ensures moves { LineMoves (W.world out.old) (W.world out.new) }
 {
     match request {
         Request::Put { key, value } => put_line(store, buffer, out, key, value),
         Request::Del { key } => del_line(store, buffer, out, key),
         Request::Get { key } => get_line(store, buffer, out, key),
-        Request::Quit => say_reply(out, buffer, &Reply::Bye, LineEnd::Quit),
-        _ => bad_line(store, buffer, out, 2),
+        Request::Flush => flush_line(store, buffer, out),
+        Request::Quit => quit_line(store, buffer, out),
+        _ => unreachable!(),
     }
 }
 
-/// Answers a line: its reply is said whole before it returns, or the run ends.
-pub fn answer<W: Outside>(
-    store: &mut Store,
+// Answers a line, its reply laid out in this buffer.
+pub(crate) fn answer<F: RangeFilter, W: Outside>(
+    store: &mut Store<F>,
     scratch: &mut Scratch,
     buffer: &mut [u8],
     out: &mut W,
     line: &[u8],
 ) -> LineEnd
-    requires { 0 < length buffer.old }
-    ensures answered { (entries : List Entry) → IsTrue W.tells_output → StoreIs entries store.old → Stands W.tells entries (W.world out.old)
-        → Answered W.tells result entries (Step entries (asked_here line.now)) store.new (W.world out.old) (W.world out.new) }
-    ensures cause { EndCause result (W.world out.old) (W.world out.new) }
+    requires buffer { 0 < length buffer.old }
+    requires running { store.old.stopped ≡ false }
+    ensures answered { (s : State) → IsTrue W.tells → IsTrue W.tells_output → Tied F.spelling (filter_bytes_of F.spelling F.built_cutoff) store.old s (W.world out.old)
+        → EndsLine (filter_kind F.spelling F.built_cutoff) result s (asked_here line.now) store.new (W.world out.old) (W.world out.new) }
+    ensures running { RunsOn result store.new.stopped }
+    ensures cause { EndCause (LineShows (IsTrue W.tells × IsTrue W.tells_output) store.old.tables (asked_here line.now)) result (W.world out.old) (W.world out.new) }
     ensures moves { LineMoves (W.world out.old) (W.world out.new) }
 {
     match parse_answered(line, scratch) {
         Ok(request) => answer_request(store, buffer, out, request),
         Err(BadLine(code)) => bad_line(store, buffer, out, code),
     }
+}
+
+/// Answers a line, without its newline: its reply is said whole before it returns, or the run ends.
+///
+/// `Quit` comes for `quit`; `End(4)` where the device failed, `End(5)` where what was read of it is damaged, and `End(6)`
+/// where the output failed; else `Next`. The store may not be stopped, and is not stopped behind `Next` and `Quit`. No
+/// memory but that of the store's changes.
+pub fn serve_line<F: RangeFilter, W: Outside>(
+    store: &mut Store<F>,
+    out: &mut W,
+    line: &[u8],
+    scratch: &mut Scratch,
+) -> LineEnd
+    requires running { store.old.stopped ≡ false }
+    ensures answered { (s : State) → IsTrue W.tells → IsTrue W.tells_output → Tied F.spelling (filter_bytes_of F.spelling F.built_cutoff) store.old s (W.world out.old)
+        → EndsLine (filter_kind F.spelling F.built_cutoff) result s (asked_here line.now) store.new (W.world out.old) (W.world out.new) }
+    ensures running { RunsOn result store.new.stopped }
+    ensures cause { EndCause (LineShows (IsTrue W.tells × IsTrue W.tells_output) store.old.tables (asked_here line.now)) result (W.world out.old) (W.world out.new) }
+    ensures moves { LineMoves (W.world out.old) (W.world out.new) }
+{
+    answer(store, scratch, &mut [0; REPLY_BYTES], out, line)
 }

@@ -1,4 +1,4 @@
-//! Replies, said whole.
+//! Replies and last lines, said whole.
 ghost use Rattle.std.specs.Prelude.{◌≡◌, ◌≢◌, ◌⊎◌, ◌<◌, ◌++◌, length, IsTrue, OnOk, OnErr};
 ghost use Rattle.disk_trait.specs.World.{Rose};
 ghost use Rattle.outside.specs.Streams.{SayMoves, SaysPrefix};
@@ -11,6 +11,9 @@ ghost use Rattle.surf_run.specs.Saying.{IsShort, Says};
 use crate::end::LineEnd;
 use outside::{Outside, SayFault, say_all};
 use store_commands::{Reply, piece};
+
+// The bytes in which a last line is laid out, a piece at a time.
+const LAST_LINE_BYTES: usize = 64;
 
 /// Says a reply in as many pieces as the buffer wants.
 pub fn say_pieces<W: Outside>(
@@ -49,10 +52,23 @@ pub fn say_reply<W: Outside>(
     ensures says { IsTrue W.tells_output → IsShort reply.now → Says end (spoken reply.now) result (W.world out.old) (W.world out.new) }
     ensures cause { (result ≡ end) ⊎ ((result ≡ End 6) × SayFailed (W.world out.old) (W.world out.new)) }
     ensures moves { SayMoves (W.world out.old) (W.world out.new) }
-    ensures line { LineMoves (W.world out.old) (W.world out.new) }
 {
     match say_pieces(out, buffer, reply) {
         Ok(()) => end,
         Err(_) => LineEnd::End(6),
+    }
+}
+
+/// Says the last line of a run that answers no line, and answers its status, or 6 where it cannot be said whole.
+pub fn last_line<W: Outside>(out: &mut W, reply: &Reply<'_>, status: u8) -> u8
+    requires { status ≢ 6 }
+    ensures said { IsTrue W.tells_output → IsShort reply.now → result ≡ status → (W.world out.new).beside.said ≡ (W.world out.old).beside.said ++ text_of (spoken reply.now) }
+    ensures prefix { IsTrue W.tells_output → SaysPrefix (text_of (spoken reply.now)) (W.world out.old).beside.said (W.world out.new).beside.said }
+    ensures ends { (result ≡ status) ⊎ ((result ≡ 6) × SayFailed (W.world out.old) (W.world out.new)) }
+    ensures moves { SayMoves (W.world out.old) (W.world out.new) }
+{
+    match say_pieces(out, &mut [0; LAST_LINE_BYTES], reply) {
+        Ok(()) => status,
+        Err(_) => 6,
     }
 }

@@ -1,36 +1,39 @@
 //! Lines in, replies out.
-ghost use Rattle.std.specs.Prelude.{◌≡◌, ◌⊎◌, ◌<◌, ◌≤◌, ◌++◌, [], ◌∷◌, List, ℕ, length, IsTrue};
-ghost use Rattle.store_commands.specs.Cutting.{NoNewline};
-ghost use Rattle.entry_model.specs.Entries.{Entry};
-ghost use Rattle.surf_run.specs.StoreIs.{StoreIs};
-ghost use Rattle.surf_run.specs.Causes.{EndCause, StatusCause, NoFall, LineMoves, WritesInLog, IsServing};
-ghost use Rattle.surf_run.specs.Crash.{Stands};
+ghost use Rattle.std.specs.Prelude.{◌≡◌, ◌⊎◌, ◌<◌, ◌≤◌, ◌++◌, [], ◌∷◌, List, ℕ, false, length, IsTrue};
 ghost use Rattle.key_base.specs.Limits.{piece_bytes};
-ghost use Rattle.surf_run.specs.Outcome.{Settled, Outcome};
-ghost use Rattle.surf_run.specs.Serving.{Served, After};
+ghost use Rattle.state_model.specs.State.{State};
+ghost use Rattle.store_commands.specs.Cutting.{NoNewline};
+ghost use Rattle.surf_run.specs.Answering.{RunsOn};
+ghost use Rattle.surf_run.specs.Causes.{EndCause, IsServing, LineMoves, NoFall, RunShows, SaysSomeDamage, StatusCause};
+ghost use Rattle.surf_run.specs.Kind.{filter_kind};
+ghost use Rattle.surf_run.specs.Outcome.{Outcome, Settled};
+ghost use Rattle.surf_run.specs.Serving.{After, Served};
 
 use crate::end::LineEnd;
 use crate::line::answer;
 use crate::pending::Pending;
-use crate::store::Store;
+use filter_api::RangeFilter;
 use key_base::MAX_INPUT_BYTES;
 use outside::Outside;
 use store_commands::{Scratch, next_line};
+use store_core::Store;
 
 // Answers the line that ends behind this part, with what is kept of its prefix.
-fn end_line<W: Outside>(
-    store: &mut Store,
+fn end_line<F: RangeFilter, W: Outside>(
+    store: &mut Store<F>,
     pending: &mut Pending,
     scratch: &mut Scratch,
     buffer: &mut [u8],
     out: &mut W,
     part: &[u8],
 ) -> LineEnd
-    requires { 0 < length buffer.old }
-    ensures after { (start : List Entry) (first : _) (bytes : List ℕ) → IsTrue W.tells_output → NoNewline part.now
-        → Served W.tells start bytes pending.old store.old (W.world first) (W.world out.old)
-        → After W.tells 1 result start (bytes ++ part.now ++ 10 ∷ []) pending.new store.new (W.world first) (W.world out.new) }
-    ensures cause { EndCause result (W.world out.old) (W.world out.new) }
+    requires buffer { 0 < length buffer.old }
+    requires running { store.old.stopped ≡ false }
+    ensures after { (start : State) (base : ℕ) (first : _) (bytes : List ℕ) → IsTrue W.tells → IsTrue W.tells_output → NoNewline part.now
+        → Served (filter_kind F.spelling F.built_cutoff) start base bytes pending.old store.old (W.world first) (W.world out.old)
+        → After (filter_kind F.spelling F.built_cutoff) 1 result start base (bytes ++ part.now ++ 10 ∷ []) pending.new store.new (W.world first) (W.world out.new) }
+    ensures running { RunsOn result store.new.stopped }
+    ensures cause { EndCause (RunShows (IsTrue W.tells × IsTrue W.tells_output)) result (W.world out.old) (W.world out.new) }
     ensures moves { LineMoves (W.world out.old) (W.world out.new) }
 {
     if pending.is_empty() {
@@ -43,19 +46,21 @@ fn end_line<W: Outside>(
 }
 
 // Answers the lines that end in this piece, and keeps what is left.
-fn feed<W: Outside>(
-    store: &mut Store,
+fn feed<F: RangeFilter, W: Outside>(
+    store: &mut Store<F>,
     pending: &mut Pending,
     scratch: &mut Scratch,
     buffer: &mut [u8],
     out: &mut W,
     piece: &[u8],
 ) -> LineEnd
-    requires { 0 < length buffer.old }
-    ensures after { (start : List Entry) (first : _) (bytes : List ℕ) → IsTrue W.tells_output
-        → Served W.tells start bytes pending.old store.old (W.world first) (W.world out.old)
-        → After W.tells (length piece.now) result start (bytes ++ piece.now) pending.new store.new (W.world first) (W.world out.new) }
-    ensures cause { EndCause result (W.world out.old) (W.world out.new) }
+    requires buffer { 0 < length buffer.old }
+    requires running { store.old.stopped ≡ false }
+    ensures after { (start : State) (base : ℕ) (first : _) (bytes : List ℕ) → IsTrue W.tells → IsTrue W.tells_output
+        → Served (filter_kind F.spelling F.built_cutoff) start base bytes pending.old store.old (W.world first) (W.world out.old)
+        → After (filter_kind F.spelling F.built_cutoff) (length piece.now) result start base (bytes ++ piece.now) pending.new store.new (W.world first) (W.world out.new) }
+    ensures running { RunsOn result store.new.stopped }
+    ensures cause { EndCause (RunShows (IsTrue W.tells × IsTrue W.tells_output)) result (W.world out.old) (W.world out.new) }
     ensures moves { LineMoves (W.world out.old) (W.world out.new) }
 {
     let mut rest = piece;
@@ -71,18 +76,21 @@ fn feed<W: Outside>(
 }
 
 // Answers a last line that has no newline.
-fn end_input<W: Outside>(
-    store: &mut Store,
+fn end_input<F: RangeFilter, W: Outside>(
+    store: &mut Store<F>,
     pending: &Pending,
     scratch: &mut Scratch,
     buffer: &mut [u8],
     out: &mut W,
 ) -> u8
-    requires { 0 < length buffer.old }
-    ensures settled { (start : List Entry) (first : _) (taken : List ℕ) → IsTrue W.tells_output → (W.world out.old).beside.to_take ≡ []
-        → Served W.tells start taken pending.now store.old (W.world first) (W.world out.old) → Settled W.tells result start taken (W.world first) (W.world out.new) }
+    requires buffer { 0 < length buffer.old }
+    requires running { store.old.stopped ≡ false }
+    ensures settled { (start : State) (base : ℕ) (first : _) (taken : List ℕ) → IsTrue W.tells → IsTrue W.tells_output → (W.world out.old).beside.to_take ≡ []
+        → Served (filter_kind F.spelling F.built_cutoff) start base taken pending.now store.old (W.world first) (W.world out.old)
+        → Settled (filter_kind F.spelling F.built_cutoff) result start base taken (W.world first) (W.world out.new) }
     ensures cause { StatusCause result (W.world out.old) (W.world out.new) }
-    ensures statuses { (result ≡ 0) ⊎ (result ≡ 4) ⊎ (result ≡ 6) }
+    ensures shown { IsTrue W.tells → IsTrue W.tells_output → result ≡ 5 → SaysSomeDamage (W.world out.new) }
+    ensures statuses { (result ≡ 0) ⊎ (result ≡ 4) ⊎ (result ≡ 5) ⊎ (result ≡ 6) }
     ensures moves { LineMoves (W.world out.old) (W.world out.new) }
 {
     if pending.is_empty() {
@@ -111,8 +119,8 @@ fn room_for(left: u64, most: usize) -> usize
 }
 
 /// Takes the input piece by piece and answers its lines, to its end or to the first line that ends the run.
-pub fn serve<W: Outside>(
-    store: &mut Store,
+pub(crate) fn serve<F: RangeFilter, W: Outside>(
+    store: &mut Store<F>,
     pending: &mut Pending,
     scratch: &mut Scratch,
     buffer: &mut [u8],
@@ -122,12 +130,14 @@ pub fn serve<W: Outside>(
     requires buffer { 0 < length buffer.old }
     requires piece { 0 < length piece.old }
     requires small { length piece.old ≤ piece_bytes }
-    requires fresh { pending.old ≡ [] }
-    ensures outcome { (start : List Entry) → IsTrue W.tells_input → IsTrue W.tells_output → StoreIs start store.old → Stands W.tells start (W.world out.old)
-        → Outcome W.tells result start (W.world out.old) (W.world out.new) }
+    requires running { store.old.stopped ≡ false }
+    ensures outcome { (start : State) (base : ℕ) (first : _) → IsTrue W.tells → IsTrue W.tells_input → IsTrue W.tells_output
+        → (W.world first).beside.to_take ≡ (W.world out.old).beside.to_take
+        → Served (filter_kind F.spelling F.built_cutoff) start base [] pending.old store.old (W.world first) (W.world out.old)
+        → Outcome (filter_kind F.spelling F.built_cutoff) result start base (W.world first) (W.world out.new) }
     ensures cause { StatusCause result (W.world out.old) (W.world out.new) }
-    ensures statuses { IsServing result }
-    ensures footprint { WritesInLog (W.world out.old) (W.world out.new) }
+    ensures shown { IsTrue W.tells → IsTrue W.tells_output → result ≡ 5 → SaysSomeDamage (W.world out.new) }
+    ensures statuses { IsServing result ⊎ (result ≡ 5) }
     ensures counts { NoFall (W.world out.old) (W.world out.new) }
 {
     let mut left = MAX_INPUT_BYTES;

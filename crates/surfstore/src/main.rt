@@ -12,20 +12,28 @@ const OUTPUT_FAILED: u8 = 6;
 
 const NO_MEMORY: u8 = 7;
 
-// The first word is the path, an empty one where there is no word; the others go to the top call.
+// The first word is the path, an empty one where there is no word or it asks for a text; the others go to the top call.
 fn main(rt: HostRuntime) -> ExitCode {
     let alloc = rt.alloc();
     let Ok(words) = words_of(&rt) else {
         return ExitCode::from(say_no_memory(rt));
     };
     let mut words = words;
-    let path = if words.is_empty() {
+    let path = if words.is_empty() || asks_for_text(&words) {
         String::new(alloc)
     } else {
         words.remove(0)
     };
     let mut out = FileOutside::at(rt, path);
     ExitCode::from(run(alloc, words.as_slice(), &mut out))
+}
+
+// Whether the first word asks for help or the version, and so names no device.
+fn asks_for_text(words: &[String]) -> bool {
+    match words.first() {
+        Some(word) => matches!(word.as_str(), "--help" | "-h" | "--version" | "-V"),
+        None => false,
+    }
 }
 
 // The words behind the program's name, or an error where there is no memory for them. Words that are no text are answered

@@ -1,22 +1,72 @@
-use Rattle.std.specs.Prelude.{Some, None}
+use Rattle.std.proofs.Common.{◌≡◌, ◌*◌, Bor, List, ℕ, length, refl, subst}
+use Rattle.std.specs.Option.{option_map}
+use Rattle.std.specs.Prelude.{Option, Some, None}
+use Rattle.block_model.specs.Pages.{page_bytes}
+use Rattle.line_model.specs.Replies.{Missing, Value}
 use Rattle.line_model.specs.Requests.{Get}
-use Rattle.surf_run.specs.Script.{Step}
-use Rattle.surf_run.proofs.Steps.{quiet_next, key_goes, key_limited_get, get_step, short_value}
+use Rattle.map_model.specs.SortedMap.{get}
+use Rattle.state_model.specs.View.{state_map}
+use Rattle.store_core.specs.Answers.{HasCause}
+use Rattle.surf_run.specs.Kind.{filter_kind}
+use Rattle.surf_run.proofs.Calms.{get_cause, get_told, got_step, refused_ends, says_damage, still_next, tied_buffer}
+use Rattle.surf_run.proofs.EndCauses.{line_read, no_fall_say}
+use Rattle.surf_run.proofs.Footprint.{within_still}
+use Rattle.surf_run.proofs.Moments.{tied_stands}
+use Rattle.surf_run.proofs.Values.{value_short}
 use Rattle.surf_run.proofs.line.get_line.Goals as goal
 
-pub returns-in-Some-clause-answered : goal.returns-in-Some-clause-answered
-returns-in-Some-clause-answered g c entries output holds now =
-    quiet_next g.W.Disk.tells entries (Step entries (Get c.args.key.now)) _ _ (g.met.W.Outside.said_now _) c.say_reply.ensures.moves now c.args.store.now _ c.say_reply.result holds
-    (key_limited_get entries c.args.key.now _ c.in-Some.ensures.limit) (key_goes c.args.key.now _ c.in-Some.ensures.limit) (c.say_reply.ensures.says output c.in-Some.ensures.short)
+pub returns-in-Ok-Some-clause-answered : goal.returns-in-Ok-Some-clause-answered
+returns-in-Ok-Some-clause-answered g c s tells output tied =
+    let kind = (filter_kind g.F.RangeFilter.spelling g.F.RangeFilter.built_cutoff) in
+    let a = g.W.Disk.world c.args.out.now in
+    let mid = g.W.Disk.world c.get.new.disk in
+    let b = g.W.Disk.world c.say_reply.new.out in
+    let after = c.get.follows.lender-at-none in
+    let moves = c.get.ensures.moves in
+    let held = tied_buffer kind c.args.store.now after after.buffer s mid c.get.follows.holds-at-none (c.get.ensures.tied s tied) in
+    let stand = tied_stands kind c.args.store.now s a c.whole_law.ensures.slot tied in
+    let writes = within_still (page_bytes * s.pages) a mid moves.held moves.time in
+    let value = c.in-Ok-Some.value.now in
+    let found = subst (λ (o : Option (Bor (List ℕ))). option_map (λ v. v.now) o ≡ get (state_map s) c.args.key.now) c.in-Ok-Some.field-0-is (c.in-Ok-Some.ensures.answer s tells tied) in
+    still_next kind s (Get c.args.key.now) after a mid b moves.beside moves.time held stand (c.get.ensures.bounded s tells tied) writes (g.met.W.Outside.said_now c.args.out.now) (g.met.W.Outside.said_now c.get.new.disk) c.say_reply.ensures.moves
+    (Value value) c.say_reply.result (got_step (HasCause a mid) kind.filter_bytes s c.args.key.now (Some value) c.in-Ok-Some.ensures.refused.1 found) refl
+    (c.say_reply.ensures.says output (value_short kind.filter_bytes s c.args.key.now value tied.sound found))
 
-pub returns-in-Some-get-clause-answered : goal.returns-in-Some-get-clause-answered
-returns-in-Some-get-clause-answered g c entries output holds now =
-    let value = c.in-Some-get.ensures entries holds in
-    let short = short_value entries c.args.key.now c.in-Some-get.value.now holds.sound value in
-    quiet_next g.W.Disk.tells entries (Step entries (Get c.args.key.now)) _ _ (g.met.W.Outside.said_now _) c.say_reply-in-Some-get.ensures.moves now c.args.store.now _ c.say_reply-in-Some-get.result holds
-    (get_step entries c.args.key.now (Some c.in-Some-get.value.now) c.in_default.ensures.limit value) tt (c.say_reply-in-Some-get.ensures.says output short)
+pub returns-in-Ok-None-clause-answered : goal.returns-in-Ok-None-clause-answered
+returns-in-Ok-None-clause-answered g c s tells output tied =
+    let kind = (filter_kind g.F.RangeFilter.spelling g.F.RangeFilter.built_cutoff) in
+    let a = g.W.Disk.world c.args.out.now in
+    let mid = g.W.Disk.world c.get.new.disk in
+    let b = g.W.Disk.world c.say_reply-in-Ok-None.new.out in
+    let after = c.get.follows.lender-at-none in
+    let moves = c.get.ensures.moves in
+    let held = tied_buffer kind c.args.store.now after after.buffer s mid c.get.follows.holds-at-none (c.get.ensures.tied s tied) in
+    let stand = tied_stands kind c.args.store.now s a c.whole_law.ensures.slot tied in
+    let writes = within_still (page_bytes * s.pages) a mid moves.held moves.time in
+    let found = subst (λ (o : Option (Bor (List ℕ))). option_map (λ v. v.now) o ≡ get (state_map s) c.args.key.now) c.in-Ok-None.field-0-is (c.in-Ok-None.ensures.answer s tells tied) in
+    still_next kind s (Get c.args.key.now) after a mid b moves.beside moves.time held stand (c.get.ensures.bounded s tells tied) writes (g.met.W.Outside.said_now c.args.out.now) (g.met.W.Outside.said_now c.get.new.disk) c.say_reply-in-Ok-None.ensures.moves
+    Missing c.say_reply-in-Ok-None.result (got_step (HasCause a mid) kind.filter_bytes s c.args.key.now None c.in-Ok-None.ensures.refused.1 found) refl (c.say_reply-in-Ok-None.ensures.says output tt)
 
-pub returns-in-None-clause-answered : goal.returns-in-None-clause-answered
-returns-in-None-clause-answered g c entries output holds now =
-    quiet_next g.W.Disk.tells entries (Step entries (Get c.args.key.now)) _ _ (g.met.W.Outside.said_now _) c.say_reply-in-None.ensures.moves now c.args.store.now _ c.say_reply-in-None.result holds
-    (get_step entries c.args.key.now None c.in_default.ensures.limit (c.in-None.ensures entries holds)) tt (c.say_reply-in-None.ensures.says output tt)
+pub returns-in-Err-clause-answered : goal.returns-in-Err-clause-answered
+returns-in-Err-clause-answered g c s tells output tied =
+    let kind = (filter_kind g.F.RangeFilter.spelling g.F.RangeFilter.built_cutoff) in
+    let a = g.W.Disk.world c.args.out.now in
+    let mid = g.W.Disk.world c.get.new.disk in
+    let b = g.W.Disk.world c.say_refusal.new.out in
+    let after = c.get.follows.lender-at-none in
+    let moves = c.get.ensures.moves in
+    let held = tied_buffer kind c.args.store.now after after.buffer s mid c.get.follows.holds-at-none (c.get.ensures.tied s tied) in
+    let stand = tied_stands kind c.args.store.now s a c.whole_law.ensures.slot tied in
+    let writes = within_still (page_bytes * s.pages) a mid moves.held moves.time in
+    refused_ends kind s c.args.key.now c.in-Err.why after c.say_refusal.result a mid b (get_told c.in-Err.why c.args.store.now.stopped c.args.key.now a mid c.requires.running c.in-Err.ensures.refused)
+    (c.in-Err.ensures.met s tells tied) (c.in-Err.ensures.undamaged s tells tied) moves.beside moves.time held stand (c.get.ensures.bounded s tells tied) writes (g.met.W.Outside.said_now c.args.out.now) (g.met.W.Outside.said_now c.get.new.disk) c.say_refusal.ensures.moves
+    (λ reply is. c.say_refusal.ensures.says reply output is)
+
+pub returns-in-Err-clause-cause : goal.returns-in-Err-clause-cause
+returns-in-Err-clause-cause g c =
+    let a = g.W.Disk.world c.args.out.now in
+    let mid = g.W.Disk.world c.get.new.disk in
+    let b = g.W.Disk.world c.say_refusal.new.out in
+    get_cause _ c.args.key.now c.in-Err.why c.say_refusal.result a mid b (get_told c.in-Err.why c.args.store.now.stopped c.args.key.now a mid c.requires.running c.in-Err.ensures.refused) c.say_refusal.ensures.ends
+    (line_read (length c.args.store.now.tables) a mid c.get.ensures.moves).counts (no_fall_say mid b c.say_refusal.ensures.moves)
+    (λ ends five told. says_damage c.args.store.now.tables c.args.key.now c.in-Err.why c.say_refusal.result a.seen.held mid b (c.in-Err.ensures.shown told.0) c.get.ensures.moves.held c.say_refusal.ensures.moves.seen (λ reply is. c.say_refusal.ensures.says reply told.1 is) ends five)

@@ -1,16 +1,19 @@
-use Rattle.std.proofs.Common.{◌≡◌, ◌++◌, List, ℕ, length}
+use Rattle.std.proofs.Common.{◌≡◌, ◌++◌, List, ℕ, length, false}
 use Rattle.std.specs.Prelude.{IsTrue}
-use Rattle.entry_model.specs.Entries.{Entry}
+use Rattle.state_model.specs.State.{State}
 use Rattle.surf_run.specs.Causes.{LineMoves}
+use Rattle.surf_run.specs.Kind.{filter_kind}
 use Rattle.surf_run.specs.Serving.{Served}
 use Rattle.surf_run.proofs.serve.feed.Given as goal
 
 abbrev pub invariant-loop-line : goal.invariant-loop-line
 invariant-loop-line g l = record {
   served :
-      (start : List Entry) (first : g.row.W.Denot) (bytes : List ℕ) → IsTrue g.W.Outside.tells_output
-      → Served g.W.Disk.tells start bytes l.fn.pending l.fn.store (g.W.Disk.world first) (g.W.Disk.world l.fn.out)
-      → (done : List ℕ) × (l.fn.piece ≡ done ++ l.rest) × Served g.W.Disk.tells start (bytes ++ done) l.pending l.store (g.W.Disk.world first) (g.W.Disk.world l.out);
+      (start : State) (base : ℕ) (first : g.row.W.Denot) (bytes : List ℕ) → IsTrue g.W.Disk.tells → IsTrue g.W.Outside.tells_output
+      → Served (filter_kind g.F.RangeFilter.spelling g.F.RangeFilter.built_cutoff) start base bytes l.fn.pending l.fn.store (g.W.Disk.world first) (g.W.Disk.world l.fn.out)
+      → (done : List ℕ) × (l.fn.piece ≡ done ++ l.rest)
+      × Served (filter_kind g.F.RangeFilter.spelling g.F.RangeFilter.built_cutoff) start base (bytes ++ done) l.pending l.store (g.W.Disk.world first) (g.W.Disk.world l.out);
+  running : l.store.stopped ≡ false;
   moves : LineMoves (g.W.Disk.world l.fn.out) (g.W.Disk.world l.out);
 }
 

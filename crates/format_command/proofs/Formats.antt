@@ -1,0 +1,139 @@
+-- A format, and then its last line.
+use Rattle.std.proofs.Common.{◌≡◌, ◌≢◌, ◌⊎◌, ◌++◌, ◌∙◌, inl, inr, refl, sym, ap, subst, arith, ℕ, Bool, true, false, Option, Some, None}
+use Rattle.std.specs.Prelude.{Ok, Err}
+use Rattle.disk_trait.proofs.Images.{torn_same, torn_twice}
+use Rattle.disk_trait.proofs.Moments.{passes_then, same_is_torn}
+use Rattle.disk_trait.specs.World.{Image, Leads, Moves, Now, ReadMoves, Seen, Torn, World}
+use Rattle.disk_trait.specs.declared.fault.DiskFault.{DiskFault}
+use Rattle.filter_api.specs.Spellings.{Spelling}
+use Rattle.filter_api.specs.declared.settings.Field.{Field}
+use Rattle.filter_api.specs.declared.settings.Settings.{Settings}
+use Rattle.format_command.proofs.Runs.{last_line, meanwhile_said, now_said, untouched}
+use Rattle.format_command.specs.Ends.{DiskFailed, SayFailed, Untouched}
+use Rattle.format_command.specs.Formats.{Formatted, IsFormatText, WritesInFront, formatted_text}
+use Rattle.format_command.specs.Refusals.{IsOfFormat, refused_status, refused_text}
+use Rattle.image_model.specs.Stands.{IsStateOf}
+use Rattle.manifest.specs.NewManifest.{has_open}
+use Rattle.manifest_model.specs.Slots.{IsNoStore}
+use Rattle.outside.specs.Streams.{SaidByNow, SayMoves, SaysPrefix}
+use Rattle.state_model.specs.State.{new_state}
+use Rattle.store_core.specs.Formatting.{IsFormatRefusal, IsNoneOrNew, IsThereAnswer, first_bad}
+use Rattle.store_core.specs.Opening.{FaultRose}
+use Rattle.store_core.specs.declared.error.StoreError.{StoreError}
+use Rattle.store_core.specs.declared.error.StoreError.TheVariants as error
+
+pub in_front : (a m b : World) → Moves 0 262145 4 a m → SayMoves m b → WritesInFront a b
+in_front a m b moves says = record {
+  held = subst (λ (i : Image). Torn 0 262145 a.seen.held i) (sym (ap (λ (s : Seen). s.held) says.seen)) moves.torn;
+  time = passes_then 0 262145 a m b moves.time (same_is_torn 0 262145 m b says.time);
+}
+
+-- ---- refusals
+
+pub of_format : (bad : Option Field) (a m : World) (e : StoreError) → IsFormatRefusal bad a m e → IsOfFormat e
+of_format bad a m error.Memory refused = tt
+of_format bad a m (error.Device cause) refused = tt
+of_format bad a m error.Stopped refused = refused
+of_format bad a m (error.Limit limit) refused = refused
+of_format bad a m (error.Full need gap) refused = refused
+of_format bad a m (error.Damaged damage) refused = refused
+of_format bad a m error.NotAStore refused = refused
+of_format bad a m error.AlreadyAStore refused = tt
+of_format bad a m (error.BadSettings field) refused = tt
+
+fault_failed : (a m : World) (cause : DiskFault) → FaultRose a m cause → DiskFailed a m
+fault_failed a m cause rose = elim rose [ inl read ↦ inl read.1 | inr write ↦ inr write.1 ]
+
+pub device_failed : (bad : Option Field) (a m : World) (e : StoreError) → IsFormatRefusal bad a m e → refused_status e ≡ 4 → DiskFailed a m
+device_failed bad a m error.Memory refused four = absurd cc
+device_failed bad a m (error.Device cause) refused four = fault_failed a m cause refused.1
+device_failed bad a m error.Stopped refused four = absurd refused
+device_failed bad a m (error.Limit limit) refused four = absurd refused
+device_failed bad a m (error.Full need gap) refused four = absurd refused
+device_failed bad a m (error.Damaged damage) refused four = absurd refused
+device_failed bad a m error.NotAStore refused four = absurd refused
+device_failed bad a m error.AlreadyAStore refused four = absurd cc
+device_failed bad a m (error.BadSettings field) refused four = absurd cc
+
+-- the status of a refusal is 4, 7 or 8
+pub refused_by : (e : StoreError) → IsOfFormat e → (refused_status e ≡ 4) ⊎ (refused_status e ≡ 7) ⊎ (refused_status e ≡ 8)
+refused_by error.Memory is = inr (inl refl)
+refused_by (error.Device cause) is = inl refl
+refused_by error.Stopped is = absurd is
+refused_by (error.Limit limit) is = absurd is
+refused_by (error.Full need gap) is = absurd is
+refused_by (error.Damaged damage) is = absurd is
+refused_by error.NotAStore is = absurd is
+refused_by error.AlreadyAStore is = inr (inr refl)
+refused_by (error.BadSettings field) is = inr (inr refl)
+
+pub refused_line : (bad : Option Field) (there : Bool) (pages : ℕ) (a m : World) (e : StoreError) → IsFormatRefusal bad a m e → IsThereAnswer there e
+    → IsFormatText bad there pages (refused_status e) (refused_text e)
+refused_line bad there pages a m error.Memory refused answer = inr (inr (inl (refused, answer, refl, refl)))
+refused_line bad there pages a m (error.Device cause) refused answer = inr (inr (inr (inl (refused.0, refl, refl))))
+refused_line bad there pages a m error.Stopped refused answer = absurd refused
+refused_line bad there pages a m (error.Limit limit) refused answer = absurd refused
+refused_line bad there pages a m (error.Full need gap) refused answer = absurd refused
+refused_line bad there pages a m (error.Damaged damage) refused answer = absurd refused
+refused_line bad there pages a m error.NotAStore refused answer = absurd refused
+refused_line bad there pages a m error.AlreadyAStore refused answer = inr (inl (refused, answer, refl, refl))
+refused_line bad there pages a m (error.BadSettings field) refused answer = inr (inr (inr (inr (field, refused.0, refl, refl))))
+
+-- where a number is out of range no call of the device is made
+none_read : (field : Field) (a m : World) (e : StoreError) → IsFormatRefusal (Some field) a m e → ReadMoves 0 a m
+none_read field a m error.Memory refused = absurd (let e : Some field ≡ None = refused in cc)
+none_read field a m (error.Device cause) refused = absurd (let e : Some field ≡ None = refused.0 in cc)
+none_read field a m error.Stopped refused = absurd refused
+none_read field a m (error.Limit limit) refused = absurd refused
+none_read field a m (error.Full need gap) refused = absurd refused
+none_read field a m (error.Damaged damage) refused = absurd refused
+none_read field a m error.NotAStore refused = absurd refused
+none_read field a m error.AlreadyAStore refused = absurd (let e : Some field ≡ None = refused in cc)
+none_read field a m (error.BadSettings other) refused = refused.1
+
+-- ---- what it leaves
+
+module _ (spelling : Spelling) (settings : Settings) (pages : ℕ) (a m b : World) (same : m.beside ≡ a.beside) (now_a : SaidByNow a) (now_m : SaidByNow m) (says : SayMoves m b)
+    (stays : has_open a.seen.held ≡ true → Moves 0 0 2 a m) where
+  stay : has_open a.seen.held ≡ true → Untouched a b
+  stay there = untouched a m b same now_a now_m (stays there).time says
+
+  module _ (status : ℕ) where
+    pub done : {T : Type 0} (x : T) → Leads {E = StoreError} IsNoStore (IsNoneOrNew spelling settings pages) (IsStateOf spelling (new_state settings pages)) (Ok x) a m
+        → first_bad settings pages ≡ None → has_open a.seen.held ≡ false → (status ≡ 0 → b.beside.said ≡ m.beside.said ++ formatted_text pages)
+        → SaysPrefix (formatted_text pages) m.beside.said b.beside.said → (status ≡ 0) ⊎ ((status ≡ 6) × SayFailed m b) → Formatted spelling settings pages status a b
+    done x leads good none whole prefix ends = record {
+      line = last_line (IsFormatText (first_bad settings pages) (has_open a.seen.held) pages) a m b same status 0 (formatted_text pages) (inl (good, none, refl, refl)) whole prefix ends;
+      meanwhile = λ here. meanwhile_said (IsNoneOrNew spelling settings pages) a m b says (leads.meanwhile here);
+      made = λ here zero. now_said (IsStateOf spelling (new_state settings pages)) m b says (leads.after here);
+      stays = stay;
+      refused = λ field bad. absurd (let e : Some field ≡ None = sym bad ∙ good in cc);
+    }
+
+    pub refused : {T : Type 0} (e : StoreError) → Leads {T = T} IsNoStore (IsNoneOrNew spelling settings pages) (IsStateOf spelling (new_state settings pages)) (Err e) a m
+        → IsFormatRefusal (first_bad settings pages) a m e → IsThereAnswer (has_open a.seen.held) e → (status ≢ 6 → b.beside.said ≡ m.beside.said ++ refused_text e)
+        → SaysPrefix (refused_text e) m.beside.said b.beside.said → (status ≡ refused_status e) ⊎ ((status ≡ 6) × SayFailed m b) → Formatted spelling settings pages status a b
+    refused e leads cause answer whole prefix ends =
+        let by = refused_by e (of_format (first_bad settings pages) a m e cause) in
+        record {
+          line = last_line (IsFormatText (first_bad settings pages) (has_open a.seen.held) pages) a m b same status (refused_status e) (refused_text e)
+              (refused_line (first_bad settings pages) (has_open a.seen.held) pages a m e cause answer)
+              (λ is. whole (λ six. not_six by (sym is ∙ six))) prefix ends;
+          meanwhile = λ here. meanwhile_said (IsNoneOrNew spelling settings pages) a m b says (leads.meanwhile here);
+          made = λ here zero. absurd (elim ends [ inl is ↦ not_zero by (sym is ∙ zero) | inr six ↦ let e : 6 ≡ 0 = sym six.0 ∙ zero in cc ]);
+          stays = stay;
+          refused = λ field bad. let none = none_read field a m e (subst (λ (o : Option Field). IsFormatRefusal o a m e) bad cause) in
+              untouched a m b same now_a now_m (same_is_torn 0 0 a m none.time) says;
+        }
+      where
+        not_six : (refused_status e ≡ 4) ⊎ (refused_status e ≡ 7) ⊎ (refused_status e ≡ 8) → refused_status e ≡ 6 → ⊥
+        not_six by six = elim by [
+          | inl is ↦ let e : 4 ≡ 6 = sym is ∙ six in cc
+          | inr more ↦ elim more [ inl is ↦ let e : 7 ≡ 6 = sym is ∙ six in cc | inr is ↦ let e : 8 ≡ 6 = sym is ∙ six in cc ]
+        ]
+
+        not_zero : (refused_status e ≡ 4) ⊎ (refused_status e ≡ 7) ⊎ (refused_status e ≡ 8) → refused_status e ≡ 0 → ⊥
+        not_zero by zero = elim by [
+          | inl is ↦ let e : 4 ≡ 0 = sym is ∙ zero in cc
+          | inr more ↦ elim more [ inl is ↦ let e : 7 ≡ 0 = sym is ∙ zero in cc | inr is ↦ let e : 8 ≡ 0 = sym is ∙ zero in cc ]
+        ]

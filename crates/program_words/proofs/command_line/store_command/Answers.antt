@@ -1,0 +1,17 @@
+use Rattle.std.proofs.Common.{rules, ◌≡◌, ◌∙◌, ap, ap₂, codes, true}
+use Rattle.std.proofs.lemmas.Result.{IfOk-weaker}
+use Rattle.clap.specs.Simple.{App, app_of, new_app, on_top, with_subcommand}
+use Rattle.program_words.specs.CommandLine.{format_app, serve_app}
+use Rattle.program_words.proofs.command_line.store_command.Goals as goal
+
+abbrev bare : App
+bare = on_top (λ s. record s { no_binary_name = true; subcommand_required = true; disable_help_subcommand = true; has_version = true }) (new_app (codes "surfstore"))
+
+pub returns : goal.returns
+returns c =
+    let bare_is : app_of c.disable_help_subcommand-command.result ≡ bare =
+    rw (c.disable_help_subcommand-command.ensures, c.subcommand_required.ensures, c.no_binary_name.ensures, c.override_usage.ensures, c.after_help.ensures, c.about.ensures, c.version.ensures)
+    (ap (on_top (λ s. record s { no_binary_name = true; subcommand_required = true; disable_help_subcommand = true; has_version = true })) c.new.ensures.app) in
+    let with_format_is : app_of c.in_ok-with_format.with_format ≡ with_subcommand bare format_app.top =
+    c.in_ok-with_format.ensures.shape c.in_ok-format.ensures.local ∙ ap₂ with_subcommand bare_is (ap (λ (a : App). a.top) c.in_ok-format.ensures.app) in
+    IfOk-weaker c.subcommand-2.result _ _ (λ r h. h.shape c.serve_command.ensures.local ∙ ap₂ with_subcommand with_format_is (ap (λ (a : App). a.top) c.serve_command.ensures.app)) c.subcommand-2.ensures

@@ -1,0 +1,88 @@
+-- What words ask for: a function of what clap's specification says of them.
+use Rattle.std.specs.Prelude.{◌≡◌, ◌≢◌, ◌⊎◌, ℕ, Bool, true, false, if◌then◌else◌, List, [], Option, Some, None, codes, unwrap_or}
+use Rattle.std.specs.List.{list_any}
+use Rattle.std.specs.Option.{option_map_or}
+use Rattle.std.specs.Str.Parse.{digits_value, without_leading_plus}
+use Rattle.clap.specs.Faults.{fault_of}
+use Rattle.clap.specs.Simple.{subcommand_of}
+use Rattle.clap.specs.ValueTests.{is_unsigned_in}
+use Rattle.clap.specs.Walk.{Row, Text, first_of, one_of}
+use Rattle.clap.specs.declared.error.kind.ErrorKind.{ErrorKind}
+use Rattle.clap.specs.declared.error.kind.ErrorKind.TheVariants.{DisplayHelp, DisplayVersion, OutOfMemory}
+use Rattle.program_words.specs.CommandLine.{store_app}
+use Rattle.program_words.specs.NewStores.{IsStoreOf, first_bad_word, variant_named}
+use Rattle.program_words.specs.declared.asked.Asked.{Asked}
+use Rattle.program_words.specs.declared.asked.Asked.TheVariants as asked
+use Rattle.program_words.specs.declared.new_store.Wanted.{Wanted}
+
+-- the number that a text spells; clap takes no text that spells none below 2^64
+abbrev pub number_in_text : Text → ℕ
+number_in_text text = if is_unsigned_in 0 18446744073709551615 text then digits_value 10 (without_leading_plus text) else 0
+
+-- what the words have of an option, or its default
+abbrev pub option_number : Text → List Row → ℕ
+option_number id rows = option_map_or number_in_text (one_of id rows) 0
+
+abbrev pub text_at : Text → List Row → Text
+text_at id rows = unwrap_or (first_of id rows) []
+
+abbrev pub wanted_of : List Row → Wanted
+wanted_of rows = record {
+  pages = option_number (codes "pages") rows;
+  variant = variant_named (text_at (codes "variant") rows);
+  hash_bits = option_number (codes "hash-bits") rows;
+  real_bits = option_number (codes "real-bits") rows;
+  ratio = option_number (codes "ratio") rows;
+}
+
+-- clap takes the words, and this is their subcommand with its options
+pub record IsSubcommand (words : List Text) (name : Text) (rows : List Row) : Type 0 where
+  pub taken : fault_of store_app words ≡ []
+  pub subcommand : subcommand_of store_app words ≡ Some (name, rows)
+
+-- a request for help or the version, which clap answers in place of matches
+abbrev pub is_request : ErrorKind → Bool
+is_request DisplayHelp = true
+is_request DisplayVersion = true
+is_request kind = false
+
+-- `format` with these options, and `serve`
+abbrev pub IsFormat : List Text → Wanted → Type 0
+IsFormat words wanted = (rows : List Row) × IsSubcommand words (codes "format") rows × (wanted_of rows ≡ wanted)
+
+abbrev pub IsServe : List Text → Type 0
+IsServe words = (rows : List Row) × IsSubcommand words (codes "serve") rows
+
+-- Clap answers the words with a text; or it refuses them, and no text is among what it may answer. So of any words exactly one
+-- is so: clap takes them, answers them or refuses them.
+abbrev pub IsHelp : List Text → Type 0
+IsHelp words = list_any is_request (fault_of store_app words) ≡ true
+
+pub record AreRefusedWords (words : List Text) : Type 0 where
+  pub fails : fault_of store_app words ≢ []
+  pub no_text : list_any is_request (fault_of store_app words) ≡ false
+
+-- what the words ask for is this, or there was no memory to find it out
+abbrev pub WordsAsk : List Text → Asked → Type 0
+WordsAsk words (asked.Format store) = (wanted : Wanted) × IsFormat words wanted × (first_bad_word wanted ≡ None) × IsStoreOf wanted store
+WordsAsk words (asked.BadSettings field) = (wanted : Wanted) × IsFormat words wanted × (first_bad_word wanted ≡ Some field)
+WordsAsk words asked.Serve = IsServe words
+WordsAsk words (asked.Help text) = IsHelp words
+WordsAsk words asked.Refused = AreRefusedWords words
+WordsAsk words asked.Memory = Unit {0}
+
+-- ---- on the way
+
+-- a subcommand of the two
+abbrev pub IsKnown : Option (Text × List Row) → Type 0
+IsKnown None = ⊥
+IsKnown (Some found) = (found.0 ≡ codes "format") ⊎ (found.0 ≡ codes "serve")
+
+-- an answer without matches, by its kind
+abbrev pub ComesOf : ErrorKind → Asked → Type 0
+ComesOf kind (asked.Format store) = ⊥
+ComesOf kind (asked.BadSettings field) = ⊥
+ComesOf kind asked.Serve = ⊥
+ComesOf kind (asked.Help text) = is_request kind ≡ true
+ComesOf kind asked.Refused = (is_request kind ≡ false) × (kind ≢ OutOfMemory)
+ComesOf kind asked.Memory = Unit {0}

@@ -1,0 +1,42 @@
+-- The command line, as clap's specification reads its definition.
+use Rattle.std.specs.Prelude.{◌∷◌, [], Some, true, codes}
+use Rattle.clap.specs.Walk.{Rule, Text}
+use Rattle.clap.specs.Simple.{App, new_app, new_rule, on_top, with_rule, with_subcommand}
+use Rattle.clap.specs.declared.builder.value_parser.ValueParser.TheVariants as parser
+
+-- an option that takes one value, and one that takes a number below 2^64
+abbrev pub option_rule : Text → Rule
+option_rule name = record (new_rule name) { long = Some name; value_names = 1 }
+
+abbrev pub number_rule : Text → Rule
+number_rule name = record (option_rule name) { parser = Some (parser.Unsigned 0 18446744073709551615) }
+
+abbrev pub required : Rule → Rule
+required rule = record rule { required = true }
+
+abbrev pub with_default : Text → Rule → Rule
+with_default text rule = record rule { defaults = text ∷ [] }
+
+-- the variant may be any word
+abbrev pub variant_rule : Rule
+variant_rule = required (option_rule (codes "variant"))
+
+-- `format`: what it must have, and all of it
+abbrev pub format_with_pages_app : App
+format_with_pages_app = with_rule (with_rule (new_app (codes "format")) (required (number_rule (codes "pages")))) variant_rule
+
+abbrev pub format_app : App
+format_app = with_rule (with_rule (with_rule format_with_pages_app
+    (with_default (codes "8") (number_rule (codes "hash-bits"))))
+    (with_default (codes "8") (number_rule (codes "real-bits"))))
+    (with_default (codes "64") (number_rule (codes "ratio")))
+
+abbrev pub serve_app : App
+serve_app = new_app (codes "serve")
+
+-- One of the two, with no word before it. `--help` is known everywhere, `--version` before a subcommand, and `help` is no
+-- subcommand.
+abbrev pub store_app : App
+store_app = with_subcommand (with_subcommand
+    (on_top (λ s. record s { no_binary_name = true; subcommand_required = true; disable_help_subcommand = true; has_version = true }) (new_app (codes "surfstore")))
+    format_app.top) serve_app.top

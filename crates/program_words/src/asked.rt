@@ -1,0 +1,104 @@
+//! What words ask for.
+ghost use Rattle.std.specs.Prelude.{◌≡◌, [], List, map, IfOk, string_bytes};
+ghost use Rattle.clap.specs.Faults.{fault_of};
+ghost use Rattle.clap.specs.Kinds.{FailsBy};
+ghost use Rattle.clap.specs.Matches.{found_of};
+ghost use Rattle.clap.specs.Simple.{subcommand_of, subcommand_rows_of};
+ghost use Rattle.clap.specs.Values.{kind_of};
+ghost use Rattle.clap.specs.Walk.{Text, rows_of};
+ghost use Rattle.program_words.specs.Asked.{WordsAsk, ComesOf, IsKnown, option_number, wanted_of};
+ghost use Rattle.program_words.specs.CommandLine.{store_app};
+
+use crate::command_line::store_command;
+use crate::new_store::{NewStore, Variant, Wanted};
+use clap::error::ErrorKind;
+use clap::{ArgMatches, Error};
+use filter_api::Field;
+use std::alloc::Global;
+
+/// What the words ask for.
+#[derive(Debug, Drop)]
+pub enum Asked {
+    /// That a store is made.
+    Format(NewStore),
+    /// That one is made whose settings are out of range, this field first.
+    BadSettings(Field),
+    /// That lines are answered.
+    Serve,
+    /// A text: help, or the version.
+    Help(String),
+    /// Nothing: clap refuses the words.
+    Refused,
+    /// There was no memory to find out.
+    Memory,
+}
+
+// The number of an option.
+fn number(matches: &ArgMatches<'_>, name: &str) -> u64
+    ensures { result ≡ option_number name.now (rows_of (found_of matches.now)) }
+{
+    matches.get_one::<u64>(name).unwrap_or(0)
+}
+
+// The options of `format`.
+fn wanted(matches: &ArgMatches<'_>) -> Wanted
+    ensures { result ≡ wanted_of (rows_of (found_of matches.now)) }
+{
+    Wanted {
+        pages: number(matches, "pages"),
+        variant: Variant::named(matches.get_str("variant").unwrap_or("")),
+        hash_bits: number(matches, "hash-bits"),
+        real_bits: number(matches, "real-bits"),
+        ratio: number(matches, "ratio"),
+    }
+}
+
+// The words as the definition has them.
+fn parse_words<'a>(alloc: Global, words: &'a [String]) -> Result<ArgMatches<'a>, Error>
+    ensures kinds { FailsBy (fault_of store_app (map string_bytes words.now)) result }
+    ensures found { IfOk result (λ m. subcommand_rows_of m ≡ subcommand_of store_app (map string_bytes words.now)) }
+    ensures known { IfOk result (λ m. IsKnown (subcommand_rows_of m)) }
+{
+    store_command(alloc)?.try_get_matches_from(words)
+}
+
+// What matches come to.
+fn asked_by(matches: &ArgMatches<'_>) -> Asked
+    requires { IsKnown (subcommand_rows_of matches.now) }
+    ensures { (words : List Text) → fault_of store_app words ≡ [] → subcommand_rows_of matches.now ≡ subcommand_of store_app words → WordsAsk words result }
+{
+    match matches.subcommand_matches("format") {
+        Some(options) => match wanted(options).checked() {
+            Ok(store) => Asked::Format(store),
+            Err(field) => Asked::BadSettings(field),
+        },
+        None => Asked::Serve,
+    }
+}
+
+// What an answer without matches comes to.
+fn unparsed(alloc: Global, error: Error) -> Asked
+    ensures { ComesOf (kind_of error) result }
+{
+    match error.kind() {
+        ErrorKind::OutOfMemory => Asked::Memory,
+        ErrorKind::DisplayHelp | ErrorKind::DisplayVersion => match error.to_string(alloc) {
+            Ok(text) => Asked::Help(text),
+            Err(_) => Asked::Memory,
+        },
+        _ => Asked::Refused,
+    }
+}
+
+/// What the words behind the device's path ask for.
+///
+/// Each answer but want of memory is exactly what clap's specification has of these words and of the definition in
+/// `command_line`.
+pub fn read_words(alloc: Global, words: &[String]) -> Asked
+    ensures { WordsAsk (map string_bytes words.now) result }
+{
+    match parse_words(alloc, words) {
+        Ok(matches) => asked_by(&matches),
+        Err(error) => unparsed(alloc, error),
+    }
+}

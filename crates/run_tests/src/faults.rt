@@ -1,0 +1,322 @@
+//! Calls that fail, and what the next run finds.
+use crate::runs::{Ended, base_disk, failing, outside, ran, served};
+use disk_mem::{Choice, MemDisk};
+use outside::MemOutside;
+use plain_filter::PlainFilter;
+use std::alloc::{AllocError, Global};
+use std::test::Fail;
+use store_core::{Store, StoreError};
+
+const SCRIPT: &[u8] = b"put 61 62\nput 62 63\nflush\ndel 61\nflush\nput 63 64\nget 62\nquit\n";
+
+const GETS: &[u8] = b"get 61\nget 62\nget 63\n";
+
+// What the gets are answered behind none to six lines of the script, and behind all of it.
+const BEHIND: [&[u8]; 8] = [
+    b"none\nnone\nnone\n",
+    b"val 62\nnone\nnone\n",
+    b"val 62\nval 63\nnone\n",
+    b"val 62\nval 63\nnone\n",
+    b"none\nval 63\nnone\n",
+    b"none\nval 63\nnone\n",
+    b"none\nval 63\nval 64\n",
+    b"none\nval 63\nval 64\n",
+];
+
+// How many lines were answered `ok`: no other reply of the script has a k.
+fn oks(said: &[u8]) -> usize {
+    said.iter().filter(|byte| **byte == b'k').count()
+}
+
+// Whether the next run finds what was answered, or one line more.
+fn has_all(alloc: Global, disk: MemDisk, said: &[u8]) -> Result<bool, Fail> {
+    let again = served(alloc, disk, GETS)?;
+    let found = again.said.as_slice();
+    let done = oks(said).min(6);
+    Ok(found == BEHIND[done] || found == BEHIND[done + 1])
+}
+
+// The first and the last place where two lists of bytes differ, the last one behind its byte.
+fn differing(whole: &[u8], lost: &[u8]) -> (usize, usize) {
+    let mut first = whole.len();
+    let mut last = 0;
+    for (place, byte) in whole.iter().enumerate() {
+        if lost.get(place).copied().unwrap_or(0) != *byte {
+            first = first.min(place);
+            last = place.saturating_add(1);
+        }
+    }
+    (first, last)
+}
+
+// Some bytes, of which those between two places are 07.
+fn with_sevens(alloc: Global, bytes: &[u8], from: usize, to: usize) -> Result<MemDisk, AllocError> {
+    let mut bytes = Vec::from_slice(alloc, bytes)?;
+    for place in from..to {
+        if let Some(byte) = bytes.get_mut(place) {
+            *byte = 7;
+        }
+    }
+    MemDisk::new(alloc, &bytes)
+}
+
+// What a crash leaves of the writes that no sync followed.
+#[derive(Clone, Copy)]
+enum Left {
+    Whole,
+    Lost,
+    Half,
+    Sevens,
+}
+
+// The disk as a crash leaves it. Half of a write is its first bytes, and 07 behind them.
+fn left_by(alloc: Global, disk: &MemDisk, left: Left) -> Result<MemDisk, AllocError> {
+    let lost = disk.crash(&[])?;
+    let whole = disk.crash(&[Choice::Whole, Choice::Whole, Choice::Whole, Choice::Whole])?;
+    let (first, last) = differing(whole.bytes(), lost.bytes());
+    match left {
+        Left::Whole => Ok(whole),
+        Left::Lost => Ok(lost),
+        Left::Half => {
+            let middle = first.saturating_add(last.saturating_sub(first) / 2);
+            with_sevens(alloc, whole.bytes(), middle, last)
+        }
+        Left::Sevens => with_sevens(alloc, whole.bytes(), first, last),
+    }
+}
+
+// Whether all of it is there after a run, stopped as a crash leaves it.
+fn outlasts(alloc: Global, end: &Ended, left: Left) -> Result<bool, Fail> {
+    let disk = left_by(alloc, &end.disk, left)?;
+    has_all(alloc, disk, end.said.as_slice())
+}
+
+// Whether it is so of a run of the script with each call of the disk failing in turn.
+fn each_call_fails_well(alloc: Global, left: Left) -> Result<bool, Fail> {
+    let first = base_disk(alloc)?;
+    for call in 0..100 {
+        let end = served(alloc, failing(alloc, &first, call)?, SCRIPT)?;
+        if !outlasts(alloc, &end, left)? {
+            return Ok(false);
+        }
+        if end.status == 0 {
+            return Ok(true);
+        }
+        if end.status != 4 || !end.said.ends_with(b"device\n") {
+            return Ok(false);
+        }
+    }
+    Ok(false)
+}
+
+#[test]
+fn calls_fail_and_their_writes_are_whole(rt: HostRuntime) -> Result<(), Fail> {
+    assert!(rt; each_call_fails_well(rt.alloc(), Left::Whole)?);
+    Ok(())
+}
+
+#[test]
+fn calls_fail_and_their_writes_are_lost(rt: HostRuntime) -> Result<(), Fail> {
+    assert!(rt; each_call_fails_well(rt.alloc(), Left::Lost)?);
+    Ok(())
+}
+
+#[test]
+fn calls_fail_and_their_writes_are_half(rt: HostRuntime) -> Result<(), Fail> {
+    assert!(rt; each_call_fails_well(rt.alloc(), Left::Half)?);
+    Ok(())
+}
+
+#[test]
+fn calls_fail_and_their_writes_are_sevens(rt: HostRuntime) -> Result<(), Fail> {
+    assert!(rt; each_call_fails_well(rt.alloc(), Left::Sevens)?);
+    Ok(())
+}
+
+// A flush is stopped behind its table's sync, and before the gate of the manifest's slot is open: the pairs are there, and an
+// opening makes the five reads of one without a table.
+#[test]
+fn a_flush_that_is_stopped_leaves_no_table(rt: HostRuntime) -> Result<(), Fail> {
+    let alloc = rt.alloc();
+    let first = base_disk(alloc)?;
+    for call in 18..23 {
+        let end = served(
+            alloc,
+            failing(alloc, &first, call)?,
+            b"put 61 62\nput 62 63\nflush\n",
+        )?;
+        assert_eq!(rt;
+            end.said.as_slice(),
+            b"ok\nok\ndevice\n".as_slice(),
+            "call {call}"
+        );
+        let left = end.disk.crash(&[])?;
+        let again = served(alloc, left, GETS)?;
+        assert_eq!(rt; again.said.as_slice(), b"val 62\nval 63\nnone\n".as_slice());
+        assert_eq!(rt; again.disk.reads(), 5, "call {call}");
+    }
+    Ok(())
+}
+
+// A put's first sync fails: the store is stopped, and another put is not tried.
+#[test]
+fn a_put_behind_a_failed_sync_is_stopped(rt: HostRuntime) -> Result<(), Fail> {
+    let alloc = rt.alloc();
+    let first = base_disk(alloc)?;
+    let mut disk = failing(alloc, &first, 7)?;
+    let mut store = match Store::<PlainFilter>::open_store(alloc, &mut disk) {
+        Ok(store) => store,
+        Err(_) => return Err(Fail::from("not opened")),
+    };
+    assert!(rt; matches!(store.put(&mut disk, b"a", b"b"), Err(StoreError::Device(_))));
+    assert!(rt; store.put(&mut disk, b"c", b"d") == Err(StoreError::Stopped));
+    assert_eq!(rt; disk.calls(), 8);
+    Ok(())
+}
+
+// A run of the script in which the take and the say of these numbers fail.
+fn with_streams(
+    alloc: Global,
+    first: &MemDisk,
+    takes: &[u64],
+    says: &[u64],
+    pace: usize,
+) -> Result<Ended, Fail> {
+    let disk = MemDisk::new(alloc, first.bytes())?;
+    let input = Vec::from_slice(alloc, SCRIPT)?;
+    let takes = Vec::from_slice(alloc, takes)?;
+    let says = Vec::from_slice(alloc, says)?;
+    let out = MemOutside::new(disk, input, takes, says).with_pace(pace.max(1));
+    ran(alloc, "serve", out)
+}
+
+#[test]
+fn each_say_of_a_byte_failing_in_turn(rt: HostRuntime) -> Result<(), Fail> {
+    let alloc = rt.alloc();
+    let first = base_disk(alloc)?;
+    for say in 0..29 {
+        let end = with_streams(alloc, &first, &[], &[say], 1)?;
+        assert_eq!(rt; end.status, 6);
+        assert_eq!(rt; end.said.len() as u64, say);
+        assert!(rt; outlasts(alloc, &end, Left::Lost)?, "say {say}");
+    }
+    Ok(())
+}
+
+#[test]
+fn each_say_of_a_reply_failing_in_turn(rt: HostRuntime) -> Result<(), Fail> {
+    let alloc = rt.alloc();
+    let first = base_disk(alloc)?;
+    for say in 0..8 {
+        let end = with_streams(alloc, &first, &[], &[say], SCRIPT.len())?;
+        assert_eq!(rt; end.status, 6);
+        let replies = end.said.iter().filter(|byte| **byte == b'\n').count();
+        assert_eq!(rt; replies as u64, say);
+        assert!(rt; outlasts(alloc, &end, Left::Lost)?, "say {say}");
+    }
+    Ok(())
+}
+
+#[test]
+fn each_take_failing_in_turn(rt: HostRuntime) -> Result<(), Fail> {
+    let alloc = rt.alloc();
+    let first = base_disk(alloc)?;
+    for take in 0..61 {
+        let end = with_streams(alloc, &first, &[take], &[], 1)?;
+        assert_eq!(rt; end.status, 3);
+        assert!(rt; outlasts(alloc, &end, Left::Lost)?, "take {take}");
+    }
+    let whole = with_streams(alloc, &first, &[0], &[], SCRIPT.len())?;
+    assert_eq!(rt; whole.status, 3);
+    assert_eq!(rt; whole.said.len(), 0);
+    Ok(())
+}
+
+// With three to five bytes said a put lasts; with nine and more the delete behind it does.
+#[test]
+fn what_was_said_outlasts_a_crash(rt: HostRuntime) -> Result<(), Fail> {
+    let alloc = rt.alloc();
+    let first = base_disk(alloc)?;
+    let rows: [(u64, &[u8]); 5] = [
+        (3, b"val 62\n"),
+        (4, b"val 62\n"),
+        (5, b"val 62\n"),
+        (9, b"none\n"),
+        (10, b"none\n"),
+    ];
+    for (say, reply) in rows {
+        let disk = MemDisk::new(alloc, first.bytes())?;
+        let input = Vec::from_slice(alloc, b"put 61 62\nput 62 63\ndel 61\nquit\n")?;
+        let says = Vec::from_slice(alloc, &[say])?;
+        let out = MemOutside::new(disk, input, Vec::new(alloc), says).with_pace(1);
+        let end = ran(alloc, "serve", out)?;
+        let again = served(alloc, end.disk.crash(&[])?, b"get 61\n")?;
+        assert_eq!(rt; again.said.as_slice(), reply, "{say} bytes said");
+    }
+    Ok(())
+}
+
+// The second put, behind the first one's `ok`, makes calls 10 to 13: whatever a crash leaves of its writes, the first put lasts.
+#[test]
+fn a_put_outlasts_what_the_next_one_leaves(rt: HostRuntime) -> Result<(), Fail> {
+    let alloc = rt.alloc();
+    let first = base_disk(alloc)?;
+    for call in 10..14 {
+        let end = served(
+            alloc,
+            failing(alloc, &first, call)?,
+            b"put 61 62\nput 62 63\n",
+        )?;
+        assert_eq!(rt;
+            end.said.as_slice(),
+            b"ok\ndevice\n".as_slice(),
+            "call {call}"
+        );
+        for left in [Left::Whole, Left::Lost, Left::Half, Left::Sevens] {
+            let disk = left_by(alloc, &end.disk, left)?;
+            let again = served(alloc, disk, b"get 61\n")?;
+            assert_eq!(rt;
+                again.said.as_slice(),
+                b"val 62\n".as_slice(),
+                "call {call}"
+            );
+        }
+    }
+    Ok(())
+}
+
+#[test]
+fn a_reply_that_cannot_be_said_ends_the_run(rt: HostRuntime) -> Result<(), Fail> {
+    let alloc = rt.alloc();
+    let first = base_disk(alloc)?;
+    let end = with_streams(alloc, &first, &[], &[0], SCRIPT.len())?;
+    assert_eq!(rt; end.status, 6);
+    assert_eq!(rt; end.said.len(), 0);
+    let again = served(alloc, end.disk, b"get 61\nget 62\n")?;
+    assert_eq!(rt; again.said.as_slice(), b"val 62\nnone\n".as_slice());
+    Ok(())
+}
+
+#[test]
+fn a_format_that_fails_may_be_made_again(rt: HostRuntime) -> Result<(), Fail> {
+    let alloc = rt.alloc();
+    let empty = MemDisk::new(alloc, b"")?;
+    for call in 0..8 {
+        let disk = failing(alloc, &empty, call)?;
+        let end = ran(
+            alloc,
+            "format --pages 512 --variant base",
+            outside(alloc, disk, b"")?,
+        )?;
+        assert_eq!(rt; end.status, 4, "call {call}");
+        assert_eq!(rt; end.said.as_slice(), b"device\n".as_slice());
+        let left = end.disk.crash(&[])?;
+        let again = ran(
+            alloc,
+            "format --pages 512 --variant base",
+            outside(alloc, left, b"")?,
+        )?;
+        assert_eq!(rt; again.said.as_slice(), b"formatted 512\n".as_slice());
+    }
+    Ok(())
+}

@@ -1,0 +1,134 @@
+//! Lines and their replies, and the bytes that they leave.
+use crate::runs::{base_disk, served};
+use disk_mem::MemDisk;
+use disk_trait::Disk;
+use std::alloc::{AllocError, Global};
+use std::test::Fail;
+
+const ROWS: [(&[u8], &[u8]); 9] = [
+    (b"put 61 62\nget 61\nquit\n", b"ok\nval 62\nbye\n"),
+    (b"put 61 -\nget 61\nget 62\n", b"ok\nval -\nnone\n"),
+    (
+        b"put - 62\nget -\ndel -\n",
+        b"limit key 0\nlimit key 0\nlimit key 0\n",
+    ),
+    (b"del 61\nget 61", b"ok\nnone\n"),
+    (b"", b""),
+    (
+        b"\nput 6\nput 6 62\nget  61\n",
+        b"bad 2\nbad 3\nbad 4\nbad 3\n",
+    ),
+    (
+        b"put 61 aB\nflush\nget 61\nput 61 63\nget 61\n",
+        b"ok\nok\nval ab\nok\nval 63\n",
+    ),
+    (
+        b"put 61 62\nflush\ndel 61\nflush\nget 61\n",
+        b"ok\nok\nok\nok\nnone\n",
+    ),
+    (b"quit\nget 61\n", b"bye\n"),
+];
+
+// The sum of the manifest's body with the epoch 2^64 - 1, least byte first.
+const LAST_EPOCH_SUM: [u8; 8] = [0x6a, 0x42, 0x79, 0xfb, 0xdb, 0x1d, 0x01, 0xbb];
+
+#[test]
+fn each_line_gets_its_reply(rt: HostRuntime) -> Result<(), Fail> {
+    let alloc = rt.alloc();
+    for (lines, replies) in ROWS {
+        let end = served(alloc, base_disk(alloc)?, lines)?;
+        assert_eq!(rt; end.status, 0);
+        assert_eq!(rt; end.said.as_slice(), replies);
+    }
+    Ok(())
+}
+
+#[test]
+fn a_put_leaves_the_bytes_of_its_record(rt: HostRuntime) -> Result<(), Fail> {
+    let alloc = rt.alloc();
+    let mut end = served(alloc, base_disk(alloc)?, b"put 61 62\n")?;
+    let mut bytes = [9; 11];
+    assert!(rt; end.disk.read(262_144, &mut bytes).is_ok());
+    assert_eq!(rt; bytes, [1, 1, 1, 0, 1, 0, 0, 0, 0x61, 0x62, 0]);
+    Ok(())
+}
+
+// The line of a put whose key and value have so many bytes.
+fn put_line(alloc: Global, key: usize, value: usize) -> Result<Vec<u8>, AllocError> {
+    let mut line = Vec::from_slice(alloc, b"put ")?;
+    for _ in 0..key {
+        line.extend_from_slice(b"6b")?;
+    }
+    line.push(b' ')?;
+    for _ in 0..value {
+        line.extend_from_slice(b"78")?;
+    }
+    line.push(b'\n')?;
+    Ok(line)
+}
+
+#[test]
+fn the_limits_of_keys_and_values(rt: HostRuntime) -> Result<(), Fail> {
+    let alloc = rt.alloc();
+    let rows: [(usize, usize, &[u8]); 4] = [
+        (1_024, 1, b"ok\n"),
+        (1_025, 1, b"limit key 1025\n"),
+        (1, 65_536, b"ok\n"),
+        (1, 65_537, b"limit value 65537\n"),
+    ];
+    for (key, value, reply) in rows {
+        let line = put_line(alloc, key, value)?;
+        let end = served(alloc, base_disk(alloc)?, &line)?;
+        assert_eq!(rt; end.said.as_slice(), reply);
+    }
+    Ok(())
+}
+
+// Stores this byte at a place of the disk, by a write of its own.
+fn with_byte(disk: MemDisk, at: u32, byte: u8) -> Result<MemDisk, Fail> {
+    let mut disk = disk;
+    match disk.write(u64::from(at), &[byte]) {
+        Ok(()) => Ok(disk),
+        Err(_) => Err(Fail::from("not written")),
+    }
+}
+
+// The block of one pair begins with 11 00 00 00 01 00 00 00 01 01 00 01 00 00 00 61 62; the sums are those of its 4,096 bytes as
+// they were written, and with the ninth changed from 01 to 03.
+#[test]
+fn a_damaged_block_is_told_where_it_is_read(rt: HostRuntime) -> Result<(), Fail> {
+    let alloc = rt.alloc();
+    let first = served(alloc, base_disk(alloc)?, b"put 61 62\nflush\n")?;
+    let damaged = with_byte(first.disk, 786_440, 3)?;
+    let reads = damaged.reads();
+    let none = served(alloc, damaged, b"get 7a\n")?;
+    assert_eq!(rt; none.said.as_slice(), b"none\n".as_slice());
+    let opening = none.disk.reads();
+    let told = served(alloc, none.disk, b"get 61\nget 7a\n")?;
+    assert_eq!(rt; told.status, 5);
+    assert_eq!(rt;
+        told.said.as_slice(),
+        b"damaged block 786432 sum eba7fa7c4d3d0fad 48e5c0a5221a7b73\n".as_slice()
+    );
+    // The same opening, and one block.
+    assert_eq!(rt;
+        told.disk.reads().saturating_sub(opening),
+        opening.saturating_sub(reads).saturating_add(1)
+    );
+    Ok(())
+}
+
+// The newest slot's epoch is at byte 16, behind the gate's eight bytes and eight of the body; its sum stands at byte 72.
+#[test]
+fn the_last_epoch_takes_no_flush(rt: HostRuntime) -> Result<(), Fail> {
+    let alloc = rt.alloc();
+    let mut disk = base_disk(alloc)?;
+    assert!(rt; disk.write(16, &[0xff; 8]).is_ok());
+    assert!(rt; disk.write(72, &LAST_EPOCH_SUM).is_ok());
+    let end = served(alloc, disk, b"put 61 62\nflush\nget 61\n")?;
+    assert_eq!(rt;
+        end.said.as_slice(),
+        b"ok\nlimit epoch\nval 62\n".as_slice()
+    );
+    Ok(())
+}

@@ -1,0 +1,125 @@
+//! What the words ask for.
+use crate::runs::{base_disk, commanded, outside, ran, served};
+use disk_mem::MemDisk;
+use std::test::Fail;
+
+const USAGE: &[u8] = b"usage: surfstore PATH format|serve|load\n";
+
+// Words over a device without a store, the status, and the line that is said.
+const ROWS: [(&str, u8, &[u8]); 18] = [
+    ("", 2, USAGE),
+    ("load", 2, USAGE),
+    ("serve serve", 2, USAGE),
+    ("format --variant base", 2, USAGE),
+    ("format --pages 512", 2, USAGE),
+    ("format --pages x --variant base", 2, USAGE),
+    (
+        "format --pages 18446744073709551616 --variant base",
+        2,
+        USAGE,
+    ),
+    ("format --pages 512 --pages 512 --variant base", 2, USAGE),
+    ("serve", 8, b"not a store\n"),
+    (
+        "format --pages 511 --variant bass",
+        8,
+        b"bad settings pages\n",
+    ),
+    (
+        "format --pages 16777217 --variant base",
+        8,
+        b"bad settings pages\n",
+    ),
+    (
+        "format --pages 512 --variant bass --hash-bits 33",
+        8,
+        b"bad settings variant\n",
+    ),
+    (
+        "format --pages 512 --variant mixed --hash-bits 33 --real-bits 33",
+        8,
+        b"bad settings hash-bits\n",
+    ),
+    (
+        "format --pages 512 --variant real --hash-bits 33 --real-bits 33 --ratio 65536",
+        8,
+        b"bad settings real-bits\n",
+    ),
+    (
+        "format --pages 512 --variant base --ratio 65536",
+        8,
+        b"bad settings ratio\n",
+    ),
+    (
+        "format --pages 512 --variant base --hash-bits 33 --real-bits 33 --ratio 65535",
+        0,
+        b"formatted 512\n",
+    ),
+    (
+        "format --pages=16777216 --variant=mixed",
+        0,
+        b"formatted 16777216\n",
+    ),
+    ("--version", 0, b"surfstore 0.1.0\n"),
+];
+
+#[test]
+fn words_and_their_last_lines(rt: HostRuntime) -> Result<(), Fail> {
+    let alloc = rt.alloc();
+    for (words, status, line) in ROWS {
+        let end = commanded(alloc, words, MemDisk::new(alloc, b"")?)?;
+        assert_eq!(rt; end.status, status, "{words}");
+        assert_eq!(rt; end.said.as_slice(), line, "{words}");
+    }
+    Ok(())
+}
+
+#[test]
+fn settings_out_of_range_are_told_before_any_call(rt: HostRuntime) -> Result<(), Fail> {
+    let alloc = rt.alloc();
+    let end = commanded(
+        alloc,
+        "format --pages 511 --variant base",
+        MemDisk::new(alloc, b"")?,
+    )?;
+    assert_eq!(rt; end.disk.calls(), 0);
+    Ok(())
+}
+
+#[test]
+fn help_tells_each_option(rt: HostRuntime) -> Result<(), Fail> {
+    let alloc = rt.alloc();
+    let disk = MemDisk::new(alloc, b"")?;
+    let end = ran(alloc, "--help", outside(alloc, disk, b"")?)?;
+    assert_eq!(rt; end.status, 0);
+    let Ok(text) = str::from_utf8(end.said.as_slice()) else {
+        return Err(Fail::from("help is no text"));
+    };
+    for part in [
+        "format",
+        "serve",
+        "--pages",
+        "--variant",
+        "--hash-bits",
+        "--real-bits",
+        "--ratio",
+        "16,777,216",
+        "formatted 512",
+    ] {
+        assert!(rt; text.contains(part), "{part}");
+    }
+    Ok(())
+}
+
+#[test]
+fn a_second_format_leaves_the_store(rt: HostRuntime) -> Result<(), Fail> {
+    let alloc = rt.alloc();
+    let first = served(alloc, base_disk(alloc)?, b"put 61 62\n")?;
+    assert_eq!(rt; first.said.as_slice(), b"ok\n".as_slice());
+    let second = commanded(alloc, "format --pages 512 --variant base", first.disk)?;
+    assert_eq!(rt; second.status, 8);
+    assert_eq!(rt; second.said.as_slice(), b"already a store\n".as_slice());
+    let again = served(alloc, second.disk, b"get 61\n")?;
+    assert_eq!(rt; again.said.as_slice(), b"val 62\n".as_slice());
+    Ok(())
+}

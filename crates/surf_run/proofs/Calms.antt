@@ -1,0 +1,202 @@
+-- Lines that leave the store as it is: a get, a bad line, a quit.
+use Rattle.std.proofs.Common.{◌≡◌, ◌⊎◌, ◌≢◌, inl, inr, ◌≤◌, ◌+◌, ◌*◌, ℕ, Bool, true, false, List, refl, sym, ap, ◌∙◌, subst, arith}
+use Rattle.std.specs.Prelude.{Option, Some, None}
+use Rattle.block_model.specs.Pages.{page_bytes}
+use Rattle.disk_trait.specs.World.{Image, Meanwhile, Passes, Rose, Same, Seen, World}
+use Rattle.disk_trait.proofs.Moments.{in_call, now_at}
+use Rattle.line_model.specs.Limits.{key_limit}
+use Rattle.line_model.specs.Replies.{Bye, Damaged, Device, LastEpoch, LongKey, LongValue, ManyTables, Reply, got}
+use Rattle.line_model.specs.Requests.{Bad, Get, Quit as AskQuit, Request}
+use Rattle.map_model.specs.SortedMap.{Bytes, get}
+use Rattle.outside.specs.Streams.{SaidByNow, SayMoves}
+use Rattle.state_model.specs.Bounds.{get_bound}
+use Rattle.state_model.specs.Causes.{Why}
+use Rattle.state_model.specs.Script.{Onward, turn_of}
+use Rattle.state_model.specs.State.{State}
+use Rattle.state_model.specs.Steps.{Answer, Step, answer, answer_within, answers, read_failed, unless_limit}
+use Rattle.state_model.specs.View.{state_map}
+use Rattle.store_core.specs.Answers.{HasCause, told}
+use Rattle.store_core.specs.Getting.{IsFaultIn, IsGetRefusal, IsMet, IsShown, IsUndamaged}
+use Rattle.store_core.specs.Kept.{Kept}
+use Rattle.store_core.specs.Tied.{Tied}
+use Rattle.store_core.specs.declared.error.Limit.TheVariants as limit
+use Rattle.store_core.specs.declared.error.StoreError.{StoreError}
+use Rattle.store_core.specs.declared.error.StoreError.TheVariants as error
+use Rattle.surf_run.specs.Answering.{EndsLine, LineAnswer, RunsOn}
+use Rattle.surf_run.specs.Causes.{EndCause, NoFall, SayFailed, SaysDamage, WritesWithin}
+use Rattle.surf_run.specs.Crash.{HasMap, Stands}
+use Rattle.surf_run.specs.Dialogue.{line_bound}
+use Rattle.surf_run.specs.Kind.{Kind}
+use Rattle.surf_run.specs.Refusals.{end_of_refusal}
+use Rattle.surf_run.specs.Saying.{Says, end_by}
+use Rattle.surf_run.specs.declared.end.LineEnd.{LineEnd}
+use Rattle.surf_run.specs.declared.end.LineEnd.TheVariants.{End, Next, Quit}
+use Rattle.surf_run.proofs.EndCauses.{rose_since, rose_then}
+use Rattle.surf_run.proofs.Moments.{ends_device, ends_next, ends_quit, line_answer, map_of_state, stands_still, tied_still}
+use Rattle.table_file.specs.Opened.{Opened}
+use Rattle.table_file.specs.declared.fault.TableFault.TheVariants as table
+use Rattle.table_model.specs.Tables.{FilterBytes}
+
+-- the buffer tells nothing of the state
+pub tied_buffer : (kind : Kind) (store after : Kept) (buffer : Bytes) (s : State) (w : World) → after ≡ record store { buffer = buffer }
+    → Tied kind.spelling kind.filter_bytes store s w → Tied kind.spelling kind.filter_bytes after s w
+tied_buffer kind store after buffer s w is tied = subst (λ (k : Kept). Tied kind.spelling kind.filter_bytes k s w) (sym is)
+    (record { sound = tied.sound; no_job = tied.no_job; none_kept = tied.none_kept; images = tied.images; log = tied.log; memory = tied.memory })
+
+-- ---- where nothing is written
+
+module _ (kind : Kind) (s : State) (request : Request) (store : Kept) (a mid b : World) (same : mid.beside ≡ a.beside) (time : Passes Same a mid)
+    (tied : Tied kind.spelling kind.filter_bytes store s mid) (stand : Stands kind s a) (reads : mid.seen.reads ≤ a.seen.reads + line_bound s request)
+    (writes : WritesWithin (page_bytes * s.pages) a mid) (now_a : SaidByNow a) (now_mid : SaidByNow mid) (say : SayMoves mid b) where
+  meanwhile : Meanwhile (HasMap kind s) a mid
+  meanwhile = in_call (HasMap kind s) Same a mid (λ image left. map_of_state kind s image (stand image left)) time
+      (λ was image left same. subst (HasMap kind s) (sym same) (map_of_state kind s was (stand was left)))
+
+  still_answer : (reply : Reply) → Step (HasCause a mid) kind.filter_bytes s request reply s → (end result : LineEnd) → Says end reply result mid b → LineAnswer kind s request reply s a b
+  still_answer reply step end result says =
+      line_answer kind s request reply s (HasMap kind s) a mid b meanwhile same now_a now_mid say step says.0
+      (λ image map. inl map) (λ image left. inl (now_at (HasMap kind s) a mid meanwhile image left)) reads writes
+
+  stand_now : Stands kind s b
+  stand_now = stands_still kind s mid b say.time (stands_still kind s a mid time stand)
+
+  pub still_next : (reply : Reply) (result : LineEnd) → Step (HasCause a mid) kind.filter_bytes s request reply s → turn_of reply ≡ Onward → Says Next reply result mid b
+      → EndsLine kind result s request store a b
+  still_next reply result step goes says =
+      ends_next kind s request s store a mid b same reply result (still_answer reply step Next result says) says goes
+      (tied_still kind.spelling kind.filter_bytes store s mid b say.time tied) stand_now
+
+  pub still_device : (result : LineEnd) → Step (HasCause a mid) kind.filter_bytes s request Device s → Says (End 4) Device result mid b → EndsLine kind result s request store a b
+  still_device result step says = ends_device kind s request s store a mid b same result (still_answer Device step (End 4) result says) says
+
+  pub still_quit : (result : LineEnd) → Step (HasCause a mid) kind.filter_bytes s request Bye s → Says Quit Bye result mid b → EndsLine kind result s request store a b
+  still_quit result step says = ends_quit kind s request s store a mid b same result (still_answer Bye step Quit result says) says stand_now
+
+-- ---- steps
+
+module _ (Cause : Why → Type 0) (filter_bytes : FilterBytes) (s : State) where
+  by_answer : (request : Request) (reply : Reply) → answer filter_bytes s request ≡ (reply, s) → Step Cause filter_bytes s request reply s
+  by_answer request reply is = subst (λ (p : Answer). Step Cause filter_bytes s request p.0 p.1) is answers
+
+  pub bad_step : (code : ℕ) (reply : Reply) → (answer filter_bytes s (Bad code)).0 ≡ reply → Step Cause filter_bytes s (Bad code) reply s
+  bad_step code reply is = subst (λ (r : Reply). Step Cause filter_bytes s (Bad code) r s) is answers
+
+  pub quit_step : Step Cause filter_bytes s AskQuit Bye s
+  quit_step = answers
+
+  pub got_step : (key : Bytes) (value : Option Bytes) → key_limit key ≡ None → value ≡ get (state_map s) key → Step Cause filter_bytes s (Get key) (got value) s
+  got_step key value none is =
+      by_answer (Get key) (got value) (ap (λ (o : Option Reply). unless_limit o s (answer_within filter_bytes s (Get key))) none ∙ ap (λ (v : Option Bytes). (got v, s)) (sym is))
+
+  pub limited_step : (key : Bytes) (reply : Reply) → key_limit key ≡ Some reply → Step Cause filter_bytes s (Get key) reply s
+  limited_step key reply is = by_answer (Get key) reply (ap (λ (o : Option Reply). unless_limit o s (answer_within filter_bytes s (Get key))) is)
+
+-- ---- why a get is refused
+
+-- it is told as `device`, where a read failed; as damage; or by the limit of its key
+abbrev pub IsGetTold : Bytes → World → World → StoreError → Reply → Type 0
+IsGetTold key a b why reply =
+    ((reply ≡ Device) × (key_limit key ≡ None) × Rose a.seen.read_faults b.seen.read_faults × (end_of_refusal why ≡ End 4) × ((most : ℕ) → IsMet most why → 1 ≤ most))
+    ⊎ ((end_of_refusal why ≡ End 5) × (IsUndamaged why → ⊥))
+    ⊎ ((key_limit key ≡ Some reply) × (turn_of reply ≡ Onward) × (end_by reply ≡ Next) × (end_of_refusal why ≡ Next))
+
+abbrev pub GetTold : Bytes → World → World → StoreError → Type 0
+GetTold key a b why = (reply : Reply) × (told why ≡ Some reply) × IsGetTold key a b why reply
+
+pub get_told : (why : StoreError) (stopped : Bool) (key : Bytes) (a b : World) → stopped ≡ false → IsGetRefusal stopped key a b why → GetTold key a b why
+get_told error.Memory stopped key a b runs refused = absurd refused
+get_told (error.Device cause) stopped key a b runs refused = (Device, refl, inl (refl, refused.1, refused.2.1, refl, λ most met. met))
+get_told error.Stopped stopped key a b runs refused = absurd (let is : true ≡ false = sym refused ∙ runs in cc)
+get_told (error.Limit (limit.Key size)) stopped key a b runs refused = (LongKey size, refl, inr (inr (refused.1, refl, refl, refl)))
+get_told (error.Limit (limit.Value size)) stopped key a b runs refused = (LongValue size, refl, inr (inr (refused.1, refl, refl, refl)))
+get_told (error.Limit limit.Tables) stopped key a b runs refused = (ManyTables, refl, inr (inr (refused.1, refl, refl, refl)))
+get_told (error.Limit limit.Epoch) stopped key a b runs refused = (LastEpoch, refl, inr (inr (refused.1, refl, refl, refl)))
+get_told (error.Full need gap) stopped key a b runs refused = absurd refused
+get_told (error.Damaged damage) stopped key a b runs refused = (Damaged damage, refl, inr (inl (refl, λ never. never)))
+get_told error.NotAStore stopped key a b runs refused = absurd refused
+get_told error.AlreadyAStore stopped key a b runs refused = absurd refused
+get_told (error.BadSettings field) stopped key a b runs refused = absurd refused
+
+pub is_get_told : (key : Bytes) (a b : World) (why : StoreError) → GetTold key a b why → told why ≢ None
+is_get_told key a b why is none = absurd (let same = sym is.1 ∙ none in cc)
+
+abbrev status_of : LineEnd → ℕ
+status_of Next = 0
+status_of Quit = 0
+status_of (End status) = status
+
+-- damage that was said is that of the block which was read
+pub says_damage : (tables : List Opened) (key : Bytes) (why : StoreError) (result : LineEnd) (held : Image) (mid b : World) → IsShown tables key held why → mid.seen.held ≡ held → b.seen ≡ mid.seen
+    → ((reply : Reply) → told why ≡ Some reply → Says (end_by reply) reply result mid b) → end_of_refusal why ≡ End 5 → result ≡ End 5 → SaysDamage tables (Get key) b
+says_damage tables key (error.Damaged damage) result held mid b shown same seen says ends five = elim (says (Damaged damage) refl).1 [
+  | inl whole ↦ record {
+    key = key;
+    asked = refl;
+    damage = damage;
+    shown = subst (λ (i : Image). IsFaultIn tables key i (table.Damaged damage)) (sym (ap (λ (s : Seen). s.held) seen ∙ same)) shown;
+    before = mid.beside.said;
+    said = whole.1;
+  }
+  | inr six ↦ absurd (let e : 5 ≡ 6 = ap status_of (sym five ∙ six) in cc)
+]
+says_damage tables key (error.Device cause) result held mid b shown same seen says ends five = absurd (let e : 4 ≡ 5 = ap status_of ends in cc)
+says_damage tables key error.Memory result held mid b shown same seen says ends five = absurd (let e : 0 ≡ 5 = ap status_of ends in cc)
+says_damage tables key error.Stopped result held mid b shown same seen says ends five = absurd (let e : 0 ≡ 5 = ap status_of ends in cc)
+says_damage tables key (error.Limit limit) result held mid b shown same seen says ends five = absurd (let e : 0 ≡ 5 = ap status_of ends in cc)
+says_damage tables key (error.Full need gap) result held mid b shown same seen says ends five = absurd (let e : 0 ≡ 5 = ap status_of ends in cc)
+says_damage tables key error.NotAStore result held mid b shown same seen says ends five = absurd (let e : 0 ≡ 5 = ap status_of ends in cc)
+says_damage tables key error.AlreadyAStore result held mid b shown same seen says ends five = absurd (let e : 0 ≡ 5 = ap status_of ends in cc)
+says_damage tables key (error.BadSettings field) result held mid b shown same seen says ends five = absurd (let e : 0 ≡ 5 = ap status_of ends in cc)
+
+module _ (Shows : World → Type 0) (key : Bytes) (why : StoreError) (result : LineEnd) (a mid b : World) (is : GetTold key a mid why) (ends : (result ≡ end_of_refusal why) ⊎ ((result ≡ End 6) × SayFailed mid b)) where
+  pub get_cause : NoFall a mid → NoFall mid b → (end_of_refusal why ≡ End 5 → result ≡ End 5 → Shows b) → EndCause Shows result a b
+  get_cause before after shows = elim ends [
+    | inl same ↦ elim is.2 [
+      | inl device ↦ subst (λ (e : LineEnd). EndCause Shows e a b) (sym (same ∙ device.3)) (inl (refl, inl (rose_then a.seen.read_faults mid.seen.read_faults b.seen.read_faults device.2 after.read)))
+      | inr more ↦ elim more [
+        | inl damaged ↦ subst (λ (e : LineEnd). EndCause Shows e a b) (sym (same ∙ damaged.0)) (inr (inl (refl, shows damaged.0 (same ∙ damaged.0))))
+        | inr limited ↦ subst (λ (e : LineEnd). EndCause Shows e a b) (sym (same ∙ limited.3)) tt
+      ]
+    ]
+    | inr six ↦ subst (λ (e : LineEnd). EndCause Shows e a b) (sym six.0) (inr (inr (refl, rose_since a.beside.say_faults mid.beside.say_faults b.beside.say_faults before.say six.1)))
+  ]
+
+-- a line that goes on, or whose reply cannot be said
+module _ (result : LineEnd) (end : LineEnd) (a mid b : World) (goes : (result ≡ end) ⊎ ((result ≡ End 6) × SayFailed mid b)) where
+  pub said_cause : (Shows : World → Type 0) → EndCause Shows end a b → NoFall a mid → EndCause Shows result a b
+  said_cause Shows free before = elim goes [
+    | inl same ↦ subst (λ (e : LineEnd). EndCause Shows e a b) (sym same) free
+    | inr six ↦ subst (λ (e : LineEnd). EndCause Shows e a b) (sym six.0) (inr (inr (refl, rose_since a.beside.say_faults mid.beside.say_faults b.beside.say_faults before.say six.1)))
+  ]
+
+  pub said_runs : (stopped : Bool) → stopped ≡ false → RunsOn end stopped → RunsOn result stopped
+  said_runs stopped is free = elim goes [
+    | inl same ↦ subst (λ (e : LineEnd). RunsOn e stopped) (sym same) free
+    | inr six ↦ subst (λ (e : LineEnd). RunsOn e stopped) (sym six.0) tt
+  ]
+
+pub runs_any : (result : LineEnd) (stopped : Bool) → stopped ≡ false → RunsOn result stopped
+runs_any Next stopped is = is
+runs_any Quit stopped is = is
+runs_any (End status) stopped is = tt
+
+-- ---- what a refused get leads to
+
+module _ (kind : Kind) (s : State) (key : Bytes) (why : StoreError) (store : Kept) (result : LineEnd) (a mid b : World) (is : GetTold key a mid why) (met : IsMet (get_bound s key) why) (undamaged : IsUndamaged why)
+    (same : mid.beside ≡ a.beside) (time : Passes Same a mid) (tied : Tied kind.spelling kind.filter_bytes store s mid) (stand : Stands kind s a)
+    (reads : mid.seen.reads ≤ a.seen.reads + get_bound s key) (writes : WritesWithin (page_bytes * s.pages) a mid) (now_a : SaidByNow a) (now_mid : SaidByNow mid) (say : SayMoves mid b)
+    (says : (reply : Reply) → told why ≡ Some reply → Says (end_by reply) reply result mid b) where
+  pub refused_ends : EndsLine kind result s (Get key) store a b
+  refused_ends = elim is.2 [
+    | inl device ↦
+        still_device kind s (Get key) store a mid b same time tied stand reads writes now_a now_mid say result
+        (read_failed Device device.1 (omega (arith, device.4 (get_bound s key) met)) device.2 refl)
+        (subst (λ (r : Reply). Says (end_by r) r result mid b) device.0 (says is.0 is.1))
+    | inr more ↦ elim more [
+      | inl damaged ↦ absurd (damaged.1 undamaged)
+      | inr limited ↦
+          still_next kind s (Get key) store a mid b same time tied stand reads writes now_a now_mid say is.0 result
+          (limited_step (HasCause a mid) kind.filter_bytes s key is.0 limited.0) limited.1
+          (subst (λ (e : LineEnd). Says e is.0 result mid b) limited.2 (says is.0 is.1))
+    ]
+  ]

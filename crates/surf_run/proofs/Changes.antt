@@ -1,0 +1,127 @@
+-- How a change of the store is answered.
+use Rattle.std.proofs.Common.{◌≡◌, ◌⊎◌, ◌≢◌, inl, inr, ◌≤◌, ◌+◌, ◌*◌, ℕ, Bool, true, false, refl, sym, ap, ◌∙◌, subst, arith}
+use Rattle.std.specs.Prelude.{◌||◌, Option, Some, None, Result, Ok, Err, MatchResult}
+use Rattle.block_model.specs.Pages.{page_bytes}
+use Rattle.disk_trait.specs.World.{Image, Rose, World, WriteMoves}
+use Rattle.disk_trait.proofs.Moments.{now_at}
+use Rattle.line_model.specs.Replies.{Device, Done, Full, LastEpoch, LongKey, LongValue, ManyTables, Memory, Reply}
+use Rattle.line_model.specs.Requests.{Request}
+use Rattle.outside.specs.Streams.{SaidByNow, SayMoves}
+use Rattle.state_model.specs.Script.{Onward, turn_of}
+use Rattle.state_model.specs.State.{State}
+use Rattle.state_model.specs.Steps.{Step}
+use Rattle.store_core.specs.Answers as core
+use Rattle.store_core.specs.Answers.{HasCause, IsRun, IsWriteRefusal, stopped_by, told_change}
+use Rattle.store_core.specs.Kept.{Kept}
+use Rattle.store_core.specs.Tied.{Tied}
+use Rattle.store_core.specs.declared.error.Limit.TheVariants as limit
+use Rattle.store_core.specs.declared.error.StoreError.{StoreError}
+use Rattle.store_core.specs.declared.error.StoreError.TheVariants as error
+use Rattle.surf_run.specs.Answering.{EndsLine, RunsOn}
+use Rattle.surf_run.specs.Causes.{EndCause, NoFall, SayFailed, WritesWithin}
+use Rattle.surf_run.specs.Crash.{HasEither}
+use Rattle.surf_run.specs.Dialogue.{line_bound}
+use Rattle.surf_run.specs.Kind.{Kind}
+use Rattle.surf_run.specs.Refusals.{end_of_change}
+use Rattle.surf_run.specs.Saying.{Says, end_by}
+use Rattle.surf_run.specs.declared.end.LineEnd.{LineEnd}
+use Rattle.surf_run.specs.declared.end.LineEnd.TheVariants.{End, Next}
+use Rattle.surf_run.proofs.EndCauses.{rose_since, rose_then}
+use Rattle.surf_run.proofs.Footprint.{within_write}
+use Rattle.surf_run.proofs.Moments.{ends_device, ends_next, line_answer, map_of_state, tied_pages, tied_stands, tied_still}
+
+-- what is known of the reply that tells a change: it is `device`, for a write or a sync that failed, or the run goes on
+abbrev pub IsTold : {T : Type 0} → Result T StoreError → World → World → Reply → Type 0
+IsTold changed a b reply =
+    ((reply ≡ Device) × Rose a.seen.write_faults b.seen.write_faults × (end_of_change changed ≡ End 4))
+    ⊎ ((turn_of reply ≡ Onward) × (end_by reply ≡ Next) × (stopped_by changed ≡ false) × (end_of_change changed ≡ Next))
+
+abbrev pub ChangeTold : {T : Type 0} → Result T StoreError → World → World → Type 0
+ChangeTold changed a b = (reply : Reply) × (told_change changed ≡ Some reply) × IsTold changed a b reply
+
+pub change_told : {T : Type 0} (changed : Result T StoreError) (stopped : Bool) (broken : Option Reply) (a b : World) → stopped ≡ false
+    → MatchResult changed (λ _. IsRun stopped broken) (IsWriteRefusal stopped broken a b) → ChangeTold changed a b
+change_told (Ok done) stopped broken a b runs refused = (Done, refl, inr (refl, refl, refl, refl))
+change_told (Err error.Memory) stopped broken a b runs refused = (Memory, refl, inr (refl, refl, refl, refl))
+change_told (Err (error.Device cause)) stopped broken a b runs refused = (Device, refl, inl (refl, refused.2, refl))
+change_told (Err error.Stopped) stopped broken a b runs refused = absurd (let is : true ≡ false = sym refused ∙ runs in cc)
+change_told (Err (error.Limit (limit.Key size))) stopped broken a b runs refused = (LongKey size, refl, inr (refl, refl, refl, refl))
+change_told (Err (error.Limit (limit.Value size))) stopped broken a b runs refused = (LongValue size, refl, inr (refl, refl, refl, refl))
+change_told (Err (error.Limit limit.Tables)) stopped broken a b runs refused = (ManyTables, refl, inr (refl, refl, refl, refl))
+change_told (Err (error.Limit limit.Epoch)) stopped broken a b runs refused = (LastEpoch, refl, inr (refl, refl, refl, refl))
+change_told (Err (error.Full need gap)) stopped broken a b runs refused = (Full need gap, refl, inr (refl, refl, refl, refl))
+change_told (Err (error.Damaged damage)) stopped broken a b runs refused = absurd refused
+change_told (Err error.NotAStore) stopped broken a b runs refused = absurd refused
+change_told (Err error.AlreadyAStore) stopped broken a b runs refused = absurd refused
+change_told (Err (error.BadSettings field)) stopped broken a b runs refused = absurd refused
+
+-- it is told by some reply
+pub is_told : {T : Type 0} (changed : Result T StoreError) (a b : World) → ChangeTold changed a b → told_change changed ≢ None
+is_told changed a b told none = absurd (let is = sym told.1 ∙ none in cc)
+
+-- of a store that ran, it is stopped as the change stops it
+pub stopped_is : (old new by : Bool) → old ≡ false → new ≡ (old || by) → new ≡ by
+stopped_is old new by runs is = is ∙ ap (λ (b : Bool). b || by) runs
+
+some_same : (told_as : Option Reply) (x y : Reply) → told_as ≡ Some x → told_as ≡ Some y → x ≡ y
+some_same told_as x y first then = let is = sym first ∙ then in cc
+
+-- ---- the end of the line
+
+module _ {T : Type 0} (changed : Result T StoreError) (result : LineEnd) (a mid b : World) (told : ChangeTold changed a mid)
+    (ends : (result ≡ end_of_change changed) ⊎ ((result ≡ End 6) × SayFailed mid b)) where
+  pub change_cause : (Shows : World → Type 0) → NoFall a mid → NoFall mid b → EndCause Shows result a b
+  change_cause Shows before after = elim ends [
+    | inl same ↦ elim told.2 [
+      | inl device ↦ subst (λ (e : LineEnd). EndCause Shows e a b) (sym (same ∙ device.2)) (inl (refl, inr (rose_then a.seen.write_faults mid.seen.write_faults b.seen.write_faults device.1 after.write)))
+      | inr goes ↦ subst (λ (e : LineEnd). EndCause Shows e a b) (sym (same ∙ goes.3)) tt
+    ]
+    | inr six ↦ subst (λ (e : LineEnd). EndCause Shows e a b) (sym six.0) (inr (inr (refl, rose_since a.beside.say_faults mid.beside.say_faults b.beside.say_faults before.say six.1)))
+  ]
+
+  pub change_runs : (stopped : Bool) → stopped ≡ stopped_by changed → RunsOn result stopped
+  change_runs stopped is = elim ends [
+    | inl same ↦ elim told.2 [
+      | inl device ↦ subst (λ (e : LineEnd). RunsOn e stopped) (sym (same ∙ device.2)) tt
+      | inr goes ↦ subst (λ (e : LineEnd). RunsOn e stopped) (sym (same ∙ goes.3)) (is ∙ goes.2)
+    ]
+    | inr six ↦ subst (λ (e : LineEnd). RunsOn e stopped) (sym six.0) tt
+  ]
+
+-- ---- what the line leads to
+
+module _ {T : Type 0} (kind : Kind) (s : State) (request : Request) (changed : Result T StoreError) (before store : Kept) (result : LineEnd) (a mid b : World)
+    (tied : Tied kind.spelling kind.filter_bytes before s a) (answered : core.Answered kind.spelling kind.filter_bytes s request (told_change changed) store a mid)
+    (told : ChangeTold changed a mid) (runs : store.stopped ≡ stopped_by changed) (few : store.manifest.slot ≤ 1) (moves : WriteMoves 0 (page_bytes * before.manifest.version.pages) a mid)
+    (now_a : SaidByNow a) (now_mid : SaidByNow mid) (say : SayMoves mid b) (says : (reply : Reply) → told_change changed ≡ Some reply → Says (end_by reply) reply result mid b) where
+  abbrev Both : Image → Type 0
+  Both image = HasEither kind s request image
+
+  reads_few : mid.seen.reads ≤ a.seen.reads + line_bound s request
+  reads_few = omega (arith, moves.reads)
+
+  said_so : IsTold changed a mid answered.reply
+  said_so = subst (IsTold changed a mid) (some_same (told_change changed) told.0 answered.reply told.1 answered.told_is) told.2
+
+  module _ (image_now : Image) (left_now : a.leaves a.moment image_now) where
+    pub change_ends : EndsLine kind result s request store a b
+    change_ends =
+        let writes = subst (λ (n : ℕ). WritesWithin (page_bytes * n) a mid) (sym (tied_pages kind.spelling kind.filter_bytes before s a image_now left_now tied)) (within_write (page_bytes * before.manifest.version.pages) a mid moves) in
+        elim said_so [
+          | inl device ↦
+              ends_device kind s request answered.after store a mid b moves.beside result
+              (line_answer kind s request Device answered.after Both a mid b answered.crash moves.beside now_a now_mid say
+              (subst (λ (r : Reply). Step (HasCause a mid) kind.filter_bytes s request r answered.after) device.0 answered.step)
+              (subst (λ (r : Reply). Says (end_by r) r result mid b) device.0 (says answered.reply answered.told_is)).0
+              (λ image either. either) (λ image left. inr (refl, now_at Both a mid answered.crash image left)) reads_few writes)
+              (subst (λ (r : Reply). Says (end_by r) r result mid b) device.0 (says answered.reply answered.told_is))
+          | inr goes ↦
+              let held = answered.tied (runs ∙ goes.2) in
+              let stand = tied_stands kind store answered.after mid few held in
+              let said = subst (λ (e : LineEnd). Says e answered.reply result mid b) goes.1 (says answered.reply answered.told_is) in
+              ends_next kind s request answered.after store a mid b moves.beside answered.reply result
+              (line_answer kind s request answered.reply answered.after Both a mid b answered.crash moves.beside now_a now_mid say answered.step said.0
+              (λ image either. either) (λ image left. inl (map_of_state kind answered.after image (stand image left))) reads_few writes)
+              said goes.0 (tied_still kind.spelling kind.filter_bytes store answered.after mid b say.time held)
+              (tied_stands kind store answered.after b few (tied_still kind.spelling kind.filter_bytes store answered.after mid b say.time held))
+        ]

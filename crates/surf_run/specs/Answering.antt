@@ -1,0 +1,56 @@
+-- How one line is answered.
+use Rattle.std.specs.Prelude.{◌≡◌, ◌≢◌, ◌⊎◌, ◌≤◌, ◌+◌, ◌*◌, ◌++◌, ℕ, Bool, false, length}
+use Rattle.block_model.specs.Pages.{page_bytes}
+use Rattle.disk_trait.specs.World.{Image, World}
+use Rattle.line_model.specs.Replies.{Bye, Device, Reply, text_of}
+use Rattle.line_model.specs.Requests.{Request}
+use Rattle.outside.specs.During.{During}
+use Rattle.outside.specs.Streams.{SaysPrefix}
+use Rattle.state_model.specs.Script.{Onward, turn_of}
+use Rattle.state_model.specs.State.{State}
+use Rattle.state_model.specs.Steps.{Step}
+use Rattle.store_core.specs.Answers.{HasCause}
+use Rattle.store_core.specs.Kept.{Kept}
+use Rattle.store_core.specs.Tied.{Tied}
+use Rattle.surf_run.specs.Causes.{WritesWithin}
+use Rattle.surf_run.specs.Crash.{HasBehind, HasEither, Stands}
+use Rattle.surf_run.specs.Dialogue.{line_bound}
+use Rattle.surf_run.specs.Kind.{Kind}
+use Rattle.surf_run.specs.declared.end.LineEnd.{LineEnd}
+use Rattle.surf_run.specs.declared.end.LineEnd.TheVariants.{End, Next, Quit}
+
+-- Before the reply's first byte an image has the map before the line or that of its answer; from then on the one behind it.
+abbrev pub InLine : Kind → State → Request → Reply → State → ℕ → ℕ → ℕ → Image → Type 0
+InLine kind old request reply new low high n image =
+    ((n ≡ low) × HasEither kind old request image) ⊎ ((low ≤ n) × (n ≤ high) × HasBehind kind old request reply new image)
+
+-- the request was answered so, with a prefix of the reply said; no more blocks were read than it may read
+pub record LineAnswer (kind : Kind) (old : State) (request : Request) (reply : Reply) (new : State) (a b : World) : Type 0 where
+  pub step : Step (HasCause a b) kind.filter_bytes old request reply new
+  pub prefix : SaysPrefix (text_of reply) a.beside.said b.beside.said
+  pub each : During (InLine kind old request reply new (length a.beside.said) (length b.beside.said)) a b
+  pub reads : b.seen.reads ≤ a.seen.reads + line_bound old request
+  pub writes : WritesWithin (page_bytes * old.pages) a b
+
+-- all of the reply was said
+abbrev pub Whole : Reply → World → World → Type 0
+Whole reply a b = b.beside.said ≡ a.beside.said ++ text_of reply
+
+-- how a line ends the run: with its reply `device` said, or with its reply not said whole
+abbrev pub EndsBy : Kind → ℕ → Reply → State → World → World → Type 0
+EndsBy kind status reply new a b = ((status ≡ 4) × (reply ≡ Device) × Whole reply a b) ⊎ ((status ≡ 6) × (reply ≢ Device → Stands kind new b))
+
+-- How a line ended over a store that was that of a state. Where the run goes on, the store is that of the state behind the line.
+abbrev pub EndsLine : Kind → LineEnd → State → Request → Kept → World → World → Type 0
+EndsLine kind Next old request store a b =
+    (reply : Reply) × (new : State) × LineAnswer kind old request reply new a b × (turn_of reply ≡ Onward) × Whole reply a b
+    × Tied kind.spelling kind.filter_bytes store new b × Stands kind new b
+EndsLine kind Quit old request store a b =
+    (new : State) × LineAnswer kind old request Bye new a b × Whole Bye a b × Stands kind new b
+EndsLine kind (End status) old request store a b = (reply : Reply) × (new : State) × LineAnswer kind old request reply new a b × EndsBy kind status reply new a b
+
+-- a line that does not end the run leaves the store running
+abbrev pub RunsOn : LineEnd → Bool → Type 0
+RunsOn Next stopped = stopped ≡ false
+RunsOn Quit stopped = stopped ≡ false
+RunsOn (End status) stopped = Unit {0}
