@@ -8,7 +8,7 @@ use Rattle.std.proofs.lemmas.Bool.{cases_eq, eq-eqb, ne_eqb}
 use Rattle.std.proofs.lemmas.List.{get_or_read, take_all}
 use Rattle.std.proofs.lemmas.List.FromFn.{get_or-map-range_with_len, length-map-range_with_len}
 use Rattle.bit_words.specs.Counts.{rank_of}
-use Rattle.bit_words.specs.Packed.{packed}
+use Rattle.bit_model.specs.Packed.{packed}
 use Rattle.bit_words.proofs.Counting.{rank-add, ones_range, ones_in_words, ones_in_word, words_cover}
 use Rattle.bit_words.proofs.Packing.{packed-lt, packed_bit-packed}
 use Rattle.bit_rank.specs.Blocks.{block_ranks}

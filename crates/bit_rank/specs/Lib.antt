@@ -1,3 +1,3 @@
-pub use Rattle.bit_words.specs.Packed
+pub use Rattle.bit_model.specs.Packed
 pub mod Blocks
 pub mod Words

@@ -2,7 +2,7 @@
 use Rattle.std.specs.Prelude.{◌≡◌, ◌*◌, Bool, List, slice_index_or}
 use Rattle.bit_rank.specs.declared.word.RankedWord.{RankedWord}
 use Rattle.bit_words.specs.Counts.{rank_of}
-use Rattle.bit_words.specs.Packed.{packed}
+use Rattle.bit_model.specs.Packed.{packed}
 
 -- the word of its number, and the set bits before it
 pub record IsWordOf (bits : List Bool) (w : RankedWord) : Type 0 where

@@ -2,7 +2,7 @@
 ghost use Rattle.std.specs.Prelude.{◌≡◌, ◌≤◌, ◌<◌, ◌+◌, ◌*◌, ◌%◌, ◌/◌, ◌==◌, cond, false, length, take, slice_index_or, count_by, count_ones, IfOk};
 ghost use Rattle.std.specs.List.{sum_by};
 ghost use Rattle.bit_rank.specs.Words.{IsWordOf};
-ghost use Rattle.bit_words.specs.Packed.{packed};
+ghost use Rattle.bit_model.specs.Packed.{packed};
 
 use super::word::RankedWord;
 use bit_words::Bits;

@@ -8,7 +8,7 @@ use Rattle.std.proofs.lemmas.List.{get_or_append_left, get_or_push, length_push,
 use Rattle.std.proofs.lemmas.List.Sums.{sum_by_more}
 use Rattle.std.proofs.lemmas.Bool.{cases_lt}
 use Rattle.bit_words.specs.Counts.{rank_of}
-use Rattle.bit_words.specs.Packed.{packed}
+use Rattle.bit_model.specs.Packed.{packed}
 use Rattle.bit_words.proofs.Counting.{ones_in_words, words_cover}
 use Rattle.bit_select.specs.Place.{IsSampled}
 use Rattle.bit_select.proofs.Selecting.{placed}

@@ -10,7 +10,7 @@ use Rattle.std.proofs.lemmas.List.Sums.{sum_by-append, sum_by-take-drop}
 use Rattle.std.proofs.lemmas.Bool.{cases_lt, false≢true}
 use Rattle.lane_scan.specs.Ones.{IsWordOfOne}
 use Rattle.bit_words.specs.Counts.{rank_of}
-use Rattle.bit_words.specs.Packed.{packed, packed_bit}
+use Rattle.bit_model.specs.Packed.{packed, packed_bit}
 use Rattle.bit_words.proofs.Packing.{packed_bit-packed, word_place-lt}
 use Rattle.bit_words.proofs.Counting.{rank-add, ones_in_words, ones_in_word, words_cover}
 use Rattle.bit_select.specs.Place.{IsPlaceOfOne, IsSampled}

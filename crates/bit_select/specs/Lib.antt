@@ -1,2 +1,2 @@
-pub use Rattle.bit_words.specs.Packed
+pub use Rattle.bit_model.specs.Packed
 pub mod Place

@@ -2,7 +2,7 @@
 //!
 //! A [`Selected`] keeps, beside the bits, the place of every 64th set bit, in four bytes: at most half a word more for each
 //! word. `select` reads one kept place, and scans the words from there to the one with the bit: as many as lie before the
-//! next kept place.
+//! next kept place, behind the first four eight at a time.
 //!
 //! Do not use it for bits that still grow: the places are kept once, in time of the number of bits. Where set bits lie
 //! far apart, as one in ten thousand, a list of their places is as small and needs no scan.
@@ -15,6 +15,7 @@
 #![tactic(auto)]
 
 mod byte;
+mod search;
 mod selected;
 mod word;
 

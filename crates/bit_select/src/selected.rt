@@ -1,10 +1,11 @@
 //! The bits with the places of some of them.
 ghost use Rattle.std.specs.Prelude.{◌≡◌, ◌≤◌, ◌<◌, ◌*◌, length, count_by, IfOk, MatchOption};
-ghost use Rattle.bit_words.specs.Packed.{packed};
+ghost use Rattle.bit_model.specs.Packed.{packed};
 
+use super::search::word_of_one;
 use super::word::nth_one_in;
 use bit_words::Bits;
-use lane_scan::{ones, ones_below, word_with_nth_one};
+use lane_scan::{ones, ones_below};
 use std::alloc::{AllocError, Allocator};
 use std::marker::Model;
 
@@ -71,7 +72,7 @@ impl<A: Allocator> Selected<A> {
         let first = sample / 64;
         let words = &self.bits.words()[first..];
         let number = (n % 64) as u64 + ones_below(words[0], sample % 64);
-        let (word, left) = word_with_nth_one(words, number)?;
+        let (word, left) = word_of_one(words, number)?;
         Some(64 * (first + word) + nth_one_in(words[word], left))
     }
 
@@ -109,6 +110,23 @@ mod tests {
             assert_eq!(rt; selected.select(n), want, "number {n}");
         }
         assert_eq!(rt; selected.words(), [0xB9].as_slice());
+        Ok(())
+    }
+
+    #[test]
+    fn bits_far_behind_a_kept_place_are_found(rt: HostRuntime) -> Result<(), Fail> {
+        let mut bytes = [0; 328];
+        for i in 0..40 {
+            bytes[8 * i] = 2;
+        }
+        bytes[327] = 0xC0;
+        let selected = Selected::new(rt.alloc(), Bits::from_bytes(rt.alloc(), &bytes, 2624)?)?;
+        for n in 0..40 {
+            assert_eq!(rt; selected.select(n), Some(64 * n + 1), "number {n}");
+        }
+        for (n, want) in [(40, Some(2622)), (41, Some(2623)), (42, None)] {
+            assert_eq!(rt; selected.select(n), want, "number {n}");
+        }
         Ok(())
     }
 }

@@ -13,7 +13,7 @@ use Rattle.std.proofs.lemmas.List.{map-id, take_all, get_or-take, get_or_past, l
 use Rattle.std.proofs.lemmas.List.Sums.{sum_by_more, sum_by-append, count_by-le-length}
 use Rattle.std.proofs.lemmas.Bool.{cases_lt}
 use Rattle.bit_words.specs.Counts.{rank_of}
-use Rattle.bit_words.specs.Packed.{packed}
+use Rattle.bit_model.specs.Packed.{packed}
 use Rattle.bit_words.proofs.Packing.{get_or-packed, length-packed, past_bits}
 
 -- the set bits of the number that bits spell

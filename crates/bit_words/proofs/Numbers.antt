@@ -10,8 +10,8 @@ use Rattle.std.proofs.lemmas.Nat.Bits.{bit_at-lt, bit_at_above, bit_at_cat_low, 
 use Rattle.std.proofs.lemmas.List.{same_lists, length-append, get_or_append_left, get_or-append-add, get_or_past, get_or-take, get_or-drop, get_or_default, length-take}
 use Rattle.std.proofs.lemmas.List.FromFn.{length-map-range_with_len, get_or-map-range_with_len}
 use Rattle.std.proofs.lemmas.Bool.{cases_lt}
-use Rattle.bit_words.specs.Packed.{packed, packed_bit}
-use Rattle.bit_words.specs.Numbers.{bits_of, number_at}
+use Rattle.bit_model.specs.Packed.{packed, packed_bit}
+use Rattle.bit_model.specs.Numbers.{bits_of, number_at}
 use Rattle.bit_words.proofs.Packing.{eqb_cond, same_bit, two_pos, packed_bit-packed, packed_is}
 use Rattle.bit_words.proofs.Bytes.{bit_at-low}
 

@@ -10,7 +10,7 @@ use Rattle.std.proofs.lemmas.List.{same_lists, get_or_past, get_or-take, get_or-
 use Rattle.std.proofs.lemmas.List.FromFn.{length-map-range_with_len, get_or-map-range_with_len}
 use Rattle.std.proofs.lemmas.Bool.{cases_lt}
 use Rattle.std.proofs.lemmas.Bool.Decides.{nat_tests}
-use Rattle.bit_words.specs.Packed.{packed, unpacked, packed_bit}
+use Rattle.bit_model.specs.Packed.{packed, unpacked, packed_bit}
 
 -- ---- places and numbers
 

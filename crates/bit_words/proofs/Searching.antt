@@ -6,7 +6,7 @@ use Rattle.std.proofs.lemmas.List.{get_or_past}
 use Rattle.std.proofs.lemmas.Bool.{cases_lt, false≢true}
 use Rattle.lane_scan.specs.Places.{is_one_at, IsFirstBetween, IsLastBetween}
 use Rattle.bit_words.specs.Counts.{is_set_at}
-use Rattle.bit_words.specs.Packed.{packed, packed_bit}
+use Rattle.bit_model.specs.Packed.{packed, packed_bit}
 use Rattle.bit_words.proofs.Packing.{packed_bit-packed}
 use Rattle.bit_words.proofs.Counting.{words_cover}
 

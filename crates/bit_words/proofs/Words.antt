@@ -6,7 +6,7 @@ use Rattle.std.proofs.lemmas.Nat.Bits.{bit_at_or, bit_at-lt, bit_at-zero, bit_at
 use Rattle.std.proofs.lemmas.Nat.{pow_pos}
 use Rattle.std.proofs.lemmas.List.{length-set, get_or_past, get_or-set_same, get_or-set_other}
 use Rattle.std.proofs.lemmas.Bool.{cases_lt, cases_eq}
-use Rattle.bit_words.specs.Packed.{packed_bit}
+use Rattle.bit_model.specs.Packed.{packed_bit}
 use Rattle.bit_words.proofs.Bytes.{bit_at-shr, bit_at-low}
 
 -- ---- shifted words

@@ -2,8 +2,8 @@
 use Rattle.std.specs.Prelude.{◌≡◌, ◌<◌, ◌+◌, ◌*◌, ◌%◌, ◌^◌, ◌++◌, ℕ, Bool, List, length, take, slice_index, count_ones}
 use Rattle.std.specs.List.{sum_by}
 use Rattle.bit_words.specs.Counts.{rank_of, is_set_at}
-use Rattle.bit_words.specs.Packed.{number_of, packed, unpacked, packed_bit, numbers_for}
-use Rattle.bit_words.specs.Numbers.{bits_of}
+use Rattle.bit_model.specs.Packed.{number_of, packed, unpacked, packed_bit, numbers_for}
+use Rattle.bit_model.specs.Numbers.{bits_of}
 
 -- what was packed reads back
 abbrev pub PackedReadsBack : Type 0

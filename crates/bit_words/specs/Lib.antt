@@ -1,6 +1,4 @@
 pub use Rattle.lane_scan.specs.Places
 pub mod Counts
-pub mod Packed
-pub mod Numbers
 pub mod Laws
 pub mod Room

@@ -3,8 +3,8 @@ ghost use Rattle.std.specs.Prelude.{◌≡◌, ◌^◌, ◌+◌, ◌*◌, ◌≤
 ghost use Rattle.std.specs.Slice.Scan.{HoldsNowhere};
 ghost use Rattle.lane_scan.specs.Places.{IsFirstBetween, IsLastBetween};
 ghost use Rattle.bit_words.specs.Counts.{is_set_at};
-ghost use Rattle.bit_words.specs.Numbers.{bits_of, number_at};
-ghost use Rattle.bit_words.specs.Packed.{packed, unpacked};
+ghost use Rattle.bit_model.specs.Numbers.{bits_of, number_at};
+ghost use Rattle.bit_model.specs.Packed.{packed, unpacked};
 
 use super::word::{MAX_BITS, byte_of, low_bits, make_room_for, number_from, set_bits, word_at};
 use std::alloc::{AllocError, Allocator};
@@ -20,7 +20,7 @@ pub struct Bits<A: Allocator> {
 
 impl<A: Allocator> Model for Bits<A> {
     ghost use Rattle.std.specs.Prelude.{◌≡◌, ◌-◌, ◌^◌, ◌≤◌, Bool, List};
-    ghost use Rattle.bit_words.specs.Packed.{packed, unpacked};
+    ghost use Rattle.bit_model.specs.Packed.{packed, unpacked};
 
     ghost Value = { List Bool };
 

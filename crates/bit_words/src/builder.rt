@@ -1,6 +1,6 @@
 //! Bits in room that was made before.
 ghost use Rattle.std.specs.Prelude.{◌≡◌, ◌+◌, ◌≤◌, ◌<◌, [], ◌∷◌, length, IfOk};
-ghost use Rattle.bit_words.specs.Numbers.{bits_of};
+ghost use Rattle.bit_model.specs.Numbers.{bits_of};
 ghost use Rattle.bit_words.specs.Room.{with_bits};
 
 use super::bits::Bits;
@@ -20,7 +20,7 @@ impl<A: Allocator> Model for BitsBuilder<A> {
     ghost use Rattle.std.specs.Prelude.{◌≡◌, ◌-◌, ◌^◌, ◌≤◌};
     ghost use Rattle.std.specs.Int.{div_ceil};
     ghost use Rattle.std.specs.Vec.{vec_capacity};
-    ghost use Rattle.bit_words.specs.Packed.{packed, unpacked};
+    ghost use Rattle.bit_model.specs.Packed.{packed, unpacked};
     ghost use Rattle.bit_words.specs.Room.{BitsInRoom};
 
     ghost Value = { BitsInRoom };

@@ -27,7 +27,6 @@
 
 mod bits;
 mod builder;
-pub mod examples;
 mod laws;
 mod word;
 

@@ -2,7 +2,7 @@
 ghost use Rattle.std.specs.Prelude.{◌≡◌, ℕ, ◌+◌, ◌-◌, ◌||◌, ◌%◌, ◌/◌, ◌*◌, ◌^◌, ◌<◌, ◌≤◌, ◌==◌, [], ◌∷◌, ◌++◌, length, drop, min, if◌then◌else◌, slice_index, slice_set, bit_or, OnOk, OnErr};
 ghost use Rattle.std.specs.Int.{bit_at, div_ceil};
 ghost use Rattle.std.specs.Vec.{vec_capacity};
-ghost use Rattle.bit_words.specs.Packed.{packed_bit};
+ghost use Rattle.bit_model.specs.Packed.{packed_bit};
 ghost use Rattle.byteorder.specs.Endian.{little_number};
 
 use byteorder::{ByteOrder, LittleEndian};

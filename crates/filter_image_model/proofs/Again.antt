@@ -6,7 +6,7 @@ use Rattle.std.specs.Int.{bytes_low_first, byte_at}
 use Rattle.std.proofs.Math.Nat.{mod-lt}
 use Rattle.std.proofs.lemmas.List.{length-append, map-append}
 use Rattle.std.proofs.lemmas.Bool.{eq-eqb, le-ltb, ne_eqb}
-use Rattle.bit_words.specs.Packed.{packed}
+use Rattle.bit_model.specs.Packed.{packed}
 use Rattle.bit_words.proofs.Packing.{packed-lt}
 use Rattle.byteorder.specs.Endian.{little_bytes}
 use Rattle.byte_fields.specs.Spelling.{IsBytes}

@@ -7,7 +7,7 @@ use Rattle.std.specs.Simd.Lanes.{mask_l}
 use Rattle.std.proofs.lemmas.Simd.{mask_l-lt}
 use Rattle.std.proofs.lemmas.List.{get_or-take, get_or-drop, length-take, length-drop, drop-drop, take_at, drop_at}
 use Rattle.std.proofs.lemmas.Bool.{cases_Bool, eqb-false}
-use Rattle.bit_words.specs.Packed.{packed, unpacked}
+use Rattle.bit_model.specs.Packed.{packed, unpacked}
 use Rattle.bit_words.proofs.Packing.{length-packed, get_or-packed, unpacked-packed}
 use Rattle.filter_image_model.specs.Header.{Bytes, place_after}
 use Rattle.filter_image_model.specs.Reading.{has_padding, padding_fault}

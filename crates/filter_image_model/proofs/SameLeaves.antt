@@ -7,7 +7,7 @@ use Rattle.std.proofs.Math.Nat.{add-mul-div_left, add-mul-mod_self_left, div-eq_
 use Rattle.std.proofs.lemmas.Nat.{pow_pos}
 use Rattle.std.proofs.lemmas.List.{drop_at, length-append, take_at}
 use Rattle.std.proofs.lemmas.List.Concat.{flat_map-append}
-use Rattle.bit_words.specs.Numbers.{bits_of}
+use Rattle.bit_model.specs.Numbers.{bits_of}
 use Rattle.bit_words.proofs.Numbers.{length-bits_of, number_back}
 use Rattle.filter_model.proofs.Fronts.{same-itself}
 use Rattle.filter_model.proofs.Pairs.{Contains-cases, Contains-first, Contains-map_back, Contains-nil}

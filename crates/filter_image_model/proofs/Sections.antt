@@ -6,7 +6,7 @@ use Rattle.std.proofs.Math.Nat.{div-lt_iff_lt-mul, lt_of_lt_of_le, pow-le-pow_ri
 use Rattle.std.specs.Int.{bit_at, div_ceil}
 use Rattle.std.proofs.lemmas.List.{get_or_past, get_or-take, get_or-drop, length-take, length-take-le, length-drop, take-append-drop, drop-drop, drop_all}
 use Rattle.std.proofs.lemmas.Bool.{cases_lt, cases_Bool, eqb-true, eqb-false}
-use Rattle.bit_words.specs.Packed.{packed, unpacked, packed_bit}
+use Rattle.bit_model.specs.Packed.{packed, unpacked, packed_bit}
 use Rattle.bit_words.proofs.Packing.{length-unpacked, get_or-unpacked, packed_is}
 use Rattle.byte_fields.specs.Spelling.{IsBytes}
 use Rattle.filter_image_model.specs.Header.{Bytes, place_after}

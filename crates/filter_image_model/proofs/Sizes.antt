@@ -5,7 +5,7 @@ use Rattle.std.specs.List.{All, AllByRecursion, list_any}
 use Rattle.std.proofs.lemmas.Bool.{false≢true, or_cases}
 use Rattle.std.proofs.lemmas.List.{length-append}
 use Rattle.std.proofs.lemmas.List.Concat.{flat_map-append}
-use Rattle.bit_words.specs.Numbers.{bits_of}
+use Rattle.bit_model.specs.Numbers.{bits_of}
 use Rattle.bit_words.proofs.Numbers.{length-bits_of}
 use Rattle.filter_model.proofs.Shared.{extends_longer}
 use Rattle.filter_model.specs.Image.{in_slots, suffixes}

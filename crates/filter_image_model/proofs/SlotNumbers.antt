@@ -6,7 +6,7 @@ use Rattle.std.specs.Simd.Lanes.{mask_l}
 use Rattle.std.proofs.Math.Nat.{mod-eq_of_lt}
 use Rattle.std.proofs.lemmas.Bool.{cases_Bool, eqb-true}
 use Rattle.std.proofs.lemmas.List.{append-nil, drop-drop, drop_at, take_at}
-use Rattle.bit_words.specs.Numbers.{bits_of}
+use Rattle.bit_model.specs.Numbers.{bits_of}
 use Rattle.bit_words.proofs.Numbers.{length-bits_of, number_back}
 use Rattle.filter_model.specs.Leaves.{Leaf}
 use Rattle.filter_model.specs.Nodes.{Branch, Node, last_letter, trie_of}

@@ -4,7 +4,7 @@ use Rattle.std.specs.Int.{div_ceil}
 use Rattle.std.specs.List.{list_any, range_with_len}
 use Rattle.std.specs.Option.{option_map, option_or}
 use Rattle.key_base.specs.Limits.{max_hash_bits, max_key_bytes, max_real_bits}
-use Rattle.bit_words.specs.Numbers.{number_at}
+use Rattle.bit_model.specs.Numbers.{number_at}
 use Rattle.filter_model.specs.Image.{has_letter}
 use Rattle.filter_model.specs.Leaves.{Filter, Leaf}
 use Rattle.filter_model.specs.Nodes.{Branch, Node, all}

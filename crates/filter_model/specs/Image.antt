@@ -1,7 +1,7 @@
 -- The bytes of a filter: a head of eight numbers, and seven sections that spell the trie and the suffixes of its leaves.
 use Rattle.std.specs.Prelude.{ℕ, ◌==◌, Bool, true, false, cond, ◌&&◌, ◌||◌, List, [], ◌∷◌, ◌++◌, map, length, take, drop, filter, flat_map}
 use Rattle.std.specs.List.{range_with_len}
-use Rattle.bit_words.specs.Packed.{packed}
+use Rattle.bit_model.specs.Packed.{packed}
 use Rattle.byteorder.specs.Endian.{little_bytes}
 use Rattle.filter_model.specs.Strings.{bytes_eq}
 use Rattle.filter_model.specs.Leaves.{Leaf}

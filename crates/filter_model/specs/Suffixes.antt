@@ -1,6 +1,6 @@
 -- The suffix of a leaf, and the bits that suffixes pack to.
 use Rattle.std.specs.Prelude.{ℕ, ◌+◌, ◌*◌, ◌/◌, ◌%◌, ◌^◌, Bool, List, flat_map}
-use Rattle.bit_words.specs.Numbers.{bits_of}
+use Rattle.bit_model.specs.Numbers.{bits_of}
 use Rattle.filter_model.specs.Leaves.{Leaf}
 
 -- a suffix: its hash bits, and its real bits

@@ -1,4 +1,4 @@
-pub use Rattle.bit_words.specs.Packed
+pub use Rattle.bit_model.specs.Packed
 pub use Rattle.filter_model.specs.Image
 pub use Rattle.filter_model.specs.Nodes
 pub use Rattle.trie_model.specs.Given

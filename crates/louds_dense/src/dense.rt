@@ -1,7 +1,7 @@
 //! The half and its calls.
 ghost use Rattle.std.specs.Prelude.{◌≡◌, ◌≤◌, ◌<◌, ◌+◌, ◌*◌, ◌%◌, ◌^◌, length, IsTrue, ◌↔◌};
 ghost use Rattle.bit_words.specs.Counts.{rank_of};
-ghost use Rattle.bit_words.specs.Packed.{packed};
+ghost use Rattle.bit_model.specs.Packed.{packed};
 ghost use Rattle.filter_model.specs.Image.{dense_children, dense_ends, dense_labels};
 ghost use Rattle.louds_dense.specs.Places.{branch_place, child_at, counts_of, end_slot, first_below, next_place, node_slot, places_in, prev_place, slot_at};
 ghost use Rattle.louds_dense.specs.Spelling.{IsSpelled, nodes_in};

@@ -2,7 +2,7 @@
 ghost use Rattle.std.specs.Prelude.{◌≡◌, ◌≤◌, ◌<◌, ◌+◌, ◌-◌, ◌==◌, ◌&&◌, nat_lt, length, slice_index, IfSome, IsTrue, ◌↔◌};
 ghost use Rattle.std.specs.Option.{option_map};
 ghost use Rattle.bit_rank.specs.Words.{IsWordOf};
-ghost use Rattle.bit_words.specs.Packed.{packed};
+ghost use Rattle.bit_model.specs.Packed.{packed};
 ghost use Rattle.filter_model.specs.Image.{sparse_children, sparse_labels, sparse_louds};
 ghost use Rattle.filter_model.specs.Nodes.{first_place};
 ghost use Rattle.filter_model.specs.Trie.{END};

@@ -9,7 +9,7 @@ use Rattle.std.proofs.lemmas.Simd.{mask_l-lt}
 use Rattle.std.proofs.lemmas.Grind.{flat_map-append}
 use Rattle.std.proofs.lemmas.List.{append-nil, length-append, length-take, length-drop, take_all, take_more, take-append-le, drop-append-le, drop_all, same_lists}
 use Rattle.std.proofs.lemmas.List.FromFn.{length-map-range_with_len, get_or-map-range_with_len, map-range_with_len_more}
-use Rattle.bit_words.specs.Numbers.{bits_of, number_at}
+use Rattle.bit_model.specs.Numbers.{bits_of, number_at}
 use Rattle.bit_words.proofs.Numbers.{length-bits_of, number_back, bits_back}
 use Rattle.suffix_bits.specs.Slots.{Suffix, IsOfWidths, suffix_number, suffix_in, packed_suffixes, unpacked_suffixes}
 

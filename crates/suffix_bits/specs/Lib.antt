@@ -1,4 +1,4 @@
-pub use Rattle.bit_words.specs.Packed
+pub use Rattle.bit_model.specs.Packed
 pub use Rattle.filter_model.specs.Leaves
 pub use Rattle.filter_model.specs.Strings
 pub use Rattle.filter_model.specs.Suffixes

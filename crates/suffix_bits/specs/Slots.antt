@@ -1,7 +1,7 @@
 -- The suffixes of a filter's leaves by slot, read of the bits that they pack to.
 use Rattle.std.specs.Prelude.{ℕ, ◌+◌, ◌*◌, ◌<◌, ◌^◌, Bool, List, [], ◌∷◌, ◌++◌, map}
 use Rattle.std.specs.List.{range_with_len}
-use Rattle.bit_words.specs.Numbers.{number_at}
+use Rattle.bit_model.specs.Numbers.{number_at}
 pub use Rattle.filter_model.specs.Suffixes.{Suffix, leaf_suffix, suffix_in, suffix_number}
 unfoldable pub use Rattle.filter_model.specs.Suffixes.{packed_suffixes}
 

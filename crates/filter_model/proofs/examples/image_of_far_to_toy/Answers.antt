@@ -1,6 +1,6 @@
 use Rattle.std.proofs.Common.{refl}
-use Rattle.bit_words.specs.Numbers.{bits_of}
-use Rattle.bit_words.specs.Packed.{packed}
+use Rattle.bit_model.specs.Numbers.{bits_of}
+use Rattle.bit_model.specs.Packed.{packed}
 use Rattle.filter_model.specs.Image.{image, in_slots, row, sections}
 use Rattle.filter_model.specs.Nodes.{node_of, trie_of}
 use Rattle.filter_model.specs.Suffixes.{packed_suffixes}

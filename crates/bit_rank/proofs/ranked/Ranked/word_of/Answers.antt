@@ -1,5 +1,5 @@
 use Rattle.std.proofs.Common.{◌≡◌, ◌≤◌, ◌<◌, ◌+◌, ◌*◌, ◌/◌, ap, ◌∙◌, get_or, length, arith}
-use Rattle.bit_words.specs.Packed.{packed}
+use Rattle.bit_model.specs.Packed.{packed}
 use Rattle.bit_words.specs.Counts.{rank_of}
 use Rattle.bit_rank.proofs.Ranks.{first_word, length-block_ranks, kept_count}
 use Rattle.bit_words.proofs.Packing.{word_place-lt}

@@ -1,6 +1,6 @@
 use Rattle.std.proofs.Common.{◌<◌, ◌≤◌, ◌*◌, ◌-◌, ◌%◌, ◌^◌, ◌++◌, ◌∷◌, [], ℕ, List, min, take, length, sym, ap, ◌∙◌, arith, lit<}
 use Rattle.std.proofs.lemmas.List.{take_more, take_all}
-use Rattle.bit_words.specs.Packed.{packed, unpacked}
+use Rattle.bit_model.specs.Packed.{packed, unpacked}
 use Rattle.bit_words.proofs.Packing.{length-unpacked, length-packed, reads_packed, stays_packed}
 use Rattle.bit_words.proofs.Bytes.{word_is}
 use Rattle.bit_words.proofs.bits.Bits.from_bytes.Goals as goal

@@ -1,6 +1,6 @@
 use Rattle.std.proofs.Common.{◌≡◌, ◌≤◌, take}
 use Rattle.std.specs.Vec.{vec_capacity}
-use Rattle.bit_words.specs.Packed.{packed, unpacked}
+use Rattle.bit_model.specs.Packed.{packed, unpacked}
 use Rattle.bit_words.proofs.bits.Bits.from_bytes.Given as goal
 
 abbrev pub invariant-loop-k : goal.invariant-loop-k

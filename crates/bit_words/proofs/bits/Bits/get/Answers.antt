@@ -2,7 +2,7 @@ use Rattle.std.proofs.Common.{◌/◌, ◌%◌, eqb, ap, ◌∙◌, arith, lit<}
 use Rattle.std.specs.Int.{bit_at}
 use Rattle.std.proofs.lemmas.List.{get_or_read}
 use Rattle.std.proofs.lemmas.Nat.Bits.{shr_and_one}
-use Rattle.bit_words.specs.Packed.{packed, packed_bit}
+use Rattle.bit_model.specs.Packed.{packed, packed_bit}
 use Rattle.bit_words.proofs.Packing.{packed_bit-packed, word_place-lt}
 use Rattle.bit_words.proofs.bits.Bits.get.Goals as goal
 

@@ -1,6 +1,6 @@
 use Rattle.std.proofs.Common.{◌≡◌, ℕ, ◌%◌, ◌^◌, length, min, ap, ◌∙◌, arith}
 use Rattle.std.proofs.Math.Nat.{le_refl}
-use Rattle.bit_words.specs.Packed.{packed}
+use Rattle.bit_model.specs.Packed.{packed}
 use Rattle.bit_words.proofs.Counting.{words_cover}
 use Rattle.bit_words.proofs.Numbers.{number_is}
 use Rattle.bit_words.proofs.bits.Bits.number.Goals as goal

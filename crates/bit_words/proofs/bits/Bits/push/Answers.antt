@@ -1,5 +1,5 @@
 use Rattle.std.proofs.Common.{◌≡◌, ◌∷◌, [], ◌∙◌, ap}
-use Rattle.bit_words.specs.Numbers.{bits_of}
+use Rattle.bit_model.specs.Numbers.{bits_of}
 use Rattle.bit_words.proofs.Numbers.{bits_of-bit}
 use Rattle.bit_words.proofs.bits.Bits.push.Goals as goal
 

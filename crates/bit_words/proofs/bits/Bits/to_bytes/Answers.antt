@@ -1,7 +1,7 @@
 use Rattle.std.proofs.Common.{◌≡◌, ◌<◌, ◌≤◌, ◌*◌, ◌/◌, ◌%◌, ◌^◌, ◌++◌, ◌∷◌, [], ℕ, List, take, length, sym, ap, ◌∙◌, arith}
 use Rattle.std.specs.Int.{div_ceil}
 use Rattle.std.proofs.lemmas.List.{get_or_read, take_more, take_all, append_assoc}
-use Rattle.bit_words.specs.Packed.{packed}
+use Rattle.bit_model.specs.Packed.{packed}
 use Rattle.bit_words.proofs.Packing.{length-unpacked, length-packed}
 use Rattle.bit_words.proofs.Bytes.{byte_is, byte_place-lt}
 use Rattle.bit_words.proofs.bits.Bits.to_bytes.Goals as goal

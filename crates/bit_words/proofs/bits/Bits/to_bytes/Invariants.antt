@@ -1,6 +1,6 @@
 use Rattle.std.proofs.Common.{◌≡◌, ◌+◌, ◌-◌, ◌≤◌, ◌++◌, take}
 use Rattle.std.specs.Vec.{vec_len, vec_capacity}
-use Rattle.bit_words.specs.Packed.{packed}
+use Rattle.bit_model.specs.Packed.{packed}
 use Rattle.bit_words.proofs.bits.Bits.to_bytes.Given as goal
 
 abbrev pub invariant-loop-k : goal.invariant-loop-k

@@ -1,5 +1,5 @@
 use Rattle.std.proofs.Common.{length, ap, arith}
-use Rattle.bit_words.specs.Packed.{unpacked}
+use Rattle.bit_model.specs.Packed.{unpacked}
 use Rattle.bit_words.proofs.Packing.{length-packed, length-unpacked}
 use Rattle.bit_words.proofs.bits.Bits.words.Goals as goal
 

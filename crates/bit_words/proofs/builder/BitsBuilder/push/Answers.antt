@@ -1,6 +1,6 @@
 use Rattle.std.proofs.Common.{◌∙◌, ap}
 use Rattle.bit_words.specs.Room.{with_bits}
-use Rattle.bit_words.specs.Numbers.{bits_of}
+use Rattle.bit_model.specs.Numbers.{bits_of}
 use Rattle.bit_words.proofs.Numbers.{bits_of-bit}
 use Rattle.bit_words.proofs.builder.BitsBuilder.push.Goals as goal
 

@@ -1,8 +1,8 @@
 use Rattle.std.proofs.Common.{◌≡◌, ℕ, ◌+◌, ◌≤◌, ◌++◌, ◌||◌, eqb, List, Bool, length, get_or, sym, ap, ◌∙◌, arith, lit<}
 use Rattle.std.specs.Int.{bit_at, div_ceil}
 use Rattle.std.proofs.lemmas.List.{append-nil, length-append}
-use Rattle.bit_words.specs.Packed.{packed_bit, unpacked}
-use Rattle.bit_words.specs.Numbers.{bits_of}
+use Rattle.bit_model.specs.Packed.{packed_bit, unpacked}
+use Rattle.bit_model.specs.Numbers.{bits_of}
 use Rattle.bit_words.specs.Room.{BitsInRoom}
 use Rattle.bit_words.proofs.Packing.{length-packed, length-unpacked, reads_packed, stays_packed}
 use Rattle.bit_words.proofs.Numbers.{bits_of-nothing, length-bits_of, number_added}

@@ -1,5 +1,5 @@
 use Rattle.std.proofs.Common.{refl, arith}
-use Rattle.bit_words.specs.Packed.{packed, unpacked}
+use Rattle.bit_model.specs.Packed.{packed, unpacked}
 use Rattle.bit_words.proofs.builder.BitsBuilder.with_room.Goals as goal
 
 pub invariant_of-result : goal.invariant_of-result

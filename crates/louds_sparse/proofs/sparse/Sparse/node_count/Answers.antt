@@ -1,6 +1,6 @@
 use Rattle.std.proofs.Common.{ap, ◌∙◌}
 use Rattle.bit_select.proofs.Selecting.{ones_all}
-use Rattle.bit_words.specs.Packed.{packed}
+use Rattle.bit_model.specs.Packed.{packed}
 use Rattle.louds_sparse.specs.Spelling.{IsSpelled}
 use Rattle.louds_sparse.proofs.Spelled.{set_bits}
 use Rattle.louds_sparse.proofs.sparse.Sparse.node_count.Goals as goal

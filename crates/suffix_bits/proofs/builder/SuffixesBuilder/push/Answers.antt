@@ -1,5 +1,5 @@
 use Rattle.std.proofs.Common.{◌≡◌, ℕ, ◌+◌, ◌*◌, ◌++◌, ◌<◌, ◌≤◌, List, Bool, length, subst, sym, ap, ap₂, ◌∙◌, arith}
-use Rattle.bit_words.specs.Numbers.{bits_of}
+use Rattle.bit_model.specs.Numbers.{bits_of}
 use Rattle.bit_words.specs.Room.{BitsInRoom}
 use Rattle.suffix_bits.specs.Room.{SuffixesInRoom}
 use Rattle.suffix_bits.specs.Slots.{Suffix, IsOfWidths, suffix_number, unpacked_suffixes}

@@ -1,6 +1,6 @@
 use Rattle.std.proofs.Common.{◌≡◌, ℕ, ◌+◌, ◌*◌, ◌^◌, ◌<◌, ◌≤◌, length, get_or, sym, ap, ◌∙◌, arith, lit<}
 use Rattle.std.proofs.Math.Nat.{lt_of_lt_of_le, pow-le-pow_right}
-use Rattle.bit_words.specs.Numbers.{number_at}
+use Rattle.bit_model.specs.Numbers.{number_at}
 use Rattle.suffix_bits.specs.Slots.{suffix_in, unpacked_suffixes}
 use Rattle.suffix_bits.proofs.Packing.{number_at-lt, get_or-unpacked, length-unpacked, slot_room, suffix_in-fits}
 use Rattle.suffix_bits.proofs.suffixes.Suffixes.get.Goals as goal

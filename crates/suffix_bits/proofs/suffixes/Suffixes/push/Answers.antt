@@ -1,5 +1,5 @@
 use Rattle.std.proofs.Common.{◌≡◌, ℕ, ◌+◌, ◌++◌, List, Bool, subst, sym, ap, ap₂, ◌∙◌}
-use Rattle.bit_words.specs.Numbers.{bits_of}
+use Rattle.bit_model.specs.Numbers.{bits_of}
 use Rattle.suffix_bits.specs.Slots.{IsOfWidths, SuffixArray, suffix_number, unpacked_suffixes}
 use Rattle.suffix_bits.proofs.Packing.{unpacked-push, length-pushed}
 use Rattle.suffix_bits.proofs.suffixes.Suffixes.push.Goals as goal

@@ -2,7 +2,7 @@
 use Rattle.std.specs.Prelude.{ℕ, ◌==◌, Bool, List, map, take, drop}
 use Rattle.std.specs.Int.{bit_at}
 use Rattle.std.specs.List.{range_with_len}
-use Rattle.bit_words.specs.Packed.{number_of}
+use Rattle.bit_model.specs.Packed.{number_of}
 
 -- the lowest `count` bits of a number
 unfoldable pub bits_of : ℕ → ℕ → List Bool

@@ -1,7 +1,7 @@
 //! The definitions, shown by examples. Each computes.
 ghost use Rattle.std.specs.Prelude.{◌≡◌, true, false, [], ◌∷◌};
-ghost use Rattle.bit_words.specs.Numbers.{bits_of, number_at};
-ghost use Rattle.bit_words.specs.Packed.{packed, unpacked};
+ghost use Rattle.bit_model.specs.Numbers.{bits_of, number_at};
+ghost use Rattle.bit_model.specs.Packed.{packed, unpacked};
 
 /// Bits packed into bytes and words.
 #[tactic(auto, unfolding(crate::specs::Packed::packed, crate::specs::Packed::unpacked))]
