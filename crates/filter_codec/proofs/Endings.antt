@@ -12,7 +12,7 @@ use Rattle.byte_fields.specs.Faults.{Fault, fault, refuse}
 use Rattle.bit_words.specs.Counts.{rank_of}
 use Rattle.filter_codec.proofs.Trees.{all_parts, before_node, total}
 use Rattle.filter_codec.specs.Ends.{is_mark, leaf_letters, wrong_end}
-use Rattle.filter_codec.specs.Rules.{ends_rule, real_of}
+use Rattle.filter_codec.specs.Rules.{ends_rule, real_in_slot}
 use Rattle.filter_codec.specs.Tree.{AreSparse}
 use Rattle.filter_image_model.specs.Levels.{children_of, leaf_count_of}
 use Rattle.filter_image_model.specs.Nodes.{IsDense}
@@ -74,7 +74,7 @@ module _ (array : SuffixArray) where
   found wrong slot later = cond wrong (Some slot) later
 
   abbrev has_real : ℕ → Bool
-  has_real slot = not (real_of array slot == 0)
+  has_real slot = not (real_in_slot array slot == 0)
 
   found_or : (wrong : Bool) (slot : ℕ) (a b c : Option ℕ) → a ≡ option_or b c → found wrong slot a ≡ option_or (found wrong slot b) c
   found_or true slot a b c e = refl
@@ -366,19 +366,19 @@ length-louds ((x ∷ m) ∷ ns) =
 -- ---- what the loops meet
 
 module _ (array : SuffixArray) (ns : List Node) (v slot : ℕ) (w : AllByRecursion IsDense ns) (l : v < length ns) (none : wrong_end array 0 (slot_letters (take v ns)) ≡ None) (is : slot ≡ leaf_count_of (take v ns)) where
-  at_slot : (real : Bool) → not (real_of array slot == 0) ≡ real
+  at_slot : (real : Bool) → not (real_in_slot array slot == 0) ≡ real
       → wrong_end array 0 (slot_letters (take (suc v) ns)) ≡ cond (has_letter (node_at ns v) END && real) (Some slot) None
   at_slot real e =
       next_node array ns v w l none
-      ∙ (λ j. cond (has_letter (node_at ns v) END && not (real_of array (sym is j) == 0)) (Some (sym is j)) None)
+      ∙ (λ j. cond (has_letter (node_at ns v) END && not (real_in_slot array (sym is j) == 0)) (Some (sym is j)) None)
       ∙ ap (λ (t : Bool). cond (has_letter (node_at ns v) END && t) (Some slot) None) e
 
-  pub end_found : has_letter (node_at ns v) END ≡ true → (real_of array slot ≡ 0 → ⊥) → Some slot ≡ wrong_end array 0 (slot_letters ns)
+  pub end_found : has_letter (node_at ns v) END ≡ true → (real_in_slot array slot ≡ 0 → ⊥) → Some slot ≡ wrong_end array 0 (slot_letters ns)
   end_found mark_here real =
-      sym (found_in array ns (suc v) slot (at_slot true (ap not (ne_eqb (real_of array slot) 0 real)) ∙ ap (λ (t : Bool). cond (t && true) (Some slot) None) mark_here))
+      sym (found_in array ns (suc v) slot (at_slot true (ap not (ne_eqb (real_in_slot array slot) 0 real)) ∙ ap (λ (t : Bool). cond (t && true) (Some slot) None) mark_here))
 
-  pub end_passed : real_of array slot ≡ 0 → wrong_end array 0 (slot_letters (take (v + 1) ns)) ≡ None
-  end_passed zero_real = ap (λ k. wrong_end array 0 (slot_letters (take k ns))) (plus_one v) ∙ at_slot false (ap not (eq-eqb (real_of array slot) 0 zero_real)) ∙ none_found (has_letter (node_at ns v) END)
+  pub end_passed : real_in_slot array slot ≡ 0 → wrong_end array 0 (slot_letters (take (v + 1) ns)) ≡ None
+  end_passed zero_real = ap (λ k. wrong_end array 0 (slot_letters (take k ns))) (plus_one v) ∙ at_slot false (ap not (eq-eqb (real_in_slot array slot) 0 zero_real)) ∙ none_found (has_letter (node_at ns v) END)
     where
       none_found : (t : Bool) → cond (t && false) (Some slot) None ≡ None
       none_found true = refl
@@ -388,24 +388,24 @@ module _ (array : SuffixArray) (ns : List Node) (v : ℕ) (w : AllByRecursion Is
   pub no_end_passed : has_letter (node_at ns v) END ≡ false → wrong_end array 0 (slot_letters (take (v + 1) ns)) ≡ None
   no_end_passed here =
       ap (λ k. wrong_end array 0 (slot_letters (take k ns))) (plus_one v)
-      ∙ next_node array ns v w l none ∙ ap (λ (t : Bool). cond (t && not (real_of array (leaf_count_of (take v ns)) == 0)) (Some (leaf_count_of (take v ns))) None) here
+      ∙ next_node array ns v w l none ∙ ap (λ (t : Bool). cond (t && not (real_in_slot array (leaf_count_of (take v ns)) == 0)) (Some (leaf_count_of (take v ns))) None) here
 
 module _ (array : SuffixArray) (base p slot : ℕ) (bs : List Branch) (l : p < length bs) (none : wrong_end array base (leaf_letters (take p bs)) ≡ None) (is : slot ≡ base + length (leaf_letters (take p bs))) (leaf : (get_or bs p (0, false)).1 ≡ false) where
-  at_leaf : (end real : Bool) → ((get_or bs p (0, false)).0 == END) ≡ end → not (real_of array slot == 0) ≡ real
+  at_leaf : (end real : Bool) → ((get_or bs p (0, false)).0 == END) ≡ end → not (real_in_slot array slot == 0) ≡ real
       → wrong_end array base (leaf_letters (take (suc p) bs)) ≡ cond (end && real) (Some slot) None
   at_leaf end real e r =
       next_leaf array base p bs l none leaf
-      ∙ (λ j. cond (((get_or bs p (0, false)).0 == END) && not (real_of array (sym is j) == 0)) (Some (sym is j)) None)
+      ∙ (λ j. cond (((get_or bs p (0, false)).0 == END) && not (real_in_slot array (sym is j) == 0)) (Some (sym is j)) None)
       ∙ (λ j. cond (e j && r j) (Some slot) None)
 
-  pub mark_found : ((get_or bs p (0, false)).0 == END) ≡ true → (real_of array slot ≡ 0 → ⊥) → Some slot ≡ wrong_end array base (leaf_letters bs)
-  mark_found here real = sym (found_at array base (suc p) slot bs (at_leaf true true here (ap not (ne_eqb (real_of array slot) 0 real))))
+  pub mark_found : ((get_or bs p (0, false)).0 == END) ≡ true → (real_in_slot array slot ≡ 0 → ⊥) → Some slot ≡ wrong_end array base (leaf_letters bs)
+  mark_found here real = sym (found_at array base (suc p) slot bs (at_leaf true true here (ap not (ne_eqb (real_in_slot array slot) 0 real))))
 
-  pub mark_passed : ((get_or bs p (0, false)).0 == END) ≡ true → real_of array slot ≡ 0 → wrong_end array base (leaf_letters (take (p + 1) bs)) ≡ None
-  mark_passed here zero_real = ap (λ k. wrong_end array base (leaf_letters (take k bs))) (plus_one p) ∙ at_leaf true false here (ap not (eq-eqb (real_of array slot) 0 zero_real))
+  pub mark_passed : ((get_or bs p (0, false)).0 == END) ≡ true → real_in_slot array slot ≡ 0 → wrong_end array base (leaf_letters (take (p + 1) bs)) ≡ None
+  mark_passed here zero_real = ap (λ k. wrong_end array base (leaf_letters (take k bs))) (plus_one p) ∙ at_leaf true false here (ap not (eq-eqb (real_in_slot array slot) 0 zero_real))
 
   pub byte_passed : ((get_or bs p (0, false)).0 == END) ≡ false → wrong_end array base (leaf_letters (take (p + 1) bs)) ≡ None
-  byte_passed here = ap (λ k. wrong_end array base (leaf_letters (take k bs))) (plus_one p) ∙ at_leaf false (not (real_of array slot == 0)) here refl
+  byte_passed here = ap (λ k. wrong_end array base (leaf_letters (take k bs))) (plus_one p) ∙ at_leaf false (not (real_in_slot array slot == 0)) here refl
 
 pub child_passed : (array : SuffixArray) (base p : ℕ) (bs : List Branch) → p < length bs → wrong_end array base (leaf_letters (take p bs)) ≡ None → (get_or bs p (0, false)).1 ≡ true
     → wrong_end array base (leaf_letters (take (p + 1) bs)) ≡ None

@@ -14,7 +14,7 @@ use Rattle.filter_codec.proofs.Judged.{array_in, image_is, is_image, nodes_same,
 use Rattle.filter_api.specs.declared.errors.DecodeError.{DecodeError}
 use Rattle.filter_api.specs.declared.errors.DecodeError.TheVariants.{Memory}
 use Rattle.filter_codec.specs.Decoding.{AreOfTrie, IsCause, KeepsSections}
-use Rattle.filter_codec.specs.Judging.{end_by, header_in, places_by}
+use Rattle.filter_codec.specs.Judging.{header_in, image_end, places_by}
 use Rattle.filter_codec.specs.Rules.{nodes_rule}
 use Rattle.filter_codec.specs.Tree.{AreSparse, Tree, counts_rule, louds_rule}
 use Rattle.filter_codec.specs.declared.header.Header.{Header}
@@ -135,10 +135,10 @@ module _ (h : Header) (bits : List Bool) (array : SuffixArray) (e : array ≡ ar
   size_is : length array.slots * (array.hash_bits + array.real_bits) ≡ h.leaves * (h.hash_bits + h.real_bits)
   size_is = λ j. count_is j * ((e j).hash_bits + (e j).real_bits)
 
-  pub place_fits : (p : Places) → p ≡ places_by h → end_by h < 2 ^ 64 → p.suffixes + length array.slots * (array.hash_bits + array.real_bits) / 8 < 2 ^ 64
+  pub place_fits : (p : Places) → p ≡ places_by h → image_end h < 2 ^ 64 → p.suffixes + length array.slots * (array.hash_bits + array.real_bits) / 8 < 2 ^ 64
   place_fits p places fits = omega (arith, size_is, subst (λ n. n < 2 ^ 64) (ends p places) fits)
     where
-      ends : (p : Places) → p ≡ places_by h → end_by h ≡ p.suffixes + div_ceil (h.leaves * (h.hash_bits + h.real_bits)) 8
+      ends : (p : Places) → p ≡ places_by h → image_end h ≡ p.suffixes + div_ceil (h.leaves * (h.hash_bits + h.real_bits)) 8
       ends p e = ap (λ (p : Places). p.suffixes + div_ceil (h.leaves * (h.hash_bits + h.real_bits)) 8) (sym e)
 
   pub size_fits : h.leaves < 2 ^ 32 → h.hash_bits ≤ 32 → h.real_bits ≤ 32 → length array.slots * (array.hash_bits + array.real_bits) < 2 ^ 64

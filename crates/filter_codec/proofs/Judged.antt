@@ -9,15 +9,15 @@ use Rattle.std.proofs.lemmas.Nat.{pow_pos}
 use Rattle.std.proofs.lemmas.Bool.{cases_lt}
 use Rattle.std.proofs.lemmas.List.Elements.{All-drop}
 use Rattle.std.proofs.lemmas.List.{drop_all, drop_at, get_or_past, take_at}
-use Rattle.bit_words.specs.Numbers.{number_at}
-use Rattle.bit_words.specs.Packed.{number_of}
+use Rattle.bit_model.specs.Numbers.{number_at}
+use Rattle.bit_model.specs.Packed.{number_of}
 use Rattle.byte_fields.specs.Faults.{Fault, refuse}
 use Rattle.byte_fields.specs.Spelling.{IsBytes}
 use Rattle.filter_api.specs.declared.errors.FilterFault.{FilterFault}
 use Rattle.filter_codec.proofs.Within.{Within, from_length, from_louds, from_padding, from_strays, place_within}
 use Rattle.filter_codec.specs.Decoding.{AreOfTrie, IsFirstFault, KeepsSections}
 use Rattle.filter_codec.specs.Judging.{header_in, places_by, seen}
-use Rattle.filter_codec.specs.Rules.{ends_rule, labels_place, nodes_rule, real_of, shape_rule}
+use Rattle.filter_codec.specs.Rules.{ends_rule, labels_place, nodes_rule, real_in_slot, shape_rule}
 use Rattle.filter_codec.specs.Tree.{counts_rule}
 use Rattle.filter_image_model.proofs.ImageRead.{read_again}
 use Rattle.filter_image_model.proofs.ImageTrie.{read_trie, rules_kept}
@@ -60,7 +60,7 @@ none_behind n w slot le = mul-le-mul_right w le
 zero_over : (h : ℕ) → 0 / 2 ^ h ≡ 0
 zero_over h = div-eq_of_lt (pow_pos h)
 
-real_is : (bytes : Bytes) (slot : ℕ) → real_of (array_in bytes) slot ≡ slot_suffix bytes slot / 2 ^ hash_bits_in bytes
+real_is : (bytes : Bytes) (slot : ℕ) → real_in_slot (array_in bytes) slot ≡ slot_suffix bytes slot / 2 ^ hash_bits_in bytes
 unfolding slot_suffix
 real_is bytes slot =
     let h = hash_bits_in bytes in

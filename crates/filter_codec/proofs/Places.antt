@@ -4,7 +4,7 @@ use Rattle.std.specs.Option.{option_or}
 use Rattle.std.specs.Prelude.{◌==◌, ◌^◌, ◌&&◌, not, slice_index, Option, Some, None, [], ◌∷◌}
 use Rattle.std.specs.Int.{div_ceil}
 use Rattle.byte_fields.specs.Faults.{Fault, refuse}
-use Rattle.filter_codec.specs.Judging.{end_by, header_in, places_by}
+use Rattle.filter_codec.specs.Judging.{header_in, image_end, places_by}
 use Rattle.filter_codec.specs.declared.header.Header.{Header}
 use Rattle.filter_codec.specs.declared.header.Places.{Places}
 use Rattle.filter_image_model.specs.Header.{Bytes, dense_count_in, label_count_in, leaf_count_in, suffix_bits_in, section_bits, section_bytes, section_place}
@@ -121,7 +121,7 @@ module _ (bytes : Bytes) where
   unfolding section_bytes section_place section_bits
   section_5 = at _ (cut_at _ _ _ _ bytes (place_5 d l w) (width_5 d l w))
 
-  pub section_6 : end_by (header_in bytes) ≡ length bytes → Laid (λ p. take (length bytes - p.suffixes) (drop p.suffixes bytes) ≡ section_bytes 6 bytes)
+  pub section_6 : image_end (header_in bytes) ≡ length bytes → Laid (λ p. take (length bytes - p.suffixes) (drop p.suffixes bytes) ≡ section_bytes 6 bytes)
   unfolding section_bytes section_place section_bits
   section_6 e = at _ (cut_at _ _ _ _ bytes (place_6 d l w) (ap (λ n. n - (places_by (header_in bytes)).suffixes) (sym e) ∙ width_6 d l w))
 

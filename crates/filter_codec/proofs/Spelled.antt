@@ -7,10 +7,10 @@ use Rattle.std.specs.List.{All, AllByRecursion}
 use Rattle.std.proofs.lemmas.Bool.{eqb-false}
 use Rattle.std.proofs.lemmas.List.{length-drop, length-take-le}
 use Rattle.bit_words.proofs.Packing.{length-unpacked}
-use Rattle.bit_words.specs.Packed.{unpacked}
+use Rattle.bit_model.specs.Packed.{unpacked}
 use Rattle.byte_fields.specs.Faults.{fault}
 use Rattle.filter_codec.proofs.Numbers.{ends_there}
-use Rattle.filter_codec.specs.Judging.{end_by, header_in, stray_rule}
+use Rattle.filter_codec.specs.Judging.{header_in, image_end, stray_rule}
 use Rattle.filter_codec.specs.Tree.{AreSparse, Tree}
 use Rattle.filter_codec.specs.declared.header.Header.{Header}
 use Rattle.filter_image_model.proofs.DenseNodes.{dense_are}
@@ -26,7 +26,7 @@ use Rattle.filter_model.specs.Trie.{END}
 use Rattle.louds_dense.specs.Spelling.{IsSpelled, nodes_in}
 use Rattle.trie_laws.specs.Louds.{IsNode}
 
-pub whole : (bytes : Bytes) → length_fault bytes ≡ None → end_by (header_in bytes) ≡ length bytes
+pub whole : (bytes : Bytes) → length_fault bytes ≡ None → image_end (header_in bytes) ≡ length bytes
 whole bytes e = sym (ends_there bytes) ∙ whole_length bytes e
 
 -- ---- sections
@@ -63,7 +63,7 @@ module _ (d l w n : ℕ) (e : 40 + 64 * d + div_ceil d 8 + l + 2 * div_ceil l 8 
   to_6 : 40 + div_ceil (256 * d) 8 + div_ceil (256 * d) 8 + div_ceil d 8 + div_ceil (8 * l) 8 + div_ceil l 8 + div_ceil l 8 + div_ceil w 8 ≤ n
   to_6 = omega (arith, e)
 
-pub are_long : (bytes : Bytes) → end_by (header_in bytes) ≡ length bytes → AreLong bytes
+pub are_long : (bytes : Bytes) → image_end (header_in bytes) ≡ length bytes → AreLong bytes
 unfolding section_bytes section_place section_bits
 are_long bytes e =
     let d = dense_count_in bytes in
@@ -204,7 +204,7 @@ tree_by bytes l c e ls cs louds el ec ee els ecs elouds = λ j. tree_of (nodes_i
 exact : (size place : ℕ) (bytes : Bytes) → place + size ≤ length bytes → length (take size (drop place bytes)) ≡ size
 exact size place bytes le = length-take-le size (drop place bytes) (omega (arith, length-drop place bytes, le))
 
-pub dense_bytes : (bytes : Bytes) → end_by (header_in bytes) ≡ length bytes
+pub dense_bytes : (bytes : Bytes) → image_end (header_in bytes) ≡ length bytes
     → (length (section_bytes 0 bytes) ≡ div_ceil (256 * dense_count_in bytes) 8) × (length (section_bytes 1 bytes) ≡ div_ceil (256 * dense_count_in bytes) 8)
 unfolding section_bytes section_place section_bits
 dense_bytes bytes e =
@@ -217,7 +217,7 @@ dense_bytes bytes e =
 bits_of_rows : (d k : ℕ) → k ≡ div_ceil (256 * d) 8 → 8 * k ≡ 256 * d
 bits_of_rows d k e = omega (arith, e)
 
-pub strays_same : (bytes ls cs : Bytes) → end_by (header_in bytes) ≡ length bytes → ls ≡ section_bytes 0 bytes → cs ≡ section_bytes 1 bytes → stray_rule ls cs ≡ stray_fault bytes
+pub strays_same : (bytes ls cs : Bytes) → image_end (header_in bytes) ≡ length bytes → ls ≡ section_bytes 0 bytes → cs ≡ section_bytes 1 bytes → stray_rule ls cs ≡ stray_fault bytes
 unfolding stray_fault section section_place section_bits
 strays_same bytes ls cs whole e f =
     let size = (dense_bytes bytes whole).0 in
@@ -225,8 +225,8 @@ strays_same bytes ls cs whole e f =
     (λ j. stray_rule (e j) (f j))
     ∙ (λ j. option_map (λ i. fault (40 + size j + i / 8) 7) (position is_stray (zip (unpacked 8 (section_bytes 0 bytes) (many j)) (unpacked 8 (section_bytes 1 bytes) (many j)))))
 
-pub few_rows : (bytes : Bytes) (h : Header) → h ≡ header_in bytes → end_by h < 2 ^ 64 → end_by (header_in bytes) ≡ length bytes
+pub few_rows : (bytes : Bytes) (h : Header) → h ≡ header_in bytes → image_end h < 2 ^ 64 → image_end (header_in bytes) ≡ length bytes
     → (k : ℕ) → k ≡ div_ceil (256 * dense_count_in bytes) 8 → 40 + k + k < 2 ^ 64
 few_rows bytes h is fits e k size =
-    let few : length bytes < 2 ^ 64 = subst (λ n. n < 2 ^ 64) (ap end_by is ∙ e) fits in
+    let few : length bytes < 2 ^ 64 = subst (λ n. n < 2 ^ 64) (ap image_end is ∙ e) fits in
     omega (arith, few, size, to_1 (dense_count_in bytes) (label_count_in bytes) (leaf_count_in bytes * suffix_bits_in bytes) (length bytes) e)

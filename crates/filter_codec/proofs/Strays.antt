@@ -11,8 +11,8 @@ use Rattle.std.proofs.lemmas.Slice.Zip.{get_or-zip, length-zip}
 use Rattle.std.specs.Int.Bits.{and_lt}
 use Rattle.bit_words.proofs.Numbers.{number_back}
 use Rattle.bit_words.proofs.Packing.{get_or-unpacked, length-unpacked}
-use Rattle.bit_words.specs.Numbers.{bits_of}
-use Rattle.bit_words.specs.Packed.{number_of, packed_bit, unpacked}
+use Rattle.bit_model.specs.Numbers.{bits_of}
+use Rattle.bit_model.specs.Packed.{number_of, packed_bit, unpacked}
 use Rattle.byte_fields.specs.Faults.{fault}
 use Rattle.filter_codec.specs.Judging.{stray_rule}
 use Rattle.filter_image_model.specs.Header.{Bytes}

@@ -13,7 +13,7 @@ use Rattle.bit_words.proofs.Packing.{length-unpacked}
 use Rattle.byte_fields.specs.Faults.{Fault, fault, refuse}
 use Rattle.byte_fields.specs.Spelling.{IsBytes}
 use Rattle.filter_codec.proofs.Numbers.{ends_there}
-use Rattle.filter_codec.specs.Judging.{end_by, header_in, numbers_rule}
+use Rattle.filter_codec.specs.Judging.{header_in, image_end, numbers_rule}
 use Rattle.filter_image_model.proofs.Headers.{header_kept}
 use Rattle.filter_image_model.proofs.ImageTrie.{counts_kept}
 use Rattle.filter_image_model.proofs.Sections.{place_after-le}
@@ -111,7 +111,7 @@ sections_in bytes whole =
     let l = label_count_in bytes in
     let w = leaf_count_in bytes * suffix_bits_in bytes in
     let n = length bytes in
-    let e : end_by (header_in bytes) ≡ length bytes = sym (ends_there bytes) ∙ whole in
+    let e : image_end (header_in bytes) ≡ length bytes = sym (ends_there bytes) ∙ whole in
     record { strays = to_strays d l w n e; rows = to_rows d l w n e; labels = to_labels d l w n e; suffixes = to_suffixes d l w n e }
 
 smaller : (n m : ℕ) → min n m ≤ n

@@ -1,6 +1,6 @@
 -- Leaves that end, by their slots.
 use Rattle.std.specs.Prelude.{ℕ, suc, ◌+◌, ◌==◌, ◌&&◌, nat_lt, not, cond, Bool, false, length, slice_index, slice_index_or, List, [], ◌∷◌, map, filter, Option, Some, None}
-use Rattle.filter_codec.specs.Rules.{real_of}
+use Rattle.filter_codec.specs.Rules.{real_in_slot}
 use Rattle.filter_model.specs.Nodes.{Branch}
 use Rattle.filter_model.specs.Trie.{END}
 use Rattle.suffix_bits.specs.Slots.{SuffixArray}
@@ -12,7 +12,7 @@ leaf_letters bs = map (λ (b : Branch). b.0) (filter (λ (b : Branch). not b.1) 
 -- of leaves with these letters, from a slot on, the first that ends and has real bits
 abbrev pub wrong_end : SuffixArray → ℕ → List ℕ → Option ℕ
 wrong_end array slot [] = None
-wrong_end array slot (c ∷ cs) = cond ((c == END) && not (real_of array slot == 0)) (Some slot) (wrong_end array (suc slot) cs)
+wrong_end array slot (c ∷ cs) = cond ((c == END) && not (real_in_slot array slot == 0)) (Some slot) (wrong_end array (suc slot) cs)
 
 -- the label at a place is 255, and the first of several of a node
 abbrev pub is_mark : List ℕ → List Bool → ℕ → Bool

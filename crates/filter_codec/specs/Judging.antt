@@ -2,7 +2,7 @@
 use Rattle.std.specs.Prelude.{ℕ, ◌+◌, ◌*◌, ◌/◌, nat_lt, ◌==◌, ◌||◌, Option, None, length, position, zip}
 use Rattle.std.specs.Int.{div_ceil}
 use Rattle.std.specs.Option.{option_map}
-use Rattle.bit_words.specs.Packed.{unpacked}
+use Rattle.bit_model.specs.Packed.{unpacked}
 use Rattle.byte_fields.specs.Faults.{Fault, fault, refuse}
 use Rattle.filter_api.specs.declared.errors.FilterFault.{FilterFault}
 use Rattle.filter_codec.specs.declared.header.Header.{Header}
@@ -28,8 +28,8 @@ numbers_rule bytes =
     None))
 
 -- where an image of these numbers ends, and where its sections begin
-abbrev pub end_by : Header → ℕ
-end_by h = 40 + 64 * h.dense + div_ceil h.dense 8 + h.labels + 2 * div_ceil h.labels 8 + div_ceil (h.leaves * (h.hash_bits + h.real_bits)) 8
+abbrev pub image_end : Header → ℕ
+image_end h = 40 + 64 * h.dense + div_ceil h.dense 8 + h.labels + 2 * div_ceil h.labels 8 + div_ceil (h.leaves * (h.hash_bits + h.real_bits)) 8
 
 abbrev pub places_by : Header → Places
 places_by h = record {

@@ -33,14 +33,14 @@ is_wrong leaves leads_on (a ∷ []) = not leads_on && nat_lt 1 leaves
 is_wrong leaves leads_on (a ∷ b ∷ labels) = cond (a == 255) (leads_on || not (rise (b ∷ labels))) (not (rise (a ∷ b ∷ labels)))
 
 -- the real bits of a slot
-abbrev pub real_of : SuffixArray → ℕ → ℕ
-real_of array slot = (slice_index_or array.slots slot (0, 0)).1
+abbrev pub real_in_slot : SuffixArray → ℕ → ℕ
+real_in_slot array slot = (slice_index_or array.slots slot (0, 0)).1
 
 -- the rule on leaves that end, by their letters from a slot on, where the suffixes begin at a place
 abbrev pub ends_rule : ℕ → SuffixArray → ℕ → List ℕ → Option Fault
 ends_rule place array slot [] = None
 ends_rule place array slot (c ∷ cs) =
-    refuse ((c == END) && not (real_of array slot == 0)) (place + slot * (array.hash_bits + array.real_bits) / 8) 10
+    refuse ((c == END) && not (real_in_slot array slot == 0)) (place + slot * (array.hash_bits + array.real_bits) / 8) 10
     (ends_rule place array (suc slot) cs)
 
 -- the rules 8 to 10 of nodes and suffixes

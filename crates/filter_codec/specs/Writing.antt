@@ -1,6 +1,6 @@
 -- The parts of an image as they are written one after the other.
 use Rattle.std.specs.Prelude.{◌++◌, List, length}
-use Rattle.bit_words.specs.Packed.{packed}
+use Rattle.bit_model.specs.Packed.{packed}
 use Rattle.filter_image_model.specs.Header.{Bytes}
 use Rattle.filter_model.specs.Leaves.{Filter}
 use Rattle.filter_image_model.specs.Sections.{image_head}

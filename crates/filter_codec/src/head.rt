@@ -2,7 +2,7 @@
 ghost use Rattle.std.specs.Prelude.{◌≡◌, ◌≤◌, ◌<◌, ◌^◌, ◌∷◌, [], length, MatchOption, None, Some, ⊤};
 ghost use Rattle.std.specs.Option.{option_map};
 ghost use Rattle.byte_fields.specs.Faults.{fault as fault_at};
-ghost use Rattle.filter_codec.specs.Judging.{end_by, header_in, numbers_rule, seen};
+ghost use Rattle.filter_codec.specs.Judging.{header_in, image_end, numbers_rule, seen};
 ghost use Rattle.filter_image_model.specs.Reading.{bytes_fault, image_head_fault, length_fault as length_rules};
 
 use super::header::Header;
@@ -107,7 +107,7 @@ pub(crate) fn read_header(bytes: &[u8]) -> Header
 pub(crate) fn length_fault(bytes: &[u8], header: &Header) -> Option<FilterFault>
     requires { header.now ≡ header_in bytes.now }
     ensures fault { option_map seen result ≡ length_rules bytes.now }
-    ensures fits { MatchOption result (end_by header.now < 2 ^ 64) (λ _. ⊤) }
+    ensures fits { MatchOption result (image_end header.now < 2 ^ 64) (λ _. ⊤) }
 {
     let end = image_bytes(header);
     let len = bytes.len();
@@ -122,7 +122,7 @@ pub(crate) fn length_fault(bytes: &[u8], header: &Header) -> Option<FilterFault>
 
 // The place at which the counts of a header say that the image ends, whatever they are.
 fn image_bytes(header: &Header) -> u128
-    ensures { result ≡ end_by header.now }
+    ensures { result ≡ image_end header.now }
 {
     let dense = u128::from(header.dense);
     let labels = u128::from(header.labels);

@@ -3,9 +3,9 @@
 //! `decode` is exact: a trie only of bytes that are the image of what it stands for, and else the first rule of the format
 //! that they break, and where. It judges the sections as packed bits, and makes no list of nodes.
 //!
-//! `encode` copies the sections and takes what `out` lacks for them; without memory `out` stays as it was. `decode` looks at
-//! each section a few times and at each level once, and takes what the sections and the counts over their bits need, each
-//! block once and none by a number that the bytes do not bear.
+//! `encode` copies the sections and takes what `out` lacks for them; without memory `out` stays as it was. `decode` looks
+//! at each section a few times and at each level twice at most, and takes what the sections and the counts over their bits
+//! need, each block once and none by a number that the bytes do not bear.
 //!
 //! Do not use it for a list of leaves whose filter is to be read by plain loops: `plain_filter` spells that. Nor for a trie
 //! that is asked while it is read: `decode` judges all of it first.

@@ -2,7 +2,7 @@
 ghost use Rattle.std.specs.Prelude.{◌≡◌, ◌≤◌, ◌<◌, ◌^◌, ◌+◌, ◌*◌, ◌/◌, ◌++◌, length, IfOk, IfErr};
 ghost use Rattle.std.specs.Option.{option_map};
 ghost use Rattle.filter_codec.specs.Decoding.{AreOfTrie, IsCause, KeepsSections};
-ghost use Rattle.filter_codec.specs.Judging.{end_by, header_in, places_by, seen};
+ghost use Rattle.filter_codec.specs.Judging.{header_in, image_end, places_by, seen};
 ghost use Rattle.filter_codec.specs.Rules.{nodes_rule};
 ghost use Rattle.filter_codec.specs.Tree.{Tree};
 ghost use Rattle.filter_image_model.specs.Laws.{IsImage};
@@ -29,7 +29,7 @@ use suffix_bits::Suffixes;
 /// Fails exactly where the bytes are no image, with the first rule that they break and the place where they do, or for want
 /// of memory, which says nothing of the bytes. An image of 2^32 labels, or of 2^24 dense nodes, is want of memory too: the
 /// counts over its bits are not made. Takes what the sections and these counts need, each block once and none before the
-/// bytes of its section are there. Looks at each section a few times, and at each level once.
+/// bytes of its section are there. Looks at each section a few times, and at each level twice at most.
 pub fn decode<A: Allocator + Clone>(alloc: A, bytes: &[u8]) -> Result<Trie<A>, DecodeError>
     ensures read { IfOk result (λ trie. IsImage trie bytes.now) }
     ensures refused { IfErr result (IsCause bytes.now) }
@@ -62,7 +62,7 @@ fn read_nodes<A: Allocator + Clone>(
     requires kept { KeepsSections bytes.now }
     requires header { header.now ≡ header_in bytes.now }
     requires places { places.now ≡ places_by header.now }
-    requires fits { end_by header.now < 2 ^ 64 }
+    requires fits { image_end header.now < 2 ^ 64 }
     ensures read { IfOk result (λ trie. IsImage trie bytes.now) }
     ensures refused { IfErr result (IsCause bytes.now) }
 {

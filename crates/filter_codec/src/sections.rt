@@ -3,7 +3,7 @@ ghost use Rattle.std.specs.Prelude.{◌≡◌, ◌≤◌, ◌<◌, ◌^◌, ◌+
 ghost use Rattle.std.specs.Int.{div_ceil};
 ghost use Rattle.std.specs.Option.{option_map};
 ghost use Rattle.byte_fields.specs.Faults.{refuse};
-ghost use Rattle.filter_codec.specs.Judging.{end_by, header_in, places_by, seen, stray_rule};
+ghost use Rattle.filter_codec.specs.Judging.{header_in, image_end, places_by, seen, stray_rule};
 ghost use Rattle.filter_image_model.specs.Header.{section_bits, section_bytes};
 ghost use Rattle.filter_image_model.specs.Reading.{has_padding as is_padded, padding_fault as padding_rule};
 
@@ -25,7 +25,7 @@ pub(crate) struct Sections<'a> {
 
 /// Where the sections begin.
 pub(crate) fn section_places(header: &Header) -> Places
-    requires { end_by header.now < 2 ^ 64 }
+    requires { image_end header.now < 2 ^ 64 }
     ensures { result ≡ places_by header.now }
 {
     let dense = header.dense as usize;
@@ -46,7 +46,7 @@ pub(crate) fn section_places(header: &Header) -> Places
 pub(crate) fn padding_fault(bytes: &[u8], header: &Header, places: &Places) -> Option<FilterFault>
     requires header { header.now ≡ header_in bytes.now }
     requires places { places.now ≡ places_by header.now }
-    requires whole { end_by header.now ≡ length bytes.now }
+    requires whole { image_end header.now ≡ length bytes.now }
     ensures { option_map seen result ≡ padding_rule 40 (section_bits bytes.now) bytes.now }
 {
     let labels = header.labels as usize;
@@ -89,7 +89,7 @@ fn has_padding(bytes: &[u8], place: usize, bits: usize) -> bool
 pub(crate) fn cut<'a>(bytes: &'a [u8], header: &Header, places: &Places) -> Sections<'a>
     requires header { header.now ≡ header_in bytes.now }
     requires places { places.now ≡ places_by header.now }
-    requires whole { end_by header.now ≡ length bytes.now }
+    requires whole { image_end header.now ≡ length bytes.now }
     ensures dense_labels { result.dense_labels.now ≡ section_bytes 0 bytes.now }
     ensures dense_children { result.dense_children.now ≡ section_bytes 1 bytes.now }
     ensures dense_ends { result.dense_ends.now ≡ section_bytes 2 bytes.now }

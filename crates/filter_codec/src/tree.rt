@@ -1,7 +1,7 @@
 //! The nodes that packed sections spell, whatever they are.
 ghost use Rattle.std.specs.Prelude.{◌≡◌, ◌≤◌, ◌<◌, ◌^◌, ◌+◌, ◌*◌, ◌++◌, [], ◌∷◌, count_by, get_or, length, take, IfOk, ℕ};
-ghost use Rattle.bit_words.specs.Packed.{unpacked};
-ghost use Rattle.filter_codec.specs.Judging.{end_by, header_in, places_by};
+ghost use Rattle.bit_model.specs.Packed.{unpacked};
+ghost use Rattle.filter_codec.specs.Judging.{header_in, image_end, places_by};
 ghost use Rattle.filter_codec.specs.Tree.{AreSparse, Tree};
 ghost use Rattle.filter_image_model.specs.Header.{section, section_bytes};
 ghost use Rattle.filter_image_model.specs.Levels.{children_of, leaf_count_of};
@@ -171,7 +171,7 @@ impl<A: Allocator + Clone> Upper<A> {
         requires few { header.now.dense ≤ 2 ^ 53 }
         requires header { header.now ≡ header_in bytes.now }
         requires places { places.now ≡ places_by header.now }
-        requires whole { end_by header.now ≡ length bytes.now }
+        requires whole { image_end header.now ≡ length bytes.now }
         ensures labels { IfOk result (λ upper. upper.labels ≡ section 0 bytes.now) }
         ensures children { IfOk result (λ upper. upper.children ≡ section 1 bytes.now) }
         ensures ends { IfOk result (λ upper. upper.ends ≡ section 2 bytes.now) }
@@ -204,7 +204,7 @@ impl<A: Allocator + Clone> Lower<A> {
     ) -> Result<Lower<A>, AllocError>
         requires header { header.now ≡ header_in bytes.now }
         requires places { places.now ≡ places_by header.now }
-        requires whole { end_by header.now ≡ length bytes.now }
+        requires whole { image_end header.now ≡ length bytes.now }
         ensures labels { IfOk result (λ lower. lower.labels.items ≡ section_bytes 3 bytes.now) }
         ensures children { IfOk result (λ lower. lower.children ≡ section 4 bytes.now) }
         ensures louds { IfOk result (λ lower. lower.louds ≡ louds) }

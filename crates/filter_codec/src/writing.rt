@@ -1,6 +1,6 @@
 //! The bytes of a trie.
 ghost use Rattle.std.specs.Prelude.{◌≡◌, ◌++◌, ◌≤◌, length, take, OnErr, OnOk};
-ghost use Rattle.bit_words.specs.Packed.{packed};
+ghost use Rattle.bit_model.specs.Packed.{packed};
 ghost use Rattle.filter_codec.specs.Writing.{dense_part, head_of, sparse_part};
 ghost use Rattle.filter_model.specs.Image.{image};
 

@@ -19,3 +19,4 @@ pub mod Suffixes
 pub mod PlaceLaws
 pub mod Finding
 pub mod KeyOrder
+pub mod LevelStarts

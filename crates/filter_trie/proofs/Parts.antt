@@ -2,7 +2,7 @@
 use Rattle.std.proofs.Common.{◌≡◌, ℕ, ◌+◌, ◌*◌, ◌<◌, Bool, List, ◌++◌, length, map, refl, ap, sym, ◌∙◌}
 use Rattle.std.specs.List.{AllByRecursion, range_with_len}
 use Rattle.std.proofs.lemmas.List.{take-append-drop}
-use Rattle.bit_words.specs.Numbers.{number_at}
+use Rattle.bit_model.specs.Numbers.{number_at}
 use Rattle.filter_api.specs.Spellings.{IsSpelling}
 use Rattle.filter_image_model.proofs.ImageRead.{read_again}
 use Rattle.filter_image_model.proofs.OneImage.{read_as, room}

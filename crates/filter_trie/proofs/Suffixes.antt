@@ -5,7 +5,7 @@ use Rattle.std.specs.List.{AllByRecursion}
 use Rattle.std.proofs.lemmas.List.{drop-append-le, drop_all, get_or-map, length-map, take-append-le, take_all}
 use Rattle.std.specs.Simd.Lanes.{mask_l}
 use Rattle.bit_words.proofs.Numbers.{length-bits_of, number_back}
-use Rattle.bit_words.specs.Numbers.{bits_of}
+use Rattle.bit_model.specs.Numbers.{bits_of}
 use Rattle.filter_image_model.proofs.Lists.{all_filter, all_flat, all_of, by_recursion}
 use Rattle.filter_model.specs.Image.{in_slots}
 use Rattle.filter_model.specs.Leaves.{Filter, Leaf}

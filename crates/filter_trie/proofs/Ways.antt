@@ -1,10 +1,10 @@
 -- A walk's way: the node is the prefix of the key that was read.
-use Rattle.std.proofs.Common.{◌≡◌, ℕ, ◌+◌, ◌<◌, ◌≤◌, true, false, Some, None, List, [], ◌∷◌, ◌++◌, length, get_or, take, ap, sym, ◌∙◌, arith}
+use Rattle.std.proofs.Common.{◌≡◌, ℕ, ◌+◌, ◌<◌, ◌≤◌, true, false, Some, None, List, [], ◌∷◌, ◌++◌, length, get_or, take, refl, ap, sym, ◌∙◌, arith, inl, inr}
 use Rattle.std.proofs.lemmas.Bool.{false_from_ne_true, false≢true}
 use Rattle.std.proofs.lemmas.List.{get_or_append_left, get_or_push, length_push, take-append-le, take_all, take_more}
 use Rattle.filter_model.specs.Leaves.{Leaf}
 use Rattle.filter_model.specs.Trie.{END, height, is_node, is_reached, nodes}
-use Rattle.filter_trie.specs.Walks.{IsNodeAt, IsSlotAt}
+use Rattle.filter_trie.specs.Walks.{IsNodeAt, IsSlotAt, ReachesLeaf}
 use Rattle.filter_trie.proofs.Reached.{found, missed, node_is_reached, prefix_refl, prefix_take, slot_is}
 use Rattle.filter_trie.proofs.Down.{node_passes}
 use Rattle.trie_levels.specs.Tries.{HasTrie}
@@ -20,6 +20,12 @@ module _ (ls : List Leaf) (t : HasTrie ls) (some : 0 < height ls) (key : List �
   met s c l e n =
       let q : get_or (nodes ls) v [] ++ c ∷ [] ≡ take (d + 1) key = (λ j. a.is j ++ e j ∷ []) ∙ sym (take_more key d 0 l) in
       found ls t key s (take (d + 1) key) (record { within = n.within; is = n.is ∙ q }) (prefix_take (d + 1) key (END ∷ []))
+
+  -- whose stub is what was read
+  pub met_stub : (s c : ℕ) → d < length key → c ≡ get_or key d 0 → IsSlotAt ls s (get_or (nodes ls) v [] ++ c ∷ []) → ReachesLeaf ls key s (d + 1)
+  met_stub s c l e n =
+      let q : get_or (nodes ls) v [] ++ c ∷ [] ≡ take (d + 1) key = (λ j. a.is j ++ e j ∷ []) ∙ sym (take_more key d 0 l) in
+      inl (record { within = n.within; is = n.is ∙ q })
 
   on_way : d ≤ length key → (take d (key ++ END ∷ []) ≡ get_or (nodes ls) v []) × (is_node ls (take d (key ++ END ∷ [])) ≡ true)
   on_way l =
@@ -51,6 +57,9 @@ module _ (ls : List Leaf) (t : HasTrie ls) (some : 0 < height ls) (key : List �
 
   pub ended : (s : ℕ) → length key ≤ d → IsSlotAt ls s (get_or (nodes ls) v [] ++ END ∷ []) → Some s ≡ slot_of_key ls key
   ended s l n = found ls t key s (key ++ END ∷ []) (record { within = n.within; is = n.is ∙ ap (λ (p : List ℕ). p ++ END ∷ []) (a.is ∙ whole l) }) (prefix_refl (key ++ END ∷ []))
+
+  pub ended_stub : (s : ℕ) → length key ≤ d → IsSlotAt ls s (get_or (nodes ls) v [] ++ END ∷ []) → ReachesLeaf ls key s (length key)
+  ended_stub s l n = inr (refl, record { within = n.within; is = n.is ∙ ap (λ (p : List ℕ). p ++ END ∷ []) (a.is ∙ whole l) })
 
   pub ended_nowhere : length key ≤ d → d ≤ length key → is_reached ls (get_or (nodes ls) v [] ++ END ∷ []) ≡ false → None ≡ slot_of_key ls key
   ended_nowhere l m off =

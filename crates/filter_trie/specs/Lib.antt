@@ -10,5 +10,6 @@ pub mod Building
 pub mod Pending
 pub mod Gathered
 pub mod Places
+pub mod LevelStarts
 pub mod Leads
 pub mod Laws

@@ -1,7 +1,7 @@
 -- What a trie's parts stand for: two halves of one list of nodes, and the suffixes of the leaves by slot.
 use Rattle.std.specs.Prelude.{◌≡◌, ℕ, ◌+◌, ◌*◌, List, ◌++◌, length, map, take, drop}
 use Rattle.std.specs.List.{range_with_len}
-use Rattle.bit_words.specs.Numbers.{number_at}
+use Rattle.bit_model.specs.Numbers.{number_at}
 use Rattle.filter_api.specs.Spellings.{MayStand}
 use Rattle.filter_image_model.specs.Levels.{leaves_behind, levels_from, root_leaves}
 use Rattle.filter_model.specs.Image.{suffixes}

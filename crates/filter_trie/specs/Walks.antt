@@ -1,7 +1,7 @@
 -- Steps down a trie, and where they end.
-use Rattle.std.specs.Prelude.{◌≡◌, ℕ, ◌<◌, false, List, [], ◌∷◌, ◌++◌, length, get_or, Option, Some, None}
+use Rattle.std.specs.Prelude.{◌≡◌, ◌⊎◌, ℕ, ◌<◌, false, List, [], ◌∷◌, ◌++◌, length, get_or, take, Option, Some, None}
 use Rattle.filter_model.specs.Leaves.{Leaf}
-use Rattle.filter_model.specs.Trie.{is_reached, nodes, slots}
+use Rattle.filter_model.specs.Trie.{END, is_reached, nodes, slots}
 use Rattle.filter_trie.specs.declared.walk.Step.{Step}
 use Rattle.filter_trie.specs.declared.walk.Step.TheVariants as step
 use Rattle.filter_trie.specs.declared.walk.Walk.{Walk}
@@ -26,3 +26,7 @@ abbrev pub IsStep : List Leaf → ℕ → ℕ → Step → Type 0
 IsStep ls v c step.Miss = is_reached ls (get_or (nodes ls) v [] ++ c ∷ []) ≡ false
 IsStep ls v c (step.Leaf s) = IsSlotAt ls s (get_or (nodes ls) v [] ++ c ∷ [])
 IsStep ls v c (step.Child w) = IsNodeAt ls w (get_or (nodes ls) v [] ++ c ∷ [])
+
+-- the leaf of this slot has so many first bytes of the key as its stub, and if it ends, all of them
+abbrev pub ReachesLeaf : List Leaf → List ℕ → ℕ → ℕ → Type 0
+ReachesLeaf ls key slot stub = IsSlotAt ls slot (take stub key) ⊎ ((stub ≡ length key) × IsSlotAt ls slot (key ++ END ∷ []))

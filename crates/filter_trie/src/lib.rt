@@ -23,6 +23,7 @@
 //! let trie = build(alloc, &keys, spans, &levels, 8, 8, 2)?;
 //! trie.walk(b"fasten")     // Leaf(2), the leaf fas
 //! trie.walk(b"fa")         // Miss
+//! trie.walk_to(b"fasten")      // Some((2, 3)): of the stub fas
 //! trie.next_branch(0, 0x67)    // Some(place), by s
 //! trie.leftmost(place)         // 0, the leaf s
 //! ```
@@ -36,6 +37,7 @@ mod build_pending;
 mod building;
 mod laws;
 mod leftmost;
+mod level_starts;
 mod looks;
 mod place;
 mod steps;

@@ -25,6 +25,15 @@ impl<A: Allocator> Trie<A> {
         ensures leads { IsStep self.now.leaves node byte result }
     {
         steps.tick();
+        self.look(node, is_dense, byte)
+    }
+
+    /// The same, uncounted.
+    pub(crate) fn look(&self, node: u64, is_dense: bool, byte: u8) -> Step
+        requires node { node < length (nodes self.now.leaves) }
+        requires half { IsTrue is_dense ↔ (node < length (upper self.now.cutoff self.now.leaves)) }
+        ensures { IsStep self.now.leaves node byte result }
+    {
         if is_dense {
             self.dense_step(node, byte)
         } else {

@@ -1,11 +1,13 @@
 //! The trie and its walks.
-ghost use Rattle.std.specs.Prelude.{◌≡◌, ◌<◌, ◌≤◌, ◌+◌, ◌++◌, [], ◌∷◌, false, length, get_or, map, MatchOption};
+ghost use Rattle.std.specs.Prelude.{◌≡◌, ◌<◌, ◌≤◌, ◌+◌, ◌++◌, [], ◌∷◌, false, length, get_or, map, IfSome, MatchOption};
+ghost use Rattle.std.specs.Option.{option_map};
 ghost use Rattle.filter_api.specs.Spellings.{MayStand};
 ghost use Rattle.filter_model.specs.Leaves.{Filter};
 ghost use Rattle.filter_model.specs.Image.{in_slots, suffixes as suffix_section};
 ghost use Rattle.filter_model.specs.Trie.{END, height as height_of, is_reached, nodes};
+ghost use Rattle.filter_trie.specs.LevelStarts.{slots_before_levels};
 ghost use Rattle.filter_trie.specs.Parts.{AreParts, lower, upper};
-ghost use Rattle.filter_trie.specs.Walks.{IsSlotAt, IsStep, slot_in};
+ghost use Rattle.filter_trie.specs.Walks.{IsSlotAt, IsStep, ReachesLeaf, slot_in};
 ghost use Rattle.suffix_bits.specs.Slots.{array_bits, leaf_suffix};
 ghost use Rattle.trie_laws.specs.Halves.{second_half};
 ghost use Rattle.trie_model.specs.Walks.{slot_of_key, steps as steps_of};
@@ -27,21 +29,26 @@ pub struct Trie<A: Allocator> {
     pub(crate) dense: Dense<A>,
     pub(crate) sparse: Sparse<A>,
     pub(crate) suffixes: Suffixes<A>,
+    // Of the finished trie; `of` has none while it counts them.
+    level_starts: Option<u64>,
 }
 
 impl<A: Allocator> Model for Trie<A> {
+    ghost use Rattle.std.specs.Prelude.{◌≡◌, IfSome};
     ghost use Rattle.filter_model.specs.Leaves.{Filter};
+    ghost use Rattle.filter_trie.specs.LevelStarts.{slots_before_levels};
     ghost use Rattle.filter_trie.specs.Parts.{AreParts, image_by};
 
     ghost Value = { Filter };
 
     ghost view = { λ t. image_by t.cutoff t.height t.dense t.sparse.nodes t.suffixes };
 
-    ghost invariant = { λ t. AreParts (image_by t.cutoff t.height t.dense t.sparse.nodes t.suffixes) t.cutoff t.height t.dense t.sparse t.suffixes };
+    ghost invariant = { λ t. AreParts (image_by t.cutoff t.height t.dense t.sparse.nodes t.suffixes) t.cutoff t.height t.dense t.sparse t.suffixes × IfSome t.level_starts (λ n. n ≡ slots_before_levels (image_by t.cutoff t.height t.dense t.sparse.nodes t.suffixes)) };
 }
 
 impl<A: Allocator> Trie<A> {
-    /// The trie with these parts, which are those of one valid list of leaves with its widths and a cutoff. Takes no memory.
+    /// The trie with these parts, which are those of one valid list of leaves with its widths and a cutoff. Goes down its
+    /// levels once, and takes no memory.
     pub fn of(
         cutoff: u16,
         height: u16,
@@ -53,13 +60,16 @@ impl<A: Allocator> Trie<A> {
         requires { AreParts image cutoff height dense sparse suffixes }
         ensures { result ≡ image }
     {
-        Trie {
+        let mut trie = Trie {
             cutoff,
             height,
             dense,
             sparse,
             suffixes,
-        }
+            level_starts: None,
+        };
+        trie.level_starts = Some(trie.count_level_starts());
+        trie
     }
 
     /// How many levels are dense.
@@ -77,6 +87,16 @@ impl<A: Allocator> Trie<A> {
         ensures cutoff { self.now.cutoff ≤ result }
     {
         self.height
+    }
+
+    /// How many leaves stand before the first node of each level, all levels together. Counted once, when the trie is made.
+    pub fn level_starts(&self) -> u64
+        ensures { result ≡ slots_before_levels self.now }
+    {
+        match self.level_starts {
+            Some(starts) => starts,
+            None => self.count_level_starts(),
+        }
     }
 
     /// How many leaves there are.
@@ -125,7 +145,28 @@ impl<A: Allocator> Trie<A> {
         self.walk_from::<Brand>(key, Blank::new(1))
     }
 
-    /// The same, with a step for each node that the walk visits: those that are prefixes of the key.
+    /// The slot of the leaf that the key reaches, and how many bytes its stub has: of a leaf that ends, all of the key's.
+    pub fn walk_to(&self, key: &[u8]) -> Option<(u64, usize)>
+        ensures slot { option_map (λ leaf. leaf.0) result ≡ slot_of_key self.now.leaves key.now }
+        ensures within { IfSome result (λ leaf. leaf.1 ≤ length key.now) }
+        ensures stub { IfSome result (λ leaf. ReachesLeaf self.now.leaves key.now leaf.0 leaf.1) }
+    {
+        let dense_nodes = self.dense.node_count();
+        let mut node = 0;
+        for i in 0..key.len() {
+            match self.look(node, node < dense_nodes, key[i]) {
+                Step::Miss => return None,
+                Step::Leaf(slot) => return Some((slot, i + 1)),
+                Step::Child(child) => node = child,
+            }
+        }
+        match self.prefix_slot(node) {
+            Some(slot) => Some((slot, key.len())),
+            None => None,
+        }
+    }
+
+    /// The slot alone, with a step for each node that the walk visits: those that are prefixes of the key.
     pub fn walk_counted<L: Ledger>(&self, key: &[u8], steps: &mut Steps<L>) -> Walk
         ensures slot { slot_in result ≡ slot_of_key self.now.leaves key.now }
         ensures steps { steps.new ≡ steps.old + steps_of self.now.leaves key.now }

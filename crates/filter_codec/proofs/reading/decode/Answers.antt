@@ -2,7 +2,7 @@ use Rattle.std.proofs.Common.{◌∙◌, ap, length, sym}
 use Rattle.filter_codec.proofs.Judged.{at_head, at_length, at_padding, at_strays}
 use Rattle.filter_codec.proofs.Spelled.{dense_bytes, few_rows, strays_same, whole}
 use Rattle.filter_codec.proofs.Strays.{bytes_of}
-use Rattle.filter_codec.specs.Judging.{end_by}
+use Rattle.filter_codec.specs.Judging.{image_end}
 use Rattle.filter_image_model.proofs.Headers.{header_kept}
 use Rattle.filter_codec.proofs.reading.decode.Goals as goal
 
@@ -35,7 +35,7 @@ padding_fault-requires-clause-whole g c =
     let is = c.read_header-header.ensures in
     let lengths = sym c.in_default-length_fault.ensures.fault in
     let w = whole b lengths in
-    ap end_by is ∙ w
+    ap image_end is ∙ w
 
 pub returns-in-Some-padding_fault-clause-refused : goal.returns-in-Some-padding_fault-clause-refused
 returns-in-Some-padding_fault-clause-refused g c =
@@ -55,7 +55,7 @@ cut-sections-requires-clause-whole g c =
     let is = c.read_header-header.ensures in
     let lengths = sym c.in_default-length_fault.ensures.fault in
     let w = whole b lengths in
-    ap end_by is ∙ w
+    ap image_end is ∙ w
 
 pub stray_fault-requires-clause-same : goal.stray_fault-requires-clause-same
 stray_fault-requires-clause-same g c =

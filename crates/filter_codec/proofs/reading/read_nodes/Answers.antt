@@ -2,11 +2,11 @@ use Rattle.std.proofs.Common.{◌≡◌, ◌+◌, ◌*◌, ◌∙◌, ap, arith,
 use Rattle.std.specs.Prelude.{None}
 use Rattle.std.proofs.Math.Nat.{mul_comm}
 use Rattle.bit_words.proofs.Packing.{length-unpacked}
-use Rattle.bit_words.specs.Packed.{unpacked}
+use Rattle.bit_model.specs.Packed.{unpacked}
 use Rattle.filter_codec.proofs.Joining.{array_by, array_from, count_is, few_leaves, keeps, louds_same, out_of_memory, place_fits, product_fits, read_by, rule_by, size_fits, trie_by}
 use Rattle.filter_codec.proofs.Judged.{at_louds, at_nodes, none_broken}
 use Rattle.filter_codec.proofs.Spelled.{are_long, bits_5, bits_6, whole}
-use Rattle.filter_codec.specs.Judging.{end_by}
+use Rattle.filter_codec.specs.Judging.{image_end}
 use Rattle.filter_codec.specs.declared.header.Header.{Header}
 use Rattle.filter_image_model.proofs.Headers.{header_kept}
 use Rattle.filter_image_model.specs.Header.{leaf_count_in, suffix_bits_in}
@@ -15,7 +15,7 @@ use Rattle.filter_codec.proofs.reading.read_nodes.Goals as goal
 
 pub cut-sections-requires-clause-whole : goal.cut-sections-requires-clause-whole
 cut-sections-requires-clause-whole g c =
-    ap end_by c.requires.header ∙ whole c.args.bytes.now c.requires.kept.lengths
+    ap image_end c.requires.header ∙ whole c.args.bytes.now c.requires.kept.lengths
 
 pub returns-in_err-clone-clause-refused : goal.returns-in_err-clone-clause-refused
 returns-in_err-clone-clause-refused g c =

@@ -1,5 +1,5 @@
 use Rattle.std.proofs.Common.{◌≡◌, ◌∙◌, ap, length, sym}
-use Rattle.filter_codec.specs.Judging.{end_by, header_in, places_by}
+use Rattle.filter_codec.specs.Judging.{header_in, image_end, places_by}
 use Rattle.filter_codec.proofs.Places.{section_0, section_1, section_2, section_3, section_4, section_5, section_6}
 use Rattle.filter_codec.proofs.sections.cut.Goals as goal
 
@@ -23,5 +23,5 @@ returns-clause-louds c = section_5 c.args.bytes.now c.args.places.now (c.require
 
 pub returns-clause-suffixes : goal.returns-clause-suffixes
 returns-clause-suffixes c =
-    let e : end_by (header_in c.args.bytes.now) ≡ length c.args.bytes.now = ap end_by (sym c.requires.header) ∙ c.requires.whole in
+    let e : image_end (header_in c.args.bytes.now) ≡ length c.args.bytes.now = ap image_end (sym c.requires.header) ∙ c.requires.whole in
     section_6 c.args.bytes.now e c.args.places.now (c.requires.places ∙ ap places_by c.requires.header)

@@ -1,5 +1,5 @@
 use Rattle.std.proofs.Common.{◌≡◌, ◌++◌, ◌∙◌, List, OnOk, ap, append_assoc, subst, sym, ℕ}
-use Rattle.bit_words.specs.Packed.{packed}
+use Rattle.bit_model.specs.Packed.{packed}
 use Rattle.filter_codec.specs.Writing.{dense_part, head_of, sparse_part}
 use Rattle.filter_image_model.proofs.ImageWritten.{same_image}
 use Rattle.filter_image_model.specs.Sections.{sections}

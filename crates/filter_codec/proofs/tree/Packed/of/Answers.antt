@@ -1,14 +1,14 @@
 use Rattle.std.proofs.Common.{◌∙◌, ap, arith}
 use Rattle.filter_codec.proofs.Spelled.{dense_by, sparse_by, tree_by, whole}
-use Rattle.filter_codec.specs.Judging.{end_by}
+use Rattle.filter_codec.specs.Judging.{image_end}
 use Rattle.filter_codec.specs.declared.header.Header.{Header}
 use Rattle.filter_codec.proofs.tree.Packed.of.Goals as goal
 
 pub of-requires-clause-whole : goal.of-requires-clause-whole
-of-requires-clause-whole g c = ap end_by c.requires.header ∙ whole c.args.bytes.now c.requires.kept.lengths
+of-requires-clause-whole g c = ap image_end c.requires.header ∙ whole c.args.bytes.now c.requires.kept.lengths
 
 pub of-requires-2-clause-whole : goal.of-requires-2-clause-whole
-of-requires-2-clause-whole g c = ap end_by c.requires.header ∙ whole c.args.bytes.now c.requires.kept.lengths
+of-requires-2-clause-whole g c = ap image_end c.requires.header ∙ whole c.args.bytes.now c.requires.kept.lengths
 
 pub joined-requires-clause-dense : goal.joined-requires-clause-dense
 joined-requires-clause-dense g c =

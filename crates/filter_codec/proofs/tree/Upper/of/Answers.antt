@@ -1,6 +1,6 @@
 use Rattle.std.proofs.Common.{◌∙◌, ap, arith, length, sym}
 use Rattle.filter_codec.proofs.Spelled.{are_long, bits_0, bits_1, bits_2}
-use Rattle.filter_codec.specs.Judging.{end_by}
+use Rattle.filter_codec.specs.Judging.{image_end}
 use Rattle.filter_codec.specs.declared.header.Header.{Header}
 use Rattle.filter_codec.proofs.tree.Upper.of.Goals as goal
 
@@ -9,7 +9,7 @@ overflow_mul-dense g c = omega (arith, c.requires.few)
 
 pub ranked-requires : goal.ranked-requires
 ranked-requires g c =
-    let l = are_long c.args.bytes.now (ap end_by (sym c.requires.header) ∙ c.requires.whole) in
+    let l = are_long c.args.bytes.now (ap image_end (sym c.requires.header) ∙ c.requires.whole) in
     omega (arith, ap (λ (h : Header). h.dense) c.requires.header, ap length c.cut-sections.ensures.dense_labels, l.labels)
 
 pub overflow_mul-dense-2 : goal.overflow_mul-dense-2
@@ -17,12 +17,12 @@ overflow_mul-dense-2 g c = omega (arith, c.requires.few)
 
 pub ranked-requires-2 : goal.ranked-requires-2
 ranked-requires-2 g c =
-    let l = are_long c.args.bytes.now (ap end_by (sym c.requires.header) ∙ c.requires.whole) in
+    let l = are_long c.args.bytes.now (ap image_end (sym c.requires.header) ∙ c.requires.whole) in
     omega (arith, ap (λ (h : Header). h.dense) c.requires.header, ap length c.cut-sections.ensures.dense_children, l.dense_children)
 
 pub ranked-requires-3 : goal.ranked-requires-3
 ranked-requires-3 g c =
-    let l = are_long c.args.bytes.now (ap end_by (sym c.requires.header) ∙ c.requires.whole) in
+    let l = are_long c.args.bytes.now (ap image_end (sym c.requires.header) ∙ c.requires.whole) in
     omega (arith, ap (λ (h : Header). h.dense) c.requires.header, ap length c.cut-sections.ensures.dense_ends, l.ends)
 
 pub returns-clause-labels : goal.returns-clause-labels

@@ -7,11 +7,11 @@ use Rattle.filter_trie.proofs.trie.Trie.byte_at.Goals as goal
 
 pub returns-in-Dense : goal.returns-in-Dense
 returns-in-Dense g c =
-    let s : AreParts c.args.self.now c.self.inside.cutoff c.self.inside.height c.self.inside.dense c.self.inside.sparse c.self.inside.suffixes = rw c.self.view_is at c.self.invariant in
+    let s : AreParts c.args.self.now c.self.inside.cutoff c.self.inside.height c.self.inside.dense c.self.inside.sparse c.self.inside.suffixes = rw c.self.view_is at c.self.invariant.0 in
     let t : dense.IsTaken (upper c.args.self.now.cutoff c.args.self.now.leaves) c.in-Dense.bit = rw c.in-Dense.is at c.requires in
     rw c.in-Dense.is (c.byte_at.ensures ∙ dense_byte_is s c.in-Dense.bit t)
 
 pub returns-in-Sparse : goal.returns-in-Sparse
 returns-in-Sparse g c =
-    let s : AreParts c.args.self.now c.self.inside.cutoff c.self.inside.height c.self.inside.dense c.self.inside.sparse c.self.inside.suffixes = rw c.self.view_is at c.self.invariant in
+    let s : AreParts c.args.self.now c.self.inside.cutoff c.self.inside.height c.self.inside.dense c.self.inside.sparse c.self.inside.suffixes = rw c.self.view_is at c.self.invariant.0 in
     rw c.in-Sparse.is (c.byte_at-in-Sparse.ensures ∙ ap (λ (h : Half). byte_at h c.in-Sparse.place) s.sparse_is ∙ sparse_byte_is s c.in-Sparse.place)

@@ -8,15 +8,15 @@ use Rattle.filter_trie.proofs.trie.Trie.prefix_slot.Goals as goal
 
 pub prefix_slot-requires-else-has_node : goal.prefix_slot-requires-else-has_node
 prefix_slot-requires-else-has_node g c =
-    let s : AreParts c.args.self.now c.self.inside.cutoff c.self.inside.height c.self.inside.dense c.self.inside.sparse c.self.inside.suffixes = rw c.self.view_is at c.self.invariant in
+    let s : AreParts c.args.self.now c.self.inside.cutoff c.self.inside.height c.self.inside.dense c.self.inside.sparse c.self.inside.suffixes = rw c.self.view_is at c.self.invariant.0 in
     rw s.sparse_is (has_node (upper c.args.self.now.cutoff c.args.self.now.leaves) (lower c.args.self.now.cutoff c.args.self.now.leaves) c.args.node (behind s c.args.node c.if-has_node.ensures.has.1) (both s c.args.node c.requires))
 
 pub returns-then-has_node : goal.returns-then-has_node
 returns-then-has_node g c =
-    let s : AreParts c.args.self.now c.self.inside.cutoff c.self.inside.height c.self.inside.dense c.self.inside.sparse c.self.inside.suffixes = rw c.self.view_is at c.self.invariant in
+    let s : AreParts c.args.self.now c.self.inside.cutoff c.self.inside.height c.self.inside.dense c.self.inside.sparse c.self.inside.suffixes = rw c.self.view_is at c.self.invariant.0 in
     c.prefix_slot.ensures ∙ ap (λ ns. dense_end ns c.args.node) s.dense_is ∙ dense_end_is s c.args.node (inside s c.args.node (c.if-has_node.ensures.has.0 refl))
 
 pub returns-else-has_node : goal.returns-else-has_node
 returns-else-has_node g c =
-    let s : AreParts c.args.self.now c.self.inside.cutoff c.self.inside.height c.self.inside.dense c.self.inside.sparse c.self.inside.suffixes = rw c.self.view_is at c.self.invariant in
+    let s : AreParts c.args.self.now c.self.inside.cutoff c.self.inside.height c.self.inside.dense c.self.inside.sparse c.self.inside.suffixes = rw c.self.view_is at c.self.invariant.0 in
     c.prefix_slot-else-has_node.ensures ∙ ap (λ (h : Half). end_slot h c.args.node) s.sparse_is ∙ sparse_end_is s c.args.node (behind s c.args.node c.if-has_node.ensures.has.1)
