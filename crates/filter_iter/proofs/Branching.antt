@@ -1,5 +1,5 @@
 -- The branches of a node in key order, by how many leaves come before them.
-use Rattle.std.proofs.Common.{◌≡◌, ℕ, suc, ◌+◌, ◌<◌, ◌≤◌, Bool, true, false, cond, Option, Some, None, List, [], ◌∷◌, ◌++◌, length, get_or, map, refl, ap, subst, sym, ◌∙◌, arith, inl, inr, nat_lt, le-ltb, lt-ltb}
+use Rattle.std.proofs.Common.{◌≡◌, ℕ, suc, ◌+◌, ◌-◌, ◌<◌, ◌≤◌, Bool, true, false, cond, Option, Some, None, List, [], ◌∷◌, ◌++◌, length, get_or, map, refl, ap, subst, sym, ◌∙◌, arith, inl, inr, nat_lt, le-ltb, lt-ltb}
 use Rattle.std.specs.Option.{option_map}
 use Rattle.std.proofs.lemmas.Bool.{cases_eq, cases_lt, false≢true, ne_eqb}
 use Rattle.filter_image_model.proofs.GroupWords.{From, Group, goes_on}
@@ -10,7 +10,7 @@ use Rattle.filter_iter.proofs.ByNumber.{ahead_more, all_ahead, none_ahead, none_
 use Rattle.filter_iter.proofs.Groups.{start_within}
 use Rattle.filter_iter.proofs.Turns.{first_same, first_whole}
 use Rattle.filter_iter.specs.Between.{LeadsIf}
-use Rattle.filter_iter.specs.Ways.{HasBranch, IsBranchAt, IsEndBranch, IsLeadAt, IsPrevAt, LeadsTo, end_of, leaves_by, leaves_to}
+use Rattle.filter_iter.specs.Ways.{HasBranch, IsBranchAt, IsEndBranch, IsLeadAt, IsPrevAt, LeadGoesTo, branch_of_end, leaves_before_byte, leaves_to}
 use Rattle.filter_iter.specs.declared.parts.Branch.{Branch}
 use Rattle.filter_iter.specs.declared.parts.Lead.{Lead}
 use Rattle.filter_iter.specs.declared.parts.Lead.TheVariants as lead
@@ -24,7 +24,7 @@ use Rattle.filter_trie.proofs.Finding.{branches_lead, searches_find}
 use Rattle.filter_trie.proofs.Starts.{rests_fine, start-push}
 use Rattle.filter_trie.specs.Laws.{FindsAt, IsByteBranch, NoneBetween}
 use Rattle.filter_trie.specs.Walks.{IsSlotAt}
-use Rattle.trie_laws.proofs.Forms.{order-byte}
+use Rattle.trie_laws.proofs.Forms.{order-byte, order_small as order_apart}
 use Rattle.trie_laws.proofs.Places.{at-trie_of, last_letter-push}
 use Rattle.trie_levels.proofs.Totals.{valid_lists_have_tries}
 use Rattle.trie_levels.specs.Tries.{HasTrie}
@@ -97,22 +97,22 @@ module _ (hash_bits real_bits : ℕ) (ls : List Leaf) (valid : IsValid hash_bits
 
   -- ---- what comes before a byte
 
-  pub by_low : (c : ℕ) → c < 256 → leaves_by ls p c ≡ first_leaf ls (p ++ c ∷ [])
+  pub by_low : (c : ℕ) → c < 256 → leaves_before_byte ls p c ≡ first_leaf ls (p ++ c ∷ [])
   by_low c small = ap (λ (b : Bool). cond b (first_leaf ls (p ++ c ∷ [])) (leaves_to ls p)) (lt-ltb c 256 small)
 
-  same_by : (c d : ℕ) → c ≤ d → d ≤ 256 → NoneBetween ls v c d → leaves_by ls p c ≡ leaves_by ls p d
+  same_by : (c d : ℕ) → c ≤ d → d ≤ 256 → NoneBetween ls v c d → leaves_before_byte ls p c ≡ leaves_before_byte ls p d
   same_by c d up small none = elim (cases_lt d 256) [
     | inl less ↦ by_low c (omega (arith, up, less)) ∙ first_same hash_bits real_bits ls valid v c l (omega (arith, up, less)) d up less none ∙ sym (by_low d less)
     | inr more ↦
         let is : d ≡ 256 = omega (arith, small, more) in
         elim (cases_lt c 256) [
-          | inl byte ↦ by_low c byte ∙ first_whole hash_bits real_bits ls valid v c l byte (subst (NoneBetween ls v c) is none) ∙ ap (leaves_by ls p) (sym is)
-          | inr end ↦ let same : c ≡ d = omega (arith, end, up, is) in ap (leaves_by ls p) same
+          | inl byte ↦ by_low c byte ∙ first_whole hash_bits real_bits ls valid v c l byte (subst (NoneBetween ls v c) is none) ∙ ap (leaves_before_byte ls p) (sym is)
+          | inr end ↦ let same : c ≡ d = omega (arith, end, up, is) in ap (leaves_before_byte ls p) same
         ]
   ]
 
   -- not fewer come before a later byte
-  pub by_up : (c d : ℕ) → c ≤ d → d ≤ 256 → leaves_by ls p c ≤ leaves_by ls p d
+  pub by_up : (c d : ℕ) → c ≤ d → d ≤ 256 → leaves_before_byte ls p c ≤ leaves_before_byte ls p d
   by_up c d up small = elim (cases_lt d 256) [
     | inl less ↦
         let low : c < 256 = omega (arith, up, less) in
@@ -120,8 +120,8 @@ module _ (hash_bits real_bits : ℕ) (ls : List Leaf) (valid : IsValid hash_bits
     | inr more ↦
         let is : d ≡ 256 = omega (arith, small, more) in
         elim (cases_lt c 256) [
-          | inl byte ↦ omega (arith, by_low c byte, start-push p c (map path ls), ahead_few c g, ap (leaves_by ls p) is)
-          | inr end ↦ omega (arith, ap (leaves_by ls p) (same_end c d up small end))
+          | inl byte ↦ omega (arith, by_low c byte, start-push p c (map path ls), ahead_few c g, ap (leaves_before_byte ls p) is)
+          | inr end ↦ omega (arith, ap (leaves_before_byte ls p) (same_end c d up small end))
         ]
   ]
     where
@@ -129,10 +129,10 @@ module _ (hash_bits real_bits : ℕ) (ls : List Leaf) (valid : IsValid hash_bits
       same_end c d up small end = omega (arith, up, small, end)
 
   -- behind a letter comes what is behind its leaves
-  pub by_letter : (c : ℕ) → c ≤ 256 → leaves_to ls (p ++ c ∷ []) ≡ leaves_by ls p (order_of c)
+  pub by_letter : (c : ℕ) → c ≤ 256 → leaves_to ls (p ++ c ∷ []) ≡ leaves_before_byte ls p (order_of c)
   by_letter c small = elim (cases_eq c 256) [
     | inl end ↦
-        subst (λ (x : ℕ). leaves_to ls (p ++ x ∷ []) ≡ leaves_by ls p (order_of x)) (sym end)
+        subst (λ (x : ℕ). leaves_to ls (p ++ x ∷ []) ≡ leaves_before_byte ls p (order_of x)) (sym end)
         (omega (arith, start-push p END (map path ls), start-push p 0 (map path ls), below_is END, ahead_more END 0 g refl filled))
     | inr apart ↦
         let byte : c < 256 = omega (arith, small, apart) in
@@ -141,12 +141,12 @@ module _ (hash_bits real_bits : ℕ) (ls : List Leaf) (valid : IsValid hash_bits
           | inl less ↦
               let more = ahead_more c (c + 1) g (order-byte (c + 1) (omega (arith, less)) ∙ next (order-byte c byte)) filled in
               let sum : leaves_to ls (p ++ c ∷ []) ≡ first_leaf ls (p ++ (c + 1) ∷ []) = omega (arith, start-push p c (map path ls), start-push p (c + 1) (map path ls), below_is c, more) in
-              sum ∙ sym (by_low (c + 1) (omega (arith, less))) ∙ ap (leaves_by ls p) (sym order)
+              sum ∙ sym (by_low (c + 1) (omega (arith, less))) ∙ ap (leaves_before_byte ls p) (sym order)
           | inr last ↦
               let is : c ≡ 255 = omega (arith, byte, last) in
               let sum : leaves_to ls (p ++ c ∷ []) ≡ leaves_to ls p = omega (arith, start-push p c (map path ls), below_is c, all_ahead g filled fine.small, ap (λ (x : ℕ). ahead x g) is, ap (λ (x : ℕ). length (tails x g)) is) in
               let top : 256 ≡ order_of c = omega (arith, order, is) in
-              sum ∙ ap (leaves_by ls p) top
+              sum ∙ ap (leaves_before_byte ls p) top
         ]
   ]
     where
@@ -164,7 +164,7 @@ module _ (hash_bits real_bits : ℕ) (ls : List Leaf) (valid : IsValid hash_bits
       let letter : (at ns m).0 ≡ d = ap (λ (x : NodeBranch). x.0) (at-trie_of ls m f.place.within) ∙ ap last_letter f.place.is ∙ last_letter-push p d in
       ap label_of letter ∙ ap (λ (t : Bool). cond t 255 d) (ne_eqb d 256 (λ x. omega (arith, x, f.byte)))
 
-  lead_at : (d m : ℕ) → IsByteBranch ls v d m → (x : Lead) → IsLeadAt h m x → LeadsTo ls (p ++ d ∷ []) x
+  lead_at : (d m : ℕ) → IsByteBranch ls v d m → (x : Lead) → IsLeadAt h m x → LeadGoesTo ls (p ++ d ∷ []) x
   lead_at d m f (lead.Node w) e = (branches_lead ls m (p ++ d ∷ []) has f.place).child w e
   lead_at d m f (lead.Leaf s) e = subst (λ (k : ℕ). IsSlotAt ls k (p ++ d ∷ [])) (sym e.1) ((branches_lead ls m (p ++ d ∷ []) has f.place).leaf e.0)
 
@@ -182,9 +182,9 @@ module _ (hash_bits real_bits : ℕ) (ls : List Leaf) (valid : IsValid hash_bits
   at_branch : (d m : ℕ) → IsByteBranch ls v d m → (b : Branch) → IsBranchAt h m b → HasBranch ls p b
   at_branch d m f b is =
       let letter = letter_is d m f b is in
-      record { letter = omega (arith, letter, f.byte); leads = subst (λ (c : ℕ). LeadsTo ls (p ++ c ∷ []) b.lead) (sym letter) (lead_at d m f b.lead is.leads) }
+      record { letter = omega (arith, letter, f.byte); leads = subst (λ (c : ℕ). LeadGoesTo ls (p ++ c ∷ []) b.lead) (sym letter) (lead_at d m f b.lead is.leads) }
 
-  pub next_some : (c m : ℕ) → c ≤ 256 → Some m ≡ next_place h v c → (b : Branch) → IsBranchAt h m b → HasBranch ls p b × (b.letter < END) × (first_leaf ls (p ++ b.letter ∷ []) ≡ leaves_by ls p c)
+  pub next_some : (c m : ℕ) → c ≤ 256 → Some m ≡ next_place h v c → (b : Branch) → IsBranchAt h m b → HasBranch ls p b × (b.letter < END) × (first_leaf ls (p ++ b.letter ∷ []) ≡ leaves_before_byte ls p c)
   next_some c m small e b is =
       let f = finds.next c m e in (
         at_branch f.0 m f.2 b is,
@@ -192,39 +192,39 @@ module _ (hash_bits real_bits : ℕ) (ls : List Leaf) (valid : IsValid hash_bits
         ap (λ (x : ℕ). first_leaf ls (p ++ x ∷ [])) (letter_is f.0 m f.2 b is) ∙ sym (by_low f.0 f.2.byte) ∙ sym (same_by c f.0 f.1 (omega (arith, f.2.byte)) f.3),
       )
 
-  pub next_none : (c : ℕ) → c ≤ 256 → None ≡ next_place h v c → leaves_to ls p ≡ leaves_by ls p c
+  pub next_none : (c : ℕ) → c ≤ 256 → None ≡ next_place h v c → leaves_to ls p ≡ leaves_before_byte ls p c
   next_none c small e = sym (same_by c 256 small (omega arith) (finds.no_next c e))
 
-  pub prev_some : (c m : ℕ) → c ≤ 256 → Some m ≡ prev_place h v c → (b : Branch) → IsBranchAt h m b → HasBranch ls p b × (leaves_to ls (p ++ b.letter ∷ []) ≡ leaves_by ls p c)
+  pub prev_some : (c m : ℕ) → c ≤ 256 → Some m ≡ prev_place h v c → (b : Branch) → IsBranchAt h m b → HasBranch ls p b × (leaves_to ls (p ++ b.letter ∷ []) ≡ leaves_before_byte ls p c)
   prev_some c m small e b is =
       let f = finds.prev c m small e in
       let order : order_of f.0 ≡ f.0 + 1 = omega (arith, order-byte f.0 f.2.byte) in (
         at_branch f.0 m f.2 b is,
-        ap (λ (x : ℕ). leaves_to ls (p ++ x ∷ [])) (letter_is f.0 m f.2 b is) ∙ by_letter f.0 (omega (arith, f.2.byte)) ∙ ap (leaves_by ls p) order ∙ same_by (f.0 + 1) c (omega (arith, f.1)) small f.3,
+        ap (λ (x : ℕ). leaves_to ls (p ++ x ∷ [])) (letter_is f.0 m f.2 b is) ∙ by_letter f.0 (omega (arith, f.2.byte)) ∙ ap (leaves_before_byte ls p) order ∙ same_by (f.0 + 1) c (omega (arith, f.1)) small f.3,
       )
 
   -- ---- END
 
-  pub by_nought : leaves_to ls (p ++ END ∷ []) ≡ leaves_by ls p 0
+  pub by_nought : leaves_to ls (p ++ END ∷ []) ≡ leaves_before_byte ls p 0
   by_nought = by_letter END (omega arith)
 
   ended : (b : Branch) → IsEndBranch h v (Some b) → (b.letter ≡ END) × HasBranch ls p b
   ended b is = go (end_slot h v) refl is
     where
-      go : (o : Option ℕ) → end_slot h v ≡ o → option_map end_of o ≡ Some b → (b.letter ≡ END) × HasBranch ls p b
+      go : (o : Option ℕ) → end_slot h v ≡ o → option_map branch_of_end o ≡ Some b → (b.letter ≡ END) × HasBranch ls p b
       go None e x = absurd (cc)
       go (Some s) e x =
-          let b_is : end_of s ≡ b = cc in
+          let b_is : branch_of_end s ≡ b = cc in
           subst (λ (k : Branch). (k.letter ≡ END) × HasBranch ls p k) b_is (refl, record { letter = omega arith; leads = finds.end s (sym e) })
 
   not_ended : IsEndBranch h v None → leaves_below ls (p ++ END ∷ []) ≡ 0
   not_ended is = go (end_slot h v) refl is
     where
-      go : (o : Option ℕ) → end_slot h v ≡ o → option_map end_of o ≡ None → leaves_below ls (p ++ END ∷ []) ≡ 0
+      go : (o : Option ℕ) → end_slot h v ≡ o → option_map branch_of_end o ≡ None → leaves_below ls (p ++ END ∷ []) ≡ 0
       go None e x = none_below ls (p ++ END ∷ []) (finds.no_end (sym e))
       go (Some s) e x = absurd (cc)
 
-  pub prev_end : (c : ℕ) → c ≤ 256 → None ≡ prev_place h v c → (found : Option Branch) → IsEndBranch h v found → IsPrevAt ls p (leaves_by ls p c) found
+  pub prev_end : (c : ℕ) → c ≤ 256 → None ≡ prev_place h v c → (found : Option Branch) → IsEndBranch h v found → IsPrevAt ls p (leaves_before_byte ls p c) found
   prev_end c small e None is = omega (arith, first_end, by_nought, not_ended is, same_by 0 c (omega arith) small (finds.no_prev c small e))
   prev_end c small e (Some b) is =
       let a = ended b is in
@@ -233,8 +233,30 @@ module _ (hash_bits real_bits : ℕ) (ls : List Leaf) (valid : IsValid hash_bits
   pub end_first : (b : Branch) → IsEndBranch h v (Some b) → HasBranch ls p b × (first_leaf ls (p ++ b.letter ∷ []) ≡ first_leaf ls p)
   end_first b is = let a = ended b is in (a.1, ap (λ (x : ℕ). first_leaf ls (p ++ x ∷ [])) a.0 ∙ first_end)
 
-  pub nought_first : IsEndBranch h v None → leaves_by ls p 0 ≡ first_leaf ls p
+  pub nought_first : IsEndBranch h v None → leaves_before_byte ls p 0 ≡ first_leaf ls p
   nought_first is = omega (arith, first_end, by_nought, not_ended is)
 
   pub not_empty : leaves_to ls p ≡ first_leaf ls p → ⊥
   not_empty e = omega (arith, e, some_below)
+
+  -- ---- a leaf below the node goes on by a byte from its first branch to its last, or ends
+
+  pub within_branches : (first last n : ℕ) → first ≤ 256 → last ≤ 256 → first_leaf ls (p ++ first ∷ []) ≡ first_leaf ls p → leaves_to ls (p ++ last ∷ []) ≡ leaves_to ls p → first_leaf ls p ≤ n → n < leaves_to ls p
+      → (order_of first ≤ order_of last) × (order_of last ≤ 256) × (0 < order_of first → first_leaf ls (p ++ (order_of first - 1) ∷ []) ≤ n) × (order_of last < 256 → n < first_leaf ls (p ++ order_of last ∷ []))
+  within_branches first last n small_first small_last starts ends from to = (
+    elim (cases_lt (order_of last) (order_of first)) [
+      | inl less ↦
+          let o = order_apart first small_first (omega (arith, less)) in
+          absurd (omega (arith, high, by_up (order_of last) first (omega (arith, less, o.1)) small_first, by_low first o.0, starts, from))
+      | inr more ↦ more
+    ],
+    order_small last small_last,
+    (λ some.
+        let o = order_apart first small_first some in
+        let e : order_of first - 1 ≡ first = omega (arith, o.1) in
+        omega (arith, ap (λ (x : ℕ). first_leaf ls (p ++ x ∷ [])) e, starts, from)),
+    (λ byte. omega (arith, high, by_low (order_of last) byte)),
+  )
+    where
+      high : n < leaves_before_byte ls p (order_of last)
+      high = omega (arith, to, ends, by_letter last small_last)

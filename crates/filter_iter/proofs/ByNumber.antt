@@ -1,11 +1,11 @@
 -- Down to the leaf of a number.
-use Rattle.std.proofs.Common.{◌≡◌, ℕ, suc, ◌+◌, ◌-◌, ◌<◌, ◌≤◌, Bool, true, false, cond, Some, None, List, [], ◌∷◌, ◌++◌, length, get_or, map, refl, ap, sym, ◌∙◌, arith, inl, inr, eqb, nat_lt, le-ltb, lt-ltb}
+use Rattle.std.proofs.Common.{◌≡◌, ℕ, suc, ◌+◌, ◌<◌, ◌≤◌, Bool, true, false, cond, Some, None, List, [], ◌∷◌, ◌++◌, length, get_or, map, refl, ap, sym, ◌∙◌, arith, inl, inr, eqb, nat_lt, le-ltb, lt-ltb}
 use Rattle.std.proofs.lemmas.Bool.{cases_eq, cases_lt, cases_order, eq-eqb, eqb-true, ne_eqb, true≢false}
 use Rattle.filter_image_model.proofs.GroupWords.{From, Group, is_cons}
 use Rattle.filter_image_model.proofs.Link.{node-rests, reached-rests, rests-push}
 use Rattle.filter_image_model.proofs.Paths.{IsFine, Small, fine_paths, no_empty}
 use Rattle.filter_image_model.proofs.Sizes.{some_height}
-use Rattle.filter_iter.specs.Numbers.{IsBelow}
+use Rattle.filter_iter.specs.Numbers.{IsLeafBelow}
 use Rattle.filter_model.specs.Leaves.{Leaf}
 use Rattle.filter_model.specs.Nodes.{trie_of}
 use Rattle.filter_model.specs.Trie.{END, height, is_reached, nodes, path}
@@ -108,14 +108,14 @@ module _ (hash_bits real_bits : ℕ) (ls : List Leaf) (valid : IsValid hash_bits
   high = some_height hash_bits real_bits ls valid
 
   -- the path of a slot is that of its one leaf
-  pub one_leaf : (s n : ℕ) (q : List ℕ) → IsSlotAt ls s q → IsBelow ls q n → get_or (map path ls) n [] ≡ q
+  pub one_leaf : (s n : ℕ) (q : List ℕ) → IsSlotAt ls s q → IsLeafBelow ls q n → get_or (map path ls) n [] ≡ q
   one_leaf s n q a b =
       let one = slots_are_leaves hash_bits real_bits ls s valid a.within in
       let count : leaves_below ls q ≡ 1 = ap (leaves_below ls) (sym a.is) ∙ one.count in
       let number : n ≡ first_leaf ls q = omega (arith, count, b.0, b.1) in
       ap (λ (k : ℕ). get_or (map path ls) k []) (number ∙ ap (first_leaf ls) (sym a.is)) ∙ one.path_is ∙ a.is
 
-  module _ (v n : ℕ) (l : v < length (nodes ls)) (below : IsBelow ls (get_or (nodes ls) v []) n) where
+  module _ (v n : ℕ) (l : v < length (nodes ls)) (below : IsLeafBelow ls (get_or (nodes ls) v []) n) where
     abbrev p : List ℕ
     p = get_or (nodes ls) v []
 
@@ -132,7 +132,7 @@ module _ (hash_bits real_bits : ℕ) (ls : List Leaf) (valid : IsValid hash_bits
     below_is c = ap (λ (h : Group). length h) (rests-push p c (map path ls))
 
     -- by the last byte
-    pub by_byte : (byte : ℕ) → byte < 256 → first_leaf ls (p ++ byte ∷ []) ≤ n → (byte < 255 → n < first_leaf ls (p ++ (byte + 1) ∷ [])) → IsBelow ls (p ++ byte ∷ []) n
+    pub by_byte : (byte : ℕ) → byte < 256 → first_leaf ls (p ++ byte ∷ []) ≤ n → (byte < 255 → n < first_leaf ls (p ++ (byte + 1) ∷ [])) → IsLeafBelow ls (p ++ byte ∷ []) n
     by_byte byte small from to = (
       from,
       elim (cases_lt byte 255) [
@@ -155,7 +155,7 @@ module _ (hash_bits real_bits : ℕ) (ls : List Leaf) (valid : IsValid hash_bits
         next e = omega (arith, e)
 
     -- or by END
-    pub by_end : n < first_leaf ls (p ++ 0 ∷ []) → IsBelow ls (p ++ END ∷ []) n
+    pub by_end : n < first_leaf ls (p ++ 0 ∷ []) → IsLeafBelow ls (p ++ END ∷ []) n
     by_end to =
         let first = start-push p END (map path ls) in (
           omega (arith, below.0, first, none_ahead g),
@@ -170,10 +170,10 @@ module _ (hash_bits real_bits : ℕ) (ls : List Leaf) (valid : IsValid hash_bits
         let b = by_end to in
         omega (arith, b.0, b.1, none_below ls (p ++ END ∷ []) ((searches_find ls v has l).no_end e))
 
-    pub has_branch : (c : ℕ) → IsBelow ls (p ++ c ∷ []) n → is_reached ls (p ++ c ∷ []) ≡ false → ⊥
+    pub has_branch : (c : ℕ) → IsLeafBelow ls (p ++ c ∷ []) n → is_reached ls (p ++ c ∷ []) ≡ false → ⊥
     has_branch c b off = omega (arith, b.0, b.1, none_below ls (p ++ c ∷ []) off)
 
 -- the same, as one fact of the byte that was found
-pub by_last : (hash_bits real_bits : ℕ) (ls : List Leaf) (valid : IsValid hash_bits real_bits ls) (v n : ℕ) (l : v < length (nodes ls)) (below : IsBelow ls (get_or (nodes ls) v []) n) (byte : ℕ)
-    → (byte < 256) × (first_leaf ls (get_or (nodes ls) v [] ++ byte ∷ []) ≤ n) × (byte < 255 → n < first_leaf ls (get_or (nodes ls) v [] ++ (byte + 1) ∷ [])) → IsBelow ls (get_or (nodes ls) v [] ++ byte ∷ []) n
+pub by_last : (hash_bits real_bits : ℕ) (ls : List Leaf) (valid : IsValid hash_bits real_bits ls) (v n : ℕ) (l : v < length (nodes ls)) (below : IsLeafBelow ls (get_or (nodes ls) v []) n) (byte : ℕ)
+    → (byte < 256) × (first_leaf ls (get_or (nodes ls) v [] ++ byte ∷ []) ≤ n) × (byte < 255 → n < first_leaf ls (get_or (nodes ls) v [] ++ (byte + 1) ∷ [])) → IsLeafBelow ls (get_or (nodes ls) v [] ++ byte ∷ []) n
 by_last hash_bits real_bits ls valid v n l below byte h = by_byte hash_bits real_bits ls valid v n l below byte h.0 h.1 h.2

@@ -10,7 +10,7 @@ use Rattle.filter_image_model.proofs.Sizes.{low_height}
 use Rattle.filter_iter.proofs.MetLeaves.{own_suffix}
 use Rattle.filter_iter.proofs.WayLists.{length-letters}
 use Rattle.filter_iter.specs.Borders.{real_at}
-use Rattle.filter_iter.specs.Ways.{IsWayTo, letters_of, stub_in}
+use Rattle.filter_iter.specs.Ways.{IsWayTo, letters_of, bytes_of_way}
 use Rattle.filter_iter.specs.declared.parts.Pass.{Pass}
 use Rattle.filter_model.proofs.Fronts.{IsBytes-tail}
 use Rattle.filter_model.specs.Answers.{begins}
@@ -43,7 +43,7 @@ module _ (hash_bits n : ℕ) (ls : List Leaf) (valid : IsValid hash_bits n ls) (
   own_path : path leaf ≡ letters_of way
   own_path = sym (get_or-map path ls i any_leaf [] to.within) ∙ to.path_is
 
-  stub_is : stub_in way ≡ leaf.stub
+  stub_is : bytes_of_way way ≡ leaf.stub
   unfolding path
   stub_is =
       ap (filter (λ c. nat_lt c 256)) (sym own_path) ∙ filter-append (λ c. nat_lt c 256) leaf.stub (cond leaf.ends (END ∷ []) []) ∙ (λ j. bytes_all leaf.stub is_leaf.stub.bytes j ++ end_none leaf.ends j)
@@ -63,10 +63,10 @@ module _ (hash_bits n : ℕ) (ls : List Leaf) (valid : IsValid hash_bits n ls) (
   at_leaf : (P : Leaf → Type 0) → P leaf → IfSome (slice_get ls i) P
   at_leaf P a = subst (λ (o : Option Leaf). IfSome o P) (sym (slice_get-get_or ls i any_leaf to.within)) a
 
-  pub own_stub : (x rest : List ℕ) → x ≡ stub_in way ++ rest → IfSome (slice_get ls i) (λ o. x ≡ o.stub ++ rest)
+  pub own_stub : (x rest : List ℕ) → x ≡ bytes_of_way way ++ rest → IfSome (slice_get ls i) (λ o. x ≡ o.stub ++ rest)
   own_stub x rest e = at_leaf (λ o. x ≡ o.stub ++ rest) (e ∙ ap (λ (s : List ℕ). s ++ rest) stub_is)
 
-  pub own_count : (k : ℕ) → k ≡ length (stub_in way) → IfSome (slice_get ls i) (λ o. k ≡ length o.stub)
+  pub own_count : (k : ℕ) → k ≡ length (bytes_of_way way) → IfSome (slice_get ls i) (λ o. k ≡ length o.stub)
   own_count k e = at_leaf (λ o. k ≡ length o.stub) (e ∙ ap (λ (s : List ℕ). length s) stub_is)
 
   -- a leaf that ends has no real bits
@@ -78,6 +78,6 @@ module _ (hash_bits n : ℕ) (ls : List Leaf) (valid : IsValid hash_bits n ls) (
       nothing k = omega arith
   tail_is false e = cond-false leaf.ends [] (shortest 4 (leaf.real * 2 ^ (32 - n))) e
 
-  pub least_is : (x : List ℕ) → x ≡ stub_in way ++ shortest 4 (real_at ls slot * 2 ^ (32 - n)) → IfSome (slice_get ls i) (λ o. x ≡ begins n o)
+  pub least_is : (x : List ℕ) → x ≡ bytes_of_way way ++ shortest 4 (real_at ls slot * 2 ^ (32 - n)) → IfSome (slice_get ls i) (λ o. x ≡ begins n o)
   least_is x e =
       at_leaf (λ o. x ≡ begins n o) (e ∙ (λ j. stub_is j ++ shortest 4 (real_is j * 2 ^ (32 - n))) ∙ ap (λ (t : List ℕ). leaf.stub ++ t) (sym (tail_is leaf.ends refl)))

@@ -5,10 +5,12 @@ mod Counts
 mod Starts
 mod Steps
 mod Turns
-mod MetLeaves
+pub mod MetLeaves
 mod Bounds
 mod ByNumber
 mod Branching
+mod Siblings
+mod NextNodes
 mod WayLists
 mod WayBytes
 mod LeastStrings

@@ -12,7 +12,7 @@ use Rattle.filter_iter.proofs.Sides.{both_ones, end_none, end_past, end_some, me
 use Rattle.filter_iter.specs.Between.{LeadsAlong, TellsFrom, TellsTo}
 use Rattle.filter_iter.specs.Borders.{reached_begun, reached_past}
 use Rattle.filter_iter.specs.Cuts.{FirstPass, has_begun}
-use Rattle.filter_iter.specs.Ways.{leaves_by, leaves_to}
+use Rattle.filter_iter.specs.Ways.{leaves_before_byte, leaves_to}
 use Rattle.filter_iter.specs.declared.parts.Lead.TheVariants as lead
 use Rattle.filter_iter.specs.declared.parts.Reached.{Reached}
 use Rattle.filter_model.specs.Answers.{is_past, ranged}
@@ -119,7 +119,7 @@ module _ (hash_bits n : ℕ) (ls : List Leaf) (valid : IsValid hash_bits n ls) (
           let low : first_leaf ls (p ++ from ∷ []) ≤ k = omega (arith, past_low hash_bits n ls valid nh lo wl k f, taken_up ls (d + 1) lo, ap (first_leaf ls) (next_of lo from refl l e)) in
           let most : u ≤ leaves_to ls (p ++ to ∷ []) = omega (arith, begun_high hash_bits n ls valid nh hi wh v d (subst (IsNodeAt ls v) same a) m u g, ap (leaves_to ls) (next_of hi to (sym same) m h)) in
           let up = by_up hash_bits n ls valid v a.within (to + 1) from (omega (arith, less)) (omega (arith, from_byte)) in
-          let here = by_letter hash_bits n ls valid v a.within to (omega (arith, to_byte)) ∙ ap (leaves_by ls p) order_to in
+          let here = by_letter hash_bits n ls valid v a.within to (omega (arith, to_byte)) ∙ ap (leaves_before_byte ls p) order_to in
           sym (le-ltb k u (omega (arith, low, most, up, here, by_low hash_bits n ls valid v a.within from from_byte))))
 
       -- a leaf between

@@ -13,7 +13,7 @@ use Rattle.filter_iter.proofs.MetLeaves.{none_begun, none_past, some_begun, some
 use Rattle.filter_iter.specs.Between.{LeadsAlong, LeadsIf, TellsFrom, TellsTo}
 use Rattle.filter_iter.specs.Borders.{reached_begun, reached_past, reached_path}
 use Rattle.filter_iter.specs.Cuts.{FirstPass, has_begun}
-use Rattle.filter_iter.specs.Ways.{HasBranch, IsNextAt, LeadsTo, leaves_by, leaves_to}
+use Rattle.filter_iter.specs.Ways.{HasBranch, IsNextAt, LeadGoesTo, leaves_before_byte, leaves_to}
 use Rattle.filter_iter.specs.declared.parts.Branch.{Branch}
 use Rattle.filter_iter.specs.declared.parts.Lead.{Lead}
 use Rattle.filter_iter.specs.declared.parts.Lead.TheVariants as lead
@@ -57,7 +57,7 @@ at_most false = omega arith
 plus_none : (m : ℕ) → m + 0 ≡ m
 plus_none m = omega arith
 
-pub some_lead : (ls : List Leaf) (q : List ℕ) (l : Lead) → LeadsTo ls q l → LeadsIf ls q (Some l)
+pub some_lead : (ls : List Leaf) (q : List ℕ) (l : Lead) → LeadGoesTo ls q l → LeadsIf ls q (Some l)
 some_lead ls q (lead.Node v) a = a
 some_lead ls q (lead.Leaf s) a = a
 
@@ -74,7 +74,7 @@ module _ (hash_bits n : ℕ) (ls : List Leaf) (valid : IsValid hash_bits n ls) (
   pub slot_one : (s : ℕ) (q : List ℕ) → IsSlotAt ls s q → leaves_below ls q ≡ 1
   slot_one s q a = ap (leaves_below ls) (sym a.is) ∙ (slots_are_leaves hash_bits n ls s valid a.within).count
 
-  pub lead_some : (q : List ℕ) (l : Lead) → LeadsTo ls q l → 0 < leaves_below ls q
+  pub lead_some : (q : List ℕ) (l : Lead) → LeadGoesTo ls q l → 0 < leaves_below ls q
   lead_some q (lead.Node v) a = node_some v q a
   lead_some q (lead.Leaf s) a = omega (arith, slot_one s q a)
 
@@ -84,8 +84,8 @@ module _ (hash_bits n : ℕ) (ls : List Leaf) (valid : IsValid hash_bits n ls) (
     abbrev u : List ℕ
     u = get_or (nodes ls) v []
 
-    behind_from : leaves_to ls (u ++ from ∷ []) ≡ leaves_by ls u (from + 1)
-    behind_from = by_letter hash_bits n ls valid v l from (omega (arith, less, byte)) ∙ ap (leaves_by ls u) (order from (omega (arith, less, byte)))
+    behind_from : leaves_to ls (u ++ from ∷ []) ≡ leaves_before_byte ls u (from + 1)
+    behind_from = by_letter hash_bits n ls valid v l from (omega (arith, less, byte)) ∙ ap (leaves_before_byte ls u) (order from (omega (arith, less, byte)))
       where
         order : (c : ℕ) → c < 256 → order_of c ≡ c + 1
         order c b = omega (arith, order-byte c b)
@@ -95,7 +95,7 @@ module _ (hash_bits n : ℕ) (ls : List Leaf) (valid : IsValid hash_bits n ls) (
 
     pub between_none : leaves_to ls u ≡ leaves_to ls (u ++ from ∷ []) → leaves_to ls (u ++ from ∷ []) ≡ first_leaf ls (u ++ to ∷ [])
     between_none none =
-        let top : leaves_by ls u to ≤ leaves_to ls u = by_up hash_bits n ls valid v l to 256 (omega (arith, byte)) (omega arith) in
+        let top : leaves_before_byte ls u to ≤ leaves_to ls u = by_up hash_bits n ls valid v l to 256 (omega (arith, byte)) (omega arith) in
         omega (arith, none, top, between_order, by_low hash_bits n ls valid v l to byte)
 
     pub none_is : leaves_to ls u ≡ leaves_to ls (u ++ from ∷ []) → false ≡ nat_lt (leaves_to ls (u ++ from ∷ [])) (first_leaf ls (u ++ to ∷ []))
@@ -105,7 +105,7 @@ module _ (hash_bits n : ℕ) (ls : List Leaf) (valid : IsValid hash_bits n ls) (
       pub between_some : b.letter < to → leaves_to ls (u ++ from ∷ []) < first_leaf ls (u ++ to ∷ [])
       between_some below =
           let order : order_of b.letter ≡ b.letter + 1 = omega (arith, order-byte b.letter small) in
-          let here = by_letter hash_bits n ls valid v l b.letter has_b.letter ∙ ap (leaves_by ls u) order in
+          let here = by_letter hash_bits n ls valid v l b.letter has_b.letter ∙ ap (leaves_before_byte ls u) order in
           let up = by_up hash_bits n ls valid v l (b.letter + 1) to (omega (arith, below)) (omega (arith, byte)) in
           omega (arith, next, lead_some (u ++ b.letter ∷ []) b.lead has_b.leads, here, up, by_low hash_bits n ls valid v l to byte)
 
@@ -253,7 +253,7 @@ module _ (hash_bits n : ℕ) (ls : List Leaf) (valid : IsValid hash_bits n ls) (
           let order : order_of c ≡ c + 1 = omega (arith, order-byte c byte) in
           let up = by_up hash_bits n ls valid v a.within (c + 1) b.letter (omega (arith, more)) (omega (arith, small)) in
           let by_b = by_low hash_bits n ls valid v a.within b.letter small in
-          let most : leaves_to ls (p ++ c ∷ []) ≤ first_leaf ls p = omega (arith, here, ap (leaves_by ls p) order, up, by_b, first) in
+          let most : leaves_to ls (p ++ c ∷ []) ≤ first_leaf ls p = omega (arith, here, ap (leaves_before_byte ls p) order, up, by_b, first) in
           let least : first_leaf ls p ≤ first_leaf ls (p ++ c ∷ []) = first_up ls p (c ∷ []) in
           let off : is_reached ls (p ++ c ∷ []) ≡ false = none_reached ls (p ++ c ∷ []) (omega (arith, most, least)) in
           let nowhere = along v d c a l e None off in

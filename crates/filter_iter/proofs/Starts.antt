@@ -9,7 +9,6 @@ use native.Mathlib.Nat.{mul-le-mul_right}
 use Rattle.filter_image_model.proofs.Paths.{fine_paths, trie_flat}
 use Rattle.filter_image_model.proofs.Sizes.{few_nodes, low_height, total_of}
 use Rattle.filter_iter.proofs.Counts.{behind_first, leaves-trie_of}
-use Rattle.filter_iter.specs.Counts.{below_first}
 use Rattle.filter_model.specs.Leaves.{Leaf}
 use Rattle.filter_model.specs.Nodes.{Branch, Node, all, children_before, first_place, leaves_before, trie_of}
 use Rattle.filter_model.specs.Trie.{branches, height, is_node, level, nodes, nodes_to, path, places, slots}
@@ -19,7 +18,7 @@ use Rattle.louds_dense.proofs.Ranks.{node_within}
 use Rattle.trie_laws.proofs.Places.{children-trie_of, first-trie_of, length-all, length-trie_of}
 use Rattle.trie_laws.proofs.Slots.{leaves_have_slots}
 use Rattle.trie_levels.specs.Tries.{HasTrie}
-use Rattle.trie_model.specs.Halves.{begin_of, first_below, slot_at, whole}
+use Rattle.trie_model.specs.Halves.{begin_of, first_below, whole}
 use Rattle.trie_model.specs.Rests.{leaves_below}
 
 -- ---- more of a list
@@ -27,14 +26,8 @@ use Rattle.trie_model.specs.Rests.{leaves_below}
 pub sum_up : {X : Type 0} (f : X → ℕ) (xs : List X) (i j : ℕ) → i ≤ j → sum_by f (take i xs) ≤ sum_by f (take j xs)
 sum_up f xs i j l = omega (arith, sum_by-take-le f (take j xs) i, ap (sum_by f) (take-take i j xs l))
 
-pub more_below : (ls : List Leaf) (v w : ℕ) → v ≤ w → below_first ls v ≤ below_first ls w
-more_below ls v w l = sum_up (leaves_below ls) (nodes ls) v w l
-
 pub more_behind : (ls : List Leaf) (p q : ℕ) → p ≤ q → behind_first ls p ≤ behind_first ls q
 more_behind ls p q l = sum_up (leaves_below ls) (places ls) p q l
-
-pub more_leaves : (ns : List Node) (p q : ℕ) → p ≤ q → leaves_before ns p ≤ leaves_before ns q
-more_leaves ns p q l = sum_up (λ (b : Branch). cond (not b.1) 1 0) (all ns) p q l
 
 pub more_children : (ns : List Node) (p q : ℕ) → p ≤ q → children_before ns p ≤ children_before ns q
 more_children ns p q l = sum_up (λ (b : Branch). cond b.1 1 0) (all ns) p q l
@@ -107,20 +100,6 @@ begins ns v = ap (first_place ns) (zero_less v)
 
 pub place_within : (ls : List Leaf) (v : ℕ) → v ≤ length (nodes ls) → first_place (trie_of ls) v ≤ length (places ls)
 place_within ls v l = omega (arith, node_within (trie_of ls) v (omega (arith, l, length-trie_of ls)), length-all ls)
-
--- no more leaves stand before a node than before a later one
-pub slots_up : (ls : List Leaf) (v w : ℕ) → v ≤ w → w ≤ length (nodes ls) → slot_at (whole (trie_of ls)) (begin_of (whole (trie_of ls)) v) ≤ slot_at (whole (trie_of ls)) (begin_of (whole (trie_of ls)) w)
-slots_up ls v w l m =
-    let ns = trie_of ls in
-    omega (
-      arith,
-      more_leaves ns (first_place ns v) (first_place ns w) (more_places ns v w l (omega (arith, m, length-trie_of ls))),
-      ap (leaves_before ns) (begins ns v),
-      ap (leaves_before ns) (begins ns w),
-    )
-
-pub slots_to : (ls : List Leaf) (v p : ℕ) → first_place (trie_of ls) v ≤ p → slot_at (whole (trie_of ls)) (begin_of (whole (trie_of ls)) v) ≤ slot_at (whole (trie_of ls)) p
-slots_to ls v p l = let ns = trie_of ls in omega (arith, more_leaves ns (first_place ns v) p l, ap (leaves_before ns) (begins ns v))
 
 -- a node's number is small
 pub node_fits : (hash_bits real_bits : ℕ) (ls : List Leaf) → IsValid hash_bits real_bits ls → length (nodes ls) < 2 ^ 63

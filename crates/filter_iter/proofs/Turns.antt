@@ -1,5 +1,5 @@
 -- Down by a byte of a bound.
-use Rattle.std.proofs.Common.{◌≡◌, ℕ, suc, ◌+◌, ◌-◌, ◌<◌, ◌≤◌, Bool, true, false, cond, Option, Some, None, List, [], ◌∷◌, ◌++◌, length, get_or, map, refl, ap, subst, sym, ◌∙◌, arith, inl, inr, eqb, nat_lt, le-ltb, lt-ltb}
+use Rattle.std.proofs.Common.{◌≡◌, ℕ, suc, ◌+◌, ◌-◌, ◌*◌, ◌<◌, ◌≤◌, Bool, true, false, cond, Option, Some, None, List, [], ◌∷◌, ◌++◌, length, get_or, map, refl, ap, subst, sym, ◌∙◌, arith, inl, inr, eqb, nat_lt, le-ltb, lt-ltb}
 use Rattle.std.specs.List.{AllByRecursion}
 use Rattle.std.specs.Option.{option_map}
 use Rattle.std.proofs.lemmas.Bool.{cases_eq, cases_lt, eqb-true, false≢true, ne_eqb, or_cases}
@@ -10,8 +10,8 @@ use Rattle.filter_image_model.proofs.Sizes.{some_height}
 use Rattle.filter_image_model.proofs.Sorted.{HeadsIn}
 use Rattle.filter_image_model.proofs.Unique.{IsOwn}
 use Rattle.filter_iter.proofs.Counts.{by_nodes, by_place, more_nodes}
-use Rattle.filter_iter.proofs.Starts.{begins, more_below, more_places}
-use Rattle.filter_iter.proofs.Steps.{IsDown, step_counts}
+use Rattle.filter_iter.proofs.Starts.{begins}
+use Rattle.filter_iter.proofs.Steps.{IsDown, one_more, step_counts}
 use Rattle.filter_iter.specs.Borders.{IsBorder, IsTurn, IsTurnAt, leaves_at}
 use Rattle.filter_iter.specs.Counts.{below_first}
 use Rattle.filter_iter.specs.declared.parts.Border.{Border}
@@ -145,21 +145,22 @@ module _ (hash_bits real_bits : ℕ) (ls : List Leaf) (valid : IsValid hash_bits
   pub node_high : length p < height ls
   node_high = height_above ls p (node_passes ls high v l)
 
-  module _ (b c' : Border) (is : IsBorder ls (length p) b) (at_node : b.node ≡ v) (before : leaves_at ls b ≡ first_leaf ls p) where
-    here : b.above + below_first ls v ≡ first_leaf ls p + below_first ls b.first
-    here = omega (arith, before, ap (below_first ls) at_node, more_below ls b.first v (omega (arith, is.order, at_node)))
+  module _ (b c' : Border) (is : IsBorder ls (length p) b) (at_node : b.node ≡ v) (before : leaves_at ls (length p) b ≡ first_leaf ls p) where
+    here : b.sum + below_first ls v ≡ first_leaf ls p + length p * length ls
+    here = omega (arith, before, is.counted, ap (below_first ls) at_node)
 
     -- the node has no branch from the byte on
-    pub behind_node : None ≡ next_place (whole ns) v c → IsDown hash_bits real_bits ls valid (first_place ns (v + 1)) b c' → leaves_at ls c' ≡ first_leaf ls (p ++ c ∷ [])
+    pub behind_node : None ≡ next_place (whole ns) v c → IsDown hash_bits real_bits ls valid (first_place ns (v + 1)) b c' → leaves_at ls (length p + 1) c' ≡ first_leaf ls (p ++ c ∷ [])
     behind_node e d =
         let none = (searches_find ls v has l).no_next c e in
         omega (
           arith,
           here,
-          step_counts hash_bits real_bits ls valid (length p) (first_place ns (v + 1)) b c' is node_high d,
+          step_counts hash_bits real_bits ls valid (first_place ns (v + 1)) b c' d,
           by_nodes hash_bits real_bits ls valid (v + 1) (omega (arith, l)),
           more_nodes hash_bits real_bits ls valid v l,
           first_whole none,
+          one_more (length p) (length ls),
         )
 
     pub turns_nowhere : None ≡ next_place (whole ns) v c → is_reached ls (p ++ c ∷ []) ≡ false
@@ -184,22 +185,20 @@ module _ (hash_bits real_bits : ℕ) (ls : List Leaf) (valid : IsValid hash_bits
               let within : i < length (get_or ns v []) = omega (arith, next_search c (node_at (whole ns) v) i h, ap (λ (k : ℕ). length (get_or ns k [])) same) in
               (omega (arith, sum, begins ns v), omega (arith, sum, begins ns v, within, begins_next ns v in_list))
 
-      pub place_order : first_place ns b.first ≤ m
-      place_order = omega (arith, own_place.0, more_places ns b.first v (omega (arith, is.order, at_node)) (omega (arith, in_list)))
+      pub is_down : c'.node ≡ first_below (whole ns) m → c'.sum ≡ b.sum + slot_at (whole ns) m → IsDown hash_bits real_bits ls valid m b c'
+      is_down node sum = record { place = let f = found in omega (arith, f.2.place.within); from = omega (arith, own_place.0, ap (first_place ns) at_node); node = node; sum = sum }
 
-      pub is_down : c'.first ≡ first_below (whole ns) (begin_of (whole ns) b.first) → c'.node ≡ first_below (whole ns) m → c'.above + slot_at (whole ns) (begin_of (whole ns) b.first) ≡ b.above + slot_at (whole ns) m → IsDown hash_bits real_bits ls valid m b c'
-      is_down first node above = record { place = let f = found in omega (arith, f.2.place.within); order = place_order; first = first; node = node; above = above }
-
-      pub at_place : IsDown hash_bits real_bits ls valid m b c' → leaves_at ls c' ≡ first_leaf ls (p ++ c ∷ [])
+      pub at_place : IsDown hash_bits real_bits ls valid m b c' → leaves_at ls (length p + 1) c' ≡ first_leaf ls (p ++ c ∷ [])
       at_place d =
           let f = found in
           omega (
             arith,
             here,
-            step_counts hash_bits real_bits ls valid (length p) m b c' is node_high d,
+            step_counts hash_bits real_bits ls valid m b c' d,
             by_place hash_bits real_bits ls valid v m l own_place.0 own_place.1,
             first_same f.0 f.1 f.2.byte f.3,
             ap (first_leaf ls) f.2.place.is,
+            one_more (length p) (length ls),
           )
 
       byte_is : byte_at (whole ns) m ≡ found.0

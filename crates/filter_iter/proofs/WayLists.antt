@@ -1,20 +1,19 @@
 -- Ways, pass by pass.
-use Rattle.std.proofs.Common.{◌≡◌, ℕ, ◌<◌, ◌≤◌, List, [], ◌∷◌, ◌++◌, length, get_or, take, refl, ap, subst, sym, ◌∙◌, arith, inl, inr}
+use Rattle.std.proofs.Common.{◌≡◌, ℕ, ◌<◌, ◌≤◌, Option, List, [], ◌∷◌, ◌++◌, length, get_or, take, refl, ap, subst, sym, ◌∙◌, arith, inl, inr}
 use Rattle.std.proofs.Math.ListN.{get_or-append}
 use Rattle.std.proofs.lemmas.Bool.{cases_lt}
 use Rattle.std.proofs.lemmas.List.{get_or_push, length-append, length-map, take-append-le, take_at}
 use Rattle.filter_image_model.proofs.Sizes.{some_height}
-use Rattle.filter_iter.proofs.Counts.{all_below_root}
-use Rattle.filter_iter.specs.Ways.{HasBranch, IsPassAt, IsWay, LeadsTo, letters_of, leaves_to}
+use Rattle.filter_iter.specs.Ways.{HasBranch, IsPassAt, IsWay, LeadGoesTo, letters_of}
 use Rattle.filter_iter.specs.declared.parts.Branch.{Branch}
 use Rattle.filter_iter.specs.declared.parts.Pass.{Pass}
+use Rattle.filter_iter.specs.declared.parts.Spot.{Spot}
 use Rattle.filter_model.specs.Leaves.{Leaf}
 use Rattle.filter_model.specs.Trie.{END, height, is_node, nodes}
 use Rattle.filter_model.specs.Valid.{IsValid}
 use Rattle.filter_trie.proofs.Down.{node_passes}
 use Rattle.filter_trie.specs.Walks.{IsNodeAt}
 use Rattle.trie_laws.proofs.NodeLists.{height_above}
-use Rattle.trie_model.specs.Rests.{first_leaf}
 
 pub letters-push : (way : List Pass) (x : Pass) → letters_of (way ++ x ∷ []) ≡ letters_of way ++ x.letter ∷ []
 letters-push [] x = refl
@@ -69,9 +68,9 @@ popped ls old new x e w =
         (subst (IsPassAt ls (take (length new) (letters_of (new ++ x ∷ [])))) (get_or_push new x x (length new) refl) (v (length new) x (omega (arith, length-append new (x ∷ [])))))
 
 -- a way that goes on by a letter
-pub way_on : (ls : List Leaf) (way next : List Pass) (v c : ℕ) → IsWay ls way → IsNodeAt ls v (letters_of way) → c ≤ END → next ≡ way ++ record { node = v; letter = c } ∷ [] → IsWay ls next × (letters_of next ≡ get_or (nodes ls) v [] ++ c ∷ [])
-way_on ls way next v c w a small e =
-    let x : Pass = record { node = v; letter = c } in (
+pub way_on : (ls : List Leaf) (way next : List Pass) (v c : ℕ) (s : Option Spot) → IsWay ls way → IsNodeAt ls v (letters_of way) → c ≤ END → next ≡ way ++ record { node = v; letter = c; spot = s } ∷ [] → IsWay ls next × (letters_of next ≡ get_or (nodes ls) v [] ++ c ∷ [])
+way_on ls way next v c s w a small e =
+    let x : Pass = record { node = v; letter = c; spot = s } in (
       subst (IsWay ls) (sym e) (way-push ls way x w (record { node = a; letter = small })),
       ap letters_of e ∙ letters-push way x ∙ ap (λ (q : List ℕ). q ++ c ∷ []) (sym a.is),
     )
@@ -80,17 +79,17 @@ way_on ls way next v c w a small e =
 pub record IsPushed (ls : List Leaf) (v : ℕ) (b : Branch) (next : List Pass) : Type 0 where
   pub way : IsWay ls next
   pub letters : letters_of next ≡ get_or (nodes ls) v [] ++ b.letter ∷ []
-  pub leads : LeadsTo ls (letters_of next) b.lead
+  pub leads : LeadGoesTo ls (letters_of next) b.lead
 
-pub pushed : (ls : List Leaf) (way next : List Pass) (v : ℕ) (b : Branch) → IsWay ls way → IsNodeAt ls v (letters_of way) → HasBranch ls (get_or (nodes ls) v []) b
-    → next ≡ way ++ record { node = v; letter = b.letter } ∷ [] → IsPushed ls v b next
-pushed ls way next v b w a has e =
-    let x : Pass = record { node = v; letter = b.letter } in
+pub pushed : (ls : List Leaf) (way next : List Pass) (v : ℕ) (b : Branch) (s : Option Spot) → IsWay ls way → IsNodeAt ls v (letters_of way) → HasBranch ls (get_or (nodes ls) v []) b
+    → next ≡ way ++ record { node = v; letter = b.letter; spot = s } ∷ [] → IsPushed ls v b next
+pushed ls way next v b s w a has e =
+    let x : Pass = record { node = v; letter = b.letter; spot = s } in
     let letters : letters_of next ≡ get_or (nodes ls) v [] ++ b.letter ∷ [] = ap letters_of e ∙ letters-push way x ∙ ap (λ (q : List ℕ). q ++ b.letter ∷ []) (sym a.is) in
     record {
       way = subst (IsWay ls) (sym e) (way-push ls way x w (record { node = a; letter = has.letter }));
       letters = letters;
-      leads = subst (λ (q : List ℕ). LeadsTo ls q b.lead) (sym letters) has.leads;
+      leads = subst (λ (q : List ℕ). LeadGoesTo ls q b.lead) (sym letters) has.leads;
     }
 
 -- a node is above the last level
@@ -100,13 +99,3 @@ node_low hash_bits real_bits ls v p valid a = height_above ls p (ap (is_node ls)
 -- a way to a node has fewer passes than the trie has levels
 pub way_low : (hash_bits real_bits : ℕ) (ls : List Leaf) (v : ℕ) (way : List Pass) → IsValid hash_bits real_bits ls → IsNodeAt ls v (letters_of way) → length way < height ls
 way_low hash_bits real_bits ls v way valid a = omega (arith, node_low hash_bits real_bits ls v (letters_of way) valid a, length-letters way)
-
--- all leaves are behind no letter
-pub all_behind_none : (ls : List Leaf) (way : List Pass) → length way ≡ 0 → leaves_to ls (letters_of way) ≡ length ls
-all_behind_none ls [] e = omega (arith, all_below_root ls)
-all_behind_none ls (x ∷ way) e = absurd (omega (arith, e))
-
--- and none before it
-pub none_before_none : (ls : List Leaf) (way : List Pass) → length way ≡ 0 → first_leaf ls (letters_of way) ≡ 0
-none_before_none ls [] e = refl
-none_before_none ls (x ∷ way) e = absurd (omega (arith, e))

@@ -4,5 +4,6 @@ pub mod Borders
 pub mod Cuts
 pub mod Numbers
 pub mod Ways
+pub mod Spots
 pub mod Cursors
 pub mod Between

@@ -1,16 +1,27 @@
 -- The way to the leaf of a number.
 use Rattle.std.specs.Prelude.{◌≡◌, ℕ, ◌+◌, ◌<◌, ◌≤◌, List, [], ◌∷◌, ◌++◌, get_or, length, map, MatchOption, Option}
+use Rattle.filter_api.specs.Spellings.{MayStand}
 use Rattle.filter_iter.specs.Borders.{IsBorder, leaves_at}
+use Rattle.filter_iter.specs.declared.parts.Border.{Border}
 use Rattle.filter_iter.specs.declared.parts.Step.{Step}
 use Rattle.filter_iter.specs.declared.parts.Step.TheVariants as step
-use Rattle.filter_model.specs.Leaves.{Leaf}
-use Rattle.filter_model.specs.Trie.{END, path}
+use Rattle.filter_model.specs.Leaves.{Filter, Leaf}
+use Rattle.filter_model.specs.Trie.{END, height as height_of, nodes, path}
 use Rattle.filter_trie.specs.Walks.{IsNodeAt, IsSlotAt}
 use Rattle.trie_model.specs.Rests.{first_leaf, leaves_below}
 
+-- a border stands at a node, that of some letters: so many leaves come before it as before these
+pub record StandsAtNode (i : Filter) (b : Border) (depth levels : ℕ) : Type 0 where
+  pub stands : MayStand i.hash_bits i.real_bits i.cutoff i.leaves
+  pub height : levels ≡ height_of i.leaves
+  pub node : b.node < length (nodes i.leaves)
+  pub level : depth ≡ length (get_or (nodes i.leaves) b.node [])
+  pub border : IsBorder i.leaves depth b
+  pub before : leaves_at i.leaves depth b ≡ first_leaf i.leaves (get_or (nodes i.leaves) b.node [])
+
 -- leaf n is one of those whose paths begin with p
-abbrev pub IsBelow : List Leaf → List ℕ → ℕ → Type 0
-IsBelow ls p n = (first_leaf ls p ≤ n) × (n < first_leaf ls p + leaves_below ls p)
+abbrev pub IsLeafBelow : List Leaf → List ℕ → ℕ → Type 0
+IsLeafBelow ls p n = (first_leaf ls p ≤ n) × (n < first_leaf ls p + leaves_below ls p)
 
 -- not more than n leaves come before p with this byte behind it, and more before the next
 abbrev pub IsLastFound : List Leaf → List ℕ → ℕ → ℕ → Type 0
@@ -26,4 +37,4 @@ abbrev pub IsStepTo : List Leaf → List ℕ → ℕ → Step → Type 0
 IsStepTo ls p n (step.Ends slot) = IsSlotAt ls slot (p ++ END ∷ []) × (get_or (map path ls) n [] ≡ p ++ END ∷ [])
 IsStepTo ls p n (step.Leaf byte slot) = (byte < 256) × IsSlotAt ls slot (p ++ byte ∷ []) × (get_or (map path ls) n [] ≡ p ++ byte ∷ [])
 IsStepTo ls p n (step.Node byte b) =
-    (byte < 256) × IsNodeAt ls b.node (p ++ byte ∷ []) × IsBorder ls (length p + 1) b × (leaves_at ls b ≡ first_leaf ls (p ++ byte ∷ [])) × IsBelow ls (p ++ byte ∷ []) n
+    (byte < 256) × IsNodeAt ls b.node (p ++ byte ∷ []) × IsBorder ls (length p + 1) b × (leaves_at ls (length p + 1) b ≡ first_leaf ls (p ++ byte ∷ [])) × IsLeafBelow ls (p ++ byte ∷ []) n

@@ -16,8 +16,8 @@ abbrev pub letters_of : List Pass → List ℕ
 letters_of way = map (λ (p : Pass). p.letter) way
 
 -- and the bytes among them
-abbrev pub stub_in : List Pass → List ℕ
-stub_in way = filter (λ c. nat_lt c 256) (letters_of way)
+abbrev pub bytes_of_way : List Pass → List ℕ
+bytes_of_way way = filter (λ c. nat_lt c 256) (letters_of way)
 
 -- a pass behind the letters p
 pub record IsPassAt (ls : List Leaf) (p : List ℕ) (x : Pass) : Type 0 where
@@ -36,9 +36,9 @@ pub record IsWayTo (ls : List Leaf) (n slot : ℕ) (way : List Pass) : Type 0 wh
   pub slot_is : IsSlotAt ls slot (letters_of way)
 
 -- the letters q lead there
-abbrev pub LeadsTo : List Leaf → List ℕ → Lead → Type 0
-LeadsTo ls q (lead.Node v) = IsNodeAt ls v q
-LeadsTo ls q (lead.Leaf s) = IsSlotAt ls s q
+abbrev pub LeadGoesTo : List Leaf → List ℕ → Lead → Type 0
+LeadGoesTo ls q (lead.Node v) = IsNodeAt ls v q
+LeadGoesTo ls q (lead.Leaf s) = IsSlotAt ls s q
 
 -- so does the branch of number n
 abbrev pub IsLeadAt : Half → ℕ → Lead → Type 0
@@ -51,25 +51,25 @@ pub record IsBranchAt (h : Half) (n : ℕ) (b : Branch) : Type 0 where
   pub leads : IsLeadAt h n b.lead
 
 -- the branch by END to the leaf of a slot
-abbrev pub end_of : ℕ → Branch
-end_of slot = record { letter = END; lead = lead.Leaf slot }
+abbrev pub branch_of_end : ℕ → Branch
+branch_of_end slot = record { letter = END; lead = lead.Leaf slot }
 
 -- node v's branch by END, if it has one
 abbrev pub IsEndBranch : Half → ℕ → Option Branch → Type 0
-IsEndBranch h v found = option_map end_of (end_slot h v) ≡ found
+IsEndBranch h v found = option_map branch_of_end (end_slot h v) ≡ found
 
 -- the node p has this branch
 pub record HasBranch (ls : List Leaf) (p : List ℕ) (b : Branch) : Type 0 where
   pub letter : b.letter ≤ END
-  pub leads : LeadsTo ls (p ++ b.letter ∷ []) b.lead
+  pub leads : LeadGoesTo ls (p ++ b.letter ∷ []) b.lead
 
 -- how many leaves come before those whose paths begin with p, and before those behind these
 abbrev pub leaves_to : List Leaf → List ℕ → ℕ
 leaves_to ls p = first_leaf ls p + leaves_below ls p
 
 -- how many come before those below p by a byte from c on, none of which there is from 256 on
-abbrev pub leaves_by : List Leaf → List ℕ → ℕ → ℕ
-leaves_by ls p c = cond (nat_lt c 256) (first_leaf ls (p ++ c ∷ [])) (leaves_to ls p)
+abbrev pub leaves_before_byte : List Leaf → List ℕ → ℕ → ℕ
+leaves_before_byte ls p c = cond (nat_lt c 256) (first_leaf ls (p ++ c ∷ [])) (leaves_to ls p)
 
 -- the next branch, by a byte, begins where what comes before ends, and where there is none, p ends there
 abbrev pub IsNextAt : List Leaf → List ℕ → ℕ → Option Branch → Type 0

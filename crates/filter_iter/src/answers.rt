@@ -1,13 +1,14 @@
 //! What a trie answers of bounds and ranges.
-ghost use Rattle.std.specs.Prelude.{◌≡◌, ◌<◌, drop, length};
+ghost use Rattle.std.specs.Prelude.{◌≡◌, ◌+◌, ◌<◌, ◌≤◌, drop, length};
 ghost use Rattle.filter_api.specs.Spellings.{MayStand};
-ghost use Rattle.filter_iter.specs.Borders.{reached_begun, reached_past};
+ghost use Rattle.filter_iter.specs.Borders.{IsReached, reached_begun, reached_past};
 ghost use Rattle.filter_iter.specs.Cuts.{FirstPass, has_begun};
 ghost use Rattle.filter_model.specs.Answers.{first, is_past, tally as tally_of};
 ghost use Rattle.filter_model.specs.Strings.{bits};
+ghost use Rattle.trie_model.specs.Rests.{first_leaf};
 
 use super::parts::{Reach, Reached};
-use super::reaching::reach;
+use super::reaching::{meet, reach};
 use filter_trie::Trie;
 use std::alloc::Allocator;
 use suffix_bits::real_bits_of;
@@ -35,32 +36,44 @@ pub(crate) fn is_reached_begun<A: Allocator>(trie: &Trie<A>, hi: &[u8], leaf: Re
     leaf.ends || trie.suffix(leaf.slot).1 <= real_after(trie, hi, leaf)
 }
 
+// How many leaves are past `lo` beside those that come before it: the one that it reaches, or none.
+fn past_at<A: Allocator>(trie: &Trie<A>, lo: &[u8], leaf: Option<Reached>) -> u64
+    requires stands { MayStand trie.now.hash_bits trie.now.real_bits trie.now.cutoff trie.now.leaves }
+    requires reached { IsReached trie.now.leaves lo.now leaf }
+    ensures past { FirstPass (is_past trie.now.real_bits lo.now) trie.now.leaves (first_leaf trie.now.leaves lo.now + result) }
+    ensures most { result ≤ 1 }
+{
+    match leaf {
+        None => 0,
+        Some(leaf) => u64::from(is_reached_past(trie, lo, leaf)),
+    }
+}
+
+// How many leaves begin at or below `hi` beside those that come before it.
+fn begun_at<A: Allocator>(trie: &Trie<A>, hi: &[u8], leaf: Option<Reached>) -> u64
+    requires stands { MayStand trie.now.hash_bits trie.now.real_bits trie.now.cutoff trie.now.leaves }
+    requires reached { IsReached trie.now.leaves hi.now leaf }
+    ensures begun { FirstPass (has_begun trie.now.real_bits hi.now) trie.now.leaves (first_leaf trie.now.leaves hi.now + result) }
+    ensures most { result ≤ 1 }
+{
+    match leaf {
+        None => 0,
+        Some(leaf) => u64::from(is_reached_begun(trie, hi, leaf)),
+    }
+}
+
 // How many leaves are past `lo`. They are the first ones in key order.
 fn count_past<A: Allocator>(trie: &Trie<A>, lo: &[u8]) -> u64
     ensures stands { MayStand trie.now.hash_bits trie.now.real_bits trie.now.cutoff trie.now.leaves }
     ensures past { FirstPass (is_past trie.now.real_bits lo.now) trie.now.leaves result }
 {
     let Reach { before, leaf } = reach(trie, lo);
-    match leaf {
-        None => before,
-        Some(leaf) => before + u64::from(is_reached_past(trie, lo, leaf)),
-    }
-}
-
-// How many leaves begin at or below `hi`. They are the first ones in key order.
-fn count_begun<A: Allocator>(trie: &Trie<A>, hi: &[u8]) -> u64
-    ensures { FirstPass (has_begun trie.now.real_bits hi.now) trie.now.leaves result }
-{
-    let Reach { before, leaf } = reach(trie, hi);
-    match leaf {
-        None => before,
-        Some(leaf) => before + u64::from(is_reached_begun(trie, hi, leaf)),
-    }
+    before + past_at(trie, lo, leaf)
 }
 
 /// The number, in key order from 0, of the first leaf that is not past `lo`, `None` where all are.
 ///
-/// Looks at a node for each byte of `lo` that leads on, and at two places a level. Takes no memory.
+/// Looks at a node for each byte of `lo` that leads on, and counts at one place a level. Takes no memory.
 pub fn seek<A: Allocator>(trie: &Trie<A>, lo: &[u8]) -> Option<u32>
     ensures { result ≡ first trie.now.real_bits trie.now.leaves lo.now }
 {
@@ -72,9 +85,15 @@ pub fn seek<A: Allocator>(trie: &Trie<A>, lo: &[u8]) -> Option<u32>
     }
 }
 
-/// How many leaves may stand for a key from `lo` to `hi`. Costs two of `seek`.
+/// How many leaves may stand for a key from `lo` to `hi`.
+///
+/// Goes down by both bounds together, and no further than to where both have left the trie at one node: a range that no key
+/// parts costs about two walks. Takes no memory.
 pub fn tally<A: Allocator>(trie: &Trie<A>, lo: &[u8], hi: &[u8]) -> u32
     ensures { result ≡ tally_of trie.now.real_bits trie.now.leaves lo.now hi.now }
 {
-    count_begun(trie, hi).saturating_sub(count_past(trie, lo)) as u32
+    let (low, high) = meet(trie, lo, hi);
+    let past = low.border.sum + past_at(trie, lo, low.leaf);
+    let begun = high.border.sum + begun_at(trie, hi, high.leaf);
+    begun.saturating_sub(past) as u32
 }

@@ -103,7 +103,7 @@ fn some_to<A: Allocator>(trie: &Trie<A>, lead: Option<Lead>, hi: &[u8], read: us
                 if read >= hi.len() {
                     return trie.prefix_slot(node).is_some();
                 }
-                let branch = first_branch(trie, node);
+                let (branch, _) = first_branch(trie, node);
                 let letter = u16::from(hi[read]);
                 if branch.letter != letter {
                     return branch.letter == END_LETTER || branch.letter < letter;

@@ -1,21 +1,24 @@
 //! The branches of a node in key order: END comes before every byte.
-ghost use Rattle.std.specs.Prelude.{◌≡◌, ◌+◌, ◌++◌, ◌∷◌, [], ◌<◌, ◌≤◌, get_or, length};
+ghost use Rattle.std.specs.Prelude.{◌≡◌, ◌+◌, ◌++◌, ◌∷◌, [], ◌<◌, ◌≤◌, IfSome, get_or, length};
+ghost use Rattle.std.specs.Option.{option_map};
 ghost use Rattle.filter_api.specs.Spellings.{MayStand};
-ghost use Rattle.filter_iter.specs.Ways.{HasBranch, IsBranchAt, IsEndBranch, IsLeadAt, IsNextAt, IsPrevAt, leaves_by, leaves_to};
+ghost use Rattle.filter_iter.specs.Spots.{HasSpot, IsFirstBranch, IsSpotIfKnown};
+ghost use Rattle.filter_iter.specs.Ways.{HasBranch, IsBranchAt, IsEndBranch, IsLeadAt, IsNextAt, IsPrevAt, leaves_before_byte, leaves_to};
 ghost use Rattle.filter_model.specs.Trie.{END, nodes};
 ghost use Rattle.filter_trie.specs.Places.{IsTaken, branch_number, trie as trie_in};
 ghost use Rattle.trie_model.specs.Letters.{order_of};
 ghost use Rattle.trie_model.specs.Rests.{first_leaf};
 
-use super::parts::{Branch, END_LETTER, Lead};
+use super::parts::{Branch, END_LETTER, Lead, Pass, Spot};
+use super::spots::{branch_at_spot, branch_behind_spot, node_spot, spot_of};
 use filter_trie::{Place, Trie};
 use std::alloc::Allocator;
 
 // Behind the last byte.
 const NO_BYTE: u16 = 256;
 
-// Where a letter stands in key order: END first, and then the bytes. It is the byte from which on its followers are.
-fn order(letter: u16) -> u16
+/// Where a letter stands in key order: END first, and then the bytes. It is the byte from which on its followers are.
+pub(crate) fn order(letter: u16) -> u16
     requires { letter ≤ END }
     ensures { result ≡ order_of letter }
 {
@@ -63,7 +66,7 @@ fn branch_from<A: Allocator>(trie: &Trie<A>, node: u64, from: u16) -> Option<Bra
     requires stands { MayStand trie.now.hash_bits trie.now.real_bits trie.now.cutoff trie.now.leaves }
     requires node { node < length (nodes trie.now.leaves) }
     requires from { from ≤ 256 }
-    ensures { IsNextAt trie.now.leaves (get_or (nodes trie.now.leaves) node []) (leaves_by trie.now.leaves (get_or (nodes trie.now.leaves) node []) from) result }
+    ensures { IsNextAt trie.now.leaves (get_or (nodes trie.now.leaves) node []) (leaves_before_byte trie.now.leaves (get_or (nodes trie.now.leaves) node []) from) result }
 {
     match trie.next_branch(node, from) {
         Some(place) => Some(branch_at(trie, place)),
@@ -86,7 +89,7 @@ fn branch_below<A: Allocator>(trie: &Trie<A>, node: u64, below: u16) -> Option<B
     requires stands { MayStand trie.now.hash_bits trie.now.real_bits trie.now.cutoff trie.now.leaves }
     requires node { node < length (nodes trie.now.leaves) }
     requires below { below ≤ 256 }
-    ensures { IsPrevAt trie.now.leaves (get_or (nodes trie.now.leaves) node []) (leaves_by trie.now.leaves (get_or (nodes trie.now.leaves) node []) below) result }
+    ensures { IsPrevAt trie.now.leaves (get_or (nodes trie.now.leaves) node []) (leaves_before_byte trie.now.leaves (get_or (nodes trie.now.leaves) node []) below) result }
 {
     match trie.prev_branch(node, below) {
         Some(place) => Some(branch_at(trie, place)),
@@ -108,12 +111,48 @@ pub(crate) fn branch_before<A: Allocator>(trie: &Trie<A>, node: u64, letter: u16
     }
 }
 
-/// The first branch of a node.
-pub(crate) fn first_branch<A: Allocator>(trie: &Trie<A>, node: u64) -> Branch
+/// The branch of a pass's node that comes next behind the pass's letter, and its spot where that is known.
+pub(crate) fn branch_after<A: Allocator>(
+    trie: &Trie<A>,
+    pass: Pass,
+) -> Option<(Branch, Option<Spot>)>
+    requires stands { MayStand trie.now.hash_bits trie.now.real_bits trie.now.cutoff trie.now.leaves }
+    requires node { pass.node < length (nodes trie.now.leaves) }
+    requires letter { pass.letter ≤ END }
+    requires spot { HasSpot trie.now pass }
+    ensures next { IsNextAt trie.now.leaves (get_or (nodes trie.now.leaves) pass.node []) (leaves_to trie.now.leaves (get_or (nodes trie.now.leaves) pass.node [] ++ pass.letter ∷ [])) (option_map (λ found. found.0) result) }
+    ensures spot { IfSome result (λ found. IsSpotIfKnown trie.now pass.node found.0.letter found.1) }
+{
+    match spot_of(trie, pass) {
+        Some(spot) => {
+            let (branch, spot) = branch_behind_spot(trie, pass, spot)?;
+            Some((branch, Some(spot)))
+        }
+        None => {
+            let branch = branch_behind(trie, pass.node, pass.letter)?;
+            Some((branch, None))
+        }
+    }
+}
+
+/// The first branch of a node, and its spot where the node is in the sparse half.
+pub(crate) fn first_branch<A: Allocator>(trie: &Trie<A>, node: u64) -> (Branch, Option<Spot>)
     requires stands { MayStand trie.now.hash_bits trie.now.real_bits trie.now.cutoff trie.now.leaves }
     requires node { node < length (nodes trie.now.leaves) }
-    ensures branch { HasBranch trie.now.leaves (get_or (nodes trie.now.leaves) node []) result }
-    ensures first { first_leaf trie.now.leaves (get_or (nodes trie.now.leaves) node [] ++ result.letter ∷ []) ≡ first_leaf trie.now.leaves (get_or (nodes trie.now.leaves) node []) }
+    ensures branch { IsFirstBranch trie.now.leaves node result.0 }
+    ensures spot { IsSpotIfKnown trie.now node result.0.letter result.1 }
+{
+    match node_spot(trie, node) {
+        Some(spot) => (branch_at_spot(trie, node, spot), Some(spot)),
+        None => (first_by_search(trie, node), None),
+    }
+}
+
+// The first branch of a node, searched for.
+fn first_by_search<A: Allocator>(trie: &Trie<A>, node: u64) -> Branch
+    requires stands { MayStand trie.now.hash_bits trie.now.real_bits trie.now.cutoff trie.now.leaves }
+    requires node { node < length (nodes trie.now.leaves) }
+    ensures { IsFirstBranch trie.now.leaves node result }
 {
     if let Some(branch) = end_branch(trie, node) {
         return branch;

@@ -6,10 +6,11 @@ ghost use Rattle.key_base.specs.Limits.{max_key_bytes};
 
 use super::answers::seek;
 use super::numbers::find;
-use super::parts::Way;
+use super::parts::{Marks, Way};
 use super::stubs::{new_way, write_stub};
 use super::ways::{go_first, go_last, turn_before, turn_behind};
 use filter_trie::Trie;
+use smallvec::SmallVec;
 use std::alloc::{AllocError, Allocator, Global};
 use std::marker::Model;
 
@@ -20,6 +21,7 @@ use std::marker::Model;
 pub struct FilterCursor<'a, A: Allocator> {
     trie: &'a Trie<A>,
     way: Way,
+    marks: Marks,
     leaf: u32,
     slot: u64,
 }
@@ -32,7 +34,7 @@ impl<'a, A: Allocator> Model for FilterCursor<'a, A> {
 
     ghost view = { λ c. record { image = c.trie.now; leaf = c.leaf } };
 
-    ghost invariant = { λ c. IsStanding c.trie.now c.leaf c.slot c.way };
+    ghost invariant = { λ c. IsStanding c.trie.now c.leaf c.slot c.way c.marks };
 }
 
 impl<'a, A: Allocator> FilterCursor<'a, A> {
@@ -55,6 +57,7 @@ impl<'a, A: Allocator> FilterCursor<'a, A> {
         Ok(Some(FilterCursor {
             trie,
             way,
+            marks: SmallVec::new(alloc),
             leaf,
             slot,
         }))
@@ -69,8 +72,8 @@ impl<'a, A: Allocator> FilterCursor<'a, A> {
         if self.leaf + 1 == trie.leaves() {
             return false;
         }
-        let lead = turn_behind(trie, &mut self.way);
-        self.slot = go_first(trie, lead, &mut self.way);
+        let lead = turn_behind(trie, &mut self.way, &mut self.marks);
+        self.slot = go_first(trie, lead, &mut self.way, &mut self.marks);
         self.leaf += 1;
         true
     }
@@ -84,6 +87,7 @@ impl<'a, A: Allocator> FilterCursor<'a, A> {
         if self.leaf == 0 {
             return false;
         }
+        self.marks.clear();
         let lead = turn_before(trie, &mut self.way);
         self.slot = go_last(trie, lead, &mut self.way);
         self.leaf -= 1;

@@ -1,13 +1,15 @@
 //! The leaf of a number.
 ghost use Rattle.std.specs.Prelude.{◌≡◌, ◌+◌, ◌++◌, ◌∷◌, [], ◌<◌, ◌≤◌, get_or, length};
+ghost use Rattle.std.specs.List.{All};
 ghost use Rattle.filter_api.specs.Spellings.{MayStand};
-ghost use Rattle.filter_iter.specs.Borders.{IsBorder, leaves_at};
-ghost use Rattle.filter_iter.specs.Numbers.{IsBelow, IsLastByte, IsStepTo};
+ghost use Rattle.filter_iter.specs.Numbers.{IsLastByte, IsLeafBelow, IsStepTo, StandsAtNode};
+ghost use Rattle.filter_iter.specs.Spots.{HasSpot};
 ghost use Rattle.filter_iter.specs.Ways.{IsWayTo};
 ghost use Rattle.filter_model.specs.Trie.{height as height_of, nodes};
 ghost use Rattle.trie_model.specs.Rests.{first_leaf};
 
 use super::borders::{leaves_before, root_border};
+use super::branches::{first_branch, last_branch, order};
 use super::parts::{Border, END_LETTER, Pass, Step, Turn, Way};
 use super::reaching::turn;
 use filter_trie::Trie;
@@ -21,12 +23,7 @@ fn count_to<A: Allocator>(
     height: usize,
     byte: u8,
 ) -> u64
-    requires stands { MayStand trie.now.hash_bits trie.now.real_bits trie.now.cutoff trie.now.leaves }
-    requires height { height ≡ height_of trie.now.leaves }
-    requires node { border.node < length (nodes trie.now.leaves) }
-    requires level { level ≡ length (get_or (nodes trie.now.leaves) border.node []) }
-    requires border { IsBorder trie.now.leaves level border }
-    requires before { leaves_at trie.now.leaves border ≡ first_leaf trie.now.leaves (get_or (nodes trie.now.leaves) border.node []) }
+    requires { StandsAtNode trie.now border level height }
     ensures { result ≡ first_leaf trie.now.leaves (get_or (nodes trie.now.leaves) border.node [] ++ byte ∷ []) }
 {
     let (next, _) = turn(trie, border, byte);
@@ -34,6 +31,7 @@ fn count_to<A: Allocator>(
 }
 
 // The last byte, if any, before which not more than `n` leaves come: leaf `n` goes on by it, or ends where there is none.
+// It is sought from the node's first branch to its last one, so that a node of one branch is counted no further.
 fn last_byte<A: Allocator>(
     trie: &Trie<A>,
     border: Border,
@@ -41,16 +39,14 @@ fn last_byte<A: Allocator>(
     height: usize,
     n: u64,
 ) -> Option<u8>
-    requires stands { MayStand trie.now.hash_bits trie.now.real_bits trie.now.cutoff trie.now.leaves }
-    requires height { height ≡ height_of trie.now.leaves }
-    requires node { border.node < length (nodes trie.now.leaves) }
-    requires level { level ≡ length (get_or (nodes trie.now.leaves) border.node []) }
-    requires border { IsBorder trie.now.leaves level border }
-    requires before { leaves_at trie.now.leaves border ≡ first_leaf trie.now.leaves (get_or (nodes trie.now.leaves) border.node []) }
+    requires at { StandsAtNode trie.now border level height }
+    requires below { IsLeafBelow trie.now.leaves (get_or (nodes trie.now.leaves) border.node []) n }
     ensures { IsLastByte trie.now.leaves (get_or (nodes trie.now.leaves) border.node []) n result }
 {
-    let mut low: u16 = 0;
-    let mut high: u16 = 256;
+    let (first, _) = first_branch(trie, border.node);
+    let last = last_branch(trie, border.node);
+    let mut low = order(first.letter);
+    let mut high = order(last.letter);
     while low < high {
         let middle = low + (high - low) / 2;
         if count_to(trie, border, level, height, middle as u8) <= n {
@@ -74,13 +70,8 @@ fn step_to<A: Allocator>(
     height: usize,
     n: u64,
 ) -> Step
-    requires stands { MayStand trie.now.hash_bits trie.now.real_bits trie.now.cutoff trie.now.leaves }
-    requires height { height ≡ height_of trie.now.leaves }
-    requires node { border.node < length (nodes trie.now.leaves) }
-    requires level { level ≡ length (get_or (nodes trie.now.leaves) border.node []) }
-    requires border { IsBorder trie.now.leaves level border }
-    requires before { leaves_at trie.now.leaves border ≡ first_leaf trie.now.leaves (get_or (nodes trie.now.leaves) border.node []) }
-    requires below { IsBelow trie.now.leaves (get_or (nodes trie.now.leaves) border.node []) n }
+    requires at { StandsAtNode trie.now border level height }
+    requires below { IsLeafBelow trie.now.leaves (get_or (nodes trie.now.leaves) border.node []) n }
     ensures { IsStepTo trie.now.leaves (get_or (nodes trie.now.leaves) border.node []) n result }
 {
     let Some(byte) = last_byte(trie, border, level, height, n) else {
@@ -97,7 +88,11 @@ fn step_to<A: Allocator>(
     }
 }
 
-/// Goes down to the leaf of a number in key order, by counts, eight of them a level. Its slot; `way` becomes the way to it.
+/// Goes down to the leaf of a number in key order. Its slot; `way` becomes the way to it.
+///
+/// On each level it halves the bytes from the node's first branch to its last one, and each of these counts, nine at most,
+/// goes down to the last level: the cost goes as the height times the number of levels at which the way's node has branches
+/// beside the way.
 ///
 /// `way` is empty, and has room for as many passes as the trie is high.
 pub(crate) fn find<A: Allocator>(trie: &Trie<A>, n: u32, way: &mut Way) -> u64
@@ -106,6 +101,7 @@ pub(crate) fn find<A: Allocator>(trie: &Trie<A>, n: u32, way: &mut Way) -> u64
     requires room { height_of trie.now.leaves ≤ way.old.capacity }
     ensures stands { MayStand trie.now.hash_bits trie.now.real_bits trie.now.cutoff trie.now.leaves }
     ensures way { IsWayTo trie.now.leaves n result way.new.items }
+    ensures spots { All (HasSpot trie.now) way.new.items }
     ensures capacity { way.new.capacity ≡ way.old.capacity }
 {
     let height = usize::from(trie.height());
@@ -117,6 +113,7 @@ pub(crate) fn find<A: Allocator>(trie: &Trie<A>, n: u32, way: &mut Way) -> u64
                 way.push_reserved(Pass {
                     node,
                     letter: END_LETTER,
+                    spot: None,
                 });
                 return slot;
             }
@@ -124,6 +121,7 @@ pub(crate) fn find<A: Allocator>(trie: &Trie<A>, n: u32, way: &mut Way) -> u64
                 way.push_reserved(Pass {
                     node,
                     letter: u16::from(byte),
+                    spot: None,
                 });
                 return slot;
             }
@@ -131,6 +129,7 @@ pub(crate) fn find<A: Allocator>(trie: &Trie<A>, n: u32, way: &mut Way) -> u64
                 way.push_reserved(Pass {
                     node,
                     letter: u16::from(byte),
+                    spot: None,
                 });
                 border = next;
             }

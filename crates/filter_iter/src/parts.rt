@@ -5,12 +5,10 @@ use smallvec::SmallVec;
 /// The border of a bound on a level: where what comes before the bound ends and what comes behind it begins.
 #[derive(Clone, Copy)]
 pub(crate) struct Border {
-    /// The first node of the level.
-    pub(crate) first: u64,
-    /// The first node that does not come before the bound with all leaves below it.
+    /// The first node of this level or a later one of which not all leaves come before the bound.
     pub(crate) node: u64,
-    /// How many leaves of the levels above come before the bound.
-    pub(crate) above: u64,
+    /// How many leaves stand before the bound's borders on the levels above, all levels together.
+    pub(crate) sum: u64,
 }
 
 /// The leaf whose stub a bound begins with, or is.
@@ -21,6 +19,16 @@ pub(crate) struct Reached {
     pub(crate) stub: usize,
     /// Whether it ends; then the bound is its stub.
     pub(crate) ends: bool,
+}
+
+/// How far down a bound was followed.
+#[derive(Clone, Copy)]
+pub(crate) struct Descent {
+    pub(crate) border: Border,
+    /// Whether the bound leads to the border's node. Else it has left the trie.
+    pub(crate) leads: bool,
+    /// The leaf that it reached.
+    pub(crate) leaf: Option<Reached>,
 }
 
 /// What a bound meets.
@@ -50,12 +58,32 @@ pub(crate) enum Step {
 /// The letter behind a stub that ends.
 pub(crate) const END_LETTER: u16 = 256;
 
+/// Where a branch stands among those of the sparse half. The next branch of the node, if there is one, is the next place.
+#[derive(Clone, Copy)]
+pub(crate) struct Spot {
+    pub(crate) place: u64,
+    /// The place behind the last branch of the node.
+    pub(crate) end: u64,
+}
+
+/// Where a node's branches begin among those of the sparse half: behind those of the node before it.
+#[derive(Clone, Copy, Default)]
+pub(crate) struct Mark {
+    pub(crate) node: u64,
+    pub(crate) place: u64,
+}
+
+/// Marks of the nodes that come next on the levels below a way, the one of the highest level last. They take no memory.
+pub(crate) type Marks = SmallVec<Mark, 16>;
+
 /// A node on the way to a leaf, and the letter by which the way goes on from there.
 #[derive(Clone, Copy, Default)]
 pub(crate) struct Pass {
     pub(crate) node: u64,
     /// A byte, or the letter behind a stub that ends.
     pub(crate) letter: u16,
+    /// Where its branch stands, if that is known, so that the next one is not searched for.
+    pub(crate) spot: Option<Spot>,
 }
 
 /// The way from the root to a leaf, a pass for each letter. Short ones take no memory.

@@ -1,23 +1,22 @@
 //! Where a bound leads in a trie, and how many leaves come before it.
 
-ghost use Rattle.std.specs.Prelude.{◌≡◌, ◌<◌, ◌+◌, ◌++◌, ◌∷◌, [], ◌≤◌, length, get_or, IfSome};
-ghost use Rattle.std.specs.Option.{option_map};
+ghost use Rattle.std.specs.Prelude.{◌≡◌, ◌<◌, ◌+◌, ◌++◌, ◌∷◌, [], false, true, length, get_or};
 ghost use Rattle.filter_api.specs.Spellings.{MayStand};
-ghost use Rattle.filter_iter.specs.Borders.{IsBorder, IsTurn, IsTurnAt, leaves_at, reached_path};
-ghost use Rattle.filter_model.specs.Trie.{nodes};
+ghost use Rattle.filter_iter.specs.Borders.{HaveMet, IsBorder, IsDescent, IsReached, IsTurn, IsTurnAt, LeadsOn, leaves_at};
+ghost use Rattle.filter_model.specs.Trie.{height as height_of, nodes};
 ghost use Rattle.filter_trie.specs.Places.{IsTaken, branch_number, trie as trie_in};
-ghost use Rattle.filter_trie.specs.Walks.{IsSlotAt};
+ghost use Rattle.trie_model.specs.Halves.{slot_at};
 ghost use Rattle.trie_model.specs.Rests.{first_leaf};
-ghost use Rattle.trie_model.specs.Walks.{slot_of_key};
 
-use super::borders::{below, down, leaves_before, root_border};
-use super::parts::{Border, Reach, Reached, Turn};
+use super::borders::{below, root_border};
+use super::parts::{Border, Descent, Reach, Reached, Turn};
 use filter_trie::{Place, Trie};
 use std::alloc::Allocator;
 
-// Where the branch at a place leads, if it is by this byte.
-fn turn_at<A: Allocator>(trie: &Trie<A>, place: Place, byte: u8) -> Turn
-    requires { IsTaken trie.now place }
+// Where the branch at a place leads, if it is by this byte. So many leaves stand before it.
+fn turn_at<A: Allocator>(trie: &Trie<A>, place: Place, byte: u8, slots: u64) -> Turn
+    requires place { IsTaken trie.now place }
+    requires slots { slots ≡ slot_at (trie_in trie.now) (branch_number trie.now place) }
     ensures { IsTurnAt (trie_in trie.now) (branch_number trie.now place) byte result }
 {
     if trie.byte_at(place) != byte {
@@ -25,7 +24,7 @@ fn turn_at<A: Allocator>(trie: &Trie<A>, place: Place, byte: u8) -> Turn
     } else if trie.child(place).is_some() {
         Turn::Node
     } else {
-        Turn::Leaf(trie.leaf_slot(place))
+        Turn::Leaf(slots)
     }
 }
 
@@ -34,9 +33,9 @@ pub(crate) fn turn<A: Allocator>(trie: &Trie<A>, border: Border, byte: u8) -> (B
     requires stands { MayStand trie.now.hash_bits trie.now.real_bits trie.now.cutoff trie.now.leaves }
     requires node { border.node < length (nodes trie.now.leaves) }
     requires border { IsBorder trie.now.leaves (length (get_or (nodes trie.now.leaves) border.node [])) border }
-    requires before { leaves_at trie.now.leaves border ≡ first_leaf trie.now.leaves (get_or (nodes trie.now.leaves) border.node []) }
+    requires before { leaves_at trie.now.leaves (length (get_or (nodes trie.now.leaves) border.node [])) border ≡ first_leaf trie.now.leaves (get_or (nodes trie.now.leaves) border.node []) }
     ensures border { IsBorder trie.now.leaves (length (get_or (nodes trie.now.leaves) border.node []) + 1) result.0 }
-    ensures before { leaves_at trie.now.leaves result.0 ≡ first_leaf trie.now.leaves (get_or (nodes trie.now.leaves) border.node [] ++ byte ∷ []) }
+    ensures before { leaves_at trie.now.leaves (length (get_or (nodes trie.now.leaves) border.node []) + 1) result.0 ≡ first_leaf trie.now.leaves (get_or (nodes trie.now.leaves) border.node [] ++ byte ∷ []) }
     ensures turn { IsTurn trie.now.leaves (get_or (nodes trie.now.leaves) border.node [] ++ byte ∷ []) result.0 result.1 }
 {
     match trie.next_branch(border.node, u16::from(byte)) {
@@ -48,9 +47,103 @@ pub(crate) fn turn<A: Allocator>(trie: &Trie<A>, border: Border, byte: u8) -> (B
             (below(trie, behind), Turn::Nowhere)
         }
         Some(place) => {
-            let next = down(trie, border, trie.leaf_slot(place), trie.first_below(place));
-            (next, turn_at(trie, place, byte))
+            let (slots, node) = trie.before_place(place);
+            let next = Border {
+                node,
+                sum: border.sum + slots,
+            };
+            (next, turn_at(trie, place, byte, slots))
         }
+    }
+}
+
+// A bound at the root.
+fn root_descent() -> Descent
+    ensures node { result.border.node ≡ 0 }
+    ensures sum { result.border.sum ≡ 0 }
+    ensures leads { result.leads ≡ true }
+{
+    Descent {
+        border: root_border(),
+        leads: true,
+        leaf: None,
+    }
+}
+
+// A bound that has left the trie.
+fn left(border: Border, leaf: Option<Reached>) -> Descent
+    ensures { result ≡ record { border = border; leads = false; leaf = leaf } }
+{
+    Descent {
+        border,
+        leads: false,
+        leaf,
+    }
+}
+
+// One level down by the bound's byte there.
+fn step_by<A: Allocator>(trie: &Trie<A>, bound: &[u8], level: usize, border: Border) -> Descent
+    requires stands { MayStand trie.now.hash_bits trie.now.real_bits trie.now.cutoff trie.now.leaves }
+    requires border { IsBorder trie.now.leaves level border }
+    requires leads { LeadsOn trie.now.leaves bound.now level border }
+    requires more { level < length bound.now }
+    ensures { IsDescent trie.now.leaves bound.now (level + 1) result }
+{
+    let (border, turn) = turn(trie, border, bound[level]);
+    match turn {
+        Turn::Node => Descent {
+            border,
+            leads: true,
+            leaf: None,
+        },
+        Turn::Nowhere => left(border, None),
+        Turn::Leaf(slot) => {
+            let leaf = Reached {
+                slot,
+                stub: level + 1,
+                ends: false,
+            };
+            left(border, Some(leaf))
+        }
+    }
+}
+
+// One level down where the bound ends.
+fn step_behind<A: Allocator>(trie: &Trie<A>, bound: &[u8], level: usize, border: Border) -> Descent
+    requires stands { MayStand trie.now.hash_bits trie.now.real_bits trie.now.cutoff trie.now.leaves }
+    requires border { IsBorder trie.now.leaves level border }
+    requires leads { LeadsOn trie.now.leaves bound.now level border }
+    requires end { level ≡ length bound.now }
+    ensures { IsDescent trie.now.leaves bound.now (level + 1) result }
+{
+    let next = below(trie, border);
+    match trie.prefix_slot(border.node) {
+        None => left(next, None),
+        Some(slot) => {
+            let leaf = Reached {
+                slot,
+                stub: level,
+                ends: true,
+            };
+            left(next, Some(leaf))
+        }
+    }
+}
+
+// One level down.
+fn step<A: Allocator>(trie: &Trie<A>, bound: &[u8], level: usize, descent: Descent) -> Descent
+    requires stands { MayStand trie.now.hash_bits trie.now.real_bits trie.now.cutoff trie.now.leaves }
+    requires level { level < height_of trie.now.leaves }
+    requires descent { IsDescent trie.now.leaves bound.now level descent }
+    ensures { IsDescent trie.now.leaves bound.now (level + 1) result }
+{
+    if !descent.leads {
+        return left(below(trie, descent.border), descent.leaf);
+    }
+    if level < bound.len() {
+        step_by(trie, bound, level, descent.border)
+    } else {
+        step_behind(trie, bound, level, descent.border)
     }
 }
 
@@ -58,40 +151,34 @@ pub(crate) fn turn<A: Allocator>(trie: &Trie<A>, border: Border, byte: u8) -> (B
 pub(crate) fn reach<A: Allocator>(trie: &Trie<A>, bound: &[u8]) -> Reach
     ensures stands { MayStand trie.now.hash_bits trie.now.real_bits trie.now.cutoff trie.now.leaves }
     ensures before { result.before ≡ first_leaf trie.now.leaves bound.now }
-    ensures slot { option_map (λ r. r.slot) result.leaf ≡ slot_of_key trie.now.leaves bound.now }
-    ensures path { IfSome result.leaf (λ r. IsSlotAt trie.now.leaves r.slot (reached_path bound.now r)) }
+    ensures reached { IsReached trie.now.leaves bound.now result.leaf }
 {
     let height = usize::from(trie.height());
-    let mut border = root_border();
-    for i in 0..bound.len() {
-        let (next, turn) = turn(trie, border, bound[i]);
-        let leaf = match turn {
-            Turn::Node => {
-                border = next;
-                continue;
-            }
-            Turn::Nowhere => None,
-            Turn::Leaf(slot) => Some(Reached {
-                slot,
-                stub: i + 1,
-                ends: false,
-            }),
-        };
-        return Reach {
-            before: leaves_before(trie, next, i + 1, height),
-            leaf,
-        };
+    let mut descent = root_descent();
+    for level in 0..height {
+        descent = step(trie, bound, level, descent);
     }
-    let leaf = match trie.prefix_slot(border.node) {
-        None => None,
-        Some(slot) => Some(Reached {
-            slot,
-            stub: bound.len(),
-            ends: true,
-        }),
-    };
     Reach {
-        before: leaves_before(trie, border, bound.len(), height),
-        leaf,
+        before: descent.border.sum - trie.level_starts(),
+        leaf: descent.leaf,
     }
+}
+
+/// Goes down by two bounds together, to where they have left the trie at one node. From there on as many leaves stand before
+/// the one as before the other, on each level.
+pub(crate) fn meet<A: Allocator>(trie: &Trie<A>, lo: &[u8], hi: &[u8]) -> (Descent, Descent)
+    ensures stands { MayStand trie.now.hash_bits trie.now.real_bits trie.now.cutoff trie.now.leaves }
+    ensures met { HaveMet trie.now.leaves lo.now hi.now result.0 result.1 }
+{
+    let height = usize::from(trie.height());
+    let mut low = root_descent();
+    let mut high = root_descent();
+    for level in 0..height {
+        if low.border.node == high.border.node && !low.leads && !high.leads {
+            return (low, high);
+        }
+        low = step(trie, lo, level, low);
+        high = step(trie, hi, level, high);
+    }
+    (low, high)
 }

@@ -1,6 +1,6 @@
 //! Ways as bytes.
 ghost use Rattle.std.specs.Prelude.{◌≡◌, ◌++◌, [], ◌≤◌, drop, length, IfOk};
-ghost use Rattle.filter_iter.specs.Ways.{stub_in};
+ghost use Rattle.filter_iter.specs.Ways.{bytes_of_way};
 
 use super::parts::{END_LETTER, Pass, Way};
 use smallvec::SmallVec;
@@ -17,8 +17,8 @@ pub(crate) fn new_way(alloc: Global, height: usize) -> Result<Way, AllocError>
 /// Writes the bytes among the letters of a way at the start of `out`, and gives how many there are.
 pub(crate) fn write_stub(way: &[Pass], out: &mut [u8]) -> usize
     requires { length way.now ≤ length out.old }
-    ensures stub { out.new ≡ stub_in way.now ++ drop result out.old }
-    ensures count { result ≡ length (stub_in way.now) }
+    ensures stub { out.new ≡ bytes_of_way way.now ++ drop result out.old }
+    ensures count { result ≡ length (bytes_of_way way.now) }
 {
     let mut count = 0;
     for pass in way {

@@ -1,35 +1,45 @@
 //! From a way to the way of the next leaf, or of the one before.
 ghost use Rattle.std.specs.Prelude.{◌≡◌, ◌<◌, ◌≤◌, length};
+ghost use Rattle.std.specs.List.{All};
 ghost use Rattle.filter_api.specs.Spellings.{MayStand};
-ghost use Rattle.filter_iter.specs.Ways.{IsWay, LeadsTo, letters_of, leaves_to};
+ghost use Rattle.filter_iter.specs.Spots.{HasSpot, IsMark};
+ghost use Rattle.filter_iter.specs.Ways.{IsWay, LeadGoesTo, letters_of, leaves_to};
 ghost use Rattle.filter_model.specs.Trie.{height};
 ghost use Rattle.filter_trie.specs.Walks.{IsSlotAt};
 ghost use Rattle.trie_model.specs.Rests.{first_leaf};
 
-use super::branches::{branch_before, branch_behind, first_branch, last_branch};
-use super::parts::{Lead, Pass, Way};
+use super::branches::{branch_after, branch_before, last_branch};
+use super::marks::{first_marked, leave};
+use super::parts::{Lead, Marks, Pass, Way};
 use filter_trie::Trie;
 use std::alloc::Allocator;
 
-/// Goes up to the last node on a way that has a branch behind it, and turns to that branch.
-pub(crate) fn turn_behind<A: Allocator>(trie: &Trie<A>, way: &mut Way) -> Lead
+/// Goes up to the last node on a way that has a branch behind it, and turns to that branch. Of the nodes that it leaves it
+/// marks where the next ones begin.
+pub(crate) fn turn_behind<A: Allocator>(trie: &Trie<A>, way: &mut Way, marks: &mut Marks) -> Lead
     requires stands { MayStand trie.now.hash_bits trie.now.real_bits trie.now.cutoff trie.now.leaves }
     requires way { IsWay trie.now.leaves way.old.items }
+    requires spots { All (HasSpot trie.now) way.old.items }
+    requires marks { All (IsMark trie.now) marks.old.items }
     requires more { leaves_to trie.now.leaves (letters_of way.old.items) < length trie.now.leaves }
     requires room { height trie.now.leaves ≤ way.old.capacity }
     ensures way { IsWay trie.now.leaves way.new.items }
-    ensures leads { LeadsTo trie.now.leaves (letters_of way.new.items) result }
+    ensures leads { LeadGoesTo trie.now.leaves (letters_of way.new.items) result }
     ensures first { first_leaf trie.now.leaves (letters_of way.new.items) ≡ leaves_to trie.now.leaves (letters_of way.old.items) }
+    ensures spots { All (HasSpot trie.now) way.new.items }
+    ensures marks { All (IsMark trie.now) marks.new.items }
     ensures capacity { way.new.capacity ≡ way.old.capacity }
 {
     while let Some(pass) = way.pop() {
-        if let Some(branch) = branch_behind(trie, pass.node, pass.letter) {
+        if let Some((branch, spot)) = branch_after(trie, pass) {
             way.push_reserved(Pass {
                 node: pass.node,
                 letter: branch.letter,
+                spot,
             });
             return branch.lead;
         }
+        leave(trie, pass, marks);
     }
     unreachable!()
 }
@@ -38,11 +48,13 @@ pub(crate) fn turn_behind<A: Allocator>(trie: &Trie<A>, way: &mut Way) -> Lead
 pub(crate) fn turn_before<A: Allocator>(trie: &Trie<A>, way: &mut Way) -> Lead
     requires stands { MayStand trie.now.hash_bits trie.now.real_bits trie.now.cutoff trie.now.leaves }
     requires way { IsWay trie.now.leaves way.old.items }
+    requires spots { All (HasSpot trie.now) way.old.items }
     requires more { 0 < first_leaf trie.now.leaves (letters_of way.old.items) }
     requires room { height trie.now.leaves ≤ way.old.capacity }
     ensures way { IsWay trie.now.leaves way.new.items }
-    ensures leads { LeadsTo trie.now.leaves (letters_of way.new.items) result }
+    ensures leads { LeadGoesTo trie.now.leaves (letters_of way.new.items) result }
     ensures last { leaves_to trie.now.leaves (letters_of way.new.items) ≡ first_leaf trie.now.leaves (letters_of way.old.items) }
+    ensures spots { All (HasSpot trie.now) way.new.items }
     ensures capacity { way.new.capacity ≡ way.old.capacity }
 {
     while let Some(pass) = way.pop() {
@@ -50,6 +62,7 @@ pub(crate) fn turn_before<A: Allocator>(trie: &Trie<A>, way: &mut Way) -> Lead
             way.push_reserved(Pass {
                 node: pass.node,
                 letter: branch.letter,
+                spot: None,
             });
             return branch.lead;
         }
@@ -58,14 +71,23 @@ pub(crate) fn turn_before<A: Allocator>(trie: &Trie<A>, way: &mut Way) -> Lead
 }
 
 /// Goes on down to the first leaf below, and gives its slot.
-pub(crate) fn go_first<A: Allocator>(trie: &Trie<A>, lead: Lead, way: &mut Way) -> u64
+pub(crate) fn go_first<A: Allocator>(
+    trie: &Trie<A>,
+    lead: Lead,
+    way: &mut Way,
+    marks: &mut Marks,
+) -> u64
     requires stands { MayStand trie.now.hash_bits trie.now.real_bits trie.now.cutoff trie.now.leaves }
     requires way { IsWay trie.now.leaves way.old.items }
-    requires leads { LeadsTo trie.now.leaves (letters_of way.old.items) lead }
+    requires spots { All (HasSpot trie.now) way.old.items }
+    requires leads { LeadGoesTo trie.now.leaves (letters_of way.old.items) lead }
+    requires marks { All (IsMark trie.now) marks.old.items }
     requires room { height trie.now.leaves ≤ way.old.capacity }
     ensures way { IsWay trie.now.leaves way.new.items }
     ensures slot { IsSlotAt trie.now.leaves result (letters_of way.new.items) }
     ensures first { first_leaf trie.now.leaves (letters_of way.new.items) ≡ first_leaf trie.now.leaves (letters_of way.old.items) }
+    ensures spots { All (HasSpot trie.now) way.new.items }
+    ensures marks { All (IsMark trie.now) marks.new.items }
     ensures capacity { way.new.capacity ≡ way.old.capacity }
 {
     let mut lead = lead;
@@ -73,10 +95,11 @@ pub(crate) fn go_first<A: Allocator>(trie: &Trie<A>, lead: Lead, way: &mut Way) 
         match lead {
             Lead::Leaf(slot) => return slot,
             Lead::Node(node) => {
-                let branch = first_branch(trie, node);
+                let (branch, spot) = first_marked(trie, node, marks);
                 way.push_reserved(Pass {
                     node,
                     letter: branch.letter,
+                    spot,
                 });
                 lead = branch.lead;
             }
@@ -88,11 +111,13 @@ pub(crate) fn go_first<A: Allocator>(trie: &Trie<A>, lead: Lead, way: &mut Way) 
 pub(crate) fn go_last<A: Allocator>(trie: &Trie<A>, lead: Lead, way: &mut Way) -> u64
     requires stands { MayStand trie.now.hash_bits trie.now.real_bits trie.now.cutoff trie.now.leaves }
     requires way { IsWay trie.now.leaves way.old.items }
-    requires leads { LeadsTo trie.now.leaves (letters_of way.old.items) lead }
+    requires spots { All (HasSpot trie.now) way.old.items }
+    requires leads { LeadGoesTo trie.now.leaves (letters_of way.old.items) lead }
     requires room { height trie.now.leaves ≤ way.old.capacity }
     ensures way { IsWay trie.now.leaves way.new.items }
     ensures slot { IsSlotAt trie.now.leaves result (letters_of way.new.items) }
     ensures last { leaves_to trie.now.leaves (letters_of way.new.items) ≡ leaves_to trie.now.leaves (letters_of way.old.items) }
+    ensures spots { All (HasSpot trie.now) way.new.items }
     ensures capacity { way.new.capacity ≡ way.old.capacity }
 {
     let mut lead = lead;
@@ -104,6 +129,7 @@ pub(crate) fn go_last<A: Allocator>(trie: &Trie<A>, lead: Lead, way: &mut Way) -
                 way.push_reserved(Pass {
                     node,
                     letter: branch.letter,
+                    spot: None,
                 });
                 lead = branch.lead;
             }

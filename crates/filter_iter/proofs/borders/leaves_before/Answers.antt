@@ -1,8 +1,9 @@
-use Rattle.std.proofs.Common.{ℕ, arith, subst, sym, ◌∙◌}
-use Rattle.filter_iter.proofs.Steps.{below_border, last_border, room}
-use Rattle.filter_iter.specs.Borders.{IsBorder}
-use Rattle.trie_model.specs.Halves.{begin_of}
+use Rattle.std.proofs.Common.{◌≡◌, ℕ, arith, ap, subst, ◌∙◌}
+use Rattle.filter_iter.proofs.Steps.{below_border, last_border, room, starts_before}
+use Rattle.filter_iter.specs.Borders.{IsBorder, leaves_at}
+use Rattle.filter_model.specs.Trie.{height}
 use Rattle.filter_trie.specs.Places.{trie}
+use Rattle.trie_model.specs.Halves.{begin_of}
 use Rattle.filter_iter.proofs.borders.leaves_before.Goals as goal
 
 pub below-border-requires-clause-room : goal.below-border-requires-clause-room
@@ -11,10 +12,21 @@ below-border-requires-clause-room g c =
 
 pub loop-preserved : goal.loop-preserved
 loop-preserved g c =
-    let b = below_border c.args.trie.now.hash_bits c.args.trie.now.real_bits c.args.trie.now.leaves c.requires.stands.valid c.loop.counter c.loop.border c.below-border.result c.loop.invariant.0 (omega (arith, c.loop-test.true, c.requires.height)) c.below-border.ensures.first c.below-border.ensures.node c.below-border.ensures.above in
+    let b = below_border c.args.trie.now.hash_bits c.args.trie.now.real_bits c.args.trie.now.leaves c.requires.stands.valid c.loop.counter c.loop.border c.below-border.result c.loop.invariant.0 (omega (arith, c.loop-test.true, c.requires.height)) c.below-border.ensures.node c.below-border.ensures.sum in
     (b.0, b.1 ∙ c.loop.invariant.1)
+
+pub overflow_sub-result : goal.overflow_sub-result
+overflow_sub-result g c =
+    let last : c.loop.counter ≡ height c.args.trie.now.leaves = omega (arith, c.loop-test.false, c.requires.height, c.loop.invariant.0.high) in
+    omega (arith, c.level_starts.ensures, starts_before c.args.trie.now.hash_bits c.args.trie.now.real_bits c.args.trie.now.leaves c.requires.stands.valid c.loop.border (subst (λ (n : ℕ). IsBorder c.args.trie.now.leaves n c.loop.border) last c.loop.invariant.0))
 
 pub returns : goal.returns
 returns g c =
-    sym (last_border c.args.trie.now.hash_bits c.args.trie.now.real_bits c.args.trie.now.leaves c.requires.stands.valid c.loop.border
-    (subst (λ (n : ℕ). IsBorder c.args.trie.now.leaves n c.loop.border) (omega (arith, c.loop-test.false, c.requires.height, c.loop.invariant.0.high)) c.loop.invariant.0)) ∙ c.loop.invariant.1
+    let last : c.loop.counter ≡ height c.args.trie.now.leaves = omega (arith, c.loop-test.false, c.requires.height, c.loop.invariant.0.high) in
+    omega (
+      arith,
+      c.level_starts.ensures,
+      last_border c.args.trie.now.hash_bits c.args.trie.now.real_bits c.args.trie.now.leaves c.requires.stands.valid c.loop.border (subst (λ (n : ℕ). IsBorder c.args.trie.now.leaves n c.loop.border) last c.loop.invariant.0),
+      ap (λ (n : ℕ). leaves_at c.args.trie.now.leaves n c.loop.border) last,
+      c.loop.invariant.1,
+    )

@@ -1,6 +1,8 @@
 use Rattle.std.specs.Prelude.{◌≡◌, length}
+use Rattle.std.specs.List.{All}
 use Rattle.filter_iter.specs.Borders.{IsBorder, leaves_at}
-use Rattle.filter_iter.specs.Numbers.{IsBelow}
+use Rattle.filter_iter.specs.Numbers.{IsLeafBelow}
+use Rattle.filter_iter.specs.Spots.{HasSpot}
 use Rattle.filter_iter.specs.Ways.{IsWay, letters_of}
 use Rattle.filter_trie.specs.Walks.{IsNodeAt}
 use Rattle.trie_model.specs.Rests.{first_leaf}
@@ -10,5 +12,5 @@ use Rattle.filter_iter.proofs.numbers.find.Given as goal
 abbrev pub invariant-loop-level : goal.invariant-loop-level
 invariant-loop-level g l =
     IsNodeAt l.fn.trie.leaves l.border.node (letters_of l.way.items) × (length (letters_of l.way.items) ≡ l.level) × IsBorder l.fn.trie.leaves l.level l.border
-    × (leaves_at l.fn.trie.leaves l.border ≡ first_leaf l.fn.trie.leaves (letters_of l.way.items)) × IsBelow l.fn.trie.leaves (letters_of l.way.items) l.fn.n
-    × IsWay l.fn.trie.leaves l.way.items × (l.way.capacity ≡ l.initial.way.capacity)
+    × (leaves_at l.fn.trie.leaves l.level l.border ≡ first_leaf l.fn.trie.leaves (letters_of l.way.items)) × IsLeafBelow l.fn.trie.leaves (letters_of l.way.items) l.fn.n
+    × IsWay l.fn.trie.leaves l.way.items × (l.way.capacity ≡ l.initial.way.capacity) × All (HasSpot l.fn.trie) l.way.items

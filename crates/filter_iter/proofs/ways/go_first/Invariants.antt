@@ -1,5 +1,7 @@
 use Rattle.std.specs.Prelude.{◌≡◌, ◌-◌, length}
-use Rattle.filter_iter.specs.Ways.{IsWay, LeadsTo, letters_of}
+use Rattle.std.specs.List.{All}
+use Rattle.filter_iter.specs.Spots.{HasSpot, IsMark}
+use Rattle.filter_iter.specs.Ways.{IsWay, LeadGoesTo, letters_of}
 use Rattle.trie_model.specs.Rests.{first_leaf}
 use Rattle.filter_model.specs.Trie.{height}
 use Rattle.filter_iter.proofs.ways.go_first.Given as goal
@@ -7,7 +9,7 @@ use Rattle.filter_iter.proofs.ways.go_first.Given as goal
 -- what comes before the way stays the same
 abbrev pub invariant-loop-lead : goal.invariant-loop-lead
 invariant-loop-lead g l =
-    IsWay l.fn.trie.leaves l.way.items × LeadsTo l.fn.trie.leaves (letters_of l.way.items) l.lead × (first_leaf l.fn.trie.leaves (letters_of l.way.items) ≡ first_leaf l.fn.trie.leaves (letters_of l.initial.way.items)) × (l.way.capacity ≡ l.initial.way.capacity)
+    IsWay l.fn.trie.leaves l.way.items × LeadGoesTo l.fn.trie.leaves (letters_of l.way.items) l.lead × (first_leaf l.fn.trie.leaves (letters_of l.way.items) ≡ first_leaf l.fn.trie.leaves (letters_of l.initial.way.items)) × (l.way.capacity ≡ l.initial.way.capacity) × All (HasSpot l.fn.trie) l.way.items × All (IsMark l.fn.trie) l.marks.items
 
 abbrev pub decreases-loop-lead : goal.decreases-loop-lead
 decreases-loop-lead g l = height l.fn.trie.leaves - length l.way.items

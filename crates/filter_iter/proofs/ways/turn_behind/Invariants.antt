@@ -1,11 +1,13 @@
 use Rattle.std.specs.Prelude.{◌≡◌, length}
+use Rattle.std.specs.List.{All}
+use Rattle.filter_iter.specs.Spots.{HasSpot, IsMark}
 use Rattle.filter_iter.specs.Ways.{IsWay, letters_of, leaves_to}
 use Rattle.filter_iter.proofs.ways.turn_behind.Given as goal
 
 -- what comes behind the way stays the same
 abbrev pub invariant-loop-pass : goal.invariant-loop-pass
 invariant-loop-pass g l =
-    IsWay l.fn.trie.leaves l.way.items × (leaves_to l.fn.trie.leaves (letters_of l.way.items) ≡ leaves_to l.fn.trie.leaves (letters_of l.initial.way.items)) × (l.way.capacity ≡ l.initial.way.capacity)
+    IsWay l.fn.trie.leaves l.way.items × (leaves_to l.fn.trie.leaves (letters_of l.way.items) ≡ leaves_to l.fn.trie.leaves (letters_of l.initial.way.items)) × (l.way.capacity ≡ l.initial.way.capacity) × All (HasSpot l.fn.trie) l.way.items × All (IsMark l.fn.trie) l.marks.items
 
 abbrev pub decreases-loop-pass : goal.decreases-loop-pass
 decreases-loop-pass g l = length l.way.items

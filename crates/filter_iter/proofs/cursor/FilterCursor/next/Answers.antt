@@ -9,5 +9,7 @@ pub invariant_of-self : goal.invariant_of-self
 invariant_of-self g c = record {
   stands = c.self.invariant.stands;
   to = way_to c.self.inside.trie.now.hash_bits c.self.inside.trie.now.real_bits c.self.inside.trie.now.leaves c.self.invariant.stands.valid (c.self.inside.leaf + 1) c.go_first-self-inside.result c.go_first-self-inside.new.way.items c.go_first-self-inside.ensures.way c.go_first-self-inside.ensures.slot (c.go_first-self-inside.ensures.first ∙ c.turn_behind-lead.ensures.first ∙ behind_is c.self.inside.trie.now.hash_bits c.self.inside.trie.now.real_bits c.self.inside.trie.now.leaves c.self.invariant.stands.valid c.self.inside.leaf c.self.inside.slot c.self.inside.way.items c.self.invariant.to);
+  spots = c.go_first-self-inside.ensures.spots;
+  marks = c.go_first-self-inside.ensures.marks;
   room = omega (arith, c.go_first-self-inside.ensures.capacity, c.turn_behind-lead.ensures.capacity, c.self.invariant.room);
 }

@@ -1,0 +1,18 @@
+use Rattle.std.proofs.Common.{◌≡◌, Some, ap, sym, ◌∙◌}
+use Rattle.filter_iter.proofs.Siblings.{found_branch}
+use Rattle.filter_iter.specs.Spots.{BeginsNode}
+use Rattle.filter_trie.specs.Places.{branch_number}
+use Rattle.filter_trie.specs.declared.place.Place.{Place}
+use Rattle.filter_trie.specs.declared.place.Place.TheVariants as in_half
+use Rattle.filter_iter.proofs.spots.search.Goals as goal
+
+pub returns-in_Some-Sparse-place : goal.returns-in_Some-Sparse-place
+returns-in_Some-Sparse-place g c =
+    let s : BeginsNode c.args.trie.now c.args.node c.in_ok-end.field-0 = c.in_ok-end.ensures in
+    let f : c.in_Some-Sparse-place.field-0 ≡ in_half.Sparse c.in_Some-Sparse-place.place = c.in_Some-Sparse-place.field-0-is in
+    record {
+      sparse = s.sparse;
+      branch = found_branch c.args.trie.now.leaves c.args.node c.args.byte (branch_number c.args.trie.now (in_half.Sparse c.in_Some-Sparse-place.place)) c.requires.node (ap (λ (p : Place). Some (branch_number c.args.trie.now p)) (sym f) ∙ c.in_Some-Sparse-place.ensures.place);
+      end = s.end;
+      within = s.within;
+    }

@@ -1,0 +1,92 @@
+//! Marks of where nodes begin: on each level the next node begins where the one that was left ends, so that it is not
+//! searched for.
+ghost use Rattle.std.specs.Prelude.{◌≡◌, ◌<◌, IfSome, length};
+ghost use Rattle.std.specs.List.{All};
+ghost use Rattle.filter_api.specs.Spellings.{MayStand};
+ghost use Rattle.filter_iter.specs.Spots.{BeginsNode, HasSpot, IsFirstBranch, IsMark, IsSpotIfKnown};
+ghost use Rattle.filter_model.specs.Trie.{nodes};
+
+use super::branches::first_branch;
+use super::parts::{Branch, Mark, Marks, Pass, Spot};
+use super::spots::branch_at_spot;
+use filter_trie::Trie;
+use std::alloc::Allocator;
+
+/// Keeps where the node behind a pass's begins, if that is known and there is room.
+pub(crate) fn leave<A: Allocator>(_trie: &Trie<A>, pass: Pass, marks: &mut Marks)
+    requires stands { MayStand _trie.now.hash_bits _trie.now.real_bits _trie.now.cutoff _trie.now.leaves }
+    requires spot { HasSpot _trie.now pass }
+    requires node { pass.node < length (nodes _trie.now.leaves) }
+    requires marks { All (IsMark _trie.now) marks.old.items }
+    ensures { All (IsMark _trie.now) marks.new.items }
+{
+    if let Some(spot) = pass.spot {
+        if marks.len() < marks.capacity() {
+            marks.push_reserved(Mark {
+                node: pass.node + 1,
+                place: spot.end,
+            });
+        }
+    }
+}
+
+// Takes the last mark, if it is a node's.
+fn take_mark<A: Allocator>(_trie: &Trie<A>, node: u64, marks: &mut Marks) -> Option<Mark>
+    requires { All (IsMark _trie.now) marks.old.items }
+    ensures mark { IfSome result (λ mark. IsMark _trie.now mark × (mark.node ≡ node)) }
+    ensures marks { All (IsMark _trie.now) marks.new.items }
+{
+    let mark = marks.pop()?;
+    if mark.node == node {
+        return Some(mark);
+    }
+    if marks.len() < marks.capacity() {
+        marks.push_reserved(mark);
+    }
+    None
+}
+
+// The spot of the first branch of a node that begins at a mark.
+fn marked_spot<A: Allocator>(trie: &Trie<A>, mark: Mark) -> Spot
+    requires stands { MayStand trie.now.hash_bits trie.now.real_bits trie.now.cutoff trie.now.leaves }
+    requires node { mark.node < length (nodes trie.now.leaves) }
+    requires mark { IsMark trie.now mark }
+    ensures { BeginsNode trie.now mark.node result }
+{
+    let place = mark.place;
+    let places = trie.sparse().place_count();
+    match trie
+        .sparse()
+        .louds_bits()
+        .first_one_from(place as usize + 1)
+    {
+        Some(end) => Spot {
+            place,
+            end: end as u64,
+        },
+        None => Spot { place, end: places },
+    }
+}
+
+/// The first branch of a node, and its spot where the node is in the sparse half. The node's mark is used up, if it is the
+/// last one.
+pub(crate) fn first_marked<A: Allocator>(
+    trie: &Trie<A>,
+    node: u64,
+    marks: &mut Marks,
+) -> (Branch, Option<Spot>)
+    requires stands { MayStand trie.now.hash_bits trie.now.real_bits trie.now.cutoff trie.now.leaves }
+    requires node { node < length (nodes trie.now.leaves) }
+    requires marks { All (IsMark trie.now) marks.old.items }
+    ensures branch { IsFirstBranch trie.now.leaves node result.0 }
+    ensures spot { IsSpotIfKnown trie.now node result.0.letter result.1 }
+    ensures marks { All (IsMark trie.now) marks.new.items }
+{
+    match take_mark(trie, node, marks) {
+        Some(mark) => {
+            let spot = marked_spot(trie, mark);
+            (branch_at_spot(trie, node, spot), Some(spot))
+        }
+        None => first_branch(trie, node),
+    }
+}
