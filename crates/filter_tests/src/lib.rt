@@ -1,6 +1,6 @@
 //! Tests of the filters' room: levels of tries from the keys themselves; the halves of a trie, cut at each level, against
-//! plain loops over its branches; ranges over tries against plain filters of the same keys; and the images of tries against
-//! a slow judge.
+//! plain loops over its branches; ranges over tries and succinct filters against plain filters of the same keys; and the
+//! images of tries against a slow judge.
 //!
 //! Nothing is exported. What the tests show at some keys their crates prove at all; here keys, their stubs, the plan of
 //! their trie and its cutoff come together, and sets of keys, the nodes of their trie, its calls and its image.
@@ -19,7 +19,17 @@ mod cursors;
 #[cfg(test)]
 mod cutoffs;
 #[cfg(test)]
+mod filter_images;
+#[cfg(test)]
+mod filter_rows;
+#[cfg(test)]
+mod filter_sets;
+#[cfg(test)]
+mod filters;
+#[cfg(test)]
 mod halves;
+#[cfg(test)]
+mod heaps;
 #[cfg(test)]
 mod images;
 #[cfg(test)]

@@ -69,8 +69,9 @@ fn check_place(
 fn check_before(rt: &impl Abort, trie: &Trie<Global>, plain: &Plain, place: Place, number: usize)
     requires { IsWithin trie.now place }
 {
-    assert!(rt; trie.leaf_slot(place) == plain.leaf_slot(number));
-    assert!(rt; trie.first_below(place) == plain.first_below(number));
+    let before = (plain.leaf_slot(number), plain.first_below(number));
+    assert!(rt; (trie.leaf_slot(place), trie.first_below(place)) == before);
+    assert!(rt; trie.before_place(place) == before);
 }
 
 // The branch by a byte, which is at most FF.
@@ -104,6 +105,7 @@ fn check_node(rt: &impl Abort, trie: &Trie<Global>, plain: &Plain, node: u64)
     assert!(rt; trie.prefix_slot(node) == plain.end_slot(node as usize));
     assert!(rt; trie.slots_before(node) == plain.leaf_slot(first));
     assert!(rt; trie.first_below(trie.first_place(node)) == plain.first_below(first));
+    assert!(rt; trie.before_node(node) == (plain.leaf_slot(first), plain.first_below(first)));
     for letter in LETTERS {
         let byte = u16::from(letter);
         check_branch(rt, trie, plain, node, letter);
@@ -121,9 +123,11 @@ fn slot_in(walk: Walk) -> Option<u64> {
     }
 }
 
-// A walk, and one whose steps are counted.
+// A walk, one that tells the stub's length, and one whose steps are counted.
 fn check_walk(rt: &impl Abort, trie: &Trie<Global>, plain: &Plain, key: &[u8]) {
-    let slot = plain.walk(key);
+    let leaf = plain.walk(key);
+    let slot = leaf.map(|leaf| leaf.0);
+    assert!(rt; trie.walk_to(key) == leaf);
     assert!(rt; slot_in(trie.walk(key)) == slot);
     assert!(rt; slot_in(counted(trie, key)) == slot);
 }
@@ -153,6 +157,7 @@ fn check_nodes(rt: &impl Abort, trie: &Trie<Global>, plain: &Plain) {
         check_node(rt, trie, plain, node);
     }
     assert!(rt; !has_node(trie, plain.node_count() as u64));
+    assert!(rt; trie.level_starts() == plain.level_starts());
 }
 
 fn check_trie(

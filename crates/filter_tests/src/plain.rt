@@ -203,6 +203,21 @@ impl Plain {
         self.count_before(place, false)
     }
 
+    /// The leaves before the first node of each level, together. No key of the sets has ten letters.
+    pub(crate) fn level_starts(&self) -> u64 {
+        let mut node = 0;
+        let mut starts = 0u64;
+        for _ in 0..10 {
+            if node >= self.node_count() {
+                return starts;
+            }
+            let first = self.range(node).0;
+            starts = starts.saturating_add(self.leaf_slot(first));
+            node = self.first_below(first) as usize;
+        }
+        u64::MAX
+    }
+
     /// The slot of a place's least leaf, by first branches. No key of the sets has ten letters.
     pub(crate) fn leftmost(&self, place: usize) -> u64 {
         let mut place = place;
@@ -215,17 +230,17 @@ impl Plain {
         u64::MAX
     }
 
-    /// The slot of the leaf that a key leads to.
-    pub(crate) fn walk(&self, key: &[u8]) -> Option<u64> {
+    /// The slot of the leaf that a key leads to, and how many bytes its stub has.
+    pub(crate) fn walk(&self, key: &[u8]) -> Option<(u64, usize)> {
         let mut node = 0;
-        for byte in key {
-            let place = self.branch(node, u16::from(*byte))? as usize;
+        for i in 0..key.len() {
+            let place = self.branch(node, u16::from(key[i]))? as usize;
             match self.child(place) {
                 Some(child) => node = child as usize,
-                None => return Some(self.leaf_slot(place)),
+                None => return Some((self.leaf_slot(place), i + 1)),
             }
         }
-        self.end_slot(node)
+        Some((self.end_slot(node)?, key.len()))
     }
 
     /// The slot of a node's END.

@@ -74,6 +74,8 @@ fn check_back(rt: &impl Abort, alloc: Global, trie: &Trie<Global>) -> Result<(),
     assert!(rt; cursor.leaf() == 2);
     assert!(rt; cursor.slot() == 0);
     check_prev(rt, &mut cursor, true, 1);
+    check_next(rt, &mut cursor, true, 2);
+    check_prev(rt, &mut cursor, true, 1);
     check_prev(rt, &mut cursor, true, 0);
     check_prev(rt, &mut cursor, false, 0);
     Ok(())

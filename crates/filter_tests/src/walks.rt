@@ -143,6 +143,21 @@ fn a_chain_by_ff_is_walked_to_its_end(rt: HostRuntime) -> Result<(), Fail> {
     Ok(())
 }
 
+#[test]
+fn a_walk_tells_how_long_the_stub_is(rt: HostRuntime) -> Result<(), Fail> {
+    let keys = list_of_words(rt.alloc(), &[b"far", b"fast", b"s", b"so", b"top"])?;
+    for cutoff in 0..=3 {
+        let trie = trie_of(rt.alloc(), &keys, cutoff)?;
+        assert!(rt; trie.walk_to(b"fasten") == Some((4, 3)));
+        assert!(rt; trie.walk_to(b"toy") == Some((0, 1)));
+        assert!(rt; trie.walk_to(b"s") == Some((1, 1)));
+        assert!(rt; trie.walk_to(b"sou") == Some((2, 2)));
+        assert!(rt; trie.walk_to(b"sun").is_none());
+        assert!(rt; trie.walk_to(b"fa").is_none());
+    }
+    Ok(())
+}
+
 // Walks every key: each leads to a leaf of its own, which has the key's hash bits.
 fn check_keys(
     rt: &impl Abort,

@@ -1,5 +1,4 @@
 pub mod Cutoffs
 pub mod SlotLeaves
 pub mod Points
-pub mod Ways
 pub mod Refusals

@@ -16,9 +16,10 @@ use Rattle.filter_model.specs.Strings.{bits, bytes_eq, is_prefix, prefix_number}
 use Rattle.filter_model.specs.Trie.{END, path, slots}
 use Rattle.filter_model.specs.Valid.{IsLeaf, IsValid}
 use Rattle.filter_trie.proofs.Reached.{prefix_refl, prefix_take}
+use Rattle.filter_trie.specs.Walks.{ReachesLeaf}
 use Rattle.suffix_bits.specs.Slots.{leaf_suffix}
 use Rattle.surf_filter.proofs.SlotLeaves.{IsLeafOf, ended_alike, leaf_of, one_reached, own_suffix, take_bytes}
-use Rattle.surf_filter.specs.Reaching.{ReachesLeaf, has_suffix, suffix_of_slot}
+use Rattle.surf_filter.specs.Reaching.{has_suffix, suffix_of_slot}
 use Rattle.trie_laws.proofs.Paths.{any_leaf, some_at}
 use Rattle.trie_laws.proofs.Slots.{leaves_have_slots}
 use Rattle.trie_levels.proofs.Totals.{valid_lists_have_tries}

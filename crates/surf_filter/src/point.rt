@@ -2,7 +2,8 @@
 ghost use Rattle.std.specs.Prelude.{◌≡◌, ◌<◌, length, None, MatchOption};
 ghost use Rattle.filter_api.specs.Spellings.{MayStand};
 ghost use Rattle.filter_model.specs.Answers.{point};
-ghost use Rattle.surf_filter.specs.Reaching.{ReachesLeaf, has_suffix};
+ghost use Rattle.filter_trie.specs.Walks.{ReachesLeaf};
+ghost use Rattle.surf_filter.specs.Reaching.{has_suffix};
 ghost use Rattle.trie_model.specs.Walks.{slot_of_key};
 
 use filter_trie::Trie;
@@ -27,34 +28,16 @@ pub(crate) fn holds<A: Allocator>(trie: &Trie<A>, key: &[u8]) -> bool
     }
 }
 
-// Goes down by the bytes of a key, to the leaf that it reaches.
+// The leaf that a key reaches, in a trie of a list that may stand.
 fn reached_leaf<A: Allocator>(trie: &Trie<A>, key: &[u8]) -> Option<LeafReached>
     ensures stands { MayStand trie.now.hash_bits trie.now.real_bits trie.now.cutoff trie.now.leaves }
     ensures leaf { MatchOption result (None ≡ slot_of_key trie.now.leaves key.now) (λ r. ReachesLeaf trie.now.leaves key.now r.slot r.stub) }
 {
     // The clause of the height says that the leaves are a list that may stand.
     let _ = trie.height();
-    let mut node = 0;
-    for i in 0..key.len() {
-        match trie.branch(node, key[i]) {
-            None => return None,
-            Some(place) => match trie.child(place) {
-                Some(child) => node = child,
-                None => {
-                    return Some(LeafReached {
-                        slot: trie.leaf_slot(place),
-                        stub: i + 1,
-                    });
-                }
-            },
-        }
-    }
-    match trie.prefix_slot(node) {
+    match trie.walk_to(key) {
         None => None,
-        Some(slot) => Some(LeafReached {
-            slot,
-            stub: key.len(),
-        }),
+        Some((slot, stub)) => Some(LeafReached { slot, stub }),
     }
 }
 
