@@ -6,6 +6,8 @@
 #![tactic(auto)]
 
 #[cfg(test)]
+mod allocations;
+#[cfg(test)]
 mod blocks;
 #[cfg(test)]
 mod damage;

@@ -10,7 +10,7 @@ use disk_mem::MemDisk;
 use filter_api::Settings;
 use key_base::{MAX_KEY_BYTES, MAX_VALUE_BYTES};
 use plain_filter::PlainFilter;
-use std::alloc::Global;
+use std::alloc::{AllocError, Global};
 use std::test::Fail;
 use table_file::{
     LARGEST_BLOCK_BYTES, Parts, Table, TableBuilder, TableCursor, TableFault, fits_device,
@@ -43,8 +43,12 @@ fn size_of(value: Option<&[u8]>) -> usize
     }
 }
 
-/// Adds an entry that a table takes behind the others.
-pub fn add(builder: &mut TableBuilder, key: &[u8], value: Option<&[u8]>) -> Result<(), Fail> {
+/// Adds an entry that a table takes behind the others, if there is memory.
+pub fn try_add(
+    builder: &mut TableBuilder,
+    key: &[u8],
+    value: Option<&[u8]>,
+) -> Result<Result<(), AllocError>, Fail> {
     if key.is_empty() || key.len() > MAX_KEY_BYTES {
         return Err(Fail::from("no key"));
     }
@@ -54,7 +58,12 @@ pub fn add(builder: &mut TableBuilder, key: &[u8], value: Option<&[u8]>) -> Resu
     if !builder.is_above_all(key) {
         return Err(Fail::from("no order"));
     }
-    builder.add(key, value)?;
+    Ok(builder.add(key, value))
+}
+
+/// Adds an entry that a table takes behind the others.
+pub fn add(builder: &mut TableBuilder, key: &[u8], value: Option<&[u8]>) -> Result<(), Fail> {
+    try_add(builder, key, value)??;
     Ok(())
 }
 
@@ -68,7 +77,16 @@ pub fn written(builder: TableBuilder, disk: &mut MemDisk) -> Result<(Parts<Plain
     if builder.is_empty() {
         return Err(Fail::from("no entries"));
     }
-    let parts: Parts<PlainFilter> = builder.finish()?;
+    placed(builder.finish()?, disk)
+}
+
+/// Parts, written to a disk, and their row.
+pub fn placed(
+    parts: Parts<PlainFilter>,
+    disk: &mut MemDisk,
+) -> Result<(Parts<PlainFilter>, Row), Fail>
+    ensures { IfOk result (λ w. FitsDevice w.1) }
+{
     if pages_of(&parts) > 1_000_000 {
         return Err(Fail::from("too long"));
     }
@@ -122,12 +140,17 @@ pub fn numbered(alloc: Global, entries: u16) -> Result<TableBuilder, Fail> {
     Ok(builder)
 }
 
+/// Room for a block.
+pub fn room(alloc: Global) -> Result<Vec<u8>, AllocError> {
+    vec![in alloc; 0; LARGEST_BLOCK_BYTES]
+}
+
 /// A table that was written and opened, its disk, and room for a block.
 #[derive(Drop)]
 pub struct Made {
     pub disk: MemDisk,
     pub table: Table<PlainFilter>,
-    buf: Vec<u8>,
+    pub buf: Vec<u8>,
 }
 
 impl Made {
@@ -142,7 +165,7 @@ impl Made {
         let Ok(table) = opened(alloc, &mut disk, &row)? else {
             return Err(Fail::from("not opened"));
         };
-        let buf = vec![in alloc; 0; LARGEST_BLOCK_BYTES]?;
+        let buf = room(alloc)?;
         Ok(Made { disk, table, buf })
     }
 
