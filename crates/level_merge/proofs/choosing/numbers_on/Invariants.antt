@@ -1,0 +1,8 @@
+use Rattle.std.proofs.Common.{◌≡◌, ◌++◌, map, drop}
+use Rattle.level_merge.specs.Outlines.{table_number, outlines}
+use Rattle.state_model.specs.Merges.{on_level}
+use Rattle.level_merge.proofs.choosing.numbers_on.Given as goal
+
+-- those so far and those among what is left
+abbrev pub invariant-loop-place : goal.invariant-loop-place
+invariant-loop-place g l = l.which.items ++ map table_number (on_level l.level (outlines (drop l.place l.tables))) ≡ map table_number (on_level l.level (outlines l.tables))

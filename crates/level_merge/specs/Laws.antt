@@ -1,0 +1,16 @@
+-- The tables of a device are those of its state.
+use Rattle.std.specs.Prelude.{List}
+use Rattle.disk_trait.specs.Image.{Image}
+use Rattle.entry_model.specs.Entries.{Entry}
+use Rattle.filter_api.specs.Spellings.{Spelling}
+use Rattle.filter_api.specs.declared.settings.Settings.{Settings}
+use Rattle.level_merge.specs.Plans.{Agrees}
+use Rattle.table_file.specs.Opened.{Opened}
+use Rattle.table_file.specs.Search.{StandsThere}
+use Rattle.table_model.specs.Images.{table_with}
+
+-- an open table that stands on a device agrees with the table of its row and its blocks
+abbrev pub StandingAgrees : Type 0
+StandingAgrees =
+    (spelling : Spelling) (settings : Settings) (t : Opened) (blocks : List (List Entry)) (image : Image) → StandsThere spelling settings t blocks image
+    → Agrees t (table_with t.row blocks)

@@ -1,0 +1,11 @@
+pub mod FirstFills
+pub mod Fills
+pub mod Least
+pub mod Keys
+pub mod Memories
+pub mod Merged
+pub mod Rank
+pub mod RowSteps
+pub mod Standing
+pub mod Stays
+pub mod Steps

@@ -1,0 +1,190 @@
+use Rattle.std.proofs.Common.{◌≡◌, ◌≤◌, ◌∙◌, true, false, sym, subst, arith}
+use Rattle.std.specs.Prelude.{IsTrue, is_some}
+use Rattle.std.proofs.lemmas.Bool.{false≢true}
+use Rattle.disk_trait.specs.Image.{Image}
+use Rattle.key_base.specs.Limits.{max_key_bytes}
+use Rattle.merge_rows.specs.Merges.{Merge, merged_left}
+use Rattle.merge_rows.specs.Reads.{wanted}
+use Rattle.merge_rows.specs.Steps.{HandsOutRow, IsPaced, IsSoundMerge, SourcesStay, StaysAt}
+use Rattle.table_file.specs.Search.{IsGetFault}
+use Rattle.merge_rows.proofs.Rank.{falls, key_of_entry}
+use Rattle.merge_rows.proofs.RowSteps.{fault_step, hidden_drops, hidden_step, none_step, rises_on, row_step, sources_then}
+use Rattle.merge_rows.proofs.Stays.{only_both, still_some}
+use Rattle.merge_rows.proofs.Steps.{rises_then}
+use Rattle.merge_rows.proofs.rows.MergeRows.advance.Goals as goal
+
+pub returns-in-Ok-false-clause-moves : goal.returns-in-Ok-false-clause-moves
+returns-in-Ok-false-clause-moves g c =
+    only_both (g.D.Disk.world c.args.disk.now) (g.D.Disk.world c.loop-why.disk) (g.D.Disk.world c.step.new.disk) c.loop-why.invariant.moves c.step.ensures.moves
+
+pub returns-in-Ok-false-clause-kept : goal.returns-in-Ok-false-clause-kept
+returns-in-Ok-false-clause-kept g c =
+    let tells = g.D.Disk.tells in
+    let tables = c.args.tables.now.tables in
+    let before = g.D.Disk.world c.args.disk.now in
+    let mid = g.D.Disk.world c.loop-why.disk in
+    let after = g.D.Disk.world c.step.new.disk in
+    let image = before.seen.held in
+    let first = c.args.self.now in
+    let old = c.loop-why.self in
+    let new = c.step.new.self in
+    let from = c.loop-why.invariant in
+    let held = from.moves.1.held in
+    let kept : SourcesStay tells tables image old new = subst (λ (h : Image). SourcesStay tells tables h old new) held c.step.ensures.kept in
+    sources_then tells tables image first old new from.stay kept
+
+pub returns-in-Err-clause-moves : goal.returns-in-Err-clause-moves
+returns-in-Err-clause-moves g c =
+    only_both (g.D.Disk.world c.args.disk.now) (g.D.Disk.world c.loop-why.disk) (g.D.Disk.world c.step.new.disk) c.loop-why.invariant.moves c.step.ensures.moves
+
+pub returns-in-Err-clause-kept : goal.returns-in-Err-clause-kept
+returns-in-Err-clause-kept g c =
+    let tells = g.D.Disk.tells in
+    let tables = c.args.tables.now.tables in
+    let before = g.D.Disk.world c.args.disk.now in
+    let mid = g.D.Disk.world c.loop-why.disk in
+    let after = g.D.Disk.world c.step.new.disk in
+    let image = before.seen.held in
+    let first = c.args.self.now in
+    let old = c.loop-why.self in
+    let new = c.step.new.self in
+    let from = c.loop-why.invariant in
+    let held = from.moves.1.held in
+    let kept : SourcesStay tells tables image old new = subst (λ (h : Image). SourcesStay tells tables h old new) held c.step.ensures.kept in
+    sources_then tells tables image first old new from.stay kept
+
+pub returns-then-is_shown-clause-moves : goal.returns-then-is_shown-clause-moves
+returns-then-is_shown-clause-moves g c =
+    only_both (g.D.Disk.world c.args.disk.now) (g.D.Disk.world c.loop-why.disk) (g.D.Disk.world c.step.new.disk) c.loop-why.invariant.moves c.step.ensures.moves
+
+pub returns-then-is_shown-clause-kept : goal.returns-then-is_shown-clause-kept
+returns-then-is_shown-clause-kept g c =
+    let tells = g.D.Disk.tells in
+    let tables = c.args.tables.now.tables in
+    let before = g.D.Disk.world c.args.disk.now in
+    let mid = g.D.Disk.world c.loop-why.disk in
+    let after = g.D.Disk.world c.step.new.disk in
+    let image = before.seen.held in
+    let first = c.args.self.now in
+    let old = c.loop-why.self in
+    let new = c.step.new.self in
+    let from = c.loop-why.invariant in
+    let held = from.moves.1.held in
+    let kept : SourcesStay tells tables image old new = subst (λ (h : Image). SourcesStay tells tables h old new) held c.step.ensures.kept in
+    sources_then tells tables image first old new from.stay kept
+
+pub returns-in-Ok-false-clause-row : goal.returns-in-Ok-false-clause-row
+returns-in-Ok-false-clause-row g c =
+    let tells = g.D.Disk.tells in
+    let tables = c.args.tables.now.tables in
+    let before = g.D.Disk.world c.args.disk.now in
+    let mid = g.D.Disk.world c.loop-why.disk in
+    let after = g.D.Disk.world c.step.new.disk in
+    let image = before.seen.held in
+    let first = c.args.self.now in
+    let old = c.loop-why.self in
+    let new = c.step.new.self in
+    let from = c.loop-why.invariant in
+    let held = from.moves.1.held in
+    let kept : SourcesStay tells tables image old new = subst (λ (h : Image). SourcesStay tells tables h old new) held c.step.ensures.kept in
+    let hands : IsTrue tells → IsSoundMerge old tables image → HandsOutRow new.now (merged_left old tables image) (merged_left new tables image) =
+    subst (λ (h : Image). IsTrue tells → IsSoundMerge old tables h → HandsOutRow new.now (merged_left old tables h) (merged_left new tables h)) held c.in-Ok-false.ensures.rows in
+    let none : is_some new.now ≡ false = sym c.in-Ok-false.ensures.said ∙ c.in-Ok-false.field-0-test in
+    none_step tells tables image first old new from.stay from.rows from.rises kept hands c.in-Ok-false.ensures.passes none
+
+pub returns-then-is_shown-clause-row : goal.returns-then-is_shown-clause-row
+returns-then-is_shown-clause-row g c =
+    let tells = g.D.Disk.tells in
+    let tables = c.args.tables.now.tables in
+    let before = g.D.Disk.world c.args.disk.now in
+    let mid = g.D.Disk.world c.loop-why.disk in
+    let after = g.D.Disk.world c.step.new.disk in
+    let image = before.seen.held in
+    let first = c.args.self.now in
+    let old = c.loop-why.self in
+    let new = c.step.new.self in
+    let from = c.loop-why.invariant in
+    let held = from.moves.1.held in
+    let kept : SourcesStay tells tables image old new = subst (λ (h : Image). SourcesStay tells tables h old new) held c.step.ensures.kept in
+    let hands : IsTrue tells → IsSoundMerge old tables image → HandsOutRow new.now (merged_left old tables image) (merged_left new tables image) =
+    subst (λ (h : Image). IsTrue tells → IsSoundMerge old tables h → HandsOutRow new.now (merged_left old tables h) (merged_left new tables h)) held c.in-Ok-true.ensures.rows in
+    let some : is_some new.now ≡ true = sym c.in-Ok-true.ensures.said ∙ c.in-Ok-true.field-0-test in
+    row_step tells tables image first old new from.stay from.rows from.rises kept hands c.in-Ok-true.ensures.passes some c.if-is_shown.ensures
+
+pub returns-in-Err-clause-stays : goal.returns-in-Err-clause-stays
+returns-in-Err-clause-stays g c =
+    let tells = g.D.Disk.tells in
+    let tables = c.args.tables.now.tables in
+    let before = g.D.Disk.world c.args.disk.now in
+    let mid = g.D.Disk.world c.loop-why.disk in
+    let after = g.D.Disk.world c.step.new.disk in
+    let image = before.seen.held in
+    let first = c.args.self.now in
+    let old = c.loop-why.self in
+    let new = c.step.new.self in
+    let from = c.loop-why.invariant in
+    let held = from.moves.1.held in
+    let kept : SourcesStay tells tables image old new = subst (λ (h : Image). SourcesStay tells tables h old new) held c.step.ensures.kept in
+    fault_step tells tables image first old new from.rows from.rises (subst (λ (h : Image). StaysAt tells tables h old new) held c.in-Err.ensures.stays)
+
+pub returns-in-Err-clause-fault : goal.returns-in-Err-clause-fault
+returns-in-Err-clause-fault g c t =
+    let is = c.in-Err.ensures.fault t in
+    (is.0, is.1, is.2, is.3, is.4, subst (λ (h : Image). IsGetFault is.1 is.2 h c.in-Err.why) c.loop-why.invariant.moves.1.held is.5)
+
+pub loop-why-smaller : goal.loop-why-smaller
+loop-why-smaller g c =
+    let new = c.step.new.self in
+    let some : is_some new.now ≡ true = sym c.in-Ok-true.ensures.said ∙ c.in-Ok-true.field-0-test in
+    falls max_key_bytes new.now c.loop-why.self.floor new.floor some c.in-Ok-true.ensures.passes (key_of_entry new.now c.in-Ok-true.ensures.sound)
+
+pub loop-why-preserved : goal.loop-why-preserved
+loop-why-preserved g c =
+    let tells = g.D.Disk.tells in
+    let tables = c.args.tables.now.tables in
+    let before = g.D.Disk.world c.args.disk.now in
+    let mid = g.D.Disk.world c.loop-why.disk in
+    let after = g.D.Disk.world c.step.new.disk in
+    let image = before.seen.held in
+    let first = c.args.self.now in
+    let old = c.loop-why.self in
+    let new = c.step.new.self in
+    let from = c.loop-why.invariant in
+    let held = from.moves.1.held in
+    let kept : SourcesStay tells tables image old new = subst (λ (h : Image). SourcesStay tells tables h old new) held c.step.ensures.kept in
+    let hands : IsTrue tells → IsSoundMerge old tables image → HandsOutRow new.now (merged_left old tables image) (merged_left new tables image) =
+    subst (λ (h : Image). IsTrue tells → IsSoundMerge old tables h → HandsOutRow new.now (merged_left old tables h) (merged_left new tables h)) held c.in-Ok-true.ensures.rows in
+    let some : is_some new.now ≡ true = sym c.in-Ok-true.ensures.said ∙ c.in-Ok-true.field-0-test in
+    record {
+      stay = sources_then tells tables image first old new from.stay kept;
+      rows = hidden_step tells tables image first old new from.stay from.rows from.rises kept hands c.in-Ok-true.ensures.passes some c.if-is_shown.ensures;
+      rises = rises_then first.floor old.floor new.floor from.rises (rises_on new.now old.floor new.floor c.in-Ok-true.ensures.passes);
+      moves = only_both before mid after from.moves c.step.ensures.moves;
+      counted = λ t. let one = from.counted t in let two = c.in-Ok-true.ensures.counted t in omega (arith, one, two);
+      first = λ all. absurd (false≢true (sym all ∙ sym from.stay.drops_are ∙ sym kept.drops_are ∙ hidden_drops new.drops new.now some c.if-is_shown.ensures));
+    }
+
+pub returns-in-Err-clause-met : goal.returns-in-Err-clause-met
+returns-in-Err-clause-met g c = still_some c.loop-why.self.walks c.args.self.now.walks c.loop-why.invariant.stay.numbers_are c.in-Err.ensures.met
+
+pub returns-in-Err-clause-owed : goal.returns-in-Err-clause-owed
+returns-in-Err-clause-owed g c t all sound =
+    let tables = c.args.tables.now.tables in
+    let old = c.loop-why.self in
+    let from = c.loop-why.invariant in
+    subst (λ (m : Merge). 1 ≤ wanted m tables) (from.first all).0
+    (subst (λ (h : Image). IsSoundMerge old tables h → 1 ≤ wanted old tables) from.moves.1.held (c.in-Err.ensures.owed t) (from.stay.sound t sound))
+
+pub returns-in-Ok-false-clause-paced : goal.returns-in-Ok-false-clause-paced
+returns-in-Ok-false-clause-paced g c t all =
+    let tables = c.args.tables.now.tables in
+    let from = c.loop-why.invariant in
+    subst (λ (m : Merge). IsPaced tables (g.D.Disk.world c.args.disk.now).seen.held m c.step.new.self) (from.first all).0
+    (subst (λ (h : Image). IsPaced tables h c.loop-why.self c.step.new.self) from.moves.1.held (c.in-Ok-false.ensures.paced t))
+
+pub returns-then-is_shown-clause-paced : goal.returns-then-is_shown-clause-paced
+returns-then-is_shown-clause-paced g c t all =
+    let tables = c.args.tables.now.tables in
+    let from = c.loop-why.invariant in
+    subst (λ (m : Merge). IsPaced tables (g.D.Disk.world c.args.disk.now).seen.held m c.step.new.self) (from.first all).0
+    (subst (λ (h : Image). IsPaced tables h c.loop-why.self c.step.new.self) from.moves.1.held (c.in-Ok-true.ensures.paced t))

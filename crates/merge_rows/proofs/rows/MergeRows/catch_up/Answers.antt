@@ -1,0 +1,56 @@
+use Rattle.std.proofs.Common.{◌≡◌, ◌∙◌, List, Bool, true, sym, ap, subst, arith}
+use Rattle.std.specs.Prelude.{Ok}
+use Rattle.disk_trait.specs.Image.{Image}
+use Rattle.disk_trait.specs.World.{ReadMoves}
+use Rattle.entry_model.specs.Entries.{Entry}
+use Rattle.merge_rows.specs.Reads.{IsFewer, wanted}
+use Rattle.merge_rows.specs.Steps.{IsCaughtUp, IsSoundMerge, StaysAt}
+use Rattle.table_file.specs.Search.{IsGetFault}
+use Rattle.table_file.specs.Walks.{first_of}
+use Rattle.merge_rows.proofs.FirstFills.{fewer_err, fewer_one}
+use Rattle.merge_rows.proofs.Stays.{fewer_then, only_then, stays_then, still_some}
+use Rattle.merge_rows.proofs.rows.MergeRows.catch_up.Goals as goal
+
+pub loop-why-preserved : goal.loop-why-preserved
+loop-why-preserved g c =
+    let tables = c.args.tables.now.tables in
+    let before = g.D.Disk.world c.args.disk.now in
+    let mid = g.D.Disk.world c.loop-why.disk in
+    let after = g.D.Disk.world c.fill.new.disk in
+    let old = c.loop-why.self in
+    let new = c.fill.new.self in
+    let from = c.loop-why.invariant in
+    let held = from.moves.1.held in
+    let is : c.fill.result ≡ Ok true = c.in-Ok-true.is ∙ ap (λ (b : Bool). Ok b) c.in-Ok-true.field-0-test in
+    record {
+      stays = stays_then g.D.Disk.tells tables before.seen.held c.args.self.now old new from.stays (subst (λ (h : Image). StaysAt g.D.Disk.tells tables h old new) held c.fill.ensures.stays);
+      memory = subst (λ (es : List Entry). IsCaughtUp c.args.self.now.floor (first_of es) es) (sym c.fill.ensures.memory) from.memory;
+      moves = only_then 2 before mid after from.moves c.fill.ensures.moves;
+      counted = λ t. let one = from.counted t in let two = c.in-Ok-true.ensures.counted t in omega (arith, one, two);
+      bounded = λ t s.
+          let once = subst (λ (h : Image). IsSoundMerge old tables h → ReadMoves 1 mid after × IsFewer c.fill.result (wanted old tables) (wanted new tables)) held (c.fill.ensures.once t) (from.stays.sources.sound t s) in
+          fewer_then (wanted c.args.self.now tables) (wanted old tables) (wanted new tables) before mid after (fewer_one c.fill.result (wanted old tables) (wanted new tables) is once.1) (from.bounded t s) once.0;
+    }
+
+pub returns-in-Err-clause-fault : goal.returns-in-Err-clause-fault
+returns-in-Err-clause-fault g c t =
+    let is = c.in-Err.ensures.fault t in
+    (is.0, is.1, is.2, is.3, is.4, subst (λ (h : Image). IsGetFault is.1 is.2 h c.in-Err.why) c.loop-why.invariant.moves.1.held is.5)
+
+pub returns-in-Err-clause-moves : goal.returns-in-Err-clause-moves
+returns-in-Err-clause-moves g c =
+    only_then 2 (g.D.Disk.world c.args.disk.now) (g.D.Disk.world c.loop-why.disk) (g.D.Disk.world c.fill.new.disk) c.loop-why.invariant.moves c.fill.ensures.moves
+
+pub returns-in-Err-clause-met : goal.returns-in-Err-clause-met
+returns-in-Err-clause-met g c = still_some c.loop-why.self.walks c.args.self.now.walks c.loop-why.invariant.stays.sources.numbers_are c.in-Err.ensures.met
+
+pub returns-in-Err-clause-owed : goal.returns-in-Err-clause-owed
+returns-in-Err-clause-owed g c t s =
+    let tables = c.args.tables.now.tables in
+    let old = c.loop-why.self in
+    let new = c.fill.new.self in
+    let from = c.loop-why.invariant in
+    let fewer = subst (λ (h : Image). IsSoundMerge old tables h → IsFewer c.fill.result (wanted old tables) (wanted new tables)) from.moves.1.held (λ u. (c.fill.ensures.once t u).1) (from.stays.sources.sound t s) in
+    let some = fewer_err c.fill.result c.in-Err.why (wanted old tables) (wanted new tables) c.in-Err.is fewer in
+    let most = (from.bounded t s).0 in
+    omega (arith, some, most)

@@ -1,0 +1,65 @@
+use Rattle.std.proofs.Common.{◌≡◌, ◌∙◌, ◌-◌, ℕ, true, length, refl, sym, ap, subst}
+use Rattle.std.specs.Prelude.{Some}
+use Rattle.disk_trait.specs.Image.{Image}
+use Rattle.block_model.specs.Places.{byte_of_page}
+use Rattle.merge_rows.specs.Merges.{TableWalk, numbered, with_hand}
+use Rattle.merge_rows.specs.Reads.{is_used_up}
+use Rattle.merge_rows.specs.Rows.{above_floor}
+use Rattle.table_file.specs.Search.{IsGetFault, page_at}
+use Rattle.table_file.specs.Walks.{CursorWalk, HandsOut, blocks_on, is_due, to_come}
+use Rattle.merge_rows.proofs.Fills.{cause_since, err_is, first_true, left_of, ok_is, read_same}
+use Rattle.merge_rows.proofs.Steps.{failed_same}
+use Rattle.merge_rows.proofs.table_source.TableSource.fill.Goals as goal
+use Rattle.merge_rows.proofs.table_source.TableSource.fill.Goals.{in-Ok, in-Err}
+
+pub returns-clause-same : goal.returns-clause-same
+returns-clause-same g c t =
+    let floor = c.args.floor.now in
+    let tables = c.args.tables.now.tables in
+    let held = (g.D.Disk.world c.args.disk.now).seen.held in
+    let table = c.table_of-table.result.now in
+    let blocks = blocks_on table held in
+    let first = c.args.self.now in
+    let mid = c.self-2.inside.walk in
+    let new = c.advance.new.self in
+    let there : numbered tables first.number ≡ Some table = subst (λ (n : ℕ). numbered tables n ≡ Some table) (ap (λ (s : TableWalk). s.number) c.self.view_is) c.table_of-table.ensures in
+    let walk_is : c.pass_over.new.self.walk ≡ mid = sym (ap (λ (s : TableWalk). s.walk) c.self-2.view_is) in
+    let used : is_used_up floor mid.now ≡ true = subst (λ (w : CursorWalk). is_used_up floor w.now ≡ true) walk_is
+    (first_true (is_used_up floor c.pass_over.new.self.walk.now) (is_due c.pass_over.new.self.walk (length table.index.rows)) (sym c.pass_over.ensures.wanted ∙ c.if-not-pass_over.false)) in
+    let held_is = c.pass_over.ensures.moves.held in
+    let step : above_floor floor (with_hand new.now (to_come new blocks)) ≡ above_floor floor (with_hand mid.now (to_come mid blocks)) =
+    elim c.match-advance.branch as (λ _. above_floor floor (with_hand new.now (to_come new blocks)) ≡ above_floor floor (with_hand mid.now (to_come mid blocks))) [
+      | in-Ok w ↦ read_same floor table held mid new w.in-Ok.field-0 used (subst (λ (h : Image). HandsOut mid new (blocks_on table h)) held_is (w.in-Ok.ensures.hands_out t)) w.in-Ok.ensures.said w.in-Ok.ensures.ends
+      | in-Err w ↦ failed_same floor mid new blocks used w.in-Err.ensures.none_at_hand (subst (λ (h : Image). to_come new (blocks_on table h) ≡ to_come mid (blocks_on table h)) held_is (w.in-Err.ensures.stays t))
+    ] in
+    left_of tables held table first.number floor (record { number = c.self-2.inside.number; walk = new }) there (ap (λ (s : TableWalk). s.number) c.self-2.view_is ∙ c.pass_over.ensures.number)
+    ∙ step
+    ∙ sym (ap (λ (w : CursorWalk). above_floor floor (with_hand w.now (to_come w blocks))) walk_is)
+    ∙ c.pass_over.ensures.same t
+    ∙ sym (left_of tables held table first.number floor first there refl)
+
+pub returns-clause-cause : goal.returns-clause-cause
+returns-clause-cause g c = elim c.match-advance.branch [
+  | in-Ok w ↦ ok_is _ c.match-advance.result true w.result-is
+  | in-Err w ↦ err_is _ c.match-advance.result w.in-Err.why w.result-is (
+    length c.args.tables.now.tables - 1 - c.self.inside.number,
+    c.table_of-table.result.now,
+    c.advance.new.self.block,
+    c.table_of-table.ensures,
+    w.in-Err.ensures.there,
+    cause_since (byte_of_page (page_at c.table_of-table.result.now c.advance.new.self.block)) (g.D.Disk.world c.args.disk.now) (g.D.Disk.world c.pass_over.new.disk) (g.D.Disk.world c.advance.new.disk) w.in-Err.why c.pass_over.ensures.moves.read_faults w.in-Err.ensures.cause,
+  )
+]
+
+pub returns-clause-fault : goal.returns-clause-fault
+returns-clause-fault g c t = elim c.match-advance.branch [
+  | in-Ok w ↦ ok_is _ c.match-advance.result true w.result-is
+  | in-Err w ↦ err_is _ c.match-advance.result w.in-Err.why w.result-is (
+    length c.args.tables.now.tables - 1 - c.self.inside.number,
+    c.table_of-table.result.now,
+    c.advance.new.self.block,
+    c.table_of-table.ensures,
+    w.in-Err.ensures.there,
+    subst (λ (h : Image). IsGetFault c.table_of-table.result.now c.advance.new.self.block h w.in-Err.why) c.pass_over.ensures.moves.held (w.in-Err.ensures.fault t),
+  )
+]

@@ -1,0 +1,66 @@
+-- What a merge reads, and why a read is refused.
+use Rattle.std.specs.Prelude.{◌≡◌, ◌<◌, ◌≤◌, ◌+◌, ◌-◌, ℕ, Bool, true, false, not, ◌&&◌, List, length, slice_get, Option, Some, None, Result, Ok, Err}
+use Rattle.std.specs.List.{sum_by}
+use Rattle.disk_trait.specs.World.{ReadMoves, World}
+use Rattle.entry_model.specs.Entries.{Entry}
+use Rattle.merge_rows.specs.Merges.{Merge, TableWalk, numbered, row_count}
+use Rattle.merge_rows.specs.Rows.{KeyFloor, clears}
+use Rattle.table_file.specs.Opened.{Opened}
+use Rattle.table_file.specs.Walks.{is_due}
+
+-- no entry above the floor is at hand
+abbrev pub is_used_up : KeyFloor → Option Entry → Bool
+is_used_up floor None = true
+is_used_up floor (Some e) = not (clears floor e.key)
+
+-- the next row wants a block of the table: no entry above the floor is in memory
+abbrev pub wants : KeyFloor → List Opened → TableWalk → Bool
+wants floor tables w = is_used_up floor w.walk.now && is_due w.walk (row_count (numbered tables w.number))
+
+abbrev pub ones : Bool → ℕ
+ones true = 1
+ones false = 0
+
+-- the blocks that the next row wants, one of each such table
+abbrev pub wanted_of : KeyFloor → List Opened → TableWalk → ℕ
+wanted_of floor tables w = ones (wants floor tables w)
+
+abbrev pub wanted_by : KeyFloor → List Opened → List TableWalk → ℕ
+wanted_by floor tables walks = sum_by (wanted_of floor tables) walks
+
+abbrev pub wanted : Merge → List Opened → ℕ
+wanted m tables = wanted_by m.floor tables m.walks
+
+-- the numbers of the blocks that are read next: as many blocks were read as they rose
+abbrev pub next_of : TableWalk → ℕ
+next_of w = w.walk.block
+
+abbrev pub next_blocks : List TableWalk → ℕ
+next_blocks walks = sum_by next_of walks
+
+-- the blocks that were not read yet
+abbrev pub blocks_left_in : List Opened → TableWalk → ℕ
+blocks_left_in tables w = row_count (numbered tables w.number) - w.walk.block
+
+abbrev pub blocks_left : List Opened → List TableWalk → ℕ
+blocks_left tables walks = sum_by (blocks_left_in tables) walks
+
+-- reads and nothing else
+abbrev pub OnlyReads : World → World → Type 0
+OnlyReads old new = (most : ℕ) × ReadMoves most old new
+
+-- so with some block of one of the tables
+abbrev pub SomeBlock : List Opened → (Opened → ℕ → Type 0) → Type 0
+SomeBlock tables P = (place : ℕ) × (t : Opened) × (n : ℕ) × (slice_get tables place ≡ Some t) × (n < length t.index.rows) × P t n
+
+-- a block that was read is wanted no more; one that could not be read was wanted
+abbrev pub IsFewer : {E : Type 0} → Result Bool E → ℕ → ℕ → Type 0
+IsFewer (Ok true) old new = new + 1 ≡ old
+IsFewer (Ok false) old new = (new ≡ 0) × (old ≡ 0)
+IsFewer (Err why) old new = 1 ≤ old
+
+-- fewer blocks are left where one was read
+abbrev pub IsRead : {E : Type 0} → Result Bool E → ℕ → ℕ → Type 0
+IsRead (Ok true) old new = new < old
+IsRead (Ok false) old new = new ≡ old
+IsRead (Err why) old new = Unit {0}

@@ -1,0 +1,63 @@
+//! The keys that are still to come.
+ghost use Rattle.std.specs.Prelude.{◌≡◌, ◌≤◌, length, false, true, IfOk};
+ghost use Rattle.key_base.specs.Limits.{max_key_bytes};
+ghost use Rattle.merge_rows.specs.Rows.{clears};
+
+use key_base::{MAX_KEY_BYTES, compare};
+use std::alloc::{AllocError, Global};
+use std::cmp::Ordering;
+use std::marker::Model;
+
+/// The keys from a bound on, or those above the key that was handed out last. It has room for the longest key.
+#[derive(Drop)]
+pub(crate) struct Floor {
+    key: Vec<u8>,
+    passed: bool,
+}
+
+impl Model for Floor {
+    ghost use Rattle.std.specs.Prelude.{◌≤◌, vec_capacity};
+    ghost use Rattle.key_base.specs.Limits.{max_key_bytes};
+    ghost use Rattle.merge_rows.specs.Rows.{KeyFloor};
+
+    ghost Value = { KeyFloor };
+
+    ghost view = { λ f. record { key = f.key.items; passed = f.passed } };
+
+    ghost invariant = { λ f. max_key_bytes ≤ vec_capacity f.key };
+}
+
+impl Floor {
+    /// The keys from a bound on. It takes memory for the bound and for the longest key.
+    pub(crate) fn new(alloc: Global, low: &[u8]) -> Result<Floor, AllocError>
+        ensures { IfOk result (λ f. f ≡ record { key = low.now; passed = false }) }
+    {
+        let mut key = Vec::from_slice(alloc, low)?;
+        key.reserve(MAX_KEY_BYTES)?;
+        Ok(Floor { key, passed: false })
+    }
+
+    /// Whether the key is one of them.
+    pub(crate) fn clears(&self, key: &[u8]) -> bool
+        ensures { result ≡ clears self.now key.now }
+    {
+        match compare(&self.key, key) {
+            Ordering::Less => true,
+            Ordering::Equal => !self.passed,
+            Ordering::Greater => false,
+        }
+    }
+
+    /// From now on the keys above this one. No memory.
+    pub(crate) fn pass(&mut self, key: &[u8])
+        requires { length key.now ≤ max_key_bytes }
+        ensures { self.new ≡ record { key = key.now; passed = true } }
+    {
+        self.key.clear();
+        match self.key.extend_from_slice(key) {
+            Ok(()) => {}
+            Err(_) => unreachable!(),
+        }
+        self.passed = true;
+    }
+}

@@ -1,0 +1,27 @@
+//! The rows of a memory table and of tables: the newest entry of each key, by rising keys.
+//!
+//! [`MergeRows`] walks a memory table and tables side by side, the newest first, and hands out of each key the entry of the
+//! first of them that has one: that is what a store says of the key, a tombstone where it was deleted last. Rows lie where
+//! they were read, in a buffer of each table's; no key is copied but the one that was handed out last. A block is read once
+//! the next row wants one. On a device whose blocks do not rise, which no table that was written has, an entry that is not
+//! above the last row is passed over.
+//!
+//! It takes a buffer of 69,632 bytes for each table, and a comparison with each of them for a row: for tens of tables, and
+//! not for thousands. Not for one key: that is [`Table::get`](table_file::Table::get), which reads one block at most.
+//!
+//! ```text
+//! let mut rows = MergeRows::new(which, &tables, Some(&memory), b"a", true)?;   // all the memory; tombstones are left out
+//! while let Some((key, value)) = rows.next(&mut disk, &tables)? { .. }
+//! ```
+#![tactic(auto)]
+
+mod choosing;
+pub mod examples;
+mod floor;
+mod laws;
+mod memory_source;
+mod rows;
+mod table_source;
+
+pub use laws::{merged_laws, standing_tables_are_merged};
+pub use rows::MergeRows;

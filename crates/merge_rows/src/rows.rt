@@ -1,0 +1,293 @@
+//! The merge.
+ghost use Rattle.std.specs.Prelude.{◌≡◌, ◌<◌, ◌≤◌, ◌+◌, ◌||◌, Bool, false, not, is_some, [], length, map, Option, Some, None, slice_get, IsTrue, IfSome, IfOk, IfErr, OnOk, OnErr, MatchResult};
+ghost use Rattle.std.specs.List.{AllByRecursion};
+ghost use Rattle.std.specs.Option.{option_map};
+ghost use Rattle.std.specs.Borrow.{sem};
+ghost use Rattle.block_model.specs.Places.{byte_of_page};
+ghost use Rattle.disk_trait.specs.World.{ReadMoves};
+ghost use Rattle.entry_model.specs.Entries.{Entry, IsEntry, entry_of};
+ghost use Rattle.merge_rows.specs.Choosing.{heads_of};
+ghost use Rattle.merge_rows.specs.Merges.{TableWalk, merge_from, merged_left, numbered, rows_left, walk_at};
+ghost use Rattle.merge_rows.specs.Reads.{IsFewer, IsRead, OnlyReads, SomeBlock, blocks_left, next_blocks, wanted};
+ghost use Rattle.merge_rows.specs.Steps.{AreCaughtUp, AreHeadsClear, AreNumbersIn, HandsOutRow, IsCaughtUp, IsChosen, IsFaultStep, IsPaced, IsRowStep, IsSoundMerge, RowPasses, SourcesStay, StaysAt, numbers};
+ghost use Rattle.table_file.specs.Faults.{HasReadCause, IsNoWant};
+ghost use Rattle.table_file.specs.Search.{IsGetFault, page_at};
+ghost use Rattle.table_file.specs.Walks.{first_of};
+
+use crate::choosing::Source;
+use crate::floor::Floor;
+use crate::memory_source::MemorySource;
+use crate::table_source::{TableSource, fill_first};
+use disk_trait::Disk;
+use filter_api::RangeFilter;
+use mem_table::MemTable;
+use std::alloc::{AllocError, Global};
+use std::marker::Model;
+use table_file::{TableFault, Tables};
+
+/// The rows of a memory table and of tables: the newest entry of each key, by rising keys.
+///
+/// It borrows the memory table alone: each call is handed the same tables, before which others may stand meanwhile. Without a
+/// memory table it borrows nothing: a `MergeRows<'static>` can be kept.
+#[derive(Drop)]
+pub struct MergeRows<'m> {
+    floor: Floor,
+    drops: bool,
+    // the source of the row at hand
+    row: Option<Source>,
+    memory: MemorySource<'m>,
+    walks: Vec<TableSource>,
+}
+
+impl<'m> Model for MergeRows<'m> {
+    ghost use Rattle.merge_rows.specs.Merges.{Merge};
+    ghost use Rattle.merge_rows.specs.SourcePlaces.{IsChosenIn, chosen_row};
+
+    ghost Value = { Merge };
+
+    ghost view = { λ m. record { floor = m.floor; drops = m.drops; now = chosen_row m.row m.memory m.walks.items; memory = m.memory; walks = m.walks.items } };
+
+    ghost invariant = { λ m. IsChosenIn m.row m.walks.items };
+}
+
+impl<'m> MergeRows<'m> {
+    ghost use Rattle.merge_rows.specs.Ends.{merge_ends};
+
+    /// The rows from a bound on of a memory table, where one is given, and of the tables of some numbers, the newest first.
+    /// Tables are numbered from the last, which has 0. Tombstones are rows too, unless they are dropped.
+    ///
+    /// It takes all memory: for each table a buffer for one block, and room for the longest key. No read.
+    pub fn new<F: RangeFilter>(
+        which: Vec<u32>,
+        tables: &Tables<F>,
+        memory: Option<&'m MemTable>,
+        low: &[u8],
+        drop_tombstones: bool,
+    ) -> Result<MergeRows<'m>, AllocError>
+        requires there { AreNumbersIn tables.now.tables which.items }
+        requires sound { IfSome memory (λ m. AllByRecursion IsEntry m.now.entries) }
+        ensures { IfOk result (λ m. m ≡ merge_from which.items tables.now.tables (option_map (λ m. m.now.entries) memory.entry) low.now drop_tombstones) }
+    {
+        let alloc = *which.allocator();
+        let floor = Floor::new(alloc, low)?;
+        let walks = walks_from(alloc, &which, tables, low)?;
+        Ok(MergeRows {
+            floor,
+            drops: drop_tombstones,
+            row: None,
+            memory: MemorySource::new(memory, low),
+            walks,
+        })
+    }
+
+    /// The next row: [`advance`](MergeRows::advance), and then the [`entry`](MergeRows::entry) at hand.
+    pub fn next<F: RangeFilter, D: Disk>(
+        &mut self,
+        disk: &mut D,
+        tables: &Tables<F>,
+    ) -> Result<Option<(&[u8], Option<&[u8]>)>, TableFault>
+        requires { AreNumbersIn tables.now.tables (numbers self.old.walks) }
+        ensures* after { sem 𝓛 (merge_ends self.entry (λ m. SourcesStay D.tells tables.now.tables (D.world disk.old).seen.held self.old m
+            × (MatchResult result (λ _. IsRowStep D.tells tables.now.tables (D.world disk.old).seen.held self.old m) (λ _. IsFaultStep D.tells tables.now.tables (D.world disk.old).seen.held self.old m))
+            × IfOk result (λ found. option_map (λ f. entry_of f.0.now (option_map (λ v. v.now) f.1)) found ≡ m.now)
+            × (IsTrue D.tells → OnOk result ((D.world disk.new).seen.reads + next_blocks self.old.walks ≡ (D.world disk.old).seen.reads + next_blocks m.walks)))) }
+        ensures sound { IfOk result (λ found. IfSome found (λ f. IsEntry (entry_of f.0.now (option_map (λ v. v.now) f.1)))) }
+        ensures taken { IfErr result IsNoWant }
+        ensures cause { IfErr result (λ why. SomeBlock tables.now.tables (λ t n. HasReadCause (byte_of_page (page_at t n)) (D.world disk.old) (D.world disk.new) why)) }
+        ensures fault { IsTrue D.tells → IfErr result (λ why. SomeBlock tables.now.tables (λ t n. IsGetFault t n (D.world disk.old).seen.held why)) }
+        ensures moves { OnlyReads (D.world disk.old) (D.world disk.new) }
+        ensures bounded { IsTrue D.tells → self.old.drops ≡ false → IsSoundMerge self.old tables.now.tables (D.world disk.old).seen.held
+            → ReadMoves (wanted self.old tables.now.tables) (D.world disk.old) (D.world disk.new) }
+    {
+        match self.advance(disk, tables) {
+            Ok(_) => Ok(self.entry()),
+            Err(why) => Err(why),
+        }
+    }
+
+    /// The key and the value of the row at hand, `None` for a tombstone's value; or `None` where no row is at hand. They lie
+    /// where they were read.
+    pub fn entry(&self) -> Option<(&[u8], Option<&[u8]>)>
+        ensures now { option_map (λ found. entry_of found.0.now (option_map (λ v. v.now) found.1)) result ≡ self.now.now }
+        ensures sound { IfSome result (λ found. IsEntry (entry_of found.0.now (option_map (λ v. v.now) found.1))) }
+    {
+        match self.row {
+            Some(source) => source.entry(&self.memory, &self.walks),
+            None => None,
+        }
+    }
+
+    /// Goes on to the next row, and answers whether there is one: it is then at hand. No memory.
+    ///
+    /// A block is read of each table that has no entry above the last row in memory, and of no other. At `Err` no row is lost:
+    /// the next call goes on where this one stood. Whatever stands on the device, keys rise from row to row.
+    pub fn advance<F: RangeFilter, D: Disk>(
+        &mut self,
+        disk: &mut D,
+        tables: &Tables<F>,
+    ) -> Result<bool, TableFault>
+        requires { AreNumbersIn tables.now.tables (numbers self.old.walks) }
+        ensures said { IfOk result (λ some. some ≡ is_some self.new.now) }
+        ensures kept { SourcesStay D.tells tables.now.tables (D.world disk.old).seen.held self.old self.new }
+        ensures row { OnOk result (IsRowStep D.tells tables.now.tables (D.world disk.old).seen.held self.old self.new) }
+        ensures stays { OnErr result (IsFaultStep D.tells tables.now.tables (D.world disk.old).seen.held self.old self.new) }
+        ensures sound { OnOk result (IfSome self.new.now IsEntry) }
+        ensures met { OnErr result (1 ≤ length self.old.walks) }
+        ensures owed { IsTrue D.tells → self.old.drops ≡ false → IsSoundMerge self.old tables.now.tables (D.world disk.old).seen.held → OnErr result (1 ≤ wanted self.old tables.now.tables) }
+        ensures paced { IsTrue D.tells → self.old.drops ≡ false → OnOk result (IsPaced tables.now.tables (D.world disk.old).seen.held self.old self.new) }
+        ensures taken { IfErr result IsNoWant }
+        ensures cause { IfErr result (λ why. SomeBlock tables.now.tables (λ t n. HasReadCause (byte_of_page (page_at t n)) (D.world disk.old) (D.world disk.new) why)) }
+        ensures fault { IsTrue D.tells → IfErr result (λ why. SomeBlock tables.now.tables (λ t n. IsGetFault t n (D.world disk.old).seen.held why)) }
+        ensures moves { OnlyReads (D.world disk.old) (D.world disk.new) }
+        ensures counted { IsTrue D.tells → OnOk result ((D.world disk.new).seen.reads + next_blocks self.old.walks ≡ (D.world disk.old).seen.reads + next_blocks self.new.walks) }
+        ensures bounded { IsTrue D.tells → self.old.drops ≡ false → IsSoundMerge self.old tables.now.tables (D.world disk.old).seen.held
+            → ReadMoves (wanted self.old tables.now.tables) (D.world disk.old) (D.world disk.new) }
+    {
+        loop {
+            match self.step(disk, tables) {
+                Ok(true) => {}
+                Ok(false) => return Ok(false),
+                Err(why) => return Err(why),
+            }
+            if self.is_shown() {
+                return Ok(true);
+            }
+        }
+    }
+
+    /// Reads one block that the next row wants, and answers whether it read; if not, the next row wants none. Then no row is
+    /// at hand. No memory. Who counts blocks asks for it before [`advance`](MergeRows::advance).
+    ///
+    /// At `Err` no row is lost.
+    pub fn fill<F: RangeFilter, D: Disk>(
+        &mut self,
+        disk: &mut D,
+        tables: &Tables<F>,
+    ) -> Result<bool, TableFault>
+        requires { AreNumbersIn tables.now.tables (numbers self.old.walks) }
+        ensures stays { StaysAt D.tells tables.now.tables (D.world disk.old).seen.held self.old self.new }
+        ensures memory { self.new.memory ≡ self.old.memory }
+        ensures ready { IsTrue D.tells → IfOk result (λ read. read ≡ false → AreCaughtUp self.old.floor tables.now.tables (D.world disk.old).seen.held self.new.walks) }
+        ensures clear { IfOk result (λ read. read ≡ false → AreHeadsClear self.old.floor self.new.walks) }
+        ensures met { OnErr result (1 ≤ length self.old.walks) }
+        ensures taken { IfErr result IsNoWant }
+        ensures cause { IfErr result (λ why. SomeBlock tables.now.tables (λ t n. HasReadCause (byte_of_page (page_at t n)) (D.world disk.old) (D.world disk.new) why)) }
+        ensures fault { IsTrue D.tells → IfErr result (λ why. SomeBlock tables.now.tables (λ t n. IsGetFault t n (D.world disk.old).seen.held why)) }
+        ensures moves { ReadMoves 2 (D.world disk.old) (D.world disk.new) }
+        ensures idle { IfOk result (λ read. read ≡ false → ReadMoves 0 (D.world disk.old) (D.world disk.new)) }
+        ensures counted { IsTrue D.tells → OnOk result ((D.world disk.new).seen.reads + next_blocks self.old.walks ≡ (D.world disk.old).seen.reads + next_blocks self.new.walks) }
+        ensures left { IsRead result (blocks_left tables.now.tables self.old.walks) (blocks_left tables.now.tables self.new.walks) }
+        ensures once { IsTrue D.tells → IsSoundMerge self.old tables.now.tables (D.world disk.old).seen.held
+            → ReadMoves 1 (D.world disk.old) (D.world disk.new) × IsFewer result (wanted self.old tables.now.tables) (wanted self.new tables.now.tables) }
+    {
+        self.row = None;
+        fill_first(&mut self.walks, disk, tables, &self.floor)
+    }
+
+    // Whether the row at hand is handed out: a tombstone is not, where they are dropped.
+    fn is_shown(&self) -> bool
+        ensures { IfSome self.now.now (λ e. result ≡ (not self.now.drops || is_some e.value)) }
+    {
+        match self.entry() {
+            Some((_, value)) => !self.drops || value.is_some(),
+            None => false,
+        }
+    }
+
+    // Goes on to the next row, a tombstone too, and answers whether there is one.
+    fn step<F: RangeFilter, D: Disk>(
+        &mut self,
+        disk: &mut D,
+        tables: &Tables<F>,
+    ) -> Result<bool, TableFault>
+        requires { AreNumbersIn tables.now.tables (numbers self.old.walks) }
+        ensures said { IfOk result (λ some. some ≡ is_some self.new.now) }
+        ensures kept { SourcesStay D.tells tables.now.tables (D.world disk.old).seen.held self.old self.new }
+        ensures rows { IsTrue D.tells → IsSoundMerge self.old tables.now.tables (D.world disk.old).seen.held
+            → OnOk result (HandsOutRow self.new.now (merged_left self.old tables.now.tables (D.world disk.old).seen.held) (merged_left self.new tables.now.tables (D.world disk.old).seen.held)) }
+        ensures passes { OnOk result (RowPasses self.new.now self.old.floor self.new.floor) }
+        ensures sound { OnOk result (IfSome self.new.now IsEntry) }
+        ensures stays { OnErr result (StaysAt D.tells tables.now.tables (D.world disk.old).seen.held self.old self.new) }
+        ensures met { OnErr result (1 ≤ length self.old.walks) }
+        ensures owed { IsTrue D.tells → IsSoundMerge self.old tables.now.tables (D.world disk.old).seen.held → OnErr result (1 ≤ wanted self.old tables.now.tables) }
+        ensures paced { IsTrue D.tells → OnOk result (IsPaced tables.now.tables (D.world disk.old).seen.held self.old self.new) }
+        ensures taken { IfErr result IsNoWant }
+        ensures cause { IfErr result (λ why. SomeBlock tables.now.tables (λ t n. HasReadCause (byte_of_page (page_at t n)) (D.world disk.old) (D.world disk.new) why)) }
+        ensures fault { IsTrue D.tells → IfErr result (λ why. SomeBlock tables.now.tables (λ t n. IsGetFault t n (D.world disk.old).seen.held why)) }
+        ensures moves { OnlyReads (D.world disk.old) (D.world disk.new) }
+        ensures counted { IsTrue D.tells → OnOk result ((D.world disk.new).seen.reads + next_blocks self.old.walks ≡ (D.world disk.old).seen.reads + next_blocks self.new.walks) }
+        ensures bounded { IsTrue D.tells → IsSoundMerge self.old tables.now.tables (D.world disk.old).seen.held
+            → ReadMoves (wanted self.old tables.now.tables) (D.world disk.old) (D.world disk.new) }
+    {
+        self.catch_up(disk, tables)?;
+        Ok(self.choose())
+    }
+
+    // Each source goes on to its first entry above the floor. No row is at hand then.
+    fn catch_up<F: RangeFilter, D: Disk>(
+        &mut self,
+        disk: &mut D,
+        tables: &Tables<F>,
+    ) -> Result<(), TableFault>
+        requires { AreNumbersIn tables.now.tables (numbers self.old.walks) }
+        ensures stays { StaysAt D.tells tables.now.tables (D.world disk.old).seen.held self.old self.new }
+        ensures memory { IsCaughtUp self.old.floor (first_of self.new.memory) self.new.memory }
+        ensures ready { IsTrue D.tells → OnOk result (AreCaughtUp self.old.floor tables.now.tables (D.world disk.old).seen.held self.new.walks) }
+        ensures clear { OnOk result (AreHeadsClear self.old.floor self.new.walks) }
+        ensures met { OnErr result (1 ≤ length self.old.walks) }
+        ensures owed { IsTrue D.tells → IsSoundMerge self.old tables.now.tables (D.world disk.old).seen.held → OnErr result (1 ≤ wanted self.old tables.now.tables) }
+        ensures taken { IfErr result IsNoWant }
+        ensures cause { IfErr result (λ why. SomeBlock tables.now.tables (λ t n. HasReadCause (byte_of_page (page_at t n)) (D.world disk.old) (D.world disk.new) why)) }
+        ensures fault { IsTrue D.tells → IfErr result (λ why. SomeBlock tables.now.tables (λ t n. IsGetFault t n (D.world disk.old).seen.held why)) }
+        ensures moves { OnlyReads (D.world disk.old) (D.world disk.new) }
+        ensures counted { IsTrue D.tells → OnOk result ((D.world disk.new).seen.reads + next_blocks self.old.walks ≡ (D.world disk.old).seen.reads + next_blocks self.new.walks) }
+        ensures bounded { IsTrue D.tells → IsSoundMerge self.old tables.now.tables (D.world disk.old).seen.held
+            → ReadMoves (wanted self.old tables.now.tables) (D.world disk.old) (D.world disk.new) }
+    {
+        self.row = None;
+        self.memory.catch_up(&self.floor);
+        loop {
+            match self.fill(disk, tables) {
+                Ok(true) => {}
+                Ok(false) => return Ok(()),
+                Err(why) => return Err(why),
+            }
+        }
+    }
+
+    // Takes the first of the entries at hand with the least key as the row at hand, passes its key, and answers whether there
+    // is one.
+    fn choose(&mut self) -> bool
+        ensures memory { self.new.memory ≡ self.old.memory }
+        ensures walks { self.new.walks ≡ self.old.walks }
+        ensures drops { self.new.drops ≡ self.old.drops }
+        ensures said { result ≡ is_some self.new.now }
+        ensures chosen { IsChosen (heads_of self.old.memory self.old.walks) self.new.now self.old.floor self.new.floor }
+    {
+        self.row = Source::first(&self.memory, &self.walks);
+        let Some(source) = self.row else {
+            return false;
+        };
+        if let Some((key, _)) = source.entry(&self.memory, &self.walks) {
+            self.floor.pass(key);
+        }
+        true
+    }
+}
+
+// A walk from a bound on over the table of each number.
+fn walks_from<F: RangeFilter>(
+    alloc: Global,
+    which: &[u32],
+    tables: &Tables<F>,
+    low: &[u8],
+) -> Result<Vec<TableSource>, AllocError>
+    requires { AreNumbersIn tables.now.tables which.now }
+    ensures { IfOk result (λ walks. walks.items ≡ map (λ number. record { number = number; walk = walk_at (numbered tables.now.tables number) low.now }) which.now) }
+{
+    let mut walks = Vec::with_capacity(alloc, which.len())?;
+    for number in which {
+        walks.push(TableSource::new(alloc, *number, tables, low)?)?;
+    }
+    Ok(walks)
+}

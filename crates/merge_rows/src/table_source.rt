@@ -1,0 +1,187 @@
+//! A walk over a table as a source.
+ghost use Rattle.std.specs.Prelude.{◌≡◌, ◌<◌, ◌≤◌, ◌+◌, ◌-◌, ◌&&◌, ℕ, Bool, true, false, not, length, map, Option, Some, None, slice_get, IsTrue, IfSome, IfOk, IfErr, OnOk, OnErr};
+ghost use Rattle.std.specs.Option.{option_map};
+ghost use Rattle.block_model.specs.Places.{byte_of_page};
+ghost use Rattle.disk_trait.specs.World.{ReadMoves};
+ghost use Rattle.entry_model.specs.Entries.{IsEntry, entry_of};
+ghost use Rattle.merge_rows.specs.Merges.{blocks_in, left_above, numbered, walk_at, walk_left, with_hand};
+ghost use Rattle.merge_rows.specs.Reads.{IsFewer, IsRead, SomeBlock, blocks_left, blocks_left_in, is_used_up, next_blocks, wanted_by, wanted_of};
+ghost use Rattle.merge_rows.specs.Rows.{above_floor};
+ghost use Rattle.merge_rows.specs.Steps.{AreCaughtUp, AreHeadsClear, AreNumbersIn, AreSoundWalks, IsCaughtUp, IsHeadClear, IsSoundWalk, numbers};
+ghost use Rattle.table_file.specs.Faults.{HasReadCause, IsNoWant};
+ghost use Rattle.table_file.specs.Search.{IsGetFault, page_at};
+ghost use Rattle.table_file.specs.Walks.{blocks_on, is_due, to_come};
+
+use crate::floor::Floor;
+use disk_trait::Disk;
+use filter_api::RangeFilter;
+use std::alloc::{AllocError, Global};
+use std::marker::Model;
+use table_file::{Table, TableCursor, TableFault, Tables};
+
+/// A walk over the table of a number, which counts from the last table.
+#[derive(Drop)]
+pub(crate) struct TableSource {
+    number: u32,
+    walk: TableCursor,
+}
+
+impl Model for TableSource {
+    ghost use Rattle.merge_rows.specs.Merges.{TableWalk};
+
+    ghost Value = { TableWalk };
+
+    ghost view = { λ s. record { number = s.number; walk = s.walk } };
+}
+
+impl TableSource {
+    /// A walk over that table from a bound on. It takes all the memory that the walk needs; no read.
+    pub(crate) fn new<F: RangeFilter>(
+        alloc: Global,
+        number: u32,
+        tables: &Tables<F>,
+        low: &[u8],
+    ) -> Result<TableSource, AllocError>
+        requires { number < length tables.now.tables }
+        ensures { IfOk result (λ s. s ≡ record { number = number; walk = walk_at (numbered tables.now.tables number) low.now }) }
+    {
+        let walk = table_of(number, tables).cursor(alloc, low)?;
+        Ok(TableSource { number, walk })
+    }
+
+    /// The key and the value of the entry at hand, `None` for a tombstone's value, or `None` where none is.
+    pub(crate) fn entry(&self) -> Option<(&[u8], Option<&[u8]>)>
+        ensures now { option_map (λ found. entry_of found.0.now (option_map (λ v. v.now) found.1)) result ≡ self.now.walk.now }
+        ensures sound { IfSome result (λ found. IsEntry (entry_of found.0.now (option_map (λ v. v.now) found.1))) }
+    {
+        self.walk.entry()
+    }
+
+    // Whether an entry above the floor is at hand.
+    fn is_ready(&self, floor: &Floor) -> bool
+        ensures { result ≡ not (is_used_up floor.now self.now.walk.now) }
+    {
+        match self.entry() {
+            Some((key, _)) => floor.clears(key),
+            None => false,
+        }
+    }
+
+    // Passes over the entries in memory that are not above the floor, and answers whether a block is wanted then. No read.
+    fn pass_over<F: RangeFilter, D: Disk>(
+        &mut self,
+        disk: &mut D,
+        table: &Table<F>,
+        floor: &Floor,
+    ) -> bool
+        ensures number { self.new.number ≡ self.old.number }
+        ensures same { IsTrue D.tells → above_floor floor.now (with_hand self.new.walk.now (to_come self.new.walk (blocks_on table.now (D.world disk.old).seen.held)))
+            ≡ above_floor floor.now (with_hand self.old.walk.now (to_come self.old.walk (blocks_on table.now (D.world disk.old).seen.held))) }
+        ensures wanted { result ≡ (is_used_up floor.now self.new.walk.now && is_due self.new.walk (length table.now.index.rows)) }
+        ensures ready { IsTrue D.tells → result ≡ false → IsCaughtUp floor.now self.new.walk.now (with_hand self.new.walk.now (to_come self.new.walk (blocks_on table.now (D.world disk.old).seen.held))) }
+        ensures clear { result ≡ false → IsHeadClear floor.now self.new.walk.now }
+        ensures still { (is_used_up floor.now self.old.walk.now && is_due self.old.walk (length table.now.index.rows)) ≡ true → (result ≡ true) × (self.new ≡ self.old) }
+        ensures settled { is_used_up floor.now self.old.walk.now ≡ false → (result ≡ false) × (self.new ≡ self.old) }
+        ensures once { IsTrue D.tells → IsSoundWalk floor.now self.old.walk (blocks_on table.now (D.world disk.old).seen.held)
+            → result ≡ (is_used_up floor.now self.old.walk.now && is_due self.old.walk (length table.now.index.rows)) }
+        ensures sound { IsTrue D.tells → IsSoundWalk floor.now self.old.walk (blocks_on table.now (D.world disk.old).seen.held) → IsSoundWalk floor.now self.new.walk (blocks_on table.now (D.world disk.old).seen.held) }
+        ensures block { self.new.walk.block ≡ self.old.walk.block }
+        ensures moves { ReadMoves 0 (D.world disk.old) (D.world disk.new) }
+    {
+        while !self.is_ready(floor) {
+            if self.walk.due(table) {
+                return true;
+            }
+            match self.walk.advance(disk, table) {
+                Ok(true) => {}
+                Ok(false) => return false,
+                // where no block is due, none is read
+                Err(_) => unreachable!(),
+            }
+        }
+        false
+    }
+
+    /// Passes over the entries in memory that are not above the floor, and reads a block where none is left then: the next one.
+    /// Answers whether it read. If not, an entry above the floor is at hand, or none is left. No memory.
+    ///
+    /// Where blocks do not rise, which those of a sound table do, no entry above the floor may be at hand behind a read. At
+    /// `Err` no entry above the floor is lost.
+    pub(crate) fn fill<F: RangeFilter, D: Disk>(
+        &mut self,
+        disk: &mut D,
+        tables: &Tables<F>,
+        floor: &Floor,
+    ) -> Result<bool, TableFault>
+        requires { self.old.number < length tables.now.tables }
+        ensures number { self.new.number ≡ self.old.number }
+        ensures same { IsTrue D.tells → left_above floor.now tables.now.tables (D.world disk.old).seen.held self.new ≡ left_above floor.now tables.now.tables (D.world disk.old).seen.held self.old }
+        ensures ready { IsTrue D.tells → IfOk result (λ read. read ≡ false → IsCaughtUp floor.now self.new.walk.now (walk_left tables.now.tables (D.world disk.old).seen.held self.new)) }
+        ensures clear { IfOk result (λ read. read ≡ false → IsHeadClear floor.now self.new.walk.now) }
+        ensures sound { IsTrue D.tells → IsSoundWalk floor.now self.old.walk (blocks_in (numbered tables.now.tables self.old.number) (D.world disk.old).seen.held)
+            → IsSoundWalk floor.now self.new.walk (blocks_in (numbered tables.now.tables self.old.number) (D.world disk.old).seen.held) }
+        ensures taken { IfErr result IsNoWant }
+        ensures cause { IfErr result (λ why. SomeBlock tables.now.tables (λ t n. HasReadCause (byte_of_page (page_at t n)) (D.world disk.old) (D.world disk.new) why)) }
+        ensures fault { IsTrue D.tells → IfErr result (λ why. SomeBlock tables.now.tables (λ t n. IsGetFault t n (D.world disk.old).seen.held why)) }
+        ensures moves { ReadMoves 2 (D.world disk.old) (D.world disk.new) }
+        ensures idle { IfOk result (λ read. read ≡ false → ReadMoves 0 (D.world disk.old) (D.world disk.new)) }
+        ensures counted { IsTrue D.tells → OnOk result ((D.world disk.new).seen.reads + self.old.walk.block ≡ (D.world disk.old).seen.reads + self.new.walk.block) }
+        ensures left { IsRead result (blocks_left_in tables.now.tables self.old) (blocks_left_in tables.now.tables self.new) }
+        ensures once { IsTrue D.tells → IsSoundWalk floor.now self.old.walk (blocks_in (numbered tables.now.tables self.old.number) (D.world disk.old).seen.held)
+            → ReadMoves 1 (D.world disk.old) (D.world disk.new) × IsFewer result (wanted_of floor.now tables.now.tables self.old) (wanted_of floor.now tables.now.tables self.new) }
+    {
+        let table = table_of(self.number, tables);
+        if !self.pass_over(disk, table, floor) {
+            return Ok(false);
+        }
+        match self.walk.advance(disk, table) {
+            Ok(_) => Ok(true),
+            Err(why) => Err(why),
+        }
+    }
+}
+
+/// Reads a block for the first of the walks that wants one, and answers whether it read. If not, each walk has an entry above
+/// the floor at hand, or none is left of it. No memory.
+///
+/// At `Err` no entry above the floor is lost.
+pub(crate) fn fill_first<F: RangeFilter, D: Disk>(
+    walks: &mut [TableSource],
+    disk: &mut D,
+    tables: &Tables<F>,
+    floor: &Floor,
+) -> Result<bool, TableFault>
+    requires { AreNumbersIn tables.now.tables (numbers walks.old) }
+    ensures numbers { numbers walks.new ≡ numbers walks.old }
+    ensures same { IsTrue D.tells → map (left_above floor.now tables.now.tables (D.world disk.old).seen.held) walks.new ≡ map (left_above floor.now tables.now.tables (D.world disk.old).seen.held) walks.old }
+    ensures ready { IsTrue D.tells → IfOk result (λ read. read ≡ false → AreCaughtUp floor.now tables.now.tables (D.world disk.old).seen.held walks.new) }
+    ensures clear { IfOk result (λ read. read ≡ false → AreHeadsClear floor.now walks.new) }
+    ensures sound { IsTrue D.tells → AreSoundWalks floor.now tables.now.tables (D.world disk.old).seen.held walks.old → AreSoundWalks floor.now tables.now.tables (D.world disk.old).seen.held walks.new }
+    ensures met { OnErr result (1 ≤ length walks.old) }
+    ensures taken { IfErr result IsNoWant }
+    ensures cause { IfErr result (λ why. SomeBlock tables.now.tables (λ t n. HasReadCause (byte_of_page (page_at t n)) (D.world disk.old) (D.world disk.new) why)) }
+    ensures fault { IsTrue D.tells → IfErr result (λ why. SomeBlock tables.now.tables (λ t n. IsGetFault t n (D.world disk.old).seen.held why)) }
+    ensures moves { ReadMoves 2 (D.world disk.old) (D.world disk.new) }
+    ensures idle { IfOk result (λ read. read ≡ false → ReadMoves 0 (D.world disk.old) (D.world disk.new)) }
+    ensures counted { IsTrue D.tells → OnOk result ((D.world disk.new).seen.reads + next_blocks walks.old ≡ (D.world disk.old).seen.reads + next_blocks walks.new) }
+    ensures left { IsRead result (blocks_left tables.now.tables walks.old) (blocks_left tables.now.tables walks.new) }
+    ensures once { IsTrue D.tells → AreSoundWalks floor.now tables.now.tables (D.world disk.old).seen.held walks.old
+        → ReadMoves 1 (D.world disk.old) (D.world disk.new) × IsFewer result (wanted_by floor.now tables.now.tables walks.old) (wanted_by floor.now tables.now.tables walks.new) }
+{
+    for i in 0..walks.len() {
+        match walks[i].fill(disk, tables, floor) {
+            Ok(false) => {}
+            Ok(true) => return Ok(true),
+            Err(why) => return Err(why),
+        }
+    }
+    Ok(false)
+}
+
+// The table of a number.
+fn table_of<F: RangeFilter>(number: u32, tables: &Tables<F>) -> &Table<F>
+    requires { number < length tables.now.tables }
+    ensures { numbered tables.now.tables number ≡ Some result.now }
+{
+    tables.get(tables.len() - 1 - number as usize)
+}
