@@ -1,6 +1,7 @@
 pub mod Agreed
 pub mod Answering
 pub mod Causes
+pub mod Countings
 pub mod FlushAnswers
 pub mod Flushed
 pub mod Flushes
@@ -17,8 +18,17 @@ pub mod PlannedRows
 pub mod Plans
 pub mod PlansMade
 pub mod ReadBounds
+pub mod ScanBounds
+pub mod ScanCauses
+pub mod ScanCounts
+pub mod ScanMade
+pub mod ScanPairs
+pub mod ScanReads
+pub mod ScanStates
+pub mod ScanSteps
 pub mod ShownBlocks
 pub mod Taken
+pub mod Tellings
 pub mod Ties
 pub mod Wholes
 pub mod Writing

@@ -32,12 +32,14 @@ some_read o n is = subst (λ (p : Option ℕ). 1 ≤ blocks_of_get p) (sym is) (
 
 module _ (laws : StandingKeys) (spelling : Spelling) (settings : Settings) (opened : Opened) (t : Table) (image : Image) (held : IsHeld spelling settings opened t image) (key : Bytes) where
   -- a block is read exactly where the state's table is searched
+  pub read_where_searched : is_some (block_for opened key) ≡ is_searched settings key t
+  read_where_searched =
+      (laws spelling settings opened held.blocks image held.stands).searched key
+      ∙ ap (λ (es : List Entry). point settings.hash_bits settings.real_bits (leaves_of settings.hash_bits settings.real_bits (keys_of es)) key
+      && (not (is_before key (first_key es)) && not (is_before (last_key es) key))) (sym (held_entries spelling settings opened t image held))
+
   blocks_are : blocks_of_get (block_for opened key) ≡ cond (is_searched settings key t) 1 0
-  blocks_are =
-      blocks_counted (block_for opened key)
-      ∙ ap (λ (b : Bool). cond b 1 0) ((laws spelling settings opened held.blocks image held.stands).searched key)
-      ∙ ap (λ (es : List Entry). cond (point settings.hash_bits settings.real_bits (leaves_of settings.hash_bits settings.real_bits (keys_of es)) key
-      && (not (is_before key (first_key es)) && not (is_before (last_key es) key))) 1 0) (sym (held_entries spelling settings opened t image held))
+  blocks_are = blocks_counted (block_for opened key) ∙ ap (λ (b : Bool). cond b 1 0) read_where_searched
 
   module _ (older : List Table) where
     one_at_least : (is : Bool) (more later : ℕ) → cond is 1 0 ≤ cond is (suc more) later

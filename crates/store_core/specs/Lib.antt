@@ -1,5 +1,7 @@
 pub use Rattle.disk_trait.specs.World
 pub use Rattle.image_model.specs.Stands
+pub use Rattle.merge_rows.specs.Merges
+pub use Rattle.merge_rows.specs.Reads
 pub use Rattle.state_model.specs.Bounds
 pub use Rattle.state_model.specs.State
 pub use Rattle.state_model.specs.Steps
@@ -14,3 +16,6 @@ pub mod Ends
 pub mod Opening
 pub mod Formatting
 pub mod Flushing
+pub mod Telling
+pub mod Scans
+pub mod Counts

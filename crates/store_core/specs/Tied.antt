@@ -42,3 +42,10 @@ pub record Tied (spelling : Spelling) (filter_bytes : FilterBytes) (store : Kept
   pub images : Now (IsUnder spelling store.manifest store.tables s) w
   pub log : store.log.filled ≡ filled s.log
   pub memory : store.memory.entries ≡ memory s
+
+-- An image of the device shows the store as that of a sound state: it has the version of the store and the state's tables, and
+-- the newest entries of the state's log are in memory.
+pub record IsSeenAs (spelling : Spelling) (filter_bytes : FilterBytes) (store : Kept) (s : State) (image : Image) : Type 0 where
+  pub sound : IsSound filter_bytes s
+  pub under : IsUnder spelling store.manifest store.tables s image
+  pub memory : store.memory.entries ≡ memory s

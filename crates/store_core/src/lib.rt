@@ -4,7 +4,8 @@
 //! a device an empty store, and [`Store::open_store`] opens the one that stands there. [`Store::put`] and [`Store::delete`]
 //! write a record to the log before the entry stands in memory; where it does not fit, [`Store::flush`] makes the memory a
 //! table of level 0. [`Store::get`] looks for a key in memory and then in the tables, newest first, and reads at most one
-//! block of each. `specs/Tied` has what a caller may rest on: a store value, the device under it and a state of
+//! block of each. [`Store::seek`] and [`Store::range`] give the pairs between two bounds, by rising keys: they open those
+//! tables alone whose filter admits the bounds. `specs/Tied` has what a caller may rest on: a store value, the device under it and a state of
 //! `state_model` are one, where each image that a crash may leave stands for that state, and the tables in memory are those
 //! of its pages. Then a get answers what the map of the state has.
 //!
@@ -15,17 +16,24 @@
 //! let mut store = Store::<PlainFilter>::open_store(alloc, &mut disk)?;
 //! store.put(&mut disk, b"k", b"v")?;                                  // no crash takes it back
 //! store.get(&mut disk, b"k")?                                         // Some(b"v"), or None
+//! let mut scan = store.range(b"a", b"z", 10)?;                        // all the memory of the scan
+//! while scan.advance(&mut disk)? { .. scan.pair() .. }
 //! ```
 #![tactic(auto)]
 
+mod counting;
 mod error;
+mod explaining;
 mod flushing;
 mod formatting;
 mod getting;
 mod limits;
 mod opening;
 mod putting;
+mod scanning;
 mod store;
 
 pub use error::{Limit, StoreError};
+pub use explaining::Explained;
+pub use scanning::Scan;
 pub use store::Store;

@@ -1,0 +1,185 @@
+-- The rows of memory and of the tables that are opened for a scan have between its bounds what the state has.
+use Rattle.std.proofs.Common.{◌≡◌, ◌≢◌, ◌∙◌, ◌≤◌, ◌<◌, ◌+◌, ◌-◌, ℕ, zero, suc, Bool, true, false, cond, not, ◌&&◌, List, [], ◌∷◌, ◌++◌, length, map, refl, sym, ap, subst, arith}
+use Rattle.std.specs.Prelude.{Option, Some, None, filter, slice_get, sum_by}
+use Rattle.std.specs.List.{AllByRecursion}
+use Rattle.std.specs.Option.{option_or}
+use Rattle.std.proofs.lemmas.Bool.{false≢true}
+use Rattle.std.proofs.lemmas.List.{append_assoc, length-append}
+use Rattle.block_model.specs.Laws.{joined}
+use Rattle.byte_fields.specs.Spelling.{IsBytes}
+use Rattle.disk_trait.specs.Image.{Image}
+use Rattle.entry_model.proofs.Maps.{entries_rise}
+use Rattle.entry_model.specs.Entries.{Entry, live}
+use Rattle.entry_model.specs.Newest.{KeysRise, entries_from, lookup}
+use Rattle.filter_api.specs.Spellings.{Spelling}
+use Rattle.filter_api.specs.declared.settings.Settings.{Settings}
+use Rattle.filter_model.specs.Answers.{ranged}
+use Rattle.map_model.specs.Slices.{between, is_before, is_between, is_up_to}
+use Rattle.map_model.specs.SortedMap.{Bytes, Map, get}
+use Rattle.merge_rows.specs.Laws.{NumberedStand}
+use Rattle.merge_rows.specs.Merges.{numbered}
+use Rattle.merge_rows.specs.RowLaws.{MergedLaws}
+use Rattle.merge_rows.specs.Rows.{merged_rows}
+use Rattle.state_model.proofs.Sayings.{AllRise, lists_of, newest_entries_rise, newest_of_rising}
+use Rattle.state_model.proofs.Searches.{range_admitted}
+use Rattle.state_model.proofs.Views.{tables_rise, view_says}
+use Rattle.state_model.specs.Bounds.{admits_range}
+use Rattle.state_model.specs.Sound.{IsSound, IsSoundTable}
+use Rattle.state_model.specs.State.{State}
+use Rattle.state_model.specs.View.{entries_of, first_found, memory, state_map, view}
+use Rattle.store_core.proofs.Founds.{held_entries}
+use Rattle.store_core.proofs.ScanPairs.{from_then_after, pairs_between}
+use Rattle.store_core.proofs.Tellings.{ranges_same}
+use Rattle.store_core.specs.Scans.{admits_keys, numbers_admitting, pairs_up_to}
+use Rattle.store_core.specs.Telling.{IsHighOfBytes}
+use Rattle.store_core.specs.Tied.{AreHeld, IsHeld}
+use Rattle.table_file.specs.Opened.{Opened}
+use Rattle.table_file.specs.Search.{StandsThere}
+use Rattle.table_model.specs.Tables.{FilterBytes, Table}
+
+-- the entries of the tables that are opened
+abbrev pub entries_opened : Bytes → Option Bytes → List Opened → List Table → List (List Entry)
+entries_opened low high [] tables = []
+entries_opened low high (o ∷ opened) [] = []
+entries_opened low high (o ∷ opened) (t ∷ tables) = cond (admits_keys low high o) (t.entries ∷ entries_opened low high opened tables) (entries_opened low high opened tables)
+
+not_true : (b : Bool) → not b ≡ true → b ≡ false
+not_true true e = absurd (false≢true e)
+not_true false e = refl
+
+-- where the upper bound is below the lower one, no key lies between
+crossed_key : (low high key : Bytes) → is_before high low ≡ true → is_between low (Some high) key ≡ true → ⊥
+crossed_key low high key crossed inside = by_tests (is_before key low) (is_before high key) refl refl inside
+  where
+    by_tests : (below above : Bool) → is_before key low ≡ below → is_before high key ≡ above → not below && not above ≡ true → ⊥
+    by_tests true above is up e = absurd (false≢true e)
+    by_tests false true is up e = absurd (false≢true e)
+    by_tests false false is up e = absurd (false≢true (sym up ∙ from_then_after key low high is crossed))
+
+-- a table by its number
+pub numbered_at : (front : List Opened) (o : Opened) (older : List Opened) → numbered (front ++ o ∷ older) (length older) ≡ Some o
+numbered_at front o older =
+    let place : length (front ++ o ∷ older) - 1 - length older ≡ length front = omega (arith, length-append front (o ∷ older)) in
+    ap (slice_get (front ++ o ∷ older)) place ∙ get_behind front o older
+  where
+    get_behind : (front : List Opened) (o : Opened) (older : List Opened) → slice_get (front ++ o ∷ older) (length front) ≡ Some o
+    get_behind [] o older = refl
+    get_behind (x ∷ front) o older = get_behind front o older
+
+module _ (spelling : Spelling) (settings : Settings) (image : Image) (low : Bytes) where
+  -- ---- a table that is not opened has no key between the bounds
+
+  module _ (low_bytes : IsBytes low) where
+    not_crossed : (high key : Bytes) → is_between low (Some high) key ≡ true → (crossed : Bool) → is_before high low ≡ crossed → crossed ≡ false
+    not_crossed high key inside true is = absurd (crossed_key low high key is inside)
+    not_crossed high key inside false is = refl
+
+    denied : (high : Option Bytes) → IsHighOfBytes high → (key : Bytes) → is_between low high key ≡ true → (o : Opened) (t : Table) → IsHeld spelling settings o t image → IsSoundTable t
+        → admits_keys low high o ≡ false → (said : Option (Option Bytes)) → lookup t.entries key ≡ said → said ≡ None
+    denied None high_bytes key inside o t held sound closed said is = absurd (false≢true (sym closed))
+    denied (Some high) high_bytes key inside o t held sound closed None is = refl
+    denied (Some high) high_bytes key inside o t held sound closed (Some value) is =
+        let order = not_crossed high key inside (is_before high low) refl in
+        let admitted = ranges_same spelling settings image o t held low high ∙ range_admitted settings t low high key value sound low_bytes high_bytes order is inside in
+        absurd (false≢true (sym closed ∙ ap (λ (b : Bool). not b && ranged o.filter.real_bits o.filter.leaves low high) order ∙ admitted))
+
+    -- so those that are opened say of such a key what all say
+    pub opened_say : (high : Option Bytes) → IsHighOfBytes high → (key : Bytes) → is_between low high key ≡ true → (opened : List Opened) (tables : List Table)
+        → AreHeld spelling settings opened tables image → AllByRecursion IsSoundTable tables → first_found (entries_opened low high opened tables) key ≡ first_found (lists_of tables) key
+    opened_say high high_bytes key inside [] [] held sound = refl
+    opened_say high high_bytes key inside [] (t ∷ tables) held sound = elim held [ ]
+    opened_say high high_bytes key inside (o ∷ opened) [] held sound = elim held [ ]
+    opened_say high high_bytes key inside (o ∷ opened) (t ∷ tables) held sound =
+        by_test (opened_say high high_bytes key inside opened tables held.1 sound.1) (admits_keys low high o) refl
+      where
+        by_test : first_found (entries_opened low high opened tables) key ≡ first_found (lists_of tables) key → (yes : Bool) → admits_keys low high o ≡ yes
+            → first_found (cond yes (t.entries ∷ entries_opened low high opened tables) (entries_opened low high opened tables)) key ≡ option_or (lookup t.entries key) (first_found (lists_of tables) key)
+        by_test rest true is = ap (option_or (lookup t.entries key)) rest
+        by_test rest false is =
+            rest ∙ ap (λ (o : Option (Option Bytes)). option_or o (first_found (lists_of tables) key)) (sym (denied high high_bytes key inside o t held.0 sound.0 is (lookup t.entries key) refl))
+
+  -- ---- their entries, and where they stand
+
+  pub opened_rise : (high : Option Bytes) (opened : List Opened) (tables : List Table) → AllByRecursion IsSoundTable tables → AllRise (entries_opened low high opened tables)
+  opened_rise high [] tables sound = tt
+  opened_rise high (o ∷ opened) [] sound = tt
+  opened_rise high (o ∷ opened) (t ∷ tables) sound = elim (admits_keys low high o) as (λ b. AllRise (cond b (t.entries ∷ entries_opened low high opened tables) (entries_opened low high opened tables))) [
+    | true ↦ ((tables_rise (t ∷ tables) sound).0, opened_rise high opened tables sound.1)
+    | false ↦ opened_rise high opened tables sound.1
+  ]
+
+  abbrev pub blocks_opened : (high : Option Bytes) (opened : List Opened) (tables : List Table) → AreHeld spelling settings opened tables image → List (List (List Entry))
+  blocks_opened high [] [] held = []
+  blocks_opened high [] (t ∷ tables) held = []
+  blocks_opened high (o ∷ opened) [] held = []
+  blocks_opened high (o ∷ opened) (t ∷ tables) held = cond (admits_keys low high o) (held.0.blocks ∷ blocks_opened high opened tables held.1) (blocks_opened high opened tables held.1)
+
+  pub blocks_joined : (high : Option Bytes) (opened : List Opened) (tables : List Table) (held : AreHeld spelling settings opened tables image)
+      → map (λ (b : List (List Entry)). joined b) (blocks_opened high opened tables held) ≡ entries_opened low high opened tables
+  blocks_joined high [] [] held = refl
+  blocks_joined high [] (t ∷ tables) held = elim held [ ]
+  blocks_joined high (o ∷ opened) [] held = elim held [ ]
+  blocks_joined high (o ∷ opened) (t ∷ tables) held = elim (admits_keys low high o) as (λ b.
+      map (λ (b : List (List Entry)). joined b) (cond b (held.0.blocks ∷ blocks_opened high opened tables held.1) (blocks_opened high opened tables held.1))
+      ≡ cond b (t.entries ∷ entries_opened low high opened tables) (entries_opened low high opened tables)) [
+        | true ↦ λ i. sym (held_entries spelling settings o t image held.0) i ∷ blocks_joined high opened tables held.1 i
+        | false ↦ blocks_joined high opened tables held.1
+      ]
+
+  -- by their numbers, with those before them
+  stand_behind : (high : Option Bytes) (front opened : List Opened) (tables : List Table) (held : AreHeld spelling settings opened tables image)
+      → NumberedStand spelling settings (front ++ opened) image (numbers_admitting low high opened) (blocks_opened high opened tables held)
+  stand_behind high front [] [] held = tt
+  stand_behind high front [] (t ∷ tables) held = elim held [ ]
+  stand_behind high front (o ∷ opened) [] held = elim held [ ]
+  stand_behind high front (o ∷ opened) (t ∷ tables) held =
+      let rest = subst (λ (all : List Opened). NumberedStand spelling settings all image (numbers_admitting low high opened) (blocks_opened high opened tables held.1))
+      (append_assoc front (o ∷ []) opened) (stand_behind high (front ++ o ∷ []) opened tables held.1) in
+      elim (admits_keys low high o) as (λ b. NumberedStand spelling settings (front ++ o ∷ opened) image (cond b (length opened ∷ numbers_admitting low high opened) (numbers_admitting low high opened))
+      (cond b (held.0.blocks ∷ blocks_opened high opened tables held.1) (blocks_opened high opened tables held.1))) [
+        | true ↦ ((o, numbered_at front o opened, held.0.stands), rest)
+        | false ↦ rest
+      ]
+
+  pub opened_stand : (high : Option Bytes) (opened : List Opened) (tables : List Table) (held : AreHeld spelling settings opened tables image)
+      → NumberedStand spelling settings opened image (numbers_admitting low high opened) (blocks_opened high opened tables held)
+  opened_stand high opened tables held = stand_behind high [] opened tables held
+
+-- ---- the numbers are those of tables
+
+numbers_below : (low : Bytes) (high : Option Bytes) (opened : List Opened) (most : ℕ) → length opened ≤ most → AllByRecursion (λ (number : ℕ). number < most) (numbers_admitting low high opened)
+numbers_below low high [] most few = tt
+numbers_below low high (o ∷ opened) most few = elim (admits_keys low high o) as (λ b. AllByRecursion (λ (number : ℕ). number < most) (cond b (length opened ∷ numbers_admitting low high opened) (numbers_admitting low high opened))) [
+  | true ↦ (omega (arith, few), numbers_below low high opened most (omega (arith, few)))
+  | false ↦ numbers_below low high opened most (omega (arith, few))
+]
+
+pub numbers_there : (low : Bytes) (high : Option Bytes) (opened : List Opened) → AllByRecursion (λ (number : ℕ). number < length opened) (numbers_admitting low high opened)
+numbers_there low high opened = numbers_below low high opened (length opened) (omega arith)
+
+-- ---- the rows of them all
+
+merged_say : MergedLaws → (lists : List (List Entry)) (key : Bytes) → AllRise lists → lookup (merged_rows lists) key ≡ first_found lists key
+merged_say laws [] key rise = ap (λ (rows : List Entry). lookup rows key) laws.none
+merged_say laws (entries ∷ older) key rise =
+    laws.first_says entries older key
+    ∙ ap (λ (o : Option (Option Bytes)). option_or o (lookup (merged_rows older) key)) (newest_of_rising entries key rise.0)
+    ∙ ap (option_or (lookup entries key)) (merged_say laws older key rise.1)
+
+module _ (laws : MergedLaws) (spelling : Spelling) (filter_bytes : FilterBytes) (s : State) (image : Image) (low : Bytes) (low_bytes : IsBytes low) (high : Option Bytes) (high_bytes : IsHighOfBytes high)
+    (sound : IsSound filter_bytes s) (opened : List Opened) (held : AreHeld spelling s.settings opened s.tables image) where
+  abbrev pub all_sources : List (List Entry)
+  all_sources = memory s ∷ entries_opened low high opened s.tables
+
+  all_rise : AllRise all_sources
+  all_rise = (newest_entries_rise s.log, opened_rise spelling s.settings image low high opened s.tables sound.tables)
+
+  rows_say : (key : Bytes) → is_between low high key ≡ true → live (lookup (merged_rows all_sources) key) ≡ get (state_map s) key
+  rows_say key inside =
+      ap live (merged_say laws all_sources key all_rise
+      ∙ ap (option_or (lookup (memory s) key)) (opened_say spelling s.settings image low low_bytes high high_bytes key inside opened s.tables held sound.tables))
+      ∙ sym (view_says filter_bytes s key sound)
+
+  -- the pairs of the rows between the bounds are those of the state's map
+  pub state_pairs : pairs_up_to high (entries_from (merged_rows all_sources) low) ≡ between (state_map s) low high
+  state_pairs = pairs_between (merged_rows all_sources) (state_map s) low high (laws.rises all_sources) (entries_rise [] (entries_of s) tt) rows_say

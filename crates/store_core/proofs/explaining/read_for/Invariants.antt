@@ -1,0 +1,7 @@
+use Rattle.std.proofs.Common.{◌≡◌, ◌+◌, ◌≤◌, drop, count_by}
+use Rattle.store_core.specs.Telling.{is_read_for}
+use Rattle.store_core.proofs.explaining.read_for.Given as goal
+
+-- those so far and those among what is left
+abbrev pub invariant-loop-table : goal.invariant-loop-table
+invariant-loop-table g l = (l.count + count_by (is_read_for l.key) (drop l.table-index l.tables) ≡ count_by (is_read_for l.key) l.tables) × (l.count ≤ l.table-index)

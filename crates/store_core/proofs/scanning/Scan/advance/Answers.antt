@@ -1,0 +1,99 @@
+use Rattle.std.proofs.Common.{rules, ◌≡◌, ◌∙◌, ◌≤◌, ◌+◌, refl, sym, ap, subst, arith}
+use Rattle.std.specs.Prelude.{Some}
+use Rattle.disk_trait.specs.Image.{Image}
+use Rattle.merge_rows.specs.Reads.{SomeBlock}
+use Rattle.merge_rows.specs.Steps.{AreNumbersIn}
+use Rattle.store_core.proofs.ScanCauses.{no_damage, not_ended, said_of, told_block, told_scan, told_step}
+use Rattle.store_core.proofs.ScanSteps.{shows_bounded, shows_ended, shows_on, shows_still}
+use Rattle.store_core.specs.Faults.{of_table_fault}
+use Rattle.store_core.specs.Scans.{IsScanShown, ScanWalk, Shows, left_behind, sources, step_bound}
+use Rattle.table_file.specs.Search.{IsGetFault}
+use Rattle.store_core.proofs.scanning.Scan.advance.Goals as goal
+
+pub returns-then-has_ended-clause-pairs : goal.returns-then-has_ended-clause-pairs
+returns-then-has_ended-clause-pairs g c m so shows =
+    let image = (g.D.Disk.world c.args.disk.now).seen.held in
+    let inside = subst (λ (w : ScanWalk). Shows g.F.RangeFilter.spelling w m image) (sym c.self.view_is) shows in
+    shows_ended g.D.Disk.tells so g.F.RangeFilter.spelling image _ m inside _ refl (sym c.has_ended.ensures ∙ c.if-has_ended.true)
+
+pub invariant_of-self-in_err-found : goal.invariant_of-self-in_err-found
+invariant_of-self-in_err-found g c =
+    (subst (AreNumbersIn c.self.inside.tables.now.tables) (sym c.next_pair.ensures.kept.numbers_are) c.self.invariant.0, c.next_pair.ensures.kept.drops_are ∙ c.self.invariant.1)
+
+pub returns-in_err-found-clause-stays : goal.returns-in_err-found-clause-stays
+returns-in_err-found-clause-stays g c m so shows =
+    let image = (g.D.Disk.world c.args.disk.now).seen.held in
+    let inside = subst (λ (w : ScanWalk). Shows g.F.RangeFilter.spelling w m image) (sym c.self.view_is) shows in
+    let here = shows_still g.D.Disk.tells so g.F.RangeFilter.spelling image _ m inside c.next_pair.new.rows _ c.next_pair.ensures.kept (c.in_err-found.ensures.stays so inside.sound) refl in
+    search rules
+
+pub returns-in_err-found-clause-undamaged : goal.returns-in_err-found-clause-undamaged
+returns-in_err-found-clause-undamaged g c m so shows =
+    let image = (g.D.Disk.world c.args.disk.now).seen.held in
+    let inside = subst (λ (w : ScanWalk). Shows g.F.RangeFilter.spelling w m image) (sym c.self.view_is) shows in
+    let here = no_damage c.standing_tables_are_read.ensures.blocks g.F.RangeFilter.spelling _ m image inside c.in_err-found.field-0.0 (c.in_err-found.ensures.fault so) in
+    search rules
+
+pub returns-in_err-found-clause-shown : goal.returns-in_err-found-clause-shown
+returns-in_err-found-clause-shown g c so =
+    let image = (g.D.Disk.world c.args.disk.now).seen.held in
+    let fault = c.in_err-found.field-0.0 in
+    let here = told_block c.self.inside.tables.now.tables image fault (c.in_err-found.ensures.fault so) in
+    told_scan c.from_residual.result c.args.self.now.tables image fault c.from_residual.ensures.1 (subst (λ (w : ScanWalk). IsScanShown w.tables image (of_table_fault fault)) c.self.view_is here)
+
+pub returns-in_err-found-clause-bounded : goal.returns-in_err-found-clause-bounded
+returns-in_err-found-clause-bounded g c m so shows =
+    let old = g.D.Disk.world c.args.disk.now in
+    let new = g.D.Disk.world c.next_pair.new.disk in
+    let inside = subst (λ (w : ScanWalk). Shows g.F.RangeFilter.spelling w m old.seen.held) (sym c.self.view_is) shows in
+    subst (λ (w : ScanWalk). new.seen.reads ≤ old.seen.reads + step_bound w old.seen.held) c.self.view_is
+    (shows_bounded g.D.Disk.tells so g.F.RangeFilter.spelling old.seen.held _ m inside old.seen.reads new.seen.reads (sym c.has_ended.ensures ∙ c.if-has_ended.false) (c.next_pair.ensures.bounded so inside.sound))
+
+pub returns-in_err-found-clause-met : goal.returns-in_err-found-clause-met
+returns-in_err-found-clause-met g c =
+    let some : 1 ≤ sources c.args.self.now = omega (arith, ap sources c.self.view_is, c.in_err-found.ensures.met) in
+    let going : c.args.self.now.left ≡ Some 0 → ⊥ = λ is. not_ended c.self.inside.left (sym c.has_ended.ensures ∙ c.if-has_ended.false) (ap (λ (w : ScanWalk). w.left) c.self.view_is ∙ is) in
+    let here : (1 ≤ sources c.args.self.now) × (c.args.self.now.left ≡ Some 0 → ⊥) = (some, going) in
+    search rules
+
+pub returns-in_err-found-clause-ended : goal.returns-in_err-found-clause-ended
+returns-in_err-found-clause-ended g c is =
+    absurd (not_ended c.self.inside.left (sym c.has_ended.ensures ∙ c.if-has_ended.false) (ap (λ (w : ScanWalk). w.left) c.self.view_is ∙ is))
+
+pub returns-in_err-found-clause-refused : goal.returns-in_err-found-clause-refused
+returns-in_err-found-clause-refused g c =
+    let here = told_step (g.D.Disk.world c.args.disk.now) (g.D.Disk.world c.next_pair.new.disk) c.in_err-found.field-0.0 c.in_err-found.ensures.cause in
+    search rules
+
+pub invariant_of-self-2 : goal.invariant_of-self-2
+invariant_of-self-2 g c =
+    (subst (AreNumbersIn c.self.inside.tables.now.tables) (sym c.next_pair.ensures.kept.numbers_are) c.self.invariant.0, c.next_pair.ensures.kept.drops_are ∙ c.self.invariant.1)
+
+pub returns-clause-pairs : goal.returns-clause-pairs
+returns-clause-pairs g c m so shows =
+    let image = (g.D.Disk.world c.args.disk.now).seen.held in
+    let inside = subst (λ (w : ScanWalk). Shows g.F.RangeFilter.spelling w m image) (sym c.self.view_is) shows in
+    shows_on g.D.Disk.tells so g.F.RangeFilter.spelling image _ m inside c.next_pair.new.rows _ c.in_ok-found.found c.left_behind-left.result c.left_behind-left.ensures c.next_pair.ensures.kept
+    (sym c.has_ended.ensures ∙ c.if-has_ended.false) c.in_ok-found.ensures.some (c.in_ok-found.ensures.pairs so inside.sound) refl
+
+pub returns-clause-bounded : goal.returns-clause-bounded
+returns-clause-bounded g c m so shows =
+    let old = g.D.Disk.world c.args.disk.now in
+    let new = g.D.Disk.world c.next_pair.new.disk in
+    let inside = subst (λ (w : ScanWalk). Shows g.F.RangeFilter.spelling w m old.seen.held) (sym c.self.view_is) shows in
+    subst (λ (w : ScanWalk). new.seen.reads ≤ old.seen.reads + step_bound w old.seen.held) c.self.view_is
+    (shows_bounded g.D.Disk.tells so g.F.RangeFilter.spelling old.seen.held _ m inside old.seen.reads new.seen.reads (sym c.has_ended.ensures ∙ c.if-has_ended.false) (c.next_pair.ensures.bounded so inside.sound))
+
+pub returns-clause-said : goal.returns-clause-said
+returns-clause-said g c = said_of c.in_ok-found.found c.next_pair.new.rows.now c.in_ok-found.ensures.some
+
+pub returns-clause-ended : goal.returns-clause-ended
+returns-clause-ended g c is =
+    absurd (not_ended c.self.inside.left (sym c.has_ended.ensures ∙ c.if-has_ended.false) (ap (λ (w : ScanWalk). w.left) c.self.view_is ∙ is))
+
+pub returns-clause-counts : goal.returns-clause-counts
+returns-clause-counts g c = c.left_behind-left.ensures ∙ ap (λ (w : ScanWalk). left_behind c.in_ok-found.found w.left) c.self.view_is
+
+pub returns-clause-more : goal.returns-clause-more
+returns-clause-more g c some is =
+    not_ended c.self.inside.left (sym c.has_ended.ensures ∙ c.if-has_ended.false) (ap (λ (w : ScanWalk). w.left) c.self.view_is ∙ is)

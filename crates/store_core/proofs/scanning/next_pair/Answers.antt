@@ -1,0 +1,248 @@
+use Rattle.std.proofs.Common.{rules, ◌≡◌, ◌∙◌, ◌≤◌, ◌<◌, ◌+◌, ◌-◌, ℕ, Bool, true, false, not, length, refl, sym, ap, subst, arith}
+use Rattle.std.specs.Option.{option_map}
+use Rattle.std.specs.Prelude.{IsTrue, Option, Some, None, is_some}
+use Rattle.disk_trait.proofs.Calls.{reads_none}
+use Rattle.disk_trait.specs.Image.{Image}
+use Rattle.disk_trait.specs.World.{ReadMoves}
+use Rattle.entry_model.specs.Entries.{Entry, entry_of}
+use Rattle.key_base.specs.Limits.{max_key_bytes}
+use Rattle.map_model.specs.Slices.{is_up_to}
+use Rattle.map_model.specs.SortedMap.{Bytes}
+use Rattle.merge_rows.proofs.Rank.{height, height_ends, height_rises, strings}
+use Rattle.merge_rows.proofs.Steps.{none_of}
+use Rattle.merge_rows.specs.Merges.{rows_left}
+use Rattle.merge_rows.specs.Reads.{OnlyReads, SomeBlock, wanted}
+use Rattle.merge_rows.specs.Steps.{AreNumbersIn, IsFaultStep, IsPaced, IsRowStep, IsSoundMerge, RowPasses, SourcesStay}
+use Rattle.store_core.proofs.ScanCauses.{as_many_walks, block_cause, fault_at, kept_at, none_value, paced_at, reads_on, pair_some, some_mapped, step_at}
+use Rattle.store_core.proofs.ScanSteps.{IsUnderWay, all_bounded, none_below, none_left, one_on, pair_given, set_out, stay_then, still_pairs}
+use Rattle.store_core.specs.Getting.{IsLookFault}
+use Rattle.store_core.specs.Scans.{blocks_on_way, given, pair_in, pairs_up_to}
+use Rattle.table_file.specs.Search.{IsGetFault}
+use Rattle.store_core.proofs.scanning.next_pair.Goals as goal
+
+pub loop-rows-init : goal.loop-rows-init
+loop-rows-init g c =
+    let before = g.D.Disk.world c.args.disk.now in
+    record {
+      way = set_out g.D.Disk.tells before.seen.held c.args.tables.now.tables (option_map (λ v. v.items) c.args.high.now) c.args.rows.now c.requires.keeps before.seen.reads;
+      moves = (0, reads_none 0 before);
+    }
+
+pub advance-requires : goal.advance-requires
+advance-requires g c = subst (AreNumbersIn c.args.tables.now.tables) (sym c.loop-rows.invariant.way.kept.numbers_are) c.requires.there
+
+-- ---- a fault
+
+pub returns-in_err-advance-clause-kept : goal.returns-in_err-advance-clause-kept
+returns-in_err-advance-clause-kept g c =
+    let tables = c.args.tables.now.tables in
+    let kept = kept_at g.D.Disk.tells tables _ _ c.loop-rows.invariant.moves.1.held c.loop-rows.rows c.advance.new.self c.advance.ensures.kept in
+    stay_then g.D.Disk.tells tables _ c.args.rows.now c.loop-rows.rows c.advance.new.self c.loop-rows.invariant.way.kept kept
+
+pub returns-in_err-advance-clause-stays : goal.returns-in_err-advance-clause-stays
+returns-in_err-advance-clause-stays g c so sound =
+    let before = g.D.Disk.world c.args.disk.now in
+    let tables = c.args.tables.now.tables in
+    let fault = fault_at g.D.Disk.tells tables _ _ c.loop-rows.invariant.moves.1.held c.loop-rows.rows c.advance.new.self c.in_err-advance.ensures.stays in
+    let here = still_pairs g.D.Disk.tells before.seen.held tables (option_map (λ v. v.items) c.args.high.now) c.args.rows.now c.requires.keeps before.seen.reads c.loop-rows.rows
+    (g.D.Disk.world c.loop-rows.disk).seen.reads c.loop-rows.invariant.way c.advance.new.self fault so sound in
+    search rules
+
+pub returns-in_err-advance-clause-bounded : goal.returns-in_err-advance-clause-bounded
+returns-in_err-advance-clause-bounded g c so sound =
+    let before = g.D.Disk.world c.args.disk.now in
+    let tables = c.args.tables.now.tables in
+    all_bounded g.D.Disk.tells before.seen.held tables (option_map (λ v. v.items) c.args.high.now) c.args.rows.now c.requires.keeps before.seen.reads c.loop-rows.rows
+    (g.D.Disk.world c.loop-rows.disk).seen.reads c.loop-rows.invariant.way c.advance.new.self (g.D.Disk.world c.advance.new.disk).seen.reads
+    (λ so keeps sound. (c.advance.ensures.bounded so keeps (subst (λ (f : Image). IsSoundMerge c.loop-rows.rows tables f) (sym c.loop-rows.invariant.moves.1.held) sound)).reads) so sound
+
+pub returns-in_err-advance-clause-met : goal.returns-in_err-advance-clause-met
+returns-in_err-advance-clause-met g c =
+    let many = as_many_walks c.loop-rows.rows.walks c.args.rows.now.walks c.loop-rows.invariant.way.kept.numbers_are in
+    let here : 1 ≤ length c.args.rows.now.walks = omega (arith, many, c.in_err-advance.ensures.met) in
+    search rules
+
+pub returns-in_err-advance-clause-cause : goal.returns-in_err-advance-clause-cause
+returns-in_err-advance-clause-cause g c =
+    let here = block_cause (g.D.Disk.world c.args.disk.now) (g.D.Disk.world c.loop-rows.disk) (g.D.Disk.world c.advance.new.disk) c.args.tables.now.tables c.in_err-advance.field-0.0
+    c.loop-rows.invariant.moves c.in_err-advance.ensures.taken c.in_err-advance.ensures.cause in
+    search rules
+
+pub returns-in_err-advance-clause-fault : goal.returns-in_err-advance-clause-fault
+returns-in_err-advance-clause-fault g c so =
+    let here = subst (λ (f : Image). SomeBlock c.args.tables.now.tables (λ t n. IsGetFault t n f c.in_err-advance.field-0.0)) c.loop-rows.invariant.moves.1.held (c.in_err-advance.ensures.fault so) in
+    search rules
+
+pub returns-in_err-advance-clause-moves : goal.returns-in_err-advance-clause-moves
+returns-in_err-advance-clause-moves g c =
+    reads_on (g.D.Disk.world c.args.disk.now) (g.D.Disk.world c.loop-rows.disk) (g.D.Disk.world c.advance.new.disk) c.loop-rows.invariant.moves c.advance.ensures.moves
+
+-- ---- no row is left
+
+pub returns-in-None-clause-kept : goal.returns-in-None-clause-kept
+returns-in-None-clause-kept g c =
+    let tables = c.args.tables.now.tables in
+    let kept = kept_at g.D.Disk.tells tables _ _ c.loop-rows.invariant.moves.1.held c.loop-rows.rows c.advance.new.self c.advance.ensures.kept in
+    stay_then g.D.Disk.tells tables _ c.args.rows.now c.loop-rows.rows c.advance.new.self c.loop-rows.invariant.way.kept kept
+
+pub returns-in-None-clause-pairs : goal.returns-in-None-clause-pairs
+returns-in-None-clause-pairs g c so sound =
+    let before = g.D.Disk.world c.args.disk.now in
+    let tables = c.args.tables.now.tables in
+    let same = c.loop-rows.invariant.moves.1.held in
+    let kept = kept_at g.D.Disk.tells tables _ _ same c.loop-rows.rows c.advance.new.self c.advance.ensures.kept in
+    let step = step_at g.D.Disk.tells tables _ _ same c.loop-rows.rows c.advance.new.self c.in_ok-advance.ensures.row in
+    none_left g.D.Disk.tells before.seen.held tables (option_map (λ v. v.items) c.args.high.now) c.args.rows.now c.requires.keeps before.seen.reads c.loop-rows.rows
+    (g.D.Disk.world c.loop-rows.disk).seen.reads c.loop-rows.invariant.way c.advance.new.self (g.D.Disk.world c.advance.new.disk).seen.reads
+    (λ so keeps sound. (c.advance.ensures.bounded so keeps (subst (λ (f : Image). IsSoundMerge c.loop-rows.rows tables f) (sym same) sound)).reads) kept step
+    (λ so keeps. paced_at g.D.Disk.tells tables _ _ same c.loop-rows.rows c.advance.new.self (c.in_ok-advance.ensures.paced so keeps))
+    (sym c.in-None.ensures.now) so sound
+
+pub returns-in-None-clause-bounded : goal.returns-in-None-clause-bounded
+returns-in-None-clause-bounded g c so sound =
+    let before = g.D.Disk.world c.args.disk.now in
+    let tables = c.args.tables.now.tables in
+    all_bounded g.D.Disk.tells before.seen.held tables (option_map (λ v. v.items) c.args.high.now) c.args.rows.now c.requires.keeps before.seen.reads c.loop-rows.rows
+    (g.D.Disk.world c.loop-rows.disk).seen.reads c.loop-rows.invariant.way c.advance.new.self (g.D.Disk.world c.advance.new.disk).seen.reads
+    (λ so keeps sound. (c.advance.ensures.bounded so keeps (subst (λ (f : Image). IsSoundMerge c.loop-rows.rows tables f) (sym c.loop-rows.invariant.moves.1.held) sound)).reads) so sound
+
+pub returns-in-None-clause-moves : goal.returns-in-None-clause-moves
+returns-in-None-clause-moves g c =
+    reads_on (g.D.Disk.world c.args.disk.now) (g.D.Disk.world c.loop-rows.disk) (g.D.Disk.world c.advance.new.disk) c.loop-rows.invariant.moves c.advance.ensures.moves
+
+-- ---- the row is above the bound
+
+pub returns-then-is_above-clause-kept : goal.returns-then-is_above-clause-kept
+returns-then-is_above-clause-kept g c =
+    let tables = c.args.tables.now.tables in
+    let kept = kept_at g.D.Disk.tells tables _ _ c.loop-rows.invariant.moves.1.held c.loop-rows.rows c.advance.new.self c.advance.ensures.kept in
+    stay_then g.D.Disk.tells tables _ c.args.rows.now c.loop-rows.rows c.advance.new.self c.loop-rows.invariant.way.kept kept
+
+pub returns-then-is_above-clause-pairs : goal.returns-then-is_above-clause-pairs
+returns-then-is_above-clause-pairs g c so sound =
+    let before = g.D.Disk.world c.args.disk.now in
+    let tables = c.args.tables.now.tables in
+    let same = c.loop-rows.invariant.moves.1.held in
+    let kept = kept_at g.D.Disk.tells tables _ _ same c.loop-rows.rows c.advance.new.self c.advance.ensures.kept in
+    let step = step_at g.D.Disk.tells tables _ _ same c.loop-rows.rows c.advance.new.self c.in_ok-advance.ensures.row in
+    let row = entry_of c.in-Some.key.now (option_map (λ v. v.now) c.in-Some.value) in
+    let some : c.advance.new.self.now ≡ Some row = sym c.in-Some.ensures.now in
+    none_below g.D.Disk.tells before.seen.held tables (option_map (λ v. v.items) c.args.high.now) c.args.rows.now c.requires.keeps before.seen.reads c.loop-rows.rows
+    (g.D.Disk.world c.loop-rows.disk).seen.reads c.loop-rows.invariant.way c.advance.new.self (g.D.Disk.world c.advance.new.disk).seen.reads
+    (λ so keeps sound. (c.advance.ensures.bounded so keeps (subst (λ (f : Image). IsSoundMerge c.loop-rows.rows tables f) (sym same) sound)).reads) kept step
+    (λ so keeps. paced_at g.D.Disk.tells tables _ _ same c.loop-rows.rows c.advance.new.self (c.in_ok-advance.ensures.paced so keeps))
+    row some (c.is_above.ensures ∙ ap not c.if-is_above.true) so sound
+
+pub returns-then-is_above-clause-bounded : goal.returns-then-is_above-clause-bounded
+returns-then-is_above-clause-bounded g c so sound =
+    let before = g.D.Disk.world c.args.disk.now in
+    let tables = c.args.tables.now.tables in
+    all_bounded g.D.Disk.tells before.seen.held tables (option_map (λ v. v.items) c.args.high.now) c.args.rows.now c.requires.keeps before.seen.reads c.loop-rows.rows
+    (g.D.Disk.world c.loop-rows.disk).seen.reads c.loop-rows.invariant.way c.advance.new.self (g.D.Disk.world c.advance.new.disk).seen.reads
+    (λ so keeps sound. (c.advance.ensures.bounded so keeps (subst (λ (f : Image). IsSoundMerge c.loop-rows.rows tables f) (sym c.loop-rows.invariant.moves.1.held) sound)).reads) so sound
+
+pub returns-then-is_above-clause-moves : goal.returns-then-is_above-clause-moves
+returns-then-is_above-clause-moves g c =
+    reads_on (g.D.Disk.world c.args.disk.now) (g.D.Disk.world c.loop-rows.disk) (g.D.Disk.world c.advance.new.disk) c.loop-rows.invariant.moves c.advance.ensures.moves
+
+-- ---- it is a pair
+
+pub returns-then-is_some-clause-kept : goal.returns-then-is_some-clause-kept
+returns-then-is_some-clause-kept g c =
+    let tables = c.args.tables.now.tables in
+    let kept = kept_at g.D.Disk.tells tables _ _ c.loop-rows.invariant.moves.1.held c.loop-rows.rows c.advance.new.self c.advance.ensures.kept in
+    stay_then g.D.Disk.tells tables _ c.args.rows.now c.loop-rows.rows c.advance.new.self c.loop-rows.invariant.way.kept kept
+
+pub returns-then-is_some-clause-some : goal.returns-then-is_some-clause-some
+returns-then-is_some-clause-some g c found =
+    let value = option_map (λ v. v.now) c.in-Some.value in
+    ap (λ (o : Option Entry). is_some (pair_in o)) (sym c.in-Some.ensures.now) ∙ pair_some c.in-Some.key.now value
+    ∙ some_mapped (λ v. v.now) c.in-Some.value ∙ sym c.is_some.ensures ∙ c.if-is_some.true
+
+pub returns-then-is_some-clause-pairs : goal.returns-then-is_some-clause-pairs
+returns-then-is_some-clause-pairs g c so sound =
+    let before = g.D.Disk.world c.args.disk.now in
+    let tables = c.args.tables.now.tables in
+    let same = c.loop-rows.invariant.moves.1.held in
+    let kept = kept_at g.D.Disk.tells tables _ _ same c.loop-rows.rows c.advance.new.self c.advance.ensures.kept in
+    let step = step_at g.D.Disk.tells tables _ _ same c.loop-rows.rows c.advance.new.self c.in_ok-advance.ensures.row in
+    let row = entry_of c.in-Some.key.now (option_map (λ v. v.now) c.in-Some.value) in
+    let some : c.advance.new.self.now ≡ Some row = sym c.in-Some.ensures.now in
+    pair_given g.D.Disk.tells before.seen.held tables (option_map (λ v. v.items) c.args.high.now) c.args.rows.now c.requires.keeps before.seen.reads c.loop-rows.rows
+    (g.D.Disk.world c.loop-rows.disk).seen.reads c.loop-rows.invariant.way c.advance.new.self (g.D.Disk.world c.advance.new.disk).seen.reads
+    (λ so keeps sound. (c.advance.ensures.bounded so keeps (subst (λ (f : Image). IsSoundMerge c.loop-rows.rows tables f) (sym same) sound)).reads) kept step
+    (λ so keeps. paced_at g.D.Disk.tells tables _ _ same c.loop-rows.rows c.advance.new.self (c.in_ok-advance.ensures.paced so keeps))
+    row some (c.is_above.ensures ∙ ap not c.if-is_above.false) (some_mapped (λ v. v.now) c.in-Some.value ∙ sym c.is_some.ensures ∙ c.if-is_some.true) so sound
+
+pub returns-then-is_some-clause-bounded : goal.returns-then-is_some-clause-bounded
+returns-then-is_some-clause-bounded g c so sound =
+    let before = g.D.Disk.world c.args.disk.now in
+    let tables = c.args.tables.now.tables in
+    all_bounded g.D.Disk.tells before.seen.held tables (option_map (λ v. v.items) c.args.high.now) c.args.rows.now c.requires.keeps before.seen.reads c.loop-rows.rows
+    (g.D.Disk.world c.loop-rows.disk).seen.reads c.loop-rows.invariant.way c.advance.new.self (g.D.Disk.world c.advance.new.disk).seen.reads
+    (λ so keeps sound. (c.advance.ensures.bounded so keeps (subst (λ (f : Image). IsSoundMerge c.loop-rows.rows tables f) (sym c.loop-rows.invariant.moves.1.held) sound)).reads) so sound
+
+pub returns-then-is_some-clause-moves : goal.returns-then-is_some-clause-moves
+returns-then-is_some-clause-moves g c =
+    reads_on (g.D.Disk.world c.args.disk.now) (g.D.Disk.world c.loop-rows.disk) (g.D.Disk.world c.advance.new.disk) c.loop-rows.invariant.moves c.advance.ensures.moves
+
+-- ---- it is a tombstone
+
+pub loop-rows-smaller : goal.loop-rows-smaller
+loop-rows-smaller g c =
+    let row = entry_of c.in-Some.key.now (option_map (λ v. v.now) c.in-Some.value) in
+    let passes = subst (λ (o : Option Entry). RowPasses o c.loop-rows.rows.floor c.advance.new.self.floor) (sym c.in-Some.ensures.now) c.in_ok-advance.ensures.row.passes in
+    let rises = height_rises max_key_bytes c.loop-rows.rows.floor c.advance.new.self.floor c.in-Some.key.now passes.0 passes.1 c.in-Some.ensures.sound.short_key c.in-Some.ensures.sound.key_bytes in
+    omega (arith, rises, height_ends max_key_bytes c.advance.new.self.floor)
+
+pub loop-rows-preserved : goal.loop-rows-preserved
+loop-rows-preserved g c =
+    let before = g.D.Disk.world c.args.disk.now in
+    let tables = c.args.tables.now.tables in
+    let same = c.loop-rows.invariant.moves.1.held in
+    let kept = kept_at g.D.Disk.tells tables _ _ same c.loop-rows.rows c.advance.new.self c.advance.ensures.kept in
+    let step = step_at g.D.Disk.tells tables _ _ same c.loop-rows.rows c.advance.new.self c.in_ok-advance.ensures.row in
+    let row = entry_of c.in-Some.key.now (option_map (λ v. v.now) c.in-Some.value) in
+    let some : c.advance.new.self.now ≡ Some row = sym c.in-Some.ensures.now in
+    record {
+      way = one_on g.D.Disk.tells before.seen.held tables (option_map (λ v. v.items) c.args.high.now) c.args.rows.now c.requires.keeps before.seen.reads c.loop-rows.rows
+          (g.D.Disk.world c.loop-rows.disk).seen.reads c.loop-rows.invariant.way c.advance.new.self (g.D.Disk.world c.advance.new.disk).seen.reads
+          (λ so keeps sound. (c.advance.ensures.bounded so keeps (subst (λ (f : Image). IsSoundMerge c.loop-rows.rows tables f) (sym same) sound)).reads) kept step
+          (λ so keeps. paced_at g.D.Disk.tells tables _ _ same c.loop-rows.rows c.advance.new.self (c.in_ok-advance.ensures.paced so keeps))
+          c.merged_laws.ensures row some (c.is_above.ensures ∙ ap not c.if-is_above.false)
+          (none_value (option_map (λ v. v.now) c.in-Some.value) (some_mapped (λ v. v.now) c.in-Some.value ∙ sym c.is_some.ensures ∙ c.if-is_some.false));
+      moves = reads_on before (g.D.Disk.world c.loop-rows.disk) (g.D.Disk.world c.advance.new.disk) c.loop-rows.invariant.moves c.advance.ensures.moves;
+    }
+
+-- ---- the rows have ended
+
+pub returns-clause-kept : goal.returns-clause-kept
+returns-clause-kept g c =
+    let tables = c.args.tables.now.tables in
+    let kept = kept_at g.D.Disk.tells tables _ _ c.loop-rows.invariant.moves.1.held c.loop-rows.rows c.advance.new.self c.advance.ensures.kept in
+    stay_then g.D.Disk.tells tables _ c.args.rows.now c.loop-rows.rows c.advance.new.self c.loop-rows.invariant.way.kept kept
+
+pub returns-clause-pairs : goal.returns-clause-pairs
+returns-clause-pairs g c so sound =
+    let before = g.D.Disk.world c.args.disk.now in
+    let tables = c.args.tables.now.tables in
+    let same = c.loop-rows.invariant.moves.1.held in
+    let kept = kept_at g.D.Disk.tells tables _ _ same c.loop-rows.rows c.advance.new.self c.advance.ensures.kept in
+    let step = step_at g.D.Disk.tells tables _ _ same c.loop-rows.rows c.advance.new.self c.in_ok-advance.ensures.row in
+    none_left g.D.Disk.tells before.seen.held tables (option_map (λ v. v.items) c.args.high.now) c.args.rows.now c.requires.keeps before.seen.reads c.loop-rows.rows
+    (g.D.Disk.world c.loop-rows.disk).seen.reads c.loop-rows.invariant.way c.advance.new.self (g.D.Disk.world c.advance.new.disk).seen.reads
+    (λ so keeps sound. (c.advance.ensures.bounded so keeps (subst (λ (f : Image). IsSoundMerge c.loop-rows.rows tables f) (sym same) sound)).reads) kept step
+    (λ so keeps. paced_at g.D.Disk.tells tables _ _ same c.loop-rows.rows c.advance.new.self (c.in_ok-advance.ensures.paced so keeps))
+    (none_of c.advance.new.self.now (sym c.in_ok-advance.ensures.said ∙ c.if-branch.false)) so sound
+
+pub returns-clause-bounded : goal.returns-clause-bounded
+returns-clause-bounded g c so sound =
+    let before = g.D.Disk.world c.args.disk.now in
+    let tables = c.args.tables.now.tables in
+    all_bounded g.D.Disk.tells before.seen.held tables (option_map (λ v. v.items) c.args.high.now) c.args.rows.now c.requires.keeps before.seen.reads c.loop-rows.rows
+    (g.D.Disk.world c.loop-rows.disk).seen.reads c.loop-rows.invariant.way c.advance.new.self (g.D.Disk.world c.advance.new.disk).seen.reads
+    (λ so keeps sound. (c.advance.ensures.bounded so keeps (subst (λ (f : Image). IsSoundMerge c.loop-rows.rows tables f) (sym c.loop-rows.invariant.moves.1.held) sound)).reads) so sound
+
+pub returns-clause-moves : goal.returns-clause-moves
+returns-clause-moves g c =
+    reads_on (g.D.Disk.world c.args.disk.now) (g.D.Disk.world c.loop-rows.disk) (g.D.Disk.world c.advance.new.disk) c.loop-rows.invariant.moves c.advance.ensures.moves

@@ -1,0 +1,164 @@
+use Rattle.std.proofs.Common.{rules, List, ◌≡◌, ◌∙◌, ◌≤◌, ◌<◌, ◌+◌, ◌-◌, ℕ, Bool, true, false, length, drop, refl, sym, ap, subst, arith}
+use Rattle.std.proofs.lemmas.Bool.{false≢true}
+use Rattle.std.specs.Prelude.{IsTrue, Option, Some, None, is_some}
+use Rattle.disk_trait.proofs.Calls.{reads_none}
+use Rattle.disk_trait.specs.Image.{Image}
+use Rattle.line_model.specs.Limits.{limit_of}
+use Rattle.line_model.specs.Requests.{Count}
+use Rattle.map_model.specs.Slices.{count, first_pair, slice}
+use Rattle.map_model.specs.SortedMap.{Map}
+use Rattle.merge_rows.specs.Reads.{OnlyReads}
+use Rattle.state_model.specs.Bounds.{seek_bound}
+use Rattle.state_model.specs.View.{state_map}
+use Rattle.store_core.proofs.ScanCauses.{reads_on}
+use Rattle.store_core.proofs.ScanCounts.{below_most, counted_all, drop_next, met_any, none_behind, none_pair, scan_count, scan_met, scan_shown, scan_undamaged, some_behind, step_count}
+use Rattle.store_core.proofs.Tellings.{seen_as}
+use Rattle.store_core.proofs.Ties.{tied_read}
+use Rattle.store_core.specs.Scans.{IsScanShown, Shows, left_behind, sources}
+use Rattle.table_file.specs.Opened.{Opened}
+use Rattle.table_model.specs.Tables.{filter_bytes_of}
+use Rattle.store_core.proofs.store.Store.count.Goals as goal
+
+-- ---- no scan
+
+pub returns-in_err-scan-clause-undamaged : goal.returns-in_err-scan-clause-undamaged
+returns-in_err-scan-clause-undamaged g c s so tied =
+    let here = scan_undamaged c.args.self.now.stopped (limit_of (Count c.args.low.now c.args.high.now)) c.in_err-scan.field-0.0 c.in_err-scan.ensures.refused in
+    search rules
+
+pub returns-in_err-scan-clause-shown : goal.returns-in_err-scan-clause-shown
+returns-in_err-scan-clause-shown g c so =
+    let here = scan_shown c.args.self.now.stopped (limit_of (Count c.args.low.now c.args.high.now)) c.args.self.now.tables (g.D.Disk.world c.args.disk.now).seen.held c.in_err-scan.field-0.0 c.in_err-scan.ensures.refused in
+    search rules
+
+pub returns-in_err-scan-clause-met : goal.returns-in_err-scan-clause-met
+returns-in_err-scan-clause-met g c s so tied =
+    let here = scan_met c.args.self.now.stopped (limit_of (Count c.args.low.now c.args.high.now)) (seek_bound s c.args.low.now c.args.high.now) c.in_err-scan.field-0.0 c.in_err-scan.ensures.refused in
+    search rules
+
+pub returns-in_err-scan-clause-refused : goal.returns-in_err-scan-clause-refused
+returns-in_err-scan-clause-refused g c =
+    let here = scan_count c.args.self.now.stopped (limit_of (Count c.args.low.now c.args.high.now)) (g.D.Disk.world c.args.disk.now) c.in_err-scan.field-0.0 c.in_err-scan.ensures.refused in
+    search rules
+
+-- ---- pairs one by one
+
+pub loop-scan-init : goal.loop-scan-init
+loop-scan-init g c = record {
+  shows = λ m so shows. shows;
+  within = λ m so shows. omega arith;
+  left = c.in_ok-scan.ensures.made.1;
+  few = omega arith;
+  tables = refl;
+  sources = refl;
+  moves = (0, reads_none 0 (g.D.Disk.world c.args.disk.now));
+}
+
+-- ---- a fault
+
+pub returns-in_err-advance-clause-tied : goal.returns-in_err-advance-clause-tied
+returns-in_err-advance-clause-tied g c s tied =
+    let moves = reads_on (g.D.Disk.world c.args.disk.now) (g.D.Disk.world c.loop-scan.disk) (g.D.Disk.world c.advance.new.disk) c.loop-scan.invariant.moves c.advance.ensures.moves in
+    tied_read g.F.RangeFilter.spelling (filter_bytes_of g.F.RangeFilter.spelling g.F.RangeFilter.built_cutoff) c.args.self.now s _ _ moves.0 moves.1 tied
+
+pub returns-in_err-advance-clause-undamaged : goal.returns-in_err-advance-clause-undamaged
+returns-in_err-advance-clause-undamaged g c s so tied =
+    let before = g.D.Disk.world c.args.disk.now in
+    let seen = seen_as g.F.RangeFilter.spelling (filter_bytes_of g.F.RangeFilter.spelling g.F.RangeFilter.built_cutoff) c.args.self.now s before (g.met.D.Disk.current c.args.disk.now so) tied in
+    let m = slice (state_map s) c.args.low.now (Some c.args.high.now) 18446744073709551615 in
+    let shows = c.loop-scan.invariant.shows m so (c.in_ok-scan.ensures.shows s before.seen.held seen) in
+    let here = c.in_err-advance.ensures.undamaged (drop c.loop-scan.count m) so
+    (subst (λ (f : Image). Shows g.F.RangeFilter.spelling c.loop-scan.scan (drop c.loop-scan.count m) f) (sym c.loop-scan.invariant.moves.1.held) shows) in
+    search rules
+
+pub returns-in_err-advance-clause-shown : goal.returns-in_err-advance-clause-shown
+returns-in_err-advance-clause-shown g c so =
+    let why = c.in_err-advance.field-0.0 in
+    let there = subst (λ (f : Image). IsScanShown c.loop-scan.scan.tables f why) c.loop-scan.invariant.moves.1.held (c.in_err-advance.ensures.shown so) in
+    let here = subst (λ (ts : List Opened). IsScanShown ts (g.D.Disk.world c.args.disk.now).seen.held why) (c.loop-scan.invariant.tables ∙ c.in_ok-scan.ensures.made.0) there in
+    search rules
+
+pub returns-in_err-advance-clause-met : goal.returns-in_err-advance-clause-met
+returns-in_err-advance-clause-met g c s so tied =
+    let before = g.D.Disk.world c.args.disk.now in
+    let seen = seen_as g.F.RangeFilter.spelling (filter_bytes_of g.F.RangeFilter.spelling g.F.RangeFilter.built_cutoff) c.args.self.now s before (g.met.D.Disk.current c.args.disk.now so) tied in
+    let some : 1 ≤ sources c.in_ok-scan.scan = omega (arith, c.loop-scan.invariant.sources, c.in_err-advance.ensures.met.0) in
+    let here = met_any (seek_bound s c.args.low.now c.args.high.now) c.in_err-advance.field-0.0 (c.in_ok-scan.ensures.met s before.seen.held seen some) in
+    search rules
+
+pub returns-in_err-advance-clause-refused : goal.returns-in_err-advance-clause-refused
+returns-in_err-advance-clause-refused g c =
+    let here = step_count c.args.self.now.stopped (limit_of (Count c.args.low.now c.args.high.now)) (g.D.Disk.world c.args.disk.now) (g.D.Disk.world c.loop-scan.disk) (g.D.Disk.world c.advance.new.disk)
+    c.in_err-advance.field-0.0 c.loop-scan.invariant.moves.1.read_faults c.in_ok-scan.ensures.refused c.in_err-advance.ensures.refused in
+    search rules
+
+pub returns-in_err-advance-clause-still : goal.returns-in_err-advance-clause-still
+returns-in_err-advance-clause-still g c stopped = absurd (false≢true (sym c.in_ok-scan.ensures.refused.0 ∙ stopped))
+
+pub returns-in_err-advance-clause-moves : goal.returns-in_err-advance-clause-moves
+returns-in_err-advance-clause-moves g c =
+    reads_on (g.D.Disk.world c.args.disk.now) (g.D.Disk.world c.loop-scan.disk) (g.D.Disk.world c.advance.new.disk) c.loop-scan.invariant.moves c.advance.ensures.moves
+
+-- ---- one more
+
+pub overflow_add-count : goal.overflow_add-count
+overflow_add-count g c =
+    let below = below_most c.loop-scan.scan.left c.loop-scan.count c.loop-scan.invariant.left c.loop-scan.invariant.few (c.in_ok-advance.ensures.more c.if-branch.true) in
+    omega (arith, below)
+
+pub loop-scan-smaller : goal.loop-scan-smaller
+loop-scan-smaller g c =
+    let below = below_most c.loop-scan.scan.left c.loop-scan.count c.loop-scan.invariant.left c.loop-scan.invariant.few (c.in_ok-advance.ensures.more c.if-branch.true) in
+    omega (arith, below)
+
+pub loop-scan-preserved : goal.loop-scan-preserved
+loop-scan-preserved g c =
+    let spelling = g.F.RangeFilter.spelling in
+    let held = c.loop-scan.invariant.moves.1.held in
+    let below = below_most c.loop-scan.scan.left c.loop-scan.count c.loop-scan.invariant.left c.loop-scan.invariant.few (c.in_ok-advance.ensures.more c.if-branch.true) in
+    let fewer : 18446744073709551615 - c.loop-scan.count - 1 ≡ 18446744073709551615 - (c.loop-scan.count + 1) = omega arith in
+    record {
+      shows = λ m so shows.
+          let here = subst (λ (f : Image). Shows spelling c.loop-scan.scan (drop c.loop-scan.count m) f) (sym held) (c.loop-scan.invariant.shows m so shows) in
+          let on = c.in_ok-advance.ensures.pairs (drop c.loop-scan.count m) so here in
+          subst (λ (f : Image). Shows spelling c.advance.new.self (drop (c.loop-scan.count + 1) m) f) held
+          (subst (λ (p : Map). Shows spelling c.advance.new.self p (g.D.Disk.world c.loop-scan.disk).seen.held) (drop_next c.loop-scan.count m) on.1);
+      within = λ m so shows.
+          let here = subst (λ (f : Image). Shows spelling c.loop-scan.scan (drop c.loop-scan.count m) f) (sym held) (c.loop-scan.invariant.shows m so shows) in
+          let on = c.in_ok-advance.ensures.pairs (drop c.loop-scan.count m) so here in
+          omega (arith, some_behind c.loop-scan.count m (ap is_some (sym on.0) ∙ sym c.in_ok-advance.ensures.said ∙ c.if-branch.true));
+      left =
+          c.in_ok-advance.ensures.counts ∙ ap (λ (b : Bool). left_behind b c.loop-scan.scan.left) c.if-branch.true ∙ ap (left_behind true) c.loop-scan.invariant.left
+          ∙ ap (λ (n : ℕ). Some n) fewer;
+      few = omega (arith, below);
+      tables = c.advance.ensures.same.0 ∙ c.loop-scan.invariant.tables;
+      sources = c.advance.ensures.same.1 ∙ c.loop-scan.invariant.sources;
+      moves = reads_on (g.D.Disk.world c.args.disk.now) (g.D.Disk.world c.loop-scan.disk) (g.D.Disk.world c.advance.new.disk) c.loop-scan.invariant.moves c.advance.ensures.moves;
+    }
+
+-- ---- all
+
+pub returns-clause-answer : goal.returns-clause-answer
+returns-clause-answer g c s so tied =
+    let spelling = g.F.RangeFilter.spelling in
+    let bytes = filter_bytes_of g.F.RangeFilter.spelling g.F.RangeFilter.built_cutoff in
+    let before = g.D.Disk.world c.args.disk.now in
+    let seen = seen_as spelling bytes c.args.self.now s before (g.met.D.Disk.current c.args.disk.now so) tied in
+    let m = slice (state_map s) c.args.low.now (Some c.args.high.now) 18446744073709551615 in
+    let first = c.in_ok-scan.ensures.shows s before.seen.held seen in
+    let here = subst (λ (f : Image). Shows spelling c.loop-scan.scan (drop c.loop-scan.count m) f) (sym c.loop-scan.invariant.moves.1.held) (c.loop-scan.invariant.shows m so first) in
+    let on = c.in_ok-advance.ensures.pairs (drop c.loop-scan.count m) so here in
+    let none = sym on.0 ∙ none_pair c.advance.new.self.now (sym c.in_ok-advance.ensures.said ∙ c.if-branch.false) in
+    counted_all bytes s c.args.low.now (Some c.args.high.now) c.loop-scan.count tied.sound (c.loop-scan.invariant.within m so first) (none_behind c.loop-scan.count m none)
+
+pub returns-clause-tied : goal.returns-clause-tied
+returns-clause-tied g c s tied =
+    let moves = reads_on (g.D.Disk.world c.args.disk.now) (g.D.Disk.world c.loop-scan.disk) (g.D.Disk.world c.advance.new.disk) c.loop-scan.invariant.moves c.advance.ensures.moves in
+    tied_read g.F.RangeFilter.spelling (filter_bytes_of g.F.RangeFilter.spelling g.F.RangeFilter.built_cutoff) c.args.self.now s _ _ moves.0 moves.1 tied
+
+pub returns-clause-still : goal.returns-clause-still
+returns-clause-still g c stopped = absurd (false≢true (sym c.in_ok-scan.ensures.refused.0 ∙ stopped))
+
+pub returns-clause-moves : goal.returns-clause-moves
+returns-clause-moves g c =
+    reads_on (g.D.Disk.world c.args.disk.now) (g.D.Disk.world c.loop-scan.disk) (g.D.Disk.world c.advance.new.disk) c.loop-scan.invariant.moves c.advance.ensures.moves

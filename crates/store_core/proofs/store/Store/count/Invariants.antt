@@ -1,0 +1,25 @@
+use Rattle.std.proofs.Common.{◌≡◌, ◌≤◌, ◌+◌, ◌-◌, length, drop}
+use Rattle.std.specs.Prelude.{IsTrue, Option, Some}
+use Rattle.map_model.specs.SortedMap.{Map}
+use Rattle.merge_rows.specs.Reads.{OnlyReads}
+use Rattle.store_core.specs.Scans.{Shows, sources}
+use Rattle.store_core.proofs.store.Store.count.Given as goal
+
+-- so many of the pairs were given, and the others are still to come
+abbrev pub invariant-loop-scan : goal.invariant-loop-scan
+invariant-loop-scan g l =
+    let before = g.D.Disk.world l.fn.disk in
+    let after = g.D.Disk.world l.disk in
+    record {
+      shows : (m : Map) → IsTrue g.D.Disk.tells → Shows g.F.RangeFilter.spelling l.initial.scan m before.seen.held → Shows g.F.RangeFilter.spelling l.scan (drop l.count m) before.seen.held;
+      within : (m : Map) → IsTrue g.D.Disk.tells → Shows g.F.RangeFilter.spelling l.initial.scan m before.seen.held → l.count ≤ length m;
+      left : l.scan.left ≡ Some (18446744073709551615 - l.count);
+      few : l.count ≤ 18446744073709551615;
+      tables : l.scan.tables ≡ l.initial.scan.tables;
+      sources : sources l.scan ≡ sources l.initial.scan;
+      moves : OnlyReads before after;
+    }
+
+-- fewer pairs may come
+abbrev pub decreases-loop-scan : goal.decreases-loop-scan
+decreases-loop-scan g l = 18446744073709551615 - l.count

@@ -1,0 +1,55 @@
+use Rattle.std.proofs.Common.{◌≡◌, ◌∙◌, ◌≤◌, ◌<◌, ◌+◌, false, length, refl, sym, ap, subst, arith}
+use Rattle.std.specs.Option.{option_map}
+use Rattle.std.specs.Prelude.{Option, Some}
+use Rattle.map_model.specs.SortedMap.{Bytes}
+use Rattle.store_core.proofs.Countings.{tables_few}
+use Rattle.store_core.proofs.ScanMade.{made_bounded, made_met, made_numbers, made_scan, made_shows, memory_sound, scan_is, there}
+use Rattle.store_core.specs.Scans.{numbers_admitting}
+use Rattle.store_core.specs.Telling.{IsHighOfBytes}
+use Rattle.table_model.specs.Tables.{filter_bytes_of}
+use Rattle.store_core.proofs.store.Store.scan.Goals as goal
+
+pub numbers_of-requires : goal.numbers_of-requires
+numbers_of-requires g c = record { few = omega (arith, ap length c.as_slice.ensures, tables_few _ c.self.invariant.0) }
+
+pub new-requires-clause-there : goal.new-requires-clause-there
+new-requires-clause-there g c =
+    let high = option_map (λ h. h.now) c.args.high in
+    there c.args.low.now high c.self.inside.tables.tables c.in_ok-which.which.items (c.in_ok-which.ensures ∙ ap (numbers_admitting c.args.low.now high) c.as_slice.ensures)
+
+pub new-requires-clause-sound : goal.new-requires-clause-sound
+new-requires-clause-sound g c = memory_sound _ _ c.self.invariant.0.entries
+
+pub invariant_of-result : goal.invariant_of-result
+invariant_of-result g c =
+    let high = option_map (λ h. h.now) c.args.high in
+    made_numbers c.in_ok-which.which.items c.self.inside.tables.tables (Some c.self.inside.memory.entries) c.args.low.now c.in_ok-rows.rows c.in_ok-rows.ensures
+    (there c.args.low.now high c.self.inside.tables.tables c.in_ok-which.which.items (c.in_ok-which.ensures ∙ ap (numbers_admitting c.args.low.now high) c.as_slice.ensures))
+
+pub returns-clause-shows : goal.returns-clause-shows
+returns-clause-shows g c s image seen =
+    let low = c.args.low.now in
+    let high = option_map (λ h. h.now) c.args.high in
+    let is = scan_is low high c.args.self.now _ c.in_ok-which.which.items c.in_ok-rows.rows (option_map (λ v. v.items) c.in_ok-copy.copy) c.args.most c.self.view_is
+    (c.in_ok-which.ensures ∙ ap (numbers_admitting low high) c.as_slice.ensures) c.in_ok-rows.ensures c.in_ok-copy.ensures in
+    made_shows c.merged_laws.ensures c.standing_tables_are_merged.ensures c.standing_tables_are_read.ensures.blocks c.standing_tables_are_read.ensures.walks g.F.RangeFilter.spelling
+    (filter_bytes_of g.F.RangeFilter.spelling g.F.RangeFilter.built_cutoff) c.args.self.now s image seen low c.in_ok-check_bounds.ensures.bytes.0 high c.in_ok-check_bounds.ensures.bytes.1 _ c.args.most is
+
+pub returns-clause-bounded : goal.returns-clause-bounded
+returns-clause-bounded g c s image hi seen closed =
+    let low = c.args.low.now in
+    let high = option_map (λ h. h.now) c.args.high in
+    let is = scan_is low high c.args.self.now _ c.in_ok-which.which.items c.in_ok-rows.rows (option_map (λ v. v.items) c.in_ok-copy.copy) c.args.most c.self.view_is
+    (c.in_ok-which.ensures ∙ ap (numbers_admitting low high) c.as_slice.ensures) c.in_ok-rows.ensures c.in_ok-copy.ensures
+    ∙ ap (λ (h : Option Bytes). made_scan low h c.args.self.now.tables c.args.self.now.memory.entries c.args.most) closed in
+    made_bounded c.merged_laws.ensures c.standing_tables_are_merged.ensures c.standing_tables_are_read.ensures.blocks c.standing_tables_are_read.ensures.walks g.F.RangeFilter.spelling
+    (filter_bytes_of g.F.RangeFilter.spelling g.F.RangeFilter.built_cutoff) c.args.self.now s image seen low c.in_ok-check_bounds.ensures.bytes.0 hi (subst IsHighOfBytes closed c.in_ok-check_bounds.ensures.bytes.1) _ c.args.most is
+
+pub returns-clause-met : goal.returns-clause-met
+returns-clause-met g c s image seen some =
+    let low = c.args.low.now in
+    let high = option_map (λ h. h.now) c.args.high in
+    let is = scan_is low high c.args.self.now _ c.in_ok-which.which.items c.in_ok-rows.rows (option_map (λ v. v.items) c.in_ok-copy.copy) c.args.most c.self.view_is
+    (c.in_ok-which.ensures ∙ ap (numbers_admitting low high) c.as_slice.ensures) c.in_ok-rows.ensures c.in_ok-copy.ensures in
+    made_met c.merged_laws.ensures c.standing_tables_are_merged.ensures c.standing_tables_are_read.ensures.blocks c.standing_tables_are_read.ensures.walks g.F.RangeFilter.spelling
+    (filter_bytes_of g.F.RangeFilter.spelling g.F.RangeFilter.built_cutoff) c.args.self.now s image seen low c.in_ok-check_bounds.ensures.bytes.0 high c.in_ok-check_bounds.ensures.bytes.1 _ c.args.most is some

@@ -1,0 +1,185 @@
+-- What a scan of a store is, and the pairs that it gives.
+use Rattle.std.specs.Prelude.{◌≡◌, ◌≢◌, ◌<◌, ◌+◌, ◌-◌, ℕ, zero, suc, Bool, true, false, not, ◌&&◌, ◌==◌, if◌then◌else◌, List, [], ◌∷◌, length, take, count_by, sum_by, Contains, Option, Some, None}
+use Rattle.std.specs.Option.{option_map}
+use Rattle.disk_trait.specs.Image.{Image}
+use Rattle.disk_trait.specs.World.{World}
+use Rattle.entry_model.specs.Entries.{Entry}
+use Rattle.filter_api.specs.Spellings.{Spelling}
+use Rattle.filter_api.specs.declared.settings.Settings.{Settings}
+use Rattle.filter_model.specs.Answers.{ranged}
+use Rattle.line_model.specs.Replies.{Reply}
+use Rattle.map_model.specs.Slices.{first_pair, is_before, is_up_to}
+use Rattle.map_model.specs.SortedMap.{Bytes, Map}
+use Rattle.merge_rows.specs.Merges.{Merge, TableWalk, rows_left, walk_left}
+use Rattle.merge_rows.specs.Reads.{ones, wants}
+use Rattle.merge_rows.specs.Rows.{KeyFloor, clears}
+use Rattle.merge_rows.specs.Steps.{IsSoundMerge}
+use Rattle.state_model.specs.Bounds.{is_passed, seek_bound}
+use Rattle.state_model.specs.State.{State}
+use Rattle.store_core.specs.Answers.{IsRun, told_limit}
+use Rattle.store_core.specs.Getting.{ReadRose}
+use Rattle.store_core.specs.Tied.{AreHeld}
+use Rattle.store_core.specs.declared.error.StoreError.{StoreError}
+use Rattle.store_core.specs.declared.error.StoreError.TheVariants as error
+use Rattle.table_file.specs.Opened.{Opened}
+use Rattle.table_file.specs.Search.{IsGetFault}
+use Rattle.table_file.specs.declared.fault.TableFault.TheVariants as table
+use Rattle.table_model.specs.Tables.{Table}
+
+-- Where a scan stands: the tables, the merge of their rows and those in memory, the upper bound, how many pairs more it gives
+-- at most, and the pair at hand.
+pub record ScanWalk : Type 0 where
+  pub tables : List Opened
+  pub merge : Merge
+  pub high : Option Bytes
+  pub left : Option ℕ
+  pub now : Option (Bytes × Bytes)
+
+-- how many tables it opened
+abbrev pub sources : ScanWalk → ℕ
+sources scan = length scan.merge.walks
+
+-- ---- the pairs of rows
+
+-- a row is a pair, unless it is a tombstone
+abbrev pub pair_of : Bytes → Option Bytes → Option (Bytes × Bytes)
+pair_of key None = None
+pair_of key (Some value) = Some (key, value)
+
+abbrev pub pair_in : Option Entry → Option (Bytes × Bytes)
+pair_in None = None
+pair_in (Some row) = pair_of row.key row.value
+
+-- the row at hand is a pair that was found, or none is
+abbrev pub pair_at : Bool → Option Entry → Option (Bytes × Bytes)
+pair_at found row = if found then pair_in row else None
+
+abbrev pub with_pair : Bytes → Option Bytes → Map → Map
+with_pair key None later = later
+with_pair key (Some value) later = (key, value) ∷ later
+
+-- the pairs before the first row above a bound
+abbrev pub pairs_up_to : Option Bytes → List Entry → Map
+pairs_up_to high [] = []
+pairs_up_to high (row ∷ later) = if is_up_to high row.key then with_pair row.key row.value (pairs_up_to high later) else []
+
+-- the pair of the row at hand, and then others; or none at all
+abbrev pub with_first : Option (Bytes × Bytes) → Map → Map
+with_first None later = later
+with_first (Some pair) later = pair ∷ later
+
+abbrev pub given : Bool → Option Entry → Map → Map
+given true row later = with_first (pair_in row) later
+given false row later = []
+
+-- no more than so many
+abbrev pub at_most : Option ℕ → Map → Map
+at_most None pairs = pairs
+at_most (Some n) pairs = take n pairs
+
+-- the pairs that are still to come, where the device reads as this image
+abbrev pub pairs_left : ScanWalk → Image → Map
+pairs_left scan image = at_most scan.left (pairs_up_to scan.high (rows_left scan.merge scan.tables image))
+
+-- On an image that has the tables, these pairs are still to come.
+pub record Shows (spelling : Spelling) (scan : ScanWalk) (pairs : Map) (image : Image) : Type 0 where
+  pub settings : Settings
+  pub states : List Table
+  pub held : AreHeld spelling settings scan.tables states image
+  pub sound : IsSoundMerge scan.merge scan.tables image
+  pub pairs_are : pairs_left scan image ≡ pairs
+
+-- ---- which tables are opened, and what is read
+
+-- the table's filter admits the keys between two bounds; without an upper one it is not asked
+abbrev pub admits_keys : Bytes → Option Bytes → Opened → Bool
+admits_keys low None t = true
+admits_keys low (Some high) t = not (is_before high low) && ranged t.filter.real_bits t.filter.leaves low high
+
+-- the numbers of these tables, counted from the last of all
+abbrev pub numbers_admitting : Bytes → Option Bytes → List Opened → List ℕ
+numbers_admitting low high [] = []
+numbers_admitting low high (t ∷ older) = if admits_keys low high t then length older ∷ numbers_admitting low high older else numbers_admitting low high older
+
+-- the blocks that a walk may want before the rows are passed whose keys pass a test: one where the next row wants it, and one more
+-- for each of its entries there
+abbrev pub owed : (Bytes → Bool) → KeyFloor → List Opened → Image → TableWalk → ℕ
+owed below floor tables image w = ones (wants floor tables w) + count_by (λ (e : Entry). clears floor e.key && below e.key) (walk_left tables image w)
+
+abbrev pub all_owed : (Bytes → Bool) → Merge → List Opened → Image → ℕ
+all_owed below m tables image = sum_by (owed below m.floor tables image) m.walks
+
+-- a row is passed over on the way to the first of some pairs: it is not above the upper bound, and comes before that pair
+abbrev pub is_on_the_way : Option Bytes → Map → Bytes → Bool
+is_on_the_way high pairs key = is_up_to high key && is_passed (first_pair pairs) key
+
+-- the blocks that are read at most for the next pair: one of each table, and one more for each of its entries on the way
+abbrev pub blocks_on_way : Option Bytes → Merge → List Opened → Image → ℕ
+blocks_on_way high m tables image = all_owed (is_on_the_way high (pairs_up_to high (rows_left m tables image))) m tables image
+
+-- none where no pair is wanted
+abbrev pub blocks_of_step : Option ℕ → ℕ → ℕ
+blocks_of_step None blocks = blocks
+blocks_of_step (Some zero) blocks = 0
+blocks_of_step (Some (suc n)) blocks = blocks
+
+-- the blocks that the next step may read
+abbrev pub step_bound : ScanWalk → Image → ℕ
+step_bound scan image = blocks_of_step scan.left (blocks_on_way scan.high scan.merge scan.tables image)
+
+-- a scan of the state between these bounds may read
+abbrev pub MayRead : State → Bytes → Option Bytes → Type 0
+MayRead s low None = s.tables ≢ []
+MayRead s low (Some high) = 0 < seek_bound s low high
+
+-- ---- how many pairs more
+
+abbrev pub is_ended : Option ℕ → Bool
+is_ended None = false
+is_ended (Some n) = n == 0
+
+abbrev pub one_fewer : Option ℕ → Option ℕ
+one_fewer left = option_map (λ (n : ℕ). n - 1) left
+
+-- behind a step that gave a pair or not
+abbrev pub left_behind : Bool → Option ℕ → Option ℕ
+left_behind true left = one_fewer left
+left_behind false left = Some 0
+
+-- ---- refusals
+
+-- why there is no scan, of a store that was stopped or not, where this limit was broken
+abbrev pub IsScanRefusal : Bool → Option Reply → StoreError → Type 0
+IsScanRefusal stopped broken error.Memory = IsRun stopped broken
+IsScanRefusal stopped broken error.Stopped = stopped ≡ true
+IsScanRefusal stopped broken (error.Limit limit) = (stopped ≡ false) × (broken ≡ Some (told_limit limit))
+IsScanRefusal stopped broken (error.Device cause) = ⊥
+IsScanRefusal stopped broken (error.Full need gap) = ⊥
+IsScanRefusal stopped broken (error.Damaged damage) = ⊥
+IsScanRefusal stopped broken error.NotAStore = ⊥
+IsScanRefusal stopped broken error.AlreadyAStore = ⊥
+IsScanRefusal stopped broken (error.BadSettings field) = ⊥
+
+-- why a scan does not go on: memory is never wanted
+abbrev pub IsStepFault : World → World → StoreError → Type 0
+IsStepFault old new (error.Device cause) = ReadRose old new cause
+IsStepFault old new (error.Damaged damage) = Unit {0}
+IsStepFault old new error.Memory = ⊥
+IsStepFault old new error.Stopped = ⊥
+IsStepFault old new (error.Limit limit) = ⊥
+IsStepFault old new (error.Full need gap) = ⊥
+IsStepFault old new error.NotAStore = ⊥
+IsStepFault old new error.AlreadyAStore = ⊥
+IsStepFault old new (error.BadSettings field) = ⊥
+
+-- damage is that of a block of one of the tables, and the image shows it
+abbrev pub IsScanShown : List Opened → Image → StoreError → Type 0
+IsScanShown tables image (error.Damaged damage) = (t : Opened) × Contains tables t × ((n : ℕ) × (n < length t.index.rows) × IsGetFault t n image (table.Damaged damage))
+IsScanShown tables image error.Memory = Unit {0}
+IsScanShown tables image (error.Device cause) = Unit {0}
+IsScanShown tables image error.Stopped = Unit {0}
+IsScanShown tables image (error.Limit limit) = Unit {0}
+IsScanShown tables image (error.Full need gap) = Unit {0}
+IsScanShown tables image error.NotAStore = Unit {0}
+IsScanShown tables image error.AlreadyAStore = Unit {0}
+IsScanShown tables image (error.BadSettings field) = Unit {0}

@@ -1,0 +1,303 @@
+//! Pairs by rising keys.
+ghost use Rattle.std.specs.Prelude.{◌≡◌, ◌≢◌, ◌≤◌, ◌<◌, ◌+◌, ◌^◌, true, false, not, is_some, drop, length, Option, Some, None, IsTrue, IsOk, IfOk, IfErr, IfSome, OnOk, OnErr, MatchResult};
+ghost use Rattle.std.specs.Option.{option_map};
+ghost use Rattle.disk_trait.specs.Image.{Image};
+ghost use Rattle.disk_trait.specs.World.{ReadMoves};
+ghost use Rattle.entry_model.specs.Entries.{Entry, IsEntry, entry_of};
+ghost use Rattle.line_model.specs.Limits.{limit_of};
+ghost use Rattle.line_model.specs.Requests.{Range, Seek};
+ghost use Rattle.map_model.specs.Slices.{between, first_pair, is_up_to, slice};
+ghost use Rattle.map_model.specs.SortedMap.{Bytes, Map};
+ghost use Rattle.merge_rows.specs.Merges.{rows_left};
+ghost use Rattle.merge_rows.specs.Reads.{OnlyReads, SomeBlock};
+ghost use Rattle.merge_rows.specs.Steps.{AreNumbersIn, IsSoundMerge, SourcesStay, numbers};
+ghost use Rattle.state_model.specs.Bounds.{seek_bound};
+ghost use Rattle.state_model.specs.State.{State};
+ghost use Rattle.state_model.specs.View.{state_map};
+ghost use Rattle.store_core.specs.Answers.{IsRun};
+ghost use Rattle.store_core.specs.Getting.{IsLookFault, IsUndamaged};
+ghost use Rattle.store_core.specs.Scans.{IsScanRefusal, IsScanShown, IsStepFault, MayRead, Shows, admits_keys, at_most, blocks_on_way, given, is_ended, left_behind, numbers_admitting, pair_in, pairs_up_to, sources, step_bound};
+ghost use Rattle.store_core.specs.Tied.{IsSeenAs};
+ghost use Rattle.table_file.specs.Search.{IsGetFault};
+ghost use Rattle.table_model.specs.Tables.{filter_bytes_of};
+
+use crate::error::StoreError;
+use crate::limits::{check_bounds, is_crossed};
+use crate::store::Store;
+use disk_trait::Disk;
+use filter_api::RangeFilter;
+use key_base::compare;
+use merge_rows::{MergeRows, merged_laws, standing_tables_are_merged};
+use std::alloc::{AllocError, Global};
+use std::marker::Model;
+use table_file::{Table, TableFault, Tables, standing_tables_are_read};
+
+/// Pairs of a store, by rising keys. It borrows the store, which so stays as it is.
+///
+/// All its memory was taken when it was made: a buffer for one block of each table that it opened, and the upper bound.
+#[derive(Drop)]
+pub struct Scan<'s, F: RangeFilter> {
+    tables: &'s Tables<F>,
+    // tombstones are rows too, so that no row is read behind the next pair
+    rows: MergeRows<'s>,
+    high: Option<Vec<u8>>,
+    // how many pairs more at most
+    left: Option<u64>,
+    // whether the row at hand is a pair
+    found: bool,
+}
+
+impl<'s, F: RangeFilter> Model for Scan<'s, F> {
+    ghost use Rattle.std.specs.Prelude.{◌≡◌, false, None, if◌then◌else◌};
+    ghost use Rattle.std.specs.Option.{option_and_then, option_map};
+    ghost use Rattle.entry_model.specs.Entries.{Entry};
+    ghost use Rattle.merge_rows.specs.Steps.{AreNumbersIn, numbers};
+    ghost use Rattle.store_core.specs.Scans.{ScanWalk, pair_at};
+
+    ghost Value = { ScanWalk };
+
+    ghost view = { λ s. record { tables = s.tables.now.tables; merge = s.rows; high = option_map (λ v. v.items) s.high; left = s.left; now = pair_at s.found s.rows.now } };
+
+    ghost invariant = { λ s. AreNumbersIn s.tables.now.tables (numbers s.rows.walks) × (s.rows.drops ≡ false) };
+}
+
+// Whether the table's filter admits the keys between two bounds; without an upper one it is not asked.
+fn admits<F: RangeFilter>(table: &Table<F>, low: &[u8], high: Option<&[u8]>) -> bool
+    ensures { result ≡ admits_keys low.now (option_map (λ h. h.now) high.entry) table.now }
+{
+    match high {
+        Some(high) => !is_crossed(low, Some(high)) && table.filter().may_hold_range(low, high),
+        None => true,
+    }
+}
+
+// The numbers of the tables whose filter admits the keys between two bounds, counted from the last table; the newest first.
+fn numbers_of<F: RangeFilter>(
+    alloc: Global,
+    tables: &[Table<F>],
+    low: &[u8],
+    high: Option<&[u8]>,
+) -> Result<Vec<u32>, AllocError>
+    requires few { length tables.now < 2 ^ 32 }
+    ensures { IfOk result (λ which. which.items ≡ numbers_admitting low.now (option_map (λ h. h.now) high.entry) tables.now) }
+{
+    let mut which = Vec::with_capacity(alloc, tables.len())?;
+    for place in 0..tables.len() {
+        if admits(&tables[place], low, high) {
+            which.push((tables.len() - 1 - place) as u32)?;
+        }
+    }
+    Ok(which)
+}
+
+// Whether a key is above the upper bound, where there is one.
+fn is_above(high: &Option<Vec<u8>>, key: &[u8]) -> bool
+    ensures { is_up_to (option_map (λ v. v.items) high.now) key.now ≡ not result }
+{
+    match high {
+        Some(high) => compare(high, key).is_lt(),
+        None => false,
+    }
+}
+
+// How many pairs more at most, behind a step that gave one or not.
+fn left_behind(found: bool, left: Option<u64>) -> Option<u64>
+    ensures { result ≡ left_behind found left }
+{
+    if !found {
+        return Some(0);
+    }
+    match left {
+        Some(left) => Some(left.saturating_sub(1)),
+        None => None,
+    }
+}
+
+// Goes on to the next pair of some rows up to a bound, and answers whether there is one: its row is then at hand. Tombstones are
+// passed over.
+
+fn next_pair<F: RangeFilter, D: Disk>(
+    rows: &mut MergeRows<'_>,
+    disk: &mut D,
+    tables: &Tables<F>,
+    high: &Option<Vec<u8>>,
+) -> Result<bool, TableFault>
+    requires there { AreNumbersIn tables.now.tables (numbers rows.old.walks) }
+    requires keeps { rows.old.drops ≡ false }
+    ensures kept { SourcesStay D.tells tables.now.tables (D.world disk.old).seen.held rows.old rows.new }
+    ensures some { IfOk result (λ found. found ≡ true → is_some (pair_in rows.new.now) ≡ true) }
+    ensures pairs { IsTrue D.tells → IsSoundMerge rows.old tables.now.tables (D.world disk.old).seen.held
+        → IfOk result (λ found. pairs_up_to (option_map (λ v. v.items) high.now) (rows_left rows.old tables.now.tables (D.world disk.old).seen.held)
+        ≡ given found rows.new.now (pairs_up_to (option_map (λ v. v.items) high.now) (rows_left rows.new tables.now.tables (D.world disk.old).seen.held))) }
+    ensures stays { IsTrue D.tells → IsSoundMerge rows.old tables.now.tables (D.world disk.old).seen.held
+        → OnErr result (pairs_up_to (option_map (λ v. v.items) high.now) (rows_left rows.new tables.now.tables (D.world disk.old).seen.held)
+        ≡ pairs_up_to (option_map (λ v. v.items) high.now) (rows_left rows.old tables.now.tables (D.world disk.old).seen.held)) }
+    ensures bounded { IsTrue D.tells → IsSoundMerge rows.old tables.now.tables (D.world disk.old).seen.held
+        → (D.world disk.new).seen.reads ≤ (D.world disk.old).seen.reads + blocks_on_way (option_map (λ v. v.items) high.now) rows.old tables.now.tables (D.world disk.old).seen.held }
+    ensures met { OnErr result (1 ≤ length rows.old.walks) }
+    ensures cause { IfErr result (IsLookFault (D.world disk.old) (D.world disk.new)) }
+    ensures fault { IsTrue D.tells → IfErr result (λ why. SomeBlock tables.now.tables (λ t n. IsGetFault t n (D.world disk.old).seen.held why)) }
+    ensures moves { OnlyReads (D.world disk.old) (D.world disk.new) }
+{
+    // the law of the layer below: the keys of rows rise
+    merged_laws();
+    while rows.advance(disk, tables)? {
+        match rows.entry() {
+            Some((key, value)) => {
+                if is_above(high, key) {
+                    return Ok(false);
+                }
+                if value.is_some() {
+                    return Ok(true);
+                }
+            }
+            None => return Ok(false),
+        }
+    }
+    Ok(false)
+}
+
+// A copy of the upper bound, where there is one.
+fn copy_of(alloc: Global, bound: Option<&[u8]>) -> Result<Option<Vec<u8>>, AllocError>
+    ensures { IfOk result (λ copy. option_map (λ v. v.items) copy ≡ option_map (λ b. b.now) bound.entry) }
+{
+    match bound {
+        Some(bytes) => Ok(Some(Vec::from_slice(alloc, bytes)?)),
+        None => Ok(None),
+    }
+}
+
+impl<F: RangeFilter> Store<F> {
+    /// The pairs from a bound on, up to another one where it is given, both included. A bound may be empty.
+    ///
+    /// It takes all the memory of the scan, and reads nothing. Of a closed scan those tables alone are opened whose filter
+    /// admits the bounds: the first step reads one block of each at most, and one more for each entry of a deleted key that it
+    /// passes over.
+    pub fn seek(&self, low: &[u8], high: Option<&[u8]>) -> Result<Scan<'_, F>, StoreError>
+        ensures shows { (s : State) (image : Image) → IsSeenAs F.spelling (filter_bytes_of F.spelling F.built_cutoff) self.now s image
+            → IfOk result (λ scan. Shows F.spelling scan (between (state_map s) low.now (option_map (λ h. h.now) high.entry)) image) }
+        ensures bounded { (s : State) (image : Image) (hi : Bytes) → IsSeenAs F.spelling (filter_bytes_of F.spelling F.built_cutoff) self.now s image
+            → option_map (λ h. h.now) high.entry ≡ Some hi → IfOk result (λ scan. step_bound scan image ≤ seek_bound s low.now hi) }
+        ensures met { (s : State) (image : Image) → IsSeenAs F.spelling (filter_bytes_of F.spelling F.built_cutoff) self.now s image
+            → IfOk result (λ scan. 1 ≤ sources scan → MayRead s low.now (option_map (λ h. h.now) high.entry)) }
+        ensures made { IfOk result (λ scan. (scan.tables ≡ self.now.tables) × (scan.left ≡ None)) }
+        ensures refused { MatchResult result (λ _. IsRun self.now.stopped (limit_of (Seek low.now (option_map (λ h. h.now) high.entry)))) (IsScanRefusal self.now.stopped (limit_of (Seek low.now (option_map (λ h. h.now) high.entry)))) }
+    {
+        self.scan(low, high, None)
+    }
+
+    /// The first pairs between two bounds, both included: so many at most.
+    ///
+    /// It takes all the memory of the scan, and reads nothing. Once so many pairs were given nothing more is read.
+    pub fn range(&self, low: &[u8], high: &[u8], most: u64) -> Result<Scan<'_, F>, StoreError>
+        ensures shows { (s : State) (image : Image) → IsSeenAs F.spelling (filter_bytes_of F.spelling F.built_cutoff) self.now s image
+            → IfOk result (λ scan. Shows F.spelling scan (slice (state_map s) low.now (Some high.now) most) image) }
+        ensures bounded { (s : State) (image : Image) → IsSeenAs F.spelling (filter_bytes_of F.spelling F.built_cutoff) self.now s image
+            → IfOk result (λ scan. step_bound scan image ≤ seek_bound s low.now high.now) }
+        ensures met { (s : State) (image : Image) → IsSeenAs F.spelling (filter_bytes_of F.spelling F.built_cutoff) self.now s image
+            → IfOk result (λ scan. 1 ≤ sources scan → MayRead s low.now (Some high.now)) }
+        ensures made { IfOk result (λ scan. (scan.tables ≡ self.now.tables) × (scan.left ≡ Some most)) }
+        ensures refused { MatchResult result (λ _. IsRun self.now.stopped (limit_of (Range low.now high.now most))) (IsScanRefusal self.now.stopped (limit_of (Range low.now high.now most))) }
+    {
+        self.scan(low, Some(high), Some(most))
+    }
+
+    // The pairs between two bounds, so many at most where a number is given.
+    fn scan(
+        &self,
+        low: &[u8],
+        high: Option<&[u8]>,
+        most: Option<u64>,
+    ) -> Result<Scan<'_, F>, StoreError>
+        ensures shows { (s : State) (image : Image) → IsSeenAs F.spelling (filter_bytes_of F.spelling F.built_cutoff) self.now s image
+            → IfOk result (λ scan. Shows F.spelling scan (at_most most (between (state_map s) low.now (option_map (λ h. h.now) high.entry))) image) }
+        ensures bounded { (s : State) (image : Image) (hi : Bytes) → IsSeenAs F.spelling (filter_bytes_of F.spelling F.built_cutoff) self.now s image
+            → option_map (λ h. h.now) high.entry ≡ Some hi → IfOk result (λ scan. step_bound scan image ≤ seek_bound s low.now hi) }
+        ensures met { (s : State) (image : Image) → IsSeenAs F.spelling (filter_bytes_of F.spelling F.built_cutoff) self.now s image
+            → IfOk result (λ scan. 1 ≤ sources scan → MayRead s low.now (option_map (λ h. h.now) high.entry)) }
+        ensures made { IfOk result (λ scan. (scan.tables ≡ self.now.tables) × (scan.left ≡ most)) }
+        ensures refused { MatchResult result (λ _. IsRun self.now.stopped (limit_of (Seek low.now (option_map (λ h. h.now) high.entry)))) (IsScanRefusal self.now.stopped (limit_of (Seek low.now (option_map (λ h. h.now) high.entry)))) }
+    {
+        if self.stopped {
+            return Err(StoreError::Stopped);
+        }
+        check_bounds(low, high)?;
+        // the laws of the layers below, of rows and of tables that stand
+        merged_laws();
+        standing_tables_are_merged();
+        standing_tables_are_read();
+        let alloc = *self.buffer.allocator();
+        let which = numbers_of(alloc, self.tables.as_slice(), low, high)?;
+        let rows = MergeRows::new(which, &self.tables, Some(&self.memory), low, false)?;
+        let copy = copy_of(alloc, high)?;
+        Ok(Scan {
+            tables: &self.tables,
+            rows,
+            high: copy,
+            left: most,
+            found: false,
+        })
+    }
+}
+
+impl<'s, F: RangeFilter> Scan<'s, F> {
+    /// The key and the value of the pair at hand, or `None` where none is. They lie where they were read.
+    pub fn pair(&self) -> Option<(&[u8], &[u8])>
+        ensures now { option_map (λ p. (p.0.now, p.1.now)) result ≡ self.now.now }
+        ensures sound { IfSome result (λ p. IsEntry (entry_of p.0.now (Some p.1.now))) }
+    {
+        if !self.found {
+            return None;
+        }
+        match self.rows.entry() {
+            Some((key, Some(value))) => Some((key, value)),
+            _ => None,
+        }
+    }
+
+    /// Goes on to the next pair, and answers whether there is one: it is then at hand. No memory.
+    ///
+    /// At `Err` it stands where it stood, and the next step tries again. Where so many pairs were given as were asked for,
+    /// nothing is read.
+    pub fn advance<D: Disk>(&mut self, disk: &mut D) -> Result<bool, StoreError>
+        ensures pairs { (m : Map) → IsTrue D.tells → Shows F.spelling self.old m (D.world disk.old).seen.held
+            → OnOk result ((self.new.now ≡ first_pair m) × Shows F.spelling self.new (drop 1 m) (D.world disk.old).seen.held) }
+        ensures stays { (m : Map) → IsTrue D.tells → Shows F.spelling self.old m (D.world disk.old).seen.held → OnErr result (Shows F.spelling self.new m (D.world disk.old).seen.held) }
+        ensures said { IfOk result (λ some. some ≡ is_some self.new.now) }
+        ensures none_at_hand { OnErr result (self.new.now ≡ None) }
+        ensures undamaged { (m : Map) → IsTrue D.tells → Shows F.spelling self.old m (D.world disk.old).seen.held → IfErr result IsUndamaged }
+        ensures shown { IsTrue D.tells → IfErr result (IsScanShown self.old.tables (D.world disk.old).seen.held) }
+        ensures bounded { (m : Map) → IsTrue D.tells → Shows F.spelling self.old m (D.world disk.old).seen.held
+            → (D.world disk.new).seen.reads ≤ (D.world disk.old).seen.reads + step_bound self.old (D.world disk.old).seen.held }
+        ensures met { OnErr result ((1 ≤ sources self.old) × (self.old.left ≢ Some 0)) }
+        ensures more { IfOk result (λ some. some ≡ true → self.old.left ≢ Some 0) }
+        ensures ended { self.old.left ≡ Some 0 → IsOk result × ReadMoves 0 (D.world disk.old) (D.world disk.new) }
+        ensures counts { IfOk result (λ some. self.new.left ≡ left_behind some self.old.left) }
+        ensures left { OnErr result (self.new.left ≡ self.old.left) }
+        ensures same { (self.new.tables ≡ self.old.tables) × (sources self.new ≡ sources self.old) }
+        ensures refused { IfErr result (IsStepFault (D.world disk.old) (D.world disk.new)) }
+        ensures moves { OnlyReads (D.world disk.old) (D.world disk.new) }
+    {
+        self.found = false;
+        if self.has_ended() {
+            return Ok(false);
+        }
+        // the law of the tables below: no read of a block of one that stands is damage
+        standing_tables_are_read();
+        let found = next_pair(&mut self.rows, disk, self.tables, &self.high)?;
+        let left = left_behind(found, self.left);
+        self.found = found;
+        self.left = left;
+        Ok(found)
+    }
+
+    // Whether so many pairs were given as were asked for, or no more are there.
+    fn has_ended(&self) -> bool
+        ensures { result ≡ is_ended self.now.left }
+    {
+        match self.left {
+            Some(left) => left == 0,
+            None => false,
+        }
+    }
+}
