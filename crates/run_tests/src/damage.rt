@@ -1,7 +1,8 @@
 //! Parts of a store that agree with their own sums, and not with one another.
-use crate::runs::{base_disk, served};
+use crate::runs::{base_disk, served, served_by};
 use disk_mem::MemDisk;
 use disk_trait::Disk;
+use plain_filter::PlainFilter;
 use std::test::Fail;
 
 /// The FNV-1a sum of some bytes, least byte first.
@@ -64,6 +65,20 @@ fn tables_that_do_not_rise_are_told_by_the_second_row(rt: HostRuntime) -> Result
     assert_eq!(rt;
         told.said.as_slice(),
         b"damaged manifest 136 rule 12\n".as_slice()
+    );
+    Ok(())
+}
+
+// A plain list of one leaf has fewer bytes than the header of an image.
+#[test]
+fn a_table_with_a_plain_filter_is_refused(rt: HostRuntime) -> Result<(), Fail> {
+    let alloc = rt.alloc();
+    let plain = served_by::<PlainFilter>(alloc, base_disk(alloc)?, b"put 61 62\nflush\n")?;
+    let told = served(alloc, plain.disk, b"get 61\n")?;
+    assert_eq!(rt; told.status, 5);
+    assert_eq!(rt;
+        told.said.as_slice(),
+        b"damaged filter 794646 rule 1\n".as_slice()
     );
     Ok(())
 }

@@ -1,6 +1,7 @@
 //! Calls that fail, and what the next run finds.
-use crate::runs::{Ended, base_disk, failing, outside, ran, served};
+use crate::runs::{Ended, Succinct, base_disk, failing, outside, ran, served, served_by};
 use disk_mem::{Choice, MemDisk};
+use filter_api::RangeFilter;
 use outside::MemOutside;
 use plain_filter::PlainFilter;
 use std::alloc::{AllocError, Global};
@@ -29,8 +30,8 @@ fn oks(said: &[u8]) -> usize {
 }
 
 // Whether the next run finds what was answered, or one line more.
-fn has_all(alloc: Global, disk: MemDisk, said: &[u8]) -> Result<bool, Fail> {
-    let again = served(alloc, disk, GETS)?;
+fn has_all<F: RangeFilter>(alloc: Global, disk: MemDisk, said: &[u8]) -> Result<bool, Fail> {
+    let again = served_by::<F>(alloc, disk, GETS)?;
     let found = again.said.as_slice();
     let done = oks(said).min(6);
     Ok(found == BEHIND[done] || found == BEHIND[done + 1])
@@ -86,17 +87,17 @@ fn left_by(alloc: Global, disk: &MemDisk, left: Left) -> Result<MemDisk, AllocEr
 }
 
 // Whether all of it is there after a run, stopped as a crash leaves it.
-fn outlasts(alloc: Global, end: &Ended, left: Left) -> Result<bool, Fail> {
+fn outlasts<F: RangeFilter>(alloc: Global, end: &Ended, left: Left) -> Result<bool, Fail> {
     let disk = left_by(alloc, &end.disk, left)?;
-    has_all(alloc, disk, end.said.as_slice())
+    has_all::<F>(alloc, disk, end.said.as_slice())
 }
 
 // Whether it is so of a run of the script with each call of the disk failing in turn.
-fn each_call_fails_well(alloc: Global, left: Left) -> Result<bool, Fail> {
+fn each_call_fails_well<F: RangeFilter>(alloc: Global, left: Left) -> Result<bool, Fail> {
     let first = base_disk(alloc)?;
     for call in 0..100 {
-        let end = served(alloc, failing(alloc, &first, call)?, SCRIPT)?;
-        if !outlasts(alloc, &end, left)? {
+        let end = served_by::<F>(alloc, failing(alloc, &first, call)?, SCRIPT)?;
+        if !outlasts::<F>(alloc, &end, left)? {
             return Ok(false);
         }
         if end.status == 0 {
@@ -111,25 +112,32 @@ fn each_call_fails_well(alloc: Global, left: Left) -> Result<bool, Fail> {
 
 #[test]
 fn calls_fail_and_their_writes_are_whole(rt: HostRuntime) -> Result<(), Fail> {
-    assert!(rt; each_call_fails_well(rt.alloc(), Left::Whole)?);
+    assert!(rt; each_call_fails_well::<Succinct>(rt.alloc(), Left::Whole)?);
     Ok(())
 }
 
 #[test]
 fn calls_fail_and_their_writes_are_lost(rt: HostRuntime) -> Result<(), Fail> {
-    assert!(rt; each_call_fails_well(rt.alloc(), Left::Lost)?);
+    assert!(rt; each_call_fails_well::<Succinct>(rt.alloc(), Left::Lost)?);
     Ok(())
 }
 
 #[test]
 fn calls_fail_and_their_writes_are_half(rt: HostRuntime) -> Result<(), Fail> {
-    assert!(rt; each_call_fails_well(rt.alloc(), Left::Half)?);
+    assert!(rt; each_call_fails_well::<Succinct>(rt.alloc(), Left::Half)?);
     Ok(())
 }
 
 #[test]
 fn calls_fail_and_their_writes_are_sevens(rt: HostRuntime) -> Result<(), Fail> {
-    assert!(rt; each_call_fails_well(rt.alloc(), Left::Sevens)?);
+    assert!(rt; each_call_fails_well::<Succinct>(rt.alloc(), Left::Sevens)?);
+    Ok(())
+}
+
+#[test]
+fn calls_fail_over_plain_filters(rt: HostRuntime) -> Result<(), Fail> {
+    assert!(rt; each_call_fails_well::<PlainFilter>(rt.alloc(), Left::Lost)?);
+    assert!(rt; each_call_fails_well::<PlainFilter>(rt.alloc(), Left::Sevens)?);
     Ok(())
 }
 
@@ -164,7 +172,7 @@ fn a_put_behind_a_failed_sync_is_stopped(rt: HostRuntime) -> Result<(), Fail> {
     let alloc = rt.alloc();
     let first = base_disk(alloc)?;
     let mut disk = failing(alloc, &first, 7)?;
-    let mut store = match Store::<PlainFilter>::open_store(alloc, &mut disk) {
+    let mut store = match Store::<Succinct>::open_store(alloc, &mut disk) {
         Ok(store) => store,
         Err(_) => return Err(Fail::from("not opened")),
     };
@@ -198,7 +206,7 @@ fn each_say_of_a_byte_failing_in_turn(rt: HostRuntime) -> Result<(), Fail> {
         let end = with_streams(alloc, &first, &[], &[say], 1)?;
         assert_eq!(rt; end.status, 6);
         assert_eq!(rt; end.said.len() as u64, say);
-        assert!(rt; outlasts(alloc, &end, Left::Lost)?, "say {say}");
+        assert!(rt; outlasts::<Succinct>(alloc, &end, Left::Lost)?, "say {say}");
     }
     Ok(())
 }
@@ -212,7 +220,7 @@ fn each_say_of_a_reply_failing_in_turn(rt: HostRuntime) -> Result<(), Fail> {
         assert_eq!(rt; end.status, 6);
         let replies = end.said.iter().filter(|byte| **byte == b'\n').count();
         assert_eq!(rt; replies as u64, say);
-        assert!(rt; outlasts(alloc, &end, Left::Lost)?, "say {say}");
+        assert!(rt; outlasts::<Succinct>(alloc, &end, Left::Lost)?, "say {say}");
     }
     Ok(())
 }
@@ -224,7 +232,10 @@ fn each_take_failing_in_turn(rt: HostRuntime) -> Result<(), Fail> {
     for take in 0..61 {
         let end = with_streams(alloc, &first, &[take], &[], 1)?;
         assert_eq!(rt; end.status, 3);
-        assert!(rt; outlasts(alloc, &end, Left::Lost)?, "take {take}");
+        assert!(rt;
+            outlasts::<Succinct>(alloc, &end, Left::Lost)?,
+            "take {take}"
+        );
     }
     let whole = with_streams(alloc, &first, &[0], &[], SCRIPT.len())?;
     assert_eq!(rt; whole.status, 3);

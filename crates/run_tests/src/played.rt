@@ -1,7 +1,7 @@
 //! Random scripts, beside a store that is played in memory.
-use crate::runs::{Ended, commanded, failing, served};
+use crate::runs::{Ended, Succinct, commanded, failing, served, served_by};
 use disk_mem::{Choice, MemDisk};
-use filter_api::Settings;
+use filter_api::{RangeFilter, Settings};
 use plain_filter::PlainFilter;
 use plain_store::{Reply, Request, State, play};
 use std::alloc::{AllocError, Global};
@@ -133,23 +133,23 @@ fn behind(alloc: Global, script: &Script, lines: usize) -> Result<Vec<u8>, Alloc
 }
 
 // What gets of all keys are answered by the next run.
-fn found(alloc: Global, disk: MemDisk) -> Result<Ended, Fail> {
+fn found<F: RangeFilter>(alloc: Global, disk: MemDisk) -> Result<Ended, Fail> {
     let mut lines = Vec::new(alloc);
     for (_, word) in KEYS {
         lines.extend_from_slice(b"get ")?;
         lines.extend_from_slice(word)?;
         lines.push(b'\n')?;
     }
-    served(alloc, disk, &lines)
+    served_by::<F>(alloc, disk, &lines)
 }
 
 // Whether a script of 200 lines gets the replies of the played store, and its map is there at the end.
-fn is_played(alloc: Global, seed: u64, words: &str) -> Result<bool, Fail> {
+fn is_played<F: RangeFilter>(alloc: Global, seed: u64, words: &str) -> Result<bool, Fail> {
     let script = drawn(alloc, seed, 200)?;
     let text = expected(alloc, &script.requests)?;
-    let end = served(alloc, new_disk(alloc, words)?, &script.lines)?;
+    let end = served_by::<F>(alloc, new_disk(alloc, words)?, &script.lines)?;
     let same = end.status == 0 && end.said.as_slice() == text.as_slice();
-    let again = found(alloc, end.disk)?;
+    let again = found::<F>(alloc, end.disk)?;
     let map = behind(alloc, &script, 200)?;
     Ok(same && again.said.as_slice() == map.as_slice())
 }
@@ -164,7 +164,21 @@ const VARIANTS: [&str; 4] = [
 #[test]
 fn replies_are_those_of_the_played_store(rt: HostRuntime) -> Result<(), Fail> {
     for (seed, words) in VARIANTS.iter().copied().enumerate() {
-        assert!(rt; is_played(rt.alloc(), seed as u64, words)?, "{words}");
+        assert!(rt;
+            is_played::<Succinct>(rt.alloc(), seed as u64, words)?,
+            "{words}"
+        );
+    }
+    Ok(())
+}
+
+#[test]
+fn replies_over_plain_filters_are_the_same(rt: HostRuntime) -> Result<(), Fail> {
+    for (seed, words) in VARIANTS.iter().copied().enumerate() {
+        assert!(rt;
+            is_played::<PlainFilter>(rt.alloc(), seed as u64, words)?,
+            "{words}"
+        );
     }
     Ok(())
 }
@@ -180,7 +194,7 @@ fn outlasts(alloc: Global, first: &MemDisk, script: &Script, call: u64) -> Resul
     } else {
         end.disk.crash(&[])?
     };
-    let again = found(alloc, left)?;
+    let again = found::<Succinct>(alloc, left)?;
     let before = behind(alloc, script, lines)?;
     let after = behind(alloc, script, lines.saturating_add(1).min(60))?;
     let text = again.said.as_slice();

@@ -1,9 +1,14 @@
 //! Runs of the program in memory.
 use disk_mem::MemDisk;
+use filter_api::RangeFilter;
 use outside::MemOutside;
 use std::alloc::{AllocError, Global};
 use std::test::Fail;
+use surf_filter::SurfFilter;
 use surf_run::run;
+
+/// The filter that the program has.
+pub type Succinct = SurfFilter<Global>;
 
 /// How a run ended.
 #[derive(Drop)]
@@ -27,11 +32,11 @@ fn words_of(alloc: Global, line: &str) -> Result<Vec<String>, AllocError> {
     Ok(words)
 }
 
-/// A run with these words.
-pub fn ran(alloc: Global, words: &str, out: MemOutside) -> Result<Ended, Fail> {
+/// A run with these words, by this kind of filter.
+pub fn ran_by<F: RangeFilter>(alloc: Global, words: &str, out: MemOutside) -> Result<Ended, Fail> {
     let words = words_of(alloc, words)?;
     let mut out = out;
-    let status = run(alloc, words.as_slice(), &mut out);
+    let status = run::<F, _>(alloc, words.as_slice(), &mut out);
     let said = Vec::from_slice(alloc, out.said())?;
     Ok(Ended {
         status,
@@ -40,14 +45,28 @@ pub fn ran(alloc: Global, words: &str, out: MemOutside) -> Result<Ended, Fail> {
     })
 }
 
+/// A run with these words, as the program makes it.
+pub fn ran(alloc: Global, words: &str, out: MemOutside) -> Result<Ended, Fail> {
+    ran_by::<Succinct>(alloc, words, out)
+}
+
 /// A run with these words over this disk, in which nothing fails and nothing is to be taken.
 pub fn commanded(alloc: Global, words: &str, disk: MemDisk) -> Result<Ended, Fail> {
     ran(alloc, words, outside(alloc, disk, b"")?)
 }
 
-/// A run that answers these lines.
+/// A run that answers these lines, by this kind of filter.
+pub fn served_by<F: RangeFilter>(
+    alloc: Global,
+    disk: MemDisk,
+    lines: &[u8],
+) -> Result<Ended, Fail> {
+    ran_by::<F>(alloc, "serve", outside(alloc, disk, lines)?)
+}
+
+/// A run that answers these lines, as the program answers them.
 pub fn served(alloc: Global, disk: MemDisk, lines: &[u8]) -> Result<Ended, Fail> {
-    ran(alloc, "serve", outside(alloc, disk, lines)?)
+    served_by::<Succinct>(alloc, disk, lines)
 }
 
 /// A disk of which `format` made a store of 512 pages, with base filters.

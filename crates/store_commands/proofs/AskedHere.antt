@@ -40,6 +40,26 @@ one_get [] = tt
 one_get (key ∷ []) = with_one_get (bytes_in key)
 one_get (key ∷ more ∷ words) = tt
 
+with_two_estimate : (lo hi : Option Bytes) → IsAskedHere (with_two Estimate lo hi)
+with_two_estimate (Some lo) (Some hi) = tt
+with_two_estimate (Some lo) None = tt
+with_two_estimate None hi = tt
+
+two_estimate : (words : List Bytes) → IsAskedHere (two_of Estimate words)
+two_estimate [] = tt
+two_estimate (lo ∷ []) = tt
+two_estimate (lo ∷ hi ∷ []) = with_two_estimate (bytes_in lo) (bytes_in hi)
+two_estimate (lo ∷ hi ∷ more ∷ words) = tt
+
+with_one_explain : (key : Option Bytes) → IsAskedHere (with_one Explain key)
+with_one_explain (Some key) = tt
+with_one_explain None = tt
+
+one_explain : (words : List Bytes) → IsAskedHere (one_of Explain words)
+one_explain [] = tt
+one_explain (key ∷ []) = with_one_explain (bytes_in key)
+one_explain (key ∷ more ∷ words) = tt
+
 none_flush : (words : List Bytes) → IsAskedHere (none_of Flush words)
 none_flush [] = tt
 none_flush (word ∷ words) = tt
@@ -61,6 +81,14 @@ behind_get verb words =
     (cond (bytes_eq verb (codes "flush")) (none_of Flush words)
     (cond (bytes_eq verb (codes "compact")) (none_of Compact words)
     (cond (bytes_eq verb (codes "quit")) (none_of Quit words) (Bad 2))))))))
+
+at_estimate : (verb : Bytes) (words : List Bytes) → verb ≡ codes "estimate" → IsAskedHere (behind_get verb words)
+unfolding behind_get
+at_estimate verb words is = subst (λ (v : Bytes). IsAskedHere (behind_get v words)) (sym is) (two_estimate words)
+
+at_explain : (verb : Bytes) (words : List Bytes) → verb ≡ codes "explain" → IsAskedHere (behind_get verb words)
+unfolding behind_get
+at_explain verb words is = subst (λ (v : Bytes). IsAskedHere (behind_get v words)) (sym is) (one_explain words)
 
 at_flush : (verb : Bytes) (words : List Bytes) → verb ≡ codes "flush" → IsAskedHere (behind_get verb words)
 unfolding behind_get
@@ -85,8 +113,10 @@ asked_answered (verb ∷ words) is =
     chosen (bytes_eq verb (codes "put")) _ (two_of Put words) _ (two_put words)
     (chosen (bytes_eq verb (codes "del")) _ (one_of Del words) _ (one_del words)
     (chosen (bytes_eq verb (codes "get")) _ (one_of Get words) (behind_get verb words) (one_get words)
+    (one_true (bytes_eq verb (codes "estimate")) _ (IsAskedHere (behind_get verb words)) (λ t. at_estimate verb words ((bytes_eq-Decides verb (codes "estimate")).0 t))
+    (one_true (bytes_eq verb (codes "explain")) _ (IsAskedHere (behind_get verb words)) (λ t. at_explain verb words ((bytes_eq-Decides verb (codes "explain")).0 t))
     (one_true (bytes_eq verb (codes "flush")) _ (IsAskedHere (behind_get verb words)) (λ t. at_flush verb words ((bytes_eq-Decides verb (codes "flush")).0 t))
-    (one_true (bytes_eq verb (codes "quit")) false (IsAskedHere (behind_get verb words)) (λ t. at_quit verb words ((bytes_eq-Decides verb (codes "quit")).0 t)) (λ never. absurd cc)))))
+    (one_true (bytes_eq verb (codes "quit")) false (IsAskedHere (behind_get verb words)) (λ t. at_quit verb words ((bytes_eq-Decides verb (codes "quit")).0 t)) (λ never. absurd cc)))))))
     is
 
 by_tests : (short answered : Bool) (words : List Bytes) → (answered ≡ true → IsAskedHere (asked_by words)) → IsAskedHere (cond (short && not answered) (Bad 2) (cond short (asked_by words) (Bad 1)))

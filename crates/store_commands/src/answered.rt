@@ -15,6 +15,8 @@ fn is_answered(verb: &[u8]) -> bool
     verb == b"put".as_slice()
         || verb == b"del".as_slice()
         || verb == b"get".as_slice()
+        || verb == b"estimate".as_slice()
+        || verb == b"explain".as_slice()
         || verb == b"flush".as_slice()
         || verb == b"quit".as_slice()
 }

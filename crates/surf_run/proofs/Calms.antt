@@ -1,10 +1,11 @@
 -- Lines that leave the store as it is: a get, a bad line, a quit.
 use Rattle.std.proofs.Common.{◌≡◌, ◌⊎◌, ◌≢◌, inl, inr, ◌≤◌, ◌+◌, ◌*◌, ℕ, Bool, true, false, List, refl, sym, ap, ◌∙◌, subst, arith}
-use Rattle.std.specs.Prelude.{Option, Some, None}
+use Rattle.std.specs.Prelude.{Option, Some, None, IsTrue, length}
 use Rattle.block_model.specs.Pages.{page_bytes}
-use Rattle.disk_trait.specs.World.{Image, Meanwhile, Passes, Rose, Same, Seen, World}
+use Rattle.disk_trait.specs.World.{Image, Meanwhile, Passes, ReadMoves, Rose, Same, Seen, World}
+use Rattle.disk_trait.proofs.Calls.{reads_none}
 use Rattle.disk_trait.proofs.Moments.{in_call, now_at}
-use Rattle.line_model.specs.Limits.{key_limit}
+use Rattle.line_model.specs.Limits.{key_limit, limit_of}
 use Rattle.line_model.specs.Replies.{Bye, Damaged, Device, LastEpoch, LongKey, LongValue, ManyTables, Reply, got}
 use Rattle.line_model.specs.Requests.{Bad, Get, Quit as AskQuit, Request}
 use Rattle.map_model.specs.SortedMap.{Bytes, get}
@@ -18,12 +19,13 @@ use Rattle.state_model.specs.View.{state_map}
 use Rattle.store_core.specs.Answers.{HasCause, told}
 use Rattle.store_core.specs.Getting.{IsFaultIn, IsGetRefusal, IsMet, IsShown, IsUndamaged}
 use Rattle.store_core.specs.Kept.{Kept}
+use Rattle.store_core.specs.Telling.{IsAskRefusal}
 use Rattle.store_core.specs.Tied.{Tied}
 use Rattle.store_core.specs.declared.error.Limit.TheVariants as limit
 use Rattle.store_core.specs.declared.error.StoreError.{StoreError}
 use Rattle.store_core.specs.declared.error.StoreError.TheVariants as error
-use Rattle.surf_run.specs.Answering.{EndsLine, LineAnswer, RunsOn}
-use Rattle.surf_run.specs.Causes.{EndCause, NoFall, SayFailed, SaysDamage, WritesWithin}
+use Rattle.surf_run.specs.Answering.{AnswersLine, EndsLine, LineAnswer, RunsOn}
+use Rattle.surf_run.specs.Causes.{EndCause, LineShows, NoFall, SayFailed, SaysDamage, WritesWithin}
 use Rattle.surf_run.specs.Crash.{HasMap, Stands}
 use Rattle.surf_run.specs.Dialogue.{line_bound}
 use Rattle.surf_run.specs.Kind.{Kind}
@@ -31,8 +33,9 @@ use Rattle.surf_run.specs.Refusals.{end_of_refusal}
 use Rattle.surf_run.specs.Saying.{Says, end_by}
 use Rattle.surf_run.specs.declared.end.LineEnd.{LineEnd}
 use Rattle.surf_run.specs.declared.end.LineEnd.TheVariants.{End, Next, Quit}
-use Rattle.surf_run.proofs.EndCauses.{rose_since, rose_then}
-use Rattle.surf_run.proofs.Moments.{ends_device, ends_next, ends_quit, line_answer, map_of_state, stands_still, tied_still}
+use Rattle.surf_run.proofs.EndCauses.{line_read, line_say, lines_on, no_fall_none, rose_since, rose_then}
+use Rattle.surf_run.proofs.Footprint.{within_none}
+use Rattle.surf_run.proofs.Moments.{ends_device, ends_next, ends_quit, line_answer, map_of_state, stands_still, tied_stands, tied_still}
 use Rattle.table_file.specs.Opened.{Opened}
 use Rattle.table_file.specs.declared.fault.TableFault.TheVariants as table
 use Rattle.table_model.specs.Tables.{FilterBytes}
@@ -60,17 +63,19 @@ module _ (kind : Kind) (s : State) (request : Request) (store : Kept) (a mid b :
   stand_now : Stands kind s b
   stand_now = stands_still kind s mid b say.time (stands_still kind s a mid time stand)
 
+  tied_now : Tied kind.spelling kind.filter_bytes store s b
+  tied_now = tied_still kind.spelling kind.filter_bytes store s mid b say.time tied
+
   pub still_next : (reply : Reply) (result : LineEnd) → Step (HasCause a mid) kind.filter_bytes s request reply s → turn_of reply ≡ Onward → Says Next reply result mid b
       → EndsLine kind result s request store a b
   still_next reply result step goes says =
-      ends_next kind s request s store a mid b same reply result (still_answer reply step Next result says) says goes
-      (tied_still kind.spelling kind.filter_bytes store s mid b say.time tied) stand_now
+      ends_next kind s request s store a mid b same reply result (still_answer reply step Next result says) says goes tied_now stand_now
 
   pub still_device : (result : LineEnd) → Step (HasCause a mid) kind.filter_bytes s request Device s → Says (End 4) Device result mid b → EndsLine kind result s request store a b
-  still_device result step says = ends_device kind s request s store a mid b same result (still_answer Device step (End 4) result says) says
+  still_device result step says = ends_device kind s request s store a mid b same result (still_answer Device step (End 4) result says) says (λ runs. tied_now)
 
   pub still_quit : (result : LineEnd) → Step (HasCause a mid) kind.filter_bytes s request Bye s → Says Quit Bye result mid b → EndsLine kind result s request store a b
-  still_quit result step says = ends_quit kind s request s store a mid b same result (still_answer Bye step Quit result says) says stand_now
+  still_quit result step says = ends_quit kind s request s store a mid b same result (still_answer Bye step Quit result says) says tied_now stand_now
 
 -- ---- steps
 
@@ -84,12 +89,14 @@ module _ (Cause : Why → Type 0) (filter_bytes : FilterBytes) (s : State) where
   pub quit_step : Step Cause filter_bytes s AskQuit Bye s
   quit_step = answers
 
-  pub got_step : (key : Bytes) (value : Option Bytes) → key_limit key ≡ None → value ≡ get (state_map s) key → Step Cause filter_bytes s (Get key) (got value) s
-  got_step key value none is =
-      by_answer (Get key) (got value) (ap (λ (o : Option Reply). unless_limit o s (answer_within filter_bytes s (Get key))) none ∙ ap (λ (v : Option Bytes). (got v, s)) (sym is))
+  pub asked_step : (request : Request) (reply : Reply) → limit_of request ≡ None → answer_within filter_bytes s request ≡ (reply, s) → Step Cause filter_bytes s request reply s
+  asked_step request reply none is = by_answer request reply (ap (λ (o : Option Reply). unless_limit o s (answer_within filter_bytes s request)) none ∙ is)
 
-  pub limited_step : (key : Bytes) (reply : Reply) → key_limit key ≡ Some reply → Step Cause filter_bytes s (Get key) reply s
-  limited_step key reply is = by_answer (Get key) reply (ap (λ (o : Option Reply). unless_limit o s (answer_within filter_bytes s (Get key))) is)
+  pub limited_step : (request : Request) (reply : Reply) → limit_of request ≡ Some reply → Step Cause filter_bytes s request reply s
+  limited_step request reply is = by_answer request reply (ap (λ (o : Option Reply). unless_limit o s (answer_within filter_bytes s request)) is)
+
+  pub got_step : (key : Bytes) (value : Option Bytes) → key_limit key ≡ None → value ≡ get (state_map s) key → Step Cause filter_bytes s (Get key) (got value) s
+  got_step key value none is = asked_step (Get key) (got value) none (ap (λ (v : Option Bytes). (got v, s)) (sym is))
 
 -- ---- why a get is refused
 
@@ -180,6 +187,63 @@ runs_any Next stopped is = is
 runs_any Quit stopped is = is
 runs_any (End status) stopped is = tt
 
+-- a get leaves the store as it is, but for the buffer
+module _ (kind : Kind) (tells tells_output : Bool) (request : Request) (before after : Kept) (buffer : Bytes) (holds : after ≡ record before { buffer = buffer }) (runs : before.stopped ≡ false) (result : LineEnd)
+    (a mid b : World) (moves : ReadMoves (length before.tables) a mid) (say : SayMoves mid b) where
+  pub read_answers : ((s : State) → IsTrue tells → IsTrue tells_output → Tied kind.spelling kind.filter_bytes before s a → EndsLine kind result s request after a b)
+      → EndCause (LineShows (IsTrue tells × IsTrue tells_output) before.tables request) result a b → AnswersLine kind tells tells_output request result before after a b
+  read_answers answered cause = record {
+    answered = answered;
+    running = runs_any result after.stopped (ap (λ (k : Kept). k.stopped) holds ∙ runs);
+    cause = cause;
+    moves = lines_on a mid b (line_read (length before.tables) a mid moves) (line_say mid b say);
+  }
+
+-- ---- a line that calls no device
+
+module _ (kind : Kind) (tells tells_output : Bool) (request : Request) (store : Kept) (result : LineEnd) (a b : World) (runs : store.stopped ≡ false) (few : store.manifest.slot ≤ 1) (now_a : SaidByNow a) (say : SayMoves a b)
+    (ends : (result ≡ Next) ⊎ ((result ≡ End 6) × SayFailed a b)) where
+  -- one that goes on, with a reply that is a step of the state
+  pub asks_answers : ((s : State) → IsTrue tells → IsTrue tells_output → Tied kind.spelling kind.filter_bytes store s a
+      → (reply : Reply) × Step (HasCause a a) kind.filter_bytes s request reply s × (turn_of reply ≡ Onward) × Says Next reply result a b)
+      → AnswersLine kind tells tells_output request result store store a b
+  asks_answers answered = record {
+    answered = λ s tell tell_output tied. let by = answered s tell tell_output tied in
+        still_next kind s request store a a b refl (reads_none 0 a).time tied (tied_stands kind store s a few tied) (omega arith) (within_none (page_bytes * s.pages) a) now_a now_a say by.0 result by.1 by.2 by.3;
+    running = runs_any result store.stopped runs;
+    cause = said_cause result Next a a b ends (LineShows (IsTrue tells × IsTrue tells_output) store.tables request) tt (no_fall_none a);
+    moves = line_say a b say;
+  }
+
+-- why it is refused: for the limit that it breaks
+abbrev AskTold : Option Reply → StoreError → Type 0
+AskTold broken why = (reply : Reply) × (told why ≡ Some reply) × (broken ≡ Some reply) × (turn_of reply ≡ Onward) × (end_by reply ≡ Next) × (end_of_refusal why ≡ Next)
+
+pub ask_told : (why : StoreError) (stopped : Bool) (broken : Option Reply) → stopped ≡ false → IsAskRefusal stopped broken why → AskTold broken why
+ask_told error.Memory stopped broken runs refused = absurd refused
+ask_told (error.Device cause) stopped broken runs refused = absurd refused
+ask_told error.Stopped stopped broken runs refused = absurd (let is : true ≡ false = sym refused ∙ runs in cc)
+ask_told (error.Limit (limit.Key size)) stopped broken runs refused = (LongKey size, refl, refused.1, refl, refl, refl)
+ask_told (error.Limit (limit.Value size)) stopped broken runs refused = (LongValue size, refl, refused.1, refl, refl, refl)
+ask_told (error.Limit limit.Tables) stopped broken runs refused = (ManyTables, refl, refused.1, refl, refl, refl)
+ask_told (error.Limit limit.Epoch) stopped broken runs refused = (LastEpoch, refl, refused.1, refl, refl, refl)
+ask_told (error.Full need gap) stopped broken runs refused = absurd refused
+ask_told (error.Damaged damage) stopped broken runs refused = absurd refused
+ask_told error.NotAStore stopped broken runs refused = absurd refused
+ask_told error.AlreadyAStore stopped broken runs refused = absurd refused
+ask_told (error.BadSettings field) stopped broken runs refused = absurd refused
+
+pub is_ask_told : (broken : Option Reply) (why : StoreError) → AskTold broken why → told why ≢ None
+is_ask_told broken why is none = absurd (let same = sym is.1 ∙ none in cc)
+
+-- a refused line goes on
+module _ (kind : Kind) (tells tells_output : Bool) (request : Request) (why : StoreError) (is : AskTold (limit_of request) why) (store : Kept) (result : LineEnd) (a b : World) (runs : store.stopped ≡ false)
+    (few : store.manifest.slot ≤ 1) (now_a : SaidByNow a) (say : SayMoves a b) (ends : (result ≡ end_of_refusal why) ⊎ ((result ≡ End 6) × SayFailed a b))
+    (says : (reply : Reply) → IsTrue tells_output → told why ≡ Some reply → Says (end_by reply) reply result a b) where
+  pub refused_asks : AnswersLine kind tells tells_output request result store store a b
+  refused_asks = asks_answers kind tells tells_output request store result a b runs few now_a say (elim ends [ inl same ↦ inl (same ∙ is.5) | inr six ↦ inr six ])
+      (λ s tell tell_output tied. (is.0, limited_step (HasCause a a) kind.filter_bytes s request is.0 is.2, is.3, subst (λ (e : LineEnd). Says e is.0 result a b) is.4 (says is.0 tell_output is.1)))
+
 -- ---- what a refused get leads to
 
 module _ (kind : Kind) (s : State) (key : Bytes) (why : StoreError) (store : Kept) (result : LineEnd) (a mid b : World) (is : GetTold key a mid why) (met : IsMet (get_bound s key) why) (undamaged : IsUndamaged why)
@@ -196,7 +260,7 @@ module _ (kind : Kind) (s : State) (key : Bytes) (why : StoreError) (store : Kep
       | inl damaged ↦ absurd (damaged.1 undamaged)
       | inr limited ↦
           still_next kind s (Get key) store a mid b same time tied stand reads writes now_a now_mid say is.0 result
-          (limited_step (HasCause a mid) kind.filter_bytes s key is.0 limited.0) limited.1
+          (limited_step (HasCause a mid) kind.filter_bytes s (Get key) is.0 limited.0) limited.1
           (subst (λ (e : LineEnd). Says e is.0 result mid b) limited.2 (says is.0 is.1))
     ]
   ]

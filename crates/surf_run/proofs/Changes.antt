@@ -1,6 +1,6 @@
 -- How a change of the store is answered.
 use Rattle.std.proofs.Common.{◌≡◌, ◌⊎◌, ◌≢◌, inl, inr, ◌≤◌, ◌+◌, ◌*◌, ℕ, Bool, true, false, refl, sym, ap, ◌∙◌, subst, arith}
-use Rattle.std.specs.Prelude.{◌||◌, Option, Some, None, Result, Ok, Err, MatchResult}
+use Rattle.std.specs.Prelude.{◌||◌, Option, Some, None, Result, Ok, Err, MatchResult, IsTrue}
 use Rattle.block_model.specs.Pages.{page_bytes}
 use Rattle.disk_trait.specs.World.{Image, Rose, World, WriteMoves}
 use Rattle.disk_trait.proofs.Moments.{now_at}
@@ -17,8 +17,8 @@ use Rattle.store_core.specs.Tied.{Tied}
 use Rattle.store_core.specs.declared.error.Limit.TheVariants as limit
 use Rattle.store_core.specs.declared.error.StoreError.{StoreError}
 use Rattle.store_core.specs.declared.error.StoreError.TheVariants as error
-use Rattle.surf_run.specs.Answering.{EndsLine, RunsOn}
-use Rattle.surf_run.specs.Causes.{EndCause, NoFall, SayFailed, WritesWithin}
+use Rattle.surf_run.specs.Answering.{AnswersLine, EndsLine, RunsOn}
+use Rattle.surf_run.specs.Causes.{EndCause, LineShows, NoFall, SayFailed, WritesWithin}
 use Rattle.surf_run.specs.Crash.{HasEither}
 use Rattle.surf_run.specs.Dialogue.{line_bound}
 use Rattle.surf_run.specs.Kind.{Kind}
@@ -26,7 +26,7 @@ use Rattle.surf_run.specs.Refusals.{end_of_change}
 use Rattle.surf_run.specs.Saying.{Says, end_by}
 use Rattle.surf_run.specs.declared.end.LineEnd.{LineEnd}
 use Rattle.surf_run.specs.declared.end.LineEnd.TheVariants.{End, Next}
-use Rattle.surf_run.proofs.EndCauses.{rose_since, rose_then}
+use Rattle.surf_run.proofs.EndCauses.{line_say, line_write, lines_on, no_fall_say, rose_since, rose_then}
 use Rattle.surf_run.proofs.Footprint.{within_write}
 use Rattle.surf_run.proofs.Moments.{ends_device, ends_next, line_answer, map_of_state, tied_pages, tied_stands, tied_still}
 
@@ -115,6 +115,7 @@ module _ {T : Type 0} (kind : Kind) (s : State) (request : Request) (changed : R
               (subst (λ (r : Reply). Says (end_by r) r result mid b) device.0 (says answered.reply answered.told_is)).0
               (λ image either. either) (λ image left. inr (refl, now_at Both a mid answered.crash image left)) reads_few writes)
               (subst (λ (r : Reply). Says (end_by r) r result mid b) device.0 (says answered.reply answered.told_is))
+              (λ going. tied_still kind.spelling kind.filter_bytes store answered.after mid b say.time (answered.tied going))
           | inr goes ↦
               let held = answered.tied (runs ∙ goes.2) in
               let stand = tied_stands kind store answered.after mid few held in
@@ -125,3 +126,20 @@ module _ {T : Type 0} (kind : Kind) (s : State) (request : Request) (changed : R
               said goes.0 (tied_still kind.spelling kind.filter_bytes store answered.after mid b say.time held)
               (tied_stands kind store answered.after b few (tied_still kind.spelling kind.filter_bytes store answered.after mid b say.time held))
         ]
+
+-- ---- all that is promised of it
+
+module _ {T : Type 0} (kind : Kind) (tells tells_output : Bool) (request : Request) (changed : Result T StoreError) (before store : Kept) (result : LineEnd) (a mid b : World)
+    (told : ChangeTold changed a mid) (runs : store.stopped ≡ stopped_by changed) (few : store.manifest.slot ≤ 1) (moves : WriteMoves 0 (page_bytes * before.manifest.version.pages) a mid)
+    (now_a : SaidByNow a) (now_mid : SaidByNow mid) (say : SayMoves mid b) (ends : (result ≡ end_of_change changed) ⊎ ((result ≡ End 6) × SayFailed mid b)) where
+  pub change_answers : ((s : State) → IsTrue tells → Tied kind.spelling kind.filter_bytes before s a → core.Answered kind.spelling kind.filter_bytes s request (told_change changed) store a mid)
+      → ((reply : Reply) → IsTrue tells_output → told_change changed ≡ Some reply → Says (end_by reply) reply result mid b) → (IsTrue tells → a.leaves a.moment a.seen.held)
+      → AnswersLine kind tells tells_output request result before store a b
+  change_answers answered says current =
+      let written = line_write 0 (page_bytes * before.manifest.version.pages) a mid moves in
+      record {
+        answered = λ s tell output tied. change_ends kind s request changed before store result a mid b tied (answered s tell tied) told runs few moves now_a now_mid say (λ reply is. says reply output is) a.seen.held (current tell);
+        running = change_runs changed result a mid b told ends store.stopped runs;
+        cause = change_cause changed result a mid b told ends (LineShows (IsTrue tells × IsTrue tells_output) before.tables request) written.counts (no_fall_say mid b say);
+        moves = lines_on a mid b written (line_say mid b say);
+      }

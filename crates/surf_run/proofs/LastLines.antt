@@ -1,6 +1,6 @@
 -- Runs that answer no line, and runs in which no call fails.
-use Rattle.std.proofs.Common.{◌≡◌, ◌⊎◌, ◌≤◌, ◌∙◌, ◌++◌, inl, inr, sym, ap, subst, arith, ℕ, length}
-use Rattle.disk_trait.specs.World.{Image, Now, Same, Seen, Streams, World}
+use Rattle.std.proofs.Common.{◌≡◌, ◌⊎◌, ◌≤◌, ◌∙◌, ◌++◌, inl, inr, refl, sym, ap, subst, arith, ℕ, length}
+use Rattle.disk_trait.specs.World.{Image, Now, Passes, Same, Seen, Streams, World}
 use Rattle.disk_trait.proofs.Moments.{in_call}
 use Rattle.map_model.specs.SortedMap.{Bytes}
 use Rattle.outside.specs.Streams.{SaidByNow, SayMoves, SaysPrefix}
@@ -11,17 +11,48 @@ use Rattle.surf_run.specs.Ends.{Completed, SomeFailed}
 use Rattle.surf_run.specs.Kind.{Kind}
 use Rattle.surf_run.specs.Open.{IsFreeText, OpenMoves}
 use Rattle.surf_run.specs.Outcome.{Outcome}
-use Rattle.format_command.specs.Ends.{Unserved}
+use Rattle.surf_run.specs.Unserved.{LastLine, Untouched, Unserved}
 use Rattle.surf_run.proofs.Moments.{now_still}
 
--- a last line was said, whole or in part
+-- a last line was said, whole or in part, behind a call of the device
+pub last_line : (IsText : ℕ → Bytes → Type 0) (a m b : World) → m.beside ≡ a.beside → (status meant : ℕ) (text : Bytes) → IsText meant text
+    → (status ≡ meant → b.beside.said ≡ m.beside.said ++ text) → SaysPrefix text m.beside.said b.beside.said → (status ≡ meant) ⊎ ((status ≡ 6) × SayFailed m b)
+    → LastLine IsText status a b
+last_line IsText a m b same status meant text is whole prefix ends =
+    let said : m.beside.said ≡ a.beside.said = ap (λ (s : Streams). s.said) same in (
+      meant,
+      text,
+      is,
+      elim ends [
+        | inl all ↦ inl (all, whole all ∙ ap (λ (s : Bytes). s ++ text) said)
+        | inr six ↦ inr (six.0, subst (λ (s : Bytes). SaysPrefix text s b.beside.said) said prefix)
+      ],
+    )
+
+said_untouched : (a b : World) → SaidByNow a → SayMoves a b → Untouched a b
+said_untouched a b now_a moves =
+    during_weaker (λ k image. (length a.beside.said ≤ k) × (k ≤ length b.beside.said) × a.leaves a.moment image) (λ k image. a.leaves a.moment image) a b (during_say a b moves now_a) (λ k image at. at.2)
+
+-- the same since before a call that wrote nothing
+untouched_since : (a m b : World) → m.beside ≡ a.beside → SaidByNow a → Passes Same a m → Untouched m b → Untouched a b
+untouched_since a m b same now_a time none =
+    let Left = λ (image : Image). a.leaves a.moment image in
+    let left_now : Now Left a = λ image left. left in
+    during_then (λ n image. Left image) a m b
+    (during_weaker (λ k image. (k ≡ length a.beside.said) × Left image) (λ n image. Left image) a m
+    (during_disk Left a m (in_call Left Same a m left_now time (λ was image left same. subst Left (sym same) left)) same now_a) (λ k image at. at.1))
+    (during_weaker (λ n image. m.leaves m.moment image) (λ n image. Left image) m b none (λ k image at. now_still Left a m time left_now image at))
+
+pub untouched : (a m b : World) → m.beside ≡ a.beside → SaidByNow a → SaidByNow m → Passes Same a m → SayMoves m b → Untouched a b
+untouched a m b same now_a now_m time moves = untouched_since a m b same now_a time (said_untouched m b now_m moves)
+
+-- a run that only says its last line
 pub unserved : (IsText : ℕ → Bytes → Type 0) (a b : World) → SaidByNow a → SayMoves a b → (status meant : ℕ) (text : Bytes) → IsText meant text → SaysPrefix text a.beside.said b.beside.said
     → (status ≡ meant → b.beside.said ≡ a.beside.said ++ text) → (status ≡ meant) ⊎ ((status ≡ 6) × SayFailed a b) → Unserved IsText status a b
 unserved IsText a b now_a moves status meant text is prefix whole ends = record {
   input = moves.to_take;
-  line = (meant, text, is, elim ends [ inl same ↦ inl (same, whole same) | inr six ↦ inr (six.0, prefix) ]);
-  crash = during_weaker (λ k image. (length a.beside.said ≤ k) × (k ≤ length b.beside.said) × a.leaves a.moment image) (λ k image. a.leaves a.moment image) a b
-      (during_say a b moves now_a) (λ k image at. at.2);
+  line = last_line IsText a a b refl status meant text is whole prefix ends;
+  crash = said_untouched a b now_a moves;
 }
 
 -- saying reads nothing
@@ -42,8 +73,6 @@ unserved_wider P Q wider status a b none = record {
 pub unserved_since : (IsText : ℕ → Bytes → Type 0) (status : ℕ) (old mid new : World) → OpenMoves old mid → SaidByNow old → Unserved IsText status mid new → Unserved IsText status old new
 unserved_since IsText status old mid new opened now_old none =
     let said_same : mid.beside.said ≡ old.beside.said = ap (λ (s : Streams). s.said) opened.beside in
-    let Left = λ (image : Image). old.leaves old.moment image in
-    let left_now : Now Left old = λ image left. left in
     record {
       input = none.input ∙ ap (λ (s : Streams). s.to_take) opened.beside;
       line = (
@@ -55,10 +84,7 @@ unserved_since IsText status old mid new opened now_old none =
           | inr part ↦ inr (part.0, subst (λ (s : Bytes). SaysPrefix none.line.1 s new.beside.said) said_same part.1)
         ],
       );
-      crash = during_then (λ n image. Left image) old mid new
-          (during_weaker (λ k image. (k ≡ length old.beside.said) × Left image) (λ n image. Left image) old mid
-          (during_disk Left old mid (in_call Left Same old mid left_now opened.time (λ was image left same. subst Left (sym same) left)) opened.beside now_old) (λ k image at. at.1))
-          (during_weaker (λ n image. mid.leaves mid.moment image) (λ n image. Left image) mid new none.crash (λ k image at. now_still Left old mid opened.time left_now image at));
+      crash = untouched_since old mid new opened.beside now_old opened.time none.crash;
     }
 
 -- ---- the statuses of a run from a state

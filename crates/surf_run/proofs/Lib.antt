@@ -4,6 +4,7 @@ pub mod Changes
 pub mod Dialogues
 pub mod EndCauses
 pub mod Footprint
+mod Formats
 pub mod History
 pub mod LastLines
 pub mod Moments

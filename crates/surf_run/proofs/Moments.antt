@@ -1,8 +1,8 @@
 -- What a line leads to at each moment.
 use Rattle.std.proofs.Common.{◌≡◌, inl, inr, ◌≤◌, ◌+◌, ◌*◌, ◌++◌, ℕ, [], length, refl, sym, ap, ◌∙◌, subst, arith}
-use Rattle.std.specs.Prelude.{None}
+use Rattle.std.specs.Prelude.{None, false}
 use Rattle.block_model.specs.Pages.{page_bytes}
-use Rattle.disk_trait.specs.World.{Image, Meanwhile, Now, Passes, Same, Seen, Streams, World}
+use Rattle.disk_trait.specs.World.{Image, Meanwhile, Now, Passes, Same, Seen, Streams, Torn, World}
 use Rattle.disk_trait.proofs.Moments.{in_call, now_at}
 use Rattle.filter_api.specs.Spellings.{Spelling}
 use Rattle.image_model.proofs.Frames.{ready_is_state}
@@ -34,6 +34,10 @@ use Rattle.surf_run.proofs.Footprint.{within_on, within_say}
 use Rattle.table_model.specs.Tables.{FilterBytes}
 
 -- ---- what stands on
+
+-- where nothing can have been written, nothing was
+pub torn_none : (f g : Image) → Torn 0 0 f g → g ≡ f
+torn_none f g torn = λ i place. torn.after place (omega arith) i
 
 -- what a call that writes nothing leaves
 pub now_still : (P : Image → Type 0) (a b : World) → Passes Same a b → Now P a → Now P b
@@ -116,26 +120,28 @@ module _ (kind : Kind) (old : State) (request : Request) (new : State) (store : 
   ends_next reply Quit answer says goes tied stand = elim says.1 [ inl all ↦ absurd (let is = all.0 in cc) | inr six ↦ absurd cc ]
   ends_next reply (End status) answer says goes tied stand = elim says.1 [
     | inl all ↦ absurd (let is = all.0 in cc)
-    | inr six ↦ (reply, new, answer, inr (let is : status ≡ 6 = cc in is, λ other. stand))
+    | inr six ↦ (reply, new, answer, inr (let is : status ≡ 6 = cc in is, λ other. stand), λ runs. tied)
   ]
 
   -- `device`
-  pub ends_device : (result : LineEnd) → LineAnswer kind old request Device new a b → Says (End 4) Device result mid b → EndsLine kind result old request store a b
-  ends_device Next answer says = elim says.1 [ inl all ↦ absurd (let is = all.0 in cc) | inr six ↦ absurd cc ]
-  ends_device Quit answer says = elim says.1 [ inl all ↦ absurd (let is = all.0 in cc) | inr six ↦ absurd cc ]
-  ends_device (End status) answer says = elim says.1 [
-    | inl all ↦ (Device, new, answer, inl (let is = all.0 in let four : status ≡ 4 = cc in four, refl, whole (text_of Device) all.1))
-    | inr six ↦ (Device, new, answer, inr (let is : status ≡ 6 = cc in is, λ other. absurd (other refl)))
+  pub ends_device : (result : LineEnd) → LineAnswer kind old request Device new a b → Says (End 4) Device result mid b → (store.stopped ≡ false → Tied kind.spelling kind.filter_bytes store new b)
+      → EndsLine kind result old request store a b
+  ends_device Next answer says tied = elim says.1 [ inl all ↦ absurd (let is = all.0 in cc) | inr six ↦ absurd cc ]
+  ends_device Quit answer says tied = elim says.1 [ inl all ↦ absurd (let is = all.0 in cc) | inr six ↦ absurd cc ]
+  ends_device (End status) answer says tied = elim says.1 [
+    | inl all ↦ (Device, new, answer, inl (let is = all.0 in let four : status ≡ 4 = cc in four, refl, whole (text_of Device) all.1), tied)
+    | inr six ↦ (Device, new, answer, inr (let is : status ≡ 6 = cc in is, λ other. absurd (other refl)), tied)
   ]
 
   -- `bye`
-  pub ends_quit : (result : LineEnd) → LineAnswer kind old request Bye new a b → Says Quit Bye result mid b → Stands kind new b → EndsLine kind result old request store a b
-  ends_quit Next answer says stand = elim says.1 [ inl all ↦ absurd (let is = all.0 in cc) | inr six ↦ absurd cc ]
-  ends_quit Quit answer says stand = elim says.1 [
-    | inl all ↦ (new, answer, whole (text_of Bye) all.1, stand)
+  pub ends_quit : (result : LineEnd) → LineAnswer kind old request Bye new a b → Says Quit Bye result mid b → Tied kind.spelling kind.filter_bytes store new b → Stands kind new b
+      → EndsLine kind result old request store a b
+  ends_quit Next answer says tied stand = elim says.1 [ inl all ↦ absurd (let is = all.0 in cc) | inr six ↦ absurd cc ]
+  ends_quit Quit answer says tied stand = elim says.1 [
+    | inl all ↦ (new, answer, whole (text_of Bye) all.1, stand, tied)
     | inr six ↦ absurd cc
   ]
-  ends_quit (End status) answer says stand = elim says.1 [
+  ends_quit (End status) answer says tied stand = elim says.1 [
     | inl all ↦ absurd (let is = all.0 in cc)
-    | inr six ↦ (Bye, new, answer, inr (let is : status ≡ 6 = cc in is, λ other. stand))
+    | inr six ↦ (Bye, new, answer, inr (let is : status ≡ 6 = cc in is, λ other. stand), λ runs. tied)
   ]

@@ -32,12 +32,9 @@ use Rattle.surf_run.specs.Serving.{Served}
 use Rattle.surf_run.proofs.EndCauses.{disk_then, no_fall_none, no_fall_say, rose_since}
 use Rattle.surf_run.proofs.Footprint.{within_none, within_still}
 use Rattle.surf_run.proofs.History.{ack_none}
-use Rattle.surf_run.proofs.Moments.{map_of_state}
+use Rattle.surf_run.proofs.Moments.{map_of_state, torn_none}
 use Rattle.surf_run.proofs.Outcomes.{served_none}
 use Rattle.table_file.specs.Faults.{filter_fault_of}
-
-torn_none : (f g : Image) → Torn 0 0 f g → g ≡ f
-torn_none f g torn = λ i place. torn.after place (omega arith) i
 
 -- nothing is written
 pub open_moves : (most : ℕ) (a b : World) → Moves 0 0 most a b → OpenMoves a b

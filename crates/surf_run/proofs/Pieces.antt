@@ -11,7 +11,7 @@ use Rattle.hex.specs.Hex.{lower_digits}
 use Rattle.hex.proofs.HexLemmas.{length-encode_with}
 use Rattle.outside.specs.Streams.{SaysPrefix}
 use Rattle.map_model.specs.SortedMap.{Bytes}
-use Rattle.line_model.specs.Replies.{text_of, word_of, part_word, sum_word}
+use Rattle.line_model.specs.Replies.{at_words, text_of, word_of, part_word, sum_word}
 use Rattle.byte_fields.specs.declared.parts.Part.{Part}
 use Rattle.byte_fields.specs.declared.parts.Part.TheVariants.{Manifest, Log, Index, Filter, Block}
 use Rattle.byte_fields.specs.declared.parts.Damage.TheVariants.{Sum, Shape}
@@ -54,6 +54,29 @@ numbers_end : (prefix middle : Bytes) (n m : ℕ) → n < 2 ^ 64 → m < 2 ^ 64 
 numbers_end prefix middle n m small_n small_m =
     omega (arith, number_end (prefix ++ decimal n ++ middle) m small_m, length-append (prefix ++ decimal n) middle, length-append prefix (decimal n), decimal_size n small_n)
 
+three_end : (n m k : ℕ) → n < 2 ^ 64 → m < 2 ^ 64 → k < 2 ^ 64
+    → length (codes "tables " ++ decimal n ++ codes " admitted " ++ decimal m ++ codes " blocks " ++ decimal k ++ 10 ∷ []) ≤ 100
+three_end n m k small_n small_m small_k =
+    omega (
+      arith,
+      numbers_end (codes "tables " ++ decimal n ++ codes " admitted ") (codes " blocks ") m k small_m small_k,
+      length-append (codes "tables " ++ decimal n) (codes " admitted "),
+      length-append (codes "tables ") (decimal n),
+      decimal_size n small_n,
+    )
+
+pair_end : (key value : Bytes) (most large : ℕ) → length key ≤ most → length value ≤ large → length (at_words key value ++ 10 ∷ []) ≤ 2 * most + 2 * large + 8
+pair_end key value most large short long =
+    omega (
+      arith,
+      length-append (at_words key value) (10 ∷ []),
+      length-append (codes "at " ++ word_of key ++ codes " ") (word_of value),
+      length-append (codes "at " ++ word_of key) (codes " "),
+      length-append (codes "at ") (word_of key),
+      word_size key,
+      word_size value,
+    )
+
 -- a sum has sixteen digits
 sum_size : (sum : ℕ) → length (sum_word sum) ≡ 16
 sum_size sum = length-encode_with lower_digits (big_bytes 8 sum) ∙ ap (λ (n : ℕ). 2 * n) (length-bytes_high_first 8 sum)
@@ -84,11 +107,11 @@ pub short_text : (reply : Reply) → IsShort reply → length (text_of (spoken r
 short_text Done short = omega arith
 short_text (Value value) short = omega (arith, word_end (codes "val ") value.now 65536 short)
 short_text Missing short = omega arith
-short_text (At key value) short = absurd short
-short_text (End count) short = absurd short
-short_text (Counted count) short = absurd short
-short_text (About count) short = absurd short
-short_text (Explained tables admitted blocks) short = absurd short
+short_text (At key value) short = omega (arith, pair_end key.now value.now 1024 65536 short.0 short.1)
+short_text (End count) short = omega (arith, number_end (codes "end ") count short)
+short_text (Counted count) short = omega (arith, number_end (codes "count ") count short)
+short_text (About count) short = omega (arith, number_end (codes "about ") count short)
+short_text (Explained tables admitted blocks) short = omega (arith, three_end tables admitted blocks short.0 short.1 short.2)
 short_text Bye short = omega arith
 short_text (BadLine code) short = omega (arith, number_end (codes "bad ") code short)
 short_text (LongKey size) short = omega (arith, number_end (codes "limit key ") size short)

@@ -95,10 +95,10 @@ module _ (bytes piece done rest line more : Bytes) (so_far : piece ≡ done ++ r
   pub piece_split : piece ≡ (done ++ (line ++ 10 ∷ [])) ++ more
   piece_split = so_far ∙ ap (λ (l : Bytes). done ++ l) (cut ∙ sym (append_assoc line (10 ∷ []) more)) ∙ sym (append_assoc done (line ++ 10 ∷ []) more)
 
-  pub line_more : bytes ++ (done ++ (line ++ 10 ∷ [])) ≡ bytes ++ done ++ line ++ 10 ∷ []
-  line_more = sym (append_assoc bytes done (line ++ 10 ∷ [])) ∙ sym (append_assoc (bytes ++ done) line (10 ∷ []))
+  pub line_more : bytes ++ (done ++ (line ++ 10 ∷ [])) ≡ bytes ++ done ++ (line ++ 10 ∷ [])
+  line_more = sym (append_assoc bytes done (line ++ 10 ∷ []))
 
-  pub all_more : bytes ++ piece ≡ bytes ++ done ++ line ++ 10 ∷ [] ++ more
+  pub all_more : bytes ++ piece ≡ bytes ++ done ++ (line ++ 10 ∷ []) ++ more
   all_more = ap (λ (l : Bytes). bytes ++ l) piece_split ∙ sym (append_assoc bytes (done ++ (line ++ 10 ∷ [])) more) ∙ ap (λ (l : Bytes). l ++ more) line_more
 
 -- ---- what was taken

@@ -1,5 +1,5 @@
 -- How one line is answered.
-use Rattle.std.specs.Prelude.{◌≡◌, ◌≢◌, ◌⊎◌, ◌≤◌, ◌+◌, ◌*◌, ◌++◌, ℕ, Bool, false, length}
+use Rattle.std.specs.Prelude.{◌≡◌, ◌≢◌, ◌⊎◌, ◌≤◌, ◌+◌, ◌*◌, ◌++◌, ℕ, Bool, false, length, IsTrue}
 use Rattle.block_model.specs.Pages.{page_bytes}
 use Rattle.disk_trait.specs.World.{Image, World}
 use Rattle.line_model.specs.Replies.{Bye, Device, Reply, text_of}
@@ -12,7 +12,7 @@ use Rattle.state_model.specs.Steps.{Step}
 use Rattle.store_core.specs.Answers.{HasCause}
 use Rattle.store_core.specs.Kept.{Kept}
 use Rattle.store_core.specs.Tied.{Tied}
-use Rattle.surf_run.specs.Causes.{WritesWithin}
+use Rattle.surf_run.specs.Causes.{EndCause, LineMoves, LineShows, WritesWithin}
 use Rattle.surf_run.specs.Crash.{HasBehind, HasEither, Stands}
 use Rattle.surf_run.specs.Dialogue.{line_bound}
 use Rattle.surf_run.specs.Kind.{Kind}
@@ -40,17 +40,27 @@ Whole reply a b = b.beside.said ≡ a.beside.said ++ text_of reply
 abbrev pub EndsBy : Kind → ℕ → Reply → State → World → World → Type 0
 EndsBy kind status reply new a b = ((status ≡ 4) × (reply ≡ Device) × Whole reply a b) ⊎ ((status ≡ 6) × (reply ≢ Device → Stands kind new b))
 
--- How a line ended over a store that was that of a state. Where the run goes on, the store is that of the state behind the line.
+-- How a line ended over a store that was that of a state. Where the store is not stopped, it is that of the state behind the line.
 abbrev pub EndsLine : Kind → LineEnd → State → Request → Kept → World → World → Type 0
 EndsLine kind Next old request store a b =
     (reply : Reply) × (new : State) × LineAnswer kind old request reply new a b × (turn_of reply ≡ Onward) × Whole reply a b
     × Tied kind.spelling kind.filter_bytes store new b × Stands kind new b
 EndsLine kind Quit old request store a b =
-    (new : State) × LineAnswer kind old request Bye new a b × Whole Bye a b × Stands kind new b
-EndsLine kind (End status) old request store a b = (reply : Reply) × (new : State) × LineAnswer kind old request reply new a b × EndsBy kind status reply new a b
+    (new : State) × LineAnswer kind old request Bye new a b × Whole Bye a b × Stands kind new b × Tied kind.spelling kind.filter_bytes store new b
+EndsLine kind (End status) old request store a b =
+    (reply : Reply) × (new : State) × LineAnswer kind old request reply new a b × EndsBy kind status reply new a b
+    × (store.stopped ≡ false → Tied kind.spelling kind.filter_bytes store new b)
 
 -- a line that does not end the run leaves the store running
 abbrev pub RunsOn : LineEnd → Bool → Type 0
 RunsOn Next stopped = stopped ≡ false
 RunsOn Quit stopped = stopped ≡ false
 RunsOn (End status) stopped = Unit {0}
+
+-- What answering a request over a running store promises: how the line ends, that the run goes on with a store that runs, why it
+-- ends, and what moves. Whether the device and the output tell their bytes is `tells` and `tells_output`.
+pub record AnswersLine (kind : Kind) (tells tells_output : Bool) (request : Request) (end : LineEnd) (store new : Kept) (a b : World) : Type 0 where
+  pub answered : (s : State) → IsTrue tells → IsTrue tells_output → Tied kind.spelling kind.filter_bytes store s a → EndsLine kind end s request new a b
+  pub running : RunsOn end new.stopped
+  pub cause : EndCause (LineShows (IsTrue tells × IsTrue tells_output) store.tables request) end a b
+  pub moves : LineMoves a b

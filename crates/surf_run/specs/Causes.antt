@@ -1,8 +1,7 @@
 -- Why a run ends, what it may change, and what never falls.
-use Rattle.std.specs.Prelude.{◌≡◌, ◌⊎◌, ◌++◌, ℕ, List}
+use Rattle.std.specs.Prelude.{◌≡◌, ◌⊎◌, ◌≤◌, ◌++◌, ℕ, List}
 use Rattle.byte_fields.specs.declared.parts.Damage.{Damage}
-use Rattle.disk_trait.specs.World.{Passes, Torn, World}
-pub use Rattle.format_command.specs.Ends.{DiskFailed, NoFall, SayFailed, StatusCause, TakeFailed}
+use Rattle.disk_trait.specs.World.{Passes, Rose, Torn, World}
 use Rattle.line_model.specs.Replies.{text_of}
 use Rattle.line_model.specs.Replies as line
 use Rattle.line_model.specs.Requests.{Get, Request}
@@ -12,6 +11,29 @@ use Rattle.surf_run.specs.declared.end.LineEnd.{LineEnd}
 use Rattle.surf_run.specs.declared.end.LineEnd.TheVariants.{Next, Quit, End}
 use Rattle.table_file.specs.Opened.{Opened}
 use Rattle.table_file.specs.declared.fault.TableFault.TheVariants.{Damaged}
+
+-- no count of faults falls
+pub record NoFall (old new : World) : Type 0 where
+  pub read : old.seen.read_faults ≤ new.seen.read_faults
+  pub write : old.seen.write_faults ≤ new.seen.write_faults
+  pub take : old.beside.take_faults ≤ new.beside.take_faults
+  pub say : old.beside.say_faults ≤ new.beside.say_faults
+
+-- a read, or a write or a sync, failed in this call
+abbrev pub DiskFailed : World → World → Type 0
+DiskFailed old new = Rose old.seen.read_faults new.seen.read_faults ⊎ Rose old.seen.write_faults new.seen.write_faults
+
+abbrev pub TakeFailed : World → World → Type 0
+TakeFailed old new = Rose old.beside.take_faults new.beside.take_faults
+
+abbrev pub SayFailed : World → World → Type 0
+SayFailed old new = Rose old.beside.say_faults new.beside.say_faults
+
+-- a status that tells of a fault comes only where the count of such faults rose
+pub record StatusCause (status : ℕ) (old new : World) : Type 0 where
+  pub taking : status ≡ 3 → TakeFailed old new
+  pub device : status ≡ 4 → DiskFailed old new
+  pub saying : status ≡ 6 → SayFailed old new
 
 -- Nothing changes behind the first so many bytes: neither what the device reads as, nor what a crash may leave at any later
 -- moment, beside what it might have left at the start.

@@ -14,8 +14,8 @@ use Rattle.surf_run.specs.Causes.{DiskFailed, SayFailed, TakeFailed}
 use Rattle.surf_run.specs.Kind.{Kind}
 use Rattle.surf_run.specs.Open.{IsFreeText, OpenMoves}
 use Rattle.surf_run.specs.Outcome.{Outcome}
-use Rattle.format_command.specs.Ends.{Unserved}
 use Rattle.table_file.specs.Faults.{filter_fault_of}
+use Rattle.surf_run.specs.Unserved.{Unserved}
 
 -- the reads before the first line: seven at most, and two for each table
 abbrev pub opening_bound : State → ℕ

@@ -7,6 +7,8 @@ pub mod Causes
 pub mod Crash
 pub mod Dialogue
 pub mod Ends
+pub mod FormatRefusals
+pub mod Formats
 pub mod Holding
 pub mod Kind
 pub mod Open
@@ -16,3 +18,4 @@ pub mod Ran
 pub mod Run
 pub mod Saying
 pub mod Serving
+pub mod Unserved

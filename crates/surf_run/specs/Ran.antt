@@ -5,7 +5,6 @@ use Rattle.byte_fields.specs.declared.parts.Damage.{Damage}
 use Rattle.clap.specs.Walk.{Text}
 use Rattle.disk_trait.specs.World.{Now, World}
 use Rattle.filter_api.specs.declared.settings.Field.{Field}
-use Rattle.format_command.specs.Ends.{Unserved}
 use Rattle.image_model.specs.Opening.{FirstDamage}
 use Rattle.image_model.specs.Stands.{IsStateOf}
 use Rattle.manifest_model.specs.Slots.{IsNoStore}
@@ -22,6 +21,7 @@ use Rattle.surf_run.specs.Kind.{Kind}
 use Rattle.surf_run.specs.Open.{IsOpeningText}
 use Rattle.surf_run.specs.Run.{AskNothing, FormatEnds, IsBadSettingsText, IsHelpText, IsUsageText}
 use Rattle.table_file.specs.Faults.{filter_fault_of}
+use Rattle.surf_run.specs.Unserved.{Unserved}
 
 -- A run by these words over a device and streams, with filters of this kind, of which bytes that are no filter break this rule
 -- first. Whether device, input and output tell their bytes is `tells`, `tells_input` and `tells_output`, and `world` is what

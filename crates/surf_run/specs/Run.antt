@@ -4,8 +4,6 @@ use Rattle.clap.specs.Walk.{Text}
 use Rattle.disk_trait.specs.World.{World}
 use Rattle.filter_api.specs.Spellings.{Spelling}
 use Rattle.filter_api.specs.declared.settings.Field.{Field}
-use Rattle.format_command.specs.Ends.{Unserved}
-use Rattle.format_command.specs.Formats.{Formatted, WritesInFront, bad_settings_text}
 use Rattle.line_model.specs.Replies.{Memory, text_of}
 use Rattle.map_model.specs.SortedMap.{Bytes}
 use Rattle.program_words.specs.Asked.{AreRefusedWords, IsFormat, IsHelp}
@@ -14,6 +12,8 @@ use Rattle.program_words.specs.declared.asked.Asked.{Asked}
 use Rattle.program_words.specs.declared.asked.Asked.TheVariants as asked
 use Rattle.program_words.specs.declared.new_store.NewStore.{NewStore}
 use Rattle.program_words.specs.declared.new_store.Wanted.{Wanted}
+use Rattle.surf_run.specs.Formats.{Formatted, WritesInFront, bad_settings_text}
+use Rattle.surf_run.specs.Unserved.{Unserved}
 
 -- the line that wrong words get
 abbrev pub usage_text : Bytes

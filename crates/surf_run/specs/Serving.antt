@@ -1,5 +1,5 @@
 -- How far a run has come.
-use Rattle.std.specs.Prelude.{◌≡◌, ◌≢◌, ◌⊎◌, ◌≤◌, ◌+◌, ◌*◌, ℕ, List, [], ◌∷◌, ◌++◌, length, flat_map, All}
+use Rattle.std.specs.Prelude.{◌≡◌, ◌≢◌, ◌⊎◌, ◌≤◌, ◌+◌, ◌*◌, ℕ, Bool, List, [], ◌∷◌, ◌++◌, length, flat_map, All, IsTrue}
 use Rattle.block_model.specs.Pages.{page_bytes}
 use Rattle.disk_trait.specs.World.{World}
 use Rattle.line_model.specs.Lines.{lines_of, whole_lines}
@@ -15,7 +15,8 @@ use Rattle.store_commands.specs.Cutting.{NoNewline}
 use Rattle.store_core.specs.Answers.{HasCause}
 use Rattle.store_core.specs.Kept.{Kept}
 use Rattle.store_core.specs.Tied.{Tied}
-use Rattle.surf_run.specs.Causes.{NoFall, WritesWithin}
+use Rattle.surf_run.specs.Answering.{RunsOn}
+use Rattle.surf_run.specs.Causes.{EndCause, LineMoves, NoFall, RunShows, WritesWithin}
 use Rattle.surf_run.specs.Crash.{Acknowledged, Reached, Stands}
 use Rattle.surf_run.specs.Dialogue.{Dialogue, SoFar, line_bound}
 use Rattle.surf_run.specs.Holding.{Held, with_newline}
@@ -94,3 +95,13 @@ abbrev pub After : Kind → ℕ → LineEnd → State → ℕ → Bytes → Byte
 After kind past Next start base bytes kept store first w = Served kind start base bytes kept store first w
 After kind past Quit start base bytes kept store first w = Closed kind AtQuit start bytes first w × EndsPast kind past Bye start base bytes first w
 After kind past (End status) start base bytes kept store first w = EndedBy kind past status start base bytes first w
+
+-- What answering the lines that end in a part of the input promises: how far the run has come, behind whose last line stand less
+-- bytes than `past`, and beside that what a line promises.
+pub record AnswersPart {X : Type 0} (world : X → World) (kind : Kind) (tells tells_output : Bool) (past : ℕ) (part : Bytes) (end : LineEnd) (pending kept : Bytes) (store new : Kept) (a b : X) : Type 0 where
+  pub after :
+      (start : State) (base : ℕ) (first : X) (bytes : Bytes) → IsTrue tells → IsTrue tells_output → Served kind start base bytes pending store (world first) (world a)
+      → After kind past end start base (bytes ++ part) kept new (world first) (world b)
+  pub running : RunsOn end new.stopped
+  pub cause : EndCause (RunShows (IsTrue tells × IsTrue tells_output)) end (world a) (world b)
+  pub moves : LineMoves (world a) (world b)

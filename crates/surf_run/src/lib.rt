@@ -16,6 +16,8 @@
 #![tactic(auto)]
 
 mod end;
+mod format_lines;
+mod formatting;
 mod line;
 mod pending;
 mod saying;
@@ -25,4 +27,4 @@ mod top;
 
 pub use end::LineEnd;
 pub use line::serve_line;
-pub use top::{run, run_with};
+pub use top::run;

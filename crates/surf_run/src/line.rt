@@ -1,22 +1,19 @@
 //! A line, answered.
 ghost use Rattle.std.specs.Prelude.{◌≡◌, ◌≢◌, ◌⊎◌, ◌<◌, false, length, IfSome, IsTrue, Some, None};
 ghost use Rattle.std.specs.Option.{option_map};
-ghost use Rattle.line_model.specs.Requests.{Bad, Del, Flush, Get, Put, Quit};
+ghost use Rattle.line_model.specs.Requests.{Bad, Del, Estimate, Explain, Flush, Get, Put, Quit};
 ghost use Rattle.line_model.specs.Replies.{Reply as LineReply};
 ghost use Rattle.outside.specs.Streams.{SayMoves};
-ghost use Rattle.state_model.specs.State.{State};
 ghost use Rattle.store_commands.specs.Answered.{IsAskedHere, asked_here};
 ghost use Rattle.store_commands.specs.Asks.{asked};
 ghost use Rattle.store_commands.specs.Spoken.{spoken};
 ghost use Rattle.store_core.specs.Answers.{told, told_change, told_limit};
-ghost use Rattle.store_core.specs.Tied.{Tied};
 ghost use Rattle.surf_run.specs.declared.end.LineEnd.TheVariants.{End};
-ghost use Rattle.surf_run.specs.Answering.{EndsLine, RunsOn};
-ghost use Rattle.surf_run.specs.Causes.{EndCause, LineMoves, LineShows, SayFailed};
+ghost use Rattle.surf_run.specs.Answering.{AnswersLine};
+ghost use Rattle.surf_run.specs.Causes.{SayFailed};
 ghost use Rattle.surf_run.specs.Kind.{filter_kind};
 ghost use Rattle.surf_run.specs.Saying.{IsShort, Says, end_by};
 ghost use Rattle.surf_run.specs.Refusals.{end_of_change, end_of_refusal};
-ghost use Rattle.table_model.specs.Tables.{filter_bytes_of};
 
 use crate::end::LineEnd;
 use crate::saying::say_reply;
@@ -111,11 +108,7 @@ fn put_line<F: RangeFilter, W: Outside>(
 ) -> LineEnd
     requires buffer { 0 < length buffer.old }
     requires running { store.old.stopped ≡ false }
-    ensures answered { (s : State) → IsTrue W.tells → IsTrue W.tells_output → Tied F.spelling (filter_bytes_of F.spelling F.built_cutoff) store.old s (W.world out.old)
-        → EndsLine (filter_kind F.spelling F.built_cutoff) result s (Put key.now value.now) store.new (W.world out.old) (W.world out.new) }
-    ensures running { RunsOn result store.new.stopped }
-    ensures cause { EndCause (LineShows (IsTrue W.tells × IsTrue W.tells_output) store.old.tables (Put key.now value.now)) result (W.world out.old) (W.world out.new) }
-    ensures moves { LineMoves (W.world out.old) (W.world out.new) }
+    ensures { AnswersLine (filter_kind F.spelling F.built_cutoff) W.tells W.tells_output (Put key.now value.now) result store.old store.new (W.world out.old) (W.world out.new) }
 {
     let changed = store.put(out, key, value);
     store.whole_law();
@@ -130,11 +123,7 @@ fn del_line<F: RangeFilter, W: Outside>(
 ) -> LineEnd
     requires buffer { 0 < length buffer.old }
     requires running { store.old.stopped ≡ false }
-    ensures answered { (s : State) → IsTrue W.tells → IsTrue W.tells_output → Tied F.spelling (filter_bytes_of F.spelling F.built_cutoff) store.old s (W.world out.old)
-        → EndsLine (filter_kind F.spelling F.built_cutoff) result s (Del key.now) store.new (W.world out.old) (W.world out.new) }
-    ensures running { RunsOn result store.new.stopped }
-    ensures cause { EndCause (LineShows (IsTrue W.tells × IsTrue W.tells_output) store.old.tables (Del key.now)) result (W.world out.old) (W.world out.new) }
-    ensures moves { LineMoves (W.world out.old) (W.world out.new) }
+    ensures { AnswersLine (filter_kind F.spelling F.built_cutoff) W.tells W.tells_output (Del key.now) result store.old store.new (W.world out.old) (W.world out.new) }
 {
     let changed = store.delete(out, key);
     store.whole_law();
@@ -148,11 +137,7 @@ fn flush_line<F: RangeFilter, W: Outside>(
 ) -> LineEnd
     requires buffer { 0 < length buffer.old }
     requires running { store.old.stopped ≡ false }
-    ensures answered { (s : State) → IsTrue W.tells → IsTrue W.tells_output → Tied F.spelling (filter_bytes_of F.spelling F.built_cutoff) store.old s (W.world out.old)
-        → EndsLine (filter_kind F.spelling F.built_cutoff) result s Flush store.new (W.world out.old) (W.world out.new) }
-    ensures running { RunsOn result store.new.stopped }
-    ensures cause { EndCause (LineShows (IsTrue W.tells × IsTrue W.tells_output) store.old.tables Flush) result (W.world out.old) (W.world out.new) }
-    ensures moves { LineMoves (W.world out.old) (W.world out.new) }
+    ensures { AnswersLine (filter_kind F.spelling F.built_cutoff) W.tells W.tells_output Flush result store.old store.new (W.world out.old) (W.world out.new) }
 {
     let changed = store.flush(out);
     store.whole_law();
@@ -167,16 +152,54 @@ fn get_line<F: RangeFilter, W: Outside>(
 ) -> LineEnd
     requires buffer { 0 < length buffer.old }
     requires running { store.old.stopped ≡ false }
-    ensures answered { (s : State) → IsTrue W.tells → IsTrue W.tells_output → Tied F.spelling (filter_bytes_of F.spelling F.built_cutoff) store.old s (W.world out.old)
-        → EndsLine (filter_kind F.spelling F.built_cutoff) result s (Get key.now) store.new (W.world out.old) (W.world out.new) }
-    ensures running { RunsOn result store.new.stopped }
-    ensures cause { EndCause (LineShows (IsTrue W.tells × IsTrue W.tells_output) store.old.tables (Get key.now)) result (W.world out.old) (W.world out.new) }
-    ensures moves { LineMoves (W.world out.old) (W.world out.new) }
+    ensures { AnswersLine (filter_kind F.spelling F.built_cutoff) W.tells W.tells_output (Get key.now) result store.old store.new (W.world out.old) (W.world out.new) }
 {
     store.whole_law();
     match store.get(out, key) {
         Ok(Some(value)) => say_reply(out, buffer, &Reply::Value(value), LineEnd::Next),
         Ok(None) => say_reply(out, buffer, &Reply::Missing, LineEnd::Next),
+        Err(why) => say_refusal(out, buffer, why),
+    }
+}
+
+fn estimate_line<F: RangeFilter, W: Outside>(
+    store: &Store<F>,
+    buffer: &mut [u8],
+    out: &mut W,
+    lo: &[u8],
+    hi: &[u8],
+) -> LineEnd
+    requires buffer { 0 < length buffer.old }
+    requires running { store.now.stopped ≡ false }
+    ensures { AnswersLine (filter_kind F.spelling F.built_cutoff) W.tells W.tells_output (Estimate lo.now hi.now) result store.now store.now (W.world out.old) (W.world out.new) }
+{
+    store.whole_law();
+    match store.estimate(lo, hi) {
+        Ok(count) => say_reply(out, buffer, &Reply::About(count), LineEnd::Next),
+        Err(why) => say_refusal(out, buffer, why),
+    }
+}
+
+fn explain_line<F: RangeFilter, W: Outside>(
+    store: &Store<F>,
+    buffer: &mut [u8],
+    out: &mut W,
+    key: &[u8],
+) -> LineEnd
+    requires buffer { 0 < length buffer.old }
+    requires running { store.now.stopped ≡ false }
+    ensures { AnswersLine (filter_kind F.spelling F.built_cutoff) W.tells W.tells_output (Explain key.now) result store.now store.now (W.world out.old) (W.world out.new) }
+{
+    store.whole_law();
+    match store.explain(key) {
+        Ok(told) => {
+            let reply = Reply::Explained {
+                tables: told.tables,
+                admitted: told.admitted,
+                blocks: told.blocks,
+            };
+            say_reply(out, buffer, &reply, LineEnd::Next)
+        }
         Err(why) => say_refusal(out, buffer, why),
     }
 }
@@ -189,11 +212,7 @@ fn bad_line<F: RangeFilter, W: Outside>(
 ) -> LineEnd
     requires buffer { 0 < length buffer.old }
     requires running { store.now.stopped ≡ false }
-    ensures answered { (s : State) → IsTrue W.tells → IsTrue W.tells_output → Tied F.spelling (filter_bytes_of F.spelling F.built_cutoff) store.now s (W.world out.old)
-        → EndsLine (filter_kind F.spelling F.built_cutoff) result s (Bad code) store.now (W.world out.old) (W.world out.new) }
-    ensures running { RunsOn result store.now.stopped }
-    ensures cause { EndCause (LineShows (IsTrue W.tells × IsTrue W.tells_output) store.now.tables (Bad code)) result (W.world out.old) (W.world out.new) }
-    ensures moves { LineMoves (W.world out.old) (W.world out.new) }
+    ensures { AnswersLine (filter_kind F.spelling F.built_cutoff) W.tells W.tells_output (Bad code) result store.now store.now (W.world out.old) (W.world out.new) }
 {
     store.whole_law();
     say_reply(out, buffer, &Reply::BadLine(code), LineEnd::Next)
@@ -206,11 +225,7 @@ fn quit_line<F: RangeFilter, W: Outside>(
 ) -> LineEnd
     requires buffer { 0 < length buffer.old }
     requires running { store.now.stopped ≡ false }
-    ensures answered { (s : State) → IsTrue W.tells → IsTrue W.tells_output → Tied F.spelling (filter_bytes_of F.spelling F.built_cutoff) store.now s (W.world out.old)
-        → EndsLine (filter_kind F.spelling F.built_cutoff) result s Quit store.now (W.world out.old) (W.world out.new) }
-    ensures running { RunsOn result store.now.stopped }
-    ensures cause { EndCause (LineShows (IsTrue W.tells × IsTrue W.tells_output) store.now.tables Quit) result (W.world out.old) (W.world out.new) }
-    ensures moves { LineMoves (W.world out.old) (W.world out.new) }
+    ensures { AnswersLine (filter_kind F.spelling F.built_cutoff) W.tells W.tells_output Quit result store.now store.now (W.world out.old) (W.world out.new) }
 {
     store.whole_law();
     say_reply(out, buffer, &Reply::Bye, LineEnd::Quit)
@@ -226,16 +241,14 @@ fn answer_request<F: RangeFilter, W: Outside>(
     requires buffer { 0 < length buffer.old }
     requires running { store.old.stopped ≡ false }
     requires asked { IsAskedHere (asked request) }
-    ensures answered { (s : State) → IsTrue W.tells → IsTrue W.tells_output → Tied F.spelling (filter_bytes_of F.spelling F.built_cutoff) store.old s (W.world out.old)
-        → EndsLine (filter_kind F.spelling F.built_cutoff) result s (asked request.entry) store.new (W.world out.old) (W.world out.new) }
-    ensures running { RunsOn result store.new.stopped }
-    ensures cause { EndCause (LineShows (IsTrue W.tells × IsTrue W.tells_output) store.old.tables (asked request.entry)) result (W.world out.old) (W.world out.new) }
-    ensures moves { LineMoves (W.world out.old) (W.world out.new) }
+    ensures { AnswersLine (filter_kind F.spelling F.built_cutoff) W.tells W.tells_output (asked request.entry) result store.old store.new (W.world out.old) (W.world out.new) }
 {
     match request {
         Request::Put { key, value } => put_line(store, buffer, out, key, value),
         Request::Del { key } => del_line(store, buffer, out, key),
         Request::Get { key } => get_line(store, buffer, out, key),
+        Request::Estimate { lo, hi } => estimate_line(store, buffer, out, lo, hi),
+        Request::Explain { key } => explain_line(store, buffer, out, key),
         Request::Flush => flush_line(store, buffer, out),
         Request::Quit => quit_line(store, buffer, out),
         _ => unreachable!(),
@@ -252,11 +265,7 @@ pub(crate) fn answer<F: RangeFilter, W: Outside>(
 ) -> LineEnd
     requires buffer { 0 < length buffer.old }
     requires running { store.old.stopped ≡ false }
-    ensures answered { (s : State) → IsTrue W.tells → IsTrue W.tells_output → Tied F.spelling (filter_bytes_of F.spelling F.built_cutoff) store.old s (W.world out.old)
-        → EndsLine (filter_kind F.spelling F.built_cutoff) result s (asked_here line.now) store.new (W.world out.old) (W.world out.new) }
-    ensures running { RunsOn result store.new.stopped }
-    ensures cause { EndCause (LineShows (IsTrue W.tells × IsTrue W.tells_output) store.old.tables (asked_here line.now)) result (W.world out.old) (W.world out.new) }
-    ensures moves { LineMoves (W.world out.old) (W.world out.new) }
+    ensures { AnswersLine (filter_kind F.spelling F.built_cutoff) W.tells W.tells_output (asked_here line.now) result store.old store.new (W.world out.old) (W.world out.new) }
 {
     match parse_answered(line, scratch) {
         Ok(request) => answer_request(store, buffer, out, request),
@@ -276,11 +285,7 @@ pub fn serve_line<F: RangeFilter, W: Outside>(
     scratch: &mut Scratch,
 ) -> LineEnd
     requires running { store.old.stopped ≡ false }
-    ensures answered { (s : State) → IsTrue W.tells → IsTrue W.tells_output → Tied F.spelling (filter_bytes_of F.spelling F.built_cutoff) store.old s (W.world out.old)
-        → EndsLine (filter_kind F.spelling F.built_cutoff) result s (asked_here line.now) store.new (W.world out.old) (W.world out.new) }
-    ensures running { RunsOn result store.new.stopped }
-    ensures cause { EndCause (LineShows (IsTrue W.tells × IsTrue W.tells_output) store.old.tables (asked_here line.now)) result (W.world out.old) (W.world out.new) }
-    ensures moves { LineMoves (W.world out.old) (W.world out.new) }
+    ensures { AnswersLine (filter_kind F.spelling F.built_cutoff) W.tells W.tells_output (asked_here line.now) result store.old store.new (W.world out.old) (W.world out.new) }
 {
     answer(store, scratch, &mut [0; REPLY_BYTES], out, line)
 }

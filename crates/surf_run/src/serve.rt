@@ -3,11 +3,10 @@ ghost use Rattle.std.specs.Prelude.{◌≡◌, ◌⊎◌, ◌<◌, ◌≤◌, �
 ghost use Rattle.key_base.specs.Limits.{piece_bytes};
 ghost use Rattle.state_model.specs.State.{State};
 ghost use Rattle.store_commands.specs.Cutting.{NoNewline};
-ghost use Rattle.surf_run.specs.Answering.{RunsOn};
-ghost use Rattle.surf_run.specs.Causes.{EndCause, IsServing, LineMoves, NoFall, RunShows, SaysSomeDamage, StatusCause};
+ghost use Rattle.surf_run.specs.Causes.{IsServing, LineMoves, NoFall, SaysSomeDamage, StatusCause};
 ghost use Rattle.surf_run.specs.Kind.{filter_kind};
 ghost use Rattle.surf_run.specs.Outcome.{Outcome, Settled};
-ghost use Rattle.surf_run.specs.Serving.{After, Served};
+ghost use Rattle.surf_run.specs.Serving.{AnswersPart, Served};
 
 use crate::end::LineEnd;
 use crate::line::answer;
@@ -29,12 +28,8 @@ fn end_line<F: RangeFilter, W: Outside>(
 ) -> LineEnd
     requires buffer { 0 < length buffer.old }
     requires running { store.old.stopped ≡ false }
-    ensures after { (start : State) (base : ℕ) (first : _) (bytes : List ℕ) → IsTrue W.tells → IsTrue W.tells_output → NoNewline part.now
-        → Served (filter_kind F.spelling F.built_cutoff) start base bytes pending.old store.old (W.world first) (W.world out.old)
-        → After (filter_kind F.spelling F.built_cutoff) 1 result start base (bytes ++ part.now ++ 10 ∷ []) pending.new store.new (W.world first) (W.world out.new) }
-    ensures running { RunsOn result store.new.stopped }
-    ensures cause { EndCause (RunShows (IsTrue W.tells × IsTrue W.tells_output)) result (W.world out.old) (W.world out.new) }
-    ensures moves { LineMoves (W.world out.old) (W.world out.new) }
+    requires one_line { NoNewline part.now }
+    ensures { AnswersPart W.world (filter_kind F.spelling F.built_cutoff) W.tells W.tells_output 1 (part.now ++ 10 ∷ []) result pending.old pending.new store.old store.new out.old out.new }
 {
     if pending.is_empty() {
         return answer(store, scratch, buffer, out, part);
@@ -56,12 +51,7 @@ fn feed<F: RangeFilter, W: Outside>(
 ) -> LineEnd
     requires buffer { 0 < length buffer.old }
     requires running { store.old.stopped ≡ false }
-    ensures after { (start : State) (base : ℕ) (first : _) (bytes : List ℕ) → IsTrue W.tells → IsTrue W.tells_output
-        → Served (filter_kind F.spelling F.built_cutoff) start base bytes pending.old store.old (W.world first) (W.world out.old)
-        → After (filter_kind F.spelling F.built_cutoff) (length piece.now) result start base (bytes ++ piece.now) pending.new store.new (W.world first) (W.world out.new) }
-    ensures running { RunsOn result store.new.stopped }
-    ensures cause { EndCause (RunShows (IsTrue W.tells × IsTrue W.tells_output)) result (W.world out.old) (W.world out.new) }
-    ensures moves { LineMoves (W.world out.old) (W.world out.new) }
+    ensures { AnswersPart W.world (filter_kind F.spelling F.built_cutoff) W.tells W.tells_output (length piece.now) piece.now result pending.old pending.new store.old store.new out.old out.new }
 {
     let mut rest = piece;
     while let Some((line, more)) = next_line(rest) {

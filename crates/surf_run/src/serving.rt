@@ -14,14 +14,13 @@ ghost use Rattle.surf_run.specs.Kind.{filter_kind};
 ghost use Rattle.surf_run.specs.Open.{IsFreeText, IsOpening, IsOpeningText, opening_status, opening_text};
 ghost use Rattle.surf_run.specs.Outcome.{Outcome};
 ghost use Rattle.surf_run.specs.Serving.{Served};
-ghost use Rattle.format_command.specs.Ends.{Unserved};
+ghost use Rattle.surf_run.specs.Unserved.{Unserved};
 ghost use Rattle.table_file.specs.Faults.{filter_fault_of};
 
 use crate::pending::Pending;
-use crate::saying::last_line;
+use crate::saying::{last_line, say_last};
 use crate::serve::serve;
 use filter_api::RangeFilter;
-use format_command::say_last;
 use key_base::PIECE_BYTES;
 use outside::Outside;
 use std::alloc::{AllocError, Global};

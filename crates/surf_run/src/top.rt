@@ -2,27 +2,25 @@
 ghost use Rattle.std.specs.Prelude.{◌≡◌, ◌⊎◌, ◌++◌, map, string_bytes, IsTrue};
 ghost use Rattle.byte_fields.specs.declared.parts.Damage.{Damage};
 ghost use Rattle.disk_trait.specs.World.{Now};
-ghost use Rattle.format_command.specs.Ends.{Unserved};
 ghost use Rattle.image_model.specs.Opening.{FirstDamage};
 ghost use Rattle.image_model.specs.Stands.{IsStateOf};
 ghost use Rattle.manifest_model.specs.Slots.{IsNoStore};
 ghost use Rattle.outside.specs.Streams.{SayMoves};
-ghost use Rattle.plain_filter.specs.Spelling.{plain_spelling};
 ghost use Rattle.state_model.specs.State.{State};
 ghost use Rattle.surf_run.specs.Causes.{IsServing, NoFall, SayFailed, SaysSomeDamage, StatusCause};
 ghost use Rattle.surf_run.specs.Ends.{Completed, Ends, HasNoState, OpensNothing, Serves, SomeFailed, TellsDamage, Unanswered};
-ghost use Rattle.surf_run.specs.Kind.{filter_kind, plain_cutoff, plain_fault};
+ghost use Rattle.surf_run.specs.Kind.{filter_kind};
 ghost use Rattle.surf_run.specs.Open.{IsOpeningText};
 ghost use Rattle.surf_run.specs.Ran.{Ran};
 ghost use Rattle.surf_run.specs.Run.{FormatEnds, IfBadSettings, IfFormat, IfHelp, IfRefused, IfServe, IfUnserved, IsBadSettingsText, IsHelpText, IsMemoryText, IsRefusedAsk, IsUsageText};
+ghost use Rattle.surf_run.specs.Unserved.{Unserved};
 ghost use Rattle.table_file.specs.Faults.{filter_fault_of};
 
-use crate::saying::last_line;
+use crate::formatting::{run_format, say_bad_settings};
+use crate::saying::{last_line, say_last};
 use crate::serving::open_and_serve;
 use filter_api::RangeFilter;
-use format_command::{run_format, say_bad_settings, say_last};
 use outside::Outside;
-use plain_filter::PlainFilter;
 use program_words::{Asked, read_words};
 use std::alloc::Global;
 use store_commands::Reply;
@@ -78,16 +76,9 @@ fn run_asked<F: RangeFilter, W: Outside>(alloc: Global, asked: Asked, out: &mut 
 /// | 7 | want of memory before the first line |
 /// | 8 | not a store, already a store, a setting out of range |
 /// | 9 | 2^40 bytes were taken |
-pub fn run_with<F: RangeFilter, W: Outside>(alloc: Global, words: &[String], out: &mut W) -> u8
+pub fn run<F: RangeFilter, W: Outside>(alloc: Global, words: &[String], out: &mut W) -> u8
     ensures { Ran W.world W.tells W.tells_input W.tells_output (filter_kind F.spelling F.built_cutoff) F.first_fault (map string_bytes words.now) result out.old out.new }
 {
     let asked = read_words(alloc, words);
     run_asked::<F, W>(alloc, asked, out)
-}
-
-/// [`run_with`] with the plain filter.
-pub fn run<W: Outside>(alloc: Global, words: &[String], out: &mut W) -> u8
-    ensures { Ran W.world W.tells W.tells_input W.tells_output (filter_kind plain_spelling plain_cutoff) plain_fault (map string_bytes words.now) result out.old out.new }
-{
-    run_with::<PlainFilter, W>(alloc, words, out)
 }

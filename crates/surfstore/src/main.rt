@@ -3,9 +3,11 @@
 
 use outside::say_all;
 use real_outside::FileOutside;
+use std::alloc::Global;
 use std::env;
 use std::io::{self, ErrorKind};
 use std::process::ExitCode;
+use surf_filter::SurfFilter;
 use surf_run::run;
 
 const OUTPUT_FAILED: u8 = 6;
@@ -25,7 +27,7 @@ fn main(rt: HostRuntime) -> ExitCode {
         words.remove(0)
     };
     let mut out = FileOutside::at(rt, path);
-    ExitCode::from(run(alloc, words.as_slice(), &mut out))
+    ExitCode::from(run::<SurfFilter<Global>, _>(alloc, words.as_slice(), &mut out))
 }
 
 // Whether the first word asks for help or the version, and so names no device.

@@ -1,30 +1,16 @@
-use Rattle.std.proofs.Common.{◌*◌, refl, arith}
-use Rattle.block_model.specs.Pages.{page_bytes}
-use Rattle.disk_trait.proofs.Calls.{reads_none}
+use Rattle.std.proofs.Common.{refl, arith}
 use Rattle.line_model.specs.Replies.{BadLine}
 use Rattle.line_model.specs.Requests.{Bad}
 use Rattle.store_core.specs.Answers.{HasCause}
 use Rattle.surf_run.specs.Kind.{filter_kind}
-use Rattle.surf_run.specs.declared.end.LineEnd.TheVariants.{Next}
-use Rattle.surf_run.proofs.Calms.{bad_step, runs_any, said_cause, still_next}
-use Rattle.surf_run.proofs.EndCauses.{line_say, no_fall_none}
-use Rattle.surf_run.proofs.Footprint.{within_none}
-use Rattle.surf_run.proofs.Moments.{tied_stands}
+use Rattle.surf_run.proofs.Calms.{asks_answers, bad_step}
 use Rattle.surf_run.proofs.line.bad_line.Goals as goal
 
-pub returns-clause-answered : goal.returns-clause-answered
-returns-clause-answered g c s tells output tied =
-    let kind = (filter_kind g.F.RangeFilter.spelling g.F.RangeFilter.built_cutoff) in
+pub returns : goal.returns
+returns g c =
+    let kind = filter_kind g.F.RangeFilter.spelling g.F.RangeFilter.built_cutoff in
     let a = g.W.Disk.world c.args.out.now in
-    still_next kind s (Bad c.args.code) c.args.store.now a a (g.W.Disk.world c.say_reply.new.out) refl (reads_none 0 a).time tied (tied_stands kind c.args.store.now s a c.whole_law.ensures.slot tied) (omega arith)
-    (within_none (page_bytes * s.pages) a) (g.met.W.Outside.said_now c.args.out.now) (g.met.W.Outside.said_now c.args.out.now) c.say_reply.ensures.moves
-    (BadLine c.args.code) c.say_reply.result (bad_step (HasCause a a) kind.filter_bytes s c.args.code (BadLine c.args.code) refl) refl (c.say_reply.ensures.says output (omega arith))
-
-pub returns-clause-running : goal.returns-clause-running
-returns-clause-running g c = runs_any c.say_reply.result c.args.store.now.stopped c.requires.running
-
-pub returns-clause-cause : goal.returns-clause-cause
-returns-clause-cause g c = said_cause c.say_reply.result Next (g.W.Disk.world c.args.out.now) (g.W.Disk.world c.args.out.now) (g.W.Disk.world c.say_reply.new.out) c.say_reply.ensures.cause _ tt (no_fall_none (g.W.Disk.world c.args.out.now))
-
-pub returns-clause-moves : goal.returns-clause-moves
-returns-clause-moves g c = line_say (g.W.Disk.world c.args.out.now) (g.W.Disk.world c.say_reply.new.out) c.say_reply.ensures.moves
+    let b = g.W.Disk.world c.say_reply.new.out in
+    asks_answers kind g.W.Disk.tells g.W.Outside.tells_output (Bad c.args.code) c.args.store.now c.say_reply.result a b c.requires.running c.whole_law.ensures.slot (g.met.W.Outside.said_now c.args.out.now)
+    c.say_reply.ensures.moves c.say_reply.ensures.cause
+    (λ s tells output tied. (BadLine c.args.code, bad_step (HasCause a a) kind.filter_bytes s c.args.code (BadLine c.args.code) refl, refl, c.say_reply.ensures.says output (omega arith)))

@@ -1,11 +1,8 @@
-use Rattle.std.proofs.Common.{◌*◌}
-use Rattle.block_model.specs.Pages.{page_bytes}
 use Rattle.line_model.specs.Limits.{limit_of}
 use Rattle.line_model.specs.Requests.{Del}
 use Rattle.store_core.specs.Answers.{stopped_by}
 use Rattle.surf_run.specs.Kind.{filter_kind}
-use Rattle.surf_run.proofs.Changes.{change_cause, change_ends, change_runs, change_told, is_told, stopped_is}
-use Rattle.surf_run.proofs.EndCauses.{line_say, line_write, lines_on, no_fall_say}
+use Rattle.surf_run.proofs.Changes.{change_answers, change_told, is_told, stopped_is}
 use Rattle.surf_run.proofs.line.del_line.Goals as goal
 
 pub say_change-requires-clause-told : goal.say_change-requires-clause-told
@@ -14,36 +11,13 @@ say_change-requires-clause-told g c =
     let mid = g.W.Disk.world c.delete-changed.new.disk in
     is_told c.delete-changed.result a mid (change_told c.delete-changed.result c.args.store.now.stopped (limit_of (Del c.args.key.now)) a mid c.requires.running c.delete-changed.ensures.refused)
 
-pub returns-clause-answered : goal.returns-clause-answered
-returns-clause-answered g c s tells output tied =
+pub returns : goal.returns
+returns g c =
     let a = g.W.Disk.world c.args.out.now in
     let mid = g.W.Disk.world c.delete-changed.new.disk in
     let b = g.W.Disk.world c.say_change.new.out in
-    let told = change_told c.delete-changed.result c.args.store.now.stopped (limit_of (Del c.args.key.now)) a mid c.requires.running c.delete-changed.ensures.refused in
-    change_ends (filter_kind g.F.RangeFilter.spelling g.F.RangeFilter.built_cutoff) s (Del c.args.key.now) c.delete-changed.result c.args.store.now c.delete-changed.new.self c.say_change.result a mid b tied (c.delete-changed.ensures.answered s tells c.requires.running tied) told
+    change_answers (filter_kind g.F.RangeFilter.spelling g.F.RangeFilter.built_cutoff) g.W.Disk.tells g.W.Outside.tells_output (Del c.args.key.now) c.delete-changed.result c.args.store.now c.delete-changed.new.self c.say_change.result a mid b
+    (change_told c.delete-changed.result c.args.store.now.stopped (limit_of (Del c.args.key.now)) a mid c.requires.running c.delete-changed.ensures.refused)
     (stopped_is c.args.store.now.stopped c.delete-changed.new.self.stopped (stopped_by c.delete-changed.result) c.requires.running c.delete-changed.ensures.stopped) c.whole_law.ensures.slot c.delete-changed.ensures.moves
-    (g.met.W.Outside.said_now c.args.out.now) (g.met.W.Outside.said_now c.delete-changed.new.disk) c.say_change.ensures.moves (λ reply is. c.say_change.ensures.says reply output is)
-    a.seen.held (g.met.W.Disk.current c.args.out.now tells)
-
-pub returns-clause-running : goal.returns-clause-running
-returns-clause-running g c =
-    let a = g.W.Disk.world c.args.out.now in
-    let mid = g.W.Disk.world c.delete-changed.new.disk in
-    let b = g.W.Disk.world c.say_change.new.out in
-    let told = change_told c.delete-changed.result c.args.store.now.stopped (limit_of (Del c.args.key.now)) a mid c.requires.running c.delete-changed.ensures.refused in
-    change_runs c.delete-changed.result c.say_change.result a mid b told c.say_change.ensures.ends c.delete-changed.new.self.stopped (stopped_is c.args.store.now.stopped c.delete-changed.new.self.stopped (stopped_by c.delete-changed.result) c.requires.running c.delete-changed.ensures.stopped)
-
-pub returns-clause-cause : goal.returns-clause-cause
-returns-clause-cause g c =
-    let a = g.W.Disk.world c.args.out.now in
-    let mid = g.W.Disk.world c.delete-changed.new.disk in
-    let b = g.W.Disk.world c.say_change.new.out in
-    let told = change_told c.delete-changed.result c.args.store.now.stopped (limit_of (Del c.args.key.now)) a mid c.requires.running c.delete-changed.ensures.refused in
-    change_cause c.delete-changed.result c.say_change.result a mid b told c.say_change.ensures.ends _ (line_write 0 (page_bytes * c.args.store.now.manifest.version.pages) a mid c.delete-changed.ensures.moves).counts (no_fall_say mid b c.say_change.ensures.moves)
-
-pub returns-clause-moves : goal.returns-clause-moves
-returns-clause-moves g c =
-    let a = g.W.Disk.world c.args.out.now in
-    let mid = g.W.Disk.world c.delete-changed.new.disk in
-    let b = g.W.Disk.world c.say_change.new.out in
-    lines_on a mid b (line_write 0 (page_bytes * c.args.store.now.manifest.version.pages) a mid c.delete-changed.ensures.moves) (line_say mid b c.say_change.ensures.moves)
+    (g.met.W.Outside.said_now c.args.out.now) (g.met.W.Outside.said_now c.delete-changed.new.disk) c.say_change.ensures.moves c.say_change.ensures.ends
+    (λ s tells tied. c.delete-changed.ensures.answered s tells c.requires.running tied) (λ reply output is. c.say_change.ensures.says reply output is) (λ tells. g.met.W.Disk.current c.args.out.now tells)

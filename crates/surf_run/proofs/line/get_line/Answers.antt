@@ -8,20 +8,23 @@ use Rattle.map_model.specs.SortedMap.{get}
 use Rattle.state_model.specs.View.{state_map}
 use Rattle.store_core.specs.Answers.{HasCause}
 use Rattle.surf_run.specs.Kind.{filter_kind}
-use Rattle.surf_run.proofs.Calms.{get_cause, get_told, got_step, refused_ends, says_damage, still_next, tied_buffer}
+use Rattle.surf_run.specs.declared.end.LineEnd.TheVariants.{Next}
+use Rattle.surf_run.proofs.Calms.{get_cause, get_told, got_step, read_answers, refused_ends, said_cause, says_damage, still_next, tied_buffer}
 use Rattle.surf_run.proofs.EndCauses.{line_read, no_fall_say}
 use Rattle.surf_run.proofs.Footprint.{within_still}
 use Rattle.surf_run.proofs.Moments.{tied_stands}
 use Rattle.surf_run.proofs.Values.{value_short}
 use Rattle.surf_run.proofs.line.get_line.Goals as goal
 
-pub returns-in-Ok-Some-clause-answered : goal.returns-in-Ok-Some-clause-answered
-returns-in-Ok-Some-clause-answered g c s tells output tied =
+pub returns-in-Ok-Some : goal.returns-in-Ok-Some
+returns-in-Ok-Some g c =
     let kind = (filter_kind g.F.RangeFilter.spelling g.F.RangeFilter.built_cutoff) in
     let a = g.W.Disk.world c.args.out.now in
     let mid = g.W.Disk.world c.get.new.disk in
     let b = g.W.Disk.world c.say_reply.new.out in
     let after = c.get.follows.lender-at-none in
+    read_answers kind g.W.Disk.tells g.W.Outside.tells_output (Get c.args.key.now) c.args.store.now after after.buffer c.get.follows.holds-at-none c.requires.running c.say_reply.result a mid b c.get.ensures.moves c.say_reply.ensures.moves
+    (λ s tells output tied.
     let moves = c.get.ensures.moves in
     let held = tied_buffer kind c.args.store.now after after.buffer s mid c.get.follows.holds-at-none (c.get.ensures.tied s tied) in
     let stand = tied_stands kind c.args.store.now s a c.whole_law.ensures.slot tied in
@@ -30,43 +33,43 @@ returns-in-Ok-Some-clause-answered g c s tells output tied =
     let found = subst (λ (o : Option (Bor (List ℕ))). option_map (λ v. v.now) o ≡ get (state_map s) c.args.key.now) c.in-Ok-Some.field-0-is (c.in-Ok-Some.ensures.answer s tells tied) in
     still_next kind s (Get c.args.key.now) after a mid b moves.beside moves.time held stand (c.get.ensures.bounded s tells tied) writes (g.met.W.Outside.said_now c.args.out.now) (g.met.W.Outside.said_now c.get.new.disk) c.say_reply.ensures.moves
     (Value value) c.say_reply.result (got_step (HasCause a mid) kind.filter_bytes s c.args.key.now (Some value) c.in-Ok-Some.ensures.refused.1 found) refl
-    (c.say_reply.ensures.says output (value_short kind.filter_bytes s c.args.key.now value tied.sound found))
+    (c.say_reply.ensures.says output (value_short kind.filter_bytes s c.args.key.now value tied.sound found)))
+    (said_cause c.say_reply.result Next a mid b c.say_reply.ensures.cause _ tt (line_read (length c.args.store.now.tables) a mid c.get.ensures.moves).counts)
 
-pub returns-in-Ok-None-clause-answered : goal.returns-in-Ok-None-clause-answered
-returns-in-Ok-None-clause-answered g c s tells output tied =
+pub returns-in-Ok-None : goal.returns-in-Ok-None
+returns-in-Ok-None g c =
     let kind = (filter_kind g.F.RangeFilter.spelling g.F.RangeFilter.built_cutoff) in
     let a = g.W.Disk.world c.args.out.now in
     let mid = g.W.Disk.world c.get.new.disk in
     let b = g.W.Disk.world c.say_reply-in-Ok-None.new.out in
     let after = c.get.follows.lender-at-none in
+    read_answers kind g.W.Disk.tells g.W.Outside.tells_output (Get c.args.key.now) c.args.store.now after after.buffer c.get.follows.holds-at-none c.requires.running c.say_reply-in-Ok-None.result a mid b c.get.ensures.moves c.say_reply-in-Ok-None.ensures.moves
+    (λ s tells output tied.
     let moves = c.get.ensures.moves in
     let held = tied_buffer kind c.args.store.now after after.buffer s mid c.get.follows.holds-at-none (c.get.ensures.tied s tied) in
     let stand = tied_stands kind c.args.store.now s a c.whole_law.ensures.slot tied in
     let writes = within_still (page_bytes * s.pages) a mid moves.held moves.time in
     let found = subst (λ (o : Option (Bor (List ℕ))). option_map (λ v. v.now) o ≡ get (state_map s) c.args.key.now) c.in-Ok-None.field-0-is (c.in-Ok-None.ensures.answer s tells tied) in
     still_next kind s (Get c.args.key.now) after a mid b moves.beside moves.time held stand (c.get.ensures.bounded s tells tied) writes (g.met.W.Outside.said_now c.args.out.now) (g.met.W.Outside.said_now c.get.new.disk) c.say_reply-in-Ok-None.ensures.moves
-    Missing c.say_reply-in-Ok-None.result (got_step (HasCause a mid) kind.filter_bytes s c.args.key.now None c.in-Ok-None.ensures.refused.1 found) refl (c.say_reply-in-Ok-None.ensures.says output tt)
+    Missing c.say_reply-in-Ok-None.result (got_step (HasCause a mid) kind.filter_bytes s c.args.key.now None c.in-Ok-None.ensures.refused.1 found) refl (c.say_reply-in-Ok-None.ensures.says output tt))
+    (said_cause c.say_reply-in-Ok-None.result Next a mid b c.say_reply-in-Ok-None.ensures.cause _ tt (line_read (length c.args.store.now.tables) a mid c.get.ensures.moves).counts)
 
-pub returns-in-Err-clause-answered : goal.returns-in-Err-clause-answered
-returns-in-Err-clause-answered g c s tells output tied =
+pub returns-in-Err : goal.returns-in-Err
+returns-in-Err g c =
     let kind = (filter_kind g.F.RangeFilter.spelling g.F.RangeFilter.built_cutoff) in
     let a = g.W.Disk.world c.args.out.now in
     let mid = g.W.Disk.world c.get.new.disk in
     let b = g.W.Disk.world c.say_refusal.new.out in
     let after = c.get.follows.lender-at-none in
+    read_answers kind g.W.Disk.tells g.W.Outside.tells_output (Get c.args.key.now) c.args.store.now after after.buffer c.get.follows.holds-at-none c.requires.running c.say_refusal.result a mid b c.get.ensures.moves c.say_refusal.ensures.moves
+    (λ s tells output tied.
     let moves = c.get.ensures.moves in
     let held = tied_buffer kind c.args.store.now after after.buffer s mid c.get.follows.holds-at-none (c.get.ensures.tied s tied) in
     let stand = tied_stands kind c.args.store.now s a c.whole_law.ensures.slot tied in
     let writes = within_still (page_bytes * s.pages) a mid moves.held moves.time in
     refused_ends kind s c.args.key.now c.in-Err.why after c.say_refusal.result a mid b (get_told c.in-Err.why c.args.store.now.stopped c.args.key.now a mid c.requires.running c.in-Err.ensures.refused)
     (c.in-Err.ensures.met s tells tied) (c.in-Err.ensures.undamaged s tells tied) moves.beside moves.time held stand (c.get.ensures.bounded s tells tied) writes (g.met.W.Outside.said_now c.args.out.now) (g.met.W.Outside.said_now c.get.new.disk) c.say_refusal.ensures.moves
-    (λ reply is. c.say_refusal.ensures.says reply output is)
-
-pub returns-in-Err-clause-cause : goal.returns-in-Err-clause-cause
-returns-in-Err-clause-cause g c =
-    let a = g.W.Disk.world c.args.out.now in
-    let mid = g.W.Disk.world c.get.new.disk in
-    let b = g.W.Disk.world c.say_refusal.new.out in
-    get_cause _ c.args.key.now c.in-Err.why c.say_refusal.result a mid b (get_told c.in-Err.why c.args.store.now.stopped c.args.key.now a mid c.requires.running c.in-Err.ensures.refused) c.say_refusal.ensures.ends
+    (λ reply is. c.say_refusal.ensures.says reply output is))
+    (get_cause _ c.args.key.now c.in-Err.why c.say_refusal.result a mid b (get_told c.in-Err.why c.args.store.now.stopped c.args.key.now a mid c.requires.running c.in-Err.ensures.refused) c.say_refusal.ensures.ends
     (line_read (length c.args.store.now.tables) a mid c.get.ensures.moves).counts (no_fall_say mid b c.say_refusal.ensures.moves)
-    (λ ends five told. says_damage c.args.store.now.tables c.args.key.now c.in-Err.why c.say_refusal.result a.seen.held mid b (c.in-Err.ensures.shown told.0) c.get.ensures.moves.held c.say_refusal.ensures.moves.seen (λ reply is. c.say_refusal.ensures.says reply told.1 is) ends five)
+    (λ ends five told. says_damage c.args.store.now.tables c.args.key.now c.in-Err.why c.say_refusal.result a.seen.held mid b (c.in-Err.ensures.shown told.0) c.get.ensures.moves.held c.say_refusal.ensures.moves.seen (λ reply is. c.say_refusal.ensures.says reply told.1 is) ends five))

@@ -11,19 +11,18 @@ use Rattle.surf_run.proofs.Footprint.{within_none}
 use Rattle.surf_run.proofs.Moments.{tied_stands}
 use Rattle.surf_run.proofs.line.quit_line.Goals as goal
 
-pub returns-clause-answered : goal.returns-clause-answered
-returns-clause-answered g c s tells output tied =
-    let kind = (filter_kind g.F.RangeFilter.spelling g.F.RangeFilter.built_cutoff) in
-    let a = g.W.Disk.world c.args.out.now in
-    still_quit kind s Quit c.args.store.now a a (g.W.Disk.world c.say_reply.new.out) refl (reads_none 0 a).time tied (tied_stands kind c.args.store.now s a c.whole_law.ensures.slot tied) (omega arith)
-    (within_none (page_bytes * s.pages) a) (g.met.W.Outside.said_now c.args.out.now) (g.met.W.Outside.said_now c.args.out.now) c.say_reply.ensures.moves
-    c.say_reply.result (quit_step (HasCause a a) kind.filter_bytes s) (c.say_reply.ensures.says output tt)
-
-pub returns-clause-running : goal.returns-clause-running
-returns-clause-running g c = runs_any c.say_reply.result c.args.store.now.stopped c.requires.running
-
-pub returns-clause-cause : goal.returns-clause-cause
-returns-clause-cause g c = said_cause c.say_reply.result EndQuit (g.W.Disk.world c.args.out.now) (g.W.Disk.world c.args.out.now) (g.W.Disk.world c.say_reply.new.out) c.say_reply.ensures.cause _ tt (no_fall_none (g.W.Disk.world c.args.out.now))
-
-pub returns-clause-moves : goal.returns-clause-moves
-returns-clause-moves g c = line_say (g.W.Disk.world c.args.out.now) (g.W.Disk.world c.say_reply.new.out) c.say_reply.ensures.moves
+pub returns : goal.returns
+returns g c = record {
+  answered = λ s tells output tied.
+      let kind = (filter_kind g.F.RangeFilter.spelling g.F.RangeFilter.built_cutoff) in
+      let a = g.W.Disk.world c.args.out.now in
+      still_quit kind s Quit c.args.store.now a a (g.W.Disk.world c.say_reply.new.out) refl (reads_none 0 a).time tied (tied_stands kind c.args.store.now s a c.whole_law.ensures.slot tied) (omega arith)
+      (within_none (page_bytes * s.pages) a) (g.met.W.Outside.said_now c.args.out.now) (g.met.W.Outside.said_now c.args.out.now) c.say_reply.ensures.moves
+      c.say_reply.result (quit_step (HasCause a a) kind.filter_bytes s) (c.say_reply.ensures.says output tt);
+  running =
+      runs_any c.say_reply.result c.args.store.now.stopped c.requires.running;
+  cause =
+      said_cause c.say_reply.result EndQuit (g.W.Disk.world c.args.out.now) (g.W.Disk.world c.args.out.now) (g.W.Disk.world c.say_reply.new.out) c.say_reply.ensures.cause _ tt (no_fall_none (g.W.Disk.world c.args.out.now));
+  moves =
+      line_say (g.W.Disk.world c.args.out.now) (g.W.Disk.world c.say_reply.new.out) c.say_reply.ensures.moves;
+}

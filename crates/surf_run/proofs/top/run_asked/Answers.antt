@@ -1,12 +1,12 @@
 use Rattle.std.proofs.Common.{◌+◌, inl, inr, refl, arith}
 use Rattle.filter_api.specs.declared.settings.Field.{Field}
-use Rattle.format_command.specs.Ends.{Unserved}
-use Rattle.format_command.specs.Formats.{bad_settings_text}
 use Rattle.line_model.specs.Replies.{Memory, text_of}
 use Rattle.program_words.specs.declared.new_store.NewStore.{NewStore}
 use Rattle.surf_run.specs.Ends.{opening_bound}
+use Rattle.surf_run.specs.Formats.{bad_settings_text}
 use Rattle.surf_run.specs.Open.{IsFreeText, IsOpeningText}
 use Rattle.surf_run.specs.Run.{FormatEnds, IsBadSettingsText, IsHelpText, IsUsageText, usage_text}
+use Rattle.surf_run.specs.Unserved.{Unserved}
 use Rattle.surf_run.proofs.Asking.{at_bad, at_format, at_help, at_refused, at_serve, memory_help, memory_refused, memory_serve}
 use Rattle.surf_run.proofs.LastLines.{read_since, said_reads, unserved}
 use Rattle.surf_run.proofs.top.run_asked.Goals as goal

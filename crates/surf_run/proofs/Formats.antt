@@ -1,36 +1,33 @@
 -- A format, and then its last line.
 use Rattle.std.proofs.Common.{◌≡◌, ◌≢◌, ◌⊎◌, ◌++◌, ◌∙◌, inl, inr, refl, sym, ap, subst, arith, ℕ, Bool, true, false, Option, Some, None}
 use Rattle.std.specs.Prelude.{Ok, Err}
-use Rattle.disk_trait.proofs.Images.{torn_same, torn_twice}
-use Rattle.disk_trait.proofs.Moments.{passes_then, same_is_torn}
-use Rattle.disk_trait.specs.World.{Image, Leads, Moves, Now, ReadMoves, Seen, Torn, World}
-use Rattle.disk_trait.specs.declared.fault.DiskFault.{DiskFault}
+use Rattle.disk_trait.proofs.Moments.{goes_on, now_at, passes_other}
+use Rattle.disk_trait.specs.World.{Image, Leads, Meanwhile, Moves, ReadMoves, Same, Torn, World}
 use Rattle.filter_api.specs.Spellings.{Spelling}
 use Rattle.filter_api.specs.declared.settings.Field.{Field}
 use Rattle.filter_api.specs.declared.settings.Settings.{Settings}
-use Rattle.format_command.proofs.Runs.{last_line, meanwhile_said, now_said, untouched}
-use Rattle.format_command.specs.Ends.{DiskFailed, SayFailed, Untouched}
-use Rattle.format_command.specs.Formats.{Formatted, IsFormatText, WritesInFront, formatted_text}
-use Rattle.format_command.specs.Refusals.{IsOfFormat, refused_status, refused_text}
 use Rattle.image_model.specs.Stands.{IsStateOf}
 use Rattle.manifest.specs.NewManifest.{has_open}
 use Rattle.manifest_model.specs.Slots.{IsNoStore}
 use Rattle.outside.specs.Streams.{SaidByNow, SayMoves, SaysPrefix}
 use Rattle.state_model.specs.State.{new_state}
 use Rattle.store_core.specs.Formatting.{IsFormatRefusal, IsNoneOrNew, IsThereAnswer, first_bad}
-use Rattle.store_core.specs.Opening.{FaultRose}
 use Rattle.store_core.specs.declared.error.StoreError.{StoreError}
 use Rattle.store_core.specs.declared.error.StoreError.TheVariants as error
+use Rattle.surf_run.specs.Causes.{SayFailed}
+use Rattle.surf_run.specs.FormatRefusals.{IsOfFormat, refused_status, refused_text}
+use Rattle.surf_run.specs.Formats.{Formatted, IsFormatText, formatted_text}
+use Rattle.surf_run.specs.Unserved.{Untouched}
+use Rattle.surf_run.proofs.LastLines.{last_line, untouched}
+use Rattle.surf_run.proofs.Moments.{now_still, torn_none}
 
-pub in_front : (a m b : World) → Moves 0 262145 4 a m → SayMoves m b → WritesInFront a b
-in_front a m b moves says = record {
-  held = subst (λ (i : Image). Torn 0 262145 a.seen.held i) (sym (ap (λ (s : Seen). s.held) says.seen)) moves.torn;
-  time = passes_then 0 262145 a m b moves.time (same_is_torn 0 262145 m b says.time);
-}
+-- what is so meanwhile of a call is so behind its last line too
+meanwhile_said : (P : Image → Type 0) (a m b : World) → SayMoves m b → Meanwhile P a m → Meanwhile P a b
+meanwhile_said P a m b says meanwhile = goes_on P Same a m b meanwhile says.time (λ was image left same. subst P (sym same) (now_at P a m meanwhile was left))
 
 -- ---- refusals
 
-pub of_format : (bad : Option Field) (a m : World) (e : StoreError) → IsFormatRefusal bad a m e → IsOfFormat e
+of_format : (bad : Option Field) (a m : World) (e : StoreError) → IsFormatRefusal bad a m e → IsOfFormat e
 of_format bad a m error.Memory refused = tt
 of_format bad a m (error.Device cause) refused = tt
 of_format bad a m error.Stopped refused = refused
@@ -41,22 +38,8 @@ of_format bad a m error.NotAStore refused = refused
 of_format bad a m error.AlreadyAStore refused = tt
 of_format bad a m (error.BadSettings field) refused = tt
 
-fault_failed : (a m : World) (cause : DiskFault) → FaultRose a m cause → DiskFailed a m
-fault_failed a m cause rose = elim rose [ inl read ↦ inl read.1 | inr write ↦ inr write.1 ]
-
-pub device_failed : (bad : Option Field) (a m : World) (e : StoreError) → IsFormatRefusal bad a m e → refused_status e ≡ 4 → DiskFailed a m
-device_failed bad a m error.Memory refused four = absurd cc
-device_failed bad a m (error.Device cause) refused four = fault_failed a m cause refused.1
-device_failed bad a m error.Stopped refused four = absurd refused
-device_failed bad a m (error.Limit limit) refused four = absurd refused
-device_failed bad a m (error.Full need gap) refused four = absurd refused
-device_failed bad a m (error.Damaged damage) refused four = absurd refused
-device_failed bad a m error.NotAStore refused four = absurd refused
-device_failed bad a m error.AlreadyAStore refused four = absurd cc
-device_failed bad a m (error.BadSettings field) refused four = absurd cc
-
 -- the status of a refusal is 4, 7 or 8
-pub refused_by : (e : StoreError) → IsOfFormat e → (refused_status e ≡ 4) ⊎ (refused_status e ≡ 7) ⊎ (refused_status e ≡ 8)
+refused_by : (e : StoreError) → IsOfFormat e → (refused_status e ≡ 4) ⊎ (refused_status e ≡ 7) ⊎ (refused_status e ≡ 8)
 refused_by error.Memory is = inr (inl refl)
 refused_by (error.Device cause) is = inl refl
 refused_by error.Stopped is = absurd is
@@ -67,7 +50,7 @@ refused_by error.NotAStore is = absurd is
 refused_by error.AlreadyAStore is = inr (inr refl)
 refused_by (error.BadSettings field) is = inr (inr refl)
 
-pub refused_line : (bad : Option Field) (there : Bool) (pages : ℕ) (a m : World) (e : StoreError) → IsFormatRefusal bad a m e → IsThereAnswer there e
+refused_line : (bad : Option Field) (there : Bool) (pages : ℕ) (a m : World) (e : StoreError) → IsFormatRefusal bad a m e → IsThereAnswer there e
     → IsFormatText bad there pages (refused_status e) (refused_text e)
 refused_line bad there pages a m error.Memory refused answer = inr (inr (inl (refused, answer, refl, refl)))
 refused_line bad there pages a m (error.Device cause) refused answer = inr (inr (inr (inl (refused.0, refl, refl))))
@@ -96,7 +79,7 @@ none_read field a m (error.BadSettings other) refused = refused.1
 module _ (spelling : Spelling) (settings : Settings) (pages : ℕ) (a m b : World) (same : m.beside ≡ a.beside) (now_a : SaidByNow a) (now_m : SaidByNow m) (says : SayMoves m b)
     (stays : has_open a.seen.held ≡ true → Moves 0 0 2 a m) where
   stay : has_open a.seen.held ≡ true → Untouched a b
-  stay there = untouched a m b same now_a now_m (stays there).time says
+  stay there = untouched a m b same now_a now_m (passes_other (Torn 0 0) Same a m torn_none (stays there).time) says
 
   module _ (status : ℕ) where
     pub done : {T : Type 0} (x : T) → Leads {E = StoreError} IsNoStore (IsNoneOrNew spelling settings pages) (IsStateOf spelling (new_state settings pages)) (Ok x) a m
@@ -105,7 +88,7 @@ module _ (spelling : Spelling) (settings : Settings) (pages : ℕ) (a m b : Worl
     done x leads good none whole prefix ends = record {
       line = last_line (IsFormatText (first_bad settings pages) (has_open a.seen.held) pages) a m b same status 0 (formatted_text pages) (inl (good, none, refl, refl)) whole prefix ends;
       meanwhile = λ here. meanwhile_said (IsNoneOrNew spelling settings pages) a m b says (leads.meanwhile here);
-      made = λ here zero. now_said (IsStateOf spelling (new_state settings pages)) m b says (leads.after here);
+      made = λ here zero. now_still (IsStateOf spelling (new_state settings pages)) m b says.time (leads.after here);
       stays = stay;
       refused = λ field bad. absurd (let e : Some field ≡ None = sym bad ∙ good in cc);
     }
@@ -123,7 +106,7 @@ module _ (spelling : Spelling) (settings : Settings) (pages : ℕ) (a m b : Worl
           made = λ here zero. absurd (elim ends [ inl is ↦ not_zero by (sym is ∙ zero) | inr six ↦ let e : 6 ≡ 0 = sym six.0 ∙ zero in cc ]);
           stays = stay;
           refused = λ field bad. let none = none_read field a m e (subst (λ (o : Option Field). IsFormatRefusal o a m e) bad cause) in
-              untouched a m b same now_a now_m (same_is_torn 0 0 a m none.time) says;
+              untouched a m b same now_a now_m none.time says;
         }
       where
         not_six : (refused_status e ≡ 4) ⊎ (refused_status e ≡ 7) ⊎ (refused_status e ≡ 8) → refused_status e ≡ 6 → ⊥

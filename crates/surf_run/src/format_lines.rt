@@ -1,19 +1,13 @@
 //! The lines that tell how a format ended.
 ghost use Rattle.std.specs.Prelude.{◌≡◌, ◌≤◌, ◌+◌, ◌++◌, length};
 ghost use Rattle.arrayvec.specs.ArrayVec.{array_vec_len};
-ghost use Rattle.format_command.specs.Formats.{bad_settings_text, formatted_text};
+ghost use Rattle.surf_run.specs.Formats.{bad_settings_text, formatted_text};
 
 use arrayvec::ArrayVec;
 use filter_api::Field;
 
 /// That a store stands there.
-pub const ALREADY_A_STORE: &[u8] = b"already a store\n";
-
-/// That the device failed.
-pub const DEVICE: &[u8] = b"device\n";
-
-/// That there was no memory.
-pub const MEMORY: &[u8] = b"memory\n";
+pub(crate) const ALREADY_A_STORE: &[u8] = b"already a store\n";
 
 // `formatted `, the digits of a number and a newline.
 const FORMATTED_BYTES: usize = 64;
@@ -30,7 +24,7 @@ fn add(line: &mut ArrayVec<u8, FORMATTED_BYTES>, bytes: &[u8])
 }
 
 /// That a store of so many pages was made.
-pub fn formatted_line(pages: u64) -> ArrayVec<u8, FORMATTED_BYTES>
+pub(crate) fn formatted_line(pages: u64) -> ArrayVec<u8, FORMATTED_BYTES>
     ensures { result.items ≡ formatted_text pages }
 {
     let mut digits = itoa::Buffer::new();
@@ -42,7 +36,7 @@ pub fn formatted_line(pages: u64) -> ArrayVec<u8, FORMATTED_BYTES>
 }
 
 /// That this field is out of range.
-pub fn bad_settings_line(field: Field) -> &'static [u8]
+pub(crate) fn bad_settings_line(field: Field) -> &'static [u8]
     ensures { result.now ≡ bad_settings_text field }
 {
     match field {

@@ -5,7 +5,6 @@ use Rattle.filter_api.specs.Spellings.{Spelling}
 use Rattle.filter_api.specs.declared.settings.Field.{Field}
 use Rattle.filter_api.specs.declared.settings.Field.TheVariants as field
 use Rattle.filter_api.specs.declared.settings.Settings.{Settings}
-use Rattle.format_command.specs.Ends.{LastLine, Untouched}
 use Rattle.image_model.specs.Stands.{IsStateOf}
 use Rattle.line_model.specs.Replies.{Device, Memory, text_of}
 use Rattle.log_model.specs.Area.{start_of}
@@ -14,6 +13,7 @@ use Rattle.manifest_model.specs.Slots.{IsNoStore}
 use Rattle.map_model.specs.SortedMap.{Bytes}
 use Rattle.state_model.specs.State.{new_state}
 use Rattle.store_core.specs.Formatting.{IsNoneOrNew, first_bad}
+use Rattle.surf_run.specs.Unserved.{LastLine, Untouched}
 
 -- ---- the lines
 

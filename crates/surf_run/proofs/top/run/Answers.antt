@@ -3,7 +3,7 @@ use Rattle.std.specs.Prelude.{string_bytes}
 use Rattle.surf_run.specs.Run.{IsBadSettingsText, IsMemoryText}
 use Rattle.surf_run.proofs.Asking.{if_bad, if_format, if_help, if_nothing, if_refused, if_serve, is_refused}
 use Rattle.surf_run.proofs.LastLines.{unserved_wider}
-use Rattle.surf_run.proofs.top.run_with.Goals as goal
+use Rattle.surf_run.proofs.top.run.Goals as goal
 
 pub returns : goal.returns
 returns g c =

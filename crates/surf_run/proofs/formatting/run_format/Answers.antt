@@ -1,5 +1,5 @@
-use Rattle.format_command.proofs.Formats.{done, refused}
-use Rattle.format_command.proofs.formatting.run_format.Goals as goal
+use Rattle.surf_run.proofs.Formats.{done, refused}
+use Rattle.surf_run.proofs.formatting.run_format.Goals as goal
 
 pub returns-in-Ok-clause-formatted : goal.returns-in-Ok-clause-formatted
 returns-in-Ok-clause-formatted g c tells output =
@@ -9,6 +9,6 @@ returns-in-Ok-clause-formatted g c tells output =
 
 pub returns-in-Err-clause-formatted : goal.returns-in-Err-clause-formatted
 returns-in-Err-clause-formatted g c tells output =
-    refused g.F.RangeFilter.spelling c.args.settings c.args.pages _ _ _ c.format.ensures.moves.beside (g.met.W.Outside.said_now _) (g.met.W.Outside.said_now _) c.say_refusal.ensures.moves
-    (c.format.ensures.stays tells) c.say_refusal.result c.in-Err.error (c.in-Err.ensures.crash tells) c.in-Err.ensures.refused (c.in-Err.ensures.there tells)
-    (c.say_refusal.ensures.said output) (c.say_refusal.ensures.prefix output) c.say_refusal.ensures.ends
+    refused g.F.RangeFilter.spelling c.args.settings c.args.pages _ _ _ c.format.ensures.moves.beside (g.met.W.Outside.said_now _) (g.met.W.Outside.said_now _) c.say_no_format.ensures.moves
+    (c.format.ensures.stays tells) c.say_no_format.result c.in-Err.error (c.in-Err.ensures.crash tells) c.in-Err.ensures.refused (c.in-Err.ensures.there tells)
+    (c.say_no_format.ensures.said output) (c.say_no_format.ensures.prefix output) c.say_no_format.ensures.ends
