@@ -15,7 +15,6 @@
 #![tactic(auto)]
 
 mod byte;
-mod search;
 mod selected;
 mod word;
 

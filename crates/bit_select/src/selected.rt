@@ -2,10 +2,9 @@
 ghost use Rattle.std.specs.Prelude.{◌≡◌, ◌≤◌, ◌<◌, ◌*◌, length, count_by, IfOk, MatchOption};
 ghost use Rattle.bit_model.specs.Packed.{packed};
 
-use super::search::word_of_one;
 use super::word::nth_one_in;
 use bit_words::Bits;
-use lane_scan::{ones, ones_below};
+use lane_scan::{ones, ones_below, word_with_nth_one};
 use std::alloc::{AllocError, Allocator};
 use std::marker::Model;
 
@@ -72,7 +71,7 @@ impl<A: Allocator> Selected<A> {
         let first = sample / 64;
         let words = &self.bits.words()[first..];
         let number = (n % 64) as u64 + ones_below(words[0], sample % 64);
-        let (word, left) = word_of_one(words, number)?;
+        let (word, left) = word_with_nth_one(words, number)?;
         Some(64 * (first + word) + nth_one_in(words[word], left))
     }
 
@@ -88,45 +87,5 @@ impl<A: Allocator> Selected<A> {
         ensures { result.now ≡ packed 64 self.now }
     {
         self.bits.words()
-    }
-}
-
-#[cfg(test)]
-mod tests {
-    use super::*;
-    use std::test::Fail;
-
-    #[test]
-    fn the_fifth_and_last_of_nine_bits_is_at_seven(rt: HostRuntime) -> Result<(), Fail> {
-        let bits = Bits::from_bytes(rt.alloc(), &[0xB9, 0x00], 9)?;
-        let selected = Selected::new(rt.alloc(), bits)?;
-        for (n, want) in [
-            (0, Some(0)),
-            (1, Some(3)),
-            (4, Some(7)),
-            (5, None),
-            (64, None),
-        ] {
-            assert_eq!(rt; selected.select(n), want, "number {n}");
-        }
-        assert_eq!(rt; selected.words(), [0xB9].as_slice());
-        Ok(())
-    }
-
-    #[test]
-    fn bits_far_behind_a_kept_place_are_found(rt: HostRuntime) -> Result<(), Fail> {
-        let mut bytes = [0; 328];
-        for i in 0..40 {
-            bytes[8 * i] = 2;
-        }
-        bytes[327] = 0xC0;
-        let selected = Selected::new(rt.alloc(), Bits::from_bytes(rt.alloc(), &bytes, 2624)?)?;
-        for n in 0..40 {
-            assert_eq!(rt; selected.select(n), Some(64 * n + 1), "number {n}");
-        }
-        for (n, want) in [(40, Some(2622)), (41, Some(2623)), (42, None)] {
-            assert_eq!(rt; selected.select(n), want, "number {n}");
-        }
-        Ok(())
     }
 }

@@ -10,3 +10,5 @@ mod labels;
 mod lengths;
 #[cfg(test)]
 mod patterns;
+#[cfg(test)]
+mod rows;

@@ -92,27 +92,3 @@ impl<A: Allocator> BitsBuilder<A> {
         Bits { words, len }
     }
 }
-
-#[cfg(test)]
-mod tests {
-    use super::*;
-    use std::test::Fail;
-
-    #[test]
-    fn nine_bits_fill_their_room(rt: HostRuntime) -> Result<(), Fail> {
-        let mut builder = BitsBuilder::with_room(rt.alloc(), 9)?;
-        builder.push_number(0x39, 7);
-        for bit in [true, false] {
-            if builder.len() < builder.limit() {
-                builder.push(bit);
-            }
-        }
-        assert!(rt; builder.len() == builder.limit());
-        let bits = builder.finish();
-        assert_eq!(rt; bits.words(), [0xB9].as_slice());
-        assert_eq!(rt; bits.first_one_from(1), Some(3));
-        assert_eq!(rt; bits.first_one_from(8), None);
-        assert_eq!(rt; bits.last_one_before(3), Some(0));
-        Ok(())
-    }
-}

@@ -27,6 +27,3 @@ mod laws;
 
 pub use cache::{BlockCache, MOST_BLOCKS};
 pub use laws::{constant_is_most, get_laws, given_as_kept, keep_laws};
-
-#[cfg(test)]
-mod tests;

@@ -52,22 +52,3 @@ pub fn put_u64(bytes: &mut [u8], at: usize, n: u64)
 {
     LittleEndian::write_u64(&mut bytes[at..at + 8], n);
 }
-
-#[cfg(test)]
-mod tests {
-    use super::*;
-
-    #[test]
-    fn fields_stand_lowest_byte_first(rt: HostRuntime) {
-        let mut bytes = [9; 10];
-        put_u16(&mut bytes, 1, 0x0102);
-        assert_eq!(rt; bytes, [9, 2, 1, 9, 9, 9, 9, 9, 9, 9]);
-        put_u32(&mut bytes, 3, 0x01020304);
-        assert_eq!(rt; bytes, [9, 2, 1, 4, 3, 2, 1, 9, 9, 9]);
-        assert_eq!(rt; get_u16(&bytes, 1), 0x0102);
-        assert_eq!(rt; get_u32(&bytes, 3), 0x01020304);
-        put_u64(&mut bytes, 2, 0x0102030405060708);
-        assert_eq!(rt; bytes, [9, 2, 8, 7, 6, 5, 4, 3, 2, 1]);
-        assert_eq!(rt; get_u64(&bytes, 2), 0x0102030405060708);
-    }
-}

@@ -48,18 +48,3 @@ pub fn push_fields(widths: &[usize], numbers: &[u64], out: &mut Vec<u8>) -> Resu
     }
     Ok(())
 }
-
-#[cfg(test)]
-mod tests {
-    use super::*;
-    use std::test::Fail;
-
-    #[test]
-    fn numbers_stand_lowest_byte_first(rt: HostRuntime) -> Result<(), Fail> {
-        let mut out = Vec::new(rt.alloc());
-        push_fields(&[1, 2, 4], &[9, 0x0102, 0x01020304], &mut out)?;
-        push_number(0x0807060504030201, 3, &mut out)?;
-        assert_eq!(rt; out.as_slice(), [9, 2, 1, 4, 3, 2, 1, 1, 2, 3].as_slice());
-        Ok(())
-    }
-}

@@ -63,24 +63,3 @@ fn sum_from(sum: u64, bytes: &[u8]) -> u64
         |sum: u64, byte| (sum ^ u64::from(*byte)).wrapping_mul(PRIME),
     )
 }
-
-#[cfg(test)]
-mod tests {
-    use super::*;
-
-    #[test]
-    fn sums_are_those_of_fnv_1a(rt: HostRuntime) {
-        let rows: [(&[u8], u64); 3] = [
-            (b"", 0xcbf29ce484222325),
-            (b"a", 0xaf63dc4c8601ec8c),
-            (b"foobar", 0x85944171f73967e8),
-        ];
-        for (bytes, sum) in rows {
-            assert_eq!(rt; fnv1a(bytes), sum);
-        }
-        let mut summer = Summer::new();
-        summer.feed(b"foo");
-        summer.feed(b"bar");
-        assert_eq!(rt; summer.value(), 0x85944171f73967e8);
-    }
-}

@@ -3,8 +3,7 @@ ghost use Rattle.std.specs.Prelude.{◌≡◌, ◌≤◌};
 ghost use Rattle.key_base.specs.Limits.{max_key_bytes, max_value_bytes};
 ghost use Rattle.entry_model.specs.Entries.{body_length};
 
-/// The bytes of a body's kind and lengths.
-pub const HEAD_BYTES: usize = 7;
+use key_base::ENTRY_HEAD_BYTES;
 
 /// The length in bytes of an entry's body, as logs and blocks hold it, of the lengths of its key and its value.
 pub fn body_length(key: usize, value: usize) -> usize
@@ -12,5 +11,5 @@ pub fn body_length(key: usize, value: usize) -> usize
     requires value { value ≤ max_value_bytes }
     ensures { result ≡ body_length key value }
 {
-    HEAD_BYTES + key + value
+    ENTRY_HEAD_BYTES + key + value
 }

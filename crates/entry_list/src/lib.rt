@@ -21,6 +21,6 @@ mod body;
 mod entry;
 mod list;
 
-pub use body::{HEAD_BYTES, body_length};
+pub use body::body_length;
 pub use entry::Entry;
 pub use list::{copied, lookup, newest_of, push_copy};

@@ -2,6 +2,7 @@
 use Rattle.std.specs.Prelude.{◌≤◌, ℕ, ◌+◌, ◌-◌, List, [], ◌∷◌, ◌++◌, length, fold, map, flat_map, Option, Some, None, if◌then◌else◌, bytes_eq}
 use Rattle.std.specs.Option.{option_or}
 use Rattle.byteorder.specs.Endian.{little_bytes}
+pub use Rattle.key_base.specs.Limits.{entry_head_bytes}
 use Rattle.key_base.specs.Limits.{max_key_bytes, max_value_bytes, log_bytes}
 use Rattle.byte_fields.specs.Spelling.{IsBytes}
 use Rattle.map_model.specs.SortedMap.{Bytes, Map, put, del}
@@ -67,13 +68,9 @@ abbrev pub body : Entry → Bytes
 body entry =
     kind_of entry.value ∷ (little_bytes 2 (length entry.key) ++ (little_bytes 4 (length (bytes_of entry.value)) ++ (entry.key ++ bytes_of entry.value)))
 
--- the bytes before the key: the kind, and the two lengths
-abbrev pub head_length : ℕ
-head_length = 7
-
 -- the bytes of a body whose key and value have so many
 abbrev pub body_length : ℕ → ℕ → ℕ
-body_length key value = head_length + key + value
+body_length key value = entry_head_bytes + key + value
 
 -- a record is an open gate and a body
 abbrev pub record_bytes : Entry → Bytes

@@ -81,29 +81,3 @@ impl LeafList {
         self.leaves.is_empty()
     }
 }
-
-#[cfg(test)]
-mod tests {
-    use super::*;
-    use std::test::Fail;
-
-    #[test]
-    fn leaves_stand_in_the_order_of_pushing(rt: HostRuntime) -> Result<(), Fail> {
-        let alloc = rt.alloc();
-        let mut leaves = LeafList::with_capacity(alloc, 2)?;
-        for (byte, ends) in [(b'a', true), (b'b', false)] {
-            let stub = [byte].to_vec(alloc)?;
-            leaves.push(Leaf {
-                stub,
-                ends,
-                hash: 1,
-                real: 2,
-            })?;
-        }
-        assert_eq!(rt; leaves.len(), 2);
-        assert_eq!(rt; leaves.get(1).stub.as_slice(), b"b".as_slice());
-        assert!(rt; leaves.get(0).ends);
-        assert!(rt; LeafList::new(alloc).is_empty());
-        Ok(())
-    }
-}

@@ -48,25 +48,3 @@ impl Settings {
         Ok(())
     }
 }
-
-#[cfg(test)]
-mod tests {
-    use super::*;
-
-    #[test]
-    fn the_first_field_out_of_range_is_named(rt: HostRuntime) {
-        let examples = [
-            (32, 32, Ok(())),
-            (33, 33, Err(BadSettings(Field::HashBits))),
-            (0, 33, Err(BadSettings(Field::RealBits))),
-        ];
-        for (hash_bits, real_bits, answer) in examples {
-            let settings = Settings {
-                hash_bits,
-                real_bits,
-                ratio: 64,
-            };
-            assert_eq!(rt; settings.check(), answer);
-        }
-    }
-}

@@ -34,28 +34,3 @@ fn rises(keys: &KeyList, i: usize) -> bool
 {
     i == 0 || compare(keys.get(i - 1), keys.get(i)).is_lt()
 }
-
-#[cfg(test)]
-mod tests {
-    use super::*;
-    use std::test::Fail;
-
-    #[test]
-    fn keys_rise_and_are_not_empty(rt: HostRuntime) -> Result<(), Fail> {
-        let examples: [(&[&[u8]], bool); 5] = [
-            (&[b"far", b"fast", b"s"], true),
-            (&[b"a", b"ab"], true),
-            (&[], false),
-            (&[b"a", b"a"], false),
-            (&[b""], false),
-        ];
-        for (words, answer) in examples {
-            let mut keys = KeyList::new(rt.alloc());
-            for word in words {
-                keys.push(word)?;
-            }
-            assert_eq!(rt; are_keys(&keys), answer);
-        }
-        Ok(())
-    }
-}

@@ -10,8 +10,8 @@ ghost use Rattle.gate_log.specs.Faults.{IsFaultIn};
 use crate::kind::Kind;
 use crate::writing::OPEN;
 use byte_fields::{PartFault, get_u16, get_u32};
-use entry_list::{Entry, HEAD_BYTES};
-use key_base::{MAX_KEY_BYTES, MAX_VALUE_BYTES};
+use entry_list::Entry;
+use key_base::{ENTRY_HEAD_BYTES, MAX_KEY_BYTES, MAX_VALUE_BYTES};
 use std::alloc::Global;
 
 // The body, or the gate behind it, runs past the area.
@@ -40,7 +40,7 @@ fn body_in(bytes: &[u8]) -> Result<Body<'_>, u8>
     ensures size { IfOk result (λ b. b.length ≡ width_in bytes.now) }
     ensures within { IfOk result (λ b. b.length < length bytes.now) }
 {
-    if bytes.len() < HEAD_BYTES {
+    if bytes.len() < ENTRY_HEAD_BYTES {
         return Err(PAST_THE_AREA);
     }
     let kind = if bytes[0] == Kind::Put as u8 {
@@ -58,12 +58,12 @@ fn body_in(bytes: &[u8]) -> Result<Body<'_>, u8>
     if kind == Kind::Delete && value_bytes > 0 {
         return Err(OUT_OF_LIMITS);
     }
-    let value_at = HEAD_BYTES + key_bytes;
+    let value_at = ENTRY_HEAD_BYTES + key_bytes;
     let length = value_at + value_bytes;
     if bytes.len() <= length {
         return Err(PAST_THE_AREA);
     }
-    let key = &bytes[HEAD_BYTES..value_at];
+    let key = &bytes[ENTRY_HEAD_BYTES..value_at];
     let value = match kind {
         Kind::Put => Some(&bytes[value_at..length]),
         Kind::Delete => None,

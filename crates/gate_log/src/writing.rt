@@ -5,8 +5,8 @@ ghost use Rattle.gate_log.specs.Values.{value_of};
 
 use crate::kind::Kind;
 use byte_fields::{put_u16, put_u32};
-use entry_list::{HEAD_BYTES, body_length};
-use key_base::{MAX_KEY_BYTES, MAX_VALUE_BYTES};
+use entry_list::body_length;
+use key_base::{ENTRY_HEAD_BYTES, MAX_KEY_BYTES, MAX_VALUE_BYTES};
 
 /// What a gate reads that is open. Every other byte is a closed one.
 pub(crate) const OPEN: u8 = 1;
@@ -17,7 +17,7 @@ pub(crate) const CLOSED: u8 = 0;
 const GATE_BYTES: usize = 1;
 
 /// The bytes in which each record is laid out: the longest body, and the gate behind it.
-pub const BUFFER_BYTES: usize = HEAD_BYTES + MAX_KEY_BYTES + MAX_VALUE_BYTES + GATE_BYTES;
+pub const BUFFER_BYTES: usize = ENTRY_HEAD_BYTES + MAX_KEY_BYTES + MAX_VALUE_BYTES + GATE_BYTES;
 
 // Puts bytes behind those that stand at the start of a buffer, and answers where they end.
 fn put(buf: &mut [u8], at: usize, bytes: &[u8]) -> usize
@@ -65,7 +65,7 @@ pub(crate) fn put_record(buf: &mut [u8], key: &[u8], value: Option<&[u8]>) -> us
     ensures end { result + 1 ≡ need (entry_of key.now (value_of value.entry)) }
     ensures bytes { take result buf.new ≡ body (entry_of key.now (value_of value.entry)) ++ 0 ∷ [] }
 {
-    let mut head = [kind(value); HEAD_BYTES];
+    let mut head = [kind(value); ENTRY_HEAD_BYTES];
     let value = value_bytes(value);
     put_u16(&mut head, 1, key.len() as u16);
     put_u32(&mut head, 3, value.len() as u32);

@@ -63,6 +63,10 @@ first_table_page = 192
 abbrev pub max_block_entries : ℕ
 max_block_entries = 255
 
+-- the bytes of an entry before its key and its value: its kind and their lengths
+abbrev pub entry_head_bytes : ℕ
+entry_head_bytes = 7
+
 -- the pages of the largest block: one entry, of the longest key and value
 abbrev pub max_block_pages : ℕ
 max_block_pages = 17

@@ -60,21 +60,3 @@ impl KeyList {
         self.keys.is_empty()
     }
 }
-
-#[cfg(test)]
-mod tests {
-    use super::*;
-    use std::test::Fail;
-
-    #[test]
-    fn keys_stand_in_the_order_of_pushing(rt: HostRuntime) -> Result<(), Fail> {
-        let mut keys = KeyList::new(rt.alloc());
-        assert!(rt; keys.is_empty());
-        keys.push(b"far")?;
-        keys.push(b"")?;
-        assert_eq!(rt; keys.len(), 2);
-        assert_eq!(rt; keys.get(0), b"far".as_slice());
-        assert_eq!(rt; keys.get(1), b"".as_slice());
-        Ok(())
-    }
-}

@@ -44,6 +44,9 @@ pub const MAX_RATIO: u16 = 65_535;
 /// The most entries of a block; the fewest is one.
 pub const MAX_BLOCK_ENTRIES: usize = 255;
 
+/// The bytes of an entry before its key and its value: its kind and their lengths.
+pub const ENTRY_HEAD_BYTES: usize = 7;
+
 /// The pages of the largest block: one entry, of the longest key and value.
 pub const MAX_BLOCK_PAGES: u32 = 17;
 

@@ -24,23 +24,3 @@ pub fn shared(a: &[u8], b: &[u8]) -> usize
     }
     end
 }
-
-#[cfg(test)]
-mod tests {
-    use super::*;
-
-    #[test]
-    fn byte_strings_compare_and_share(rt: HostRuntime) {
-        let examples: [(&[u8], &[u8], Ordering, usize); 5] = [
-            (b"far", b"fast", Ordering::Less, 2),
-            (b"a", b"ab", Ordering::Less, 1),
-            (b"toy", b"top", Ordering::Greater, 2),
-            (b"", b"", Ordering::Equal, 0),
-            (b"\xff", b"a", Ordering::Greater, 0),
-        ];
-        for (a, b, order, common) in examples {
-            assert_eq!(rt; compare(a, b), order);
-            assert_eq!(rt; shared(a, b), common);
-        }
-    }
-}

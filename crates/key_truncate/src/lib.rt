@@ -11,7 +11,5 @@
 #![tactic(auto)]
 
 mod stubs;
-#[cfg(test)]
-mod tests;
 
 pub use stubs::{Stub, truncate};

@@ -23,12 +23,11 @@
 #![tactic(auto)]
 
 mod labels;
+mod nth_one;
 mod places;
 mod words;
 
 pub use labels::{find_label, find_label_between, first_at_least, first_at_least_between};
+pub use nth_one::word_with_nth_one;
 pub use places::{first_one_from, highest_one, last_one_before, lowest_one};
-pub use words::{ones, ones_below, word_with_nth_one};
-
-#[cfg(test)]
-mod tests;
+pub use words::{ones, ones_below};

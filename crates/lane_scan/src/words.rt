@@ -1,7 +1,7 @@
 //! Set bits in words.
-ghost use Rattle.std.specs.Prelude.{◌≡◌, ◌≤◌, ◌<◌, ◌+◌, ◌*◌, ◌/◌, ◌%◌, ◌^◌, length, count_ones, MatchOption};
+ghost use Rattle.std.specs.Prelude.{◌≡◌, ◌≤◌, ◌<◌, ◌+◌, ◌*◌, ◌/◌, ◌%◌, ◌^◌, length, count_ones};
 ghost use Rattle.std.specs.List.{sum_by};
-ghost use Rattle.lane_scan.specs.Ones.{IsWordOfOne, ones_before};
+ghost use Rattle.lane_scan.specs.Ones.{ones_before};
 
 use std::simd::u64x4;
 
@@ -23,24 +23,6 @@ pub fn ones(words: &[u64]) -> u64
         total += u64::from(words[i].count_ones());
     }
     total
-}
-
-/// The word that holds the nth set bit, from 0, and `n` less the set bits of the words before it; `None` where at most
-/// `n` bits are set.
-///
-/// Counts one word after the other, up to the one with the bit. Takes no memory.
-pub fn word_with_nth_one(words: &[u64], n: u64) -> Option<(usize, u64)>
-    ensures { MatchOption result (sum_by count_ones words.now ≤ n) (λ found. IsWordOfOne words.now n found.0 found.1) }
-{
-    let mut left = n;
-    for i in 0..words.len() {
-        let count = u64::from(words[i].count_ones());
-        if left < count {
-            return Some((i, left));
-        }
-        left -= count;
-    }
-    None
 }
 
 /// How many bits of `word` are set below `place`.

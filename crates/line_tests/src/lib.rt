@@ -6,6 +6,8 @@
 #[cfg(test)]
 mod loads;
 #[cfg(test)]
+mod maps;
+#[cfg(test)]
 mod replies;
 #[cfg(test)]
 mod requests;

@@ -3,137 +3,105 @@ use std::test::Fail;
 use store_commands::{BadLine, Request, Scratch, next_line, parse_answered, parse_line};
 
 // The code that a line is refused with, 0 where it is none.
-fn code(line: &[u8], scratch: &mut Scratch) -> u8 {
-    match parse_line(line, scratch) {
+fn code(answer: Result<Request<'_>, BadLine>) -> u8 {
+    match answer {
         Ok(_) => 0,
         Err(BadLine(code)) => code,
     }
 }
 
-#[test]
-fn lines_that_ask(rt: HostRuntime) -> Result<(), Fail> {
-    let mut scratch = Scratch::new(rt.alloc())?;
-    let s = &mut scratch;
-    assert!(rt;
-        matches!(
-            parse_line(b"put 61 62", s),
-            Ok(Request::Put {
-                key: b"a",
-                value: b"b"
-            })
-        )
-    );
-    assert!(rt;
-        matches!(
-            parse_line(b"put 61 -", s),
-            Ok(Request::Put {
-                key: b"a",
-                value: b""
-            })
-        )
-    );
-    assert!(rt;
-        matches!(
-            parse_line(b"put - 62", s),
-            Ok(Request::Put {
-                key: b"",
-                value: b"b"
-            })
-        )
-    );
-    assert!(rt; matches!(parse_line(b"get 6F6f", s), Ok(Request::Get { key: b"oo" })));
-    assert!(rt; matches!(parse_line(b"del 7a", s), Ok(Request::Del { key: b"z" })));
-    assert!(rt; matches!(parse_line(b"quit", s), Ok(Request::Quit)));
-    Ok(())
+// A request as its verb, its key or lower bound, its value or upper bound, and its number.
+type Shown<'a> = (&'static str, &'a [u8], Option<&'a [u8]>, u32);
+
+fn shown(request: Request<'_>) -> Shown<'_> {
+    match request {
+        Request::Put { key, value } => ("put", key, Some(value), 0),
+        Request::Del { key } => ("del", key, None, 0),
+        Request::Get { key } => ("get", key, None, 0),
+        Request::Seek { lo, hi } => ("seek", lo, hi, 0),
+        Request::Range { lo, hi, n } => ("range", lo, Some(hi), n),
+        Request::Count { lo, hi } => ("count", lo, Some(hi), 0),
+        Request::Estimate { lo, hi } => ("estimate", lo, Some(hi), 0),
+        Request::Explain { key } => ("explain", key, None, 0),
+        Request::Flush => ("flush", b"", None, 0),
+        Request::Compact => ("compact", b"", None, 0),
+        Request::Quit => ("quit", b"", None, 0),
+    }
 }
+
+const ASKED: [(&str, Shown<'static>); 14] = [
+    ("put 61 62", ("put", b"a", Some(b"b"), 0)),
+    ("put 61 -", ("put", b"a", Some(b""), 0)),
+    ("put - 62", ("put", b"", Some(b"b"), 0)),
+    ("get 6F6f", ("get", b"oo", None, 0)),
+    ("del 7a", ("del", b"z", None, 0)),
+    ("quit", ("quit", b"", None, 0)),
+    ("seek 61", ("seek", b"a", None, 0)),
+    ("seek - 62", ("seek", b"", Some(b"b"), 0)),
+    (
+        "range 61 6F6f 1000000",
+        ("range", b"a", Some(b"oo"), 1_000_000),
+    ),
+    ("count 61 -", ("count", b"a", Some(b""), 0)),
+    ("estimate - -", ("estimate", b"", Some(b""), 0)),
+    ("explain 7a", ("explain", b"z", None, 0)),
+    ("flush", ("flush", b"", None, 0)),
+    ("compact", ("compact", b"", None, 0)),
+];
 
 #[test]
 fn lines_of_every_verb(rt: HostRuntime) -> Result<(), Fail> {
     let mut scratch = Scratch::new(rt.alloc())?;
-    let s = &mut scratch;
-    assert!(rt;
-        matches!(
-            parse_line(b"seek 61", s),
-            Ok(Request::Seek { lo: b"a", hi: None })
-        )
-    );
-    assert!(rt;
-        matches!(
-            parse_line(b"seek - 62", s),
-            Ok(Request::Seek {
-                lo: b"",
-                hi: Some(b"b")
-            })
-        )
-    );
-    assert!(rt;
-        matches!(
-            parse_line(b"range 61 6F6f 1000000", s),
-            Ok(Request::Range {
-                lo: b"a",
-                hi: b"oo",
-                n: 1_000_000
-            })
-        )
-    );
-    assert!(rt;
-        matches!(
-            parse_line(b"count 61 -", s),
-            Ok(Request::Count { lo: b"a", hi: b"" })
-        )
-    );
-    assert!(rt;
-        matches!(
-            parse_line(b"estimate - -", s),
-            Ok(Request::Estimate { lo: b"", hi: b"" })
-        )
-    );
-    assert!(rt;
-        matches!(
-            parse_line(b"explain 7a", s),
-            Ok(Request::Explain { key: b"z" })
-        )
-    );
-    assert!(rt; matches!(parse_line(b"flush", s), Ok(Request::Flush)));
-    assert!(rt; matches!(parse_line(b"compact", s), Ok(Request::Compact)));
+    for (line, wanted) in ASKED {
+        let Ok(request) = parse_line(line.as_bytes(), &mut scratch) else {
+            return Err(Fail::from("a line that asks nothing"));
+        };
+        assert_eq!(rt; shown(request), wanted, "of '{line}'");
+    }
     Ok(())
 }
+
+// Lines and the first rule that each breaks, 0 where it breaks none.
+const BROKEN: [(&str, u8); 28] = [
+    ("", 2),
+    (" ", 2),
+    ("PUT 61 62", 2),
+    (" put 61 62", 2),
+    ("put\r 61 62", 2),
+    ("put 6", 3),
+    ("put 61 62 ", 3),
+    ("get  61", 3),
+    ("del", 3),
+    ("quit ", 3),
+    ("seek", 3),
+    ("seek 61 62 63", 3),
+    ("range 61 62", 3),
+    ("range 61 62 1 1", 3),
+    ("put 6 62", 4),
+    ("put 61 6", 4),
+    ("put  62", 4),
+    ("get 6g", 4),
+    ("get 61\r", 4),
+    ("seek 61 -- ", 3),
+    ("range 6 62 x", 4),
+    ("range 61 62 x", 5),
+    ("range 61 62 ", 5),
+    ("range 61 62 00", 5),
+    ("range 61 62 +1", 5),
+    ("range 61 62 1000001", 5),
+    ("range 61 62 99999999999999999999", 5),
+    ("range 61 62 0", 0),
+];
 
 #[test]
 fn the_first_rule_that_a_line_breaks(rt: HostRuntime) -> Result<(), Fail> {
     let mut scratch = Scratch::new(rt.alloc())?;
-    let rows = [
-        ("", 2),
-        (" ", 2),
-        ("PUT 61 62", 2),
-        (" put 61 62", 2),
-        ("put\r 61 62", 2),
-        ("put 6", 3),
-        ("put 61 62 ", 3),
-        ("get  61", 3),
-        ("del", 3),
-        ("quit ", 3),
-        ("seek", 3),
-        ("seek 61 62 63", 3),
-        ("range 61 62", 3),
-        ("range 61 62 1 1", 3),
-        ("put 6 62", 4),
-        ("put 61 6", 4),
-        ("put  62", 4),
-        ("get 6g", 4),
-        ("get 61\r", 4),
-        ("seek 61 -- ", 3),
-        ("range 6 62 x", 4),
-        ("range 61 62 x", 5),
-        ("range 61 62 ", 5),
-        ("range 61 62 00", 5),
-        ("range 61 62 +1", 5),
-        ("range 61 62 1000001", 5),
-        ("range 61 62 99999999999999999999", 5),
-        ("range 61 62 0", 0),
-    ];
-    for (line, want) in rows {
-        assert_eq!(rt; code(line.as_bytes(), &mut scratch), want, "of '{line}'");
+    for (line, wanted) in BROKEN {
+        assert_eq!(rt;
+            code(parse_line(line.as_bytes(), &mut scratch)),
+            wanted,
+            "of '{line}'"
+        );
     }
     Ok(())
 }
@@ -141,16 +109,25 @@ fn the_first_rule_that_a_line_breaks(rt: HostRuntime) -> Result<(), Fail> {
 #[test]
 fn verbs_that_are_not_answered_yet(rt: HostRuntime) -> Result<(), Fail> {
     let mut scratch = Scratch::new(rt.alloc())?;
-    let s = &mut scratch;
-    assert!(rt; matches!(parse_answered(b"get 61", s), Ok(Request::Get { key: b"a" })));
-    assert!(rt; matches!(parse_answered(b"get", s), Err(BadLine(3))));
-    assert!(rt; matches!(parse_answered(b"flush", s), Ok(Request::Flush)));
-    assert!(rt; matches!(parse_answered(b"compact", s), Err(BadLine(2))));
-    assert!(rt; matches!(parse_answered(b"seek", s), Err(BadLine(2))));
+    for (line, wanted) in [
+        ("get 61", 0),
+        ("get", 3),
+        ("flush", 0),
+        ("compact", 2),
+        ("compact 61", 2),
+        ("seek", 3),
+        ("range - - 01", 5),
+        ("count - -", 0),
+    ] {
+        let code = code(parse_answered(line.as_bytes(), &mut scratch));
+        assert_eq!(rt; code, wanted, "of '{line}'");
+    }
     let mut line = [b' '; 140_001];
-    line[..5].copy_from_slice(b"count");
-    assert!(rt; matches!(parse_answered(&line[..140_000], s), Err(BadLine(2))));
-    assert!(rt; matches!(parse_answered(&line, s), Err(BadLine(1))));
+    line[..7].copy_from_slice(b"compact");
+    for (len, wanted) in [(140_000, 2), (140_001, 1)] {
+        let code = code(parse_answered(&line[..len], &mut scratch));
+        assert_eq!(rt; code, wanted, "of {len} bytes");
+    }
     Ok(())
 }
 
@@ -158,11 +135,12 @@ fn verbs_that_are_not_answered_yet(rt: HostRuntime) -> Result<(), Fail> {
 fn the_longest_line(rt: HostRuntime) -> Result<(), Fail> {
     let mut scratch = Scratch::new(rt.alloc())?;
     let mut line = [b'6'; 140_001];
-    assert_eq!(rt; code(&line, &mut scratch), 1);
-    assert_eq!(rt; code(&line[..140_000], &mut scratch), 2);
+    assert_eq!(rt; code(parse_line(&line[..140_000], &mut scratch)), 2);
     line[..4].copy_from_slice(b"get ");
-    assert_eq!(rt; code(&line, &mut scratch), 1);
-    assert_eq!(rt; code(&line[..139_999], &mut scratch), 4);
+    for (len, wanted) in [(140_001, 1), (139_999, 4)] {
+        let code = code(parse_line(&line[..len], &mut scratch));
+        assert_eq!(rt; code, wanted, "of {len} bytes");
+    }
     match parse_line(&line[..140_000], &mut scratch) {
         Ok(Request::Get { key }) => assert_eq!(rt; key.len(), 69_998),
         _ => assert!(rt; false),

@@ -3,7 +3,7 @@ use Rattle.std.specs.Prelude.{◌≡◌, ◌≢◌, ℕ, ◌+◌, ◌<◌, List,
 use Rattle.std.specs.List.{AllByRecursion}
 use Rattle.key_base.specs.Limits.{is_no_key_length, max_value_bytes}
 use Rattle.map_model.specs.SortedMap.{Bytes}
-use Rattle.entry_model.specs.Entries.{Entry, IsEntry, head_length, record_bytes, filled}
+use Rattle.entry_model.specs.Entries.{Entry, IsEntry, entry_head_bytes, record_bytes, filled}
 use Rattle.entry_model.specs.Reading.{kind_in, key_length_in, value_length_in, width_in}
 
 -- the bytes begin with the records of these entries, and stand on behind them
@@ -31,7 +31,7 @@ rule_if bad rule later = if bad then Some rule else later
 -- first seven bytes, and on the whole at last; 2: the kind; 3: the lengths.
 abbrev pub broken_rule : Bytes → Option ℕ
 broken_rule body =
-    rule_if (nat_lt (length body) head_length) 1
+    rule_if (nat_lt (length body) entry_head_bytes) 1
     (rule_if (not (kind_in body == 1) && not (kind_in body == 2)) 2
     (rule_if (breaks_a_limit (kind_in body) (key_length_in body) (value_length_in body)) 3
     (rule_if (nat_le (length body) (width_in body)) 1

@@ -199,7 +199,7 @@ pub record NoJobIsLeft : Type 0 where
   pub compaction :
       (filter_bytes : FilterBytes) (s after : State) (reply : Reply) → IsSound filter_bytes s
       → Step Ever filter_bytes s Compact reply after → after.job ≡ None
-  pub slice : (filter_bytes : FilterBytes) (s after : State) (why : Reply) → Tend Ever filter_bytes s (Refused why) after → after.job ≡ None
+  pub merge_slice : (filter_bytes : FilterBytes) (s after : State) (why : Reply) → Tend Ever filter_bytes s (Refused why) after → after.job ≡ None
 
 -- a state of the same settings and pages
 abbrev pub KeepsDevice : State → State → Type 0
@@ -210,4 +210,4 @@ pub record DeviceIsKept : Type 0 where
   pub line :
       (filter_bytes : FilterBytes) (s after : State) (request : Request) (reply : Reply)
       → Step Ever filter_bytes s request reply after → KeepsDevice s after
-  pub slice : (filter_bytes : FilterBytes) (s after : State) (tended : Tended) → Tend Ever filter_bytes s tended after → KeepsDevice s after
+  pub merge_slice : (filter_bytes : FilterBytes) (s after : State) (tended : Tended) → Tend Ever filter_bytes s tended after → KeepsDevice s after

@@ -26,7 +26,7 @@ played_text filter_bytes s lines = flat_map text_of (played filter_bytes s (map 
 -- A whole merge of a state without a job is one merge slice, which ends no script. Behind a line, and behind that merge slice, no job
 -- runs. So lines that are played from such a state are a script. All of it is so without a cause, so under any.
 pub record PlayLaws : Type 0 where
-  pub slice :
+  pub merge_slice :
       (filter_bytes : FilterBytes) (s : State) → s.job ≡ None → (t : Tended)
       × Tend Never filter_bytes s t (merged filter_bytes s) × (Onward ≡ turn_of_slice t)
   pub no_job :

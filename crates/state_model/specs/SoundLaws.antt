@@ -194,19 +194,19 @@ LinesRaiseNoSteps =
 -- a line, or a merge slice of the job that runs
 pub data Move : Type 0 where
   Line : (request : Request) → Move
-  Slice : Move
+  MergeSlice : Move
 
 -- From the one state these moves lead to the other: the lines are answered, also by a fault, and each merge slice is
 -- answered as worked.
 abbrev pub LeadTo : FilterBytes → List Move → State → State → Type 0
 LeadTo filter_bytes [] s t = s ≡ t
 LeadTo filter_bytes (Line request ∷ more) s t = (after : State) × (reply : Reply) × Step Ever filter_bytes s request reply after × LeadTo filter_bytes more after t
-LeadTo filter_bytes (Slice ∷ more) s t = (after : State) × (job : Job) × (s.job ≡ Some job) × Tend Ever filter_bytes s Worked after × LeadTo filter_bytes more after t
+LeadTo filter_bytes (MergeSlice ∷ more) s t = (after : State) × (job : Job) × (s.job ≡ Some job) × Tend Ever filter_bytes s Worked after × LeadTo filter_bytes more after t
 
 abbrev pub slices_in : List Move → ℕ
 slices_in [] = 0
 slices_in (Line request ∷ more) = slices_in more
-slices_in (Slice ∷ more) = slices_in more + 1
+slices_in (MergeSlice ∷ more) = slices_in more + 1
 
 -- A job of b blocks and o outputs sees at most b + o + 1 answers Worked: the first, and with any lines between them those
 -- that follow while it runs.

@@ -70,20 +70,3 @@ fn byte_at(bytes: &[u8], i: usize) -> u8
 {
     if i < bytes.len() { bytes[i] } else { 0 }
 }
-
-#[cfg(test)]
-mod tests {
-    use super::*;
-
-    #[test]
-    fn suffix_bits_of_keys(rt: HostRuntime) {
-        assert_eq!(rt; hash_bits_of(b"a", 8), 0x8C);
-        assert_eq!(rt; hash_bits_of(b"a", 32), 0x8601_ec8c);
-        assert_eq!(rt; hash_bits_of(b"a", 0), 0);
-        assert_eq!(rt; real_bits_of(b"fast", 3, 8), 0x74);
-        assert_eq!(rt; real_bits_of(b"far", 3, 8), 0);
-        assert_eq!(rt; real_bits_of(b"fast", 9, 8), 0);
-        assert_eq!(rt; real_bits_of(b"abcdef", 1, 32), 0x6263_6465);
-        assert_eq!(rt; real_bits_of(b"abcdef", 1, 12), 0x626);
-    }
-}

@@ -91,20 +91,3 @@ impl<A: Allocator> SuffixesBuilder<A> {
         Suffixes::of(bits.finish(), hash_bits, real_bits, count)
     }
 }
-
-#[cfg(test)]
-mod tests {
-    use super::*;
-    use std::test::Fail;
-
-    #[test]
-    fn the_hash_of_a_stands_below_the_letter_t(rt: HostRuntime) -> Result<(), Fail> {
-        let mut builder = SuffixesBuilder::with_room(rt.alloc(), 8, 8, 1)?;
-        builder.push(0x8C, 0x74);
-        assert!(rt; builder.len() == 1);
-        let suffixes = builder.finish();
-        assert_eq!(rt; suffixes.bits().words(), [0x748C].as_slice());
-        assert_eq!(rt; suffixes.get(0), (0x8C, 0x74));
-        Ok(())
-    }
-}

@@ -132,7 +132,7 @@ fn bytes_of_a_row_that_must_be_0(rt: HostRuntime) -> Result<(), Fail> {
 }
 
 #[test]
-fn each_field_of_a_row(rt: HostRuntime) -> Result<(), Fail> {
+fn each_field_of_blocks_and_index(rt: HostRuntime) -> Result<(), Fail> {
     let alloc = rt.alloc();
     let sound = table(1, 192);
     let rows = [
@@ -158,6 +158,18 @@ fn each_field_of_a_row(rt: HostRuntime) -> Result<(), Fail> {
             },
             84,
         ),
+    ];
+    for (row, at) in rows {
+        assert_eq!(rt; with_tables(alloc, &[row])?, shape(at, 8));
+    }
+    Ok(())
+}
+
+#[test]
+fn each_field_of_filter_and_entries(rt: HostRuntime) -> Result<(), Fail> {
+    let alloc = rt.alloc();
+    let sound = table(1, 192);
+    let rows = [
         (
             Row {
                 filter_pages: 0,

@@ -13,4 +13,6 @@ mod damage;
 #[cfg(test)]
 mod disks;
 #[cfg(test)]
+mod pages;
+#[cfg(test)]
 mod versions;

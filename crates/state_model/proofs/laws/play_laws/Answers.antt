@@ -5,7 +5,7 @@ use Rattle.state_model.proofs.laws.play_laws.Goals as goal
 
 pub returns : goal.returns
 returns c = record {
-  slice = λ filter_bytes s none. (merged_is_a_slice Never filter_bytes s none).0;
+  merge_slice = λ filter_bytes s none. (merged_is_a_slice Never filter_bytes s none).0;
   no_job = no_job_behind;
   script = λ filter_bytes s said lines none. lines_played Never filter_bytes s said lines none;
 }

@@ -14,7 +14,7 @@ const EIGHT: usize = 8;
 ///
 /// Counts the first four words one by one, and those behind them eight at a time, up to the one with the bit. Takes no
 /// memory.
-pub(crate) fn word_of_one(words: &[u64], n: u64) -> Option<(usize, u64)>
+pub fn word_with_nth_one(words: &[u64], n: u64) -> Option<(usize, u64)>
     ensures { MatchOption result (sum_by count_ones words.now ≤ n) (λ found. IsWordOfOne words.now n found.0 found.1) }
 {
     let near = words.len().min(NEAR);
@@ -26,11 +26,11 @@ pub(crate) fn word_of_one(words: &[u64], n: u64) -> Option<(usize, u64)>
         }
         left -= count;
     }
-    word_of_one_from(words, near, left)
+    word_with_nth_one_from(words, near, left)
 }
 
 // The same from word `start` on, whose first set bit has the number 0.
-fn word_of_one_from(words: &[u64], start: usize, n: u64) -> Option<(usize, u64)>
+fn word_with_nth_one_from(words: &[u64], start: usize, n: u64) -> Option<(usize, u64)>
     requires { start ≤ length words.now }
     ensures { MatchOption result (sum_by count_ones words.now ≤ ones_before words.now start + n) (λ found. IsWordOfOne words.now (ones_before words.now start + n) found.0 found.1) }
 {

@@ -1,6 +1,6 @@
 use Rattle.std.proofs.Common.{◌≡◌, ◌+◌}
 use Rattle.lane_scan.specs.Ones.{ones_before}
-use Rattle.bit_select.proofs.search.ones_in_eight.Given as goal
+use Rattle.lane_scan.proofs.nth_one.word_with_nth_one.Given as goal
 
 abbrev pub invariant-loop-i : goal.invariant-loop-i
-invariant-loop-i l = ones_before l.words l.at + l.total ≡ ones_before l.words l.i
+invariant-loop-i l = ones_before l.words l.i + l.left ≡ l.fn.n

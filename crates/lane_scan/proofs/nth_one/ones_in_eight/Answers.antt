@@ -1,7 +1,7 @@
 use Rattle.std.proofs.Common.{get_or, arith}
 use Rattle.std.proofs.lemmas.Nat.{ones-le}
 use Rattle.lane_scan.proofs.Counts.{ones_between-le}
-use Rattle.bit_select.proofs.search.ones_in_eight.Goals as goal
+use Rattle.lane_scan.proofs.nth_one.ones_in_eight.Goals as goal
 
 pub overflow_add-total : goal.overflow_add-total
 overflow_add-total c =
