@@ -10,8 +10,7 @@ ghost use Rattle.block_format.specs.Reading.{passes_after, seen};
 use crate::fault::BlockFault;
 use byte_fields::{get_u16, get_u32};
 use byteorder::{BigEndian, ByteOrder};
-use entry_list::HEAD_BYTES;
-use key_base::{MAX_KEY_BYTES, MAX_VALUE_BYTES, compare};
+use key_base::{ENTRY_HEAD_BYTES, MAX_KEY_BYTES, MAX_VALUE_BYTES, compare};
 use std::cmp::Ordering;
 
 /// The bytes that are read at once, as one number.
@@ -59,7 +58,7 @@ pub(crate) fn first_entry<'a>(
     ensures width { IfOk result (λ r. r.width ≡ width_in bytes.now) }
     ensures within { IfOk result (λ r. r.width ≤ length bytes.now) }
 {
-    if bytes.len() < HEAD_BYTES {
+    if bytes.len() < ENTRY_HEAD_BYTES {
         return Err(BlockFault {
             place,
             rule: PAST_THE_LENGTH,
@@ -80,7 +79,7 @@ pub(crate) fn first_entry<'a>(
             rule: OUT_OF_LIMITS,
         });
     }
-    if bytes.len() < HEAD_BYTES + key_bytes + value_bytes {
+    if bytes.len() < ENTRY_HEAD_BYTES + key_bytes + value_bytes {
         return Err(BlockFault {
             place,
             rule: PAST_THE_LENGTH,
@@ -105,7 +104,7 @@ pub(crate) fn entry_here(bytes: &[u8]) -> EntryHere<'_>
     ensures width { result.width ≡ width_in bytes.now }
     ensures within { result.width ≤ length bytes.now }
 {
-    let value_at = HEAD_BYTES + usize::from(get_u16(bytes, 1));
+    let value_at = ENTRY_HEAD_BYTES + usize::from(get_u16(bytes, 1));
     let width = value_at + get_u32(bytes, 3) as usize;
     let value = if bytes[0] == VALUE {
         Some(&bytes[value_at..width])
@@ -113,7 +112,7 @@ pub(crate) fn entry_here(bytes: &[u8]) -> EntryHere<'_>
         None
     };
     EntryHere {
-        key: &bytes[HEAD_BYTES..value_at],
+        key: &bytes[ENTRY_HEAD_BYTES..value_at],
         value,
         width,
     }

@@ -4,7 +4,7 @@ use Rattle.std.specs.Option.{option_map, option_or}
 use Rattle.byteorder.specs.Endian.{little_number}
 use Rattle.key_base.specs.Limits.{is_no_key_length, max_value_bytes}
 use Rattle.map_model.specs.SortedMap.{Bytes}
-use Rattle.entry_model.specs.Entries.{Entry, head_length}
+use Rattle.entry_model.specs.Entries.{Entry, entry_head_bytes}
 use Rattle.entry_model.specs.Reading.{kind_in, key_length_in, value_length_in, width_in, key_in, entry_in}
 use Rattle.byte_fields.specs.Faults.{Fault, fault, refuse}
 use Rattle.block_model.specs.Order.{is_above, is_any}
@@ -20,7 +20,7 @@ has_no_kind rest = not (kind_in rest == 1) && (not (kind_in rest == 2) || nat_lt
 -- on the seven first bytes and then on the whole; 4: the kind; 5: the lengths; 6: the key does not pass the test.
 unfoldable pub entry_fault : ℕ → (Bytes → Bool) → Bytes → Option Fault
 entry_fault place test rest =
-    refuse (nat_lt (length rest) head_length) place 3
+    refuse (nat_lt (length rest) entry_head_bytes) place 3
     (refuse (has_no_kind rest) place 4
     (refuse (is_no_key_length (key_length_in rest) || nat_lt max_value_bytes (value_length_in rest)) place 5
     (refuse (nat_lt (length rest) (width_in rest)) place 3

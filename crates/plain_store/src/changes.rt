@@ -15,10 +15,10 @@ use crate::placing::{placed, taken, taken_without};
 use crate::state::State;
 use crate::table::Table;
 use crate::view::newest_entries;
-use block_model::entry_length;
 use entry_list::{Entry, copied, push_copy};
 use filter_api::RangeFilter;
 use key_base::{LOG_BYTES, MAX_TABLES};
+use plain_blocks::entry_length;
 use std::alloc::{AllocError, Global};
 
 /// Why a change is refused.

@@ -5,9 +5,10 @@ ghost use Rattle.table_model.specs.Tables.{filter_bytes_of, table_pages, table_o
 
 use crate::filters::filter_length;
 use crate::table::Table;
-use block_model::{are_entries, cut, index_length, pages_for};
+use block_model::pages_for;
 use entry_list::{Entry, copied};
 use filter_api::{RangeFilter, Settings};
+use plain_blocks::{are_entries, cut, index_length};
 use std::alloc::{AllocError, Global};
 
 /// The pages of the blocks of some entries. It gives up where they are not entries of a table.
@@ -17,7 +18,7 @@ pub(crate) fn data_pages(alloc: Global, entries: &[Entry]) -> Result<u64, AllocE
     if !are_entries(entries) {
         return Err(AllocError);
     }
-    block_model::data_pages(alloc, entries)
+    plain_blocks::data_pages(alloc, entries)
 }
 
 // The pages of the index of some entries. It gives up where they are not entries of a table.

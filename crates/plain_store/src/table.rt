@@ -4,8 +4,8 @@ ghost use Rattle.state_model.specs.Taken.{extent_of};
 ghost use Rattle.state_model.specs.Merges as model;
 
 use crate::gaps::Extent;
-use block_model::{first_key, last_key};
 use entry_list::{Entry, copied};
+use plain_blocks::{first_key, last_key};
 use std::alloc::{AllocError, Global};
 use std::marker::Model;
 
