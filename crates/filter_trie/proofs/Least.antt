@@ -14,9 +14,10 @@ use Rattle.filter_trie.proofs.Down.{node_passes, slot_within}
 use Rattle.filter_trie.proofs.Halves.{begins_next, dense_end, none_given, some_given}
 use Rattle.filter_trie.proofs.Reached.{position_some}
 use Rattle.filter_trie.proofs.Starts.{first_letter, own_number, rests_fine, start-push}
-use Rattle.filter_trie.specs.Leads.{IsLead, IsOnWay, levels_below}
-use Rattle.filter_trie.specs.declared.place.Lead.{Lead}
-use Rattle.filter_trie.specs.declared.place.Lead.TheVariants as lead
+use Rattle.filter_trie.specs.WaysDown.{IsOnWay, levels_below}
+use Rattle.louds_sparse.specs.Leads.{IsLead}
+use Rattle.louds_sparse.specs.declared.lead.Lead.{Lead}
+use Rattle.louds_sparse.specs.declared.lead.Lead.TheVariants as lead
 use Rattle.trie_laws.proofs.Forms.{branches_reached, trie_nodes_have_form}
 use Rattle.trie_laws.proofs.NodeLists.{All-flat_map, height_above}
 use Rattle.trie_laws.proofs.Places.{at-trie_of, child-trie_of, child_within, first-suc, first_within, length-trie_of, place_at, slot-counted}

@@ -2,6 +2,7 @@ pub use Rattle.filter_api.specs.Spellings
 pub use Rattle.filter_image_model.specs.Reading
 pub use Rattle.filter_model.specs.Image
 pub use Rattle.filter_model.specs.Trie
+pub use Rattle.louds_sparse.specs.Leads
 pub use Rattle.suffix_bits.specs.Slots
 pub use Rattle.trie_model.specs.Halves
 pub mod Parts
@@ -11,5 +12,5 @@ pub mod Pending
 pub mod Gathered
 pub mod Places
 pub mod LevelStarts
-pub mod Leads
+pub mod WaysDown
 pub mod Laws

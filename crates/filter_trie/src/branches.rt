@@ -1,5 +1,5 @@
 //! The branches of a trie's nodes, over both halves.
-ghost use Rattle.std.specs.Prelude.{◌≡◌, ◌<◌, ◌≤◌, length, IfSome};
+ghost use Rattle.std.specs.Prelude.{◌≡◌, ◌<◌, ◌≤◌, length, is_some, IfSome};
 ghost use Rattle.std.specs.Option.{option_map};
 ghost use Rattle.filter_model.specs.Trie.{nodes};
 ghost use Rattle.filter_trie.specs.Places.{BeginsAt, IsTaken, IsWithin, branch_number, trie};
@@ -88,6 +88,17 @@ impl<A: Allocator> Trie<A> {
         match place {
             Place::Dense(bit) => self.dense.child(bit),
             Place::Sparse(place) => self.sparse.child(place),
+        }
+    }
+
+    /// Whether the branch at a place leads to a node: whether `child` finds one. It counts nothing.
+    pub fn leads_on(&self, place: Place) -> bool
+        requires { IsTaken self.now place }
+        ensures { result ≡ is_some (child_at (trie self.now) (branch_number self.now place)) }
+    {
+        match place {
+            Place::Dense(bit) => self.dense.leads_on(bit),
+            Place::Sparse(place) => self.sparse.leads_on(place),
         }
     }
 

@@ -2,14 +2,15 @@
 ghost use Rattle.std.specs.Prelude.{◌≡◌, ◌<◌, ◌≤◌, length, Some};
 ghost use Rattle.filter_api.specs.Spellings.{MayStand};
 ghost use Rattle.filter_model.specs.Trie.{nodes, places};
-ghost use Rattle.filter_trie.specs.Leads.{IsLead};
 ghost use Rattle.filter_trie.specs.Parts.{upper};
 ghost use Rattle.filter_trie.specs.Places.{IsTaken, branch_number, string_at, trie};
+ghost use Rattle.louds_sparse.specs.Leads.{IsLead};
 ghost use Rattle.trie_model.specs.Halves.{begin_of};
 ghost use Rattle.trie_model.specs.Walks.{leftmost_slot};
 
-use super::place::{Lead, Place};
+use super::place::Place;
 use super::trie::Trie;
+use louds_sparse::Lead;
 use std::alloc::Allocator;
 
 impl<A: Allocator> Trie<A> {

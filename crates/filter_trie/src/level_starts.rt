@@ -31,14 +31,14 @@ impl<A: Allocator> Trie<A> {
     }
 
     /// How many leaves stand before a place, and the first node whose branch stands there or later: what `leaf_slot` and
-    /// `first_below` say, by one count where the place is sparse.
+    /// `first_below` say, by one count less, and by one alone where the place is sparse.
     pub fn before_place(&self, place: Place) -> (u64, u64)
         requires { IsWithin self.now place }
         ensures slots { result.0 ≡ slot_at (trie self.now) (branch_number self.now place) }
         ensures below { result.1 ≡ first_below (trie self.now) (branch_number self.now place) }
     {
         match place {
-            Place::Dense(bit) => (self.dense.leaf_slot(bit), self.dense.first_below(bit)),
+            Place::Dense(bit) => self.dense.before_place(bit),
             Place::Sparse(place) => self.before_sparse(place),
         }
     }

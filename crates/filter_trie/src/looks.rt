@@ -7,6 +7,7 @@ ghost use Rattle.filter_trie.specs.Walks.{IsStep};
 use super::steps::Steps;
 use super::trie::Trie;
 use super::walk::Step;
+use louds_sparse::Lead;
 use std::alloc::Allocator;
 use std::sync::ledger::Ledger;
 
@@ -65,9 +66,9 @@ impl<A: Allocator> Trie<A> {
         let sparse = &self.sparse;
         match sparse.lead(node, byte) {
             None => Step::Miss,
-            Some((place, leads)) => match leads {
-                Some(child) => Step::Child(child),
-                None => Step::Leaf(sparse.leaf_slot(place)),
+            Some((_, lead)) => match lead {
+                Lead::Child(child) => Step::Child(child),
+                Lead::Leaf(slot) => Step::Leaf(slot),
             },
         }
     }

@@ -1,4 +1,4 @@
-//! Where a branch stands, and where it leads.
+//! Where a branch stands.
 
 /// The place of a branch: that of its byte in the dense half, or its own in the sparse half.
 ///
@@ -8,10 +8,4 @@
 pub enum Place {
     Dense(u64),
     Sparse(u64),
-}
-
-/// Where a branch leads: to a node, or to the leaf of a slot.
-pub(crate) enum Lead {
-    Child(u64),
-    Leaf(u64),
 }

@@ -1,7 +1,7 @@
 -- What the sections say of the nodes that they spell.
 use Rattle.std.proofs.Common.{◌≡◌, ℕ, suc, ◌+◌, ◌*◌, ◌/◌, ◌%◌, ◌<◌, ◌≤◌, Bool, true, false, cond, Some, None, List, [], ◌∷◌, length, get_or, take, refl, ap, subst, sym, ◌∙◌, arith, inl, inr}
-use Rattle.std.specs.Prelude.{count_by, not}
-use Rattle.std.proofs.lemmas.Bool.{cases_lt}
+use Rattle.std.specs.Prelude.{count_by, is_some, not}
+use Rattle.std.proofs.lemmas.Bool.{cases_lt, true≢false}
 use Rattle.std.proofs.lemmas.List.{get_or-map, length-map, length-take-le, take_all}
 use Rattle.std.proofs.lemmas.List.Sums.{count_by-le-length, sum_by-take-le}
 use Rattle.bit_words.specs.Counts.{rank_of}
@@ -38,6 +38,25 @@ covered ns p k q r l = less (rank_of (dense_children ns) p) (rank_of (dense_labe
   where
     less : (c a b d m q : ℕ) → a + b ≡ q → c ≡ d → d + m ≡ q → c ≤ a + b
     less c a b d m q e f g = omega (arith, e, f, g)
+
+some_if : (b : Bool) (n : ℕ) → is_some (cond b (Some n) None) ≡ b
+some_if true n = refl
+some_if false n = refl
+
+-- the node that a place leads to, by whether it leads to one
+pub led_some : (ns : List Node) (p below : ℕ) → below ≡ first_below ns p → is_some (child_at ns p) ≡ true → Some below ≡ child_at ns p
+led_some ns p below e on = go (has_child (node_at ns (p / 256)) (p % 256)) on
+  where
+    go : (b : Bool) → is_some (cond b (Some (first_below ns p)) None) ≡ true → Some below ≡ cond b (Some (first_below ns p)) None
+    go true h = ap (λ (k : ℕ). Some k) e
+    go false h = absurd (true≢false (sym h))
+
+pub led_none : (ns : List Node) (p : ℕ) → is_some (child_at ns p) ≡ false → None ≡ child_at ns p
+led_none ns p off = go (has_child (node_at ns (p / 256)) (p % 256)) off
+  where
+    go : (b : Bool) → is_some (cond b (Some (first_below ns p)) None) ≡ false → None ≡ cond b (Some (first_below ns p)) None
+    go true h = absurd (true≢false h)
+    go false h = refl
 
 module _ {labels children ends : List Bool} {ns : List Node} (s : IsSpelled labels children ends ns) where
   pub length_labels : length labels ≡ 256 * length ns
@@ -87,11 +106,12 @@ module _ {labels children ends : List Bool} {ns : List Node} (s : IsSpelled labe
   pub children_counted : (p : ℕ) → p ≤ 256 * length ns → count_by (λ (b : Bool). b) (take p children) ≡ children_before ns (branches_before ns p)
   children_counted p l = ap (λ (bits : List Bool). rank_of bits p) s.children_are ∙ (ranked p l).1.below
 
-  pub child_some : (p below : ℕ) → p < 256 * length ns → below ≡ first_below ns p → get_or children p false ≡ true → Some below ≡ child_at ns p
-  child_some p below l e on = ap (λ (k : ℕ). Some k) e ∙ ap (λ (t : Bool). cond t (Some (first_below ns p)) None) (sym (sym (child_bit p l) ∙ on))
+  pub leads_is : (p : ℕ) → p < 256 * length ns → get_or children p false ≡ is_some (child_at ns p)
+  leads_is p l = child_bit p l ∙ sym (some_if (has_child (node_at ns (p / 256)) (p % 256)) (first_below ns p))
 
-  pub child_none : (p : ℕ) → p < 256 * length ns → get_or children p false ≡ false → None ≡ child_at ns p
-  child_none p l off = ap (λ (t : Bool). cond t (Some (first_below ns p)) None) (sym (sym (child_bit p l) ∙ off))
+  -- the set bits for children are those of the nodes
+  pub children_to : (p n : ℕ) → n ≡ rank_of children p → n ≡ rank_of (dense_children ns) p
+  children_to p n e = e ∙ ap (λ (bits : List Bool). rank_of bits p) s.children_are
 
   pub covered_at : (p k : ℕ) → p ≤ 256 * length ns → (p / 256 < length ns → k ≡ p / 256 + 1) → (length ns ≤ p / 256 → k ≡ length ns)
       → rank_of (dense_children ns) p ≤ rank_of (dense_labels ns) p + rank_of (dense_ends ns) k

@@ -1,5 +1,5 @@
 //! The half and its calls.
-ghost use Rattle.std.specs.Prelude.{◌≡◌, ◌≤◌, ◌<◌, ◌+◌, ◌*◌, ◌%◌, ◌^◌, length, IsTrue, ◌↔◌};
+ghost use Rattle.std.specs.Prelude.{◌≡◌, ◌≤◌, ◌<◌, ◌+◌, ◌*◌, ◌%◌, ◌^◌, length, is_some, IsTrue, ◌↔◌};
 ghost use Rattle.bit_words.specs.Counts.{rank_of};
 ghost use Rattle.bit_model.specs.Packed.{packed};
 ghost use Rattle.filter_model.specs.Image.{dense_children, dense_ends, dense_labels};
@@ -78,10 +78,11 @@ impl<A: Allocator> Dense<A> {
     {
         let nodes = self.prefix.bits().len();
         let places = ROW_BITS * nodes;
+        let children = self.has_child.rank(places);
         Before {
             nodes: nodes as u64,
-            children: self.has_child.rank(places) as u64,
-            slots: self.leaves_to(places, self.prefix.rank(nodes)),
+            children: children as u64,
+            slots: self.leaves_to(places, self.prefix.rank(nodes), children),
         }
     }
 
@@ -148,8 +149,20 @@ impl<A: Allocator> Dense<A> {
         requires { place < places_in self.now }
         ensures { result ≡ child_at self.now place }
     {
-        let (leads, before) = self.has_child.bit_and_rank(place as usize);
-        if leads { Some(before as u64 + 1) } else { None }
+        if self.leads_on(place) {
+            let (_, before) = self.has_child.bit_and_rank(place as usize);
+            Some(before as u64 + 1)
+        } else {
+            None
+        }
+    }
+
+    /// Whether a branch stands at a place that leads to a node: whether `child` finds one there. It counts nothing.
+    pub fn leads_on(&self, place: u64) -> bool
+        requires { place < places_in self.now }
+        ensures { result ≡ is_some (child_at self.now place) }
+    {
+        self.has_child.bits().get(place as usize)
     }
 
     /// How many leaves stand before a place, whether or not it is a branch: the slot of a leaf there.
@@ -157,8 +170,7 @@ impl<A: Allocator> Dense<A> {
         requires { place ≤ places_in self.now }
         ensures { result ≡ slot_at self.now place }
     {
-        let nodes = (place as usize / ROW_BITS + 1).min(self.prefix.bits().len());
-        self.leaves_to(place as usize, self.prefix.rank(nodes))
+        self.before_place(place).0
     }
 
     /// The first node whose branch stands at a place or later, or the number of these nodes and their children where there
@@ -170,6 +182,21 @@ impl<A: Allocator> Dense<A> {
         self.has_child.rank(place as usize) as u64 + 1
     }
 
+    /// How many leaves stand before a place, and the first node whose branch stands there or later: what `leaf_slot` and
+    /// `first_below` say, by three counts in place of four.
+    pub fn before_place(&self, place: u64) -> (u64, u64)
+        requires { place ≤ places_in self.now }
+        ensures slots { result.0 ≡ slot_at self.now place }
+        ensures below { result.1 ≡ first_below self.now place }
+    {
+        let nodes = (place as usize / ROW_BITS + 1).min(self.prefix.bits().len());
+        let children = self.has_child.rank(place as usize);
+        (
+            self.leaves_to(place as usize, self.prefix.rank(nodes), children),
+            children as u64 + 1,
+        )
+    }
+
     /// How many leaves stand before a node: those of the nodes before it. Of the number of these nodes it is all leaves.
     ///
     /// `leaf_slot` at the node's first place counts the node's END too.
@@ -179,7 +206,7 @@ impl<A: Allocator> Dense<A> {
     {
         let node = node as usize;
         let ends = self.prefix.rank(node);
-        self.leaves_to(ROW_BITS * node, ends)
+        self.leaves_to(ROW_BITS * node, ends, self.has_child.rank(ROW_BITS * node))
     }
 
     /// The slot of the node's END, or `None` where END is no branch of it.
@@ -237,15 +264,17 @@ impl<A: Allocator> Dense<A> {
         self.prefix.bits()
     }
 
-    // How many leaves stand before a place, where `ends` nodes of those before it have END.
-    fn leaves_to(&self, place: usize, ends: usize) -> u64
+    // How many leaves stand before a place, where `ends` nodes of those before it have END, and `children` branches before it
+    // lead to a node.
+    fn leaves_to(&self, place: usize, ends: usize, children: usize) -> u64
         requires place { place ≤ places_in self.now }
         requires ends { ends ≤ length self.now }
+        requires children { children ≡ rank_of (dense_children self.now) place }
         requires covered { rank_of (dense_children self.now) place ≤ rank_of (dense_labels self.now) place + ends }
         ensures sum { result + rank_of (dense_children self.now) place ≡ rank_of (dense_labels self.now) place + ends }
         ensures few { result < 2 ^ 62 }
     {
         let branches = self.labels.rank(place) + ends;
-        (branches - self.has_child.rank(place)) as u64
+        (branches - children) as u64
     }
 }

@@ -6,3 +6,4 @@ pub use Rattle.trie_model.specs.Halves
 pub mod Spelling
 pub mod Cuts
 pub mod Building
+pub mod Leads

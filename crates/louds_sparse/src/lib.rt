@@ -27,9 +27,11 @@
 #![tactic(auto)]
 
 mod builder;
+mod lead;
 mod sections;
 mod sparse;
 
 pub use builder::SparseBuilder;
+pub use lead::Lead;
 pub use sparse::Sparse;
 pub use trie_model::{Before, Branch};

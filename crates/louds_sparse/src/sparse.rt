@@ -1,5 +1,5 @@
 //! The half and its calls.
-ghost use Rattle.std.specs.Prelude.{◌≡◌, ◌≤◌, ◌<◌, ◌+◌, ◌-◌, ◌==◌, ◌&&◌, nat_lt, length, slice_index, IfSome, IsTrue, ◌↔◌};
+ghost use Rattle.std.specs.Prelude.{◌≡◌, ◌≤◌, ◌<◌, ◌+◌, ◌-◌, ◌==◌, ◌&&◌, nat_lt, length, slice_index, is_some, IfSome, IsTrue, ◌↔◌};
 ghost use Rattle.std.specs.Option.{option_map};
 ghost use Rattle.bit_rank.specs.Words.{IsWordOf};
 ghost use Rattle.bit_model.specs.Packed.{packed};
@@ -7,9 +7,11 @@ ghost use Rattle.filter_model.specs.Image.{sparse_children, sparse_labels, spars
 ghost use Rattle.filter_model.specs.Nodes.{first_place};
 ghost use Rattle.filter_model.specs.Trie.{END};
 ghost use Rattle.louds_sparse.specs.Cuts.{AreSearched, IsCut, StandBytes};
+ghost use Rattle.louds_sparse.specs.Leads.{IsLead};
 ghost use Rattle.louds_sparse.specs.Spelling.{IsSpelled, half_in};
 ghost use Rattle.trie_model.specs.Halves.{HasNode, begin_of, branch_place, byte_at, child_at, end_slot, first_below, next_place, places_in, prev_place, slot_at};
 
+use super::lead::Lead;
 use super::sections::END_LABEL;
 use bit_rank::{Ranked, RankedWord};
 use bit_select::Selected;
@@ -117,18 +119,18 @@ impl<A: Allocator> Sparse<A> {
         }
     }
 
-    /// The place of the node's branch by this byte, and the node that it leads to, if it is no leaf: what `branch` and `child`
-    /// say. `None` where the node has none; END is no byte.
-    pub fn lead(&self, node: u64, byte: u8) -> Option<(u64, Option<u64>)>
+    /// The place of the node's branch by this byte, and where it leads: what `branch` says, and `child` or `leaf_slot`, by one
+    /// count. `None` where the node has none; END is no byte.
+    pub fn lead(&self, node: u64, byte: u8) -> Option<(u64, Lead)>
         requires { HasNode self.now node }
         ensures place { option_map (λ lead. lead.0) result ≡ branch_place self.now node byte }
-        ensures child { IfSome result (λ lead. lead.1 ≡ child_at self.now lead.0) }
+        ensures leads { IfSome result (λ lead. IsLead self.now lead.0 lead.1) }
     {
         let (start, end) = self.searched(node, byte);
         // Read before the labels, so that the processor waits for both at once.
         let word = self.has_child.word_of(start);
         match find_label_between(&self.labels, start, end, byte) {
-            Some(place) => Some((place as u64, self.child_by(word, place))),
+            Some(place) => Some((place as u64, self.lead_by(word, place))),
             None => None,
         }
     }
@@ -177,7 +179,18 @@ impl<A: Allocator> Sparse<A> {
         ensures { result ≡ child_at self.now place }
     {
         let place = place as usize;
-        self.child_by(self.has_child.word_of(place), place)
+        match self.lead_by(self.has_child.word_of(place), place) {
+            Lead::Child(node) => Some(node),
+            Lead::Leaf(_) => None,
+        }
+    }
+
+    /// Whether the branch at a place leads to a node: whether `child` finds one. It counts nothing.
+    pub fn leads_on(&self, place: u64) -> bool
+        requires { place < places_in self.now }
+        ensures { result ≡ is_some (child_at self.now place) }
+    {
+        self.has_child.bits().get(place as usize)
     }
 
     /// How many leaves stand before a place, those before this half counted in: the slot of the leaf there.
@@ -244,17 +257,17 @@ impl<A: Allocator> Sparse<A> {
         self.louds.bits()
     }
 
-    // The node that the branch at a place leads to, by a word of `has_child` that was read.
-    fn child_by(&self, word: RankedWord, place: usize) -> Option<u64>
+    // Where the branch at a place leads, by a word of `has_child` that was read. One count says both.
+    fn lead_by(&self, word: RankedWord, place: usize) -> Lead
         requires place { place < places_in self.now }
         requires word { IsWordOf (sparse_children self.now.nodes) word }
-        ensures { result ≡ child_at self.now place }
+        ensures { IsLead self.now place result }
     {
         let (leads, before) = self.has_child.bit_and_rank_by(word, place);
         if leads {
-            Some(self.before.children + before as u64 + 1)
+            Lead::Child(self.before.children + before as u64 + 1)
         } else {
-            None
+            Lead::Leaf(self.before.slots + (place - before) as u64)
         }
     }
 

@@ -1,7 +1,7 @@
 use Rattle.std.proofs.Common.{ℕ, subst, arith}
 use Rattle.filter_trie.proofs.Least.{byte_first, end_lead, some_byte}
 use Rattle.filter_trie.proofs.Numbers.{dense_next_taken}
-use Rattle.filter_trie.specs.Leads.{IsLead}
+use Rattle.louds_sparse.specs.Leads.{IsLead}
 use Rattle.filter_trie.specs.Places.{trie}
 use Rattle.filter_trie.specs.Parts.{AreParts}
 use Rattle.filter_trie.proofs.trie.Trie.first_dense_lead.Goals as goal

@@ -1,7 +1,7 @@
 use Rattle.std.proofs.Common.{ℕ, ◌∙◌, ap, subst, arith}
 use Rattle.filter_trie.proofs.Least.{first_taken}
 use Rattle.filter_trie.proofs.Numbers.{behind, sparse_begins, sparse_behind}
-use Rattle.filter_trie.specs.Leads.{IsLead}
+use Rattle.louds_sparse.specs.Leads.{IsLead}
 use Rattle.filter_trie.specs.Places.{trie}
 use Rattle.trie_model.specs.Halves.{Half, begin_of}
 use Rattle.filter_model.specs.Nodes.{all}

@@ -1,7 +1,9 @@
-use Rattle.std.proofs.Common.{arith, sym, ◌∙◌}
-use Rattle.filter_trie.proofs.Halves.{has_node, sparse_branch, sparse_within}
+use Rattle.filter_trie.proofs.Halves.{has_node}
 use Rattle.filter_trie.proofs.Walking.{sparse_down, sparse_leaf, sparse_none, there_both}
 use Rattle.filter_trie.specs.Parts.{AreParts, lower, upper}
+use Rattle.louds_sparse.specs.Leads.{IsLead}
+use Rattle.louds_sparse.specs.declared.lead.Lead.TheVariants as lead
+use Rattle.trie_laws.specs.Halves.{second_half}
 use Rattle.filter_trie.proofs.trie.Trie.sparse_step.Goals as goal
 
 pub lead-requires : goal.lead-requires
@@ -9,23 +11,19 @@ lead-requires g c =
     let s : AreParts c.args.self.now c.self.inside.cutoff c.self.inside.height c.self.inside.dense c.self.inside.sparse c.self.inside.suffixes = rw c.self.view_is at c.self.invariant.0 in
     rw s.sparse_is (has_node (upper c.args.self.now.cutoff c.args.self.now.leaves) (lower c.args.self.now.cutoff c.args.self.now.leaves) c.args.node c.requires.behind (there_both s c.args.node c.requires.there))
 
-pub leaf_slot-requires : goal.leaf_slot-requires
-leaf_slot-requires g c =
-    let s : AreParts c.args.self.now c.self.inside.cutoff c.self.inside.height c.self.inside.dense c.self.inside.sparse c.self.inside.suffixes = rw c.self.view_is at c.self.invariant.0 in
-    let in' = sparse_within (upper c.args.self.now.cutoff c.args.self.now.leaves) (lower c.args.self.now.cutoff c.args.self.now.leaves) c.args.node c.requires.behind (there_both s c.args.node c.requires.there) c.args.byte c.in-Some.place (sparse_branch (upper c.args.self.now.cutoff c.args.self.now.leaves) (lower c.args.self.now.cutoff c.args.self.now.leaves) c.args.node c.requires.behind (there_both s c.args.node c.requires.there) c.args.byte c.in-Some.place (rw s.sparse_is at c.in-Some.ensures.place)) in
-    rw s.sparse_is (omega (arith, in'))
-
 pub returns-in-None : goal.returns-in-None
 returns-in-None g c =
     let s : AreParts c.args.self.now c.self.inside.cutoff c.self.inside.height c.self.inside.dense c.self.inside.sparse c.self.inside.suffixes = rw c.self.view_is at c.self.invariant.0 in
     sparse_none s c.args.node c.requires.behind c.requires.there c.args.byte c.ranges.byte.fits (rw s.sparse_is at c.in-None.ensures.place)
 
-pub returns-in-Some-leads : goal.returns-in-Some-leads
-returns-in-Some-leads g c =
+pub returns-in-Child : goal.returns-in-Child
+returns-in-Child g c =
     let s : AreParts c.args.self.now c.self.inside.cutoff c.self.inside.height c.self.inside.dense c.self.inside.sparse c.self.inside.suffixes = rw c.self.view_is at c.self.invariant.0 in
-    sparse_down s c.args.node c.requires.behind c.requires.there c.args.byte c.in-Some.place c.in-Some-leads.child (rw s.sparse_is at c.in-Some.ensures.place) (sym c.in-Some-leads.is ∙ rw s.sparse_is at c.in-Some.ensures.child)
+    let l : IsLead (second_half (upper c.args.self.now.cutoff c.args.self.now.leaves) (lower c.args.self.now.cutoff c.args.self.now.leaves)) c.in-Some.field-0-0 (lead.Child c.in-Child.child) = rw s.sparse_is at rw c.in-Child.is at c.in-Some.ensures.leads in
+    sparse_down s c.args.node c.requires.behind c.requires.there c.args.byte c.in-Some.field-0-0 c.in-Child.child (rw s.sparse_is at c.in-Some.ensures.place) l
 
-pub returns-in-None-leads : goal.returns-in-None-leads
-returns-in-None-leads g c =
+pub returns-in-Leaf : goal.returns-in-Leaf
+returns-in-Leaf g c =
     let s : AreParts c.args.self.now c.self.inside.cutoff c.self.inside.height c.self.inside.dense c.self.inside.sparse c.self.inside.suffixes = rw c.self.view_is at c.self.invariant.0 in
-    sparse_leaf s c.args.node c.requires.behind c.requires.there c.args.byte c.in-Some.place c.leaf_slot.result (rw s.sparse_is at c.in-Some.ensures.place) (sym c.in-None-leads.is ∙ rw s.sparse_is at c.in-Some.ensures.child) (rw s.sparse_is at c.leaf_slot.ensures)
+    let l : IsLead (second_half (upper c.args.self.now.cutoff c.args.self.now.leaves) (lower c.args.self.now.cutoff c.args.self.now.leaves)) c.in-Some.field-0-0 (lead.Leaf c.in-Leaf.slot) = rw s.sparse_is at rw c.in-Leaf.is at c.in-Some.ensures.leads in
+    sparse_leaf s c.args.node c.requires.behind c.requires.there c.args.byte c.in-Some.field-0-0 c.in-Leaf.slot (rw s.sparse_is at c.in-Some.ensures.place) l.0 l.1

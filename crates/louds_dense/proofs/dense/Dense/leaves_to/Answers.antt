@@ -1,5 +1,5 @@
 use Rattle.std.proofs.Common.{arith}
-use Rattle.louds_dense.proofs.Spelled.{length_children, length_labels}
+use Rattle.louds_dense.proofs.Spelled.{length_labels}
 use Rattle.louds_dense.specs.Spelling.{IsSpelled}
 use Rattle.louds_dense.proofs.dense.Dense.leaves_to.Goals as goal
 
@@ -7,8 +7,3 @@ pub rank-requires : goal.rank-requires
 rank-requires g c =
     let s : IsSpelled c.self.inside.labels c.self.inside.has_child c.self.inside.prefix c.args.self.now = rw c.self.view_is at c.self.invariant in
     omega (arith, length_labels s, c.requires.place)
-
-pub rank-requires-2 : goal.rank-requires-2
-rank-requires-2 g c =
-    let s : IsSpelled c.self.inside.labels c.self.inside.has_child c.self.inside.prefix c.args.self.now = rw c.self.view_is at c.self.invariant in
-    omega (arith, length_children s, c.requires.place)

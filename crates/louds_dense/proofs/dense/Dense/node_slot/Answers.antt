@@ -1,5 +1,5 @@
-use Rattle.std.proofs.Common.{arith}
-use Rattle.louds_dense.proofs.Spelled.{covered_node, ends_to, few_ends, length_ends, node_slot_is}
+use Rattle.std.proofs.Common.{◌*◌, arith}
+use Rattle.louds_dense.proofs.Spelled.{children_to, covered_node, ends_to, few_ends, length_children, length_ends, node_slot_is}
 use Rattle.louds_dense.specs.Spelling.{IsSpelled}
 use Rattle.louds_dense.proofs.dense.Dense.node_slot.Goals as goal
 
@@ -12,6 +12,16 @@ pub rank-ends-requires : goal.rank-ends-requires
 rank-ends-requires g c =
     let s : IsSpelled c.self.inside.labels c.self.inside.has_child c.self.inside.prefix c.args.self.now = rw c.self.view_is at c.self.invariant in
     omega (arith, length_ends s, c.requires)
+
+pub rank-requires : goal.rank-requires
+rank-requires g c =
+    let s : IsSpelled c.self.inside.labels c.self.inside.has_child c.self.inside.prefix c.args.self.now = rw c.self.view_is at c.self.invariant in
+    omega (arith, length_children s, c.requires)
+
+pub leaves_to-requires-clause-children : goal.leaves_to-requires-clause-children
+leaves_to-requires-clause-children g c =
+    let s : IsSpelled c.self.inside.labels c.self.inside.has_child c.self.inside.prefix c.args.self.now = rw c.self.view_is at c.self.invariant in
+    children_to s (256 * c.args.node) c.rank.result c.rank.ensures
 
 pub leaves_to-requires-clause-ends : goal.leaves_to-requires-clause-ends
 leaves_to-requires-clause-ends g c =

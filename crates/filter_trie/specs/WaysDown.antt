@@ -1,18 +1,12 @@
--- Where branches lead.
-use Rattle.std.specs.Prelude.{◌≡◌, ℕ, ◌-◌, ◌<◌, List, [], length, get_or, Some, None}
+-- The way down to the least leaf.
+use Rattle.std.specs.Prelude.{◌≡◌, ℕ, ◌-◌, ◌<◌, List, [], length, get_or}
 use Rattle.filter_model.specs.Leaves.{Leaf}
 use Rattle.filter_model.specs.Trie.{nodes}
 use Rattle.filter_trie.specs.Walks.{IsSlotAt}
-use Rattle.filter_trie.specs.declared.place.Lead.{Lead}
-use Rattle.filter_trie.specs.declared.place.Lead.TheVariants as lead
-use Rattle.trie_model.specs.Halves.{Half, child_at, slot_at}
+use Rattle.louds_sparse.specs.declared.lead.Lead.{Lead}
+use Rattle.louds_sparse.specs.declared.lead.Lead.TheVariants as lead
 use Rattle.trie_model.specs.Rests.{first_leaf}
 use Rattle.trie_model.specs.Walks.{least_path}
-
--- the branch of this number leads there
-abbrev pub IsLead : Half → ℕ → Lead → Type 0
-IsLead h n (lead.Child v) = Some v ≡ child_at h n
-IsLead h n (lead.Leaf s) = (None ≡ child_at h n) × (s ≡ slot_at h n)
 
 -- the least leaf there is the least one behind q
 abbrev pub IsOnWay : List Leaf → List ℕ → Lead → Type 0
