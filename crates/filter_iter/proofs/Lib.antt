@@ -9,6 +9,7 @@ pub mod MetLeaves
 mod Bounds
 mod ByNumber
 mod Branching
+mod SpotCounts
 mod Siblings
 mod NextNodes
 mod WayLists

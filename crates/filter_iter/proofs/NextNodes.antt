@@ -92,11 +92,16 @@ module _ (hash_bits real_bits : ℕ) (i : Filter) (valid : IsValid hash_bits rea
   pub mark_within : m.place < length (all ss)
   mark_within = omega (arith, begins_here, up, inside)
 
-  ended : (e : ℕ) → e ≡ first_place ss (w + 1) → BeginsNode i m.node (record { place = m.place; end = e })
-  ended e f = record { sparse = is.sparse; begin = is.begin; end = omega (arith, f, there); within = omega (arith, f, inside) }
+  ended : (e : ℕ) → e ≡ first_place ss (w + 1) → BeginsNode i m.node (record { place = m.place; end = e; below = m.below })
+  ended e f = record {
+    sparse = is.sparse;
+    begin = is.begin;
+    end = omega (arith, f, there);
+    spot = record { taken = omega (arith, f, begins_here, up); within = omega (arith, f, inside); below = is.below };
+  }
 
-  pub marked_found : (bits : List Bool) → bits ≡ sparse_louds ss → (p : ℕ) → IsFirstBetween (is_set_at bits) (m.place + 1) (length bits) p → BeginsNode i m.node (record { place = m.place; end = p })
+  pub marked_found : (bits : List Bool) → bits ≡ sparse_louds ss → (p : ℕ) → IsFirstBetween (is_set_at bits) (m.place + 1) (length bits) p → BeginsNode i m.node (record { place = m.place; end = p; below = m.below })
   marked_found bits e p at = ended p (next_found ss sparse_form w in_ss up p (rw (e, begins_here) at at))
 
-  pub marked_end : (bits : List Bool) → bits ≡ sparse_louds ss → HoldsNowhere (is_set_at bits) (m.place + 1) (length bits) → (p : ℕ) → p ≡ length (all ss) → BeginsNode i m.node (record { place = m.place; end = p })
+  pub marked_end : (bits : List Bool) → bits ≡ sparse_louds ss → HoldsNowhere (is_set_at bits) (m.place + 1) (length bits) → (p : ℕ) → p ≡ length (all ss) → BeginsNode i m.node (record { place = m.place; end = p; below = m.below })
   marked_end bits e none p f = ended p (f ∙ next_end ss sparse_form w in_ss up (rw (e, begins_here) at none))

@@ -3,7 +3,7 @@ use Rattle.std.proofs.Common.{◌≡◌, ℕ, ◌+◌, ◌-◌, ◌<◌, ◌≤�
 use Rattle.std.specs.Prelude.{◌&&◌, ◌==◌, not}
 use Rattle.std.proofs.lemmas.Bool.{cases_eq, cases_lt, eq-eqb, eqb-true, false≢true, ne_eqb}
 use Rattle.std.proofs.lemmas.List.{length-append}
-use Rattle.filter_iter.specs.Spots.{BeginsNode, IsFirstBranch}
+use Rattle.filter_iter.specs.Spots.{BeginsNode, IsFirstBranch, below_place}
 use Rattle.filter_iter.specs.Ways.{HasBranch, IsLeadAt, LeadGoesTo, leaves_to}
 use Rattle.filter_iter.specs.declared.parts.Branch.{Branch}
 use Rattle.filter_iter.specs.declared.parts.Lead.{Lead}
@@ -227,16 +227,28 @@ begins_at i v from =
 pub in_sparse : (i : Filter) (v : ℕ) → length (upper i.cutoff i.leaves) ≤ v → v < length (nodes i.leaves) → HasNode (second_half (upper i.cutoff i.leaves) (lower i.cutoff i.leaves)) v
 in_sparse i v from to = (from, omega (arith, to, length-nodes i, length-append (upper i.cutoff i.leaves) (lower i.cutoff i.leaves)))
 
-pub node_begins : (i : Filter) (v : ℕ) → length (upper i.cutoff i.leaves) ≤ v → v < length (nodes i.leaves) → (s : Spot)
-    → s.place ≡ begin_of (second_half (upper i.cutoff i.leaves) (lower i.cutoff i.leaves)) v → s.end ≡ begin_of (second_half (upper i.cutoff i.leaves) (lower i.cutoff i.leaves)) (v + 1) → BeginsNode i v s
-node_begins i v from to s e f =
+pub begin_within : (i : Filter) (v : ℕ) → length (upper i.cutoff i.leaves) ≤ v → v < length (nodes i.leaves) → (p : ℕ) → p ≡ begin_of (second_half (upper i.cutoff i.leaves) (lower i.cutoff i.leaves)) v → p ≤ length (all (lower i.cutoff i.leaves))
+begin_within i v from to p e =
     let ds = upper i.cutoff i.leaves in
     let ss = lower i.cutoff i.leaves in
+    omega (arith, e, node_within ss (v - length ds) (omega (arith, from, to, length-nodes i, length-append ds ss)))
+
+pub node_begins : (hash_bits real_bits : ℕ) (i : Filter) (v : ℕ) → IsValid hash_bits real_bits i.leaves → length (upper i.cutoff i.leaves) ≤ v → v < length (nodes i.leaves) → (s : Spot)
+    → s.place ≡ begin_of (second_half (upper i.cutoff i.leaves) (lower i.cutoff i.leaves)) v → s.end ≡ begin_of (second_half (upper i.cutoff i.leaves) (lower i.cutoff i.leaves)) (v + 1) → s.below ≡ below_place i s.place → BeginsNode i v s
+node_begins hash_bits real_bits i v valid from to s e f below =
+    let ds = upper i.cutoff i.leaves in
+    let ss = lower i.cutoff i.leaves in
+    let begin : length (all ds) + s.place ≡ first_place (trie_of i.leaves) v = ap (λ (k : ℕ). length (all ds) + k) e ∙ begins_at i v from in
+    let end : length (all ds) + s.end ≡ first_place (trie_of i.leaves) (v + 1) = ap (λ (k : ℕ). length (all ds) + k) f ∙ begins_at i (v + 1) (omega (arith, from)) in
     record {
       sparse = from;
-      begin = ap (λ (k : ℕ). length (all ds) + k) e ∙ begins_at i v from;
-      end = ap (λ (k : ℕ). length (all ds) + k) f ∙ begins_at i (v + 1) (omega (arith, from));
-      within = omega (arith, f, node_within ss (v + 1 - length ds) (omega (arith, from, to, length-nodes i, length-append ds ss)));
+      begin = begin;
+      end = end;
+      spot = record {
+        taken = omega (arith, begin, end, some_branch hash_bits real_bits i.leaves valid v to);
+        within = omega (arith, f, node_within ss (v + 1 - length ds) (omega (arith, from, to, length-nodes i, length-append ds ss)));
+        below = below;
+      };
     }
 
 -- a branch that is found is one

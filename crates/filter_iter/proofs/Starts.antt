@@ -6,19 +6,26 @@ use Rattle.std.proofs.lemmas.List.Concat.{flat_map-append}
 use Rattle.std.proofs.lemmas.List.Elements.{filter-append}
 use Rattle.std.proofs.lemmas.List.Sums.{length-filter, sum_by-take-le}
 use native.Mathlib.Nat.{mul-le-mul_right}
+use Rattle.filter_api.specs.Spellings.{MayStand}
+use Rattle.filter_image_model.proofs.OneImage.{room}
 use Rattle.filter_image_model.proofs.Paths.{fine_paths, trie_flat}
 use Rattle.filter_image_model.proofs.Sizes.{few_nodes, low_height, total_of}
 use Rattle.filter_iter.proofs.Counts.{behind_first, leaves-trie_of}
-use Rattle.filter_model.specs.Leaves.{Leaf}
+use Rattle.filter_model.specs.Leaves.{Filter, Leaf}
 use Rattle.filter_model.specs.Nodes.{Branch, Node, all, children_before, first_place, leaves_before, trie_of}
 use Rattle.filter_model.specs.Trie.{branches, height, is_node, level, nodes, nodes_to, path, places, slots}
 use Rattle.filter_model.specs.Valid.{IsValid}
 use Rattle.filter_trie.proofs.Levels.{levels_within}
-use Rattle.louds_dense.proofs.Ranks.{node_within}
+use Rattle.filter_trie.proofs.Parts.{joined}
+use Rattle.filter_trie.specs.Parts.{lower, upper}
+use Rattle.filter_trie.specs.Places.{trie as trie_in}
+use Rattle.louds_dense.proofs.Ranks.{before_within, node_within}
+use Rattle.louds_dense.specs.Places.{branches_before}
+use Rattle.trie_laws.proofs.Joining.{halves_join}
 use Rattle.trie_laws.proofs.Places.{children-trie_of, first-trie_of, length-all, length-trie_of}
 use Rattle.trie_laws.proofs.Slots.{leaves_have_slots}
 use Rattle.trie_levels.specs.Tries.{HasTrie}
-use Rattle.trie_model.specs.Halves.{begin_of, first_below, whole}
+use Rattle.trie_model.specs.Halves.{begin_of, first_below, slot_at, whole}
 use Rattle.trie_model.specs.Rests.{leaves_below}
 
 -- ---- more of a list
@@ -110,3 +117,18 @@ node_fits hash_bits real_bits ls valid =
     let low : h * length ls ≤ 1024 * length ls = mul-le-mul_right (length ls) (low_height hash_bits real_bits ls valid) in
     let many = valid.few in
     omega (arith, few, low, many, ap (λ (ns : List Node). length ns) (trie_flat ls h (omega arith) fine), length-trie_of ls)
+
+-- where the dense half has no leaf, none stands before its places
+pub none_before_dense : (i : Filter) (p : ℕ) → MayStand i.hash_bits i.real_bits i.cutoff i.leaves → leaves_before (upper i.cutoff i.leaves) (length (all (upper i.cutoff i.leaves))) ≡ 0
+    → slot_at (trie_in i) (branches_before (upper i.cutoff i.leaves) p) ≡ 0
+none_before_dense i p stands none =
+    let ds = upper i.cutoff i.leaves in
+    let n = branches_before ds p in
+    let l = before_within ds p (room i.hash_bits i.real_bits i.cutoff i.leaves stands).dense_nodes in
+    omega (
+      arith,
+      none,
+      sum_up (λ (b : Branch). cond (not b.1) 1 0) (all ds) n (length (all ds)) l,
+      (halves_join ds (lower i.cutoff i.leaves)).0.leaves n l,
+      ap (λ (ns : List Node). slot_at (whole ns) n) (joined i),
+    )

@@ -1,5 +1,6 @@
 -- Down by a byte of a bound.
 use Rattle.std.proofs.Common.{◌≡◌, ℕ, suc, ◌+◌, ◌-◌, ◌*◌, ◌<◌, ◌≤◌, Bool, true, false, cond, Option, Some, None, List, [], ◌∷◌, ◌++◌, length, get_or, map, refl, ap, subst, sym, ◌∙◌, arith, inl, inr, eqb, nat_lt, le-ltb, lt-ltb}
+use Rattle.std.specs.Prelude.{is_some}
 use Rattle.std.specs.List.{AllByRecursion}
 use Rattle.std.specs.Option.{option_map}
 use Rattle.std.proofs.lemmas.Bool.{cases_eq, cases_lt, eqb-true, false≢true, ne_eqb, or_cases}
@@ -35,9 +36,24 @@ use Rattle.trie_laws.proofs.Places.{at-trie_of, last_letter-push, length-trie_of
 use Rattle.trie_levels.proofs.Totals.{valid_lists_have_tries}
 use Rattle.trie_levels.specs.Tries.{HasTrie}
 use Rattle.trie_model.specs.Branching.{next_at}
-use Rattle.trie_model.specs.Halves.{begin_of, byte_at, first_below, next_place, node_at, slot_at, whole}
+use Rattle.trie_model.specs.Halves.{Half, begin_of, byte_at, child_at, first_below, next_place, node_at, slot_at, whole}
 use Rattle.trie_model.specs.Letters.{order_of}
 use Rattle.trie_model.specs.Rests.{ahead, first_leaf, leaves_below, rests, tails}
+
+-- ---- where a branch leads, by whether it leads on
+
+some_if : (b : Bool) (k : ℕ) → is_some (cond b (Some k) None) ≡ b
+some_if true k = refl
+some_if false k = refl
+
+pub leads_bit : (h : Half) (n : ℕ) → is_some (child_at h n) ≡ (at h.nodes n).1
+leads_bit h n = some_if (at h.nodes n).1 (first_below h n)
+
+pub child_if : (h : Half) (n : ℕ) → true ≡ is_some (child_at h n) → Some (first_below h n) ≡ child_at h n
+child_if h n on = ap (λ (b : Bool). cond b (Some (first_below h n)) None) (on ∙ leads_bit h n)
+
+pub no_child_if : (h : Half) (n : ℕ) → false ≡ is_some (child_at h n) → None ≡ child_at h n
+no_child_if h n off = ap (λ (b : Bool). cond b (Some (first_below h n)) None) (off ∙ leads_bit h n)
 
 -- ---- how many strings begin before a letter
 

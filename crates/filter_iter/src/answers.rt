@@ -7,8 +7,9 @@ ghost use Rattle.filter_model.specs.Answers.{first, is_past, tally as tally_of};
 ghost use Rattle.filter_model.specs.Strings.{bits};
 ghost use Rattle.trie_model.specs.Rests.{first_leaf};
 
-use super::parts::{Reach, Reached};
-use super::reaching::{meet, reach};
+use super::borders::leaves_before;
+use super::parts::{Descent, Reached};
+use super::reaching::{follow, meet};
 use filter_trie::Trie;
 use std::alloc::Allocator;
 use suffix_bits::real_bits_of;
@@ -67,8 +68,12 @@ fn count_past<A: Allocator>(trie: &Trie<A>, lo: &[u8]) -> u64
     ensures stands { MayStand trie.now.hash_bits trie.now.real_bits trie.now.cutoff trie.now.leaves }
     ensures past { FirstPass (is_past trie.now.real_bits lo.now) trie.now.leaves result }
 {
-    let Reach { before, leaf } = reach(trie, lo);
-    before + past_at(trie, lo, leaf)
+    let height = usize::from(trie.height());
+    let (descent, level) = follow(trie, lo);
+    let Descent { border, leaf, .. } = descent;
+    // Asked before the other levels are counted, so that the processor waits for both at once.
+    let past = past_at(trie, lo, leaf);
+    leaves_before(trie, border, level, height) + past
 }
 
 /// The number, in key order from 0, of the first leaf that is not past `lo`, `None` where all are.

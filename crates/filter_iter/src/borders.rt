@@ -6,11 +6,11 @@ ghost use Rattle.std.specs.Prelude.{◌≡◌, ◌+◌, ◌<◌, ◌≤◌, ◌^
 ghost use Rattle.filter_api.specs.Spellings.{MayStand};
 ghost use Rattle.filter_iter.specs.Borders.{IsBorder, leaves_at};
 ghost use Rattle.filter_model.specs.Trie.{height as height_of, nodes};
-ghost use Rattle.filter_trie.specs.Places.{trie as trie_in};
+ghost use Rattle.filter_trie.specs.Places.{IsWithin, branch_number, trie as trie_in};
 ghost use Rattle.trie_model.specs.Halves.{begin_of, first_below, slot_at};
 
 use super::parts::Border;
-use filter_trie::Trie;
+use filter_trie::{Place, Trie};
 use std::alloc::Allocator;
 
 /// The border on the level of the root.
@@ -19,6 +19,22 @@ pub(crate) fn root_border() -> Border
     ensures sum { result.sum ≡ 0 }
 {
     Border { node: 0, sum: 0 }
+}
+
+/// How many leaves stand before a place, and the first node whose branch stands there or later. Where the dense half has no
+/// leaf, none stands before its places, and the nodes alone are counted.
+pub(crate) fn before<A: Allocator>(trie: &Trie<A>, place: Place) -> (u64, u64)
+    requires stands { MayStand trie.now.hash_bits trie.now.real_bits trie.now.cutoff trie.now.leaves }
+    requires place { IsWithin trie.now place }
+    ensures slots { result.0 ≡ slot_at (trie_in trie.now) (branch_number trie.now place) }
+    ensures below { result.1 ≡ first_below (trie_in trie.now) (branch_number trie.now place) }
+{
+    if let Place::Dense(_) = place {
+        if trie.sparse().before().slots == 0 {
+            return (0, trie.first_below(place));
+        }
+    }
+    trie.before_place(place)
 }
 
 /// The border one level down, where it stands before a node with all its branches.

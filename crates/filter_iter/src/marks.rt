@@ -8,23 +8,25 @@ ghost use Rattle.filter_model.specs.Trie.{nodes};
 
 use super::branches::first_branch;
 use super::parts::{Branch, Mark, Marks, Pass, Spot};
-use super::spots::branch_at_spot;
+use super::spots::{branch_at_spot, spot_behind};
 use filter_trie::Trie;
 use std::alloc::Allocator;
 
-/// Keeps where the node behind a pass's begins, if that is known and there is room.
-pub(crate) fn leave<A: Allocator>(_trie: &Trie<A>, pass: Pass, marks: &mut Marks)
-    requires stands { MayStand _trie.now.hash_bits _trie.now.real_bits _trie.now.cutoff _trie.now.leaves }
-    requires spot { HasSpot _trie.now pass }
-    requires node { pass.node < length (nodes _trie.now.leaves) }
-    requires marks { All (IsMark _trie.now) marks.old.items }
-    ensures { All (IsMark _trie.now) marks.new.items }
+/// Keeps where the node behind a pass's begins, if the pass is by its node's last branch, whose spot is known, and there is room.
+pub(crate) fn leave<A: Allocator>(trie: &Trie<A>, pass: Pass, marks: &mut Marks)
+    requires stands { MayStand trie.now.hash_bits trie.now.real_bits trie.now.cutoff trie.now.leaves }
+    requires spot { HasSpot trie.now pass }
+    requires node { pass.node < length (nodes trie.now.leaves) }
+    requires marks { All (IsMark trie.now) marks.old.items }
+    ensures { All (IsMark trie.now) marks.new.items }
 {
     if let Some(spot) = pass.spot {
-        if marks.len() < marks.capacity() {
+        let behind = spot_behind(trie, spot);
+        if behind.place == behind.end && marks.len() < marks.capacity() {
             marks.push_reserved(Mark {
                 node: pass.node + 1,
-                place: spot.end,
+                place: behind.place,
+                below: behind.below,
             });
         }
     }
@@ -53,7 +55,7 @@ fn marked_spot<A: Allocator>(trie: &Trie<A>, mark: Mark) -> Spot
     requires mark { IsMark trie.now mark }
     ensures { BeginsNode trie.now mark.node result }
 {
-    let place = mark.place;
+    let Mark { place, below, .. } = mark;
     let places = trie.sparse().place_count();
     match trie
         .sparse()
@@ -63,8 +65,13 @@ fn marked_spot<A: Allocator>(trie: &Trie<A>, mark: Mark) -> Spot
         Some(end) => Spot {
             place,
             end: end as u64,
+            below,
         },
-        None => Spot { place, end: places },
+        None => Spot {
+            place,
+            end: places,
+            below,
+        },
     }
 }
 

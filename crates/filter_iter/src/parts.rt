@@ -31,14 +31,6 @@ pub(crate) struct Descent {
     pub(crate) leaf: Option<Reached>,
 }
 
-/// What a bound meets.
-#[derive(Clone, Copy)]
-pub(crate) struct Reach {
-    /// How many leaves come before it, the one that it reaches not among them.
-    pub(crate) before: u64,
-    pub(crate) leaf: Option<Reached>,
-}
-
 /// Where a byte leads from a node: nowhere, to the leaf of a slot, or to a node.
 #[derive(Clone, Copy)]
 pub(crate) enum Turn {
@@ -64,6 +56,9 @@ pub(crate) struct Spot {
     pub(crate) place: u64,
     /// The place behind the last branch of the node.
     pub(crate) end: u64,
+    /// The first node whose branch stands there or later: where the branch leads to a node, that one. One place further it is
+    /// the same or the next node, so that a step counts nothing.
+    pub(crate) below: u64,
 }
 
 /// Where a node's branches begin among those of the sparse half: behind those of the node before it.
@@ -71,6 +66,8 @@ pub(crate) struct Spot {
 pub(crate) struct Mark {
     pub(crate) node: u64,
     pub(crate) place: u64,
+    /// The first node whose branch stands there or later.
+    pub(crate) below: u64,
 }
 
 /// Marks of the nodes that come next on the levels below a way, the one of the highest level last. They take no memory.

@@ -2,14 +2,14 @@
 
 ghost use Rattle.std.specs.Prelude.{◌≡◌, ◌<◌, ◌+◌, ◌++◌, ◌∷◌, [], false, true, length, get_or};
 ghost use Rattle.filter_api.specs.Spellings.{MayStand};
-ghost use Rattle.filter_iter.specs.Borders.{HaveMet, IsBorder, IsDescent, IsReached, IsTurn, IsTurnAt, LeadsOn, leaves_at};
+ghost use Rattle.filter_iter.specs.Borders.{HasLeft, HaveMet, IsBorder, IsDescent, IsTurn, IsTurnAt, LeadsOn, leaves_at};
 ghost use Rattle.filter_model.specs.Trie.{height as height_of, nodes};
 ghost use Rattle.filter_trie.specs.Places.{IsTaken, branch_number, trie as trie_in};
 ghost use Rattle.trie_model.specs.Halves.{slot_at};
 ghost use Rattle.trie_model.specs.Rests.{first_leaf};
 
-use super::borders::{below, root_border};
-use super::parts::{Border, Descent, Reach, Reached, Turn};
+use super::borders::{before, below, root_border};
+use super::parts::{Border, Descent, Reached, Turn};
 use filter_trie::{Place, Trie};
 use std::alloc::Allocator;
 
@@ -21,7 +21,7 @@ fn turn_at<A: Allocator>(trie: &Trie<A>, place: Place, byte: u8, slots: u64) -> 
 {
     if trie.byte_at(place) != byte {
         Turn::Nowhere
-    } else if trie.child(place).is_some() {
+    } else if trie.leads_on(place) {
         Turn::Node
     } else {
         Turn::Leaf(slots)
@@ -47,7 +47,7 @@ pub(crate) fn turn<A: Allocator>(trie: &Trie<A>, border: Border, byte: u8) -> (B
             (below(trie, behind), Turn::Nowhere)
         }
         Some(place) => {
-            let (slots, node) = trie.before_place(place);
+            let (slots, node) = before(trie, place);
             let next = Border {
                 node,
                 sum: border.sum + slots,
@@ -147,21 +147,21 @@ fn step<A: Allocator>(trie: &Trie<A>, bound: &[u8], level: usize, descent: Desce
     }
 }
 
-/// Goes down by a bound, to how many leaves come before it and the leaf that it reaches.
-pub(crate) fn reach<A: Allocator>(trie: &Trie<A>, bound: &[u8]) -> Reach
+/// Goes down by a bound to where it has left the trie, and gives the level there.
+pub(crate) fn follow<A: Allocator>(trie: &Trie<A>, bound: &[u8]) -> (Descent, usize)
     ensures stands { MayStand trie.now.hash_bits trie.now.real_bits trie.now.cutoff trie.now.leaves }
-    ensures before { result.before ≡ first_leaf trie.now.leaves bound.now }
-    ensures reached { IsReached trie.now.leaves bound.now result.leaf }
+    ensures border { IsBorder trie.now.leaves result.1 result.0.border }
+    ensures left { HasLeft trie.now.leaves bound.now result.1 result.0 }
 {
     let height = usize::from(trie.height());
     let mut descent = root_descent();
     for level in 0..height {
+        if !descent.leads {
+            return (descent, level);
+        }
         descent = step(trie, bound, level, descent);
     }
-    Reach {
-        before: descent.border.sum - trie.level_starts(),
-        leaf: descent.leaf,
-    }
+    (descent, height)
 }
 
 /// Goes down by two bounds together, to where they have left the trie at one node. From there on as many leaves stand before

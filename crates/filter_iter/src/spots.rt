@@ -1,13 +1,15 @@
-//! The branches of a node of the sparse half by their spots: the next one stands right behind, so that it is not searched for.
+//! The branches of a node of the sparse half by their spots: the next one stands right behind, so that it is not searched for,
+//! and where it leads follows from where the one before leads, so that nothing is counted.
 ghost use Rattle.std.specs.Prelude.{◌≡◌, ◌+◌, ◌++◌, ◌∷◌, [], ◌<◌, ◌≤◌, ◌==◌, ◌&&◌, not, cond, IfSome, get_or, length};
 ghost use Rattle.std.specs.Option.{option_map};
 ghost use Rattle.filter_api.specs.Spellings.{MayStand};
-ghost use Rattle.filter_iter.specs.Spots.{BeginsNode, HasSpot, IsFirstBranch, IsSpotOf, IsSpotIfKnown};
-ghost use Rattle.filter_iter.specs.Ways.{IsNextAt, leaves_to};
+ghost use Rattle.filter_iter.specs.Spots.{BeginsNode, HasSpot, IsFirstBranch, IsSpotOf, IsSpotIfKnown, IsTakenSpot, below_place};
+ghost use Rattle.filter_iter.specs.Ways.{IsLeadAt, IsNextAt, leaves_to};
 ghost use Rattle.filter_model.specs.Trie.{END, nodes};
+ghost use Rattle.filter_trie.specs.Places.{branch_number, trie as trie_in};
+ghost use Rattle.filter_trie.specs.declared.place.Place.TheVariants as in_half;
 
-use super::branches::lead_at;
-use super::parts::{Branch, END_LETTER, Pass, Spot};
+use super::parts::{Branch, END_LETTER, Lead, Pass, Spot};
 use filter_trie::{Place, Trie};
 use std::alloc::Allocator;
 
@@ -16,14 +18,16 @@ const END_LABEL: u8 = 255;
 
 /// The spot of a node's first branch, `None` where the node is in the dense half.
 pub(crate) fn node_spot<A: Allocator>(trie: &Trie<A>, node: u64) -> Option<Spot>
-    requires { node < length (nodes trie.now.leaves) }
+    requires stands { MayStand trie.now.hash_bits trie.now.real_bits trie.now.cutoff trie.now.leaves }
+    requires node { node < length (nodes trie.now.leaves) }
     ensures { IfSome result (BeginsNode trie.now node) }
 {
     if trie.dense().has_node(node) {
         return None;
     }
     let (place, end) = trie.sparse().node_range(node);
-    Some(Spot { place, end })
+    let below = trie.first_below(Place::Sparse(place));
+    Some(Spot { place, end, below })
 }
 
 /// The spot of a pass's branch: the pass has it, or it is searched for. `None` in the dense half, and of END.
@@ -48,8 +52,42 @@ fn search<A: Allocator>(trie: &Trie<A>, node: u64, byte: u8) -> Option<Spot>
 {
     let Spot { end, .. } = node_spot(trie, node)?;
     match trie.branch(node, byte) {
-        Some(Place::Sparse(place)) => Some(Spot { place, end }),
+        Some(Place::Sparse(place)) => {
+            let below = trie.first_below(Place::Sparse(place));
+            Some(Spot { place, end, below })
+        }
         _ => None,
+    }
+}
+
+// Where the branch at a spot leads. What stands before it are nodes' branches and leaves, so that the count of the nodes says
+// how many leaves there are.
+fn lead_at_spot<A: Allocator>(trie: &Trie<A>, spot: Spot) -> Lead
+    requires stands { MayStand trie.now.hash_bits trie.now.real_bits trie.now.cutoff trie.now.leaves }
+    requires spot { IsTakenSpot trie.now spot }
+    ensures { IsLeadAt (trie_in trie.now) (branch_number trie.now (in_half.Sparse spot.place)) result }
+{
+    if trie.leads_on(Place::Sparse(spot.place)) {
+        return Lead::Node(spot.below);
+    }
+    let before = trie.sparse().before();
+    let leading = spot.below - before.children - 1;
+    Lead::Leaf(before.slots + (spot.place - leading))
+}
+
+/// One place further. Behind the last branch of a node the next node begins.
+pub(crate) fn spot_behind<A: Allocator>(trie: &Trie<A>, spot: Spot) -> Spot
+    requires stands { MayStand trie.now.hash_bits trie.now.real_bits trie.now.cutoff trie.now.leaves }
+    requires spot { IsTakenSpot trie.now spot }
+    ensures place { result.place ≡ spot.place + 1 }
+    ensures end { result.end ≡ spot.end }
+    ensures below { result.below ≡ below_place trie.now result.place }
+{
+    let leads = trie.leads_on(Place::Sparse(spot.place));
+    Spot {
+        place: spot.place + 1,
+        end: spot.end,
+        below: spot.below + u64::from(leads),
     }
 }
 
@@ -65,17 +103,13 @@ pub(crate) fn branch_behind_spot<A: Allocator>(
     ensures next { IsNextAt trie.now.leaves (get_or (nodes trie.now.leaves) pass.node []) (leaves_to trie.now.leaves (get_or (nodes trie.now.leaves) pass.node [] ++ pass.letter ∷ [])) (option_map (λ found. found.0) result) }
     ensures spot { IfSome result (λ found. IsSpotOf trie.now pass.node found.0.letter found.1) }
 {
-    let next = Spot {
-        place: spot.place + 1,
-        ..spot
-    };
-    if next.place >= spot.end {
+    let next = spot_behind(trie, spot);
+    if next.place >= next.end {
         return None;
     }
-    let place = Place::Sparse(next.place);
     let branch = Branch {
-        letter: u16::from(trie.byte_at(place)),
-        lead: lead_at(trie, place),
+        letter: u16::from(trie.byte_at(Place::Sparse(next.place))),
+        lead: lead_at_spot(trie, next),
     };
     Some((branch, next))
 }
@@ -88,10 +122,10 @@ pub(crate) fn branch_at_spot<A: Allocator>(trie: &Trie<A>, node: u64, spot: Spot
     ensures branch { IsFirstBranch trie.now.leaves node result }
     ensures spot { IsSpotOf trie.now node result.letter spot }
 {
-    let place = Place::Sparse(spot.place);
+    let label = trie.byte_at(Place::Sparse(spot.place));
     Branch {
-        letter: first_letter(trie.byte_at(place), spot.place + 1 == spot.end),
-        lead: lead_at(trie, place),
+        letter: first_letter(label, spot.place + 1 == spot.end),
+        lead: lead_at_spot(trie, spot),
     }
 }
 

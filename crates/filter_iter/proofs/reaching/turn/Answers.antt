@@ -26,14 +26,14 @@ returns-in-None-clause-turn g c = turns_nowhere c.args.trie.now.hash_bits c.args
 
 pub overflow_add-next : goal.overflow_add-next
 overflow_add-next g c =
-    omega (arith, c.before_place-slots.ensures.slots, room c.args.trie.now.hash_bits c.args.trie.now.real_bits c.args.trie.now.leaves c.requires.stands.valid (length (get_or (nodes c.args.trie.now.leaves) c.args.border.node [])) (branch_number c.args.trie.now c.in-Some.place) c.args.border c.requires.border (omega (arith, c.requires.before, first_leaf_within c.args.trie.now.leaves (get_or (nodes c.args.trie.now.leaves) c.args.border.node []))))
+    omega (arith, c.before-slots.ensures.slots, room c.args.trie.now.hash_bits c.args.trie.now.real_bits c.args.trie.now.leaves c.requires.stands.valid (length (get_or (nodes c.args.trie.now.leaves) c.args.border.node [])) (branch_number c.args.trie.now c.in-Some.place) c.args.border c.requires.border (omega (arith, c.requires.before, first_leaf_within c.args.trie.now.leaves (get_or (nodes c.args.trie.now.leaves) c.args.border.node []))))
 
 pub returns-in-Some-clause-border : goal.returns-in-Some-clause-border
 returns-in-Some-clause-border g c =
-    step_border c.args.trie.now.hash_bits c.args.trie.now.real_bits c.args.trie.now.leaves c.requires.stands.valid (branch_number c.args.trie.now c.in-Some.place) c.args.border (record { node = c.before_place-slots.result.1; sum = c.args.border.sum + c.before_place-slots.result.0 }) (is_down c.args.trie.now.hash_bits c.args.trie.now.real_bits c.args.trie.now.leaves c.requires.stands.valid c.args.border.node c.args.byte c.requires.node c.ranges.byte.fits c.args.border (record { node = c.before_place-slots.result.1; sum = c.args.border.sum + c.before_place-slots.result.0 }) c.requires.border refl c.requires.before (branch_number c.args.trie.now c.in-Some.place) (c.in-Some.ensures.place ∙ ap (next_place (trie c.args.trie.now) c.args.border.node) c.from.ensures) c.before_place-slots.ensures.below (ap (λ (n : ℕ). c.args.border.sum + n) c.before_place-slots.ensures.slots)) (length (get_or (nodes c.args.trie.now.leaves) c.args.border.node [])) c.requires.border (node_high c.args.trie.now.hash_bits c.args.trie.now.real_bits c.args.trie.now.leaves c.requires.stands.valid c.args.border.node c.args.byte c.requires.node c.ranges.byte.fits)
+    step_border c.args.trie.now.hash_bits c.args.trie.now.real_bits c.args.trie.now.leaves c.requires.stands.valid (branch_number c.args.trie.now c.in-Some.place) c.args.border (record { node = c.before-slots.result.1; sum = c.args.border.sum + c.before-slots.result.0 }) (is_down c.args.trie.now.hash_bits c.args.trie.now.real_bits c.args.trie.now.leaves c.requires.stands.valid c.args.border.node c.args.byte c.requires.node c.ranges.byte.fits c.args.border (record { node = c.before-slots.result.1; sum = c.args.border.sum + c.before-slots.result.0 }) c.requires.border refl c.requires.before (branch_number c.args.trie.now c.in-Some.place) (c.in-Some.ensures.place ∙ ap (next_place (trie c.args.trie.now) c.args.border.node) c.from.ensures) c.before-slots.ensures.below (ap (λ (n : ℕ). c.args.border.sum + n) c.before-slots.ensures.slots)) (length (get_or (nodes c.args.trie.now.leaves) c.args.border.node [])) c.requires.border (node_high c.args.trie.now.hash_bits c.args.trie.now.real_bits c.args.trie.now.leaves c.requires.stands.valid c.args.border.node c.args.byte c.requires.node c.ranges.byte.fits)
 
 pub returns-in-Some-clause-before : goal.returns-in-Some-clause-before
-returns-in-Some-clause-before g c = at_place c.args.trie.now.hash_bits c.args.trie.now.real_bits c.args.trie.now.leaves c.requires.stands.valid c.args.border.node c.args.byte c.requires.node c.ranges.byte.fits c.args.border (record { node = c.before_place-slots.result.1; sum = c.args.border.sum + c.before_place-slots.result.0 }) c.requires.border refl c.requires.before (branch_number c.args.trie.now c.in-Some.place) (c.in-Some.ensures.place ∙ ap (next_place (trie c.args.trie.now) c.args.border.node) c.from.ensures) (is_down c.args.trie.now.hash_bits c.args.trie.now.real_bits c.args.trie.now.leaves c.requires.stands.valid c.args.border.node c.args.byte c.requires.node c.ranges.byte.fits c.args.border (record { node = c.before_place-slots.result.1; sum = c.args.border.sum + c.before_place-slots.result.0 }) c.requires.border refl c.requires.before (branch_number c.args.trie.now c.in-Some.place) (c.in-Some.ensures.place ∙ ap (next_place (trie c.args.trie.now) c.args.border.node) c.from.ensures) c.before_place-slots.ensures.below (ap (λ (n : ℕ). c.args.border.sum + n) c.before_place-slots.ensures.slots))
+returns-in-Some-clause-before g c = at_place c.args.trie.now.hash_bits c.args.trie.now.real_bits c.args.trie.now.leaves c.requires.stands.valid c.args.border.node c.args.byte c.requires.node c.ranges.byte.fits c.args.border (record { node = c.before-slots.result.1; sum = c.args.border.sum + c.before-slots.result.0 }) c.requires.border refl c.requires.before (branch_number c.args.trie.now c.in-Some.place) (c.in-Some.ensures.place ∙ ap (next_place (trie c.args.trie.now) c.args.border.node) c.from.ensures) (is_down c.args.trie.now.hash_bits c.args.trie.now.real_bits c.args.trie.now.leaves c.requires.stands.valid c.args.border.node c.args.byte c.requires.node c.ranges.byte.fits c.args.border (record { node = c.before-slots.result.1; sum = c.args.border.sum + c.before-slots.result.0 }) c.requires.border refl c.requires.before (branch_number c.args.trie.now c.in-Some.place) (c.in-Some.ensures.place ∙ ap (next_place (trie c.args.trie.now) c.args.border.node) c.from.ensures) c.before-slots.ensures.below (ap (λ (n : ℕ). c.args.border.sum + n) c.before-slots.ensures.slots))
 
 pub returns-in-Some-clause-turn : goal.returns-in-Some-clause-turn
-returns-in-Some-clause-turn g c = leads c.args.trie.now.hash_bits c.args.trie.now.real_bits c.args.trie.now.leaves c.requires.stands.valid c.args.border.node c.args.byte c.requires.node c.ranges.byte.fits c.args.border (record { node = c.before_place-slots.result.1; sum = c.args.border.sum + c.before_place-slots.result.0 }) c.requires.border refl c.requires.before (branch_number c.args.trie.now c.in-Some.place) (c.in-Some.ensures.place ∙ ap (next_place (trie c.args.trie.now) c.args.border.node) c.from.ensures) c.turn_at.result c.before_place-slots.ensures.below c.turn_at.ensures
+returns-in-Some-clause-turn g c = leads c.args.trie.now.hash_bits c.args.trie.now.real_bits c.args.trie.now.leaves c.requires.stands.valid c.args.border.node c.args.byte c.requires.node c.ranges.byte.fits c.args.border (record { node = c.before-slots.result.1; sum = c.args.border.sum + c.before-slots.result.0 }) c.requires.border refl c.requires.before (branch_number c.args.trie.now c.in-Some.place) (c.in-Some.ensures.place ∙ ap (next_place (trie c.args.trie.now) c.args.border.node) c.from.ensures) c.turn_at.result c.before-slots.ensures.below c.turn_at.ensures

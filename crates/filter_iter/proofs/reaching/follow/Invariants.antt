@@ -1,5 +1,5 @@
 use Rattle.filter_iter.specs.Borders.{IsDescent}
-use Rattle.filter_iter.proofs.reaching.reach.Given as goal
+use Rattle.filter_iter.proofs.reaching.follow.Given as goal
 
 -- the bound was followed down to the level
 abbrev pub invariant-loop-level : goal.invariant-loop-level
