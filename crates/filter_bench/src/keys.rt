@@ -120,6 +120,15 @@ pub fn sorted(alloc: Global, drawn: &Texts) -> Result<KeyList, AllocError> {
     Ok(keys)
 }
 
+/// The keys of a list in one array.
+pub fn texts_of(alloc: Global, keys: &KeyList) -> Result<Texts> {
+    let mut texts = Texts::new(alloc)?;
+    for i in 0..keys.len() {
+        texts.push(keys.get(i))?;
+    }
+    Ok(texts)
+}
+
 // Whether a key is the last of a list.
 fn is_last(keys: &KeyList, key: &[u8]) -> bool {
     let count = keys.len();

@@ -10,7 +10,8 @@
 //! All three are asked the same keys in the same order, five rounds in turn: each key that was drawn, and as many that the
 //! trie does not have. Times are the thread's own on the processor. The trie has no suffixes, which a walk does not read.
 //! Beside that the trie's image is written and read, a cursor goes over its leaves, and seeks, ranges and tallies from the
-//! same keys are asked beside walks.
+//! same keys are asked beside walks. At last succinct filters of the keys with and without hash bits and real bits are
+//! built and asked beside their walks, and a plain filter is asked for a few keys.
 #![tactic(auto)]
 
 ghost use Rattle.filter_model.specs.Keys.{IsKeyList};
@@ -23,12 +24,14 @@ mod draws;
 mod finder;
 mod keys;
 mod levels;
+mod plain;
 mod race;
 mod ranges;
 mod report;
 mod sizes;
 mod stubs;
 mod texts;
+mod variants;
 
 use anyhow::{Result, bail};
 use building::build_rounds;
@@ -38,14 +41,16 @@ use draws::Numbers;
 use filter_model::are_keys;
 use filter_trie::Trie;
 use key_base::KeyList;
-use keys::{Kind, draw_absent, draw_keys, sorted};
+use keys::{Kind, draw_absent, draw_keys, sorted, texts_of};
+use plain::plain_round;
 use race::{Finders, race};
-use ranges::{highs, range_rounds};
+use ranges::{highs, print_full, range_rounds};
 use std::alloc::Global;
 use std::env;
 use std::time::CpuClock;
 use stubs::StubSearch;
 use texts::Texts;
+use variants::{Queries, variant_rounds};
 
 const USAGE: &str = "usage: filter_bench KIND COUNT SEED [RATIO]
   COUNT keys of a KIND: random (8 bytes) or words (10 to 20 letters, which begin as others do)
@@ -123,7 +128,30 @@ fn measure_keys(
     ask_ranges(rt, alloc, asked.kind, "present", &trie, present)?;
     ask_ranges(rt, alloc, asked.kind, "absent", &trie, &absent)?;
     let finders = Finders::new(alloc, keys, trie, search)?;
-    ask_all(rt, &finders, keys.len(), present, &absent)
+    ask_all(rt, &finders, keys.len(), present, &absent)?;
+    ask_variants(rt, alloc, asked, keys, present, &absent)
+}
+
+// Builds succinct filters and a plain one of the keys, and asks them.
+fn ask_variants(
+    rt: &(impl Print + CpuClock),
+    alloc: Global,
+    asked: Asked,
+    keys: &KeyList,
+    present: &Texts,
+    absent: &Texts,
+) -> Result<()>
+    requires { IsKeyList keys.now }
+{
+    let highs = highs(alloc, asked.kind, absent)?;
+    print_full(rt, &texts_of(alloc, keys)?, absent, &highs)?;
+    let queries = Queries {
+        present,
+        absent,
+        highs: &highs,
+    };
+    variant_rounds(rt, alloc, keys, asked.ratio, queries)?;
+    plain_round(rt, alloc, keys, absent)
 }
 
 fn ask_ranges(

@@ -42,6 +42,22 @@ fn raise(key: &mut [u8], place: usize) {
     }
 }
 
+/// Prints which part of ranges holds a key indeed. The keys rise, and no range begins with one.
+pub fn print_full(rt: &impl Print, keys: &Texts, lows: &Texts, highs: &Texts) -> io::Result<()> {
+    let full = full_ranges(keys, lows, highs);
+    println!(rt; "ranges: {:.6} hold a key", share(full, lows.len() as u64))
+}
+
+fn full_ranges(keys: &Texts, lows: &Texts, highs: &Texts) -> u64 {
+    let mut full = 0u64;
+    for i in 0..lows.len() {
+        if keys.first_above(lows.get(i)) < keys.first_above(highs.get(i)) {
+            full = full.wrapping_add(1);
+        }
+    }
+    full
+}
+
 // The least times of a query.
 #[derive(Clone, Copy)]
 struct Times {
@@ -81,7 +97,7 @@ pub fn range_rounds(
     print_times(rt, name, times)?;
     println!(rt; "ranges {name}: {} ranges, sum {sum}", lows.len())?;
     println!(rt;
-        "ranges {name}: {:.4} may hold a key",
+        "ranges {name}: {:.6} may hold a key",
         share(held, lows.len() as u64)
     )?;
     Ok(())

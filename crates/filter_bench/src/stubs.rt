@@ -3,12 +3,9 @@ ghost use Rattle.filter_model.specs.Keys.{IsKeyList};
 
 use crate::texts::Texts;
 use anyhow::Result;
-use key_base::{KeyList, compare};
+use key_base::KeyList;
 use key_truncate::{Stub, truncate};
 use std::alloc::Global;
-
-// As many halvings as lead to one of any number of stubs.
-const HALVINGS: u32 = 64;
 
 /// The stubs of keys in one array, in rising order, and which of them end.
 #[derive(Drop)]
@@ -37,7 +34,7 @@ impl StubSearch {
     /// The number of the leaf that the key reaches: its stub is the key where it ends, and else a prefix of it.
     #[inline]
     pub fn leaf_of(&self, key: &[u8]) -> Option<usize> {
-        let behind = self.first_above(key);
+        let behind = self.stubs.first_above(key);
         if behind == 0 {
             return None;
         }
@@ -49,25 +46,6 @@ impl StubSearch {
         } else {
             None
         }
-    }
-
-    // The number of the first stub above a key, or how many stubs there are.
-    #[inline]
-    fn first_above(&self, key: &[u8]) -> usize {
-        let mut low = 0;
-        let mut high = self.stubs.len();
-        for _ in 0..HALVINGS {
-            if low >= high {
-                return low;
-            }
-            let middle = low + (high - low) / 2;
-            if compare(self.stubs.get(middle), key).is_gt() {
-                high = middle;
-            } else {
-                low = middle + 1;
-            }
-        }
-        low
     }
 
     /// The bits that it keeps, without those that say which stubs end.

@@ -1,6 +1,10 @@
 //! Byte strings in one array.
 use anyhow::Result;
+use key_base::compare;
 use std::alloc::{AllocError, Global};
+
+// As many halvings as lead to one of any number of strings.
+const HALVINGS: u32 = 64;
 
 /// Byte strings one behind the other, and the place at which each begins.
 #[derive(Drop)]
@@ -43,6 +47,25 @@ impl Texts {
             Some(text) => text,
             None => &[],
         }
+    }
+
+    /// The number of the first string above this one, or how many there are, where they stand in rising order.
+    #[inline]
+    pub fn first_above(&self, text: &[u8]) -> usize {
+        let mut low = 0;
+        let mut high = self.len();
+        for _ in 0..HALVINGS {
+            if low >= high {
+                return low;
+            }
+            let middle = low + (high - low) / 2;
+            if compare(self.get(middle), text).is_gt() {
+                high = middle;
+            } else {
+                low = middle + 1;
+            }
+        }
+        low
     }
 
     // The place at which the string number `i` begins.

@@ -35,13 +35,13 @@ mod images;
 #[cfg(test)]
 mod judge;
 #[cfg(test)]
-mod kernels;
-#[cfg(test)]
 mod keys;
 #[cfg(test)]
 mod knots;
 #[cfg(test)]
 mod leaf_lists;
+#[cfg(test)]
+mod leaves;
 #[cfg(test)]
 mod levels;
 #[cfg(test)]
@@ -58,6 +58,8 @@ mod rows;
 mod sections;
 #[cfg(test)]
 mod sets;
+#[cfg(test)]
+mod suffixes;
 #[cfg(test)]
 mod tries;
 #[cfg(test)]

@@ -1,0 +1,187 @@
+//! Succinct filters of all variants over the same keys: how long their making and their answers take, what they take,
+//! and how often they err.
+
+ghost use Rattle.filter_model.specs.Keys.{IsKeyList};
+ghost use Rattle.filter_api.specs.Ranges.{InRange};
+
+use crate::finder::{Finder, ask};
+use crate::ranges::range_rounds;
+use crate::report::{Least, ROUNDS, Watch, share};
+use crate::sizes::Sizes;
+use crate::texts::Texts;
+use anyhow::{Result, bail};
+use filter_api::{RangeFilter, Settings};
+use key_base::KeyList;
+use std::alloc::Global;
+use std::io;
+use std::time::CpuClock;
+use surf_filter::SurfFilter;
+
+// The name of each variant, and its hash bits and real bits.
+const VARIANTS: [(&str, u8, u8); 7] = [
+    ("base", 0, 0),
+    ("hash 4", 4, 0),
+    ("hash 8", 8, 0),
+    ("real 4", 0, 4),
+    ("real 8", 0, 8),
+    ("mixed 4 4", 4, 4),
+    ("mixed 8 8", 8, 8),
+];
+
+impl Finder for SurfFilter<Global> {
+    #[inline]
+    fn find(&self, key: &[u8]) -> Option<u64> {
+        if self.may_hold(key) { Some(0) } else { None }
+    }
+}
+
+/// What the filters are asked: keys that they are of, others, and upper bounds of ranges from those others on.
+#[derive(Clone, Copy)]
+pub struct Queries<'a> {
+    pub present: &'a Texts,
+    pub absent: &'a Texts,
+    pub highs: &'a Texts,
+}
+
+/// Builds the filter of each variant, and prints what is found of it.
+pub fn variant_rounds(
+    rt: &(impl Print + CpuClock),
+    alloc: Global,
+    keys: &KeyList,
+    ratio: u16,
+    queries: Queries<'_>,
+) -> Result<()>
+    requires { IsKeyList keys.now }
+{
+    for (name, hash_bits, real_bits) in VARIANTS {
+        let settings = Settings {
+            hash_bits,
+            real_bits,
+            ratio,
+        };
+        if settings.check().is_err() {
+            bail!("no settings");
+        }
+        let filter = build_rounds(rt, alloc, keys, name, settings)?;
+        ask_all(rt, alloc, name, &filter, queries)?;
+    }
+    Ok(())
+}
+
+// Builds a filter several times, and prints how fast that was at best.
+fn build_rounds(
+    rt: &(impl Print + CpuClock),
+    alloc: Global,
+    keys: &KeyList,
+    name: &str,
+    settings: Settings,
+) -> Result<SurfFilter<Global>>
+    requires keys { IsKeyList keys.now }
+    requires settings { InRange settings }
+{
+    let mut least = Least::new();
+    for _ in 1..ROUNDS {
+        build_timed(rt, alloc, keys, settings, &mut least)?;
+    }
+    let filter = build_timed(rt, alloc, keys, settings, &mut least)?;
+    println!(rt;
+        "{name}: build {:.2} million keys a second",
+        least.millions()
+    )?;
+    Ok(filter)
+}
+
+fn build_timed(
+    rt: &impl CpuClock,
+    alloc: Global,
+    keys: &KeyList,
+    settings: Settings,
+    least: &mut Least,
+) -> Result<SurfFilter<Global>>
+    requires keys { IsKeyList keys.now }
+    requires settings { InRange settings }
+{
+    let watch = Watch::start(rt)?;
+    let filter = SurfFilter::build(alloc, keys, settings)?;
+    least.keep(watch.stop(rt, keys.len() as u64)?);
+    Ok(filter)
+}
+
+fn ask_all(
+    rt: &(impl Print + CpuClock),
+    alloc: Global,
+    name: &str,
+    filter: &SurfFilter<Global>,
+    queries: Queries<'_>,
+) -> Result<()> {
+    print_sizes(rt, alloc, name, filter)?;
+    point_rounds(rt, name, "present", filter, queries.present)?;
+    point_rounds(rt, name, "absent", filter, queries.absent)?;
+    range_rounds(rt, name, filter.trie(), queries.absent, queries.highs)
+}
+
+// Prints the bits a leaf of the image and in memory.
+fn print_sizes(
+    rt: &impl Print,
+    alloc: Global,
+    name: &str,
+    filter: &SurfFilter<Global>,
+) -> Result<()> {
+    let mut image = Vec::new(alloc);
+    filter.encode(&mut image)?;
+    let leaves = u64::from(filter.leaves());
+    let written = share((image.len() as u64).saturating_mul(8), leaves);
+    let held = share(Sizes::of(filter.trie()).memory, leaves);
+    println!(rt; "{name}: bits a key: image {written:.2}, in memory {held:.2}")?;
+    Ok(())
+}
+
+// Asks for keys, and for walks of the same, in rounds, and prints the nanoseconds a key and which part may be held.
+fn point_rounds(
+    rt: &(impl Print + CpuClock),
+    name: &str,
+    which: &str,
+    filter: &SurfFilter<Global>,
+    queries: &Texts,
+) -> Result<()> {
+    let mut walk = Least::new();
+    let mut point = Least::new();
+    let mut held = 0;
+    let mut sum = 0u64;
+    for _ in 0..ROUNDS {
+        sum = sum.wrapping_add(asked_once(rt, filter.trie(), queries, &mut walk)?.1);
+        held = asked_once(rt, filter, queries, &mut point)?.0;
+    }
+    print_points(rt, name, which, point, walk)?;
+    let part = share(held, queries.len() as u64);
+    println!(rt; "{name}, {which}: {part:.6} may be held, sum of walks {sum}")?;
+    Ok(())
+}
+
+fn print_points(
+    rt: &impl Print,
+    name: &str,
+    which: &str,
+    point: Least,
+    walk: Least,
+) -> io::Result<()> {
+    println!(rt;
+        "{name}, {which}: point {:.1} ns, walk {:.1} ns, ratio {:.2}",
+        point.nanoseconds,
+        walk.nanoseconds,
+        point.over(walk)
+    )
+}
+
+// How many of the keys are found, and the sum of what they lead to.
+fn asked_once(
+    rt: &impl CpuClock,
+    finder: &impl Finder,
+    queries: &Texts,
+    least: &mut Least,
+) -> Result<(u64, u64)> {
+    let watch = Watch::start(rt)?;
+    let found = ask(finder, queries);
+    least.keep(watch.stop(rt, queries.len() as u64)?);
+    Ok((found.count, found.sum))
+}
