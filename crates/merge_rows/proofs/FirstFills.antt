@@ -2,10 +2,10 @@
 use Rattle.std.proofs.Common.{◌≡◌, ◌+◌, ◌≤◌, ◌<◌, ℕ, zero, suc, List, [], ◌∷◌, length, map, get_or, slice_set, refl, sym, ap, ap₂, ◌∙◌, subst, Bool, true, false, arith}
 use Rattle.std.specs.List.{AllByRecursion, sum_by}
 use Rattle.std.proofs.lemmas.List.Sums.{sum_by-cons, sum_by-set}
-use Rattle.std.specs.Prelude.{Result, Ok, Err}
+use Rattle.std.specs.Prelude.{Contains, Result, Ok, Err}
 use Rattle.disk_trait.specs.Image.{Image}
 use Rattle.merge_rows.specs.Merges.{TableWalk, blocks_in, left_above, numbered, walk_left}
-use Rattle.merge_rows.specs.Reads.{IsFewer, IsRead, blocks_left, blocks_left_in, next_blocks, next_of, wanted_by, wanted_of}
+use Rattle.merge_rows.specs.Reads.{IsFewer, IsRead, blocks_left, blocks_left_in, next_blocks, next_block_of, wanted_by, wanted_block_of}
 use Rattle.merge_rows.specs.Rows.{KeyFloor}
 use Rattle.merge_rows.specs.Steps.{AreCaughtUp, AreHeadsClear, AreSoundWalks, IsCaughtUp, IsHeadClear, IsSoundWalk, AreNumbersIn, number_of_walk, numbers}
 use Rattle.table_file.specs.Opened.{Opened}
@@ -22,7 +22,7 @@ pub record Passed (tells : Type 0) (floor : KeyFloor) (tables : List Opened) (im
   pub sound : tells → IsSoundHere floor tables image old → IsSoundHere floor tables image new
   pub block : tells → new.walk.block ≡ old.walk.block
   pub left : blocks_left_in tables new ≡ blocks_left_in tables old
-  pub fewer : tells → IsSoundHere floor tables image old → (wanted_of floor tables new ≡ 0) × (wanted_of floor tables old ≡ 0)
+  pub fewer : tells → IsSoundHere floor tables image old → (wanted_block_of floor tables new ≡ 0) × (wanted_block_of floor tables old ≡ 0)
 
 -- the first so many wanted none, and the others stand where they stood
 abbrev pub Went : (tells : Type 0) → KeyFloor → List Opened → Image → ℕ → List TableWalk → List TableWalk → Type 0
@@ -52,6 +52,12 @@ pub at_most : (f : TableWalk → ℕ) (walks : List TableWalk) (i : ℕ) (d : Ta
 at_most f [] i d lt = absurd (omega (arith, lt))
 at_most f (w ∷ more) zero d lt = let sum = sum_by-cons f w more in omega (arith, sum)
 at_most f (w ∷ more) (suc i) d lt = let sum = sum_by-cons f w more in let rest = at_most f more i d (omega (arith, lt)) in omega (arith, sum, rest)
+
+-- its number is one of theirs
+pub number_among : (walks : List TableWalk) (i : ℕ) (d : TableWalk) → i < length walks → Contains (numbers walks) (get_or walks i d).number
+number_among [] i d lt = absurd (omega (arith, lt))
+number_among (w ∷ more) zero d lt = (0, omega arith, refl)
+number_among (w ∷ more) (suc i) d lt = let rest = number_among more i d (omega (arith, lt)) in (suc rest.0, omega (arith, rest.1), rest.2)
 
 -- ---- as far as they went
 
@@ -103,8 +109,8 @@ module _ (tells : Type 0) (floor : KeyFloor) (tables : List Opened) (image : Ima
   went_sound (suc i) (w ∷ old) [] t went sound = absurd went
   went_sound (suc i) (w ∷ old) (x ∷ new) t went sound = (went.0.sound t sound.0, went_sound i old new t went.1 sound.1)
 
-  pub went_wanted : (i : ℕ) (old new : List TableWalk) → tells → Gone i old new → AreSoundWalks floor tables image old → map (wanted_of floor tables) new ≡ map (wanted_of floor tables) old
-  went_wanted zero old new t went sound = ap (map (wanted_of floor tables)) went
+  pub went_wanted : (i : ℕ) (old new : List TableWalk) → tells → Gone i old new → AreSoundWalks floor tables image old → map (wanted_block_of floor tables) new ≡ map (wanted_block_of floor tables) old
+  went_wanted zero old new t went sound = ap (map (wanted_block_of floor tables)) went
   went_wanted (suc i) [] new t went sound = absurd went
   went_wanted (suc i) (w ∷ old) [] t went sound = absurd went
   went_wanted (suc i) (w ∷ old) (x ∷ new) t went sound =
@@ -128,12 +134,12 @@ module _ (tells : Type 0) (floor : KeyFloor) (tables : List Opened) (image : Ima
   all_clear (suc i) (w ∷ old) [] le went = absurd went
   all_clear (suc i) (w ∷ old) (x ∷ new) le went = (went.0.clear, all_clear i old new (omega (arith, le)) went.1)
 
-  pub none_wanted : (i : ℕ) (old new : List TableWalk) → length old ≤ i → tells → Gone i old new → AreSoundWalks floor tables image old → sum_by (wanted_of floor tables) old ≡ 0
+  pub none_wanted : (i : ℕ) (old new : List TableWalk) → length old ≤ i → tells → Gone i old new → AreSoundWalks floor tables image old → sum_by (wanted_block_of floor tables) old ≡ 0
   none_wanted i [] new le t went sound = refl
   none_wanted zero (w ∷ old) new le t went sound = absurd (omega (arith, le))
   none_wanted (suc i) (w ∷ old) [] le t went sound = absurd went
   none_wanted (suc i) (w ∷ old) (x ∷ new) le t went sound =
-      let sum = sum_by-cons (wanted_of floor tables) w old in
+      let sum = sum_by-cons (wanted_block_of floor tables) w old in
       let rest = none_wanted i old new (omega (arith, le)) t went.1 sound.1 in
       let none = (went.0.fewer t sound.0).1 in
       omega (arith, sum, rest, none)
@@ -161,8 +167,8 @@ module _ (tells : Type 0) (floor : KeyFloor) (tables : List Opened) (image : Ima
 
     pub set_next : tells → next_blocks set + here.walk.block ≡ next_blocks old + x.walk.block
     set_next t =
-        let sum = sum_by-set next_of now i x d lt in
-        let before = went_sum next_of i old now went (went_map next_of (λ w y p. p.block t) i old now went) in
+        let sum = sum_by-set next_block_of now i x d lt in
+        let before = went_sum next_block_of i old now went (went_map next_block_of (λ w y p. p.block t) i old now went) in
         omega (arith, sum, before)
 
     pub set_left : blocks_left tables set + blocks_left_in tables here ≡ blocks_left tables old + blocks_left_in tables x
@@ -172,17 +178,17 @@ module _ (tells : Type 0) (floor : KeyFloor) (tables : List Opened) (image : Ima
         omega (arith, sum, before)
 
     same_wanted : tells → AreSoundWalks floor tables image old → wanted_by floor tables now ≡ wanted_by floor tables old
-    same_wanted t sound = went_sum (wanted_of floor tables) i old now went (went_wanted i old now t went sound)
+    same_wanted t sound = went_sum (wanted_block_of floor tables) i old now went (went_wanted i old now t went sound)
 
-    pub set_wanted : tells → AreSoundWalks floor tables image old → wanted_by floor tables set + wanted_of floor tables here ≡ wanted_by floor tables old + wanted_of floor tables x
+    pub set_wanted : tells → AreSoundWalks floor tables image old → wanted_by floor tables set + wanted_block_of floor tables here ≡ wanted_by floor tables old + wanted_block_of floor tables x
     set_wanted t sound =
-        let sum = sum_by-set (wanted_of floor tables) now i x d lt in
+        let sum = sum_by-set (wanted_block_of floor tables) now i x d lt in
         let before = same_wanted t sound in
         omega (arith, sum, before)
 
-    pub wanted_here : tells → AreSoundWalks floor tables image old → wanted_of floor tables here ≤ wanted_by floor tables old
+    pub wanted_here : tells → AreSoundWalks floor tables image old → wanted_block_of floor tables here ≤ wanted_by floor tables old
     wanted_here t sound =
-        let most = at_most (wanted_of floor tables) now i d lt in
+        let most = at_most (wanted_block_of floor tables) now i d lt in
         let before = same_wanted t sound in
         omega (arith, most, before)
 

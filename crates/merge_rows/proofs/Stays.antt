@@ -1,10 +1,11 @@
 -- A merge that stays at its floor, and the reads meanwhile.
-use Rattle.std.proofs.Common.{◌≡◌, ◌∙◌, ◌+◌, ◌-◌, ◌≤◌, ℕ, suc, List, [], ◌∷◌, length, refl, ap, subst, Bool, map, arith}
+use Rattle.std.proofs.Common.{◌≡◌, ◌∙◌, ◌+◌, ◌-◌, ◌≤◌, ◌<◌, ℕ, suc, List, [], ◌∷◌, length, refl, ap, subst, Bool, true, false, map, arith}
+use Rattle.std.specs.Prelude.{Result, Ok}
 use Rattle.disk_trait.specs.Image.{Image}
 use Rattle.disk_trait.specs.World.{ReadMoves, World}
 use Rattle.disk_trait.proofs.Calls.{reads_more, reads_then}
 use Rattle.merge_rows.specs.Merges.{Merge, TableWalk, left_above}
-use Rattle.merge_rows.specs.Reads.{OnlyReads}
+use Rattle.merge_rows.specs.Reads.{IsRead, OnlyReads}
 use Rattle.merge_rows.specs.Rows.{KeyFloor}
 use Rattle.merge_rows.specs.Steps.{StaysAt, numbers}
 use Rattle.table_file.specs.Opened.{Opened}
@@ -44,3 +45,10 @@ fewer_then first now next a b c is one two =
 
 pub only_both : (a b c : World) → OnlyReads a b → OnlyReads b c → OnlyReads a c
 only_both a b c one two = (one.0 + two.0, reads_then one.0 two.0 a b c one.1 two.1)
+
+-- a block was read, or none was
+pub read_one : {E : Type 0} (result : Result Bool E) (old new : ℕ) → result ≡ Ok true → IsRead result old new → new < old
+read_one {E} result old new is read = subst (λ (r : Result Bool E). IsRead r old new) is read
+
+pub read_none : {E : Type 0} (result : Result Bool E) (old new : ℕ) → result ≡ Ok false → IsRead result old new → new ≡ old
+read_none {E} result old new is read = subst (λ (r : Result Bool E). IsRead r old new) is read

@@ -1,5 +1,5 @@
 -- What a merge reads, and why a read is refused.
-use Rattle.std.specs.Prelude.{◌≡◌, ◌<◌, ◌≤◌, ◌+◌, ◌-◌, ℕ, Bool, true, false, not, ◌&&◌, List, length, slice_get, Option, Some, None, Result, Ok, Err}
+use Rattle.std.specs.Prelude.{◌≡◌, ◌<◌, ◌≤◌, ◌+◌, ◌-◌, ℕ, Bool, true, false, not, ◌&&◌, Contains, List, length, Option, Some, None, Result, Ok, Err}
 use Rattle.std.specs.List.{sum_by}
 use Rattle.disk_trait.specs.World.{ReadMoves, World}
 use Rattle.entry_model.specs.Entries.{Entry}
@@ -22,21 +22,21 @@ ones true = 1
 ones false = 0
 
 -- the blocks that the next row wants, one of each such table
-abbrev pub wanted_of : KeyFloor → List Opened → TableWalk → ℕ
-wanted_of floor tables w = ones (wants floor tables w)
+abbrev pub wanted_block_of : KeyFloor → List Opened → TableWalk → ℕ
+wanted_block_of floor tables w = ones (wants floor tables w)
 
 abbrev pub wanted_by : KeyFloor → List Opened → List TableWalk → ℕ
-wanted_by floor tables walks = sum_by (wanted_of floor tables) walks
+wanted_by floor tables walks = sum_by (wanted_block_of floor tables) walks
 
 abbrev pub wanted : Merge → List Opened → ℕ
 wanted m tables = wanted_by m.floor tables m.walks
 
 -- the numbers of the blocks that are read next: as many blocks were read as they rose
-abbrev pub next_of : TableWalk → ℕ
-next_of w = w.walk.block
+abbrev pub next_block_of : TableWalk → ℕ
+next_block_of w = w.walk.block
 
 abbrev pub next_blocks : List TableWalk → ℕ
-next_blocks walks = sum_by next_of walks
+next_blocks walks = sum_by next_block_of walks
 
 -- the blocks that were not read yet
 abbrev pub blocks_left_in : List Opened → TableWalk → ℕ
@@ -49,9 +49,13 @@ blocks_left tables walks = sum_by (blocks_left_in tables) walks
 abbrev pub OnlyReads : World → World → Type 0
 OnlyReads old new = (most : ℕ) × ReadMoves most old new
 
--- so with some block of one of the tables
-abbrev pub SomeBlock : List Opened → (Opened → ℕ → Type 0) → Type 0
-SomeBlock tables P = (place : ℕ) × (t : Opened) × (n : ℕ) × (slice_get tables place ≡ Some t) × (n < length t.index.rows) × P t n
+-- so with some block of the table of a number
+abbrev pub BlockOf : List Opened → ℕ → (Opened → ℕ → Type 0) → Type 0
+BlockOf tables number P = (t : Opened) × (n : ℕ) × (numbered tables number ≡ Some t) × (n < length t.index.rows) × P t n
+
+-- so with some block of the table of one of these numbers
+abbrev pub SomeBlock : List Opened → List ℕ → (Opened → ℕ → Type 0) → Type 0
+SomeBlock tables which P = (number : ℕ) × Contains which number × BlockOf tables number P
 
 -- a block that was read is wanted no more; one that could not be read was wanted
 abbrev pub IsFewer : {E : Type 0} → Result Bool E → ℕ → ℕ → Type 0

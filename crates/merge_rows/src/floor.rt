@@ -28,12 +28,12 @@ impl Model for Floor {
 }
 
 impl Floor {
-    /// The keys from a bound on. It takes memory for the bound and for the longest key.
+    /// The keys from a bound on. It takes memory once, for the bound and the longest key.
     pub(crate) fn new(alloc: Global, low: &[u8]) -> Result<Floor, AllocError>
         ensures { IfOk result (λ f. f ≡ record { key = low.now; passed = false }) }
     {
-        let mut key = Vec::from_slice(alloc, low)?;
-        key.reserve(MAX_KEY_BYTES)?;
+        let mut key = Vec::with_capacity(alloc, low.len() + MAX_KEY_BYTES)?;
+        key.extend_from_slice(low)?;
         Ok(Floor { key, passed: false })
     }
 

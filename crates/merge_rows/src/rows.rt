@@ -1,6 +1,6 @@
 //! The merge.
-ghost use Rattle.std.specs.Prelude.{◌≡◌, ◌<◌, ◌≤◌, ◌+◌, ◌||◌, Bool, false, not, is_some, [], length, map, Option, Some, None, slice_get, IsTrue, IfSome, IfOk, IfErr, OnOk, OnErr, MatchResult};
-ghost use Rattle.std.specs.List.{AllByRecursion};
+ghost use Rattle.std.specs.Prelude.{◌≡◌, ◌==◌, ◌<◌, ◌≤◌, ◌+◌, ◌||◌, Bool, false, not, is_some, [], length, map, Option, Some, None, slice_get, IsTrue, IfSome, IfOk, IfErr, OnOk, OnErr, MatchResult};
+ghost use Rattle.std.specs.List.{AllByRecursion, list_any};
 ghost use Rattle.std.specs.Option.{option_map};
 ghost use Rattle.std.specs.Borrow.{sem};
 ghost use Rattle.block_model.specs.Places.{byte_of_page};
@@ -17,7 +17,7 @@ ghost use Rattle.table_file.specs.Walks.{first_of};
 use crate::choosing::Source;
 use crate::floor::Floor;
 use crate::memory_source::MemorySource;
-use crate::table_source::{TableSource, fill_first};
+use crate::table_source::{TableSource, fill_first, has_number};
 use disk_trait::Disk;
 use filter_api::RangeFilter;
 use mem_table::MemTable;
@@ -54,7 +54,8 @@ impl<'m> MergeRows<'m> {
     ghost use Rattle.merge_rows.specs.Ends.{merge_ends};
 
     /// The rows from a bound on of a memory table, where one is given, and of the tables of some numbers, the newest first.
-    /// Tables are numbered from the last, which has 0. Tombstones are rows too, unless they are dropped.
+    /// Tables are numbered from the last, which has 0. Tombstones are rows too, unless they are dropped: a step then reads on over
+    /// them, and how many blocks it reads is not bounded.
     ///
     /// It takes all memory: for each table a buffer for one block, and room for the longest key. No read.
     pub fn new<F: RangeFilter>(
@@ -93,8 +94,8 @@ impl<'m> MergeRows<'m> {
             × (IsTrue D.tells → OnOk result ((D.world disk.new).seen.reads + next_blocks self.old.walks ≡ (D.world disk.old).seen.reads + next_blocks m.walks)))) }
         ensures sound { IfOk result (λ found. IfSome found (λ f. IsEntry (entry_of f.0.now (option_map (λ v. v.now) f.1)))) }
         ensures taken { IfErr result IsNoWant }
-        ensures cause { IfErr result (λ why. SomeBlock tables.now.tables (λ t n. HasReadCause (byte_of_page (page_at t n)) (D.world disk.old) (D.world disk.new) why)) }
-        ensures fault { IsTrue D.tells → IfErr result (λ why. SomeBlock tables.now.tables (λ t n. IsGetFault t n (D.world disk.old).seen.held why)) }
+        ensures cause { IfErr result (λ why. SomeBlock tables.now.tables (numbers self.old.walks) (λ t n. HasReadCause (byte_of_page (page_at t n)) (D.world disk.old) (D.world disk.new) why)) }
+        ensures fault { IsTrue D.tells → IfErr result (λ why. SomeBlock tables.now.tables (numbers self.old.walks) (λ t n. IsGetFault t n (D.world disk.old).seen.held why)) }
         ensures moves { OnlyReads (D.world disk.old) (D.world disk.new) }
         ensures bounded { IsTrue D.tells → self.old.drops ≡ false → IsSoundMerge self.old tables.now.tables (D.world disk.old).seen.held
             → ReadMoves (wanted self.old tables.now.tables) (D.world disk.old) (D.world disk.new) }
@@ -136,9 +137,10 @@ impl<'m> MergeRows<'m> {
         ensures owed { IsTrue D.tells → self.old.drops ≡ false → IsSoundMerge self.old tables.now.tables (D.world disk.old).seen.held → OnErr result (1 ≤ wanted self.old tables.now.tables) }
         ensures paced { IsTrue D.tells → self.old.drops ≡ false → OnOk result (IsPaced tables.now.tables (D.world disk.old).seen.held self.old self.new) }
         ensures taken { IfErr result IsNoWant }
-        ensures cause { IfErr result (λ why. SomeBlock tables.now.tables (λ t n. HasReadCause (byte_of_page (page_at t n)) (D.world disk.old) (D.world disk.new) why)) }
-        ensures fault { IsTrue D.tells → IfErr result (λ why. SomeBlock tables.now.tables (λ t n. IsGetFault t n (D.world disk.old).seen.held why)) }
+        ensures cause { IfErr result (λ why. SomeBlock tables.now.tables (numbers self.old.walks) (λ t n. HasReadCause (byte_of_page (page_at t n)) (D.world disk.old) (D.world disk.new) why)) }
+        ensures fault { IsTrue D.tells → IfErr result (λ why. SomeBlock tables.now.tables (numbers self.old.walks) (λ t n. IsGetFault t n (D.world disk.old).seen.held why)) }
         ensures moves { OnlyReads (D.world disk.old) (D.world disk.new) }
+        ensures left { OnOk result (blocks_left tables.now.tables self.new.walks ≤ blocks_left tables.now.tables self.old.walks) }
         ensures counted { IsTrue D.tells → OnOk result ((D.world disk.new).seen.reads + next_blocks self.old.walks ≡ (D.world disk.old).seen.reads + next_blocks self.new.walks) }
         ensures bounded { IsTrue D.tells → self.old.drops ≡ false → IsSoundMerge self.old tables.now.tables (D.world disk.old).seen.held
             → ReadMoves (wanted self.old tables.now.tables) (D.world disk.old) (D.world disk.new) }
@@ -171,8 +173,8 @@ impl<'m> MergeRows<'m> {
         ensures clear { IfOk result (λ read. read ≡ false → AreHeadsClear self.old.floor self.new.walks) }
         ensures met { OnErr result (1 ≤ length self.old.walks) }
         ensures taken { IfErr result IsNoWant }
-        ensures cause { IfErr result (λ why. SomeBlock tables.now.tables (λ t n. HasReadCause (byte_of_page (page_at t n)) (D.world disk.old) (D.world disk.new) why)) }
-        ensures fault { IsTrue D.tells → IfErr result (λ why. SomeBlock tables.now.tables (λ t n. IsGetFault t n (D.world disk.old).seen.held why)) }
+        ensures cause { IfErr result (λ why. SomeBlock tables.now.tables (numbers self.old.walks) (λ t n. HasReadCause (byte_of_page (page_at t n)) (D.world disk.old) (D.world disk.new) why)) }
+        ensures fault { IsTrue D.tells → IfErr result (λ why. SomeBlock tables.now.tables (numbers self.old.walks) (λ t n. IsGetFault t n (D.world disk.old).seen.held why)) }
         ensures moves { ReadMoves 2 (D.world disk.old) (D.world disk.new) }
         ensures idle { IfOk result (λ read. read ≡ false → ReadMoves 0 (D.world disk.old) (D.world disk.new)) }
         ensures counted { IsTrue D.tells → OnOk result ((D.world disk.new).seen.reads + next_blocks self.old.walks ≡ (D.world disk.old).seen.reads + next_blocks self.new.walks) }
@@ -182,6 +184,13 @@ impl<'m> MergeRows<'m> {
     {
         self.row = None;
         fill_first(&mut self.walks, disk, tables, &self.floor)
+    }
+
+    /// Whether the table of a number is one of those that are merged.
+    pub fn has_table(&self, number: u32) -> bool
+        ensures { result ≡ list_any (λ n. n == number) (numbers self.now.walks) }
+    {
+        has_number(&self.walks, number)
     }
 
     // Whether the row at hand is handed out: a tombstone is not, where they are dropped.
@@ -212,9 +221,10 @@ impl<'m> MergeRows<'m> {
         ensures owed { IsTrue D.tells → IsSoundMerge self.old tables.now.tables (D.world disk.old).seen.held → OnErr result (1 ≤ wanted self.old tables.now.tables) }
         ensures paced { IsTrue D.tells → OnOk result (IsPaced tables.now.tables (D.world disk.old).seen.held self.old self.new) }
         ensures taken { IfErr result IsNoWant }
-        ensures cause { IfErr result (λ why. SomeBlock tables.now.tables (λ t n. HasReadCause (byte_of_page (page_at t n)) (D.world disk.old) (D.world disk.new) why)) }
-        ensures fault { IsTrue D.tells → IfErr result (λ why. SomeBlock tables.now.tables (λ t n. IsGetFault t n (D.world disk.old).seen.held why)) }
+        ensures cause { IfErr result (λ why. SomeBlock tables.now.tables (numbers self.old.walks) (λ t n. HasReadCause (byte_of_page (page_at t n)) (D.world disk.old) (D.world disk.new) why)) }
+        ensures fault { IsTrue D.tells → IfErr result (λ why. SomeBlock tables.now.tables (numbers self.old.walks) (λ t n. IsGetFault t n (D.world disk.old).seen.held why)) }
         ensures moves { OnlyReads (D.world disk.old) (D.world disk.new) }
+        ensures left { OnOk result (blocks_left tables.now.tables self.new.walks ≤ blocks_left tables.now.tables self.old.walks) }
         ensures counted { IsTrue D.tells → OnOk result ((D.world disk.new).seen.reads + next_blocks self.old.walks ≡ (D.world disk.old).seen.reads + next_blocks self.new.walks) }
         ensures bounded { IsTrue D.tells → IsSoundMerge self.old tables.now.tables (D.world disk.old).seen.held
             → ReadMoves (wanted self.old tables.now.tables) (D.world disk.old) (D.world disk.new) }
@@ -237,9 +247,10 @@ impl<'m> MergeRows<'m> {
         ensures met { OnErr result (1 ≤ length self.old.walks) }
         ensures owed { IsTrue D.tells → IsSoundMerge self.old tables.now.tables (D.world disk.old).seen.held → OnErr result (1 ≤ wanted self.old tables.now.tables) }
         ensures taken { IfErr result IsNoWant }
-        ensures cause { IfErr result (λ why. SomeBlock tables.now.tables (λ t n. HasReadCause (byte_of_page (page_at t n)) (D.world disk.old) (D.world disk.new) why)) }
-        ensures fault { IsTrue D.tells → IfErr result (λ why. SomeBlock tables.now.tables (λ t n. IsGetFault t n (D.world disk.old).seen.held why)) }
+        ensures cause { IfErr result (λ why. SomeBlock tables.now.tables (numbers self.old.walks) (λ t n. HasReadCause (byte_of_page (page_at t n)) (D.world disk.old) (D.world disk.new) why)) }
+        ensures fault { IsTrue D.tells → IfErr result (λ why. SomeBlock tables.now.tables (numbers self.old.walks) (λ t n. IsGetFault t n (D.world disk.old).seen.held why)) }
         ensures moves { OnlyReads (D.world disk.old) (D.world disk.new) }
+        ensures left { OnOk result (blocks_left tables.now.tables self.new.walks ≤ blocks_left tables.now.tables self.old.walks) }
         ensures counted { IsTrue D.tells → OnOk result ((D.world disk.new).seen.reads + next_blocks self.old.walks ≡ (D.world disk.old).seen.reads + next_blocks self.new.walks) }
         ensures bounded { IsTrue D.tells → IsSoundMerge self.old tables.now.tables (D.world disk.old).seen.held
             → ReadMoves (wanted self.old tables.now.tables) (D.world disk.old) (D.world disk.new) }

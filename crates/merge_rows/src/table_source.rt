@@ -1,11 +1,12 @@
 //! A walk over a table as a source.
-ghost use Rattle.std.specs.Prelude.{◌≡◌, ◌<◌, ◌≤◌, ◌+◌, ◌-◌, ◌&&◌, ℕ, Bool, true, false, not, length, map, Option, Some, None, slice_get, IsTrue, IfSome, IfOk, IfErr, OnOk, OnErr};
+ghost use Rattle.std.specs.Prelude.{◌≡◌, ◌==◌, ◌<◌, ◌≤◌, ◌+◌, ◌-◌, ◌&&◌, ℕ, Bool, true, false, not, length, map, Option, Some, None, slice_get, IsTrue, IfSome, IfOk, IfErr, OnOk, OnErr};
+ghost use Rattle.std.specs.List.{list_any};
 ghost use Rattle.std.specs.Option.{option_map};
 ghost use Rattle.block_model.specs.Places.{byte_of_page};
 ghost use Rattle.disk_trait.specs.World.{ReadMoves};
 ghost use Rattle.entry_model.specs.Entries.{IsEntry, entry_of};
 ghost use Rattle.merge_rows.specs.Merges.{blocks_in, left_above, numbered, walk_at, walk_left, with_hand};
-ghost use Rattle.merge_rows.specs.Reads.{IsFewer, IsRead, SomeBlock, blocks_left, blocks_left_in, is_used_up, next_blocks, wanted_by, wanted_of};
+ghost use Rattle.merge_rows.specs.Reads.{BlockOf, IsFewer, IsRead, SomeBlock, blocks_left, blocks_left_in, is_used_up, next_blocks, wanted_by, wanted_block_of};
 ghost use Rattle.merge_rows.specs.Rows.{above_floor};
 ghost use Rattle.merge_rows.specs.Steps.{AreCaughtUp, AreHeadsClear, AreNumbersIn, AreSoundWalks, IsCaughtUp, IsHeadClear, IsSoundWalk, numbers};
 ghost use Rattle.table_file.specs.Faults.{HasReadCause, IsNoWant};
@@ -121,14 +122,14 @@ impl TableSource {
         ensures sound { IsTrue D.tells → IsSoundWalk floor.now self.old.walk (blocks_in (numbered tables.now.tables self.old.number) (D.world disk.old).seen.held)
             → IsSoundWalk floor.now self.new.walk (blocks_in (numbered tables.now.tables self.old.number) (D.world disk.old).seen.held) }
         ensures taken { IfErr result IsNoWant }
-        ensures cause { IfErr result (λ why. SomeBlock tables.now.tables (λ t n. HasReadCause (byte_of_page (page_at t n)) (D.world disk.old) (D.world disk.new) why)) }
-        ensures fault { IsTrue D.tells → IfErr result (λ why. SomeBlock tables.now.tables (λ t n. IsGetFault t n (D.world disk.old).seen.held why)) }
+        ensures cause { IfErr result (λ why. BlockOf tables.now.tables self.old.number (λ t n. HasReadCause (byte_of_page (page_at t n)) (D.world disk.old) (D.world disk.new) why)) }
+        ensures fault { IsTrue D.tells → IfErr result (λ why. BlockOf tables.now.tables self.old.number (λ t n. IsGetFault t n (D.world disk.old).seen.held why)) }
         ensures moves { ReadMoves 2 (D.world disk.old) (D.world disk.new) }
         ensures idle { IfOk result (λ read. read ≡ false → ReadMoves 0 (D.world disk.old) (D.world disk.new)) }
         ensures counted { IsTrue D.tells → OnOk result ((D.world disk.new).seen.reads + self.old.walk.block ≡ (D.world disk.old).seen.reads + self.new.walk.block) }
         ensures left { IsRead result (blocks_left_in tables.now.tables self.old) (blocks_left_in tables.now.tables self.new) }
         ensures once { IsTrue D.tells → IsSoundWalk floor.now self.old.walk (blocks_in (numbered tables.now.tables self.old.number) (D.world disk.old).seen.held)
-            → ReadMoves 1 (D.world disk.old) (D.world disk.new) × IsFewer result (wanted_of floor.now tables.now.tables self.old) (wanted_of floor.now tables.now.tables self.new) }
+            → ReadMoves 1 (D.world disk.old) (D.world disk.new) × IsFewer result (wanted_block_of floor.now tables.now.tables self.old) (wanted_block_of floor.now tables.now.tables self.new) }
     {
         let table = table_of(self.number, tables);
         if !self.pass_over(disk, table, floor) {
@@ -159,8 +160,8 @@ pub(crate) fn fill_first<F: RangeFilter, D: Disk>(
     ensures sound { IsTrue D.tells → AreSoundWalks floor.now tables.now.tables (D.world disk.old).seen.held walks.old → AreSoundWalks floor.now tables.now.tables (D.world disk.old).seen.held walks.new }
     ensures met { OnErr result (1 ≤ length walks.old) }
     ensures taken { IfErr result IsNoWant }
-    ensures cause { IfErr result (λ why. SomeBlock tables.now.tables (λ t n. HasReadCause (byte_of_page (page_at t n)) (D.world disk.old) (D.world disk.new) why)) }
-    ensures fault { IsTrue D.tells → IfErr result (λ why. SomeBlock tables.now.tables (λ t n. IsGetFault t n (D.world disk.old).seen.held why)) }
+    ensures cause { IfErr result (λ why. SomeBlock tables.now.tables (numbers walks.old) (λ t n. HasReadCause (byte_of_page (page_at t n)) (D.world disk.old) (D.world disk.new) why)) }
+    ensures fault { IsTrue D.tells → IfErr result (λ why. SomeBlock tables.now.tables (numbers walks.old) (λ t n. IsGetFault t n (D.world disk.old).seen.held why)) }
     ensures moves { ReadMoves 2 (D.world disk.old) (D.world disk.new) }
     ensures idle { IfOk result (λ read. read ≡ false → ReadMoves 0 (D.world disk.old) (D.world disk.new)) }
     ensures counted { IsTrue D.tells → OnOk result ((D.world disk.new).seen.reads + next_blocks walks.old ≡ (D.world disk.old).seen.reads + next_blocks walks.new) }
@@ -184,4 +185,16 @@ fn table_of<F: RangeFilter>(number: u32, tables: &Tables<F>) -> &Table<F>
     ensures { numbered tables.now.tables number ≡ Some result.now }
 {
     tables.get(tables.len() - 1 - number as usize)
+}
+
+/// Whether one of some walks is over the table of a number.
+pub(crate) fn has_number(walks: &[TableSource], number: u32) -> bool
+    ensures { result ≡ list_any (λ n. n == number) (numbers walks.now) }
+{
+    for walk in walks {
+        if walk.number == number {
+            return true;
+        }
+    }
+    false
 }

@@ -1,5 +1,5 @@
 //! A block in memory, and where a walk stands in it.
-ghost use Rattle.std.specs.Prelude.{◌≡◌, ◌<◌, ◌≤◌, ◌+◌, ◌==◌, [], length, is_some, IsTrue, IfOk, IfErr, IfSome, OnOk, OnErr, None};
+ghost use Rattle.std.specs.Prelude.{◌≡◌, ◌<◌, ◌≤◌, ◌+◌, ◌==◌, [], length, vec_capacity, is_some, IsTrue, IfOk, IfErr, IfSome, OnOk, OnErr, None};
 ghost use Rattle.std.specs.Option.{option_map};
 ghost use Rattle.disk_trait.specs.World.{ReadMoves};
 ghost use Rattle.entry_model.specs.Entries.{IsEntry, entry_of};
@@ -28,7 +28,7 @@ const NO_ENTRY: EntrySpan = EntrySpan {
 /// The bytes of a block, seen as the entry at hand and those that are still to come.
 #[derive(Drop)]
 pub(crate) struct HeldBlock {
-    // room for the largest block
+    // room for the largest block; so many bytes as the largest one had that was read
     bytes: Vec<u8>,
     // the entry at hand is the first of these
     here: EntrySpan,
@@ -36,7 +36,7 @@ pub(crate) struct HeldBlock {
 }
 
 impl Model for HeldBlock {
-    ghost use Rattle.std.specs.Prelude.{◌≡◌, length};
+    ghost use Rattle.std.specs.Prelude.{◌≤◌, vec_capacity};
     ghost use Rattle.std.specs.List.{AllByRecursion};
     ghost use Rattle.entry_model.specs.Entries.{IsEntry};
     ghost use Rattle.block_format.specs.Spans.{StandsIn, spanned};
@@ -47,7 +47,7 @@ impl Model for HeldBlock {
 
     ghost view = { λ b. record { now = first_of (spanned b.here b.bytes.items); later = spanned b.rest b.bytes.items } };
 
-    ghost invariant = { λ b. (length b.bytes.items ≡ largest_block)
+    ghost invariant = { λ b. (largest_block ≤ vec_capacity b.bytes)
         × StandsIn b.here b.bytes.items × AllByRecursion IsEntry (spanned b.here b.bytes.items)
         × StandsIn b.rest b.bytes.items × AllByRecursion IsEntry (spanned b.rest b.bytes.items) };
 }
@@ -58,7 +58,7 @@ impl HeldBlock {
         ensures { IfOk result (λ b. b ≡ record { now = None; later = [] }) }
     {
         Ok(HeldBlock {
-            bytes: vec![in alloc; 0; LARGEST_BLOCK_BYTES]?,
+            bytes: Vec::with_capacity(alloc, LARGEST_BLOCK_BYTES)?,
             here: NO_ENTRY,
             rest: NO_ENTRY,
         })
@@ -94,7 +94,8 @@ impl HeldBlock {
     {
         self.here = NO_ENTRY;
         self.rest = NO_ENTRY;
-        let size = table.read_block(disk, n, &mut self.bytes)?;
+        lengthen(&mut self.bytes, table.block_bytes(n));
+        let size = table.read_into(disk, n, &mut self.bytes)?;
         match read_span(&self.bytes[..size], low) {
             Ok(span) => {
                 self.rest = span;
@@ -121,5 +122,19 @@ impl HeldBlock {
     {
         let mut here = self.here;
         here.next(&self.bytes)
+    }
+}
+
+// Makes them as many bytes as these, where they are fewer. No memory.
+fn lengthen(bytes: &mut Vec<u8>, size: usize)
+    requires { size ≤ vec_capacity bytes.old }
+    ensures many { size ≤ length bytes.new.items }
+    ensures room { vec_capacity bytes.old ≤ vec_capacity bytes.new }
+{
+    if bytes.len() < size {
+        match bytes.resize(size, 0) {
+            Ok(()) => {}
+            Err(_) => unreachable!(),
+        }
     }
 }

@@ -175,6 +175,41 @@ impl<F: RangeFilter> Table<F> {
         ensures moves { ReadMoves 1 (D.world disk.old) (D.world disk.new) }
         ensures counted { IsTrue D.tells → OnOk result ((D.world disk.new).seen.reads ≡ (D.world disk.old).seen.reads + 1) }
     {
+        // no block is larger than the largest
+        let size = self.block_bytes(n);
+        prove!(size <= buf.len());
+        self.read_into(disk, n, buf)
+    }
+
+    /// How many bytes a block has.
+    pub(crate) fn block_bytes(&self, n: u32) -> usize
+        requires { n < length self.now.index.rows }
+        ensures size { result ≡ page_bytes * (row_at self.now.index.rows n).pages }
+        ensures large { result ≤ largest_block }
+    {
+        PAGE_BYTES * self.index.row(n as usize).pages as usize
+    }
+
+    /// [`read_block`](Table::read_block) into a buffer that has room for this block.
+    pub(crate) fn read_into<D: Disk>(
+        &self,
+        disk: &mut D,
+        n: u32,
+        buf: &mut [u8],
+    ) -> Result<usize, TableFault>
+        requires there { n < length self.now.index.rows }
+        requires room { page_bytes * (row_at self.now.index.rows n).pages ≤ length buf.old }
+        ensures size { IfOk result (λ size. size ≡ page_bytes * (row_at self.now.index.rows n).pages) }
+        ensures large { IfOk result (λ size. size ≤ largest_block) }
+        ensures taken { IfErr result IsNoWant }
+        ensures bytes { IsTrue D.tells → IfOk result (λ size. take size buf.new ≡ bytes_at self.now n (D.world disk.old).seen.held) }
+        ensures sum { IsTrue D.tells → IfOk result (λ _. (row_at self.now.index.rows n).sum ≡ fnv_of (bytes_at self.now n (D.world disk.old).seen.held)) }
+        ensures damaged { IsTrue D.tells → IfErr result (IsOtherBlock self.now n (D.world disk.old).seen.held) }
+        ensures length { length buf.new ≡ length buf.old }
+        ensures cause { IfErr result (HasReadCause (byte_of_page (page_at self.now n)) (D.world disk.old) (D.world disk.new)) }
+        ensures moves { ReadMoves 1 (D.world disk.old) (D.world disk.new) }
+        ensures counted { IsTrue D.tells → OnOk result ((D.world disk.new).seen.reads ≡ (D.world disk.old).seen.reads + 1) }
+    {
         let block = self.index.row(n as usize);
         let at = PAGE_BYTES as u64 * (u64::from(self.row.first_page) + block.first);
         let size = PAGE_BYTES * block.pages as usize;

@@ -1,1 +1,2 @@
+mod Memories
 mod Rows

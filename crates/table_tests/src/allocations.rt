@@ -1,6 +1,6 @@
 //! A table whose allocations fail in turn. One is made to fail from outside, by its number, and then the call that wanted
 //! it leaves all as it was and succeeds when it is made again. Where none fails, each call succeeds at once.
-use crate::made::{BASE, Made, add, opened, placed, room, try_add};
+use crate::made::{BASE, FIRST_PAGE, Made, add, opened, placed, room, try_add};
 use byte_fields::Row;
 use disk_mem::MemDisk;
 use plain_filter::PlainFilter;
@@ -78,7 +78,7 @@ fn made(alloc: Global) -> Result<Made, Fail> {
         Ok(disk) => disk,
         Err(_) => disk_of(alloc)?,
     };
-    let (_, row) = placed(parts(alloc)?, &mut disk)?;
+    let (_, row) = placed(parts(alloc)?, &mut disk, FIRST_PAGE)?;
     let table = opened_again(alloc, &mut disk, &row)?;
     let buf = match room(alloc) {
         Ok(buf) => buf,

@@ -1,8 +1,8 @@
 //! Tests of tables over a disk in memory and the plain filter.
 //!
 //! Nothing is exported. What the tests show at some values the crates prove at all; here building, writing, opening,
-//! getting and walking come together: blocks that are full to the byte, tables of 4,000 entries, changed bytes, and a
-//! device whose calls fail.
+//! getting, walking and merging come together: blocks that are full to the byte, tables of 4,000 entries, changed bytes, and
+//! a device whose calls fail.
 #![tactic(auto)]
 
 #[cfg(test)]
@@ -10,11 +10,15 @@ mod allocations;
 #[cfg(test)]
 mod blocks;
 #[cfg(test)]
+mod caches;
+#[cfg(test)]
 mod damage;
 #[cfg(test)]
 mod faults;
 #[cfg(test)]
 mod made;
+#[cfg(test)]
+mod merges;
 #[cfg(test)]
 mod sizes;
 #[cfg(test)]

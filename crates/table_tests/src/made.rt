@@ -24,16 +24,16 @@ pub const BASE: Settings = Settings {
     ratio: 64,
 };
 
-// How many bytes they are.
-fn bytes_in(bytes: &[u8]) -> usize
+/// How many bytes they are.
+pub fn bytes_in(bytes: &[u8]) -> usize
     ensures size { result ≡ length bytes.now }
     ensures bytes { IsBytes bytes.now }
 {
     bytes.len()
 }
 
-// The bytes of a value, none of a tombstone.
-fn size_of(value: Option<&[u8]>) -> usize
+/// The bytes of a value, none of a tombstone.
+pub fn size_of(value: Option<&[u8]>) -> usize
     ensures size { result ≡ length (bytes_of (option_map (λ v. v.now) value.entry)) }
     ensures bytes { IsBytes (bytes_of (option_map (λ v. v.now) value.entry)) }
 {
@@ -77,23 +77,24 @@ pub fn written(builder: TableBuilder, disk: &mut MemDisk) -> Result<(Parts<Plain
     if builder.is_empty() {
         return Err(Fail::from("no entries"));
     }
-    placed(builder.finish()?, disk)
+    placed(builder.finish()?, disk, FIRST_PAGE)
 }
 
-/// Parts, written to a disk, and their row.
+/// Parts, written to a disk from a page on, and their row.
 pub fn placed(
     parts: Parts<PlainFilter>,
     disk: &mut MemDisk,
+    page: u32,
 ) -> Result<(Parts<PlainFilter>, Row), Fail>
     ensures { IfOk result (λ w. FitsDevice w.1) }
 {
-    if pages_of(&parts) > 1_000_000 {
+    if page > 1_000_000 || pages_of(&parts) > 1_000_000 {
         return Err(Fail::from("too long"));
     }
-    if write_parts(disk, FIRST_PAGE, &parts).is_err() {
+    if write_parts(disk, page, &parts).is_err() {
         return Err(Fail::from("not written"));
     }
-    let row = parts.row(0, FIRST_PAGE);
+    let row = parts.row(0, page);
     if !fits_device(&row) {
         return Err(Fail::from("no row"));
     }

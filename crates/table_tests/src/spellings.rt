@@ -1,6 +1,6 @@
 //! The bytes of blocks and of an index, as the format has them.
-use block_model::{are_entries, block_bytes, data_bytes, data_pages, index_bytes, index_length};
 use entry_list::{Entry, push_copy};
+use plain_blocks::{are_entries, block_bytes, data_bytes, data_pages, index_bytes, index_length};
 use std::alloc::{AllocError, Global};
 use std::test::Fail;
 

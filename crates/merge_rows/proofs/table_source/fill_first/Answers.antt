@@ -1,13 +1,15 @@
 use Rattle.std.proofs.Common.{◌≡◌, ◌∙◌, ◌+◌, ◌<◌, ℕ, suc, Bool, true, false, length, get_or, slice_set, sym, ap, subst, arith}
-use Rattle.std.specs.Prelude.{IsTrue, Ok}
+use Rattle.std.specs.Prelude.{Contains, IsTrue, List, Ok}
 use Rattle.disk_trait.specs.Image.{Image}
 use Rattle.disk_trait.specs.World.{ReadMoves}
 use Rattle.disk_trait.proofs.Calls.{reads_more, reads_then}
+use Rattle.block_model.specs.Places.{byte_of_page}
 use Rattle.merge_rows.specs.Merges.{blocks_in, left_above, numbered, walk_left}
-use Rattle.merge_rows.specs.Reads.{IsFewer, blocks_left_in, next_of, wanted_of}
+use Rattle.merge_rows.specs.Reads.{IsFewer, blocks_left_in, next_block_of, wanted_block_of}
 use Rattle.merge_rows.specs.Steps.{AreNumbersIn, IsCaughtUp, IsSoundWalk, number_of_walk, numbers}
-use Rattle.table_file.specs.Search.{IsGetFault}
-use Rattle.merge_rows.proofs.FirstFills.{IsSoundHere, Went, all_clear, all_ready, fewer_err, fewer_none, fewer_one, none_wanted, number_here, read_none, read_one, set_left, set_next, set_numbers, set_same, set_sound, set_wanted, sound_here, wanted_here, went_map, went_on, went_sound, went_sum, went_wanted}
+use Rattle.table_file.specs.Search.{IsGetFault, page_at}
+use Rattle.merge_rows.proofs.Fills.{cause_since}
+use Rattle.merge_rows.proofs.FirstFills.{IsSoundHere, Went, all_clear, all_ready, fewer_err, fewer_none, fewer_one, none_wanted, number_among, number_here, read_none, read_one, set_left, set_next, set_numbers, set_same, set_sound, set_wanted, sound_here, wanted_here, went_map, went_on, went_sound, went_sum, went_wanted}
 use Rattle.merge_rows.proofs.table_source.fill_first.Goals as goal
 
 pub fill-requires : goal.fill-requires
@@ -46,8 +48,8 @@ loop-i-preserved g c =
             (subst (λ (h : Image). IsSoundWalk floor (get_or now i d).walk (blocks_in (numbered tables (get_or now i d).number) h) → IsSoundWalk floor x.walk (blocks_in (numbered tables (get_or now i d).number) h)) held (c.fill.ensures.sound t) s);
         block = λ t. let counted = c.in-Ok-false.ensures.counted t in omega (arith, counted, idle.reads, idle.reads_later);
         left = read_none c.fill.result (blocks_left_in tables (get_or now i d)) (blocks_left_in tables x) is c.fill.ensures.left;
-        fewer = λ t s. fewer_none c.fill.result (wanted_of floor tables (get_or now i d)) (wanted_of floor tables x) is
-            (subst (λ (h : Image). IsSoundWalk floor (get_or now i d).walk (blocks_in (numbered tables (get_or now i d).number) h) → IsFewer c.fill.result (wanted_of floor tables (get_or now i d)) (wanted_of floor tables x)) held (λ u. (c.fill.ensures.once t u).1) s);
+        fewer = λ t s. fewer_none c.fill.result (wanted_block_of floor tables (get_or now i d)) (wanted_block_of floor tables x) is
+            (subst (λ (h : Image). IsSoundWalk floor (get_or now i d).walk (blocks_in (numbered tables (get_or now i d).number) h) → IsFewer c.fill.result (wanted_block_of floor tables (get_or now i d)) (wanted_block_of floor tables x)) held (λ u. (c.fill.ensures.once t u).1) s);
       }));
       moves = reads_then 0 0 (g.D.Disk.world c.args.disk.now) (g.D.Disk.world c.loop-i.disk) (g.D.Disk.world c.fill.new.disk) c.loop-i.invariant.moves idle;
     }
@@ -157,9 +159,9 @@ returns-in-Ok-true-clause-once g c t sound =
     let held = c.loop-i.invariant.moves.held in
     let lt : i < length now = omega (arith, c.loop-i-test.true, c.loop-i.auto.walks) in
     let once = subst (λ (h : Image). IsSoundWalk floor (get_or now i d).walk (blocks_in (numbered tables (get_or now i d).number) h) → ReadMoves 1 (g.D.Disk.world c.loop-i.disk) (g.D.Disk.world c.fill.new.disk)
-    × IsFewer c.fill.result (wanted_of floor tables (get_or now i d)) (wanted_of floor tables x)) held (c.fill.ensures.once t) (sound_here tells floor tables image i old now d x went lt t sound) in
+    × IsFewer c.fill.result (wanted_block_of floor tables (get_or now i d)) (wanted_block_of floor tables x)) held (c.fill.ensures.once t) (sound_here tells floor tables image i old now d x went lt t sound) in
     let is : c.fill.result ≡ Ok true = c.in-Ok-true.is ∙ ap (λ (b : Bool). Ok b) c.in-Ok-true.field-0-test in
-    let one = fewer_one c.fill.result (wanted_of floor tables (get_or now i d)) (wanted_of floor tables x) is once.1 in
+    let one = fewer_one c.fill.result (wanted_block_of floor tables (get_or now i d)) (wanted_block_of floor tables x) is once.1 in
     let sum = set_wanted tells floor tables image i old now d x went lt t sound in
     (reads_then 0 1 (g.D.Disk.world c.args.disk.now) (g.D.Disk.world c.loop-i.disk) (g.D.Disk.world c.fill.new.disk) c.loop-i.invariant.moves once.0, omega (arith, one, sum))
 
@@ -216,6 +218,32 @@ returns-in-Err-clause-sound g c t sound =
     (subst (λ (h : Image). IsSoundWalk floor (get_or now i d).walk (blocks_in (numbered tables (get_or now i d).number) h) → IsSoundWalk floor x.walk (blocks_in (numbered tables (get_or now i d).number) h)) held (c.fill.ensures.sound t) s) in
     set_sound tells floor tables image i old now d x went lt t sounds sound
 
+pub returns-in-Err-clause-cause : goal.returns-in-Err-clause-cause
+returns-in-Err-clause-cause g c =
+    let tells = IsTrue g.D.Disk.tells in
+    let floor = c.args.floor.now in
+    let tables = c.args.tables.now.tables in
+    let image = (g.D.Disk.world c.args.disk.now).seen.held in
+    let i = c.loop-i.i in
+    let old = c.args.walks.now in
+    let now = c.loop-i.walks in
+    let d = c.index-walks-i.result in
+    let went = c.loop-i.invariant.went in
+    let lt : i < length now = omega (arith, c.loop-i-test.true, c.loop-i.auto.walks) in
+    let among : Contains (numbers old) (get_or now i d).number =
+    subst (λ (which : List ℕ). Contains which (get_or now i d).number) (went_map tells floor tables image number_of_walk (λ w y p. p.number) i old now went) (number_among now i d lt) in
+    let is = c.in-Err.ensures.cause in (
+      (get_or now i d).number,
+      among,
+      (
+        is.0,
+        is.1,
+        is.2,
+        is.3,
+        cause_since (byte_of_page (page_at is.0 is.1)) (g.D.Disk.world c.args.disk.now) (g.D.Disk.world c.loop-i.disk) (g.D.Disk.world c.fill.new.disk) c.in-Err.why c.loop-i.invariant.moves.read_faults is.4,
+      ),
+    )
+
 pub returns-in-Err-clause-fault : goal.returns-in-Err-clause-fault
 returns-in-Err-clause-fault g c t =
     let tells = IsTrue g.D.Disk.tells in
@@ -226,12 +254,12 @@ returns-in-Err-clause-fault g c t =
     let old = c.args.walks.now in
     let now = c.loop-i.walks in
     let d = c.index-walks-i.result in
-    let x = c.fill.new.self in
     let went = c.loop-i.invariant.went in
-    let held = c.loop-i.invariant.moves.held in
     let lt : i < length now = omega (arith, c.loop-i-test.true, c.loop-i.auto.walks) in
+    let among : Contains (numbers old) (get_or now i d).number =
+    subst (λ (which : List ℕ). Contains which (get_or now i d).number) (went_map tells floor tables image number_of_walk (λ w y p. p.number) i old now went) (number_among now i d lt) in
     let is = c.in-Err.ensures.fault t in
-    (is.0, is.1, is.2, is.3, is.4, subst (λ (h : Image). IsGetFault is.1 is.2 h c.in-Err.why) held is.5)
+    ((get_or now i d).number, among, (is.0, is.1, is.2, is.3, subst (λ (h : Image). IsGetFault is.0 is.1 h c.in-Err.why) c.loop-i.invariant.moves.held is.4))
 
 pub returns-in-Err-clause-once : goal.returns-in-Err-clause-once
 returns-in-Err-clause-once g c t sound =
@@ -248,8 +276,8 @@ returns-in-Err-clause-once g c t sound =
     let held = c.loop-i.invariant.moves.held in
     let lt : i < length now = omega (arith, c.loop-i-test.true, c.loop-i.auto.walks) in
     let once = subst (λ (h : Image). IsSoundWalk floor (get_or now i d).walk (blocks_in (numbered tables (get_or now i d).number) h) → ReadMoves 1 (g.D.Disk.world c.loop-i.disk) (g.D.Disk.world c.fill.new.disk)
-    × IsFewer c.fill.result (wanted_of floor tables (get_or now i d)) (wanted_of floor tables x)) held (c.fill.ensures.once t) (sound_here tells floor tables image i old now d x went lt t sound) in
-    let one = fewer_err c.fill.result c.in-Err.why (wanted_of floor tables (get_or now i d)) (wanted_of floor tables x) c.in-Err.is once.1 in
+    × IsFewer c.fill.result (wanted_block_of floor tables (get_or now i d)) (wanted_block_of floor tables x)) held (c.fill.ensures.once t) (sound_here tells floor tables image i old now d x went lt t sound) in
+    let one = fewer_err c.fill.result c.in-Err.why (wanted_block_of floor tables (get_or now i d)) (wanted_block_of floor tables x) c.in-Err.is once.1 in
     let most = wanted_here tells floor tables image i old now d x went lt t sound in
     (reads_then 0 1 (g.D.Disk.world c.args.disk.now) (g.D.Disk.world c.loop-i.disk) (g.D.Disk.world c.fill.new.disk) c.loop-i.invariant.moves once.0, omega (arith, one, most))
 
@@ -323,7 +351,7 @@ returns-clause-counted g c t =
     let old = c.args.walks.now in
     let now = c.loop-i.walks in
     let went = c.loop-i.invariant.went in
-    let sum = went_sum tells floor tables image next_of i old now went (went_map tells floor tables image next_of (λ w y p. p.block t) i old now went) in
+    let sum = went_sum tells floor tables image next_block_of i old now went (went_map tells floor tables image next_block_of (λ w y p. p.block t) i old now went) in
     omega (arith, sum, c.loop-i.invariant.moves.reads, c.loop-i.invariant.moves.reads_later)
 
 pub returns-clause-left : goal.returns-clause-left
@@ -349,5 +377,5 @@ returns-clause-once g c t sound =
     let now = c.loop-i.walks in
     let went = c.loop-i.invariant.went in
     let none = none_wanted tells floor tables image i old now c.loop-i-test.false t went sound in
-    let same = went_sum tells floor tables image (wanted_of floor tables) i old now went (went_wanted tells floor tables image i old now t went sound) in
+    let same = went_sum tells floor tables image (wanted_block_of floor tables) i old now went (went_wanted tells floor tables image i old now t went sound) in
     (reads_more 0 1 (g.D.Disk.world c.args.disk.now) (g.D.Disk.world c.loop-i.disk) (omega arith) c.loop-i.invariant.moves, (same ∙ none, none))

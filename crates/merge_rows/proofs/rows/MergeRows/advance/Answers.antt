@@ -1,12 +1,14 @@
-use Rattle.std.proofs.Common.{◌≡◌, ◌≤◌, ◌∙◌, true, false, sym, subst, arith}
-use Rattle.std.specs.Prelude.{IsTrue, is_some}
+use Rattle.std.proofs.Common.{◌≡◌, ◌≤◌, ◌∙◌, ℕ, List, true, false, sym, subst, arith}
+use Rattle.std.specs.Prelude.{Contains, IsTrue, is_some}
 use Rattle.std.proofs.lemmas.Bool.{false≢true}
 use Rattle.disk_trait.specs.Image.{Image}
+use Rattle.block_model.specs.Places.{byte_of_page}
 use Rattle.key_base.specs.Limits.{max_key_bytes}
 use Rattle.merge_rows.specs.Merges.{Merge, merged_left}
 use Rattle.merge_rows.specs.Reads.{wanted}
 use Rattle.merge_rows.specs.Steps.{HandsOutRow, IsPaced, IsSoundMerge, SourcesStay, StaysAt}
-use Rattle.table_file.specs.Search.{IsGetFault}
+use Rattle.table_file.specs.Search.{IsGetFault, page_at}
+use Rattle.merge_rows.proofs.Fills.{cause_since}
 use Rattle.merge_rows.proofs.Rank.{falls, key_of_entry}
 use Rattle.merge_rows.proofs.RowSteps.{fault_step, hidden_drops, hidden_step, none_step, rises_on, row_step, sources_then}
 use Rattle.merge_rows.proofs.Stays.{only_both, still_some}
@@ -127,10 +129,24 @@ returns-in-Err-clause-stays g c =
     let kept : SourcesStay tells tables image old new = subst (λ (h : Image). SourcesStay tells tables h old new) held c.step.ensures.kept in
     fault_step tells tables image first old new from.rows from.rises (subst (λ (h : Image). StaysAt tells tables h old new) held c.in-Err.ensures.stays)
 
+pub returns-in-Err-clause-cause : goal.returns-in-Err-clause-cause
+returns-in-Err-clause-cause g c =
+    let is = c.in-Err.ensures.cause in (
+      is.0,
+      subst (λ (which : List ℕ). Contains which is.0) c.loop-why.invariant.stay.numbers_are is.1,
+      (
+        is.2.0,
+        is.2.1,
+        is.2.2,
+        is.2.3,
+        cause_since (byte_of_page (page_at is.2.0 is.2.1)) (g.D.Disk.world c.args.disk.now) (g.D.Disk.world c.loop-why.disk) (g.D.Disk.world c.step.new.disk) c.in-Err.why c.loop-why.invariant.moves.1.read_faults is.2.4,
+      ),
+    )
+
 pub returns-in-Err-clause-fault : goal.returns-in-Err-clause-fault
 returns-in-Err-clause-fault g c t =
     let is = c.in-Err.ensures.fault t in
-    (is.0, is.1, is.2, is.3, is.4, subst (λ (h : Image). IsGetFault is.1 is.2 h c.in-Err.why) c.loop-why.invariant.moves.1.held is.5)
+    (is.0, subst (λ (which : List ℕ). Contains which is.0) c.loop-why.invariant.stay.numbers_are is.1, (is.2.0, is.2.1, is.2.2, is.2.3, subst (λ (h : Image). IsGetFault is.2.0 is.2.1 h c.in-Err.why) c.loop-why.invariant.moves.1.held is.2.4))
 
 pub loop-why-smaller : goal.loop-why-smaller
 loop-why-smaller g c =
@@ -160,6 +176,7 @@ loop-why-preserved g c =
       rows = hidden_step tells tables image first old new from.stay from.rows from.rises kept hands c.in-Ok-true.ensures.passes some c.if-is_shown.ensures;
       rises = rises_then first.floor old.floor new.floor from.rises (rises_on new.now old.floor new.floor c.in-Ok-true.ensures.passes);
       moves = only_both before mid after from.moves c.step.ensures.moves;
+      left = (let one = from.left in let two = c.in-Ok-true.ensures.left in omega (arith, one, two));
       counted = λ t. let one = from.counted t in let two = c.in-Ok-true.ensures.counted t in omega (arith, one, two);
       first = λ all. absurd (false≢true (sym all ∙ sym from.stay.drops_are ∙ sym kept.drops_are ∙ hidden_drops new.drops new.now some c.if-is_shown.ensures));
     }

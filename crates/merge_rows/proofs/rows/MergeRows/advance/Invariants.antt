@@ -1,9 +1,9 @@
-use Rattle.std.proofs.Common.{◌≡◌, ◌+◌, ◌-◌, false}
+use Rattle.std.proofs.Common.{◌≡◌, ◌+◌, ◌-◌, ◌≤◌, false}
 use Rattle.std.specs.Prelude.{IsTrue}
 use Rattle.disk_trait.specs.World.{ReadMoves}
 use Rattle.key_base.specs.Limits.{max_key_bytes}
 use Rattle.merge_rows.specs.Merges.{rows_left}
-use Rattle.merge_rows.specs.Reads.{OnlyReads, next_blocks}
+use Rattle.merge_rows.specs.Reads.{OnlyReads, blocks_left, next_blocks}
 use Rattle.merge_rows.specs.Steps.{FloorRises, IsSoundMerge, SourcesStay}
 use Rattle.merge_rows.proofs.Rank.{height, strings}
 use Rattle.merge_rows.proofs.rows.MergeRows.advance.Given as goal
@@ -19,6 +19,7 @@ invariant-loop-why g l =
       rows : tells → IsSoundMerge l.fn.self l.tables.tables before.seen.held → rows_left l.self l.tables.tables before.seen.held ≡ rows_left l.fn.self l.tables.tables before.seen.held;
       rises : FloorRises l.fn.self.floor l.self.floor;
       moves : OnlyReads before after;
+      left : blocks_left l.tables.tables l.self.walks ≤ blocks_left l.tables.tables l.fn.self.walks;
       counted : tells → after.seen.reads + next_blocks l.fn.self.walks ≡ before.seen.reads + next_blocks l.self.walks;
       first : l.fn.self.drops ≡ false → (l.self ≡ l.fn.self) × ReadMoves 0 before after;
     }

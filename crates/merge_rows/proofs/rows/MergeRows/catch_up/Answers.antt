@@ -1,14 +1,16 @@
-use Rattle.std.proofs.Common.{◌≡◌, ◌∙◌, List, Bool, true, sym, ap, subst, arith}
-use Rattle.std.specs.Prelude.{Ok}
+use Rattle.std.proofs.Common.{◌≡◌, ◌∙◌, ◌<◌, ℕ, List, Bool, true, false, sym, ap, subst, arith}
+use Rattle.std.specs.Prelude.{Contains, Ok}
 use Rattle.disk_trait.specs.Image.{Image}
 use Rattle.disk_trait.specs.World.{ReadMoves}
+use Rattle.block_model.specs.Places.{byte_of_page}
 use Rattle.entry_model.specs.Entries.{Entry}
-use Rattle.merge_rows.specs.Reads.{IsFewer, wanted}
+use Rattle.merge_rows.specs.Reads.{IsFewer, blocks_left, wanted}
 use Rattle.merge_rows.specs.Steps.{IsCaughtUp, IsSoundMerge, StaysAt}
-use Rattle.table_file.specs.Search.{IsGetFault}
+use Rattle.table_file.specs.Search.{IsGetFault, page_at}
 use Rattle.table_file.specs.Walks.{first_of}
+use Rattle.merge_rows.proofs.Fills.{cause_since}
 use Rattle.merge_rows.proofs.FirstFills.{fewer_err, fewer_one}
-use Rattle.merge_rows.proofs.Stays.{fewer_then, only_then, stays_then, still_some}
+use Rattle.merge_rows.proofs.Stays.{fewer_then, only_then, read_none, read_one, stays_then, still_some}
 use Rattle.merge_rows.proofs.rows.MergeRows.catch_up.Goals as goal
 
 pub loop-why-preserved : goal.loop-why-preserved
@@ -22,20 +24,44 @@ loop-why-preserved g c =
     let from = c.loop-why.invariant in
     let held = from.moves.1.held in
     let is : c.fill.result ≡ Ok true = c.in-Ok-true.is ∙ ap (λ (b : Bool). Ok b) c.in-Ok-true.field-0-test in
+    let fewer : blocks_left tables new.walks < blocks_left tables old.walks = read_one c.fill.result (blocks_left tables old.walks) (blocks_left tables new.walks) is c.fill.ensures.left in
     record {
       stays = stays_then g.D.Disk.tells tables before.seen.held c.args.self.now old new from.stays (subst (λ (h : Image). StaysAt g.D.Disk.tells tables h old new) held c.fill.ensures.stays);
       memory = subst (λ (es : List Entry). IsCaughtUp c.args.self.now.floor (first_of es) es) (sym c.fill.ensures.memory) from.memory;
       moves = only_then 2 before mid after from.moves c.fill.ensures.moves;
+      left = omega (arith, fewer, from.left);
       counted = λ t. let one = from.counted t in let two = c.in-Ok-true.ensures.counted t in omega (arith, one, two);
       bounded = λ t s.
           let once = subst (λ (h : Image). IsSoundMerge old tables h → ReadMoves 1 mid after × IsFewer c.fill.result (wanted old tables) (wanted new tables)) held (c.fill.ensures.once t) (from.stays.sources.sound t s) in
           fewer_then (wanted c.args.self.now tables) (wanted old tables) (wanted new tables) before mid after (fewer_one c.fill.result (wanted old tables) (wanted new tables) is once.1) (from.bounded t s) once.0;
     }
 
+pub returns-in-Err-clause-cause : goal.returns-in-Err-clause-cause
+returns-in-Err-clause-cause g c =
+    let is = c.in-Err.ensures.cause in (
+      is.0,
+      subst (λ (which : List ℕ). Contains which is.0) c.loop-why.invariant.stays.sources.numbers_are is.1,
+      (
+        is.2.0,
+        is.2.1,
+        is.2.2,
+        is.2.3,
+        cause_since (byte_of_page (page_at is.2.0 is.2.1)) (g.D.Disk.world c.args.disk.now) (g.D.Disk.world c.loop-why.disk) (g.D.Disk.world c.fill.new.disk) c.in-Err.why c.loop-why.invariant.moves.1.read_faults is.2.4,
+      ),
+    )
+
+pub returns-in-Ok-false-clause-left : goal.returns-in-Ok-false-clause-left
+returns-in-Ok-false-clause-left g c =
+    let tables = c.args.tables.now.tables in
+    let is : c.fill.result ≡ Ok false = c.in-Ok-false.is ∙ ap (λ (b : Bool). Ok b) c.in-Ok-false.field-0-test in
+    let same : blocks_left tables c.fill.new.self.walks ≡ blocks_left tables c.loop-why.self.walks =
+    read_none c.fill.result (blocks_left tables c.loop-why.self.walks) (blocks_left tables c.fill.new.self.walks) is c.fill.ensures.left in
+    omega (arith, same, c.loop-why.invariant.left)
+
 pub returns-in-Err-clause-fault : goal.returns-in-Err-clause-fault
 returns-in-Err-clause-fault g c t =
     let is = c.in-Err.ensures.fault t in
-    (is.0, is.1, is.2, is.3, is.4, subst (λ (h : Image). IsGetFault is.1 is.2 h c.in-Err.why) c.loop-why.invariant.moves.1.held is.5)
+    (is.0, subst (λ (which : List ℕ). Contains which is.0) c.loop-why.invariant.stays.sources.numbers_are is.1, (is.2.0, is.2.1, is.2.2, is.2.3, subst (λ (h : Image). IsGetFault is.2.0 is.2.1 h c.in-Err.why) c.loop-why.invariant.moves.1.held is.2.4))
 
 pub returns-in-Err-clause-moves : goal.returns-in-Err-clause-moves
 returns-in-Err-clause-moves g c =

@@ -1,10 +1,11 @@
 use Rattle.std.specs.Prelude.{IfSome}
 use Rattle.std.specs.List.{AllByRecursion}
 use Rattle.merge_rows.specs.Choosing.{IsHeadFrom}
-use Rattle.std.proofs.Common.{map, ◌≡◌, ◌∙◌, List, sym, ap, subst}
+use Rattle.std.proofs.Common.{map, ◌≡◌, ◌∙◌, ◌≤◌, List, sym, ap, subst}
 use Rattle.entry_model.specs.Entries.{Entry}
 use Rattle.merge_rows.specs.Rows.{KeyFloor}
 use Rattle.merge_rows.specs.Merges.{TableWalk, left_above, merged_left}
+use Rattle.merge_rows.specs.Reads.{blocks_left}
 use Rattle.merge_rows.specs.Steps.{AreCaughtUp, AreHeadsClear, HandsOutRow, IsCaughtUp, RowPasses, numbers}
 use Rattle.table_file.specs.Walks.{first_of}
 use Rattle.merge_rows.proofs.RowSteps.{chosen_least, chosen_passes, step_rows, step_sound}
@@ -73,3 +74,8 @@ returns-clause-paced g c t =
       least = subst (λ (walks : List TableWalk). IfSome new.now (λ row. AllByRecursion (λ (w : TableWalk). IsHeadFrom row.key w.walk.now) walks)) walks_are
           (chosen_least mid.floor new.floor mid.memory mid.walks new.now c.choose.ensures.chosen);
     }
+
+pub returns-clause-left : goal.returns-clause-left
+returns-clause-left g c =
+    let tables = c.args.tables.now.tables in
+    subst (λ (walks : List TableWalk). blocks_left tables walks ≤ blocks_left tables c.args.self.now.walks) (sym c.choose.ensures.walks) c.in_ok-catch_up.ensures.left

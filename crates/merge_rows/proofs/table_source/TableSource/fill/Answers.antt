@@ -1,4 +1,4 @@
-use Rattle.std.proofs.Common.{◌≡◌, ◌∙◌, ◌-◌, ℕ, true, length, refl, sym, ap, subst}
+use Rattle.std.proofs.Common.{◌≡◌, ◌∙◌, ℕ, true, length, refl, sym, ap, subst}
 use Rattle.std.specs.Prelude.{Some}
 use Rattle.disk_trait.specs.Image.{Image}
 use Rattle.block_model.specs.Places.{byte_of_page}
@@ -42,10 +42,9 @@ pub returns-clause-cause : goal.returns-clause-cause
 returns-clause-cause g c = elim c.match-advance.branch [
   | in-Ok w ↦ ok_is _ c.match-advance.result true w.result-is
   | in-Err w ↦ err_is _ c.match-advance.result w.in-Err.why w.result-is (
-    length c.args.tables.now.tables - 1 - c.self.inside.number,
     c.table_of-table.result.now,
     c.advance.new.self.block,
-    c.table_of-table.ensures,
+    subst (λ (n : ℕ). numbered c.args.tables.now.tables n ≡ Some c.table_of-table.result.now) (ap (λ (s : TableWalk). s.number) c.self.view_is) c.table_of-table.ensures,
     w.in-Err.ensures.there,
     cause_since (byte_of_page (page_at c.table_of-table.result.now c.advance.new.self.block)) (g.D.Disk.world c.args.disk.now) (g.D.Disk.world c.pass_over.new.disk) (g.D.Disk.world c.advance.new.disk) w.in-Err.why c.pass_over.ensures.moves.read_faults w.in-Err.ensures.cause,
   )
@@ -55,10 +54,9 @@ pub returns-clause-fault : goal.returns-clause-fault
 returns-clause-fault g c t = elim c.match-advance.branch [
   | in-Ok w ↦ ok_is _ c.match-advance.result true w.result-is
   | in-Err w ↦ err_is _ c.match-advance.result w.in-Err.why w.result-is (
-    length c.args.tables.now.tables - 1 - c.self.inside.number,
     c.table_of-table.result.now,
     c.advance.new.self.block,
-    c.table_of-table.ensures,
+    subst (λ (n : ℕ). numbered c.args.tables.now.tables n ≡ Some c.table_of-table.result.now) (ap (λ (s : TableWalk). s.number) c.self.view_is) c.table_of-table.ensures,
     w.in-Err.ensures.there,
     subst (λ (h : Image). IsGetFault c.table_of-table.result.now c.advance.new.self.block h w.in-Err.why) c.pass_over.ensures.moves.held (w.in-Err.ensures.fault t),
   )

@@ -1,4 +1,4 @@
-use Rattle.std.proofs.Common.{rules, ◌≡◌, ◌+◌, ◌*◌, ◌∙◌, length, take, drop, sym, ap, ap₂, subst, arith, length-take-le}
+use Rattle.std.proofs.Common.{rules, ◌≡◌, ◌+◌, ◌*◌, ◌≤◌, ◌∙◌, length, take, drop, sym, ap, ap₂, subst, arith, length-take-le}
 use Rattle.std.proofs.lemmas.List.{take_at}
 use Rattle.byte_fields.specs.Sums.{fnv_of}
 use Rattle.disk_trait.specs.Image.{window}
@@ -8,7 +8,7 @@ use Rattle.block_model.specs.Places.{byte_of_page}
 use Rattle.table_file.specs.Opened.{Opened}
 use Rattle.table_file.specs.Search.{IsOtherBlock, bytes_at, page_at, row_at}
 use Rattle.table_file.proofs.Searches.{other_block}
-use Rattle.table_file.proofs.table.Table.read_block.Goals as goal
+use Rattle.table_file.proofs.table.Table.read_into.Goals as goal
 
 pub returns-in_err-check_sum-clause-damaged : goal.returns-in_err-check_sum-clause-damaged
 returns-in_err-check_sum-clause-damaged g c tells =
@@ -19,8 +19,10 @@ returns-in_err-check_sum-clause-damaged g c tells =
     let size = 4096 * r.pages in
     let seen : Opened = record { row = t.row; index = t.index; filter = record { hash_bits = g.F.RangeFilter.hash_bits t.filter; real_bits = g.F.RangeFilter.real_bits t.filter; cutoff = g.F.RangeFilter.cutoff t.filter; leaves = g.F.RangeFilter.leaf_list t.filter } } in
     let place : 4096 * (c.from.result + r.first) ≡ byte_of_page (page_at seen n) = omega (arith, c.from.ensures, c.row-block.ensures.first) in
+    let room : 4096 * (row_at t.index.rows n).pages ≤ length c.args.buf.now =
+    subst (λ (x : Opened). 4096 * (row_at x.index.rows n).pages ≤ length c.args.buf.now) (sym c.self.view_is) c.requires.room in
     let long : length (take size c.args.buf.now) ≡ 4096 * (row_at t.index.rows n).pages =
-    omega (arith, length-take-le size c.args.buf.now (omega (arith, c.row-block.ensures.few, c.requires.room)), ap (λ (x : IndexRow). x.pages) c.row-block.ensures.row) in
+    omega (arith, length-take-le size c.args.buf.now (omega (arith, ap (λ (x : IndexRow). x.pages) c.row-block.ensures.row, room)), ap (λ (x : IndexRow). x.pages) c.row-block.ensures.row) in
     let here : c.read.new.into ≡ bytes_at seen n held = c.in_ok-read.ensures.bytes tells ∙ ap₂ (window held) place long in
     let other = subst (λ (x : Opened). IsOtherBlock x n held c.in_err-check_sum.field-0.0) c.self.view_is
     (other_block seen n held _ r.sum c.read.new.into c.in_err-check_sum.field-0.0 place (ap (λ (x : IndexRow). x.sum) c.row-block.ensures.row) here c.in_err-check_sum.ensures.other) in
@@ -35,8 +37,10 @@ returns-clause-bytes g c tells =
     let size = 4096 * r.pages in
     let seen : Opened = record { row = t.row; index = t.index; filter = record { hash_bits = g.F.RangeFilter.hash_bits t.filter; real_bits = g.F.RangeFilter.real_bits t.filter; cutoff = g.F.RangeFilter.cutoff t.filter; leaves = g.F.RangeFilter.leaf_list t.filter } } in
     let place : 4096 * (c.from.result + r.first) ≡ byte_of_page (page_at seen n) = omega (arith, c.from.ensures, c.row-block.ensures.first) in
+    let room : 4096 * (row_at t.index.rows n).pages ≤ length c.args.buf.now =
+    subst (λ (x : Opened). 4096 * (row_at x.index.rows n).pages ≤ length c.args.buf.now) (sym c.self.view_is) c.requires.room in
     let long : length (take size c.args.buf.now) ≡ 4096 * (row_at t.index.rows n).pages =
-    omega (arith, length-take-le size c.args.buf.now (omega (arith, c.row-block.ensures.few, c.requires.room)), ap (λ (x : IndexRow). x.pages) c.row-block.ensures.row) in
+    omega (arith, length-take-le size c.args.buf.now (omega (arith, ap (λ (x : IndexRow). x.pages) c.row-block.ensures.row, room)), ap (λ (x : IndexRow). x.pages) c.row-block.ensures.row) in
     let here : c.read.new.into ≡ bytes_at seen n held = c.in_ok-read.ensures.bytes tells ∙ ap₂ (window held) place long in
     take_at c.read.new.into (drop size c.args.buf.now) size (ap length here ∙ window_size held _ _ ∙ sym (ap (λ (x : IndexRow). 4096 * x.pages) c.row-block.ensures.row))
     ∙ here ∙ ap (λ (x : Opened). bytes_at x n held) c.self.view_is
@@ -50,8 +54,10 @@ returns-clause-sum g c tells =
     let size = 4096 * r.pages in
     let seen : Opened = record { row = t.row; index = t.index; filter = record { hash_bits = g.F.RangeFilter.hash_bits t.filter; real_bits = g.F.RangeFilter.real_bits t.filter; cutoff = g.F.RangeFilter.cutoff t.filter; leaves = g.F.RangeFilter.leaf_list t.filter } } in
     let place : 4096 * (c.from.result + r.first) ≡ byte_of_page (page_at seen n) = omega (arith, c.from.ensures, c.row-block.ensures.first) in
+    let room : 4096 * (row_at t.index.rows n).pages ≤ length c.args.buf.now =
+    subst (λ (x : Opened). 4096 * (row_at x.index.rows n).pages ≤ length c.args.buf.now) (sym c.self.view_is) c.requires.room in
     let long : length (take size c.args.buf.now) ≡ 4096 * (row_at t.index.rows n).pages =
-    omega (arith, length-take-le size c.args.buf.now (omega (arith, c.row-block.ensures.few, c.requires.room)), ap (λ (x : IndexRow). x.pages) c.row-block.ensures.row) in
+    omega (arith, length-take-le size c.args.buf.now (omega (arith, ap (λ (x : IndexRow). x.pages) c.row-block.ensures.row, room)), ap (λ (x : IndexRow). x.pages) c.row-block.ensures.row) in
     let here : c.read.new.into ≡ bytes_at seen n held = c.in_ok-read.ensures.bytes tells ∙ ap₂ (window held) place long in
     let same : (row_at t.index.rows n).sum ≡ fnv_of (bytes_at seen n held) =
     sym (ap (λ (x : IndexRow). x.sum) c.row-block.ensures.row) ∙ c.in_ok-check_sum.ensures.same ∙ ap fnv_of here in
