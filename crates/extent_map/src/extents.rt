@@ -1,5 +1,5 @@
 //! The extents that are taken, in the order of their pages.
-ghost use Rattle.std.specs.Prelude.{◌≡◌, ◌<◌, ◌≤◌, ◌↔◌, [], ◌∷◌, length, nat_lt, Some, IfOk, IfErr, OnOk, OnErr, IsErr, IsTrue};
+ghost use Rattle.std.specs.Prelude.{◌≡◌, ◌<◌, ◌≤◌, ◌+◌, ◌↔◌, [], ◌∷◌, length, nat_lt, Some, IfOk, IfErr, OnOk, OnErr, IsErr, IsTrue};
 ghost use Rattle.std.specs.List.{AllByRecursion, Contains};
 ghost use Rattle.std.specs.List.Sorted.{IsPartitionPoint, IsPermutation};
 ghost use Rattle.extent_model.specs.Extents.{AreApart, AreLaid, IsOnDevice};
@@ -91,8 +91,12 @@ impl Extents {
     }
 
     /// The first page of the first gap that holds so many pages; else how many the largest gap has. One pass, and no memory.
+    ///
+    /// Where one or more are asked for, they are free: they may be [added](Extents::add).
     pub fn gap(&self, need: u64) -> Result<u32, NoGap>
         ensures gap { IfOk result (λ page. first_gap self.now.pages self.now.extents need ≡ Some page) }
+        ensures within { IfOk result (λ page. 0 < need → page + need ≤ max_device_pages) }
+        ensures free { IfOk result (λ page. 0 < need → IsOnDevice self.now.pages (page, need) × AllByRecursion (AreApart (page, need)) self.now.extents) }
         ensures no_gap { IfErr result (λ fault. fault ≡ record { need = need; largest = largest_gap self.now.pages self.now.extents }) }
         ensures exact { IsErr result ↔ (largest_gap self.now.pages self.now.extents < need) }
     {
@@ -155,46 +159,5 @@ impl Extents {
                 ensures { result ≡ nat_lt extent.now.0 first }
             { extent.0 < first },
         )
-    }
-}
-
-#[cfg(test)]
-mod tests {
-    use super::*;
-    use std::test::Fail;
-
-    #[test]
-    fn the_first_gap_that_holds_so_many(rt: HostRuntime) -> Result<(), Fail> {
-        let mut extents = Extents::new(rt.alloc(), 512);
-        assert_eq!(rt; extents.gap(320), Ok(192));
-        let largest = 320;
-        assert_eq!(rt; extents.gap(321), Err(NoGap { need: 321, largest }));
-        extents.add(200, 5)?;
-        extents.add(192, 3)?;
-        let rows = [(0, 192), (1, 195), (5, 195), (6, 205), (307, 205)];
-        for (need, page) in rows {
-            assert_eq!(rt; extents.gap(need), Ok(page));
-        }
-        let largest = 307;
-        assert_eq!(rt; extents.gap(308), Err(NoGap { need: 308, largest }));
-        Ok(())
-    }
-
-    #[test]
-    fn pages_that_are_given_back_are_free(rt: HostRuntime) -> Result<(), Fail> {
-        let mut extents = Extents::new(rt.alloc(), 512);
-        extents.add(192, 300)?;
-        extents.add(500, 12)?;
-        assert_eq!(rt;
-            extents.gap(9),
-            Err(NoGap {
-                need: 9,
-                largest: 8
-            })
-        );
-        extents.remove(500, 12);
-        assert_eq!(rt; extents.gap(20), Ok(492));
-        assert_eq!(rt; extents.as_slice(), [(192, 300)].as_slice());
-        Ok(())
     }
 }

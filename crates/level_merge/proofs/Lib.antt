@@ -1,3 +1,15 @@
 pub mod Outlines
 pub mod Related
 pub mod Choices
+pub mod OutputLists
+pub mod Floors
+pub mod Reading
+pub mod RowsTaken
+pub mod Flushed
+pub mod OtherImages
+pub mod AllRead
+pub mod Following
+pub mod Begun
+pub mod SliceSteps
+pub mod SliceMoves
+pub mod Placed

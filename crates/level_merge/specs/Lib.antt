@@ -3,4 +3,12 @@ pub use Rattle.table_file.specs.TableLists
 pub use Rattle.state_model.specs.Merges
 pub mod Plans
 pub mod Outlines
+pub mod Merging
+pub mod Outputs
+pub mod Slices
+pub mod Held
+pub mod Making
+pub mod Follows
+pub mod FollowLaws
 pub mod Laws
+pub mod Faults

@@ -1,10 +1,9 @@
 -- Open tables as a state's tables of which memory tells no more than their bounds.
-use Rattle.std.specs.Prelude.{ℕ, ◌-◌, ◌+◌, List, [], ◌∷◌, length, map, slice_index_or, Option, Some, None, take}
+use Rattle.std.specs.Prelude.{ℕ, ◌-◌, ◌+◌, List, [], ◌∷◌, length, map, slice_index_or, Option, None, take}
 use Rattle.std.specs.Option.{option_map}
 use Rattle.block_model.specs.Places.{pages_of}
 use Rattle.entry_model.specs.Entries.{entry_of}
 use Rattle.level_merge.specs.Plans.{PlanByNumbers}
-use Rattle.map_model.specs.SortedMap.{Bytes}
 use Rattle.state_model.specs.Merges.{Plan, on_level, plan_of}
 use Rattle.table_file.specs.Opened.{Opened}
 use Rattle.table_file.specs.Search.{row_at}

@@ -1,7 +1,9 @@
 -- Tables that are to be merged, by their numbers.
-use Rattle.std.specs.Prelude.{◌≡◌, ◌<◌, ◌≤◌, ◌-◌, ℕ, List, [], ◌∷◌, length, map, slice_get, Option, Some, None}
+use Rattle.std.specs.Prelude.{◌≡◌, ◌<◌, ◌≤◌, ◌-◌, ℕ, List, [], ◌∷◌, length, map, Option, Some, None}
 use Rattle.std.specs.List.{AllByRecursion}
 use Rattle.block_model.specs.Places.{pages_of}
+-- tables are numbered from the last, which has 0
+pub use Rattle.merge_rows.specs.Merges.{numbered}
 use Rattle.state_model.specs.Merges.{Plan, greatest_key, least_key}
 use Rattle.table_file.specs.Opened.{Opened}
 use Rattle.table_file.specs.Search.{row_at}
@@ -11,10 +13,6 @@ use Rattle.table_model.specs.Tables.{Table}
 pub record PlanByNumbers : Type 0 where
   pub inputs : List ℕ
   pub output : ℕ
-
--- tables are numbered from the last, which has 0
-abbrev pub numbered : {A : Type 0} → List A → ℕ → Option A
-numbered tables number = slice_get tables (length tables - 1 - number)
 
 -- the open table is the state's, as far as memory tells: all but the entries between the least and the greatest key
 pub record Agrees (opened : Opened) (t : Table) : Type 0 where

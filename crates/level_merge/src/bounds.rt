@@ -1,14 +1,15 @@
 //! The keys of some tables, and the tables that they meet.
-ghost use Rattle.std.specs.Prelude.{◌≡◌, ◌<◌, ◌≤◌, ◌-◌, length, map};
-ghost use Rattle.std.specs.List.{AllByRecursion};
+ghost use Rattle.std.specs.Prelude.{◌≡◌, ◌<◌, ◌≤◌, ◌-◌, length, map, nat_lt, IfOk};
+ghost use Rattle.std.specs.List.{AllByRecursion, list_any};
 ghost use Rattle.key_base.specs.ByteOrder.{is_before};
 ghost use Rattle.key_base.specs.Limits.{max_tables};
+ghost use Rattle.level_merge.specs.Merging.{all_numbers};
 ghost use Rattle.level_merge.specs.Outlines.{outline, outline_of, outlines, table_number};
 ghost use Rattle.state_model.specs.Merges as model;
 
 use filter_api::RangeFilter;
 use key_base::compare;
-use std::alloc::AllocError;
+use std::alloc::{AllocError, Global};
 use table_file::Table;
 
 fn is_before(x: &[u8], y: &[u8]) -> bool
@@ -81,4 +82,29 @@ pub(crate) fn overlaps<F: RangeFilter>(lo: &[u8], hi: &[u8], table: &Table<F>) -
     ensures { result ≡ model.overlaps lo.now hi.now (outline 0 table.now) }
 {
     !is_before(table.greatest(), lo) && !is_before(hi, table.least())
+}
+
+/// Whether a table lies deeper than a level.
+pub(crate) fn lies_deeper<F: RangeFilter>(level: u8, tables: &[Table<F>]) -> bool
+    ensures { result ≡ list_any (λ t. nat_lt level t.row.level) tables.now }
+{
+    for table in tables {
+        if level < table.row().level {
+            return true;
+        }
+    }
+    false
+}
+
+/// The numbers of so many tables, the newest first.
+pub(crate) fn numbers_of_all(alloc: Global, many: u32) -> Result<Vec<u32>, AllocError>
+    ensures { IfOk result (λ which. which.items ≡ all_numbers many) }
+{
+    let mut which = Vec::with_capacity(alloc, many as usize)?;
+    let mut left = many;
+    while left > 0 {
+        left -= 1;
+        which.push(left)?;
+    }
+    Ok(which)
 }

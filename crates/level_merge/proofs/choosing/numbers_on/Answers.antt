@@ -1,4 +1,4 @@
-use Rattle.std.proofs.Common.{◌≡◌, ◌-◌, ◌+◌, ◌++◌, ℕ, List, [], ◌∷◌, length, map, drop, sym, ap, subst, ◌∙◌, arith}
+use Rattle.std.proofs.Common.{◌≡◌, ◌-◌, ◌+◌, ◌++◌, ℕ, List, [], ◌∷◌, length, map, drop, ap, ◌∙◌}
 use Rattle.level_merge.specs.Outlines.{table_number, outlines}
 use Rattle.level_merge.proofs.Outlines.{kept_more, level_kept, level_passed, passed_more}
 use Rattle.state_model.specs.Merges.{on_level}

@@ -1,0 +1,132 @@
+use Rattle.std.proofs.Common.{◌≡◌, ◌∙◌, ◌-◌, ◌<◌, Bool, true, false, sym, ap, subst, arith}
+use Rattle.std.specs.Prelude.{Ok}
+use Rattle.disk_trait.specs.Image.{Image}
+use Rattle.disk_trait.specs.World.{ReadMoves}
+use Rattle.merge_rows.specs.Reads.{IsFewer, blocks_left, wanted}
+use Rattle.merge_rows.specs.Steps.{IsSoundMerge, StaysAt, numbers}
+use Rattle.merge_rows.proofs.Stays.{only_then, read_none, read_one}
+use Rattle.level_merge.proofs.AllRead.{wanted_left}
+use Rattle.level_merge.proofs.Reading.{kept_then, later_fault, none_more, none_wanted, one_more, one_wanted, read_fault, within_all}
+use Rattle.level_merge.proofs.taking.read_ahead.Goals as goal
+
+pub loop-left-preserved : goal.loop-left-preserved
+loop-left-preserved g c =
+    let tables = c.args.tables.now.tables in
+    let before = g.D.Disk.world c.args.disk.now in
+    let mid = g.D.Disk.world c.loop-left.disk in
+    let after = g.D.Disk.world c.fill.new.disk in
+    let old = c.loop-left.rows in
+    let new = c.fill.new.self in
+    let from = c.loop-left.invariant in
+    let held = from.moves.1.held in
+    let is : c.fill.result ≡ Ok true = c.in-Ok-true.is ∙ ap (λ (b : Bool). Ok b) c.in-Ok-true.field-0-test in
+    let less : blocks_left tables new.walks < blocks_left tables old.walks = read_one c.fill.result (blocks_left tables old.walks) (blocks_left tables new.walks) is c.fill.ensures.left in
+    record {
+      kept = kept_then g.D.Disk.tells tables before.seen.held c.args.rows.now old new from.kept (subst (λ (h : Image). StaysAt g.D.Disk.tells tables h old new) held c.fill.ensures.stays);
+      within = omega (arith, from.within);
+      fewer = omega (arith, less, from.fewer);
+      some = λ _. omega (arith, less, from.fewer);
+      moves = only_then 2 before mid after from.moves c.fill.ensures.moves;
+      counted = λ t s.
+          let once = subst (λ (h : Image). IsSoundMerge old tables h → ReadMoves 1 mid after × IsFewer c.fill.result (wanted old tables) (wanted new tables)) held (c.fill.ensures.once t) (from.kept.sources.sound t s) in
+          one_more c.args.blocks c.loop-left.left before mid after (omega (arith, c.loop-left-test.true)) from.within (from.counted t s) once.0;
+    }
+
+-- ---- none was read
+
+pub returns-in-Ok-false-clause-kept : goal.returns-in-Ok-false-clause-kept
+returns-in-Ok-false-clause-kept g c =
+    let before = g.D.Disk.world c.args.disk.now in
+    let from = c.loop-left.invariant in
+    kept_then g.D.Disk.tells c.args.tables.now.tables before.seen.held c.args.rows.now c.loop-left.rows c.fill.new.self from.kept
+    (subst (λ (h : Image). StaysAt g.D.Disk.tells c.args.tables.now.tables h c.loop-left.rows c.fill.new.self) from.moves.1.held c.fill.ensures.stays)
+
+pub returns-in-Ok-false-clause-fewer : goal.returns-in-Ok-false-clause-fewer
+returns-in-Ok-false-clause-fewer g c =
+    let tables = c.args.tables.now.tables in
+    let is : c.fill.result ≡ Ok false = c.in-Ok-false.is ∙ ap (λ (b : Bool). Ok b) c.in-Ok-false.field-0-test in
+    let same : blocks_left tables c.fill.new.self.walks ≡ blocks_left tables c.loop-left.rows.walks =
+    read_none c.fill.result (blocks_left tables c.loop-left.rows.walks) (blocks_left tables c.fill.new.self.walks) is c.fill.ensures.left in
+    omega (arith, same, c.loop-left.invariant.fewer)
+
+pub returns-in-Ok-false-clause-some : goal.returns-in-Ok-false-clause-some
+returns-in-Ok-false-clause-some g c less =
+    let tables = c.args.tables.now.tables in
+    let is : c.fill.result ≡ Ok false = c.in-Ok-false.is ∙ ap (λ (b : Bool). Ok b) c.in-Ok-false.field-0-test in
+    let same : blocks_left tables c.fill.new.self.walks ≡ blocks_left tables c.loop-left.rows.walks =
+    read_none c.fill.result (blocks_left tables c.loop-left.rows.walks) (blocks_left tables c.fill.new.self.walks) is c.fill.ensures.left in
+    let fell = c.loop-left.invariant.some less in
+    omega (arith, same, fell)
+
+pub returns-in-Ok-false-clause-ready : goal.returns-in-Ok-false-clause-ready
+returns-in-Ok-false-clause-ready g c t s less =
+    let tables = c.args.tables.now.tables in
+    let old = c.loop-left.rows in
+    let new = c.fill.new.self in
+    let from = c.loop-left.invariant in
+    let is : c.fill.result ≡ Ok false = c.in-Ok-false.is ∙ ap (λ (b : Bool). Ok b) c.in-Ok-false.field-0-test in
+    let once = subst (λ (h : Image). IsSoundMerge old tables h → IsFewer c.fill.result (wanted old tables) (wanted new tables)) from.moves.1.held (λ u. (c.fill.ensures.once t u).1) (from.kept.sources.sound t s) in
+    none_wanted c.fill.result (wanted old tables) (wanted new tables) is once
+
+pub returns-in-Ok-false-clause-moves : goal.returns-in-Ok-false-clause-moves
+returns-in-Ok-false-clause-moves g c =
+    only_then 2 (g.D.Disk.world c.args.disk.now) (g.D.Disk.world c.loop-left.disk) (g.D.Disk.world c.fill.new.disk) c.loop-left.invariant.moves c.fill.ensures.moves
+
+pub returns-in-Ok-false-clause-counted : goal.returns-in-Ok-false-clause-counted
+returns-in-Ok-false-clause-counted g c t s =
+    none_more c.args.blocks c.loop-left.left (g.D.Disk.world c.args.disk.now) (g.D.Disk.world c.loop-left.disk) (g.D.Disk.world c.fill.new.disk) (c.loop-left.invariant.counted t s)
+    (c.in-Ok-false.ensures.idle c.in-Ok-false.field-0-test)
+
+pub returns-in-Ok-false-clause-bounded : goal.returns-in-Ok-false-clause-bounded
+returns-in-Ok-false-clause-bounded g c t s =
+    within_all c.args.blocks c.loop-left.left (g.D.Disk.world c.args.disk.now) (g.D.Disk.world c.fill.new.disk)
+    (none_more c.args.blocks c.loop-left.left (g.D.Disk.world c.args.disk.now) (g.D.Disk.world c.loop-left.disk) (g.D.Disk.world c.fill.new.disk) (c.loop-left.invariant.counted t s)
+    (c.in-Ok-false.ensures.idle c.in-Ok-false.field-0-test))
+
+-- ---- the read failed
+
+pub returns-in-Err-clause-kept : goal.returns-in-Err-clause-kept
+returns-in-Err-clause-kept g c =
+    let before = g.D.Disk.world c.args.disk.now in
+    let from = c.loop-left.invariant in
+    kept_then g.D.Disk.tells c.args.tables.now.tables before.seen.held c.args.rows.now c.loop-left.rows c.fill.new.self from.kept
+    (subst (λ (h : Image). StaysAt g.D.Disk.tells c.args.tables.now.tables h c.loop-left.rows c.fill.new.self) from.moves.1.held c.fill.ensures.stays)
+
+pub returns-in-Err-clause-fault : goal.returns-in-Err-clause-fault
+returns-in-Err-clause-fault g c =
+    let tells = g.D.Disk.tells in
+    let tables = c.args.tables.now.tables in
+    let before = g.D.Disk.world c.args.disk.now in
+    let mid = g.D.Disk.world c.loop-left.disk in
+    let after = g.D.Disk.world c.fill.new.disk in
+    let now = numbers c.loop-left.rows.walks in
+    let which = numbers c.args.rows.now.walks in
+    let is = read_fault tells tables now mid after c.in-Err.why c.in-Err.ensures.taken c.in-Err.ensures.cause c.in-Err.ensures.fault in
+    subst (λ why. Rattle.level_merge.specs.Slices.IsTakeFault tells tables which before after why) (sym c.from.ensures)
+    (later_fault tells tables now which before mid after _ c.loop-left.invariant.kept.sources.numbers_are c.loop-left.invariant.moves is)
+
+pub returns-in-Err-clause-met : goal.returns-in-Err-clause-met
+returns-in-Err-clause-met g c t s =
+    let tables = c.args.tables.now.tables in
+    let old = c.loop-left.rows in
+    let new = c.fill.new.self in
+    let from = c.loop-left.invariant in
+    let fewer = subst (λ (h : Image). IsSoundMerge old tables h → IsFewer c.fill.result (wanted old tables) (wanted new tables)) from.moves.1.held (λ u. (c.fill.ensures.once t u).1) (from.kept.sources.sound t s) in
+    let some = one_wanted c.fill.result c.in-Err.why (wanted old tables) (wanted new tables) c.in-Err.is fewer in
+    let left = wanted_left old.floor tables old.walks some in
+    omega (arith, left, from.fewer)
+
+pub returns-in-Err-clause-moves : goal.returns-in-Err-clause-moves
+returns-in-Err-clause-moves g c =
+    only_then 2 (g.D.Disk.world c.args.disk.now) (g.D.Disk.world c.loop-left.disk) (g.D.Disk.world c.fill.new.disk) c.loop-left.invariant.moves c.fill.ensures.moves
+
+pub returns-in-Err-clause-bounded : goal.returns-in-Err-clause-bounded
+returns-in-Err-clause-bounded g c t s =
+    let tables = c.args.tables.now.tables in
+    let before = g.D.Disk.world c.args.disk.now in
+    let mid = g.D.Disk.world c.loop-left.disk in
+    let after = g.D.Disk.world c.fill.new.disk in
+    let from = c.loop-left.invariant in
+    let once = subst (λ (h : Image). IsSoundMerge c.loop-left.rows tables h → ReadMoves 1 mid after) from.moves.1.held (λ u. (c.fill.ensures.once t u).0) (from.kept.sources.sound t s) in
+    within_all c.args.blocks (c.loop-left.left - 1) before after
+    (one_more c.args.blocks c.loop-left.left before mid after (omega (arith, c.loop-left-test.true)) from.within (from.counted t s) once)

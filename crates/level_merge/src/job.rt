@@ -1,0 +1,299 @@
+//! A merge that runs.
+ghost use Rattle.std.specs.Prelude.{◌≡◌, ◌≢◌, ◌==◌, ◌<◌, ◌≤◌, ◌+◌, ◌-◌, ◌++◌, length, IsTrue, IfOk, IfErr, IfSome, OnOk, OnErr, [], ◌∷◌};
+ghost use Rattle.std.specs.List.{AllByRecursion, list_any};
+ghost use Rattle.std.specs.Option.{option_map};
+ghost use Rattle.disk_trait.specs.World.{Now, ReadMoves};
+ghost use Rattle.entry_model.specs.Entries.{IsEntry};
+ghost use Rattle.filter_api.specs.Ranges.{InRange};
+ghost use Rattle.level_merge.specs.Follows.{SliceFollows};
+ghost use Rattle.level_merge.specs.Held.{IsHeld};
+ghost use Rattle.level_merge.specs.Making.{SliceMakes};
+ghost use Rattle.level_merge.specs.Merging.{AreAllWritten, begun, compaction, merge_of, work_left};
+ghost use Rattle.level_merge.specs.Plans.{MayStart};
+ghost use Rattle.level_merge.specs.Slices.{Closes, IsSliceFault, IsStop, IsTakeFault, IsWithin, SliceMoves, TakesRows, WritesOutput, made_opened, made_table, need_of};
+ghost use Rattle.level_merge.specs.Outputs.{IsCloseFault, last_row};
+ghost use Rattle.key_base.specs.Limits.{max_tables};
+ghost use Rattle.level_merge.specs.declared.fault.JobFault.TheVariants.{Memory};
+ghost use Rattle.level_merge.specs.declared.fault.Sliced.TheVariants.{Working};
+ghost use Rattle.merge_rows.specs.Reads.{OnlyReads, blocks_left};
+ghost use Rattle.merge_rows.specs.Steps.{AreNumbersIn, IsSoundMerge, numbers};
+ghost use Rattle.table_model.specs.Tables.{filter_bytes_of};
+
+use crate::bounds::{lies_deeper, numbers_of_all};
+use crate::closing::write_output;
+use crate::fault::{JobFault, Sliced};
+use crate::plan::Plan;
+use crate::taking::{Stop, take_rows};
+use byte_fields::Row;
+use disk_trait::Disk;
+use extent_map::Extents;
+use filter_api::{RangeFilter, Settings};
+use mem_table::MemTable;
+use merge_rows::MergeRows;
+use std::alloc::{AllocError, Global};
+use std::marker::Model;
+use std::mem;
+use table_file::{Table, TableBuilder, Tables, standing_tables_are_read};
+
+// The level of a compaction's tables.
+const DEEPEST_LEVEL: u8 = 6;
+
+/// A merge that runs: the rows that are left of its tables, the output that is built, and the outputs that are written.
+#[derive(Drop)]
+pub struct Job<'m, F: RangeFilter> {
+    rows: MergeRows<'m>,
+    settings: Settings,
+    output: u8,
+    // whether tombstones are left out
+    drops: bool,
+    // how many outputs may come beside the one that is built
+    beside: usize,
+    built: TableBuilder,
+    // the rows of the outputs, and those outputs that are written
+    outputs: Vec<Row>,
+    made: Vec<Table<F>>,
+}
+
+impl<'m, F: RangeFilter> Model for Job<'m, F> {
+    ghost use Rattle.level_merge.specs.Merging.{IsMerging, Merging};
+
+    ghost Value = { Merging };
+
+    ghost view = { λ j. record {
+      merge = j.rows;
+      settings = j.settings;
+      output = j.output;
+      drops = j.drops;
+      beside = j.beside;
+      built = j.built.entries;
+      outputs = j.outputs.items;
+      made = j.made.items;
+    } };
+
+    ghost invariant = { λ j. IsMerging (record {
+      merge = j.rows;
+      settings = j.settings;
+      output = j.output;
+      drops = j.drops;
+      beside = j.beside;
+      built = j.built.entries;
+      outputs = j.outputs.items;
+      made = j.made.items;
+    }) j.built.settings };
+}
+
+impl<'m, F: RangeFilter> Job<'m, F> {
+    /// The merge of a plan of some tables, with nothing done. It takes the memory that reading takes: for each table a buffer
+    /// for its largest block. No read.
+    ///
+    /// Tombstones are left out where no table lies deeper than the plan's level.
+    pub fn start(
+        plan: Plan,
+        settings: Settings,
+        tables: &Tables<F>,
+    ) -> Result<Job<'m, F>, AllocError>
+        requires range { InRange settings }
+        requires starts { MayStart tables.now.tables plan }
+        ensures begun { IfOk result (λ job. job ≡ begun plan settings tables.now.tables) }
+    {
+        let drops = !lies_deeper(plan.output, tables.as_slice());
+        Job::of(plan.inputs, None, plan.output, drops, settings, tables)
+    }
+
+    /// The merge of a memory table and of all tables into tables of level 6, with nothing done. No read.
+    ///
+    /// Tombstones are left out. It takes the memory that [`Job::start`] takes, and borrows the memory table.
+    pub fn compact(
+        alloc: Global,
+        settings: Settings,
+        memory: &'m MemTable,
+        tables: &Tables<F>,
+    ) -> Result<Job<'m, F>, AllocError>
+        requires range { InRange settings }
+        requires few { length tables.now.tables ≤ max_tables }
+        requires sound { AllByRecursion IsEntry memory.now.entries }
+        ensures begun { IfOk result (λ job. job ≡ compaction memory.now.entries settings tables.now.tables) }
+    {
+        let which = numbers_of_all(alloc, tables.len() as u32)?;
+        Job::of(which, Some(memory), DEEPEST_LEVEL, true, settings, tables)
+    }
+
+    // A merge with nothing done.
+    fn of(
+        which: Vec<u32>,
+        memory: Option<&'m MemTable>,
+        output: u8,
+        drops: bool,
+        settings: Settings,
+        tables: &Tables<F>,
+    ) -> Result<Job<'m, F>, AllocError>
+        requires range { InRange settings }
+        requires level { (1 ≤ output) × (output ≤ 6) }
+        requires there { AreNumbersIn tables.now.tables which.items }
+        requires sound { IfSome memory (λ m. AllByRecursion IsEntry m.now.entries) }
+        ensures { IfOk result (λ job. job ≡ merge_of which.items (option_map (λ m. m.now.entries) memory.entry) output drops settings tables.now.tables) }
+    {
+        let alloc = *which.allocator();
+        let beside = which.len().saturating_sub(1);
+        let rows = MergeRows::new(which, tables, memory, &[], false)?;
+        Ok(Job {
+            rows,
+            settings,
+            output,
+            drops,
+            beside,
+            built: TableBuilder::new(alloc, settings),
+            outputs: Vec::new(alloc),
+            made: Vec::new(alloc),
+        })
+    }
+
+    /// Goes on with the merge: reads at most so many blocks, one or more, and writes an output where one is full, or where no
+    /// row is left. `Ready` where then nothing is left.
+    pub fn slice<D: Disk>(
+        &mut self,
+        disk: &mut D,
+        tables: &Tables<F>,
+        extents: &mut Extents,
+        blocks: u32,
+    ) -> Result<Sliced, JobFault>
+        requires some { 0 < blocks }
+        requires there { AreNumbersIn tables.now.tables (numbers self.old.merge.walks) }
+        ensures makes { IsTrue D.tells → SliceMakes F.spelling (filter_bytes_of F.spelling F.built_cutoff) tables.now.tables self.old self.new extents.old extents.new result (D.world disk.old) (D.world disk.new) }
+        ensures follows { IsTrue D.tells → SliceFollows F.spelling (filter_bytes_of F.spelling F.built_cutoff) tables.now.tables self.old self.new extents.old extents.new result (D.world disk.old) (D.world disk.new) }
+        ensures bounded { IsTrue D.tells → IsSoundMerge self.old.merge tables.now.tables (D.world disk.old).seen.held → (D.world disk.new).seen.reads ≤ (D.world disk.old).seen.reads + blocks }
+        ensures ends { IfOk result (λ sliced. sliced ≡ Working → work_left tables.now.tables self.new < work_left tables.now.tables self.old) }
+        ensures level { (1 ≤ self.new.output) × (self.new.output ≤ 6) }
+        ensures same { (self.new.output ≡ self.old.output) × (self.new.settings ≡ self.old.settings) }
+        ensures numbers { numbers self.new.merge.walks ≡ numbers self.old.merge.walks }
+        ensures few { IfOk result (IsWithin self.old self.new) }
+        ensures rows { AreAllWritten self.old → OnOk result (AreAllWritten self.new) }
+        ensures moves { SliceMoves F.spelling F.built_cutoff self.old self.new extents.old extents.new (D.world disk.old) (D.world disk.new) }
+        ensures fault { IfErr result (IsSliceFault D.tells tables.now.tables (numbers self.old.merge.walks) (D.world disk.old) (D.world disk.new)) }
+    {
+        self.go_on(disk, tables, extents, blocks)
+    }
+
+    /// Whether it merges the table of a number.
+    pub fn merges(&self, number: u32) -> bool
+        ensures { result ≡ list_any (λ n. n == number) (numbers self.now.merge.walks) }
+    {
+        self.rows.has_table(number)
+    }
+
+    /// The rows of its outputs, in their order. Where a slice was refused the last of them may not be written; its pages are
+    /// taken.
+    pub fn outputs(&self) -> &[Row]
+        ensures { result.now ≡ self.now.outputs }
+    {
+        self.outputs.as_slice()
+    }
+
+    /// Those of its outputs that are written, in their order.
+    pub fn tables(&self) -> &[Table<F>]
+        ensures { result.now ≡ self.now.made }
+    {
+        self.made.as_slice()
+    }
+
+    /// The tables of its outputs, in their order, as [`table_file::open_table`] would give them. No read and no memory.
+    pub fn into_tables(self) -> Vec<Table<F>>
+        ensures { result.items ≡ self.entry.made }
+    {
+        self.made
+    }
+
+    // A slice, as it is said of what the merge makes.
+    fn go_on<D: Disk>(
+        &mut self,
+        disk: &mut D,
+        tables: &Tables<F>,
+        extents: &mut Extents,
+        blocks: u32,
+    ) -> Result<Sliced, JobFault>
+        requires some { 0 < blocks }
+        requires there { AreNumbersIn tables.now.tables (numbers self.old.merge.walks) }
+        ensures makes { IsTrue D.tells → SliceMakes F.spelling (filter_bytes_of F.spelling F.built_cutoff) tables.now.tables self.old self.new extents.old extents.new result (D.world disk.old) (D.world disk.new) }
+        ensures bounded { IsTrue D.tells → IsSoundMerge self.old.merge tables.now.tables (D.world disk.old).seen.held → (D.world disk.new).seen.reads ≤ (D.world disk.old).seen.reads + blocks }
+        ensures ends { IfOk result (λ sliced. sliced ≡ Working → work_left tables.now.tables self.new < work_left tables.now.tables self.old) }
+        ensures level { (1 ≤ self.new.output) × (self.new.output ≤ 6) }
+        ensures same { (self.new.output ≡ self.old.output) × (self.new.settings ≡ self.old.settings) }
+        ensures numbers { numbers self.new.merge.walks ≡ numbers self.old.merge.walks }
+        ensures few { IfOk result (IsWithin self.old self.new) }
+        ensures rows { AreAllWritten self.old → OnOk result (AreAllWritten self.new) }
+        ensures moves { SliceMoves F.spelling F.built_cutoff self.old self.new extents.old extents.new (D.world disk.old) (D.world disk.new) }
+        ensures fault { IfErr result (IsSliceFault D.tells tables.now.tables (numbers self.old.merge.walks) (D.world disk.old) (D.world disk.new)) }
+    {
+        // the law of the tables: what stands is read as it is, and no read of it is damage
+        standing_tables_are_read();
+        match self.take_rows(disk, tables, blocks) {
+            Ok(Stop::Blocks) => Ok(Sliced::Working),
+            Ok(Stop::Full) => match self.close(disk, extents) {
+                Ok(()) => Ok(Sliced::Working),
+                Err(why) => Err(why),
+            },
+            Ok(Stop::End) => {
+                if self.built.is_empty() {
+                    return Ok(Sliced::Ready);
+                }
+                match self.close(disk, extents) {
+                    Ok(()) => Ok(Sliced::Ready),
+                    Err(why) => Err(why),
+                }
+            }
+            Err(why) => Err(why),
+        }
+    }
+
+    // Adds rows to the output that is built, until it is full, no row is left, or as many blocks were read as may be.
+    fn take_rows<D: Disk>(
+        &mut self,
+        disk: &mut D,
+        tables: &Tables<F>,
+        blocks: u32,
+    ) -> Result<Stop, JobFault>
+        requires there { AreNumbersIn tables.now.tables (numbers self.old.merge.walks) }
+        ensures level { (1 ≤ self.old.output) × (self.old.output ≤ 6) }
+        ensures numbers { numbers self.new.merge.walks ≡ numbers self.old.merge.walks }
+        ensures rest { self.new ≡ record self.old { merge = self.new.merge; built = self.new.built } }
+        ensures taken { OnOk result (TakesRows D.tells tables.now.tables (D.world disk.old).seen.held self.old self.new) }
+        ensures stop { IfOk result (IsStop D.tells blocks tables.now.tables (D.world disk.old).seen.held self.old.beside self.old.merge self.new.merge self.new.built) }
+        ensures fault { IfErr result (IsTakeFault D.tells tables.now.tables (numbers self.old.merge.walks) (D.world disk.old) (D.world disk.new)) }
+        ensures met { IsTrue D.tells → IsSoundMerge self.old.merge tables.now.tables (D.world disk.old).seen.held → IfErr result (λ why. why ≢ Memory → 1 ≤ blocks_left tables.now.tables self.old.merge.walks) }
+        ensures moves { OnlyReads (D.world disk.old) (D.world disk.new) }
+        ensures bounded { IsTrue D.tells → IsSoundMerge self.old.merge tables.now.tables (D.world disk.old).seen.held → ReadMoves blocks (D.world disk.old) (D.world disk.new) }
+    {
+        take_rows(
+            &mut self.rows,
+            &mut self.built,
+            self.drops,
+            self.beside,
+            disk,
+            tables,
+            blocks,
+        )
+    }
+
+    // Writes the output that is built in the first gap that holds it, and begins the next one.
+    fn close<D: Disk>(&mut self, disk: &mut D, extents: &mut Extents) -> Result<(), JobFault>
+        requires some { 0 < length self.old.built }
+        ensures merge { self.new.merge ≡ self.old.merge }
+        ensures same { (self.new.output ≡ self.old.output) × (self.new.settings ≡ self.old.settings) }
+        ensures closed { OnOk result (Closes F.spelling F.built_cutoff self.old self.new extents.old extents.new (last_row self.new.outputs)) }
+        ensures stands { IsTrue D.tells → OnOk result (Now (IsHeld F.spelling self.old.settings (made_opened F.built_cutoff self.old (last_row self.new.outputs)) (made_table F.spelling F.built_cutoff self.old (last_row self.new.outputs).first_page)) (D.world disk.new)) }
+        ensures writes { WritesOutput F.spelling F.built_cutoff self.old self.new extents.old extents.new (D.world disk.old) (D.world disk.new) }
+        ensures fault { IfErr result (IsCloseFault (need_of F.spelling F.built_cutoff self.old) extents.old (D.world disk.old) (D.world disk.new)) }
+    {
+        let next = TableBuilder::new(*self.outputs.allocator(), self.settings);
+        let built = mem::replace(&mut self.built, next);
+        self.beside = self.beside.saturating_sub(1);
+        write_output(
+            built,
+            self.output,
+            disk,
+            extents,
+            &mut self.outputs,
+            &mut self.made,
+        )
+    }
+}

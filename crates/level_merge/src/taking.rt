@@ -1,0 +1,128 @@
+//! Rows that are taken from a merge into an output.
+ghost use Rattle.std.specs.Prelude.{◌≡◌, ◌≢◌, ◌<◌, ◌≤◌, ◌-◌, ◌++◌, false, length, IsTrue, IfOk, IfErr, IfSome, OnOk, OnErr, [], ◌∷◌};
+ghost use Rattle.block_model.specs.Order.{Follow, is_any};
+ghost use Rattle.disk_trait.specs.World.{ReadMoves};
+ghost use Rattle.entry_model.specs.Entries.{IsEntry, keys_of};
+ghost use Rattle.level_merge.specs.Merging.{IsBuilding, at_hand, is_full};
+ghost use Rattle.level_merge.specs.Slices.{FillsOutput, IsStop, IsTakeFault, KeepsRows};
+ghost use Rattle.level_merge.specs.declared.fault.JobFault.TheVariants.{Memory};
+ghost use Rattle.merge_rows.specs.Reads.{OnlyReads, blocks_left, wanted};
+ghost use Rattle.merge_rows.specs.Steps.{AreNumbersIn, IsSoundMerge, SourcesStay, numbers};
+ghost use Rattle.state_model.specs.Merges.{lasting};
+
+use crate::fault::JobFault;
+use disk_trait::Disk;
+use filter_api::RangeFilter;
+use key_base::MERGE_DATA_PAGES;
+use merge_rows::MergeRows;
+use std::alloc::AllocError;
+use table_file::{TableBuilder, Tables};
+
+/// Why rows were taken no further.
+pub(crate) enum Stop {
+    /// As many blocks were read as may be.
+    Blocks,
+    /// The output that is built is full.
+    Full,
+    /// No row is left.
+    End,
+}
+
+/// Adds rows to the output that is built, until it is full, no row is left, or as many blocks were read as may be. Tombstones
+/// are left out where they are dropped; so many outputs may come beside the one that is built.
+pub(crate) fn take_rows<'m, F: RangeFilter, D: Disk>(
+    rows: &mut MergeRows<'m>,
+    built: &mut TableBuilder,
+    drops: bool,
+    beside: usize,
+    disk: &mut D,
+    tables: &Tables<F>,
+    blocks: u32,
+) -> Result<Stop, JobFault>
+    requires there { AreNumbersIn tables.now.tables (numbers rows.old.walks) }
+    requires whole { rows.old.drops ≡ false }
+    requires begun { IsBuilding rows.old.floor built.old.entries }
+    ensures sources { SourcesStay D.tells tables.now.tables (D.world disk.old).seen.held rows.old rows.new }
+    ensures building { IsBuilding rows.new.floor built.new.entries }
+    ensures settings { built.new.settings ≡ built.old.settings }
+    ensures taken { OnOk result (FillsOutput D.tells tables.now.tables (D.world disk.old).seen.held beside drops rows.old rows.new built.old.entries built.new.entries) }
+    ensures stop { IfOk result (IsStop D.tells blocks tables.now.tables (D.world disk.old).seen.held beside rows.old rows.new built.new.entries) }
+    ensures fault { IfErr result (IsTakeFault D.tells tables.now.tables (numbers rows.old.walks) (D.world disk.old) (D.world disk.new)) }
+    ensures met { IsTrue D.tells → IsSoundMerge rows.old tables.now.tables (D.world disk.old).seen.held → IfErr result (λ why. why ≢ Memory → 1 ≤ blocks_left tables.now.tables rows.old.walks) }
+    ensures moves { OnlyReads (D.world disk.old) (D.world disk.new) }
+    ensures bounded { IsTrue D.tells → IsSoundMerge rows.old tables.now.tables (D.world disk.old).seen.held → ReadMoves blocks (D.world disk.old) (D.world disk.new) }
+{
+    let mut left = blocks;
+    while !is_full(beside, built) {
+        left = read_ahead(rows, disk, tables, left)?;
+        if left == 0 {
+            return Ok(Stop::Blocks);
+        }
+        match rows.advance(disk, tables) {
+            Ok(true) => {}
+            Ok(false) => return Ok(Stop::End),
+            Err(why) => return Err(JobFault::from(why)),
+        }
+        add_row(rows, drops, built)?;
+    }
+    Ok(Stop::Full)
+}
+
+// Whether an output is closed: it has the data pages of an output, and another one may come.
+fn is_full(beside: usize, built: &TableBuilder) -> bool
+    ensures { result ≡ is_full beside built.now.entries }
+{
+    beside > 0 && built.data_pages() >= u64::from(MERGE_DATA_PAGES)
+}
+
+// Reads the blocks that the next row wants, at most so many, and answers how many may still be read: 0 where it may want more.
+fn read_ahead<'m, F: RangeFilter, D: Disk>(
+    rows: &mut MergeRows<'m>,
+    disk: &mut D,
+    tables: &Tables<F>,
+    blocks: u32,
+) -> Result<u32, JobFault>
+    requires there { AreNumbersIn tables.now.tables (numbers rows.old.walks) }
+    ensures kept { KeepsRows D.tells tables.now.tables (D.world disk.old).seen.held rows.old rows.new }
+    ensures within { IfOk result (λ left. left ≤ blocks) }
+    ensures fewer { OnOk result (blocks_left tables.now.tables rows.new.walks ≤ blocks_left tables.now.tables rows.old.walks) }
+    ensures some { IfOk result (λ left. left < blocks → blocks_left tables.now.tables rows.new.walks < blocks_left tables.now.tables rows.old.walks) }
+    ensures ready { IsTrue D.tells → IsSoundMerge rows.old tables.now.tables (D.world disk.old).seen.held → IfOk result (λ left. 0 < left → wanted rows.new tables.now.tables ≡ 0) }
+    ensures fault { IfErr result (IsTakeFault D.tells tables.now.tables (numbers rows.old.walks) (D.world disk.old) (D.world disk.new)) }
+    ensures met { IsTrue D.tells → IsSoundMerge rows.old tables.now.tables (D.world disk.old).seen.held → OnErr result (1 ≤ blocks_left tables.now.tables rows.old.walks) }
+    ensures moves { OnlyReads (D.world disk.old) (D.world disk.new) }
+    ensures bounded { IsTrue D.tells → IsSoundMerge rows.old tables.now.tables (D.world disk.old).seen.held → ReadMoves blocks (D.world disk.old) (D.world disk.new) }
+    ensures counted { IsTrue D.tells → IsSoundMerge rows.old tables.now.tables (D.world disk.old).seen.held → IfOk result (λ left. ReadMoves (blocks - left) (D.world disk.old) (D.world disk.new)) }
+{
+    let mut left = blocks;
+    while left > 0 {
+        match rows.fill(disk, tables) {
+            Ok(true) => left -= 1,
+            Ok(false) => return Ok(left),
+            Err(why) => return Err(JobFault::from(why)),
+        }
+    }
+    Ok(0)
+}
+
+// Adds the row at hand, but for a tombstone that is left out.
+fn add_row<'m>(
+    rows: &MergeRows<'m>,
+    drops: bool,
+    built: &mut TableBuilder,
+) -> Result<(), AllocError>
+    requires sound { IfSome rows.now.now IsEntry }
+    requires above { IfSome rows.now.now (λ e. Follow is_any (keys_of (built.old.entries ++ e ∷ []))) }
+    ensures added { OnOk result (built.new ≡ record built.old { entries = built.old.entries ++ lasting drops (at_hand rows.now.now) }) }
+    ensures unchanged { OnErr result (built.new ≡ built.old) }
+{
+    match rows.entry() {
+        Some((key, value)) => {
+            if drops && value.is_none() {
+                return Ok(());
+            }
+            built.add(key, value)
+        }
+        None => Ok(()),
+    }
+}
