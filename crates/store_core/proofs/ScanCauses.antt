@@ -1,5 +1,5 @@
 -- Why a scan does not go on.
-use Rattle.std.proofs.Common.{◌≡◌, ◌∙◌, ◌≤◌, ◌<◌, ◌+◌, ℕ, zero, suc, Bool, true, false, List, [], ◌∷◌, length, map, refl, sym, ap, subst, arith}
+use Rattle.std.proofs.Common.{◌≡◌, ◌∙◌, ◌≤◌, ◌<◌, ◌+◌, ◌-◌, ℕ, zero, suc, Bool, true, false, List, [], ◌∷◌, length, map, refl, sym, ap, subst, arith}
 use Rattle.std.specs.Prelude.{Contains, Err, IfErr, Ok, Option, Result, Some, None, is_some, slice_get}
 use Rattle.std.specs.Option.{option_map}
 use Rattle.std.proofs.lemmas.Bool.{false≢true}
@@ -17,7 +17,7 @@ use Rattle.filter_api.specs.declared.settings.Settings.{Settings}
 use Rattle.map_model.specs.SortedMap.{Bytes, Map}
 use Rattle.store_core.specs.Faults.{of_table_fault}
 use Rattle.store_core.specs.Getting.{IsLookFault, IsUndamaged}
-use Rattle.store_core.specs.Scans.{IsScanShown, IsStepFault, ScanWalk, Shows, is_ended, pair_at, pair_in, pair_of}
+use Rattle.store_core.specs.Scans.{IsScanShown, IsStepFault, IsWalkShown, ScanWalk, StillComes, is_ended, pair_at, pair_in, pair_of}
 use Rattle.store_core.specs.Tied.{AreHeld}
 use Rattle.store_core.specs.declared.error.StoreError.{StoreError}
 use Rattle.std.specs.Result.{IsErrAnd}
@@ -36,8 +36,8 @@ look_since a b c at (table.Device cause) earlier taken is = (ap (λ (f : DiskFau
 look_since a b c at (table.Damaged d) earlier taken is = tt
 
 -- a read of some block failed, behind other reads
-pub block_cause : (a b c : World) (tables : List Opened) (why : TableFault) → OnlyReads a b → IsNoWant why → SomeBlock tables (λ t n. HasReadCause (byte_of_page (page_at t n)) b c why) → IsLookFault a c why
-block_cause a b c tables why moves taken is = look_since a b c (byte_of_page (page_at is.1 is.2)) why moves.1.read_faults taken is.5
+pub block_cause : (a b c : World) (tables : List Opened) (which : List ℕ) (why : TableFault) → OnlyReads a b → IsNoWant why → SomeBlock tables which (λ t n. HasReadCause (byte_of_page (page_at t n)) b c why) → IsLookFault a c why
+block_cause a b c tables which why moves taken is = look_since a b c (byte_of_page (page_at is.2.0 is.2.1)) why moves.1.read_faults taken is.2.4
 
 pub reads_on : (a b c : World) → OnlyReads a b → OnlyReads b c → OnlyReads a c
 reads_on a b c first second = (first.0 + second.0, reads_then first.0 second.0 a b c first.1 second.1)
@@ -88,10 +88,19 @@ contains_at (o ∷ tables) zero t is = (0, omega arith, some_same o t is)
     some_same o t is = cc
 contains_at (o ∷ tables) (suc place) t is = let rest = contains_at tables place t is in (suc rest.0, omega (arith, rest.1), rest.2)
 
-pub told_block : (tables : List Opened) (image : Image) (why : TableFault) → SomeBlock tables (λ t n. IsGetFault t n image why) → IsScanShown tables image (of_table_fault why)
-told_block tables image table.Memory is = tt
-told_block tables image (table.Device cause) is = tt
-told_block tables image (table.Damaged d) is = (is.1, contains_at tables is.0 is.1 is.3, (is.2, is.4, is.5))
+pub told_block : (tables : List Opened) (which : List ℕ) (image : Image) (why : TableFault) → SomeBlock tables which (λ t n. IsGetFault t n image why) → IsScanShown tables image (of_table_fault why)
+told_block tables which image table.Memory is = tt
+told_block tables which image (table.Device cause) is = tt
+told_block tables which image (table.Damaged d) is = (is.2.0, contains_at tables (length tables - 1 - is.0) is.2.0 is.2.2, (is.2.1, is.2.3, is.2.4))
+
+pub told_walk : (tables : List Opened) (which : List ℕ) (image : Image) (why : TableFault) → SomeBlock tables which (λ t n. IsGetFault t n image why) → IsWalkShown tables which image (of_table_fault why)
+told_walk tables which image table.Memory is = tt
+told_walk tables which image (table.Device cause) is = tt
+told_walk tables which image (table.Damaged d) is = is
+
+pub told_as : {T : Type 0} (P : StoreError → Type 0) (r : Result T StoreError) (why : StoreError) → IsErrAnd r (λ x. x ≡ why) → P why → IfErr r P
+told_as P (Ok v) why told is = tt
+told_as P (Err e) why told is = subst P (sym told) is
 
 -- a block of a table that stands there is not damaged
 held_at : (spelling : Spelling) (settings : Settings) (image : Image) (opened : List Opened) (states : List Table) → AreHeld spelling settings opened states image → (place : ℕ) (t : Opened) → slice_get opened place ≡ Some t
@@ -109,12 +118,12 @@ undamaged_of table.Memory is = tt
 undamaged_of (table.Device cause) is = tt
 undamaged_of (table.Damaged d) is = absurd is
 
-pub no_damage : StandingBlocks → (spelling : Spelling) (scan : ScanWalk) (m : Map) (image : Image) → Shows spelling scan m image → (why : TableFault) → SomeBlock scan.tables (λ t n. IsGetFault t n image why)
-    → IsUndamaged (of_table_fault why)
-no_damage laws spelling scan m image shows why is =
-    let there = held_at spelling shows.settings image scan.tables shows.states shows.held is.0 is.1 is.3 in
-    let read = laws spelling shows.settings is.1 there.0 image there.1 in
-    undamaged_of why (read.no_damage is.2 why (omega (arith, is.4, read.many)) is.5)
+pub no_damage : StandingBlocks → (spelling : Spelling) (scan : ScanWalk) (m : Map) (image : Image) → StillComes spelling scan m image → (which : List ℕ) (why : TableFault)
+    → SomeBlock scan.tables which (λ t n. IsGetFault t n image why) → IsUndamaged (of_table_fault why)
+no_damage laws spelling scan m image shows which why is =
+    let there = held_at spelling shows.settings image scan.tables shows.states shows.held (length scan.tables - 1 - is.0) is.2.0 is.2.2 in
+    let read = laws spelling shows.settings is.2.0 there.0 image there.1 in
+    undamaged_of why (read.no_damage is.2.1 why (omega (arith, is.2.3, read.many)) is.2.4)
 
 pub not_ended : (left : Option ℕ) → is_ended left ≡ false → left ≡ Some 0 → ⊥
 not_ended left going is = false≢true (sym going ∙ ap is_ended is)

@@ -9,13 +9,14 @@ use Rattle.entry_model.specs.Entries.{Entry, change_by, changed, map_of}
 use Rattle.line_model.specs.Replies.{Reply}
 use Rattle.map_model.proofs.Between.{whole}
 use Rattle.map_model.proofs.Maps.{by_order}
-use Rattle.map_model.specs.Slices.{between, count, first_pair, is_between, slice}
+use Rattle.map_model.specs.Slices.{between, count, first_pair, is_before, is_between, slice}
 use Rattle.map_model.specs.SortedMap.{Bytes, Map, del, in_place, put}
 use Rattle.state_model.proofs.Sayings.{backwards, lists_of, oldest_first-backwards}
 use Rattle.state_model.proofs.SoundLogs.{few_filled}
 use Rattle.state_model.specs.Sound.{IsSound, IsSoundTable}
 use Rattle.state_model.specs.State.{State}
 use Rattle.state_model.specs.View.{entries_of, oldest_first, state_map}
+use Rattle.store_core.proofs.ScanStates.{crossed_key}
 use Rattle.store_core.specs.Answers.{IsRun}
 use Rattle.store_core.specs.Counts.{IsCountRefusal}
 use Rattle.store_core.specs.Getting.{IsMet, IsUndamaged}
@@ -184,3 +185,17 @@ met_any most (error.BadSettings field) some = tt
 pub none_pair : (pair : Option (Bytes × Bytes)) → is_some pair ≡ false → pair ≡ None
 none_pair None none = refl
 none_pair (Some pair) none = absurd (false≢true (sym none))
+
+-- ---- between crossed bounds
+
+none_between : (low high : Bytes) → is_before high low ≡ true → (m : Map) → between m low (Some high) ≡ []
+none_between low high crossed [] = refl
+none_between low high crossed (pair ∷ m) =
+    elim (is_between low (Some high) pair.0) as (λ (b : Bool). is_between low (Some high) pair.0 ≡ b → cond b (pair ∷ between m low (Some high)) (between m low (Some high)) ≡ []) [
+      | true ↦ λ is. absurd (crossed_key low high pair.0 crossed is)
+      | false ↦ λ is. none_between low high crossed m
+    ] refl
+
+-- there is no pair
+pub none_crossed : (low high : Bytes) → is_before high low ≡ true → (m : Map) → 0 ≡ count m low (Some high)
+none_crossed low high crossed m = sym (ap (λ (p : Map). length p) (none_between low high crossed m))

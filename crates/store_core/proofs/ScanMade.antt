@@ -24,7 +24,7 @@ use Rattle.state_model.specs.View.{memory, state_map}
 use Rattle.store_core.proofs.ScanBounds.{may_read, owed_bound}
 use Rattle.store_core.proofs.ScanStates.{blocks_joined, blocks_opened, numbers_there, opened_stand, state_pairs}
 use Rattle.store_core.specs.Kept.{IsOfEntries, Kept}
-use Rattle.store_core.specs.Scans.{MayRead, ScanWalk, Shows, at_most, blocks_of_step, blocks_on_way, numbers_admitting, owed, pairs_up_to, sources, step_bound}
+use Rattle.store_core.specs.Scans.{MayRead, ScanWalk, StillComes, at_most, blocks_of_step, blocks_on_way, numbers_admitting, owed, pairs_up_to, opened_tables, step_bound}
 use Rattle.store_core.specs.Telling.{IsHighOfBytes}
 use Rattle.store_core.specs.Tied.{IsSeenAs}
 use Rattle.table_file.specs.Laws.{StandingBlocks, StandingWalks}
@@ -86,8 +86,8 @@ module _ (laws : MergedLaws) (standing : StandingMerges) (blocks : StandingBlock
       ∙ ap (λ (lists : List (List Entry)). entries_from (merged_rows (memory s ∷ lists)) low) (blocks_joined spelling s.settings image low high store.tables s.tables seen.under.tables))
       ∙ state_pairs laws spelling filter_bytes s image low low_bytes high high_bytes seen.sound store.tables seen.under.tables
 
-  pub made_shows : (scan : ScanWalk) (most : Option ℕ) → scan ≡ made_scan low high store.tables store.memory.entries most → Shows spelling scan (at_most most (between (state_map s) low high)) image
-  made_shows scan most is = subst (λ (w : ScanWalk). Shows spelling w (at_most most (between (state_map s) low high)) image) (sym is) (record {
+  pub made_shows : (scan : ScanWalk) (most : Option ℕ) → scan ≡ made_scan low high store.tables store.memory.entries most → StillComes spelling scan (at_most most (between (state_map s) low high)) image
+  made_shows scan most is = subst (λ (w : ScanWalk). StillComes spelling w (at_most most (between (state_map s) low high)) image) (sym is) (record {
     settings = s.settings;
     states = s.tables;
     held = seen.under.tables;
@@ -95,9 +95,9 @@ module _ (laws : MergedLaws) (standing : StandingMerges) (blocks : StandingBlock
     pairs_are = ap (at_most most) made_pairs;
   })
 
-  pub made_met : (scan : ScanWalk) (most : Option ℕ) → scan ≡ made_scan low high store.tables store.memory.entries most → 1 ≤ sources scan → MayRead s low high
+  pub made_met : (scan : ScanWalk) (most : Option ℕ) → scan ≡ made_scan low high store.tables store.memory.entries most → 1 ≤ opened_tables scan → MayRead s low high
   made_met scan most is some =
-      let many = ap sources is ∙ length-map (numbers_admitting low high store.tables) (λ (number : ℕ). record { number = number; walk = walk_at (numbered store.tables number) low }) in
+      let many = ap opened_tables is ∙ length-map (numbers_admitting low high store.tables) (λ (number : ℕ). record { number = number; walk = walk_at (numbered store.tables number) low }) in
       may_read blocks walks spelling s image low store.tables seen.under.tables high (omega (arith, many, some))
 
 no_more : (left : Option ℕ) (n : ℕ) → blocks_of_step left n ≤ n

@@ -16,7 +16,7 @@ use Rattle.map_model.proofs.Between.{before_less, outside, slice_rises, whole, w
 use Rattle.map_model.proofs.Maps.{by_order, equal_keys, less_of_greater}
 use Rattle.state_model.proofs.SameMaps.{one_map}
 use Rattle.store_core.proofs.Countings.{from_rises}
-use Rattle.store_core.specs.Scans.{pairs_up_to, with_pair}
+use Rattle.store_core.specs.Scans.{pairs_up_to, before_pairs}
 
 same_bytes : (a b : Bytes) → bytes_eq a b ≡ true → a ≡ b
 same_bytes a b e = (bytes_eq-Decides a b).0 e
@@ -51,11 +51,11 @@ lower_up_to (Some high) key other upto above = lower high key other (not_true (i
 
 -- ---- what the pairs have
 
-get_with : (key : Bytes) (value : Option Bytes) (later : Map) (other : Bytes) → bytes_eq key other ≡ false → get (with_pair key value later) other ≡ get later other
+get_with : (key : Bytes) (value : Option Bytes) (later : Map) (other : Bytes) → bytes_eq key other ≡ false → get (before_pairs key value later) other ≡ get later other
 get_with key None later other apart = refl
 get_with key (Some value) later other apart = ap (λ (t : Bool). cond t (Some value) (get later other)) apart
 
-get_here : (key : Bytes) (value : Option Bytes) (later : Map) (other : Bytes) → bytes_eq key other ≡ true → get later other ≡ None → get (with_pair key value later) other ≡ value
+get_here : (key : Bytes) (value : Option Bytes) (later : Map) (other : Bytes) → bytes_eq key other ≡ true → get later other ≡ None → get (before_pairs key value later) other ≡ value
 get_here key None later other same none = none
 get_here key (Some value) later other same none = ap (λ (t : Bool). cond t (Some value) (get later other)) same
 
@@ -64,7 +64,7 @@ pub get_up_to : (high : Option Bytes) (key : Bytes) (rows : List Entry) → Keys
 get_up_to high key [] rises upto = refl
 get_up_to high key (e ∷ more) rises upto = by_row (get_up_to high key more rises.1 upto) (is_up_to high e.key) refl
   where
-    by_key : get (pairs_up_to high more) key ≡ live (lookup more key) → (same : Bool) → bytes_eq e.key key ≡ same → get (with_pair e.key e.value (pairs_up_to high more)) key ≡ live (cond same (Some e.value) (lookup more key))
+    by_key : get (pairs_up_to high more) key ≡ live (lookup more key) → (same : Bool) → bytes_eq e.key key ≡ same → get (before_pairs e.key e.value (pairs_up_to high more)) key ≡ live (cond same (Some e.value) (lookup more key))
     by_key rest true is =
         let none = ap live (subst (λ (k : Bytes). lookup more k ≡ None) (same_bytes e.key key is) (none_above e.key more rises.0)) in
         get_here e.key e.value (pairs_up_to high more) key is (rest ∙ none)
@@ -72,10 +72,10 @@ get_up_to high key (e ∷ more) rises upto = by_row (get_up_to high key more ris
 
     by_row : get (pairs_up_to high more) key ≡ live (lookup more key) → (here : Bool) → is_up_to high e.key ≡ here → get (pairs_up_to high (e ∷ more)) key ≡ live (lookup (e ∷ more) key)
     by_row rest true is =
-        ap (λ (t : Bool). get (cond t (with_pair e.key e.value (pairs_up_to high more)) []) key) is ∙ by_key rest (bytes_eq e.key key) refl
+        ap (λ (t : Bool). get (cond t (before_pairs e.key e.value (pairs_up_to high more)) []) key) is ∙ by_key rest (bytes_eq e.key key) refl
     by_row rest false is =
         let less = lower_up_to high key e.key upto is in
-        ap (λ (t : Bool). get (cond t (with_pair e.key e.value (pairs_up_to high more)) []) key) is
+        ap (λ (t : Bool). get (cond t (before_pairs e.key e.value (pairs_up_to high more)) []) key) is
         ∙ ap live (sym (none_above key (e ∷ more) (less, above_lower key e.key more less rises.0)))
 
 -- of one above it nothing
@@ -89,22 +89,22 @@ get_above high key (e ∷ more) above = by_row (get_above high key more above) (
 
     by_row : get (pairs_up_to high more) key ≡ None → (here : Bool) → is_up_to high e.key ≡ here → get (pairs_up_to high (e ∷ more)) key ≡ None
     by_row rest true is =
-        ap (λ (t : Bool). get (cond t (with_pair e.key e.value (pairs_up_to high more)) []) key) is
+        ap (λ (t : Bool). get (cond t (before_pairs e.key e.value (pairs_up_to high more)) []) key) is
         ∙ get_with e.key e.value (pairs_up_to high more) key (apart is (bytes_eq e.key key) refl) ∙ rest
-    by_row rest false is = ap (λ (t : Bool). get (cond t (with_pair e.key e.value (pairs_up_to high more)) []) key) is
+    by_row rest false is = ap (λ (t : Bool). get (cond t (before_pairs e.key e.value (pairs_up_to high more)) []) key) is
 
 -- ---- their keys rise
 
 abbrev pub ArePairsAbove : Bytes → Map → Type 0
 ArePairsAbove key pairs = AllByRecursion (λ (pair : Bytes × Bytes). byte_order key pair.0 ≡ Less) pairs
 
-with_above : (low key : Bytes) (value : Option Bytes) (later : Map) → byte_order low key ≡ Less → ArePairsAbove low later → ArePairsAbove low (with_pair key value later)
+with_above : (low key : Bytes) (value : Option Bytes) (later : Map) → byte_order low key ≡ Less → ArePairsAbove low later → ArePairsAbove low (before_pairs key value later)
 with_above low key None later less above = above
 with_above low key (Some value) later less above = (less, above)
 
 pub pairs_above : (high : Option Bytes) (key : Bytes) (rows : List Entry) → AllByRecursion (IsAbove key) rows → ArePairsAbove key (pairs_up_to high rows)
 pairs_above high key [] above = tt
-pairs_above high key (e ∷ more) above = elim (is_up_to high e.key) as (λ t. ArePairsAbove key (cond t (with_pair e.key e.value (pairs_up_to high more)) [])) [
+pairs_above high key (e ∷ more) above = elim (is_up_to high e.key) as (λ t. ArePairsAbove key (cond t (before_pairs e.key e.value (pairs_up_to high more)) [])) [
   | true ↦ with_above key e.key e.value (pairs_up_to high more) above.0 (pairs_above high key more above.1)
   | false ↦ tt
 ]
@@ -113,13 +113,13 @@ rises_behind : (pair : Bytes × Bytes) (later : Map) → ArePairsAbove pair.0 la
 rises_behind pair [] above rises = tt
 rises_behind pair (next ∷ later) above rises = (above.0, rises)
 
-with_rises : (key : Bytes) (value : Option Bytes) (later : Map) → ArePairsAbove key later → Rises later → Rises (with_pair key value later)
+with_rises : (key : Bytes) (value : Option Bytes) (later : Map) → ArePairsAbove key later → Rises later → Rises (before_pairs key value later)
 with_rises key None later above rises = rises
 with_rises key (Some value) later above rises = rises_behind (key, value) later above rises
 
 pub pairs_rise : (high : Option Bytes) (rows : List Entry) → KeysRise rows → Rises (pairs_up_to high rows)
 pairs_rise high [] rises = tt
-pairs_rise high (e ∷ more) rises = elim (is_up_to high e.key) as (λ t. Rises (cond t (with_pair e.key e.value (pairs_up_to high more)) [])) [
+pairs_rise high (e ∷ more) rises = elim (is_up_to high e.key) as (λ t. Rises (cond t (before_pairs e.key e.value (pairs_up_to high more)) [])) [
   | true ↦ with_rises e.key e.value (pairs_up_to high more) (pairs_above high e.key more rises.0) (pairs_rise high more rises.1)
   | false ↦ tt
 ]

@@ -48,7 +48,7 @@ not_true true e = absurd (false≢true e)
 not_true false e = refl
 
 -- where the upper bound is below the lower one, no key lies between
-crossed_key : (low high key : Bytes) → is_before high low ≡ true → is_between low (Some high) key ≡ true → ⊥
+pub crossed_key : (low high key : Bytes) → is_before high low ≡ true → is_between low (Some high) key ≡ true → ⊥
 crossed_key low high key crossed inside = by_tests (is_before key low) (is_before high key) refl refl inside
   where
     by_tests : (below above : Bool) → is_before key low ≡ below → is_before high key ≡ above → not below && not above ≡ true → ⊥

@@ -19,7 +19,7 @@ use Rattle.state_model.specs.Bounds.{is_passed}
 use Rattle.store_core.proofs.ScanPairs.{ArePairsAbove, pairs_above}
 use Rattle.store_core.proofs.ScanReads.{paid, wanted_owed}
 use Rattle.store_core.specs.Tied.{AreHeld}
-use Rattle.store_core.specs.Scans.{ScanWalk, Shows, all_owed, at_most, blocks_of_step, blocks_on_way, given, is_ended, is_on_the_way, left_behind, pair_at, pair_in, pair_of, pairs_up_to, step_bound, with_first, with_pair}
+use Rattle.store_core.specs.Scans.{ScanWalk, StillComes, all_owed, at_most, blocks_of_step, blocks_on_way, given, is_ended, is_on_the_way, left_behind, pair_at, pair_in, pair_of, pairs_up_to, step_bound, with_first, before_pairs}
 use Rattle.table_file.specs.Opened.{Opened}
 
 -- ---- the pairs of rows, by the first row
@@ -27,18 +27,18 @@ use Rattle.table_file.specs.Opened.{Opened}
 pub at_tombstone : (high : Option Bytes) (row : Entry) (rows later : List Entry) → rows ≡ row ∷ later → is_up_to high row.key ≡ true → row.value ≡ None → pairs_up_to high rows ≡ pairs_up_to high later
 at_tombstone high row rows later is up none =
     ap (pairs_up_to high) is
-    ∙ ap (λ (b : Bool). cond b (with_pair row.key row.value (pairs_up_to high later)) []) up
-    ∙ ap (λ (v : Option Bytes). with_pair row.key v (pairs_up_to high later)) none
+    ∙ ap (λ (b : Bool). cond b (before_pairs row.key row.value (pairs_up_to high later)) []) up
+    ∙ ap (λ (v : Option Bytes). before_pairs row.key v (pairs_up_to high later)) none
 
 pub at_pair : (high : Option Bytes) (row : Entry) (value : Bytes) (rows later : List Entry) → rows ≡ row ∷ later → is_up_to high row.key ≡ true → row.value ≡ Some value
     → pairs_up_to high rows ≡ (row.key, value) ∷ pairs_up_to high later
 at_pair high row value rows later is up some =
     ap (pairs_up_to high) is
-    ∙ ap (λ (b : Bool). cond b (with_pair row.key row.value (pairs_up_to high later)) []) up
-    ∙ ap (λ (v : Option Bytes). with_pair row.key v (pairs_up_to high later)) some
+    ∙ ap (λ (b : Bool). cond b (before_pairs row.key row.value (pairs_up_to high later)) []) up
+    ∙ ap (λ (v : Option Bytes). before_pairs row.key v (pairs_up_to high later)) some
 
 pub at_end : (high : Option Bytes) (row : Entry) (rows later : List Entry) → rows ≡ row ∷ later → is_up_to high row.key ≡ false → pairs_up_to high rows ≡ []
-at_end high row rows later is above = ap (pairs_up_to high) is ∙ ap (λ (b : Bool). cond b (with_pair row.key row.value (pairs_up_to high later)) []) above
+at_end high row rows later is above = ap (pairs_up_to high) is ∙ ap (λ (b : Bool). cond b (before_pairs row.key row.value (pairs_up_to high later)) []) above
 
 -- before the pairs behind a row comes its key
 before_first : (key : Bytes) (pairs : Map) → ArePairsAbove key pairs → is_passed (first_pair pairs) key ≡ true
@@ -145,15 +145,15 @@ module _ (tells : Bool) (image : Image) (tables : List Opened) (high : Option By
 
 -- ---- of a scan
 
-module _ (tells : Bool) (so : IsTrue tells) (spelling : Spelling) (image : Image) (old : ScanWalk) (m : Map) (shows : Shows spelling old m image) where
+module _ (tells : Bool) (so : IsTrue tells) (spelling : Spelling) (image : Image) (old : ScanWalk) (m : Map) (shows : StillComes spelling old m image) where
   abbrev pairs_in : Merge → Map
   pairs_in merge = pairs_up_to old.high (rows_left merge old.tables image)
 
   -- where nothing more is wanted, no pair is left
-  pub shows_ended : (now : ScanWalk) → now ≡ record old { now = None } → is_ended old.left ≡ true → (now.now ≡ first_pair m) × Shows spelling now (drop 1 m) image
+  pub shows_ended : (now : ScanWalk) → now ≡ record old { now = None } → is_ended old.left ≡ true → (now.now ≡ first_pair m) × StillComes spelling now (drop 1 m) image
   shows_ended now is ended =
       let none = sym shows.pairs_are ∙ none_of old.left ended (pairs_in old.merge) in
-      subst (λ (w : ScanWalk). (w.now ≡ first_pair m) × Shows spelling w (drop 1 m) image) (sym is)
+      subst (λ (w : ScanWalk). (w.now ≡ first_pair m) × StillComes spelling w (drop 1 m) image) (sym is)
       (sym (ap first_pair none), record { settings = shows.settings; states = shows.states; held = shows.held; sound = shows.sound; pairs_are = none_of old.left ended (pairs_in old.merge) ∙ sym (ap (drop 1) none) })
     where
       none_of : (left : Option ℕ) → is_ended left ≡ true → (pairs : Map) → at_most left pairs ≡ []
@@ -162,8 +162,8 @@ module _ (tells : Bool) (so : IsTrue tells) (spelling : Spelling) (image : Image
       none_of (Some (suc n)) ended pairs = absurd (omega (arith, eqb-true (suc n) 0 ended))
 
   -- at a fault they are still to come
-  pub shows_still : (next : Merge) (now : ScanWalk) → SourcesStay tells old.tables image old.merge next → pairs_in next ≡ pairs_in old.merge → now ≡ record old { merge = next; now = None } → Shows spelling now m image
-  shows_still next now kept same is = subst (λ (w : ScanWalk). Shows spelling w m image) (sym is) (record {
+  pub shows_still : (next : Merge) (now : ScanWalk) → SourcesStay tells old.tables image old.merge next → pairs_in next ≡ pairs_in old.merge → now ≡ record old { merge = next; now = None } → StillComes spelling now m image
+  shows_still next now kept same is = subst (λ (w : ScanWalk). StillComes spelling w m image) (sym is) (record {
     settings = shows.settings;
     states = shows.states;
     held = shows.held;
@@ -174,8 +174,8 @@ module _ (tells : Bool) (so : IsTrue tells) (spelling : Spelling) (image : Image
   -- a pair is given, or none is left
   pub shows_on : (next : Merge) (now : ScanWalk) (found : Bool) (left : Option ℕ) → left ≡ left_behind found old.left → SourcesStay tells old.tables image old.merge next → is_ended old.left ≡ false → (found ≡ true → is_some (pair_in next.now) ≡ true)
       → pairs_in old.merge ≡ given found next.now (pairs_in next) → now ≡ record old { merge = next; left = left; now = pair_at found next.now }
-      → (now.now ≡ first_pair m) × Shows spelling now (drop 1 m) image
-  shows_on next now found left left_is kept going some same is = subst (λ (w : ScanWalk). (w.now ≡ first_pair m) × Shows spelling w (drop 1 m) image) (sym is) (
+      → (now.now ≡ first_pair m) × StillComes spelling now (drop 1 m) image
+  shows_on next now found left left_is kept going some same is = subst (λ (w : ScanWalk). (w.now ≡ first_pair m) × StillComes spelling w (drop 1 m) image) (sym is) (
     first_of old.left going found (pair_in next.now) refl (pairs_in next) some ∙ ap first_pair whole,
     record {
       settings = shows.settings;

@@ -11,7 +11,7 @@ use Rattle.line_model.specs.Replies.{Reply}
 use Rattle.map_model.specs.Slices.{first_pair, is_before, is_up_to}
 use Rattle.map_model.specs.SortedMap.{Bytes, Map}
 use Rattle.merge_rows.specs.Merges.{Merge, TableWalk, rows_left, walk_left}
-use Rattle.merge_rows.specs.Reads.{ones, wants}
+use Rattle.merge_rows.specs.Reads.{SomeBlock, ones, wants}
 use Rattle.merge_rows.specs.Rows.{KeyFloor, clears}
 use Rattle.merge_rows.specs.Steps.{IsSoundMerge}
 use Rattle.state_model.specs.Bounds.{is_passed, seek_bound}
@@ -36,8 +36,8 @@ pub record ScanWalk : Type 0 where
   pub now : Option (Bytes × Bytes)
 
 -- how many tables it opened
-abbrev pub sources : ScanWalk → ℕ
-sources scan = length scan.merge.walks
+abbrev pub opened_tables : ScanWalk → ℕ
+opened_tables scan = length scan.merge.walks
 
 -- ---- the pairs of rows
 
@@ -54,14 +54,14 @@ pair_in (Some row) = pair_of row.key row.value
 abbrev pub pair_at : Bool → Option Entry → Option (Bytes × Bytes)
 pair_at found row = if found then pair_in row else None
 
-abbrev pub with_pair : Bytes → Option Bytes → Map → Map
-with_pair key None later = later
-with_pair key (Some value) later = (key, value) ∷ later
+abbrev pub before_pairs : Bytes → Option Bytes → Map → Map
+before_pairs key None later = later
+before_pairs key (Some value) later = (key, value) ∷ later
 
 -- the pairs before the first row above a bound
 abbrev pub pairs_up_to : Option Bytes → List Entry → Map
 pairs_up_to high [] = []
-pairs_up_to high (row ∷ later) = if is_up_to high row.key then with_pair row.key row.value (pairs_up_to high later) else []
+pairs_up_to high (row ∷ later) = if is_up_to high row.key then before_pairs row.key row.value (pairs_up_to high later) else []
 
 -- the pair of the row at hand, and then others; or none at all
 abbrev pub with_first : Option (Bytes × Bytes) → Map → Map
@@ -82,7 +82,7 @@ abbrev pub pairs_left : ScanWalk → Image → Map
 pairs_left scan image = at_most scan.left (pairs_up_to scan.high (rows_left scan.merge scan.tables image))
 
 -- On an image that has the tables, these pairs are still to come.
-pub record Shows (spelling : Spelling) (scan : ScanWalk) (pairs : Map) (image : Image) : Type 0 where
+pub record StillComes (spelling : Spelling) (scan : ScanWalk) (pairs : Map) (image : Image) : Type 0 where
   pub settings : Settings
   pub states : List Table
   pub held : AreHeld spelling settings scan.tables states image
@@ -183,3 +183,15 @@ IsScanShown tables image (error.Full need gap) = Unit {0}
 IsScanShown tables image error.NotAStore = Unit {0}
 IsScanShown tables image error.AlreadyAStore = Unit {0}
 IsScanShown tables image (error.BadSettings field) = Unit {0}
+
+-- so with a table that is walked: one of these numbers
+abbrev pub IsWalkShown : List Opened → List ℕ → Image → StoreError → Type 0
+IsWalkShown tables which image (error.Damaged damage) = SomeBlock tables which (λ t n. IsGetFault t n image (table.Damaged damage))
+IsWalkShown tables which image error.Memory = Unit {0}
+IsWalkShown tables which image (error.Device cause) = Unit {0}
+IsWalkShown tables which image error.Stopped = Unit {0}
+IsWalkShown tables which image (error.Limit limit) = Unit {0}
+IsWalkShown tables which image (error.Full need gap) = Unit {0}
+IsWalkShown tables which image error.NotAStore = Unit {0}
+IsWalkShown tables which image error.AlreadyAStore = Unit {0}
+IsWalkShown tables which image (error.BadSettings field) = Unit {0}

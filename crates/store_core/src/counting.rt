@@ -1,9 +1,9 @@
 //! How many pairs there are.
-ghost use Rattle.std.specs.Prelude.{◌≡◌, true, Some, IsTrue, IfOk, IfErr, MatchResult};
+ghost use Rattle.std.specs.Prelude.{◌≡◌, ◌≢◌, true, Some, None, IsTrue, IfOk, IfErr, MatchResult};
 ghost use Rattle.disk_trait.specs.World.{ReadMoves};
 ghost use Rattle.line_model.specs.Limits.{limit_of};
 ghost use Rattle.line_model.specs.Requests.{Count};
-ghost use Rattle.map_model.specs.Slices.{count};
+ghost use Rattle.map_model.specs.Slices.{count, is_before};
 ghost use Rattle.merge_rows.specs.Reads.{OnlyReads};
 ghost use Rattle.state_model.specs.Bounds.{seek_bound};
 ghost use Rattle.state_model.specs.State.{State};
@@ -16,6 +16,7 @@ ghost use Rattle.store_core.specs.Tied.{Tied};
 ghost use Rattle.table_model.specs.Tables.{filter_bytes_of};
 
 use crate::error::StoreError;
+use crate::limits::is_crossed;
 use crate::store::Store;
 use disk_trait::Disk;
 use filter_api::RangeFilter;
@@ -23,7 +24,8 @@ use filter_api::RangeFilter;
 impl<F: RangeFilter> Store<F> {
     /// How many pairs there are between two bounds, both included.
     ///
-    /// It walks them, and reads what a [`range`](Store::range) of them all would read.
+    /// It walks them, and reads what a [`range`](Store::range) of them all would read: nothing where the bounds are crossed or too
+    /// long.
     pub fn count<D: Disk>(&self, disk: &mut D, low: &[u8], high: &[u8]) -> Result<u64, StoreError>
         ensures answer { (s : State) → IsTrue D.tells → Tied F.spelling (filter_bytes_of F.spelling F.built_cutoff) self.now s (D.world disk.old)
             → IfOk result (λ n. n ≡ count (state_map s) low.now (Some high.now)) }
@@ -33,9 +35,14 @@ impl<F: RangeFilter> Store<F> {
         ensures met { (s : State) → IsTrue D.tells → Tied F.spelling (filter_bytes_of F.spelling F.built_cutoff) self.now s (D.world disk.old) → IfErr result (IsMet (seek_bound s low.now high.now)) }
         ensures refused { MatchResult result (λ _. IsRun self.now.stopped (limit_of (Count low.now high.now))) (IsCountRefusal self.now.stopped (limit_of (Count low.now high.now)) (D.world disk.old) (D.world disk.new)) }
         ensures still { self.now.stopped ≡ true → ReadMoves 0 (D.world disk.old) (D.world disk.new) }
+        ensures crossed { is_before high.now low.now ≡ true → ReadMoves 0 (D.world disk.old) (D.world disk.new) }
+        ensures limited { limit_of (Count low.now high.now) ≢ None → ReadMoves 0 (D.world disk.old) (D.world disk.new) }
         ensures moves { OnlyReads (D.world disk.old) (D.world disk.new) }
     {
         let mut scan = self.range(low, high, u64::MAX)?;
+        if is_crossed(low, Some(high)) {
+            return Ok(0);
+        }
         let mut count = 0u64;
         while scan.advance(disk)? {
             count += 1;

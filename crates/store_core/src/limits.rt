@@ -1,4 +1,4 @@
-//! The limits of a key and of a value.
+//! The limits of a key, of a value and of the bounds of a range.
 ghost use Rattle.std.specs.Prelude.{◌≡◌, Some, None, MatchResult, OnOk};
 ghost use Rattle.std.specs.Option.{option_map};
 ghost use Rattle.byte_fields.specs.Spelling.{IsBytes};

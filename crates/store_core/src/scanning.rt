@@ -16,7 +16,7 @@ ghost use Rattle.state_model.specs.State.{State};
 ghost use Rattle.state_model.specs.View.{state_map};
 ghost use Rattle.store_core.specs.Answers.{IsRun};
 ghost use Rattle.store_core.specs.Getting.{IsLookFault, IsUndamaged};
-ghost use Rattle.store_core.specs.Scans.{IsScanRefusal, IsScanShown, IsStepFault, MayRead, Shows, admits_keys, at_most, blocks_on_way, given, is_ended, left_behind, numbers_admitting, pair_in, pairs_up_to, sources, step_bound};
+ghost use Rattle.store_core.specs.Scans.{IsScanRefusal, IsScanShown, IsStepFault, IsWalkShown, MayRead, StillComes, admits_keys, at_most, blocks_on_way, given, is_ended, left_behind, numbers_admitting, pair_in, pairs_up_to, opened_tables, step_bound};
 ghost use Rattle.store_core.specs.Tied.{IsSeenAs};
 ghost use Rattle.table_file.specs.Search.{IsGetFault};
 ghost use Rattle.table_model.specs.Tables.{filter_bytes_of};
@@ -81,7 +81,8 @@ fn numbers_of<F: RangeFilter>(
     requires few { length tables.now < 2 ^ 32 }
     ensures { IfOk result (λ which. which.items ≡ numbers_admitting low.now (option_map (λ h. h.now) high.entry) tables.now) }
 {
-    let mut which = Vec::with_capacity(alloc, tables.len())?;
+    // Mostly none is admitted, and then nothing is allocated.
+    let mut which = Vec::new(alloc);
     for place in 0..tables.len() {
         if admits(&tables[place], low, high) {
             which.push((tables.len() - 1 - place) as u32)?;
@@ -115,7 +116,6 @@ fn left_behind(found: bool, left: Option<u64>) -> Option<u64>
 
 // Goes on to the next pair of some rows up to a bound, and answers whether there is one: its row is then at hand. Tombstones are
 // passed over.
-
 fn next_pair<F: RangeFilter, D: Disk>(
     rows: &mut MergeRows<'_>,
     disk: &mut D,
@@ -136,7 +136,7 @@ fn next_pair<F: RangeFilter, D: Disk>(
         → (D.world disk.new).seen.reads ≤ (D.world disk.old).seen.reads + blocks_on_way (option_map (λ v. v.items) high.now) rows.old tables.now.tables (D.world disk.old).seen.held }
     ensures met { OnErr result (1 ≤ length rows.old.walks) }
     ensures cause { IfErr result (IsLookFault (D.world disk.old) (D.world disk.new)) }
-    ensures fault { IsTrue D.tells → IfErr result (λ why. SomeBlock tables.now.tables (λ t n. IsGetFault t n (D.world disk.old).seen.held why)) }
+    ensures fault { IsTrue D.tells → IfErr result (λ why. SomeBlock tables.now.tables (numbers rows.old.walks) (λ t n. IsGetFault t n (D.world disk.old).seen.held why)) }
     ensures moves { OnlyReads (D.world disk.old) (D.world disk.new) }
 {
     // the law of the layer below: the keys of rows rise
@@ -175,11 +175,11 @@ impl<F: RangeFilter> Store<F> {
     /// passes over.
     pub fn seek(&self, low: &[u8], high: Option<&[u8]>) -> Result<Scan<'_, F>, StoreError>
         ensures shows { (s : State) (image : Image) → IsSeenAs F.spelling (filter_bytes_of F.spelling F.built_cutoff) self.now s image
-            → IfOk result (λ scan. Shows F.spelling scan (between (state_map s) low.now (option_map (λ h. h.now) high.entry)) image) }
+            → IfOk result (λ scan. StillComes F.spelling scan (between (state_map s) low.now (option_map (λ h. h.now) high.entry)) image) }
         ensures bounded { (s : State) (image : Image) (hi : Bytes) → IsSeenAs F.spelling (filter_bytes_of F.spelling F.built_cutoff) self.now s image
             → option_map (λ h. h.now) high.entry ≡ Some hi → IfOk result (λ scan. step_bound scan image ≤ seek_bound s low.now hi) }
         ensures met { (s : State) (image : Image) → IsSeenAs F.spelling (filter_bytes_of F.spelling F.built_cutoff) self.now s image
-            → IfOk result (λ scan. 1 ≤ sources scan → MayRead s low.now (option_map (λ h. h.now) high.entry)) }
+            → IfOk result (λ scan. 1 ≤ opened_tables scan → MayRead s low.now (option_map (λ h. h.now) high.entry)) }
         ensures made { IfOk result (λ scan. (scan.tables ≡ self.now.tables) × (scan.left ≡ None)) }
         ensures refused { MatchResult result (λ _. IsRun self.now.stopped (limit_of (Seek low.now (option_map (λ h. h.now) high.entry)))) (IsScanRefusal self.now.stopped (limit_of (Seek low.now (option_map (λ h. h.now) high.entry)))) }
     {
@@ -191,11 +191,11 @@ impl<F: RangeFilter> Store<F> {
     /// It takes all the memory of the scan, and reads nothing. Once so many pairs were given nothing more is read.
     pub fn range(&self, low: &[u8], high: &[u8], most: u64) -> Result<Scan<'_, F>, StoreError>
         ensures shows { (s : State) (image : Image) → IsSeenAs F.spelling (filter_bytes_of F.spelling F.built_cutoff) self.now s image
-            → IfOk result (λ scan. Shows F.spelling scan (slice (state_map s) low.now (Some high.now) most) image) }
+            → IfOk result (λ scan. StillComes F.spelling scan (slice (state_map s) low.now (Some high.now) most) image) }
         ensures bounded { (s : State) (image : Image) → IsSeenAs F.spelling (filter_bytes_of F.spelling F.built_cutoff) self.now s image
             → IfOk result (λ scan. step_bound scan image ≤ seek_bound s low.now high.now) }
         ensures met { (s : State) (image : Image) → IsSeenAs F.spelling (filter_bytes_of F.spelling F.built_cutoff) self.now s image
-            → IfOk result (λ scan. 1 ≤ sources scan → MayRead s low.now (Some high.now)) }
+            → IfOk result (λ scan. 1 ≤ opened_tables scan → MayRead s low.now (Some high.now)) }
         ensures made { IfOk result (λ scan. (scan.tables ≡ self.now.tables) × (scan.left ≡ Some most)) }
         ensures refused { MatchResult result (λ _. IsRun self.now.stopped (limit_of (Range low.now high.now most))) (IsScanRefusal self.now.stopped (limit_of (Range low.now high.now most))) }
     {
@@ -210,11 +210,11 @@ impl<F: RangeFilter> Store<F> {
         most: Option<u64>,
     ) -> Result<Scan<'_, F>, StoreError>
         ensures shows { (s : State) (image : Image) → IsSeenAs F.spelling (filter_bytes_of F.spelling F.built_cutoff) self.now s image
-            → IfOk result (λ scan. Shows F.spelling scan (at_most most (between (state_map s) low.now (option_map (λ h. h.now) high.entry))) image) }
+            → IfOk result (λ scan. StillComes F.spelling scan (at_most most (between (state_map s) low.now (option_map (λ h. h.now) high.entry))) image) }
         ensures bounded { (s : State) (image : Image) (hi : Bytes) → IsSeenAs F.spelling (filter_bytes_of F.spelling F.built_cutoff) self.now s image
             → option_map (λ h. h.now) high.entry ≡ Some hi → IfOk result (λ scan. step_bound scan image ≤ seek_bound s low.now hi) }
         ensures met { (s : State) (image : Image) → IsSeenAs F.spelling (filter_bytes_of F.spelling F.built_cutoff) self.now s image
-            → IfOk result (λ scan. 1 ≤ sources scan → MayRead s low.now (option_map (λ h. h.now) high.entry)) }
+            → IfOk result (λ scan. 1 ≤ opened_tables scan → MayRead s low.now (option_map (λ h. h.now) high.entry)) }
         ensures made { IfOk result (λ scan. (scan.tables ≡ self.now.tables) × (scan.left ≡ most)) }
         ensures refused { MatchResult result (λ _. IsRun self.now.stopped (limit_of (Seek low.now (option_map (λ h. h.now) high.entry)))) (IsScanRefusal self.now.stopped (limit_of (Seek low.now (option_map (λ h. h.now) high.entry)))) }
     {
@@ -241,6 +241,9 @@ impl<F: RangeFilter> Store<F> {
 }
 
 impl<'s, F: RangeFilter> Scan<'s, F> {
+    ghost use Rattle.std.specs.Borrow.{sem};
+    ghost use Rattle.store_core.specs.Ends.{scan_ends};
+
     /// The key and the value of the pair at hand, or `None` where none is. They lie where they were read.
     pub fn pair(&self) -> Option<(&[u8], &[u8])>
         ensures now { option_map (λ p. (p.0.now, p.1.now)) result ≡ self.now.now }
@@ -260,21 +263,22 @@ impl<'s, F: RangeFilter> Scan<'s, F> {
     /// At `Err` it stands where it stood, and the next step tries again. Where so many pairs were given as were asked for,
     /// nothing is read.
     pub fn advance<D: Disk>(&mut self, disk: &mut D) -> Result<bool, StoreError>
-        ensures pairs { (m : Map) → IsTrue D.tells → Shows F.spelling self.old m (D.world disk.old).seen.held
-            → OnOk result ((self.new.now ≡ first_pair m) × Shows F.spelling self.new (drop 1 m) (D.world disk.old).seen.held) }
-        ensures stays { (m : Map) → IsTrue D.tells → Shows F.spelling self.old m (D.world disk.old).seen.held → OnErr result (Shows F.spelling self.new m (D.world disk.old).seen.held) }
+        ensures pairs { (m : Map) → IsTrue D.tells → StillComes F.spelling self.old m (D.world disk.old).seen.held
+            → OnOk result ((self.new.now ≡ first_pair m) × StillComes F.spelling self.new (drop 1 m) (D.world disk.old).seen.held) }
+        ensures stays { (m : Map) → IsTrue D.tells → StillComes F.spelling self.old m (D.world disk.old).seen.held → OnErr result (StillComes F.spelling self.new m (D.world disk.old).seen.held) }
         ensures said { IfOk result (λ some. some ≡ is_some self.new.now) }
         ensures none_at_hand { OnErr result (self.new.now ≡ None) }
-        ensures undamaged { (m : Map) → IsTrue D.tells → Shows F.spelling self.old m (D.world disk.old).seen.held → IfErr result IsUndamaged }
+        ensures undamaged { (m : Map) → IsTrue D.tells → StillComes F.spelling self.old m (D.world disk.old).seen.held → IfErr result IsUndamaged }
         ensures shown { IsTrue D.tells → IfErr result (IsScanShown self.old.tables (D.world disk.old).seen.held) }
-        ensures bounded { (m : Map) → IsTrue D.tells → Shows F.spelling self.old m (D.world disk.old).seen.held
+        ensures walked { IsTrue D.tells → IfErr result (IsWalkShown self.old.tables (numbers self.old.merge.walks) (D.world disk.old).seen.held) }
+        ensures bounded { (m : Map) → IsTrue D.tells → StillComes F.spelling self.old m (D.world disk.old).seen.held
             → (D.world disk.new).seen.reads ≤ (D.world disk.old).seen.reads + step_bound self.old (D.world disk.old).seen.held }
-        ensures met { OnErr result ((1 ≤ sources self.old) × (self.old.left ≢ Some 0)) }
+        ensures met { OnErr result ((1 ≤ opened_tables self.old) × (self.old.left ≢ Some 0)) }
         ensures more { IfOk result (λ some. some ≡ true → self.old.left ≢ Some 0) }
         ensures ended { self.old.left ≡ Some 0 → IsOk result × ReadMoves 0 (D.world disk.old) (D.world disk.new) }
         ensures counts { IfOk result (λ some. self.new.left ≡ left_behind some self.old.left) }
         ensures left { OnErr result (self.new.left ≡ self.old.left) }
-        ensures same { (self.new.tables ≡ self.old.tables) × (sources self.new ≡ sources self.old) }
+        ensures same { (self.new.tables ≡ self.old.tables) × (opened_tables self.new ≡ opened_tables self.old) }
         ensures refused { IfErr result (IsStepFault (D.world disk.old) (D.world disk.new)) }
         ensures moves { OnlyReads (D.world disk.old) (D.world disk.new) }
     {
@@ -289,6 +293,28 @@ impl<'s, F: RangeFilter> Scan<'s, F> {
         self.found = found;
         self.left = left;
         Ok(found)
+    }
+
+    /// The next pair, or `None` where there is none: [`advance`](Scan::advance), and then the [`pair`](Scan::pair) at hand.
+    pub fn step<D: Disk>(&mut self, disk: &mut D) -> Result<Option<(&[u8], &[u8])>, StoreError>
+        ensures* after { sem 𝓛 (scan_ends F.row F.RangeFilter self.entry (λ scan. ((m : Map) → IsTrue D.tells → StillComes F.spelling self.old m (D.world disk.old).seen.held
+            → MatchResult result (λ found. (option_map (λ p. (p.0.now, p.1.now)) found ≡ first_pair m) × StillComes F.spelling scan (drop 1 m) (D.world disk.old).seen.held)
+            (λ _. StillComes F.spelling scan m (D.world disk.old).seen.held))
+            × (scan.tables ≡ self.old.tables))) }
+        ensures sound { IfOk result (λ found. IfSome found (λ p. IsEntry (entry_of p.0.now (Some p.1.now)))) }
+        ensures undamaged { (m : Map) → IsTrue D.tells → StillComes F.spelling self.old m (D.world disk.old).seen.held → IfErr result IsUndamaged }
+        ensures shown { IsTrue D.tells → IfErr result (IsScanShown self.old.tables (D.world disk.old).seen.held) }
+        ensures walked { IsTrue D.tells → IfErr result (IsWalkShown self.old.tables (numbers self.old.merge.walks) (D.world disk.old).seen.held) }
+        ensures bounded { (m : Map) → IsTrue D.tells → StillComes F.spelling self.old m (D.world disk.old).seen.held
+            → (D.world disk.new).seen.reads ≤ (D.world disk.old).seen.reads + step_bound self.old (D.world disk.old).seen.held }
+        ensures ended { self.old.left ≡ Some 0 → IsOk result × ReadMoves 0 (D.world disk.old) (D.world disk.new) }
+        ensures refused { IfErr result (IsStepFault (D.world disk.old) (D.world disk.new)) }
+        ensures moves { OnlyReads (D.world disk.old) (D.world disk.new) }
+    {
+        match self.advance(disk) {
+            Ok(_) => Ok(self.pair()),
+            Err(why) => Err(why),
+        }
     }
 
     // Whether so many pairs were given as were asked for, or no more are there.

@@ -1,4 +1,4 @@
-use Rattle.std.proofs.Common.{rules, ◌≡◌, ◌∙◌, ◌≤◌, ◌<◌, ◌+◌, ◌-◌, ℕ, Bool, true, false, not, length, refl, sym, ap, subst, arith}
+use Rattle.std.proofs.Common.{rules, ◌≡◌, ◌∙◌, ◌≤◌, ◌<◌, ◌+◌, ◌-◌, ℕ, List, Bool, true, false, not, length, refl, sym, ap, subst, arith}
 use Rattle.std.specs.Option.{option_map}
 use Rattle.std.specs.Prelude.{IsTrue, Option, Some, None, is_some}
 use Rattle.disk_trait.proofs.Calls.{reads_none}
@@ -12,7 +12,7 @@ use Rattle.merge_rows.proofs.Rank.{height, height_ends, height_rises, strings}
 use Rattle.merge_rows.proofs.Steps.{none_of}
 use Rattle.merge_rows.specs.Merges.{rows_left}
 use Rattle.merge_rows.specs.Reads.{OnlyReads, SomeBlock, wanted}
-use Rattle.merge_rows.specs.Steps.{AreNumbersIn, IsFaultStep, IsPaced, IsRowStep, IsSoundMerge, RowPasses, SourcesStay}
+use Rattle.merge_rows.specs.Steps.{AreNumbersIn, IsFaultStep, IsPaced, IsRowStep, IsSoundMerge, RowPasses, SourcesStay, numbers}
 use Rattle.store_core.proofs.ScanCauses.{as_many_walks, block_cause, fault_at, kept_at, none_value, paced_at, reads_on, pair_some, some_mapped, step_at}
 use Rattle.store_core.proofs.ScanSteps.{IsUnderWay, all_bounded, none_below, none_left, one_on, pair_given, set_out, stay_then, still_pairs}
 use Rattle.store_core.specs.Getting.{IsLookFault}
@@ -64,13 +64,15 @@ returns-in_err-advance-clause-met g c =
 
 pub returns-in_err-advance-clause-cause : goal.returns-in_err-advance-clause-cause
 returns-in_err-advance-clause-cause g c =
-    let here = block_cause (g.D.Disk.world c.args.disk.now) (g.D.Disk.world c.loop-rows.disk) (g.D.Disk.world c.advance.new.disk) c.args.tables.now.tables c.in_err-advance.field-0.0
+    let here = block_cause (g.D.Disk.world c.args.disk.now) (g.D.Disk.world c.loop-rows.disk) (g.D.Disk.world c.advance.new.disk) c.args.tables.now.tables (numbers c.loop-rows.rows.walks) c.in_err-advance.field-0.0
     c.loop-rows.invariant.moves c.in_err-advance.ensures.taken c.in_err-advance.ensures.cause in
     search rules
 
 pub returns-in_err-advance-clause-fault : goal.returns-in_err-advance-clause-fault
 returns-in_err-advance-clause-fault g c so =
-    let here = subst (λ (f : Image). SomeBlock c.args.tables.now.tables (λ t n. IsGetFault t n f c.in_err-advance.field-0.0)) c.loop-rows.invariant.moves.1.held (c.in_err-advance.ensures.fault so) in
+    let tables = c.args.tables.now.tables in
+    let told = subst (λ (f : Image). SomeBlock tables (numbers c.loop-rows.rows.walks) (λ t n. IsGetFault t n f c.in_err-advance.field-0.0)) c.loop-rows.invariant.moves.1.held (c.in_err-advance.ensures.fault so) in
+    let here = subst (λ (which : List ℕ). SomeBlock tables which (λ t n. IsGetFault t n (g.D.Disk.world c.args.disk.now).seen.held c.in_err-advance.field-0.0)) c.loop-rows.invariant.way.kept.numbers_are told in
     search rules
 
 pub returns-in_err-advance-clause-moves : goal.returns-in_err-advance-clause-moves

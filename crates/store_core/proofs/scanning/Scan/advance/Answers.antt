@@ -2,18 +2,18 @@ use Rattle.std.proofs.Common.{rules, ◌≡◌, ◌∙◌, ◌≤◌, ◌+◌, r
 use Rattle.std.specs.Prelude.{Some}
 use Rattle.disk_trait.specs.Image.{Image}
 use Rattle.merge_rows.specs.Reads.{SomeBlock}
-use Rattle.merge_rows.specs.Steps.{AreNumbersIn}
-use Rattle.store_core.proofs.ScanCauses.{no_damage, not_ended, said_of, told_block, told_scan, told_step}
+use Rattle.merge_rows.specs.Steps.{AreNumbersIn, numbers}
+use Rattle.store_core.proofs.ScanCauses.{no_damage, not_ended, said_of, told_as, told_block, told_scan, told_step, told_walk}
 use Rattle.store_core.proofs.ScanSteps.{shows_bounded, shows_ended, shows_on, shows_still}
 use Rattle.store_core.specs.Faults.{of_table_fault}
-use Rattle.store_core.specs.Scans.{IsScanShown, ScanWalk, Shows, left_behind, sources, step_bound}
+use Rattle.store_core.specs.Scans.{IsScanShown, IsWalkShown, ScanWalk, StillComes, left_behind, opened_tables, step_bound}
 use Rattle.table_file.specs.Search.{IsGetFault}
 use Rattle.store_core.proofs.scanning.Scan.advance.Goals as goal
 
 pub returns-then-has_ended-clause-pairs : goal.returns-then-has_ended-clause-pairs
 returns-then-has_ended-clause-pairs g c m so shows =
     let image = (g.D.Disk.world c.args.disk.now).seen.held in
-    let inside = subst (λ (w : ScanWalk). Shows g.F.RangeFilter.spelling w m image) (sym c.self.view_is) shows in
+    let inside = subst (λ (w : ScanWalk). StillComes g.F.RangeFilter.spelling w m image) (sym c.self.view_is) shows in
     shows_ended g.D.Disk.tells so g.F.RangeFilter.spelling image _ m inside _ refl (sym c.has_ended.ensures ∙ c.if-has_ended.true)
 
 pub invariant_of-self-in_err-found : goal.invariant_of-self-in_err-found
@@ -23,37 +23,45 @@ invariant_of-self-in_err-found g c =
 pub returns-in_err-found-clause-stays : goal.returns-in_err-found-clause-stays
 returns-in_err-found-clause-stays g c m so shows =
     let image = (g.D.Disk.world c.args.disk.now).seen.held in
-    let inside = subst (λ (w : ScanWalk). Shows g.F.RangeFilter.spelling w m image) (sym c.self.view_is) shows in
+    let inside = subst (λ (w : ScanWalk). StillComes g.F.RangeFilter.spelling w m image) (sym c.self.view_is) shows in
     let here = shows_still g.D.Disk.tells so g.F.RangeFilter.spelling image _ m inside c.next_pair.new.rows _ c.next_pair.ensures.kept (c.in_err-found.ensures.stays so inside.sound) refl in
     search rules
 
 pub returns-in_err-found-clause-undamaged : goal.returns-in_err-found-clause-undamaged
 returns-in_err-found-clause-undamaged g c m so shows =
     let image = (g.D.Disk.world c.args.disk.now).seen.held in
-    let inside = subst (λ (w : ScanWalk). Shows g.F.RangeFilter.spelling w m image) (sym c.self.view_is) shows in
-    let here = no_damage c.standing_tables_are_read.ensures.blocks g.F.RangeFilter.spelling _ m image inside c.in_err-found.field-0.0 (c.in_err-found.ensures.fault so) in
+    let inside = subst (λ (w : ScanWalk). StillComes g.F.RangeFilter.spelling w m image) (sym c.self.view_is) shows in
+    let here = no_damage c.standing_tables_are_read.ensures.blocks g.F.RangeFilter.spelling _ m image inside (numbers c.self.inside.rows.walks) c.in_err-found.field-0.0 (c.in_err-found.ensures.fault so) in
     search rules
 
 pub returns-in_err-found-clause-shown : goal.returns-in_err-found-clause-shown
 returns-in_err-found-clause-shown g c so =
     let image = (g.D.Disk.world c.args.disk.now).seen.held in
     let fault = c.in_err-found.field-0.0 in
-    let here = told_block c.self.inside.tables.now.tables image fault (c.in_err-found.ensures.fault so) in
+    let here = told_block c.self.inside.tables.now.tables (numbers c.self.inside.rows.walks) image fault (c.in_err-found.ensures.fault so) in
     told_scan c.from_residual.result c.args.self.now.tables image fault c.from_residual.ensures.1 (subst (λ (w : ScanWalk). IsScanShown w.tables image (of_table_fault fault)) c.self.view_is here)
+
+pub returns-in_err-found-clause-walked : goal.returns-in_err-found-clause-walked
+returns-in_err-found-clause-walked g c so =
+    let image = (g.D.Disk.world c.args.disk.now).seen.held in
+    let fault = c.in_err-found.field-0.0 in
+    told_as (IsWalkShown c.args.self.now.tables (numbers c.args.self.now.merge.walks) image) c.from_residual.result (of_table_fault fault) c.from_residual.ensures.1
+    (subst (λ (w : ScanWalk). IsWalkShown w.tables (numbers w.merge.walks) image (of_table_fault fault)) c.self.view_is
+    (told_walk c.self.inside.tables.now.tables (numbers c.self.inside.rows.walks) image fault (c.in_err-found.ensures.fault so)))
 
 pub returns-in_err-found-clause-bounded : goal.returns-in_err-found-clause-bounded
 returns-in_err-found-clause-bounded g c m so shows =
     let old = g.D.Disk.world c.args.disk.now in
     let new = g.D.Disk.world c.next_pair.new.disk in
-    let inside = subst (λ (w : ScanWalk). Shows g.F.RangeFilter.spelling w m old.seen.held) (sym c.self.view_is) shows in
+    let inside = subst (λ (w : ScanWalk). StillComes g.F.RangeFilter.spelling w m old.seen.held) (sym c.self.view_is) shows in
     subst (λ (w : ScanWalk). new.seen.reads ≤ old.seen.reads + step_bound w old.seen.held) c.self.view_is
     (shows_bounded g.D.Disk.tells so g.F.RangeFilter.spelling old.seen.held _ m inside old.seen.reads new.seen.reads (sym c.has_ended.ensures ∙ c.if-has_ended.false) (c.next_pair.ensures.bounded so inside.sound))
 
 pub returns-in_err-found-clause-met : goal.returns-in_err-found-clause-met
 returns-in_err-found-clause-met g c =
-    let some : 1 ≤ sources c.args.self.now = omega (arith, ap sources c.self.view_is, c.in_err-found.ensures.met) in
+    let some : 1 ≤ opened_tables c.args.self.now = omega (arith, ap opened_tables c.self.view_is, c.in_err-found.ensures.met) in
     let going : c.args.self.now.left ≡ Some 0 → ⊥ = λ is. not_ended c.self.inside.left (sym c.has_ended.ensures ∙ c.if-has_ended.false) (ap (λ (w : ScanWalk). w.left) c.self.view_is ∙ is) in
-    let here : (1 ≤ sources c.args.self.now) × (c.args.self.now.left ≡ Some 0 → ⊥) = (some, going) in
+    let here : (1 ≤ opened_tables c.args.self.now) × (c.args.self.now.left ≡ Some 0 → ⊥) = (some, going) in
     search rules
 
 pub returns-in_err-found-clause-ended : goal.returns-in_err-found-clause-ended
@@ -72,7 +80,7 @@ invariant_of-self-2 g c =
 pub returns-clause-pairs : goal.returns-clause-pairs
 returns-clause-pairs g c m so shows =
     let image = (g.D.Disk.world c.args.disk.now).seen.held in
-    let inside = subst (λ (w : ScanWalk). Shows g.F.RangeFilter.spelling w m image) (sym c.self.view_is) shows in
+    let inside = subst (λ (w : ScanWalk). StillComes g.F.RangeFilter.spelling w m image) (sym c.self.view_is) shows in
     shows_on g.D.Disk.tells so g.F.RangeFilter.spelling image _ m inside c.next_pair.new.rows _ c.in_ok-found.found c.left_behind-left.result c.left_behind-left.ensures c.next_pair.ensures.kept
     (sym c.has_ended.ensures ∙ c.if-has_ended.false) c.in_ok-found.ensures.some (c.in_ok-found.ensures.pairs so inside.sound) refl
 
@@ -80,7 +88,7 @@ pub returns-clause-bounded : goal.returns-clause-bounded
 returns-clause-bounded g c m so shows =
     let old = g.D.Disk.world c.args.disk.now in
     let new = g.D.Disk.world c.next_pair.new.disk in
-    let inside = subst (λ (w : ScanWalk). Shows g.F.RangeFilter.spelling w m old.seen.held) (sym c.self.view_is) shows in
+    let inside = subst (λ (w : ScanWalk). StillComes g.F.RangeFilter.spelling w m old.seen.held) (sym c.self.view_is) shows in
     subst (λ (w : ScanWalk). new.seen.reads ≤ old.seen.reads + step_bound w old.seen.held) c.self.view_is
     (shows_bounded g.D.Disk.tells so g.F.RangeFilter.spelling old.seen.held _ m inside old.seen.reads new.seen.reads (sym c.has_ended.ensures ∙ c.if-has_ended.false) (c.next_pair.ensures.bounded so inside.sound))
 

@@ -11,10 +11,10 @@ use Rattle.merge_rows.specs.Reads.{OnlyReads}
 use Rattle.state_model.specs.Bounds.{seek_bound}
 use Rattle.state_model.specs.View.{state_map}
 use Rattle.store_core.proofs.ScanCauses.{reads_on}
-use Rattle.store_core.proofs.ScanCounts.{below_most, counted_all, drop_next, met_any, none_behind, none_pair, scan_count, scan_met, scan_shown, scan_undamaged, some_behind, step_count}
+use Rattle.store_core.proofs.ScanCounts.{below_most, counted_all, drop_next, met_any, none_behind, none_crossed, none_pair, scan_count, scan_met, scan_shown, scan_undamaged, some_behind, step_count}
 use Rattle.store_core.proofs.Tellings.{seen_as}
 use Rattle.store_core.proofs.Ties.{tied_read}
-use Rattle.store_core.specs.Scans.{IsScanShown, Shows, left_behind, sources}
+use Rattle.store_core.specs.Scans.{IsScanShown, StillComes, left_behind, opened_tables}
 use Rattle.table_file.specs.Opened.{Opened}
 use Rattle.table_model.specs.Tables.{filter_bytes_of}
 use Rattle.store_core.proofs.store.Store.count.Goals as goal
@@ -40,6 +40,23 @@ pub returns-in_err-scan-clause-refused : goal.returns-in_err-scan-clause-refused
 returns-in_err-scan-clause-refused g c =
     let here = scan_count c.args.self.now.stopped (limit_of (Count c.args.low.now c.args.high.now)) (g.D.Disk.world c.args.disk.now) c.in_err-scan.field-0.0 c.in_err-scan.ensures.refused in
     search rules
+
+pub returns-in_err-scan-clause-crossed : goal.returns-in_err-scan-clause-crossed
+returns-in_err-scan-clause-crossed g c crossed = reads_none 0 (g.D.Disk.world c.args.disk.now)
+
+pub returns-in_err-scan-clause-limited : goal.returns-in_err-scan-clause-limited
+returns-in_err-scan-clause-limited g c broken = reads_none 0 (g.D.Disk.world c.args.disk.now)
+
+-- ---- crossed bounds
+
+pub returns-then-is_crossed-clause-answer : goal.returns-then-is_crossed-clause-answer
+returns-then-is_crossed-clause-answer g c s so tied = none_crossed c.args.low.now c.args.high.now (sym c.is_crossed.ensures ∙ c.if-is_crossed.true) (state_map s)
+
+pub returns-then-is_crossed-clause-crossed : goal.returns-then-is_crossed-clause-crossed
+returns-then-is_crossed-clause-crossed g c crossed = reads_none 0 (g.D.Disk.world c.args.disk.now)
+
+pub returns-then-is_crossed-clause-limited : goal.returns-then-is_crossed-clause-limited
+returns-then-is_crossed-clause-limited g c broken = reads_none 0 (g.D.Disk.world c.args.disk.now)
 
 -- ---- pairs one by one
 
@@ -68,7 +85,7 @@ returns-in_err-advance-clause-undamaged g c s so tied =
     let m = slice (state_map s) c.args.low.now (Some c.args.high.now) 18446744073709551615 in
     let shows = c.loop-scan.invariant.shows m so (c.in_ok-scan.ensures.shows s before.seen.held seen) in
     let here = c.in_err-advance.ensures.undamaged (drop c.loop-scan.count m) so
-    (subst (λ (f : Image). Shows g.F.RangeFilter.spelling c.loop-scan.scan (drop c.loop-scan.count m) f) (sym c.loop-scan.invariant.moves.1.held) shows) in
+    (subst (λ (f : Image). StillComes g.F.RangeFilter.spelling c.loop-scan.scan (drop c.loop-scan.count m) f) (sym c.loop-scan.invariant.moves.1.held) shows) in
     search rules
 
 pub returns-in_err-advance-clause-shown : goal.returns-in_err-advance-clause-shown
@@ -82,7 +99,7 @@ pub returns-in_err-advance-clause-met : goal.returns-in_err-advance-clause-met
 returns-in_err-advance-clause-met g c s so tied =
     let before = g.D.Disk.world c.args.disk.now in
     let seen = seen_as g.F.RangeFilter.spelling (filter_bytes_of g.F.RangeFilter.spelling g.F.RangeFilter.built_cutoff) c.args.self.now s before (g.met.D.Disk.current c.args.disk.now so) tied in
-    let some : 1 ≤ sources c.in_ok-scan.scan = omega (arith, c.loop-scan.invariant.sources, c.in_err-advance.ensures.met.0) in
+    let some : 1 ≤ opened_tables c.in_ok-scan.scan = omega (arith, c.loop-scan.invariant.sources, c.in_err-advance.ensures.met.0) in
     let here = met_any (seek_bound s c.args.low.now c.args.high.now) c.in_err-advance.field-0.0 (c.in_ok-scan.ensures.met s before.seen.held seen some) in
     search rules
 
@@ -98,6 +115,12 @@ returns-in_err-advance-clause-still g c stopped = absurd (false≢true (sym c.in
 pub returns-in_err-advance-clause-moves : goal.returns-in_err-advance-clause-moves
 returns-in_err-advance-clause-moves g c =
     reads_on (g.D.Disk.world c.args.disk.now) (g.D.Disk.world c.loop-scan.disk) (g.D.Disk.world c.advance.new.disk) c.loop-scan.invariant.moves c.advance.ensures.moves
+
+pub returns-in_err-advance-clause-crossed : goal.returns-in_err-advance-clause-crossed
+returns-in_err-advance-clause-crossed g c crossed = absurd (false≢true (sym c.if-is_crossed.false ∙ (c.is_crossed.ensures ∙ crossed)))
+
+pub returns-in_err-advance-clause-limited : goal.returns-in_err-advance-clause-limited
+returns-in_err-advance-clause-limited g c broken = absurd (broken c.in_ok-scan.ensures.refused.1)
 
 -- ---- one more
 
@@ -119,12 +142,12 @@ loop-scan-preserved g c =
     let fewer : 18446744073709551615 - c.loop-scan.count - 1 ≡ 18446744073709551615 - (c.loop-scan.count + 1) = omega arith in
     record {
       shows = λ m so shows.
-          let here = subst (λ (f : Image). Shows spelling c.loop-scan.scan (drop c.loop-scan.count m) f) (sym held) (c.loop-scan.invariant.shows m so shows) in
+          let here = subst (λ (f : Image). StillComes spelling c.loop-scan.scan (drop c.loop-scan.count m) f) (sym held) (c.loop-scan.invariant.shows m so shows) in
           let on = c.in_ok-advance.ensures.pairs (drop c.loop-scan.count m) so here in
-          subst (λ (f : Image). Shows spelling c.advance.new.self (drop (c.loop-scan.count + 1) m) f) held
-          (subst (λ (p : Map). Shows spelling c.advance.new.self p (g.D.Disk.world c.loop-scan.disk).seen.held) (drop_next c.loop-scan.count m) on.1);
+          subst (λ (f : Image). StillComes spelling c.advance.new.self (drop (c.loop-scan.count + 1) m) f) held
+          (subst (λ (p : Map). StillComes spelling c.advance.new.self p (g.D.Disk.world c.loop-scan.disk).seen.held) (drop_next c.loop-scan.count m) on.1);
       within = λ m so shows.
-          let here = subst (λ (f : Image). Shows spelling c.loop-scan.scan (drop c.loop-scan.count m) f) (sym held) (c.loop-scan.invariant.shows m so shows) in
+          let here = subst (λ (f : Image). StillComes spelling c.loop-scan.scan (drop c.loop-scan.count m) f) (sym held) (c.loop-scan.invariant.shows m so shows) in
           let on = c.in_ok-advance.ensures.pairs (drop c.loop-scan.count m) so here in
           omega (arith, some_behind c.loop-scan.count m (ap is_some (sym on.0) ∙ sym c.in_ok-advance.ensures.said ∙ c.if-branch.true));
       left =
@@ -146,7 +169,7 @@ returns-clause-answer g c s so tied =
     let seen = seen_as spelling bytes c.args.self.now s before (g.met.D.Disk.current c.args.disk.now so) tied in
     let m = slice (state_map s) c.args.low.now (Some c.args.high.now) 18446744073709551615 in
     let first = c.in_ok-scan.ensures.shows s before.seen.held seen in
-    let here = subst (λ (f : Image). Shows spelling c.loop-scan.scan (drop c.loop-scan.count m) f) (sym c.loop-scan.invariant.moves.1.held) (c.loop-scan.invariant.shows m so first) in
+    let here = subst (λ (f : Image). StillComes spelling c.loop-scan.scan (drop c.loop-scan.count m) f) (sym c.loop-scan.invariant.moves.1.held) (c.loop-scan.invariant.shows m so first) in
     let on = c.in_ok-advance.ensures.pairs (drop c.loop-scan.count m) so here in
     let none = sym on.0 ∙ none_pair c.advance.new.self.now (sym c.in_ok-advance.ensures.said ∙ c.if-branch.false) in
     counted_all bytes s c.args.low.now (Some c.args.high.now) c.loop-scan.count tied.sound (c.loop-scan.invariant.within m so first) (none_behind c.loop-scan.count m none)
@@ -162,3 +185,9 @@ returns-clause-still g c stopped = absurd (false≢true (sym c.in_ok-scan.ensure
 pub returns-clause-moves : goal.returns-clause-moves
 returns-clause-moves g c =
     reads_on (g.D.Disk.world c.args.disk.now) (g.D.Disk.world c.loop-scan.disk) (g.D.Disk.world c.advance.new.disk) c.loop-scan.invariant.moves c.advance.ensures.moves
+
+pub returns-clause-crossed : goal.returns-clause-crossed
+returns-clause-crossed g c crossed = absurd (false≢true (sym c.if-is_crossed.false ∙ (c.is_crossed.ensures ∙ crossed)))
+
+pub returns-clause-limited : goal.returns-clause-limited
+returns-clause-limited g c broken = absurd (broken c.in_ok-scan.ensures.refused.1)

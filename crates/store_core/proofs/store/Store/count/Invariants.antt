@@ -2,7 +2,7 @@ use Rattle.std.proofs.Common.{◌≡◌, ◌≤◌, ◌+◌, ◌-◌, length, dr
 use Rattle.std.specs.Prelude.{IsTrue, Option, Some}
 use Rattle.map_model.specs.SortedMap.{Map}
 use Rattle.merge_rows.specs.Reads.{OnlyReads}
-use Rattle.store_core.specs.Scans.{Shows, sources}
+use Rattle.store_core.specs.Scans.{StillComes, opened_tables}
 use Rattle.store_core.proofs.store.Store.count.Given as goal
 
 -- so many of the pairs were given, and the others are still to come
@@ -11,12 +11,12 @@ invariant-loop-scan g l =
     let before = g.D.Disk.world l.fn.disk in
     let after = g.D.Disk.world l.disk in
     record {
-      shows : (m : Map) → IsTrue g.D.Disk.tells → Shows g.F.RangeFilter.spelling l.initial.scan m before.seen.held → Shows g.F.RangeFilter.spelling l.scan (drop l.count m) before.seen.held;
-      within : (m : Map) → IsTrue g.D.Disk.tells → Shows g.F.RangeFilter.spelling l.initial.scan m before.seen.held → l.count ≤ length m;
+      shows : (m : Map) → IsTrue g.D.Disk.tells → StillComes g.F.RangeFilter.spelling l.initial.scan m before.seen.held → StillComes g.F.RangeFilter.spelling l.scan (drop l.count m) before.seen.held;
+      within : (m : Map) → IsTrue g.D.Disk.tells → StillComes g.F.RangeFilter.spelling l.initial.scan m before.seen.held → l.count ≤ length m;
       left : l.scan.left ≡ Some (18446744073709551615 - l.count);
       few : l.count ≤ 18446744073709551615;
       tables : l.scan.tables ≡ l.initial.scan.tables;
-      sources : sources l.scan ≡ sources l.initial.scan;
+      sources : opened_tables l.scan ≡ opened_tables l.initial.scan;
       moves : OnlyReads before after;
     }
 

@@ -1,0 +1,49 @@
+//! The calls of a load, once, and what they find.
+use crate::calls::{Call, ask, walk};
+use crate::floors::bounds;
+use crate::keys::{Query, denied, queries_elsewhere, queries_there};
+use crate::load::Load;
+use crate::made::Made;
+use anyhow::Result;
+use filter_api::RangeFilter;
+use real_outside::FileOutside;
+use std::alloc::Global;
+
+/// Prints what the calls of a load find, and how many blocks they may read.
+pub fn counts<F: RangeFilter>(
+    rt: &impl Print,
+    alloc: Global,
+    disk: &mut FileOutside,
+    load: &Load,
+    keys: &[u64],
+    made: &mut Made<F>,
+) -> Result<()> {
+    println!(rt; "{} tables, {} blocks", load.tables, made.pages.len())?;
+    let there = queries_there(alloc, load, keys)?;
+    print(rt, "keys that are there", disk, made, &there)?;
+    let others = queries_elsewhere(alloc, load, keys)?;
+    print(rt, "others", disk, made, &others)?;
+    let none = denied(alloc, &made.filters, &others)?;
+    print(rt, "others whose range no filter admits", disk, made, &none)?;
+    let walked = walk(disk, &made.store, load.pairs)?;
+    println!(rt; "walked {walked}")?;
+    Ok(())
+}
+
+fn print<F: RangeFilter>(
+    rt: &impl Print,
+    name: &str,
+    disk: &mut FileOutside,
+    made: &mut Made<F>,
+    queries: &[Query],
+) -> Result<()> {
+    let got = ask(Call::Get, disk, &mut made.store, queries)?;
+    let sought = ask(Call::Seek, disk, &mut made.store, queries)?;
+    let for_gets = bounds(Call::Get, &made.filters, queries);
+    let for_seeks = bounds(Call::Seek, &made.filters, queries);
+    println!(rt;
+        "{} {name}: gets find {got} and may read {for_gets}, seeks find {sought} and may read {for_seeks}",
+        queries.len()
+    )?;
+    Ok(())
+}
