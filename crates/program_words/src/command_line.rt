@@ -27,6 +27,11 @@ Lines of serve, with keys and values in hex and - for no bytes:
   put KEY VALUE     ok
   get KEY           val VALUE, or none
   del KEY           ok
+  seek LO [HI]      at KEY VALUE, the first pair from LO on, up to HI where it is named; or none
+  range LO HI N     at KEY VALUE for each of the first N pairs from LO to HI, then end and their number
+  count LO HI       count and how many pairs lie from LO to HI
+  estimate LO HI    about and about how many, with nothing read
+  explain KEY       tables, admitted and blocks: what a get of KEY asks and reads
   flush             ok
   quit              bye
 

@@ -1,6 +1,7 @@
 //! Calls that fail, and what the next run finds.
 use crate::runs::{Ended, Succinct, base_disk, failing, outside, ran, served, served_by};
 use disk_mem::{Choice, MemDisk};
+use disk_trait::Disk;
 use filter_api::RangeFilter;
 use outside::MemOutside;
 use plain_filter::PlainFilter;
@@ -159,10 +160,79 @@ fn a_flush_that_is_stopped_leaves_no_table(rt: HostRuntime) -> Result<(), Fail> 
             "call {call}"
         );
         let left = end.disk.crash(&[])?;
-        let again = served(alloc, left, GETS)?;
-        assert_eq!(rt; again.said.as_slice(), b"val 62\nval 63\nnone\n".as_slice());
+        let again = served(alloc, left, b"get 61\nget 62\nget 63\nexplain 61\n")?;
+        assert_eq!(rt;
+            again.said.as_slice(),
+            b"val 62\nval 63\nnone\ntables 0 admitted 0 blocks 0\n".as_slice()
+        );
         assert_eq!(rt; again.disk.reads(), 5, "call {call}");
     }
+    Ok(())
+}
+
+// The line of a put of one key, with a value of 3,000 bytes: no block holds two of them.
+fn push_large(lines: &mut Vec<u8>, key: &[u8]) -> Result<(), AllocError> {
+    lines.extend_from_slice(b"put ")?;
+    lines.extend_from_slice(key)?;
+    lines.push(b' ')?;
+    for _ in 0..3_000 {
+        lines.extend_from_slice(b"78")?;
+    }
+    lines.push(b'\n')?;
+    Ok(())
+}
+
+// A disk of a store with a table of three blocks, of a pair each.
+fn three_blocks(alloc: Global) -> Result<MemDisk, Fail> {
+    let mut lines = Vec::new(alloc);
+    push_large(&mut lines, b"61")?;
+    push_large(&mut lines, b"62")?;
+    push_large(&mut lines, b"63")?;
+    lines.extend_from_slice(b"flush\n")?;
+    let end = served(alloc, base_disk(alloc)?, &lines)?;
+    MemDisk::new(alloc, end.disk.bytes()).map_err(Fail::from)
+}
+
+// How many pairs were found: no other reply has a t.
+fn pairs(said: &[u8]) -> usize {
+    said.iter().filter(|byte| **byte == b't').count()
+}
+
+#[test]
+fn a_range_says_the_pairs_before_a_fault(rt: HostRuntime) -> Result<(), Fail> {
+    let alloc = rt.alloc();
+    let first = three_blocks(alloc)?;
+    let opened = served(alloc, MemDisk::new(alloc, first.bytes())?, b"")?
+        .disk
+        .calls();
+    for block in 0..3 {
+        let disk = failing(alloc, &first, (opened as u64).saturating_add(block))?;
+        let end = served(alloc, disk, b"range - - 3\nrange - 7a 3\nget 61\n")?;
+        assert_eq!(rt; end.status, 4, "block {block}");
+        assert!(rt; end.said.ends_with(b"device\n"));
+        assert_eq!(rt; pairs(end.said.as_slice()) as u64, block);
+    }
+    let end = served(alloc, first, b"range 61 7a 2\n")?;
+    assert!(rt; end.said.ends_with(b"\nend 2\n"));
+    assert_eq!(rt; end.disk.calls(), opened.saturating_add(2));
+    Ok(())
+}
+
+// The second block is at byte 790,528: a byte of its value is changed.
+#[test]
+fn a_range_says_the_pairs_before_damage(rt: HostRuntime) -> Result<(), Fail> {
+    let alloc = rt.alloc();
+    let mut disk = three_blocks(alloc)?;
+    assert!(rt; disk.write(791_528, &[7]).is_ok());
+    let end = served(alloc, disk, b"range - 7a 3\nget 61\n")?;
+    assert_eq!(rt; end.status, 5);
+    assert_eq!(rt; pairs(end.said.as_slice()), 1);
+    let text = end.said.as_slice();
+    assert!(rt;
+        text.get(6_007..)
+            .unwrap_or(b"")
+            .starts_with(b"damaged block 790528 sum ")
+    );
     Ok(())
 }
 

@@ -3,7 +3,8 @@ use crate::runs::{Ended, Succinct, commanded, failing, served, served_by};
 use disk_mem::{Choice, MemDisk};
 use filter_api::{RangeFilter, Settings};
 use plain_filter::PlainFilter;
-use plain_store::{Reply, Request, State, play};
+use plain_map::PlainMap;
+use plain_store::{Reply, Request, State, ask, get_bound, play, seek_bound};
 use std::alloc::{AllocError, Global};
 use std::test::Fail;
 
@@ -63,29 +64,83 @@ fn push_line(script: &mut Script, verb: usize, key: usize, value: usize) -> Resu
     Ok(())
 }
 
-fn drawn(alloc: Global, seed: u64, length: usize) -> Result<Script, AllocError> {
+// One line more that reads pairs from one of the keys on, up to another one.
+fn push_scan(script: &mut Script, verb: usize, lo: usize, hi: usize) -> Result<(), AllocError> {
+    let (lo, lo_word) = KEYS[lo.min(5)];
+    let (hi, hi_word) = KEYS[hi.min(5)];
+    let (name, request): (&[u8], _) = match verb {
+        0 => (b"seek ", Request::Seek { lo, hi: None }),
+        1 => (b"range ", Request::Range { lo, hi, n: 3 }),
+        2 => (b"count ", Request::Count { lo, hi }),
+        _ => (b"seek ", Request::Seek { lo, hi: Some(hi) }),
+    };
+    script.requests.push(request).map_err(AllocError::from)?;
+    script.lines.extend_from_slice(name)?;
+    script.lines.extend_from_slice(lo_word)?;
+    if verb > 0 {
+        script.lines.push(b' ')?;
+        script.lines.extend_from_slice(hi_word)?;
+    }
+    if verb == 1 {
+        script.lines.extend_from_slice(b" 3")?;
+    }
+    script.lines.push(b'\n')?;
+    Ok(())
+}
+
+// So many lines of the first verbs: twelve of them write and get, and six read pairs.
+fn drawn(alloc: Global, seed: u64, length: usize, verbs: u64) -> Result<Script, AllocError> {
     let mut seed = seed;
     let mut script = Script {
         lines: Vec::new(alloc),
         requests: Vec::new(alloc),
     };
     for _ in 0..length {
-        let verb = draw(&mut seed, 12);
+        let verb = draw(&mut seed, verbs);
         let key = draw(&mut seed, 6);
-        let value = draw(&mut seed, 3);
-        push_line(&mut script, verb, key, value)?;
+        if verb < 12 {
+            push_line(&mut script, verb, key, draw(&mut seed, 3))?;
+        } else {
+            push_scan(&mut script, verb - 12, key, draw(&mut seed, 6))?;
+        }
     }
     Ok(script)
 }
 
-// The word of one of the values.
+// The word of one of the keys and values.
 fn word_of(value: &[u8]) -> &'static [u8] {
-    for (bytes, word) in VALUES {
-        if bytes == value {
+    for (bytes, word) in KEYS.iter().chain(VALUES.iter()) {
+        if *bytes == value {
             return word;
         }
     }
     b"?"
+}
+
+// The line of a pair that was found.
+fn push_pair(text: &mut Vec<u8>, key: &[u8], value: &[u8]) -> Result<(), AllocError> {
+    text.extend_from_slice(b"at ")?;
+    text.extend_from_slice(word_of(key))?;
+    text.push(b' ')?;
+    text.extend_from_slice(word_of(value))?;
+    text.push(b'\n')?;
+    Ok(())
+}
+
+// The line of a number below ten.
+fn push_number(text: &mut Vec<u8>, word: &[u8], number: u64) -> Result<(), AllocError> {
+    text.extend_from_slice(word)?;
+    text.push(b'0'.wrapping_add((number % 10) as u8))?;
+    text.push(b'\n')?;
+    Ok(())
+}
+
+// The lines of the pairs of a range.
+fn push_pairs(text: &mut Vec<u8>, map: &PlainMap) -> Result<(), AllocError> {
+    for pair in map.pairs() {
+        push_pair(text, pair.key(), pair.value())?;
+    }
+    push_number(text, b"end ", map.len() as u64)
 }
 
 // What the requests are answered, as text.
@@ -102,6 +157,9 @@ fn expected(alloc: Global, requests: &[Request<'static>]) -> Result<Vec<u8>, All
                 text.push(b'\n')?;
             }
             Reply::Missing => text.extend_from_slice(b"none\n")?,
+            Reply::At { key, value } => push_pair(&mut text, key, value)?,
+            Reply::Pairs(map) => push_pairs(&mut text, map)?,
+            Reply::Counted(count) => push_number(&mut text, b"count ", *count)?,
             _ => text.extend_from_slice(b"?\n")?,
         }
     }
@@ -119,17 +177,14 @@ fn behind(alloc: Global, script: &Script, lines: usize) -> Result<Vec<u8>, Alloc
     for request in script.requests.iter().take(lines) {
         requests.push(*request).map_err(AllocError::from)?;
     }
+    let before = expected(alloc, &requests)?.len();
     for (key, _) in KEYS {
         requests
             .push(Request::Get { key })
             .map_err(AllocError::from)?;
     }
     let text = expected(alloc, &requests)?;
-    let mut last = Vec::new(alloc);
-    for line in text.split_inclusive(|byte| *byte == b'\n').skip(lines) {
-        last.extend_from_slice(line)?;
-    }
-    Ok(last)
+    Vec::from_slice(alloc, text.get(before..).unwrap_or(b"?"))
 }
 
 // What gets of all keys are answered by the next run.
@@ -145,7 +200,7 @@ fn found<F: RangeFilter>(alloc: Global, disk: MemDisk) -> Result<Ended, Fail> {
 
 // Whether a script of 200 lines gets the replies of the played store, and its map is there at the end.
 fn is_played<F: RangeFilter>(alloc: Global, seed: u64, words: &str) -> Result<bool, Fail> {
-    let script = drawn(alloc, seed, 200)?;
+    let script = drawn(alloc, seed, 200, 18)?;
     let text = expected(alloc, &script.requests)?;
     let end = served_by::<F>(alloc, new_disk(alloc, words)?, &script.lines)?;
     let same = end.status == 0 && end.said.as_slice() == text.as_slice();
@@ -160,6 +215,39 @@ const VARIANTS: [&str; 4] = [
     "format --pages 512 --variant real",
     "format --pages 512 --variant mixed",
 ];
+
+// Whether each get and each closed seek of a script reads no more blocks than its bound. Each line is a run of its own, behind
+// one without a line: their openings read the same.
+fn reads_are_bounded<F: RangeFilter>(alloc: Global, seed: u64) -> Result<bool, Fail> {
+    let script = drawn(alloc, seed, 60, 18)?;
+    let mut disk = new_disk(alloc, VARIANTS[0])?;
+    let mut state = State::new(alloc, BASE, 512);
+    let lines = script.lines.split_inclusive(|byte| *byte == b'\n');
+    for (line, request) in lines.zip(script.requests.iter()) {
+        let most = match *request {
+            Request::Get { key } => get_bound::<F>(alloc, &state, key)?,
+            Request::Seek { lo, hi: Some(hi) } => seek_bound::<F>(alloc, &state, lo, hi)?,
+            _ => 1_000,
+        };
+        let before = disk.reads();
+        let idle = served_by::<F>(alloc, disk, b"")?;
+        let opened = idle.disk.reads();
+        let end = served_by::<F>(alloc, idle.disk, line)?;
+        let read = end.disk.reads().saturating_sub(opened);
+        if read > opened.saturating_sub(before).saturating_add(most) {
+            return Ok(false);
+        }
+        disk = end.disk;
+        state = ask::<F>(alloc, &state, *request)?.state;
+    }
+    Ok(true)
+}
+
+#[test]
+fn gets_and_closed_seeks_read_within_their_bounds(rt: HostRuntime) -> Result<(), Fail> {
+    assert!(rt; reads_are_bounded::<Succinct>(rt.alloc(), 5)?);
+    Ok(())
+}
 
 #[test]
 fn replies_are_those_of_the_played_store(rt: HostRuntime) -> Result<(), Fail> {
@@ -207,7 +295,7 @@ fn crashes_at_random_places(rt: HostRuntime) -> Result<(), Fail> {
     let mut seed = 11;
     for words in VARIANTS {
         let first = new_disk(alloc, words)?;
-        let script = drawn(alloc, seed, 60)?;
+        let script = drawn(alloc, seed, 60, 12)?;
         for _ in 0..4 {
             let call = draw(&mut seed, 200) as u64;
             assert!(rt; outlasts(alloc, &first, &script, call)?, "call {call}");

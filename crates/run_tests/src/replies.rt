@@ -7,7 +7,7 @@ use plain_filter::PlainFilter;
 use std::alloc::{AllocError, Global};
 use std::test::Fail;
 
-const ROWS: [(&[u8], &[u8]); 11] = [
+const ROWS: [(&[u8], &[u8]); 14] = [
     (b"put 61 62\nget 61\nquit\n", b"ok\nval 62\nbye\n"),
     (b"put 61 -\nget 61\nget 62\n", b"ok\nval -\nnone\n"),
     (
@@ -29,12 +29,24 @@ const ROWS: [(&[u8], &[u8]); 11] = [
         b"ok\nok\nok\nok\nnone\n",
     ),
     (
-        b"put 616131 01\nput 616231 02\nflush\nestimate 616135 616230\nexplain 616139\nexplain 616130\nexplain 616330\nget 616139\n",
-        b"ok\nok\nok\nabout 2\ntables 1 admitted 1 blocks 1\ntables 1 admitted 1 blocks 0\ntables 1 admitted 0 blocks 0\nnone\n",
+        b"put 616131 01\nput 616231 02\nflush\ncount 616135 616230\nestimate 616135 616230\nexplain 616139\nexplain 616130\nexplain 616330\nget 616139\n",
+        b"ok\nok\nok\ncount 0\nabout 2\ntables 1 admitted 1 blocks 1\ntables 1 admitted 1 blocks 0\ntables 1 admitted 0 blocks 0\nnone\n",
     ),
     (
-        b"estimate - -\nexplain -\nestimate 62 61\nseek 61\nput 61 62\nestimate 61 62\n",
+        b"estimate - -\nexplain -\nestimate 62 61\ncompact\nput 61 62\nestimate 61 62\n",
         b"about 0\nlimit key 0\nabout 0\nbad 2\nok\nabout 1\n",
+    ),
+    (
+        b"put 61 01\nflush\ndel 61\nput 63 03\nseek 60 62\nseek -\ncount - 7a\n",
+        b"ok\nok\nok\nok\nnone\nat 63 03\ncount 1\n",
+    ),
+    (
+        b"put 61 -\nput 62 01\nrange - 7a 1\nrange - 7a 0\nseek 63\nseek 62 61\nseek -\nrange - 7a 1000000\ncount 62 61\n",
+        b"ok\nok\nat 61 -\nend 1\nend 0\nnone\nnone\nat 61 -\nat 61 -\nat 62 01\nend 2\ncount 0\n",
+    ),
+    (
+        b"range - - 01\nrange - - 1\nrange - -\nseek\ncount 61\nrange 61 62 1000001\nseek -- 61\n",
+        b"bad 5\nend 0\nbad 3\nbad 3\nbad 3\nbad 5\nbad 4\n",
     ),
     (b"quit\nget 61\n", b"bye\n"),
 ];

@@ -1,102 +1,66 @@
 -- A line whose verb is answered asks for what is answered.
-use Rattle.std.proofs.Common.{◌≡◌, List, [], ◌∷◌, refl, sym, subst, Bool, true, false, cond}
+use Rattle.std.proofs.Common.{◌≡◌, ℕ, List, [], ◌∷◌, refl, sym, subst, Bool, true, false, cond}
 use Rattle.std.specs.Prelude.{nat_le, ◌==◌, ◌&&◌, ◌||◌, not, length, codes, bytes_eq, Option, Some, None}
 use Rattle.std.specs.List.{slice_split}
 use Rattle.std.proofs.lemmas.Slice.Eq.{bytes_eq-Decides}
 use Rattle.key_base.specs.Limits.{max_line_bytes}
 use Rattle.map_model.specs.SortedMap.{Bytes}
 use Rattle.line_model.specs.Lines.{bytes_in}
-use Rattle.line_model.specs.Requests.{Request, Put, Del, Get, Seek, Range, Count, Estimate, Explain, Flush, Compact, Quit, Bad, with_one, with_two, none_of, one_of, two_of, seek_of, range_of, asked_by}
+use Rattle.line_model.specs.Requests.{Request, Put, Del, Get, Seek, Range, Count, Estimate, Explain, Flush, Compact, Quit, Bad, with_one, with_two, with_number, number_in, none_of, one_of, two_of, seek_of, range_of, asked_by}
 use Rattle.store_commands.specs.Answered.{IsAskedHere, asked_here, is_among, is_answered}
 
 -- ---- what stands behind a verb
 
-with_two_put : (key value : Option Bytes) → IsAskedHere (with_two Put key value)
-with_two_put (Some key) (Some value) = tt
-with_two_put (Some key) None = tt
-with_two_put None value = tt
+one_word : (asks : Bytes → Request) → ((key : Bytes) → IsAskedHere (asks key)) → (key : Option Bytes) → IsAskedHere (with_one asks key)
+one_word asks here (Some key) = here key
+one_word asks here None = tt
 
-two_put : (words : List Bytes) → IsAskedHere (two_of Put words)
-two_put [] = tt
-two_put (key ∷ []) = tt
-two_put (key ∷ value ∷ []) = with_two_put (bytes_in key) (bytes_in value)
-two_put (key ∷ value ∷ more ∷ words) = tt
+two_words : (asks : Bytes → Bytes → Request) → ((lo hi : Bytes) → IsAskedHere (asks lo hi)) → (lo hi : Option Bytes) → IsAskedHere (with_two asks lo hi)
+two_words asks here (Some lo) (Some hi) = here lo hi
+two_words asks here (Some lo) None = tt
+two_words asks here None hi = tt
 
-with_one_del : (key : Option Bytes) → IsAskedHere (with_one Del key)
-with_one_del (Some key) = tt
-with_one_del None = tt
+of_none : (asked : Request) → IsAskedHere asked → (words : List Bytes) → IsAskedHere (none_of asked words)
+of_none asked here [] = here
+of_none asked here (word ∷ words) = tt
 
-one_del : (words : List Bytes) → IsAskedHere (one_of Del words)
-one_del [] = tt
-one_del (key ∷ []) = with_one_del (bytes_in key)
-one_del (key ∷ more ∷ words) = tt
+of_one : (asks : Bytes → Request) → ((key : Bytes) → IsAskedHere (asks key)) → (words : List Bytes) → IsAskedHere (one_of asks words)
+of_one asks here [] = tt
+of_one asks here (key ∷ []) = one_word asks here (bytes_in key)
+of_one asks here (key ∷ more ∷ words) = tt
 
-with_one_get : (key : Option Bytes) → IsAskedHere (with_one Get key)
-with_one_get (Some key) = tt
-with_one_get None = tt
+of_two : (asks : Bytes → Bytes → Request) → ((lo hi : Bytes) → IsAskedHere (asks lo hi)) → (words : List Bytes) → IsAskedHere (two_of asks words)
+of_two asks here [] = tt
+of_two asks here (lo ∷ []) = tt
+of_two asks here (lo ∷ hi ∷ []) = two_words asks here (bytes_in lo) (bytes_in hi)
+of_two asks here (lo ∷ hi ∷ more ∷ words) = tt
 
-one_get : (words : List Bytes) → IsAskedHere (one_of Get words)
-one_get [] = tt
-one_get (key ∷ []) = with_one_get (bytes_in key)
-one_get (key ∷ more ∷ words) = tt
+of_seek : (words : List Bytes) → IsAskedHere (seek_of words)
+of_seek [] = tt
+of_seek (lo ∷ []) = one_word (λ lo. Seek lo None) (λ lo. tt) (bytes_in lo)
+of_seek (lo ∷ hi ∷ []) = two_words (λ lo hi. Seek lo (Some hi)) (λ lo hi. tt) (bytes_in lo) (bytes_in hi)
+of_seek (lo ∷ hi ∷ more ∷ words) = tt
 
-with_two_estimate : (lo hi : Option Bytes) → IsAskedHere (with_two Estimate lo hi)
-with_two_estimate (Some lo) (Some hi) = tt
-with_two_estimate (Some lo) None = tt
-with_two_estimate None hi = tt
+with_most : (lo hi : Bytes) (n : Option ℕ) → IsAskedHere (with_number (Range lo hi) n)
+with_most lo hi (Some n) = tt
+with_most lo hi None = tt
 
-two_estimate : (words : List Bytes) → IsAskedHere (two_of Estimate words)
-two_estimate [] = tt
-two_estimate (lo ∷ []) = tt
-two_estimate (lo ∷ hi ∷ []) = with_two_estimate (bytes_in lo) (bytes_in hi)
-two_estimate (lo ∷ hi ∷ more ∷ words) = tt
-
-with_one_explain : (key : Option Bytes) → IsAskedHere (with_one Explain key)
-with_one_explain (Some key) = tt
-with_one_explain None = tt
-
-one_explain : (words : List Bytes) → IsAskedHere (one_of Explain words)
-one_explain [] = tt
-one_explain (key ∷ []) = with_one_explain (bytes_in key)
-one_explain (key ∷ more ∷ words) = tt
-
-none_flush : (words : List Bytes) → IsAskedHere (none_of Flush words)
-none_flush [] = tt
-none_flush (word ∷ words) = tt
-
-none_quit : (words : List Bytes) → IsAskedHere (none_of Quit words)
-none_quit [] = tt
-none_quit (word ∷ words) = tt
+of_range : (words : List Bytes) → IsAskedHere (range_of words)
+of_range [] = tt
+of_range (lo ∷ []) = tt
+of_range (lo ∷ hi ∷ []) = tt
+of_range (lo ∷ hi ∷ n ∷ []) = two_words (λ lo hi. with_number (Range lo hi) (number_in n)) (λ lo hi. with_most lo hi (number_in n)) (bytes_in lo) (bytes_in hi)
+of_range (lo ∷ hi ∷ n ∷ more ∷ words) = tt
 
 -- ---- verb by verb
 
--- what is asked by a verb that is none of the first three
-behind_get : Bytes → List Bytes → Request
-behind_get verb words =
-    cond (bytes_eq verb (codes "seek")) (seek_of words)
-    (cond (bytes_eq verb (codes "range")) (range_of words)
-    (cond (bytes_eq verb (codes "count")) (two_of Count words)
-    (cond (bytes_eq verb (codes "estimate")) (two_of Estimate words)
-    (cond (bytes_eq verb (codes "explain")) (one_of Explain words)
-    (cond (bytes_eq verb (codes "flush")) (none_of Flush words)
-    (cond (bytes_eq verb (codes "compact")) (none_of Compact words)
-    (cond (bytes_eq verb (codes "quit")) (none_of Quit words) (Bad 2))))))))
+-- what is asked by a verb that is none of the first nine
+behind_flush : Bytes → List Bytes → Request
+behind_flush verb words = cond (bytes_eq verb (codes "compact")) (none_of Compact words) (cond (bytes_eq verb (codes "quit")) (none_of Quit words) (Bad 2))
 
-at_estimate : (verb : Bytes) (words : List Bytes) → verb ≡ codes "estimate" → IsAskedHere (behind_get verb words)
-unfolding behind_get
-at_estimate verb words is = subst (λ (v : Bytes). IsAskedHere (behind_get v words)) (sym is) (two_estimate words)
-
-at_explain : (verb : Bytes) (words : List Bytes) → verb ≡ codes "explain" → IsAskedHere (behind_get verb words)
-unfolding behind_get
-at_explain verb words is = subst (λ (v : Bytes). IsAskedHere (behind_get v words)) (sym is) (one_explain words)
-
-at_flush : (verb : Bytes) (words : List Bytes) → verb ≡ codes "flush" → IsAskedHere (behind_get verb words)
-unfolding behind_get
-at_flush verb words is = subst (λ (v : Bytes). IsAskedHere (behind_get v words)) (sym is) (none_flush words)
-
-at_quit : (verb : Bytes) (words : List Bytes) → verb ≡ codes "quit" → IsAskedHere (behind_get verb words)
-unfolding behind_get
-at_quit verb words is = subst (λ (v : Bytes). IsAskedHere (behind_get v words)) (sym is) (none_quit words)
+at_quit : (verb : Bytes) (words : List Bytes) → verb ≡ codes "quit" → IsAskedHere (behind_flush verb words)
+unfolding behind_flush
+at_quit verb words is = subst (λ (v : Bytes). IsAskedHere (behind_flush v words)) (sym is) (of_none Quit tt words)
 
 one_true : (a b : Bool) (P : Type 0) → (a ≡ true → P) → (b ≡ true → P) → (a || b) ≡ true → P
 one_true true b P first then is = first refl
@@ -107,16 +71,19 @@ chosen true other asked later here then is = here
 chosen false other asked later here then is = then is
 
 asked_answered : (words : List Bytes) → is_answered words ≡ true → IsAskedHere (asked_by words)
-unfolding behind_get
+unfolding behind_flush
 asked_answered [] is = absurd cc
 asked_answered (verb ∷ words) is =
-    chosen (bytes_eq verb (codes "put")) _ (two_of Put words) _ (two_put words)
-    (chosen (bytes_eq verb (codes "del")) _ (one_of Del words) _ (one_del words)
-    (chosen (bytes_eq verb (codes "get")) _ (one_of Get words) (behind_get verb words) (one_get words)
-    (one_true (bytes_eq verb (codes "estimate")) _ (IsAskedHere (behind_get verb words)) (λ t. at_estimate verb words ((bytes_eq-Decides verb (codes "estimate")).0 t))
-    (one_true (bytes_eq verb (codes "explain")) _ (IsAskedHere (behind_get verb words)) (λ t. at_explain verb words ((bytes_eq-Decides verb (codes "explain")).0 t))
-    (one_true (bytes_eq verb (codes "flush")) _ (IsAskedHere (behind_get verb words)) (λ t. at_flush verb words ((bytes_eq-Decides verb (codes "flush")).0 t))
-    (one_true (bytes_eq verb (codes "quit")) false (IsAskedHere (behind_get verb words)) (λ t. at_quit verb words ((bytes_eq-Decides verb (codes "quit")).0 t)) (λ never. absurd cc)))))))
+    chosen (bytes_eq verb (codes "put")) _ (two_of Put words) _ (of_two Put (λ key value. tt) words)
+    (chosen (bytes_eq verb (codes "del")) _ (one_of Del words) _ (of_one Del (λ key. tt) words)
+    (chosen (bytes_eq verb (codes "get")) _ (one_of Get words) _ (of_one Get (λ key. tt) words)
+    (chosen (bytes_eq verb (codes "seek")) _ (seek_of words) _ (of_seek words)
+    (chosen (bytes_eq verb (codes "range")) _ (range_of words) _ (of_range words)
+    (chosen (bytes_eq verb (codes "count")) _ (two_of Count words) _ (of_two Count (λ lo hi. tt) words)
+    (chosen (bytes_eq verb (codes "estimate")) _ (two_of Estimate words) _ (of_two Estimate (λ lo hi. tt) words)
+    (chosen (bytes_eq verb (codes "explain")) _ (one_of Explain words) _ (of_one Explain (λ key. tt) words)
+    (chosen (bytes_eq verb (codes "flush")) _ (none_of Flush words) (behind_flush verb words) (of_none Flush tt words)
+    (one_true (bytes_eq verb (codes "quit")) false (IsAskedHere (behind_flush verb words)) (λ t. at_quit verb words ((bytes_eq-Decides verb (codes "quit")).0 t)) (λ never. absurd cc))))))))))
     is
 
 by_tests : (short answered : Bool) (words : List Bytes) → (answered ≡ true → IsAskedHere (asked_by words)) → IsAskedHere (cond (short && not answered) (Bad 2) (cond short (asked_by words) (Bad 1)))

@@ -3,11 +3,11 @@ use Rattle.std.specs.Prelude.{nat_le, ◌&&◌, not, Bool, false, List, [], ◌�
 use Rattle.std.specs.List.{slice_split}
 use Rattle.key_base.specs.Limits.{max_line_bytes}
 use Rattle.map_model.specs.SortedMap.{Bytes}
-use Rattle.line_model.specs.Requests.{Request, Put, Del, Get, Estimate, Explain, Flush, Quit, Bad, request_of}
+use Rattle.line_model.specs.Requests.{Request, Put, Del, Get, Seek, Range, Count, Estimate, Explain, Flush, Quit, Bad, request_of}
 
 -- the verbs that it answers
 abbrev pub answered_verbs : List Bytes
-answered_verbs = codes "put" ∷ codes "del" ∷ codes "get" ∷ codes "estimate" ∷ codes "explain" ∷ codes "flush" ∷ codes "quit" ∷ []
+answered_verbs = codes "put" ∷ codes "del" ∷ codes "get" ∷ codes "seek" ∷ codes "range" ∷ codes "count" ∷ codes "estimate" ∷ codes "explain" ∷ codes "flush" ∷ codes "quit" ∷ []
 
 abbrev pub is_among : Bytes → List Bytes → Bool
 is_among verb [] = false
@@ -28,6 +28,9 @@ abbrev pub IsAskedHere : Request → Type 0
 IsAskedHere (Put key value) = Unit {0}
 IsAskedHere (Del key) = Unit {0}
 IsAskedHere (Get key) = Unit {0}
+IsAskedHere (Seek lo hi) = Unit {0}
+IsAskedHere (Range lo hi n) = Unit {0}
+IsAskedHere (Count lo hi) = Unit {0}
 IsAskedHere (Estimate lo hi) = Unit {0}
 IsAskedHere (Explain key) = Unit {0}
 IsAskedHere Flush = Unit {0}

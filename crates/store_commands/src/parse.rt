@@ -1,5 +1,5 @@
 //! Lines, parsed.
-ghost use Rattle.std.specs.Prelude.{◌≡◌, ◌+◌, ◌∷◌, [], List, ◌/◌, ◌≤◌, IfOk, IfErr, IfSome, IfNone, length, vec_len};
+ghost use Rattle.std.specs.Prelude.{◌≡◌, ◌+◌, ◌∷◌, List, ◌/◌, ◌≤◌, IfOk, IfErr, IfSome, IfNone, length, vec_len};
 ghost use Rattle.key_base.specs.Limits.{max_line_bytes};
 ghost use Rattle.map_model.specs.SortedMap.{Bytes};
 ghost use Rattle.line_model.specs.Requests as grammar;

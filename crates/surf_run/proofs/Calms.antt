@@ -1,12 +1,13 @@
 -- Lines that leave the store as it is: a get, a bad line, a quit.
-use Rattle.std.proofs.Common.{◌≡◌, ◌⊎◌, ◌≢◌, inl, inr, ◌≤◌, ◌+◌, ◌*◌, ℕ, Bool, true, false, List, refl, sym, ap, ◌∙◌, subst, arith}
+use Rattle.std.proofs.Common.{◌≡◌, ◌⊎◌, ◌≢◌, inl, inr, ◌≤◌, ◌+◌, ◌*◌, ℕ, Bool, true, false, List, [], ◌++◌, refl, sym, ap, ◌∙◌, subst, arith, append_assoc}
 use Rattle.std.specs.Prelude.{Option, Some, None, IsTrue, length}
 use Rattle.block_model.specs.Pages.{page_bytes}
+use Rattle.byte_fields.specs.declared.parts.Damage.{Damage}
 use Rattle.disk_trait.specs.World.{Image, Meanwhile, Passes, ReadMoves, Rose, Same, Seen, World}
 use Rattle.disk_trait.proofs.Calls.{reads_none}
 use Rattle.disk_trait.proofs.Moments.{in_call, now_at}
 use Rattle.line_model.specs.Limits.{key_limit, limit_of}
-use Rattle.line_model.specs.Replies.{Bye, Damaged, Device, LastEpoch, LongKey, LongValue, ManyTables, Reply, got}
+use Rattle.line_model.specs.Replies.{Bye, Damaged, Device, LastEpoch, LongKey, LongValue, ManyTables, Reply, got, text_of}
 use Rattle.line_model.specs.Requests.{Bad, Get, Quit as AskQuit, Request}
 use Rattle.map_model.specs.SortedMap.{Bytes, get}
 use Rattle.outside.specs.Streams.{SaidByNow, SayMoves}
@@ -17,7 +18,7 @@ use Rattle.state_model.specs.State.{State}
 use Rattle.state_model.specs.Steps.{Answer, Step, answer, answer_within, answers, read_failed, unless_limit}
 use Rattle.state_model.specs.View.{state_map}
 use Rattle.store_core.specs.Answers.{HasCause, told}
-use Rattle.store_core.specs.Getting.{IsFaultIn, IsGetRefusal, IsMet, IsShown, IsUndamaged}
+use Rattle.store_core.specs.Getting.{IsGetRefusal, IsMet, IsUndamaged}
 use Rattle.store_core.specs.Kept.{Kept}
 use Rattle.store_core.specs.Telling.{IsAskRefusal}
 use Rattle.store_core.specs.Tied.{Tied}
@@ -25,19 +26,18 @@ use Rattle.store_core.specs.declared.error.Limit.TheVariants as limit
 use Rattle.store_core.specs.declared.error.StoreError.{StoreError}
 use Rattle.store_core.specs.declared.error.StoreError.TheVariants as error
 use Rattle.surf_run.specs.Answering.{AnswersLine, EndsLine, LineAnswer, RunsOn}
-use Rattle.surf_run.specs.Causes.{EndCause, LineShows, NoFall, SayFailed, SaysDamage, WritesWithin}
+use Rattle.surf_run.specs.Causes.{EndCause, IsMetBy, LineShows, NoFall, SayFailed, SaysDamage, WritesWithin}
 use Rattle.surf_run.specs.Crash.{HasMap, Stands}
-use Rattle.surf_run.specs.Dialogue.{line_bound}
+use Rattle.surf_run.specs.Dialogue.{IsBounded, line_bound}
 use Rattle.surf_run.specs.Kind.{Kind}
 use Rattle.surf_run.specs.Refusals.{end_of_refusal}
-use Rattle.surf_run.specs.Saying.{Says, end_by}
+use Rattle.surf_run.specs.Saying.{Says, SaysBehind, end_by}
 use Rattle.surf_run.specs.declared.end.LineEnd.{LineEnd}
 use Rattle.surf_run.specs.declared.end.LineEnd.TheVariants.{End, Next, Quit}
 use Rattle.surf_run.proofs.EndCauses.{line_read, line_say, lines_on, no_fall_none, rose_since, rose_then}
 use Rattle.surf_run.proofs.Footprint.{within_none}
 use Rattle.surf_run.proofs.Moments.{ends_device, ends_next, ends_quit, line_answer, map_of_state, stands_still, tied_stands, tied_still}
 use Rattle.table_file.specs.Opened.{Opened}
-use Rattle.table_file.specs.declared.fault.TableFault.TheVariants as table
 use Rattle.table_model.specs.Tables.{FilterBytes}
 
 -- the buffer tells nothing of the state
@@ -49,7 +49,7 @@ tied_buffer kind store after buffer s w is tied = subst (λ (k : Kept). Tied kin
 -- ---- where nothing is written
 
 module _ (kind : Kind) (s : State) (request : Request) (store : Kept) (a mid b : World) (same : mid.beside ≡ a.beside) (time : Passes Same a mid)
-    (tied : Tied kind.spelling kind.filter_bytes store s mid) (stand : Stands kind s a) (reads : mid.seen.reads ≤ a.seen.reads + line_bound s request)
+    (tied : Tied kind.spelling kind.filter_bytes store s mid) (stand : Stands kind s a) (reads : IsBounded request → mid.seen.reads ≤ a.seen.reads + line_bound s request)
     (writes : WritesWithin (page_bytes * s.pages) a mid) (now_a : SaidByNow a) (now_mid : SaidByNow mid) (say : SayMoves mid b) where
   meanwhile : Meanwhile (HasMap kind s) a mid
   meanwhile = in_call (HasMap kind s) Same a mid (λ image left. map_of_state kind s image (stand image left)) time
@@ -127,33 +127,35 @@ get_told (error.BadSettings field) stopped key a b runs refused = absurd refused
 pub is_get_told : (key : Bytes) (a b : World) (why : StoreError) → GetTold key a b why → told why ≢ None
 is_get_told key a b why is none = absurd (let same = sym is.1 ∙ none in cc)
 
-abbrev status_of : LineEnd → ℕ
+abbrev pub status_of : LineEnd → ℕ
 status_of Next = 0
 status_of Quit = 0
 status_of (End status) = status
 
--- damage that was said is that of the block which was read
-pub says_damage : (tables : List Opened) (key : Bytes) (why : StoreError) (result : LineEnd) (held : Image) (mid b : World) → IsShown tables key held why → mid.seen.held ≡ held → b.seen ≡ mid.seen
-    → ((reply : Reply) → told why ≡ Some reply → Says (end_by reply) reply result mid b) → end_of_refusal why ≡ End 5 → result ≡ End 5 → SaysDamage tables (Get key) b
-says_damage tables key (error.Damaged damage) result held mid b shown same seen says ends five = elim (says (Damaged damage) refl).1 [
+-- damage that was said behind bytes that waited is that of a block which was read
+pub behind_damage : (tables : List Opened) (request : Request) (why : StoreError) (result : LineEnd) (held : Image) (waits : Bytes) (mid b : World) → ((d : Damage) → why ≡ error.Damaged d → IsMetBy tables request held d)
+    → mid.seen.held ≡ held → b.seen ≡ mid.seen → ((reply : Reply) → told why ≡ Some reply → SaysBehind waits (end_by reply) reply result mid b) → end_of_refusal why ≡ End 5 → result ≡ End 5 → SaysDamage tables request b
+behind_damage tables request (error.Damaged damage) result held waits mid b shown same seen says ends five = elim (says (Damaged damage) refl).1 [
   | inl whole ↦ record {
-    key = key;
-    asked = refl;
     damage = damage;
-    shown = subst (λ (i : Image). IsFaultIn tables key i (table.Damaged damage)) (sym (ap (λ (s : Seen). s.held) seen ∙ same)) shown;
-    before = mid.beside.said;
-    said = whole.1;
+    shown = subst (λ (i : Image). IsMetBy tables request i damage) (sym (ap (λ (s : Seen). s.held) seen ∙ same)) (shown damage refl);
+    before = mid.beside.said ++ waits;
+    said = whole.1 ∙ sym (append_assoc mid.beside.said waits (text_of (Damaged damage)));
   }
   | inr six ↦ absurd (let e : 5 ≡ 6 = ap status_of (sym five ∙ six) in cc)
 ]
-says_damage tables key (error.Device cause) result held mid b shown same seen says ends five = absurd (let e : 4 ≡ 5 = ap status_of ends in cc)
-says_damage tables key error.Memory result held mid b shown same seen says ends five = absurd (let e : 0 ≡ 5 = ap status_of ends in cc)
-says_damage tables key error.Stopped result held mid b shown same seen says ends five = absurd (let e : 0 ≡ 5 = ap status_of ends in cc)
-says_damage tables key (error.Limit limit) result held mid b shown same seen says ends five = absurd (let e : 0 ≡ 5 = ap status_of ends in cc)
-says_damage tables key (error.Full need gap) result held mid b shown same seen says ends five = absurd (let e : 0 ≡ 5 = ap status_of ends in cc)
-says_damage tables key error.NotAStore result held mid b shown same seen says ends five = absurd (let e : 0 ≡ 5 = ap status_of ends in cc)
-says_damage tables key error.AlreadyAStore result held mid b shown same seen says ends five = absurd (let e : 0 ≡ 5 = ap status_of ends in cc)
-says_damage tables key (error.BadSettings field) result held mid b shown same seen says ends five = absurd (let e : 0 ≡ 5 = ap status_of ends in cc)
+behind_damage tables request (error.Device cause) result held waits mid b shown same seen says ends five = absurd (let e : 4 ≡ 5 = ap status_of ends in cc)
+behind_damage tables request error.Memory result held waits mid b shown same seen says ends five = absurd (let e : 0 ≡ 5 = ap status_of ends in cc)
+behind_damage tables request error.Stopped result held waits mid b shown same seen says ends five = absurd (let e : 0 ≡ 5 = ap status_of ends in cc)
+behind_damage tables request (error.Limit limit) result held waits mid b shown same seen says ends five = absurd (let e : 0 ≡ 5 = ap status_of ends in cc)
+behind_damage tables request (error.Full need gap) result held waits mid b shown same seen says ends five = absurd (let e : 0 ≡ 5 = ap status_of ends in cc)
+behind_damage tables request error.NotAStore result held waits mid b shown same seen says ends five = absurd (let e : 0 ≡ 5 = ap status_of ends in cc)
+behind_damage tables request error.AlreadyAStore result held waits mid b shown same seen says ends five = absurd (let e : 0 ≡ 5 = ap status_of ends in cc)
+behind_damage tables request (error.BadSettings field) result held waits mid b shown same seen says ends five = absurd (let e : 0 ≡ 5 = ap status_of ends in cc)
+
+pub says_damage : (tables : List Opened) (request : Request) (why : StoreError) (result : LineEnd) (held : Image) (mid b : World) → ((d : Damage) → why ≡ error.Damaged d → IsMetBy tables request held d)
+    → mid.seen.held ≡ held → b.seen ≡ mid.seen → ((reply : Reply) → told why ≡ Some reply → Says (end_by reply) reply result mid b) → end_of_refusal why ≡ End 5 → result ≡ End 5 → SaysDamage tables request b
+says_damage tables request why result held mid b shown same seen says ends five = behind_damage tables request why result held [] mid b shown same seen says ends five
 
 module _ (Shows : World → Type 0) (key : Bytes) (why : StoreError) (result : LineEnd) (a mid b : World) (is : GetTold key a mid why) (ends : (result ≡ end_of_refusal why) ⊎ ((result ≡ End 6) × SayFailed mid b)) where
   pub get_cause : NoFall a mid → NoFall mid b → (end_of_refusal why ≡ End 5 → result ≡ End 5 → Shows b) → EndCause Shows result a b
@@ -209,7 +211,7 @@ module _ (kind : Kind) (tells tells_output : Bool) (request : Request) (store : 
       → AnswersLine kind tells tells_output request result store store a b
   asks_answers answered = record {
     answered = λ s tell tell_output tied. let by = answered s tell tell_output tied in
-        still_next kind s request store a a b refl (reads_none 0 a).time tied (tied_stands kind store s a few tied) (omega arith) (within_none (page_bytes * s.pages) a) now_a now_a say by.0 result by.1 by.2 by.3;
+        still_next kind s request store a a b refl (reads_none 0 a).time tied (tied_stands kind store s a few tied) (λ _. omega arith) (within_none (page_bytes * s.pages) a) now_a now_a say by.0 result by.1 by.2 by.3;
     running = runs_any result store.stopped runs;
     cause = said_cause result Next a a b ends (LineShows (IsTrue tells × IsTrue tells_output) store.tables request) tt (no_fall_none a);
     moves = line_say a b say;
@@ -253,13 +255,13 @@ module _ (kind : Kind) (s : State) (key : Bytes) (why : StoreError) (store : Kep
   pub refused_ends : EndsLine kind result s (Get key) store a b
   refused_ends = elim is.2 [
     | inl device ↦
-        still_device kind s (Get key) store a mid b same time tied stand reads writes now_a now_mid say result
+        still_device kind s (Get key) store a mid b same time tied stand (λ _. reads) writes now_a now_mid say result
         (read_failed Device device.1 (omega (arith, device.4 (get_bound s key) met)) device.2 refl)
         (subst (λ (r : Reply). Says (end_by r) r result mid b) device.0 (says is.0 is.1))
     | inr more ↦ elim more [
       | inl damaged ↦ absurd (damaged.1 undamaged)
       | inr limited ↦
-          still_next kind s (Get key) store a mid b same time tied stand reads writes now_a now_mid say is.0 result
+          still_next kind s (Get key) store a mid b same time tied stand (λ _. reads) writes now_a now_mid say is.0 result
           (limited_step (HasCause a mid) kind.filter_bytes s (Get key) is.0 limited.0) limited.1
           (subst (λ (e : LineEnd). Says e is.0 result mid b) limited.2 (says is.0 is.1))
     ]

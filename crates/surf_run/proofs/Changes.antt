@@ -20,7 +20,7 @@ use Rattle.store_core.specs.declared.error.StoreError.TheVariants as error
 use Rattle.surf_run.specs.Answering.{AnswersLine, EndsLine, RunsOn}
 use Rattle.surf_run.specs.Causes.{EndCause, LineShows, NoFall, SayFailed, WritesWithin}
 use Rattle.surf_run.specs.Crash.{HasEither}
-use Rattle.surf_run.specs.Dialogue.{line_bound}
+use Rattle.surf_run.specs.Dialogue.{IsBounded, line_bound}
 use Rattle.surf_run.specs.Kind.{Kind}
 use Rattle.surf_run.specs.Refusals.{end_of_change}
 use Rattle.surf_run.specs.Saying.{Says, end_by}
@@ -97,8 +97,8 @@ module _ {T : Type 0} (kind : Kind) (s : State) (request : Request) (changed : R
   abbrev Both : Image → Type 0
   Both image = HasEither kind s request image
 
-  reads_few : mid.seen.reads ≤ a.seen.reads + line_bound s request
-  reads_few = omega (arith, moves.reads)
+  reads_few : IsBounded request → mid.seen.reads ≤ a.seen.reads + line_bound s request
+  reads_few _ = omega (arith, moves.reads)
 
   said_so : IsTold changed a mid answered.reply
   said_so = subst (IsTold changed a mid) (some_same (told_change changed) told.0 answered.reply told.1 answered.told_is) told.2

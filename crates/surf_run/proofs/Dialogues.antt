@@ -1,7 +1,7 @@
 -- Lines that were answered, one more, and the dialogue.
 use Rattle.std.proofs.Common.{◌≡◌, ◌+◌, ◌++◌, ℕ, List, [], ◌∷◌, length, refl, sym, ap, ◌∙◌, subst, arith, append_assoc, length-append}
 use Rattle.std.proofs.lemmas.List.{append-nil}
-use Rattle.line_model.specs.Replies.{Device, Reply, text_of}
+use Rattle.line_model.specs.Replies.{Reply, text_of}
 use Rattle.line_model.specs.Requests.{Request}
 use Rattle.map_model.specs.SortedMap.{Bytes}
 use Rattle.state_model.specs.Causes.{Why}
@@ -143,5 +143,5 @@ module _ (C : Why → Type 0) (filter_bytes : FilterBytes) (R : ℕ → State �
         (omega (arith, is, ap length went.4, length-append (text_of went.0) went.1)) last),
   )
 
-pub device_last : (reply : Reply) (Holds : Type 0) → reply ≡ Device → IsLast reply AtDevice Holds
-device_last reply Holds is = subst (λ (r : Reply). IsLast r AtDevice Holds) (sym is) (tt, (refl, refl))
+pub device_last : (reply : Reply) (Holds : Type 0) → turn_of reply ≡ Over AtDevice → IsLast reply AtDevice Holds
+device_last reply Holds is = subst (λ (t : Turn). AsSaid t Holds × EndsOr t [] AtDevice ⊥) (sym is) (tt, (refl, refl))

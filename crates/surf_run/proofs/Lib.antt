@@ -12,5 +12,7 @@ pub mod Openings
 pub mod Outcomes
 pub mod Pieces
 pub mod Progress
+pub mod Ranges
+pub mod Scans
 pub mod Texts
 pub mod Values

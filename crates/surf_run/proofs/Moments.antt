@@ -23,7 +23,7 @@ use Rattle.store_core.specs.Tied.{IsUnder, Tied}
 use Rattle.surf_run.specs.Answering.{EndsLine, InLine, LineAnswer}
 use Rattle.surf_run.specs.Causes.{WritesWithin}
 use Rattle.surf_run.specs.Crash.{HasBehind, HasEither, HasMap, Stands}
-use Rattle.surf_run.specs.Dialogue.{line_bound}
+use Rattle.surf_run.specs.Dialogue.{IsBounded, line_bound}
 use Rattle.surf_run.specs.Kind.{Kind}
 use Rattle.surf_run.specs.Saying.{Says}
 use Rattle.surf_run.specs.declared.end.LineEnd.{LineEnd}
@@ -85,7 +85,7 @@ module _ (kind : Kind) (old : State) (request : Request) (reply : Reply) (new : 
 
   module _ (step : Step (HasCause a mid) kind.filter_bytes old request reply new) (prefix : SaysPrefix (text_of reply) mid.beside.said b.beside.said)
       (first : (image : Image) → P image → HasEither kind old request image) (then : (image : Image) → mid.leaves mid.moment image → HasBehind kind old request reply new image)
-      (reads : mid.seen.reads ≤ a.seen.reads + line_bound old request) (writes : WritesWithin (page_bytes * old.pages) a mid) where
+      (reads : IsBounded request → mid.seen.reads ≤ a.seen.reads + line_bound old request) (writes : WritesWithin (page_bytes * old.pages) a mid) where
     acting : (k : ℕ) (image : Image) → (k ≡ length a.beside.said) × P image → InLine kind old request reply new (length a.beside.said) (length b.beside.said) k image
     acting k image at = inl (at.0, first image at.1)
 
@@ -102,7 +102,7 @@ module _ (kind : Kind) (old : State) (request : Request) (reply : Reply) (new : 
           each = during_then Q a mid b
               (during_weaker (λ k image. (k ≡ length a.beside.said) × P image) Q a mid (during_disk P a mid meanwhile same now_a) acting)
               (during_weaker (λ k image. (length mid.beside.said ≤ k) × (k ≤ length b.beside.said) × mid.leaves mid.moment image) Q mid b (during_say mid b moves now_mid) saying);
-          reads = omega (arith, reads, ap (λ (s : Seen). s.reads) moves.seen);
+          reads = λ bounded. omega (arith, reads bounded, ap (λ (s : Seen). s.reads) moves.seen);
           writes = within_on (page_bytes * old.pages) a mid b writes (within_say (page_bytes * old.pages) mid b moves);
         }
 
@@ -129,7 +129,7 @@ module _ (kind : Kind) (old : State) (request : Request) (new : State) (store : 
   ends_device Next answer says tied = elim says.1 [ inl all ↦ absurd (let is = all.0 in cc) | inr six ↦ absurd cc ]
   ends_device Quit answer says tied = elim says.1 [ inl all ↦ absurd (let is = all.0 in cc) | inr six ↦ absurd cc ]
   ends_device (End status) answer says tied = elim says.1 [
-    | inl all ↦ (Device, new, answer, inl (let is = all.0 in let four : status ≡ 4 = cc in four, refl, whole (text_of Device) all.1), tied)
+    | inl all ↦ (Device, new, answer, inl (let is = all.0 in let four : status ≡ 4 = cc in four, refl, whole (text_of Device) all.1, λ other. absurd (other refl)), tied)
     | inr six ↦ (Device, new, answer, inr (let is : status ≡ 6 = cc in is, λ other. absurd (other refl)), tied)
   ]
 

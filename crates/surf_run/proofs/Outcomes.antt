@@ -22,7 +22,7 @@ use Rattle.store_core.specs.Tied.{Tied}
 use Rattle.surf_run.specs.Answering.{EndsLine, LineAnswer, Whole}
 use Rattle.surf_run.specs.Causes.{NoFall, WritesWithin}
 use Rattle.surf_run.specs.Crash.{Acknowledged, HasMap, Reached, Stands}
-use Rattle.surf_run.specs.Dialogue.{Dialogue, SoFar, line_bound}
+use Rattle.surf_run.specs.Dialogue.{AreBounded, Dialogue, SoFar, line_bound}
 use Rattle.surf_run.specs.Holding.{with_newline}
 use Rattle.surf_run.specs.Kind.{Kind}
 use Rattle.surf_run.specs.Outcome.{EndsTo, LeavesState, Said, SaidInPart, Settled, TakenAll}
@@ -58,7 +58,7 @@ served_none kind start base store first w same history tied stand counts reads w
   tied = tied;
   stand = stand;
   counts = counts;
-  reads = omega (arith, reads);
+  reads = λ _. omega (arith, reads);
   pages = refl;
   writes = writes;
 }
@@ -103,7 +103,7 @@ module _ (kind : Kind) (start : State) (base : ℕ) (bytes kept : Bytes) (store 
     tied = tied_still kind.spelling kind.filter_bytes store served.now w w' moves.time served.tied;
     stand = stands_still kind served.now w w' moves.time served.stand;
     counts = no_fall_on first w w' served.counts (no_fall_take w w' moves);
-    reads = omega (arith, served.reads, ap (λ (s : Seen). s.reads) moves.seen);
+    reads = λ all. omega (arith, served.reads all, ap (λ (s : Seen). s.reads) moves.seen);
     pages = served.pages;
     writes = within_on (page_bytes * start.pages) first w w' served.writes (within_take (page_bytes * start.pages) w w' moves);
   }
@@ -155,7 +155,7 @@ settled_end kind most status start base taken first w fits ended = elim ended [
       record {
         serving = inr (inr (inl four.0));
         ended = λ is. absurd (let e = four.0 in omega arith);
-        device = λ _. (said_closed kind AtDevice start taken first w four.1, ends_to kind most Device start base taken first w fits four.2);
+        device = λ _. (said_closed kind AtDevice start taken first w four.1, (four.2.0, four.2.1, ends_to kind most four.2.0 start base taken first w fits four.2.2));
         cut = λ is. absurd (let e = four.0 in elim is [ inl three ↦ omega arith | inr nine ↦ omega arith ]);
         output = λ is. absurd (let e = four.0 in omega arith);
         said = (four.1.text, four.1.told);
@@ -206,7 +206,7 @@ module _ (kind : Kind) (start : State) (base : ℕ) (taken kept : Bytes) (store 
     most = served.most;
     last = served.now;
     so_far = subst (λ (ls : List Bytes). SoFar (HasCause first w) kind.filter_bytes (Reached kind w) (length first.beside.said) start ls served.text served.most served.now) (sym is) served.ran;
-    reads = served.reads;
+    reads = λ all. served.reads (subst AreBounded is all);
     stands = served.stand;
   }
 
@@ -331,7 +331,7 @@ module _ (kind : Kind) (start : State) (base : ℕ) (taken kept : Bytes) (store 
         last = new;
         so_far = subst (λ (ls : List Bytes). SoFar (HasCause first w') kind.filter_bytes (Reached kind w') (length first.beside.said) start ls (served.text ++ text_of reply) (served.most + line_bound served.now (asked_here served.rest)) new)
             (sym last) (went_on goes now stand);
-        reads = let few = reads_then kind start base taken kept store first w served served.rest w' counts reply new answer in omega (arith, few);
+        reads = λ all. omega (arith, reads_then kind start base taken kept store first w served served.rest w' counts reply new answer (subst AreBounded last all));
         stands = stand;
       }
 
@@ -382,7 +382,7 @@ module _ (kind : Kind) (start : State) (base : ℕ) (taken kept : Bytes) (store 
       ended = λ e. absurd (let f = four.0 in omega arith);
       device = λ _. (
         said_last a.0 a.1 a.2 four.2 AtDevice (device_last a.0 _ four.1),
-        subst (λ (r : Reply). EndsTo kind piece_bytes r start base taken first w') four.1 (ends_all a.0 a.1 a.2 four.2 (λ other. absurd (other four.1))),
+        (a.0, four.1, ends_all a.0 a.1 a.2 four.2 four.3),
       );
       cut = λ is. absurd (let f = four.0 in elim is [ inl three ↦ omega arith | inr nine ↦ omega arith ]);
       output = λ e. absurd (let f = four.0 in omega arith);

@@ -3,7 +3,7 @@ use Rattle.std.proofs.Common.{◌≡◌, ◌<◌, ◌≤◌, ◌+◌, ◌-◌, �
 use Rattle.std.specs.Prelude.{decimal, codes, Option, Some, None}
 use Rattle.std.specs.Option.{SomeIff}
 use Rattle.std.proofs.Math.Seq.{take-add}
-use Rattle.std.proofs.lemmas.List.{take_min, length-drop}
+use Rattle.std.proofs.lemmas.List.{drop_at, length-drop, length-take, take-append-le, take_at, take_min}
 use Rattle.std.proofs.lemmas.Fmt.{length-decimal-le}
 use Rattle.byteorder.specs.Endian.{big_bytes}
 use Rattle.byteorder.specs.Numbers.{length-bytes_high_first}
@@ -36,6 +36,69 @@ module _ (text buffer : Bytes) (from n : ℕ) (size : n ≡ min (length buffer) 
         ∙ append_assoc (take from text ++ prefix.done) prefix.rest (drop (from + n) text);
     said = prefix.said ∙ ap (λ (l : Bytes). l ++ prefix.done) so_far ∙ append_assoc old (take from text) prefix.done;
   }
+
+-- ---- a reply behind bytes that wait
+
+-- of two ways to part some bytes the longer first part goes on where the shorter one ends
+pub goes_on : (a b rest more : Bytes) → b ++ rest ≡ a ++ more → length a ≤ length b → (part : Bytes) × (b ≡ a ++ part) × (more ≡ part ++ rest)
+goes_on [] b rest more is longer = (b, refl, sym is)
+goes_on (x ∷ a) [] rest more is longer = absurd (omega (arith, longer))
+goes_on (x ∷ a) (y ∷ b) rest more is longer =
+    let tails : b ++ rest ≡ a ++ more = cc in
+    let heads : y ≡ x = cc in
+    let later = goes_on a b rest more tails (omega (arith, longer)) in
+    (later.0, ap (λ (k : ℕ). k ∷ b) heads ∙ ap (λ (l : Bytes). x ∷ l) later.1, later.2)
+
+-- where more bytes follow than were said, a prefix of the whole was said
+pub prefix_of : (whole old now rest : Bytes) → now ++ rest ≡ old ++ whole → length old ≤ length now → SaysPrefix whole old now
+prefix_of whole old now rest is longer =
+    let part = goes_on old now rest whole is longer in record { done = part.0; rest = rest; split = part.2; said = part.1 }
+
+module _ (text buffer into : Bytes) (used from n : ℕ) (room : used < length buffer) (within : from ≤ length text) (same : length into ≡ length (take (length buffer - used) (drop used buffer)))
+    (count : n ≡ min (length (take (length buffer - used) (drop used buffer))) (length text - from)) (bytes : take n into ≡ take (length (take (length buffer - used) (drop used buffer))) (drop from text)) where
+  -- the buffer with a piece of the text behind the bytes that wait
+  abbrev pub laid : Bytes
+  laid = take used buffer ++ (into ++ drop (length buffer - used) (drop used buffer))
+
+  free : length (take (length buffer - used) (drop used buffer)) ≡ length buffer - used
+  free = omega (arith, length-take (length buffer - used) (drop used buffer), length-drop used buffer)
+
+  used_bytes : length (take used buffer) ≡ used
+  used_bytes = omega (arith, length-take used buffer, room)
+
+  pub laid_long : length laid ≡ length buffer
+  laid_long =
+      omega (
+        arith,
+        length-append (take used buffer) (into ++ drop (length buffer - used) (drop used buffer)),
+        length-append into (drop (length buffer - used) (drop used buffer)),
+        length-drop (length buffer - used) (drop used buffer),
+        length-drop used buffer,
+        used_bytes,
+        same,
+        free,
+        room,
+      )
+
+  pub laid_count : n ≡ min (length buffer - used) (length text - from)
+  laid_count = count ∙ ap (λ (k : ℕ). min k (length text - from)) free
+
+  laid_bytes : take n into ≡ take n (drop from text)
+  laid_bytes = piece_is text into from n (count ∙ ap (λ (k : ℕ). min k (length text - from)) (sym same)) (bytes ∙ ap (λ (k : ℕ). take k (drop from text)) (sym same))
+
+  waits_more : take (used + n) laid ≡ take used buffer ++ take n (drop from text)
+  waits_more =
+      let tail = drop (length buffer - used) (drop used buffer) in
+      take-add used n laid ∙ ap (λ (l : Bytes). l ++ take n (drop used laid)) (take_at (take used buffer) (into ++ tail) used used_bytes)
+      ∙ ap (λ (l : Bytes). take used buffer ++ take n l) (drop_at (take used buffer) (into ++ tail) used used_bytes)
+      ∙ ap (λ (l : Bytes). take used buffer ++ l) (take-append-le n into tail (omega (arith, same, count)) ∙ laid_bytes)
+
+  -- what was said and what waits goes on by the piece
+  pub said_on : (old now front : Bytes) → now ++ take used buffer ≡ old ++ (front ++ take from text) → now ++ take (used + n) laid ≡ old ++ (front ++ take (from + n) text)
+  said_on old now front said =
+      let piece = take n (drop from text) in
+      ap (λ (l : Bytes). now ++ l) waits_more ∙ sym (append_assoc now (take used buffer) piece) ∙ ap (λ (l : Bytes). l ++ piece) said ∙ append_assoc old (front ++ take from text) piece
+      ∙ ap (λ (l : Bytes). old ++ l) (append_assoc front (take from text) piece ∙ ap (λ (l : Bytes). front ++ l) (sym (take-add from n text)))
 
 word_size : (value : Bytes) → length (word_of value) ≤ 1 + 2 * length value
 word_size [] = omega arith

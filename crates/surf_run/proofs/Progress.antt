@@ -1,9 +1,9 @@
 -- How a run goes on, line by line.
 use Rattle.std.proofs.Common.{◌≡◌, ◌≢◌, ◌≤◌, inl, inr, ◌+◌, ◌*◌, ◌++◌, ℕ, List, [], ◌∷◌, length, refl, sym, ap, ◌∙◌, subst, arith, append_assoc, length-append, false}
-use Rattle.std.specs.Prelude.{flat_map, All, ◌==◌}
+use Rattle.std.specs.Prelude.{flat_map, All, Some, ◌==◌}
 use Rattle.std.proofs.lemmas.Grind.{flat_map-append}
 use Rattle.std.proofs.lemmas.List.{append-nil}
-use Rattle.std.proofs.lemmas.List.Elements.{All-push, All-nil, All-append}
+use Rattle.std.proofs.lemmas.List.Elements.{All-push, All-nil, All-append, All-pop}
 use Rattle.block_model.specs.Pages.{page_bytes}
 use Rattle.disk_trait.specs.World.{World}
 use Rattle.line_model.specs.Lines.{lines_of, whole_lines}
@@ -25,7 +25,7 @@ use Rattle.store_core.specs.Tied.{Tied}
 use Rattle.surf_run.specs.Answering.{EndsLine, LineAnswer, Whole}
 use Rattle.surf_run.specs.Causes.{NoFall, WritesWithin}
 use Rattle.surf_run.specs.Crash.{Acknowledged, Reached, Stands}
-use Rattle.surf_run.specs.Dialogue.{Dialogue, SoFar, line_bound}
+use Rattle.surf_run.specs.Dialogue.{AreBounded, Dialogue, IsBounded, SoFar, line_bound}
 use Rattle.surf_run.specs.Holding.{Held, with_newline}
 use Rattle.surf_run.specs.Kind.{Kind}
 use Rattle.surf_run.specs.Outcome.{EndsWith, TakenPast}
@@ -59,8 +59,10 @@ module _ (kind : Kind) (start : State) (base : ℕ) (bytes kept : Bytes) (store 
   ran_then = so_far_as (HasCause first w) (HasCause first w') kind.filter_bytes (Reached kind w) (Reached kind w') (causes_later first w w' counts) (reached_on kind _ w w' answer.each)
       (length first.beside.said) start served.lines served.text served.most served.now served.ran
 
-  pub reads_then : w'.seen.reads ≤ base + served.most + line_bound served.now (asked_here line)
-  reads_then = omega (arith, answer.reads, served.reads)
+  pub reads_then : AreBounded (served.lines ++ line ∷ []) → w'.seen.reads ≤ base + served.most + line_bound served.now (asked_here line)
+  reads_then all =
+      let each = All-pop (λ line. IsBounded (asked_here line)) (served.lines ++ line ∷ []) served.lines (Some line) refl all in
+      omega (arith, answer.reads each.1, served.reads each.0)
 
   pub pages_then : new.pages ≡ start.pages
   pages_then = (step_keeps_device kind.filter_bytes served.now new (asked_here line) reply (ever_steps (HasCause w w') kind.filter_bytes served.now new (asked_here line) reply answer.step)).1 ∙ served.pages
@@ -168,7 +170,7 @@ module _ (kind : Kind) (start : State) (base : ℕ) (bytes kept : Bytes) (store 
         tied = tied;
         stand = stand;
         counts = no_fall_on first w w' served.counts counts;
-        reads = let few = reads_then kind start base bytes kept store first w served (served.rest ++ part) w' counts reply new answer in omega (arith, few);
+        reads = λ all. omega (arith, reads_then kind start base bytes kept store first w served (served.rest ++ part) w' counts reply new answer all);
         pages = pages_then kind start base bytes kept store first w served (served.rest ++ part) w' counts reply new answer;
         writes = writes_then kind start base bytes kept store first w served (served.rest ++ part) w' counts reply new answer;
       }
@@ -226,7 +228,7 @@ module _ (kind : Kind) (start : State) (base : ℕ) (bytes kept : Bytes) (store 
     | inl device ↦ inl (
       device.0,
       last_line w' counts a.0 a.1 a.2 device.2 AtDevice (device_last a.0 _ device.1),
-      subst (λ (r : Reply). EndsPast kind 1 r start base (bytes ++ part ++ 10 ∷ []) first w') device.1 (ends_past w' counts a.0 a.1 a.2 device.2 (λ other. absurd (other device.1))),
+      (a.0, device.1, ends_past w' counts a.0 a.1 a.2 device.2 device.3),
     )
     | inr six ↦ inr (six.0, broken_line w' counts a.0 a.1 a.2 six.1)
   ]
@@ -290,6 +292,6 @@ after_more kind least most Next start base bytes more kept store first w fits no
 after_more kind least most Quit start base bytes more kept store first w fits not_next after =
     (closed_more kind AtQuit start bytes more first w after.0, ends_more kind least most Bye start base bytes more first w fits after.1)
 after_more kind least most (End status) start base bytes more kept store first w fits not_next after = elim after [
-  | inl device ↦ inl (device.0, closed_more kind AtDevice start bytes more first w device.1, ends_more kind least most Device start base bytes more first w fits device.2)
+  | inl device ↦ inl (device.0, closed_more kind AtDevice start bytes more first w device.1, (device.2.0, device.2.1, ends_more kind least most device.2.0 start base bytes more first w fits device.2.2))
   | inr six ↦ inr (six.0, broken_more kind least most start base bytes more first w fits six.1)
 ]

@@ -6,7 +6,7 @@ use Rattle.line_model.specs.Replies.{Bye, Device, Reply, text_of}
 use Rattle.line_model.specs.Requests.{Request}
 use Rattle.outside.specs.During.{During}
 use Rattle.outside.specs.Streams.{SaysPrefix}
-use Rattle.state_model.specs.Script.{Onward, turn_of}
+use Rattle.state_model.specs.Script.{AtDevice, Onward, Over, turn_of}
 use Rattle.state_model.specs.State.{State}
 use Rattle.state_model.specs.Steps.{Step}
 use Rattle.store_core.specs.Answers.{HasCause}
@@ -14,7 +14,7 @@ use Rattle.store_core.specs.Kept.{Kept}
 use Rattle.store_core.specs.Tied.{Tied}
 use Rattle.surf_run.specs.Causes.{EndCause, LineMoves, LineShows, WritesWithin}
 use Rattle.surf_run.specs.Crash.{HasBehind, HasEither, Stands}
-use Rattle.surf_run.specs.Dialogue.{line_bound}
+use Rattle.surf_run.specs.Dialogue.{IsBounded, line_bound}
 use Rattle.surf_run.specs.Kind.{Kind}
 use Rattle.surf_run.specs.declared.end.LineEnd.{LineEnd}
 use Rattle.surf_run.specs.declared.end.LineEnd.TheVariants.{End, Next, Quit}
@@ -29,16 +29,17 @@ pub record LineAnswer (kind : Kind) (old : State) (request : Request) (reply : R
   pub step : Step (HasCause a b) kind.filter_bytes old request reply new
   pub prefix : SaysPrefix (text_of reply) a.beside.said b.beside.said
   pub each : During (InLine kind old request reply new (length a.beside.said) (length b.beside.said)) a b
-  pub reads : b.seen.reads ≤ a.seen.reads + line_bound old request
+  pub reads : IsBounded request → b.seen.reads ≤ a.seen.reads + line_bound old request
   pub writes : WritesWithin (page_bytes * old.pages) a b
 
 -- all of the reply was said
 abbrev pub Whole : Reply → World → World → Type 0
 Whole reply a b = b.beside.said ≡ a.beside.said ++ text_of reply
 
--- how a line ends the run: with its reply `device` said, or with its reply not said whole
+-- how a line ends the run: with a reply said that ends in `device`, or with its reply not said whole
 abbrev pub EndsBy : Kind → ℕ → Reply → State → World → World → Type 0
-EndsBy kind status reply new a b = ((status ≡ 4) × (reply ≡ Device) × Whole reply a b) ⊎ ((status ≡ 6) × (reply ≢ Device → Stands kind new b))
+EndsBy kind status reply new a b =
+    ((status ≡ 4) × (turn_of reply ≡ Over AtDevice) × Whole reply a b × (reply ≢ Device → Stands kind new b)) ⊎ ((status ≡ 6) × (reply ≢ Device → Stands kind new b))
 
 -- How a line ended over a store that was that of a state. Where the store is not stopped, it is that of the state behind the line.
 abbrev pub EndsLine : Kind → LineEnd → State → Request → Kept → World → World → Type 0

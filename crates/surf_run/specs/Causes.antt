@@ -1,12 +1,14 @@
 -- Why a run ends, what it may change, and what never falls.
 use Rattle.std.specs.Prelude.{◌≡◌, ◌⊎◌, ◌≤◌, ◌++◌, ℕ, List}
 use Rattle.byte_fields.specs.declared.parts.Damage.{Damage}
-use Rattle.disk_trait.specs.World.{Passes, Rose, Torn, World}
+use Rattle.disk_trait.specs.World.{Image, Passes, Rose, Torn, World}
 use Rattle.line_model.specs.Replies.{text_of}
 use Rattle.line_model.specs.Replies as line
-use Rattle.line_model.specs.Requests.{Get, Request}
+use Rattle.line_model.specs.Requests.{Count, Get, Range, Request, Seek}
 use Rattle.map_model.specs.SortedMap.{Bytes}
 use Rattle.store_core.specs.Getting.{IsFaultIn}
+use Rattle.store_core.specs.Scans.{IsScanShown}
+use Rattle.store_core.specs.declared.error.StoreError.TheVariants as error
 use Rattle.surf_run.specs.declared.end.LineEnd.{LineEnd}
 use Rattle.surf_run.specs.declared.end.LineEnd.TheVariants.{Next, Quit, End}
 use Rattle.table_file.specs.Opened.{Opened}
@@ -46,14 +48,20 @@ pub record LineMoves (old new : World) : Type 0 where
   pub input : new.beside.to_take ≡ old.beside.to_take
   pub counts : NoFall old new
 
--- The request is a get, and what was said ends with the damage of the block that is read for its key in one of these tables. The
--- device shows it: the block has another sum than the one that the table's index keeps, or where the sum agrees, this rule is the
--- first that it breaks.
+-- damage that a request meets on an image: of a get that of the block which is read for its key in one of these tables, of a seek,
+-- a range and a count that of some block of one of them
+abbrev pub IsMetBy : List Opened → Request → Image → Damage → Type 0
+IsMetBy tables (Get key) image damage = IsFaultIn tables key image (Damaged damage)
+IsMetBy tables (Seek lo hi) image damage = IsScanShown tables image (error.Damaged damage)
+IsMetBy tables (Range lo hi n) image damage = IsScanShown tables image (error.Damaged damage)
+IsMetBy tables (Count lo hi) image damage = IsScanShown tables image (error.Damaged damage)
+IsMetBy tables request image damage = ⊥
+
+-- What was said ends with the damage of a block that the request reads in one of these tables. The device shows it: the block has
+-- another sum than the one that the table's index keeps, or where the sum agrees, this rule is the first that it breaks.
 pub record SaysDamage (tables : List Opened) (request : Request) (w : World) : Type 0 where
-  pub key : Bytes
-  pub asked : request ≡ Get key
   pub damage : Damage
-  pub shown : IsFaultIn tables key w.seen.held (Damaged damage)
+  pub shown : IsMetBy tables request w.seen.held damage
   pub before : Bytes
   pub said : w.beside.said ≡ before ++ text_of (line.Damaged damage)
 

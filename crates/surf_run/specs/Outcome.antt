@@ -8,7 +8,7 @@ use Rattle.line_model.specs.Replies.{Bye, Device, Reply, text_of}
 use Rattle.map_model.specs.SortedMap.{Bytes}
 use Rattle.outside.specs.During.{During}
 use Rattle.outside.specs.Streams.{SaysPrefix}
-use Rattle.state_model.specs.Script.{AtDevice, AtQuit, Ending, ToLast}
+use Rattle.state_model.specs.Script.{AtDevice, AtQuit, Ending, Over, ToLast, turn_of}
 use Rattle.state_model.specs.State.{State}
 use Rattle.state_model.specs.Steps.{Step}
 use Rattle.store_commands.specs.Answered.{asked_here}
@@ -16,7 +16,7 @@ use Rattle.store_commands.specs.Cutting.{NoNewline}
 use Rattle.store_core.specs.Answers.{HasCause}
 use Rattle.surf_run.specs.Causes.{IsServing, WritesWithin}
 use Rattle.surf_run.specs.Crash.{Acknowledged, Reached, Stands}
-use Rattle.surf_run.specs.Dialogue.{Dialogue, SoFar, line_bound}
+use Rattle.surf_run.specs.Dialogue.{AreBounded, Dialogue, SoFar, line_bound}
 use Rattle.surf_run.specs.Holding.{with_newline}
 use Rattle.surf_run.specs.Kind.{Kind}
 
@@ -32,14 +32,15 @@ pub record Said (kind : Kind) (ending : Ending) (start : State) (taken : Bytes) 
       ⊎ ((more : Bytes) → Dialogue (HasCause old new) kind.filter_bytes (Reached kind new) (length old.beside.said) start (lines_of (taken ++ more)) text ending)
 
 -- Each image that a crash may leave now stands for the state that these lines leave, whose replies were said: so the next
--- run begins with it. Since there had been `base` reads, no more blocks were read than the lines' gets may read.
+-- run begins with it. Since there had been `base` reads, no more blocks were read than the lines' gets and closed seeks may read,
+-- where no other line reads.
 pub record LeavesState (kind : Kind) (start : State) (base : ℕ) (lines : List Bytes) (old new : World) : Type 0 where
   pub text : Bytes
   pub output : new.beside.said ≡ old.beside.said ++ text
   pub most : ℕ
   pub last : State
   pub so_far : SoFar (HasCause old new) kind.filter_bytes (Reached kind new) (length old.beside.said) start lines text most last
-  pub reads : new.seen.reads ≤ base + most
+  pub reads : AreBounded lines → new.seen.reads ≤ base + most
   pub stands : Stands kind last new
 
 -- What was taken begins with these lines, each with its newline, and behind them stand less bytes than these.
@@ -68,7 +69,7 @@ pub record EndsWith (kind : Kind) (reply : Reply) (start : State) (base : ℕ) (
   pub so_far : SoFar (HasCause old new) kind.filter_bytes (Reached kind new) (length old.beside.said) start lines text most now
   pub last : State
   pub step : Step (HasCause old new) kind.filter_bytes now (asked_here line) reply last
-  pub reads : new.seen.reads ≤ base + most + line_bound now (asked_here line)
+  pub reads : AreBounded (lines ++ line ∷ []) → new.seen.reads ≤ base + most + line_bound now (asked_here line)
   pub output : new.beside.said ≡ old.beside.said ++ (text ++ text_of reply)
   pub crash : During (Acknowledged (HasCause old new) kind start (lines ++ line ∷ []) old.beside.said new.beside.said) old new
   pub stands : reply ≢ Device → Stands kind last new
@@ -77,6 +78,10 @@ pub record EndsWith (kind : Kind) (reply : Reply) (start : State) (base : ℕ) (
 abbrev pub EndsTo : Kind → ℕ → Reply → State → ℕ → Bytes → World → World → Type 0
 EndsTo kind most reply start base taken old new =
     (lines : List Bytes) × (line : Bytes) × TakenTo most taken lines line × EndsWith kind reply start base lines line old new
+
+-- the same of a reply that ends in `device`: such a line, or that of a range behind its first pairs
+abbrev pub EndsAtDevice : Kind → ℕ → State → ℕ → Bytes → World → World → Type 0
+EndsAtDevice kind most start base taken old new = (reply : Reply) × (turn_of reply ≡ Over AtDevice) × EndsTo kind most reply start base taken old new
 
 -- The input was cut off: all its whole lines were answered, and a rest without a newline is no line.
 pub record CutOff (kind : Kind) (start : State) (base : ℕ) (taken : Bytes) (old new : World) : Type 0 where
@@ -103,7 +108,7 @@ pub record SaidInPart (kind : Kind) (start : State) (base : ℕ) (taken : Bytes)
   pub reply : Reply
   pub last : State
   pub step : Step (HasCause old new) kind.filter_bytes now (asked_here line) reply last
-  pub reads : new.seen.reads ≤ base + most + line_bound now (asked_here line)
+  pub reads : AreBounded (lines ++ line ∷ []) → new.seen.reads ≤ base + most + line_bound now (asked_here line)
   pub prefix : SaysPrefix (text_of reply) (old.beside.said ++ text) new.beside.said
   pub crash : During (Acknowledged (HasCause old new) kind start (lines ++ line ∷ []) old.beside.said new.beside.said) old new
   pub stands : reply ≢ Device → Stands kind last new
@@ -115,7 +120,7 @@ pub record Settled (kind : Kind) (status : ℕ) (start : State) (base : ℕ) (ta
       status ≡ 0
       → (Said kind ToLast start taken old new × LeavesState kind start base (lines_of taken) old new)
       ⊎ (Said kind AtQuit start taken old new × EndsTo kind piece_bytes Bye start base taken old new)
-  pub device : status ≡ 4 → Said kind AtDevice start taken old new × EndsTo kind piece_bytes Device start base taken old new
+  pub device : status ≡ 4 → Said kind AtDevice start taken old new × EndsAtDevice kind piece_bytes start base taken old new
   pub cut : (status ≡ 3) ⊎ (status ≡ 9) → CutOff kind start base taken old new
   pub output : status ≡ 6 → SaidInPart kind start base taken old new
   pub said : (text : Bytes) × (new.beside.said ≡ old.beside.said ++ text)

@@ -29,7 +29,7 @@ use Rattle.surf_run.specs.Unserved.{Unserved}
 pub record Ran {X : Type 0} (world : X → World) (tells tells_input tells_output : Bool) (kind : Kind) (first_fault : Bytes → Fault) (words : List Text) (status : ℕ) (old new : X) : Type 0 where
   -- Of `serve`, where each image that a crash might have left at the start stands for this state: the lines that were taken got
   -- the replies of its map, what a crash may leave at each moment has every line that was acknowledged by then, and no more
-  -- blocks were read than the opening and the gets may read.
+  -- blocks were read than the opening, the gets and the closed seeks may read, where no other line reads.
   pub outcome :
       (s : State) → IsTrue tells → IsTrue tells_input → IsTrue tells_output → Now (IsStateOf kind.spelling s) (world old) → IsServe words
       → Ends kind status s (world old) (world new)

@@ -5,6 +5,7 @@ use Rattle.disk_trait.specs.World.{World}
 use Rattle.key_base.specs.Limits.{max_key_bytes, max_value_bytes}
 use Rattle.line_model.specs.Replies as line
 use Rattle.line_model.specs.Replies.{Reply, text_of}
+use Rattle.map_model.specs.SortedMap.{Bytes}
 use Rattle.outside.specs.Streams.{SaysPrefix}
 use Rattle.store_commands.specs.declared.reply.Reply.{Reply as Spoken}
 use Rattle.store_commands.specs.declared.reply.Reply.TheVariants as spoken
@@ -37,6 +38,11 @@ IsShort (spoken.Explained tables admitted blocks) = (tables < 2 ^ 64) × (admitt
 abbrev pub Says : LineEnd → Reply → LineEnd → World → World → Type 0
 Says end reply result a b =
     SaysPrefix (text_of reply) a.beside.said b.beside.said × (((result ≡ end) × (b.beside.said ≡ a.beside.said ++ text_of reply)) ⊎ (result ≡ End 6))
+
+-- the same of a reply behind bytes that waited to be said
+abbrev pub SaysBehind : Bytes → LineEnd → Reply → LineEnd → World → World → Type 0
+SaysBehind waits end reply result a b =
+    SaysPrefix (waits ++ text_of reply) a.beside.said b.beside.said × (((result ≡ end) × (b.beside.said ≡ a.beside.said ++ (waits ++ text_of reply))) ⊎ (result ≡ End 6))
 
 -- how a line ends whose reply was said whole
 abbrev pub end_by : Reply → LineEnd

@@ -7,7 +7,7 @@ use Rattle.line_model.specs.Replies.{Bye, Device, Reply, text_of}
 use Rattle.map_model.specs.SortedMap.{Bytes}
 use Rattle.outside.specs.During.{During}
 use Rattle.outside.specs.Streams.{SaysPrefix}
-use Rattle.state_model.specs.Script.{AtDevice, AtQuit, Ending}
+use Rattle.state_model.specs.Script.{AtDevice, AtQuit, Ending, Over, turn_of}
 use Rattle.state_model.specs.State.{State}
 use Rattle.state_model.specs.Steps.{Step}
 use Rattle.store_commands.specs.Answered.{asked_here}
@@ -18,7 +18,7 @@ use Rattle.store_core.specs.Tied.{Tied}
 use Rattle.surf_run.specs.Answering.{RunsOn}
 use Rattle.surf_run.specs.Causes.{EndCause, LineMoves, NoFall, RunShows, WritesWithin}
 use Rattle.surf_run.specs.Crash.{Acknowledged, Reached, Stands}
-use Rattle.surf_run.specs.Dialogue.{Dialogue, SoFar, line_bound}
+use Rattle.surf_run.specs.Dialogue.{AreBounded, Dialogue, SoFar, line_bound}
 use Rattle.surf_run.specs.Holding.{Held, with_newline}
 use Rattle.surf_run.specs.Kind.{Kind}
 use Rattle.surf_run.specs.Outcome.{EndsWith, TakenPast}
@@ -42,7 +42,7 @@ pub record Served (kind : Kind) (start : State) (base : ℕ) (bytes kept : Bytes
   pub tied : Tied kind.spelling kind.filter_bytes store now w
   pub stand : Stands kind now w
   pub counts : NoFall first w
-  pub reads : w.seen.reads ≤ base + most
+  pub reads : AreBounded lines → w.seen.reads ≤ base + most
   pub pages : now.pages ≡ start.pages
   pub writes : WritesWithin (page_bytes * start.pages) first w
 
@@ -74,7 +74,7 @@ pub record Broken (kind : Kind) (past : ℕ) (start : State) (base : ℕ) (bytes
   pub reply : Reply
   pub last : State
   pub step : Step (HasCause first w) kind.filter_bytes now (asked_here line) reply last
-  pub reads : w.seen.reads ≤ base + most + line_bound now (asked_here line)
+  pub reads : AreBounded (lines ++ line ∷ []) → w.seen.reads ≤ base + most + line_bound now (asked_here line)
   pub prefix : SaysPrefix (text_of reply) (first.beside.said ++ text) w.beside.said
   pub stands : reply ≢ Device → Stands kind last w
   pub history : During (Acknowledged (HasCause first w) kind start (lines ++ line ∷ []) first.beside.said w.beside.said) first w
@@ -85,9 +85,13 @@ abbrev pub EndsPast : Kind → ℕ → Reply → State → ℕ → Bytes → Wor
 EndsPast kind past reply start base bytes first w =
     (lines : List Bytes) × (line : Bytes) × TakenPast past bytes (lines ++ line ∷ []) × EndsWith kind reply start base lines line first w
 
+-- the same of a reply that ends in `device`
+abbrev pub EndsPastAtDevice : Kind → ℕ → State → ℕ → Bytes → World → World → Type 0
+EndsPastAtDevice kind past start base bytes first w = (reply : Reply) × (turn_of reply ≡ Over AtDevice) × EndsPast kind past reply start base bytes first w
+
 abbrev pub EndedBy : Kind → ℕ → ℕ → State → ℕ → Bytes → World → World → Type 0
 EndedBy kind past status start base bytes first w =
-    ((status ≡ 4) × Closed kind AtDevice start bytes first w × EndsPast kind past Device start base bytes first w)
+    ((status ≡ 4) × Closed kind AtDevice start bytes first w × EndsPastAtDevice kind past start base bytes first w)
     ⊎ ((status ≡ 6) × Broken kind past start base bytes first w)
 
 -- how a line ended; behind the last line that was answered stand less bytes than these

@@ -7,8 +7,9 @@
 //! blocks are read than the filters of the tables admit. [`serve_line`] answers one line over an opened store.
 //!
 //! A put makes two writes and two syncs, and where it does not fit the log a flush before; a get reads at most one block of each
-//! table that admits its key. All memory but the store's is taken before the first line. Not for more than one input, and no
-//! merge runs yet.
+//! table that admits its key, and a closed seek one of each table that admits its range and one more for each entry of a deleted key
+//! that it passes. A range says its pairs as they are found, in pieces of the reply buffer. All memory but the store's is taken
+//! before the first line. Not for more than one input, and no merge runs yet.
 //!
 //! ```text
 //! let status = run(alloc, words, &mut outside);   // words: `format --pages 512 --variant base`, or `serve`

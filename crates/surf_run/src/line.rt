@@ -1,22 +1,23 @@
 //! A line, answered.
-ghost use Rattle.std.specs.Prelude.{◌≡◌, ◌≢◌, ◌⊎◌, ◌<◌, false, length, IfSome, IsTrue, Some, None};
+ghost use Rattle.std.specs.Prelude.{◌≡◌, ◌≢◌, ◌⊎◌, ◌<◌, false, length, take, IfSome, IsTrue, Some, None};
 ghost use Rattle.std.specs.Option.{option_map};
-ghost use Rattle.line_model.specs.Requests.{Bad, Del, Estimate, Explain, Flush, Get, Put, Quit};
-ghost use Rattle.line_model.specs.Replies.{Reply as LineReply};
+ghost use Rattle.line_model.specs.Requests.{Bad, Count, Del, Estimate, Explain, Flush, Get, Put, Quit, Range, Seek};
+ghost use Rattle.entry_model.specs.Entries.{IsEntry, entry_of};
+ghost use Rattle.line_model.specs.Replies.{Reply as LineReply, found};
 ghost use Rattle.outside.specs.Streams.{SayMoves};
 ghost use Rattle.store_commands.specs.Answered.{IsAskedHere, asked_here};
 ghost use Rattle.store_commands.specs.Asks.{asked};
 ghost use Rattle.store_commands.specs.Spoken.{spoken};
 ghost use Rattle.store_core.specs.Answers.{told, told_change, told_limit};
-ghost use Rattle.surf_run.specs.declared.end.LineEnd.TheVariants.{End};
+ghost use Rattle.surf_run.specs.declared.end.LineEnd.TheVariants.{End, Next};
 ghost use Rattle.surf_run.specs.Answering.{AnswersLine};
 ghost use Rattle.surf_run.specs.Causes.{SayFailed};
 ghost use Rattle.surf_run.specs.Kind.{filter_kind};
-ghost use Rattle.surf_run.specs.Saying.{IsShort, Says, end_by};
+ghost use Rattle.surf_run.specs.Saying.{IsShort, Says, SaysBehind, end_by};
 ghost use Rattle.surf_run.specs.Refusals.{end_of_change, end_of_refusal};
 
 use crate::end::LineEnd;
-use crate::saying::say_reply;
+use crate::saying::{add_reply, say_behind, say_reply};
 use filter_api::RangeFilter;
 use outside::Outside;
 use store_commands::{BadLine, Reply, Request, Scratch, parse_answered};
@@ -77,6 +78,25 @@ fn say_refusal<W: Outside>(out: &mut W, buffer: &mut [u8], why: StoreError) -> L
 {
     match reply_of(why) {
         Some(reply) => say_reply(out, buffer, &reply, end_of(why)),
+        None => unreachable!(),
+    }
+}
+
+// Says what waits in the buffer, and why a call was refused behind it.
+fn say_refusal_behind<W: Outside>(
+    out: &mut W,
+    buffer: &mut [u8],
+    used: usize,
+    why: StoreError,
+) -> LineEnd
+    requires room { used < length buffer.old }
+    requires told { told why ≢ None }
+    ensures says { (reply : LineReply) → IsTrue W.tells_output → told why ≡ Some reply → SaysBehind (take used buffer.old) (end_by reply) reply result (W.world out.old) (W.world out.new) }
+    ensures ends { (result ≡ end_of_refusal why) ⊎ ((result ≡ End 6) × SayFailed (W.world out.old) (W.world out.new)) }
+    ensures moves { SayMoves (W.world out.old) (W.world out.new) }
+{
+    match reply_of(why) {
+        Some(reply) => say_behind(out, buffer, used, &reply, end_of(why)),
         None => unreachable!(),
     }
 }
@@ -158,6 +178,99 @@ fn get_line<F: RangeFilter, W: Outside>(
     match store.get(out, key) {
         Ok(Some(value)) => say_reply(out, buffer, &Reply::Value(value), LineEnd::Next),
         Ok(None) => say_reply(out, buffer, &Reply::Missing, LineEnd::Next),
+        Err(why) => say_refusal(out, buffer, why),
+    }
+}
+
+// Says a pair that was found, or that there is none.
+fn say_found<W: Outside>(out: &mut W, buffer: &mut [u8], pair: Option<(&[u8], &[u8])>) -> LineEnd
+    requires buffer { 0 < length buffer.old }
+    requires sound { IfSome pair (λ p. IsEntry (entry_of p.0.now (Some p.1.now))) }
+    ensures says { IsTrue W.tells_output → Says Next (found (option_map (λ p. (p.0.now, p.1.now)) pair.entry)) result (W.world out.old) (W.world out.new) }
+    ensures cause { (result ≡ Next) ⊎ ((result ≡ End 6) × SayFailed (W.world out.old) (W.world out.new)) }
+    ensures moves { SayMoves (W.world out.old) (W.world out.new) }
+{
+    match pair {
+        Some((key, value)) => say_reply(out, buffer, &Reply::At { key, value }, LineEnd::Next),
+        None => say_reply(out, buffer, &Reply::Missing, LineEnd::Next),
+    }
+}
+
+fn seek_line<F: RangeFilter, W: Outside>(
+    store: &Store<F>,
+    buffer: &mut [u8],
+    out: &mut W,
+    lo: &[u8],
+    hi: Option<&[u8]>,
+) -> LineEnd
+    requires buffer { 0 < length buffer.old }
+    requires running { store.now.stopped ≡ false }
+    ensures { AnswersLine (filter_kind F.spelling F.built_cutoff) W.tells W.tells_output (Seek lo.now (option_map (λ bound. bound.now) hi.entry)) result store.now store.now (W.world out.old) (W.world out.new) }
+{
+    store.whole_law();
+    match store.seek(lo, hi) {
+        Ok(scan) => {
+            let mut scan = scan;
+            match scan.advance(out) {
+                Ok(_) => say_found(out, buffer, scan.pair()),
+                Err(why) => say_refusal(out, buffer, why),
+            }
+        }
+        Err(why) => say_refusal(out, buffer, why),
+    }
+}
+
+// Pairs are laid out in the buffer as they are found, and said whenever it is full.
+fn range_line<F: RangeFilter, W: Outside>(
+    store: &Store<F>,
+    buffer: &mut [u8],
+    out: &mut W,
+    lo: &[u8],
+    hi: &[u8],
+    most: u64,
+) -> LineEnd
+    requires buffer { 0 < length buffer.old }
+    requires running { store.now.stopped ≡ false }
+    ensures { AnswersLine (filter_kind F.spelling F.built_cutoff) W.tells W.tells_output (Range lo.now hi.now most) result store.now store.now (W.world out.old) (W.world out.new) }
+{
+    store.whole_law();
+    let mut scan = match store.range(lo, hi, most) {
+        Ok(scan) => scan,
+        Err(why) => return say_refusal(out, buffer, why),
+    };
+    let mut count = 0u64;
+    let mut used = 0;
+    loop {
+        match scan.advance(out) {
+            Ok(true) => {}
+            Ok(false) => return say_behind(out, buffer, used, &Reply::End(count), LineEnd::Next),
+            Err(why) => return say_refusal_behind(out, buffer, used, why),
+        }
+        let Some((key, value)) = scan.pair() else {
+            unreachable!()
+        };
+        match add_reply(out, buffer, used, &Reply::At { key, value }) {
+            Ok(waits) => used = waits,
+            Err(_) => return LineEnd::End(6),
+        }
+        count += 1;
+    }
+}
+
+fn count_line<F: RangeFilter, W: Outside>(
+    store: &Store<F>,
+    buffer: &mut [u8],
+    out: &mut W,
+    lo: &[u8],
+    hi: &[u8],
+) -> LineEnd
+    requires buffer { 0 < length buffer.old }
+    requires running { store.now.stopped ≡ false }
+    ensures { AnswersLine (filter_kind F.spelling F.built_cutoff) W.tells W.tells_output (Count lo.now hi.now) result store.now store.now (W.world out.old) (W.world out.new) }
+{
+    store.whole_law();
+    match store.count(out, lo, hi) {
+        Ok(count) => say_reply(out, buffer, &Reply::Counted(count), LineEnd::Next),
         Err(why) => say_refusal(out, buffer, why),
     }
 }
@@ -247,6 +360,9 @@ fn answer_request<F: RangeFilter, W: Outside>(
         Request::Put { key, value } => put_line(store, buffer, out, key, value),
         Request::Del { key } => del_line(store, buffer, out, key),
         Request::Get { key } => get_line(store, buffer, out, key),
+        Request::Seek { lo, hi } => seek_line(store, buffer, out, lo, hi),
+        Request::Range { lo, hi, n } => range_line(store, buffer, out, lo, hi, n as u64),
+        Request::Count { lo, hi } => count_line(store, buffer, out, lo, hi),
         Request::Estimate { lo, hi } => estimate_line(store, buffer, out, lo, hi),
         Request::Explain { key } => explain_line(store, buffer, out, key),
         Request::Flush => flush_line(store, buffer, out),

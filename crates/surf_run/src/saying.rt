@@ -1,12 +1,12 @@
 //! Replies and last lines, said whole.
-ghost use Rattle.std.specs.Prelude.{◌≡◌, ◌≢◌, ◌⊎◌, ◌<◌, ◌++◌, length, IsTrue, OnOk, OnErr};
+ghost use Rattle.std.specs.Prelude.{◌≡◌, ◌≢◌, ◌⊎◌, ◌<◌, ◌++◌, length, take, IfOk, IsTrue, OnOk, OnErr};
 ghost use Rattle.disk_trait.specs.World.{Rose};
 ghost use Rattle.outside.specs.Streams.{SayMoves, SaysPrefix};
 ghost use Rattle.line_model.specs.Replies.{text_of};
 ghost use Rattle.store_commands.specs.Spoken.{spoken};
 ghost use Rattle.surf_run.specs.declared.end.LineEnd.TheVariants.{End};
 ghost use Rattle.surf_run.specs.Causes.{SayFailed, LineMoves};
-ghost use Rattle.surf_run.specs.Saying.{IsShort, Says};
+ghost use Rattle.surf_run.specs.Saying.{IsShort, Says, SaysBehind};
 
 use crate::end::LineEnd;
 use outside::{Outside, SayFault, say_all};
@@ -54,6 +54,59 @@ pub fn say_reply<W: Outside>(
     ensures moves { SayMoves (W.world out.old) (W.world out.new) }
 {
     match say_pieces(out, buffer, reply) {
+        Ok(()) => end,
+        Err(_) => LineEnd::End(6),
+    }
+}
+
+/// Lays a reply out behind the `used` bytes of the buffer that wait to be said, says the buffer whenever it is full, and answers
+/// how many bytes wait now.
+pub fn add_reply<W: Outside>(
+    out: &mut W,
+    buffer: &mut [u8],
+    used: usize,
+    reply: &Reply<'_>,
+) -> Result<usize, SayFault>
+    requires room { used < length buffer.old }
+    requires short { IsShort reply.now }
+    ensures said { IsTrue W.tells_output → IfOk result (λ waits. (W.world out.new).beside.said ++ take waits buffer.new ≡ (W.world out.old).beside.said ++ (take used buffer.old ++ text_of (spoken reply.now))) }
+    ensures prefix { IsTrue W.tells_output → SaysPrefix (take used buffer.old ++ text_of (spoken reply.now)) (W.world out.old).beside.said (W.world out.new).beside.said }
+    ensures room { IfOk result (λ waits. waits < length buffer.new) }
+    ensures moves { SayMoves (W.world out.old) (W.world out.new) }
+    ensures cause { OnErr result (SayFailed (W.world out.old) (W.world out.new)) }
+{
+    let mut used = used;
+    let mut from = 0;
+    loop {
+        let n = piece(reply, from, &mut buffer[used..]);
+        used += n;
+        if used < buffer.len() {
+            return Ok(used);
+        }
+        say_all(out, buffer)?;
+        from += n;
+        used = 0;
+    }
+}
+
+/// Says what waits in the buffer and a reply behind it, and answers this end, or 6 where it cannot be said whole.
+pub fn say_behind<W: Outside>(
+    out: &mut W,
+    buffer: &mut [u8],
+    used: usize,
+    reply: &Reply<'_>,
+    end: LineEnd,
+) -> LineEnd
+    requires room { used < length buffer.old }
+    requires short { IsShort reply.now }
+    ensures says { IsTrue W.tells_output → SaysBehind (take used buffer.old) end (spoken reply.now) result (W.world out.old) (W.world out.new) }
+    ensures cause { (result ≡ end) ⊎ ((result ≡ End 6) × SayFailed (W.world out.old) (W.world out.new)) }
+    ensures moves { SayMoves (W.world out.old) (W.world out.new) }
+{
+    let Ok(waits) = add_reply(out, buffer, used, reply) else {
+        return LineEnd::End(6);
+    };
+    match say_all(out, &buffer[..waits]) {
         Ok(()) => end,
         Err(_) => LineEnd::End(6),
     }

@@ -106,7 +106,7 @@ fn serve_store<F: RangeFilter, W: Outside>(alloc: Global, store: Store<F>, out: 
 pub(crate) fn open_and_serve<F: RangeFilter, W: Outside>(alloc: Global, out: &mut W) -> u8
     // Where each image that a crash might have left stands for this state: the lines that were taken got the replies of its
     // map, what a crash may leave at each moment has every line that was acknowledged by then, and no more blocks were read
-    // than the opening and the gets may read.
+    // than the opening, the gets and the closed seeks may read, where no other line reads.
     ensures outcome { (s : State) → IsTrue W.tells → IsTrue W.tells_input → IsTrue W.tells_output → Now (IsStateOf F.spelling s) (W.world out.old)
         → Ends (filter_kind F.spelling F.built_cutoff) result s (W.world out.old) (W.world out.new) }
     // Where what the device reads as stands for this state: the same from the opening on.

@@ -7,6 +7,7 @@ use Rattle.line_model.specs.Requests.{Get}
 use Rattle.map_model.specs.SortedMap.{get}
 use Rattle.state_model.specs.View.{state_map}
 use Rattle.store_core.specs.Answers.{HasCause}
+use Rattle.store_core.specs.Getting.{IsShown}
 use Rattle.surf_run.specs.Kind.{filter_kind}
 use Rattle.surf_run.specs.declared.end.LineEnd.TheVariants.{Next}
 use Rattle.surf_run.proofs.Calms.{get_cause, get_told, got_step, read_answers, refused_ends, said_cause, says_damage, still_next, tied_buffer}
@@ -31,7 +32,7 @@ returns-in-Ok-Some g c =
     let writes = within_still (page_bytes * s.pages) a mid moves.held moves.time in
     let value = c.in-Ok-Some.value.now in
     let found = subst (λ (o : Option (Bor (List ℕ))). option_map (λ v. v.now) o ≡ get (state_map s) c.args.key.now) c.in-Ok-Some.field-0-is (c.in-Ok-Some.ensures.answer s tells tied) in
-    still_next kind s (Get c.args.key.now) after a mid b moves.beside moves.time held stand (c.get.ensures.bounded s tells tied) writes (g.met.W.Outside.said_now c.args.out.now) (g.met.W.Outside.said_now c.get.new.disk) c.say_reply.ensures.moves
+    still_next kind s (Get c.args.key.now) after a mid b moves.beside moves.time held stand (λ _. c.get.ensures.bounded s tells tied) writes (g.met.W.Outside.said_now c.args.out.now) (g.met.W.Outside.said_now c.get.new.disk) c.say_reply.ensures.moves
     (Value value) c.say_reply.result (got_step (HasCause a mid) kind.filter_bytes s c.args.key.now (Some value) c.in-Ok-Some.ensures.refused.1 found) refl
     (c.say_reply.ensures.says output (value_short kind.filter_bytes s c.args.key.now value tied.sound found)))
     (said_cause c.say_reply.result Next a mid b c.say_reply.ensures.cause _ tt (line_read (length c.args.store.now.tables) a mid c.get.ensures.moves).counts)
@@ -50,7 +51,7 @@ returns-in-Ok-None g c =
     let stand = tied_stands kind c.args.store.now s a c.whole_law.ensures.slot tied in
     let writes = within_still (page_bytes * s.pages) a mid moves.held moves.time in
     let found = subst (λ (o : Option (Bor (List ℕ))). option_map (λ v. v.now) o ≡ get (state_map s) c.args.key.now) c.in-Ok-None.field-0-is (c.in-Ok-None.ensures.answer s tells tied) in
-    still_next kind s (Get c.args.key.now) after a mid b moves.beside moves.time held stand (c.get.ensures.bounded s tells tied) writes (g.met.W.Outside.said_now c.args.out.now) (g.met.W.Outside.said_now c.get.new.disk) c.say_reply-in-Ok-None.ensures.moves
+    still_next kind s (Get c.args.key.now) after a mid b moves.beside moves.time held stand (λ _. c.get.ensures.bounded s tells tied) writes (g.met.W.Outside.said_now c.args.out.now) (g.met.W.Outside.said_now c.get.new.disk) c.say_reply-in-Ok-None.ensures.moves
     Missing c.say_reply-in-Ok-None.result (got_step (HasCause a mid) kind.filter_bytes s c.args.key.now None c.in-Ok-None.ensures.refused.1 found) refl (c.say_reply-in-Ok-None.ensures.says output tt))
     (said_cause c.say_reply-in-Ok-None.result Next a mid b c.say_reply-in-Ok-None.ensures.cause _ tt (line_read (length c.args.store.now.tables) a mid c.get.ensures.moves).counts)
 
@@ -72,4 +73,5 @@ returns-in-Err g c =
     (λ reply is. c.say_refusal.ensures.says reply output is))
     (get_cause _ c.args.key.now c.in-Err.why c.say_refusal.result a mid b (get_told c.in-Err.why c.args.store.now.stopped c.args.key.now a mid c.requires.running c.in-Err.ensures.refused) c.say_refusal.ensures.ends
     (line_read (length c.args.store.now.tables) a mid c.get.ensures.moves).counts (no_fall_say mid b c.say_refusal.ensures.moves)
-    (λ ends five told. says_damage c.args.store.now.tables c.args.key.now c.in-Err.why c.say_refusal.result a.seen.held mid b (c.in-Err.ensures.shown told.0) c.get.ensures.moves.held c.say_refusal.ensures.moves.seen (λ reply is. c.say_refusal.ensures.says reply told.1 is) ends five))
+    (λ ends five told. says_damage c.args.store.now.tables (Get c.args.key.now) c.in-Err.why c.say_refusal.result a.seen.held mid b
+    (λ d is. subst (IsShown c.args.store.now.tables c.args.key.now a.seen.held) is (c.in-Err.ensures.shown told.0)) c.get.ensures.moves.held c.say_refusal.ensures.moves.seen (λ reply is. c.say_refusal.ensures.says reply told.1 is) ends five))

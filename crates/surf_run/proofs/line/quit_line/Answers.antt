@@ -16,7 +16,7 @@ returns g c = record {
   answered = λ s tells output tied.
       let kind = (filter_kind g.F.RangeFilter.spelling g.F.RangeFilter.built_cutoff) in
       let a = g.W.Disk.world c.args.out.now in
-      still_quit kind s Quit c.args.store.now a a (g.W.Disk.world c.say_reply.new.out) refl (reads_none 0 a).time tied (tied_stands kind c.args.store.now s a c.whole_law.ensures.slot tied) (omega arith)
+      still_quit kind s Quit c.args.store.now a a (g.W.Disk.world c.say_reply.new.out) refl (reads_none 0 a).time tied (tied_stands kind c.args.store.now s a c.whole_law.ensures.slot tied) (λ _. omega arith)
       (within_none (page_bytes * s.pages) a) (g.met.W.Outside.said_now c.args.out.now) (g.met.W.Outside.said_now c.args.out.now) c.say_reply.ensures.moves
       c.say_reply.result (quit_step (HasCause a a) kind.filter_bytes s) (c.say_reply.ensures.says output tt);
   running =
