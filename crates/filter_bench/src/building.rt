@@ -1,6 +1,7 @@
 //! The trie of keys, and how long its making takes.
 ghost use Rattle.filter_model.specs.Keys.{IsKeyList};
 
+use crate::boxes::boxed;
 use crate::report::{Least, ROUNDS, Watch};
 use anyhow::{Result, bail};
 use filter_trie::{Trie, build};
@@ -17,7 +18,7 @@ pub fn build_rounds(
     alloc: Global,
     keys: &KeyList,
     ratio: u16,
-) -> Result<Trie<Global>>
+) -> Result<Box<Trie<Global>>>
     requires { IsKeyList keys.now }
 {
     let mut whole = Least::new();
@@ -41,7 +42,7 @@ fn build_timed(
     ratio: u16,
     whole: &mut Least,
     planned: &mut Least,
-) -> Result<Trie<Global>>
+) -> Result<Box<Trie<Global>>>
     requires { IsKeyList keys.now }
 {
     let count = keys.len() as u64;
@@ -54,7 +55,7 @@ fn build_timed(
         bail!("a cutoff above the height");
     }
     let last = Watch::start(rt)?;
-    let trie = build(alloc, keys, spans, &levels, 0, 0, dense)?;
+    let trie = boxed(alloc, build(alloc, keys, spans, &levels, 0, 0, dense)?)?;
     planned.keep(last.stop(rt, count)?);
     whole.keep(first.stop(rt, count)?);
     Ok(trie)

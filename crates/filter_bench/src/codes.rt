@@ -1,4 +1,5 @@
 //! A trie's image, written and read.
+use crate::boxes::boxed;
 use crate::report::{Least, ROUNDS, Watch};
 use anyhow::{Result, bail};
 use filter_codec::{decode, encode};
@@ -38,15 +39,17 @@ fn decode_timed(
     image: &[u8],
 ) -> Result<f64> {
     let watch = Watch::start(rt)?;
-    let decoded = decode(alloc, image);
+    let again = read(alloc, image)?;
     let taken = watch.stop(rt, image.len() as u64)?;
-    match decoded {
-        Ok(again) => {
-            if again.leaves() != trie.leaves() {
-                bail!("a trie of other leaves is read");
-            }
-        }
-        Err(_) => bail!("an image is not read"),
+    if again.leaves() != trie.leaves() {
+        bail!("a trie of other leaves is read");
     }
     Ok(taken)
+}
+
+fn read(alloc: Global, image: &[u8]) -> Result<Box<Trie<Global>>> {
+    match decode(alloc, image) {
+        Ok(trie) => Ok(boxed(alloc, trie)?),
+        Err(_) => bail!("an image is not read"),
+    }
 }

@@ -17,6 +17,7 @@
 ghost use Rattle.filter_model.specs.Keys.{IsKeyList};
 
 mod bloom;
+mod boxes;
 mod building;
 mod codes;
 mod cursors;
@@ -34,6 +35,7 @@ mod texts;
 mod variants;
 
 use anyhow::{Result, bail};
+use boxes::boxed;
 use building::build_rounds;
 use codes::code_rounds;
 use cursors::cursor_rounds;
@@ -123,7 +125,7 @@ fn measure_keys(
     let trie = build_rounds(rt, alloc, keys, asked.ratio)?;
     code_rounds(rt, alloc, &trie)?;
     cursor_rounds(rt, alloc, &trie)?;
-    let search = StubSearch::new(alloc, keys)?;
+    let search = boxed(alloc, StubSearch::new(alloc, keys)?)?;
     let absent = draw_absent(alloc, asked.kind, present, keys, &search, numbers)?;
     ask_ranges(rt, alloc, asked.kind, "present", &trie, present)?;
     ask_ranges(rt, alloc, asked.kind, "absent", &trie, &absent)?;

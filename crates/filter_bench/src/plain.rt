@@ -1,6 +1,7 @@
 //! A plain filter of the same keys, which looks at all its leaves for each answer; so it is asked for few keys.
 ghost use Rattle.filter_model.specs.Keys.{IsKeyList};
 
+use crate::boxes::boxed;
 use crate::report::{Watch, share};
 use crate::texts::Texts;
 use anyhow::{Result, bail};
@@ -33,7 +34,7 @@ pub fn plain_round(
         bail!("no settings");
     }
     let watch = Watch::start(rt)?;
-    let filter = PlainFilter::build(alloc, keys, SETTINGS)?;
+    let filter = boxed(alloc, PlainFilter::build(alloc, keys, SETTINGS)?)?;
     let taken = watch.stop(rt, keys.len() as u64)?;
     println!(rt; "plain: build {:.2} million keys a second", 1e3 / taken)?;
     print_size(rt, alloc, &filter)?;

@@ -1,5 +1,6 @@
 //! The trie, the Bloom filter and the search, asked in turn.
 use crate::bloom::Bloom;
+use crate::boxes::boxed;
 use crate::finder::{Found, ask};
 use crate::levels::levels;
 use crate::report::{Least, ROUNDS, Watch, share};
@@ -16,9 +17,9 @@ use std::time::CpuClock;
 /// All that is asked, over the same keys.
 #[derive(Drop)]
 pub struct Finders {
-    trie: Trie<Global>,
-    bloom: Bloom,
-    search: StubSearch,
+    trie: Box<Trie<Global>>,
+    bloom: Box<Bloom>,
+    search: Box<StubSearch>,
 }
 
 impl Finders {
@@ -26,10 +27,10 @@ impl Finders {
     pub fn new(
         alloc: Global,
         keys: &KeyList,
-        trie: Trie<Global>,
-        search: StubSearch,
+        trie: Box<Trie<Global>>,
+        search: Box<StubSearch>,
     ) -> Result<Finders, AllocError> {
-        let bloom = Bloom::new(alloc, keys)?;
+        let bloom = boxed(alloc, Bloom::new(alloc, keys)?)?;
         Ok(Finders {
             trie,
             bloom,
@@ -67,13 +68,13 @@ fn round(
 ) -> Result<(Found, Found)> {
     let count = queries.len() as u64;
     let watch = Watch::start(rt)?;
-    let walked = ask(&finders.trie, queries);
+    let walked = ask(&*finders.trie, queries);
     times.walk.keep(watch.stop(rt, count)?);
     let watch = Watch::start(rt)?;
-    let passed = ask(&finders.bloom, queries);
+    let passed = ask(&*finders.bloom, queries);
     times.bloom.keep(watch.stop(rt, count)?);
     let watch = Watch::start(rt)?;
-    let searched = ask(&finders.search, queries);
+    let searched = ask(&*finders.search, queries);
     times.search.keep(watch.stop(rt, count)?);
     if walked.count != searched.count {
         bail!("walks and searches do not agree");

@@ -4,6 +4,7 @@
 ghost use Rattle.filter_model.specs.Keys.{IsKeyList};
 ghost use Rattle.filter_api.specs.Ranges.{InRange};
 
+use crate::boxes::boxed;
 use crate::finder::{Finder, ask};
 use crate::ranges::range_rounds;
 use crate::report::{Least, ROUNDS, Watch, share};
@@ -75,7 +76,7 @@ fn build_rounds(
     keys: &KeyList,
     name: &str,
     settings: Settings,
-) -> Result<SurfFilter<Global>>
+) -> Result<Box<SurfFilter<Global>>>
     requires keys { IsKeyList keys.now }
     requires settings { InRange settings }
 {
@@ -97,12 +98,12 @@ fn build_timed(
     keys: &KeyList,
     settings: Settings,
     least: &mut Least,
-) -> Result<SurfFilter<Global>>
+) -> Result<Box<SurfFilter<Global>>>
     requires keys { IsKeyList keys.now }
     requires settings { InRange settings }
 {
     let watch = Watch::start(rt)?;
-    let filter = SurfFilter::build(alloc, keys, settings)?;
+    let filter = boxed(alloc, SurfFilter::build(alloc, keys, settings)?)?;
     least.keep(watch.stop(rt, keys.len() as u64)?);
     Ok(filter)
 }

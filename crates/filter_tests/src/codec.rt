@@ -3,7 +3,7 @@
 use super::images::{SPARSE, dense_image};
 use super::keys::{drawn_list, list_of_words, step};
 use super::levels::{byte_keys, pair_keys};
-use super::tries::{base_trie, drawn_trie, some_trie, trie_with};
+use super::tries::{base_trie, boxed, drawn_trie, some_trie, trie_with};
 use filter_api::{DecodeError, FilterFault};
 use filter_codec::{decode, encode};
 use filter_trie::Trie;
@@ -40,13 +40,19 @@ pub(crate) fn check_image(
     Ok(())
 }
 
+/// The trie that an image spells.
+pub(crate) fn read(alloc: Global, image: &[u8]) -> Result<Box<Trie<Global>>, DecodeError> {
+    let trie = decode(alloc, image)?;
+    Ok(boxed(alloc, trie)?)
+}
+
 /// Why bytes are refused, or `None` where a trie is read of them, which has this image.
 pub(crate) fn fault_of(
     rt: &impl Abort,
     alloc: Global,
     bytes: &[u8],
 ) -> Result<Option<FilterFault>, AllocError> {
-    match decode(alloc, bytes) {
+    match read(alloc, bytes) {
         Ok(trie) => {
             check_image(rt, alloc, &trie, bytes)?;
             Ok(None)
@@ -77,7 +83,7 @@ fn check_again(
     image: &[u8],
     keys: &KeyList,
 ) -> Result<(), Fail> {
-    let again = decode(alloc, image)?;
+    let again = read(alloc, image)?;
     check_image(rt, alloc, &again, image)?;
     assert!(rt; are_alike(&again, trie));
     check_walks(rt, &again, trie, keys);

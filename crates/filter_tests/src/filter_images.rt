@@ -2,6 +2,7 @@
 
 use super::filters::{filter_of_words, is_refused, spelled};
 use super::images::{SPARSE, dense_image};
+use super::tries::boxed;
 use plain_filter::PlainFilter;
 use std::alloc::Global;
 use std::process::Abort;
@@ -11,7 +12,8 @@ use surf_filter::SurfFilter;
 // The spelling of the filter of a and ab, which is no plain one.
 fn check_image(rt: &impl Abort, alloc: Global, ratio: u16, image: &[u8]) -> Result<(), Fail> {
     let filter: SurfFilter<Global> = filter_of_words(alloc, &[b"a", b"ab"], 0, 0, ratio)?;
-    let bytes = spelled(alloc, &filter)?;
+    let filter = boxed(alloc, filter)?;
+    let bytes = spelled(alloc, &*filter)?;
     assert!(rt; bytes.as_slice() == image);
     assert!(rt; is_refused::<PlainFilter>(alloc, image, 0, 1));
     Ok(())

@@ -3,7 +3,7 @@
 use super::bounds::bounds_near;
 use super::filters::{between, filter_of, least, spelled};
 use super::keys::{drawn_list, step};
-use super::tries::{plain_of, stubs_of};
+use super::tries::{boxed, plain_of, stubs_of};
 use filter_api::{RangeFilter, Settings};
 use key_base::KeyList;
 use plain_filter::PlainFilter;
@@ -106,7 +106,8 @@ fn check_again(
 ) -> Result<(), Fail> {
     let bytes = spelled(alloc, filter)?;
     let again = SurfFilter::decode_in(alloc, bytes.as_slice())?;
-    check_filter(rt, alloc, &again, plain, bounds)
+    let again = boxed(alloc, again)?;
+    check_filter(rt, alloc, &*again, plain, bounds)
 }
 
 fn check_ratio(
@@ -124,7 +125,8 @@ fn check_ratio(
         ratio,
     };
     let filter = filter_of(alloc, keys, settings)?;
-    check_filter(rt, alloc, &filter, plain, bounds)?;
+    let filter = boxed(alloc, filter)?;
+    check_filter(rt, alloc, &*filter, plain, bounds)?;
     check_again(rt, alloc, &filter, plain, bounds)
 }
 
@@ -156,11 +158,20 @@ fn check_set(
     real: bool,
 ) -> Result<(), Fail> {
     let keys = drawn_list(alloc, seed, MAX_KEYS)?;
-    let stubs = stubs_of(alloc, &keys)?;
-    let bounds = bounds_near(alloc, seed, BOUNDS, &keys, stubs.as_slice())?;
-    let (hash_bits, real_bits) = widths(seed, hash, real);
-    let plain = plain_of(alloc, &keys, hash_bits, real_bits)?;
-    check_ratios(rt, alloc, &keys, &plain, bounds.as_slice())
+    check_keys(rt, alloc, seed, &keys, widths(seed, hash, real))
+}
+
+fn check_keys(
+    rt: &impl Abort,
+    alloc: Global,
+    seed: u64,
+    keys: &KeyList,
+    widths: (u8, u8),
+) -> Result<(), Fail> {
+    let stubs = stubs_of(alloc, keys)?;
+    let bounds = bounds_near(alloc, seed, BOUNDS, keys, stubs.as_slice())?;
+    let plain = plain_of(alloc, keys, widths.0, widths.1)?;
+    check_ratios(rt, alloc, keys, &plain, bounds.as_slice())
 }
 
 fn check_sets(rt: &impl Abort, alloc: Global, hash: bool, real: bool) -> Result<(), Fail> {

@@ -2,6 +2,7 @@
 use super::keys::{some_keys, step};
 use super::plain::{END, Plain};
 use super::sections::{check_dense_sections, check_sparse_sections};
+use super::tries::boxed;
 use louds_dense::{Dense, DenseBuilder};
 use louds_sparse::{Sparse, SparseBuilder};
 use std::alloc::{AllocError, Global};
@@ -24,20 +25,47 @@ const ROOM: usize = 4_096;
 // More levels than a trie of the keys has.
 const LEVELS: usize = 8;
 
-fn dense_of(
+fn add_dense(
     rt: &impl Abort,
     alloc: Global,
     plain: &Plain,
     cut: usize,
-) -> Result<Dense<Global>, AllocError> {
-    let mut builder = DenseBuilder::new(alloc, cut)?;
+    builder: &mut DenseBuilder<Global>,
+) -> Result<(), AllocError> {
     for node in 0..cut {
         let branches = plain.bytes(alloc, node)?;
         assert!(rt; are_rising(&branches));
         assert!(rt; builder.room_left() > 0);
         builder.node(plain.ends(node), &branches);
     }
-    builder.finish()
+    Ok(())
+}
+
+fn dense_of(
+    rt: &impl Abort,
+    alloc: Global,
+    plain: &Plain,
+    cut: usize,
+) -> Result<Box<Dense<Global>>, AllocError> {
+    let mut builder = DenseBuilder::new(alloc, cut)?;
+    add_dense(rt, alloc, plain, cut, &mut builder)?;
+    boxed(alloc, builder.finish()?)
+}
+
+fn add_sparse(
+    rt: &impl Abort,
+    alloc: Global,
+    plain: &Plain,
+    cut: usize,
+    builder: &mut SparseBuilder<Global>,
+) -> Result<(), AllocError> {
+    for node in cut..plain.node_count() {
+        let branches = plain.bytes(alloc, node)?;
+        assert!(rt; are_rising(&branches));
+        assert!(rt; branches.len() < builder.room_left());
+        builder.node(plain.ends(node), &branches);
+    }
+    Ok(())
 }
 
 fn sparse_of(
@@ -45,15 +73,11 @@ fn sparse_of(
     alloc: Global,
     plain: &Plain,
     dense: &Dense<Global>,
-) -> Result<Sparse<Global>, AllocError> {
+) -> Result<Box<Sparse<Global>>, AllocError> {
     let mut builder = SparseBuilder::new(alloc, dense.counts(), ROOM)?;
-    for node in dense.node_count() as usize..plain.node_count() {
-        let branches = plain.bytes(alloc, node)?;
-        assert!(rt; are_rising(&branches));
-        assert!(rt; branches.len() < builder.room_left());
-        builder.node(plain.ends(node), &branches);
-    }
-    builder.finish()
+    let cut = dense.node_count() as usize;
+    add_sparse(rt, alloc, plain, cut, &mut builder)?;
+    boxed(alloc, builder.finish()?)
 }
 
 // The dense place of the branch at a plain place of a node.

@@ -2,6 +2,7 @@
 
 use super::filters::{filter_of, spelled};
 use super::levels::pair_keys;
+use super::tries::boxed;
 use filter_api::Settings;
 use linked_list_allocator::LocalHeap;
 use std::alloc::{AllocError, Allocator, Global};
@@ -21,7 +22,8 @@ const SETTINGS: Settings = Settings {
 fn image(alloc: Global) -> Result<Vec<u8>, Fail> {
     let keys = pair_keys(alloc, 256)?;
     let filter: SurfFilter<Global> = filter_of(alloc, &keys, SETTINGS)?;
-    let bytes = spelled(alloc, &filter)?;
+    let filter = boxed(alloc, filter)?;
+    let bytes = spelled(alloc, &*filter)?;
     Ok(bytes)
 }
 
@@ -38,10 +40,14 @@ fn check_counts<A: Allocator>(rt: &impl Abort, filter: &SurfFilter<A>) {
     assert!(rt; filter.tally(b"", b"\xFF\xFF") == 65_536);
 }
 
+fn check_filter<A: Allocator>(rt: &impl Abort, filter: &SurfFilter<A>) {
+    check_points(rt, filter);
+    check_counts(rt, filter);
+}
+
 fn check_read(rt: &impl Abort, heap: &LocalHeap, image: &[u8]) -> Result<(), Fail> {
     let filter = SurfFilter::decode_in(heap, image)?;
-    check_points(rt, &filter);
-    check_counts(rt, &filter);
+    check_filter(rt, &filter);
     Ok(())
 }
 

@@ -1,8 +1,7 @@
 //! Images of a and ab, whole and with bytes changed: what is read of them, or the first rule that they break.
 
-use super::codec::{check_image, fault_of};
+use super::codec::{check_image, fault_of, read};
 use filter_api::FilterFault;
-use filter_codec::decode;
 use filter_trie::{Trie, Walk};
 use std::alloc::{AllocError, Global};
 use std::process::Abort;
@@ -168,7 +167,7 @@ fn check_words(
     second: &[u8],
     other: &[u8],
 ) -> Result<(), Fail> {
-    let trie = decode(alloc, image)?;
+    let trie = read(alloc, image)?;
     check_walks(rt, &trie, first, second, other);
     check_image(rt, alloc, &trie, image)?;
     Ok(())

@@ -26,12 +26,20 @@ fn draw_set(rt: &impl Abort, alloc: Global, seed: u64) -> Result<(), Fail> {
     if keys.items.is_empty() {
         return Ok(());
     }
-    let plain = Plain::of(alloc, &keys)?;
     let list = list_of(alloc, &keys)?;
-    let height = trie_of(alloc, &list, 0)?.height();
+    check_cutoffs(rt, alloc, &list, &Plain::of(alloc, &keys)?)
+}
+
+fn check_cutoffs(
+    rt: &impl Abort,
+    alloc: Global,
+    keys: &KeyList,
+    plain: &Plain,
+) -> Result<(), Fail> {
+    let height = trie_of(alloc, keys, 0)?.height();
     for cutoff in 0..=height {
-        let trie = trie_of(alloc, &list, cutoff)?;
-        check_keys(rt, alloc, &list, &plain, &trie)?;
+        let trie = trie_of(alloc, keys, cutoff)?;
+        check_keys(rt, alloc, keys, plain, &trie)?;
     }
     Ok(())
 }

@@ -53,6 +53,11 @@ impl Plain {
             children: Vec::new(alloc),
             firsts: Vec::new(alloc),
         };
+        plain.add_nodes(alloc, keys)?;
+        Ok(plain)
+    }
+
+    fn add_nodes(&mut self, alloc: Global, keys: &Keys) -> Result<(), AllocError> {
         let mut queue = Vec::new(alloc);
         queue.push(Shared {
             from: 0,
@@ -63,12 +68,12 @@ impl Plain {
             match queue.get(next) {
                 Some(shared) => {
                     let shared = *shared;
-                    plain.add_node(keys, shared, &mut queue)?;
+                    self.add_node(keys, shared, &mut queue)?;
                 }
-                None => return Ok(plain),
+                None => return Ok(()),
             }
         }
-        Ok(plain)
+        Ok(())
     }
 
     fn add_node(

@@ -69,15 +69,19 @@ fn ranges_of_far_to_toy(rt: HostRuntime) -> Result<(), Fail> {
     Ok(())
 }
 
-fn check_back(rt: &impl Abort, alloc: Global, trie: &Trie<Global>) -> Result<(), Fail> {
-    let mut cursor = start_at(alloc, trie, b"fat")?;
+fn go_to_the_first(rt: &impl Abort, cursor: &mut FilterCursor<'_, Global>) {
     assert!(rt; cursor.leaf() == 2);
     assert!(rt; cursor.slot() == 0);
-    check_prev(rt, &mut cursor, true, 1);
-    check_next(rt, &mut cursor, true, 2);
-    check_prev(rt, &mut cursor, true, 1);
-    check_prev(rt, &mut cursor, true, 0);
-    check_prev(rt, &mut cursor, false, 0);
+    check_prev(rt, cursor, true, 1);
+    check_next(rt, cursor, true, 2);
+    check_prev(rt, cursor, true, 1);
+    check_prev(rt, cursor, true, 0);
+    check_prev(rt, cursor, false, 0);
+}
+
+fn check_back(rt: &impl Abort, alloc: Global, trie: &Trie<Global>) -> Result<(), Fail> {
+    let mut cursor = start_at(alloc, trie, b"fat")?;
+    go_to_the_first(rt, &mut cursor);
     Ok(())
 }
 

@@ -63,6 +63,20 @@ fn check_bounds(rt: &impl Abort, trie: &Trie<Global>, plain: &PlainFilter, bound
     }
 }
 
+fn check_found(
+    rt: &impl Abort,
+    cursor: &mut FilterCursor<'_, Global>,
+    trie: &Trie<Global>,
+    keys: &KeyList,
+    stubs: &[Stub],
+    first: Option<u32>,
+) {
+    assert!(rt; first == Some(cursor.leaf()));
+    let from = cursor.leaf() as usize;
+    go_on(rt, cursor, trie, keys, stubs, from);
+    go_back(rt, cursor, trie, keys, stubs);
+}
+
 fn check_cursor(
     rt: &impl Abort,
     alloc: Global,
@@ -74,12 +88,7 @@ fn check_cursor(
 ) -> Result<(), Fail> {
     match FilterCursor::start(alloc, trie, lo)? {
         None => assert!(rt; first.is_none()),
-        Some(mut cursor) => {
-            assert!(rt; first == Some(cursor.leaf()));
-            let from = cursor.leaf() as usize;
-            go_on(rt, &mut cursor, trie, keys, stubs, from);
-            go_back(rt, &mut cursor, trie, keys, stubs);
-        }
+        Some(mut cursor) => check_found(rt, &mut cursor, trie, keys, stubs, first),
     }
     Ok(())
 }

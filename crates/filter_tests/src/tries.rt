@@ -1,4 +1,7 @@
 //! Tries of keys, by stubs, spans and plan, and a plain filter of the same keys.
+//!
+//! They are handed out in boxes: a function that has a trie for a local costs the check ten times what one does that has a
+//! box of it, since each of its parts that owns memory is gone into at each step.
 ghost use Rattle.std.specs.Prelude.{◌<◌, ◌≤◌, length, IsTrue};
 ghost use Rattle.filter_model.specs.Keys.{IsKeyList};
 ghost use Rattle.filter_model.specs.Trie.{nodes};
@@ -20,6 +23,11 @@ pub(crate) const HASH_BITS: u8 = 32;
 /// How many real bits a leaf has.
 pub(crate) const REAL_BITS: u8 = 8;
 
+/// The value in a box.
+pub(crate) fn boxed<T: Drop>(alloc: Global, value: T) -> Result<Box<T>, AllocError> {
+    Ok(Box::new(alloc, value)?)
+}
+
 // The trie of keys with its first `cutoff` levels dense, `None` where it has not so many.
 fn planned(
     alloc: Global,
@@ -27,7 +35,7 @@ fn planned(
     hash_bits: u8,
     real_bits: u8,
     cutoff: u16,
-) -> Result<Option<Trie<Global>>, AllocError>
+) -> Result<Option<Box<Trie<Global>>>, AllocError>
     requires keys { IsKeyList keys.now }
     requires hash_width { hash_bits ≤ max_hash_bits }
     requires real_width { real_bits ≤ max_real_bits }
@@ -39,7 +47,7 @@ fn planned(
         return Ok(None);
     }
     let trie = build(alloc, keys, spans, &levels, hash_bits, real_bits, cutoff)?;
-    Ok(Some(trie))
+    Ok(Some(boxed(alloc, trie)?))
 }
 
 /// The same, of a list whose keys may not rise and of any widths, at most 32 of which are used.
@@ -49,7 +57,7 @@ pub(crate) fn trie_with(
     hash_bits: u8,
     real_bits: u8,
     cutoff: u16,
-) -> Result<Option<Trie<Global>>, Fail> {
+) -> Result<Option<Box<Trie<Global>>>, Fail> {
     if !are_keys(keys) {
         return Err(Fail::from("no key list"));
     }
@@ -60,7 +68,7 @@ pub(crate) fn trie_with(
 }
 
 /// A trie that is there.
-pub(crate) fn some_trie(trie: Option<Trie<Global>>) -> Result<Trie<Global>, Fail> {
+pub(crate) fn some_trie(trie: Option<Box<Trie<Global>>>) -> Result<Box<Trie<Global>>, Fail> {
     match trie {
         Some(trie) => Ok(trie),
         None => Err(Fail::from("a cutoff above the height")),
@@ -68,12 +76,20 @@ pub(crate) fn some_trie(trie: Option<Trie<Global>>) -> Result<Trie<Global>, Fail
 }
 
 /// The trie of keys with suffixes of 40 bits, of which so many levels are dense.
-pub(crate) fn trie_of(alloc: Global, keys: &KeyList, cutoff: u16) -> Result<Trie<Global>, Fail> {
+pub(crate) fn trie_of(
+    alloc: Global,
+    keys: &KeyList,
+    cutoff: u16,
+) -> Result<Box<Trie<Global>>, Fail> {
     some_trie(trie_with(alloc, keys, HASH_BITS, REAL_BITS, cutoff)?)
 }
 
 /// The same with no suffixes.
-pub(crate) fn base_trie(alloc: Global, keys: &KeyList, cutoff: u16) -> Result<Trie<Global>, Fail> {
+pub(crate) fn base_trie(
+    alloc: Global,
+    keys: &KeyList,
+    cutoff: u16,
+) -> Result<Box<Trie<Global>>, Fail> {
     some_trie(trie_with(alloc, keys, 0, 0, cutoff)?)
 }
 
@@ -83,7 +99,7 @@ pub(crate) fn drawn_trie(
     keys: &KeyList,
     seed: u64,
     cutoff: u16,
-) -> Result<Option<Trie<Global>>, Fail> {
+) -> Result<Option<Box<Trie<Global>>>, Fail> {
     let hash_bits = (seed >> 16) % 33;
     let real_bits = (seed >> 24) % 33;
     trie_with(alloc, keys, hash_bits as u8, real_bits as u8, cutoff)
@@ -104,7 +120,7 @@ pub(crate) fn plain_of(
     keys: &KeyList,
     hash_bits: u8,
     real_bits: u8,
-) -> Result<PlainFilter, Fail> {
+) -> Result<Box<PlainFilter>, Fail> {
     if !are_keys(keys) {
         return Err(Fail::from("no key list"));
     }
@@ -114,7 +130,7 @@ pub(crate) fn plain_of(
         ratio: 64,
     };
     let plain = PlainFilter::build(alloc, keys, settings)?;
-    Ok(plain)
+    Ok(boxed(alloc, plain)?)
 }
 
 /// Whether a trie has a node of this number.

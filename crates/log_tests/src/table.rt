@@ -1,4 +1,5 @@
 //! Tests of the memory table.
+use crate::boxes::{boxed, new_table};
 use entry_list::Entry;
 use mem_table::MemTable;
 use std::alloc::AllocError;
@@ -12,7 +13,7 @@ fn write(table: &mut MemTable, key: &[u8], value: Option<&[u8]>) -> Result<(), A
 
 #[test]
 fn the_newest_of_each_key_in_byte_order(rt: HostRuntime) -> Result<(), Fail> {
-    let mut table = MemTable::new(rt.alloc());
+    let mut table = new_table(rt.alloc())?;
     assert!(rt; table.is_empty());
     write(&mut table, b"b", Some(b"1"))?;
     write(&mut table, b"ab", Some(b""))?;
@@ -34,7 +35,7 @@ fn the_newest_of_each_key_in_byte_order(rt: HostRuntime) -> Result<(), Fail> {
 
 #[test]
 fn a_cursor_begins_with_its_bound(rt: HostRuntime) -> Result<(), Fail> {
-    let mut table = MemTable::new(rt.alloc());
+    let mut table = new_table(rt.alloc())?;
     write(&mut table, b"a", Some(b"1"))?;
     write(&mut table, b"b", None)?;
     write(&mut table, b"c", Some(b"3"))?;
@@ -54,7 +55,7 @@ fn filled_with_the_last_of_each_key(rt: HostRuntime) -> Result<(), Fail> {
     log.push(Entry::new(rt.alloc(), b"a", Some(b"2"))?)?;
     log.push(Entry::new(rt.alloc(), b"b", Some(b"3"))?)?;
     log.push(Entry::new(rt.alloc(), b"a", None)?)?;
-    let mut table = MemTable::fill(log)?;
+    let mut table = boxed(rt.alloc(), MemTable::fill(log)?)?;
     assert_eq!(rt; table.len(), 2);
     assert!(rt; matches!(table.get(b"a"), Some(None)));
     assert!(rt; matches!(table.get(b"b"), Some(Some(b"3"))));
@@ -68,7 +69,7 @@ fn filled_with_the_last_of_each_key(rt: HostRuntime) -> Result<(), Fail> {
 
 #[test]
 fn more_keys_than_a_chunk_has_places(rt: HostRuntime) -> Result<(), Fail> {
-    let mut table = MemTable::new(rt.alloc());
+    let mut table = new_table(rt.alloc())?;
     for i in 0..600u16 {
         let key = (i * 7 % 600).to_be_bytes();
         write(&mut table, &key, Some(b"v"))?;

@@ -1,4 +1,5 @@
 //! The log over a disk that crashes, replayed and put into a table.
+use crate::boxes::{boxed, failing_disk, new_disk};
 use disk_mem::{Choice, MemDisk};
 use disk_trait::{Disk, DiskFault, Op};
 use gate_log::{BUFFER_BYTES, Log, LogFault, record_need};
@@ -78,11 +79,16 @@ fn read_of(
     match Log::replay(alloc, disk, 0) {
         Ok((_, entries)) => {
             let count = entries.len();
-            let table = MemTable::fill(entries)?;
+            let table = boxed(alloc, MemTable::fill(entries)?)?;
             Ok((count, seen(table.get(one)), seen(table.get(other))))
         }
         Err(_) => Err(Fail::from("no log")),
     }
+}
+
+// What a crash leaves of a disk.
+fn crashed(alloc: Global, disk: &MemDisk, choice: Choice) -> Result<Box<MemDisk>, AllocError> {
+    boxed(alloc, disk.crash(&[choice])?)
 }
 
 // Five appends, of which the sync after the write of this number fails, and then a crash, which makes this of that write.
@@ -94,10 +100,10 @@ fn after_a_stop(
     choice: usize,
 ) -> Result<(usize, usize, usize), Fail> {
     // The calls are those of the start, 0 and 1, and for each append a write, a sync, a write and a sync.
-    let faults = Vec::from_slice(alloc, &[2u64.saturating_mul(stop as u64).saturating_add(3)])?;
-    let mut disk = MemDisk::new(alloc, &[])?.with_faults(faults);
+    let call = 2u64.saturating_mul(stop as u64).saturating_add(3);
+    let mut disk = failing_disk(alloc, call)?;
     five_appends(&mut disk, buf);
-    let mut left = disk.crash(&[choice_of(alloc, choice, length)?])?;
+    let mut left = crashed(alloc, &disk, choice_of(alloc, choice, length)?)?;
     read_of(alloc, &mut left, b"b", b"a")
 }
 
@@ -139,14 +145,18 @@ fn every_crash_choice_at_every_write_of_five_appends(rt: HostRuntime) -> Result<
 }
 
 // Two puts, and a third whose gate was being opened when the device stopped, its byte left as 07.
-fn stopped_at_the_third_gate(alloc: Global, buf: &mut [u8]) -> Result<MemDisk, Fail> {
-    let mut disk = MemDisk::new(alloc, &[])?.with_faults(Vec::from_slice(alloc, &[13])?);
-    if let Ok(mut log) = Log::start(&mut disk, 0) {
-        put(&mut log, &mut disk, buf, b"far", b"1");
-        put(&mut log, &mut disk, buf, b"fast", b"2");
-        put(&mut log, &mut disk, buf, b"top", b"3");
+fn stopped_at_the_third_gate(alloc: Global, buf: &mut [u8]) -> Result<Box<MemDisk>, Fail> {
+    let mut disk = failing_disk(alloc, 13)?;
+    three_puts(&mut disk, buf);
+    Ok(crashed(alloc, &disk, choice_of(alloc, 2, 1)?)?)
+}
+
+fn three_puts(disk: &mut MemDisk, buf: &mut [u8]) {
+    if let Ok(mut log) = Log::start(disk, 0) {
+        put(&mut log, disk, buf, b"far", b"1");
+        put(&mut log, disk, buf, b"fast", b"2");
+        put(&mut log, disk, buf, b"top", b"3");
     }
-    Ok(disk.crash(&[choice_of(alloc, 2, 1)?])?)
 }
 
 // Another put, after the log was read again.
@@ -165,7 +175,7 @@ fn a_gate_left_as_07_is_closed(rt: HostRuntime) -> Result<(), Fail> {
     assert_eq!(rt; read_of(alloc, &mut disk, b"far", b"top")?, (2, 3, 0));
     assert_eq!(rt; read_of(alloc, &mut disk, b"fast", b"top")?, (2, 3, 0));
     assert!(rt; put_again(alloc, &mut disk, &mut buf));
-    let mut again = disk.crash(&[])?;
+    let mut again = boxed(alloc, disk.crash(&[])?)?;
     assert_eq!(rt; read_of(alloc, &mut again, b"fast", b"top")?, (3, 3, 4));
     Ok(())
 }
@@ -188,7 +198,7 @@ fn moved(alloc: Global, disk: &mut MemDisk, buf: &mut [u8]) -> Result<usize, Fai
 fn entries_move_to_the_other_area(rt: HostRuntime) -> Result<(), Fail> {
     let alloc = rt.alloc();
     let mut buf = vec![in alloc; 0; BUFFER_BYTES]?;
-    let mut disk = MemDisk::new(alloc, &[])?;
+    let mut disk = new_disk(alloc)?;
     assert_eq!(rt; five_appends(&mut disk, &mut buf), 5);
     assert_eq!(rt; moved(alloc, &mut disk, &mut buf)?, 5);
     Ok(())
@@ -221,7 +231,7 @@ fn filled_to(alloc: Global, disk: &mut MemDisk, buf: &mut [u8], left: usize) -> 
 fn a_log_filled_to_its_last_byte(rt: HostRuntime) -> Result<(), Fail> {
     let alloc = rt.alloc();
     let mut buf = vec![in alloc; 0; BUFFER_BYTES]?;
-    let mut disk = MemDisk::new(alloc, &[])?;
+    let mut disk = new_disk(alloc)?;
     assert!(rt; filled_to(alloc, &mut disk, &mut buf, 1)?);
     let (entries, of_k, _) = read_of(alloc, &mut disk, b"k", b"j")?;
     assert_eq!(rt; entries, 4);
@@ -233,7 +243,7 @@ fn a_log_filled_to_its_last_byte(rt: HostRuntime) -> Result<(), Fail> {
 #[test]
 fn a_fault_names_the_byte_of_the_device(rt: HostRuntime) -> Result<(), Fail> {
     let alloc = rt.alloc();
-    let mut disk = MemDisk::new(alloc, &[])?;
+    let mut disk = new_disk(alloc)?;
     assert!(rt;
         disk.write(LOG_BYTES as u64, &[1, 3, 1, 0, 0, 0, 0, 0, 107])
             .is_ok()
@@ -270,7 +280,7 @@ fn fault_of(alloc: Global, disk: &mut MemDisk, area: u8) -> Option<LogFault> {
 #[test]
 fn a_read_that_fails_is_named(rt: HostRuntime) -> Result<(), Fail> {
     let alloc = rt.alloc();
-    let mut disk = MemDisk::new(alloc, &[])?.with_faults(Vec::from_slice(alloc, &[0])?);
+    let mut disk = failing_disk(alloc, 0)?;
     let fault = DiskFault {
         op: Op::Read,
         at: 524_288,
@@ -282,14 +292,19 @@ fn a_read_that_fails_is_named(rt: HostRuntime) -> Result<(), Fail> {
     Ok(())
 }
 
-// A put of the value 62 at the key 61, and a delete of it, and then the first bytes of area 0.
+// A put of the value 62 at the key 61, and a delete of it.
+fn put_and_delete(disk: &mut MemDisk, buf: &mut [u8]) {
+    if let Ok(mut log) = Log::start(disk, 0) {
+        put(&mut log, disk, buf, b"a", b"b");
+        delete(&mut log, disk, buf, b"a");
+    }
+}
+
+// Both, and then the first bytes of area 0.
 fn bytes_of_two_records(alloc: Global) -> Result<[u8; 20], Fail> {
     let mut buf = vec![in alloc; 0; BUFFER_BYTES]?;
-    let mut disk = MemDisk::new(alloc, &[])?;
-    if let Ok(mut log) = Log::start(&mut disk, 0) {
-        put(&mut log, &mut disk, &mut buf, b"a", b"b");
-        delete(&mut log, &mut disk, &mut buf, b"a");
-    }
+    let mut disk = new_disk(alloc)?;
+    put_and_delete(&mut disk, &mut buf);
     let mut bytes = [9; 20];
     match disk.read(LOG_BYTES as u64, &mut bytes) {
         Ok(()) => Ok(bytes),

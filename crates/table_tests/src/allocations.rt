@@ -1,6 +1,6 @@
 //! A table whose allocations fail in turn. One is made to fail from outside, by its number, and then the call that wanted
 //! it leaves all as it was and succeeds when it is made again. Where none fails, each call succeeds at once.
-use crate::made::{BASE, FIRST_PAGE, Made, add, opened, placed, room, try_add};
+use crate::made::{BASE, FIRST_PAGE, Made, add, new_disk, opened, room, row_at, try_add};
 use byte_fields::Row;
 use disk_mem::MemDisk;
 use plain_filter::PlainFilter;
@@ -53,14 +53,18 @@ fn parts(alloc: Global) -> Result<Parts<PlainFilter>, Fail> {
 const MOVED: usize = 1_048_576;
 
 // A disk with room for all calls of a run.
-fn disk_of(alloc: Global) -> Result<MemDisk, AllocError> {
-    let mut disk = MemDisk::new(alloc, b"")?;
+fn disk_of(alloc: Global) -> Result<Box<MemDisk>, AllocError> {
+    let mut disk = new_disk(alloc)?;
     disk.reserve(16, MOVED)?;
     Ok(disk)
 }
 
 // Opens the table, once more where memory was wanted.
-fn opened_again(alloc: Global, disk: &mut MemDisk, row: &Row) -> Result<Table<PlainFilter>, Fail> {
+fn opened_again(
+    alloc: Global,
+    disk: &mut MemDisk,
+    row: &Row,
+) -> Result<Box<Table<PlainFilter>>, Fail> {
     match opened(alloc, disk, row)? {
         Ok(table) => return Ok(table),
         Err(TableFault::Memory) => {}
@@ -78,7 +82,7 @@ fn made(alloc: Global) -> Result<Made, Fail> {
         Ok(disk) => disk,
         Err(_) => disk_of(alloc)?,
     };
-    let (_, row) = placed(parts(alloc)?, &mut disk, FIRST_PAGE)?;
+    let row = row_at(parts(alloc)?, &mut disk, FIRST_PAGE)?;
     let table = opened_again(alloc, &mut disk, &row)?;
     let buf = match room(alloc) {
         Ok(buf) => buf,

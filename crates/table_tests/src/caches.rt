@@ -1,4 +1,5 @@
 //! A cache of blocks against the order in which they were kept.
+use crate::made::boxed;
 use block_cache::{BlockCache, MOST_BLOCKS};
 use std::alloc::Global;
 use std::boxed::BoxedSlice;
@@ -27,7 +28,7 @@ fn keep(
 
 #[test]
 fn a_block_is_given_to_its_own_numbers_alone(rt: HostRuntime) -> Result<(), Fail> {
-    let mut cache = BlockCache::new(rt.alloc())?;
+    let mut cache = boxed(rt.alloc(), BlockCache::new(rt.alloc())?)?;
     assert!(rt; cache.is_empty() && cache.newest().is_none());
     let rows = [
         (1, 2, 12),
@@ -56,7 +57,7 @@ fn a_block_is_given_to_its_own_numbers_alone(rt: HostRuntime) -> Result<(), Fail
 
 #[test]
 fn the_block_that_was_asked_for_longest_ago_goes(rt: HostRuntime) -> Result<(), Fail> {
-    let mut cache = BlockCache::new(rt.alloc())?;
+    let mut cache = boxed(rt.alloc(), BlockCache::new(rt.alloc())?)?;
     for number in 0..64u8 {
         keep(rt.alloc(), &mut cache, 7, u32::from(number), number)?;
     }

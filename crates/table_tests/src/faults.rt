@@ -1,14 +1,20 @@
 //! Tables on a device whose calls fail in turn.
-use crate::made::{BASE, FIRST_PAGE, Made, add, key_of, numbered, value_of};
+use crate::made::{BASE, FIRST_PAGE, Made, add, boxed, key_of, new_disk, numbered, value_of};
 use disk_mem::MemDisk;
 use disk_trait::{DiskFault, Op};
 use plain_filter::PlainFilter;
-use std::alloc::Global;
+use std::alloc::{AllocError, Global};
 use std::test::Fail;
 use table_file::{
     LARGEST_BLOCK_BYTES, Parts, Table, TableBuilder, TableFault, fits_device, open_table, pages_of,
     write_parts,
 };
+
+// A disk on which the call of this number fails.
+fn failing_disk(alloc: Global, call: u64) -> Result<Box<MemDisk>, AllocError> {
+    let faults = Vec::from_slice(alloc, &[call])?;
+    boxed(alloc, MemDisk::new(alloc, b"")?.with_faults(faults))
+}
 
 // The parts of two entries in one block.
 fn parts(alloc: Global) -> Result<Parts<PlainFilter>, Fail> {
@@ -23,7 +29,7 @@ fn parts(alloc: Global) -> Result<Parts<PlainFilter>, Fail> {
 
 // A table that is written, opened, asked for a key and walked, up to the first call that fails.
 fn run(alloc: Global, disk: &mut MemDisk) -> Result<Option<TableFault>, Fail> {
-    let parts = parts(alloc)?;
+    let parts = boxed(alloc, parts(alloc)?)?;
     if pages_of(&parts) > 1_000_000 {
         return Err(Fail::from("too long"));
     }
@@ -34,8 +40,8 @@ fn run(alloc: Global, disk: &mut MemDisk) -> Result<Option<TableFault>, Fail> {
     if !fits_device(&row) {
         return Err(Fail::from("no row"));
     }
-    let table: Table<PlainFilter> = match open_table(alloc, disk, &row) {
-        Ok(table) => table,
+    let table: Box<Table<PlainFilter>> = match open_table(alloc, disk, &row) {
+        Ok(table) => boxed(alloc, table)?,
         Err(fault) => return Ok(Some(fault)),
     };
     let fault = get_twice(alloc, disk, &table)?;
@@ -98,15 +104,14 @@ const CALLS: [(Op, u64); 8] = [
 fn every_call_fails_in_turn(rt: HostRuntime) -> Result<(), Fail> {
     let alloc = rt.alloc();
     for (call, (op, at)) in CALLS.iter().copied().enumerate() {
-        let faults = Vec::from_slice(alloc, &[call as u64])?;
-        let mut disk = MemDisk::new(alloc, b"")?.with_faults(faults);
+        let mut disk = failing_disk(alloc, call as u64)?;
         assert_eq!(rt;
             run(alloc, &mut disk)?,
             Some(TableFault::Device(DiskFault { op, at })),
             "call {call}"
         );
     }
-    let mut disk = MemDisk::new(alloc, b"")?;
+    let mut disk = new_disk(alloc)?;
     assert_eq!(rt; run(alloc, &mut disk)?, None);
     assert_eq!(rt; disk.calls(), CALLS.len());
     Ok(())
@@ -115,8 +120,7 @@ fn every_call_fails_in_turn(rt: HostRuntime) -> Result<(), Fail> {
 // How many steps of a walk over a table of 300 entries fail where this call does. Behind each the next step goes on
 // with the entry that was due.
 fn failed_steps(alloc: Global, call: u64) -> Result<usize, Fail> {
-    let disk = MemDisk::new(alloc, b"")?.with_faults(Vec::from_slice(alloc, &[call])?);
-    let mut made = Made::on(disk, alloc, numbered(alloc, 300)?)?;
+    let mut made = Made::on(failing_disk(alloc, call)?, alloc, numbered(alloc, 300)?)?;
     let mut cursor = made.table.cursor(alloc, b"")?;
     let mut failed = 0usize;
     for i in 0..300 {

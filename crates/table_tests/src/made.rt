@@ -1,4 +1,7 @@
 //! Tables that are built and written.
+//!
+//! Disks and tables are handed out in boxes: a function that has one for a local costs the check ten times what one does
+//! that has a box of it, since each of its parts that owns memory is gone into at each step.
 ghost use Rattle.std.specs.Prelude.{◌≡◌, length, IfOk};
 ghost use Rattle.std.specs.Option.{option_map};
 ghost use Rattle.byte_fields.specs.Spelling.{IsBytes};
@@ -16,6 +19,16 @@ use table_file::{
     LARGEST_BLOCK_BYTES, Parts, Table, TableBuilder, TableCursor, TableFault, fits_device,
     open_table, pages_of, write_parts,
 };
+
+/// The value in a box.
+pub fn boxed<T: Drop>(alloc: Global, value: T) -> Result<Box<T>, AllocError> {
+    Ok(Box::new(alloc, value)?)
+}
+
+/// A new disk.
+pub fn new_disk(alloc: Global) -> Result<Box<MemDisk>, AllocError> {
+    boxed(alloc, MemDisk::new(alloc, b"")?)
+}
 
 /// Filters with no suffix bits.
 pub const BASE: Settings = Settings {
@@ -101,12 +114,29 @@ pub fn placed(
     Ok((parts, row))
 }
 
-/// A disk with the table of a to b, and its row.
-pub fn one_entry(alloc: Global) -> Result<(MemDisk, Row), Fail> {
+/// The row of parts that are written to a disk from a page on.
+pub fn row_at(parts: Parts<PlainFilter>, disk: &mut MemDisk, page: u32) -> Result<Row, Fail> {
+    let (_, row) = placed(parts, disk, page)?;
+    Ok(row)
+}
+
+// The row of the entries' table, written to a disk.
+fn row_on(builder: TableBuilder, disk: &mut MemDisk) -> Result<Row, Fail> {
+    let (_, row) = written(builder, disk)?;
+    Ok(row)
+}
+
+// A builder with the entry of a to b.
+fn a_to_b(alloc: Global) -> Result<TableBuilder, Fail> {
     let mut builder = TableBuilder::new(alloc, BASE);
     add(&mut builder, b"a", Some(b"b"))?;
-    let mut disk = MemDisk::new(alloc, b"")?;
-    let (_, row) = written(builder, &mut disk)?;
+    Ok(builder)
+}
+
+/// A disk with the table of a to b, and its row.
+pub fn one_entry(alloc: Global) -> Result<(Box<MemDisk>, Row), Fail> {
+    let mut disk = new_disk(alloc)?;
+    let row = row_on(a_to_b(alloc)?, &mut disk)?;
     Ok((disk, row))
 }
 
@@ -115,11 +145,24 @@ pub fn opened(
     alloc: Global,
     disk: &mut MemDisk,
     row: &Row,
-) -> Result<Result<Table<PlainFilter>, TableFault>, Fail> {
+) -> Result<Result<Box<Table<PlainFilter>>, TableFault>, Fail> {
     if !fits_device(row) {
         return Err(Fail::from("no row"));
     }
-    Ok(open_table(alloc, disk, row))
+    match open_table(alloc, disk, row) {
+        Ok(table) => Ok(in_a_box(alloc, table)),
+        Err(fault) => Ok(Err(fault)),
+    }
+}
+
+fn in_a_box(
+    alloc: Global,
+    table: Table<PlainFilter>,
+) -> Result<Box<Table<PlainFilter>>, TableFault> {
+    match boxed(alloc, table) {
+        Ok(table) => Ok(table),
+        Err(_) => Err(TableFault::Memory),
+    }
 }
 
 /// The value of the entry number i: none for a seventh of them.
@@ -149,20 +192,20 @@ pub fn room(alloc: Global) -> Result<Vec<u8>, AllocError> {
 /// A table that was written and opened, its disk, and room for a block.
 #[derive(Drop)]
 pub struct Made {
-    pub disk: MemDisk,
-    pub table: Table<PlainFilter>,
+    pub disk: Box<MemDisk>,
+    pub table: Box<Table<PlainFilter>>,
     pub buf: Vec<u8>,
 }
 
 impl Made {
     /// The table of the entries, on a new disk.
     pub fn new(alloc: Global, builder: TableBuilder) -> Result<Made, Fail> {
-        Made::on(MemDisk::new(alloc, b"")?, alloc, builder)
+        Made::on(new_disk(alloc)?, alloc, builder)
     }
 
     /// The table of the entries, on a disk.
-    pub fn on(mut disk: MemDisk, alloc: Global, builder: TableBuilder) -> Result<Made, Fail> {
-        let (_, row) = written(builder, &mut disk)?;
+    pub fn on(mut disk: Box<MemDisk>, alloc: Global, builder: TableBuilder) -> Result<Made, Fail> {
+        let row = row_on(builder, &mut disk)?;
         let Ok(table) = opened(alloc, &mut disk, &row)? else {
             return Err(Fail::from("not opened"));
         };
@@ -190,7 +233,7 @@ impl Made {
     ) -> bool {
         let calls = usize::from(cursor.due(&self.table));
         let before = self.disk.calls();
-        let said = cursor.next(&mut self.disk, &self.table) == Ok(want);
+        let said = cursor.next(&mut *self.disk, &self.table) == Ok(want);
         said && self.disk.calls() == before.saturating_add(calls)
     }
 }

@@ -4,7 +4,9 @@ ghost use Rattle.std.specs.List.{AllByRecursion};
 ghost use Rattle.entry_model.specs.Entries.{IsEntry};
 ghost use Rattle.merge_rows.specs.Steps.{AreNumbersIn, numbers};
 
-use crate::made::{BASE, FIRST_PAGE, add, bytes_in, key_of, opened, placed, size_of};
+use crate::made::{
+    BASE, FIRST_PAGE, add, boxed, bytes_in, key_of, new_disk, opened, row_at, size_of,
+};
 use disk_mem::MemDisk;
 use key_base::{MAX_KEY_BYTES, MAX_VALUE_BYTES};
 use mem_table::MemTable;
@@ -12,7 +14,7 @@ use merge_rows::MergeRows;
 use plain_filter::PlainFilter;
 use std::alloc::Global;
 use std::test::Fail;
-use table_file::{Table, TableBuilder, Tables};
+use table_file::{Parts, Table, TableBuilder, Tables};
 
 // How many keys there are, and the tables, numbered from the newest.
 const KEYS: u16 = 700;
@@ -34,21 +36,36 @@ fn said(source: u8, key: u16) -> Option<Option<[u8; 1]>> {
     Some(Some([source]))
 }
 
-// The table of a source.
-fn table_of(alloc: Global, disk: &mut MemDisk, source: u8) -> Result<Table<PlainFilter>, Fail> {
-    let mut builder = TableBuilder::new(alloc, BASE);
+// Adds what a source says.
+fn add_said(builder: &mut TableBuilder, source: u8) -> Result<(), Fail> {
     for key in 0..KEYS {
         match said(source, key) {
-            Some(Some(value)) => add(&mut builder, &key_of(key), Some(&value))?,
-            Some(None) => add(&mut builder, &key_of(key), None)?,
+            Some(Some(value)) => add(builder, &key_of(key), Some(&value))?,
+            Some(None) => add(builder, &key_of(key), None)?,
             None => {}
         }
     }
+    Ok(())
+}
+
+// The parts of a source's table.
+fn parts_of(alloc: Global, source: u8) -> Result<Parts<PlainFilter>, Fail> {
+    let mut builder = TableBuilder::new(alloc, BASE);
+    add_said(&mut builder, source)?;
     if builder.is_empty() {
         return Err(Fail::from("no entries"));
     }
+    Ok(builder.finish()?)
+}
+
+// The table of a source.
+fn table_of(
+    alloc: Global,
+    disk: &mut MemDisk,
+    source: u8,
+) -> Result<Box<Table<PlainFilter>>, Fail> {
     let page = FIRST_PAGE + STEP * u32::from(source);
-    let (_, row) = placed(builder.finish()?, disk, page)?;
+    let row = row_at(parts_of(alloc, source)?, disk, page)?;
     let Ok(table) = opened(alloc, disk, &row)? else {
         return Err(Fail::from("not opened"));
     };
@@ -61,7 +78,7 @@ fn tables_of(alloc: Global, disk: &mut MemDisk) -> Result<Tables<PlainFilter>, F
     for source in 0..TABLES {
         let table = table_of(alloc, disk, TABLES - 1 - source)?;
         tables.reserve(1)?;
-        tables.insert(0, table);
+        tables.insert(0, Box::into_inner(table));
     }
     Ok(tables)
 }
@@ -194,14 +211,15 @@ fn merges(
     drop_tombstones: bool,
     fault: Option<u64>,
 ) -> Result<bool, Fail> {
-    let mut disk = MemDisk::new(alloc, b"")?;
+    let mut disk = new_disk(alloc)?;
     let tables = tables_of(alloc, &mut disk)?;
     let memory = memory_of(alloc)?;
     let memory = shown(&memory, with_memory);
     let mut rows = rows_of(alloc, &tables, memory, &key_of(low), drop_tombstones)?;
     if let Some(calls) = fault {
         let at = (disk.calls() as u64).saturating_add(calls);
-        disk = disk.with_faults(vec![in alloc; at]?);
+        let faults = vec![in alloc; at]?;
+        disk = boxed(alloc, Box::into_inner(disk).with_faults(faults))?;
     }
     let (same, faults) = are_rows(
         &mut rows,
@@ -254,7 +272,7 @@ fn steps(
 #[test]
 fn blocks_are_read_as_rows_want_them(rt: HostRuntime) -> Result<(), Fail> {
     let alloc = rt.alloc();
-    let mut disk = MemDisk::new(alloc, b"")?;
+    let mut disk = new_disk(alloc)?;
     let tables = tables_of(alloc, &mut disk)?;
     let before = disk.reads();
     let mut rows = rows_of(alloc, &tables, None, b"", false)?;
@@ -262,7 +280,7 @@ fn blocks_are_read_as_rows_want_them(rt: HostRuntime) -> Result<(), Fail> {
     assert!(rt; steps(&mut rows, &mut disk, &tables, 1));
     assert_eq!(rt; disk.reads(), before.saturating_add(4));
     assert!(rt; steps(&mut rows, &mut disk, &tables, KEYS));
-    assert_eq!(rt; rows.fill(&mut disk, &tables), Ok(false));
+    assert_eq!(rt; rows.fill(&mut *disk, &tables), Ok(false));
     let mut blocks = 0u64;
     for table in tables.as_slice() {
         blocks = blocks.saturating_add(u64::from(table.blocks()));

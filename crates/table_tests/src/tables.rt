@@ -1,10 +1,12 @@
 //! Tables that are built, written, opened, asked and walked.
 use crate::made::{
-    BASE, FIRST_PAGE, Made, add, key_of, numbered, one_entry, opened, value_of, written,
+    BASE, FIRST_PAGE, Made, add, boxed, key_of, new_disk, numbered, one_entry, opened, value_of,
+    written,
 };
-use disk_mem::MemDisk;
+use byte_fields::Row;
 use disk_trait::Disk;
 use plain_filter::PlainFilter;
+use std::process::Abort;
 use std::test::Fail;
 use table_file::{Parts, Table, TableBuilder, fits_device, pages_of};
 
@@ -64,14 +66,18 @@ fn four_thousand_absent_keys(rt: HostRuntime) -> Result<(), Fail> {
 
 #[test]
 fn pages_of_four_thousand_entries(rt: HostRuntime) -> Result<(), Fail> {
+    let mut disk = new_disk(rt.alloc())?;
     let builder = numbered(rt.alloc(), 4_000)?;
     let pages = builder.data_pages();
-    let mut disk = MemDisk::new(rt.alloc(), b"")?;
     let (parts, row) = written(builder, &mut disk)?;
+    check_pages(&rt, &parts, &row, pages);
+    Ok(())
+}
+
+fn check_pages(rt: &impl Abort, parts: &Parts<PlainFilter>, row: &Row, pages: u64) {
     assert_eq!(rt; u64::from(row.data_pages), pages);
     let others = u64::from(row.index_pages) + u64::from(row.filter_pages);
-    assert_eq!(rt; pages_of(&parts), pages.saturating_add(others));
-    Ok(())
+    assert_eq!(rt; pages_of(parts), pages.saturating_add(others));
 }
 
 // The table of the parts, with no call of the disk.
@@ -99,12 +105,12 @@ fn is_same(one: &Table<PlainFilter>, other: &Table<PlainFilter>) -> bool {
 
 #[test]
 fn the_table_of_parts_is_the_one_that_is_opened(rt: HostRuntime) -> Result<(), Fail> {
-    let mut disk = MemDisk::new(rt.alloc(), b"")?;
+    let mut disk = new_disk(rt.alloc())?;
     let (parts, row) = written(numbered(rt.alloc(), 4_000)?, &mut disk)?;
+    let made = boxed(rt.alloc(), table_of(parts)?)?;
     let Ok(read) = opened(rt.alloc(), &mut disk, &row)? else {
         return Err(Fail::from("not opened"));
     };
-    let made = table_of(parts)?;
     assert!(rt; is_same(&made, &read));
     assert_eq!(rt; made.least(), key_of(0).as_slice());
     assert_eq!(rt; made.greatest(), key_of(3_999).as_slice());

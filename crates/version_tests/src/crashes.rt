@@ -1,5 +1,5 @@
 //! Formats and installs that fail or are cut short.
-use crate::disks::{base, install_tables, loaded_with, table};
+use crate::disks::{base, boxed, install_tables, loaded_with, table};
 use byte_fields::Row;
 use disk_mem::{Choice, MemDisk};
 use disk_trait::{DiskFault, Op};
@@ -45,9 +45,14 @@ fn epoch_of(alloc: Global, disk: &mut MemDisk) -> Result<u64, Fail> {
 }
 
 // A disk on which the call of this number fails.
-fn failing(alloc: Global, call: u64) -> Result<MemDisk, AllocError> {
+fn failing(alloc: Global, call: u64) -> Result<Box<MemDisk>, AllocError> {
     let faults = Vec::from_slice(alloc, &[call])?;
-    Ok(MemDisk::new(alloc, &[])?.with_faults(faults))
+    boxed(alloc, MemDisk::new(alloc, &[])?.with_faults(faults))
+}
+
+// What a crash leaves of a disk.
+fn crashed(alloc: Global, disk: &MemDisk, choice: Choice) -> Result<Box<MemDisk>, AllocError> {
+    boxed(alloc, disk.crash(&[choice])?)
 }
 
 // What a crash leaves of a write.
@@ -86,8 +91,8 @@ fn after_a_crash(
         Left::All(byte) => Choice::Bytes(vec![in alloc; byte; length]?),
         Left::Half => Choice::Bytes(half(alloc, &disk, at, length)?),
     };
-    let mut crashed = disk.crash(&[choice])?;
-    epoch_of(alloc, &mut crashed)
+    let mut left = crashed(alloc, &disk, choice)?;
+    epoch_of(alloc, &mut left)
 }
 
 #[test]
@@ -165,9 +170,9 @@ fn every_call_fails_in_turn(rt: HostRuntime) -> Result<(), Fail> {
             Some(ManifestFault::Device(DiskFault { op, at })),
             "call {call}"
         );
-        let mut lost = disk.crash(&[Choice::Lost])?;
+        let mut lost = crashed(alloc, &disk, Choice::Lost)?;
         assert_eq!(rt; epoch_of(alloc, &mut lost)?, done, "call {call}");
-        let mut whole = disk.crash(&[Choice::Whole])?;
+        let mut whole = crashed(alloc, &disk, Choice::Whole)?;
         let epoch = epoch_of(alloc, &mut whole)?;
         assert!(rt;
             epoch == done || epoch == done.saturating_add(1),

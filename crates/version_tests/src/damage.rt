@@ -1,5 +1,5 @@
 //! What is wrong with slots, and where.
-use crate::disks::{formatted, store, table, version_of};
+use crate::disks::{formatted, new_disk, store, table, version_of};
 use byte_fields::{Damage, Part, Row, fnv1a};
 use disk_mem::MemDisk;
 use disk_trait::Disk;
@@ -94,14 +94,14 @@ fn another_sum_comes_before_the_later_rules(rt: HostRuntime) -> Result<(), Fail>
 
 // The fault of a store with these tables.
 fn with_tables(alloc: Global, rows: &[Row]) -> Result<Option<ManifestFault>, Fail> {
-    let mut disk = MemDisk::new(alloc, &[])?;
+    let mut disk = new_disk(alloc)?;
     store(alloc, &mut disk, 0, &version_of(alloc, 512, 6, rows)?)?;
     Ok(fault_of(alloc, &mut disk))
 }
 
 // The fault of a store with one table whose row has 1 at a place of the body, with the sum of that.
 fn changed_row(alloc: Global, place: usize) -> Result<Option<ManifestFault>, Fail> {
-    let mut disk = MemDisk::new(alloc, &[])?;
+    let mut disk = new_disk(alloc)?;
     store(
         alloc,
         &mut disk,
@@ -230,7 +230,7 @@ fn more_tables_than_a_version_may_have(rt: HostRuntime) -> Result<(), Fail> {
     for _ in 0..1_025 {
         version.rows.push(table(0, 192))?;
     }
-    let mut disk = MemDisk::new(alloc, &[])?;
+    let mut disk = new_disk(alloc)?;
     store(alloc, &mut disk, 131_072, &version)?;
     assert_eq!(rt; fault_of(alloc, &mut disk), shape(131_086, 3));
     Ok(())
@@ -238,10 +238,10 @@ fn more_tables_than_a_version_may_have(rt: HostRuntime) -> Result<(), Fail> {
 
 // The fault of two open slots with these epochs, and the epoch that is loaded where there is none.
 fn both(alloc: Global, a: u64, b: u64) -> Result<Result<u64, ManifestFault>, Fail> {
-    let mut disk = MemDisk::new(alloc, &[])?;
+    let mut disk = new_disk(alloc)?;
     store(alloc, &mut disk, 0, &version_of(alloc, 512, a, &[])?)?;
     store(alloc, &mut disk, 131_072, &version_of(alloc, 512, b, &[])?)?;
-    match load(alloc, &mut disk) {
+    match load(alloc, &mut *disk) {
         Ok(version) => Ok(Ok(version.epoch)),
         Err(fault) => Ok(Err(fault)),
     }

@@ -1,4 +1,7 @@
 //! Disks with manifests.
+//!
+//! They are handed out in boxes: a function that has a disk for a local costs the check many times what one does that has a
+//! box of it, since each of its parts that owns memory is gone into at each step.
 ghost use Rattle.std.specs.Prelude.{◌≤◌, IfOk};
 ghost use Rattle.filter_api.specs.Ranges.{InRange};
 ghost use Rattle.manifest_model.specs.Laws.{IsVersion};
@@ -11,6 +14,16 @@ use manifest::{ManifestFault, Version as Loaded, format, install, load};
 use manifest_model::{Version, body_bytes};
 use std::alloc::{AllocError, Global};
 use std::test::Fail;
+
+/// The value in a box.
+pub fn boxed<T: Drop>(alloc: Global, value: T) -> Result<Box<T>, AllocError> {
+    Ok(Box::new(alloc, value)?)
+}
+
+/// A new disk.
+pub fn new_disk(alloc: Global) -> Result<Box<MemDisk>, AllocError> {
+    boxed(alloc, MemDisk::new(alloc, &[])?)
+}
 
 /// The first byte of each slot.
 pub const SLOTS: [u64; 2] = [0, 131_072];
@@ -27,9 +40,9 @@ pub fn base() -> Settings
 }
 
 /// A new store of 512 pages.
-pub fn formatted(alloc: Global) -> Result<MemDisk, Fail> {
-    let mut disk = MemDisk::new(alloc, &[])?;
-    match format(alloc, &mut disk, base(), 512) {
+pub fn formatted(alloc: Global) -> Result<Box<MemDisk>, Fail> {
+    let mut disk = new_disk(alloc)?;
+    match format(alloc, &mut *disk, base(), 512) {
         Ok(()) => Ok(disk),
         Err(_) => Err(Fail::from("no format")),
     }
@@ -94,9 +107,9 @@ pub fn install_again(alloc: Global, disk: &mut MemDisk) -> Result<(), ManifestFa
 pub fn loaded_with(alloc: Global, rows: &[Row]) -> Result<Loaded, Fail>
     ensures { IfOk result (λ v. IsVersion v.version) }
 {
-    let mut disk = MemDisk::new(alloc, &[])?;
+    let mut disk = new_disk(alloc)?;
     store(alloc, &mut disk, 0, &version_of(alloc, 512, 6, rows)?)?;
-    match load(alloc, &mut disk) {
+    match load(alloc, &mut *disk) {
         Ok(version) => Ok(version),
         Err(_) => Err(Fail::from("no version")),
     }

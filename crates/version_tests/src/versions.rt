@@ -1,6 +1,6 @@
 //! Versions that are formatted, loaded and installed.
 use crate::disks::{
-    base, formatted, install_again, install_tables, loaded_with, store, table, version_of,
+    base, formatted, install_again, install_tables, loaded_with, new_disk, store, table, version_of,
 };
 use byte_fields::Row;
 use disk_mem::MemDisk;
@@ -25,8 +25,8 @@ fn found(alloc: Global, disk: &mut MemDisk) -> Result<(u64, u8, bool, usize), Ma
 #[test]
 fn a_new_store_is_in_slot_a(rt: HostRuntime) -> Result<(), Fail> {
     let alloc = rt.alloc();
-    let mut empty = MemDisk::new(alloc, &[])?;
-    assert_eq!(rt; is_store(&mut empty), Ok(false));
+    let mut empty = new_disk(alloc)?;
+    assert_eq!(rt; is_store(&mut *empty), Ok(false));
     assert_eq!(rt; found(alloc, &mut empty), Err(ManifestFault::NotAStore));
     let mut disk = formatted(alloc)?;
     let front = [
@@ -40,10 +40,10 @@ fn a_new_store_is_in_slot_a(rt: HostRuntime) -> Result<(), Fail> {
     assert!(rt;
         slot.as_slice().ends_with([0xE7, 0x13, 0x68, 0xDB, 0x17, 0xF5, 0x93, 0xE4].as_slice())
     );
-    assert_eq!(rt; is_store(&mut disk), Ok(true));
+    assert_eq!(rt; is_store(&mut *disk), Ok(true));
     assert_eq!(rt; found(alloc, &mut disk), Ok((1, 0, false, 0)));
     assert_eq!(rt;
-        format(alloc, &mut disk, base(), 512),
+        format(alloc, &mut *disk, base(), 512),
         Err(ManifestFault::AlreadyAStore)
     );
     Ok(())
@@ -64,7 +64,7 @@ fn installs_change_the_slot(rt: HostRuntime) -> Result<(), Fail> {
 #[test]
 fn the_last_epoch_is_not_left(rt: HostRuntime) -> Result<(), Fail> {
     let alloc = rt.alloc();
-    let mut disk = MemDisk::new(alloc, &[])?;
+    let mut disk = new_disk(alloc)?;
     store(alloc, &mut disk, 0, &version_of(alloc, 512, u64::MAX, &[])?)?;
     let before = disk.calls();
     assert_eq!(rt; install_again(alloc, &mut disk), Err(ManifestFault::Epoch));
@@ -86,7 +86,7 @@ fn new_tables_are_installed(rt: HostRuntime) -> Result<(), Fail> {
     for (epoch, tables) in (2u64..).zip(rows) {
         let version = loaded_with(alloc, tables)?;
         assert_eq!(rt; install_tables(alloc, &mut disk, &version), Ok(()));
-        let Ok(found) = load(alloc, &mut disk) else {
+        let Ok(found) = load(alloc, &mut *disk) else {
             return Err(Fail::from("no version"));
         };
         assert_eq!(rt; found.epoch, epoch);
@@ -96,13 +96,13 @@ fn new_tables_are_installed(rt: HostRuntime) -> Result<(), Fail> {
 }
 
 // A version of so many tables of three pages each, the last of them first.
-fn many(alloc: Global, count: u32) -> Result<MemDisk, Fail> {
+fn many(alloc: Global, count: u32) -> Result<Box<MemDisk>, Fail> {
     let mut version = version_of(alloc, 8_192, 1, &[])?;
     for i in 0..count {
         let first_page = 192u32.saturating_add(count.saturating_sub(i).saturating_mul(3));
         version.rows.push(table(0, first_page))?;
     }
-    let mut disk = MemDisk::new(alloc, &[])?;
+    let mut disk = new_disk(alloc)?;
     store(alloc, &mut disk, 0, &version)?;
     Ok(disk)
 }
@@ -120,7 +120,7 @@ fn as_many_tables_as_a_version_may_have(rt: HostRuntime) -> Result<(), Fail> {
 #[test]
 fn a_loaded_version_is_the_one_that_was_written(rt: HostRuntime) -> Result<(), Fail> {
     let alloc = rt.alloc();
-    let mut disk = MemDisk::new(alloc, &[])?;
+    let mut disk = new_disk(alloc)?;
     let row = table(3, 204);
     store(
         alloc,
@@ -128,7 +128,7 @@ fn a_loaded_version_is_the_one_that_was_written(rt: HostRuntime) -> Result<(), F
         131_072,
         &version_of(alloc, 600, 9, &[row])?,
     )?;
-    let Ok(version) = load(alloc, &mut disk) else {
+    let Ok(version) = load(alloc, &mut *disk) else {
         return Err(Fail::from("no version"));
     };
     let Version {
