@@ -73,8 +73,8 @@ fn read_and_find(
     buf: &mut [u8],
 ) -> Result<usize> {
     let n = query.block;
-    if buf.len() < LARGEST_BLOCK_BYTES || n >= made.table.blocks() {
-        bail!("no room for a block, or no block");
+    if n >= made.table.blocks() || buf.len() < made.table.block_bytes(n) {
+        bail!("no block, or no room for it");
     }
     match made.table.read_block(disk, n, buf) {
         Ok(size) => find(made, n, &buf[..size], &query.key),

@@ -95,7 +95,7 @@ impl HeldBlock {
         self.here = NO_ENTRY;
         self.rest = NO_ENTRY;
         lengthen(&mut self.bytes, table.block_bytes(n));
-        let size = table.read_into(disk, n, &mut self.bytes)?;
+        let size = table.read_block(disk, n, &mut self.bytes)?;
         match read_span(&self.bytes[..size], low) {
             Ok(span) => {
                 self.rest = span;

@@ -135,6 +135,9 @@ impl<F: RangeFilter> Table<F> {
         let Some(n) = self.block_for(key) else {
             return Ok(None);
         };
+        // no block is larger than the largest
+        let room = self.block_bytes(n);
+        prove!(room <= buf.len());
         let size = self.read_block(disk, n, buf)?;
         self.find_in(n, &buf[..size], key)
     }
@@ -152,46 +155,20 @@ impl<F: RangeFilter> Table<F> {
         }
     }
 
-    /// Reads a block into a buffer that has room for the largest, from the buffer's first byte on, and answers how many
-    /// bytes it has. One read.
-    ///
-    /// `Damaged` exactly where the bytes have another sum than the index keeps; no rule of the format is looked at.
-    pub fn read_block<D: Disk>(
-        &self,
-        disk: &mut D,
-        n: u32,
-        buf: &mut [u8],
-    ) -> Result<usize, TableFault>
+    /// How many bytes the block number `n` has, 69,632 at most.
+    pub fn block_bytes(&self, n: u32) -> usize
         requires there { n < length self.now.index.rows }
-        requires room { largest_block ≤ length buf.old }
-        ensures size { IfOk result (λ size. size ≡ page_bytes * (row_at self.now.index.rows n).pages) }
-        ensures large { IfOk result (λ size. size ≤ largest_block) }
-        ensures taken { IfErr result IsNoWant }
-        ensures bytes { IsTrue D.tells → IfOk result (λ size. take size buf.new ≡ bytes_at self.now n (D.world disk.old).seen.held) }
-        ensures sum { IsTrue D.tells → IfOk result (λ _. (row_at self.now.index.rows n).sum ≡ fnv_of (bytes_at self.now n (D.world disk.old).seen.held)) }
-        ensures damaged { IsTrue D.tells → IfErr result (IsOtherBlock self.now n (D.world disk.old).seen.held) }
-        ensures length { length buf.new ≡ length buf.old }
-        ensures cause { IfErr result (HasReadCause (byte_of_page (page_at self.now n)) (D.world disk.old) (D.world disk.new)) }
-        ensures moves { ReadMoves 1 (D.world disk.old) (D.world disk.new) }
-        ensures counted { IsTrue D.tells → OnOk result ((D.world disk.new).seen.reads ≡ (D.world disk.old).seen.reads + 1) }
-    {
-        // no block is larger than the largest
-        let size = self.block_bytes(n);
-        prove!(size <= buf.len());
-        self.read_into(disk, n, buf)
-    }
-
-    /// How many bytes a block has.
-    pub(crate) fn block_bytes(&self, n: u32) -> usize
-        requires { n < length self.now.index.rows }
         ensures size { result ≡ page_bytes * (row_at self.now.index.rows n).pages }
         ensures large { result ≤ largest_block }
     {
         PAGE_BYTES * self.index.row(n as usize).pages as usize
     }
 
-    /// [`read_block`](Table::read_block) into a buffer that has room for this block.
-    pub(crate) fn read_into<D: Disk>(
+    /// Reads a block into a buffer that has room for its bytes, from the buffer's first byte on, and answers how many bytes
+    /// it has. One read.
+    ///
+    /// `Damaged` exactly where the bytes have another sum than the index keeps; no rule of the format is looked at.
+    pub fn read_block<D: Disk>(
         &self,
         disk: &mut D,
         n: u32,

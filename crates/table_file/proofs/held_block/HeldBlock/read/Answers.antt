@@ -12,44 +12,44 @@ use Rattle.table_file.proofs.held_block.HeldBlock.read.Goals as goal
 pub invariant_of-self : goal.invariant_of-self
 invariant_of-self g c =
     let old = c.lengthen.new.bytes in
-    let items = take old.len (c.read_into.new.buf ++ drop (length c.read_into.new.buf) old.items) in
-    let all : items ≡ c.read_into.new.buf =
-    filled old.len c.read_into.new.buf old.items (c.read_into.ensures.length ∙ ap length c.deref_mut.ensures.value) (omega (arith, c.deref_mut.ensures.len)) in
-    let long : length items ≡ length old.items = ap length all ∙ c.read_into.ensures.length ∙ ap length c.deref_mut.ensures.value in
+    let items = take old.len (c.read_block.new.buf ++ drop (length c.read_block.new.buf) old.items) in
+    let all : items ≡ c.read_block.new.buf =
+    filled old.len c.read_block.new.buf old.items (c.read_block.ensures.length ∙ ap length c.deref_mut.ensures.value) (omega (arith, c.deref_mut.ensures.len)) in
+    let long : length items ≡ length old.items = ap length all ∙ c.read_block.ensures.length ∙ ap length c.deref_mut.ensures.value in
     let room = c.lengthen.ensures.room in
     (omega (arith, room, c.self.invariant.0), stands_nowhere items, no_entries items, stands_nowhere items, no_entries items)
 
 pub returns-in_err-size-clause-none : goal.returns-in_err-size-clause-none
 returns-in_err-size-clause-none g c =
     let old = c.lengthen.new.bytes in
-    let items = take old.len (c.read_into.new.buf ++ drop (length c.read_into.new.buf) old.items) in
+    let items = take old.len (c.read_block.new.buf ++ drop (length c.read_block.new.buf) old.items) in
     ap first_of (nothing items)
 
 pub returns-in_err-size-clause-emptied : goal.returns-in_err-size-clause-emptied
 returns-in_err-size-clause-emptied g c =
     let old = c.lengthen.new.bytes in
-    let items = take old.len (c.read_into.new.buf ++ drop (length c.read_into.new.buf) old.items) in
+    let items = take old.len (c.read_block.new.buf ++ drop (length c.read_block.new.buf) old.items) in
     let none = nothing items in
     search rules
 
 pub invariant_of-self-in-Err : goal.invariant_of-self-in-Err
 invariant_of-self-in-Err g c =
     let old = c.lengthen.new.bytes in
-    let items = take old.len (c.read_into.new.buf ++ drop (length c.read_into.new.buf) old.items) in
-    let all : items ≡ c.read_into.new.buf =
-    filled old.len c.read_into.new.buf old.items (c.read_into.ensures.length ∙ ap length c.deref_mut.ensures.value) (omega (arith, c.deref_mut.ensures.len)) in
-    let long : length items ≡ length old.items = ap length all ∙ c.read_into.ensures.length ∙ ap length c.deref_mut.ensures.value in
+    let items = take old.len (c.read_block.new.buf ++ drop (length c.read_block.new.buf) old.items) in
+    let all : items ≡ c.read_block.new.buf =
+    filled old.len c.read_block.new.buf old.items (c.read_block.ensures.length ∙ ap length c.deref_mut.ensures.value) (omega (arith, c.deref_mut.ensures.len)) in
+    let long : length items ≡ length old.items = ap length all ∙ c.read_block.ensures.length ∙ ap length c.deref_mut.ensures.value in
     let room = c.lengthen.ensures.room in
     (omega (arith, room, c.self.invariant.0), stands_nowhere items, no_entries items, stands_nowhere items, no_entries items)
 
 pub invariant_of-self-in-Ok : goal.invariant_of-self-in-Ok
 invariant_of-self-in-Ok g c =
     let old = c.lengthen.new.bytes in
-    let items = take old.len (c.read_into.new.buf ++ drop (length c.read_into.new.buf) old.items) in
+    let items = take old.len (c.read_block.new.buf ++ drop (length c.read_block.new.buf) old.items) in
     let size = c.in_ok-size.size in
-    let all : items ≡ c.read_into.new.buf =
-    filled old.len c.read_into.new.buf old.items (c.read_into.ensures.length ∙ ap length c.deref_mut.ensures.value) (omega (arith, c.deref_mut.ensures.len)) in
-    let long : length items ≡ length old.items = ap length all ∙ c.read_into.ensures.length ∙ ap length c.deref_mut.ensures.value in
+    let all : items ≡ c.read_block.new.buf =
+    filled old.len c.read_block.new.buf old.items (c.read_block.ensures.length ∙ ap length c.deref_mut.ensures.value) (omega (arith, c.deref_mut.ensures.len)) in
+    let long : length items ≡ length old.items = ap length all ∙ c.read_block.ensures.length ∙ ap length c.deref_mut.ensures.value in
     let room = c.lengthen.ensures.room in
     let le : size ≤ length items = omega (arith, long, c.lengthen.ensures.many, c.block_bytes.ensures.size, c.in_ok-size.ensures.size) in
     let front : StandsIn c.in-Ok.span (take size items) = subst (λ (l : Bytes). StandsIn c.in-Ok.span (take size l)) c.deref.ensures.value c.in-Ok.ensures.stands in
@@ -65,17 +65,17 @@ invariant_of-self-in-Ok g c =
 pub returns-in-Ok-clause-none : goal.returns-in-Ok-clause-none
 returns-in-Ok-clause-none g c =
     let old = c.lengthen.new.bytes in
-    let items = take old.len (c.read_into.new.buf ++ drop (length c.read_into.new.buf) old.items) in
+    let items = take old.len (c.read_block.new.buf ++ drop (length c.read_block.new.buf) old.items) in
     ap first_of (nothing items)
 
 pub returns-in-Ok-clause-entries : goal.returns-in-Ok-clause-entries
 returns-in-Ok-clause-entries g c tells =
     let old = c.lengthen.new.bytes in
-    let items = take old.len (c.read_into.new.buf ++ drop (length c.read_into.new.buf) old.items) in
+    let items = take old.len (c.read_block.new.buf ++ drop (length c.read_block.new.buf) old.items) in
     let size = c.in_ok-size.size in
-    let all : items ≡ c.read_into.new.buf =
-    filled old.len c.read_into.new.buf old.items (c.read_into.ensures.length ∙ ap length c.deref_mut.ensures.value) (omega (arith, c.deref_mut.ensures.len)) in
-    let long : length items ≡ length old.items = ap length all ∙ c.read_into.ensures.length ∙ ap length c.deref_mut.ensures.value in
+    let all : items ≡ c.read_block.new.buf =
+    filled old.len c.read_block.new.buf old.items (c.read_block.ensures.length ∙ ap length c.deref_mut.ensures.value) (omega (arith, c.deref_mut.ensures.len)) in
+    let long : length items ≡ length old.items = ap length all ∙ c.read_block.ensures.length ∙ ap length c.deref_mut.ensures.value in
     let room = c.lengthen.ensures.room in
     let le : size ≤ length items = omega (arith, long, c.lengthen.ensures.many, c.block_bytes.ensures.size, c.in_ok-size.ensures.size) in
     let front : StandsIn c.in-Ok.span (take size items) = subst (λ (l : Bytes). StandsIn c.in-Ok.span (take size l)) c.deref.ensures.value c.in-Ok.ensures.stands in
@@ -89,16 +89,16 @@ returns-in-Ok-clause-entries g c tells =
 pub returns-in-Ok-clause-some : goal.returns-in-Ok-clause-some
 returns-in-Ok-clause-some g c none =
     let old = c.lengthen.new.bytes in
-    let items = take old.len (c.read_into.new.buf ++ drop (length c.read_into.new.buf) old.items) in
+    let items = take old.len (c.read_block.new.buf ++ drop (length c.read_block.new.buf) old.items) in
     omega (arith, many_in c.in-Ok.span.left (part_of c.in-Ok.span items), c.in-Ok.ensures.some none)
 
 pub returns-in-Err-clause-none : goal.returns-in-Err-clause-none
 returns-in-Err-clause-none g c =
     let old = c.lengthen.new.bytes in
-    let items = take old.len (c.read_into.new.buf ++ drop (length c.read_into.new.buf) old.items) in
+    let items = take old.len (c.read_block.new.buf ++ drop (length c.read_block.new.buf) old.items) in
     ap first_of (nothing items)
 
 pub returns-in-Err-clause-emptied : goal.returns-in-Err-clause-emptied
 returns-in-Err-clause-emptied g c =
     let old = c.lengthen.new.bytes in
-    nothing (take old.len (c.read_into.new.buf ++ drop (length c.read_into.new.buf) old.items))
+    nothing (take old.len (c.read_block.new.buf ++ drop (length c.read_block.new.buf) old.items))

@@ -8,7 +8,7 @@ use Rattle.block_model.specs.Places.{byte_of_page}
 use Rattle.table_file.specs.Opened.{Opened}
 use Rattle.table_file.specs.Search.{IsOtherBlock, bytes_at, page_at, row_at}
 use Rattle.table_file.proofs.Searches.{other_block}
-use Rattle.table_file.proofs.table.Table.read_into.Goals as goal
+use Rattle.table_file.proofs.table.Table.read_block.Goals as goal
 
 pub returns-in_err-check_sum-clause-damaged : goal.returns-in_err-check_sum-clause-damaged
 returns-in_err-check_sum-clause-damaged g c tells =
