@@ -6,6 +6,7 @@ use Rattle.std.specs.Option.{option_map}
 use Rattle.std.proofs.lemmas.List.{length-map}
 use Rattle.level_merge.specs.Outlines.{by_numbers, table_number, outline, outlines}
 use Rattle.level_merge.specs.Plans.{Agree, Agrees, IsPlanOf, MayStart, numbered}
+use Rattle.level_merge.proofs.Apart.{chosen_apart}
 use Rattle.level_merge.proofs.Related.{Each, IsLike, Likens, PlansRelate, choices_relate}
 use Rattle.state_model.specs.Merges.{Plan, choose}
 use Rattle.state_model.proofs.Choices.{chosen_output, chosen_some}
@@ -109,6 +110,7 @@ starts_with opened plan e = record {
   there = numbers_there (length opened) plan.inputs plan.inputs
       (related_itself (length opened) plan (choose (outlines opened)) e
       (choices_relate (IsThere (length opened)) (outlines opened) (outlines opened) (there_like (length opened)) (all_there opened)));
+  apart = chosen_apart opened plan e;
   output = chosen_output (outlines opened) plan e;
 }
 

@@ -1,5 +1,6 @@
 pub mod Outlines
 pub mod Related
+pub mod Apart
 pub mod Choices
 pub mod OutputLists
 pub mod Floors

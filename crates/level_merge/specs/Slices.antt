@@ -133,3 +133,10 @@ IsSliceFault tells tables which old new (fault.Device cause) =
     ((cause.op ≡ Read) × Rose old.seen.read_faults new.seen.read_faults) ⊎ ((cause.op ≢ Read) × Rose old.seen.write_faults new.seen.write_faults)
 IsSliceFault tells tables which old new (fault.Damaged d) = IsTrue tells → SomeBlock tables which (λ t n. IsGetFault t n old.seen.held (table.Damaged d))
 IsSliceFault tells tables which old new (fault.Full need gap) = gap < need
+
+-- damage is met before anything is written
+abbrev pub IsMetUnwritten : World → World → JobFault → Type 0
+IsMetUnwritten old new fault.Memory = Unit {0}
+IsMetUnwritten old new (fault.Device cause) = Unit {0}
+IsMetUnwritten old new (fault.Damaged d) = new.seen.held ≡ old.seen.held
+IsMetUnwritten old new (fault.Full need gap) = Unit {0}

@@ -10,7 +10,7 @@ ghost use Rattle.level_merge.specs.Held.{IsHeld};
 ghost use Rattle.level_merge.specs.Making.{SliceMakes};
 ghost use Rattle.level_merge.specs.Merging.{AreAllWritten, begun, compaction, merge_of, work_left};
 ghost use Rattle.level_merge.specs.Plans.{MayStart};
-ghost use Rattle.level_merge.specs.Slices.{Closes, IsSliceFault, IsStop, IsTakeFault, IsWithin, SliceMoves, TakesRows, WritesOutput, made_opened, made_table, need_of};
+ghost use Rattle.level_merge.specs.Slices.{Closes, IsMetUnwritten, IsSliceFault, IsStop, IsTakeFault, IsWithin, SliceMoves, TakesRows, WritesOutput, made_opened, made_table, need_of};
 ghost use Rattle.level_merge.specs.Outputs.{IsCloseFault, last_row};
 ghost use Rattle.key_base.specs.Limits.{max_tables};
 ghost use Rattle.level_merge.specs.declared.fault.JobFault.TheVariants.{Memory};
@@ -170,6 +170,7 @@ impl<'m, F: RangeFilter> Job<'m, F> {
         ensures rows { AreAllWritten self.old → OnOk result (AreAllWritten self.new) }
         ensures moves { SliceMoves F.spelling F.built_cutoff self.old self.new extents.old extents.new (D.world disk.old) (D.world disk.new) }
         ensures fault { IfErr result (IsSliceFault D.tells tables.now.tables (numbers self.old.merge.walks) (D.world disk.old) (D.world disk.new)) }
+        ensures unwritten { IfErr result (IsMetUnwritten (D.world disk.old) (D.world disk.new)) }
     {
         self.go_on(disk, tables, extents, blocks)
     }
@@ -223,6 +224,7 @@ impl<'m, F: RangeFilter> Job<'m, F> {
         ensures rows { AreAllWritten self.old → OnOk result (AreAllWritten self.new) }
         ensures moves { SliceMoves F.spelling F.built_cutoff self.old self.new extents.old extents.new (D.world disk.old) (D.world disk.new) }
         ensures fault { IfErr result (IsSliceFault D.tells tables.now.tables (numbers self.old.merge.walks) (D.world disk.old) (D.world disk.new)) }
+        ensures unwritten { IfErr result (IsMetUnwritten (D.world disk.old) (D.world disk.new)) }
     {
         // the law of the tables: what stands is read as it is, and no read of it is damage
         standing_tables_are_read();
