@@ -1,12 +1,16 @@
--- What the version in use and the state under it agree in.
-use Rattle.std.proofs.Common.{◌≡◌, ◌∙◌, List, [], ◌∷◌, ◌++◌, length, refl, sym, ap, map}
-use Rattle.std.specs.Prelude.{Option, None}
-use Rattle.std.proofs.lemmas.List.{append-nil, length-map}
+-- What the version in use, the merge that runs and the state under both agree in.
+use Rattle.std.proofs.Common.{◌≡◌, ◌∙◌, List, [], ◌∷◌, ◌++◌, length, refl, sym, ap, ap₂, map}
+use Rattle.std.specs.Prelude.{Option, Some, None}
+use Rattle.std.proofs.lemmas.List.{append-nil, length-map, map-append}
+use Rattle.byte_fields.specs.declared.parts.Row.{Row}
 use Rattle.disk_trait.specs.Image.{Image}
 use Rattle.disk_trait.specs.World.{World}
 use Rattle.extent_model.specs.Extents.{Extent}
 use Rattle.filter_api.specs.Spellings.{Spelling}
+use Rattle.filter_api.specs.declared.settings.Settings.{Settings}
 use Rattle.image_model.specs.Stands.{settings_of}
+use Rattle.level_merge.specs.Held.{AreHeld}
+use Rattle.level_merge.specs.Merging.{Merging}
 use Rattle.manifest.specs.Manifest.{Manifest}
 use Rattle.manifest_model.specs.Rows as rows
 use Rattle.manifest_model.specs.Version.{Version}
@@ -14,37 +18,59 @@ use Rattle.state_model.specs.State.{Job, State, written_by}
 use Rattle.state_model.specs.Taken.{extent_of, taken}
 use Rattle.table_file.specs.Opened.{Opened}
 use Rattle.table_model.specs.Tables.{FilterBytes, Table}
-use Rattle.store_core.specs.Kept.{Kept}
+use Rattle.store_core.specs.Kept.{Kept, rows_of}
+use Rattle.store_core.specs.Running.{RunsAs, extents_with, outputs_in}
 use Rattle.store_core.specs.Tied.{IsUnder, Tied}
 use Rattle.store_core.proofs.Taken.{rows_extents}
 
-pub record Agree (v : Version) (s : State) : Type 0 where
+pub record Agree (v : Version) (outputs : List Row) (s : State) : Type 0 where
   pub settings : s.settings ≡ settings_of v
   pub pages : s.pages ≡ v.pages
   pub epoch : s.epoch ≡ v.epoch
-  pub taken_is : taken s ≡ map rows.extent_of v.rows
+  pub taken_is : taken s ≡ extents_with v outputs
   pub many : length s.tables ≡ length v.rows
 
--- with no job, and nothing kept, the tables alone are taken
-taken_alone : (s : State) → s.job ≡ None → s.kept ≡ [] → taken s ≡ map extent_of s.tables
-taken_alone s no_job none_kept =
-    ap (λ (j : Option Job). map extent_of (s.tables ++ written_by j ++ s.kept)) no_job
-    ∙ ap (λ (k : List Table). map extent_of (s.tables ++ [] ++ k)) none_kept
-    ∙ ap (λ (ts : List Table). map extent_of (ts ++ [])) (append-nil s.tables)
-    ∙ ap (λ (ts : List Table). map extent_of ts) (append-nil s.tables)
+-- the extents of tables are those of the rows of the open tables
+pub held_extents : (spelling : Spelling) (settings : Settings) (image : Image) (opened : List Opened) (tables : List Table) → AreHeld spelling settings opened tables image
+    → map extent_of tables ≡ map rows.extent_of (rows_of opened)
+held_extents spelling settings image [] [] held = refl
+held_extents spelling settings image [] (t ∷ tables) held = absurd held
+held_extents spelling settings image (o ∷ opened) [] held = absurd held
+held_extents spelling settings image (o ∷ opened) (t ∷ tables) held =
+    ap₂ (λ (e : Extent) (more : List Extent). e ∷ more) (ap extent_of held.0.table_is) (held_extents spelling settings image opened tables held.1)
 
-pub agree : (spelling : Spelling) (m : Manifest) (opened : List Opened) (s : State) (image : Image) → s.job ≡ None → s.kept ≡ [] → IsUnder spelling m opened s image → Agree m.version s
-agree spelling m opened s image no_job none_kept under =
+-- and those of what a job has written are those of the outputs
+pub written_extents : (spelling : Spelling) (s : State) (image : Image) (opened : List Opened) (running : Option Merging) (job : Option Job) → RunsAs spelling opened running s job image
+    → map extent_of (written_by job) ≡ map rows.extent_of (outputs_in running)
+written_extents spelling s image opened None None runs = refl
+written_extents spelling s image opened None (Some job) runs = absurd runs
+written_extents spelling s image opened (Some m) None runs = absurd runs
+written_extents spelling s image opened (Some m) (Some job) runs =
+    held_extents spelling m.settings image m.made job.written runs.makes.made_are ∙ ap (map rows.extent_of) (sym runs.makes.rows)
+
+-- with nothing kept, the tables and what is written of the job are taken
+taken_parts : (s : State) → s.kept ≡ [] → taken s ≡ map extent_of s.tables ++ map extent_of (written_by s.job)
+taken_parts s none_kept =
+    ap (λ (k : List Table). map extent_of (s.tables ++ written_by s.job ++ k)) none_kept
+    ∙ ap (λ (ts : List Table). map extent_of ts) (append-nil (s.tables ++ written_by s.job))
+    ∙ map-append extent_of s.tables (written_by s.job)
+
+pub agree : (spelling : Spelling) (m : Manifest) (opened : List Opened) (running : Option Merging) (s : State) (image : Image) → s.kept ≡ [] → IsUnder spelling m opened running s image
+    → Agree m.version (outputs_in running) s
+agree spelling m opened running s image none_kept under =
     let named = under.ready.named in
     let extents = rows_extents spelling s.settings image m.version.rows s.tables named.tables in
     record {
       settings = named.settings;
       pages = named.pages;
       epoch = named.epoch;
-      taken_is = taken_alone s no_job none_kept ∙ extents;
+      taken_is = taken_parts s none_kept
+          ∙ ap₂ (λ (xs ys : List Extent). xs ++ ys) extents (written_extents spelling s image opened running s.job under.job)
+          ∙ sym (map-append rows.extent_of m.version.rows (outputs_in running));
       many = sym (length-map s.tables extent_of) ∙ ap (λ (es : List Extent). length es) extents ∙ length-map m.version.rows rows.extent_of;
     }
 
 -- by the image that the device holds
-pub tied_agree : (spelling : Spelling) (bytes : FilterBytes) (store : Kept) (s : State) (w : World) → w.leaves w.moment w.seen.held → Tied spelling bytes store s w → Agree store.manifest.version s
-tied_agree spelling bytes store s w current tied = agree spelling store.manifest store.tables s w.seen.held tied.no_job tied.none_kept (tied.images w.seen.held current)
+pub tied_agree : (spelling : Spelling) (bytes : FilterBytes) (store : Kept) (s : State) (w : World) → w.leaves w.moment w.seen.held → Tied spelling bytes store s w
+    → Agree store.manifest.version (outputs_in store.job) s
+tied_agree spelling bytes store s w current tied = agree spelling store.manifest store.tables store.job s w.seen.held tied.none_kept (tied.images w.seen.held current)

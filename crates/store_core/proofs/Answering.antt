@@ -1,6 +1,7 @@
 -- What a change is answered: a step of its request.
 use Rattle.std.proofs.Common.{◌≡◌, ◌⊎◌, inl, inr, Bool, true, false, refl, sym, ap, subst, ◌∙◌}
 use Rattle.std.specs.Prelude.{Option, Some, None, Result, Ok, Err, IfErr, IsErr, IsOk, OnErr}
+use Rattle.std.proofs.lemmas.Bool.{true≢false}
 use Rattle.disk_trait.specs.Image.{Image}
 use Rattle.disk_trait.specs.World.{Meanwhile, Rose, World}
 use Rattle.disk_trait.proofs.Moments.{meanwhile_weaker}
@@ -12,13 +13,14 @@ use Rattle.line_model.specs.Replies.{Reply}
 use Rattle.line_model.specs.Replies as reply
 use Rattle.line_model.specs.Requests.{Request}
 use Rattle.map_model.specs.SortedMap.{Map}
+use Rattle.state_model.proofs.SoundJobs.{drop_sound}
 use Rattle.state_model.specs.Causes.{Why}
 use Rattle.state_model.specs.Sound.{IsLeft}
-use Rattle.state_model.specs.State.{State}
+use Rattle.state_model.specs.State.{State, without_job}
 use Rattle.state_model.specs.Steps.{Answer, Step, TakesMemory, Writes, answer, answer_within, answers, done_or_refused, left_by, no_memory, unless_limit, write_failed}
 use Rattle.state_model.specs.View.{state_map}
 use Rattle.table_model.specs.Tables.{FilterBytes}
-use Rattle.store_core.specs.Answers.{Answered, HasCause, IsFailure, IsWriteRefusal, Turns, Wrote, refused, told, told_change, turns}
+use Rattle.store_core.specs.Answers.{Answered, HasCause, IsFailure, IsWriteRefusal, Turns, Wrote, refused, stopped_by, told, told_change, turns}
 use Rattle.store_core.specs.Kept.{Kept}
 use Rattle.store_core.specs.Tied.{Tied}
 use Rattle.store_core.specs.declared.error.StoreError.{StoreError}
@@ -44,17 +46,22 @@ module _ (spelling : Spelling) (bytes : FilterBytes) (s : State) (request : Requ
     tied = tied;
   }
 
-  -- a failure that the state does not explain, which leaves it
-  as_failed : (result : Reply) → Step Cause bytes s request result s → (to : State) → (answer bytes s request).1 ≡ to → (told_as : Option Reply) → told_as ≡ Some result → (store : Kept)
-      → Meanwhile (Both to) a b → (store.stopped ≡ false → Tied spelling bytes store s b) → Answered spelling bytes s request told_as store a b
-  as_failed result step to is told_as told_is store meanwhile tied = record {
+  -- a failure that the state does not explain, and what it leaves
+  as_failed_in : (left : State) (result : Reply) → Step Cause bytes s request result left → (to : State) → (answer bytes s request).1 ≡ to → (told_as : Option Reply) → told_as ≡ Some result
+      → (store : Kept) → Meanwhile (Both to) a b → (store.stopped ≡ false → Tied spelling bytes store left b) → Answered spelling bytes s request told_as store a b
+  as_failed_in left result step to is told_as told_is store meanwhile tied = record {
     reply = result;
     told_is = told_is;
-    after = s;
+    after = left;
     step = step;
     crash = subst (λ (t : State). Meanwhile (Both t) a b) (sym is) meanwhile;
     tied = tied;
   }
+
+  -- one that leaves the state
+  as_failed : (result : Reply) → Step Cause bytes s request result s → (to : State) → (answer bytes s request).1 ≡ to → (told_as : Option Reply) → told_as ≡ Some result → (store : Kept)
+      → Meanwhile (Both to) a b → (store.stopped ≡ false → Tied spelling bytes store s b) → Answered spelling bytes s request told_as store a b
+  as_failed result step to is told_as told_is store meanwhile tied = as_failed_in s result step to is told_as told_is store meanwhile tied
 
   -- the first of a limit that is broken
   pub limited : (limit : Reply) → limit_of request ≡ Some limit → (told_as : Option Reply) → told_as ≡ Some limit → (store : Kept)
@@ -66,7 +73,8 @@ module _ (spelling : Spelling) (bytes : FilterBytes) (s : State) (request : Requ
   -- a request that breaks no limit, and is a change
   module _ {T : Type 0} (change : Result State Reply) (result : Result T StoreError) (store : Kept) (free : limit_of request ≡ None)
       (is : answer_within bytes s request ≡ done_or_refused s change) (left : left_by request s ≡ s) (takes : IsErr result → TakesMemory s request)
-      (writes : IsErr result → (to : State) → change ≡ Ok to → Writes bytes s request) (sound : IsLeft bytes s s) (cause : IfErr result (IsWriteRefusal false None a b)) where
+      (writes : IsErr result → (to : State) → change ≡ Ok to → Writes bytes s request) (sound : IsLeft bytes s (without_job s)) (stopped : store.stopped ≡ stopped_by result)
+      (cause : IfErr result (IsWriteRefusal false None a b)) where
     answer_is : answer bytes s request ≡ done_or_refused s change
     answer_is = ap (λ (o : Option Reply). unless_limit o s (answer_within bytes s request)) free ∙ is
 
@@ -79,8 +87,9 @@ module _ (spelling : Spelling) (bytes : FilterBytes) (s : State) (request : Requ
     step_memory : IsErr result → Step Cause bytes s request reply.Memory s
     step_memory failed = subst (Step Cause bytes s request reply.Memory) left (no_memory free (takes failed) tt)
 
-    step_failed : IsErr result → (to : State) → change ≡ Ok to → Rose a.seen.write_faults b.seen.write_faults → Step Cause bytes s request reply.Device s
-    step_failed failed to made rose = write_failed s free (writes failed to made) rose sound (inl refl)
+    -- behind a write that failed no job is left, and the store is stopped
+    step_failed : IsErr result → (to : State) → change ≡ Ok to → Rose a.seen.write_faults b.seen.write_faults → Step Cause bytes s request reply.Device (without_job s)
+    step_failed failed to made rose = write_failed (without_job s) free (writes failed to made) rose sound (inl refl)
 
     by_result : (r : Result T StoreError) → r ≡ result → (to : State) → change ≡ Ok to → IfErr r IsFailure → IfErr r (IsWriteRefusal false None a b)
         → Turns spelling bytes s to r store a b → Answered spelling bytes s request (told_change r) store a b
@@ -88,7 +97,8 @@ module _ (spelling : Spelling) (bytes : FilterBytes) (s : State) (request : Requ
     by_result (Err error.Memory) same to made fails why t =
         as_failed reply.Memory (step_memory (subst IsErr same refl)) to (ap (λ (p : Answer). p.1) (done_is to made)) (Some reply.Memory) refl store t.meanwhile t.refused
     by_result (Err (error.Device cause)) same to made fails why t =
-        as_failed reply.Device (step_failed (subst IsErr same refl) to made why.2) to (ap (λ (p : Answer). p.1) (done_is to made)) (Some reply.Device) refl store t.meanwhile t.refused
+        as_failed_in (without_job s) reply.Device (step_failed (subst IsErr same refl) to made why.2) to (ap (λ (p : Answer). p.1) (done_is to made)) (Some reply.Device) refl store t.meanwhile
+        (λ runs. absurd (true≢false (sym (stopped ∙ ap stopped_by (sym same) ∙ why.1) ∙ runs)))
     by_result (Err error.Stopped) same to made fails why t = absurd fails
     by_result (Err (error.Limit limit)) same to made fails why t = absurd fails
     by_result (Err (error.Full need gap)) same to made fails why t = absurd fails
@@ -109,9 +119,9 @@ module _ (spelling : Spelling) (bytes : FilterBytes) (s : State) (request : Requ
     wrote_answers (turns to made fails t) = by_result result refl to made fails cause t
     wrote_answers (refused why made failed told_is tied meanwhile) = by_refusal why made failed told_is tied meanwhile
 
--- what stands as it stood is left
-pub is_left : (spelling : Spelling) (bytes : FilterBytes) (store : Kept) (s : State) (w : World) → Tied spelling bytes store s w → IsLeft bytes s s
-is_left spelling bytes store s w tied = record { settings = refl; pages = refl; no_job = tied.no_job; sound = tied.sound }
+-- what stands as it stood is left, but for the job
+pub is_left : (spelling : Spelling) (bytes : FilterBytes) (store : Kept) (s : State) (w : World) → Tied spelling bytes store s w → IsLeft bytes s (without_job s)
+is_left spelling bytes store s w tied = record { settings = refl; pages = refl; no_job = refl; sound = drop_sound bytes s tied.sound }
 
 -- what an error has
 pub on_err : {T E : Type 0} (P : Type 0) (r : Result T E) → OnErr r P → IsErr r → P

@@ -1,5 +1,5 @@
 -- What a flush makes of the state under a store, and why it makes nothing of it.
-use Rattle.std.proofs.Common.{◌≡◌, ◌≢◌, ◌⊎◌, inl, inr, ◌∙◌, ◌<◌, ◌≤◌, ◌+◌, ℕ, Bool, true, false, List, [], ◌∷◌, length, map, refl, sym, ap, subst, arith}
+use Rattle.std.proofs.Common.{◌≡◌, ◌≢◌, ◌⊎◌, inl, inr, ◌∙◌, ◌<◌, ◌≤◌, ◌+◌, ℕ, Bool, true, false, List, [], ◌∷◌, length, refl, sym, ap, subst, arith}
 use Rattle.std.specs.Prelude.{Option, Some, None, Result, Ok, Err, IfErr, IsErrAnd, ◌==◌}
 use Rattle.block_model.specs.Places.{end_page}
 use Rattle.byte_fields.specs.declared.parts.Row.{Row}
@@ -9,7 +9,7 @@ use Rattle.disk_trait.proofs.Moments.{meanwhile_weaker, started}
 use Rattle.disk_trait.specs.declared.fault.DiskFault.{DiskFault}
 use Rattle.entry_model.specs.Entries.{Entry}
 use Rattle.extent_model.proofs.Rooms.{gap_small}
-use Rattle.extent_model.specs.Extents.{Extent}
+use Rattle.extent_model.specs.Extents.{AreLaid, Extent}
 use Rattle.extent_model.specs.Gaps.{first_gap, largest_gap}
 use Rattle.filter_api.specs.Spellings.{Spelling}
 use Rattle.filter_api.specs.declared.settings.Settings.{Settings}
@@ -22,7 +22,6 @@ use Rattle.manifest.specs.Manifest.{Manifest}
 use Rattle.manifest.specs.declared.fault.ManifestFault.{ManifestFault}
 use Rattle.manifest.specs.declared.fault.ManifestFault.TheVariants as fault
 use Rattle.manifest_model.specs.Laws.{IsVersion}
-use Rattle.manifest_model.specs.Rows.{extent_of}
 use Rattle.manifest_model.specs.Version.{Version}
 use Rattle.mem_table.specs.Table.{MemoryTable}
 use Rattle.state_model.proofs.MostTables.{over_tables}
@@ -38,7 +37,9 @@ use Rattle.table_model.specs.Tables.{FilterBytes, filter_bytes_of, table_pages}
 use Rattle.store_core.specs.Answers.{IsFailure, Turns, Wrote, refused, turns}
 use Rattle.store_core.specs.Faults.{of_manifest_fault}
 use Rattle.store_core.specs.Flushing.{IsFlushFault, IsPlan, IsPlanRefusal, Replaces, flushed_at, installed_manifest, need_under, opened_of}
+use Rattle.level_merge.specs.Merging.{Merging}
 use Rattle.store_core.specs.Kept.{IsWhole, Kept}
+use Rattle.store_core.specs.Running.{extents_with, outputs_in}
 use Rattle.store_core.specs.Tied.{IsUnder, Tied}
 use Rattle.store_core.specs.declared.error.Limit.TheVariants as limit
 use Rattle.store_core.specs.declared.error.StoreError.{StoreError}
@@ -66,7 +67,7 @@ module _ (spelling : Spelling) (bytes : FilterBytes) (store : Kept) (s : State) 
 
   -- before anything is written
   pub stands_now : IsWhole store → (w : World) → Tied spelling bytes store s w → Meanwhile Map w w
-  stands_now whole w tied = started Map w (λ image left. under_stands spelling store.manifest store.tables whole.slot whole.rows s image (tied.images image left))
+  stands_now whole w tied = started Map w (λ image left. under_stands spelling store.manifest store.tables store.job whole.slot whole.rows s image (tied.images image left))
 
   -- memory was wanted, whatever the change
   wanted_in : {T : Type 0} (after : Kept) (change : Result State Reply) (a b : World) → Tied spelling bytes after s b → Meanwhile Map a b → Wrote {T = T} spelling bytes s change (Err error.Memory) after a b
@@ -102,7 +103,7 @@ module _ (spelling : Spelling) (bytes : FilterBytes) (store : Kept) (s : State) 
     abbrev v : Version
     v = store.manifest.version
 
-    agrees : Agree v s
+    agrees : Agree v (outputs_in store.job) s
     agrees = tied_agree spelling bytes store s a current tied
 
     some_memory : memory s ≢ []
@@ -111,10 +112,10 @@ module _ (spelling : Spelling) (bytes : FilterBytes) (store : Kept) (s : State) 
     need_is : table_pages bytes s.settings (memory s) ≡ need_under bytes v store.memory.entries
     need_is = ap (λ (st : Settings). table_pages bytes st (memory s)) agrees.settings ∙ ap (table_pages bytes (settings_of v)) (sym tied.memory)
 
-    largest_is : largest_gap s.pages (taken s) ≡ largest_gap v.pages (map extent_of v.rows)
+    largest_is : largest_gap s.pages (taken s) ≡ largest_gap v.pages (extents_with v (outputs_in store.job))
     largest_is = ap (λ (n : ℕ). largest_gap n (taken s)) agrees.pages ∙ ap (largest_gap v.pages) agrees.taken_is
 
-    first_is : (need : ℕ) → first_gap s.pages (taken s) need ≡ first_gap v.pages (map extent_of v.rows) need
+    first_is : (need : ℕ) → first_gap s.pages (taken s) need ≡ first_gap v.pages (extents_with v (outputs_in store.job)) need
     first_is need = ap (λ (n : ℕ). first_gap n (taken s) need) agrees.pages ∙ ap (λ (es : List Extent). first_gap v.pages es need) agrees.taken_is
 
     few : length v.rows < 1024 → length s.tables < 1024
@@ -125,19 +126,19 @@ module _ (spelling : Spelling) (bytes : FilterBytes) (store : Kept) (s : State) 
     many_refuse : 1024 ≤ length v.rows → flushed bytes s ≡ Err ManyTables
     many_refuse many = over_tables bytes s (omega (arith, many, agrees.many)) some_memory
 
-    full_refuses : (need gap : ℕ) → length v.rows < 1024 → need ≡ need_under bytes v store.memory.entries → gap ≡ largest_gap v.pages (map extent_of v.rows)
-        → largest_gap v.pages (map extent_of v.rows) < need_under bytes v store.memory.entries → flushed bytes s ≡ Err (Full need gap)
+    full_refuses : (need gap : ℕ) → length v.rows < 1024 → need ≡ need_under bytes v store.memory.entries → gap ≡ largest_gap v.pages (extents_with v (outputs_in store.job))
+        → largest_gap v.pages (extents_with v (outputs_in store.job)) < need_under bytes v store.memory.entries → flushed bytes s ≡ Err (Full need gap)
     full_refuses need gap less need_so gap_so wide =
         let none = gap_small s.pages (taken s) (table_pages bytes s.settings (memory s)) (omega (arith, wide, need_is, largest_is)) in
         flushed_full bytes s some_memory (few less) none
         ∙ ap (λ (n : ℕ). Err (Full n (largest_gap s.pages (taken s)))) (need_is ∙ sym need_so)
         ∙ ap (λ (g : ℕ). Err (Full need g)) (largest_is ∙ sym gap_so)
 
-    last_refuses : length v.rows < 1024 → need_under bytes v store.memory.entries ≤ largest_gap v.pages (map extent_of v.rows) → v.epoch ≡ last_epoch → flushed bytes s ≡ Err LastEpoch
+    last_refuses : length v.rows < 1024 → need_under bytes v store.memory.entries ≤ largest_gap v.pages (extents_with v (outputs_in store.job)) → v.epoch ≡ last_epoch → flushed bytes s ≡ Err LastEpoch
     last_refuses less room last =
         flushed_last bytes s some_memory (few less) (omega (arith, room, need_is, largest_is)) (eq_true s.epoch last_epoch (omega (arith, agrees.epoch, last, last_is)))
 
-    pub plan_refused : {T : Type 0} (whole : IsWhole store) (x : StoreError) → IsPlanRefusal bytes v store.memory.entries x → Wrote {T = T} spelling bytes s (flushed bytes s) (Err x) store a a
+    pub plan_refused : {T : Type 0} (whole : IsWhole store) (x : StoreError) → IsPlanRefusal bytes v (outputs_in store.job) store.memory.entries x → Wrote {T = T} spelling bytes s (flushed bytes s) (Err x) store a a
     plan_refused whole error.Memory why = wanted (flushed bytes s) a a tied (stands_now whole a tied)
     plan_refused whole (error.Limit limit.Tables) why = refused ManyTables (many_refuse why) refl (inl refl) tied (stands_now whole a tied)
     plan_refused whole (error.Limit limit.Epoch) why = refused LastEpoch (last_refuses why.0 why.1 why.2) refl (inl refl) tied (stands_now whole a tied)
@@ -155,28 +156,28 @@ module _ (spelling : Spelling) (bytes : FilterBytes) (store : Kept) (s : State) 
 -- ---- what is planned
 
 -- the row of a plan is that of its own level, and ends on the largest device
-module _ (spelling : Spelling) (built_cutoff : ℕ → List Leaf → ℕ) (m : Manifest) (entries : List Entry) (parts : Built) (row : Row) (next : Manifest)
-    (plan : IsPlan spelling built_cutoff m entries parts row next) where
+module _ (spelling : Spelling) (built_cutoff : ℕ → List Leaf → ℕ) (m : Manifest) (outputs : List Row) (entries : List Entry) (parts : Built) (row : Row) (next : Manifest)
+    (plan : IsPlan spelling built_cutoff m outputs entries parts row next) where
   pub row_again : row ≡ made_row spelling built_cutoff parts row.level row.first_page
   row_again =
       let level_is : row.level ≡ 0 = ap (λ (r : Row). r.level) plan.row_is ∙ row_level row.first_page parts.entries (made_filter spelling built_cutoff parts) in
       plan.row_is ∙ ap (λ (n : ℕ). made_row spelling built_cutoff parts n row.first_page) (sym level_is)
 
-  pub row_within : IsVersion m.version → IsVersion next.version → row.first_page + table_pages (filter_bytes_of spelling built_cutoff) parts.settings parts.entries ≤ next.version.pages
+  pub row_within : IsVersion m.version → AreLaid m.version.pages (extents_with m.version outputs) → IsVersion next.version → row.first_page + table_pages (filter_bytes_of spelling built_cutoff) parts.settings parts.entries ≤ next.version.pages
       → end_page row ≤ 16777216
-  row_within is next_is fits = omega (arith, fits, next_is.few_pages, pages_are spelling built_cutoff m entries parts row next is plan)
+  row_within is laid next_is fits = omega (arith, fits, next_is.few_pages, pages_are spelling built_cutoff m outputs entries parts row next is laid plan)
 
 module _ (spelling : Spelling) (built_cutoff : ℕ → List Leaf → ℕ) (store : Kept) (s : State) (a b : World) (current : a.leaves a.moment a.seen.held)
     (tied : Tied spelling (filter_bytes_of spelling built_cutoff) store s a) (some : store.memory.entries ≢ []) (parts : Built) (row : Row) (next : Manifest)
-    (plan : IsPlan spelling built_cutoff store.manifest store.memory.entries parts row next) where
+    (plan : IsPlan spelling built_cutoff store.manifest (outputs_in store.job) store.memory.entries parts row next) where
   abbrev bytes : FilterBytes
   bytes = filter_bytes_of spelling built_cutoff
 
   abbrev Before : Image → Type 0
   Before = StandsForMap spelling (state_map s)
 
-  pub plan_of_memory : IsPlan spelling built_cutoff store.manifest (memory s) parts row next
-  plan_of_memory = subst (λ (es : List Entry). IsPlan spelling built_cutoff store.manifest es parts row next) tied.memory plan
+  pub plan_of_memory : IsPlan spelling built_cutoff store.manifest (outputs_in store.job) (memory s) parts row next
+  plan_of_memory = subst (λ (es : List Entry). IsPlan spelling built_cutoff store.manifest (outputs_in store.job) es parts row next) tied.memory plan
 
   abbrev to : State
   to = flushed_at bytes row.first_page s
@@ -186,21 +187,21 @@ module _ (spelling : Spelling) (built_cutoff : ℕ → List Leaf → ℕ) (store
       let less = few spelling bytes store s a current tied some plan.few in
       let need_so = need_is spelling bytes store s a current tied some in
       let here = first_is spelling bytes store s a current tied some (table_pages bytes s.settings (memory s))
-      ∙ ap (first_gap store.manifest.version.pages (map extent_of store.manifest.version.rows)) need_so ∙ plan.place in
+      ∙ ap (first_gap store.manifest.version.pages (extents_with store.manifest.version (outputs_in store.job))) need_so ∙ plan.place in
       let epoch_is = (agrees spelling bytes store s a current tied some).epoch in
       flushed_done bytes s (some_memory spelling bytes store s a current tied some) less row.first_page here (below s.epoch last_epoch (omega (arith, epoch_is, plan.epoch, last_is)))
 
   pub flush_done : {T U : Type 0} (x : T) (y : U) (after : Kept) → Replaces spelling built_cutoff store s parts row next (Ok x) a b → after.manifest ≡ installed_manifest next
-      → after.tables ≡ opened_of built_cutoff parts row ∷ store.tables → after.log.filled ≡ 0 → after.memory.entries ≡ [] → Wrote spelling bytes s (flushed bytes s) (Ok y) after a b
-  flush_done x y after replaces manifest_is tables_are begun cleared = turns to planned tt (record {
+      → after.tables ≡ opened_of built_cutoff parts row ∷ store.tables → after.job ≡ store.job → after.log.filled ≡ 0 → after.memory.entries ≡ [] → Wrote spelling bytes s (flushed bytes s) (Ok y) after a b
+  flush_done x y after replaces manifest_is tables_are same_job begun cleared = turns to planned tt (record {
     meanwhile = meanwhile_weaker Before _ a b replaces.meanwhile (λ image map. inl map);
     done = record {
       sound = flushed_sound bytes s to tied.sound planned;
-      no_job = tied.no_job;
       none_kept = tied.none_kept;
       images = λ image left.
-          subst (λ (ts : List Opened). IsUnder spelling after.manifest ts to image) (sym tables_are)
-          (subst (λ (m : Manifest). IsUnder spelling m (opened_of built_cutoff parts row ∷ store.tables) to image) (sym manifest_is) (replaces.done image left));
+          subst (λ (ts : List Opened). IsUnder spelling after.manifest ts after.job to image) (sym tables_are)
+          (subst (λ (m : Manifest). IsUnder spelling m (opened_of built_cutoff parts row ∷ store.tables) after.job to image) (sym manifest_is)
+          (subst (λ (running : Option Merging). IsUnder spelling (installed_manifest next) (opened_of built_cutoff parts row ∷ store.tables) running to image) (sym same_job) (replaces.done image left)));
       log = begun ∙ sym none_filled;
       memory = cleared;
     };
@@ -208,15 +209,15 @@ module _ (spelling : Spelling) (built_cutoff : ℕ → List Leaf → ℕ) (store
   })
 
   -- the store with other fields the same
-  tied_at : (after : Kept) → after.manifest ≡ store.manifest → after.tables ≡ store.tables → after.log ≡ store.log → after.memory ≡ store.memory
-      → Now (IsUnder spelling store.manifest store.tables s) b → Tied spelling bytes after s b
-  tied_at after same_manifest same_tables same_log same_memory images = record {
+  tied_at : (after : Kept) → after.manifest ≡ store.manifest → after.tables ≡ store.tables → after.job ≡ store.job → after.log ≡ store.log → after.memory ≡ store.memory
+      → Now (IsUnder spelling store.manifest store.tables store.job s) b → Tied spelling bytes after s b
+  tied_at after same_manifest same_tables same_job same_log same_memory images = record {
     sound = tied.sound;
-    no_job = tied.no_job;
     none_kept = tied.none_kept;
     images = λ image left.
-        subst (λ (ts : List Opened). IsUnder spelling after.manifest ts s image) (sym same_tables)
-        (subst (λ (m : Manifest). IsUnder spelling m store.tables s image) (sym same_manifest) (images image left));
+        subst (λ (ts : List Opened). IsUnder spelling after.manifest ts after.job s image) (sym same_tables)
+        (subst (λ (m : Manifest). IsUnder spelling m store.tables after.job s image) (sym same_manifest)
+        (subst (λ (running : Option Merging). IsUnder spelling store.manifest store.tables running s image) (sym same_job) (images image left)));
     log = ap (λ (p : _). p.filled) same_log ∙ tied.log;
     memory = ap (λ (m : _). m.entries) same_memory ∙ tied.memory;
   }
@@ -229,11 +230,11 @@ module _ (spelling : Spelling) (built_cutoff : ℕ → List Leaf → ℕ) (store
     refused = λ runs. absurd (never after.stopped stopped runs);
   })
 
-  module _ (after : Kept) (same_manifest : after.manifest ≡ store.manifest) (same_tables : after.tables ≡ store.tables) (same_log : after.log ≡ store.log) (same_memory : after.memory ≡ store.memory) where
+  module _ (after : Kept) (same_manifest : after.manifest ≡ store.manifest) (same_tables : after.tables ≡ store.tables) (same_job : after.job ≡ store.job) (same_log : after.log ≡ store.log) (same_memory : after.memory ≡ store.memory) where
     -- nothing was written
     by_memory : {T U : Type 0} → Replaces {T = T} spelling built_cutoff store s parts row next (Err fault.Memory) a b → Wrote {T = U} spelling bytes s (flushed bytes s) (Err error.Memory) after a b
     by_memory replaces =
-        wanted spelling bytes after s (flushed bytes s) a b (tied_at after same_manifest same_tables same_log same_memory (replaces.wanted refl)) replaces.meanwhile
+        wanted spelling bytes after s (flushed bytes s) a b (tied_at after same_manifest same_tables same_job same_log same_memory (replaces.wanted refl)) replaces.meanwhile
 
     told_as : {T U : Type 0} (f : ManifestFault) → Replaces {T = T} spelling built_cutoff store s parts row next (Err f) a b → IsFlushFault a b f
         → ((cause : DiskFault) → f ≡ fault.Device cause → after.stopped ≡ true) → Wrote {T = U} spelling bytes s (flushed bytes s) (Err (of_manifest_fault f)) after a b

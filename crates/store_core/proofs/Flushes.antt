@@ -20,7 +20,7 @@ use Rattle.extent_model.specs.Gaps.{first_gap}
 use Rattle.filter_api.specs.Spellings.{Spelling}
 use Rattle.filter_api.specs.declared.settings.Settings.{Settings}
 use Rattle.filter_model.specs.Leaves.{Leaf}
-use Rattle.image_model.proofs.Frames.{free_apart, named_behind_slots, other_log_apart}
+use Rattle.image_model.proofs.Frames.{free_apart, named_behind_slots, other_log_apart, unnamed_behind}
 use Rattle.image_model.proofs.Installs.{installed_ready}
 use Rattle.image_model.proofs.Placed.{behind_logs}
 use Rattle.image_model.specs.Stands.{IsNamedBy, IsReady, StandsForMap, UnnamedStand, as_shown}
@@ -39,22 +39,27 @@ use Rattle.manifest_model.specs.Version.{Version, log_page_of}
 use Rattle.state_model.proofs.Kept.{flushed_keeps}
 use Rattle.state_model.proofs.SoundChanges.{flushed_sound}
 use Rattle.state_model.specs.Changes.{flushed}
-use Rattle.state_model.specs.State.{Job, State, written_by}
+use Rattle.state_model.specs.State.{State}
 use Rattle.state_model.specs.Taken.{extent_of, taken}
 use Rattle.state_model.specs.View.{memory, state_map}
 use Rattle.table_file.specs.Building.{Built}
+use Rattle.table_file.specs.Opened.{Opened}
 use Rattle.table_file.specs.Writing.{IsWriteOf, StandsWith, made_row}
 use Rattle.table_model.proofs.OneTable.{one_table}
-use Rattle.table_model.specs.Images.{IsTableOf, StandsInExtent}
+use Rattle.table_model.specs.Images.{IsTableOf}
 use Rattle.table_model.specs.Laws.{IsApartFromRow}
 use Rattle.table_model.specs.Tables.{FilterBytes, Table, filter_bytes_of, table_of, table_pages}
 use Rattle.store_core.specs.Answers.{is_write}
 use Rattle.store_core.specs.Flushing.{IsFlushFault, IsPlan, Replaces, flushed_at, installed_manifest, need_under, next_manifest, opened_of, other_log_page}
 use Rattle.store_core.specs.Kept.{IsWhole, Kept, rows_of}
-use Rattle.store_core.specs.Tied.{AreHeld, IsHeld, IsUnder, Tied}
+use Rattle.level_merge.specs.FollowLaws.{FlushedIsFollowed, OtherImageIsFollowed}
+use Rattle.level_merge.specs.Held.{AreHeld, IsHeld}
+use Rattle.store_core.specs.Running.{RunsAs, extents_with, outputs_in}
+use Rattle.store_core.specs.Tied.{IsUnder, Tied}
 use Rattle.store_core.proofs.Agreed.{Agree, tied_agree}
 use Rattle.store_core.proofs.Flushed.{flushed_done}
-use Rattle.store_core.proofs.Frames.{held_kept, under_kept, under_stands}
+use Rattle.store_core.proofs.Frames.{held_kept, runs_kept, under_kept, under_stands}
+use Rattle.store_core.proofs.Runs.{runs_behind, unnamed_apart}
 
 -- each table takes a page, that of its index
 pub some_pages : (filter_bytes : FilterBytes) (settings : Settings) (entries : List Entry) → 0 < table_pages filter_bytes settings entries
@@ -98,8 +103,8 @@ device_cause f (Err e) old new is writes rose = subst (IsFlushFault old new) (sy
 never_memory : {T : Type 0} (P : Type 0) (r : Result T ManifestFault) → IfErr r (λ why. why ≢ fault.Memory) → IfErr r (λ why. why ≡ fault.Memory → P)
 never_memory P r other = if_err (λ why. why ≢ fault.Memory) (λ why. why ≡ fault.Memory → P) r (λ why never is. absurd (never is)) other
 
-module _ (spelling : Spelling) (built_cutoff : ℕ → List Leaf → ℕ) (store : Kept) (s : State) (parts : Built) (row : Row) (next : Manifest) (whole : IsWhole store)
-    (plan : IsPlan spelling built_cutoff store.manifest (memory s) parts row next) where
+module _ (image_law : OtherImageIsFollowed) (flush_law : FlushedIsFollowed) (spelling : Spelling) (built_cutoff : ℕ → List Leaf → ℕ) (store : Kept) (s : State) (parts : Built) (row : Row) (next : Manifest)
+    (whole : IsWhole store) (plan : IsPlan spelling built_cutoff store.manifest (outputs_in store.job) (memory s) parts row next) where
   abbrev filter_bytes : FilterBytes
   filter_bytes = filter_bytes_of spelling built_cutoff
 
@@ -126,7 +131,7 @@ module _ (spelling : Spelling) (built_cutoff : ℕ → List Leaf → ℕ) (store
   i = install_of (next_manifest store.manifest row) store.manifest.version
 
   abbrev Under : Image → Type 0
-  Under = IsUnder spelling store.manifest store.tables s
+  Under = IsUnder spelling store.manifest store.tables store.job s
 
   abbrev Held : Image → Type 0
   Held = IsHeld spelling s.settings (opened_of built_cutoff parts row) made
@@ -140,7 +145,7 @@ module _ (spelling : Spelling) (built_cutoff : ℕ → List Leaf → ℕ) (store
   IsOpenThere = StandsWith spelling parts.settings (opened_of built_cutoff parts (made_row spelling built_cutoff parts 0 row.first_page)) parts.entries
 
   module _ (a : World) (tied : Tied spelling (filter_bytes_of spelling built_cutoff) store s a) (current : a.leaves a.moment a.seen.held) where
-    agrees : Agree v s
+    agrees : Agree v (outputs_in store.job) s
     agrees = tied_agree spelling (filter_bytes_of spelling built_cutoff) store s a current tied
 
     settings_are : parts.settings ≡ s.settings
@@ -156,7 +161,7 @@ module _ (spelling : Spelling) (built_cutoff : ℕ → List Leaf → ℕ) (store
     gap : first_gap s.pages (taken s) (table_pages (filter_bytes_of spelling built_cutoff) s.settings (memory s)) ≡ Some row.first_page
     gap =
         ap₂ (λ (n : ℕ) (es : List Extent). first_gap n es (table_pages filter_bytes s.settings (memory s))) agrees.pages agrees.taken_is
-        ∙ ap (λ (set : Settings). first_gap v.pages (map rows.extent_of v.rows) (table_pages filter_bytes set (memory s))) agrees.settings
+        ∙ ap (λ (set : Settings). first_gap v.pages (extents_with v (outputs_in store.job)) (table_pages filter_bytes set (memory s))) agrees.settings
         ∙ plan.place
 
     need_is : table_pages (filter_bytes_of spelling built_cutoff) s.settings (memory s) ≡ need
@@ -191,7 +196,7 @@ module _ (spelling : Spelling) (built_cutoff : ℕ → List Leaf → ℕ) (store
 
     table_keeps : (f g : Image) → Under f → Torn (4096 * row.first_page) (4096 * need) f g → Under g
     table_keeps f g u torn =
-        under_kept spelling m store.tables whole.slot whole.rows s (4096 * row.first_page) (4096 * need) f g
+        under_kept spelling m store.tables store.job whole.slot whole.rows image_law s (4096 * row.first_page) (4096 * need) f g
         (free_apart spelling (place_of m.slot) (other_place m.slot) m.other_open v s row.first_page need f from free.1 u.ready) torn u
 
     pub table_leads : {T E : Type 0} (result : Result T E) (b : World) → WriteMoves (byte_of_page row.first_page) (4096 * need) a b → OnOk result (Now IsThere b)
@@ -205,7 +210,7 @@ module _ (spelling : Spelling) (built_cutoff : ℕ → List Leaf → ℕ) (store
         → Replaces spelling built_cutoff store s parts row next result a b
     no_table first result b moves is stands failed other_cause = record {
       meanwhile = meanwhile_weaker Under (StandsForMap spelling (state_map s)) a b ((table_leads first b moves is stands).meanwhile tied.images)
-          (under_stands spelling store.manifest store.tables whole.slot whole.rows s);
+          (under_stands spelling store.manifest store.tables store.job whole.slot whole.rows s);
       done = not_ok _ result failed;
       wanted = never_memory (Now Under b) result other_cause;
     }
@@ -221,7 +226,7 @@ module _ (spelling : Spelling) (built_cutoff : ℕ → List Leaf → ℕ) (store
 
       log_keeps : (f g : Image) → Under f × Held f → Torn (start_of area) 1 f g → Under g × Held g
       log_keeps f g both torn = (
-        under_kept spelling m store.tables whole.slot whole.rows s (start_of area) 1 f g
+        under_kept spelling m store.tables store.job whole.slot whole.rows image_law s (start_of area) 1 f g
             (other_log_apart spelling (place_of m.slot) (other_place m.slot) m.other_open v s store.log.area area (start_of area) 1 f tied.sound.on_device whole.area other small
             (omega arith) (omega arith) both.0.ready) torn both.0,
         held_apart (start_of area) 1 f g (omega (arith, small, from)) torn both.1,
@@ -236,16 +241,21 @@ module _ (spelling : Spelling) (built_cutoff : ℕ → List Leaf → ℕ) (store
 
       -- all that lies behind the slots
       abbrev Behind : Image → Type 0
-      Behind image = IsNamedBy spelling v (as_shown s) image × AreHeld spelling s.settings store.tables s.tables image × Held image × LogIs area [] image
+      Behind image = IsNamedBy spelling v (as_shown s) image × AreHeld spelling s.settings store.tables s.tables image × Held image × LogIs area [] image × UnnamedStand spelling s image
+          × RunsAs spelling store.tables store.job s s.job image
 
       slots_keep : (f g : Image) → Behind f → Torn (other_place m.slot) 131072 f g → Behind g
       slots_keep f g here torn =
-          let before : other_place m.slot + 131072 ≤ 262144 = omega arith in (
+          let before : other_place m.slot + 131072 ≤ 262144 = omega arith in
+          let tables = held_kept spelling s.settings (other_place m.slot) 131072 f g torn store.tables s.tables
+          (subst (AllByRecursion (IsApartFromRow (other_place m.slot) 131072)) (sym whole.rows) (behind_logs v (other_place m.slot) 131072 whole.version (omega (arith, before)))) here.1 in (
             named_behind_slots spelling v (as_shown s) (other_place m.slot) 131072 f g whole.version before torn here.0,
-            held_kept spelling s.settings (other_place m.slot) 131072 f g torn store.tables s.tables
-                (subst (AllByRecursion (IsApartFromRow (other_place m.slot) 131072)) (sym whole.rows) (behind_logs v (other_place m.slot) 131072 whole.version (omega (arith, before)))) here.1,
+            tables,
             held_apart (other_place m.slot) 131072 f g (omega (arith, before, from)) torn here.2,
             log_kept area [] (other_place m.slot) 131072 f g (inr (omega (arith, before))) torn here.3,
+            unnamed_behind spelling s (other_place m.slot) 131072 f g tied.sound.on_device (omega (arith, before)) torn here.4,
+            runs_kept image_law spelling s (other_place m.slot) 131072 f g torn store.tables here.1 tables store.job s.job
+                (unnamed_apart s (other_place m.slot) 131072 tied.sound.on_device (omega (arith, before))) here.5,
           )
 
       is_flushed : (image : Image) → Held image → flushed (filter_bytes_of spelling built_cutoff) s ≡ Ok to
@@ -272,38 +282,40 @@ module _ (spelling : Spelling) (built_cutoff : ℕ → List Leaf → ℕ) (store
       maps image (here, inr new_there) =
           (to, (raised new.version, record { version_is = new_there; named = new_named image here.0 here.2 here.3 }), flushed_keeps filter_bytes s to (is_flushed image here.2))
 
-      none_unnamed : (image : Image) → UnnamedStand spelling to image
-      none_unnamed image =
-          subst (AllByRecursion (StandsInExtent spelling s.settings image))
-          (sym (ap₂ (λ (job : Option Job) (kept : List Table). written_by job ++ kept) tied.no_job tied.none_kept)) tt
+      many : length store.tables ≡ length s.tables
+      many = sym (length-map store.tables (λ (t : Opened). t.row)) ∙ ap (λ (rs : List Row). length rs) whole.rows ∙ sym agrees.many
+
+      runs_then : (image : Image) → RunsAs spelling store.tables store.job s s.job image → RunsAs spelling (opened_of built_cutoff parts row ∷ store.tables) store.job to s.job image
+      runs_then image runs = runs_behind flush_law spelling v s to store.tables (opened_of built_cutoff parts row) made image store.job s.job refl whole.job many refl refl runs
 
       ends : MayInstall i → (image : Image) → Behind image × IsInstalled i image
-          → IsUnder spelling (installed_manifest new) (opened_of built_cutoff parts row ∷ store.tables) to image
+          → IsUnder spelling (installed_manifest new) (opened_of built_cutoff parts row ∷ store.tables) store.job to image
       ends may image (here, is) =
           let back : 1 - (1 - m.slot) ≡ m.slot = omega (arith, whole.slot) in
           let ready : IsReady spelling (other_place m.slot) (place_of m.slot) true (raised new.version) to image =
-          installed_ready spelling i to image may is (new_named image here.0 here.2 here.3) (none_unnamed image) in
+          installed_ready spelling i to image may is (new_named image here.0 here.2 here.3) here.4 in
           record {
             ready = subst (λ (n : ℕ). IsReady spelling (other_place m.slot) (place_of n) true (raised new.version) to image) (sym back) ready;
             tables = (here.2, here.1);
+            job = runs_then image here.5;
           }
 
       pub install_leads : {T E : Type 0} (result : Result T E) (c d : World) → MayInstall i → WriteMoves (other_place next.slot) 131072 c d
           → Leads (StandsInSlot next.slot next.other_open v) (IsOldOrNew (install_of next v)) (IsInstalled (install_of next v)) result c d
           → Leads (λ image. (Under image × Held image) × LogIs area [] image) (StandsForMap spelling (state_map s))
-          (IsUnder spelling (installed_manifest next) (opened_of built_cutoff parts row ∷ store.tables) to) result c d
+          (IsUnder spelling (installed_manifest next) (opened_of built_cutoff parts row ∷ store.tables) store.job to) result c d
       install_leads result c d may moves leads =
           let moved : WriteMoves (other_place m.slot) 131072 c d = subst (λ (n : Manifest). WriteMoves (other_place n.slot) 131072 c d) plan.next_is moves in
           let own : Leads (StandsInSlot m.slot m.other_open v) (IsOldOrNew i) (IsInstalled i) result c d =
           subst (λ (n : Manifest). Leads (StandsInSlot n.slot n.other_open v) (IsOldOrNew (install_of n v)) (IsInstalled (install_of n v)) result c d) plan.next_is leads in
           subst (λ (n : Manifest). Leads (λ image. (Under image × Held image) × LogIs area [] image) (StandsForMap spelling (state_map s))
-          (IsUnder spelling (installed_manifest n) (opened_of built_cutoff parts row ∷ store.tables) to) result c d) (sym plan.next_is)
+          (IsUnder spelling (installed_manifest n) (opened_of built_cutoff parts row ∷ store.tables) store.job to) result c d) (sym plan.next_is)
           (leads_weaker (λ image. Behind image × StandsInSlot m.slot m.other_open v image) (λ image. Behind image × IsOldOrNew i image) (λ image. Behind image × IsInstalled i image)
           (λ image. (Under image × Held image) × LogIs area [] image) (StandsForMap spelling (state_map s))
-          (IsUnder spelling (installed_manifest new) (opened_of built_cutoff parts row ∷ store.tables) to) result c d
+          (IsUnder spelling (installed_manifest new) (opened_of built_cutoff parts row ∷ store.tables) store.job to) result c d
           (leads_framed Behind (StandsInSlot m.slot m.other_open v) (IsOldOrNew i) (IsInstalled i) (other_place m.slot) 131072 result c d slots_keep moved.time own)
           (λ image all. (
-            (all.0.0.ready.named, all.0.0.tables, all.0.1, all.1),
+            (all.0.0.ready.named, all.0.0.tables, all.0.1, all.1, all.0.0.ready.unnamed, all.0.0.job),
             record { current = all.0.0.ready.current; gate = all.0.0.ready.gate },
           ))
           maps (ends may))
@@ -317,10 +329,10 @@ module _ (spelling : Spelling) (built_cutoff : ℕ → List Leaf → ℕ) (store
       Started image = (Under image × Held image) × LogIs area [] image
 
       abbrev Done : Image → Type 0
-      Done = IsUnder spelling (installed_manifest next) (opened_of built_cutoff parts row ∷ store.tables) to
+      Done = IsUnder spelling (installed_manifest next) (opened_of built_cutoff parts row ∷ store.tables) store.job to
 
       to_map : (image : Image) → Under image → Map image
-      to_map = under_stands spelling store.manifest store.tables whole.slot whole.rows s
+      to_map = under_stands spelling store.manifest store.tables store.job whole.slot whole.rows s
 
       may : IsVersion next.version → MayInstall i
       may sound =

@@ -11,7 +11,7 @@ use Rattle.block_model.specs.Laws.{joined}
 use Rattle.map_model.specs.SortedMap.{Bytes}
 use Rattle.state_model.specs.View.{first_found}
 use Rattle.store_core.specs.Getting.{entries_by_table}
-use Rattle.store_core.specs.Tied.{AreHeld, IsHeld}
+use Rattle.level_merge.specs.Held.{AreHeld, IsHeld}
 use Rattle.table_file.specs.Opened.{Opened}
 use Rattle.table_file.specs.Search.{StandsThere}
 use Rattle.table_model.specs.Tables.{Table}

@@ -43,11 +43,13 @@ use Rattle.store_core.specs.Faults.{of_log_fault, of_manifest_fault}
 use Rattle.store_core.specs.Kept.{Kept, rows_of}
 use Rattle.store_core.specs.Answers.{IsFailure}
 use Rattle.store_core.specs.Opening.{AreOpened, IsOpenAnswer, IsOpenRefusal, IsOpenedAs, IsRangesDamage, IsTablesAnswer, IsVersionOpened, opened_range}
-use Rattle.store_core.specs.Tied.{AreHeld, IsUnder, Tied}
+use Rattle.level_merge.specs.Held.{AreHeld}
+use Rattle.store_core.specs.Tied.{IsUnder, Tied}
 use Rattle.store_core.specs.declared.error.StoreError.{StoreError}
 use Rattle.store_core.specs.declared.error.StoreError.TheVariants as error
 use Rattle.store_core.proofs.Causes.{refusal_behind}
 use Rattle.store_core.proofs.OpeningTables.{all_opened, as_many, held_of, ranges_are}
+use Rattle.store_core.proofs.Runs.{none_run}
 
 -- ---- what is answered of an image
 
@@ -110,16 +112,16 @@ module _ (spelling : Spelling) (first : Bytes → Fault) (image : Image) where
         }
 
         -- and its log is replayed: the store of all these
-        pub opened_as : (store : Kept) (p : Position) (entries : List Entry) → store ≡ record { stopped = false; manifest = m; tables = ts; log = p; memory = store.memory; buffer = store.buffer }
+        pub opened_as : (store : Kept) (p : Position) (entries : List Entry) → store ≡ record { stopped = false; manifest = m; tables = ts; job = None; log = p; memory = store.memory; buffer = store.buffer }
             → LogIs area entries image → p.filled ≡ filled entries → store.memory.entries ≡ newest_entries entries → IsOpenedAs spelling image store
         opened_as store p entries same spelled filled_is memory_is =
             subst (IsOpenedAs spelling image) (sym same)
-            (record { loaded = loaded; entries = entries; opens = opens_with entries spelled; rows = rows; tables = opened; log = filled_is; memory = memory_is })
+            (record { loaded = loaded; entries = entries; opens = opens_with entries spelled; rows = rows; tables = opened; job = refl; log = filled_is; memory = memory_is })
 
 -- what is made of these parts: the store, or there is no memory
 pub parts_answer : (spelling : Spelling) (first : Bytes → Fault) (image : Image) (m : Manifest) (ts : List Opened) (p : Position) (entries : List Entry) (area : ℕ) (r : Result Kept StoreError)
     → IsVersionOpened spelling image m ts → m.version.log_page ≡ log_page_of area → LogIs area entries image → p.filled ≡ filled entries
-    → IfOk r (λ store. store ≡ record { stopped = false; manifest = m; tables = ts; log = p; memory = store.memory; buffer = store.buffer })
+    → IfOk r (λ store. store ≡ record { stopped = false; manifest = m; tables = ts; job = None; log = p; memory = store.memory; buffer = store.buffer })
     → IfOk r (λ store. store.memory.entries ≡ newest_entries entries) → IfErr r (λ why. why ≡ error.Memory)
     → MatchResult r (IsOpenedAs spelling image) (IsOpenAnswer spelling first image)
 parts_answer spelling first image m ts p entries area (Ok store) found area_is spelled filled_is same memory_is wanted =
@@ -191,7 +193,7 @@ module _ (spelling : Spelling) (filter_bytes : FilterBytes) (one : SpellsOne spe
       let area : named_so.area ≡ opened.opens.area = omega (arith, named_so.area_is, opened.opens.area_is) in
       one_list opened.entries s.log (area_in opened.opens.area image) opened.opens.log (subst (λ (n : ℕ). LogIs n s.log image) area named_so.log)
 
-  under : IsUnder spelling store.manifest store.tables s image
+  under : IsUnder spelling store.manifest store.tables store.job s image
   under = record {
     ready = record {
       current = opened.loaded.stands.current;
@@ -201,15 +203,15 @@ module _ (spelling : Spelling) (filter_bytes : FilterBytes) (one : SpellsOne spe
     };
     tables = held_of spelling s.settings (settings_of v) image one store.tables s.tables opened.tables
         (subst (λ (rs : List Row). AreTablesOf spelling s.settings rs s.tables image) (sym opened.rows) named_so.tables);
+    job = none_run spelling s store.tables image store.job s.job opened.job named_so.no_job;
   }
 
   pub tied_of : (n : ℕ) (a b : World) → a.seen.held ≡ image → IsDurable a → ReadMoves n a b → Tied spelling filter_bytes store s b
   tied_of n a b held_is durable reads = record {
     sound = state_sound spelling filter_bytes s image is;
-    no_job = named_so.no_job;
     none_kept = named_so.none_kept;
-    images = reads_keep (IsUnder spelling store.manifest store.tables s) n a b reads
-        (λ left_image left. subst (IsUnder spelling store.manifest store.tables s) (sym (durable left_image left ∙ held_is)) under);
+    images = reads_keep (IsUnder spelling store.manifest store.tables store.job s) n a b reads
+        (λ left_image left. subst (IsUnder spelling store.manifest store.tables store.job s) (sym (durable left_image left ∙ held_is)) under);
     log = opened.log ∙ ap filled same_log;
     memory = opened.memory ∙ ap newest_entries same_log;
   }

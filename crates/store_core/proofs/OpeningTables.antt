@@ -32,7 +32,7 @@ use Rattle.manifest_model.specs.Tables.{KeyRange}
 use Rattle.store_core.specs.Faults.{of_table_fault}
 use Rattle.store_core.specs.Kept.{rows_of}
 use Rattle.store_core.specs.Opening.{AreOpened, IsTableAnswer, IsTablesAnswer, IsWide, opened_range}
-use Rattle.store_core.specs.Tied.{AreHeld}
+use Rattle.level_merge.specs.Held.{AreHeld}
 use Rattle.store_core.specs.declared.error.StoreError.{StoreError}
 use Rattle.store_core.specs.declared.error.StoreError.TheVariants as error
 

@@ -2,29 +2,31 @@
 use Rattle.std.proofs.Common.{◌≡◌, ◌∙◌, ◌<◌, ◌≤◌, ◌+◌, ◌^◌, ℕ, List, [], ◌∷◌, length, refl, sym, ap, ap₂, subst, arith, map}
 use Rattle.std.specs.Prelude.{Some}
 use Rattle.std.specs.List.{AllByRecursion}
+use Rattle.std.proofs.lemmas.List.{map-append}
 use Rattle.block_model.specs.Block.{IsTable}
 use Rattle.block_model.specs.Pages.{data_pages, index_length, pages_for}
 use Rattle.block_model.specs.Places.{pages_of}
 use Rattle.byte_fields.specs.declared.parts.Row.{Row}
 use Rattle.entry_model.specs.Entries.{Entry, keys_of}
 use Rattle.extent_model.proofs.Free.{gap_is_free}
-use Rattle.extent_model.specs.Extents.{AreApart, IsOnDevice}
+use Rattle.extent_model.specs.Extents.{AreApart, AreLaid, IsOnDevice}
 use Rattle.extent_model.specs.Gaps.{first_gap}
 use Rattle.filter_api.specs.Spellings.{Spelling}
 use Rattle.filter_api.specs.declared.settings.Settings.{Settings}
 use Rattle.filter_model.specs.Leaves.{Leaf}
 use Rattle.manifest.specs.Manifest.{Manifest}
-use Rattle.manifest_model.proofs.Rows.{rows_keep}
 use Rattle.manifest_model.specs.Laws.{IsVersion, RowFits}
-use Rattle.manifest_model.specs.Rows.{AreTableRows, IsTableRow, extent_of}
+use Rattle.manifest_model.specs.Rows.{IsTableRow, extent_of}
 use Rattle.map_model.specs.SortedMap.{Bytes}
 use Rattle.state_model.proofs.Places.{entries_in_pages}
 use Rattle.table_file.specs.Building.{Built}
 use Rattle.table_model.specs.Tables.{FilterBytes, filter_bytes_of, table_pages}
 use Rattle.table_model.specs.Written.{row_for}
 use Rattle.store_core.specs.Flushing.{IsPlan, need_under}
+use Rattle.store_core.specs.Running.{extents_with}
 use Rattle.store_core.proofs.Flushes.{some_pages}
 use Rattle.store_core.proofs.NextVersions.{next_is_version}
+use Rattle.store_core.proofs.PlannedRows.{first_of_both}
 
 -- ---- the row of a table of level 0
 
@@ -75,8 +77,8 @@ row_fits row level first blocks index filter entries index_len filter_len index_
 
 -- ---- a plan
 
-module _ (spelling : Spelling) (built_cutoff : ℕ → List Leaf → ℕ) (m : Manifest) (entries : List Entry) (parts : Built) (row : Row) (next : Manifest) (is : IsVersion m.version)
-    (plan : IsPlan spelling built_cutoff m entries parts row next) where
+module _ (spelling : Spelling) (built_cutoff : ℕ → List Leaf → ℕ) (m : Manifest) (outputs : List Row) (entries : List Entry) (parts : Built) (row : Row) (next : Manifest) (is : IsVersion m.version)
+    (laid : AreLaid m.version.pages (extents_with m.version outputs)) (plan : IsPlan spelling built_cutoff m outputs entries parts row next) where
   abbrev filter_bytes : FilterBytes
   filter_bytes = filter_bytes_of spelling built_cutoff
 
@@ -92,23 +94,26 @@ module _ (spelling : Spelling) (built_cutoff : ℕ → List Leaf → ℕ) (m : M
   pub pages_are : pages_of row ≡ table_pages (filter_bytes_of spelling built_cutoff) parts.settings parts.entries
   pages_are = ap pages_of row_is ∙ row_pages row.first_page parts.entries bytes
 
-  old : AreTableRows m.version.pages m.version.rows
-  old = rows_keep.kept m.version is.placed
-
   pub plan_is_free : IsOnDevice m.version.pages (row.first_page, table_pages (filter_bytes_of spelling built_cutoff) parts.settings parts.entries)
-      × AllByRecursion (AreApart (row.first_page, table_pages (filter_bytes_of spelling built_cutoff) parts.settings parts.entries)) (map extent_of m.version.rows)
+      × AllByRecursion (AreApart (row.first_page, table_pages (filter_bytes_of spelling built_cutoff) parts.settings parts.entries)) (extents_with m.version outputs)
   plan_is_free =
-      gap_is_free m.version.pages (map extent_of m.version.rows) (table_pages filter_bytes parts.settings parts.entries) row.first_page (some_pages filter_bytes parts.settings parts.entries)
-      old.laid.on_device (subst (λ (n : ℕ). first_gap m.version.pages (map extent_of m.version.rows) n ≡ Some row.first_page) need_is plan.place)
+      gap_is_free m.version.pages (extents_with m.version outputs) (table_pages filter_bytes parts.settings parts.entries) row.first_page (some_pages filter_bytes parts.settings parts.entries)
+      laid.on_device (subst (λ (n : ℕ). first_gap m.version.pages (extents_with m.version outputs) n ≡ Some row.first_page) need_is plan.place)
+
+  -- so are those of its row
+  pub row_free : IsOnDevice m.version.pages (extent_of row) × AllByRecursion (AreApart (extent_of row)) (extents_with m.version outputs)
+  row_free =
+      subst (λ (n : ℕ). IsOnDevice m.version.pages (row.first_page, n) × AllByRecursion (AreApart (row.first_page, n)) (extents_with m.version outputs)) (sym pages_are) plan_is_free
 
   -- the version to come keeps the rules
   pub plan_is_version : IsTable entries → RowFits row → IsVersion next.version
   plan_is_version table fits =
       let table_of_parts : IsTable parts.entries = subst IsTable (sym (ap (λ (b : Built). b.entries) plan.parts_are)) table in
-      let free = subst (λ (n : ℕ). IsOnDevice m.version.pages (row.first_page, n) × AllByRecursion (AreApart (row.first_page, n)) (map extent_of m.version.rows)) (sym pages_are) plan_is_free in
+      let free_rows = first_of_both (AreApart (extent_of row)) (map extent_of m.version.rows) (map extent_of outputs)
+      (subst (AllByRecursion (AreApart (extent_of row))) (map-append extent_of m.version.rows outputs) row_free.1) in
       subst (λ (n : Manifest). IsVersion n.version) (sym plan.next_is)
       (next_is_version m row is plan.few (ap (λ (r : Row). r.level) row_is ∙ row_level row.first_page parts.entries bytes)
-      (subst IsTableRow (sym row_is) (row_of_table row.first_page parts.entries bytes table_of_parts)) fits free.0 free.1)
+      (subst IsTableRow (sym row_is) (row_of_table row.first_page parts.entries bytes table_of_parts)) fits row_free.0 free_rows)
 
   -- and its table ends on its device
   pub plan_fits : row.first_page + table_pages (filter_bytes_of spelling built_cutoff) parts.settings parts.entries ≤ next.version.pages

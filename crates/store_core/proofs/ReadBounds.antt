@@ -20,7 +20,7 @@ use Rattle.table_file.specs.Opened.{Opened}
 use Rattle.table_file.specs.Search.{StandsThere, block_for, blocks_of_get}
 use Rattle.table_model.specs.Tables.{Table}
 use Rattle.store_core.proofs.Founds.{held_entries}
-use Rattle.store_core.specs.Tied.{AreHeld, IsHeld}
+use Rattle.level_merge.specs.Held.{AreHeld, IsHeld}
 
 blocks_counted : (o : Option ℕ) → blocks_of_get o ≡ cond (is_some o) 1 0
 blocks_counted None = refl

@@ -22,7 +22,7 @@ use Rattle.store_core.proofs.Founds.{held_entries}
 use Rattle.store_core.proofs.ScanStates.{numbered_at}
 use Rattle.store_core.proofs.Tellings.{as_many, ranges_same}
 use Rattle.store_core.specs.Scans.{MayRead, admits_keys, numbers_admitting, owed}
-use Rattle.store_core.specs.Tied.{AreHeld, IsHeld}
+use Rattle.level_merge.specs.Held.{AreHeld, IsHeld}
 use Rattle.table_file.specs.Laws.{StandingBlocks, StandingWalks}
 use Rattle.table_file.specs.Opened.{Opened}
 use Rattle.table_file.specs.Walks.{blocks_on, to_come, walk_from}

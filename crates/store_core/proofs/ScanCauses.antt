@@ -18,7 +18,7 @@ use Rattle.map_model.specs.SortedMap.{Bytes, Map}
 use Rattle.store_core.specs.Faults.{of_table_fault}
 use Rattle.store_core.specs.Getting.{IsLookFault, IsUndamaged}
 use Rattle.store_core.specs.Scans.{IsScanShown, IsStepFault, IsWalkShown, ScanWalk, StillComes, is_ended, pair_at, pair_in, pair_of}
-use Rattle.store_core.specs.Tied.{AreHeld}
+use Rattle.level_merge.specs.Held.{AreHeld}
 use Rattle.store_core.specs.declared.error.StoreError.{StoreError}
 use Rattle.std.specs.Result.{IsErrAnd}
 use Rattle.table_file.specs.Faults.{HasReadCause, IsNoDamage, IsNoWant}

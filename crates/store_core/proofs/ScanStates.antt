@@ -32,7 +32,7 @@ use Rattle.store_core.proofs.ScanPairs.{from_then_after, pairs_between}
 use Rattle.store_core.proofs.Tellings.{ranges_same}
 use Rattle.store_core.specs.Scans.{admits_keys, numbers_admitting, pairs_up_to}
 use Rattle.store_core.specs.Telling.{IsHighOfBytes}
-use Rattle.store_core.specs.Tied.{AreHeld, IsHeld}
+use Rattle.level_merge.specs.Held.{AreHeld, IsHeld}
 use Rattle.table_file.specs.Opened.{Opened}
 use Rattle.table_file.specs.Search.{StandsThere}
 use Rattle.table_model.specs.Tables.{FilterBytes, Table}

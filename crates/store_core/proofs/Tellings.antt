@@ -16,7 +16,8 @@ use Rattle.state_model.specs.State.{State}
 use Rattle.state_model.specs.View.{memory}
 use Rattle.store_core.specs.Kept.{Kept}
 use Rattle.store_core.specs.Telling.{is_admitting, is_read_for, tally_of}
-use Rattle.store_core.specs.Tied.{AreHeld, IsHeld, IsSeenAs, Tied}
+use Rattle.level_merge.specs.Held.{AreHeld, IsHeld}
+use Rattle.store_core.specs.Tied.{IsSeenAs, Tied}
 use Rattle.store_core.proofs.Founds.{held_entries}
 use Rattle.store_core.proofs.ReadBounds.{read_where_searched}
 use Rattle.table_file.specs.Laws.{StandingKeys}

@@ -1,6 +1,6 @@
 -- What keeps a store, its device and its state one.
 use Rattle.std.proofs.Common.{◌≡◌, ◌⊎◌, inl, inr, ◌≤◌, ◌<◌, ◌+◌, ◌-◌, ◌*◌, ℕ, Bool, true, false, cond, List, [], ◌∷◌, ◌++◌, length, refl, sym, ap, subst, ◌∙◌, arith}
-use Rattle.std.specs.Prelude.{Result, Ok, Err, nat_le}
+use Rattle.std.specs.Prelude.{Option, Result, Ok, Err, nat_le}
 use Rattle.disk_trait.proofs.Calls.{moves_wider}
 use Rattle.std.proofs.lemmas.Bool.{le-leb}
 use Rattle.disk_trait.specs.Image.{Image, Torn}
@@ -11,8 +11,11 @@ use Rattle.entry_model.specs.Entries.{Entry, IsEntry, filled, gap, need}
 use Rattle.entry_model.specs.Newest.{newest_entries}
 use Rattle.filter_api.specs.Spellings.{Spelling}
 use Rattle.image_model.specs.Stands.{StandsForMap}
+use Rattle.level_merge.specs.FollowLaws.{OtherImageIsFollowed}
+use Rattle.level_merge.specs.Merging.{Merging}
 use Rattle.log_model.specs.Area.{LogIs, WithOrWithout, start_of}
 use Rattle.log_model.proofs.Logs.{filled_more}
+use Rattle.manifest.specs.Manifest.{Manifest}
 use Rattle.manifest_model.specs.Laws.{IsVersion}
 use Rattle.manifest_model.specs.Version.{Version, log_page_of}
 use Rattle.state_model.proofs.SoundChanges.{written_sound}
@@ -20,6 +23,7 @@ use Rattle.state_model.specs.Changes.{flushed, logged, logged_then, written}
 use Rattle.state_model.specs.Sound.{IsSound}
 use Rattle.state_model.specs.State.{State}
 use Rattle.state_model.specs.View.{state_map}
+use Rattle.table_file.specs.Opened.{Opened}
 use Rattle.table_model.specs.Tables.{FilterBytes}
 use Rattle.store_core.specs.Answers.{Turns}
 use Rattle.store_core.specs.Kept.{IsWhole, Kept}
@@ -32,9 +36,8 @@ module _ (spelling : Spelling) (filter_bytes : FilterBytes) (store : Kept) (s : 
   pub tied_read : (n : ℕ) → ReadMoves n a b → Tied spelling filter_bytes store s a → Tied spelling filter_bytes store s b
   tied_read n moves tied = record {
     sound = tied.sound;
-    no_job = tied.no_job;
     none_kept = tied.none_kept;
-    images = reads_keep (IsUnder spelling store.manifest store.tables s) n a b moves tied.images;
+    images = reads_keep (IsUnder spelling store.manifest store.tables store.job s) n a b moves tied.images;
     log = tied.log;
     memory = tied.memory;
   }
@@ -54,58 +57,58 @@ logged_sound filter_bytes s e sound is fits = written_sound filter_bytes s (logg
 pub filled_logged : (entries : List Entry) (e : Entry) (before after : ℕ) → before ≡ filled entries → after + 1 ≡ before + need e → after ≡ filled (entries ++ e ∷ [])
 filled_logged entries e before after is more = omega (arith, is, more, filled_more entries e)
 
-module _ (spelling : Spelling) (filter_bytes : FilterBytes) (store : Kept) (s : State) (e : Entry) (a b : World) (tied : Tied spelling filter_bytes store s a) (whole : IsWhole store)
+module _ (law : OtherImageIsFollowed) (spelling : Spelling) (filter_bytes : FilterBytes) (store : Kept) (s : State) (e : Entry) (a b : World) (tied : Tied spelling filter_bytes store s a) (whole : IsWhole store)
     (fits : store.log.filled + need e ≤ 262144) (moves : WriteMoves (start_of store.log.area + store.log.filled) (need e) a b) where
   abbrev area : ℕ
   area = store.log.area
 
   abbrev Under : State → Image → Type 0
-  Under t = IsUnder spelling store.manifest store.tables t
+  Under t = IsUnder spelling store.manifest store.tables store.job t
 
   small : store.log.area ≤ 1
   small = elim whole.version.log_page [ inl first ↦ omega (arith, first, whole.area) | inr second ↦ omega (arith, second, whole.area) ]
 
   logs_now : Now (LogIs area s.log) a
-  logs_now image left = under_log spelling store.manifest store.tables whole.slot whole.rows s area image whole.area (tied.images image left)
+  logs_now image left = under_log spelling store.manifest store.tables store.job whole.slot whole.rows s area image whole.area (tied.images image left)
 
   at_once : (log : List Entry) (was image : Image) → Under s was → Torn (start_of store.log.area + store.log.filled) (need e) was image → LogIs area log image → Under (record s { log = log }) image
   at_once log was image under torn spelled =
-      under_logged spelling store.manifest store.tables whole.slot whole.rows s log area _ _ was image tied.sound.on_device whole.area (omega arith) (omega (arith, fits)) small torn spelled under
+      under_logged spelling store.manifest store.tables store.job whole.slot whole.rows law s log area _ _ was image tied.sound.on_device whole.area (omega arith) (omega (arith, fits)) small torn spelled under
 
   to_maps : (was image : Image) → Under s was → Torn (start_of store.log.area + store.log.filled) (need e) was image → WithOrWithout area s.log e image
       → StandsForMap spelling (state_map s) image ⊎ StandsForMap spelling (state_map (logged s e)) image
   to_maps was image under torn (inl without) =
-      inl (under_stands spelling store.manifest store.tables whole.slot whole.rows s image (at_once s.log was image under torn without))
+      inl (under_stands spelling store.manifest store.tables store.job whole.slot whole.rows s image (at_once s.log was image under torn without))
   to_maps was image under torn (inr with_it) =
-      inr (under_stands spelling store.manifest store.tables whole.slot whole.rows (logged s e) image (at_once (s.log ++ e ∷ []) was image under torn with_it))
+      inr (under_stands spelling store.manifest store.tables store.job whole.slot whole.rows (logged s e) image (at_once (s.log ++ e ∷ []) was image under torn with_it))
 
   pub logged_meanwhile : {T E : Type 0} (result : Result T E) → Leads (LogIs store.log.area s.log) (WithOrWithout store.log.area s.log e) (LogIs store.log.area (s.log ++ e ∷ [])) result a b
       → Meanwhile (λ image. StandsForMap spelling (state_map s) image ⊎ StandsForMap spelling (state_map (logged s e)) image) a b
   logged_meanwhile result leads = framed (Under s) (WithOrWithout area s.log e) _ _ _ a b tied.images moves.time (leads.meanwhile logs_now) to_maps
 
   -- at Ok the state has the entry
-  pub logged_tied : {T E : Type 0} (x : T) (after : Kept) → after.manifest ≡ store.manifest → after.tables ≡ store.tables → after.log.filled + 1 ≡ store.log.filled + need e
+  pub logged_tied : {T E : Type 0} (x : T) (after : Kept) → after.manifest ≡ store.manifest → after.tables ≡ store.tables → after.job ≡ store.job → after.log.filled + 1 ≡ store.log.filled + need e
       → after.memory.entries ≡ newest_entries (s.log ++ e ∷ []) → IsEntry e
       → Leads {T = T} {E = E} (LogIs store.log.area s.log) (WithOrWithout store.log.area s.log e) (LogIs store.log.area (s.log ++ e ∷ [])) (Ok x) a b
       → Tied spelling filter_bytes after (logged s e) b
-  logged_tied x after same_manifest same_tables filled_now memory_now is leads =
+  logged_tied x after same_manifest same_tables same_job filled_now memory_now is leads =
       let here : Now (Under (logged s e)) b =
       framed_now (Under s) (LogIs area (s.log ++ e ∷ [])) (Under (logged s e)) _ _ a b tied.images moves.time (leads.after logs_now)
       (λ was image under torn spelled. at_once (s.log ++ e ∷ []) was image under torn spelled) in
       record {
         sound = logged_sound filter_bytes s e tied.sound is (omega (arith, fits, tied.log));
-        no_job = tied.no_job;
         none_kept = tied.none_kept;
         images = λ image left.
-            subst (λ (ts : List _). IsUnder spelling after.manifest ts (logged s e) image) (sym same_tables)
-            (subst (λ (m : _). IsUnder spelling m store.tables (logged s e) image) (sym same_manifest) (here image left));
+            subst (λ (ts : List Opened). IsUnder spelling after.manifest ts after.job (logged s e) image) (sym same_tables)
+            (subst (λ (m : Manifest). IsUnder spelling m store.tables after.job (logged s e) image) (sym same_manifest)
+            (subst (λ (running : Option Merging). IsUnder spelling store.manifest store.tables running (logged s e) image) (sym same_job) (here image left)));
         log = filled_logged s.log e store.log.filled after.log.filled tied.log filled_now;
         memory = memory_now;
       }
 
 -- ---- what an append answers, of an entry that was handed in by its key and its value
 
-module _ (spelling : Spelling) (filter_bytes : FilterBytes) (store : Kept) (s : State) (e x : Entry) (a b : World) (same : x ≡ e) (tied : Tied spelling filter_bytes store s a) (whole : IsWhole store)
+module _ (law : OtherImageIsFollowed) (spelling : Spelling) (filter_bytes : FilterBytes) (store : Kept) (s : State) (e x : Entry) (a b : World) (same : x ≡ e) (tied : Tied spelling filter_bytes store s a) (whole : IsWhole store)
     (fits : store.log.filled + need e ≤ 262144) (moves : WriteMoves (start_of store.log.area + store.log.filled) (need x) a b) where
   own_moves : WriteMoves (start_of store.log.area + store.log.filled) (need e) a b
   own_moves = subst (λ (y : Entry). WriteMoves (start_of store.log.area + store.log.filled) (need y) a b) same moves
@@ -116,13 +119,13 @@ module _ (spelling : Spelling) (filter_bytes : FilterBytes) (store : Kept) (s : 
   own_leads : {T E : Type 0} (result : Result T E) → Appends x result → Appends e result
   own_leads result leads = subst (λ (y : Entry). Appends y result) same leads
 
-  pub append_done : {T E U : Type 0} (u : T) (y : U) (after : Kept) → Appends {T = T} {E = E} x (Ok u) → after.manifest ≡ store.manifest → after.tables ≡ store.tables
+  pub append_done : {T E U : Type 0} (u : T) (y : U) (after : Kept) → Appends {T = T} {E = E} x (Ok u) → after.manifest ≡ store.manifest → after.tables ≡ store.tables → after.job ≡ store.job
       → after.log.filled + 1 ≡ store.log.filled + need x → after.memory.entries ≡ newest_entries (s.log ++ e ∷ []) → IsEntry e → Turns spelling filter_bytes s (logged s e) (Ok y) after a b
-  append_done u y after leads same_manifest same_tables filled_now memory_now is =
+  append_done u y after leads same_manifest same_tables same_job filled_now memory_now is =
       let own = own_leads (Ok u) leads in
       record {
-        meanwhile = logged_meanwhile spelling filter_bytes store s e a b tied whole fits own_moves (Ok u) own;
-        done = logged_tied spelling filter_bytes store s e a b tied whole fits own_moves u after same_manifest same_tables (subst (λ (z : Entry). after.log.filled + 1 ≡ store.log.filled + need z) same filled_now) memory_now is own;
+        meanwhile = logged_meanwhile law spelling filter_bytes store s e a b tied whole fits own_moves (Ok u) own;
+        done = logged_tied law spelling filter_bytes store s e a b tied whole fits own_moves u after same_manifest same_tables same_job (subst (λ (z : Entry). after.log.filled + 1 ≡ store.log.filled + need z) same filled_now) memory_now is own;
         refused = tt;
       }
 
@@ -130,7 +133,7 @@ module _ (spelling : Spelling) (filter_bytes : FilterBytes) (store : Kept) (s : 
   append_fails f why after leads stopped =
       let own = own_leads (Err f) leads in
       record {
-        meanwhile = logged_meanwhile spelling filter_bytes store s e a b tied whole fits own_moves (Err f) own;
+        meanwhile = logged_meanwhile law spelling filter_bytes store s e a b tied whole fits own_moves (Err f) own;
         done = tt;
         refused = λ runs. absurd (let never = sym stopped ∙ runs in cc);
       }

@@ -1,18 +1,28 @@
 -- What is so of a store behind a flush, whatever its device holds.
-use Rattle.std.proofs.Common.{◌≡◌, ◌≢◌, ◌∙◌, ◌<◌, ◌≤◌, ℕ, List, [], ◌∷◌, length, refl, sym, ap, subst, arith}
+use Rattle.std.proofs.Common.{◌≡◌, ◌≢◌, ◌∙◌, ◌<◌, ◌≤◌, ℕ, List, [], ◌∷◌, length, map, refl, sym, ap, subst, arith}
+use Rattle.std.specs.Prelude.{Option, Some, None}
+use Rattle.std.specs.List.{AllByRecursion}
+use Rattle.std.proofs.lemmas.List.{append-nil}
 use Rattle.block_model.specs.Block.{IsTable}
 use Rattle.byte_fields.specs.declared.parts.Row.{Row}
 use Rattle.entry_model.specs.Entries.{Entry, filled}
+use Rattle.extent_model.proofs.Lists.{all_pairs, pairs_of}
+use Rattle.extent_model.specs.Extents.{AreApart, AreLaid, IsOnDevice}
 use Rattle.key_base.specs.Limits.{last_epoch}
+use Rattle.level_merge.specs.Merging.{Merging}
 use Rattle.log_model.proofs.Logs.{none_filled}
 use Rattle.manifest.proofs.Steps.{raised_is}
 use Rattle.manifest.specs.Manifest.{Manifest}
+use Rattle.manifest_model.proofs.Rows.{rows_keep}
 use Rattle.manifest_model.specs.Laws.{IsVersion}
-use Rattle.manifest_model.specs.Version.{log_page_of}
+use Rattle.manifest_model.specs.Rows.{extent_of}
+use Rattle.manifest_model.specs.Version.{Version, log_page_of}
+use Rattle.merge_rows.specs.Steps.{AreNumbersIn, numbers}
 use Rattle.state_model.proofs.SoundLogs.{memory_is_table, newest_none}
 use Rattle.table_file.specs.Opened.{Opened}
 use Rattle.store_core.specs.Flushing.{installed_manifest, next_manifest}
 use Rattle.store_core.specs.Kept.{IsOfEntries, IsWhole, Kept, rows_of}
+use Rattle.store_core.specs.Running.{MayRunIn, extents_with, outputs_in}
 
 -- a log with no record, and no entry
 none_of : (store : Kept) → store.log.filled ≡ 0 → store.memory.entries ≡ [] → IsOfEntries store.log store.memory.entries
@@ -24,12 +34,52 @@ none_of store begun cleared = record {
   memory_is = cleared;
 }
 
+-- the numbers of tables are those of as many and one more
+numbers_then : (opened : Opened) (tables : List Opened) (which : List ℕ) → AreNumbersIn tables which → AreNumbersIn (opened ∷ tables) which
+numbers_then opened tables [] there = tt
+numbers_then opened tables (n ∷ more) there = (omega (arith, there.0), numbers_then opened tables more there.1)
+
+-- a merge runs on where a row comes before all others, the pages of which were free
+runs_with : (row : Row) (opened : Opened) (m : Manifest) (tables : List Opened) (running : Option Merging)
+    → IsOnDevice m.version.pages (extent_of row) × AllByRecursion (AreApart (extent_of row)) (extents_with m.version (outputs_in running)) → MayRunIn m.version tables running
+    → MayRunIn (installed_manifest (next_manifest m row)).version (opened ∷ tables) running
+runs_with row opened m tables None free may = tt
+runs_with row opened m tables (Some run) free may = (
+  record {
+    apart = may.0.apart;
+    numbers = numbers_then opened tables (numbers run.merge.walks) may.0.numbers;
+    written = may.0.written;
+    rows = may.0.rows;
+    laid = record {
+      on_device = (free.0, may.0.laid.on_device);
+      apart = all_pairs AreApart (extent_of row ∷ extents_with m.version run.outputs) (free.1, pairs_of AreApart (extents_with m.version run.outputs) may.0.laid.apart);
+    };
+    few = may.0.few;
+  },
+  may.1,
+)
+
+-- the extents of a store's version are laid apart with the outputs of its merge
+pub laid_with : (store : Kept) → IsWhole store → AreLaid store.manifest.version.pages (extents_with store.manifest.version (outputs_in store.job))
+laid_with store whole = by_job store.manifest.version store.tables store.job whole.version whole.job
+  where
+    by_job : (v : Version) (tables : List Opened) (running : Option Merging) → IsVersion v → MayRunIn v tables running → AreLaid v.pages (extents_with v (outputs_in running))
+    by_job v tables None is may = subst (λ (rs : List Row). AreLaid v.pages (map extent_of rs)) (sym (append-nil v.rows)) (rows_keep.kept v is.placed).laid
+    by_job v tables (Some run) is may = may.0.laid
+
 module _ (store after : Kept) (opened : Opened) (row : Row) (next : Manifest) (whole : IsWhole store) (is : IsVersion next.version) (epoch : next.version.epoch < last_epoch)
-    (next_is : next ≡ next_manifest store.manifest row) (manifest_is : after.manifest ≡ installed_manifest next) (tables_are : after.tables ≡ opened ∷ store.tables) (row_is : opened.row ≡ row) where
+    (next_is : next ≡ next_manifest store.manifest row) (manifest_is : after.manifest ≡ installed_manifest next) (tables_are : after.tables ≡ opened ∷ store.tables) (row_is : opened.row ≡ row)
+    (same_job : after.job ≡ store.job) (free : IsOnDevice store.manifest.version.pages (extent_of row) × AllByRecursion (AreApart (extent_of row)) (extents_with store.manifest.version (outputs_in store.job))) where
   rows_behind : rows_of after.tables ≡ (installed_manifest next).version.rows
   rows_behind =
       ap rows_of tables_are ∙ ap (λ (r : Row). r ∷ rows_of store.tables) row_is ∙ ap (λ (rs : List Row). row ∷ rs) whole.rows
       ∙ ap (λ (m : Manifest). m.version.rows) (sym next_is)
+
+  job_behind : MayRunIn after.manifest.version after.tables after.job
+  job_behind =
+      subst (λ (m : Manifest). MayRunIn m.version after.tables after.job) (ap installed_manifest (sym next_is) ∙ sym manifest_is)
+      (subst (λ (ts : List Opened). MayRunIn ((installed_manifest (next_manifest store.manifest row)).version) ts after.job) (sym tables_are)
+      (subst (MayRunIn ((installed_manifest (next_manifest store.manifest row)).version) (opened ∷ store.tables)) (sym same_job) (runs_with row opened store.manifest store.tables store.job free whole.job)))
 
   pub flushed_whole : next.version.log_page ≡ log_page_of after.log.area → after.log.filled ≡ 0 → after.memory.entries ≡ [] → IsWhole after
   flushed_whole area begun cleared = record {
@@ -38,6 +88,7 @@ module _ (store after : Kept) (opened : Opened) (row : Row) (next : Manifest) (w
     rows = rows_behind ∙ ap (λ (m : Manifest). m.version.rows) (sym manifest_is);
     area = ap (λ (m : Manifest). m.version.log_page) manifest_is ∙ area;
     entries = none_of after begun cleared;
+    job = job_behind;
   }
 
 -- with nothing in memory the log has no record

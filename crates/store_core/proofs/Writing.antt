@@ -74,7 +74,6 @@ pub tied_with : (spelling : Spelling) (bytes : FilterBytes) (store : Kept) (s : 
     → Tied spelling bytes (record store { memory = m }) s w
 tied_with spelling bytes store s w m kept tied = record {
   sound = tied.sound;
-  no_job = tied.no_job;
   none_kept = tied.none_kept;
   images = tied.images;
   log = tied.log;
@@ -94,6 +93,7 @@ whole_with store m kept whole = record {
     filled_is = whole.entries.filled_is;
     memory_is = kept ∙ whole.entries.memory_is;
   };
+  job = whole.job;
 }
 
 module _ (spelling : Spelling) (bytes : FilterBytes) (s : State) (e : Entry) where

@@ -3,6 +3,8 @@ use Rattle.byte_fields.specs.declared.parts.Damage.TheVariants as damage
 use Rattle.byte_fields.specs.declared.parts.Part.TheVariants as part
 use Rattle.gate_log.specs.declared.fault.LogFault.{LogFault}
 use Rattle.gate_log.specs.declared.fault.LogFault.TheVariants as log
+use Rattle.level_merge.specs.declared.fault.JobFault.{JobFault}
+use Rattle.level_merge.specs.declared.fault.JobFault.TheVariants as job
 use Rattle.manifest.specs.declared.fault.ManifestFault.{ManifestFault}
 use Rattle.manifest.specs.declared.fault.ManifestFault.TheVariants as manifest
 use Rattle.table_file.specs.declared.fault.TableFault.{TableFault}
@@ -28,3 +30,9 @@ abbrev pub of_log_fault : LogFault → StoreError
 of_log_fault log.Memory = error.Memory
 of_log_fault (log.Device cause) = error.Device cause
 of_log_fault (log.Shape at rule) = error.Damaged (damage.Shape part.Log at rule)
+
+abbrev pub of_job_fault : JobFault → StoreError
+of_job_fault job.Memory = error.Memory
+of_job_fault (job.Device cause) = error.Device cause
+of_job_fault (job.Damaged d) = error.Damaged d
+of_job_fault (job.Full need gap) = error.Full need gap

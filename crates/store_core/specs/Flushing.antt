@@ -1,5 +1,5 @@
 -- What a flush writes and installs, why it does not, and what it makes of a store.
-use Rattle.std.specs.Prelude.{◌≡◌, ◌<◌, ◌≤◌, ◌+◌, ◌-◌, ℕ, List, [], ◌∷◌, length, map, true, Option, Some, Result, IfErr, OnOk}
+use Rattle.std.specs.Prelude.{◌≡◌, ◌<◌, ◌≤◌, ◌+◌, ◌-◌, ℕ, List, [], ◌∷◌, length, true, Option, Some, Result, IfErr, OnOk}
 use Rattle.byte_fields.specs.declared.parts.Row.{Row}
 use Rattle.disk_trait.specs.World.{Meanwhile, Now, Rose, World}
 use Rattle.entry_model.specs.Entries.{Entry}
@@ -11,12 +11,12 @@ use Rattle.key_base.specs.Limits.{last_epoch, max_tables}
 use Rattle.manifest.specs.Manifest.{Manifest, raised}
 use Rattle.manifest.specs.declared.fault.ManifestFault.{ManifestFault}
 use Rattle.manifest.specs.declared.fault.ManifestFault.TheVariants as fault
-use Rattle.manifest_model.specs.Rows.{extent_of}
 use Rattle.manifest_model.specs.Version.{Version, log_page_of}
 use Rattle.state_model.specs.State.{State}
 use Rattle.state_model.specs.View.{memory, state_map}
 use Rattle.store_core.specs.Answers.{is_write}
 use Rattle.store_core.specs.Kept.{Kept}
+use Rattle.store_core.specs.Running.{extents_with}
 use Rattle.store_core.specs.Tied.{IsUnder}
 use Rattle.store_core.specs.declared.error.Limit.{Limit}
 use Rattle.store_core.specs.declared.error.Limit.TheVariants as limit
@@ -47,12 +47,12 @@ installed_manifest m = record { version = raised m.version; slot = 1 - m.slot; o
 abbrev pub need_under : FilterBytes → Version → List Entry → ℕ
 need_under filter_bytes v entries = table_pages filter_bytes (settings_of v) entries
 
--- The table of the entries, in the first gap that holds it, and the version in which it is the first: fewer tables than the
--- most stood before it, and an epoch is left.
-pub record IsPlan (spelling : Spelling) (built_cutoff : ℕ → List Leaf → ℕ) (m : Manifest) (entries : List Entry) (parts : Built) (row : Row) (next : Manifest) : Type 0 where
+-- The table of the entries, in the first gap that holds it beside the outputs of a merge, and the version in which it is the
+-- first: fewer tables than the most stood before it, and an epoch is left.
+pub record IsPlan (spelling : Spelling) (built_cutoff : ℕ → List Leaf → ℕ) (m : Manifest) (outputs : List Row) (entries : List Entry) (parts : Built) (row : Row) (next : Manifest) : Type 0 where
   pub few : length m.version.rows < max_tables
   pub parts_are : parts ≡ record { settings = settings_of m.version; entries = entries }
-  pub place : first_gap m.version.pages (map extent_of m.version.rows) (need_under (filter_bytes_of spelling built_cutoff) m.version entries) ≡ Some row.first_page
+  pub place : first_gap m.version.pages (extents_with m.version outputs) (need_under (filter_bytes_of spelling built_cutoff) m.version entries) ≡ Some row.first_page
   pub epoch : m.version.epoch < last_epoch
   pub row_is : row ≡ made_row spelling built_cutoff parts 0 row.first_page
   pub next_is : next ≡ next_manifest m row
@@ -69,26 +69,26 @@ IsNoPlace need largest error.NotAStore = ⊥
 IsNoPlace need largest error.AlreadyAStore = ⊥
 IsNoPlace need largest (error.BadSettings field) = ⊥
 
--- by a limit: first the tables, and behind the room the epoch
-abbrev pub IsPlanLimit : FilterBytes → Version → List Entry → Limit → Type 0
-IsPlanLimit filter_bytes v entries (limit.Key size) = ⊥
-IsPlanLimit filter_bytes v entries (limit.Value size) = ⊥
-IsPlanLimit filter_bytes v entries limit.Tables = max_tables ≤ length v.rows
-IsPlanLimit filter_bytes v entries limit.Epoch =
-    (length v.rows < max_tables) × (need_under filter_bytes v entries ≤ largest_gap v.pages (map extent_of v.rows)) × (v.epoch ≡ last_epoch)
+-- by a limit: first the tables, and behind the room beside the outputs the epoch
+abbrev pub IsPlanLimit : FilterBytes → Version → List Row → List Entry → Limit → Type 0
+IsPlanLimit filter_bytes v outputs entries (limit.Key size) = ⊥
+IsPlanLimit filter_bytes v outputs entries (limit.Value size) = ⊥
+IsPlanLimit filter_bytes v outputs entries limit.Tables = max_tables ≤ length v.rows
+IsPlanLimit filter_bytes v outputs entries limit.Epoch =
+    (length v.rows < max_tables) × (need_under filter_bytes v entries ≤ largest_gap v.pages (extents_with v outputs)) × (v.epoch ≡ last_epoch)
 
--- why nothing is planned for some entries under a version
-abbrev pub IsPlanRefusal : FilterBytes → Version → List Entry → StoreError → Type 0
-IsPlanRefusal filter_bytes v entries error.Memory = Unit {0}
-IsPlanRefusal filter_bytes v entries (error.Device cause) = ⊥
-IsPlanRefusal filter_bytes v entries error.Stopped = ⊥
-IsPlanRefusal filter_bytes v entries (error.Limit limit) = IsPlanLimit filter_bytes v entries limit
-IsPlanRefusal filter_bytes v entries (error.Full need gap) =
-    (length v.rows < max_tables) × IsNoPlace (need_under filter_bytes v entries) (largest_gap v.pages (map extent_of v.rows)) (error.Full need gap)
-IsPlanRefusal filter_bytes v entries (error.Damaged damage) = ⊥
-IsPlanRefusal filter_bytes v entries error.NotAStore = ⊥
-IsPlanRefusal filter_bytes v entries error.AlreadyAStore = ⊥
-IsPlanRefusal filter_bytes v entries (error.BadSettings field) = ⊥
+-- why nothing is planned for some entries under a version, beside the outputs of a merge
+abbrev pub IsPlanRefusal : FilterBytes → Version → List Row → List Entry → StoreError → Type 0
+IsPlanRefusal filter_bytes v outputs entries error.Memory = Unit {0}
+IsPlanRefusal filter_bytes v outputs entries (error.Device cause) = ⊥
+IsPlanRefusal filter_bytes v outputs entries error.Stopped = ⊥
+IsPlanRefusal filter_bytes v outputs entries (error.Limit limit) = IsPlanLimit filter_bytes v outputs entries limit
+IsPlanRefusal filter_bytes v outputs entries (error.Full need gap) =
+    (length v.rows < max_tables) × IsNoPlace (need_under filter_bytes v entries) (largest_gap v.pages (extents_with v outputs)) (error.Full need gap)
+IsPlanRefusal filter_bytes v outputs entries (error.Damaged damage) = ⊥
+IsPlanRefusal filter_bytes v outputs entries error.NotAStore = ⊥
+IsPlanRefusal filter_bytes v outputs entries error.AlreadyAStore = ⊥
+IsPlanRefusal filter_bytes v outputs entries (error.BadSettings field) = ⊥
 
 -- ---- what is made of it
 
@@ -110,6 +110,6 @@ IsFlushFault old new (fault.Damaged damage) = ⊥
 pub record Replaces {T : Type 0} (spelling : Spelling) (built_cutoff : ℕ → List Leaf → ℕ) (store : Kept) (s : State) (parts : Built) (row : Row) (next : Manifest)
     (result : Result T ManifestFault) (old new : World) : Type 0 where
   pub meanwhile : Meanwhile (StandsForMap spelling (state_map s)) old new
-  pub done : OnOk result (Now (IsUnder spelling (installed_manifest next) (opened_of built_cutoff parts row ∷ store.tables)
+  pub done : OnOk result (Now (IsUnder spelling (installed_manifest next) (opened_of built_cutoff parts row ∷ store.tables) store.job
       (flushed_at (filter_bytes_of spelling built_cutoff) row.first_page s)) new)
-  pub wanted : IfErr result (λ (why : ManifestFault). why ≡ fault.Memory → Now (IsUnder spelling store.manifest store.tables s) new)
+  pub wanted : IfErr result (λ (why : ManifestFault). why ≡ fault.Memory → Now (IsUnder spelling store.manifest store.tables store.job s) new)

@@ -1,10 +1,11 @@
 -- What a store keeps in memory.
-use Rattle.std.specs.Prelude.{◌≡◌, ◌<◌, ◌≤◌, Bool, List, map}
+use Rattle.std.specs.Prelude.{◌≡◌, ◌<◌, ◌≤◌, Bool, List, map, Option}
 use Rattle.std.specs.List.{AllByRecursion}
 use Rattle.byte_fields.specs.declared.parts.Row.{Row}
 use Rattle.entry_model.specs.Entries.{Entry, IsEntry, filled}
 use Rattle.entry_model.specs.Newest.{newest_entries}
 use Rattle.key_base.specs.Limits.{log_bytes}
+use Rattle.level_merge.specs.Merging.{Merging}
 use Rattle.log_model.specs.Area.{Position}
 use Rattle.manifest.specs.Manifest.{Manifest}
 use Rattle.manifest_model.specs.Laws.{IsVersion}
@@ -12,13 +13,15 @@ use Rattle.manifest_model.specs.Version.{log_page_of}
 use Rattle.map_model.specs.SortedMap.{Bytes}
 use Rattle.mem_table.specs.Table.{MemoryTable}
 use Rattle.table_file.specs.Opened.{Opened}
+use Rattle.store_core.specs.Running.{MayRunIn}
 
--- whether it is stopped, its version, the open table of each row, where its log goes on, the newest entries, and the bytes
--- that were read or built last
+-- whether it is stopped, its version, the open table of each row, the merge that runs, where its log goes on, the newest entries,
+-- and the bytes that were read or built last
 pub record Kept : Type 0 where
   pub stopped : Bool
   pub manifest : Manifest
   pub tables : List Opened
+  pub job : Option Merging
   pub log : Position
   pub memory : MemoryTable
   pub buffer : Bytes
@@ -42,3 +45,4 @@ pub record IsWhole (store : Kept) : Type 0 where
   pub rows : rows_of store.tables ≡ store.manifest.version.rows
   pub area : store.manifest.version.log_page ≡ log_page_of store.log.area
   pub entries : IsOfEntries store.log store.memory.entries
+  pub job : MayRunIn store.manifest.version store.tables store.job

@@ -1,5 +1,8 @@
 pub use Rattle.disk_trait.specs.World
 pub use Rattle.image_model.specs.Stands
+pub use Rattle.level_merge.specs.Follows
+pub use Rattle.level_merge.specs.Held
+pub use Rattle.level_merge.specs.Merging
 pub use Rattle.merge_rows.specs.Merges
 pub use Rattle.merge_rows.specs.Reads
 pub use Rattle.state_model.specs.Bounds
@@ -8,6 +11,7 @@ pub use Rattle.state_model.specs.Steps
 pub use Rattle.state_model.specs.View
 pub use Rattle.table_model.specs.Tables
 pub mod Faults
+pub mod Running
 pub mod Kept
 pub mod Tied
 pub mod Answers
@@ -16,6 +20,9 @@ pub mod Ends
 pub mod Opening
 pub mod Formatting
 pub mod Flushing
+pub mod Installing
+pub mod Tending
 pub mod Telling
 pub mod Scans
 pub mod Counts
+pub mod Replacing

@@ -75,13 +75,14 @@ pub record IsVersionOpened (spelling : Spelling) (image : Image) (m : Manifest) 
   pub ranges : ranges_fault (map opened_range ts) ≡ None
 
 -- The image opens with the version of the store, which stands in its slot, and with some log: the one in memory ends behind its
--- entries, the newest of them are in the memory table, and the open tables are those of the version's rows.
+-- entries, the newest of them are in the memory table, the open tables are those of the version's rows, and no merge runs.
 pub record IsOpenedAs (spelling : Spelling) (image : Image) (store : Kept) : Type 0 where
   pub loaded : IsLoaded image store.manifest
   pub entries : List Entry
   pub opens : OpensWith spelling store.manifest.version entries image
   pub rows : rows_of store.tables ≡ store.manifest.version.rows
   pub tables : AreOpened spelling (settings_of store.manifest.version) store.tables image
+  pub job : store.job ≡ None
   pub log : store.log.filled ≡ filled entries
   pub memory : store.memory.entries ≡ newest_entries entries
 

@@ -18,7 +18,7 @@ use Rattle.state_model.specs.Bounds.{is_passed, seek_bound}
 use Rattle.state_model.specs.State.{State}
 use Rattle.store_core.specs.Answers.{IsRun, told_limit}
 use Rattle.store_core.specs.Getting.{ReadRose}
-use Rattle.store_core.specs.Tied.{AreHeld}
+use Rattle.level_merge.specs.Held.{AreHeld}
 use Rattle.store_core.specs.declared.error.StoreError.{StoreError}
 use Rattle.store_core.specs.declared.error.StoreError.TheVariants as error
 use Rattle.table_file.specs.Opened.{Opened}

@@ -1,12 +1,13 @@
 //! Why a call of the store is refused.
 ghost use Rattle.std.specs.Prelude.{◌≡◌};
-ghost use Rattle.store_core.specs.Faults.{of_log_fault, of_manifest_fault, of_table_fault};
+ghost use Rattle.store_core.specs.Faults.{of_job_fault, of_log_fault, of_manifest_fault, of_table_fault};
 ghost use Rattle.store_core.specs.declared.error.StoreError.TheVariants.{BadSettings as bad_settings, Device, Memory};
 
 use byte_fields::{Damage, Part};
 use disk_trait::DiskFault;
 use filter_api::{BadSettings, Field};
 use gate_log::LogFault;
+use level_merge::JobFault;
 use manifest::ManifestFault;
 use std::alloc::AllocError;
 use table_file::TableFault;
@@ -112,5 +113,18 @@ impl From<BadSettings> for StoreError {
 
     fn from(bad: BadSettings) -> StoreError {
         StoreError::BadSettings(bad.0)
+    }
+}
+
+impl From<JobFault> for StoreError {
+    ghost from_gives = { λ fault error. error ≡ of_job_fault fault };
+
+    fn from(fault: JobFault) -> StoreError {
+        match fault {
+            JobFault::Memory => StoreError::Memory,
+            JobFault::Device(cause) => StoreError::Device(cause),
+            JobFault::Damaged(damage) => StoreError::Damaged(damage),
+            JobFault::Full { need, gap } => StoreError::Full { need, gap },
+        }
     }
 }

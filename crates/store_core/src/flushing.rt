@@ -1,10 +1,11 @@
 //! The memory table becomes a table of level 0.
-ghost use Rattle.std.specs.Prelude.{◌≡◌, ◌≤◌, ◌<◌, ◌+◌, ◌-◌, ◌*◌, ◌∷◌, ◌||◌, List, [], true, false, Some, None, IsTrue, IfOk, IfErr, OnOk, OnErr, MatchResult, length, map};
+ghost use Rattle.std.specs.Prelude.{◌≡◌, ◌≤◌, ◌<◌, ◌+◌, ◌-◌, ◌*◌, ◌∷◌, ◌++◌, ◌||◌, List, [], true, false, Some, None, IsTrue, IfOk, IfErr, OnOk, OnErr, MatchResult, length, map};
+ghost use Rattle.std.specs.List.{AllByRecursion};
 ghost use Rattle.std.specs.List.Sorted.{IsPermutation};
 ghost use Rattle.block_model.specs.Block.{IsTable};
 ghost use Rattle.block_model.specs.Pages.{page_bytes};
 ghost use Rattle.disk_trait.specs.World.{ReadMoves, WriteMoves};
-ghost use Rattle.extent_model.specs.Extents.{AreLaid};
+ghost use Rattle.extent_model.specs.Extents.{AreApart, AreLaid};
 ghost use Rattle.extent_model.specs.Gaps.{first_gap, largest_gap};
 ghost use Rattle.filter_api.specs.Ranges.{InRange};
 ghost use Rattle.key_base.specs.Limits.{last_epoch, max_device_pages, min_device_pages};
@@ -18,6 +19,7 @@ ghost use Rattle.state_model.specs.View.{memory};
 ghost use Rattle.store_core.specs.Answers.{Answered, IsRun, IsWriteRefusal, Wrote, stopped_by, told_change};
 ghost use Rattle.store_core.specs.Flushing.{IsFlushFault, IsNoPlace, IsPlan, IsPlanRefusal, Replaces, next_manifest};
 ghost use Rattle.store_core.specs.Kept.{IsWhole, Kept};
+ghost use Rattle.store_core.specs.Running.{extents_with, outputs_in};
 ghost use Rattle.store_core.specs.Tied.{Tied};
 ghost use Rattle.table_model.specs.Tables.{filter_bytes_of, table_pages};
 
@@ -29,6 +31,7 @@ use extent_map::{Extents, NoGap};
 use filter_api::{RangeFilter, Settings};
 use gate_log::Log;
 use key_base::{LAST_EPOCH, MAX_TABLES};
+use level_merge::{Job, jobs_are_followed};
 use manifest::{ManifestFault, Version, install};
 use mem_table::MemTable;
 use std::alloc::{AllocError, Global};
@@ -63,21 +66,38 @@ fn build_table<F: RangeFilter>(
     builder.finish()
 }
 
-// The extents of some rows.
-fn extents_of(alloc: Global, pages: u32, rows: &[Row]) -> Result<Extents, AllocError>
-    requires from { min_device_pages ≤ pages }
-    requires to { pages ≤ max_device_pages }
-    requires laid { AreLaid pages (map extent_of rows.now) }
-    ensures pages { IfOk result (λ e. e.pages ≡ pages) }
-    ensures extents { IfOk result (λ e. IsPermutation (map extent_of rows.now) e.extents) }
+// Takes the extents of some rows, which lie apart from one another and from all that are taken.
+fn add_rows(extents: &mut Extents, rows: &[Row]) -> Result<(), AllocError>
+    requires to { extents.old.pages ≤ max_device_pages }
+    requires laid { AreLaid extents.old.pages (map extent_of rows.now) }
+    requires free { AllByRecursion (λ extent. AllByRecursion (AreApart extent) extents.old.extents) (map extent_of rows.now) }
+    ensures pages { extents.new.pages ≡ extents.old.pages }
+    ensures extents { OnOk result (IsPermutation (map extent_of rows.now ++ extents.old.extents) extents.new.extents) }
 {
-    let mut extents = Extents::new(alloc, pages);
     for row in rows {
         extents.add(
             row.first_page,
             row.data_pages + row.index_pages + row.filter_pages,
         )?;
     }
+    Ok(())
+}
+
+// The extents of the rows of a version, and of the outputs of a merge.
+pub(crate) fn extents_of(
+    alloc: Global,
+    version: &Version,
+    outputs: &[Row],
+) -> Result<Extents, AllocError>
+    requires from { min_device_pages ≤ version.now.version.pages }
+    requires to { version.now.version.pages ≤ max_device_pages }
+    requires laid { AreLaid version.now.version.pages (extents_with version.now.version outputs.now) }
+    ensures pages { IfOk result (λ e. e.pages ≡ version.now.version.pages) }
+    ensures extents { IfOk result (λ e. IsPermutation (extents_with version.now.version outputs.now) e.extents) }
+{
+    let mut extents = Extents::new(alloc, version.pages);
+    add_rows(&mut extents, outputs)?;
+    add_rows(&mut extents, &version.rows)?;
     Ok(extents)
 }
 
@@ -91,13 +111,19 @@ fn with_row(alloc: Global, row: Row, rows: &[Row]) -> Result<Vec<Row>, AllocErro
     Ok(all)
 }
 
-// The first page of the first gap that holds so many pages.
-fn place_for(alloc: Global, version: &Version, need: u64) -> Result<u32, StoreError>
+// The first page of the first gap that holds so many pages, beside the outputs of a merge.
+fn place_for(
+    alloc: Global,
+    version: &Version,
+    outputs: &[Row],
+    need: u64,
+) -> Result<u32, StoreError>
     requires sound { IsVersion version.now.version }
-    ensures gap { IfOk result (λ page. first_gap version.now.version.pages (map extent_of version.now.version.rows) need ≡ Some page) }
-    ensures no_gap { IfErr result (IsNoPlace need (largest_gap version.now.version.pages (map extent_of version.now.version.rows))) }
+    requires laid { AreLaid version.now.version.pages (extents_with version.now.version outputs.now) }
+    ensures gap { IfOk result (λ page. first_gap version.now.version.pages (extents_with version.now.version outputs.now) need ≡ Some page) }
+    ensures no_gap { IfErr result (IsNoPlace need (largest_gap version.now.version.pages (extents_with version.now.version outputs.now))) }
 {
-    let extents = extents_of(alloc, version.pages, &version.rows)?;
+    let extents = extents_of(alloc, version, outputs)?;
     match extents.gap(need) {
         Ok(page) => Ok(page),
         Err(NoGap { need, largest }) => Err(StoreError::Full { need, gap: largest }),
@@ -122,30 +148,42 @@ fn next_version(alloc: Global, version: &Version, row: Row) -> Result<Version, A
 }
 
 // What is written and installed for the entries of the memory, one or more. Nothing is written here, and all that is refused is
-// refused here, but for memory for the manifest's body.
+// refused here, but for memory for the manifest's body. The outputs are those of the merge that runs.
 fn plan_flush<F: RangeFilter>(
     alloc: Global,
     version: &Version,
+    outputs: &[Row],
     memory: &MemTable,
 ) -> Result<Plan<F>, StoreError>
     requires sound { IsVersion version.now.version }
+    requires laid { AreLaid version.now.version.pages (extents_with version.now.version outputs.now) }
     requires table { IsTable memory.now.entries }
-    ensures plan { IfOk result (λ p. IsPlan F.spelling F.built_cutoff version.now memory.now.entries p.parts p.row p.next) }
+    ensures plan { IfOk result (λ p. IsPlan F.spelling F.built_cutoff version.now outputs.now memory.now.entries p.parts p.row p.next) }
     ensures fits { IfOk result (λ p. p.row.first_page + table_pages (filter_bytes_of F.spelling F.built_cutoff) p.parts.settings p.parts.entries ≤ p.next.version.pages) }
     ensures next { IfOk result (λ p. IsVersion p.next.version) }
-    ensures refused { IfErr result (IsPlanRefusal (filter_bytes_of F.spelling F.built_cutoff) version.now.version memory.now.entries) }
+    ensures refused { IfErr result (IsPlanRefusal (filter_bytes_of F.spelling F.built_cutoff) version.now.version outputs.now memory.now.entries) }
 {
     if version.rows.len() >= MAX_TABLES {
         return Err(StoreError::Limit(Limit::Tables));
     }
     let parts: Parts<F> = build_table(alloc, version.settings, memory)?;
-    let page = place_for(alloc, version, pages_of(&parts))?;
+    let page = place_for(alloc, version, outputs, pages_of(&parts))?;
     if version.epoch == LAST_EPOCH {
         return Err(StoreError::Limit(Limit::Epoch));
     }
     let row = parts.row(0, page);
     let next = next_version(alloc, version, row)?;
     Ok(Plan { parts, row, next })
+}
+
+// The rows of the outputs of a merge, if one runs.
+fn outputs_of<'a, F: RangeFilter>(job: &'a Option<Job<'static, F>>) -> &'a [Row]
+    ensures { result.now ≡ outputs_in job.now }
+{
+    match job {
+        Some(job) => job.outputs(),
+        None => &[],
+    }
 }
 
 // Writes the table, begins the other log, and installs the version.
@@ -159,12 +197,14 @@ fn write_plan<F: RangeFilter, D: Disk>(
     requires sound { IsVersion plan.now.next.version }
     requires epoch { plan.now.next.version.epoch < last_epoch }
     ensures replaces { (store : Kept) (s : State) → IsTrue D.tells → IsWhole store → Tied F.spelling (filter_bytes_of F.spelling F.built_cutoff) store s (D.world disk.old)
-        → IsPlan F.spelling F.built_cutoff store.manifest (memory s) plan.now.parts plan.now.row plan.now.next
+        → IsPlan F.spelling F.built_cutoff store.manifest (outputs_in store.job) (memory s) plan.now.parts plan.now.row plan.now.next
         → Replaces F.spelling F.built_cutoff store s plan.now.parts plan.now.row plan.now.next result (D.world disk.old) (D.world disk.new) }
     ensures log { IfOk result (λ log. (log.filled ≡ 0) × (plan.now.next.version.log_page ≡ log_page_of log.area)) }
     ensures cause { IfErr result (IsFlushFault (D.world disk.old) (D.world disk.new)) }
     ensures moves { WriteMoves 0 (page_bytes * plan.now.next.version.pages) (D.world disk.old) (D.world disk.new) }
 {
+    // the law of merges: one that runs goes on behind a flush, and is left by what is written elsewhere
+    jobs_are_followed();
     write_parts(disk, plan.row.first_page, &plan.parts)?;
     let log = Log::start(disk, plan.next.log_area)?;
     install(alloc, disk, &plan.next)?;
@@ -209,7 +249,7 @@ impl<F: RangeFilter> Store<F> {
             return Ok(());
         }
         let alloc = *self.buffer.allocator();
-        let plan: Plan<F> = plan_flush(alloc, &self.version, &self.memory)?;
+        let plan: Plan<F> = plan_flush(alloc, &self.version, outputs_of(&self.job), &self.memory)?;
         self.tables.reserve(1)?;
         match write_plan(alloc, disk, &plan) {
             Ok(log) => {

@@ -14,7 +14,8 @@ ghost use Rattle.state_model.specs.Bounds.{get_bound, searched};
 ghost use Rattle.state_model.specs.State.{State};
 ghost use Rattle.state_model.specs.View.{first_found, state_map, view};
 ghost use Rattle.store_core.specs.Getting.{IsBlockFault, IsBlockIn, IsFaultIn, IsFoundIn, IsGetRefusal, IsLookFault, IsMet, IsPlaceIn, IsShown, IsUndamaged, entries_by_table, said_at, said_in};
-ghost use Rattle.store_core.specs.Tied.{AreHeld, Tied};
+ghost use Rattle.level_merge.specs.Held.{AreHeld};
+ghost use Rattle.store_core.specs.Tied.{Tied};
 ghost use Rattle.table_model.specs.Tables.{filter_bytes_of};
 ghost use Rattle.table_file.specs.Faults.{IsNoDamage};
 ghost use Rattle.table_file.specs.Search.{StandsThere, block_for, blocks_of_get, largest_block};
@@ -57,6 +58,9 @@ fn look_in<F: RangeFilter, D: Disk>(
     let Some(block) = table.block_for(key) else {
         return Ok(None);
     };
+    // no block is larger than the largest
+    let room = table.block_bytes(block);
+    prove!(room <= buffer.len());
     let size = table.read_block(disk, block, buffer)?;
     match table.find_in(block, &buffer[..size], key)? {
         Some(_) => Ok(Some(size)),

@@ -5,11 +5,13 @@
 //! write a record to the log before the entry stands in memory; where it does not fit, [`Store::flush`] makes the memory a
 //! table of level 0. [`Store::get`] looks for a key in memory and then in the tables, newest first, and reads at most one
 //! block of each. [`Store::seek`] and [`Store::range`] give the pairs between two bounds, by rising keys: they open those
-//! tables alone whose filter admits the bounds. `specs/Tied` has what a caller may rest on: a store value, the device under it and a state of
-//! `state_model` are one, where each image that a crash may leave stands for that state, and the tables in memory are those
-//! of its pages. Then a get answers what the map of the state has.
+//! tables alone whose filter admits the bounds. [`Store::tend`] merges tables, a slice at each call.
 //!
-//! Merges are not here yet. Not for several processes on one device, and not for a device that others write.
+//! `specs/Tied` has what a caller may rest on: a store value, the device under it and a state of `state_model` are one,
+//! where each image that a crash may leave stands for that state, the tables in memory are those of its pages, and the
+//! merge that runs is the state's job. Then a get answers what the map of the state has.
+//!
+//! Not for several processes on one device, and not for a device that others write.
 //!
 //! ```text
 //! Store::<PlainFilter>::format(alloc, &mut disk, settings, 512)?;     // an empty store of 512 pages
@@ -27,13 +29,17 @@ mod explaining;
 mod flushing;
 mod formatting;
 mod getting;
+mod installing;
 mod limits;
 mod opening;
 mod putting;
+mod replacing;
 mod scanning;
 mod store;
+mod tending;
 
 pub use error::{Limit, StoreError};
 pub use explaining::Explained;
 pub use scanning::Scan;
 pub use store::Store;
+pub use tending::Tended;

@@ -182,7 +182,7 @@ impl<F: RangeFilter> Store<F> {
         requires log { log.filled ≡ filled entries.items }
         requires sound { AllByRecursion IsEntry entries.items }
         requires fits { filled entries.items < log_bytes }
-        ensures store { IfOk result (λ store. store ≡ record { stopped = false; manifest = version; tables = tables.tables; log = log; memory = store.memory; buffer = store.buffer }) }
+        ensures store { IfOk result (λ store. store ≡ record { stopped = false; manifest = version; tables = tables.tables; job = None; log = log; memory = store.memory; buffer = store.buffer }) }
         ensures memory { IfOk result (λ store. store.memory.entries ≡ newest_entries entries.items) }
         ensures cause { IfErr result (λ why. why ≡ StoreError.Memory) }
     {
@@ -192,6 +192,7 @@ impl<F: RangeFilter> Store<F> {
             stopped: false,
             version,
             tables,
+            job: None,
             log,
             memory,
             buffer,

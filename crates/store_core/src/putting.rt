@@ -20,6 +20,7 @@ use disk_trait::Disk;
 use entry_list::Entry;
 use filter_api::RangeFilter;
 use gate_log::record_need;
+use level_merge::jobs_are_followed;
 
 impl<F: RangeFilter> Store<F> {
     /// Sets the value of a key.
@@ -93,6 +94,8 @@ impl<F: RangeFilter> Store<F> {
         ensures failure { IfErr result (IsWriteFailure (D.world disk.old) (D.world disk.new)) }
         ensures moves { WriteMoves 0 (page_bytes * self.old.manifest.version.pages) (D.world disk.old) (D.world disk.new) }
     {
+        // the law of merges: what is written elsewhere leaves the one that runs as it is
+        jobs_are_followed();
         match self
             .log
             .append(disk, &mut self.buffer, entry.key(), entry.value())

@@ -3,18 +3,21 @@ ghost use Rattle.std.specs.Prelude.{◌≡◌};
 
 use filter_api::RangeFilter;
 use gate_log::Log;
+use level_merge::Job;
 use manifest::Version;
 use mem_table::MemTable;
 use std::marker::Model;
 use table_file::Tables;
 
-/// A store over a device: its version, its tables, its log, and the newest entry of each key in the log.
+/// A store over a device: its version, its tables, the merge that runs, its log, and the newest entry of each key in the log.
 #[derive(Drop)]
 pub struct Store<F: RangeFilter> {
     pub(crate) stopped: bool,
     pub(crate) version: Version,
     // one for each row of the version, in their order
     pub(crate) tables: Tables<F>,
+    // the merge that runs, if one does
+    pub(crate) job: Option<Job<'static, F>>,
     pub(crate) log: Log,
     pub(crate) memory: MemTable,
     // room for the largest block, in which records are built too
@@ -28,9 +31,9 @@ impl<F: RangeFilter> Model for Store<F> {
 
     ghost Value = { Kept };
 
-    ghost view = { λ s. record { stopped = s.stopped; manifest = s.version; tables = s.tables.tables; log = s.log; memory = s.memory; buffer = s.buffer.items } };
+    ghost view = { λ s. record { stopped = s.stopped; manifest = s.version; tables = s.tables.tables; job = s.job; log = s.log; memory = s.memory; buffer = s.buffer.items } };
 
-    ghost invariant = { λ s. IsWhole (record { stopped = s.stopped; manifest = s.version; tables = s.tables.tables; log = s.log; memory = s.memory; buffer = s.buffer.items })
+    ghost invariant = { λ s. IsWhole (record { stopped = s.stopped; manifest = s.version; tables = s.tables.tables; job = s.job; log = s.log; memory = s.memory; buffer = s.buffer.items })
         × (vec_len s.buffer ≡ largest_block) };
 }
 

@@ -1,49 +1,47 @@
-use Rattle.std.proofs.Common.{◌≡◌, ◌∙◌, ◌<◌, ℕ, length, get_or, sym, subst, arith}
+use Rattle.std.proofs.Common.{◌≡◌, ◌∙◌, ◌++◌, ℕ, List, [], map, sym, ap, subst}
+use Rattle.std.specs.List.{AllByRecursion}
+use Rattle.std.specs.List.Sorted.{IsPermutation}
 use Rattle.byte_fields.specs.declared.parts.Row.{Row}
-use Rattle.extent_model.specs.Extents.{IsOnDevice}
+use Rattle.extent_map.specs.Taken.{Taken}
+use Rattle.extent_model.specs.Extents.{AreApart, AreLaid, Extent}
+use Rattle.manifest.specs.Manifest.{Manifest}
 use Rattle.manifest_model.specs.Rows.{extent_of}
-use Rattle.store_core.proofs.PlannedRows.{row_is_free, row_is_taken, row_on_device}
+use Rattle.store_core.proofs.PlannedRows.{both_taken, free_of_none, outputs_laid, rows_free, rows_laid}
 use Rattle.store_core.proofs.flushing.extents_of.Goals as goal
 
-abbrev no_row : Row
-no_row = record {
-  level = 0;
-  first_page = 0;
-  data_pages = 0;
-  index_pages = 0;
-  filter_pages = 0;
-  entries = 0;
-  index_len = 0;
-  filter_len = 0;
-  index_sum = 0;
-  filter_sum = 0;
-}
+pub add_rows-requires-clause-laid : goal.add_rows-requires-clause-laid
+add_rows-requires-clause-laid c =
+    let v = c.args.version.now.version in
+    let pages = ap (λ (t : Taken). t.pages) c.new-extents.ensures ∙ ap (λ (m : Manifest). m.version.pages) c.version.view_is in
+    subst (λ (n : ℕ). AreLaid n (map extent_of c.args.outputs.now)) (sym pages) (outputs_laid v.pages v.rows c.args.outputs.now c.requires.laid)
 
-pub overflow_add-row : goal.overflow_add-row
-overflow_add-row c =
-    let there : c.loop-row.row-index < length c.args.rows.now = omega arith in
-    let on = row_on_device c.args.pages c.args.rows.now c.requires.laid c.loop-row.row-index no_row there in
-    record { fits = omega (arith, on.to, c.requires.to) }
+pub add_rows-requires-clause-free : goal.add_rows-requires-clause-free
+add_rows-requires-clause-free c =
+    subst (λ (es : List Extent). AllByRecursion (λ (e : Extent). AllByRecursion (AreApart e) es) (map extent_of c.args.outputs.now)) (sym (ap (λ (t : Taken). t.extents) c.new-extents.ensures))
+    (free_of_none (map extent_of c.args.outputs.now))
 
-pub overflow_add-row-in-loop-row : goal.overflow_add-row-in-loop-row
-overflow_add-row-in-loop-row c =
-    let there : c.loop-row.row-index < length c.args.rows.now = omega arith in
-    let on = row_on_device c.args.pages c.args.rows.now c.requires.laid c.loop-row.row-index no_row there in
-    record { fits = omega (arith, on.to, c.requires.to) }
+pub add_rows-requires-2-clause-laid : goal.add_rows-requires-2-clause-laid
+add_rows-requires-2-clause-laid c =
+    let v = c.args.version.now.version in
+    let pages = c.add_rows.ensures.pages ∙ ap (λ (t : Taken). t.pages) c.new-extents.ensures ∙ ap (λ (m : Manifest). m.version.pages) c.version.view_is in
+    let rows = c.deref.ensures.value ∙ ap (λ (m : Manifest). m.version.rows) c.version.view_is in
+    subst (λ (n : ℕ). AreLaid n (map extent_of c.deref.result.now)) (sym pages)
+    (subst (λ (rs : List Row). AreLaid v.pages (map extent_of rs)) (sym rows) (rows_laid v.pages v.rows c.args.outputs.now c.requires.laid))
 
-pub add-requires-clause-on_device : goal.add-requires-clause-on_device
-add-requires-clause-on_device c =
-    let there : c.loop-row.row-index < length c.args.rows.now = omega arith in
-    subst (λ (n : ℕ). IsOnDevice n (extent_of (get_or c.args.rows.now c.loop-row.row-index no_row))) (sym c.loop-row.invariant.0) (row_on_device c.args.pages c.args.rows.now c.requires.laid c.loop-row.row-index no_row there)
+pub add_rows-requires-2-clause-free : goal.add_rows-requires-2-clause-free
+add_rows-requires-2-clause-free c =
+    let v = c.args.version.now.version in
+    let rows = c.deref.ensures.value ∙ ap (λ (m : Manifest). m.version.rows) c.version.view_is in
+    let same = subst (λ (es : List Extent). IsPermutation (map extent_of c.args.outputs.now ++ es) c.add_rows.new.extents.extents) (ap (λ (t : Taken). t.extents) c.new-extents.ensures)
+    c.in_ok-add_rows.ensures.extents in
+    subst (λ (rs : List Row). AllByRecursion (λ (e : Extent). AllByRecursion (AreApart e) c.add_rows.new.extents.extents) (map extent_of rs)) (sym rows)
+    (rows_free v.pages v.rows c.args.outputs.now c.requires.laid c.add_rows.new.extents.extents same)
 
-pub add-requires-clause-free : goal.add-requires-clause-free
-add-requires-clause-free c =
-    let there : c.loop-row.row-index < length c.args.rows.now = omega arith in
-    row_is_free c.args.pages c.args.rows.now c.requires.laid c.loop-row.row-index no_row there c.loop-row.extents.extents c.loop-row.invariant.1
-
-pub loop-row-preserved : goal.loop-row-preserved
-loop-row-preserved c =
-    let there : c.loop-row.row-index < length c.args.rows.now = omega arith in (
-      c.add.ensures.pages ∙ c.loop-row.invariant.0,
-      row_is_taken c.args.pages c.args.rows.now c.requires.laid c.loop-row.row-index no_row there c.loop-row.extents.extents c.loop-row.invariant.1 c.add.new.self.extents c.in_ok-add.ensures.added,
-    )
+pub returns-clause-extents : goal.returns-clause-extents
+returns-clause-extents c =
+    let v = c.args.version.now.version in
+    let rows = c.deref.ensures.value ∙ ap (λ (m : Manifest). m.version.rows) c.version.view_is in
+    let same = subst (λ (es : List Extent). IsPermutation (map extent_of c.args.outputs.now ++ es) c.add_rows.new.extents.extents) (ap (λ (t : Taken). t.extents) c.new-extents.ensures)
+    c.in_ok-add_rows.ensures.extents in
+    both_taken v.pages v.rows c.args.outputs.now c.requires.laid c.add_rows.new.extents.extents same c.add_rows-2.new.extents.extents
+    (subst (λ (rs : List Row). IsPermutation (map extent_of rs ++ c.add_rows.new.extents.extents) c.add_rows-2.new.extents.extents) rows c.in_ok-add_rows-2.ensures.extents)

@@ -5,7 +5,7 @@ use Rattle.block_model.specs.Laws.{joined}
 use Rattle.entry_model.specs.Newest.{lookup}
 use Rattle.state_model.specs.Bounds.{searched}
 use Rattle.store_core.specs.Getting.{IsFoundIn, said_in}
-use Rattle.store_core.specs.Tied.{AreHeld}
+use Rattle.level_merge.specs.Held.{AreHeld}
 use Rattle.store_core.proofs.Founds.{found_first}
 use Rattle.store_core.proofs.ReadBounds.{searched_first, searched_on}
 use Rattle.store_core.proofs.ShownBlocks.{first_fault, older_fault}

@@ -36,6 +36,7 @@ invariant_of-self g c =
           filled_is = filled_is;
           memory_is = c.set.ensures.newest before.entries before.memory_is;
         };
+        job = whole.job;
       },
       c.self.invariant.1,
     )
@@ -47,8 +48,8 @@ returns-in-Ok-clause-turns g c s tells is =
     let e = c.args.entry in
     let tied = subst (λ (k : Kept). Tied spelling bytes k s (g.D.Disk.world c.args.disk.now)) (sym c.self.view_is) is in
     let fits = subst (λ (k : Kept). k.log.filled + need e ≤ 262144) (sym c.self.view_is) c.requires.fits in
-    append_done spelling bytes _ s e _ _ _ (same_entry e _ _ c.key.ensures c.value.ensures) tied c.self.invariant.0 fits c.append.ensures.moves _ _ _
-    (c.in-Ok.ensures.crash s.log tells tied.log) refl refl c.in-Ok.ensures.filled (c.set.ensures.newest s.log tied.memory) c.requires.sound
+    append_done c.jobs_are_followed.ensures.image spelling bytes _ s e _ _ _ (same_entry e _ _ c.key.ensures c.value.ensures) tied c.self.invariant.0 fits c.append.ensures.moves _ _ _
+    (c.in-Ok.ensures.crash s.log tells tied.log) refl refl refl c.in-Ok.ensures.filled (c.set.ensures.newest s.log tied.memory) c.requires.sound
 
 pub returns-in-Ok-clause-moves : goal.returns-in-Ok-clause-moves
 returns-in-Ok-clause-moves g c =
@@ -66,7 +67,7 @@ returns-in-Err-clause-turns g c s tells is =
     let tied = subst (λ (k : Kept). Tied spelling bytes k s (g.D.Disk.world c.args.disk.now)) (sym c.self.view_is) is in
     let fits = subst (λ (k : Kept). k.log.filled + need e ≤ 262144) (sym c.self.view_is) c.requires.fits in
     let stopped : c.match-entry.self.stopped ≡ true = elim c.match-entry.branch [ in-Some-1 w ↦ ap (λ (k : Kept). k.stopped) w.self-is | in-None-1 w ↦ ap (λ (k : Kept). k.stopped) w.self-is ] in
-    append_fails spelling bytes _ s e _ _ _ (same_entry e _ _ c.key.ensures c.value.ensures) tied c.self.invariant.0 fits c.append.ensures.moves _ _ _
+    append_fails c.jobs_are_followed.ensures.image spelling bytes _ s e _ _ _ (same_entry e _ _ c.key.ensures c.value.ensures) tied c.self.invariant.0 fits c.append.ensures.moves _ _ _
     (c.in-Err.ensures.crash s.log tells tied.log) stopped
 
 pub returns-in-Err-clause-moves : goal.returns-in-Err-clause-moves

@@ -30,4 +30,4 @@ returns-clause-answered g c s tells runs tied =
     let old = g.D.Disk.world c.args.disk.now in
     let change = written bytes s (del_entry c.args.key.now) in
     wrote_answers spelling bytes s (Del c.args.key.now) old (g.D.Disk.world c.write.new.disk) change c.write.result c.write.new.self c.in_ok-check_key.ensures refl refl (λ _. tt)
-    (λ _ to made. is_made change to made) (is_left spelling bytes c.args.self.now s old tied) c.write.ensures.refused (c.write.ensures.wrote s tells tied)
+    (λ _ to made. is_made change to made) (is_left spelling bytes c.args.self.now s old tied) c.write.ensures.stopped c.write.ensures.refused (c.write.ensures.wrote s tells tied)

@@ -13,4 +13,4 @@ returns-clause-answered g c s tells runs tied =
     wrote_answers spelling bytes s request.Flush old (g.D.Disk.world c.flush_memory.new.disk) (flushed bytes s) c.flush_memory.result c.flush_memory.new.self refl refl refl
     (λ failed none. on_err _ c.flush_memory.result c.flush_memory.ensures.some failed (tied.memory ∙ none))
     (λ failed to made. ((λ none. on_err _ c.flush_memory.result c.flush_memory.ensures.some failed (tied.memory ∙ none)), is_made (flushed bytes s) to made))
-    (is_left spelling bytes c.args.self.now s old tied) c.flush_memory.ensures.refused (c.flush_memory.ensures.wrote s tells tied)
+    (is_left spelling bytes c.args.self.now s old tied) c.flush_memory.ensures.stopped c.flush_memory.ensures.refused (c.flush_memory.ensures.wrote s tells tied)

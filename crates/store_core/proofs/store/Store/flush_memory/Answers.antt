@@ -1,5 +1,7 @@
 use Rattle.std.proofs.Common.{◌≡◌, ◌≢◌, List, [], ◌∷◌, ◌∙◌, refl, sym, ap, subst, arith, rules, true}
 use Rattle.std.specs.Prelude.{Result, Err}
+use Rattle.byte_fields.specs.declared.parts.Row.{Row}
+use Rattle.extent_model.specs.Extents.{AreLaid}
 use Rattle.manifest.specs.declared.fault.ManifestFault.TheVariants as fault
 use Rattle.state_model.specs.Changes.{flushed}
 use Rattle.table_file.specs.Opened.{Opened}
@@ -8,10 +10,12 @@ use Rattle.table_model.specs.Tables.{filter_bytes_of}
 use Rattle.store_core.specs.Answers.{Wrote}
 use Rattle.store_core.specs.Flushing.{IsPlan, IsPlanRefusal}
 use Rattle.store_core.specs.Kept.{IsWhole, Kept}
+use Rattle.store_core.specs.Running.{extents_with, outputs_in}
 use Rattle.store_core.specs.Tied.{Tied}
 use Rattle.store_core.specs.declared.error.StoreError.{StoreError}
 use Rattle.store_core.proofs.FlushAnswers.{flush_done, flush_failed, nothing_to_flush, passed_on, plan_of_memory, plan_refused, row_again, row_within, wanted_with}
-use Rattle.store_core.proofs.Wholes.{begun_where_none, flushed_whole, memory_table}
+use Rattle.store_core.proofs.Plans.{row_free}
+use Rattle.store_core.proofs.Wholes.{begun_where_none, flushed_whole, laid_with, memory_table}
 use Rattle.store_core.proofs.Writing.{never}
 use Rattle.store_core.proofs.store.Store.flush_memory.Goals as goal
 use Rattle.store_core.proofs.store.Store.flush_memory.Goals.{in-Device, in_default}
@@ -28,12 +32,19 @@ returns-then-is_empty-clause-begun g c =
 pub plan_flush-requires-clause-table : goal.plan_flush-requires-clause-table
 plan_flush-requires-clause-table g c = memory_table _ c.self.invariant.0 (λ none. never c.is_empty.result (c.is_empty.ensures.1 none) c.if-is_empty.false)
 
+pub plan_flush-requires-clause-laid : goal.plan_flush-requires-clause-laid
+plan_flush-requires-clause-laid g c =
+    let v = c.self.inside.version.version in
+    subst (λ (rs : List Row). AreLaid v.pages (extents_with v rs)) (sym c.outputs_of.ensures) (laid_with _ c.self.invariant.0)
+
 pub returns-in_err-plan-clause-wrote : goal.returns-in_err-plan-clause-wrote
 returns-in_err-plan-clause-wrote g c s tells tied =
     let spelling = g.F.RangeFilter.spelling in
     let bytes = filter_bytes_of g.F.RangeFilter.spelling g.F.RangeFilter.built_cutoff in
     let x = c.in_err-plan.field-0.0 in
-    let why = subst (λ (k : Kept). IsPlanRefusal bytes k.manifest.version k.memory.entries x) c.self.view_is c.in_err-plan.ensures.refused in
+    let v = c.self.inside.version.version in
+    let here = subst (λ (rs : List Row). IsPlanRefusal bytes v rs c.self.inside.memory.entries x) c.outputs_of.ensures c.in_err-plan.ensures.refused in
+    let why = subst (λ (k : Kept). IsPlanRefusal bytes k.manifest.version (outputs_in k.job) k.memory.entries x) c.self.view_is here in
     subst (λ (r : Result (Unit {0}) StoreError). Wrote spelling bytes s (flushed bytes s) r c.args.self.now (g.D.Disk.world c.args.disk.now) (g.D.Disk.world c.args.disk.now))
     (passed_on c.from_residual.result x c.from_residual.ensures.1)
     (plan_refused spelling bytes c.args.self.now s (g.D.Disk.world c.args.disk.now) (g.met.D.Disk.current c.args.disk.now tells) tied
@@ -49,18 +60,27 @@ returns-in_err-reserve-clause-wrote g c s tells tied =
     (subst (λ (k : Kept). Tied spelling bytes k s w) (sym c.self.view_is) tied)
 
 pub into_table-requires-clause-row : goal.into_table-requires-clause-row
-into_table-requires-clause-row g c = row_again g.F.RangeFilter.spelling g.F.RangeFilter.built_cutoff _ _ c.in_ok-plan.plan.parts c.in_ok-plan.plan.row _ c.in_ok-plan.ensures.plan
+into_table-requires-clause-row g c = row_again g.F.RangeFilter.spelling g.F.RangeFilter.built_cutoff _ _ _ c.in_ok-plan.plan.parts c.in_ok-plan.plan.row _ c.in_ok-plan.ensures.plan
 
 pub into_table-requires-clause-within : goal.into_table-requires-clause-within
 into_table-requires-clause-within g c =
-    row_within g.F.RangeFilter.spelling g.F.RangeFilter.built_cutoff _ _ c.in_ok-plan.plan.parts c.in_ok-plan.plan.row _ c.in_ok-plan.ensures.plan c.self.invariant.0.version c.in_ok-plan.ensures.next c.in_ok-plan.ensures.fits
+    let v = c.self.inside.version.version in
+    let laid = subst (λ (rs : List Row). AreLaid v.pages (extents_with v rs)) (sym c.outputs_of.ensures) (laid_with _ c.self.invariant.0) in
+    row_within g.F.RangeFilter.spelling g.F.RangeFilter.built_cutoff _ _ _ c.in_ok-plan.plan.parts c.in_ok-plan.plan.row _ c.in_ok-plan.ensures.plan c.self.invariant.0.version laid c.in_ok-plan.ensures.next
+    c.in_ok-plan.ensures.fits
 
 pub invariant_of-self-in-Ok : goal.invariant_of-self-in-Ok
 invariant_of-self-in-Ok g c =
-    let plan = c.in_ok-plan.ensures.plan in (
+    let parts = c.in_ok-plan.plan.parts in
+    let row = c.in_ok-plan.plan.row in
+    let next = c.in_ok-plan.plan.next in
+    let m = c.self.inside.version in
+    let entries = c.self.inside.memory.entries in
+    let plan = subst (λ (rs : List Row). IsPlan g.F.RangeFilter.spelling g.F.RangeFilter.built_cutoff m rs entries parts row next) c.outputs_of.ensures c.in_ok-plan.ensures.plan in
+    let free = row_free g.F.RangeFilter.spelling g.F.RangeFilter.built_cutoff m _ entries parts row next c.self.invariant.0.version (laid_with _ c.self.invariant.0) plan in (
       flushed_whole _ _ c.into_table.result c.in_ok-plan.plan.row c.in_ok-plan.plan.next c.self.invariant.0 c.in_ok-plan.ensures.next
           (omega (arith, plan.epoch, ap (λ (m : _). m.version.epoch) plan.next_is)) plan.next_is c.installed.ensures
-          (c.insert.ensures.tables ∙ ap (λ (ts : List Opened). c.into_table.result ∷ ts) c.reserve.ensures.tables) (ap (λ (t : Opened). t.row) c.into_table.ensures.table)
+          (c.insert.ensures.tables ∙ ap (λ (ts : List Opened). c.into_table.result ∷ ts) c.reserve.ensures.tables) (ap (λ (t : Opened). t.row) c.into_table.ensures.table) refl free
           c.in-Ok.ensures.log.1 c.in-Ok.ensures.log.0 c.clear.ensures.empty,
       c.self.invariant.1,
     )
@@ -77,12 +97,13 @@ returns-in-Ok-clause-wrote g c s tells tied =
     let new = g.D.Disk.world c.write_plan.new.disk in
     let current = g.met.D.Disk.current c.args.disk.now tells in
     let some = subst (λ (k : Kept). k.memory.entries ≢ []) c.self.view_is (λ none. never c.is_empty.result (c.is_empty.ensures.1 none) c.if-is_empty.false) in
-    let plan = subst (λ (k : Kept). IsPlan spelling cutoff k.manifest k.memory.entries parts row next) c.self.view_is c.in_ok-plan.ensures.plan in
+    let here = subst (λ (rs : List Row). IsPlan spelling cutoff c.self.inside.version rs c.self.inside.memory.entries parts row next) c.outputs_of.ensures c.in_ok-plan.ensures.plan in
+    let plan = subst (λ (k : Kept). IsPlan spelling cutoff k.manifest (outputs_in k.job) k.memory.entries parts row next) c.self.view_is here in
     let replaces = c.in-Ok.ensures.replaces store s tells (subst IsWhole c.self.view_is c.self.invariant.0) tied (plan_of_memory spelling cutoff store s old new current tied some parts row next plan) in
     flush_done spelling cutoff store s old new current tied some parts row next plan c.in-Ok.log _ _ replaces c.installed.ensures
     (c.insert.ensures.tables ∙ ap (λ (t : Opened). t ∷ c.reserve.new.self.tables) c.into_table.ensures.table
     ∙ ap (λ (ts : List Opened). opened_of cutoff parts row ∷ ts) (c.reserve.ensures.tables ∙ ap (λ (k : Kept). k.tables) c.self.view_is))
-    c.in-Ok.ensures.log.0 c.clear.ensures.empty
+    (ap (λ (k : Kept). k.job) c.self.view_is) c.in-Ok.ensures.log.0 c.clear.ensures.empty
 
 pub returns-after-fault-clause-wrote : goal.returns-after-fault-clause-wrote
 returns-after-fault-clause-wrote g c s tells tied =
@@ -96,16 +117,19 @@ returns-after-fault-clause-wrote g c s tells tied =
     let new = g.D.Disk.world c.write_plan.new.disk in
     let current = g.met.D.Disk.current c.args.disk.now tells in
     let some = subst (λ (k : Kept). k.memory.entries ≢ []) c.self.view_is (λ none. never c.is_empty.result (c.is_empty.ensures.1 none) c.if-is_empty.false) in
-    let plan = subst (λ (k : Kept). IsPlan spelling cutoff k.manifest k.memory.entries parts row next) c.self.view_is c.in_ok-plan.ensures.plan in
+    let here = subst (λ (rs : List Row). IsPlan spelling cutoff c.self.inside.version rs c.self.inside.memory.entries parts row next) c.outputs_of.ensures c.in_ok-plan.ensures.plan in
+    let plan = subst (λ (k : Kept). IsPlan spelling cutoff k.manifest (outputs_in k.job) k.memory.entries parts row next) c.self.view_is here in
     let replaces = c.in-Err.ensures.replaces store s tells (subst IsWhole c.self.view_is c.self.invariant.0) tied (plan_of_memory spelling cutoff store s old new current tied some parts row next plan) in
     let after = c.match-fault.self in
     let same_manifest : after.manifest ≡ store.manifest =
     elim c.match-fault.branch [ in-Device w ↦ ap (λ (k : Kept). k.manifest) w.self-is | in_default w ↦ ap (λ (k : Kept). k.manifest) w.self-is ] ∙ ap (λ (k : Kept). k.manifest) c.self.view_is in
     let same_tables : after.tables ≡ store.tables =
     elim c.match-fault.branch [ in-Device w ↦ ap (λ (k : Kept). k.tables) w.self-is | in_default w ↦ ap (λ (k : Kept). k.tables) w.self-is ] ∙ c.reserve.ensures.tables ∙ ap (λ (k : Kept). k.tables) c.self.view_is in
+    let same_job : after.job ≡ store.job =
+    elim c.match-fault.branch [ in-Device w ↦ ap (λ (k : Kept). k.job) w.self-is | in_default w ↦ ap (λ (k : Kept). k.job) w.self-is ] ∙ ap (λ (k : Kept). k.job) c.self.view_is in
     let same_log : after.log ≡ store.log =
     elim c.match-fault.branch [ in-Device w ↦ ap (λ (k : Kept). k.log) w.self-is | in_default w ↦ ap (λ (k : Kept). k.log) w.self-is ] ∙ ap (λ (k : Kept). k.log) c.self.view_is in
     let same_memory : after.memory ≡ store.memory =
     elim c.match-fault.branch [ in-Device w ↦ ap (λ (k : Kept). k.memory) w.self-is | in_default w ↦ ap (λ (k : Kept). k.memory) w.self-is ] ∙ ap (λ (k : Kept). k.memory) c.self.view_is in
-    flush_failed spelling cutoff store s old new current tied some parts row next plan after same_manifest same_tables same_log same_memory c.in-Err.fault c.from.result c.from.ensures replaces c.in-Err.ensures.cause
+    flush_failed spelling cutoff store s old new current tied some parts row next plan after same_manifest same_tables same_job same_log same_memory c.in-Err.fault c.from.result c.from.ensures replaces c.in-Err.ensures.cause
     (λ cause is. elim c.match-fault.branch [ in-Device w ↦ ap (λ (k : Kept). k.stopped) w.self-is | in_default w ↦ search rules ])

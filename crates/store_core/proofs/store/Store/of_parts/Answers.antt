@@ -15,6 +15,7 @@ invariant_of-result g c = (
       filled_is = c.requires.log;
       memory_is = c.in_ok-memory.ensures;
     };
+    job = tt;
   },
   search rules,
 )

@@ -45,4 +45,4 @@ returns-clause-answered g c s tells runs tied =
     let change = written bytes s (put_entry c.args.key.now c.args.value.now) in
     wrote_answers spelling bytes s (Put c.args.key.now c.args.value.now) old (g.D.Disk.world c.write.new.disk) change c.write.result c.write.new.self
     (none_broken (key_limit c.args.key.now) (value_limit c.args.value.now) c.in_ok-check_key.ensures c.in_ok-check_value.ensures) refl refl (λ _. tt) (λ _ to made. is_made change to made)
-    (is_left spelling bytes c.args.self.now s old tied) c.write.ensures.refused (c.write.ensures.wrote s tells tied)
+    (is_left spelling bytes c.args.self.now s old tied) c.write.ensures.stopped c.write.ensures.refused (c.write.ensures.wrote s tells tied)

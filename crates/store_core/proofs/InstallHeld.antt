@@ -1,0 +1,74 @@
+-- The tables of a merge stand in the place of those that it read, in memory as in the state.
+use Rattle.std.proofs.Common.{◌≡◌, ◌≢◌, ◌⊎◌, inl, inr, ◌∙◌, ◌+◌, ◌-◌, ◌<◌, ◌≤◌, ℕ, zero, suc, Bool, true, false, cond, List, [], ◌∷◌, length, fold, map, refl, sym, ap, subst, arith}
+use Rattle.std.specs.Prelude.{◌==◌, ◌&&◌, ◌||◌, nat_lt, not, Option, Some, None, filter, slice_get}
+use Rattle.std.specs.List.{AllByRecursion, list_any}
+use Rattle.disk_trait.specs.Image.{Image}
+use Rattle.filter_api.specs.Spellings.{Spelling}
+use Rattle.filter_api.specs.declared.settings.Settings.{Settings}
+use Rattle.key_base.specs.ByteOrder.{is_before}
+use Rattle.level_merge.specs.Held.{AreHeld, IsHeld}
+use Rattle.level_merge.specs.Laws.{StandingAgrees}
+use Rattle.level_merge.specs.Plans.{Agrees}
+use Rattle.map_model.specs.SortedMap.{Bytes}
+use Rattle.merge_rows.specs.Merges.{numbered}
+use Rattle.state_model.specs.Merges.{least_key}
+use Rattle.state_model.specs.Tends as model
+use Rattle.table_file.specs.Opened.{Opened}
+use Rattle.table_model.specs.Tables.{Table}
+use Rattle.store_core.specs.Replacing.{goes_before, others_in, put_in}
+
+-- ---- tables that are held are alike
+
+module _ (agree : StandingAgrees) (spelling : Spelling) (settings : Settings) (image : Image) where
+  held_agrees : (o : Opened) (t : Table) → IsHeld spelling settings o t image → Agrees o t
+  held_agrees o t held = subst (Agrees o) (sym held.table_is) (agree spelling settings o held.blocks image held.stands)
+
+  abbrev ahead : ℕ → ℕ → Bytes → Bytes → Bool
+  ahead level other least other_least = nat_lt level other || ((level == other) && is_before least other_least)
+
+  alike : (o p : Opened) (t u : Table) → Agrees o t → Agrees p u → goes_before o p ≡ model.goes_before t u
+  alike o p t u first second =
+      ap (λ (n : ℕ). ahead n p.row.level o.index.least p.index.least) first.level
+      ∙ ap (λ (n : ℕ). ahead t.level n o.index.least p.index.least) second.level
+      ∙ ap (λ (k : Bytes). ahead t.level u.level k p.index.least) first.least
+      ∙ ap (λ (k : Bytes). ahead t.level u.level (least_key t) k) second.least
+
+  put_held : (o : Opened) (t : Table) (opened : List Opened) (tables : List Table) → IsHeld spelling settings o t image → AreHeld spelling settings opened tables image
+      → AreHeld spelling settings (put_in opened o) (model.inserted tables t) image
+  put_held o t [] [] one held = (one, tt)
+  put_held o t [] (u ∷ tables) one held = absurd held
+  put_held o t (p ∷ opened) [] one held = absurd held
+  put_held o t (p ∷ opened) (u ∷ tables) one held =
+      let same = alike o p t u (held_agrees o t one) (held_agrees p u held.0) in
+      subst (λ (b : Bool). AreHeld spelling settings (put_in (p ∷ opened) o) (cond b (t ∷ u ∷ tables) (u ∷ model.inserted tables t)) image) same
+      (elim (goes_before o p) as (λ b. AreHeld spelling settings (cond b (o ∷ p ∷ opened) (p ∷ put_in opened o)) (cond b (t ∷ u ∷ tables) (u ∷ model.inserted tables t)) image) [
+        | true ↦ (one, held)
+        | false ↦ (held.0, put_held o t opened tables one held.1)
+      ])
+
+  pub fold_held : (made opened : List Opened) (written tables : List Table) → AreHeld spelling settings made written image → AreHeld spelling settings opened tables image
+      → AreHeld spelling settings (fold put_in opened made) (fold model.inserted tables written) image
+  fold_held [] opened [] tables new held = held
+  fold_held [] opened (u ∷ written) tables new held = absurd new
+  fold_held (o ∷ made) opened [] tables new held = absurd new
+  fold_held (o ∷ made) opened (t ∷ written) tables new held = fold_held made (put_in opened o) written (model.inserted tables t) new.1 (put_held o t opened tables new.0 held)
+
+pub many_held : (spelling : Spelling) (settings : Settings) (image : Image) (opened : List Opened) (tables : List Table) → AreHeld spelling settings opened tables image → length opened ≡ length tables
+many_held spelling settings image [] [] held = refl
+many_held spelling settings image [] (t ∷ tables) held = absurd held
+many_held spelling settings image (o ∷ opened) [] held = absurd held
+many_held spelling settings image (o ∷ opened) (t ∷ tables) held = ap suc (many_held spelling settings image opened tables held.1)
+
+pub others_held : (spelling : Spelling) (settings : Settings) (image : Image) (which : List ℕ) (opened : List Opened) (tables : List Table) → AreHeld spelling settings opened tables image
+    → AreHeld spelling settings (others_in which opened) (others_in which tables) image
+others_held spelling settings image which [] [] held = tt
+others_held spelling settings image which [] (t ∷ tables) held = absurd held
+others_held spelling settings image which (o ∷ opened) [] held = absurd held
+others_held spelling settings image which (o ∷ opened) (t ∷ tables) held =
+    let rest = others_held spelling settings image which opened tables held.1 in
+    let same = many_held spelling settings image opened tables held.1 in
+    subst (λ (n : ℕ). AreHeld spelling settings (others_in which (o ∷ opened)) (cond (list_any (λ (k : ℕ). k == n) which) (others_in which tables) (t ∷ others_in which tables)) image) same
+    (elim (list_any (λ (k : ℕ). k == length opened) which) as (λ b. AreHeld spelling settings (cond b (others_in which opened) (o ∷ others_in which opened)) (cond b (others_in which tables) (t ∷ others_in which tables)) image) [
+      | true ↦ rest
+      | false ↦ (held.0, rest)
+    ])

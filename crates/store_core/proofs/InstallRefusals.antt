@@ -1,0 +1,43 @@
+-- Why an install of a merge is refused, whatever the device is, and which epoch is left for it.
+use Rattle.std.proofs.Common.{◌≡◌, ◌≢◌, ◌⊎◌, inl, inr, ◌<◌, ◌∙◌, ◌^◌, ℕ, true, refl, sym, ap, subst, arith}
+use Rattle.std.specs.Prelude.{Result, Err}
+use Rattle.disk_trait.specs.Fault.{IsWriteThroughFault}
+use Rattle.disk_trait.specs.World.{World}
+use Rattle.disk_trait.specs.declared.fault.DiskFault.{DiskFault}
+use Rattle.key_base.specs.Limits.{last_epoch}
+use Rattle.manifest.specs.Causes.{HasInstallCause, IsSlotFault}
+use Rattle.manifest.specs.declared.fault.ManifestFault.{ManifestFault}
+use Rattle.manifest.specs.declared.fault.ManifestFault.TheVariants as fault
+use Rattle.manifest_model.specs.Version.{Version}
+use Rattle.store_core.specs.Answers.{is_write}
+use Rattle.store_core.specs.Faults.{of_manifest_fault}
+use Rattle.store_core.specs.Installing.{IsInstallRefusal}
+use Rattle.store_core.specs.declared.error.StoreError.{StoreError}
+
+pub below_last : (n : ℕ) → n < 2 ^ 64 → n ≢ last_epoch → n < last_epoch
+unfolding last_epoch
+below_last n bound other = omega (arith, bound, other)
+
+through_writes : (at : ℕ) (cause : DiskFault) → IsWriteThroughFault at cause → is_write cause.op ≡ true
+through_writes at cause (inl is) = ap (λ (x : DiskFault). is_write x.op) is
+through_writes at cause (inr is) = ap (λ (x : DiskFault). is_write x.op) is
+
+slot_writes : (slot : ℕ) (cause : DiskFault) → IsSlotFault slot cause → is_write cause.op ≡ true
+slot_writes slot cause (inl is) = through_writes slot cause is
+slot_writes slot cause (inr is) = through_writes _ cause is
+
+module _ (v : Version) (slot : ℕ) (a b : World) where
+  refused_by : (f : ManifestFault) → HasInstallCause slot a b f → (f ≡ fault.Epoch → v.epoch ≡ last_epoch) → (f ≢ fault.Epoch → v.epoch < last_epoch) → IsInstallRefusal v a b (of_manifest_fault f)
+  refused_by fault.Memory cause last below = tt
+  refused_by (fault.Device f) cause last below = (slot_writes slot f cause.0, cause.1, below (λ never. absurd cc))
+  refused_by fault.NotAStore cause last below = absurd cause
+  refused_by fault.AlreadyAStore cause last below = absurd cause
+  refused_by fault.Epoch cause last below = (refl, last refl)
+  refused_by (fault.Damaged damage) cause last below = absurd cause
+
+  pub install_is_refused : (f : ManifestFault) (x : StoreError) → x ≡ of_manifest_fault f → HasInstallCause slot a b f → (f ≡ fault.Epoch → v.epoch ≡ last_epoch) → (f ≢ fault.Epoch → v.epoch < last_epoch)
+      → IsInstallRefusal v a b x
+  install_is_refused f x is cause last below = subst (IsInstallRefusal v a b) (sym is) (refused_by f cause last below)
+
+pub one_fault : {T : Type 0} (r : Result T ManifestFault) (f g : ManifestFault) → r ≡ Err f → r ≡ Err g → f ≡ g
+one_fault r f g first second = let both = sym first ∙ second in cc

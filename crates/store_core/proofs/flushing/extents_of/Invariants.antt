@@ -1,7 +1,0 @@
-use Rattle.std.proofs.Common.{◌≡◌, map, take}
-use Rattle.std.specs.List.Sorted.{IsPermutation}
-use Rattle.manifest_model.specs.Rows.{extent_of}
-use Rattle.store_core.proofs.flushing.extents_of.Given as goal
-
-abbrev pub invariant-loop-row : goal.invariant-loop-row
-invariant-loop-row l = (l.extents.pages ≡ l.pages) × IsPermutation (map extent_of (take l.row-index l.rows)) l.extents.extents

@@ -1,0 +1,203 @@
+use Rattle.std.proofs.Common.{◌≡◌, ◌≢◌, ◌∙◌, ◌<◌, ◌≤◌, ◌+◌, ◌-◌, ◌*◌, List, fold, length, refl, sym, ap, ap₂, subst, arith, rules, true}
+use Rattle.std.specs.Prelude.{Option, Some, None, Result, Ok, Err}
+use Rattle.std.specs.List.{AllByRecursion}
+use Rattle.disk_trait.specs.World.{Leads, WriteMoves}
+use Rattle.disk_trait.proofs.Calls.{moves_wider}
+use Rattle.extent_model.proofs.Lists.{pairs_of}
+use Rattle.key_base.specs.Limits.{last_epoch}
+use Rattle.level_merge.specs.Merging.{Merging}
+use Rattle.manifest.proofs.Steps.{raised_is}
+use Rattle.manifest.specs.Causes.{HasInstallCause}
+use Rattle.manifest.specs.Manifest.{Manifest, StandsInSlot, install_of, other_place}
+use Rattle.manifest.specs.declared.fault.ManifestFault.{ManifestFault}
+use Rattle.manifest.specs.declared.fault.ManifestFault.TheVariants as fault
+use Rattle.manifest_model.specs.Installs.{IsInstalled, IsOldOrNew}
+use Rattle.manifest_model.specs.Laws.{IsVersion, RowFits}
+use Rattle.manifest_model.specs.Version.{log_page_of}
+use Rattle.merge_rows.specs.Steps.{numbers}
+use Rattle.table_file.specs.Opened.{Opened}
+use Rattle.table_model.specs.Tables.{filter_bytes_of}
+use Rattle.store_core.specs.Flushing.{installed_manifest}
+use Rattle.store_core.specs.Kept.{IsWhole, Kept, rows_of}
+use Rattle.store_core.specs.Replacing.{merged_manifest, others_in, put_in, tables_behind}
+use Rattle.store_core.specs.Running.{IsRun, MayRunIn}
+use Rattle.store_core.proofs.Agreed.{tied_agree}
+use Rattle.store_core.proofs.InstallLists.{others_few}
+use Rattle.store_core.proofs.InstallMerges.{install_done, install_refused, wanted}
+use Rattle.store_core.proofs.InstallRefusals.{below_last, install_is_refused, one_fault}
+use Rattle.store_core.proofs.MergedVersions.{made_few, merged_is_version}
+use Rattle.store_core.proofs.store.Store.install_merge.Goals as goal
+use Rattle.store_core.proofs.store.Store.install_merge.Goals.{in-Device, in_default}
+
+pub merged_version-requires-clause-few_made : goal.merged_version-requires-clause-few_made
+merged_version-requires-clause-few_made g c =
+    let run = subst (λ (k : Kept). IsRun k.manifest.version k.tables c.args.job) (sym c.self.view_is) c.requires.run in
+    let few = made_few c.self.inside.version c.self.inside.tables.tables c.args.job c.self.invariant.0.version c.self.invariant.0.rows run in
+    omega (arith, few)
+
+pub returns-in_err-next-clause-installs : goal.returns-in_err-next-clause-installs
+returns-in_err-next-clause-installs g c s done tells runs is_done tied =
+    let spelling = g.F.RangeFilter.spelling in
+    let bytes = filter_bytes_of spelling g.F.RangeFilter.built_cutoff in
+    let whole = subst IsWhole c.self.view_is c.self.invariant.0 in
+    wanted c.standing_tables_agree.ensures spelling bytes c.args.self.now c.args.job s done (g.D.Disk.world c.args.disk.now) whole.slot whole.area whole.version c.requires.run runs is_done tied
+    c.from_residual.result c.args.self.now c.from_residual.ensures.1 refl refl c.requires.taken_out refl refl
+
+pub returns-in_err-reserve-clause-installs : goal.returns-in_err-reserve-clause-installs
+returns-in_err-reserve-clause-installs g c s done tells runs is_done tied =
+    let spelling = g.F.RangeFilter.spelling in
+    let bytes = filter_bytes_of spelling g.F.RangeFilter.built_cutoff in
+    let whole = subst IsWhole c.self.view_is c.self.invariant.0 in
+    wanted c.standing_tables_agree.ensures spelling bytes c.args.self.now c.args.job s done (g.D.Disk.world c.args.disk.now) whole.slot whole.area whole.version c.requires.run runs is_done tied
+    c.from_residual-in_err-reserve.result _ c.from_residual-in_err-reserve.ensures.1 (ap (λ (k : Kept). k.manifest) c.self.view_is) (c.reserve.ensures.tables ∙ ap (λ (k : Kept). k.tables) c.self.view_is)
+    (ap (λ (k : Kept). k.job) c.self.view_is ∙ c.requires.taken_out) (ap (λ (k : Kept). k.log) c.self.view_is) (ap (λ (k : Kept). k.memory) c.self.view_is)
+
+pub install-requires-clause-sound : goal.install-requires-clause-sound
+install-requires-clause-sound g c =
+    let run = subst (λ (k : Kept). IsRun k.manifest.version k.tables c.args.job) (sym c.self.view_is) c.requires.run in
+    subst (λ (m : Manifest). IsVersion m.version) (sym c.in_ok-next.ensures.next)
+    (merged_is_version c.self.inside.version c.self.inside.tables.tables c.args.job c.self.invariant.0.version c.self.invariant.0.rows run
+    (subst (λ (m : Manifest). AllByRecursion RowFits m.version.rows) c.in_ok-next.ensures.next c.in_ok-next.ensures.fits))
+
+pub put_made-requires : goal.put_made-requires
+put_made-requires g c =
+    let which = numbers c.args.job.merge.walks in
+    let tables = c.self.inside.tables.tables in
+    let run = subst (λ (k : Kept). IsRun k.manifest.version k.tables c.args.job) (sym c.self.view_is) c.requires.run in
+    let few = others_few which tables (pairs_of _ which run.apart) run.numbers in
+    let others = ap length (c.take_merged.ensures.others ∙ ap (λ (ts : List Opened). others_in which ts) c.reserve.ensures.tables) in
+    let made = ap length c.into_tables.ensures in
+    let asked = ap length c.tables.ensures in
+    let room = c.in_ok-reserve.ensures.room in
+    let kept = c.take_merged.ensures.room in
+    record { room = omega (arith, few, others, made, asked, room, kept) }
+
+pub installed-requires-clause-epoch : goal.installed-requires-clause-epoch
+installed-requires-clause-epoch g c =
+    let run_in = subst (λ (k : Kept). IsRun k.manifest.version k.tables c.args.job) (sym c.self.view_is) c.requires.run in
+    let sound : IsVersion c.in_ok-next.next.version = subst (λ (m : Manifest). IsVersion m.version) (sym c.in_ok-next.ensures.next)
+    (merged_is_version c.self.inside.version c.self.inside.tables.tables c.args.job c.self.invariant.0.version c.self.invariant.0.rows run_in
+    (subst (λ (m : Manifest). AllByRecursion RowFits m.version.rows) c.in_ok-next.ensures.next c.in_ok-next.ensures.fits)) in
+    below_last c.in_ok-next.next.version.epoch sound.epoch (λ last. let never = c.in-Ok.ensures.limit.1 last in absurd cc)
+
+pub invariant_of-self-in-Ok : goal.invariant_of-self-in-Ok
+invariant_of-self-in-Ok g c =
+    let run_in = subst (λ (k : Kept). IsRun k.manifest.version k.tables c.args.job) (sym c.self.view_is) c.requires.run in
+    let sound : IsVersion c.in_ok-next.next.version = subst (λ (m : Manifest). IsVersion m.version) (sym c.in_ok-next.ensures.next)
+    (merged_is_version c.self.inside.version c.self.inside.tables.tables c.args.job c.self.invariant.0.version c.self.invariant.0.rows run_in
+    (subst (λ (m : Manifest). AllByRecursion RowFits m.version.rows) c.in_ok-next.ensures.next c.in_ok-next.ensures.fits)) in
+    let left : c.in_ok-next.next.version.epoch < last_epoch = below_last c.in_ok-next.next.version.epoch sound.epoch (λ last. let never = c.in-Ok.ensures.limit.1 last in absurd cc) in
+    let whole = c.self.invariant.0 in
+    let which = numbers c.args.job.merge.walks in
+    let tables_are = c.put_made.ensures
+    ∙ ap₂ (λ (ts made : List Opened). fold put_in ts made) (c.take_merged.ensures.others ∙ ap (λ (ts : List Opened). others_in which ts) c.reserve.ensures.tables) c.into_tables.ensures in
+    let none = ap (λ (k : Kept). k.job) c.self.view_is ∙ c.requires.taken_out in (
+      record {
+        version = subst (λ (m : Manifest). IsVersion m.version) (sym c.installed.ensures) (raised_is c.in_ok-next.next.version sound (λ last. absurd (omega (arith, last, left))));
+        slot = subst (λ (m : Manifest). m.slot ≤ 1) (sym c.installed.ensures) (omega arith);
+        rows = ap rows_of tables_are ∙ sym (ap (λ (m : Manifest). m.version.rows) c.installed.ensures ∙ ap (λ (m : Manifest). m.version.rows) c.in_ok-next.ensures.next);
+        area = ap (λ (m : Manifest). m.version.log_page) c.installed.ensures ∙ ap (λ (m : Manifest). m.version.log_page) c.in_ok-next.ensures.next ∙ whole.area;
+        entries = whole.entries;
+        job = subst (λ (running : Option Merging). MayRunIn c.installed.result.version c.put_made.new.tables.tables running) (sym none) tt;
+      },
+      c.self.invariant.1,
+    )
+
+pub returns-in-Ok-clause-installs : goal.returns-in-Ok-clause-installs
+returns-in-Ok-clause-installs g c s done tells runs is_done tied =
+    let run_in = subst (λ (k : Kept). IsRun k.manifest.version k.tables c.args.job) (sym c.self.view_is) c.requires.run in
+    let sound : IsVersion c.in_ok-next.next.version = subst (λ (m : Manifest). IsVersion m.version) (sym c.in_ok-next.ensures.next)
+    (merged_is_version c.self.inside.version c.self.inside.tables.tables c.args.job c.self.invariant.0.version c.self.invariant.0.rows run_in
+    (subst (λ (m : Manifest). AllByRecursion RowFits m.version.rows) c.in_ok-next.ensures.next c.in_ok-next.ensures.fits)) in
+    let left : c.in_ok-next.next.version.epoch < last_epoch = below_last c.in_ok-next.next.version.epoch sound.epoch (λ last. let never = c.in-Ok.ensures.limit.1 last in absurd cc) in
+    let spelling = g.F.RangeFilter.spelling in
+    let bytes = filter_bytes_of spelling g.F.RangeFilter.built_cutoff in
+    let store = c.args.self.now in
+    let v = store.manifest.version in
+    let job = c.args.job in
+    let which = numbers job.merge.walks in
+    let a = g.D.Disk.world c.args.disk.now in
+    let b = g.D.Disk.world c.install.new.disk in
+    let whole = subst IsWhole c.self.view_is c.self.invariant.0 in
+    let next_is = c.in_ok-next.ensures.next ∙ ap (λ (k : Kept). merged_manifest k.manifest (rows_of (tables_behind k.tables job))) c.self.view_is in
+    let agrees = tied_agree spelling bytes (record store { job = Some job }) s a (g.met.D.Disk.current c.args.disk.now tells) tied in
+    let tables_are = c.put_made.ensures
+    ∙ ap₂ (λ (ts made : List Opened). fold put_in ts made) (c.take_merged.ensures.others ∙ ap (λ (ts : List Opened). others_in which ts) c.reserve.ensures.tables) c.into_tables.ensures in
+    install_done c.standing_tables_agree.ensures spelling bytes store job s done a whole.slot whole.area whole.version c.requires.run runs is_done tied b
+    (subst (λ (m : Manifest). IsVersion m.version) next_is sound) agrees.epoch (subst (λ (m : Manifest). WriteMoves (other_place m.slot) 131072 a b) next_is c.install.ensures.moves)
+    c.in-Ok.field-0 _ _ (subst (λ (m : Manifest). m.version.epoch < last_epoch) next_is left)
+    (subst (λ (m : Manifest). Leads {T = Unit {0}} {E = ManifestFault} (StandsInSlot m.slot m.other_open v) (IsOldOrNew (install_of m v)) (IsInstalled (install_of m v)) (Ok c.in-Ok.field-0) a b) next_is
+    (c.in-Ok.ensures.crash v tells (sym (ap (λ (m : Manifest). m.version.epoch) next_is))))
+    (c.installed.ensures ∙ ap installed_manifest next_is) (tables_are ∙ ap (λ (k : Kept). tables_behind k.tables job) c.self.view_is) (ap (λ (k : Kept). k.job) c.self.view_is ∙ c.requires.taken_out)
+    (ap (λ (k : Kept). k.log) c.self.view_is) (ap (λ (k : Kept). k.memory) c.self.view_is)
+
+pub returns-in-Ok-clause-moves : goal.returns-in-Ok-clause-moves
+returns-in-Ok-clause-moves g c =
+    let a = g.D.Disk.world c.args.disk.now in
+    let b = g.D.Disk.world c.install.new.disk in
+    let whole = subst IsWhole c.self.view_is c.self.invariant.0 in
+    let next_is = c.in_ok-next.ensures.next ∙ ap (λ (k : Kept). merged_manifest k.manifest (rows_of (tables_behind k.tables c.args.job))) c.self.view_is in
+    moves_wider (other_place c.args.self.now.manifest.slot) 131072 0 (4096 * c.args.self.now.manifest.version.pages) a b (omega arith) (omega (arith, whole.slot, whole.version.some_pages))
+    (subst (λ (m : Manifest). WriteMoves (other_place m.slot) 131072 a b) next_is c.install.ensures.moves)
+
+pub returns-after-fault-clause-moves : goal.returns-after-fault-clause-moves
+returns-after-fault-clause-moves g c =
+    let a = g.D.Disk.world c.args.disk.now in
+    let b = g.D.Disk.world c.install.new.disk in
+    let whole = subst IsWhole c.self.view_is c.self.invariant.0 in
+    let next_is = c.in_ok-next.ensures.next ∙ ap (λ (k : Kept). merged_manifest k.manifest (rows_of (tables_behind k.tables c.args.job))) c.self.view_is in
+    moves_wider (other_place c.args.self.now.manifest.slot) 131072 0 (4096 * c.args.self.now.manifest.version.pages) a b (omega arith) (omega (arith, whole.slot, whole.version.some_pages))
+    (subst (λ (m : Manifest). WriteMoves (other_place m.slot) 131072 a b) next_is c.install.ensures.moves)
+
+pub returns-after-fault-clause-refused : goal.returns-after-fault-clause-refused
+returns-after-fault-clause-refused g c =
+    let run_in = subst (λ (k : Kept). IsRun k.manifest.version k.tables c.args.job) (sym c.self.view_is) c.requires.run in
+    let sound : IsVersion c.in_ok-next.next.version = subst (λ (m : Manifest). IsVersion m.version) (sym c.in_ok-next.ensures.next)
+    (merged_is_version c.self.inside.version c.self.inside.tables.tables c.args.job c.self.invariant.0.version c.self.invariant.0.rows run_in
+    (subst (λ (m : Manifest). AllByRecursion RowFits m.version.rows) c.in_ok-next.ensures.next c.in_ok-next.ensures.fits)) in
+    let a = g.D.Disk.world c.args.disk.now in
+    let b = g.D.Disk.world c.install.new.disk in
+    let next_is = c.in_ok-next.ensures.next ∙ ap (λ (k : Kept). merged_manifest k.manifest (rows_of (tables_behind k.tables c.args.job))) c.self.view_is in
+    let same = ap (λ (m : Manifest). m.version.epoch) next_is in
+    install_is_refused c.args.self.now.manifest.version (other_place c.in_ok-next.next.slot) a b c.in-Err.fault c.from.result c.from.ensures c.in-Err.ensures.cause
+    (λ is. sym same ∙ c.in-Err.ensures.limit.0 (ap Err is))
+    (λ other. subst (λ (m : Manifest). m.version.epoch < last_epoch) next_is
+    (below_last c.in_ok-next.next.version.epoch sound.epoch (λ last. other (one_fault _ c.in-Err.fault fault.Epoch refl (c.in-Err.ensures.limit.1 last)))))
+
+pub returns-after-fault-clause-installs : goal.returns-after-fault-clause-installs
+returns-after-fault-clause-installs g c s done tells runs is_done tied =
+    let run_in = subst (λ (k : Kept). IsRun k.manifest.version k.tables c.args.job) (sym c.self.view_is) c.requires.run in
+    let sound : IsVersion c.in_ok-next.next.version = subst (λ (m : Manifest). IsVersion m.version) (sym c.in_ok-next.ensures.next)
+    (merged_is_version c.self.inside.version c.self.inside.tables.tables c.args.job c.self.invariant.0.version c.self.invariant.0.rows run_in
+    (subst (λ (m : Manifest). AllByRecursion RowFits m.version.rows) c.in_ok-next.ensures.next c.in_ok-next.ensures.fits)) in
+    let spelling = g.F.RangeFilter.spelling in
+    let bytes = filter_bytes_of spelling g.F.RangeFilter.built_cutoff in
+    let store = c.args.self.now in
+    let v = store.manifest.version in
+    let job = c.args.job in
+    let a = g.D.Disk.world c.args.disk.now in
+    let b = g.D.Disk.world c.install.new.disk in
+    let whole = subst IsWhole c.self.view_is c.self.invariant.0 in
+    let next_is = c.in_ok-next.ensures.next ∙ ap (λ (k : Kept). merged_manifest k.manifest (rows_of (tables_behind k.tables job))) c.self.view_is in
+    let agrees = tied_agree spelling bytes (record store { job = Some job }) s a (g.met.D.Disk.current c.args.disk.now tells) tied in
+    let after = c.match-fault.self in
+    let same_manifest : after.manifest ≡ store.manifest =
+    elim c.match-fault.branch [ in-Device w ↦ ap (λ (k : Kept). k.manifest) w.self-is | in_default w ↦ ap (λ (k : Kept). k.manifest) w.self-is ] ∙ ap (λ (k : Kept). k.manifest) c.self.view_is in
+    let same_tables : after.tables ≡ store.tables =
+    elim c.match-fault.branch [ in-Device w ↦ ap (λ (k : Kept). k.tables) w.self-is | in_default w ↦ ap (λ (k : Kept). k.tables) w.self-is ] ∙ c.reserve.ensures.tables ∙ ap (λ (k : Kept). k.tables) c.self.view_is in
+    let no_job : after.job ≡ None =
+    elim c.match-fault.branch [ in-Device w ↦ ap (λ (k : Kept). k.job) w.self-is | in_default w ↦ ap (λ (k : Kept). k.job) w.self-is ] ∙ ap (λ (k : Kept). k.job) c.self.view_is ∙ c.requires.taken_out in
+    let same_log : after.log ≡ store.log =
+    elim c.match-fault.branch [ in-Device w ↦ ap (λ (k : Kept). k.log) w.self-is | in_default w ↦ ap (λ (k : Kept). k.log) w.self-is ] ∙ ap (λ (k : Kept). k.log) c.self.view_is in
+    let same_memory : after.memory ≡ store.memory =
+    elim c.match-fault.branch [ in-Device w ↦ ap (λ (k : Kept). k.memory) w.self-is | in_default w ↦ ap (λ (k : Kept). k.memory) w.self-is ] ∙ ap (λ (k : Kept). k.memory) c.self.view_is in
+    install_refused c.standing_tables_agree.ensures spelling bytes store job s done a whole.slot whole.area whole.version c.requires.run runs is_done tied b
+    (subst (λ (m : Manifest). IsVersion m.version) next_is sound) agrees.epoch (subst (λ (m : Manifest). WriteMoves (other_place m.slot) 131072 a b) next_is c.install.ensures.moves)
+    c.in-Err.fault c.from.result after c.from.ensures (subst (λ (m : Manifest). HasInstallCause (other_place m.slot) a b c.in-Err.fault) next_is c.in-Err.ensures.cause)
+    (λ is. c.in-Err.ensures.unwritten (c.in-Err.ensures.limit.0 (ap Err is)))
+    (λ other. subst (λ (m : Manifest). m.version.epoch < last_epoch) next_is
+    (below_last c.in_ok-next.next.version.epoch sound.epoch (λ last. other (one_fault _ c.in-Err.fault fault.Epoch refl (c.in-Err.ensures.limit.1 last)))))
+    (subst (λ (m : Manifest). Leads {T = Unit {0}} {E = ManifestFault} (StandsInSlot m.slot m.other_open v) (IsOldOrNew (install_of m v)) (IsInstalled (install_of m v)) (Err c.in-Err.fault) a b) next_is
+    (c.in-Err.ensures.crash v tells (sym (ap (λ (m : Manifest). m.version.epoch) next_is))))
+    same_manifest same_tables no_job same_log same_memory
+    (λ cause is. elim c.match-fault.branch [ in-Device w ↦ ap (λ (k : Kept). k.stopped) w.self-is | in_default w ↦ search rules ])

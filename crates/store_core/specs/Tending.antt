@@ -1,0 +1,116 @@
+-- What a slice of a merge is answered by a store: it is a merge slice of its state.
+use Rattle.std.specs.Prelude.{◌≡◌, ◌<◌, ℕ, Bool, true, false, List, Contains, length, Option, Some, None, Result, Ok, Err, IsErr, MatchResult}
+use Rattle.std.specs.Option.{option_map}
+use Rattle.disk_trait.specs.Image.{Image}
+use Rattle.disk_trait.specs.World.{Meanwhile, Moves, ReadMoves, World}
+use Rattle.filter_api.specs.Spellings.{Spelling}
+use Rattle.filter_api.specs.declared.settings.Settings.{Settings}
+use Rattle.image_model.specs.Stands.{StandsForMap}
+use Rattle.key_base.specs.Limits.{last_epoch}
+use Rattle.level_merge.specs.Follows.{IsJobRefusal, IsSliced}
+use Rattle.level_merge.specs.Merging.{Merging, begun}
+use Rattle.level_merge.specs.Plans.{Agree, IsPlanOf, MayStart, PlanByNumbers}
+use Rattle.level_merge.specs.declared.fault.JobFault.{JobFault}
+use Rattle.level_merge.specs.declared.fault.JobFault.TheVariants as job
+use Rattle.level_merge.specs.declared.fault.Sliced.{Sliced}
+use Rattle.line_model.specs.Replies as reply
+use Rattle.state_model.specs.Merges.{choose}
+use Rattle.state_model.specs.State.{Job, State, without_job}
+use Rattle.state_model.specs.Tends as model
+use Rattle.state_model.specs.Tends.{Progresses, Runs, Tend, with_job}
+use Rattle.state_model.specs.View.{state_map}
+use Rattle.store_core.specs.Answers.{HasCause, told, told_limit}
+use Rattle.store_core.specs.Kept.{Kept}
+use Rattle.store_core.specs.Opening.{FaultRose}
+use Rattle.store_core.specs.Tied.{IsUnder, Tied}
+use Rattle.store_core.specs.declared.error.StoreError.{StoreError}
+use Rattle.store_core.specs.declared.error.StoreError.TheVariants as error
+use Rattle.store_core.specs.declared.tending.Tended.{Tended}
+use Rattle.store_core.specs.declared.tending.Tended.TheVariants as tended
+use Rattle.table_file.specs.Opened.{Opened}
+use Rattle.table_model.specs.Tables.{FilterBytes, Table}
+
+-- ---- the answer
+
+-- as the state's
+abbrev pub told_slice : Result Tended StoreError → Option model.Tended
+told_slice (Ok tended.Worked) = Some model.Worked
+told_slice (Ok tended.Idle) = Some model.Idle
+told_slice (Ok (tended.Full need gap)) = Some (model.Refused (reply.Full need gap))
+told_slice (Err why) = option_map (λ (r : reply.Reply). model.Refused r) (told why)
+
+-- From a state a slice is answered so, by one merge slice of it. At each moment meanwhile a crash leaves its map. The store is then
+-- that of the state behind the slice, unless it is stopped.
+pub record Tends (spelling : Spelling) (filter_bytes : FilterBytes) (s : State) (told_as : Option model.Tended) (store : Kept) (old new : World) : Type 0 where
+  pub tended : model.Tended
+  pub told_is : told_as ≡ Some tended
+  pub after : State
+  pub slice : Tend (HasCause old new) filter_bytes s tended after
+  pub crash : Meanwhile (StandsForMap spelling (state_map s)) old new
+  pub tied : store.stopped ≡ false → Tied spelling filter_bytes store after new
+
+-- ---- whatever the device is
+
+-- no state that has these tables chooses some of them
+abbrev pub NoneIsChosen : List Opened → Type 0
+NoneIsChosen tables = (of_state : List Table) → Agree tables of_state → choose of_state ≡ None
+
+-- where no merge runs and none is to be begun no call is made and nothing changes; an output that has no room drops its merge
+abbrev pub IsTended : Kept → Kept → World → World → Tended → Type 0
+IsTended before after old new tended.Worked = Unit {0}
+IsTended before after old new tended.Idle = (before.job ≡ None) × NoneIsChosen before.tables × (after ≡ before) × ReadMoves 0 old new
+IsTended before after old new (tended.Full need gap) = (after.job ≡ None) × (gap < need)
+
+-- why a slice is refused, of a store that was stopped or not, whose version has this epoch
+abbrev pub IsTendRefusal : Bool → ℕ → World → World → StoreError → Type 0
+IsTendRefusal stopped epoch old new error.Memory = stopped ≡ false
+IsTendRefusal stopped epoch old new (error.Device cause) = (stopped ≡ false) × FaultRose old new cause
+IsTendRefusal stopped epoch old new error.Stopped = stopped ≡ true
+IsTendRefusal stopped epoch old new (error.Limit limit) = (stopped ≡ false) × (told_limit limit ≡ reply.LastEpoch) × (epoch ≡ last_epoch)
+IsTendRefusal stopped epoch old new (error.Full need gap) = ⊥
+IsTendRefusal stopped epoch old new (error.Damaged damage) = stopped ≡ false
+IsTendRefusal stopped epoch old new error.NotAStore = ⊥
+IsTendRefusal stopped epoch old new error.AlreadyAStore = ⊥
+IsTendRefusal stopped epoch old new (error.BadSettings field) = ⊥
+
+-- reads, and writes on so many bytes of the device
+abbrev pub SomeMoves : ℕ → World → World → Type 0
+SomeMoves bytes old new = (most : ℕ) × Moves 0 bytes most old new
+
+-- ---- in parts
+
+-- A merge that begins among some tables is that of a plan, which each state that has these tables chooses. Where there is none
+-- no such state chooses one.
+abbrev pub IsBegun : List Opened → Settings → Option Merging → Type 0
+IsBegun tables settings None = NoneIsChosen tables
+IsBegun tables settings (Some m) =
+    (p : PlanByNumbers) × MayStart tables p × (m ≡ begun p settings tables) × ((of_state : List Table) → Agree tables of_state → IsPlanOf of_state (Some p) (choose of_state))
+
+-- The merge that runs, or one that begins where none does, is that of a job of the state, as each image on which the store stands
+-- shows it. Where there is none nothing is to be merged.
+abbrev pub IsNext : Spelling → Kept → State → Option Merging → Type 0
+IsNext spelling store s None = (s.job ≡ None) × (choose s.tables ≡ None)
+IsNext spelling store s (Some m) =
+    (job : Job) × Runs s job × ((image : Image) → IsUnder spelling store.manifest store.tables store.job s image
+    → IsUnder spelling store.manifest store.tables (Some m) (with_job s job) image)
+
+-- the job goes on, and the store stands with its merge as it is then
+pub record GoesOn (spelling : Spelling) (filter_bytes : FilterBytes) (store : Kept) (s : State) (job : Job) (m : Merging) (w : World) (sliced : Sliced) : Type 0 where
+  pub later : Job
+  pub progresses : Progresses filter_bytes s job later
+  pub said : IsSliced s job later sliced
+  pub tied : Tied spelling filter_bytes (record store { job = Some m }) (with_job s later) w
+
+-- A slice of the merge that follows a job of a state: meanwhile a crash leaves the map of the state. The job goes on, or it is
+-- refused with its cause and the store stands without it.
+pub record SlicesJob (spelling : Spelling) (filter_bytes : FilterBytes) (store : Kept) (s : State) (job : Job) (m : Merging) (result : Result Sliced JobFault) (old new : World) : Type 0 where
+  pub meanwhile : Meanwhile (StandsForMap spelling (state_map s)) old new
+  pub done : MatchResult result (GoesOn spelling filter_bytes store s job m new) (IsJobRefusal filter_bytes s job old new)
+  pub dropped : IsErr result → Tied spelling filter_bytes (record store { job = None }) (without_job s) new
+
+-- what a slice that is refused is answered
+abbrev pub answer_to : JobFault → Result Tended StoreError
+answer_to job.Memory = Err error.Memory
+answer_to (job.Device cause) = Err (error.Device cause)
+answer_to (job.Damaged damage) = Err (error.Damaged damage)
+answer_to (job.Full need gap) = Ok (tended.Full need gap)

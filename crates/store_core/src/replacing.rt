@@ -1,0 +1,163 @@
+//! The tables of a merge that is done take the place of those that it read.
+ghost use Rattle.std.specs.Prelude.{◌≡◌, ◌≤◌, ◌<◌, ◌+◌, length, fold, map, vec_capacity, vec_len, IfOk};
+ghost use Rattle.std.specs.List.{AllByRecursion, insert as list_with};
+ghost use Rattle.key_base.specs.Limits.{max_tables};
+ghost use Rattle.manifest_model.specs.Laws.{RowFits};
+ghost use Rattle.merge_rows.specs.Steps.{numbers};
+ghost use Rattle.store_core.specs.Replacing.{goes_before, merged_manifest, others_in, put_in, tables_behind};
+ghost use Rattle.store_core.specs.Kept.{rows_of};
+
+use byte_fields::Row;
+use filter_api::RangeFilter;
+use key_base::compare;
+use level_merge::Job;
+use manifest::Version;
+use std::alloc::{AllocError, Global};
+use table_file::{Table, Tables};
+
+// Whether a table goes before another one: it is of a lesser level, or of the same one with lesser keys.
+fn goes_before<F: RangeFilter>(new: &Table<F>, other: &Table<F>) -> bool
+    ensures { result ≡ goes_before new.now other.now }
+{
+    let level = new.row().level;
+    let other_level = other.row().level;
+    level < other_level || (level == other_level && compare(new.least(), other.least()).is_lt())
+}
+
+// The place of a table among others: that of the first that it goes before, or behind all.
+fn place_among<F: RangeFilter>(new: &Table<F>, others: &[&Table<F>]) -> usize
+    ensures within { result ≤ length others.now }
+    ensures place { put_in (map (λ t. t.now) others.now) new.now ≡ list_with (map (λ t. t.now) others.now) result new.now }
+{
+    for place in 0..others.len() {
+        if goes_before(new, others[place]) {
+            return place;
+        }
+    }
+    others.len()
+}
+
+// The same among the tables of a version.
+fn place_in<F: RangeFilter>(new: &Table<F>, tables: &Tables<F>) -> usize
+    ensures within { result ≤ length tables.now.tables }
+    ensures place { put_in tables.now.tables new.now ≡ list_with tables.now.tables result new.now }
+{
+    for place in 0..tables.len() {
+        if goes_before(new, tables.get(place)) {
+            return place;
+        }
+    }
+    tables.len()
+}
+
+// The tables that a merge does not read, in their order, and room for its own.
+fn others_of<'a, 'm, F: RangeFilter>(
+    alloc: Global,
+    tables: &'a Tables<F>,
+    job: &Job<'m, F>,
+) -> Result<Vec<&'a Table<F>>, AllocError>
+    requires few { length tables.now.tables ≤ max_tables }
+    requires few_made { length job.now.made ≤ max_tables }
+    ensures others { IfOk result (λ others. map (λ t. t.now) others.items ≡ others_in (numbers job.now.merge.walks) tables.now.tables) }
+    ensures room { IfOk result (λ others. vec_len others + length job.now.made ≤ vec_capacity others) }
+{
+    let mut others = Vec::with_capacity(alloc, tables.len() + job.tables().len())?;
+    for place in 0..tables.len() {
+        if !job.merges((tables.len() - 1 - place) as u32) {
+            others.push_reserved(tables.get(place));
+        }
+    }
+    Ok(others)
+}
+
+// Puts tables into their places among others, where there is room for them.
+fn put_among<'a, F: RangeFilter>(others: &mut Vec<&'a Table<F>>, made: &'a [Table<F>])
+    requires room { vec_len others.old + length made.now ≤ vec_capacity others.old }
+    ensures { map (λ t. t.now) others.new.items ≡ fold put_in (map (λ t. t.now) others.old.items) made.now }
+{
+    for new in made {
+        let place = place_among(new, others.as_slice());
+        match others.insert(place, new) {
+            Ok(()) => {}
+            Err(_) => unreachable!(),
+        }
+    }
+}
+
+// A row as it is: its numbers fit their fields.
+fn fitting(row: Row) -> Row
+    ensures same { result ≡ row }
+    ensures fits { RowFits row }
+{
+    row
+}
+
+// The row of a table.
+pub(crate) fn row_of<F: RangeFilter>(table: &Table<F>) -> Row
+    ensures row { result ≡ table.now.row }
+    ensures fits { RowFits result }
+{
+    fitting(*table.row())
+}
+
+// The rows of tables.
+fn rows_in<F: RangeFilter>(alloc: Global, tables: &[&Table<F>]) -> Result<Vec<Row>, AllocError>
+    ensures rows { IfOk result (λ rows. rows.items ≡ rows_of (map (λ t. t.now) tables.now)) }
+    ensures fits { IfOk result (λ rows. AllByRecursion RowFits rows.items) }
+{
+    let mut rows = Vec::with_capacity(alloc, tables.len())?;
+    for table in tables {
+        rows.push_reserved(row_of(table));
+    }
+    Ok(rows)
+}
+
+// The version in which the tables of a merge stand in the place of those that it read.
+pub(crate) fn merged_version<'m, F: RangeFilter>(
+    alloc: Global,
+    version: &Version,
+    tables: &Tables<F>,
+    job: &Job<'m, F>,
+) -> Result<Version, AllocError>
+    requires few { length tables.now.tables ≤ max_tables }
+    requires few_made { length job.now.made ≤ max_tables }
+    ensures next { IfOk result (λ next. next ≡ merged_manifest version.now (rows_of (tables_behind tables.now.tables job.now))) }
+    ensures fits { IfOk result (λ next. AllByRecursion RowFits next.version.rows) }
+{
+    let mut all = others_of(alloc, tables, job)?;
+    put_among(&mut all, job.tables());
+    Ok(Version {
+        settings: version.settings,
+        pages: version.pages,
+        epoch: version.epoch,
+        log_area: version.log_area,
+        slot: version.slot,
+        other_open: version.other_open,
+        rows: rows_in(alloc, all.as_slice())?,
+    })
+}
+
+// Takes out the tables that a merge read.
+pub(crate) fn take_merged<'m, F: RangeFilter>(tables: &mut Tables<F>, job: &Job<'m, F>)
+    requires few { length tables.old.tables ≤ max_tables }
+    ensures others { tables.new.tables ≡ others_in (numbers job.now.merge.walks) tables.old.tables }
+    ensures room { tables.old.room ≤ tables.new.room }
+{
+    let many = tables.len();
+    for number in 0..many {
+        if job.merges(number as u32) {
+            tables.remove(many - 1 - number);
+        }
+    }
+}
+
+// Puts tables into their places, where there is room for them.
+pub(crate) fn put_made<F: RangeFilter>(tables: &mut Tables<F>, made: Vec<Table<F>>)
+    requires room { length tables.old.tables + length made.items ≤ tables.old.room }
+    ensures { tables.new.tables ≡ fold put_in tables.old.tables made.items }
+{
+    for new in made {
+        let place = place_in(&new, tables);
+        tables.insert(place, new);
+    }
+}
