@@ -1,14 +1,8 @@
 //! What a seek may read.
-use filter_api::Settings;
+use crate::plays::{new_state, played};
 use plain_filter::PlainFilter;
-use plain_store::{Reply, Request, State, get_bound, play, seek_bound};
+use plain_store::{Reply, Request, get_bound, seek_bound};
 use std::test::Fail;
-
-const BASE: Settings = Settings {
-    hash_bits: 0,
-    real_bits: 0,
-    ratio: 64,
-};
 
 fn put(key: &[u8]) -> Request<'_> {
     Request::Put { key, value: b"V" }
@@ -37,8 +31,8 @@ fn a_seek_steps_over_deleted_keys(rt: HostRuntime) -> Result<(), Fail> {
             hi: Some(b"\x0a"),
         },
     ];
-    let state = State::new(rt.alloc(), BASE, 512);
-    let end = play::<PlainFilter>(rt.alloc(), &state, &script)?;
+    let state = new_state(rt.alloc(), 512)?;
+    let end = played(rt.alloc(), &state, &script)?;
     assert_eq!(rt; end.replies.len(), 16);
     assert!(rt; matches!(end.replies[15], Reply::At { .. }));
     assert_eq!(rt;

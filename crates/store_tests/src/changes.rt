@@ -1,12 +1,10 @@
 //! Changes of a store, with faults and crashes between them.
+use crate::stores::{PlainStore, crashed, disk_of, failing, opened};
 use disk_mem::{Choice, MemDisk};
 use filter_api::{Field, Settings};
-use plain_filter::PlainFilter;
 use std::alloc::Global;
 use std::test::Fail;
-use store_core::{Limit, Store, StoreError};
-
-type PlainStore = Store<PlainFilter>;
+use store_core::{Limit, StoreError};
 
 const BASE: Settings = Settings {
     hash_bits: 0,
@@ -21,19 +19,10 @@ const MIXED: Settings = Settings {
 };
 
 // A disk that holds an empty store of 512 pages.
-fn formatted(alloc: Global, settings: Settings) -> Result<MemDisk, Fail> {
-    let mut disk = MemDisk::new(alloc, &[])?;
-    match PlainStore::format(alloc, &mut disk, settings, 512) {
-        Ok(()) => Ok(disk),
-        Err(_) => Err(Fail::from("not formatted")),
-    }
-}
-
-fn opened(alloc: Global, disk: &mut MemDisk) -> Result<PlainStore, Fail> {
-    match PlainStore::open_store(alloc, disk) {
-        Ok(store) => Ok(store),
-        Err(_) => Err(Fail::from("not opened")),
-    }
+fn formatted(alloc: Global, settings: Settings) -> Result<Box<MemDisk>, Fail> {
+    let mut disk = disk_of(alloc, &[])?;
+    PlainStore::format(alloc, &mut *disk, settings, 512)?;
+    Ok(disk)
 }
 
 // One of the six steps of a script, numbered from 1.
@@ -82,33 +71,33 @@ fn puts_are_there_after_a_flush_and_a_reopening(rt: HostRuntime) -> Result<(), F
 #[test]
 fn refusals_in_their_order(rt: HostRuntime) -> Result<(), Fail> {
     let alloc = rt.alloc();
-    let mut empty = MemDisk::new(alloc, &[])?;
+    let mut empty = disk_of(alloc, &[])?;
     assert!(rt;
         matches!(
-            PlainStore::open_store(alloc, &mut empty),
+            PlainStore::open_store(alloc, &mut *empty),
             Err(StoreError::NotAStore)
         )
     );
-    let few = PlainStore::format(alloc, &mut empty, BASE, 511);
+    let few = PlainStore::format(alloc, &mut *empty, BASE, 511);
     assert_eq!(rt; few, Err(StoreError::BadSettings(Field::Pages)));
     assert_eq!(rt; empty.calls(), 3);
     let mut disk = formatted(alloc, BASE)?;
     assert_eq!(rt;
-        PlainStore::format(alloc, &mut disk, BASE, 512),
+        PlainStore::format(alloc, &mut *disk, BASE, 512),
         Err(StoreError::AlreadyAStore)
     );
     let mut store = opened(alloc, &mut disk)?;
     assert_eq!(rt;
-        store.put(&mut disk, b"", b"c"),
+        store.put(&mut *disk, b"", b"c"),
         Err(StoreError::Limit(Limit::Key(0)))
     );
     let long = vec![in alloc; 0; 65_537]?;
     assert_eq!(rt;
-        store.put(&mut disk, b"a", &long),
+        store.put(&mut *disk, b"a", &long),
         Err(StoreError::Limit(Limit::Value(65_537)))
     );
-    assert_eq!(rt; store.flush(&mut disk), Ok(()));
-    assert_eq!(rt; store.get(&mut disk, b"a"), Ok(None));
+    assert_eq!(rt; store.flush(&mut *disk), Ok(()));
+    assert_eq!(rt; store.get(&mut *disk, b"a"), Ok(None));
     Ok(())
 }
 
@@ -119,19 +108,19 @@ fn long_values_until_there_is_no_room(rt: HostRuntime) -> Result<(), Fail> {
     let mut store = opened(alloc, &mut disk)?;
     let value = vec![in alloc; 7; 65_536]?;
     for key in 1..22u8 {
-        assert_eq!(rt; store.put(&mut disk, &[key], &value), Ok(()));
+        assert_eq!(rt; store.put(&mut *disk, &[key], &value), Ok(()));
     }
     let full = StoreError::Full { need: 53, gap: 2 };
-    assert_eq!(rt; store.put(&mut disk, &[22], &value), Err(full));
-    assert_eq!(rt; store.get(&mut disk, &[1]), Ok(Some(value.as_slice())));
-    assert_eq!(rt; store.get(&mut disk, &[22]), Ok(None));
+    assert_eq!(rt; store.put(&mut *disk, &[22], &value), Err(full));
+    assert_eq!(rt; store.get(&mut *disk, &[1]), Ok(Some(value.as_slice())));
+    assert_eq!(rt; store.get(&mut *disk, &[22]), Ok(None));
     assert!(rt; !store.is_stopped());
     Ok(())
 }
 
 // The script over a disk of which a call fails: the step that failed, 0 for the opening, or none.
 fn with_fault(alloc: Global, disk: &mut MemDisk) -> Result<Option<usize>, Fail> {
-    let mut store = match PlainStore::open_store(alloc, disk) {
+    let mut store = match opened(alloc, disk) {
         Ok(store) => store,
         Err(_) => return Ok(Some(0)),
     };
@@ -146,15 +135,14 @@ fn with_fault(alloc: Global, disk: &mut MemDisk) -> Result<Option<usize>, Fail> 
     Ok(None)
 }
 
-// Whether a run in which the call of this number fails ends there and, reopened as a crash leaves it, has what was done, or
-// one step more.
+// Whether a run in which the call of this number fails ends there and, reopened as a crash leaves it, has what was done,
+// or one step more.
 fn fails_well(alloc: Global, first: &MemDisk, call: u64, choice: &[Choice]) -> Result<bool, Fail> {
-    let faults = Vec::from_slice(alloc, &[call])?;
-    let mut disk = MemDisk::new(alloc, first.bytes())?.with_faults(faults);
+    let mut disk = failing(alloc, first.bytes(), call)?;
     let Some(number) = with_fault(alloc, &mut disk)? else {
         return Ok(false);
     };
-    let mut left = disk.crash(choice)?;
+    let mut left = crashed(alloc, &disk, choice)?;
     let mut again = opened(alloc, &mut left)?;
     Ok(
         is_behind(&mut again, &mut left, number)

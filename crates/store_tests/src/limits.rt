@@ -1,52 +1,40 @@
 //! Scripts that come to a limit.
+use crate::plays::{new_state, played};
 use entry_list::Entry;
-use filter_api::Settings;
-use plain_filter::PlainFilter;
-use plain_store::{Played, Reply, Request, State, Table, play};
+use plain_store::{Played, Reply, Request, State, Table};
 use std::alloc::{AllocError, Global};
 use std::test::Fail;
-
-const BASE: Settings = Settings {
-    hash_bits: 0,
-    real_bits: 0,
-    ratio: 64,
-};
 
 fn zeros(alloc: Global, count: usize) -> Result<Vec<u8>, AllocError> {
     vec![in alloc; 0; count]
 }
 
 // The state after one request, and its reply.
-fn asked(alloc: Global, state: &State, request: Request<'_>) -> Result<Played, AllocError> {
-    play::<PlainFilter>(alloc, state, &[request])
+fn asked(alloc: Global, state: &State, request: Request<'_>) -> Result<Box<Played>, AllocError> {
+    played(alloc, state, &[request])
 }
 
-// The store after puts of keys from 1 on, as many as are done, and the reply to the last of them.
-fn filled(alloc: Global, value: &[u8], count: u8) -> Result<(State, usize), AllocError> {
-    let mut state = State::new(alloc, BASE, 512);
-    let mut done = 0;
+// What is played with puts of keys from 1 on, or with deletes where there is no value, and how many of them are done.
+fn filled(
+    alloc: Global,
+    state: &State,
+    value: Option<&[u8]>,
+    count: u8,
+) -> Result<(Box<Played>, usize), AllocError> {
+    let mut end = played(alloc, state, &[])?;
+    let mut done = 0usize;
     for key in 1..count {
-        let put = Request::Put { key: &[key], value };
-        let end = asked(alloc, &state, put)?;
+        let key = &[key];
+        let request = match value {
+            Some(value) => Request::Put { key, value },
+            None => Request::Del { key },
+        };
+        end = asked(alloc, &end.state, request)?;
         if let [Reply::Done] = end.replies.as_slice() {
-            done = usize::saturating_add(done, 1);
+            done = done.saturating_add(1);
         }
-        state = end.state;
     }
-    Ok((state, done))
-}
-
-fn emptied(alloc: Global, state: State, count: u8) -> Result<(State, usize), AllocError> {
-    let mut state = state;
-    let mut done = 0;
-    for key in 1..count {
-        let end = asked(alloc, &state, Request::Del { key: &[key] })?;
-        if let [Reply::Done] = end.replies.as_slice() {
-            done = usize::saturating_add(done, 1);
-        }
-        state = end.state;
-    }
-    Ok((state, done))
+    Ok((end, done))
 }
 
 #[test]
@@ -57,15 +45,16 @@ fn six_tables_fill_the_device(rt: HostRuntime) -> Result<(), Fail> {
         key: b"\x16",
         value: value.as_slice(),
     };
-    let (state, done) = filled(alloc, value.as_slice(), 22)?;
+    let first = new_state(alloc, 512)?;
+    let (full, done) = filled(alloc, &first, Some(value.as_slice()), 22)?;
     assert_eq!(rt; done, 21);
-    let end = asked(alloc, &state, put)?;
+    let end = asked(alloc, &full.state, put)?;
     assert!(rt; matches!(end.replies.as_slice(), [Reply::Full { need: 53, gap: 2 }]));
-    let end = asked(alloc, &state, Request::Get { key: b"\x01" })?;
+    let end = asked(alloc, &full.state, Request::Get { key: b"\x01" })?;
     assert!(rt; matches!(end.replies.as_slice(), [Reply::Value(_)]));
-    let (state, done) = emptied(alloc, state, 22)?;
+    let (empty, done) = filled(alloc, &full.state, None, 22)?;
     assert_eq!(rt; done, 21);
-    let end = asked(alloc, &state, Request::Compact)?;
+    let end = asked(alloc, &empty.state, Request::Compact)?;
     assert!(rt; matches!(end.replies.as_slice(), [Reply::Done]));
     let end = asked(alloc, &end.state, put)?;
     assert!(rt; matches!(end.replies.as_slice(), [Reply::Done]));
@@ -95,13 +84,13 @@ fn small_tables(alloc: Global, count: u16) -> Result<Vec<Table>, AllocError> {
 #[test]
 fn a_version_has_at_most_1024_tables(rt: HostRuntime) -> Result<(), Fail> {
     let alloc = rt.alloc();
-    let mut state = State::new(alloc, BASE, 4096);
+    let mut state = new_state(alloc, 4096)?;
     state.tables = small_tables(alloc, 1024)?;
     let put = Request::Put {
         key: b"a",
         value: b"b",
     };
-    let end = play::<PlainFilter>(alloc, &state, &[put, Request::Flush])?;
+    let end = played(alloc, &state, &[put, Request::Flush])?;
     assert!(rt; matches!(end.replies.as_slice(), [Reply::Done, Reply::ManyTables]));
     let end = asked(alloc, &end.state, Request::Compact)?;
     assert!(rt; matches!(end.replies.as_slice(), [Reply::Done]));

@@ -1,19 +1,13 @@
 //! Scripts and their replies.
-use filter_api::Settings;
-use plain_filter::PlainFilter;
-use plain_store::{Played, Reply, Request, State, Table, play};
+use crate::plays::{new_state, played};
+use plain_store::{Played, Reply, Request, Table};
 use std::alloc::{AllocError, Global};
 use std::test::Fail;
 
-const BASE: Settings = Settings {
-    hash_bits: 0,
-    real_bits: 0,
-    ratio: 64,
-};
-
-fn played(alloc: Global, pages: u64, requests: &[Request<'_>]) -> Result<Played, AllocError> {
-    let state = State::new(alloc, BASE, pages);
-    play::<PlainFilter>(alloc, &state, requests)
+// What is played over a new store of 512 pages.
+fn begun(alloc: Global, requests: &[Request<'_>]) -> Result<Box<Played>, AllocError> {
+    let state = new_state(alloc, 512)?;
+    played(alloc, &state, requests)
 }
 
 fn put<'a>(key: &'a [u8], value: &'a [u8]) -> Request<'a> {
@@ -49,7 +43,7 @@ fn a_tombstone_hides_and_a_compaction_drops_it(rt: HostRuntime) -> Result<(), Fa
         get(b"a"),
         explain(b"a"),
     ];
-    let end = played(rt.alloc(), 512, &script)?;
+    let end = begun(rt.alloc(), &script)?;
     assert_eq!(rt; end.replies.len(), 8);
     assert!(rt; all_done(&end.replies[..4]));
     assert!(rt; matches!(end.replies[4], Reply::Missing));
@@ -82,7 +76,7 @@ fn numbers_of_one_table(rt: HostRuntime) -> Result<(), Fail> {
         explain(b"ac0"),
         get(b"aa9"),
     ];
-    let end = played(rt.alloc(), 512, &script)?;
+    let end = begun(rt.alloc(), &script)?;
     assert_eq!(rt; end.replies.len(), 9);
     assert!(rt; all_done(&end.replies[..3]));
     assert!(rt; matches!(end.replies[3], Reply::Counted(0)));
@@ -142,14 +136,14 @@ fn four_tables_become_one(rt: HostRuntime) -> Result<(), Fail> {
         Request::Flush,
         put(b"e", b"\x01"),
     ];
-    let before = played(rt.alloc(), 512, &script[..8])?;
+    let before = begun(rt.alloc(), &script[..8])?;
     let tables = before.state.tables.as_slice();
     assert_eq!(rt; tables.len(), 4);
     for i in 0..4 {
         let table = &tables[i];
         assert!(rt; stands_at(table, 0, 201 - 3 * i as u64, 1));
     }
-    let end = played(rt.alloc(), 512, &script)?;
+    let end = begun(rt.alloc(), &script)?;
     assert!(rt; all_done(end.replies.as_slice()));
     let tables = end.state.tables.as_slice();
     assert_eq!(rt; tables.len(), 1);
@@ -161,10 +155,10 @@ fn four_tables_become_one(rt: HostRuntime) -> Result<(), Fail> {
 
 #[test]
 fn nothing_is_flushed_at_the_last_epoch(rt: HostRuntime) -> Result<(), Fail> {
-    let mut state = State::new(rt.alloc(), BASE, 512);
+    let mut state = new_state(rt.alloc(), 512)?;
     state.epoch = u64::MAX;
     let script = [put(b"a", b"b"), Request::Flush, get(b"a"), Request::Compact];
-    let end = play::<PlainFilter>(rt.alloc(), &state, &script)?;
+    let end = played(rt.alloc(), &state, &script)?;
     assert_eq!(rt; end.replies.len(), 4);
     assert!(rt; matches!(end.replies[0], Reply::Done));
     assert!(rt; matches!(end.replies[1], Reply::LastEpoch));

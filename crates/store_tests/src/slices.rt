@@ -1,15 +1,9 @@
 //! Merges in merge slices, compared with whole ones.
-use filter_api::Settings;
+use crate::plays::{new_state, played};
 use plain_filter::PlainFilter;
-use plain_store::{Played, Reply, Request, State, play, play_in_slices, sliced};
+use plain_store::{Played, Reply, Request, State, play_in_slices, sliced};
 use std::alloc::{AllocError, Global};
 use std::test::Fail;
-
-const BASE: Settings = Settings {
-    hash_bits: 0,
-    real_bits: 0,
-    ratio: 64,
-};
 
 fn put(key: &[u8]) -> Request<'_> {
     Request::Put { key, value: b"v" }
@@ -20,7 +14,7 @@ fn get(key: &[u8]) -> Request<'_> {
 }
 
 // Four tables in level 0, of one block each.
-fn four_tables(alloc: Global) -> Result<State, AllocError> {
+fn four_tables(alloc: Global) -> Result<Box<Played>, AllocError> {
     let script = [
         put(b"a"),
         Request::Flush,
@@ -31,8 +25,19 @@ fn four_tables(alloc: Global) -> Result<State, AllocError> {
         Request::Del { key: b"a" },
         Request::Flush,
     ];
-    let end = play::<PlainFilter>(alloc, &State::new(alloc, BASE, 512), &script)?;
-    Ok(end.state)
+    let state = new_state(alloc, 512)?;
+    played(alloc, &state, &script)
+}
+
+// The same with a merge slice behind each put and del.
+fn in_slices(
+    alloc: Global,
+    blocks: u64,
+    state: &State,
+    requests: &[Request<'_>],
+) -> Result<Box<Played>, AllocError> {
+    let end = play_in_slices::<PlainFilter>(alloc, blocks, state, requests)?;
+    Ok(Box::new(alloc, end)?)
 }
 
 fn same_reply(one: &Reply, other: &Reply) -> bool {
@@ -60,7 +65,7 @@ fn same_replies(one: &Played, other: &Played) -> bool {
 #[test]
 fn slices_answer_as_a_whole_merge_does(rt: HostRuntime) -> Result<(), Fail> {
     let alloc = rt.alloc();
-    let state = four_tables(alloc)?;
+    let four = four_tables(alloc)?;
     let script = [
         put(b"d"),
         get(b"a"),
@@ -77,24 +82,29 @@ fn slices_answer_as_a_whole_merge_does(rt: HostRuntime) -> Result<(), Fail> {
         Request::Compact,
         Request::Count { lo: b"", hi: b"z" },
     ];
-    let whole = play::<PlainFilter>(alloc, &state, &script)?;
+    let whole = played(alloc, &four.state, &script)?;
     assert!(rt; whole.replies.len() > 11);
     assert!(rt; matches!(whole.replies[11], Reply::Counted(7)));
     for blocks in 1..5 {
-        let slices = play_in_slices::<PlainFilter>(alloc, blocks, &state, &script)?;
+        let slices = in_slices(alloc, blocks, &four.state, &script)?;
         assert!(rt; same_replies(&whole, &slices));
     }
     Ok(())
 }
 
+// The state behind a merge slice.
+fn sliced_once(alloc: Global, blocks: u64, state: &State) -> Result<Box<State>, AllocError> {
+    Ok(Box::new(alloc, sliced::<PlainFilter>(alloc, blocks, state)?)?)
+}
+
 // How many merge slices there are until no job runs, at most ten.
 fn slices_of(alloc: Global, blocks: u64, state: &State) -> Result<usize, AllocError> {
-    let mut state = sliced::<PlainFilter>(alloc, blocks, state)?;
+    let mut state = sliced_once(alloc, blocks, state)?;
     for count in 1..10 {
         if state.job.is_none() {
             return Ok(count);
         }
-        state = sliced::<PlainFilter>(alloc, blocks, &state)?;
+        state = sliced_once(alloc, blocks, &state)?;
     }
     Ok(10)
 }
@@ -102,9 +112,9 @@ fn slices_of(alloc: Global, blocks: u64, state: &State) -> Result<usize, AllocEr
 #[test]
 fn four_blocks_and_one_output_take_six_slices_at_most(rt: HostRuntime) -> Result<(), Fail> {
     let alloc = rt.alloc();
-    let state = four_tables(alloc)?;
-    assert_eq!(rt; slices_of(alloc, 1, &state)?, 6);
-    assert_eq!(rt; slices_of(alloc, 3, &state)?, 4);
-    assert_eq!(rt; slices_of(alloc, 9, &state)?, 3);
+    let four = four_tables(alloc)?;
+    assert_eq!(rt; slices_of(alloc, 1, &four.state)?, 6);
+    assert_eq!(rt; slices_of(alloc, 3, &four.state)?, 4);
+    assert_eq!(rt; slices_of(alloc, 9, &four.state)?, 3);
     Ok(())
 }

@@ -1,17 +1,7 @@
 //! What is told of a key or of a range without a read.
-use disk_mem::MemDisk;
-use filter_api::Settings;
-use plain_filter::PlainFilter;
+use crate::stores::{changed, disk_of};
 use std::test::Fail;
-use store_core::{Explained, Limit, Store, StoreError};
-
-type PlainStore = Store<PlainFilter>;
-
-const BASE: Settings = Settings {
-    hash_bits: 0,
-    real_bits: 0,
-    ratio: 64,
-};
+use store_core::{Explained, Limit, StoreError};
 
 fn explained(tables: u64, admitted: u64, blocks: u64) -> Result<Explained, StoreError> {
     Ok(Explained {
@@ -24,17 +14,14 @@ fn explained(tables: u64, admitted: u64, blocks: u64) -> Result<Explained, Store
 #[test]
 fn numbers_of_one_table(rt: HostRuntime) -> Result<(), Fail> {
     let alloc = rt.alloc();
-    let mut disk = MemDisk::new(alloc, &[])?;
-    assert_eq!(rt; PlainStore::format(alloc, &mut disk, BASE, 512), Ok(()));
-    let Ok(mut store) = PlainStore::open_store(alloc, &mut disk) else {
-        return Err(Fail::from("not opened"));
-    };
-    assert_eq!(rt; store.put(&mut disk, b"aa1", b"1"), Ok(()));
-    assert_eq!(rt; store.put(&mut disk, b"ab1", b"2"), Ok(()));
+    let mut disk = disk_of(alloc, &[])?;
+    let mut store = changed(alloc, &mut disk, &[])?;
+    assert_eq!(rt; store.put(&mut *disk, b"aa1", b"1"), Ok(()));
+    assert_eq!(rt; store.put(&mut *disk, b"ab1", b"2"), Ok(()));
     assert_eq!(rt; store.estimate(b"aa5", b"ab0"), Ok(0));
     assert_eq!(rt; store.estimate(b"aa1", b"ab1"), Ok(2));
     assert_eq!(rt; store.explain(b"aa1"), explained(0, 0, 0));
-    assert_eq!(rt; store.flush(&mut disk), Ok(()));
+    assert_eq!(rt; store.flush(&mut *disk), Ok(()));
     let reads = disk.reads();
     assert_eq!(rt; store.estimate(b"aa5", b"ab0"), Ok(2));
     assert_eq!(rt; store.estimate(b"ab0", b"aa5"), Ok(0));
@@ -42,7 +29,7 @@ fn numbers_of_one_table(rt: HostRuntime) -> Result<(), Fail> {
     assert_eq!(rt; store.explain(b"aa0"), explained(1, 1, 0));
     assert_eq!(rt; store.explain(b"ac0"), explained(1, 0, 0));
     assert_eq!(rt; disk.reads(), reads);
-    assert_eq!(rt; store.delete(&mut disk, b"aa7"), Ok(()));
+    assert_eq!(rt; store.delete(&mut *disk, b"aa7"), Ok(()));
     assert_eq!(rt; store.estimate(b"aa5", b"ab0"), Ok(3));
     Ok(())
 }
@@ -50,11 +37,8 @@ fn numbers_of_one_table(rt: HostRuntime) -> Result<(), Fail> {
 #[test]
 fn bounds_and_keys_that_are_too_long(rt: HostRuntime) -> Result<(), Fail> {
     let alloc = rt.alloc();
-    let mut disk = MemDisk::new(alloc, &[])?;
-    assert_eq!(rt; PlainStore::format(alloc, &mut disk, BASE, 512), Ok(()));
-    let Ok(store) = PlainStore::open_store(alloc, &mut disk) else {
-        return Err(Fail::from("not opened"));
-    };
+    let mut disk = disk_of(alloc, &[])?;
+    let store = changed(alloc, &mut disk, &[])?;
     let long = vec![in alloc; 7; 1_026]?;
     let (limit, more) = (&long[..1_025], &long[..]);
     assert_eq!(rt; store.estimate(&long[..1_024], b""), Ok(0));
