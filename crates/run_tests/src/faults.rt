@@ -170,8 +170,8 @@ fn a_flush_that_is_stopped_leaves_no_table(rt: HostRuntime) -> Result<(), Fail> 
     Ok(())
 }
 
-// The line of a put of one key, with a value of 3,000 bytes: no block holds two of them.
-fn push_large(lines: &mut Vec<u8>, key: &[u8]) -> Result<(), AllocError> {
+/// The line of a put of one key, with a value of 3,000 bytes: no block holds two of them.
+pub fn push_large(lines: &mut Vec<u8>, key: &[u8]) -> Result<(), AllocError> {
     lines.extend_from_slice(b"put ")?;
     lines.extend_from_slice(key)?;
     lines.push(b' ')?;

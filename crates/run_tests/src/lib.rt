@@ -16,4 +16,6 @@ mod replies;
 #[cfg(test)]
 mod runs;
 #[cfg(test)]
+mod slices;
+#[cfg(test)]
 mod words;

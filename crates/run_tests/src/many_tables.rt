@@ -1,41 +1,32 @@
 //! A version of as many tables as there may be.
 use crate::damage::sum_of;
-use crate::runs::{commanded, served};
+use crate::runs::{Succinct, commanded, served};
 use disk_mem::MemDisk;
 use disk_trait::Disk;
 use std::alloc::{AllocError, Global};
 use std::test::Fail;
+use store_core::Store;
 
 // The tables of a version at most, and the bytes of its body before the sum: 64, and 64 for each table.
 const TABLES: u16 = 1_024;
 
 const BODY_BYTES: usize = 65_600;
 
-const DIGITS: &[u8; 16] = b"0123456789abcdef";
-
-// The digit of a number below 16.
-fn digit(number: u16) -> u8 {
-    DIGITS
-        .get(usize::from(number % 16))
-        .copied()
-        .unwrap_or(b'0')
-}
-
-// A put and a flush for each table, with keys that fall: so the rows, the newest first, have keys that rise.
-fn flushes(alloc: Global) -> Result<Vec<u8>, AllocError> {
-    let mut lines = Vec::new(alloc);
+// A put and a flush for each table, with keys that fall: so the rows, the newest first, have keys that rise. No slice of a merge
+// comes between them.
+fn filled(alloc: Global, disk: MemDisk) -> Result<MemDisk, Fail> {
+    let mut disk = disk;
+    let mut store = match Store::<Succinct>::open_store(alloc, &mut disk) {
+        Ok(store) => store,
+        Err(_) => return Err(Fail::from("not opened")),
+    };
     for number in 0..TABLES {
-        let key = 0x7fff - number;
-        lines.extend_from_slice(b"put ")?;
-        lines.extend_from_slice(&[
-            digit(key >> 12),
-            digit(key >> 8),
-            digit(key >> 4),
-            digit(key),
-        ])?;
-        lines.extend_from_slice(b" 62\nflush\n")?;
+        let key = (0x7fff - number).to_be_bytes();
+        if store.put(&mut disk, &key, b"b").is_err() || store.flush(&mut disk).is_err() {
+            return Err(Fail::from("no table"));
+        }
     }
-    Ok(lines)
+    Ok(disk)
 }
 
 // Each row of a body with level 6, and the sum behind it.
@@ -81,9 +72,9 @@ fn no_flush_behind_1024_tables(rt: HostRuntime) -> Result<(), Fail> {
     let alloc = rt.alloc();
     let words = "format --pages 4096 --variant base";
     let first = commanded(alloc, words, MemDisk::new(alloc, b"")?)?;
-    let full = served(alloc, first.disk, &flushes(alloc)?)?;
-    let deep = of_level_6(alloc, full.disk)?;
-    let end = served(alloc, deep, b"put 61 62\nflush\nget 61\nget 7fff\n")?;
+    let deep = of_level_6(alloc, filled(alloc, first.disk)?)?;
+    let lines = b"put 61 62\nflush\nget 61\nget 7fff\n".as_slice();
+    let end = served(alloc, deep, lines)?;
     assert_eq!(rt;
         end.said.as_slice(),
         b"ok\nlimit tables\nval 62\nval 62\n".as_slice()

@@ -4,7 +4,7 @@ use disk_mem::{Choice, MemDisk};
 use filter_api::{RangeFilter, Settings};
 use plain_filter::PlainFilter;
 use plain_map::PlainMap;
-use plain_store::{Reply, Request, State, ask, get_bound, play, seek_bound};
+use plain_store::{Merge, Reply, Request, State, ask, get_bound, play, seek_bound, tend};
 use std::alloc::{AllocError, Global};
 use std::test::Fail;
 
@@ -238,7 +238,9 @@ fn reads_are_bounded<F: RangeFilter>(alloc: Global, seed: u64) -> Result<bool, F
             return Ok(false);
         }
         disk = end.disk;
-        state = ask::<F>(alloc, &state, *request)?.state;
+        // A merge has eight blocks at most here, so one slice does it whole.
+        let answered = ask::<F>(alloc, &state, *request)?.state;
+        state = tend::<F>(alloc, Merge::Whole, *request, answered)?;
     }
     Ok(true)
 }
@@ -275,7 +277,7 @@ fn replies_over_plain_filters_are_the_same(rt: HostRuntime) -> Result<(), Fail> 
 fn outlasts(alloc: Global, first: &MemDisk, script: &Script, call: u64) -> Result<bool, Fail> {
     let end = served(alloc, failing(alloc, first, call)?, &script.lines)?;
     let replies = end.said.iter().filter(|byte| **byte == b'\n').count();
-    let lines = replies.saturating_sub(usize::from(end.status == 4));
+    let lines = replies.saturating_sub(usize::from(end.said.ends_with(b"device\n")));
     let left = if call % 2 == 0 {
         end.disk
             .crash(&[Choice::Whole, Choice::Whole, Choice::Whole])?

@@ -28,7 +28,7 @@ use Rattle.store_core.specs.declared.error.StoreError.TheVariants as error
 use Rattle.surf_run.specs.Answering.{AnswersLine, EndsLine, LineAnswer, RunsOn}
 use Rattle.surf_run.specs.Causes.{EndCause, IsMetBy, LineShows, NoFall, SayFailed, SaysDamage, WritesWithin}
 use Rattle.surf_run.specs.Crash.{HasMap, Stands}
-use Rattle.surf_run.specs.Dialogue.{IsBounded, line_bound}
+use Rattle.surf_run.specs.Dialogue.{IsBounded, reply_bound}
 use Rattle.surf_run.specs.Kind.{Kind}
 use Rattle.surf_run.specs.Refusals.{end_of_refusal}
 use Rattle.surf_run.specs.Saying.{Says, SaysBehind, end_by}
@@ -44,18 +44,18 @@ use Rattle.table_model.specs.Tables.{FilterBytes}
 pub tied_buffer : (kind : Kind) (store after : Kept) (buffer : Bytes) (s : State) (w : World) → after ≡ record store { buffer = buffer }
     → Tied kind.spelling kind.filter_bytes store s w → Tied kind.spelling kind.filter_bytes after s w
 tied_buffer kind store after buffer s w is tied = subst (λ (k : Kept). Tied kind.spelling kind.filter_bytes k s w) (sym is)
-    (record { sound = tied.sound; no_job = tied.no_job; none_kept = tied.none_kept; images = tied.images; log = tied.log; memory = tied.memory })
+    (record { sound = tied.sound; none_kept = tied.none_kept; images = tied.images; log = tied.log; memory = tied.memory })
 
 -- ---- where nothing is written
 
 module _ (kind : Kind) (s : State) (request : Request) (store : Kept) (a mid b : World) (same : mid.beside ≡ a.beside) (time : Passes Same a mid)
-    (tied : Tied kind.spelling kind.filter_bytes store s mid) (stand : Stands kind s a) (reads : IsBounded request → mid.seen.reads ≤ a.seen.reads + line_bound s request)
+    (tied : Tied kind.spelling kind.filter_bytes store s mid) (stand : Stands kind s a) (reads : IsBounded request → mid.seen.reads ≤ a.seen.reads + reply_bound s request)
     (writes : WritesWithin (page_bytes * s.pages) a mid) (now_a : SaidByNow a) (now_mid : SaidByNow mid) (say : SayMoves mid b) where
   meanwhile : Meanwhile (HasMap kind s) a mid
   meanwhile = in_call (HasMap kind s) Same a mid (λ image left. map_of_state kind s image (stand image left)) time
       (λ was image left same. subst (HasMap kind s) (sym same) (map_of_state kind s was (stand was left)))
 
-  still_answer : (reply : Reply) → Step (HasCause a mid) kind.filter_bytes s request reply s → (end result : LineEnd) → Says end reply result mid b → LineAnswer kind s request reply s a b
+  still_answer : (reply : Reply) → Step (HasCause a mid) kind.filter_bytes s request reply s → (end result : LineEnd) → Says end reply result mid b → LineAnswer kind s request reply s (reply_bound s request) a b
   still_answer reply step end result says =
       line_answer kind s request reply s (HasMap kind s) a mid b meanwhile same now_a now_mid say step says.0
       (λ image map. inl map) (λ image left. inl (now_at (HasMap kind s) a mid meanwhile image left)) reads writes

@@ -5,7 +5,7 @@ use Rattle.line_model.specs.Requests.{Request}
 use Rattle.outside.specs.Streams.{SayMoves, TakeMoves}
 use Rattle.state_model.specs.Causes.{DamageMet, NoMemory, ReadFailed, Why, WriteFailed}
 use Rattle.store_core.specs.Answers.{HasCause}
-use Rattle.surf_run.specs.Causes.{DiskFailed, EndCause, LineMoves, LineShows, NoFall, RunShows, SaysSomeDamage, StatusCause}
+use Rattle.surf_run.specs.Causes.{DiskFailed, EndCause, LineMoves, NoFall, RunShows, ServedShows, ShowsSomeDamage, StatusCause}
 use Rattle.surf_run.specs.declared.end.LineEnd.{LineEnd}
 use Rattle.surf_run.specs.declared.end.LineEnd.TheVariants.{End, Next, Quit}
 use Rattle.table_file.specs.Opened.{Opened}
@@ -53,21 +53,27 @@ cause_since Shows (End status) a b c none cause = elim cause [
   ]
 ]
 
--- ---- by the status
-
--- of a line, and so of the run
-pub cause_runs : (Told : Type 0) (tables : List Opened) (request : Request) (end : LineEnd) (a b : World) → EndCause (LineShows Told tables request) end a b → EndCause (RunShows Told) end a b
-cause_runs Told tables request Next a b cause = tt
-cause_runs Told tables request Quit a b cause = tt
-cause_runs Told tables request (End status) a b cause = elim cause [
+-- the same cause, with damage told in other words
+pub cause_as : (Shows Others : World → Type 0) (end : LineEnd) (a b : World) → (Shows b → Others b) → EndCause Shows end a b → EndCause Others end a b
+cause_as Shows Others Next a b same cause = tt
+cause_as Shows Others Quit a b same cause = tt
+cause_as Shows Others (End status) a b same cause = elim cause [
   | inl disk ↦ inl disk
   | inr more ↦ elim more [
-    | inl damage ↦ inr (inl (damage.0, λ told. (tables, request, damage.1 told)))
+    | inl damage ↦ inr (inl (damage.0, same damage.1))
     | inr say ↦ inr (inr say)
   ]
 ]
 
-pub end_shows : (Told : Type 0) (status : ℕ) (a b : World) → EndCause (RunShows Told) (End status) a b → Told → status ≡ 5 → SaysSomeDamage b
+-- ---- by the status
+
+-- of a line, and so of the run
+pub cause_runs : (Told : Type 0) (tables later : List Opened) (request : Request) (end : LineEnd) (a b : World) → EndCause (ServedShows Told tables later request) end a b → EndCause (RunShows Told) end a b
+cause_runs Told tables later request end a b cause =
+    cause_as (ServedShows Told tables later request) (RunShows Told) end a b
+    (λ shows told. elim (shows told) [ inl said ↦ inl (tables, request, said) | inr met ↦ inr (later, met.1, met.2) ]) cause
+
+pub end_shows : (Told : Type 0) (status : ℕ) (a b : World) → EndCause (RunShows Told) (End status) a b → Told → status ≡ 5 → ShowsSomeDamage b
 end_shows Told status a b cause told five = elim cause [
   | inl disk ↦ absurd (let e : 4 ≡ 5 = sym disk.0 ∙ five in cc)
   | inr more ↦ elim more [

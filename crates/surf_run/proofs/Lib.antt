@@ -14,5 +14,7 @@ pub mod Pieces
 pub mod Progress
 pub mod Ranges
 pub mod Scans
+pub mod Slices
+pub mod Tends
 pub mod Texts
 pub mod Values

@@ -22,8 +22,8 @@ use Rattle.store_core.specs.Kept.{Kept}
 use Rattle.store_core.specs.Tied.{IsUnder, Tied}
 use Rattle.surf_run.specs.Answering.{EndsLine, InLine, LineAnswer}
 use Rattle.surf_run.specs.Causes.{WritesWithin}
-use Rattle.surf_run.specs.Crash.{HasBehind, HasEither, HasMap, Stands}
-use Rattle.surf_run.specs.Dialogue.{IsBounded, line_bound}
+use Rattle.surf_run.specs.Crash.{HasBehind, HasEither, HasMap, HasState, Stands}
+use Rattle.surf_run.specs.Dialogue.{IsBounded, reply_bound}
 use Rattle.surf_run.specs.Kind.{Kind}
 use Rattle.surf_run.specs.Saying.{Says}
 use Rattle.surf_run.specs.declared.end.LineEnd.{LineEnd}
@@ -44,14 +44,13 @@ pub now_still : (P : Image → Type 0) (a b : World) → Passes Same a b → Now
 now_still P a b time here = now_at P a b (in_call P Same a b here time (λ was image left same. subst P (sym same) (here was left)))
 
 pub stands_still : (kind : Kind) (s : State) (a b : World) → Passes Same a b → Stands kind s a → Stands kind s b
-stands_still kind s a b time here = now_still (IsStateOf kind.spelling s) a b time here
+stands_still kind s a b time here = now_still (HasState kind s) a b time here
 
 pub tied_still : (spelling : Spelling) (filter_bytes : FilterBytes) (store : Kept) (s : State) (a b : World) → Passes Same a b → Tied spelling filter_bytes store s a → Tied spelling filter_bytes store s b
 tied_still spelling filter_bytes store s a b time tied = record {
   sound = tied.sound;
-  no_job = tied.no_job;
   none_kept = tied.none_kept;
-  images = now_still (IsUnder spelling store.manifest store.tables s) a b time tied.images;
+  images = now_still (IsUnder spelling store.manifest store.tables store.job s) a b time tied.images;
   log = tied.log;
   memory = tied.memory;
 }
@@ -64,12 +63,14 @@ shown s no_job none_kept = λ i. record { settings = s.settings; pages = s.pages
 pub tied_stands : (kind : Kind) (store : Kept) (s : State) (w : World) → store.manifest.slot ≤ 1 → Tied kind.spelling kind.filter_bytes store s w → Stands kind s w
 tied_stands kind store s w few tied image left =
     let m = store.manifest in
-    let under = tied.images image left in
-    subst (λ (t : State). IsStateOf kind.spelling t image) (sym (shown s tied.no_job tied.none_kept))
-    (m.version, ready_is_state kind.spelling (place_of m.slot) (other_place m.slot) m.other_open m.version s image (are_slots m.slot few) under.ready)
+    let ready = (tied.images image left).ready in
+    ((m.version, ready_is_state kind.spelling (place_of m.slot) (other_place m.slot) m.other_open m.version s image (are_slots m.slot few) ready), ready.unnamed)
 
-pub map_of_state : (kind : Kind) (s : State) (image : Image) → IsStateOf kind.spelling s image → HasMap kind s image
-map_of_state kind s image is = (s, subst (λ (t : State). IsStateOf kind.spelling t image) (shown s is.1.named.no_job is.1.named.none_kept) is, refl)
+pub map_of_state : (kind : Kind) (s : State) (image : Image) → HasState kind s image → HasMap kind s image
+map_of_state kind s image has = (s, has.0, refl)
+
+pub map_of_image : (kind : Kind) (s : State) (image : Image) → IsStateOf kind.spelling s image → HasMap kind s image
+map_of_image kind s image is = (s, subst (λ (t : State). IsStateOf kind.spelling t image) (shown s is.1.named.no_job is.1.named.none_kept) is, refl)
 
 -- its device has the pages of its state
 pub tied_pages : (spelling : Spelling) (filter_bytes : FilterBytes) (store : Kept) (s : State) (w : World) (image : Image) → w.leaves w.moment image → Tied spelling filter_bytes store s w
@@ -85,7 +86,7 @@ module _ (kind : Kind) (old : State) (request : Request) (reply : Reply) (new : 
 
   module _ (step : Step (HasCause a mid) kind.filter_bytes old request reply new) (prefix : SaysPrefix (text_of reply) mid.beside.said b.beside.said)
       (first : (image : Image) → P image → HasEither kind old request image) (then : (image : Image) → mid.leaves mid.moment image → HasBehind kind old request reply new image)
-      (reads : IsBounded request → mid.seen.reads ≤ a.seen.reads + line_bound old request) (writes : WritesWithin (page_bytes * old.pages) a mid) where
+      (reads : IsBounded request → mid.seen.reads ≤ a.seen.reads + reply_bound old request) (writes : WritesWithin (page_bytes * old.pages) a mid) where
     acting : (k : ℕ) (image : Image) → (k ≡ length a.beside.said) × P image → InLine kind old request reply new (length a.beside.said) (length b.beside.said) k image
     acting k image at = inl (at.0, first image at.1)
 
@@ -93,7 +94,7 @@ module _ (kind : Kind) (old : State) (request : Request) (reply : Reply) (new : 
         → InLine kind old request reply new (length a.beside.said) (length b.beside.said) k image
     saying k image at = inr (omega (arith, at.0, ap length said_same), at.1, then image at.2)
 
-    pub line_answer : LineAnswer kind old request reply new a b
+    pub line_answer : LineAnswer kind old request reply new (reply_bound old request) a b
     line_answer =
         let Q = InLine kind old request reply new (length a.beside.said) (length b.beside.said) in
         record {
@@ -111,7 +112,7 @@ module _ (kind : Kind) (old : State) (request : Request) (new : State) (store : 
   whole text is = is ∙ ap (λ (s : Streams). s.said ++ text) same
 
   -- a reply that is not the last
-  pub ends_next : (reply : Reply) (result : LineEnd) → LineAnswer kind old request reply new a b → Says Next reply result mid b → turn_of reply ≡ Onward
+  pub ends_next : (reply : Reply) (result : LineEnd) → LineAnswer kind old request reply new (reply_bound old request) a b → Says Next reply result mid b → turn_of reply ≡ Onward
       → Tied kind.spelling kind.filter_bytes store new b → Stands kind new b → EndsLine kind result old request store a b
   ends_next reply Next answer says goes tied stand = elim says.1 [
     | inl all ↦ (reply, new, answer, goes, whole (text_of reply) all.1, tied, stand)
@@ -124,7 +125,7 @@ module _ (kind : Kind) (old : State) (request : Request) (new : State) (store : 
   ]
 
   -- `device`
-  pub ends_device : (result : LineEnd) → LineAnswer kind old request Device new a b → Says (End 4) Device result mid b → (store.stopped ≡ false → Tied kind.spelling kind.filter_bytes store new b)
+  pub ends_device : (result : LineEnd) → LineAnswer kind old request Device new (reply_bound old request) a b → Says (End 4) Device result mid b → (store.stopped ≡ false → Tied kind.spelling kind.filter_bytes store new b)
       → EndsLine kind result old request store a b
   ends_device Next answer says tied = elim says.1 [ inl all ↦ absurd (let is = all.0 in cc) | inr six ↦ absurd cc ]
   ends_device Quit answer says tied = elim says.1 [ inl all ↦ absurd (let is = all.0 in cc) | inr six ↦ absurd cc ]
@@ -134,7 +135,7 @@ module _ (kind : Kind) (old : State) (request : Request) (new : State) (store : 
   ]
 
   -- `bye`
-  pub ends_quit : (result : LineEnd) → LineAnswer kind old request Bye new a b → Says Quit Bye result mid b → Tied kind.spelling kind.filter_bytes store new b → Stands kind new b
+  pub ends_quit : (result : LineEnd) → LineAnswer kind old request Bye new (reply_bound old request) a b → Says Quit Bye result mid b → Tied kind.spelling kind.filter_bytes store new b → Stands kind new b
       → EndsLine kind result old request store a b
   ends_quit Next answer says tied stand = elim says.1 [ inl all ↦ absurd (let is = all.0 in cc) | inr six ↦ absurd cc ]
   ends_quit Quit answer says tied stand = elim says.1 [

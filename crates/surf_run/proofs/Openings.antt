@@ -32,7 +32,7 @@ use Rattle.surf_run.specs.Serving.{Served}
 use Rattle.surf_run.proofs.EndCauses.{disk_then, no_fall_none, no_fall_say, rose_since}
 use Rattle.surf_run.proofs.Footprint.{within_none, within_still}
 use Rattle.surf_run.proofs.History.{ack_none}
-use Rattle.surf_run.proofs.Moments.{map_of_state, torn_none}
+use Rattle.surf_run.proofs.Moments.{map_of_image, map_of_state, torn_none}
 use Rattle.surf_run.proofs.Outcomes.{served_none}
 use Rattle.table_file.specs.Faults.{filter_fault_of}
 
@@ -60,7 +60,7 @@ module _ (kind : Kind) (start : State) (base : ℕ) (store : Kept) (old mid : Wo
       served_none kind start base store old mid said_same
       (during_weaker (λ k image. (k ≡ length old.beside.said) × HasMap kind start image) _ old mid
       (during_disk (HasMap kind start) old mid
-      (in_call (HasMap kind start) Same old mid (λ image left. map_of_state kind start image (here image left)) opened.time (λ was image left same. subst (HasMap kind start) (sym same) (map_of_state kind start was (here was left))))
+      (in_call (HasMap kind start) Same old mid (λ image left. map_of_image kind start image (here image left)) opened.time (λ was image left same. subst (HasMap kind start) (sym same) (map_of_image kind start was (here was left))))
       opened.beside now_old)
       (λ k image at. ack_none (HasCause old mid) kind start old.beside.said mid.beside.said said_same k image (at.0 ∙ ap length (sym said_same)) at.1))
       tied stand opened.counts reads (within_still (page_bytes * start.pages) old mid opened.held opened.time)

@@ -12,28 +12,29 @@ use Rattle.map_model.specs.SortedMap.{Bytes}
 use Rattle.outside.specs.During.{During}
 use Rattle.outside.specs.Streams.{SaidByNow, SaysPrefix, TakeMoves}
 use Rattle.outside.proofs.Crossing.{during_take, during_then, during_weaker}
-use Rattle.state_model.specs.Script.{AtDevice, AtQuit, Ending, Onward, ToLast, turn_of}
+use Rattle.state_model.specs.Script.{AtDevice, AtQuit, Between, Ending, Onward, ToLast, turn_of}
 use Rattle.state_model.specs.State.{State}
 use Rattle.store_commands.specs.Answered.{asked_here}
 use Rattle.store_commands.specs.Cutting.{NoNewline}
 use Rattle.store_core.specs.Answers.{HasCause}
 use Rattle.store_core.specs.Kept.{Kept}
 use Rattle.store_core.specs.Tied.{Tied}
-use Rattle.surf_run.specs.Answering.{EndsLine, LineAnswer, Whole}
+use Rattle.surf_run.specs.Answering.{LineAnswer, Whole}
 use Rattle.surf_run.specs.Causes.{NoFall, WritesWithin}
 use Rattle.surf_run.specs.Crash.{Acknowledged, HasMap, Reached, Stands}
-use Rattle.surf_run.specs.Dialogue.{AreBounded, Dialogue, SoFar, line_bound}
+use Rattle.surf_run.specs.Dialogue.{AreBounded, Script, SoFar, line_bound}
 use Rattle.surf_run.specs.Holding.{with_newline}
 use Rattle.surf_run.specs.Kind.{Kind}
 use Rattle.surf_run.specs.Outcome.{EndsTo, LeavesState, Said, SaidInPart, Settled, TakenAll}
 use Rattle.surf_run.specs.Serving.{Closed, EndedBy, EndsPast, Served}
+use Rattle.surf_run.specs.Slices.{EndsServed}
 use Rattle.surf_run.specs.declared.end.LineEnd.TheVariants.{End, Next, Quit}
-use Rattle.surf_run.proofs.Dialogues.{IsLast, device_last, dialogue_ends, dialogue_of, so_far_any, so_far_as}
+use Rattle.surf_run.proofs.Dialogues.{script_ends, script_of, so_far_any, so_far_as}
 use Rattle.surf_run.proofs.EndCauses.{causes_later, no_fall_on, no_fall_take}
 use Rattle.surf_run.proofs.Footprint.{within_on, within_take}
 use Rattle.surf_run.proofs.History.{ack_here, ack_more, reached_on}
 use Rattle.surf_run.proofs.Moments.{map_of_state, stands_still, tied_still}
-use Rattle.surf_run.proofs.Progress.{ends_with, history_then, past_wider, ran_on, ran_then, reached_then, reads_then, said_then, step_whole, told_then, writes_then}
+use Rattle.surf_run.proofs.Progress.{LastLine, ends_by_device, ends_by_slice, ends_with, history_then, past_wider, ran_on, ran_then, reached_as, reached_then, reads_then, said_then, step_whole, told_then, writes_then}
 use Rattle.surf_run.proofs.Texts.{held_none, held_same, held_some, last_line, lines_first, whole_first}
 
 -- ---- before a line was answered
@@ -117,8 +118,8 @@ pub said_closed : (kind : Kind) (ending : Ending) (start : State) (taken : Bytes
 said_closed kind ending start taken first w closed = record {
   text = closed.text;
   output = closed.told;
-  dialogue = subst (λ (l : Bytes). Dialogue (HasCause first w) kind.filter_bytes (Reached kind w) (length first.beside.said) start (lines_of l) closed.text ending) (append-nil taken) (closed.dialogue []);
-  settled = inr closed.dialogue;
+  script = subst (λ (l : Bytes). Script (HasCause first w) kind.filter_bytes (Reached kind w) (length first.beside.said) start (lines_of l) closed.text ending) (append-nil taken) (closed.script []);
+  settled = inr closed.script;
 }
 
 more_lines : (kind : Kind) (start : State) (taken : Bytes) (lines later : List Bytes) (first w : World) → lines_of taken ≡ lines ++ later
@@ -128,17 +129,17 @@ more_lines kind start taken lines later first w is history =
     (during_weaker _ _ first w history
     (ack_more (HasCause first w) (HasCause first w) (λ why cause. cause) kind start lines later first.beside.said w.beside.said w.beside.said [] (sym (append-nil w.beside.said))))
 
-ends_to : (kind : Kind) (most : ℕ) (reply : Reply) (start : State) (base : ℕ) (taken : Bytes) (first w : World) → most ≤ piece_bytes → EndsPast kind most reply start base taken first w
-    → EndsTo kind piece_bytes reply start base taken first w
-ends_to kind most reply start base taken first w fits ends = (ends.0, ends.1, inl (past_wider most piece_bytes taken (ends.0 ++ ends.1 ∷ []) fits ends.2), ends.3)
+ends_to : (kind : Kind) (most : ℕ) (ending : Ending) (reply : Reply) (start : State) (base : ℕ) (taken : Bytes) (first w : World) → most ≤ piece_bytes → EndsPast kind most ending reply start base taken first w
+    → EndsTo kind piece_bytes ending reply start base taken first w
+ends_to kind most ending reply start base taken first w fits ends = (ends.0, ends.1, inl (past_wider most piece_bytes taken (ends.0 ++ ends.1 ∷ []) fits ends.2), ends.3)
 
-pub settled_quit : (kind : Kind) (most : ℕ) (start : State) (base : ℕ) (taken : Bytes) (first w : World) → most ≤ piece_bytes → Closed kind AtQuit start taken first w → EndsPast kind most Bye start base taken first w
+pub settled_quit : (kind : Kind) (most : ℕ) (start : State) (base : ℕ) (taken : Bytes) (first w : World) → most ≤ piece_bytes → Closed kind AtQuit start taken first w → EndsPast kind most AtQuit Bye start base taken first w
     → Settled kind 0 start base taken first w
 settled_quit kind most start base taken first w fits closed ends =
     let first_lines = closed.first_lines [] in
     record {
       serving = inl refl;
-      ended = λ _. inr (said_closed kind AtQuit start taken first w closed, ends_to kind most Bye start base taken first w fits ends);
+      ended = λ _. inr (said_closed kind AtQuit start taken first w closed, ends_to kind most AtQuit Bye start base taken first w fits ends);
       device = λ is. absurd (omega arith);
       cut = λ is. absurd (elim is [ inl three ↦ omega arith | inr nine ↦ omega arith ]);
       output = λ is. absurd (omega arith);
@@ -155,7 +156,7 @@ settled_end kind most status start base taken first w fits ended = elim ended [
       record {
         serving = inr (inr (inl four.0));
         ended = λ is. absurd (let e = four.0 in omega arith);
-        device = λ _. (said_closed kind AtDevice start taken first w four.1, (four.2.0, four.2.1, ends_to kind most four.2.0 start base taken first w fits four.2.2));
+        device = λ _. (said_closed kind AtDevice start taken first w four.1, (four.2.0, ends_to kind most AtDevice four.2.0 start base taken first w fits four.2.1));
         cut = λ is. absurd (let e = four.0 in elim is [ inl three ↦ omega arith | inr nine ↦ omega arith ]);
         output = λ is. absurd (let e = four.0 in omega arith);
         said = (four.1.text, four.1.told);
@@ -210,10 +211,10 @@ module _ (kind : Kind) (start : State) (base : ℕ) (taken kept : Bytes) (store 
     stands = served.stand;
   }
 
-  dialogue_now : (lines : List Bytes) → lines ≡ served.lines → Dialogue (HasCause first w) kind.filter_bytes (Reached kind w) (length first.beside.said) start lines served.text ToLast
-  dialogue_now lines is =
-      subst (λ (ls : List Bytes). Dialogue (HasCause first w) kind.filter_bytes (Reached kind w) (length first.beside.said) start ls served.text ToLast) (sym is)
-      (dialogue_of (HasCause first w) kind.filter_bytes (Reached kind w) (length first.beside.said) start served.lines served.text served.most served.now served.ran)
+  script_now : (lines : List Bytes) → lines ≡ served.lines → Script (HasCause first w) kind.filter_bytes (Reached kind w) (length first.beside.said) start lines served.text ToLast
+  script_now lines is =
+      subst (λ (ls : List Bytes). Script (HasCause first w) kind.filter_bytes (Reached kind w) (length first.beside.said) start ls served.text ToLast) (sym is)
+      (script_of (HasCause first w) kind.filter_bytes (Reached kind w) (length first.beside.said) start served.lines served.text served.most served.now served.ran)
 
   crash_now : (lines : List Bytes) → lines ≡ served.lines → During (Acknowledged (HasCause first w) kind start lines first.beside.said w.beside.said) first w
   crash_now lines is = subst (λ (ls : List Bytes). During (Acknowledged (HasCause first w) kind start ls first.beside.said w.beside.said) first w) (sym is) served.history
@@ -229,7 +230,7 @@ module _ (kind : Kind) (start : State) (base : ℕ) (taken kept : Bytes) (store 
         cut = λ _. record {
           text = served.text;
           output = served.told;
-          dialogue = dialogue_now (whole_lines taken) lines;
+          script = script_now (whole_lines taken) lines;
           crash = crash_now (whole_lines taken) lines;
           leaves = leaves_now (whole_lines taken) lines;
         };
@@ -248,7 +249,7 @@ module _ (kind : Kind) (start : State) (base : ℕ) (taken kept : Bytes) (store 
       record {
         serving = inl refl;
         ended = λ _. inl (
-          record { text = served.text; output = served.told; dialogue = dialogue_now (lines_of taken) lines; settled = inl none },
+          record { text = served.text; output = served.told; script = script_now (lines_of taken) lines; settled = inl none },
           leaves_now (lines_of taken) lines,
         );
         device = λ e. absurd (omega arith);
@@ -270,7 +271,7 @@ module _ (kind : Kind) (start : State) (base : ℕ) (taken kept : Bytes) (store 
   taken_all : TakenAll taken served.lines served.rest
   taken_all = record { whole = All-push NoNewline served.lines served.rest served.whole served.open_end; split = served.split }
 
-  module _ (reply : Reply) (new : State) (answer : LineAnswer kind served.now (asked_here served.rest) reply new w w') where
+  module _ (reply : Reply) (new : State) (answer : LineAnswer kind served.now (asked_here served.rest) reply new (line_bound served.now (asked_here served.rest)) w w') where
     grown : (text : Bytes) × (w'.beside.said ≡ first.beside.said ++ text)
     grown = (served.text ++ answer.prefix.done, answer.prefix.said ∙ ap (λ (l : Bytes). l ++ answer.prefix.done) served.told ∙ append_assoc first.beside.said served.text answer.prefix.done)
 
@@ -309,95 +310,102 @@ module _ (kind : Kind) (start : State) (base : ℕ) (taken kept : Bytes) (store 
       abbrev then_said : ℕ
       then_said = said_then kind start base taken kept store first w served served.rest w' counts reply new answer all
 
-      went_on : turn_of reply ≡ Onward → SaidByNow w' → Stands kind new w'
-          → SoFar (HasCause first w') kind.filter_bytes (Reached kind w') (length first.beside.said) start (served.lines ++ served.rest ∷ []) (served.text ++ text_of reply) (served.most + line_bound served.now (asked_here served.rest)) new
-      went_on goes now stand = ran_on kind start base taken kept store first w served served.rest w' counts reply new answer all goes
-          (reached_then kind start base taken kept store first w served served.rest w' counts reply new answer all now stand)
+      module _ (after : State) (goes : turn_of reply ≡ Onward) (between : Between (HasCause w w') kind.filter_bytes (asked_here served.rest) new Onward after) (reached : Reached kind w' (length w'.beside.said) new) where
+        went_on : SoFar (HasCause first w') kind.filter_bytes (Reached kind w') (length first.beside.said) start (served.lines ++ served.rest ∷ []) (served.text ++ text_of reply) (served.most + line_bound served.now (asked_here served.rest)) after
+        went_on = ran_on kind start base taken kept store first w served served.rest w' counts reply new answer all after goes between
+            (reached_as kind start base taken kept store first w served served.rest w' counts reply new answer all reached)
 
-      said_next : turn_of reply ≡ Onward → SaidByNow w' → Stands kind new w' → Said kind ToLast start taken first w'
-      said_next goes now stand = record {
-        text = served.text ++ text_of reply;
-        output = told_all;
-        dialogue = subst (λ (ls : List Bytes). Dialogue (HasCause first w') kind.filter_bytes (Reached kind w') (length first.beside.said) start ls (served.text ++ text_of reply) ToLast) (sym last)
-            (dialogue_of (HasCause first w') kind.filter_bytes (Reached kind w') (length first.beside.said) start (served.lines ++ served.rest ∷ []) (served.text ++ text_of reply) _ new (went_on goes now stand));
-        settled = inl none;
-      }
+        said_next : Said kind ToLast start taken first w'
+        said_next = record {
+          text = served.text ++ text_of reply;
+          output = told_all;
+          script = subst (λ (ls : List Bytes). Script (HasCause first w') kind.filter_bytes (Reached kind w') (length first.beside.said) start ls (served.text ++ text_of reply) ToLast) (sym last)
+              (script_of (HasCause first w') kind.filter_bytes (Reached kind w') (length first.beside.said) start (served.lines ++ served.rest ∷ []) (served.text ++ text_of reply) _ after went_on);
+          settled = inl none;
+        }
 
-      leaves_next : turn_of reply ≡ Onward → SaidByNow w' → Stands kind new w' → LeavesState kind start base (lines_of taken) first w'
-      leaves_next goes now stand = record {
-        text = served.text ++ text_of reply;
-        output = told_all;
-        most = served.most + line_bound served.now (asked_here served.rest);
-        last = new;
-        so_far = subst (λ (ls : List Bytes). SoFar (HasCause first w') kind.filter_bytes (Reached kind w') (length first.beside.said) start ls (served.text ++ text_of reply) (served.most + line_bound served.now (asked_here served.rest)) new)
-            (sym last) (went_on goes now stand);
-        reads = λ all. omega (arith, reads_then kind start base taken kept store first w served served.rest w' counts reply new answer (subst AreBounded last all));
-        stands = stand;
-      }
+        leaves_next : Stands kind after w' → LeavesState kind start base (lines_of taken) first w'
+        leaves_next stand = record {
+          text = served.text ++ text_of reply;
+          output = told_all;
+          most = served.most + line_bound served.now (asked_here served.rest);
+          last = after;
+          so_far = subst (λ (ls : List Bytes). SoFar (HasCause first w') kind.filter_bytes (Reached kind w') (length first.beside.said) start ls (served.text ++ text_of reply) (served.most + line_bound served.now (asked_here served.rest)) after)
+              (sym last) went_on;
+          reads = λ all. omega (arith, reads_then kind start base taken kept store first w served served.rest w' counts reply new answer (subst AreBounded last all));
+          stands = stand;
+        }
 
-      said_last : (ending : Ending) → IsLast reply ending (Reached kind w' then_said new) → Said kind ending start taken first w'
+      said_last : (ending : Ending) → LastLine kind start base taken kept store first w served served.rest w' counts reply new answer all ending → Said kind ending start taken first w'
       said_last ending is_last = record {
         text = served.text ++ text_of reply;
         output = told_all;
-        dialogue = subst (λ (ls : List Bytes). Dialogue (HasCause first w') kind.filter_bytes (Reached kind w') (length first.beside.said) start ls (served.text ++ text_of reply) ending) (sym last)
-            (dialogue_ends (HasCause first w') kind.filter_bytes (Reached kind w') (length first.beside.said) start served.lines served.text served.most served.now served.rest reply new [] ending
+        script = subst (λ (ls : List Bytes). Script (HasCause first w') kind.filter_bytes (Reached kind w') (length first.beside.said) start ls (served.text ++ text_of reply) ending) (sym last)
+            (script_ends (HasCause first w') kind.filter_bytes (Reached kind w') (length first.beside.said) start served.lines served.text served.most served.now served.rest reply new [] ending
             (ran_then kind start base taken kept store first w served served.rest w' counts reply new answer) (step_whole kind start base taken kept store first w served served.rest w' counts reply new answer) then_said refl is_last);
         settled = inl none;
       }
 
-      ends_all : (reply ≢ Device → Stands kind new w') → EndsTo kind piece_bytes reply start base taken first w'
-      ends_all stands = (served.lines, served.rest, inr taken_all, ends_with kind start base taken kept store first w served served.rest w' counts reply new answer all stands)
+      ends_all : (ending : Ending) → LastLine kind start base taken kept store first w served served.rest w' counts reply new answer all ending → (turn_of reply ≢ Onward → reply ≢ Device → Stands kind new w') → EndsTo kind piece_bytes ending reply start base taken first w'
+      ends_all ending is_last stands = (served.lines, served.rest, inr taken_all, ends_with kind start base taken kept store first w served served.rest w' counts reply new answer all ending is_last stands)
 
-  pub settled_next : (store' : Kept) → SaidByNow w' → EndsLine kind Next served.now (asked_here served.rest) store' w w' → Settled kind 0 start base taken first w'
-  settled_next store' now a = record {
+  pub settled_next : (store' : Kept) → EndsServed kind Next served.now (asked_here served.rest) store' w w' → Settled kind 0 start base taken first w'
+  settled_next store' a = record {
     serving = inl refl;
-    ended = λ _. inl (said_next a.0 a.1 a.2 a.4 a.3 now a.6, leaves_next a.0 a.1 a.2 a.4 a.3 now a.6);
+    ended = λ _. inl (said_next a.0 a.1 a.3 a.5 a.2 a.4 a.7 a.6, leaves_next a.0 a.1 a.3 a.5 a.2 a.4 a.7 a.6 a.9);
     device = λ e. absurd (omega arith);
     cut = λ is. absurd (elim is [ inl three ↦ omega arith | inr nine ↦ omega arith ]);
     output = λ e. absurd (omega arith);
-    said = grown a.0 a.1 a.2;
-    crash = crash a.0 a.1 a.2;
-    writes = writes a.0 a.1 a.2;
+    said = grown a.0 a.1 a.3;
+    crash = crash a.0 a.1 a.3;
+    writes = writes a.0 a.1 a.3;
   }
 
-  pub settled_bye : (store' : Kept) → SaidByNow w' → EndsLine kind Quit served.now (asked_here served.rest) store' w w' → Settled kind 0 start base taken first w'
-  settled_bye store' now a = record {
-    serving = inl refl;
-    ended = λ _. inr (
-      said_last Bye a.0 a.1 a.2 AtQuit (reached_then kind start base taken kept store first w served served.rest w' counts Bye a.0 a.1 a.2 now a.3, (refl, refl)),
-      ends_all Bye a.0 a.1 a.2 (λ other. a.3),
-    );
-    device = λ e. absurd (omega arith);
-    cut = λ is. absurd (elim is [ inl three ↦ omega arith | inr nine ↦ omega arith ]);
-    output = λ e. absurd (omega arith);
-    said = grown Bye a.0 a.1;
-    crash = crash Bye a.0 a.1;
-    writes = writes Bye a.0 a.1;
+  pub settled_bye : (store' : Kept) → SaidByNow w' → EndsServed kind Quit served.now (asked_here served.rest) store' w w' → Settled kind 0 start base taken first w'
+  settled_bye store' now a =
+      let is_last : LastLine kind start base taken kept store first w served served.rest w' counts Bye a.0 a.1 a.2 AtQuit =
+      (reached_then kind start base taken kept store first w served served.rest w' counts Bye a.0 a.1 a.2 now a.3, (refl, refl)) in
+      record {
+        serving = inl refl;
+        ended = λ _. inr (said_last Bye a.0 a.1 a.2 AtQuit is_last, ends_all Bye a.0 a.1 a.2 AtQuit is_last (λ over other. a.3));
+        device = λ e. absurd (omega arith);
+        cut = λ is. absurd (elim is [ inl three ↦ omega arith | inr nine ↦ omega arith ]);
+        output = λ e. absurd (omega arith);
+        said = grown Bye a.0 a.1;
+        crash = crash Bye a.0 a.1;
+        writes = writes Bye a.0 a.1;
+      }
+
+  -- the device failed, by the reply or by the merge slice behind it
+  settled_four : (status : ℕ) → status ≡ 4 → (reply : Reply) (new : State) (answer : LineAnswer kind served.now (asked_here served.rest) reply new (line_bound served.now (asked_here served.rest)) w w') (all : Whole reply w w')
+      → LastLine kind start base taken kept store first w served served.rest w' counts reply new answer all AtDevice → (turn_of reply ≢ Onward → reply ≢ Device → Stands kind new w')
+      → Settled kind status start base taken first w'
+  settled_four status four reply new answer all is_last stands = record {
+    serving = inr (inr (inl four));
+    ended = λ e. absurd (omega (arith, four, e));
+    device = λ _. (said_last reply new answer all AtDevice is_last, (reply, ends_all reply new answer all AtDevice is_last stands));
+    cut = λ is. absurd (elim is [ inl three ↦ omega (arith, four, three) | inr nine ↦ omega (arith, four, nine) ]);
+    output = λ e. absurd (omega (arith, four, e));
+    said = grown reply new answer;
+    crash = crash reply new answer;
+    writes = writes reply new answer;
   }
 
-  pub settled_status : (status : ℕ) (store' : Kept) → EndsLine kind (End status) served.now (asked_here served.rest) store' w w' → Settled kind status start base taken first w'
+  pub settled_status : (status : ℕ) (store' : Kept) → EndsServed kind (End status) served.now (asked_here served.rest) store' w w' → Settled kind status start base taken first w'
   settled_status status store' a = elim a.3 [
-    | inl four ↦ record {
-      serving = inr (inr (inl four.0));
-      ended = λ e. absurd (let f = four.0 in omega arith);
-      device = λ _. (
-        said_last a.0 a.1 a.2 four.2 AtDevice (device_last a.0 _ four.1),
-        (a.0, four.1, ends_all a.0 a.1 a.2 four.2 four.3),
-      );
-      cut = λ is. absurd (let f = four.0 in elim is [ inl three ↦ omega arith | inr nine ↦ omega arith ]);
-      output = λ e. absurd (let f = four.0 in omega arith);
-      said = grown a.0 a.1 a.2;
-      crash = crash a.0 a.1 a.2;
-      writes = writes a.0 a.1 a.2;
-    }
-    | inr six ↦ record {
-      serving = inr (inr (inr (inl six.0)));
-      ended = λ e. absurd (let f = six.0 in omega arith);
-      device = λ e. absurd (let f = six.0 in omega arith);
-      cut = λ is. absurd (let f = six.0 in elim is [ inl three ↦ omega arith | inr nine ↦ omega arith ]);
-      output = λ _. said_in_part a.0 a.1 a.2 six.1;
-      said = grown a.0 a.1 a.2;
-      crash = crash a.0 a.1 a.2;
-      writes = writes a.0 a.1 a.2;
-    }
+    | inl four ↦ settled_four status four.0 a.0 a.1 a.2 four.2 (ends_by_device kind start base taken kept store first w served served.rest w' counts a.0 a.1 a.2 four.2 four.1) (λ over other. four.3 other)
+    | inr more ↦ elim more [
+      | inl six ↦ record {
+        serving = inr (inr (inr (inl six.0)));
+        ended = λ e. absurd (let f = six.0 in omega arith);
+        device = λ e. absurd (let f = six.0 in omega arith);
+        cut = λ is. absurd (let f = six.0 in elim is [ inl three ↦ omega arith | inr nine ↦ omega arith ]);
+        output = λ _. said_in_part a.0 a.1 a.2 six.1;
+        said = grown a.0 a.1 a.2;
+        crash = crash a.0 a.1 a.2;
+        writes = writes a.0 a.1 a.2;
+      }
+      | inr slice ↦
+          settled_four status slice.0 a.0 a.1 a.2 slice.2 (ends_by_slice kind start base taken kept store first w served served.rest w' counts a.0 a.1 a.2 slice.2 slice.1 slice.3 slice.4 slice.5) (λ over other. absurd (over slice.1))
+    ]
   ]

@@ -14,7 +14,7 @@ use Rattle.outside.specs.Streams.{SaidByNow, SaysPrefix}
 use Rattle.outside.proofs.Crossing.{during_then, during_weaker}
 use Rattle.state_model.proofs.AnyCause.{ever_steps}
 use Rattle.state_model.proofs.FaultsMet.{step_keeps_device}
-use Rattle.state_model.specs.Script.{AtDevice, AtQuit, Ending, Onward, turn_of}
+use Rattle.state_model.specs.Script.{AtDevice, AtQuit, Between, Ending, Onward, Over, Turn, turn_of}
 use Rattle.state_model.specs.State.{State}
 use Rattle.state_model.specs.Steps.{Step}
 use Rattle.store_commands.specs.Answered.{asked_here}
@@ -22,26 +22,28 @@ use Rattle.store_commands.specs.Cutting.{NoNewline}
 use Rattle.store_core.specs.Answers.{HasCause}
 use Rattle.store_core.specs.Kept.{Kept}
 use Rattle.store_core.specs.Tied.{Tied}
-use Rattle.surf_run.specs.Answering.{EndsLine, LineAnswer, Whole}
+use Rattle.surf_run.specs.Answering.{LineAnswer, Whole}
 use Rattle.surf_run.specs.Causes.{NoFall, WritesWithin}
 use Rattle.surf_run.specs.Crash.{Acknowledged, Reached, Stands}
-use Rattle.surf_run.specs.Dialogue.{AreBounded, Dialogue, IsBounded, SoFar, line_bound}
+use Rattle.surf_run.specs.Dialogue.{AreBounded, IsBounded, Script, SoFar, line_bound}
 use Rattle.surf_run.specs.Holding.{Held, with_newline}
 use Rattle.surf_run.specs.Kind.{Kind}
 use Rattle.surf_run.specs.Outcome.{EndsWith, TakenPast}
 use Rattle.surf_run.specs.Serving.{After, AreFirst, Broken, Closed, EndsPast, Served}
+use Rattle.surf_run.specs.Slices.{EndsServed}
 use Rattle.surf_run.specs.declared.end.LineEnd.{LineEnd}
 use Rattle.surf_run.specs.declared.end.LineEnd.TheVariants.{End, Next, Quit}
-use Rattle.surf_run.proofs.Dialogues.{IsLast, device_last, dialogue_ends, so_far_any, so_far_as, so_far_on, step_as}
+use Rattle.surf_run.proofs.Dialogues.{IsLast, between_as, device_last, ends_there, script_ends, slice_last, so_far_any, so_far_as, so_far_on, step_as}
 use Rattle.surf_run.proofs.EndCauses.{causes_later, causes_since, no_fall_on}
 use Rattle.surf_run.proofs.Footprint.{within_on}
 use Rattle.surf_run.proofs.History.{ack_more, line_ack, reached_here, reached_on}
+use Rattle.surf_run.proofs.Slices.{between_pages}
 use Rattle.surf_run.proofs.Texts.{held_same, lines_first, whole_on}
 
 -- ---- what a line more makes of a run, whether it had its newline or not
 
 module _ (kind : Kind) (start : State) (base : ℕ) (bytes kept : Bytes) (store : Kept) (first w : World) (served : Served kind start base bytes kept store first w) (line : Bytes)
-    (w' : World) (counts : NoFall w w') (reply : Reply) (new : State) (answer : LineAnswer kind served.now (asked_here line) reply new w w') where
+    (w' : World) (counts : NoFall w w') (reply : Reply) (new : State) (answer : LineAnswer kind served.now (asked_here line) reply new (line_bound served.now (asked_here line)) w w') where
   pub step_whole : Step (HasCause first w') kind.filter_bytes served.now (asked_here line) reply new
   step_whole = step_as (HasCause w w') (HasCause first w') kind.filter_bytes (causes_since first w w' served.counts) served.now (asked_here line) reply new answer.step
 
@@ -77,23 +79,46 @@ module _ (kind : Kind) (start : State) (base : ℕ) (bytes kept : Bytes) (store 
     abbrev pub said_then : ℕ
     said_then = length first.beside.said + length served.text + length (text_of reply)
 
+    said_is : length w'.beside.said ≡ said_then
+    said_is = omega (arith, ap length told_then, length-append first.beside.said (served.text ++ text_of reply), length-append served.text (text_of reply))
+
     pub reached_then : SaidByNow w' → Stands kind new w' → Reached kind w' said_then new
-    reached_then said_now stand =
-        reached_here kind w' new said_then said_now (omega (arith, ap length told_then, length-append first.beside.said (served.text ++ text_of reply), length-append served.text (text_of reply))) stand
+    reached_then said_now stand = reached_here kind w' new said_then said_now said_is stand
 
-    pub ran_on : turn_of reply ≡ Onward → Reached kind w' said_then new
-        → SoFar (HasCause first w') kind.filter_bytes (Reached kind w') (length first.beside.said) start (served.lines ++ line ∷ []) (served.text ++ text_of reply) (served.most + line_bound served.now (asked_here line)) new
-    ran_on goes reached =
-        so_far_on (HasCause first w') kind.filter_bytes (Reached kind w') (length first.beside.said) start served.lines served.text served.most served.now line reply new ran_then step_whole goes said_then refl reached
+    pub reached_as : Reached kind w' (length w'.beside.said) new → Reached kind w' said_then new
+    reached_as reached = subst (λ (n : ℕ). Reached kind w' n new) said_is reached
 
-    pub ends_with : (reply ≢ Device → Stands kind new w') → EndsWith kind reply start base served.lines line first w'
-    ends_with stands = record {
+    -- the merge slice behind the line, as one of the whole run
+    pub between_whole : (turn : Turn) (after : State) → Between (HasCause w w') kind.filter_bytes (asked_here line) new turn after → Between (HasCause first w') kind.filter_bytes (asked_here line) new turn after
+    between_whole turn after between =
+        between_as (HasCause w w') (HasCause first w') kind.filter_bytes (causes_since first w w' served.counts) new turn after (asked_here line) between
+
+    pub ran_on : (after : State) → turn_of reply ≡ Onward → Between (HasCause w w') kind.filter_bytes (asked_here line) new Onward after → Reached kind w' said_then new
+        → SoFar (HasCause first w') kind.filter_bytes (Reached kind w') (length first.beside.said) start (served.lines ++ line ∷ []) (served.text ++ text_of reply) (served.most + line_bound served.now (asked_here line)) after
+    ran_on after goes between reached =
+        so_far_on (HasCause first w') kind.filter_bytes (Reached kind w') (length first.beside.said) start served.lines served.text served.most served.now line reply new after ran_then step_whole goes
+        (between_whole Onward after between) said_then refl reached
+
+    -- this was the last line
+    abbrev pub LastLine : Ending → Type 0
+    LastLine ending = IsLast (HasCause first w') kind.filter_bytes (asked_here line) reply new ending (Reached kind w' said_then new)
+
+    pub ends_by_device : turn_of reply ≡ Over AtDevice → LastLine AtDevice
+    ends_by_device is = device_last (HasCause first w') kind.filter_bytes (asked_here line) reply new _ is
+
+    pub ends_by_slice : turn_of reply ≡ Onward → Reached kind w' (length w'.beside.said) new → (after : State) → Between (HasCause w w') kind.filter_bytes (asked_here line) new (Over AtDevice) after → LastLine AtDevice
+    ends_by_slice goes reached after between =
+        slice_last (HasCause first w') kind.filter_bytes (asked_here line) reply new _ goes (reached_as reached) after (between_whole (Over AtDevice) after between)
+
+    pub ends_with : (ending : Ending) → LastLine ending → (turn_of reply ≢ Onward → reply ≢ Device → Stands kind new w') → EndsWith kind ending reply start base served.lines line first w'
+    ends_with ending last stands = record {
       text = served.text;
       most = served.most;
       now = served.now;
       so_far = ran_then;
       last = new;
       step = step_whole;
+      there = ends_there (HasCause first w') kind.filter_bytes line reply new ending _ last;
       reads = reads_then;
       output = told_then;
       crash = history_then;
@@ -149,21 +174,22 @@ module _ (kind : Kind) (start : State) (base : ℕ) (bytes kept : Bytes) (store 
   taken_past : TakenPast 1 (bytes ++ part ++ 10 ∷ []) (served.lines ++ (served.rest ++ part) ∷ [])
   taken_past = record { whole = whole_now; behind = []; split = line_split ∙ sym (append-nil _); less = omega arith }
 
-  module _ (w' : World) (counts : NoFall w w') (reply : Reply) (new : State) (answer : LineAnswer kind served.now (asked_here (served.rest ++ part)) reply new w w') where
+  module _ (w' : World) (counts : NoFall w w') (reply : Reply) (new : State) (answer : LineAnswer kind served.now (asked_here (served.rest ++ part)) reply new (line_bound served.now (asked_here (served.rest ++ part))) w w') where
     module _ (all : Whole reply w w') where
-      pub next_line : (kept' : Bytes) (store' : Kept) → turn_of reply ≡ Onward → Tied kind.spelling kind.filter_bytes store' new w' → Stands kind new w' → SaidByNow w' → kept' ≡ []
+      pub next_line : (after : State) (kept' : Bytes) (store' : Kept) → turn_of reply ≡ Onward → Reached kind w' (length w'.beside.said) new
+          → Between (HasCause w w') kind.filter_bytes (asked_here (served.rest ++ part)) new Onward after → Tied kind.spelling kind.filter_bytes store' after w' → Stands kind after w' → kept' ≡ []
           → Served kind start base (bytes ++ part ++ 10 ∷ []) kept' store' first w'
-      next_line kept' store' goes tied stand said_now cleared = record {
+      next_line after kept' store' goes reached between tied stand cleared = record {
         lines = served.lines ++ (served.rest ++ part) ∷ [];
         rest = [];
         text = served.text ++ text_of reply;
         most = served.most + line_bound served.now (asked_here (served.rest ++ part));
-        now = new;
+        now = after;
         split = line_split ∙ sym (append-nil _);
         whole = whole_now;
         open_end = All-nil (λ (b : ℕ). (b == 10) ≡ false);
-        ran = ran_on kind start base bytes kept store first w served (served.rest ++ part) w' counts reply new answer all goes
-            (reached_then kind start base bytes kept store first w served (served.rest ++ part) w' counts reply new answer all said_now stand);
+        ran = ran_on kind start base bytes kept store first w served (served.rest ++ part) w' counts reply new answer all after goes between
+            (reached_as kind start base bytes kept store first w served (served.rest ++ part) w' counts reply new answer all reached);
         told = told_then kind start base bytes kept store first w served (served.rest ++ part) w' counts reply new answer all;
         held = held_same [] kept' cleared (omega arith);
         history = history_then kind start base bytes kept store first w served (served.rest ++ part) w' counts reply new answer;
@@ -171,21 +197,20 @@ module _ (kind : Kind) (start : State) (base : ℕ) (bytes kept : Bytes) (store 
         stand = stand;
         counts = no_fall_on first w w' served.counts counts;
         reads = λ all. omega (arith, reads_then kind start base bytes kept store first w served (served.rest ++ part) w' counts reply new answer all);
-        pages = pages_then kind start base bytes kept store first w served (served.rest ++ part) w' counts reply new answer;
+        pages = between_pages (HasCause w w') kind.filter_bytes (asked_here (served.rest ++ part)) new Onward after between ∙ pages_then kind start base bytes kept store first w served (served.rest ++ part) w' counts reply new answer;
         writes = writes_then kind start base bytes kept store first w served (served.rest ++ part) w' counts reply new answer;
       }
 
-      pub last_line : (ending : Ending)
-          → IsLast reply ending (Reached kind w' (said_then kind start base bytes kept store first w served (served.rest ++ part) w' counts reply new answer all) new)
+      pub last_line : (ending : Ending) → LastLine kind start base bytes kept store first w served (served.rest ++ part) w' counts reply new answer all ending
           → Closed kind ending start (bytes ++ part ++ 10 ∷ []) first w'
       last_line ending last = record {
         lines = served.lines ++ (served.rest ++ part) ∷ [];
         first_lines = first_lines;
         text = served.text ++ text_of reply;
         told = told_then kind start base bytes kept store first w served (served.rest ++ part) w' counts reply new answer all;
-        dialogue = λ more. subst (λ (ls : List Bytes). Dialogue (HasCause first w') kind.filter_bytes (Reached kind w') (length first.beside.said) start ls (served.text ++ text_of reply) ending)
+        script = λ more. subst (λ (ls : List Bytes). Script (HasCause first w') kind.filter_bytes (Reached kind w') (length first.beside.said) start ls (served.text ++ text_of reply) ending)
             (sym (cut more ∙ append_assoc served.lines ((served.rest ++ part) ∷ []) (lines_of more)))
-            (dialogue_ends (HasCause first w') kind.filter_bytes (Reached kind w') (length first.beside.said) start served.lines served.text served.most served.now (served.rest ++ part) reply new (lines_of more) ending
+            (script_ends (HasCause first w') kind.filter_bytes (Reached kind w') (length first.beside.said) start served.lines served.text served.most served.now (served.rest ++ part) reply new (lines_of more) ending
             (ran_then kind start base bytes kept store first w served (served.rest ++ part) w' counts reply new answer)
             (step_whole kind start base bytes kept store first w served (served.rest ++ part) w' counts reply new answer)
             (said_then kind start base bytes kept store first w served (served.rest ++ part) w' counts reply new answer all) refl last);
@@ -193,9 +218,10 @@ module _ (kind : Kind) (start : State) (base : ℕ) (bytes kept : Bytes) (store 
         writes = writes_then kind start base bytes kept store first w served (served.rest ++ part) w' counts reply new answer;
       }
 
-      pub ends_past : (reply ≢ Device → Stands kind new w') → EndsPast kind 1 reply start base (bytes ++ part ++ 10 ∷ []) first w'
-      ends_past stands =
-          (served.lines, served.rest ++ part, taken_past, ends_with kind start base bytes kept store first w served (served.rest ++ part) w' counts reply new answer all stands)
+      pub ends_past : (ending : Ending) → LastLine kind start base bytes kept store first w served (served.rest ++ part) w' counts reply new answer all ending → (turn_of reply ≢ Onward → reply ≢ Device → Stands kind new w')
+          → EndsPast kind 1 ending reply start base (bytes ++ part ++ 10 ∷ []) first w'
+      ends_past ending last stands =
+          (served.lines, served.rest ++ part, taken_past, ends_with kind start base bytes kept store first w served (served.rest ++ part) w' counts reply new answer all ending last stands)
 
     pub broken_line : (reply ≢ Device → Stands kind new w') → Broken kind 1 start base (bytes ++ part ++ 10 ∷ []) first w'
     broken_line stands = record {
@@ -217,20 +243,23 @@ module _ (kind : Kind) (start : State) (base : ℕ) (bytes kept : Bytes) (store 
       writes = writes_then kind start base bytes kept store first w served (served.rest ++ part) w' counts reply new answer;
     }
 
-  pub line_end : (w' : World) (end : LineEnd) (store' : Kept) (kept' : Bytes) → SaidByNow w' → NoFall w w' → EndsLine kind end served.now (asked_here (served.rest ++ part)) store' w w' → kept' ≡ []
+  pub line_end : (w' : World) (end : LineEnd) (store' : Kept) (kept' : Bytes) → SaidByNow w' → NoFall w w' → EndsServed kind end served.now (asked_here (served.rest ++ part)) store' w w' → kept' ≡ []
       → After kind 1 end start base (bytes ++ part ++ 10 ∷ []) kept' store' first w'
-  line_end w' Next store' kept' said_now counts a cleared = next_line w' counts a.0 a.1 a.2 a.4 kept' store' a.3 a.5 a.6 said_now cleared
-  line_end w' Quit store' kept' said_now counts a cleared = (
-    last_line w' counts Bye a.0 a.1 a.2 AtQuit (reached_then kind start base bytes kept store first w served (served.rest ++ part) w' counts Bye a.0 a.1 a.2 said_now a.3, (refl, refl)),
-    ends_past w' counts Bye a.0 a.1 a.2 (λ other. a.3),
-  )
+  line_end w' Next store' kept' said_now counts a cleared = next_line w' counts a.0 a.1 a.3 a.5 a.2 kept' store' a.4 a.6 a.7 a.8 a.9 cleared
+  line_end w' Quit store' kept' said_now counts a cleared =
+      let last : LastLine kind start base bytes kept store first w served (served.rest ++ part) w' counts Bye a.0 a.1 a.2 AtQuit =
+      (reached_then kind start base bytes kept store first w served (served.rest ++ part) w' counts Bye a.0 a.1 a.2 said_now a.3, (refl, refl)) in
+      (last_line w' counts Bye a.0 a.1 a.2 AtQuit last, ends_past w' counts Bye a.0 a.1 a.2 AtQuit last (λ over other. a.3))
   line_end w' (End status) store' kept' said_now counts a cleared = elim a.3 [
-    | inl device ↦ inl (
-      device.0,
-      last_line w' counts a.0 a.1 a.2 device.2 AtDevice (device_last a.0 _ device.1),
-      (a.0, device.1, ends_past w' counts a.0 a.1 a.2 device.2 device.3),
-    )
-    | inr six ↦ inr (six.0, broken_line w' counts a.0 a.1 a.2 six.1)
+    | inl device ↦
+        let last = ends_by_device kind start base bytes kept store first w served (served.rest ++ part) w' counts a.0 a.1 a.2 device.2 device.1 in
+        inl (device.0, last_line w' counts a.0 a.1 a.2 device.2 AtDevice last, (a.0, ends_past w' counts a.0 a.1 a.2 device.2 AtDevice last (λ over other. device.3 other)))
+    | inr more ↦ elim more [
+      | inl six ↦ inr (six.0, broken_line w' counts a.0 a.1 a.2 six.1)
+      | inr slice ↦
+          let last = ends_by_slice kind start base bytes kept store first w served (served.rest ++ part) w' counts a.0 a.1 a.2 slice.2 slice.1 slice.3 slice.4 slice.5 in
+          inl (slice.0, last_line w' counts a.0 a.1 a.2 slice.2 AtDevice last, (a.0, ends_past w' counts a.0 a.1 a.2 slice.2 AtDevice last (λ over other. absurd (over slice.1))))
+    ]
   ]
 
 -- ---- what follows an end counts for nothing
@@ -245,7 +274,7 @@ closed_more kind ending start bytes more first w closed = record {
   first_lines = first_more bytes more closed.lines closed.first_lines;
   text = closed.text;
   told = closed.told;
-  dialogue = λ rest. subst (λ (l : Bytes). Dialogue (HasCause first w) kind.filter_bytes (Reached kind w) (length first.beside.said) start (lines_of l) closed.text ending) (sym (append_assoc bytes more rest)) (closed.dialogue (more ++ rest));
+  script = λ rest. subst (λ (l : Bytes). Script (HasCause first w) kind.filter_bytes (Reached kind w) (length first.beside.said) start (lines_of l) closed.text ending) (sym (append_assoc bytes more rest)) (closed.script (more ++ rest));
   history = closed.history;
   writes = closed.writes;
 }
@@ -261,9 +290,9 @@ past_more least most bytes more lines fits past = record {
 pub past_wider : (least most : ℕ) (bytes : Bytes) (lines : List Bytes) → least ≤ most → TakenPast least bytes lines → TakenPast most bytes lines
 past_wider least most bytes lines fits past = record { whole = past.whole; behind = past.behind; split = past.split; less = omega (arith, past.less, fits) }
 
-ends_more : (kind : Kind) (least most : ℕ) (reply : Reply) (start : State) (base : ℕ) (bytes more : Bytes) (first w : World) → least + length more ≤ most → EndsPast kind least reply start base bytes first w
-    → EndsPast kind most reply start base (bytes ++ more) first w
-ends_more kind least most reply start base bytes more first w fits ends = (ends.0, ends.1, past_more least most bytes more (ends.0 ++ ends.1 ∷ []) fits ends.2, ends.3)
+ends_more : (kind : Kind) (least most : ℕ) (ending : Ending) (reply : Reply) (start : State) (base : ℕ) (bytes more : Bytes) (first w : World) → least + length more ≤ most → EndsPast kind least ending reply start base bytes first w
+    → EndsPast kind most ending reply start base (bytes ++ more) first w
+ends_more kind least most ending reply start base bytes more first w fits ends = (ends.0, ends.1, past_more least most bytes more (ends.0 ++ ends.1 ∷ []) fits ends.2, ends.3)
 
 broken_more : (kind : Kind) (least most : ℕ) (start : State) (base : ℕ) (bytes more : Bytes) (first w : World) → least + length more ≤ most → Broken kind least start base bytes first w
     → Broken kind most start base (bytes ++ more) first w
@@ -290,8 +319,8 @@ pub after_more : (kind : Kind) (least most : ℕ) (end : LineEnd) (start : State
     → After kind least end start base bytes kept store first w → After kind most end start base (bytes ++ more) kept store first w
 after_more kind least most Next start base bytes more kept store first w fits not_next after = absurd (not_next refl)
 after_more kind least most Quit start base bytes more kept store first w fits not_next after =
-    (closed_more kind AtQuit start bytes more first w after.0, ends_more kind least most Bye start base bytes more first w fits after.1)
+    (closed_more kind AtQuit start bytes more first w after.0, ends_more kind least most AtQuit Bye start base bytes more first w fits after.1)
 after_more kind least most (End status) start base bytes more kept store first w fits not_next after = elim after [
-  | inl device ↦ inl (device.0, closed_more kind AtDevice start bytes more first w device.1, (device.2.0, device.2.1, ends_more kind least most device.2.0 start base bytes more first w fits device.2.2))
+  | inl device ↦ inl (device.0, closed_more kind AtDevice start bytes more first w device.1, (device.2.0, ends_more kind least most AtDevice device.2.0 start base bytes more first w fits device.2.1))
   | inr six ↦ inr (six.0, broken_more kind least most start base bytes more first w fits six.1)
 ]

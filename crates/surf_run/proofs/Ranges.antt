@@ -33,7 +33,7 @@ use Rattle.store_core.specs.declared.error.StoreError.TheVariants as error
 use Rattle.surf_run.specs.Answering.{EndsLine, LineAnswer}
 use Rattle.surf_run.specs.Causes.{LineMoves}
 use Rattle.surf_run.specs.Crash.{Stands}
-use Rattle.surf_run.specs.Dialogue.{IsBounded}
+use Rattle.surf_run.specs.Dialogue.{IsBounded, reply_bound}
 use Rattle.surf_run.specs.Kind.{Kind}
 use Rattle.surf_run.specs.Saying.{SaysBehind, end_by}
 use Rattle.surf_run.specs.declared.end.LineEnd.{LineEnd}
@@ -170,7 +170,7 @@ module _ (kind : Kind) (s : State) (request : Request) (store : Kept) (a b : Wor
   tied_now : Tied kind.spelling kind.filter_bytes store s b
   tied_now = tied_still kind.spelling kind.filter_bytes store s a b walked.time tied
 
-  answer : LineAnswer kind s request reply s a b
+  answer : LineAnswer kind s request reply s (reply_bound s request) a b
   answer = record {
     step = step;
     prefix = record { done = done; rest = rest; split = split; said = said };

@@ -26,7 +26,7 @@ use Rattle.store_core.specs.declared.error.StoreError.{StoreError}
 use Rattle.store_core.specs.declared.error.StoreError.TheVariants as error
 use Rattle.surf_run.specs.Answering.{AnswersLine, EndsLine}
 use Rattle.surf_run.specs.Causes.{EndCause, LineShows, NoFall, SayFailed}
-use Rattle.surf_run.specs.Dialogue.{IsBounded, line_bound}
+use Rattle.surf_run.specs.Dialogue.{IsBounded, reply_bound}
 use Rattle.surf_run.specs.Kind.{Kind}
 use Rattle.surf_run.specs.Refusals.{end_of_refusal}
 use Rattle.surf_run.specs.Saying.{Says, end_by}
@@ -120,7 +120,7 @@ module _ (kind : Kind) (request : Request) (store : Kept) (result : LineEnd) (a 
       moves = lines_on a mid b (line_read moves.0 a mid moves.1) (line_say mid b say);
     }
 
-  module _ (s : State) (few : store.manifest.slot ≤ 1) (tied : Tied kind.spelling kind.filter_bytes store s a) (reads : IsBounded request → mid.seen.reads ≤ a.seen.reads + line_bound s request) where
+  module _ (s : State) (few : store.manifest.slot ≤ 1) (tied : Tied kind.spelling kind.filter_bytes store s a) (reads : IsBounded request → mid.seen.reads ≤ a.seen.reads + reply_bound s request) where
     held : Tied kind.spelling kind.filter_bytes store s mid
     held = tied_still kind.spelling kind.filter_bytes store s a mid moves.1.time tied
 
@@ -162,7 +162,7 @@ no_reads w = (0, reads_none 0 w)
 
 -- it reads no more than its bound
 pub bounded_seek : (s : State) (lo : Bytes) (high : Option Bytes) (a mid : World) (most : ℕ) → mid.seen.reads ≤ a.seen.reads + most → ((hi : Bytes) → high ≡ Some hi → most ≤ seek_bound s lo hi)
-    → IsBounded (Seek lo high) → mid.seen.reads ≤ a.seen.reads + line_bound s (Seek lo high)
+    → IsBounded (Seek lo high) → mid.seen.reads ≤ a.seen.reads + reply_bound s (Seek lo high)
 bounded_seek s lo None a mid most reads few bounded = absurd bounded
 bounded_seek s lo (Some hi) a mid most reads few bounded = omega (arith, reads, few hi refl)
 

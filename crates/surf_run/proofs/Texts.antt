@@ -6,9 +6,9 @@ use Rattle.std.proofs.lemmas.Bool.{cases_lt, lt-leb}
 use Rattle.std.proofs.lemmas.List.{append-nil, take-append-le}
 use Rattle.std.proofs.lemmas.List.Elements.{All-head, All-tail}
 use Rattle.std.proofs.lemmas.List.Splits.{slice_split_at, slice_split_none, length-slice_split}
+use Rattle.store_commands.specs.Answered.{asked_here, is_answered}
 use Rattle.store_commands.specs.Cutting.{NoNewline}
 use Rattle.map_model.specs.SortedMap.{Bytes}
-use Rattle.store_commands.specs.Answered.{asked_here, is_answered}
 use Rattle.line_model.specs.Requests.{Bad, asked_by}
 use Rattle.line_model.specs.Lines.{counted, lines_of, but_last, whole_lines}
 use Rattle.surf_run.specs.Holding.{Held, with_newline}

@@ -1,4 +1,4 @@
--- How one line is answered.
+-- How one line is answered, its merge slice apart.
 use Rattle.std.specs.Prelude.{◌≡◌, ◌≢◌, ◌⊎◌, ◌≤◌, ◌+◌, ◌*◌, ◌++◌, ℕ, Bool, false, length, IsTrue}
 use Rattle.block_model.specs.Pages.{page_bytes}
 use Rattle.disk_trait.specs.World.{Image, World}
@@ -14,7 +14,7 @@ use Rattle.store_core.specs.Kept.{Kept}
 use Rattle.store_core.specs.Tied.{Tied}
 use Rattle.surf_run.specs.Causes.{EndCause, LineMoves, LineShows, WritesWithin}
 use Rattle.surf_run.specs.Crash.{HasBehind, HasEither, Stands}
-use Rattle.surf_run.specs.Dialogue.{IsBounded, line_bound}
+use Rattle.surf_run.specs.Dialogue.{IsBounded, reply_bound}
 use Rattle.surf_run.specs.Kind.{Kind}
 use Rattle.surf_run.specs.declared.end.LineEnd.{LineEnd}
 use Rattle.surf_run.specs.declared.end.LineEnd.TheVariants.{End, Next, Quit}
@@ -24,17 +24,21 @@ abbrev pub InLine : Kind → State → Request → Reply → State → ℕ → �
 InLine kind old request reply new low high n image =
     ((n ≡ low) × HasEither kind old request image) ⊎ ((low ≤ n) × (n ≤ high) × HasBehind kind old request reply new image)
 
--- the request was answered so, with a prefix of the reply said; no more blocks were read than it may read
-pub record LineAnswer (kind : Kind) (old : State) (request : Request) (reply : Reply) (new : State) (a b : World) : Type 0 where
+-- the request was answered so, with a prefix of the reply said; where it is told how much it may read, no more blocks were read than these
+pub record LineAnswer (kind : Kind) (old : State) (request : Request) (reply : Reply) (new : State) (most : ℕ) (a b : World) : Type 0 where
   pub step : Step (HasCause a b) kind.filter_bytes old request reply new
   pub prefix : SaysPrefix (text_of reply) a.beside.said b.beside.said
   pub each : During (InLine kind old request reply new (length a.beside.said) (length b.beside.said)) a b
-  pub reads : IsBounded request → b.seen.reads ≤ a.seen.reads + line_bound old request
+  pub reads : IsBounded request → b.seen.reads ≤ a.seen.reads + most
   pub writes : WritesWithin (page_bytes * old.pages) a b
 
 -- all of the reply was said
 abbrev pub Whole : Reply → World → World → Type 0
 Whole reply a b = b.beside.said ≡ a.beside.said ++ text_of reply
+
+-- a reply that is not the last was said whole
+abbrev pub SaysOnward : World → World → Type 0
+SaysOnward a b = (reply : Reply) × (turn_of reply ≡ Onward) × Whole reply a b
 
 -- how a line ends the run: with a reply said that ends in `device`, or with its reply not said whole
 abbrev pub EndsBy : Kind → ℕ → Reply → State → World → World → Type 0
@@ -44,12 +48,12 @@ EndsBy kind status reply new a b =
 -- How a line ended over a store that was that of a state. Where the store is not stopped, it is that of the state behind the line.
 abbrev pub EndsLine : Kind → LineEnd → State → Request → Kept → World → World → Type 0
 EndsLine kind Next old request store a b =
-    (reply : Reply) × (new : State) × LineAnswer kind old request reply new a b × (turn_of reply ≡ Onward) × Whole reply a b
+    (reply : Reply) × (new : State) × LineAnswer kind old request reply new (reply_bound old request) a b × (turn_of reply ≡ Onward) × Whole reply a b
     × Tied kind.spelling kind.filter_bytes store new b × Stands kind new b
 EndsLine kind Quit old request store a b =
-    (new : State) × LineAnswer kind old request Bye new a b × Whole Bye a b × Stands kind new b × Tied kind.spelling kind.filter_bytes store new b
+    (new : State) × LineAnswer kind old request Bye new (reply_bound old request) a b × Whole Bye a b × Stands kind new b × Tied kind.spelling kind.filter_bytes store new b
 EndsLine kind (End status) old request store a b =
-    (reply : Reply) × (new : State) × LineAnswer kind old request reply new a b × EndsBy kind status reply new a b
+    (reply : Reply) × (new : State) × LineAnswer kind old request reply new (reply_bound old request) a b × EndsBy kind status reply new a b
     × (store.stopped ≡ false → Tied kind.spelling kind.filter_bytes store new b)
 
 -- a line that does not end the run leaves the store running

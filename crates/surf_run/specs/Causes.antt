@@ -1,11 +1,13 @@
 -- Why a run ends, what it may change, and what never falls.
-use Rattle.std.specs.Prelude.{◌≡◌, ◌⊎◌, ◌≤◌, ◌++◌, ℕ, List}
+use Rattle.std.specs.Prelude.{◌≡◌, ◌⊎◌, ◌≤◌, ◌++◌, ℕ, List, true}
 use Rattle.byte_fields.specs.declared.parts.Damage.{Damage}
 use Rattle.disk_trait.specs.World.{Image, Passes, Rose, Torn, World}
-use Rattle.line_model.specs.Replies.{text_of}
+use Rattle.line_model.specs.Replies.{Reply, text_of}
 use Rattle.line_model.specs.Replies as line
 use Rattle.line_model.specs.Requests.{Count, Get, Range, Request, Seek}
 use Rattle.map_model.specs.SortedMap.{Bytes}
+use Rattle.state_model.specs.PlayLaws.{has_slice}
+use Rattle.state_model.specs.Script.{Onward, turn_of}
 use Rattle.store_core.specs.Getting.{IsFaultIn}
 use Rattle.store_core.specs.Scans.{IsScanShown}
 use Rattle.store_core.specs.declared.error.StoreError.TheVariants as error
@@ -69,18 +71,43 @@ pub record SaysDamage (tables : List Opened) (request : Request) (w : World) : T
 abbrev pub SaysSomeDamage : World → Type 0
 SaysSomeDamage w = (tables : List Opened) × (request : Request) × SaysDamage tables request w
 
+-- A merge slice read a block of one of these tables that has this damage, as the device shows it; nothing is said of it.
+pub record MeetsDamage (tables : List Opened) (w : World) : Type 0 where
+  pub damage : Damage
+  pub shown : IsScanShown tables w.seen.held (error.Damaged damage)
+
+-- what was said ends with a whole reply that is not the last
+abbrev pub EndsOnward : World → Type 0
+EndsOnward w = (reply : Reply) × (before : Bytes) × (turn_of reply ≡ Onward) × (w.beside.said ≡ before ++ text_of reply)
+
+-- some tables, and a reply before the merge slice, which was said whole
+abbrev pub MeetsSomeDamage : World → Type 0
+MeetsSomeDamage w = (tables : List Opened) × EndsOnward w × MeetsDamage tables w
+
 -- An end of the run by a line has its cause, and damage has this one.
 abbrev pub EndCause : (World → Type 0) → LineEnd → World → World → Type 0
 EndCause Shows Next old new = Unit {0}
 EndCause Shows Quit old new = Unit {0}
 EndCause Shows (End status) old new = ((status ≡ 4) × DiskFailed old new) ⊎ ((status ≡ 5) × Shows new) ⊎ ((status ≡ 6) × SayFailed old new)
 
--- where bytes are told: the damage of these tables that a get met, and some damage
+-- where bytes are told: the damage of these tables that a request met
 abbrev pub LineShows : Type 0 → List Opened → Request → World → Type 0
 LineShows Told tables request w = Told → SaysDamage tables request w
 
+-- that of these tables which a merge slice met
+abbrev pub SliceShows : Type 0 → List Opened → World → Type 0
+SliceShows Told tables w = Told → MeetsDamage tables w
+
+-- the one of the tables before a line, or, behind a put and a delete whose reply was said, the other of those behind it
+abbrev pub ServedShows : Type 0 → List Opened → List Opened → Request → World → Type 0
+ServedShows Told tables later request w = Told → SaysDamage tables request w ⊎ ((has_slice request ≡ true) × EndsOnward w × MeetsDamage later w)
+
+-- some damage
+abbrev pub ShowsSomeDamage : World → Type 0
+ShowsSomeDamage w = SaysSomeDamage w ⊎ MeetsSomeDamage w
+
 abbrev pub RunShows : Type 0 → World → Type 0
-RunShows Told w = Told → SaysSomeDamage w
+RunShows Told w = Told → ShowsSomeDamage w
 
 -- the statuses with which serving ends
 abbrev pub IsServing : ℕ → Type 0

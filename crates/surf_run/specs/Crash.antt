@@ -1,7 +1,7 @@
 -- What an image that a crash may leave stands for, beside how many bytes had been said by its moment.
 use Rattle.std.specs.Prelude.{◌≡◌, ◌⊎◌, ◌≤◌, ℕ, List, ◌∷◌, ◌++◌, length, take}
 use Rattle.disk_trait.specs.World.{Image, Now, World}
-use Rattle.image_model.specs.Stands.{IsStateOf, StandsForMap}
+use Rattle.image_model.specs.Stands.{StandsFor, StandsForMap, UnnamedStand}
 use Rattle.line_model.specs.Replies.{Device, Reply, text_of}
 use Rattle.line_model.specs.Requests.{Request}
 use Rattle.map_model.specs.SortedMap.{Bytes}
@@ -14,13 +14,17 @@ use Rattle.store_commands.specs.Answered.{asked_here}
 use Rattle.surf_run.specs.Dialogue.{SoFar}
 use Rattle.surf_run.specs.Kind.{Kind}
 
--- each image that a crash may leave now stands for this state
+-- the image stands for this state, its job apart, and what the job has written stands in its extents
+abbrev pub HasState : Kind → State → Image → Type 0
+HasState kind s image = StandsFor kind.spelling s image × UnnamedStand kind.spelling s image
+
+-- each image that a crash may leave now stands for it
 abbrev pub Stands : Kind → State → World → Type 0
-Stands kind s w = Now (IsStateOf kind.spelling s) w
+Stands kind s w = Now (HasState kind s) w
 
 -- at some moment up to now so many bytes had been said, and each image that a crash may then leave stands for this state
 abbrev pub Reached : Kind → World → ℕ → State → Type 0
-Reached kind w n s = (m : ℕ) × (m ≤ w.moment) × (w.beside.said_by m ≡ n) × ((image : Image) → w.leaves m image → IsStateOf kind.spelling s image)
+Reached kind w n s = (m : ℕ) × (m ≤ w.moment) × (w.beside.said_by m ≡ n) × ((image : Image) → w.leaves m image → HasState kind s image)
 
 -- the image stands for the map of this state
 abbrev pub HasMap : Kind → State → Image → Type 0

@@ -18,4 +18,5 @@ pub mod Ran
 pub mod Run
 pub mod Saying
 pub mod Serving
+pub mod Slices
 pub mod Unserved

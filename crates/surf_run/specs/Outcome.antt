@@ -8,7 +8,7 @@ use Rattle.line_model.specs.Replies.{Bye, Device, Reply, text_of}
 use Rattle.map_model.specs.SortedMap.{Bytes}
 use Rattle.outside.specs.During.{During}
 use Rattle.outside.specs.Streams.{SaysPrefix}
-use Rattle.state_model.specs.Script.{AtDevice, AtQuit, Ending, Over, ToLast, turn_of}
+use Rattle.state_model.specs.Script.{AtDevice, AtQuit, Ending, Onward, ToLast, turn_of}
 use Rattle.state_model.specs.State.{State}
 use Rattle.state_model.specs.Steps.{Step}
 use Rattle.store_commands.specs.Answered.{asked_here}
@@ -16,24 +16,24 @@ use Rattle.store_commands.specs.Cutting.{NoNewline}
 use Rattle.store_core.specs.Answers.{HasCause}
 use Rattle.surf_run.specs.Causes.{IsServing, WritesWithin}
 use Rattle.surf_run.specs.Crash.{Acknowledged, Reached, Stands}
-use Rattle.surf_run.specs.Dialogue.{AreBounded, Dialogue, SoFar, line_bound}
+use Rattle.surf_run.specs.Dialogue.{AreBounded, EndsThere, Script, SoFar, line_bound}
 use Rattle.surf_run.specs.Holding.{with_newline}
 use Rattle.surf_run.specs.Kind.{Kind}
 
--- All of the dialogue's text was said, for the lines of what was taken; and the input was at its end, or whatever follows
+-- All of the script's text was said, for the lines of what was taken; and the input was at its end, or whatever follows
 -- changes nothing. As each reply had been said that is not `device`, each image that a crash may then leave stood for the
 -- state then.
 pub record Said (kind : Kind) (ending : Ending) (start : State) (taken : Bytes) (old new : World) : Type 0 where
   pub text : Bytes
   pub output : new.beside.said ≡ old.beside.said ++ text
-  pub dialogue : Dialogue (HasCause old new) kind.filter_bytes (Reached kind new) (length old.beside.said) start (lines_of taken) text ending
+  pub script : Script (HasCause old new) kind.filter_bytes (Reached kind new) (length old.beside.said) start (lines_of taken) text ending
   pub settled :
       (new.beside.to_take ≡ [])
-      ⊎ ((more : Bytes) → Dialogue (HasCause old new) kind.filter_bytes (Reached kind new) (length old.beside.said) start (lines_of (taken ++ more)) text ending)
+      ⊎ ((more : Bytes) → Script (HasCause old new) kind.filter_bytes (Reached kind new) (length old.beside.said) start (lines_of (taken ++ more)) text ending)
 
--- Each image that a crash may leave now stands for the state that these lines leave, whose replies were said: so the next
--- run begins with it. Since there had been `base` reads, no more blocks were read than the lines' gets and closed seeks may read,
--- where no other line reads.
+-- Each image that a crash may leave now stands for the state that these lines and their merge slices leave, its job apart: so the
+-- next run begins with it. The replies were said. Since there had been `base` reads, no more blocks were read than the lines'
+-- gets, closed seeks and merge slices may read, where no other line reads.
 pub record LeavesState (kind : Kind) (start : State) (base : ℕ) (lines : List Bytes) (old new : World) : Type 0 where
   pub text : Bytes
   pub output : new.beside.said ≡ old.beside.said ++ text
@@ -59,35 +59,37 @@ pub record TakenAll (taken : Bytes) (lines : List Bytes) (line : Bytes) : Type 0
 abbrev pub TakenTo : ℕ → Bytes → List Bytes → Bytes → Type 0
 TakenTo most taken lines line = TakenPast most taken (lines ++ line ∷ []) ⊎ TakenAll taken lines line
 
--- These lines were answered, none of them with a last reply, and then this one with this reply. What a crash may leave at
--- each moment is told over these lines alone. But for `device`, each image that a crash may leave now stands for the state
--- after them: so the next run begins with it.
-pub record EndsWith (kind : Kind) (reply : Reply) (start : State) (base : ℕ) (lines : List Bytes) (line : Bytes) (old new : World) : Type 0 where
+-- These lines were answered, none of them with a last reply, and then this one with this reply, and so it came to this end: by
+-- the reply, or by the merge slice behind it. What a crash may leave at each moment is told over these lines alone. Where the
+-- reply is the last, but for `device`, each image that a crash may leave now stands for the state after it, its job apart: so the
+-- next run begins with it.
+pub record EndsWith (kind : Kind) (ending : Ending) (reply : Reply) (start : State) (base : ℕ) (lines : List Bytes) (line : Bytes) (old new : World) : Type 0 where
   pub text : Bytes
   pub most : ℕ
   pub now : State
   pub so_far : SoFar (HasCause old new) kind.filter_bytes (Reached kind new) (length old.beside.said) start lines text most now
   pub last : State
   pub step : Step (HasCause old new) kind.filter_bytes now (asked_here line) reply last
+  pub there : EndsThere (HasCause old new) kind.filter_bytes line reply last ending
   pub reads : AreBounded (lines ++ line ∷ []) → new.seen.reads ≤ base + most + line_bound now (asked_here line)
   pub output : new.beside.said ≡ old.beside.said ++ (text ++ text_of reply)
   pub crash : During (Acknowledged (HasCause old new) kind start (lines ++ line ∷ []) old.beside.said new.beside.said) old new
-  pub stands : reply ≢ Device → Stands kind last new
+  pub stands : turn_of reply ≢ Onward → reply ≢ Device → Stands kind last new
 
 -- this was the last reply, to a line behind which less than so many bytes were taken
-abbrev pub EndsTo : Kind → ℕ → Reply → State → ℕ → Bytes → World → World → Type 0
-EndsTo kind most reply start base taken old new =
-    (lines : List Bytes) × (line : Bytes) × TakenTo most taken lines line × EndsWith kind reply start base lines line old new
+abbrev pub EndsTo : Kind → ℕ → Ending → Reply → State → ℕ → Bytes → World → World → Type 0
+EndsTo kind most ending reply start base taken old new =
+    (lines : List Bytes) × (line : Bytes) × TakenTo most taken lines line × EndsWith kind ending reply start base lines line old new
 
--- the same of a reply that ends in `device`: such a line, or that of a range behind its first pairs
+-- the same where the device failed: by `device`, be it behind the first pairs of a range, or by a merge slice behind the reply
 abbrev pub EndsAtDevice : Kind → ℕ → State → ℕ → Bytes → World → World → Type 0
-EndsAtDevice kind most start base taken old new = (reply : Reply) × (turn_of reply ≡ Over AtDevice) × EndsTo kind most reply start base taken old new
+EndsAtDevice kind most start base taken old new = (reply : Reply) × EndsTo kind most AtDevice reply start base taken old new
 
 -- The input was cut off: all its whole lines were answered, and a rest without a newline is no line.
 pub record CutOff (kind : Kind) (start : State) (base : ℕ) (taken : Bytes) (old new : World) : Type 0 where
   pub text : Bytes
   pub output : new.beside.said ≡ old.beside.said ++ text
-  pub dialogue : Dialogue (HasCause old new) kind.filter_bytes (Reached kind new) (length old.beside.said) start (whole_lines taken) text ToLast
+  pub script : Script (HasCause old new) kind.filter_bytes (Reached kind new) (length old.beside.said) start (whole_lines taken) text ToLast
   pub crash : During (Acknowledged (HasCause old new) kind start (whole_lines taken) old.beside.said new.beside.said) old new
   pub leaves : LeavesState kind start base (whole_lines taken) old new
 
@@ -119,7 +121,7 @@ pub record Settled (kind : Kind) (status : ℕ) (start : State) (base : ℕ) (ta
   pub ended :
       status ≡ 0
       → (Said kind ToLast start taken old new × LeavesState kind start base (lines_of taken) old new)
-      ⊎ (Said kind AtQuit start taken old new × EndsTo kind piece_bytes Bye start base taken old new)
+      ⊎ (Said kind AtQuit start taken old new × EndsTo kind piece_bytes AtQuit Bye start base taken old new)
   pub device : status ≡ 4 → Said kind AtDevice start taken old new × EndsAtDevice kind piece_bytes start base taken old new
   pub cut : (status ≡ 3) ⊎ (status ≡ 9) → CutOff kind start base taken old new
   pub output : status ≡ 6 → SaidInPart kind start base taken old new

@@ -15,7 +15,7 @@ use Rattle.program_words.specs.NewStores.{IsStoreOf, first_bad_word}
 use Rattle.program_words.specs.declared.new_store.NewStore.{NewStore}
 use Rattle.program_words.specs.declared.new_store.Wanted.{Wanted}
 use Rattle.state_model.specs.State.{State}
-use Rattle.surf_run.specs.Causes.{IsServing, NoFall, SayFailed, SaysSomeDamage, StatusCause}
+use Rattle.surf_run.specs.Causes.{IsServing, NoFall, SayFailed, ShowsSomeDamage, StatusCause}
 use Rattle.surf_run.specs.Ends.{Completed, Ends, HasNoState, OpensNothing, Serves, SomeFailed, TellsDamage, Unanswered}
 use Rattle.surf_run.specs.Kind.{Kind}
 use Rattle.surf_run.specs.Open.{IsOpeningText}
@@ -29,7 +29,7 @@ use Rattle.surf_run.specs.Unserved.{Unserved}
 pub record Ran {X : Type 0} (world : X → World) (tells tells_input tells_output : Bool) (kind : Kind) (first_fault : Bytes → Fault) (words : List Text) (status : ℕ) (old new : X) : Type 0 where
   -- Of `serve`, where each image that a crash might have left at the start stands for this state: the lines that were taken got
   -- the replies of its map, what a crash may leave at each moment has every line that was acknowledged by then, and no more
-  -- blocks were read than the opening, the gets and the closed seeks may read, where no other line reads.
+  -- blocks were read than the opening, the gets, the closed seeks and the merge slices may read, where no other line reads.
   pub outcome :
       (s : State) → IsTrue tells → IsTrue tells_input → IsTrue tells_output → Now (IsStateOf kind.spelling s) (world old) → IsServe words
       → Ends kind status s (world old) (world new)
@@ -60,10 +60,10 @@ pub record Ran {X : Type 0} (world : X → World) (tells tells_input tells_outpu
   -- Words that are refused or answered, and numbers out of range: nothing is called but the output.
   pub untouched : AskNothing words → SayMoves (world old) (world new)
   -- Status 5 comes only where opening finds damage, and says the first, or where no state stands and a block that was read shows
-  -- the damage that was said.
+  -- the damage that was said, or that a merge slice met, of which nothing is said.
   pub only_at_damage :
       IsTrue tells → IsTrue tells_input → IsTrue tells_output → status ≡ 5
-      → TellsDamage kind.spelling first_fault (world old).seen.held (world old) (world new) ⊎ (HasNoState kind.spelling (world old).seen.held × SaysSomeDamage (world new))
+      → TellsDamage kind.spelling first_fault (world old).seen.held (world old) (world new) ⊎ (HasNoState kind.spelling (world old).seen.held × ShowsSomeDamage (world new))
   -- Of `serve`, where no store stands or opening finds damage, no line is served: nothing is taken or written, and the one last
   -- line says so, or `device` or `memory`.
   pub unopened :

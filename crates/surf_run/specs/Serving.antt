@@ -7,7 +7,7 @@ use Rattle.line_model.specs.Replies.{Bye, Device, Reply, text_of}
 use Rattle.map_model.specs.SortedMap.{Bytes}
 use Rattle.outside.specs.During.{During}
 use Rattle.outside.specs.Streams.{SaysPrefix}
-use Rattle.state_model.specs.Script.{AtDevice, AtQuit, Ending, Over, turn_of}
+use Rattle.state_model.specs.Script.{AtDevice, AtQuit, Ending}
 use Rattle.state_model.specs.State.{State}
 use Rattle.state_model.specs.Steps.{Step}
 use Rattle.store_commands.specs.Answered.{asked_here}
@@ -18,7 +18,7 @@ use Rattle.store_core.specs.Tied.{Tied}
 use Rattle.surf_run.specs.Answering.{RunsOn}
 use Rattle.surf_run.specs.Causes.{EndCause, LineMoves, NoFall, RunShows, WritesWithin}
 use Rattle.surf_run.specs.Crash.{Acknowledged, Reached, Stands}
-use Rattle.surf_run.specs.Dialogue.{AreBounded, Dialogue, SoFar, line_bound}
+use Rattle.surf_run.specs.Dialogue.{AreBounded, Script, SoFar, line_bound}
 use Rattle.surf_run.specs.Holding.{Held, with_newline}
 use Rattle.surf_run.specs.Kind.{Kind}
 use Rattle.surf_run.specs.Outcome.{EndsWith, TakenPast}
@@ -56,7 +56,7 @@ pub record Closed (kind : Kind) (ending : Ending) (start : State) (bytes : Bytes
   pub first_lines : AreFirst bytes lines
   pub text : Bytes
   pub told : w.beside.said ≡ first.beside.said ++ text
-  pub dialogue : (more : Bytes) → Dialogue (HasCause first w) kind.filter_bytes (Reached kind w) (length first.beside.said) start (lines_of (bytes ++ more)) text ending
+  pub script : (more : Bytes) → Script (HasCause first w) kind.filter_bytes (Reached kind w) (length first.beside.said) start (lines_of (bytes ++ more)) text ending
   pub history : During (Acknowledged (HasCause first w) kind start lines first.beside.said w.beside.said) first w
   pub writes : WritesWithin (page_bytes * start.pages) first w
 
@@ -81,13 +81,13 @@ pub record Broken (kind : Kind) (past : ℕ) (start : State) (base : ℕ) (bytes
   pub writes : WritesWithin (page_bytes * start.pages) first w
 
 -- this was the last reply, to a line with its newline, behind which stand less bytes than these
-abbrev pub EndsPast : Kind → ℕ → Reply → State → ℕ → Bytes → World → World → Type 0
-EndsPast kind past reply start base bytes first w =
-    (lines : List Bytes) × (line : Bytes) × TakenPast past bytes (lines ++ line ∷ []) × EndsWith kind reply start base lines line first w
+abbrev pub EndsPast : Kind → ℕ → Ending → Reply → State → ℕ → Bytes → World → World → Type 0
+EndsPast kind past ending reply start base bytes first w =
+    (lines : List Bytes) × (line : Bytes) × TakenPast past bytes (lines ++ line ∷ []) × EndsWith kind ending reply start base lines line first w
 
--- the same of a reply that ends in `device`
+-- the same where the device failed
 abbrev pub EndsPastAtDevice : Kind → ℕ → State → ℕ → Bytes → World → World → Type 0
-EndsPastAtDevice kind past start base bytes first w = (reply : Reply) × (turn_of reply ≡ Over AtDevice) × EndsPast kind past reply start base bytes first w
+EndsPastAtDevice kind past start base bytes first w = (reply : Reply) × EndsPast kind past AtDevice reply start base bytes first w
 
 abbrev pub EndedBy : Kind → ℕ → ℕ → State → ℕ → Bytes → World → World → Type 0
 EndedBy kind past status start base bytes first w =
@@ -97,7 +97,7 @@ EndedBy kind past status start base bytes first w =
 -- how a line ended; behind the last line that was answered stand less bytes than these
 abbrev pub After : Kind → ℕ → LineEnd → State → ℕ → Bytes → Bytes → Kept → World → World → Type 0
 After kind past Next start base bytes kept store first w = Served kind start base bytes kept store first w
-After kind past Quit start base bytes kept store first w = Closed kind AtQuit start bytes first w × EndsPast kind past Bye start base bytes first w
+After kind past Quit start base bytes kept store first w = Closed kind AtQuit start bytes first w × EndsPast kind past AtQuit Bye start base bytes first w
 After kind past (End status) start base bytes kept store first w = EndedBy kind past status start base bytes first w
 
 -- What answering the lines that end in a part of the input promises: how far the run has come, behind whose last line stand less

@@ -4,12 +4,14 @@
 //! the lines of the input until its end or `quit`, and answers the exit status. A put or a delete is written to the log and
 //! made to last before its `ok` is said. Its contract is the promise of the whole program: what was said is what one sorted map
 //! answers, at each moment a crash leaves the map after some first lines that have all that was acknowledged, and no more
-//! blocks are read than the filters of the tables admit. [`serve_line`] answers one line over an opened store.
+//! blocks are read than the filters of the tables admit. [`serve_line`] answers one line over an opened store, with the slice
+//! behind it.
 //!
 //! A put makes two writes and two syncs, and where it does not fit the log a flush before; a get reads at most one block of each
 //! table that admits its key, and a closed seek one of each table that admits its range and one more for each entry of a deleted key
-//! that it passes. A range says its pairs as they are found, in pieces of the reply buffer. All memory but the store's is taken
-//! before the first line. Not for more than one input, and no merge runs yet.
+//! that it passes. A range says its pairs as they are found, in pieces of the reply buffer. Behind each put and delete comes a slice
+//! of a merge, where tables are to be merged: it reads at most eight blocks and writes at most one table, and
+//! nothing is said of it. All memory but the store's is taken before the first line. Not for more than one input.
 //!
 //! ```text
 //! let status = run(alloc, words, &mut outside);   // words: `format --pages 512 --variant base`, or `serve`
@@ -24,8 +26,9 @@ mod pending;
 mod saying;
 mod serve;
 mod serving;
+mod slicing;
 mod top;
 
 pub use end::LineEnd;
-pub use line::serve_line;
+pub use slicing::serve_line;
 pub use top::run;

@@ -1,16 +1,17 @@
-//! A line, answered.
-ghost use Rattle.std.specs.Prelude.{◌≡◌, ◌≢◌, ◌⊎◌, ◌<◌, false, length, take, IfSome, IsTrue, Some, None};
+//! Requests, answered.
+ghost use Rattle.std.specs.Prelude.{◌≡◌, ◌≢◌, ◌⊎◌, ◌<◌, true, false, length, take, IfSome, IsTrue, Some, None};
 ghost use Rattle.std.specs.Option.{option_map};
 ghost use Rattle.line_model.specs.Requests.{Bad, Count, Del, Estimate, Explain, Flush, Get, Put, Quit, Range, Seek};
 ghost use Rattle.entry_model.specs.Entries.{IsEntry, entry_of};
 ghost use Rattle.line_model.specs.Replies.{Reply as LineReply, found};
 ghost use Rattle.outside.specs.Streams.{SayMoves};
-ghost use Rattle.store_commands.specs.Answered.{IsAskedHere, asked_here};
+ghost use Rattle.state_model.specs.PlayLaws.{has_slice};
+ghost use Rattle.store_commands.specs.Answered.{IsAskedHere};
 ghost use Rattle.store_commands.specs.Asks.{asked};
 ghost use Rattle.store_commands.specs.Spoken.{spoken};
 ghost use Rattle.store_core.specs.Answers.{told, told_change, told_limit};
 ghost use Rattle.surf_run.specs.declared.end.LineEnd.TheVariants.{End, Next};
-ghost use Rattle.surf_run.specs.Answering.{AnswersLine};
+ghost use Rattle.surf_run.specs.Answering.{AnswersLine, SaysOnward};
 ghost use Rattle.surf_run.specs.Causes.{SayFailed};
 ghost use Rattle.surf_run.specs.Kind.{filter_kind};
 ghost use Rattle.surf_run.specs.Saying.{IsShort, Says, SaysBehind, end_by};
@@ -20,11 +21,8 @@ use crate::end::LineEnd;
 use crate::saying::{add_reply, say_behind, say_reply};
 use filter_api::RangeFilter;
 use outside::Outside;
-use store_commands::{BadLine, Reply, Request, Scratch, parse_answered};
+use store_commands::{Reply, Request};
 use store_core::{Limit, Store, StoreError};
-
-// The bytes in which a reply is laid out, a piece at a time.
-const REPLY_BYTES: usize = 4_096;
 
 // The reply that tells a limit.
 fn limit_reply<'a>(limit: Limit) -> Reply<'a>
@@ -57,8 +55,8 @@ fn reply_of<'a>(why: StoreError) -> Option<Reply<'a>>
     }
 }
 
-// How a line ends whose call was refused.
-fn end_of(why: StoreError) -> LineEnd
+/// How a line ends whose call was refused.
+pub(crate) fn end_of(why: StoreError) -> LineEnd
     ensures { result ≡ end_of_refusal why }
 {
     match why {
@@ -128,7 +126,8 @@ fn put_line<F: RangeFilter, W: Outside>(
 ) -> LineEnd
     requires buffer { 0 < length buffer.old }
     requires running { store.old.stopped ≡ false }
-    ensures { AnswersLine (filter_kind F.spelling F.built_cutoff) W.tells W.tells_output (Put key.now value.now) result store.old store.new (W.world out.old) (W.world out.new) }
+    ensures answers { AnswersLine (filter_kind F.spelling F.built_cutoff) W.tells W.tells_output (Put key.now value.now) result store.old store.new (W.world out.old) (W.world out.new) }
+    ensures onward { IsTrue W.tells_output → result ≡ Next → SaysOnward (W.world out.old) (W.world out.new) }
 {
     let changed = store.put(out, key, value);
     store.whole_law();
@@ -143,7 +142,8 @@ fn del_line<F: RangeFilter, W: Outside>(
 ) -> LineEnd
     requires buffer { 0 < length buffer.old }
     requires running { store.old.stopped ≡ false }
-    ensures { AnswersLine (filter_kind F.spelling F.built_cutoff) W.tells W.tells_output (Del key.now) result store.old store.new (W.world out.old) (W.world out.new) }
+    ensures answers { AnswersLine (filter_kind F.spelling F.built_cutoff) W.tells W.tells_output (Del key.now) result store.old store.new (W.world out.old) (W.world out.new) }
+    ensures onward { IsTrue W.tells_output → result ≡ Next → SaysOnward (W.world out.old) (W.world out.new) }
 {
     let changed = store.delete(out, key);
     store.whole_law();
@@ -317,7 +317,8 @@ fn explain_line<F: RangeFilter, W: Outside>(
     }
 }
 
-fn bad_line<F: RangeFilter, W: Outside>(
+/// Says why a line is bad.
+pub(crate) fn bad_line<F: RangeFilter, W: Outside>(
     store: &Store<F>,
     buffer: &mut [u8],
     out: &mut W,
@@ -344,8 +345,8 @@ fn quit_line<F: RangeFilter, W: Outside>(
     say_reply(out, buffer, &Reply::Bye, LineEnd::Quit)
 }
 
-// Answers what a line asks.
-fn answer_request<F: RangeFilter, W: Outside>(
+/// Answers what a line asks, its merge slice apart.
+pub(crate) fn answer_request<F: RangeFilter, W: Outside>(
     store: &mut Store<F>,
     buffer: &mut [u8],
     out: &mut W,
@@ -354,7 +355,8 @@ fn answer_request<F: RangeFilter, W: Outside>(
     requires buffer { 0 < length buffer.old }
     requires running { store.old.stopped ≡ false }
     requires asked { IsAskedHere (asked request) }
-    ensures { AnswersLine (filter_kind F.spelling F.built_cutoff) W.tells W.tells_output (asked request.entry) result store.old store.new (W.world out.old) (W.world out.new) }
+    ensures answers { AnswersLine (filter_kind F.spelling F.built_cutoff) W.tells W.tells_output (asked request.entry) result store.old store.new (W.world out.old) (W.world out.new) }
+    ensures onward { has_slice (asked request.entry) ≡ true → IsTrue W.tells_output → result ≡ Next → SaysOnward (W.world out.old) (W.world out.new) }
 {
     match request {
         Request::Put { key, value } => put_line(store, buffer, out, key, value),
@@ -369,39 +371,4 @@ fn answer_request<F: RangeFilter, W: Outside>(
         Request::Quit => quit_line(store, buffer, out),
         _ => unreachable!(),
     }
-}
-
-// Answers a line, its reply laid out in this buffer.
-pub(crate) fn answer<F: RangeFilter, W: Outside>(
-    store: &mut Store<F>,
-    scratch: &mut Scratch,
-    buffer: &mut [u8],
-    out: &mut W,
-    line: &[u8],
-) -> LineEnd
-    requires buffer { 0 < length buffer.old }
-    requires running { store.old.stopped ≡ false }
-    ensures { AnswersLine (filter_kind F.spelling F.built_cutoff) W.tells W.tells_output (asked_here line.now) result store.old store.new (W.world out.old) (W.world out.new) }
-{
-    match parse_answered(line, scratch) {
-        Ok(request) => answer_request(store, buffer, out, request),
-        Err(BadLine(code)) => bad_line(store, buffer, out, code),
-    }
-}
-
-/// Answers a line, without its newline: its reply is said whole before it returns, or the run ends.
-///
-/// `Quit` comes for `quit`; `End(4)` where the device failed, `End(5)` where what was read of it is damaged, and `End(6)`
-/// where the output failed; else `Next`. The store may not be stopped, and is not stopped behind `Next` and `Quit`. No
-/// memory but that of the store's changes.
-pub fn serve_line<F: RangeFilter, W: Outside>(
-    store: &mut Store<F>,
-    out: &mut W,
-    line: &[u8],
-    scratch: &mut Scratch,
-) -> LineEnd
-    requires running { store.old.stopped ≡ false }
-    ensures { AnswersLine (filter_kind F.spelling F.built_cutoff) W.tells W.tells_output (asked_here line.now) result store.old store.new (W.world out.old) (W.world out.new) }
-{
-    answer(store, scratch, &mut [0; REPLY_BYTES], out, line)
 }

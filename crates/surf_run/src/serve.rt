@@ -3,14 +3,14 @@ ghost use Rattle.std.specs.Prelude.{◌≡◌, ◌⊎◌, ◌<◌, ◌≤◌, �
 ghost use Rattle.key_base.specs.Limits.{piece_bytes};
 ghost use Rattle.state_model.specs.State.{State};
 ghost use Rattle.store_commands.specs.Cutting.{NoNewline};
-ghost use Rattle.surf_run.specs.Causes.{IsServing, LineMoves, NoFall, SaysSomeDamage, StatusCause};
+ghost use Rattle.surf_run.specs.Causes.{IsServing, LineMoves, NoFall, ShowsSomeDamage, StatusCause};
 ghost use Rattle.surf_run.specs.Kind.{filter_kind};
 ghost use Rattle.surf_run.specs.Outcome.{Outcome, Settled};
 ghost use Rattle.surf_run.specs.Serving.{AnswersPart, Served};
 
 use crate::end::LineEnd;
-use crate::line::answer;
 use crate::pending::Pending;
+use crate::slicing::answer;
 use filter_api::RangeFilter;
 use key_base::MAX_INPUT_BYTES;
 use outside::Outside;
@@ -79,7 +79,7 @@ fn end_input<F: RangeFilter, W: Outside>(
         → Served (filter_kind F.spelling F.built_cutoff) start base taken pending.now store.old (W.world first) (W.world out.old)
         → Settled (filter_kind F.spelling F.built_cutoff) result start base taken (W.world first) (W.world out.new) }
     ensures cause { StatusCause result (W.world out.old) (W.world out.new) }
-    ensures shown { IsTrue W.tells → IsTrue W.tells_output → result ≡ 5 → SaysSomeDamage (W.world out.new) }
+    ensures shown { IsTrue W.tells → IsTrue W.tells_output → result ≡ 5 → ShowsSomeDamage (W.world out.new) }
     ensures statuses { (result ≡ 0) ⊎ (result ≡ 4) ⊎ (result ≡ 5) ⊎ (result ≡ 6) }
     ensures moves { LineMoves (W.world out.old) (W.world out.new) }
 {
@@ -126,7 +126,7 @@ pub(crate) fn serve<F: RangeFilter, W: Outside>(
         → Served (filter_kind F.spelling F.built_cutoff) start base [] pending.old store.old (W.world first) (W.world out.old)
         → Outcome (filter_kind F.spelling F.built_cutoff) result start base (W.world first) (W.world out.new) }
     ensures cause { StatusCause result (W.world out.old) (W.world out.new) }
-    ensures shown { IsTrue W.tells → IsTrue W.tells_output → result ≡ 5 → SaysSomeDamage (W.world out.new) }
+    ensures shown { IsTrue W.tells → IsTrue W.tells_output → result ≡ 5 → ShowsSomeDamage (W.world out.new) }
     ensures statuses { IsServing result ⊎ (result ≡ 5) }
     ensures counts { NoFall (W.world out.old) (W.world out.new) }
 {

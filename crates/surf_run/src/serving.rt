@@ -8,7 +8,7 @@ ghost use Rattle.key_base.specs.Limits.{piece_bytes};
 ghost use Rattle.manifest_model.specs.Slots.{IsNoStore};
 ghost use Rattle.outside.specs.Streams.{SayMoves, SaysPrefix};
 ghost use Rattle.state_model.specs.State.{State};
-ghost use Rattle.surf_run.specs.Causes.{IsServing, NoFall, SayFailed, SaysSomeDamage, StatusCause};
+ghost use Rattle.surf_run.specs.Causes.{IsServing, NoFall, SayFailed, ShowsSomeDamage, StatusCause};
 ghost use Rattle.surf_run.specs.Ends.{Completed, Ends, HasNoState, OpensNothing, Serves, SomeFailed, TellsDamage, Unanswered};
 ghost use Rattle.surf_run.specs.Kind.{filter_kind};
 ghost use Rattle.surf_run.specs.Open.{IsFreeText, IsOpening, IsOpeningText, opening_status, opening_text};
@@ -79,7 +79,7 @@ fn serve_store<F: RangeFilter, W: Outside>(alloc: Global, store: Store<F>, out: 
         → (W.world first).beside.to_take ≡ (W.world out.old).beside.to_take
         → Served (filter_kind F.spelling F.built_cutoff) start base [] [] store (W.world first) (W.world out.old)
         → Outcome (filter_kind F.spelling F.built_cutoff) result start base (W.world first) (W.world out.new) ⊎ Unserved IsFreeText result (W.world out.old) (W.world out.new) × ((W.world out.new).seen.reads ≤ (W.world out.old).seen.reads) }
-    ensures shown { IsTrue W.tells → IsTrue W.tells_output → result ≡ 5 → SaysSomeDamage (W.world out.new) }
+    ensures shown { IsTrue W.tells → IsTrue W.tells_output → result ≡ 5 → ShowsSomeDamage (W.world out.new) }
     ensures statuses { IsServing result ⊎ (result ≡ 5) ⊎ (result ≡ 7) }
     ensures early { result ≡ 7 → (W.world out.new).beside.to_take ≡ (W.world out.old).beside.to_take }
     ensures causes { StatusCause result (W.world out.old) (W.world out.new) }
@@ -123,7 +123,7 @@ pub(crate) fn open_and_serve<F: RangeFilter, W: Outside>(alloc: Global, out: &mu
     // Status 5 comes only where opening finds damage, and says the first, or where no state stands and a block that was read
     // shows the damage that was said.
     ensures only_at_damage { IsTrue W.tells → IsTrue W.tells_input → IsTrue W.tells_output → result ≡ 5
-        → TellsDamage F.spelling F.first_fault (W.world out.old).seen.held (W.world out.old) (W.world out.new) ⊎ (HasNoState F.spelling (W.world out.old).seen.held × SaysSomeDamage (W.world out.new)) }
+        → TellsDamage F.spelling F.first_fault (W.world out.old).seen.held (W.world out.old) (W.world out.new) ⊎ (HasNoState F.spelling (W.world out.old).seen.held × ShowsSomeDamage (W.world out.new)) }
     // Where no store stands or opening finds damage, no line is served: nothing is taken or written, and the one last line says so,
     // or `device` or `memory`.
     ensures unopened { IsTrue W.tells → IsTrue W.tells_output → OpensNothing F.spelling F.first_fault (W.world out.old).seen.held
