@@ -1,6 +1,15 @@
 pub mod Agreed
 pub mod Answering
 pub mod Causes
+pub mod CompactAnswers
+pub mod CompactBegins
+pub mod CompactDone
+pub mod CompactFaults
+pub mod CompactLeads
+pub mod CompactPlaces
+pub mod CompactRuns
+pub mod CompactSlices
+pub mod CompactVersions
 pub mod Countings
 pub mod Dropped
 pub mod FlushAnswers
@@ -12,8 +21,8 @@ pub mod InstallHeld
 pub mod InstallLeads
 pub mod InstallLists
 pub mod InstallMerges
-pub mod InstallRefusals
 pub mod InstallOthers
+pub mod InstallRefusals
 pub mod InstallSteps
 pub mod Limiting
 pub mod MergedVersions

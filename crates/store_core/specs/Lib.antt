@@ -26,3 +26,4 @@ pub mod Telling
 pub mod Scans
 pub mod Counts
 pub mod Replacing
+pub mod Compacting

@@ -12,6 +12,8 @@ mod changes;
 #[cfg(test)]
 mod choices;
 #[cfg(test)]
+mod compactions;
+#[cfg(test)]
 mod limits;
 #[cfg(test)]
 mod made;

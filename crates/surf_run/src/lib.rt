@@ -21,6 +21,7 @@
 mod end;
 mod format_lines;
 mod formatting;
+mod laws;
 mod line;
 mod pending;
 mod saying;
@@ -30,5 +31,6 @@ mod slicing;
 mod top;
 
 pub use end::LineEnd;
+pub use laws::replies_are_of_the_map;
 pub use slicing::serve_line;
 pub use top::run;
