@@ -32,6 +32,7 @@ use Rattle.table_file.specs.Opened.{Opened}
 use Rattle.table_model.specs.Tables.{FilterBytes, Table}
 use Rattle.store_core.specs.Answers.{Answered, HasCause, stops, told}
 use Rattle.store_core.specs.Compacting.{FailsSo, IsFailedCall, IsHeldBy, IsInstalledWhole, StandAlone, compact_tables, compacted_into, first_compact_table}
+use Rattle.store_core.specs.Caching.{AreNumbered, AreTrue, Cached}
 use Rattle.store_core.specs.Kept.{IsWhole, Kept}
 use Rattle.store_core.specs.Running.{MayRunIn, RunsAs}
 use Rattle.store_core.specs.Tied.{IsUnder, Tied}
@@ -66,8 +67,8 @@ module _ (spelling : Spelling) (bytes : FilterBytes) (store after : Kept) (s : S
     done_is = answer_so (Ok alone.tables) alone.placed_so
 
     pub compact_done : Meanwhile (StandsForMap spelling (state_map s)) a b → after.manifest ≡ m → after.tables ≡ opened → after.job ≡ None → after.log.filled ≡ 0 → after.memory.entries ≡ []
-        → Answered spelling bytes s Compact (Some reply.Done) after a b
-    compact_done meanwhile manifest_is tables_are none begun cleared = record {
+        → ((tables : List Table) → AreTrue after.blocks after.tables tables) → Answered spelling bytes s Compact (Some reply.Done) after a b
+    compact_done meanwhile manifest_is tables_are none begun cleared are = record {
       reply = reply.Done;
       told_is = refl;
       after = compacted_into alone.tables (without_job s);
@@ -82,13 +83,14 @@ module _ (spelling : Spelling) (bytes : FilterBytes) (store after : Kept) (s : S
             (subst (λ (n : Manifest). IsUnder spelling n opened None (compacted_into alone.tables (without_job s)) image) (sym manifest_is) (alone.images image here)));
         log = begun ∙ sym none_filled;
         memory = cleared;
+        blocks = are alone.tables;
       };
     }
 
   -- ---- it fails
 
   module _ (tied : Tied spelling bytes store (without_job s) a) (same_manifest : after.manifest ≡ store.manifest) (same_tables : after.tables ≡ store.tables) (same_job : after.job ≡ None) (same_log : after.log ≡ store.log)
-      (same_memory : after.memory ≡ store.memory) (meanwhile : Meanwhile (StandsForMap spelling (state_map s)) a b) where
+      (same_memory : after.memory ≡ store.memory) (same_blocks : after.blocks ≡ store.blocks) (meanwhile : Meanwhile (StandsForMap spelling (state_map s)) a b) where
     tied_as : Now (IsUnder spelling store.manifest store.tables None (without_job s)) b → Tied spelling bytes after (without_job s) b
     tied_as here = record {
       sound = tied.sound;
@@ -99,6 +101,7 @@ module _ (spelling : Spelling) (bytes : FilterBytes) (store after : Kept) (s : S
           (subst (λ (n : Manifest). IsUnder spelling n store.tables None (without_job s) image) (sym same_manifest) (here image left_there)));
       log = ap (λ (p : _). p.filled) same_log ∙ tied.log;
       memory = ap (λ (m : _). m.entries) same_memory ∙ tied.memory;
+      blocks = subst (λ (b : Cached). AreTrue b after.tables s.tables) (sym same_blocks) (subst (λ (ts : List Opened). AreTrue store.blocks ts s.tables) (sym same_tables) tied.blocks);
     }
 
     ties : (why : StoreError) → (stops why ≡ false → Now (IsUnder spelling store.manifest store.tables None (without_job s)) b) → after.stopped ≡ stops why
@@ -200,6 +203,7 @@ module _ (spelling : Spelling) (bytes : FilterBytes) (store : Kept) (s : State) 
             record { ready = under.ready; tables = under.tables; job = subst (λ (j : Option Job). RunsAs spelling store.tables None s j image) (sym no_job) tt };
         log = tied.log;
         memory = tied.memory;
+        blocks = tied.blocks;
       };
     }
 
@@ -249,28 +253,29 @@ module _ (spelling : Spelling) (bytes : FilterBytes) (store after : Kept) (s : S
   is_left last = let same : s.epoch ≡ store.manifest.version.epoch = under.ready.named.epoch in absurd (omega (arith, last, same, epoch))
 
   pub answered_done : StandAlone spelling bytes (without_job s) after.manifest after.tables b → after.job ≡ None → after.log.filled ≡ 0 → after.memory.entries ≡ []
-      → Answered spelling bytes s Compact (Some reply.Done) after a b
-  answered_done alone gone begun cleared =
+      → ((tables : List Table) → AreTrue after.blocks after.tables tables) → Answered spelling bytes s Compact (Some reply.Done) after a b
+  answered_done alone gone begun cleared are =
       let sound = compacted_sound bytes (without_job s) (compacted_into alone.tables (without_job s)) tied.sound (compacted_ok bytes (without_job s) alone.tables refl some_are is_left alone.placed_so) in
-      compact_done spelling bytes store after s a b some_are is_left after.manifest after.tables alone sound tied.none_kept meanwhile refl refl gone begun cleared
+      compact_done spelling bytes store after s a b some_are is_left after.manifest after.tables alone sound tied.none_kept meanwhile refl refl gone begun cleared are
 
   pub answered_failed : (why : StoreError) → FailsSo spelling bytes store.manifest store.tables (without_job s) a b why → after.stopped ≡ stops why
-      → after.manifest ≡ store.manifest → after.tables ≡ store.tables → after.job ≡ None → after.log ≡ store.log → after.memory ≡ store.memory
+      → after.manifest ≡ store.manifest → after.tables ≡ store.tables → after.job ≡ None → after.log ≡ store.log → after.memory ≡ store.memory → after.blocks ≡ store.blocks
       → Answered spelling bytes s Compact (told why) after a b
-  answered_failed why fails stopped manifest_is tables_are gone log_is memory_is =
-      compact_failed spelling bytes store after s a b some_are is_left tied manifest_is tables_are gone log_is memory_is meanwhile why fails stopped
+  answered_failed why fails stopped manifest_is tables_are gone log_is memory_is blocks_is =
+      compact_failed spelling bytes store after s a b some_are is_left tied manifest_is tables_are gone log_is memory_is blocks_is meanwhile why fails stopped
 
 -- ---- whatever the device is
 
 pub entries_sound : (store : Kept) → IsWhole store → AllByRecursion IsEntry store.memory.entries
 entries_sound store whole = subst (AllByRecursion IsEntry) (sym whole.entries.memory_is) (newest_all IsEntry whole.entries.entries whole.entries.sound)
 
-pub compacted_whole : (after : Kept) (old : Manifest) → IsInstalledWhole old after.manifest after.tables after.log → after.memory.entries ≡ [] → after.job ≡ None → IsWhole after
-compacted_whole after old is cleared gone = record {
+pub compacted_whole : (after : Kept) (old : Manifest) → IsInstalledWhole old after.manifest after.tables after.log → after.memory.entries ≡ [] → after.job ≡ None → AreNumbered after.blocks (length after.tables) → IsWhole after
+compacted_whole after old is cleared gone numbered = record {
   version = is.version;
   slot = is.slot;
   rows = is.rows;
   area = is.area;
   entries = record { entries = []; sound = tt; fits = omega (arith, none_filled); filled_is = is.begun ∙ sym none_filled; memory_is = cleared };
   job = subst (MayRunIn after.manifest.version after.tables) (sym gone) tt;
+  numbered = numbered;
 }

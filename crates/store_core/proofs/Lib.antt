@@ -1,5 +1,7 @@
 pub mod Agreed
 pub mod Answering
+pub mod Asked
+pub mod Caches
 pub mod Causes
 pub mod CompactAnswers
 pub mod CompactBegins
@@ -25,6 +27,7 @@ pub mod InstallOthers
 pub mod InstallRefusals
 pub mod InstallSteps
 pub mod Limiting
+pub mod Lookings
 pub mod MergedVersions
 pub mod Moved
 pub mod News

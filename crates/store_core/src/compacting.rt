@@ -238,6 +238,7 @@ impl<F: RangeFilter> Store<F> {
                     log,
                 } = done;
                 self.version = version;
+                self.blocks.renumber(self.tables.len());
                 self.tables = tables;
                 self.log = log;
                 self.memory.clear();

@@ -8,6 +8,8 @@
 #[cfg(test)]
 mod bounds;
 #[cfg(test)]
+mod caching;
+#[cfg(test)]
 mod changes;
 #[cfg(test)]
 mod choices;
@@ -29,3 +31,5 @@ mod slices;
 mod stores;
 #[cfg(test)]
 mod telling;
+#[cfg(test)]
+mod tending;
