@@ -33,7 +33,6 @@ Lines of serve, with keys and values in hex and - for no bytes:
   estimate LO HI    about and about how many, with nothing read
   explain KEY       tables, admitted and blocks: what a get of KEY asks and reads
   flush             ok
-  compact           ok, with all that is there merged into new tables
   quit              bye
 
 Example:

@@ -41,13 +41,11 @@ struct Script {
     requests: Vec<Request<'static>>,
 }
 
-// One line more. Of the lines without a word each sixth is a compaction.
+// One line more.
 fn push_line(script: &mut Script, verb: usize, key: usize, value: usize) -> Result<(), AllocError> {
-    let number = key.min(5);
-    let (key, key_word) = KEYS[number];
+    let (key, key_word) = KEYS[key.min(5)];
     let (value, value_word) = VALUES[value.min(2)];
     let (name, request): (&[u8], _) = match verb {
-        0 if number == 0 => (b"compact", Request::Compact),
         0 => (b"flush", Request::Flush),
         1 | 2 => (b"del ", Request::Del { key }),
         3 | 4 => (b"get ", Request::Get { key }),

@@ -7,7 +7,7 @@ use plain_filter::PlainFilter;
 use std::alloc::{AllocError, Global};
 use std::test::Fail;
 
-const ROWS: [(&[u8], &[u8]); 16] = [
+const ROWS: [(&[u8], &[u8]); 14] = [
     (b"put 61 62\nget 61\nquit\n", b"ok\nval 62\nbye\n"),
     (b"put 61 -\nget 61\nget 62\n", b"ok\nval -\nnone\n"),
     (
@@ -29,20 +29,12 @@ const ROWS: [(&[u8], &[u8]); 16] = [
         b"ok\nok\nok\nok\nnone\n",
     ),
     (
-        b"put 61 62\nflush\ndel 61\nflush\nget 61\ncompact\nget 61\nexplain 61\n",
-        b"ok\nok\nok\nok\nnone\nok\nnone\ntables 0 admitted 0 blocks 0\n",
-    ),
-    (
-        b"put 61 01\nput 62 02\nflush\nput 61 03\ndel 62\ncompact\nget 61\nget 62\nexplain 61\nput 62 04\nget 62\ncompact 61\n",
-        b"ok\nok\nok\nok\nok\nok\nval 03\nnone\ntables 1 admitted 1 blocks 1\nok\nval 04\nbad 3\n",
-    ),
-    (
         b"put 616131 01\nput 616231 02\nflush\ncount 616135 616230\nestimate 616135 616230\nexplain 616139\nexplain 616130\nexplain 616330\nget 616139\n",
         b"ok\nok\nok\ncount 0\nabout 2\ntables 1 admitted 1 blocks 1\ntables 1 admitted 1 blocks 0\ntables 1 admitted 0 blocks 0\nnone\n",
     ),
     (
         b"estimate - -\nexplain -\nestimate 62 61\ncompact\nput 61 62\nestimate 61 62\n",
-        b"about 0\nlimit key 0\nabout 0\nok\nok\nabout 1\n",
+        b"about 0\nlimit key 0\nabout 0\nbad 2\nok\nabout 1\n",
     ),
     (
         b"put 61 01\nflush\ndel 61\nput 63 03\nseek 60 62\nseek -\ncount - 7a\n",
@@ -162,14 +154,10 @@ fn the_last_epoch_takes_no_flush(rt: HostRuntime) -> Result<(), Fail> {
     let mut disk = base_disk(alloc)?;
     assert!(rt; disk.write(16, &[0xff; 8]).is_ok());
     assert!(rt; disk.write(72, &LAST_EPOCH_SUM).is_ok());
-    let end = served(
-        alloc,
-        disk,
-        b"compact\nput 61 62\nflush\nget 61\ncompact\nget 61\n",
-    )?;
+    let end = served(alloc, disk, b"put 61 62\nflush\nget 61\n")?;
     assert_eq!(rt;
         end.said.as_slice(),
-        b"ok\nok\nlimit epoch\nval 62\nlimit epoch\nval 62\n".as_slice()
+        b"ok\nlimit epoch\nval 62\n".as_slice()
     );
     Ok(())
 }

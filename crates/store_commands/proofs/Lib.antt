@@ -1,3 +1,4 @@
+pub mod AskedHere
 pub mod Cuts
 pub mod Numbers
 pub mod Verbs

@@ -8,13 +8,9 @@
 #[cfg(test)]
 mod bounds;
 #[cfg(test)]
-mod caching;
-#[cfg(test)]
 mod changes;
 #[cfg(test)]
 mod choices;
-#[cfg(test)]
-mod compactions;
 #[cfg(test)]
 mod limits;
 #[cfg(test)]
@@ -31,5 +27,3 @@ mod slices;
 mod stores;
 #[cfg(test)]
 mod telling;
-#[cfg(test)]
-mod tending;

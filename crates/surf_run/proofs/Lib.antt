@@ -1,13 +1,11 @@
 pub mod Asking
 pub mod Calms
 pub mod Changes
-pub mod Compacts
 pub mod Dialogues
 pub mod EndCauses
 pub mod Footprint
 mod Formats
 pub mod History
-pub mod Independence
 pub mod LastLines
 pub mod Moments
 pub mod Openings

@@ -4,7 +4,7 @@ use Rattle.byte_fields.specs.declared.parts.Damage.{Damage}
 use Rattle.disk_trait.specs.World.{Image, Passes, Rose, Torn, World}
 use Rattle.line_model.specs.Replies.{Reply, text_of}
 use Rattle.line_model.specs.Replies as line
-use Rattle.line_model.specs.Requests.{Compact, Count, Get, Range, Request, Seek}
+use Rattle.line_model.specs.Requests.{Count, Get, Range, Request, Seek}
 use Rattle.map_model.specs.SortedMap.{Bytes}
 use Rattle.state_model.specs.PlayLaws.{has_slice}
 use Rattle.state_model.specs.Script.{Onward, turn_of}
@@ -51,13 +51,12 @@ pub record LineMoves (old new : World) : Type 0 where
   pub counts : NoFall old new
 
 -- damage that a request meets on an image: of a get that of the block which is read for its key in one of these tables, of a seek,
--- a range, a count and a compaction that of some block of one of them
+-- a range and a count that of some block of one of them
 abbrev pub IsMetBy : List Opened → Request → Image → Damage → Type 0
 IsMetBy tables (Get key) image damage = IsFaultIn tables key image (Damaged damage)
 IsMetBy tables (Seek lo hi) image damage = IsScanShown tables image (error.Damaged damage)
 IsMetBy tables (Range lo hi n) image damage = IsScanShown tables image (error.Damaged damage)
 IsMetBy tables (Count lo hi) image damage = IsScanShown tables image (error.Damaged damage)
-IsMetBy tables Compact image damage = IsScanShown tables image (error.Damaged damage)
 IsMetBy tables request image damage = ⊥
 
 -- What was said ends with the damage of a block that the request reads in one of these tables. The device shows it: the block has

@@ -10,7 +10,6 @@ pub mod Ends
 pub mod FormatRefusals
 pub mod Formats
 pub mod Holding
-pub mod Independence
 pub mod Kind
 pub mod Open
 pub mod Outcome

@@ -21,7 +21,6 @@
 mod end;
 mod format_lines;
 mod formatting;
-mod laws;
 mod line;
 mod pending;
 mod saying;
@@ -31,6 +30,5 @@ mod slicing;
 mod top;
 
 pub use end::LineEnd;
-pub use laws::replies_are_of_the_map;
 pub use slicing::serve_line;
 pub use top::run;
