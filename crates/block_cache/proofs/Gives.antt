@@ -8,17 +8,17 @@ use Rattle.block_cache.specs.Laws.{Use, Get, Keep, after_use, after_keep, last_k
 use Rattle.block_cache.proofs.Places.{true-false, same_place, its_place, other_place, removed_one, removed_fewer, removed_elsewhere, found_among_first}
 
 -- the same place, or another
-by_place : (P : Type 0) (place other : BlockPlace) → (other ≡ place → P) → (other ≢ place → P) → P
+pub by_place : (P : Type 0) (place other : BlockPlace) → (other ≡ place → P) → (other ≢ place → P) → P
 by_place P place other same apart = elim (is_place place other) as (λ x. is_place place other ≡ x → P) [
   | true ↦ λ e. same (its_place place other e)
   | false ↦ λ e. apart (λ is. true-false (sym (same_place place) ∙ ap (is_place place) (sym is) ∙ e))
 ] refl
 
 -- a block in front is found at its place, and at no other
-found_here : (place : BlockPlace) (bytes : List ℕ) (kept : List KeptBlock) → kept_of place ((place, bytes) ∷ kept) ≡ Some bytes
+pub found_here : (place : BlockPlace) (bytes : List ℕ) (kept : List KeptBlock) → kept_of place ((place, bytes) ∷ kept) ≡ Some bytes
 found_here place bytes kept = ap (λ (x : Bool). cond x (Some bytes) (kept_of place kept)) (same_place place)
 
-not_found_here : (place other : BlockPlace) (bytes : List ℕ) (kept : List KeptBlock) → other ≢ place → kept_of other ((place, bytes) ∷ kept) ≡ kept_of other kept
+pub not_found_here : (place other : BlockPlace) (bytes : List ℕ) (kept : List KeptBlock) → other ≢ place → kept_of other ((place, bytes) ∷ kept) ≡ kept_of other kept
 not_found_here place other bytes kept apart = ap (λ (x : Bool). cond x (Some bytes) (kept_of other kept)) (other_place other place (λ e. apart (sym e)))
 
 others_elsewhere : (place other : BlockPlace) (kept : List KeptBlock) → other ≢ place → kept_of other (others place kept) ≡ kept_of other kept

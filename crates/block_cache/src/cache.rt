@@ -91,6 +91,16 @@ impl BlockCache {
         }
     }
 
+    /// The bytes of a block, as they were kept, or `None` where it is not. The order stays, and no memory is taken.
+    pub fn peek(&self, table: u64, block: u32) -> Option<&[u8]>
+        ensures { option_map (λ bytes. bytes.now) result ≡ kept_of (table, block) self.now }
+    {
+        match self.kept.peek(&(table, block)) {
+            Some(bytes) => Some(bytes.as_slice()),
+            None => None,
+        }
+    }
+
     /// Keeps a block: it is the first, an older one of the same numbers is gone, and else, where 64 are kept, the last.
     ///
     /// Where memory is refused, it hands the block back and changes nothing.

@@ -12,6 +12,7 @@ use Rattle.table_file.specs.Opened.{Opened}
 use Rattle.table_model.specs.Images.{StandsInExtent}
 use Rattle.table_model.specs.Tables.{FilterBytes, Table}
 use Rattle.manifest.specs.Manifest.{Manifest}
+use Rattle.store_core.specs.Caching.{AreTrue, Cached}
 use Rattle.store_core.specs.Kept.{Kept}
 use Rattle.store_core.specs.Tied.{IsUnder, Tied}
 
@@ -36,12 +37,13 @@ tied_dropped spelling bytes store s w tied = record {
   images = λ image left. under_dropped spelling store.manifest store.tables store.job s image tied.none_kept (tied.images image left);
   log = tied.log;
   memory = tied.memory;
+  blocks = tied.blocks;
 }
 
 -- with other fields the same
 pub tied_fields : (spelling : Spelling) (bytes : FilterBytes) (store after : Kept) (s : State) (w : World) → after.manifest ≡ store.manifest → after.tables ≡ store.tables → after.job ≡ store.job
-    → after.log ≡ store.log → after.memory ≡ store.memory → Tied spelling bytes store s w → Tied spelling bytes after s w
-tied_fields spelling bytes store after s w manifest_is tables_are job_is log_is memory_is tied = record {
+    → after.log ≡ store.log → after.memory ≡ store.memory → after.blocks ≡ store.blocks → Tied spelling bytes store s w → Tied spelling bytes after s w
+tied_fields spelling bytes store after s w manifest_is tables_are job_is log_is memory_is blocks_is tied = record {
   sound = tied.sound;
   none_kept = tied.none_kept;
   images = λ image left.
@@ -50,4 +52,5 @@ tied_fields spelling bytes store after s w manifest_is tables_are job_is log_is 
       (subst (λ (m : Manifest). IsUnder spelling m store.tables store.job s image) (sym manifest_is) (tied.images image left)));
   log = ap (λ (p : _). p.filled) log_is ∙ tied.log;
   memory = ap (λ (m : _). m.entries) memory_is ∙ tied.memory;
+  blocks = subst (λ (b : Cached). AreTrue b after.tables s.tables) (sym blocks_is) (subst (λ (ts : List Opened). AreTrue store.blocks ts s.tables) (sym tables_are) tied.blocks);
 }

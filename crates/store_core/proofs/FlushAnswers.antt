@@ -33,11 +33,12 @@ use Rattle.state_model.specs.View.{memory, state_map}
 use Rattle.table_file.specs.Building.{Built}
 use Rattle.table_file.specs.Opened.{Opened}
 use Rattle.table_file.specs.Writing.{made_filter, made_row}
-use Rattle.table_model.specs.Tables.{FilterBytes, filter_bytes_of, table_pages}
+use Rattle.table_model.specs.Tables.{FilterBytes, filter_bytes_of, table_of, table_pages}
 use Rattle.store_core.specs.Answers.{IsFailure, Turns, Wrote, refused, turns}
 use Rattle.store_core.specs.Faults.{of_manifest_fault}
 use Rattle.store_core.specs.Flushing.{IsFlushFault, IsPlan, IsPlanRefusal, Replaces, flushed_at, installed_manifest, need_under, opened_of}
 use Rattle.level_merge.specs.Merging.{Merging}
+use Rattle.store_core.specs.Caching.{AreTrue, Cached}
 use Rattle.store_core.specs.Kept.{IsWhole, Kept}
 use Rattle.store_core.specs.Running.{extents_with, outputs_in}
 use Rattle.store_core.specs.Tied.{IsUnder, Tied}
@@ -45,6 +46,7 @@ use Rattle.store_core.specs.declared.error.Limit.TheVariants as limit
 use Rattle.store_core.specs.declared.error.StoreError.{StoreError}
 use Rattle.store_core.specs.declared.error.StoreError.TheVariants as error
 use Rattle.store_core.proofs.Agreed.{Agree, tied_agree}
+use Rattle.store_core.proofs.Caches.{true_in_front}
 use Rattle.store_core.proofs.Flushed.{flushed_done, flushed_full, flushed_last, flushed_none, last_is}
 use Rattle.store_core.proofs.Frames.{under_stands}
 use Rattle.store_core.proofs.Plans.{pages_are, row_level}
@@ -192,8 +194,8 @@ module _ (spelling : Spelling) (built_cutoff : ℕ → List Leaf → ℕ) (store
       flushed_done bytes s (some_memory spelling bytes store s a current tied some) less row.first_page here (below s.epoch last_epoch (omega (arith, epoch_is, plan.epoch, last_is)))
 
   pub flush_done : {T U : Type 0} (x : T) (y : U) (after : Kept) → Replaces spelling built_cutoff store s parts row next (Ok x) a b → after.manifest ≡ installed_manifest next
-      → after.tables ≡ opened_of built_cutoff parts row ∷ store.tables → after.job ≡ store.job → after.log.filled ≡ 0 → after.memory.entries ≡ [] → Wrote spelling bytes s (flushed bytes s) (Ok y) after a b
-  flush_done x y after replaces manifest_is tables_are same_job begun cleared = turns to planned tt (record {
+      → after.tables ≡ opened_of built_cutoff parts row ∷ store.tables → after.job ≡ store.job → after.blocks ≡ store.blocks → IsWhole store → after.log.filled ≡ 0 → after.memory.entries ≡ [] → Wrote spelling bytes s (flushed bytes s) (Ok y) after a b
+  flush_done x y after replaces manifest_is tables_are same_job blocks_are whole begun cleared = turns to planned tt (record {
     meanwhile = meanwhile_weaker Before _ a b replaces.meanwhile (λ image map. inl map);
     done = record {
       sound = flushed_sound bytes s to tied.sound planned;
@@ -204,14 +206,17 @@ module _ (spelling : Spelling) (built_cutoff : ℕ → List Leaf → ℕ) (store
           (subst (λ (running : Option Merging). IsUnder spelling (installed_manifest next) (opened_of built_cutoff parts row ∷ store.tables) running to image) (sym same_job) (replaces.done image left)));
       log = begun ∙ sym none_filled;
       memory = cleared;
+      blocks = subst (λ (b : Cached). AreTrue b after.tables to.tables) (sym blocks_are)
+          (subst (λ (ts : List Opened). AreTrue store.blocks ts to.tables) (sym tables_are)
+          (true_in_front store.blocks (opened_of built_cutoff parts row) store.tables (table_of bytes s.settings 0 row.first_page (memory s)) s.tables whole.numbered tied.blocks));
     };
     refused = tt;
   })
 
   -- the store with other fields the same
-  tied_at : (after : Kept) → after.manifest ≡ store.manifest → after.tables ≡ store.tables → after.job ≡ store.job → after.log ≡ store.log → after.memory ≡ store.memory
+  tied_at : (after : Kept) → after.manifest ≡ store.manifest → after.tables ≡ store.tables → after.job ≡ store.job → after.log ≡ store.log → after.memory ≡ store.memory → after.blocks ≡ store.blocks
       → Now (IsUnder spelling store.manifest store.tables store.job s) b → Tied spelling bytes after s b
-  tied_at after same_manifest same_tables same_job same_log same_memory images = record {
+  tied_at after same_manifest same_tables same_job same_log same_memory same_blocks images = record {
     sound = tied.sound;
     none_kept = tied.none_kept;
     images = λ image left.
@@ -220,6 +225,7 @@ module _ (spelling : Spelling) (built_cutoff : ℕ → List Leaf → ℕ) (store
         (subst (λ (running : Option Merging). IsUnder spelling store.manifest store.tables running s image) (sym same_job) (images image left)));
     log = ap (λ (p : _). p.filled) same_log ∙ tied.log;
     memory = ap (λ (m : _). m.entries) same_memory ∙ tied.memory;
+    blocks = subst (λ (b : Cached). AreTrue b after.tables s.tables) (sym same_blocks) (subst (λ (ts : List Opened). AreTrue store.blocks ts s.tables) (sym same_tables) tied.blocks);
   }
 
   flush_stops : {T U : Type 0} (f : ManifestFault) (x : StoreError) (after : Kept) → Replaces {T = T} spelling built_cutoff store s parts row next (Err f) a b → IsFailure x → after.stopped ≡ true
@@ -230,11 +236,12 @@ module _ (spelling : Spelling) (built_cutoff : ℕ → List Leaf → ℕ) (store
     refused = λ runs. absurd (never after.stopped stopped runs);
   })
 
-  module _ (after : Kept) (same_manifest : after.manifest ≡ store.manifest) (same_tables : after.tables ≡ store.tables) (same_job : after.job ≡ store.job) (same_log : after.log ≡ store.log) (same_memory : after.memory ≡ store.memory) where
+  module _ (after : Kept) (same_manifest : after.manifest ≡ store.manifest) (same_tables : after.tables ≡ store.tables) (same_job : after.job ≡ store.job) (same_log : after.log ≡ store.log) (same_memory : after.memory ≡ store.memory)
+      (same_blocks : after.blocks ≡ store.blocks) where
     -- nothing was written
     by_memory : {T U : Type 0} → Replaces {T = T} spelling built_cutoff store s parts row next (Err fault.Memory) a b → Wrote {T = U} spelling bytes s (flushed bytes s) (Err error.Memory) after a b
     by_memory replaces =
-        wanted spelling bytes after s (flushed bytes s) a b (tied_at after same_manifest same_tables same_job same_log same_memory (replaces.wanted refl)) replaces.meanwhile
+        wanted spelling bytes after s (flushed bytes s) a b (tied_at after same_manifest same_tables same_job same_log same_memory same_blocks (replaces.wanted refl)) replaces.meanwhile
 
     told_as : {T U : Type 0} (f : ManifestFault) → Replaces {T = T} spelling built_cutoff store s parts row next (Err f) a b → IsFlushFault a b f
         → ((cause : DiskFault) → f ≡ fault.Device cause → after.stopped ≡ true) → Wrote {T = U} spelling bytes s (flushed bytes s) (Err (of_manifest_fault f)) after a b

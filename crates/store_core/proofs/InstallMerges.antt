@@ -45,6 +45,8 @@ use Rattle.store_core.specs.Running.{IsRun, RunsAs}
 use Rattle.store_core.specs.Tied.{IsUnder, Tied}
 use Rattle.store_core.specs.declared.error.StoreError.{StoreError}
 use Rattle.store_core.specs.declared.error.StoreError.TheVariants as error
+use Rattle.store_core.specs.Caching.{AreNumbered, renumbered}
+use Rattle.store_core.proofs.Caches.{true_anew}
 use Rattle.store_core.proofs.Dropped.{tied_dropped, tied_fields}
 use Rattle.store_core.proofs.FlushAnswers.{passed_on}
 use Rattle.store_core.proofs.Frames.{are_slots}
@@ -106,29 +108,30 @@ module _ (agree : StandingAgrees) (spelling : Spelling) (bytes : FilterBytes) (s
 
   -- nothing was done
   pub not_begun : {T : Type 0} (x : StoreError) (after : Kept) (b : World) → ReadMoves 0 a b → Meanwhile (StandsForMap spelling (state_map s)) a b
-      → after.manifest ≡ store.manifest → after.tables ≡ store.tables → after.job ≡ None → after.log ≡ store.log → after.memory ≡ store.memory
+      → after.manifest ≡ store.manifest → after.tables ≡ store.tables → after.job ≡ None → after.log ≡ store.log → after.memory ≡ store.memory → after.blocks ≡ store.blocks
       → Installs {T = T} spelling bytes s job (Err x) after a b
-  not_begun x after b reads meanwhile manifest_is tables_are job_is log_is memory_is = record {
+  not_begun x after b reads meanwhile manifest_is tables_are job_is log_is memory_is blocks_is = record {
     meanwhile = meanwhile;
     epoch = tt;
     done = tt;
-    refused = λ _. tied_fields spelling bytes (record store { job = None }) after (without_job s) b manifest_is tables_are job_is log_is memory_is
+    refused = λ _. tied_fields spelling bytes (record store { job = None }) after (without_job s) b manifest_is tables_are job_is log_is memory_is blocks_is
         (tied_dropped spelling bytes (record store { job = Some run }) s b (record {
           sound = tied.sound;
           none_kept = tied.none_kept;
           images = reads_keep Under 0 a b reads tied.images;
           log = tied.log;
           memory = tied.memory;
+          blocks = tied.blocks;
         }));
   }
 
   -- want of memory, as it is passed on
   pub wanted : {T : Type 0} (result : Result T StoreError) (after : Kept) → IsErrAnd result (λ (e : StoreError). e ≡ error.Memory)
-      → after.manifest ≡ store.manifest → after.tables ≡ store.tables → after.job ≡ None → after.log ≡ store.log → after.memory ≡ store.memory
+      → after.manifest ≡ store.manifest → after.tables ≡ store.tables → after.job ≡ None → after.log ≡ store.log → after.memory ≡ store.memory → after.blocks ≡ store.blocks
       → Installs {T = T} spelling bytes s job result after a a
-  wanted {T = T} result after is manifest_is tables_are job_is log_is memory_is =
+  wanted {T = T} result after is manifest_is tables_are job_is log_is memory_is blocks_is =
       subst (λ (r : Result T StoreError). Installs {T = T} spelling bytes s job r after a a) (passed_on result error.Memory is)
-      (not_begun error.Memory after a (reads_none 0 a) still_here manifest_is tables_are job_is log_is memory_is)
+      (not_begun error.Memory after a (reads_none 0 a) still_here manifest_is tables_are job_is log_is memory_is blocks_is)
 
   -- what the install does
   module _ (b : World) (new_is : IsVersion (merged_manifest store.manifest (rows_of (tables_behind store.tables run))).version) (epoch : s.epoch ≡ store.manifest.version.epoch)
@@ -169,17 +172,18 @@ module _ (agree : StandingAgrees) (spelling : Spelling) (bytes : FilterBytes) (s
 
     pub install_done : {T U E : Type 0} (x : T) (y : U) (after : Kept) → m.version.epoch < last_epoch
         → Leads {E = E} (StandsInSlot m.slot m.other_open m.version) (IsOldOrNew (install_of (merged_manifest m (rows_of behind)) m.version)) (IsInstalled (install_of (merged_manifest m (rows_of behind)) m.version)) (Ok x) a b
-        → after.manifest ≡ installed_manifest (merged_manifest m (rows_of behind)) → after.tables ≡ behind → after.job ≡ None → after.log ≡ store.log → after.memory ≡ store.memory
+        → after.manifest ≡ installed_manifest (merged_manifest m (rows_of behind)) → after.tables ≡ behind → after.job ≡ None → after.log ≡ store.log → after.memory ≡ store.memory → AreNumbered store.blocks (length store.tables)
+        → after.blocks ≡ renumbered store.blocks (length store.tables)
         → Installs {T = U} spelling bytes s job (Ok y) after a b
-    install_done x y after below leads manifest_is tables_are job_is log_is memory_is =
+    install_done x y after below leads manifest_is tables_are job_is log_is memory_is numbered blocks_is =
         let all = all_leads (Ok x) below leads in
         let left : s.epoch ≢ last_epoch = λ last. absurd (omega (arith, last, epoch, below)) in
         let back : 1 - (1 - m.slot) ≡ m.slot = omega (arith, slot) in
         record {
           meanwhile = all.meanwhile befores;
           epoch = left;
-          done = tied_fields spelling bytes (record store { manifest = installed_manifest (merged_manifest m (rows_of behind)); tables = behind; job = None }) after (installed s job) b
-              manifest_is tables_are job_is log_is memory_is (record {
+          done = tied_fields spelling bytes (record store { manifest = installed_manifest (merged_manifest m (rows_of behind)); tables = behind; job = None; blocks = renumbered store.blocks (length store.tables) }) after (installed s job) b
+              manifest_is tables_are job_is log_is memory_is blocks_is (record {
                 sound = installed_sound bytes s job tied.sound runs done left;
                 none_kept = tied.none_kept;
                 images = λ image here.
@@ -193,6 +197,7 @@ module _ (agree : StandingAgrees) (spelling : Spelling) (bytes : FilterBytes) (s
                     };
                 log = tied.log;
                 memory = tied.memory;
+                blocks = true_anew store.blocks (length store.tables) behind (installed s job).tables numbered;
               });
           refused = tt;
         }
@@ -205,14 +210,14 @@ module _ (agree : StandingAgrees) (spelling : Spelling) (bytes : FilterBytes) (s
     pub install_refused : {T U : Type 0} (f : ManifestFault) (x : StoreError) (after : Kept) → x ≡ of_manifest_fault f → HasInstallCause (other_place m.slot) a b f → (f ≡ fault.Epoch → ReadMoves 0 a b)
         → (f ≢ fault.Epoch → m.version.epoch < last_epoch)
         → Leads {T = T} (StandsInSlot m.slot m.other_open m.version) (IsOldOrNew (install_of (merged_manifest m (rows_of behind)) m.version)) (IsInstalled (install_of (merged_manifest m (rows_of behind)) m.version)) (Err f) a b
-        → after.manifest ≡ store.manifest → after.tables ≡ store.tables → after.job ≡ None → after.log ≡ store.log → after.memory ≡ store.memory
+        → after.manifest ≡ store.manifest → after.tables ≡ store.tables → after.job ≡ None → after.log ≡ store.log → after.memory ≡ store.memory → after.blocks ≡ store.blocks
         → ((cause : DiskFault) → f ≡ fault.Device cause → after.stopped ≡ true) → Installs {T = U} spelling bytes s job (Err x) after a b
-    install_refused {U = U} fault.Memory x after is cause last below leads manifest_is tables_are job_is log_is memory_is stops =
-        not_begun {T = U} x after b cause (unread cause) manifest_is tables_are job_is log_is memory_is
-    install_refused {U = U} fault.Epoch x after is cause last below leads manifest_is tables_are job_is log_is memory_is stops =
-        not_begun {T = U} x after b (last refl) (unread (last refl)) manifest_is tables_are job_is log_is memory_is
-    install_refused {U = U} (fault.Device f) x after is cause last below leads manifest_is tables_are job_is log_is memory_is stops =
+    install_refused {U = U} fault.Memory x after is cause last below leads manifest_is tables_are job_is log_is memory_is blocks_is stops =
+        not_begun {T = U} x after b cause (unread cause) manifest_is tables_are job_is log_is memory_is blocks_is
+    install_refused {U = U} fault.Epoch x after is cause last below leads manifest_is tables_are job_is log_is memory_is blocks_is stops =
+        not_begun {T = U} x after b (last refl) (unread (last refl)) manifest_is tables_are job_is log_is memory_is blocks_is
+    install_refused {U = U} (fault.Device f) x after is cause last below leads manifest_is tables_are job_is log_is memory_is blocks_is stops =
         install_failed {U = U} (Err (fault.Device f)) x after (below (λ never. absurd cc)) leads (stops f refl)
-    install_refused fault.NotAStore x after is cause last below leads manifest_is tables_are job_is log_is memory_is stops = absurd cause
-    install_refused fault.AlreadyAStore x after is cause last below leads manifest_is tables_are job_is log_is memory_is stops = absurd cause
-    install_refused (fault.Damaged damage) x after is cause last below leads manifest_is tables_are job_is log_is memory_is stops = absurd cause
+    install_refused fault.NotAStore x after is cause last below leads manifest_is tables_are job_is log_is memory_is blocks_is stops = absurd cause
+    install_refused fault.AlreadyAStore x after is cause last below leads manifest_is tables_are job_is log_is memory_is blocks_is stops = absurd cause
+    install_refused (fault.Damaged damage) x after is cause last below leads manifest_is tables_are job_is log_is memory_is blocks_is stops = absurd cause

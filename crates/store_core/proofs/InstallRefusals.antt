@@ -18,11 +18,11 @@ pub below_last : (n : ℕ) → n < 2 ^ 64 → n ≢ last_epoch → n < last_epoc
 unfolding last_epoch
 below_last n bound other = omega (arith, bound, other)
 
-through_writes : (at : ℕ) (cause : DiskFault) → IsWriteThroughFault at cause → is_write cause.op ≡ true
+pub through_writes : (at : ℕ) (cause : DiskFault) → IsWriteThroughFault at cause → is_write cause.op ≡ true
 through_writes at cause (inl is) = ap (λ (x : DiskFault). is_write x.op) is
 through_writes at cause (inr is) = ap (λ (x : DiskFault). is_write x.op) is
 
-slot_writes : (slot : ℕ) (cause : DiskFault) → IsSlotFault slot cause → is_write cause.op ≡ true
+pub slot_writes : (slot : ℕ) (cause : DiskFault) → IsSlotFault slot cause → is_write cause.op ≡ true
 slot_writes slot cause (inl is) = through_writes slot cause is
 slot_writes slot cause (inr is) = through_writes _ cause is
 

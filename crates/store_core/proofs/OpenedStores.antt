@@ -45,8 +45,10 @@ use Rattle.store_core.specs.Answers.{IsFailure}
 use Rattle.store_core.specs.Opening.{AreOpened, IsOpenAnswer, IsOpenRefusal, IsOpenedAs, IsRangesDamage, IsTablesAnswer, IsVersionOpened, opened_range}
 use Rattle.level_merge.specs.Held.{AreHeld}
 use Rattle.store_core.specs.Tied.{IsUnder, Tied}
+use Rattle.store_core.specs.Caching.{AreTrue, Cached, none_cached}
 use Rattle.store_core.specs.declared.error.StoreError.{StoreError}
 use Rattle.store_core.specs.declared.error.StoreError.TheVariants as error
+use Rattle.store_core.proofs.Caches.{none_true}
 use Rattle.store_core.proofs.Causes.{refusal_behind}
 use Rattle.store_core.proofs.OpeningTables.{all_opened, as_many, held_of, ranges_are}
 use Rattle.store_core.proofs.Runs.{none_run}
@@ -112,16 +114,16 @@ module _ (spelling : Spelling) (first : Bytes → Fault) (image : Image) where
         }
 
         -- and its log is replayed: the store of all these
-        pub opened_as : (store : Kept) (p : Position) (entries : List Entry) → store ≡ record { stopped = false; manifest = m; tables = ts; job = None; log = p; memory = store.memory; buffer = store.buffer }
+        pub opened_as : (store : Kept) (p : Position) (entries : List Entry) → store ≡ record { stopped = false; manifest = m; tables = ts; job = None; log = p; memory = store.memory; buffer = store.buffer; blocks = none_cached }
             → LogIs area entries image → p.filled ≡ filled entries → store.memory.entries ≡ newest_entries entries → IsOpenedAs spelling image store
         opened_as store p entries same spelled filled_is memory_is =
             subst (IsOpenedAs spelling image) (sym same)
-            (record { loaded = loaded; entries = entries; opens = opens_with entries spelled; rows = rows; tables = opened; job = refl; log = filled_is; memory = memory_is })
+            (record { loaded = loaded; entries = entries; opens = opens_with entries spelled; rows = rows; tables = opened; job = refl; log = filled_is; memory = memory_is; none_kept = refl })
 
 -- what is made of these parts: the store, or there is no memory
 pub parts_answer : (spelling : Spelling) (first : Bytes → Fault) (image : Image) (m : Manifest) (ts : List Opened) (p : Position) (entries : List Entry) (area : ℕ) (r : Result Kept StoreError)
     → IsVersionOpened spelling image m ts → m.version.log_page ≡ log_page_of area → LogIs area entries image → p.filled ≡ filled entries
-    → IfOk r (λ store. store ≡ record { stopped = false; manifest = m; tables = ts; job = None; log = p; memory = store.memory; buffer = store.buffer })
+    → IfOk r (λ store. store ≡ record { stopped = false; manifest = m; tables = ts; job = None; log = p; memory = store.memory; buffer = store.buffer; blocks = none_cached })
     → IfOk r (λ store. store.memory.entries ≡ newest_entries entries) → IfErr r (λ why. why ≡ error.Memory)
     → MatchResult r (IsOpenedAs spelling image) (IsOpenAnswer spelling first image)
 parts_answer spelling first image m ts p entries area (Ok store) found area_is spelled filled_is same memory_is wanted =
@@ -214,6 +216,7 @@ module _ (spelling : Spelling) (filter_bytes : FilterBytes) (one : SpellsOne spe
         (λ left_image left. subst (IsUnder spelling store.manifest store.tables store.job s) (sym (durable left_image left ∙ held_is)) under);
     log = opened.log ∙ ap filled same_log;
     memory = opened.memory ∙ ap newest_entries same_log;
+    blocks = subst (λ (b : Cached). AreTrue b store.tables s.tables) (sym opened.none_kept) (none_true store.tables s.tables);
   }
 
 -- an answer of an image that stands for a state

@@ -52,7 +52,7 @@ rose_since a b c later rose = omega (arith, later, rose)
 
 -- whether it is stopped is no part of what it is tied to
 pub tied_stopped : (spelling : Spelling) (bytes : FilterBytes) (store : Kept) (s : State) (w : World) (stopped : Bool) → Tied spelling bytes store s w → Tied spelling bytes (record store { stopped = stopped }) s w
-tied_stopped spelling bytes store s w stopped tied = record { sound = tied.sound; none_kept = tied.none_kept; images = tied.images; log = tied.log; memory = tied.memory }
+tied_stopped spelling bytes store s w stopped tied = record { sound = tied.sound; none_kept = tied.none_kept; images = tied.images; log = tied.log; memory = tied.memory; blocks = tied.blocks }
 
 -- a store without a merge, stopped or not
 pub tied_none : (spelling : Spelling) (bytes : FilterBytes) (store : Kept) (s : State) (w : World) (stopped : Bool) → store.job ≡ None → Tied spelling bytes (record store { job = None }) s w
@@ -243,4 +243,5 @@ module _ (spelling : Spelling) (bytes : FilterBytes) (s : State) where
       images = λ image left. next.2 image (tied.images image left);
       log = tied.log;
       memory = tied.memory;
+      blocks = tied.blocks;
     }

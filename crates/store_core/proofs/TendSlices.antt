@@ -130,7 +130,7 @@ module _ (law : OtherImageIsFollowed) (spelling : Spelling) (cutoff : ℕ → Li
       slice_meanwhile = meanwhile_weaker Under Map a b (kept_by moves) (under_stands spelling store.manifest store.tables (Some old) few rows s)
 
       still_tied : Tied spelling (filter_bytes_of spelling cutoff) (record store { job = Some old }) s b
-      still_tied = record { sound = tied.sound; none_kept = tied.none_kept; images = still_under; log = tied.log; memory = tied.memory }
+      still_tied = record { sound = tied.sound; none_kept = tied.none_kept; images = still_under; log = tied.log; memory = tied.memory; blocks = tied.blocks }
 
       pub slice_dropped : Tied spelling (filter_bytes_of spelling cutoff) (record store { job = None }) (without_job s) b
       slice_dropped = tied_dropped spelling (filter_bytes_of spelling cutoff) (record store { job = Some old }) s b still_tied
@@ -164,6 +164,7 @@ module _ (law : OtherImageIsFollowed) (spelling : Spelling) (cutoff : ℕ → Li
             images = later_under;
             log = tied.log;
             memory = tied.memory;
+            blocks = tied.blocks;
           };
         }
 

@@ -26,6 +26,7 @@ use Rattle.state_model.specs.View.{state_map}
 use Rattle.table_file.specs.Opened.{Opened}
 use Rattle.table_model.specs.Tables.{FilterBytes}
 use Rattle.store_core.specs.Answers.{Turns}
+use Rattle.store_core.specs.Caching.{AreTrue, Cached}
 use Rattle.store_core.specs.Kept.{IsWhole, Kept}
 use Rattle.store_core.specs.Tied.{IsUnder, Tied}
 use Rattle.store_core.specs.declared.error.StoreError.{StoreError}
@@ -40,6 +41,7 @@ module _ (spelling : Spelling) (filter_bytes : FilterBytes) (store : Kept) (s : 
     images = reads_keep (IsUnder spelling store.manifest store.tables store.job s) n a b moves tied.images;
     log = tied.log;
     memory = tied.memory;
+    blocks = tied.blocks;
   }
 
 -- ---- an entry is logged
@@ -87,11 +89,11 @@ module _ (law : OtherImageIsFollowed) (spelling : Spelling) (filter_bytes : Filt
   logged_meanwhile result leads = framed (Under s) (WithOrWithout area s.log e) _ _ _ a b tied.images moves.time (leads.meanwhile logs_now) to_maps
 
   -- at Ok the state has the entry
-  pub logged_tied : {T E : Type 0} (x : T) (after : Kept) → after.manifest ≡ store.manifest → after.tables ≡ store.tables → after.job ≡ store.job → after.log.filled + 1 ≡ store.log.filled + need e
+  pub logged_tied : {T E : Type 0} (x : T) (after : Kept) → after.manifest ≡ store.manifest → after.tables ≡ store.tables → after.job ≡ store.job → after.blocks ≡ store.blocks → after.log.filled + 1 ≡ store.log.filled + need e
       → after.memory.entries ≡ newest_entries (s.log ++ e ∷ []) → IsEntry e
       → Leads {T = T} {E = E} (LogIs store.log.area s.log) (WithOrWithout store.log.area s.log e) (LogIs store.log.area (s.log ++ e ∷ [])) (Ok x) a b
       → Tied spelling filter_bytes after (logged s e) b
-  logged_tied x after same_manifest same_tables same_job filled_now memory_now is leads =
+  logged_tied x after same_manifest same_tables same_job same_blocks filled_now memory_now is leads =
       let here : Now (Under (logged s e)) b =
       framed_now (Under s) (LogIs area (s.log ++ e ∷ [])) (Under (logged s e)) _ _ a b tied.images moves.time (leads.after logs_now)
       (λ was image under torn spelled. at_once (s.log ++ e ∷ []) was image under torn spelled) in
@@ -104,6 +106,7 @@ module _ (law : OtherImageIsFollowed) (spelling : Spelling) (filter_bytes : Filt
             (subst (λ (running : Option Merging). IsUnder spelling store.manifest store.tables running (logged s e) image) (sym same_job) (here image left)));
         log = filled_logged s.log e store.log.filled after.log.filled tied.log filled_now;
         memory = memory_now;
+        blocks = subst (λ (b : Cached). AreTrue b after.tables s.tables) (sym same_blocks) (subst (λ (ts : List Opened). AreTrue store.blocks ts s.tables) (sym same_tables) tied.blocks);
       }
 
 -- ---- what an append answers, of an entry that was handed in by its key and its value
@@ -119,13 +122,13 @@ module _ (law : OtherImageIsFollowed) (spelling : Spelling) (filter_bytes : Filt
   own_leads : {T E : Type 0} (result : Result T E) → Appends x result → Appends e result
   own_leads result leads = subst (λ (y : Entry). Appends y result) same leads
 
-  pub append_done : {T E U : Type 0} (u : T) (y : U) (after : Kept) → Appends {T = T} {E = E} x (Ok u) → after.manifest ≡ store.manifest → after.tables ≡ store.tables → after.job ≡ store.job
+  pub append_done : {T E U : Type 0} (u : T) (y : U) (after : Kept) → Appends {T = T} {E = E} x (Ok u) → after.manifest ≡ store.manifest → after.tables ≡ store.tables → after.job ≡ store.job → after.blocks ≡ store.blocks
       → after.log.filled + 1 ≡ store.log.filled + need x → after.memory.entries ≡ newest_entries (s.log ++ e ∷ []) → IsEntry e → Turns spelling filter_bytes s (logged s e) (Ok y) after a b
-  append_done u y after leads same_manifest same_tables same_job filled_now memory_now is =
+  append_done u y after leads same_manifest same_tables same_job same_blocks filled_now memory_now is =
       let own = own_leads (Ok u) leads in
       record {
         meanwhile = logged_meanwhile law spelling filter_bytes store s e a b tied whole fits own_moves (Ok u) own;
-        done = logged_tied law spelling filter_bytes store s e a b tied whole fits own_moves u after same_manifest same_tables same_job (subst (λ (z : Entry). after.log.filled + 1 ≡ store.log.filled + need z) same filled_now) memory_now is own;
+        done = logged_tied law spelling filter_bytes store s e a b tied whole fits own_moves u after same_manifest same_tables same_job same_blocks (subst (λ (z : Entry). after.log.filled + 1 ≡ store.log.filled + need z) same filled_now) memory_now is own;
         refused = tt;
       }
 

@@ -1,5 +1,5 @@
 -- What is so of a store behind a flush, whatever its device holds.
-use Rattle.std.proofs.Common.{◌≡◌, ◌≢◌, ◌∙◌, ◌<◌, ◌≤◌, ℕ, List, [], ◌∷◌, length, map, refl, sym, ap, subst, arith}
+use Rattle.std.proofs.Common.{◌≡◌, ◌≢◌, ◌∙◌, ◌<◌, ◌≤◌, ℕ, Bool, List, [], ◌∷◌, length, map, refl, sym, ap, subst, arith}
 use Rattle.std.specs.Prelude.{Option, Some, None}
 use Rattle.std.specs.List.{AllByRecursion}
 use Rattle.std.proofs.lemmas.List.{append-nil}
@@ -20,9 +20,11 @@ use Rattle.manifest_model.specs.Version.{Version, log_page_of}
 use Rattle.merge_rows.specs.Steps.{AreNumbersIn, numbers}
 use Rattle.state_model.proofs.SoundLogs.{memory_is_table, newest_none}
 use Rattle.table_file.specs.Opened.{Opened}
+use Rattle.store_core.specs.Caching.{AreNumbered, Cached}
 use Rattle.store_core.specs.Flushing.{installed_manifest, next_manifest}
 use Rattle.store_core.specs.Kept.{IsOfEntries, IsWhole, Kept, rows_of}
 use Rattle.store_core.specs.Running.{MayRunIn, extents_with, outputs_in}
+use Rattle.store_core.proofs.Caches.{numbered_more}
 
 -- a log with no record, and no entry
 none_of : (store : Kept) → store.log.filled ≡ 0 → store.memory.entries ≡ [] → IsOfEntries store.log store.memory.entries
@@ -69,7 +71,7 @@ laid_with store whole = by_job store.manifest.version store.tables store.job who
 
 module _ (store after : Kept) (opened : Opened) (row : Row) (next : Manifest) (whole : IsWhole store) (is : IsVersion next.version) (epoch : next.version.epoch < last_epoch)
     (next_is : next ≡ next_manifest store.manifest row) (manifest_is : after.manifest ≡ installed_manifest next) (tables_are : after.tables ≡ opened ∷ store.tables) (row_is : opened.row ≡ row)
-    (same_job : after.job ≡ store.job) (free : IsOnDevice store.manifest.version.pages (extent_of row) × AllByRecursion (AreApart (extent_of row)) (extents_with store.manifest.version (outputs_in store.job))) where
+    (blocks_are : after.blocks ≡ store.blocks) (same_job : after.job ≡ store.job) (free : IsOnDevice store.manifest.version.pages (extent_of row) × AllByRecursion (AreApart (extent_of row)) (extents_with store.manifest.version (outputs_in store.job))) where
   rows_behind : rows_of after.tables ≡ (installed_manifest next).version.rows
   rows_behind =
       ap rows_of tables_are ∙ ap (λ (r : Row). r ∷ rows_of store.tables) row_is ∙ ap (λ (rs : List Row). row ∷ rs) whole.rows
@@ -89,6 +91,8 @@ module _ (store after : Kept) (opened : Opened) (row : Row) (next : Manifest) (w
     area = ap (λ (m : Manifest). m.version.log_page) manifest_is ∙ area;
     entries = none_of after begun cleared;
     job = job_behind;
+    numbered = subst (λ (b : Cached). AreNumbered b (length after.tables)) (sym blocks_are)
+        (subst (λ (ts : List Opened). AreNumbered store.blocks (length ts)) (sym tables_are) (numbered_more store.blocks (length store.tables) whole.numbered));
   }
 
 -- with nothing in memory the log has no record
@@ -107,3 +111,15 @@ pub memory_table : (store : Kept) → IsWhole store → store.memory.entries ≢
 memory_table store whole some =
     let of = whole.entries in
     subst IsTable (sym of.memory_is) (memory_is_table of.entries of.sound of.fits (subst (λ (es : List Entry). 1 ≤ length es) of.memory_is (some_of store.memory.entries some)))
+
+-- whether it is stopped is no part of it
+pub whole_stopped : (store : Kept) (stopped : Bool) (tables : List Opened) → tables ≡ store.tables → IsWhole store → IsWhole (record store { stopped = stopped; tables = tables })
+whole_stopped store stopped tables same whole = record {
+  version = whole.version;
+  slot = whole.slot;
+  rows = ap rows_of same ∙ whole.rows;
+  area = whole.area;
+  entries = whole.entries;
+  job = subst (λ (ts : List Opened). MayRunIn store.manifest.version ts store.job) (sym same) whole.job;
+  numbered = subst (λ (ts : List Opened). AreNumbered store.blocks (length ts)) (sym same) whole.numbered;
+}

@@ -78,6 +78,7 @@ tied_with spelling bytes store s w m kept tied = record {
   images = tied.images;
   log = tied.log;
   memory = kept ∙ tied.memory;
+  blocks = tied.blocks;
 }
 
 pub whole_with : (store : Kept) (m : MemoryTable) → m.entries ≡ store.memory.entries → IsWhole store → IsWhole (record store { memory = m })
@@ -94,6 +95,7 @@ whole_with store m kept whole = record {
     memory_is = kept ∙ whole.entries.memory_is;
   };
   job = whole.job;
+  numbered = whole.numbered;
 }
 
 module _ (spelling : Spelling) (bytes : FilterBytes) (s : State) (e : Entry) where

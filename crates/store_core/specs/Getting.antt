@@ -1,24 +1,35 @@
 -- Where a key's newest entry was found, and why none was.
-use Rattle.std.specs.Prelude.{◌≡◌, ◌≤◌, ℕ, Bool, true, false, List, Contains, map, take, is_some, Option, Some, None}
+use Rattle.std.specs.Prelude.{◌≡◌, ◌≤◌, ◌<◌, ℕ, Bool, true, false, List, Contains, map, take, is_some, IsTrue, Option, Some, None}
+use Rattle.block_cache.specs.Kept.{BlockPlace, KeptBlock, kept_of}
 use Rattle.block_model.specs.BlockReading.{block_fault, block_in}
 use Rattle.disk_trait.specs.Image.{Image}
 use Rattle.disk_trait.specs.World.{Rose, World}
 use Rattle.disk_trait.specs.declared.fault.DiskFault.{DiskFault}
 use Rattle.disk_trait.specs.declared.fault.Op.TheVariants.{Read}
+use Rattle.filter_api.specs.Spellings.{Spelling}
 use Rattle.entry_model.specs.Entries.{Entry}
 use Rattle.entry_model.specs.Newest.{lookup}
 use Rattle.line_model.specs.Limits.{key_limit}
 use Rattle.map_model.specs.SortedMap.{Bytes}
+use Rattle.state_model.specs.Bounds.{unless_found}
+use Rattle.state_model.specs.State.{State}
+use Rattle.state_model.specs.View.{memory}
 use Rattle.store_core.specs.Answers.{told_limit}
+use Rattle.store_core.specs.Caching.{Cached, IsFirst, MayKeep, number_of, past_cache, said_by, unkept}
+use Rattle.store_core.specs.Kept.{Kept}
+use Rattle.store_core.specs.Tied.{Tied}
+use Rattle.store_core.specs.declared.getting.BlockRead.{BlockRead}
 use Rattle.store_core.specs.declared.error.StoreError.{StoreError}
 use Rattle.store_core.specs.declared.error.StoreError.TheVariants as error
 use Rattle.store_core.specs.declared.getting.Place.{Place}
 use Rattle.store_core.specs.declared.getting.Place.TheVariants as place
+use Rattle.store_core.specs.declared.getting.Spot.{Spot}
+use Rattle.store_core.specs.declared.getting.Spot.TheVariants as spot
 use Rattle.table_file.specs.Opened.{Opened}
 use Rattle.table_file.specs.Search.{IsGetFault, block_for, largest_block}
 use Rattle.table_file.specs.declared.fault.TableFault.{TableFault}
 use Rattle.table_file.specs.declared.fault.TableFault.TheVariants as table
-use Rattle.table_model.specs.Tables.{Table}
+use Rattle.table_model.specs.Tables.{FilterBytes, Table}
 
 abbrev pub entries_by_table : List Table → List (List Entry)
 entries_by_table tables = map (λ (t : Table). t.entries) tables
@@ -33,21 +44,56 @@ pub record IsFoundIn (size : ℕ) (buffer key : Bytes) : Type 0 where
   pub block : IsBlockIn size buffer
   pub some : is_some (lookup (block_in (take size buffer)) key) ≡ true
 
--- what that block says of the key, where one was read that has it
-abbrev pub said_in : Option ℕ → Bytes → Bytes → Option (Option Bytes)
-said_in None buffer key = None
-said_in (Some size) buffer key = lookup (block_in (take size buffer)) key
+-- the block is kept, the first of all, and has an entry of the key
+pub record IsFoundKept (place : BlockPlace) (kept : List KeptBlock) (key : Bytes) : Type 0 where
+  pub first : IsFirst place kept
+  pub some : is_some (said_by (kept_of place kept) key) ≡ true
+
+abbrev pub IsFoundAt : Spot → Bytes → List KeptBlock → Bytes → Type 0
+IsFoundAt (spot.InBuffer size) buffer kept key = IsFoundIn size buffer key
+IsFoundAt (spot.InCache number block) buffer kept key = IsFoundKept (number, block) kept key
+
+-- what is said of the key there, where it was found in a table
+abbrev pub said_in : Option Spot → Bytes → List KeptBlock → Bytes → Option (Option Bytes)
+said_in None buffer kept key = None
+said_in (Some (spot.InBuffer size)) buffer kept key = lookup (block_in (take size buffer)) key
+said_in (Some (spot.InCache number block)) buffer kept key = said_by (kept_of (number, block) kept) key
+
+abbrev pub IsSpotIn : Spot → Bytes → Type 0
+IsSpotIn (spot.InBuffer size) buffer = IsBlockIn size buffer
+IsSpotIn (spot.InCache number block) buffer = Unit {0}
 
 abbrev pub IsPlaceIn : Place → Bytes → Type 0
 IsPlaceIn place.Nowhere buffer = Unit {0}
 IsPlaceIn place.InMemory buffer = Unit {0}
-IsPlaceIn (place.InBuffer size) buffer = IsBlockIn size buffer
+IsPlaceIn (place.InTable spot) buffer = IsSpotIn spot buffer
 
--- what is said of the key there
-abbrev pub said_at : Place → List Entry → Bytes → Bytes → Option (Option Bytes)
-said_at place.Nowhere memory buffer key = None
-said_at place.InMemory memory buffer key = lookup memory key
-said_at (place.InBuffer size) memory buffer key = lookup (block_in (take size buffer)) key
+-- what is said of the key by the store there
+abbrev pub said_at : Place → Kept → Bytes → Option (Option Bytes)
+said_at place.Nowhere store key = None
+said_at place.InMemory store key = lookup store.memory.entries key
+said_at (place.InTable spot) store key = said_in (Some spot) store.buffer store.blocks.kept key
+
+-- a block that was read into a buffer breaks no rule, is not kept, and its table is one of so many, if that has a number
+pub record IsReadIn (read : BlockRead) (buffer : Bytes) (blocks : Cached) (tables : ℕ) : Type 0 where
+  pub block : IsBlockIn read.size buffer
+  pub given : read.number < past_cache → read.number < number_of blocks.first tables
+  pub new : kept_of (read.number, read.block) blocks.kept ≡ None
+
+-- where a block was read, it is kept as far as it may be
+abbrev pub MayKeepRead : Option BlockRead → Bytes → Cached → Cached → Type 0
+MayKeepRead None buffer old new = new ≡ old
+MayKeepRead (Some read) buffer old new = MayKeep (read.number, read.block) (take read.size buffer) old new
+
+-- the blocks that a get reads of a store: those that are searched and not kept
+abbrev pub unkept_bound : Kept → State → Bytes → ℕ
+unkept_bound store s key = unless_found (lookup (memory s) key) (unkept store.blocks key store.tables s.tables)
+
+-- A get leaves the store as it is, but for what was read last and the blocks that are kept, and tied to each state that it was
+-- tied to.
+pub record Asked (spelling : Spelling) (filter_bytes : FilterBytes) (tells : Bool) (before after : Kept) (old new : World) : Type 0 where
+  pub same : after ≡ record before { buffer = after.buffer; blocks = after.blocks }
+  pub tied : (s : State) → IsTrue tells → Tied spelling filter_bytes before s old → Tied spelling filter_bytes after s new
 
 -- a read failed, and only where the count of such failures rose
 abbrev pub ReadRose : World → World → DiskFault → Type 0

@@ -1,5 +1,5 @@
 -- What a store keeps in memory.
-use Rattle.std.specs.Prelude.{◌≡◌, ◌<◌, ◌≤◌, Bool, List, map, Option}
+use Rattle.std.specs.Prelude.{◌≡◌, ◌<◌, ◌≤◌, Bool, List, length, map, Option}
 use Rattle.std.specs.List.{AllByRecursion}
 use Rattle.byte_fields.specs.declared.parts.Row.{Row}
 use Rattle.entry_model.specs.Entries.{Entry, IsEntry, filled}
@@ -12,11 +12,12 @@ use Rattle.manifest_model.specs.Laws.{IsVersion}
 use Rattle.manifest_model.specs.Version.{log_page_of}
 use Rattle.map_model.specs.SortedMap.{Bytes}
 use Rattle.mem_table.specs.Table.{MemoryTable}
+use Rattle.store_core.specs.Caching.{AreNumbered, Cached}
 use Rattle.table_file.specs.Opened.{Opened}
 use Rattle.store_core.specs.Running.{MayRunIn}
 
 -- whether it is stopped, its version, the open table of each row, the merge that runs, where its log goes on, the newest entries,
--- and the bytes that were read or built last
+-- the bytes that were read or built last, and the blocks that gets keep
 pub record Kept : Type 0 where
   pub stopped : Bool
   pub manifest : Manifest
@@ -25,6 +26,7 @@ pub record Kept : Type 0 where
   pub log : Position
   pub memory : MemoryTable
   pub buffer : Bytes
+  pub blocks : Cached
 
 -- the rows of open tables
 abbrev pub rows_of : List Opened → List Row
@@ -46,3 +48,4 @@ pub record IsWhole (store : Kept) : Type 0 where
   pub area : store.manifest.version.log_page ≡ log_page_of store.log.area
   pub entries : IsOfEntries store.log store.memory.entries
   pub job : MayRunIn store.manifest.version store.tables store.job
+  pub numbered : AreNumbered store.blocks (length store.tables)

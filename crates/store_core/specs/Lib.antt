@@ -15,6 +15,7 @@ pub mod Running
 pub mod Kept
 pub mod Tied
 pub mod Answers
+pub mod Caching
 pub mod Getting
 pub mod Ends
 pub mod Opening
@@ -26,3 +27,4 @@ pub mod Telling
 pub mod Scans
 pub mod Counts
 pub mod Replacing
+pub mod Compacting

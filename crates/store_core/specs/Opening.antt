@@ -21,6 +21,7 @@ use Rattle.manifest_model.specs.Tables.{KeyRange, ranges_fault}
 use Rattle.manifest_model.specs.Version.{body_place}
 use Rattle.map_model.specs.SortedMap.{Bytes}
 use Rattle.store_core.specs.Answers.{is_write}
+use Rattle.store_core.specs.Caching.{none_cached}
 use Rattle.store_core.specs.Getting.{ReadRose}
 use Rattle.store_core.specs.Kept.{Kept, rows_of}
 use Rattle.store_core.specs.declared.error.StoreError.{StoreError}
@@ -75,7 +76,8 @@ pub record IsVersionOpened (spelling : Spelling) (image : Image) (m : Manifest) 
   pub ranges : ranges_fault (map opened_range ts) ≡ None
 
 -- The image opens with the version of the store, which stands in its slot, and with some log: the one in memory ends behind its
--- entries, the newest of them are in the memory table, the open tables are those of the version's rows, and no merge runs.
+-- entries, the newest of them are in the memory table, the open tables are those of the version's rows, no merge runs, and no
+-- block is kept.
 pub record IsOpenedAs (spelling : Spelling) (image : Image) (store : Kept) : Type 0 where
   pub loaded : IsLoaded image store.manifest
   pub entries : List Entry
@@ -85,6 +87,7 @@ pub record IsOpenedAs (spelling : Spelling) (image : Image) (store : Kept) : Typ
   pub job : store.job ≡ None
   pub log : store.log.filled ≡ filled entries
   pub memory : store.memory.entries ≡ newest_entries entries
+  pub none_kept : store.blocks ≡ none_cached
 
 -- no store exactly where no slot is open, and damage is the first of the image
 abbrev pub IsOpenAnswer : Spelling → (Bytes → Fault) → Image → StoreError → Type 0

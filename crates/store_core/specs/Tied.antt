@@ -11,6 +11,7 @@ use Rattle.manifest.specs.Manifest.{Manifest, other_place, place_of}
 use Rattle.state_model.specs.Sound.{IsSound}
 use Rattle.state_model.specs.State.{State}
 use Rattle.state_model.specs.View.{memory}
+use Rattle.store_core.specs.Caching.{AreTrue}
 use Rattle.store_core.specs.Kept.{Kept}
 use Rattle.store_core.specs.Running.{RunsAs}
 use Rattle.table_file.specs.Opened.{Opened}
@@ -23,14 +24,16 @@ pub record IsUnder (spelling : Spelling) (m : Manifest) (opened : List Opened) (
   pub tables : AreHeld spelling s.settings opened s.tables image
   pub job : RunsAs spelling opened running s s.job image
 
--- The state is sound; each image that a crash may leave now stands for it, as the store has it, with the merge that runs; and the
--- log in memory ends behind the state's entries, of which the newest are in the memory table.
+-- The state is sound; each image that a crash may leave now stands for it, as the store has it, with the merge that runs; the log
+-- in memory ends behind the state's entries, of which the newest are in the memory table; and each block that is kept says what
+-- its table says.
 pub record Tied (spelling : Spelling) (filter_bytes : FilterBytes) (store : Kept) (s : State) (w : World) : Type 0 where
   pub sound : IsSound filter_bytes s
   pub none_kept : s.kept ≡ []
   pub images : Now (IsUnder spelling store.manifest store.tables store.job s) w
   pub log : store.log.filled ≡ filled s.log
   pub memory : store.memory.entries ≡ memory s
+  pub blocks : AreTrue store.blocks store.tables s.tables
 
 -- An image of the device shows the store as that of a sound state: it has the version of the store and the state's tables, and
 -- the newest entries of the state's log are in memory.

@@ -1,123 +1,281 @@
 //! What the store says of a key.
-ghost use Rattle.std.specs.Prelude.{◌≡◌, ◌≤◌, ◌+◌, List, length, true, false, Some, None, IsTrue, IfOk, IfErr, IfSome, OnErr, OnOk, MatchResult};
+ghost use Rattle.std.specs.Prelude.{◌≡◌, ◌≤◌, ◌<◌, ◌+◌, ℕ, List, length, take, true, false, is_some, Some, None, IsTrue, IfOk, IfErr, IfSome, OnErr, OnOk, MatchResult};
 ghost use Rattle.std.specs.Option.{option_map};
 ghost use Rattle.std.specs.Borrow.{sem};
-ghost use Rattle.block_model.specs.BlockReading.{block_fault, block_in};
+ghost use Rattle.block_cache.specs.Kept.{kept_of};
+ghost use Rattle.block_model.specs.BlockReading.{block_in};
 ghost use Rattle.block_model.specs.Laws.{joined};
 ghost use Rattle.disk_trait.specs.World.{ReadMoves};
 ghost use Rattle.entry_model.specs.Entries.{Entry, live};
 ghost use Rattle.entry_model.specs.Newest.{lookup};
 ghost use Rattle.filter_api.specs.declared.settings.Settings.{Settings};
 ghost use Rattle.line_model.specs.Limits.{key_limit};
-ghost use Rattle.map_model.specs.SortedMap.{get};
+ghost use Rattle.map_model.specs.SortedMap.{Bytes, get};
 ghost use Rattle.state_model.specs.Bounds.{get_bound, searched};
 ghost use Rattle.state_model.specs.State.{State};
 ghost use Rattle.state_model.specs.View.{first_found, state_map, view};
-ghost use Rattle.store_core.specs.Getting.{IsBlockFault, IsBlockIn, IsFaultIn, IsFoundIn, IsGetRefusal, IsLookFault, IsMet, IsPlaceIn, IsShown, IsUndamaged, entries_by_table, said_at, said_in};
+ghost use Rattle.store_core.specs.Caching.{AreNumbered, AreSame, AreTrue, IsFirst, IsTrueOf, SaysOf, number_of, past_cache, reads_for, said_by, unkept};
+ghost use Rattle.store_core.specs.Getting.{IsBlockFault, IsBlockIn, IsFaultIn, IsFoundAt, IsGetRefusal, IsLookFault, IsMet, IsPlaceIn, IsReadIn, IsShown, IsSpotIn, IsUndamaged, MayKeepRead, entries_by_table, said_at, said_in, unkept_bound};
+ghost use Rattle.store_core.specs.Kept.{Kept};
 ghost use Rattle.level_merge.specs.Held.{AreHeld};
 ghost use Rattle.store_core.specs.Tied.{Tied};
 ghost use Rattle.table_model.specs.Tables.{filter_bytes_of};
 ghost use Rattle.table_file.specs.Faults.{IsNoDamage};
-ghost use Rattle.table_file.specs.Search.{StandsThere, block_for, blocks_of_get, largest_block};
+ghost use Rattle.table_file.specs.Search.{StandsThere, block_for, blocks_of_get, bytes_at, largest_block};
 ghost use Rattle.table_model.specs.Tables as model;
 
+use crate::caching::{CachedBlocks, found_in};
 use crate::error::StoreError;
 use crate::limits::check_key;
 use crate::store::Store;
-use block_format::Block;
 use disk_trait::Disk;
 use filter_api::RangeFilter;
+use std::alloc::Global;
 use table_file::{Table, TableFault, standing_tables_are_read};
 
-// Where the newest entry of a key stands: in the block that the first so many bytes of the buffer are, if in a table.
+// Where an entry stands that was found in a table: in the block that the first so many bytes of the buffer are, or in a kept one.
+#[derive(Clone, Copy)]
+pub(crate) enum Spot {
+    InBuffer(usize),
+    // the number of its table, and its own
+    InCache(u64, u32),
+}
+
+// Where the newest entry of a key stands.
 #[derive(Clone, Copy)]
 pub(crate) enum Place {
     Nowhere,
     InMemory,
-    InBuffer(usize),
+    InTable(Spot),
 }
 
-// Reads the block of a table that may have the key, and answers how many bytes it has, if it has the key.
-fn look_in<F: RangeFilter, D: Disk>(
+// A block that was read into the buffer: the number of its table, its own, and how many bytes it has.
+#[derive(Clone, Copy)]
+pub(crate) struct BlockRead {
+    number: u64,
+    block: u32,
+    size: usize,
+}
+
+// Where a key was found in tables, and the block that was read last for it.
+#[derive(Clone, Copy)]
+struct Looked {
+    found: Option<Spot>,
+    read: Option<BlockRead>,
+}
+
+// Reads the block of a table that may have the key, and answers how many bytes it has, and whether it has the key.
+fn read_in<F: RangeFilter, D: Disk>(
     table: &Table<F>,
     disk: &mut D,
+    block: u32,
     key: &[u8],
     buffer: &mut [u8],
-) -> Result<Option<usize>, TableFault>
+) -> Result<(usize, bool), TableFault>
+    requires named { block_for table.now key.now ≡ Some block }
     requires room { largest_block ≤ length buffer.old }
-    ensures place { IfOk result (λ found. IfSome found (λ size. IsFoundIn size buffer.new key.now)) }
+    ensures block { IfOk result (λ r. IsBlockIn r.0 buffer.new) }
+    ensures has { IfOk result (λ r. r.1 ≡ is_some (lookup (block_in (take r.0 buffer.new)) key.now)) }
     ensures length { length buffer.new ≡ length buffer.old }
-    ensures answer { (settings : Settings) (blocks : List (List Entry)) → IsTrue D.tells → StandsThere F.spelling settings table.now blocks (D.world disk.old).seen.held
-        → IfOk result (λ found. said_in found buffer.new key.now ≡ lookup (joined blocks) key.now) }
+    ensures bytes { IsTrue D.tells → IfOk result (λ r. take r.0 buffer.new ≡ bytes_at table.now block (D.world disk.old).seen.held) }
     ensures undamaged { (settings : Settings) (blocks : List (List Entry)) → IsTrue D.tells → StandsThere F.spelling settings table.now blocks (D.world disk.old).seen.held → IfErr result IsNoDamage }
     ensures shown { IsTrue D.tells → IfErr result (IsBlockFault table.now key.now (D.world disk.old).seen.held) }
-    ensures met { OnErr result (1 ≤ blocks_of_get (block_for table.now key.now)) }
-    ensures moves { ReadMoves (blocks_of_get (block_for table.now key.now)) (D.world disk.old) (D.world disk.new) }
+    ensures moves { ReadMoves 1 (D.world disk.old) (D.world disk.new) }
     ensures cause { IfErr result (IsLookFault (D.world disk.old) (D.world disk.new)) }
 {
-    let Some(block) = table.block_for(key) else {
-        return Ok(None);
-    };
     // no block is larger than the largest
     let room = table.block_bytes(block);
     prove!(room <= buffer.len());
     let size = table.read_block(disk, block, buffer)?;
-    match table.find_in(block, &buffer[..size], key)? {
-        Some(_) => Ok(Some(size)),
-        None => Ok(None),
+    let found = table.find_in(block, &buffer[..size], key)?;
+    Ok((size, found.is_some()))
+}
+
+// The kept block, where it has the key.
+fn find_kept(blocks: &CachedBlocks, number: u64, block: u32, key: &[u8]) -> Option<Spot>
+    requires first { IsFirst (number, block) blocks.now.kept }
+    ensures found { IfSome result (λ spot. (buffer : Bytes) → IsFoundAt spot buffer blocks.now.kept key.now) }
+    ensures said { (buffer : Bytes) → said_in result buffer blocks.now.kept key.now ≡ said_by (kept_of (number, block) blocks.now.kept) key.now }
+{
+    match blocks.find(number, block, key) {
+        Some(_) => Some(Spot::InCache(number, block)),
+        None => None,
     }
+}
+
+// Looks in the block of a table that may have the key: in the kept one, and else reads it.
+fn look_in<F: RangeFilter, D: Disk>(
+    table: &Table<F>,
+    number: u64,
+    blocks: &mut CachedBlocks,
+    disk: &mut D,
+    key: &[u8],
+    buffer: &mut [u8],
+) -> Result<Looked, TableFault>
+    requires room { largest_block ≤ length buffer.old }
+    ensures found { IfOk result (λ l. IfSome l.found (λ spot. IsFoundAt spot buffer.new blocks.new.kept key.now)) }
+    ensures read { IfOk result (λ l. IfSome l.read (λ r. (r.number ≡ number) × IsBlockIn r.size buffer.new × (kept_of (number, r.block) blocks.new.kept ≡ None))) }
+    ensures unread { IfOk result (λ l. l.read ≡ None → buffer.new ≡ buffer.old) }
+    ensures length { length buffer.new ≡ length buffer.old }
+    ensures same { AreSame blocks.old blocks.new }
+    ensures answer { (settings : Settings) (parts : List (List Entry)) → IsTrue D.tells → StandsThere F.spelling settings table.now parts (D.world disk.old).seen.held
+        → ((n : ℕ) (bytes : Bytes) → kept_of (number, n) blocks.old.kept ≡ Some bytes → SaysOf n bytes table.now (joined parts))
+        → IfOk result (λ l. said_in l.found buffer.new blocks.new.kept key.now ≡ lookup (joined parts) key.now) }
+    ensures says { (settings : Settings) (parts : List (List Entry)) → IsTrue D.tells → StandsThere F.spelling settings table.now parts (D.world disk.old).seen.held
+        → IfOk result (λ l. IfSome l.read (λ r. SaysOf r.block (take r.size buffer.new) table.now (joined parts))) }
+    ensures undamaged { (settings : Settings) (parts : List (List Entry)) → IsTrue D.tells → StandsThere F.spelling settings table.now parts (D.world disk.old).seen.held → IfErr result IsNoDamage }
+    ensures shown { IsTrue D.tells → IfErr result (IsBlockFault table.now key.now (D.world disk.old).seen.held) }
+    ensures met { OnErr result (1 ≤ blocks_of_get (block_for table.now key.now)) }
+    ensures moves { ReadMoves (reads_for blocks.old.kept number (block_for table.now key.now)) (D.world disk.old) (D.world disk.new) }
+    ensures cause { IfErr result (IsLookFault (D.world disk.old) (D.world disk.new)) }
+{
+    let Some(block) = table.block_for(key) else {
+        return Ok(Looked {
+            found: None,
+            read: None,
+        });
+    };
+    if blocks.has(number, block) {
+        let found = find_kept(blocks, number, block, key);
+        return Ok(Looked { found, read: None });
+    }
+    let (size, has) = read_in(table, disk, block, key, buffer)?;
+    Ok(Looked {
+        found: has.then_some(Spot::InBuffer(size)),
+        read: Some(BlockRead {
+            number,
+            block,
+            size,
+        }),
+    })
 }
 
 // The same of the first table that has the key.
 fn look_in_all<F: RangeFilter, D: Disk>(
     tables: &[Table<F>],
+    blocks: &mut CachedBlocks,
     disk: &mut D,
     key: &[u8],
     buffer: &mut [u8],
-) -> Result<Option<usize>, TableFault>
+) -> Result<Looked, TableFault>
     requires room { largest_block ≤ length buffer.old }
-    ensures place { IfOk result (λ found. IfSome found (λ size. IsFoundIn size buffer.new key.now)) }
+    ensures found { IfOk result (λ l. IfSome l.found (λ spot. IsFoundAt spot buffer.new blocks.new.kept key.now)) }
+    ensures read { IfOk result (λ l. IfSome l.read (λ r. IsReadIn r buffer.new blocks.new (length tables.now))) }
+    ensures unread { IfOk result (λ l. l.read ≡ None → buffer.new ≡ buffer.old) }
     ensures length { length buffer.new ≡ length buffer.old }
-    ensures answer { (settings : Settings) (states : List model.Table) → IsTrue D.tells → AreHeld F.spelling settings tables.now states (D.world disk.old).seen.held
-        → IfOk result (λ found. said_in found buffer.new key.now ≡ first_found (entries_by_table states) key.now) }
+    ensures same { AreSame blocks.old blocks.new }
+    ensures answer { (settings : Settings) (states : List model.Table) → IsTrue D.tells → AreHeld F.spelling settings tables.now states (D.world disk.old).seen.held → AreTrue blocks.old tables.now states
+        → IfOk result (λ l. said_in l.found buffer.new blocks.new.kept key.now ≡ first_found (entries_by_table states) key.now) }
+    ensures says { (settings : Settings) (states : List model.Table) → IsTrue D.tells → AreHeld F.spelling settings tables.now states (D.world disk.old).seen.held
+        → IfOk result (λ l. IfSome l.read (λ r. r.number < past_cache → IsTrueOf blocks.old.first (r.number, r.block) (take r.size buffer.new) tables.now states)) }
     ensures undamaged { (settings : Settings) (states : List model.Table) → IsTrue D.tells → AreHeld F.spelling settings tables.now states (D.world disk.old).seen.held → IfErr result IsNoDamage }
     ensures shown { IsTrue D.tells → IfErr result (IsFaultIn tables.now key.now (D.world disk.old).seen.held) }
-    ensures bounded { (settings : Settings) (states : List model.Table) → IsTrue D.tells → AreHeld F.spelling settings tables.now states (D.world disk.old).seen.held
-        → (D.world disk.new).seen.reads ≤ (D.world disk.old).seen.reads + searched settings key.now states }
-    ensures met { (settings : Settings) (states : List model.Table) → IsTrue D.tells → AreHeld F.spelling settings tables.now states (D.world disk.old).seen.held
+    ensures bounded { (settings : Settings) (states : List model.Table) → IsTrue D.tells → AreHeld F.spelling settings tables.now states (D.world disk.old).seen.held → AreTrue blocks.old tables.now states
+        → (D.world disk.new).seen.reads ≤ (D.world disk.old).seen.reads + unkept blocks.old key.now tables.now states }
+    ensures met { (settings : Settings) (states : List model.Table) → IsTrue D.tells → AreHeld F.spelling settings tables.now states (D.world disk.old).seen.held → AreTrue blocks.old tables.now states
         → OnErr result (1 ≤ searched settings key.now states) }
     ensures moves { ReadMoves (length tables.now) (D.world disk.old) (D.world disk.new) }
     ensures cause { IfErr result (IsLookFault (D.world disk.old) (D.world disk.new)) }
 {
     let Some((table, older)) = tables.split_first() else {
-        return Ok(None);
+        return Ok(Looked {
+            found: None,
+            read: None,
+        });
     };
-    // the law of the bound: a block is read exactly where the state says that its table is searched
+    // the law of the bound: a block is searched exactly where the state says that its table is
     standing_tables_are_read();
-    match look_in(table, disk, key, buffer)? {
-        Some(size) => Ok(Some(size)),
-        None => look_in_all(older, disk, key, buffer),
+    let number = blocks.number(older.len());
+    let here = look_in(table, number, blocks, disk, key, buffer)?;
+    if here.found.is_some() {
+        return Ok(here);
+    }
+    let later = look_in_all(older, blocks, disk, key, buffer)?;
+    Ok(Looked {
+        found: later.found,
+        read: later.read.or(here.read),
+    })
+}
+
+// Keeps the block that was read last, where one was.
+fn keep_read(alloc: Global, blocks: &mut CachedBlocks, buffer: &[u8], read: Option<BlockRead>)
+    requires sound { IfSome read (λ r. IsBlockIn r.size buffer.now) }
+    requires within { IfSome read (λ r. r.size ≤ length buffer.now) }
+    ensures { MayKeepRead read buffer.now blocks.old blocks.new }
+{
+    if let Some(read) = read {
+        blocks.keep(alloc, read.number, read.block, &buffer[..read.size]);
+    }
+}
+
+// The same, and the block that was read last is kept. It is kept once nothing more is looked for, so that no block is driven out
+// that is still to be searched.
+fn look_and_keep<F: RangeFilter, D: Disk>(
+    alloc: Global,
+    tables: &[Table<F>],
+    blocks: &mut CachedBlocks,
+    disk: &mut D,
+    key: &[u8],
+    buffer: &mut [u8],
+) -> Result<Option<Spot>, TableFault>
+    requires room { largest_block ≤ length buffer.old }
+    ensures place { IfOk result (λ found. IfSome found (λ spot. IsSpotIn spot buffer.new)) }
+    ensures length { length buffer.new ≡ length buffer.old }
+    ensures numbered { AreNumbered blocks.old (length tables.now) → AreNumbered blocks.new (length tables.now) }
+    ensures keeps { (settings : Settings) (states : List model.Table) → IsTrue D.tells → AreHeld F.spelling settings tables.now states (D.world disk.old).seen.held → AreTrue blocks.old tables.now states
+        → AreTrue blocks.new tables.now states }
+    ensures answer { (settings : Settings) (states : List model.Table) → IsTrue D.tells → AreHeld F.spelling settings tables.now states (D.world disk.old).seen.held → AreTrue blocks.old tables.now states
+        → IfOk result (λ found. said_in found buffer.new blocks.new.kept key.now ≡ first_found (entries_by_table states) key.now) }
+    ensures undamaged { (settings : Settings) (states : List model.Table) → IsTrue D.tells → AreHeld F.spelling settings tables.now states (D.world disk.old).seen.held → IfErr result IsNoDamage }
+    ensures shown { IsTrue D.tells → IfErr result (IsFaultIn tables.now key.now (D.world disk.old).seen.held) }
+    ensures bounded { (settings : Settings) (states : List model.Table) → IsTrue D.tells → AreHeld F.spelling settings tables.now states (D.world disk.old).seen.held → AreTrue blocks.old tables.now states
+        → (D.world disk.new).seen.reads ≤ (D.world disk.old).seen.reads + unkept blocks.old key.now tables.now states }
+    ensures within { (settings : Settings) (states : List model.Table) → IsTrue D.tells → AreHeld F.spelling settings tables.now states (D.world disk.old).seen.held → AreTrue blocks.old tables.now states
+        → (D.world disk.new).seen.reads ≤ (D.world disk.old).seen.reads + searched settings key.now states }
+    ensures met { (settings : Settings) (states : List model.Table) → IsTrue D.tells → AreHeld F.spelling settings tables.now states (D.world disk.old).seen.held → AreTrue blocks.old tables.now states
+        → OnErr result (1 ≤ searched settings key.now states) }
+    ensures moves { ReadMoves (length tables.now) (D.world disk.old) (D.world disk.new) }
+    ensures cause { IfErr result (IsLookFault (D.world disk.old) (D.world disk.new)) }
+{
+    // no more are read than the state says
+    standing_tables_are_read();
+    let looked = look_in_all(tables, blocks, disk, key, buffer)?;
+    keep_read(alloc, blocks, buffer, looked.read);
+    Ok(looked.found)
+}
+
+// The place of what was found in tables.
+fn place_of(found: Option<Spot>) -> Place
+    ensures place { (buffer : Bytes) → IfSome found (λ spot. IsSpotIn spot buffer) → IsPlaceIn result buffer }
+    ensures said { (store : Kept) (key : Bytes) → said_at result store key ≡ said_in found store.buffer store.blocks.kept key }
+{
+    match found {
+        Some(spot) => Place::InTable(spot),
+        None => Place::Nowhere,
     }
 }
 
 impl<F: RangeFilter> Store<F> {
     ghost use Rattle.store_core.specs.Ends.{store_ends};
+    ghost use Rattle.store_core.specs.Getting.{Asked};
 
     /// The value of a key, or `None` where it was never put or was deleted last.
     ///
     /// At most one block is read of each table whose filter admits the key and whose keys enclose it, newest first, until
-    /// an entry of the key is found. No memory, no write.
+    /// an entry of the key is found; and none that is kept. The last block that was read is kept, of 64 those that were asked
+    /// for last, where there is memory; else nothing is lost. No memory that could be refused, no write.
     pub fn get<D: Disk>(&mut self, disk: &mut D, key: &[u8]) -> Result<Option<&[u8]>, StoreError>
-        ensures* after { sem 𝓛 (store_ends F.row F.RangeFilter self.entry (λ s. s ≡ record self.old { buffer = s.buffer })) }
+        ensures* after { sem 𝓛 (store_ends F.row F.RangeFilter self.entry (λ s. Asked F.spelling (filter_bytes_of F.spelling F.built_cutoff) D.tells self.old s (D.world disk.old) (D.world disk.new))) }
         ensures answer { (s : State) → IsTrue D.tells → Tied F.spelling (filter_bytes_of F.spelling F.built_cutoff) self.old s (D.world disk.old)
             → IfOk result (λ found. option_map (λ v. v.now) found ≡ get (state_map s) key.now) }
-        ensures tied { (s : State) → Tied F.spelling (filter_bytes_of F.spelling F.built_cutoff) self.old s (D.world disk.old) → Tied F.spelling (filter_bytes_of F.spelling F.built_cutoff) self.old s (D.world disk.new) }
         ensures undamaged { (s : State) → IsTrue D.tells → Tied F.spelling (filter_bytes_of F.spelling F.built_cutoff) self.old s (D.world disk.old) → IfErr result IsUndamaged }
         ensures shown { IsTrue D.tells → IfErr result (IsShown self.old.tables key.now (D.world disk.old).seen.held) }
         ensures met { (s : State) → IsTrue D.tells → Tied F.spelling (filter_bytes_of F.spelling F.built_cutoff) self.old s (D.world disk.old) → IfErr result (IsMet (get_bound s key.now)) }
         ensures refused { MatchResult result (λ _. (self.old.stopped ≡ false) × (key_limit key.now ≡ None)) (IsGetRefusal self.old.stopped key.now (D.world disk.old) (D.world disk.new)) }
         ensures bounded { (s : State) → IsTrue D.tells → Tied F.spelling (filter_bytes_of F.spelling F.built_cutoff) self.old s (D.world disk.old)
             → (D.world disk.new).seen.reads ≤ (D.world disk.old).seen.reads + get_bound s key.now }
+        ensures unkept { (s : State) → IsTrue D.tells → Tied F.spelling (filter_bytes_of F.spelling F.built_cutoff) self.old s (D.world disk.old)
+            → (D.world disk.new).seen.reads ≤ (D.world disk.old).seen.reads + unkept_bound self.old s key.now }
         ensures still { self.old.stopped ≡ true → ReadMoves 0 (D.world disk.old) (D.world disk.new) }
         ensures moves { ReadMoves (length self.old.tables) (D.world disk.old) (D.world disk.new) }
     {
@@ -127,16 +285,19 @@ impl<F: RangeFilter> Store<F> {
 
     // Where the newest entry of a key stands.
     fn look_for<D: Disk>(&mut self, disk: &mut D, key: &[u8]) -> Result<Place, StoreError>
-        ensures same { self.new ≡ record self.old { buffer = self.new.buffer } }
+        ensures same { self.new ≡ record self.old { buffer = self.new.buffer; blocks = self.new.blocks } }
+        ensures tied { (s : State) → IsTrue D.tells → Tied F.spelling (filter_bytes_of F.spelling F.built_cutoff) self.old s (D.world disk.old) → Tied F.spelling (filter_bytes_of F.spelling F.built_cutoff) self.new s (D.world disk.new) }
         ensures place { IfOk result (λ place. IsPlaceIn place self.new.buffer) }
         ensures answer { (s : State) → IsTrue D.tells → Tied F.spelling (filter_bytes_of F.spelling F.built_cutoff) self.old s (D.world disk.old)
-            → IfOk result (λ place. said_at place self.new.memory.entries self.new.buffer key.now ≡ view s key.now) }
+            → IfOk result (λ place. said_at place self.new key.now ≡ view s key.now) }
         ensures undamaged { (s : State) → IsTrue D.tells → Tied F.spelling (filter_bytes_of F.spelling F.built_cutoff) self.old s (D.world disk.old) → IfErr result IsUndamaged }
         ensures shown { IsTrue D.tells → IfErr result (IsShown self.old.tables key.now (D.world disk.old).seen.held) }
         ensures met { (s : State) → IsTrue D.tells → Tied F.spelling (filter_bytes_of F.spelling F.built_cutoff) self.old s (D.world disk.old) → IfErr result (IsMet (get_bound s key.now)) }
         ensures refused { MatchResult result (λ _. (self.old.stopped ≡ false) × (key_limit key.now ≡ None)) (IsGetRefusal self.old.stopped key.now (D.world disk.old) (D.world disk.new)) }
         ensures bounded { (s : State) → IsTrue D.tells → Tied F.spelling (filter_bytes_of F.spelling F.built_cutoff) self.old s (D.world disk.old)
             → (D.world disk.new).seen.reads ≤ (D.world disk.old).seen.reads + get_bound s key.now }
+        ensures unkept { (s : State) → IsTrue D.tells → Tied F.spelling (filter_bytes_of F.spelling F.built_cutoff) self.old s (D.world disk.old)
+            → (D.world disk.new).seen.reads ≤ (D.world disk.old).seen.reads + unkept_bound self.old s key.now }
         ensures still { self.old.stopped ≡ true → ReadMoves 0 (D.world disk.old) (D.world disk.new) }
         ensures moves { ReadMoves (length self.old.tables) (D.world disk.old) (D.world disk.new) }
     {
@@ -147,36 +308,26 @@ impl<F: RangeFilter> Store<F> {
         if self.memory.get(key).is_some() {
             return Ok(Place::InMemory);
         }
-        match look_in_all(self.tables.as_slice(), disk, key, &mut self.buffer)? {
-            Some(size) => Ok(Place::InBuffer(size)),
-            None => Ok(Place::Nowhere),
-        }
+        let alloc = *self.buffer.allocator();
+        let tables = self.tables.as_slice();
+        let found = look_and_keep(alloc, tables, &mut self.blocks, disk, key, &mut self.buffer)?;
+        Ok(place_of(found))
     }
 
     // The value there, if the entry is no tombstone.
     fn value_at(&self, place: Place, key: &[u8]) -> Option<&[u8]>
         requires { IsPlaceIn place self.now.buffer }
-        ensures { option_map (λ v. v.now) result ≡ live (said_at place self.now.memory.entries self.now.buffer key.now) }
+        ensures { option_map (λ v. v.now) result ≡ live (said_at place self.now key.now) }
     {
         let found = match place {
             Place::Nowhere => None,
             Place::InMemory => self.memory.get(key),
-            Place::InBuffer(size) => found_in(&self.buffer[..size], key),
+            Place::InTable(Spot::InBuffer(size)) => found_in(&self.buffer[..size], key),
+            Place::InTable(Spot::InCache(number, block)) => self.blocks.find(number, block, key),
         };
         match found {
             Some(value) => value,
             None => None,
         }
-    }
-}
-
-// What a block that breaks no rule says of a key.
-fn found_in<'a>(bytes: &'a [u8], key: &[u8]) -> Option<Option<&'a [u8]>>
-    requires { block_fault bytes.now ≡ None }
-    ensures { option_map (λ found. option_map (λ v. v.now) found) result ≡ lookup (block_in bytes.now) key.now }
-{
-    match Block::read_and_find(bytes, key) {
-        Ok(found) => found,
-        Err(_) => None,
     }
 }

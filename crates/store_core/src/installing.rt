@@ -46,6 +46,8 @@ impl<F: RangeFilter> Store<F> {
         self.tables.reserve(job.tables().len())?;
         match install(alloc, disk, &next) {
             Ok(()) => {
+                // no table behind it has a number that one before it had
+                self.blocks.renumber(self.tables.len());
                 take_merged(&mut self.tables, &job);
                 put_made(&mut self.tables, job.into_tables());
                 self.version = next.installed();

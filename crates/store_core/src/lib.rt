@@ -4,8 +4,10 @@
 //! a device an empty store, and [`Store::open_store`] opens the one that stands there. [`Store::put`] and [`Store::delete`]
 //! write a record to the log before the entry stands in memory; where it does not fit, [`Store::flush`] makes the memory a
 //! table of level 0. [`Store::get`] looks for a key in memory and then in the tables, newest first, and reads at most one
-//! block of each. [`Store::seek`] and [`Store::range`] give the pairs between two bounds, by rising keys: they open those
-//! tables alone whose filter admits the bounds. [`Store::tend`] merges tables, a slice at each call.
+//! block of each, and none that it keeps. [`Store::seek`] and [`Store::range`] give the pairs between two bounds, by rising
+//! keys: they open those tables alone whose filter admits the bounds. [`Store::tend`] merges tables, a slice at each call;
+//! [`Store::compact`] merges
+//! all that the store holds, in one call.
 //!
 //! `specs/Tied` has what a caller may rest on: a store value, the device under it and a state of `state_model` are one,
 //! where each image that a crash may leave stands for that state, the tables in memory are those of its pages, and the
@@ -23,6 +25,8 @@
 //! ```
 #![tactic(auto)]
 
+mod caching;
+mod compacting;
 mod counting;
 mod error;
 mod explaining;

@@ -11,12 +11,14 @@ ghost use Rattle.manifest_model.specs.Laws.{IsVersion};
 ghost use Rattle.manifest_model.specs.Tables.{follows, ranges_fault};
 ghost use Rattle.manifest_model.specs.Version.{log_page_of};
 ghost use Rattle.state_model.specs.State.{State};
+ghost use Rattle.store_core.specs.Caching.{none_cached};
 ghost use Rattle.store_core.specs.Kept.{rows_of};
 ghost use Rattle.store_core.specs.Answers.{IsFailure};
 ghost use Rattle.store_core.specs.Opening.{AreOpened, IsOpenFault, IsOpenRefusal, IsOpenAnswer, IsOpenedAs, IsRangesDamage, IsTableAnswer, IsTablesAnswer, IsVersionOpened, IsWide, opened_range};
 ghost use Rattle.store_core.specs.Tied.{Tied};
 ghost use Rattle.table_model.specs.Tables.{filter_bytes_of};
 
+use crate::caching::CachedBlocks;
 use crate::error::StoreError;
 use crate::store::Store;
 use byte_fields::{Damage, Part, Row};
@@ -182,12 +184,13 @@ impl<F: RangeFilter> Store<F> {
         requires log { log.filled ≡ filled entries.items }
         requires sound { AllByRecursion IsEntry entries.items }
         requires fits { filled entries.items < log_bytes }
-        ensures store { IfOk result (λ store. store ≡ record { stopped = false; manifest = version; tables = tables.tables; job = None; log = log; memory = store.memory; buffer = store.buffer }) }
+        ensures store { IfOk result (λ store. store ≡ record { stopped = false; manifest = version; tables = tables.tables; job = None; log = log; memory = store.memory; buffer = store.buffer; blocks = none_cached }) }
         ensures memory { IfOk result (λ store. store.memory.entries ≡ newest_entries entries.items) }
         ensures cause { IfErr result (λ why. why ≡ StoreError.Memory) }
     {
         let memory = MemTable::fill(entries)?;
         let buffer = vec![in alloc; 0; LARGEST_BLOCK_BYTES]?;
+        let blocks = CachedBlocks::new(alloc)?;
         Ok(Store {
             stopped: false,
             version,
@@ -196,6 +199,7 @@ impl<F: RangeFilter> Store<F> {
             log,
             memory,
             buffer,
+            blocks,
         })
     }
 }

@@ -1,6 +1,7 @@
 //! The store in memory.
 ghost use Rattle.std.specs.Prelude.{◌≡◌};
 
+use crate::caching::CachedBlocks;
 use filter_api::RangeFilter;
 use gate_log::Log;
 use level_merge::Job;
@@ -22,6 +23,8 @@ pub struct Store<F: RangeFilter> {
     pub(crate) memory: MemTable,
     // room for the largest block, in which records are built too
     pub(crate) buffer: Vec<u8>,
+    // those that were read last by gets
+    pub(crate) blocks: CachedBlocks,
 }
 
 impl<F: RangeFilter> Model for Store<F> {
@@ -31,9 +34,9 @@ impl<F: RangeFilter> Model for Store<F> {
 
     ghost Value = { Kept };
 
-    ghost view = { λ s. record { stopped = s.stopped; manifest = s.version; tables = s.tables.tables; job = s.job; log = s.log; memory = s.memory; buffer = s.buffer.items } };
+    ghost view = { λ s. record { stopped = s.stopped; manifest = s.version; tables = s.tables.tables; job = s.job; log = s.log; memory = s.memory; buffer = s.buffer.items; blocks = s.blocks } };
 
-    ghost invariant = { λ s. IsWhole (record { stopped = s.stopped; manifest = s.version; tables = s.tables.tables; job = s.job; log = s.log; memory = s.memory; buffer = s.buffer.items })
+    ghost invariant = { λ s. IsWhole (record { stopped = s.stopped; manifest = s.version; tables = s.tables.tables; job = s.job; log = s.log; memory = s.memory; buffer = s.buffer.items; blocks = s.blocks })
         × (vec_len s.buffer ≡ largest_block) };
 }
 

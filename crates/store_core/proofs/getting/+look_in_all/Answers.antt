@@ -1,85 +1,235 @@
-use Rattle.std.proofs.Common.{rules, ◌≡◌, ◌≤◌, ◌+◌, ◌-◌, ℕ, List, refl, sym, subst, arith}
+use Rattle.std.proofs.Common.{rules, ◌≡◌, ◌≤◌, ◌<◌, ◌+◌, ◌-◌, ◌∙◌, ℕ, List, ◌∷◌, suc, take, length, refl, sym, ap, subst, arith, false, true}
 use Rattle.std.proofs.lemmas.Result.{IfErr-weaker}
-use Rattle.std.specs.Prelude.{IfSome, Option, None, OnErr, Result, Ok, Err}
+use Rattle.std.specs.Option.{option_or}
+use Rattle.std.specs.Prelude.{IfSome, Option, None, Some, OnErr, Result, Ok, Err, is_some}
+use Rattle.block_cache.specs.Kept.{kept_of}
 use Rattle.block_model.specs.Laws.{joined}
+use Rattle.disk_trait.proofs.Calls.{reads_more, reads_then}
+use Rattle.disk_trait.specs.World.{ReadMoves}
 use Rattle.entry_model.specs.Newest.{lookup}
+use Rattle.map_model.specs.SortedMap.{Bytes}
 use Rattle.state_model.specs.Bounds.{searched}
-use Rattle.store_core.specs.Getting.{IsFoundIn, said_in}
+use Rattle.state_model.specs.View.{first_found}
+use Rattle.store_core.specs.Caching.{AreTrue, IsTrueOf, number_of, past_cache, reads_for, unkept}
+use Rattle.store_core.specs.Getting.{IsReadIn, entries_by_table, said_in}
 use Rattle.level_merge.specs.Held.{AreHeld}
-use Rattle.store_core.proofs.Founds.{found_first}
-use Rattle.store_core.proofs.ReadBounds.{searched_first, searched_on}
+use Rattle.store_core.specs.declared.getting.BlockRead.{BlockRead}
+use Rattle.store_core.proofs.Caches.{same_then, true_same}
+use Rattle.store_core.proofs.Founds.{said_first}
+use Rattle.store_core.proofs.Lookings.{at_most_one, by_first, found_said, no_entry, nothing_said, older_true, read_first, read_later, read_true, said_next, says_of_number, true_later, unkept_first, unkept_next, unkept_same, unread_both}
+use Rattle.store_core.proofs.ReadBounds.{first_bound, next_bound, searched_first}
 use Rattle.store_core.proofs.ShownBlocks.{first_fault, older_fault}
+use Rattle.table_file.specs.Search.{block_for}
 use Rattle.table_model.specs.Tables.{Table}
+use Rattle.table_file.specs.Opened.{Opened}
 use Rattle.store_core.proofs.getting.+look_in_all.Goals as goal
 
--- what was read since
-later_reads : (before now most : ℕ) → now ≤ before + most → now - before ≤ most
-later_reads before now most le = omega (arith, le)
+-- ---- a fault in the first table
 
-pub returns-in-Some-2-clause-answer : goal.returns-in-Some-2-clause-answer
-returns-in-Some-2-clause-answer g t c settings states tells held =
-    let buffer = c.look_in.new.buffer in
+pub returns-in_err-here-clause-bounded : goal.returns-in_err-here-clause-bounded
+returns-in_err-here-clause-bounded g t c settings states tells held are =
+    let old = g.D.Disk.world c.args.disk.now in
+    let new = g.D.Disk.world c.look_in.new.disk in
     let key = c.args.key.now in
-    let place = subst (λ (o : Option ℕ). IfSome o (λ size. IsFoundIn size buffer key)) c.in-Some-2.is c.in_ok-size.ensures.place in
-    found_first g.F.RangeFilter.spelling settings c.in-Some.table.now c.in-Some.older.now _ key c.args.tables.now states _ c.in-Some.ensures.cases.0 held place.some
-    (λ blocks stands. subst (λ (o : Option ℕ). said_in o buffer key ≡ lookup (joined blocks) key) c.in-Some-2.is (c.in_ok-size.ensures.answer settings blocks tells stands))
+    let blocks = c.args.blocks.now in
+    let first = c.in-Some.table.now in
+    let more = c.in-Some.older.now in
+    let num : c.number-number.result ≡ number_of blocks.first (length more) = c.number-number.ensures in
+    let reads = subst (λ (k : ℕ). new.seen.reads ≤ old.seen.reads + reads_for blocks.kept k (block_for first key)) num c.look_in.ensures.moves.reads in
+    by_first g.F.RangeFilter.spelling settings first more old.seen.held (λ ts us. new.seen.reads ≤ old.seen.reads + unkept blocks key ts us)
+    (λ one older h rest. let most = unkept_first blocks key first more one older in omega (arith, reads, most)) c.args.tables.now states c.in-Some.ensures.cases.0 held
 
-pub returns-in_err-size-clause-bounded : goal.returns-in_err-size-clause-bounded
-returns-in_err-size-clause-bounded g t c settings states tells held =
+pub returns-in_err-here-clause-met : goal.returns-in_err-here-clause-met
+returns-in_err-here-clause-met g t c settings states tells held are =
     let most = searched_first c.standing_tables_are_read.ensures.keys g.F.RangeFilter.spelling settings c.in-Some.table.now c.in-Some.older.now _ c.args.key.now c.args.tables.now states c.in-Some.ensures.cases.0 held in
-    omega (arith, c.look_in.ensures.moves.reads, most)
+    let here : 1 ≤ searched settings c.args.key.now states = omega (arith, c.in_err-here.ensures.met, most) in
+    search rules
 
-pub returns-in-Some-2-clause-bounded : goal.returns-in-Some-2-clause-bounded
-returns-in-Some-2-clause-bounded g t c settings states tells held =
-    let most = searched_first c.standing_tables_are_read.ensures.keys g.F.RangeFilter.spelling settings c.in-Some.table.now c.in-Some.older.now _ c.args.key.now c.args.tables.now states c.in-Some.ensures.cases.0 held in
-    omega (arith, c.look_in.ensures.moves.reads, most)
+pub returns-in_err-here-clause-shown : goal.returns-in_err-here-clause-shown
+returns-in_err-here-clause-shown g t c tells =
+    let here = first_fault c.in-Some.table.now c.in-Some.older.now c.args.tables.now c.args.key.now (g.D.Disk.world c.args.disk.now).seen.held c.in_err-here.field-0.0 c.in-Some.ensures.cases.0 (c.in_err-here.ensures.shown tells) in
+    search rules
 
-pub returns-in-None-clause-bounded : goal.returns-in-None-clause-bounded
-returns-in-None-clause-bounded g t c settings states tells held =
+-- ---- the first table has the key
+
+pub returns-then-is_some-clause-read : goal.returns-then-is_some-clause-read
+returns-then-is_some-clause-read g t c =
+    let blocks = c.args.blocks.now in
+    let more = c.in-Some.older.now in
+    let num : c.number-number.result ≡ number_of blocks.first (length more) = c.number-number.ensures in
+    subst (λ (ts : List Opened). IfSome c.in_ok-here.here.read (λ r. IsReadIn r c.look_in.new.buffer c.look_in.new.blocks (length ts))) (sym c.in-Some.ensures.cases.0)
+    (read_first c.in_ok-here.here.read c.look_in.new.buffer c.look_in.new.blocks c.number-number.result (length more) (num ∙ ap (λ (n : ℕ). number_of n (length more)) (sym c.look_in.ensures.same.first)) c.in_ok-here.ensures.read)
+
+pub returns-then-is_some-clause-answer : goal.returns-then-is_some-clause-answer
+returns-then-is_some-clause-answer g t c settings states tells held are =
+    let spelling = g.F.RangeFilter.spelling in
+    let image = (g.D.Disk.world c.args.disk.now).seen.held in
+    let key = c.args.key.now in
+    let blocks = c.args.blocks.now in
+    let first = c.in-Some.table.now in
+    let more = c.in-Some.older.now in
+    let num : c.number-number.result ≡ number_of blocks.first (length more) = c.number-number.ensures in
+    let said = said_in c.in_ok-here.here.found c.look_in.new.buffer c.look_in.new.blocks.kept key in
+    by_first spelling settings first more image (λ ts us. AreTrue blocks ts us → said ≡ first_found (entries_by_table us) key)
+    (λ one older h rest ours. said_first spelling settings first one older image h key said
+    (c.in_ok-here.ensures.answer settings h.blocks tells h.stands (says_of_number spelling settings first more one older image h blocks c.number-number.result num ours))
+    (found_said c.in_ok-here.here.found c.look_in.new.buffer c.look_in.new.blocks.kept key (sym c.is_some.ensures ∙ c.if-is_some.true) c.in_ok-here.ensures.found))
+    c.args.tables.now states c.in-Some.ensures.cases.0 held are
+
+pub returns-then-is_some-clause-says : goal.returns-then-is_some-clause-says
+returns-then-is_some-clause-says g t c settings states tells held =
+    let spelling = g.F.RangeFilter.spelling in
+    let image = (g.D.Disk.world c.args.disk.now).seen.held in
+    let blocks = c.args.blocks.now in
+    let first = c.in-Some.table.now in
+    let more = c.in-Some.older.now in
+    let num : c.number-number.result ≡ number_of blocks.first (length more) = c.number-number.ensures in
+    by_first spelling settings first more image
+    (λ ts us. IfSome c.in_ok-here.here.read (λ r. r.number < past_cache → IsTrueOf blocks.first (r.number, r.block) (take r.size c.look_in.new.buffer) ts us))
+    (λ one older h rest. read_true spelling settings first more one older image h blocks c.number-number.result num c.in_ok-here.here.read c.look_in.new.buffer c.look_in.new.blocks c.in_ok-here.ensures.read
+    (c.in_ok-here.ensures.says settings h.blocks tells h.stands))
+    c.args.tables.now states c.in-Some.ensures.cases.0 held
+
+pub returns-then-is_some-clause-bounded : goal.returns-then-is_some-clause-bounded
+returns-then-is_some-clause-bounded g t c settings states tells held are =
+    let old = g.D.Disk.world c.args.disk.now in
+    let new = g.D.Disk.world c.look_in.new.disk in
+    let key = c.args.key.now in
+    let blocks = c.args.blocks.now in
+    let first = c.in-Some.table.now in
+    let more = c.in-Some.older.now in
+    let num : c.number-number.result ≡ number_of blocks.first (length more) = c.number-number.ensures in
+    let reads = subst (λ (k : ℕ). new.seen.reads ≤ old.seen.reads + reads_for blocks.kept k (block_for first key)) num c.look_in.ensures.moves.reads in
+    by_first g.F.RangeFilter.spelling settings first more old.seen.held (λ ts us. new.seen.reads ≤ old.seen.reads + unkept blocks key ts us)
+    (λ one older h rest. let most = unkept_first blocks key first more one older in omega (arith, reads, most)) c.args.tables.now states c.in-Some.ensures.cases.0 held
+
+-- ---- the older tables
+
+pub returns-in_err-later-clause-same : goal.returns-in_err-later-clause-same
+returns-in_err-later-clause-same g t c = same_then c.args.blocks.now c.look_in.new.blocks c.look_in_all.new.blocks c.look_in.ensures.same c.look_in_all.ensures.same
+
+pub returns-clause-same : goal.returns-clause-same
+returns-clause-same g t c = same_then c.args.blocks.now c.look_in.new.blocks c.look_in_all.new.blocks c.look_in.ensures.same c.look_in_all.ensures.same
+
+pub returns-clause-read : goal.returns-clause-read
+returns-clause-read g t c =
+    let blocks = c.args.blocks.now in
+    let more = c.in-Some.older.now in
+    let num : c.number-number.result ≡ number_of blocks.first (length more) = c.number-number.ensures in
+    subst (λ (ts : List Opened). IfSome c.or.result (λ r. IsReadIn r c.look_in_all.new.buffer c.look_in_all.new.blocks (length ts))) (sym c.in-Some.ensures.cases.0)
+    (subst (λ (o : Option BlockRead). IfSome o (λ r. IsReadIn r c.look_in_all.new.buffer c.look_in_all.new.blocks (suc (length more)))) (sym c.or.ensures)
+    (read_later blocks c.look_in.new.blocks c.look_in_all.new.blocks c.look_in.ensures.same c.look_in_all.ensures.same c.number-number.result (length more) num c.look_in.new.buffer c.look_in_all.new.buffer
+    c.in_ok-later.later.read c.in_ok-here.here.read c.in_ok-later.ensures.read c.in_ok-later.ensures.unread c.in_ok-here.ensures.read))
+
+pub returns-clause-unread : goal.returns-clause-unread
+returns-clause-unread g t c none =
+    unread_both c.args.blocks.now c.look_in.new.blocks c.look_in_all.new.blocks c.look_in.ensures.same c.look_in_all.ensures.same c.number-number.result (length c.in-Some.older.now) c.number-number.ensures c.look_in.new.buffer c.look_in_all.new.buffer
+    c.in_ok-later.later.read c.in_ok-here.here.read c.args.buffer.now c.in_ok-later.ensures.unread c.in_ok-here.ensures.unread (sym c.or.ensures ∙ none)
+
+pub returns-clause-answer : goal.returns-clause-answer
+returns-clause-answer g t c settings states tells held are =
+    let spelling = g.F.RangeFilter.spelling in
+    let image = (g.D.Disk.world c.args.disk.now).seen.held in
+    let key = c.args.key.now in
+    let blocks = c.args.blocks.now in
+    let first = c.in-Some.table.now in
+    let more = c.in-Some.older.now in
+    let num : c.number-number.result ≡ number_of blocks.first (length more) = c.number-number.ensures in
+    let said = said_in c.in_ok-later.later.found c.look_in_all.new.buffer c.look_in_all.new.blocks.kept key in
+    let nothing = nothing_said c.in_ok-here.here.found c.look_in.new.buffer c.look_in.new.blocks.kept key (sym c.is_some.ensures ∙ c.if-is_some.false) in
+    by_first spelling settings first more image (λ ts us. AreTrue blocks ts us → said ≡ first_found (entries_by_table us) key)
+    (λ one older h rest ours.
+    let says = c.in_ok-here.ensures.answer settings h.blocks tells h.stands (says_of_number spelling settings first more one older image h blocks c.number-number.result num ours) in
+    said_next spelling settings first one image h key (sym nothing ∙ says) older said
+    (c.in_ok-later.ensures.answer settings older tells (subst (AreHeld spelling settings more older) (sym c.look_in.ensures.moves.held) rest)
+    (true_same blocks c.look_in.new.blocks more older c.look_in.ensures.same (older_true blocks first more one older ours))))
+    c.args.tables.now states c.in-Some.ensures.cases.0 held are
+
+pub returns-clause-says : goal.returns-clause-says
+returns-clause-says g t c settings states tells held =
+    let spelling = g.F.RangeFilter.spelling in
+    let image = (g.D.Disk.world c.args.disk.now).seen.held in
+    let blocks = c.args.blocks.now in
+    let first = c.in-Some.table.now in
+    let more = c.in-Some.older.now in
+    let num : c.number-number.result ≡ number_of blocks.first (length more) = c.number-number.ensures in
+    subst (λ (o : Option BlockRead). IfSome o (λ r. r.number < past_cache → IsTrueOf blocks.first (r.number, r.block) (take r.size c.look_in_all.new.buffer) c.args.tables.now states)) (sym c.or.ensures)
+    (by_first spelling settings first more image
+    (λ ts us. IfSome (option_or c.in_ok-later.later.read c.in_ok-here.here.read) (λ r. r.number < past_cache → IsTrueOf blocks.first (r.number, r.block) (take r.size c.look_in_all.new.buffer) ts us))
+    (λ one older h rest. true_later blocks first more one older c.look_in.new.buffer c.look_in_all.new.buffer c.look_in.new.blocks c.look_in_all.new.blocks c.in_ok-later.later.read c.in_ok-here.here.read
+    c.look_in.ensures.same c.look_in_all.ensures.same c.in_ok-later.ensures.read
+    (c.in_ok-later.ensures.says settings older tells (subst (AreHeld spelling settings more older) (sym c.look_in.ensures.moves.held) rest))
+    c.in_ok-later.ensures.unread
+    (read_true spelling settings first more one older image h blocks c.number-number.result num c.in_ok-here.here.read c.look_in.new.buffer c.look_in.new.blocks c.in_ok-here.ensures.read
+    (c.in_ok-here.ensures.says settings h.blocks tells h.stands)))
+    c.args.tables.now states c.in-Some.ensures.cases.0 held)
+
+pub returns-in_err-later-clause-bounded : goal.returns-in_err-later-clause-bounded
+returns-in_err-later-clause-bounded g t c settings states tells held are =
     let spelling = g.F.RangeFilter.spelling in
     let old = g.D.Disk.world c.args.disk.now in
-    let between = g.D.Disk.world c.look_in.new.disk in
+    let mid = g.D.Disk.world c.look_in.new.disk in
     let new = g.D.Disk.world c.look_in_all.new.disk in
     let key = c.args.key.now in
-    let most = searched_on c.standing_tables_are_read.ensures.keys spelling settings c.in-Some.table.now c.in-Some.older.now old.seen.held key None refl
-    (λ blocks stands. subst (λ (o : Option ℕ). said_in o c.look_in.new.buffer key ≡ lookup (joined blocks) key) c.in-None.is (c.in_ok-size.ensures.answer settings blocks tells stands))
-    (new.seen.reads - between.seen.reads)
-    (λ older there. later_reads between.seen.reads new.seen.reads (searched settings key older)
-    (c.look_in_all.ensures.bounded settings older tells (subst (AreHeld spelling settings c.in-Some.older.now older) (sym c.look_in.ensures.moves.held) there)))
-    c.args.tables.now states c.in-Some.ensures.cases.0 held in
-    omega (arith, c.look_in.ensures.moves.reads, most)
+    let blocks = c.args.blocks.now in
+    let first = c.in-Some.table.now in
+    let more = c.in-Some.older.now in
+    let num : c.number-number.result ≡ number_of blocks.first (length more) = c.number-number.ensures in
+    let reads = subst (λ (k : ℕ). mid.seen.reads ≤ old.seen.reads + reads_for blocks.kept k (block_for first key)) num c.look_in.ensures.moves.reads in
+    let nothing = nothing_said c.in_ok-here.here.found c.look_in.new.buffer c.look_in.new.blocks.kept key (sym c.is_some.ensures ∙ c.if-is_some.false) in
+    by_first spelling settings first more old.seen.held (λ ts us. AreTrue blocks ts us → new.seen.reads ≤ old.seen.reads + unkept blocks key ts us)
+    (λ one older h rest ours.
+    let says = c.in_ok-here.ensures.answer settings h.blocks tells h.stands (says_of_number spelling settings first more one older old.seen.held h blocks c.number-number.result num ours) in
+    let none = no_entry spelling settings first one old.seen.held h key (sym nothing ∙ says) in
+    let later = c.look_in_all.ensures.bounded settings older tells (subst (AreHeld spelling settings more older) (sym c.look_in.ensures.moves.held) rest)
+    (true_same blocks c.look_in.new.blocks more older c.look_in.ensures.same (older_true blocks first more one older ours)) in
+    omega (arith, reads, later, unkept_same blocks c.look_in.new.blocks key more older c.look_in.ensures.same, unkept_next blocks key first more one older none))
+    c.args.tables.now states c.in-Some.ensures.cases.0 held are
 
--- at an Err what is so of all older tables is handed on
-all_err : {T E : Type 0} (Held P : List Table → Type 0) (Q : Type 0) (r : Result T E) → ((older : List Table) → Held older → OnErr r (P older)) → (((older : List Table) → Held older → P older) → Q) → OnErr r Q
-all_err Held P Q (Ok x) each then = tt
-all_err Held P Q (Err e) each then = then each
+pub returns-clause-bounded : goal.returns-clause-bounded
+returns-clause-bounded g t c settings states tells held are =
+    let spelling = g.F.RangeFilter.spelling in
+    let old = g.D.Disk.world c.args.disk.now in
+    let mid = g.D.Disk.world c.look_in.new.disk in
+    let new = g.D.Disk.world c.look_in_all.new.disk in
+    let key = c.args.key.now in
+    let blocks = c.args.blocks.now in
+    let first = c.in-Some.table.now in
+    let more = c.in-Some.older.now in
+    let num : c.number-number.result ≡ number_of blocks.first (length more) = c.number-number.ensures in
+    let reads = subst (λ (k : ℕ). mid.seen.reads ≤ old.seen.reads + reads_for blocks.kept k (block_for first key)) num c.look_in.ensures.moves.reads in
+    let nothing = nothing_said c.in_ok-here.here.found c.look_in.new.buffer c.look_in.new.blocks.kept key (sym c.is_some.ensures ∙ c.if-is_some.false) in
+    by_first spelling settings first more old.seen.held (λ ts us. AreTrue blocks ts us → new.seen.reads ≤ old.seen.reads + unkept blocks key ts us)
+    (λ one older h rest ours.
+    let says = c.in_ok-here.ensures.answer settings h.blocks tells h.stands (says_of_number spelling settings first more one older old.seen.held h blocks c.number-number.result num ours) in
+    let none = no_entry spelling settings first one old.seen.held h key (sym nothing ∙ says) in
+    let later = c.look_in_all.ensures.bounded settings older tells (subst (AreHeld spelling settings more older) (sym c.look_in.ensures.moves.held) rest)
+    (true_same blocks c.look_in.new.blocks more older c.look_in.ensures.same (older_true blocks first more one older ours)) in
+    omega (arith, reads, later, unkept_same blocks c.look_in.new.blocks key more older c.look_in.ensures.same, unkept_next blocks key first more one older none))
+    c.args.tables.now states c.in-Some.ensures.cases.0 held are
 
-pub returns-in_err-size-clause-met : goal.returns-in_err-size-clause-met
-returns-in_err-size-clause-met g t c settings states tells held =
-    let most = searched_first c.standing_tables_are_read.ensures.keys g.F.RangeFilter.spelling settings c.in-Some.table.now c.in-Some.older.now _ c.args.key.now c.args.tables.now states c.in-Some.ensures.cases.0 held in
-    let here : 1 ≤ searched settings c.args.key.now states = omega (arith, c.in_err-size.ensures.met, most) in
-    search rules
-
-pub returns-in-None-clause-met : goal.returns-in-None-clause-met
-returns-in-None-clause-met g t c settings states tells held =
+pub returns-in_err-later-clause-met : goal.returns-in_err-later-clause-met
+returns-in_err-later-clause-met g t c settings states tells held are =
     let spelling = g.F.RangeFilter.spelling in
     let old = g.D.Disk.world c.args.disk.now in
     let key = c.args.key.now in
-    all_err (λ older. AreHeld spelling settings c.in-Some.older.now older old.seen.held) (λ older. 1 ≤ searched settings key older) (1 ≤ searched settings key states) c.look_in_all.result
-    (λ older there. c.look_in_all.ensures.met settings older tells (subst (AreHeld spelling settings c.in-Some.older.now older) (sym c.look_in.ensures.moves.held) there))
-    (λ later.
-    let most = searched_on c.standing_tables_are_read.ensures.keys spelling settings c.in-Some.table.now c.in-Some.older.now old.seen.held key None refl
-    (λ blocks stands. subst (λ (o : Option ℕ). said_in o c.look_in.new.buffer key ≡ lookup (joined blocks) key) c.in-None.is (c.in_ok-size.ensures.answer settings blocks tells stands))
-    1 later c.args.tables.now states c.in-Some.ensures.cases.0 held in
-    omega (arith, most))
-
-pub returns-in_err-size-clause-shown : goal.returns-in_err-size-clause-shown
-returns-in_err-size-clause-shown g t c tells =
-    let here = first_fault c.in-Some.table.now c.in-Some.older.now c.args.tables.now c.args.key.now (g.D.Disk.world c.args.disk.now).seen.held c.in_err-size.field-0.0 c.in-Some.ensures.cases.0 (c.in_err-size.ensures.shown tells) in
+    let blocks = c.args.blocks.now in
+    let first = c.in-Some.table.now in
+    let more = c.in-Some.older.now in
+    let num : c.number-number.result ≡ number_of blocks.first (length more) = c.number-number.ensures in
+    let nothing = nothing_said c.in_ok-here.here.found c.look_in.new.buffer c.look_in.new.blocks.kept key (sym c.is_some.ensures ∙ c.if-is_some.false) in
+    let here : 1 ≤ searched settings key states =
+    by_first spelling settings first more old.seen.held (λ ts us. AreTrue blocks ts us → 1 ≤ searched settings key us)
+    (λ one older h rest ours.
+    let says = c.in_ok-here.ensures.answer settings h.blocks tells h.stands (says_of_number spelling settings first more one older old.seen.held h blocks c.number-number.result num ours) in
+    let none = no_entry spelling settings first one old.seen.held h key (sym nothing ∙ says) in
+    let later = c.in_err-later.ensures.met settings older tells (subst (AreHeld spelling settings more older) (sym c.look_in.ensures.moves.held) rest)
+    (true_same blocks c.look_in.new.blocks more older c.look_in.ensures.same (older_true blocks first more one older ours)) in
+    omega (arith, later, next_bound c.standing_tables_are_read.ensures.keys spelling settings first one old.seen.held h key older none))
+    c.args.tables.now states c.in-Some.ensures.cases.0 held are in
     search rules
 
-pub returns-in-None-clause-shown : goal.returns-in-None-clause-shown
-returns-in-None-clause-shown g t c tells =
-    IfErr-weaker c.look_in_all.result _ _
-    (λ f is. older_fault c.in-Some.table.now c.in-Some.older.now c.args.tables.now c.args.key.now (g.D.Disk.world c.args.disk.now).seen.held (g.D.Disk.world c.look_in.new.disk).seen.held f c.in-Some.ensures.cases.0 c.look_in.ensures.moves.held is)
-    (c.look_in_all.ensures.shown tells)
+pub returns-in_err-later-clause-shown : goal.returns-in_err-later-clause-shown
+returns-in_err-later-clause-shown g t c tells =
+    let here = older_fault c.in-Some.table.now c.in-Some.older.now c.args.tables.now c.args.key.now (g.D.Disk.world c.args.disk.now).seen.held (g.D.Disk.world c.look_in.new.disk).seen.held c.in_err-later.field-0.0 c.in-Some.ensures.cases.0 c.look_in.ensures.moves.held (c.in_err-later.ensures.shown tells) in
+    search rules

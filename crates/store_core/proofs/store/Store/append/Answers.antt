@@ -37,6 +37,7 @@ invariant_of-self g c =
           memory_is = c.set.ensures.newest before.entries before.memory_is;
         };
         job = whole.job;
+        numbered = whole.numbered;
       },
       c.self.invariant.1,
     )
@@ -49,7 +50,7 @@ returns-in-Ok-clause-turns g c s tells is =
     let tied = subst (λ (k : Kept). Tied spelling bytes k s (g.D.Disk.world c.args.disk.now)) (sym c.self.view_is) is in
     let fits = subst (λ (k : Kept). k.log.filled + need e ≤ 262144) (sym c.self.view_is) c.requires.fits in
     append_done c.jobs_are_followed.ensures.image spelling bytes _ s e _ _ _ (same_entry e _ _ c.key.ensures c.value.ensures) tied c.self.invariant.0 fits c.append.ensures.moves _ _ _
-    (c.in-Ok.ensures.crash s.log tells tied.log) refl refl refl c.in-Ok.ensures.filled (c.set.ensures.newest s.log tied.memory) c.requires.sound
+    (c.in-Ok.ensures.crash s.log tells tied.log) refl refl refl refl c.in-Ok.ensures.filled (c.set.ensures.newest s.log tied.memory) c.requires.sound
 
 pub returns-in-Ok-clause-moves : goal.returns-in-Ok-clause-moves
 returns-in-Ok-clause-moves g c =

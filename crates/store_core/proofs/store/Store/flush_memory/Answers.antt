@@ -15,7 +15,7 @@ use Rattle.store_core.specs.Tied.{Tied}
 use Rattle.store_core.specs.declared.error.StoreError.{StoreError}
 use Rattle.store_core.proofs.FlushAnswers.{flush_done, flush_failed, nothing_to_flush, passed_on, plan_of_memory, plan_refused, row_again, row_within, wanted_with}
 use Rattle.store_core.proofs.Plans.{row_free}
-use Rattle.store_core.proofs.Wholes.{begun_where_none, flushed_whole, laid_with, memory_table}
+use Rattle.store_core.proofs.Wholes.{begun_where_none, flushed_whole, laid_with, memory_table, whole_stopped}
 use Rattle.store_core.proofs.Writing.{never}
 use Rattle.store_core.proofs.store.Store.flush_memory.Goals as goal
 use Rattle.store_core.proofs.store.Store.flush_memory.Goals.{in-Device, in_default}
@@ -69,6 +69,9 @@ into_table-requires-clause-within g c =
     row_within g.F.RangeFilter.spelling g.F.RangeFilter.built_cutoff _ _ _ c.in_ok-plan.plan.parts c.in_ok-plan.plan.row _ c.in_ok-plan.ensures.plan c.self.invariant.0.version laid c.in_ok-plan.ensures.next
     c.in_ok-plan.ensures.fits
 
+pub invariant_of-self-in-Device : goal.invariant_of-self-in-Device
+invariant_of-self-in-Device g c = (whole_stopped _ true _ c.reserve.ensures.tables c.self.invariant.0, c.self.invariant.1)
+
 pub invariant_of-self-in-Ok : goal.invariant_of-self-in-Ok
 invariant_of-self-in-Ok g c =
     let parts = c.in_ok-plan.plan.parts in
@@ -80,7 +83,7 @@ invariant_of-self-in-Ok g c =
     let free = row_free g.F.RangeFilter.spelling g.F.RangeFilter.built_cutoff m _ entries parts row next c.self.invariant.0.version (laid_with _ c.self.invariant.0) plan in (
       flushed_whole _ _ c.into_table.result c.in_ok-plan.plan.row c.in_ok-plan.plan.next c.self.invariant.0 c.in_ok-plan.ensures.next
           (omega (arith, plan.epoch, ap (λ (m : _). m.version.epoch) plan.next_is)) plan.next_is c.installed.ensures
-          (c.insert.ensures.tables ∙ ap (λ (ts : List Opened). c.into_table.result ∷ ts) c.reserve.ensures.tables) (ap (λ (t : Opened). t.row) c.into_table.ensures.table) refl free
+          (c.insert.ensures.tables ∙ ap (λ (ts : List Opened). c.into_table.result ∷ ts) c.reserve.ensures.tables) (ap (λ (t : Opened). t.row) c.into_table.ensures.table) refl refl free
           c.in-Ok.ensures.log.1 c.in-Ok.ensures.log.0 c.clear.ensures.empty,
       c.self.invariant.1,
     )
@@ -103,7 +106,7 @@ returns-in-Ok-clause-wrote g c s tells tied =
     flush_done spelling cutoff store s old new current tied some parts row next plan c.in-Ok.log _ _ replaces c.installed.ensures
     (c.insert.ensures.tables ∙ ap (λ (t : Opened). t ∷ c.reserve.new.self.tables) c.into_table.ensures.table
     ∙ ap (λ (ts : List Opened). opened_of cutoff parts row ∷ ts) (c.reserve.ensures.tables ∙ ap (λ (k : Kept). k.tables) c.self.view_is))
-    (ap (λ (k : Kept). k.job) c.self.view_is) c.in-Ok.ensures.log.0 c.clear.ensures.empty
+    (ap (λ (k : Kept). k.job) c.self.view_is) (ap (λ (k : Kept). k.blocks) c.self.view_is) (subst IsWhole c.self.view_is c.self.invariant.0) c.in-Ok.ensures.log.0 c.clear.ensures.empty
 
 pub returns-after-fault-clause-wrote : goal.returns-after-fault-clause-wrote
 returns-after-fault-clause-wrote g c s tells tied =
@@ -131,5 +134,7 @@ returns-after-fault-clause-wrote g c s tells tied =
     elim c.match-fault.branch [ in-Device w ↦ ap (λ (k : Kept). k.log) w.self-is | in_default w ↦ ap (λ (k : Kept). k.log) w.self-is ] ∙ ap (λ (k : Kept). k.log) c.self.view_is in
     let same_memory : after.memory ≡ store.memory =
     elim c.match-fault.branch [ in-Device w ↦ ap (λ (k : Kept). k.memory) w.self-is | in_default w ↦ ap (λ (k : Kept). k.memory) w.self-is ] ∙ ap (λ (k : Kept). k.memory) c.self.view_is in
-    flush_failed spelling cutoff store s old new current tied some parts row next plan after same_manifest same_tables same_job same_log same_memory c.in-Err.fault c.from.result c.from.ensures replaces c.in-Err.ensures.cause
+    let same_blocks : after.blocks ≡ store.blocks =
+    elim c.match-fault.branch [ in-Device w ↦ ap (λ (k : Kept). k.blocks) w.self-is | in_default w ↦ ap (λ (k : Kept). k.blocks) w.self-is ] ∙ ap (λ (k : Kept). k.blocks) c.self.view_is in
+    flush_failed spelling cutoff store s old new current tied some parts row next plan after same_manifest same_tables same_job same_log same_memory same_blocks c.in-Err.fault c.from.result c.from.ensures replaces c.in-Err.ensures.cause
     (λ cause is. elim c.match-fault.branch [ in-Device w ↦ ap (λ (k : Kept). k.stopped) w.self-is | in_default w ↦ search rules ])

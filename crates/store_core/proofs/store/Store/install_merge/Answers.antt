@@ -17,15 +17,18 @@ use Rattle.manifest_model.specs.Version.{log_page_of}
 use Rattle.merge_rows.specs.Steps.{numbers}
 use Rattle.table_file.specs.Opened.{Opened}
 use Rattle.table_model.specs.Tables.{filter_bytes_of}
+use Rattle.store_core.specs.Caching.{AreNumbered, Cached, renumbered}
 use Rattle.store_core.specs.Flushing.{installed_manifest}
 use Rattle.store_core.specs.Kept.{IsWhole, Kept, rows_of}
 use Rattle.store_core.specs.Replacing.{merged_manifest, others_in, put_in, tables_behind}
 use Rattle.store_core.specs.Running.{IsRun, MayRunIn}
 use Rattle.store_core.proofs.Agreed.{tied_agree}
+use Rattle.store_core.proofs.Caches.{numbered_anew}
 use Rattle.store_core.proofs.InstallLists.{others_few}
 use Rattle.store_core.proofs.InstallMerges.{install_done, install_refused, wanted}
 use Rattle.store_core.proofs.InstallRefusals.{below_last, install_is_refused, one_fault}
 use Rattle.store_core.proofs.MergedVersions.{made_few, merged_is_version}
+use Rattle.store_core.proofs.Wholes.{whole_stopped}
 use Rattle.store_core.proofs.store.Store.install_merge.Goals as goal
 use Rattle.store_core.proofs.store.Store.install_merge.Goals.{in-Device, in_default}
 
@@ -41,7 +44,7 @@ returns-in_err-next-clause-installs g c s done tells runs is_done tied =
     let bytes = filter_bytes_of spelling g.F.RangeFilter.built_cutoff in
     let whole = subst IsWhole c.self.view_is c.self.invariant.0 in
     wanted c.standing_tables_agree.ensures spelling bytes c.args.self.now c.args.job s done (g.D.Disk.world c.args.disk.now) whole.slot whole.area whole.version c.requires.run runs is_done tied
-    c.from_residual.result c.args.self.now c.from_residual.ensures.1 refl refl c.requires.taken_out refl refl
+    c.from_residual.result c.args.self.now c.from_residual.ensures.1 refl refl c.requires.taken_out refl refl refl
 
 pub returns-in_err-reserve-clause-installs : goal.returns-in_err-reserve-clause-installs
 returns-in_err-reserve-clause-installs g c s done tells runs is_done tied =
@@ -50,7 +53,7 @@ returns-in_err-reserve-clause-installs g c s done tells runs is_done tied =
     let whole = subst IsWhole c.self.view_is c.self.invariant.0 in
     wanted c.standing_tables_agree.ensures spelling bytes c.args.self.now c.args.job s done (g.D.Disk.world c.args.disk.now) whole.slot whole.area whole.version c.requires.run runs is_done tied
     c.from_residual-in_err-reserve.result _ c.from_residual-in_err-reserve.ensures.1 (ap (λ (k : Kept). k.manifest) c.self.view_is) (c.reserve.ensures.tables ∙ ap (λ (k : Kept). k.tables) c.self.view_is)
-    (ap (λ (k : Kept). k.job) c.self.view_is ∙ c.requires.taken_out) (ap (λ (k : Kept). k.log) c.self.view_is) (ap (λ (k : Kept). k.memory) c.self.view_is)
+    (ap (λ (k : Kept). k.job) c.self.view_is ∙ c.requires.taken_out) (ap (λ (k : Kept). k.log) c.self.view_is) (ap (λ (k : Kept). k.memory) c.self.view_is) (ap (λ (k : Kept). k.blocks) c.self.view_is)
 
 pub install-requires-clause-sound : goal.install-requires-clause-sound
 install-requires-clause-sound g c =
@@ -80,6 +83,9 @@ installed-requires-clause-epoch g c =
     (subst (λ (m : Manifest). AllByRecursion RowFits m.version.rows) c.in_ok-next.ensures.next c.in_ok-next.ensures.fits)) in
     below_last c.in_ok-next.next.version.epoch sound.epoch (λ last. let never = c.in-Ok.ensures.limit.1 last in absurd cc)
 
+pub invariant_of-self-in-Device : goal.invariant_of-self-in-Device
+invariant_of-self-in-Device g c = (whole_stopped _ true _ c.reserve.ensures.tables c.self.invariant.0, c.self.invariant.1)
+
 pub invariant_of-self-in-Ok : goal.invariant_of-self-in-Ok
 invariant_of-self-in-Ok g c =
     let run_in = subst (λ (k : Kept). IsRun k.manifest.version k.tables c.args.job) (sym c.self.view_is) c.requires.run in
@@ -99,6 +105,8 @@ invariant_of-self-in-Ok g c =
         area = ap (λ (m : Manifest). m.version.log_page) c.installed.ensures ∙ ap (λ (m : Manifest). m.version.log_page) c.in_ok-next.ensures.next ∙ whole.area;
         entries = whole.entries;
         job = subst (λ (running : Option Merging). MayRunIn c.installed.result.version c.put_made.new.tables.tables running) (sym none) tt;
+        numbered = subst (λ (b : Cached). AreNumbered b (length c.put_made.new.tables.tables)) (sym (c.renumber.ensures ∙ ap (renumbered c.self.inside.blocks) (c.len.ensures ∙ ap length c.reserve.ensures.tables)))
+            (numbered_anew c.self.inside.blocks (length c.self.inside.tables.tables) (length c.put_made.new.tables.tables) whole.numbered);
       },
       c.self.invariant.1,
     )
@@ -129,7 +137,8 @@ returns-in-Ok-clause-installs g c s done tells runs is_done tied =
     (subst (λ (m : Manifest). Leads {T = Unit {0}} {E = ManifestFault} (StandsInSlot m.slot m.other_open v) (IsOldOrNew (install_of m v)) (IsInstalled (install_of m v)) (Ok c.in-Ok.field-0) a b) next_is
     (c.in-Ok.ensures.crash v tells (sym (ap (λ (m : Manifest). m.version.epoch) next_is))))
     (c.installed.ensures ∙ ap installed_manifest next_is) (tables_are ∙ ap (λ (k : Kept). tables_behind k.tables job) c.self.view_is) (ap (λ (k : Kept). k.job) c.self.view_is ∙ c.requires.taken_out)
-    (ap (λ (k : Kept). k.log) c.self.view_is) (ap (λ (k : Kept). k.memory) c.self.view_is)
+    (ap (λ (k : Kept). k.log) c.self.view_is) (ap (λ (k : Kept). k.memory) c.self.view_is) whole.numbered
+    (c.renumber.ensures ∙ ap (renumbered c.self.inside.blocks) (c.len.ensures ∙ ap length c.reserve.ensures.tables) ∙ ap (λ (k : Kept). renumbered k.blocks (length k.tables)) c.self.view_is)
 
 pub returns-in-Ok-clause-moves : goal.returns-in-Ok-clause-moves
 returns-in-Ok-clause-moves g c =
@@ -191,6 +200,8 @@ returns-after-fault-clause-installs g c s done tells runs is_done tied =
     elim c.match-fault.branch [ in-Device w ↦ ap (λ (k : Kept). k.log) w.self-is | in_default w ↦ ap (λ (k : Kept). k.log) w.self-is ] ∙ ap (λ (k : Kept). k.log) c.self.view_is in
     let same_memory : after.memory ≡ store.memory =
     elim c.match-fault.branch [ in-Device w ↦ ap (λ (k : Kept). k.memory) w.self-is | in_default w ↦ ap (λ (k : Kept). k.memory) w.self-is ] ∙ ap (λ (k : Kept). k.memory) c.self.view_is in
+    let same_blocks : after.blocks ≡ store.blocks =
+    elim c.match-fault.branch [ in-Device w ↦ ap (λ (k : Kept). k.blocks) w.self-is | in_default w ↦ ap (λ (k : Kept). k.blocks) w.self-is ] ∙ ap (λ (k : Kept). k.blocks) c.self.view_is in
     install_refused c.standing_tables_agree.ensures spelling bytes store job s done a whole.slot whole.area whole.version c.requires.run runs is_done tied b
     (subst (λ (m : Manifest). IsVersion m.version) next_is sound) agrees.epoch (subst (λ (m : Manifest). WriteMoves (other_place m.slot) 131072 a b) next_is c.install.ensures.moves)
     c.in-Err.fault c.from.result after c.from.ensures (subst (λ (m : Manifest). HasInstallCause (other_place m.slot) a b c.in-Err.fault) next_is c.in-Err.ensures.cause)
@@ -199,5 +210,5 @@ returns-after-fault-clause-installs g c s done tells runs is_done tied =
     (below_last c.in_ok-next.next.version.epoch sound.epoch (λ last. other (one_fault _ c.in-Err.fault fault.Epoch refl (c.in-Err.ensures.limit.1 last)))))
     (subst (λ (m : Manifest). Leads {T = Unit {0}} {E = ManifestFault} (StandsInSlot m.slot m.other_open v) (IsOldOrNew (install_of m v)) (IsInstalled (install_of m v)) (Err c.in-Err.fault) a b) next_is
     (c.in-Err.ensures.crash v tells (sym (ap (λ (m : Manifest). m.version.epoch) next_is))))
-    same_manifest same_tables no_job same_log same_memory
+    same_manifest same_tables no_job same_log same_memory same_blocks
     (λ cause is. elim c.match-fault.branch [ in-Device w ↦ ap (λ (k : Kept). k.stopped) w.self-is | in_default w ↦ search rules ])

@@ -1,0 +1,150 @@
+-- What a compaction makes of a store, and why it is refused.
+use Rattle.std.specs.Prelude.{◌≡◌, ◌≢◌, ◌⊎◌, ◌<◌, ◌≤◌, ◌+◌, ◌++◌, ℕ, Bool, false, true, List, [], map, length, take, None, Result, Ok, Err, IsOk, IsTrue}
+use Rattle.std.specs.List.{AllByRecursion}
+use Rattle.byte_fields.specs.declared.parts.Row.{Row}
+use Rattle.disk_trait.specs.World.{Now, Rose, World}
+use Rattle.disk_trait.specs.declared.fault.DiskFault.{DiskFault}
+use Rattle.entry_model.specs.Entries.{Entry}
+use Rattle.extent_model.specs.Extents.{AreLaid}
+use Rattle.filter_api.specs.Spellings.{Spelling}
+use Rattle.key_base.specs.Limits.{last_epoch, max_tables}
+use Rattle.level_merge.specs.Held.{AreHeld}
+use Rattle.level_merge.specs.declared.fault.JobFault.{JobFault}
+use Rattle.level_merge.specs.declared.fault.JobFault.TheVariants as job
+use Rattle.line_model.specs.Replies.{LastEpoch}
+use Rattle.log_model.specs.Area.{Position}
+use Rattle.manifest.specs.Manifest.{Manifest}
+use Rattle.manifest_model.specs.Laws.{IsVersion, RowFits}
+use Rattle.manifest_model.specs.Rows.{IsTableRow, extent_of}
+use Rattle.manifest_model.specs.Version.{Version, log_page_of}
+use Rattle.state_model.specs.Changes.{live_entries}
+use Rattle.state_model.specs.Merges.{NoRoom, placed, outputs_for}
+use Rattle.state_model.specs.Sound.{IsSound}
+use Rattle.state_model.specs.State.{State}
+use Rattle.state_model.specs.Taken.{taken}
+use Rattle.state_model.specs.View.{memory}
+use Rattle.store_core.specs.Answers.{is_write, stops, told_limit}
+use Rattle.store_core.specs.Faults.{of_job_fault}
+use Rattle.store_core.specs.Flushing.{other_log_page}
+use Rattle.store_core.specs.Getting.{ReadRose}
+use Rattle.store_core.specs.Kept.{rows_of}
+use Rattle.store_core.specs.Opening.{FaultRose}
+use Rattle.store_core.specs.Tied.{IsUnder}
+use Rattle.store_core.specs.declared.error.StoreError.{StoreError}
+use Rattle.store_core.specs.declared.error.StoreError.TheVariants as error
+use Rattle.table_file.specs.Opened.{Opened}
+use Rattle.table_model.specs.Tables.{FilterBytes, Table}
+
+-- ---- whatever the device is
+
+-- why a compaction is refused, of a store that was stopped or not, whose version has this epoch
+abbrev pub IsCompactRefusal : Bool → ℕ → World → World → StoreError → Type 0
+IsCompactRefusal stopped epoch old new error.Memory = stopped ≡ false
+IsCompactRefusal stopped epoch old new (error.Device cause) = (stopped ≡ false) × FaultRose old new cause
+IsCompactRefusal stopped epoch old new error.Stopped = stopped ≡ true
+IsCompactRefusal stopped epoch old new (error.Limit limit) = (stopped ≡ false) × (told_limit limit ≡ LastEpoch) × (epoch ≡ last_epoch)
+IsCompactRefusal stopped epoch old new (error.Full need gap) = (stopped ≡ false) × (gap < need)
+IsCompactRefusal stopped epoch old new (error.Damaged damage) = stopped ≡ false
+IsCompactRefusal stopped epoch old new error.NotAStore = ⊥
+IsCompactRefusal stopped epoch old new error.AlreadyAStore = ⊥
+IsCompactRefusal stopped epoch old new (error.BadSettings field) = ⊥
+
+-- why its tables are not all written, and why it fails once it is begun: at no limit
+abbrev pub IsWritingFault : World → World → JobFault → Type 0
+IsWritingFault old new job.Memory = Unit {0}
+IsWritingFault old new (job.Device cause) = FaultRose old new cause
+IsWritingFault old new (job.Damaged damage) = Unit {0}
+IsWritingFault old new (job.Full need gap) = gap < need
+
+abbrev pub IsCompactFault : World → World → StoreError → Type 0
+IsCompactFault old new error.Memory = Unit {0}
+IsCompactFault old new (error.Device cause) = FaultRose old new cause
+IsCompactFault old new error.Stopped = ⊥
+IsCompactFault old new (error.Limit limit) = ⊥
+IsCompactFault old new (error.Full need gap) = gap < need
+IsCompactFault old new (error.Damaged damage) = Unit {0}
+IsCompactFault old new error.NotAStore = ⊥
+IsCompactFault old new error.AlreadyAStore = ⊥
+IsCompactFault old new (error.BadSettings field) = ⊥
+
+-- Tables of the deepest level, which lie apart from one another and from those of a version, and no more than a version may have.
+pub record AreCompact (v : Version) (rows : List Row) : Type 0 where
+  pub few : length rows ≤ max_tables
+  pub each : AllByRecursion IsTableRow rows
+  pub deepest : AllByRecursion (λ (row : Row). row.level ≡ 6) rows
+  pub laid : AreLaid v.pages (map extent_of (v.rows ++ rows))
+
+-- the version in which some tables stand alone, and the other log area is in use
+abbrev pub compacted_manifest : Manifest → List Row → Manifest
+compacted_manifest m rows = record m { version = record m.version { log_page = other_log_page m.version; rows = rows } }
+
+-- what is installed is a version of the device, that of these tables and of a log without records
+pub record IsInstalledWhole (old m : Manifest) (opened : List Opened) (log : Position) : Type 0 where
+  pub version : IsVersion m.version
+  pub slot : m.slot ≤ 1
+  pub rows : rows_of opened ≡ m.version.rows
+  pub area : m.version.log_page ≡ log_page_of log.area
+  pub begun : log.filled ≡ 0
+  pub pages : m.version.pages ≡ old.version.pages
+
+-- ---- on a device that stands for a state
+
+-- Each image that a crash may leave now has this version and these tables, and stands for the state, which is sound and has no
+-- job; these entries are the newest of its log.
+pub record IsHeldBy (spelling : Spelling) (filter_bytes : FilterBytes) (m : Manifest) (opened : List Opened) (entries : List Entry) (s : State) (w : World) : Type 0 where
+  pub sound : IsSound filter_bytes s
+  pub no_job : s.job ≡ None
+  pub none_kept : s.kept ≡ []
+  pub images : Now (IsUnder spelling m opened None s) w
+  pub memory : entries ≡ memory s
+
+-- what its live pairs become, and the first of these tables
+abbrev pub compact_tables : FilterBytes → State → Result (List Table) NoRoom
+compact_tables filter_bytes s = placed filter_bytes s.settings s.pages (taken s) 6 (outputs_for s.tables (live_entries s))
+
+abbrev pub first_compact_table : FilterBytes → State → Result (List Table) NoRoom
+first_compact_table filter_bytes s = placed filter_bytes s.settings s.pages (taken s) 6 (take 1 (outputs_for s.tables (live_entries s)))
+
+-- the state in which they stand alone
+abbrev pub compacted_into : List Table → State → State
+compacted_into tables s = record s { epoch = s.epoch + 1; log = []; tables = tables; job = None }
+
+-- A read failed, where there are tables; or a write or a sync, where the first table has room.
+abbrev pub IsFailedCall : FilterBytes → State → World → World → DiskFault → Type 0
+IsFailedCall filter_bytes s old new cause =
+    (ReadRose old new cause × (s.tables ≢ [])) ⊎ ((is_write cause.op ≡ true) × Rose old.seen.write_faults new.seen.write_faults × IsOk (first_compact_table filter_bytes s))
+
+-- Want of memory; a call that failed; or a table that has no room.
+abbrev pub IsWritingCause : FilterBytes → State → World → World → JobFault → Type 0
+IsWritingCause filter_bytes s old new job.Memory = Unit {0}
+IsWritingCause filter_bytes s old new (job.Device cause) = IsFailedCall filter_bytes s old new cause
+IsWritingCause filter_bytes s old new (job.Damaged damage) = ⊥
+IsWritingCause filter_bytes s old new (job.Full need gap) = compact_tables filter_bytes s ≡ Err (record { need = need; gap = gap })
+
+abbrev pub IsCompactCause : FilterBytes → State → World → World → StoreError → Type 0
+IsCompactCause filter_bytes s old new error.Memory = Unit {0}
+IsCompactCause filter_bytes s old new (error.Device cause) = IsFailedCall filter_bytes s old new cause
+IsCompactCause filter_bytes s old new error.Stopped = ⊥
+IsCompactCause filter_bytes s old new (error.Limit limit) = ⊥
+IsCompactCause filter_bytes s old new (error.Full need gap) = compact_tables filter_bytes s ≡ Err (record { need = need; gap = gap })
+IsCompactCause filter_bytes s old new (error.Damaged damage) = ⊥
+IsCompactCause filter_bytes s old new error.NotAStore = ⊥
+IsCompactCause filter_bytes s old new error.AlreadyAStore = ⊥
+IsCompactCause filter_bytes s old new (error.BadSettings field) = ⊥
+
+-- these open tables are those, and stand on each image that a crash may leave now
+pub record AreAllMade (spelling : Spelling) (filter_bytes : FilterBytes) (s : State) (made : List Opened) (w : World) : Type 0 where
+  pub tables : List Table
+  pub placed_so : compact_tables filter_bytes s ≡ Ok tables
+  pub held : Now (AreHeld spelling s.settings made tables) w
+
+-- they stand alone, under this version
+pub record StandAlone (spelling : Spelling) (filter_bytes : FilterBytes) (s : State) (m : Manifest) (opened : List Opened) (w : World) : Type 0 where
+  pub tables : List Table
+  pub placed_so : compact_tables filter_bytes s ≡ Ok tables
+  pub images : Now (IsUnder spelling m opened None (compacted_into tables s)) w
+
+-- why it fails; where the store is not stopped by it, all is as it was
+pub record FailsSo (spelling : Spelling) (filter_bytes : FilterBytes) (m : Manifest) (opened : List Opened) (s : State) (old new : World) (why : StoreError) : Type 0 where
+  pub cause : IsCompactCause filter_bytes s old new why
+  pub stays : stops why ≡ false → Now (IsUnder spelling m opened None s) new
