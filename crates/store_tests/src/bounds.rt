@@ -1,8 +1,8 @@
 //! What a seek may read.
-use crate::plays::{new_state, played};
 use plain_filter::PlainFilter;
 use plain_store::{Reply, Request, get_bound, seek_bound};
 use std::test::Fail;
+use test_stores::{new_state, played};
 
 fn put(key: &[u8]) -> Request<'_> {
     Request::Put { key, value: b"V" }

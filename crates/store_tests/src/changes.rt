@@ -1,16 +1,10 @@
 //! Changes of a store, with faults and crashes between them.
-use crate::stores::{PlainStore, crashed, disk_of, failing, opened};
 use disk_mem::{Choice, MemDisk};
 use filter_api::{Field, Settings};
 use std::alloc::Global;
 use std::test::Fail;
 use store_core::{Limit, StoreError};
-
-const BASE: Settings = Settings {
-    hash_bits: 0,
-    real_bits: 0,
-    ratio: 64,
-};
+use test_stores::{BASE, PlainStore, crashed, disk_of, failing, opened};
 
 const MIXED: Settings = Settings {
     hash_bits: 8,

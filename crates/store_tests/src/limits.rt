@@ -1,9 +1,9 @@
 //! Scripts that come to a limit.
-use crate::plays::{new_state, played};
 use entry_list::Entry;
 use plain_store::{Played, Reply, Request, State, Table};
 use std::alloc::{AllocError, Global};
 use std::test::Fail;
+use test_stores::{new_state, played};
 
 fn zeros(alloc: Global, count: usize) -> Result<Vec<u8>, AllocError> {
     vec![in alloc; 0; count]

@@ -1,5 +1,4 @@
 //! Pairs of a store between two bounds, one by one and counted, with faults and damage between them.
-use crate::stores::{Change, PlainStore, changed, disk_of, failing, opened};
 use byte_fields::{Damage, Part};
 use disk_mem::MemDisk;
 use disk_trait::Disk;
@@ -7,6 +6,7 @@ use plain_filter::PlainFilter;
 use std::alloc::{AllocError, Global};
 use std::test::Fail;
 use store_core::{Limit, Scan, StoreError};
+use test_stores::{Change, PlainStore, changed, disk_of, failing, opened};
 
 type PlainScan<'s> = Scan<'s, PlainFilter>;
 

@@ -1,8 +1,8 @@
 //! Scripts and their replies.
-use crate::plays::{new_state, played};
 use plain_store::{Played, Reply, Request, Table};
 use std::alloc::{AllocError, Global};
 use std::test::Fail;
+use test_stores::{new_state, played};
 
 // What is played over a new store of 512 pages.
 fn begun(alloc: Global, requests: &[Request<'_>]) -> Result<Box<Played>, AllocError> {

@@ -1,7 +1,7 @@
 //! What is told of a key or of a range without a read.
-use crate::stores::{changed, disk_of};
 use std::test::Fail;
 use store_core::{Explained, Limit, StoreError};
+use test_stores::{changed, disk_of};
 
 fn explained(tables: u64, admitted: u64, blocks: u64) -> Result<Explained, StoreError> {
     Ok(Explained {

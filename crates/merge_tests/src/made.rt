@@ -3,7 +3,6 @@ ghost use Rattle.std.specs.Prelude.{◌≡◌, length};
 ghost use Rattle.byte_fields.specs.Spelling.{IsBytes};
 
 use disk_mem::MemDisk;
-use filter_api::Settings;
 use key_base::{MAX_KEY_BYTES, MAX_VALUE_BYTES};
 use plain_filter::PlainFilter;
 use std::alloc::Global;
@@ -11,13 +10,7 @@ use std::test::Fail;
 use table_file::{
     Parts, Table, TableBuilder, Tables, fits_device, open_table, pages_of, write_parts,
 };
-
-/// Filters with no suffix bits.
-pub const BASE: Settings = Settings {
-    hash_bits: 0,
-    real_bits: 0,
-    ratio: 64,
-};
+use test_stores::BASE;
 
 /// A table as a test names it: its level, its first key, its last key, and how many bytes the value of its first key has.
 pub type Named = (u8, &'static [u8], &'static [u8], usize);

@@ -10,8 +10,8 @@ use store_core::{Store, StoreError};
 /// A store with the plain filter.
 pub type PlainStore = Store<PlainFilter>;
 
-// Filters with no suffix bits.
-const BASE: Settings = Settings {
+/// Filters with no suffix bits.
+pub const BASE: Settings = Settings {
     hash_bits: 0,
     real_bits: 0,
     ratio: 64,

@@ -1,17 +1,10 @@
 //! Scripts that are played.
 //!
 //! A state comes in a box, and so does what is played: a function that holds one is then proved soon.
-use filter_api::Settings;
+use crate::stores::BASE;
 use plain_filter::PlainFilter;
 use plain_store::{Played, Request, State, play};
 use std::alloc::{AllocError, Global};
-
-/// Filters with no suffix bits.
-pub const BASE: Settings = Settings {
-    hash_bits: 0,
-    real_bits: 0,
-    ratio: 64,
-};
 
 /// The state of a new store of so many pages.
 pub fn new_state(alloc: Global, pages: u64) -> Result<Box<State>, AllocError> {

@@ -1,9 +1,9 @@
 //! Merges in merge slices, compared with whole ones.
-use crate::plays::{new_state, played};
 use plain_filter::PlainFilter;
 use plain_store::{Played, Reply, Request, State, play_in_slices, sliced};
 use std::alloc::{AllocError, Global};
 use std::test::Fail;
+use test_stores::{new_state, played};
 
 fn put(key: &[u8]) -> Request<'_> {
     Request::Put { key, value: b"v" }

@@ -1,0 +1,193 @@
+//! Blocks that gets keep.
+use byte_fields::{Damage, Part};
+use disk_mem::MemDisk;
+use disk_trait::Disk;
+use std::alloc::Global;
+use std::test::Fail;
+use store_core::StoreError;
+use test_stores::{Change, PlainStore, apply, changed, disk_of, opened};
+
+// How many blocks are read while a key is asked for so many times, where each time it has this value, or none.
+fn reads_of(
+    store: &mut PlainStore,
+    disk: &mut MemDisk,
+    key: &[u8],
+    value: Option<&[u8]>,
+    times: usize,
+) -> Option<u64> {
+    let before = disk.reads();
+    for _ in 0..times {
+        match store.get(disk, key) {
+            Ok(found) if found == value => {}
+            _ => return None,
+        }
+    }
+    Some(disk.reads().saturating_sub(before))
+}
+
+// A pair in a table of one block, at byte 786,432 of the device.
+const PAIR: [Change<'static>; 2] = [Change::Put(b"a", b"b"), Change::Flush];
+
+#[test]
+fn a_key_is_asked_for_a_thousand_times_with_one_read(rt: HostRuntime) -> Result<(), Fail> {
+    let mut disk = disk_of(rt.alloc(), &[])?;
+    let mut store = changed(rt.alloc(), &mut disk, &PAIR)?;
+    let reads = reads_of(&mut store, &mut disk, b"a", Some(b"b"), 1_000);
+    assert_eq!(rt; reads, Some(1));
+    Ok(())
+}
+
+// Two tables that have the same key, of a block each.
+const TWO: [Change<'static>; 5] = [
+    Change::Put(b"ab", b"old"),
+    Change::Flush,
+    Change::Put(b"ab", b"new"),
+    Change::Put(b"b", b"c"),
+    Change::Flush,
+];
+
+#[test]
+fn a_flush_leaves_what_is_kept(rt: HostRuntime) -> Result<(), Fail> {
+    let mut disk = disk_of(rt.alloc(), &[])?;
+    let mut store = changed(rt.alloc(), &mut disk, &TWO)?;
+    let new = reads_of(&mut store, &mut disk, b"ab", Some(b"new"), 2);
+    assert_eq!(rt; new, Some(1));
+    assert_eq!(rt;
+        apply(&mut store, &mut disk, Change::Put(b"ab", b"newest")),
+        Ok(())
+    );
+    assert_eq!(rt; apply(&mut store, &mut disk, Change::Flush), Ok(()));
+    let newest = reads_of(&mut store, &mut disk, b"ab", Some(b"newest"), 2);
+    assert_eq!(rt; newest, Some(1));
+    let older = reads_of(&mut store, &mut disk, b"b", Some(b"c"), 2);
+    assert_eq!(rt; older, Some(0));
+    Ok(())
+}
+
+// The value of the one pair whose block stands in the first pages behind the logs.
+fn first_value(disk: &MemDisk) -> Option<u8> {
+    disk.bytes().get(786_448).copied()
+}
+
+#[test]
+fn pages_that_are_used_again_show_no_old_block(rt: HostRuntime) -> Result<(), Fail> {
+    let mut disk = disk_of(rt.alloc(), &[])?;
+    let mut store = changed(rt.alloc(), &mut disk, &PAIR)?;
+    let first = reads_of(&mut store, &mut disk, b"a", Some(b"b"), 2);
+    assert_eq!(rt; (first, first_value(&disk)), (Some(1), Some(b'b')));
+    assert_eq!(rt;
+        apply(&mut store, &mut disk, Change::Put(b"a", b"c")),
+        Ok(())
+    );
+    assert_eq!(rt; store.compact(&mut *disk), Ok(()));
+    let second = reads_of(&mut store, &mut disk, b"a", Some(b"c"), 2);
+    assert_eq!(rt; (second, first_value(&disk)), (Some(1), Some(b'b')));
+    assert_eq!(rt;
+        apply(&mut store, &mut disk, Change::Put(b"a", b"d")),
+        Ok(())
+    );
+    assert_eq!(rt; apply(&mut store, &mut disk, Change::Flush), Ok(()));
+    let third = reads_of(&mut store, &mut disk, b"a", Some(b"d"), 2);
+    assert_eq!(rt; (third, first_value(&disk)), (Some(1), Some(b'd')));
+    Ok(())
+}
+
+fn is_damaged(found: Result<Option<&[u8]>, StoreError>) -> bool {
+    matches!(
+        found,
+        Err(StoreError::Damaged(Damage::Sum {
+            part: Part::Block,
+            at: 786_432,
+            kept: 0xeba7_fa7c_4d3d_0fad,
+            seen: 0x48e5_c0a5_221a_7b73,
+        }))
+    )
+}
+
+// The sums are those of the block's 4,096 bytes as they were written, and with the ninth changed from 1 to 3.
+#[test]
+fn damage_is_seen_where_the_block_is_read(rt: HostRuntime) -> Result<(), Fail> {
+    let mut disk = disk_of(rt.alloc(), &[])?;
+    let mut store = changed(rt.alloc(), &mut disk, &PAIR)?;
+    let before = reads_of(&mut store, &mut disk, b"a", Some(b"b"), 1);
+    assert_eq!(rt; before, Some(1));
+    disk.write(786_440, &[3])?;
+    let kept = reads_of(&mut store, &mut disk, b"a", Some(b"b"), 1);
+    assert_eq!(rt; kept, Some(0));
+    let mut again = opened(rt.alloc(), &mut disk)?;
+    let denied = reads_of(&mut again, &mut disk, b"z", None, 1);
+    assert_eq!(rt; denied, Some(0));
+    assert!(rt; is_damaged(again.get(&mut *disk, b"a")));
+    assert!(rt; is_damaged(again.get(&mut *disk, b"a")));
+    Ok(())
+}
+
+// Keys of which the first two are deleted, in three tables of a block each.
+const DELETED: [Change<'static>; 15] = [
+    Change::Put(b"\x01", b"v"),
+    Change::Put(b"\x02", b"v"),
+    Change::Put(b"\x03", b"w"),
+    Change::Put(b"\x04", b"v"),
+    Change::Flush,
+    Change::Put(b"\x05", b"v"),
+    Change::Put(b"\x06", b"v"),
+    Change::Put(b"\x07", b"v"),
+    Change::Put(b"\x08", b"v"),
+    Change::Flush,
+    Change::Put(b"\x09", b"v"),
+    Change::Put(b"\x0a", b"v"),
+    Change::Del(b"\x01"),
+    Change::Del(b"\x02"),
+    Change::Flush,
+];
+
+// How many blocks a closed seek from the first key reads, where the third is the first that is there.
+fn seek_reads(alloc: Global, store: &PlainStore, disk: &mut MemDisk) -> Result<Option<u64>, Fail> {
+    let mut scan = Box::new(alloc, store.seek(b"\x01", Some(b"\x0a"))?)?;
+    let before = disk.reads();
+    let pair: (&[u8], &[u8]) = (b"\x03", b"w");
+    if scan.step(disk)? != Some(pair) {
+        return Ok(None);
+    }
+    Ok(Some(disk.reads().saturating_sub(before)))
+}
+
+#[test]
+fn a_seek_reads_past_what_is_kept(rt: HostRuntime) -> Result<(), Fail> {
+    let mut disk = disk_of(rt.alloc(), &[])?;
+    let mut store = changed(rt.alloc(), &mut disk, &DELETED)?;
+    assert_eq!(rt; seek_reads(rt.alloc(), &store, &mut disk)?, Some(3));
+    let gets = reads_of(&mut store, &mut disk, b"\x03", Some(b"w"), 2);
+    assert_eq!(rt; gets, Some(1));
+    assert_eq!(rt; seek_reads(rt.alloc(), &store, &mut disk)?, Some(3));
+    let kept = reads_of(&mut store, &mut disk, b"\x03", Some(b"w"), 1);
+    assert_eq!(rt; kept, Some(0));
+    Ok(())
+}
+
+// A table of 65 blocks of a pair each.
+fn many_blocks(alloc: Global, disk: &mut MemDisk) -> Result<Box<PlainStore>, Fail> {
+    let value = vec![in alloc; 7; 3_000]?;
+    let mut store = changed(alloc, disk, &[])?;
+    for key in 0..65u8 {
+        apply(&mut store, disk, Change::Put(&[key], &value))?;
+    }
+    apply(&mut store, disk, Change::Flush)?;
+    Ok(store)
+}
+
+#[test]
+fn at_most_64_blocks_are_kept(rt: HostRuntime) -> Result<(), Fail> {
+    let value = vec![in rt.alloc(); 7; 3_000]?;
+    let mut disk = disk_of(rt.alloc(), &[])?;
+    let mut store = many_blocks(rt.alloc(), &mut disk)?;
+    for key in 0..65u8 {
+        let reads = reads_of(&mut store, &mut disk, &[key], Some(&value), 2);
+        assert_eq!(rt; reads, Some(1));
+    }
+    let gone = reads_of(&mut store, &mut disk, &[0], Some(&value), 1);
+    assert_eq!(rt; gone, Some(1));
+    let kept = reads_of(&mut store, &mut disk, &[2], Some(&value), 1);
+    assert_eq!(rt; kept, Some(0));
+    Ok(())
+}
