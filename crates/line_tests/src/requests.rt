@@ -1,6 +1,6 @@
 //! Lines that are read as requests.
 use std::test::Fail;
-use store_commands::{BadLine, Request, Scratch, next_line, parse_answered, parse_line};
+use store_commands::{BadLine, Request, Scratch, next_line, parse_line};
 
 // The code that a line is refused with, 0 where it is none.
 fn code(answer: Result<Request<'_>, BadLine>) -> u8 {
@@ -102,31 +102,6 @@ fn the_first_rule_that_a_line_breaks(rt: HostRuntime) -> Result<(), Fail> {
             wanted,
             "of '{line}'"
         );
-    }
-    Ok(())
-}
-
-#[test]
-fn verbs_that_are_not_answered_yet(rt: HostRuntime) -> Result<(), Fail> {
-    let mut scratch = Scratch::new(rt.alloc())?;
-    for (line, wanted) in [
-        ("get 61", 0),
-        ("get", 3),
-        ("flush", 0),
-        ("compact", 2),
-        ("compact 61", 2),
-        ("seek", 3),
-        ("range - - 01", 5),
-        ("count - -", 0),
-    ] {
-        let code = code(parse_answered(line.as_bytes(), &mut scratch));
-        assert_eq!(rt; code, wanted, "of '{line}'");
-    }
-    let mut line = [b' '; 140_001];
-    line[..7].copy_from_slice(b"compact");
-    for (len, wanted) in [(140_000, 2), (140_001, 1)] {
-        let code = code(parse_answered(&line[..len], &mut scratch));
-        assert_eq!(rt; code, wanted, "of {len} bytes");
     }
     Ok(())
 }

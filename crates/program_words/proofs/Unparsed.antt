@@ -32,6 +32,7 @@ pub asks_by_kind : (words : List Text) (kind : ErrorKind) (a : Asked) → (kind 
 asks_by_kind words kind (asked.Format store) has comes = absurd comes
 asks_by_kind words kind (asked.BadSettings field) has comes = absurd comes
 asks_by_kind words kind asked.Serve has comes = absurd comes
+asks_by_kind words kind (asked.Load load) has comes = absurd comes
 asks_by_kind words kind (asked.Help text) has comes = elim has [
   | inl memory ↦ absurd (let bad : false ≡ true = sym (ap is_request memory) ∙ comes in cc)
   | inr among ↦ any_among is_request kind (fault_of store_app words) among comes

@@ -9,10 +9,14 @@ use Rattle.clap.specs.ValueTests.{is_unsigned_in}
 use Rattle.clap.specs.Walk.{Row, Text, first_of, one_of}
 use Rattle.clap.specs.declared.error.kind.ErrorKind.{ErrorKind}
 use Rattle.clap.specs.declared.error.kind.ErrorKind.TheVariants.{DisplayHelp, DisplayVersion, OutOfMemory}
+use Rattle.filter_api.specs.declared.settings.Field.{Field}
+use Rattle.filter_api.specs.declared.settings.Field.TheVariants.{Count}
 use Rattle.program_words.specs.CommandLine.{store_app}
+use Rattle.program_words.specs.Loads.{is_load_count}
 use Rattle.program_words.specs.NewStores.{IsStoreOf, first_bad_word, variant_named}
 use Rattle.program_words.specs.declared.asked.Asked.{Asked}
 use Rattle.program_words.specs.declared.asked.Asked.TheVariants as asked
+use Rattle.program_words.specs.declared.load.Load.{Load}
 use Rattle.program_words.specs.declared.new_store.Wanted.{Wanted}
 
 -- the number that a text spells; clap takes no text that spells none below 2^64
@@ -35,6 +39,9 @@ wanted_of rows = record {
   ratio = option_number (codes "ratio") rows;
 }
 
+abbrev pub load_of : List Row → Load
+load_of rows = record { seed = option_number (codes "seed") rows; count = option_number (codes "count") rows }
+
 -- clap takes the words, and this is their subcommand with its options
 pub record IsSubcommand (words : List Text) (name : Text) (rows : List Row) : Type 0 where
   pub taken : fault_of store_app words ≡ []
@@ -46,12 +53,28 @@ is_request DisplayHelp = true
 is_request DisplayVersion = true
 is_request kind = false
 
--- `format` with these options, and `serve`
+-- `format` and `load` with these options, and `serve`
 abbrev pub IsFormat : List Text → Wanted → Type 0
 IsFormat words wanted = (rows : List Row) × IsSubcommand words (codes "format") rows × (wanted_of rows ≡ wanted)
 
 abbrev pub IsServe : List Text → Type 0
 IsServe words = (rows : List Row) × IsSubcommand words (codes "serve") rows
+
+abbrev pub IsLoad : List Text → Load → Type 0
+IsLoad words load = (rows : List Row) × IsSubcommand words (codes "load") rows × (load_of rows ≡ load)
+
+-- a load that has not too many steps
+abbrev pub IsLoadInRange : List Text → Load → Type 0
+IsLoadInRange words load = IsLoad words load × (is_load_count load.count ≡ true)
+
+-- words with which the store is opened that stands on the device
+abbrev pub OpensStore : List Text → Type 0
+OpensStore words = IsServe words ⊎ ((load : Load) × IsLoadInRange words load)
+
+-- words that are taken, of whose numbers this is the first out of range
+abbrev pub HasBadNumber : List Text → Field → Type 0
+HasBadNumber words field =
+    ((wanted : Wanted) × IsFormat words wanted × (first_bad_word wanted ≡ Some field)) ⊎ ((load : Load) × IsLoad words load × (is_load_count load.count ≡ false) × (field ≡ Count))
 
 -- Clap answers the words with a text; or it refuses them, and no text is among what it may answer. So of any words exactly one
 -- is so: clap takes them, answers them or refuses them.
@@ -65,24 +88,26 @@ pub record AreRefusedWords (words : List Text) : Type 0 where
 -- what the words ask for is this, or there was no memory to find it out
 abbrev pub WordsAsk : List Text → Asked → Type 0
 WordsAsk words (asked.Format store) = (wanted : Wanted) × IsFormat words wanted × (first_bad_word wanted ≡ None) × IsStoreOf wanted store
-WordsAsk words (asked.BadSettings field) = (wanted : Wanted) × IsFormat words wanted × (first_bad_word wanted ≡ Some field)
+WordsAsk words (asked.BadSettings field) = HasBadNumber words field
 WordsAsk words asked.Serve = IsServe words
+WordsAsk words (asked.Load load) = IsLoadInRange words load
 WordsAsk words (asked.Help text) = IsHelp words
 WordsAsk words asked.Refused = AreRefusedWords words
 WordsAsk words asked.Memory = Unit {0}
 
 -- ---- on the way
 
--- a subcommand of the two
+-- a subcommand of the three
 abbrev pub IsKnown : Option (Text × List Row) → Type 0
 IsKnown None = ⊥
-IsKnown (Some found) = (found.0 ≡ codes "format") ⊎ (found.0 ≡ codes "serve")
+IsKnown (Some found) = (found.0 ≡ codes "format") ⊎ (found.0 ≡ codes "serve") ⊎ (found.0 ≡ codes "load")
 
 -- an answer without matches, by its kind
 abbrev pub ComesOf : ErrorKind → Asked → Type 0
 ComesOf kind (asked.Format store) = ⊥
 ComesOf kind (asked.BadSettings field) = ⊥
 ComesOf kind asked.Serve = ⊥
+ComesOf kind (asked.Load load) = ⊥
 ComesOf kind (asked.Help text) = is_request kind ≡ true
 ComesOf kind asked.Refused = (is_request kind ≡ false) × (kind ≢ OutOfMemory)
 ComesOf kind asked.Memory = Unit {0}

@@ -1,3 +1,4 @@
 pub mod CommandLine
+pub mod Loads
 pub mod NewStores
 pub mod Asked

@@ -6,10 +6,11 @@ ghost use Rattle.clap.specs.Matches.{found_of};
 ghost use Rattle.clap.specs.Simple.{subcommand_of, subcommand_rows_of};
 ghost use Rattle.clap.specs.Values.{kind_of};
 ghost use Rattle.clap.specs.Walk.{Text, rows_of};
-ghost use Rattle.program_words.specs.Asked.{WordsAsk, ComesOf, IsKnown, option_number, wanted_of};
+ghost use Rattle.program_words.specs.Asked.{WordsAsk, ComesOf, IsKnown, IsLoad, load_of, option_number, wanted_of};
 ghost use Rattle.program_words.specs.CommandLine.{store_app};
 
 use crate::command_line::store_command;
+use crate::load::Load;
 use crate::new_store::{NewStore, Variant, Wanted};
 use clap::error::ErrorKind;
 use clap::{ArgMatches, Error};
@@ -21,10 +22,12 @@ use std::alloc::Global;
 pub enum Asked {
     /// That a store is made.
     Format(NewStore),
-    /// That one is made whose settings are out of range, this field first.
+    /// A store or a load whose numbers are out of range, this field first.
     BadSettings(Field),
     /// That lines are answered.
     Serve,
+    /// That steps are made that follow from a seed.
+    Load(Load),
     /// A text: help, or the version.
     Help(String),
     /// Nothing: clap refuses the words.
@@ -53,6 +56,16 @@ fn wanted(matches: &ArgMatches<'_>) -> Wanted
     }
 }
 
+// The options of `load`.
+fn wanted_load(matches: &ArgMatches<'_>) -> Load
+    ensures { result ≡ load_of (rows_of (found_of matches.now)) }
+{
+    Load {
+        seed: number(matches, "seed"),
+        count: number(matches, "count"),
+    }
+}
+
 // The words as the definition has them.
 fn parse_words<'a>(alloc: Global, words: &'a [String]) -> Result<ArgMatches<'a>, Error>
     ensures kinds { FailsBy (fault_of store_app (map string_bytes words.now)) result }
@@ -67,9 +80,15 @@ fn asked_by(matches: &ArgMatches<'_>) -> Asked
     requires { IsKnown (subcommand_rows_of matches.now) }
     ensures { (words : List Text) → fault_of store_app words ≡ [] → subcommand_rows_of matches.now ≡ subcommand_of store_app words → WordsAsk words result }
 {
-    match matches.subcommand_matches("format") {
-        Some(options) => match wanted(options).checked() {
+    if let Some(options) = matches.subcommand_matches("format") {
+        return match wanted(options).checked() {
             Ok(store) => Asked::Format(store),
+            Err(field) => Asked::BadSettings(field),
+        };
+    }
+    match matches.subcommand_matches("load") {
+        Some(options) => match wanted_load(options).checked() {
+            Ok(load) => Asked::Load(load),
             Err(field) => Asked::BadSettings(field),
         },
         None => Asked::Serve,

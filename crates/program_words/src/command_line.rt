@@ -3,7 +3,7 @@ ghost use Rattle.std.specs.Prelude.{◌≡◌, IfOk, false};
 ghost use Rattle.clap.specs.Simple.{app_of};
 ghost use Rattle.clap.specs.Walk.{rule_of};
 ghost use Rattle.clap.specs.declared.builder.command.Command.TheViews.{out-Command as fields_of};
-ghost use Rattle.program_words.specs.CommandLine.{format_app, format_with_pages_app, number_rule, serve_app, store_app, variant_rule};
+ghost use Rattle.program_words.specs.CommandLine.{format_app, format_with_pages_app, load_app, number_rule, required, serve_app, store_app, variant_rule};
 
 use clap::{Arg, Command, value_parser};
 use std::alloc::{AllocError, Global};
@@ -14,6 +14,9 @@ const FORMAT_ABOUT: &str = "Make an empty store, unless one stands there already
 
 const SERVE_ABOUT: &str = "Answer the lines of standard input, one reply each";
 
+const LOAD_ABOUT: &str =
+    "Put and delete keys that follow from a seed, and tell the sum of what is there";
+
 // What the list of options cannot tell of all subcommands at once, and a session.
 const MORE: &str = "\
 Options of format:
@@ -22,6 +25,10 @@ Options of format:
   --hash-bits N     0 to 32, 8 where none are named; of hash and mixed
   --real-bits N     0 to 32, 8 where none are named; of real and mixed
   --ratio N         0 to 65,535, 64 where none is named: how many times smaller a filter's dense levels are than the others
+
+Options of load:
+  --seed S          0 to 18,446,744,073,709,551,615: the steps that follow from it; required
+  --count N         1 to 1,000,000: how many of them are made; required
 
 Lines of serve, with keys and values in hex and - for no bytes:
   put KEY VALUE     ok
@@ -33,6 +40,7 @@ Lines of serve, with keys and values in hex and - for no bytes:
   estimate LO HI    about and about how many, with nothing read
   explain KEY       tables, admitted and blocks: what a get of KEY asks and reads
   flush             ok
+  compact           ok, with all that is there merged into new tables
   quit              bye
 
 Example:
@@ -58,6 +66,14 @@ fn number_option<'a>(alloc: Global, name: &'a str, help: &'a str) -> Arg<'a>
         .help(help)
 }
 
+// One that must be there.
+fn required_number<'a>(alloc: Global, name: &'a str, help: &'a str) -> Arg<'a>
+    ensures rule { rule_of result ≡ required (number_rule name.now) }
+    ensures local { result.global ≡ false }
+{
+    number_option(alloc, name, help).required(true)
+}
+
 // The option that names the variant. Any word is one for clap.
 fn variant_option<'a>(alloc: Global) -> Arg<'a>
     ensures rule { rule_of result ≡ variant_rule }
@@ -75,9 +91,7 @@ fn format_with_pages<'a>(alloc: Global) -> Result<Command<'a>, AllocError>
     ensures app { IfOk result (λ c. app_of c ≡ format_with_pages_app) }
     ensures local { IfOk result (λ c. (fields_of c).has_globals ≡ false) }
 {
-    let pages = number_option(alloc, "pages", "Pages of 4,096 bytes, 512 to 16,777,216").required(
-        true,
-    );
+    let pages = required_number(alloc, "pages", "Pages of 4,096 bytes, 512 to 16,777,216");
     let command = Command::new(alloc, "format")
         .about(FORMAT_ABOUT)
         .override_usage("surfstore PATH format --pages N --variant WORD [OPTIONS]");
@@ -122,6 +136,19 @@ fn serve_command<'a>(alloc: Global) -> Command<'a>
         .override_usage("surfstore PATH serve")
 }
 
+fn load_command<'a>(alloc: Global) -> Result<Command<'a>, AllocError>
+    ensures app { IfOk result (λ c. app_of c ≡ load_app) }
+    ensures local { IfOk result (λ c. (fields_of c).has_globals ≡ false) }
+{
+    let seed = required_number(alloc, "seed", "The number that the steps follow from");
+    let count = required_number(alloc, "count", "How many steps are made, 1 to 1,000,000");
+    let command = Command::new(alloc, "load")
+        .about(LOAD_ABOUT)
+        .override_usage("surfstore PATH load --seed S --count N");
+    let with_seed = command.arg(seed)?;
+    with_seed.arg(count)
+}
+
 /// The command line behind the device's path.
 pub fn store_command<'a>(alloc: Global) -> Result<Command<'a>, AllocError>
     ensures { IfOk result (λ c. app_of c ≡ store_app) }
@@ -135,6 +162,8 @@ pub fn store_command<'a>(alloc: Global) -> Result<Command<'a>, AllocError>
         .subcommand_required(true)
         .disable_help_subcommand(true);
     let format = format_command(alloc)?;
+    let load = load_command(alloc)?;
     let with_format = command.subcommand(format)?;
-    with_format.subcommand(serve_command(alloc))
+    let with_serve = with_format.subcommand(serve_command(alloc))?;
+    with_serve.subcommand(load)
 }

@@ -1,4 +1,3 @@
-pub mod AskedHere
 pub mod Cuts
 pub mod Numbers
 pub mod Verbs

@@ -1,7 +1,6 @@
 pub use Rattle.line_model.specs.Lines
 pub use Rattle.line_model.specs.Replies
 pub use Rattle.line_model.specs.Requests
-pub mod Answered
 pub mod Asks
 pub mod Cutting
 pub mod Spoken

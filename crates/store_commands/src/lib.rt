@@ -1,9 +1,8 @@
 //! The lines that a store reads, and the replies that it gives.
 //!
-//! [`parse_line`] reads one line, exactly as the grammar says, [`parse_answered`] only the verbs that the program answers
-//! today, and [`piece`] writes a reply into a buffer of any size, as many bytes of it as fit. Each costs the length of
-//! what it reads or writes, and none takes memory: the key and the value of a line are laid out in a [`Scratch`] that is
-//! made once. Not for lines of other shapes, and not for streams: cutting an input into lines is the caller's
+//! [`parse_line`] reads one line, exactly as the grammar says, and [`piece`] writes a reply into a buffer of any size, as
+//! many bytes of it as fit. Each costs the length of what it reads or writes, and none takes memory: the key and the value
+//! of a line are laid out in a [`Scratch`] that is made once. Not for lines of other shapes, and not for streams: cutting an input into lines is the caller's
 //! ([`next_line`] finds the first one).
 //!
 //! ```text
@@ -17,7 +16,6 @@
 //! ```
 #![tactic(auto)]
 
-mod answered;
 mod parse;
 mod reply;
 mod request;
@@ -25,7 +23,6 @@ mod verb;
 mod window;
 mod words;
 
-pub use answered::parse_answered;
 pub use parse::{Scratch, parse_line};
 pub use reply::{Reply, piece};
 pub use request::{BadLine, Request};

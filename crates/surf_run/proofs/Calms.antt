@@ -40,12 +40,6 @@ use Rattle.surf_run.proofs.Moments.{ends_device, ends_next, ends_quit, line_answ
 use Rattle.table_file.specs.Opened.{Opened}
 use Rattle.table_model.specs.Tables.{FilterBytes}
 
--- the buffer tells nothing of the state
-pub tied_buffer : (kind : Kind) (store after : Kept) (buffer : Bytes) (s : State) (w : World) → after ≡ record store { buffer = buffer }
-    → Tied kind.spelling kind.filter_bytes store s w → Tied kind.spelling kind.filter_bytes after s w
-tied_buffer kind store after buffer s w is tied = subst (λ (k : Kept). Tied kind.spelling kind.filter_bytes k s w) (sym is)
-    (record { sound = tied.sound; none_kept = tied.none_kept; images = tied.images; log = tied.log; memory = tied.memory })
-
 -- ---- where nothing is written
 
 module _ (kind : Kind) (s : State) (request : Request) (store : Kept) (a mid b : World) (same : mid.beside ≡ a.beside) (time : Passes Same a mid)
@@ -189,14 +183,14 @@ runs_any Next stopped is = is
 runs_any Quit stopped is = is
 runs_any (End status) stopped is = tt
 
--- a get leaves the store as it is, but for the buffer
-module _ (kind : Kind) (tells tells_output : Bool) (request : Request) (before after : Kept) (buffer : Bytes) (holds : after ≡ record before { buffer = buffer }) (runs : before.stopped ≡ false) (result : LineEnd)
+-- a get stops no store
+module _ (kind : Kind) (tells tells_output : Bool) (request : Request) (before after : Kept) (same : after.stopped ≡ before.stopped) (runs : before.stopped ≡ false) (result : LineEnd)
     (a mid b : World) (moves : ReadMoves (length before.tables) a mid) (say : SayMoves mid b) where
   pub read_answers : ((s : State) → IsTrue tells → IsTrue tells_output → Tied kind.spelling kind.filter_bytes before s a → EndsLine kind result s request after a b)
       → EndCause (LineShows (IsTrue tells × IsTrue tells_output) before.tables request) result a b → AnswersLine kind tells tells_output request result before after a b
   read_answers answered cause = record {
     answered = answered;
-    running = runs_any result after.stopped (ap (λ (k : Kept). k.stopped) holds ∙ runs);
+    running = runs_any result after.stopped (same ∙ runs);
     cause = cause;
     moves = lines_on a mid b (line_read (length before.tables) a mid moves) (line_say mid b say);
   }

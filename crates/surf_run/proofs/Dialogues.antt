@@ -2,17 +2,16 @@
 use Rattle.std.proofs.Common.{◌≡◌, ◌≢◌, ◌⊎◌, inl, inr, ◌+◌, ◌++◌, ℕ, List, [], ◌∷◌, length, refl, sym, ap, ◌∙◌, subst, arith, append_assoc, length-append, Bool, true, false}
 use Rattle.std.proofs.lemmas.List.{append-nil}
 use Rattle.line_model.specs.Replies.{Reply, text_of}
-use Rattle.line_model.specs.Requests.{Bad, Compact, Count, Del, Estimate, Explain, Flush, Get, Put, Quit, Range, Request, Seek}
+use Rattle.line_model.specs.Requests.{Bad, Compact, Count, Del, Estimate, Explain, Flush, Get, Put, Quit, Range, Request, Seek, request_of}
 use Rattle.map_model.specs.SortedMap.{Bytes}
 use Rattle.state_model.specs.Causes.{Why}
 use Rattle.state_model.specs.PlayLaws.{AnyState, has_slice}
-use Rattle.state_model.specs.Script.{AsSaid, AtDevice, Between, Ending, EndsOr, Onward, Over, ToLast, Turn, turn_of, turn_of_slice}
+use Rattle.state_model.specs.Script.{AsSaid, AtDevice, Between, Ending, EndsOr, EndsThere, Onward, Over, Script, ToLast, Turn, turn_of, turn_of_slice}
 use Rattle.state_model.specs.State.{State}
 use Rattle.state_model.specs.Steps.{Step, answers, damage_met, no_memory, read_failed, write_failed}
 use Rattle.state_model.specs.Tends.{Tend, Tended}
 use Rattle.state_model.specs.Tends as tends
-use Rattle.store_commands.specs.Answered.{asked_here}
-use Rattle.surf_run.specs.Dialogue.{EndsThere, Script, SoFar, line_bound}
+use Rattle.surf_run.specs.Dialogue.{SoFar, line_bound}
 use Rattle.table_model.specs.Tables.{FilterBytes}
 
 -- by the reply or by the merge slice behind it this is the end, and so much stands as the reply has been said
@@ -108,10 +107,10 @@ so_far_as C D filter_bytes R Q causes weaker said a (line ∷ lines) text most b
   went.4,
   went.5,
   went.6,
-  step_as C D filter_bytes causes a (asked_here line) went.0 went.3 went.7,
+  step_as C D filter_bytes causes a (request_of line) went.0 went.3 went.7,
   went.8,
   weaker (said + length (text_of went.0)) went.3 went.9,
-  between_as C D filter_bytes causes went.3 Onward went.4 (asked_here line) went.10,
+  between_as C D filter_bytes causes went.3 Onward went.4 (request_of line) went.10,
   so_far_as C D filter_bytes R Q causes weaker (said + length (text_of went.0)) went.4 lines went.1 went.2 b went.11,
 )
 
@@ -131,7 +130,7 @@ ends_so : (turn : Turn) (ending : Ending) (Slice : Type 0) → EndsOr turn [] en
 ends_so Onward ending Slice slice = inr (refl, slice)
 ends_so (Over why) ending Slice end = inl (ap Over (sym end.1))
 
-pub ends_there : (C : Why → Type 0) (filter_bytes : FilterBytes) (line : Bytes) (reply : Reply) (after : State) (ending : Ending) (Holds : Type 0) → IsLast C filter_bytes (asked_here line) reply after ending Holds
+pub ends_there : (C : Why → Type 0) (filter_bytes : FilterBytes) (line : Bytes) (reply : Reply) (after : State) (ending : Ending) (Holds : Type 0) → IsLast C filter_bytes (request_of line) reply after ending Holds
     → EndsThere C filter_bytes line reply after ending
 ends_there C filter_bytes line reply after ending Holds last = ends_so (turn_of reply) ending _ last.1
 
@@ -157,9 +156,9 @@ module _ (C : Why → Type 0) (filter_bytes : FilterBytes) (R : ℕ → State �
 
   -- one line more
   pub so_far_on : (said : ℕ) (a : State) (lines : List Bytes) (text : Bytes) (most : ℕ) (b : State) (line : Bytes) (reply : Reply) (c d : State)
-      → SoFar C filter_bytes R said a lines text most b → Step C filter_bytes b (asked_here line) reply c → turn_of reply ≡ Onward → Between C filter_bytes (asked_here line) c Onward d
+      → SoFar C filter_bytes R said a lines text most b → Step C filter_bytes b (request_of line) reply c → turn_of reply ≡ Onward → Between C filter_bytes (request_of line) c Onward d
       → (at : ℕ) → at ≡ said + length text + length (text_of reply) → R at c
-      → SoFar C filter_bytes R said a (lines ++ line ∷ []) (text ++ text_of reply) (most + line_bound b (asked_here line)) d
+      → SoFar C filter_bytes R said a (lines ++ line ∷ []) (text ++ text_of reply) (most + line_bound b (request_of line)) d
   so_far_on said a [] text most b line reply c d went step onward between at is reached =
       let here : at ≡ said + length (text_of reply) = omega (arith, is, ap length went.0) in (
         reply,
@@ -168,8 +167,8 @@ module _ (C : Why → Type 0) (filter_bytes : FilterBytes) (R : ℕ → State �
         c,
         d,
         ap (λ (l : Bytes). l ++ text_of reply) went.0 ∙ sym (append-nil (text_of reply)),
-        omega (arith, went.1, ap (λ (s : State). line_bound s (asked_here line)) went.2),
-        subst (λ (s : State). Step C filter_bytes s (asked_here line) reply c) went.2 step,
+        omega (arith, went.1, ap (λ (s : State). line_bound s (request_of line)) went.2),
+        subst (λ (s : State). Step C filter_bytes s (request_of line) reply c) went.2 step,
         onward,
         subst (λ (k : ℕ). R k c) here reached,
         between,
@@ -178,7 +177,7 @@ module _ (C : Why → Type 0) (filter_bytes : FilterBytes) (R : ℕ → State �
   so_far_on said a (first ∷ lines) text most b line reply c d went step onward between at is reached = (
     went.0,
     went.1 ++ text_of reply,
-    went.2 + line_bound b (asked_here line),
+    went.2 + line_bound b (request_of line),
     went.3,
     went.4,
     ap (λ (l : Bytes). l ++ text_of reply) went.5 ∙ append_assoc (text_of went.0) went.1 (text_of reply),
@@ -205,8 +204,8 @@ module _ (C : Why → Type 0) (filter_bytes : FilterBytes) (R : ℕ → State �
   )
 
   pub script_ends : (said : ℕ) (a : State) (lines : List Bytes) (text : Bytes) (most : ℕ) (b : State) (line : Bytes) (reply : Reply) (c : State) (more : List Bytes) (ending : Ending)
-      → SoFar C filter_bytes R said a lines text most b → Step C filter_bytes b (asked_here line) reply c
-      → (at : ℕ) → at ≡ said + length text + length (text_of reply) → IsLast C filter_bytes (asked_here line) reply c ending (R at c)
+      → SoFar C filter_bytes R said a lines text most b → Step C filter_bytes b (request_of line) reply c
+      → (at : ℕ) → at ≡ said + length text + length (text_of reply) → IsLast C filter_bytes (request_of line) reply c ending (R at c)
       → Script C filter_bytes R said a (lines ++ line ∷ more) (text ++ text_of reply) ending
   script_ends said a [] text most b line reply c more ending went step at is last =
       let here : at ≡ said + length (text_of reply) = omega (arith, is, ap length went.0) in (
@@ -214,7 +213,7 @@ module _ (C : Why → Type 0) (filter_bytes : FilterBytes) (R : ℕ → State �
         [],
         c,
         ap (λ (l : Bytes). l ++ text_of reply) went.0 ∙ sym (append-nil (text_of reply)),
-        subst (λ (s : State). Step C filter_bytes s (asked_here line) reply c) went.2 step,
+        subst (λ (s : State). Step C filter_bytes s (request_of line) reply c) went.2 step,
         subst (λ (k : ℕ). AsSaid (turn_of reply) (R k c)) here last.0,
         ends_any (turn_of reply) ending _ _ (λ slice. (Over ending, slice.0, slice.1, (refl, refl))) last.1,
       )

@@ -4,6 +4,7 @@ use Rattle.std.proofs.Math.Seq.{take-append-add}
 use Rattle.std.proofs.lemmas.List.{append-nil, take-append-le, take_all, take-append-drop}
 use Rattle.disk_trait.specs.World.{Image, World}
 use Rattle.line_model.specs.Replies.{Reply, text_of}
+use Rattle.line_model.specs.Requests.{request_of}
 use Rattle.map_model.specs.SortedMap.{Bytes}
 use Rattle.outside.specs.During.{During}
 use Rattle.outside.specs.Streams.{SaidByNow, SaysPrefix}
@@ -11,7 +12,6 @@ use Rattle.state_model.specs.Causes.{Why}
 use Rattle.state_model.specs.PlayLaws.{AnyState}
 use Rattle.state_model.specs.State.{State}
 use Rattle.state_model.specs.Steps.{Step}
-use Rattle.store_commands.specs.Answered.{asked_here}
 use Rattle.surf_run.specs.Answering.{InLine}
 use Rattle.surf_run.specs.Crash.{Acknowledged, HasMap, IsBehind, Reached, Stands}
 use Rattle.surf_run.specs.Dialogue.{SoFar}
@@ -46,7 +46,7 @@ module _ (C D : Why → Type 0) (causes : (why : Why) → C why → D why) (kind
       begun.4,
       begun.5,
       ap (λ (l : List Bytes). l ++ more) begun.6,
-      step_as C D kind.filter_bytes causes now (asked_here begun.0) begun.2 begun.3 begun.7,
+      step_as C D kind.filter_bytes causes now (request_of begun.0) begun.2 begun.3 begun.7,
       begun.8,
       same ∙ begun.9,
       begun.10,
@@ -105,7 +105,7 @@ module _ (C : Why → Type 0) (kind : Kind) (start : State) where
 
   module _ (B : Why → Type 0) (causes : (why : Why) → B why → C why) (lines : List Bytes) (line text : Bytes) (most : ℕ) (now : State) (reply : Reply) (next : State) (first w w' : World)
       (went : SoFar C kind.filter_bytes AnyState 0 start lines text most now) (told : w.beside.said ≡ first.beside.said ++ text) (prefix : SaysPrefix (text_of reply) w.beside.said w'.beside.said)
-      (step : Step B kind.filter_bytes now (asked_here line) reply next) where
+      (step : Step B kind.filter_bytes now (request_of line) reply next) where
     -- what had been said within the reply
     part : (n : ℕ) → length w.beside.said ≤ n → take n w'.beside.said ≡ w.beside.said ++ take (n - length w.beside.said) prefix.done
     part n le =
@@ -113,7 +113,7 @@ module _ (C : Why → Type 0) (kind : Kind) (start : State) where
         ap (λ (k : ℕ). take k w'.beside.said) size ∙ ap (take (length w.beside.said + (n - length w.beside.said))) prefix.said ∙ take-append-add w.beside.said prefix.done (n - length w.beside.said)
 
     -- in a line
-    pub line_ack : (n : ℕ) (image : Image) → InLine kind now (asked_here line) reply next (length w.beside.said) (length w'.beside.said) n image
+    pub line_ack : (n : ℕ) (image : Image) → InLine kind now (request_of line) reply next (length w.beside.said) (length w'.beside.said) n image
         → Acknowledged C kind start (lines ++ line ∷ []) first.beside.said w'.beside.said n image
     line_ack n image at =
         let before = first.beside.said in
@@ -140,7 +140,7 @@ module _ (C : Why → Type 0) (kind : Kind) (start : State) where
                   done,
                   drop k prefix.done ++ prefix.rest,
                   refl,
-                  step_as B C kind.filter_bytes causes now (asked_here line) reply next step,
+                  step_as B C kind.filter_bytes causes now (request_of line) reply next step,
                   prefix.split ∙ ap (λ (l : Bytes). l ++ prefix.rest) (sym (take-append-drop k prefix.done)) ∙ append_assoc done (drop k prefix.done) prefix.rest,
                   part n after.0 ∙ ap (λ (l : Bytes). l ++ done) told,
                   after.2,

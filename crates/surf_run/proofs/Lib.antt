@@ -1,13 +1,20 @@
 pub mod Asking
 pub mod Calms
 pub mod Changes
+pub mod Compacts
 pub mod Dialogues
 pub mod EndCauses
 pub mod Footprint
 mod Formats
 pub mod History
+pub mod Independence
 pub mod LastLines
+pub mod LoadChanges
+pub mod LoadEnds
+pub mod LoadSteps
+pub mod LoadSums
 pub mod Moments
+pub mod OneMap
 pub mod Openings
 pub mod Outcomes
 pub mod Pieces

@@ -53,6 +53,7 @@ tied_still spelling filter_bytes store s a b time tied = record {
   images = now_still (IsUnder spelling store.manifest store.tables store.job s) a b time tied.images;
   log = tied.log;
   memory = tied.memory;
+  blocks = tied.blocks;
 }
 
 -- a state without a job and with nothing kept is shown as it is

@@ -8,13 +8,14 @@ use Rattle.disk_trait.specs.World.{Seen, World}
 use Rattle.key_base.specs.Limits.{piece_bytes}
 use Rattle.line_model.specs.Lines.{lines_of, whole_lines}
 use Rattle.line_model.specs.Replies.{Bye, Device, Reply, text_of}
+use Rattle.line_model.specs.Requests.{request_of}
 use Rattle.map_model.specs.SortedMap.{Bytes}
 use Rattle.outside.specs.During.{During}
 use Rattle.outside.specs.Streams.{SaidByNow, SaysPrefix, TakeMoves}
 use Rattle.outside.proofs.Crossing.{during_take, during_then, during_weaker}
-use Rattle.state_model.specs.Script.{AtDevice, AtQuit, Between, Ending, Onward, ToLast, turn_of}
+use Rattle.state_model.specs.Script.{AtDevice, AtQuit, Between, Ending, Onward, Script, ToLast, turn_of}
 use Rattle.state_model.specs.State.{State}
-use Rattle.store_commands.specs.Answered.{asked_here}
+use Rattle.state_model.specs.View.{state_map}
 use Rattle.store_commands.specs.Cutting.{NoNewline}
 use Rattle.store_core.specs.Answers.{HasCause}
 use Rattle.store_core.specs.Kept.{Kept}
@@ -22,9 +23,10 @@ use Rattle.store_core.specs.Tied.{Tied}
 use Rattle.surf_run.specs.Answering.{LineAnswer, Whole}
 use Rattle.surf_run.specs.Causes.{NoFall, WritesWithin}
 use Rattle.surf_run.specs.Crash.{Acknowledged, HasMap, Reached, Stands}
-use Rattle.surf_run.specs.Dialogue.{AreBounded, Script, SoFar, line_bound}
+use Rattle.surf_run.specs.Dialogue.{AreBounded, SoFar, line_bound}
 use Rattle.surf_run.specs.Holding.{with_newline}
 use Rattle.surf_run.specs.Kind.{Kind}
+use Rattle.surf_run.specs.OneMap.{MapDialogue}
 use Rattle.surf_run.specs.Outcome.{EndsTo, LeavesState, Said, SaidInPart, Settled, TakenAll}
 use Rattle.surf_run.specs.Serving.{Closed, EndedBy, EndsPast, Served}
 use Rattle.surf_run.specs.Slices.{EndsServed}
@@ -34,6 +36,7 @@ use Rattle.surf_run.proofs.EndCauses.{causes_later, no_fall_on, no_fall_take}
 use Rattle.surf_run.proofs.Footprint.{within_on, within_take}
 use Rattle.surf_run.proofs.History.{ack_here, ack_more, reached_on}
 use Rattle.surf_run.proofs.Moments.{map_of_state, stands_still, tied_still}
+use Rattle.surf_run.proofs.OneMap.{one_map}
 use Rattle.surf_run.proofs.Progress.{LastLine, ends_by_device, ends_by_slice, ends_with, history_then, past_wider, ran_on, ran_then, reached_as, reached_then, reads_then, said_then, step_whole, told_then, writes_then}
 use Rattle.surf_run.proofs.Texts.{held_none, held_same, held_some, last_line, lines_first, whole_first}
 
@@ -53,6 +56,7 @@ served_none kind start base store first w same history tied stand counts reads w
   whole = All-nil NoNewline;
   open_end = All-nil (λ (b : ℕ). (b == 10) ≡ false);
   ran = (refl, refl, refl);
+  sound = tied.sound;
   told = same ∙ sym (append-nil first.beside.said);
   held = held_same [] [] refl (omega arith);
   history = history;
@@ -98,6 +102,7 @@ module _ (kind : Kind) (start : State) (base : ℕ) (bytes kept : Bytes) (store 
     whole = served.whole;
     open_end = served.open_end;
     ran = ran;
+    sound = served.sound;
     told = told;
     held = served.held;
     history = history;
@@ -183,6 +188,7 @@ settled_end kind most status start base taken first w fits ended = elim ended [
           most = broken.most;
           now = broken.now;
           so_far = broken.ran;
+          one_map = broken.one_map;
           reply = broken.reply;
           last = broken.last;
           step = broken.step;
@@ -207,6 +213,8 @@ module _ (kind : Kind) (start : State) (base : ℕ) (taken kept : Bytes) (store 
     most = served.most;
     last = served.now;
     so_far = subst (λ (ls : List Bytes). SoFar (HasCause first w) kind.filter_bytes (Reached kind w) (length first.beside.said) start ls served.text served.most served.now) (sym is) served.ran;
+    one_map = subst (λ (ls : List Bytes). MapDialogue (state_map start) ls served.text (state_map served.now)) (sym is)
+        (one_map (HasCause first w) kind.filter_bytes (Reached kind w) (length first.beside.said) start served.now served.lines served.text served.most served.sound served.ran);
     reads = λ all. served.reads (subst AreBounded is all);
     stands = served.stand;
   }
@@ -271,7 +279,7 @@ module _ (kind : Kind) (start : State) (base : ℕ) (taken kept : Bytes) (store 
   taken_all : TakenAll taken served.lines served.rest
   taken_all = record { whole = All-push NoNewline served.lines served.rest served.whole served.open_end; split = served.split }
 
-  module _ (reply : Reply) (new : State) (answer : LineAnswer kind served.now (asked_here served.rest) reply new (line_bound served.now (asked_here served.rest)) w w') where
+  module _ (reply : Reply) (new : State) (answer : LineAnswer kind served.now (request_of served.rest) reply new (line_bound served.now (request_of served.rest)) w w') where
     grown : (text : Bytes) × (w'.beside.said ≡ first.beside.said ++ text)
     grown = (served.text ++ answer.prefix.done, answer.prefix.said ∙ ap (λ (l : Bytes). l ++ answer.prefix.done) served.told ∙ append_assoc first.beside.said served.text answer.prefix.done)
 
@@ -294,6 +302,8 @@ module _ (kind : Kind) (start : State) (base : ℕ) (taken kept : Bytes) (store 
       most = served.most;
       now = served.now;
       so_far = ran_then kind start base taken kept store first w served served.rest w' counts reply new answer;
+      one_map = one_map (HasCause first w') kind.filter_bytes (Reached kind w') (length first.beside.said) start served.now served.lines served.text served.most served.sound
+          (ran_then kind start base taken kept store first w served served.rest w' counts reply new answer);
       reply = reply;
       last = new;
       step = step_whole kind start base taken kept store first w served served.rest w' counts reply new answer;
@@ -310,8 +320,8 @@ module _ (kind : Kind) (start : State) (base : ℕ) (taken kept : Bytes) (store 
       abbrev then_said : ℕ
       then_said = said_then kind start base taken kept store first w served served.rest w' counts reply new answer all
 
-      module _ (after : State) (goes : turn_of reply ≡ Onward) (between : Between (HasCause w w') kind.filter_bytes (asked_here served.rest) new Onward after) (reached : Reached kind w' (length w'.beside.said) new) where
-        went_on : SoFar (HasCause first w') kind.filter_bytes (Reached kind w') (length first.beside.said) start (served.lines ++ served.rest ∷ []) (served.text ++ text_of reply) (served.most + line_bound served.now (asked_here served.rest)) after
+      module _ (after : State) (goes : turn_of reply ≡ Onward) (between : Between (HasCause w w') kind.filter_bytes (request_of served.rest) new Onward after) (reached : Reached kind w' (length w'.beside.said) new) where
+        went_on : SoFar (HasCause first w') kind.filter_bytes (Reached kind w') (length first.beside.said) start (served.lines ++ served.rest ∷ []) (served.text ++ text_of reply) (served.most + line_bound served.now (request_of served.rest)) after
         went_on = ran_on kind start base taken kept store first w served served.rest w' counts reply new answer all after goes between
             (reached_as kind start base taken kept store first w served served.rest w' counts reply new answer all reached)
 
@@ -328,10 +338,13 @@ module _ (kind : Kind) (start : State) (base : ℕ) (taken kept : Bytes) (store 
         leaves_next stand = record {
           text = served.text ++ text_of reply;
           output = told_all;
-          most = served.most + line_bound served.now (asked_here served.rest);
+          most = served.most + line_bound served.now (request_of served.rest);
           last = after;
-          so_far = subst (λ (ls : List Bytes). SoFar (HasCause first w') kind.filter_bytes (Reached kind w') (length first.beside.said) start ls (served.text ++ text_of reply) (served.most + line_bound served.now (asked_here served.rest)) after)
+          so_far = subst (λ (ls : List Bytes). SoFar (HasCause first w') kind.filter_bytes (Reached kind w') (length first.beside.said) start ls (served.text ++ text_of reply) (served.most + line_bound served.now (request_of served.rest)) after)
               (sym last) went_on;
+          one_map = subst (λ (ls : List Bytes). MapDialogue (state_map start) ls (served.text ++ text_of reply) (state_map after)) (sym last)
+              (one_map (HasCause first w') kind.filter_bytes (Reached kind w') (length first.beside.said) start after (served.lines ++ served.rest ∷ []) (served.text ++ text_of reply)
+              (served.most + line_bound served.now (request_of served.rest)) served.sound went_on);
           reads = λ all. omega (arith, reads_then kind start base taken kept store first w served served.rest w' counts reply new answer (subst AreBounded last all));
           stands = stand;
         }
@@ -349,7 +362,7 @@ module _ (kind : Kind) (start : State) (base : ℕ) (taken kept : Bytes) (store 
       ends_all : (ending : Ending) → LastLine kind start base taken kept store first w served served.rest w' counts reply new answer all ending → (turn_of reply ≢ Onward → reply ≢ Device → Stands kind new w') → EndsTo kind piece_bytes ending reply start base taken first w'
       ends_all ending is_last stands = (served.lines, served.rest, inr taken_all, ends_with kind start base taken kept store first w served served.rest w' counts reply new answer all ending is_last stands)
 
-  pub settled_next : (store' : Kept) → EndsServed kind Next served.now (asked_here served.rest) store' w w' → Settled kind 0 start base taken first w'
+  pub settled_next : (store' : Kept) → EndsServed kind Next served.now (request_of served.rest) store' w w' → Settled kind 0 start base taken first w'
   settled_next store' a = record {
     serving = inl refl;
     ended = λ _. inl (said_next a.0 a.1 a.3 a.5 a.2 a.4 a.7 a.6, leaves_next a.0 a.1 a.3 a.5 a.2 a.4 a.7 a.6 a.9);
@@ -361,7 +374,7 @@ module _ (kind : Kind) (start : State) (base : ℕ) (taken kept : Bytes) (store 
     writes = writes a.0 a.1 a.3;
   }
 
-  pub settled_bye : (store' : Kept) → SaidByNow w' → EndsServed kind Quit served.now (asked_here served.rest) store' w w' → Settled kind 0 start base taken first w'
+  pub settled_bye : (store' : Kept) → SaidByNow w' → EndsServed kind Quit served.now (request_of served.rest) store' w w' → Settled kind 0 start base taken first w'
   settled_bye store' now a =
       let is_last : LastLine kind start base taken kept store first w served served.rest w' counts Bye a.0 a.1 a.2 AtQuit =
       (reached_then kind start base taken kept store first w served served.rest w' counts Bye a.0 a.1 a.2 now a.3, (refl, refl)) in
@@ -377,7 +390,7 @@ module _ (kind : Kind) (start : State) (base : ℕ) (taken kept : Bytes) (store 
       }
 
   -- the device failed, by the reply or by the merge slice behind it
-  settled_four : (status : ℕ) → status ≡ 4 → (reply : Reply) (new : State) (answer : LineAnswer kind served.now (asked_here served.rest) reply new (line_bound served.now (asked_here served.rest)) w w') (all : Whole reply w w')
+  settled_four : (status : ℕ) → status ≡ 4 → (reply : Reply) (new : State) (answer : LineAnswer kind served.now (request_of served.rest) reply new (line_bound served.now (request_of served.rest)) w w') (all : Whole reply w w')
       → LastLine kind start base taken kept store first w served served.rest w' counts reply new answer all AtDevice → (turn_of reply ≢ Onward → reply ≢ Device → Stands kind new w')
       → Settled kind status start base taken first w'
   settled_four status four reply new answer all is_last stands = record {
@@ -391,7 +404,7 @@ module _ (kind : Kind) (start : State) (base : ℕ) (taken kept : Bytes) (store 
     writes = writes reply new answer;
   }
 
-  pub settled_status : (status : ℕ) (store' : Kept) → EndsServed kind (End status) served.now (asked_here served.rest) store' w w' → Settled kind status start base taken first w'
+  pub settled_status : (status : ℕ) (store' : Kept) → EndsServed kind (End status) served.now (request_of served.rest) store' w w' → Settled kind status start base taken first w'
   settled_status status store' a = elim a.3 [
     | inl four ↦ settled_four status four.0 a.0 a.1 a.2 four.2 (ends_by_device kind start base taken kept store first w served served.rest w' counts a.0 a.1 a.2 four.2 four.1) (λ over other. four.3 other)
     | inr more ↦ elim more [

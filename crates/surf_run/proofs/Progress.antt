@@ -8,16 +8,16 @@ use Rattle.block_model.specs.Pages.{page_bytes}
 use Rattle.disk_trait.specs.World.{World}
 use Rattle.line_model.specs.Lines.{lines_of, whole_lines}
 use Rattle.line_model.specs.Replies.{Bye, Device, Reply, text_of}
+use Rattle.line_model.specs.Requests.{request_of}
 use Rattle.map_model.specs.SortedMap.{Bytes}
 use Rattle.outside.specs.During.{During}
 use Rattle.outside.specs.Streams.{SaidByNow, SaysPrefix}
 use Rattle.outside.proofs.Crossing.{during_then, during_weaker}
 use Rattle.state_model.proofs.AnyCause.{ever_steps}
 use Rattle.state_model.proofs.FaultsMet.{step_keeps_device}
-use Rattle.state_model.specs.Script.{AtDevice, AtQuit, Between, Ending, Onward, Over, Turn, turn_of}
+use Rattle.state_model.specs.Script.{AtDevice, AtQuit, Between, Ending, Onward, Over, Script, Turn, turn_of}
 use Rattle.state_model.specs.State.{State}
 use Rattle.state_model.specs.Steps.{Step}
-use Rattle.store_commands.specs.Answered.{asked_here}
 use Rattle.store_commands.specs.Cutting.{NoNewline}
 use Rattle.store_core.specs.Answers.{HasCause}
 use Rattle.store_core.specs.Kept.{Kept}
@@ -25,7 +25,7 @@ use Rattle.store_core.specs.Tied.{Tied}
 use Rattle.surf_run.specs.Answering.{LineAnswer, Whole}
 use Rattle.surf_run.specs.Causes.{NoFall, WritesWithin}
 use Rattle.surf_run.specs.Crash.{Acknowledged, Reached, Stands}
-use Rattle.surf_run.specs.Dialogue.{AreBounded, IsBounded, Script, SoFar, line_bound}
+use Rattle.surf_run.specs.Dialogue.{AreBounded, IsBounded, SoFar, line_bound}
 use Rattle.surf_run.specs.Holding.{Held, with_newline}
 use Rattle.surf_run.specs.Kind.{Kind}
 use Rattle.surf_run.specs.Outcome.{EndsWith, TakenPast}
@@ -37,15 +37,16 @@ use Rattle.surf_run.proofs.Dialogues.{IsLast, between_as, device_last, ends_ther
 use Rattle.surf_run.proofs.EndCauses.{causes_later, causes_since, no_fall_on}
 use Rattle.surf_run.proofs.Footprint.{within_on}
 use Rattle.surf_run.proofs.History.{ack_more, line_ack, reached_here, reached_on}
+use Rattle.surf_run.proofs.OneMap.{one_map}
 use Rattle.surf_run.proofs.Slices.{between_pages}
 use Rattle.surf_run.proofs.Texts.{held_same, lines_first, whole_on}
 
 -- ---- what a line more makes of a run, whether it had its newline or not
 
 module _ (kind : Kind) (start : State) (base : ℕ) (bytes kept : Bytes) (store : Kept) (first w : World) (served : Served kind start base bytes kept store first w) (line : Bytes)
-    (w' : World) (counts : NoFall w w') (reply : Reply) (new : State) (answer : LineAnswer kind served.now (asked_here line) reply new (line_bound served.now (asked_here line)) w w') where
-  pub step_whole : Step (HasCause first w') kind.filter_bytes served.now (asked_here line) reply new
-  step_whole = step_as (HasCause w w') (HasCause first w') kind.filter_bytes (causes_since first w w' served.counts) served.now (asked_here line) reply new answer.step
+    (w' : World) (counts : NoFall w w') (reply : Reply) (new : State) (answer : LineAnswer kind served.now (request_of line) reply new (line_bound served.now (request_of line)) w w') where
+  pub step_whole : Step (HasCause first w') kind.filter_bytes served.now (request_of line) reply new
+  step_whole = step_as (HasCause w w') (HasCause first w') kind.filter_bytes (causes_since first w w' served.counts) served.now (request_of line) reply new answer.step
 
   pub history_then : During (Acknowledged (HasCause first w') kind start (served.lines ++ line ∷ []) first.beside.said w'.beside.said) first w'
   history_then =
@@ -61,13 +62,13 @@ module _ (kind : Kind) (start : State) (base : ℕ) (bytes kept : Bytes) (store 
   ran_then = so_far_as (HasCause first w) (HasCause first w') kind.filter_bytes (Reached kind w) (Reached kind w') (causes_later first w w' counts) (reached_on kind _ w w' answer.each)
       (length first.beside.said) start served.lines served.text served.most served.now served.ran
 
-  pub reads_then : AreBounded (served.lines ++ line ∷ []) → w'.seen.reads ≤ base + served.most + line_bound served.now (asked_here line)
+  pub reads_then : AreBounded (served.lines ++ line ∷ []) → w'.seen.reads ≤ base + served.most + line_bound served.now (request_of line)
   reads_then all =
-      let each = All-pop (λ line. IsBounded (asked_here line)) (served.lines ++ line ∷ []) served.lines (Some line) refl all in
+      let each = All-pop (λ line. IsBounded (request_of line)) (served.lines ++ line ∷ []) served.lines (Some line) refl all in
       omega (arith, answer.reads each.1, served.reads each.0)
 
   pub pages_then : new.pages ≡ start.pages
-  pages_then = (step_keeps_device kind.filter_bytes served.now new (asked_here line) reply (ever_steps (HasCause w w') kind.filter_bytes served.now new (asked_here line) reply answer.step)).1 ∙ served.pages
+  pages_then = (step_keeps_device kind.filter_bytes served.now new (request_of line) reply (ever_steps (HasCause w w') kind.filter_bytes served.now new (request_of line) reply answer.step)).1 ∙ served.pages
 
   pub writes_then : WritesWithin (page_bytes * start.pages) first w'
   writes_then = within_on (page_bytes * start.pages) first w w' served.writes (subst (λ (n : ℕ). WritesWithin (page_bytes * n) w w') served.pages answer.writes)
@@ -89,26 +90,26 @@ module _ (kind : Kind) (start : State) (base : ℕ) (bytes kept : Bytes) (store 
     reached_as reached = subst (λ (n : ℕ). Reached kind w' n new) said_is reached
 
     -- the merge slice behind the line, as one of the whole run
-    pub between_whole : (turn : Turn) (after : State) → Between (HasCause w w') kind.filter_bytes (asked_here line) new turn after → Between (HasCause first w') kind.filter_bytes (asked_here line) new turn after
+    pub between_whole : (turn : Turn) (after : State) → Between (HasCause w w') kind.filter_bytes (request_of line) new turn after → Between (HasCause first w') kind.filter_bytes (request_of line) new turn after
     between_whole turn after between =
-        between_as (HasCause w w') (HasCause first w') kind.filter_bytes (causes_since first w w' served.counts) new turn after (asked_here line) between
+        between_as (HasCause w w') (HasCause first w') kind.filter_bytes (causes_since first w w' served.counts) new turn after (request_of line) between
 
-    pub ran_on : (after : State) → turn_of reply ≡ Onward → Between (HasCause w w') kind.filter_bytes (asked_here line) new Onward after → Reached kind w' said_then new
-        → SoFar (HasCause first w') kind.filter_bytes (Reached kind w') (length first.beside.said) start (served.lines ++ line ∷ []) (served.text ++ text_of reply) (served.most + line_bound served.now (asked_here line)) after
+    pub ran_on : (after : State) → turn_of reply ≡ Onward → Between (HasCause w w') kind.filter_bytes (request_of line) new Onward after → Reached kind w' said_then new
+        → SoFar (HasCause first w') kind.filter_bytes (Reached kind w') (length first.beside.said) start (served.lines ++ line ∷ []) (served.text ++ text_of reply) (served.most + line_bound served.now (request_of line)) after
     ran_on after goes between reached =
         so_far_on (HasCause first w') kind.filter_bytes (Reached kind w') (length first.beside.said) start served.lines served.text served.most served.now line reply new after ran_then step_whole goes
         (between_whole Onward after between) said_then refl reached
 
     -- this was the last line
     abbrev pub LastLine : Ending → Type 0
-    LastLine ending = IsLast (HasCause first w') kind.filter_bytes (asked_here line) reply new ending (Reached kind w' said_then new)
+    LastLine ending = IsLast (HasCause first w') kind.filter_bytes (request_of line) reply new ending (Reached kind w' said_then new)
 
     pub ends_by_device : turn_of reply ≡ Over AtDevice → LastLine AtDevice
-    ends_by_device is = device_last (HasCause first w') kind.filter_bytes (asked_here line) reply new _ is
+    ends_by_device is = device_last (HasCause first w') kind.filter_bytes (request_of line) reply new _ is
 
-    pub ends_by_slice : turn_of reply ≡ Onward → Reached kind w' (length w'.beside.said) new → (after : State) → Between (HasCause w w') kind.filter_bytes (asked_here line) new (Over AtDevice) after → LastLine AtDevice
+    pub ends_by_slice : turn_of reply ≡ Onward → Reached kind w' (length w'.beside.said) new → (after : State) → Between (HasCause w w') kind.filter_bytes (request_of line) new (Over AtDevice) after → LastLine AtDevice
     ends_by_slice goes reached after between =
-        slice_last (HasCause first w') kind.filter_bytes (asked_here line) reply new _ goes (reached_as reached) after (between_whole (Over AtDevice) after between)
+        slice_last (HasCause first w') kind.filter_bytes (request_of line) reply new _ goes (reached_as reached) after (between_whole (Over AtDevice) after between)
 
     pub ends_with : (ending : Ending) → LastLine ending → (turn_of reply ≢ Onward → reply ≢ Device → Stands kind new w') → EndsWith kind ending reply start base served.lines line first w'
     ends_with ending last stands = record {
@@ -116,6 +117,7 @@ module _ (kind : Kind) (start : State) (base : ℕ) (bytes kept : Bytes) (store 
       most = served.most;
       now = served.now;
       so_far = ran_then;
+      one_map = one_map (HasCause first w') kind.filter_bytes (Reached kind w') (length first.beside.said) start served.now served.lines served.text served.most served.sound ran_then;
       last = new;
       step = step_whole;
       there = ends_there (HasCause first w') kind.filter_bytes line reply new ending _ last;
@@ -143,6 +145,7 @@ module _ (kind : Kind) (start : State) (base : ℕ) (bytes kept : Bytes) (store 
     whole = served.whole;
     open_end = open_end;
     ran = served.ran;
+    sound = served.sound;
     told = served.told;
     held = held;
     history = served.history;
@@ -174,16 +177,16 @@ module _ (kind : Kind) (start : State) (base : ℕ) (bytes kept : Bytes) (store 
   taken_past : TakenPast 1 (bytes ++ part ++ 10 ∷ []) (served.lines ++ (served.rest ++ part) ∷ [])
   taken_past = record { whole = whole_now; behind = []; split = line_split ∙ sym (append-nil _); less = omega arith }
 
-  module _ (w' : World) (counts : NoFall w w') (reply : Reply) (new : State) (answer : LineAnswer kind served.now (asked_here (served.rest ++ part)) reply new (line_bound served.now (asked_here (served.rest ++ part))) w w') where
+  module _ (w' : World) (counts : NoFall w w') (reply : Reply) (new : State) (answer : LineAnswer kind served.now (request_of (served.rest ++ part)) reply new (line_bound served.now (request_of (served.rest ++ part))) w w') where
     module _ (all : Whole reply w w') where
       pub next_line : (after : State) (kept' : Bytes) (store' : Kept) → turn_of reply ≡ Onward → Reached kind w' (length w'.beside.said) new
-          → Between (HasCause w w') kind.filter_bytes (asked_here (served.rest ++ part)) new Onward after → Tied kind.spelling kind.filter_bytes store' after w' → Stands kind after w' → kept' ≡ []
+          → Between (HasCause w w') kind.filter_bytes (request_of (served.rest ++ part)) new Onward after → Tied kind.spelling kind.filter_bytes store' after w' → Stands kind after w' → kept' ≡ []
           → Served kind start base (bytes ++ part ++ 10 ∷ []) kept' store' first w'
       next_line after kept' store' goes reached between tied stand cleared = record {
         lines = served.lines ++ (served.rest ++ part) ∷ [];
         rest = [];
         text = served.text ++ text_of reply;
-        most = served.most + line_bound served.now (asked_here (served.rest ++ part));
+        most = served.most + line_bound served.now (request_of (served.rest ++ part));
         now = after;
         split = line_split ∙ sym (append-nil _);
         whole = whole_now;
@@ -193,11 +196,12 @@ module _ (kind : Kind) (start : State) (base : ℕ) (bytes kept : Bytes) (store 
         told = told_then kind start base bytes kept store first w served (served.rest ++ part) w' counts reply new answer all;
         held = held_same [] kept' cleared (omega arith);
         history = history_then kind start base bytes kept store first w served (served.rest ++ part) w' counts reply new answer;
+        sound = served.sound;
         tied = tied;
         stand = stand;
         counts = no_fall_on first w w' served.counts counts;
         reads = λ all. omega (arith, reads_then kind start base bytes kept store first w served (served.rest ++ part) w' counts reply new answer all);
-        pages = between_pages (HasCause w w') kind.filter_bytes (asked_here (served.rest ++ part)) new Onward after between ∙ pages_then kind start base bytes kept store first w served (served.rest ++ part) w' counts reply new answer;
+        pages = between_pages (HasCause w w') kind.filter_bytes (request_of (served.rest ++ part)) new Onward after between ∙ pages_then kind start base bytes kept store first w served (served.rest ++ part) w' counts reply new answer;
         writes = writes_then kind start base bytes kept store first w served (served.rest ++ part) w' counts reply new answer;
       }
 
@@ -233,6 +237,8 @@ module _ (kind : Kind) (start : State) (base : ℕ) (bytes kept : Bytes) (store 
       most = served.most;
       now = served.now;
       ran = ran_then kind start base bytes kept store first w served (served.rest ++ part) w' counts reply new answer;
+      one_map = one_map (HasCause first w') kind.filter_bytes (Reached kind w') (length first.beside.said) start served.now served.lines served.text served.most served.sound
+          (ran_then kind start base bytes kept store first w served (served.rest ++ part) w' counts reply new answer);
       reply = reply;
       last = new;
       step = step_whole kind start base bytes kept store first w served (served.rest ++ part) w' counts reply new answer;
@@ -243,7 +249,7 @@ module _ (kind : Kind) (start : State) (base : ℕ) (bytes kept : Bytes) (store 
       writes = writes_then kind start base bytes kept store first w served (served.rest ++ part) w' counts reply new answer;
     }
 
-  pub line_end : (w' : World) (end : LineEnd) (store' : Kept) (kept' : Bytes) → SaidByNow w' → NoFall w w' → EndsServed kind end served.now (asked_here (served.rest ++ part)) store' w w' → kept' ≡ []
+  pub line_end : (w' : World) (end : LineEnd) (store' : Kept) (kept' : Bytes) → SaidByNow w' → NoFall w w' → EndsServed kind end served.now (request_of (served.rest ++ part)) store' w w' → kept' ≡ []
       → After kind 1 end start base (bytes ++ part ++ 10 ∷ []) kept' store' first w'
   line_end w' Next store' kept' said_now counts a cleared = next_line w' counts a.0 a.1 a.3 a.5 a.2 kept' store' a.4 a.6 a.7 a.8 a.9 cleared
   line_end w' Quit store' kept' said_now counts a cleared =
@@ -305,6 +311,7 @@ broken_more kind least most start base bytes more first w fits broken = record {
   most = broken.most;
   now = broken.now;
   ran = broken.ran;
+  one_map = broken.one_map;
   reply = broken.reply;
   last = broken.last;
   step = broken.step;

@@ -6,10 +6,9 @@ use Rattle.std.proofs.lemmas.Bool.{cases_lt, lt-leb}
 use Rattle.std.proofs.lemmas.List.{append-nil, take-append-le}
 use Rattle.std.proofs.lemmas.List.Elements.{All-head, All-tail}
 use Rattle.std.proofs.lemmas.List.Splits.{slice_split_at, slice_split_none, length-slice_split}
-use Rattle.store_commands.specs.Answered.{asked_here, is_answered}
 use Rattle.store_commands.specs.Cutting.{NoNewline}
 use Rattle.map_model.specs.SortedMap.{Bytes}
-use Rattle.line_model.specs.Requests.{Bad, asked_by}
+use Rattle.line_model.specs.Requests.{Bad, asked_by, request_of}
 use Rattle.line_model.specs.Lines.{counted, lines_of, but_last, whole_lines}
 use Rattle.surf_run.specs.Holding.{Held, with_newline}
 
@@ -53,15 +52,15 @@ pub last_line : (rest : Bytes) → NoNewline rest → zero < length rest → lin
 last_line [] none some = absurd (omega arith)
 last_line (b ∷ rest) none some = ap counted (slice_split_none (λ (b : ℕ). b == 10) (b ∷ rest) none)
 
-too_long : (line : Bytes) → 140000 < length line → asked_here line ≡ Bad 1
+too_long : (line : Bytes) → 140000 < length line → request_of line ≡ Bad 1
 too_long line long =
-    ap (λ (t : Bool). cond (t && not (is_answered (slice_split (λ b. b == 32) line))) (Bad 2) (cond t (asked_by (slice_split (λ b. b == 32) line)) (Bad 1))) (lt-leb (length line) 140000 long)
+    ap (λ (t : Bool). cond t (asked_by (slice_split (λ b. b == 32) line)) (Bad 1)) (lt-leb (length line) 140000 long)
 
 -- too long a line says the same however long it is
-pub request_held : (rest kept : Bytes) → Held rest kept → asked_here kept ≡ asked_here rest
+pub request_held : (rest kept : Bytes) → Held rest kept → request_of kept ≡ request_of rest
 request_held rest kept held = elim (cases_lt 140000 (length rest)) [
   | inl long ↦ too_long kept (held.long long) ∙ sym (too_long rest long)
-  | inr short ↦ ap asked_here (held.short short)
+  | inr short ↦ ap request_of (held.short short)
 ]
 
 pub nothing : (l : Bytes) → length l ≡ 0 → l ≡ []

@@ -4,7 +4,7 @@ use Rattle.byte_fields.specs.declared.parts.Damage.{Damage}
 use Rattle.disk_trait.specs.World.{Image, Passes, Rose, Torn, World}
 use Rattle.line_model.specs.Replies.{Reply, text_of}
 use Rattle.line_model.specs.Replies as line
-use Rattle.line_model.specs.Requests.{Count, Get, Range, Request, Seek}
+use Rattle.line_model.specs.Requests.{Compact, Count, Get, Range, Request, Seek}
 use Rattle.map_model.specs.SortedMap.{Bytes}
 use Rattle.state_model.specs.PlayLaws.{has_slice}
 use Rattle.state_model.specs.Script.{Onward, turn_of}
@@ -51,12 +51,13 @@ pub record LineMoves (old new : World) : Type 0 where
   pub counts : NoFall old new
 
 -- damage that a request meets on an image: of a get that of the block which is read for its key in one of these tables, of a seek,
--- a range and a count that of some block of one of them
+-- a range, a count and a compaction that of some block of one of them
 abbrev pub IsMetBy : List Opened → Request → Image → Damage → Type 0
 IsMetBy tables (Get key) image damage = IsFaultIn tables key image (Damaged damage)
 IsMetBy tables (Seek lo hi) image damage = IsScanShown tables image (error.Damaged damage)
 IsMetBy tables (Range lo hi n) image damage = IsScanShown tables image (error.Damaged damage)
 IsMetBy tables (Count lo hi) image damage = IsScanShown tables image (error.Damaged damage)
+IsMetBy tables Compact image damage = IsScanShown tables image (error.Damaged damage)
 IsMetBy tables request image damage = ⊥
 
 -- What was said ends with the damage of a block that the request reads in one of these tables. The device shows it: the block has
@@ -105,6 +106,14 @@ ServedShows Told tables later request w = Told → SaysDamage tables request w �
 -- some damage
 abbrev pub ShowsSomeDamage : World → Type 0
 ShowsSomeDamage w = SaysSomeDamage w ⊎ MeetsSomeDamage w
+
+-- a merge slice met damage of some tables, and nothing was said since the first world
+abbrev pub MeetsUnsaid : World → World → Type 0
+MeetsUnsaid old new = (tables : List Opened) × MeetsDamage tables new × (new.beside.said ≡ old.beside.said)
+
+-- the damage that a run ends with: that of a line, or, of a load, that of a merge slice, of which nothing is said
+abbrev pub RunMeetsDamage : Type 0 → World → World → Type 0
+RunMeetsDamage IsALoad old new = ShowsSomeDamage new ⊎ (IsALoad × MeetsUnsaid old new)
 
 abbrev pub RunShows : Type 0 → World → Type 0
 RunShows Told w = Told → ShowsSomeDamage w

@@ -3,14 +3,13 @@ use Rattle.std.specs.Prelude.{◌≡◌, ◌⊎◌, ◌≤◌, ℕ, List, ◌∷
 use Rattle.disk_trait.specs.World.{Image, Now, World}
 use Rattle.image_model.specs.Stands.{StandsFor, StandsForMap, UnnamedStand}
 use Rattle.line_model.specs.Replies.{Device, Reply, text_of}
-use Rattle.line_model.specs.Requests.{Request}
+use Rattle.line_model.specs.Requests.{Request, request_of}
 use Rattle.map_model.specs.SortedMap.{Bytes}
 use Rattle.state_model.specs.Causes.{Why}
 use Rattle.state_model.specs.PlayLaws.{AnyState}
 use Rattle.state_model.specs.State.{State}
 use Rattle.state_model.specs.Steps.{Step, answer}
 use Rattle.state_model.specs.View.{state_map}
-use Rattle.store_commands.specs.Answered.{asked_here}
 use Rattle.surf_run.specs.Dialogue.{SoFar}
 use Rattle.surf_run.specs.Kind.{Kind}
 
@@ -42,10 +41,10 @@ HasBehind kind s request reply next image = HasMap kind next image ⊎ ((reply �
 -- a line follows, that of its answer; or a part of the reply to that line had been said, and the image has the map behind it.
 abbrev pub IsBehind : (Why → Type 0) → Kind → State → List Bytes → Bytes → Bytes → Image → Type 0
 IsBehind Cause kind now later answered told image =
-    ((told ≡ answered) × (HasMap kind now image ⊎ ((line : Bytes) × (more : List Bytes) × (later ≡ line ∷ more) × HasEither kind now (asked_here line) image)))
+    ((told ≡ answered) × (HasMap kind now image ⊎ ((line : Bytes) × (more : List Bytes) × (later ≡ line ∷ more) × HasEither kind now (request_of line) image)))
     ⊎ ((line : Bytes) × (more : List Bytes) × (reply : Reply) × (next : State) × (part : Bytes) × (rest : Bytes) × (later ≡ line ∷ more)
-    × Step Cause kind.filter_bytes now (asked_here line) reply next × (text_of reply ≡ part ++ rest) × (told ≡ answered ++ part)
-    × HasBehind kind now (asked_here line) reply next image)
+    × Step Cause kind.filter_bytes now (request_of line) reply next × (text_of reply ≡ part ++ rest) × (told ≡ answered ++ part)
+    × HasBehind kind now (request_of line) reply next image)
 
 -- Of all that was said at the end, `told`, n bytes had been said; `before` was said before the run. They are the replies to
 -- some first lines, all of them whole, and maybe a part of the next line's reply; and the image has the map after those

@@ -10,7 +10,11 @@ pub mod Ends
 pub mod FormatRefusals
 pub mod Formats
 pub mod Holding
+pub mod Independence
 pub mod Kind
+pub mod Loading
+pub mod Loads
+pub mod OneMap
 pub mod Open
 pub mod Outcome
 pub mod Refusals

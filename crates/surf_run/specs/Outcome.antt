@@ -5,20 +5,22 @@ use Rattle.disk_trait.specs.World.{World}
 use Rattle.key_base.specs.Limits.{max_input_bytes, piece_bytes}
 use Rattle.line_model.specs.Lines.{lines_of, whole_lines}
 use Rattle.line_model.specs.Replies.{Bye, Device, Reply, text_of}
+use Rattle.line_model.specs.Requests.{request_of}
 use Rattle.map_model.specs.SortedMap.{Bytes}
 use Rattle.outside.specs.During.{During}
 use Rattle.outside.specs.Streams.{SaysPrefix}
-use Rattle.state_model.specs.Script.{AtDevice, AtQuit, Ending, Onward, ToLast, turn_of}
+use Rattle.state_model.specs.Script.{AtDevice, AtQuit, Ending, EndsThere, Onward, Script, ToLast, turn_of}
 use Rattle.state_model.specs.State.{State}
 use Rattle.state_model.specs.Steps.{Step}
-use Rattle.store_commands.specs.Answered.{asked_here}
+use Rattle.state_model.specs.View.{state_map}
 use Rattle.store_commands.specs.Cutting.{NoNewline}
 use Rattle.store_core.specs.Answers.{HasCause}
 use Rattle.surf_run.specs.Causes.{IsServing, WritesWithin}
 use Rattle.surf_run.specs.Crash.{Acknowledged, Reached, Stands}
-use Rattle.surf_run.specs.Dialogue.{AreBounded, EndsThere, Script, SoFar, line_bound}
+use Rattle.surf_run.specs.Dialogue.{AreBounded, SoFar, line_bound}
 use Rattle.surf_run.specs.Holding.{with_newline}
 use Rattle.surf_run.specs.Kind.{Kind}
+use Rattle.surf_run.specs.OneMap.{MapDialogue}
 
 -- All of the script's text was said, for the lines of what was taken; and the input was at its end, or whatever follows
 -- changes nothing. As each reply had been said that is not `device`, each image that a crash may then leave stood for the
@@ -40,6 +42,7 @@ pub record LeavesState (kind : Kind) (start : State) (base : ℕ) (lines : List 
   pub most : ℕ
   pub last : State
   pub so_far : SoFar (HasCause old new) kind.filter_bytes (Reached kind new) (length old.beside.said) start lines text most last
+  pub one_map : MapDialogue (state_map start) lines text (state_map last)
   pub reads : AreBounded lines → new.seen.reads ≤ base + most
   pub stands : Stands kind last new
 
@@ -68,10 +71,11 @@ pub record EndsWith (kind : Kind) (ending : Ending) (reply : Reply) (start : Sta
   pub most : ℕ
   pub now : State
   pub so_far : SoFar (HasCause old new) kind.filter_bytes (Reached kind new) (length old.beside.said) start lines text most now
+  pub one_map : MapDialogue (state_map start) lines text (state_map now)
   pub last : State
-  pub step : Step (HasCause old new) kind.filter_bytes now (asked_here line) reply last
+  pub step : Step (HasCause old new) kind.filter_bytes now (request_of line) reply last
   pub there : EndsThere (HasCause old new) kind.filter_bytes line reply last ending
-  pub reads : AreBounded (lines ++ line ∷ []) → new.seen.reads ≤ base + most + line_bound now (asked_here line)
+  pub reads : AreBounded (lines ++ line ∷ []) → new.seen.reads ≤ base + most + line_bound now (request_of line)
   pub output : new.beside.said ≡ old.beside.said ++ (text ++ text_of reply)
   pub crash : During (Acknowledged (HasCause old new) kind start (lines ++ line ∷ []) old.beside.said new.beside.said) old new
   pub stands : turn_of reply ≢ Onward → reply ≢ Device → Stands kind last new
@@ -107,10 +111,11 @@ pub record SaidInPart (kind : Kind) (start : State) (base : ℕ) (taken : Bytes)
   pub most : ℕ
   pub now : State
   pub so_far : SoFar (HasCause old new) kind.filter_bytes (Reached kind new) (length old.beside.said) start lines text most now
+  pub one_map : MapDialogue (state_map start) lines text (state_map now)
   pub reply : Reply
   pub last : State
-  pub step : Step (HasCause old new) kind.filter_bytes now (asked_here line) reply last
-  pub reads : AreBounded (lines ++ line ∷ []) → new.seen.reads ≤ base + most + line_bound now (asked_here line)
+  pub step : Step (HasCause old new) kind.filter_bytes now (request_of line) reply last
+  pub reads : AreBounded (lines ++ line ∷ []) → new.seen.reads ≤ base + most + line_bound now (request_of line)
   pub prefix : SaysPrefix (text_of reply) (old.beside.said ++ text) new.beside.said
   pub crash : During (Acknowledged (HasCause old new) kind start (lines ++ line ∷ []) old.beside.said new.beside.said) old new
   pub stands : reply ≢ Device → Stands kind last new

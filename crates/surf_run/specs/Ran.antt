@@ -1,5 +1,5 @@
 -- What a run promises, clause by clause.
-use Rattle.std.specs.Prelude.{◌≡◌, ◌⊎◌, ℕ, Bool, List, IsTrue, Some, None}
+use Rattle.std.specs.Prelude.{◌≡◌, ◌⊎◌, ℕ, Bool, List, IsTrue, None}
 use Rattle.byte_fields.specs.Faults.{Fault}
 use Rattle.byte_fields.specs.declared.parts.Damage.{Damage}
 use Rattle.clap.specs.Walk.{Text}
@@ -10,14 +10,16 @@ use Rattle.image_model.specs.Stands.{IsStateOf}
 use Rattle.manifest_model.specs.Slots.{IsNoStore}
 use Rattle.map_model.specs.SortedMap.{Bytes}
 use Rattle.outside.specs.Streams.{SayMoves}
-use Rattle.program_words.specs.Asked.{AreRefusedWords, IsFormat, IsHelp, IsServe}
+use Rattle.program_words.specs.Asked.{AreRefusedWords, HasBadNumber, IsFormat, IsHelp, IsLoadInRange, IsServe, OpensStore}
 use Rattle.program_words.specs.NewStores.{IsStoreOf, first_bad_word}
+use Rattle.program_words.specs.declared.load.Load.{Load}
 use Rattle.program_words.specs.declared.new_store.NewStore.{NewStore}
 use Rattle.program_words.specs.declared.new_store.Wanted.{Wanted}
 use Rattle.state_model.specs.State.{State}
-use Rattle.surf_run.specs.Causes.{IsServing, NoFall, SayFailed, ShowsSomeDamage, StatusCause}
+use Rattle.surf_run.specs.Causes.{IsServing, NoFall, RunMeetsDamage, SayFailed, StatusCause}
 use Rattle.surf_run.specs.Ends.{Completed, Ends, HasNoState, OpensNothing, Serves, SomeFailed, TellsDamage, Unanswered}
 use Rattle.surf_run.specs.Kind.{Kind}
+use Rattle.surf_run.specs.Loads.{IsLoading, LoadEnds, Loads}
 use Rattle.surf_run.specs.Open.{IsOpeningText}
 use Rattle.surf_run.specs.Run.{AskNothing, FormatEnds, IsBadSettingsText, IsHelpText, IsUsageText}
 use Rattle.table_file.specs.Faults.{filter_fault_of}
@@ -45,9 +47,22 @@ pub record Ran {X : Type 0} (world : X → World) (tells tells_input tells_outpu
   pub formatted :
       (wanted : Wanted) (store : NewStore) → IsTrue tells → IsTrue tells_output → IsFormat words wanted → first_bad_word wanted ≡ None → IsStoreOf wanted store
       → FormatEnds kind.spelling store status (world old) (world new)
-  pub bad_settings :
-      (wanted : Wanted) (field : Field) → IsTrue tells_output → IsFormat words wanted → first_bad_word wanted ≡ Some field
-      → Unserved (IsBadSettingsText field) status (world old) (world new)
+  pub bad_settings : (field : Field) → IsTrue tells_output → HasBadNumber words field → Unserved (IsBadSettingsText field) status (world old) (world new)
+  -- Of `load`, where each image that a crash might have left at the start stands for this state: at status 0 all steps were made, and
+  -- the line tells the map of those that were not refused; what a crash may leave at each moment is the map after some first steps.
+  pub loaded :
+      (s : State) (load : Load) → IsTrue tells → IsTrue tells_output → Now (IsStateOf kind.spelling s) (world old) → IsLoadInRange words load
+      → LoadEnds kind status s load.seed load.count (world old) (world new) ⊎ Unanswered status s (world old) (world new)
+  -- Where what the device reads as stands for this state: the same from the opening on.
+  pub loads :
+      (s : State) (load : Load) → IsTrue tells → IsTrue tells_output → IsStateOf kind.spelling s (world old).seen.held → IsLoadInRange words load
+      → ((opened : X) × Loads kind status s load.seed load.count (world old) (world opened) (world new)) ⊎ Unanswered status s (world old) (world new)
+  -- Where no call fails all steps are made, but for want of memory.
+  pub load_complete :
+      (s : State) (load : Load) → IsTrue tells → IsTrue tells_output → IsStateOf kind.spelling s (world old).seen.held
+      → (SomeFailed (world old) (world new) → ⊥) → IsLoadInRange words load → (status ≡ 0) ⊎ (status ≡ 7)
+  -- And whatever stands there, no other comes than these.
+  pub load_statuses : (load : Load) → IsLoadInRange words load → IsLoading status ⊎ (status ≡ 8)
   -- Help is said with 0, and wrong words get the usage line with 2; nothing is touched.
   pub helped : IsTrue tells_output → IsHelp words → Unserved IsHelpText status (world old) (world new)
   pub refused : IsTrue tells_output → AreRefusedWords words → Unserved IsUsageText status (world old) (world new)
@@ -63,17 +78,17 @@ pub record Ran {X : Type 0} (world : X → World) (tells tells_input tells_outpu
   -- the damage that was said, or that a merge slice met, of which nothing is said.
   pub only_at_damage :
       IsTrue tells → IsTrue tells_input → IsTrue tells_output → status ≡ 5
-      → TellsDamage kind.spelling first_fault (world old).seen.held (world old) (world new) ⊎ (HasNoState kind.spelling (world old).seen.held × ShowsSomeDamage (world new))
-  -- Of `serve`, where no store stands or opening finds damage, no line is served: nothing is taken or written, and the one last
-  -- line says so, or `device` or `memory`.
+      → TellsDamage kind.spelling first_fault (world old).seen.held (world old) (world new) ⊎ (HasNoState kind.spelling (world old).seen.held × RunMeetsDamage ((load : Load) × IsLoadInRange words load) (world old) (world new))
+  -- Of `serve` and `load`, where no store stands or opening finds damage, no line is served and no step made: nothing is taken or
+  -- written, and the one last line says so, or `device` or `memory`.
   pub unopened :
-      IsTrue tells → IsTrue tells_output → OpensNothing kind.spelling first_fault (world old).seen.held → IsServe words
+      IsTrue tells → IsTrue tells_output → OpensNothing kind.spelling first_fault (world old).seen.held → OpensStore words
       → Unserved (IsOpeningText kind.spelling first_fault (world old).seen.held) status (world old) (world new)
   -- Where opening finds damage, the status says so, but for the device, memory and a last line that cannot be said.
   pub told_of_damage :
-      (d : Damage) → IsTrue tells → FirstDamage kind.spelling (filter_fault_of first_fault) (world old).seen.held d → IsServe words
+      (d : Damage) → IsTrue tells → FirstDamage kind.spelling (filter_fault_of first_fault) (world old).seen.held d → OpensStore words
       → (status ≡ 5) ⊎ (status ≡ 4) ⊎ (status ≡ 6) ⊎ (status ≡ 7)
-  -- Of `serve`, status 8 comes exactly where both slot gates are closed, but for memory, the device and the last line.
-  pub only_at_no_store : IsTrue tells → status ≡ 8 → IsServe words → IsNoStore (world old).seen.held
-  pub told_of_no_store : IsTrue tells → IsNoStore (world old).seen.held → IsServe words → (status ≡ 8) ⊎ (status ≡ 4) ⊎ (status ≡ 6) ⊎ (status ≡ 7)
+  -- Of them, status 8 comes exactly where both slot gates are closed, but for memory, the device and the last line.
+  pub only_at_no_store : IsTrue tells → status ≡ 8 → OpensStore words → IsNoStore (world old).seen.held
+  pub told_of_no_store : IsTrue tells → IsNoStore (world old).seen.held → OpensStore words → (status ≡ 8) ⊎ (status ≡ 4) ⊎ (status ≡ 6) ⊎ (status ≡ 7)
   pub statuses : IsServing status ⊎ (status ≡ 2) ⊎ (status ≡ 5) ⊎ (status ≡ 7) ⊎ (status ≡ 8)

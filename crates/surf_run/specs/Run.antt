@@ -1,17 +1,16 @@
 -- What a run says that answers no line, by what its words ask for.
-use Rattle.std.specs.Prelude.{◌≡◌, ◌⊎◌, ◌++◌, ◌∷◌, [], ℕ, List, Some, codes}
+use Rattle.std.specs.Prelude.{◌≡◌, ◌⊎◌, ◌++◌, ◌∷◌, [], ℕ, List, codes}
 use Rattle.clap.specs.Walk.{Text}
 use Rattle.disk_trait.specs.World.{World}
 use Rattle.filter_api.specs.Spellings.{Spelling}
 use Rattle.filter_api.specs.declared.settings.Field.{Field}
 use Rattle.line_model.specs.Replies.{Memory, text_of}
 use Rattle.map_model.specs.SortedMap.{Bytes}
-use Rattle.program_words.specs.Asked.{AreRefusedWords, IsFormat, IsHelp}
-use Rattle.program_words.specs.NewStores.{first_bad_word}
+use Rattle.program_words.specs.Asked.{AreRefusedWords, HasBadNumber, IsHelp}
 use Rattle.program_words.specs.declared.asked.Asked.{Asked}
 use Rattle.program_words.specs.declared.asked.Asked.TheVariants as asked
+use Rattle.program_words.specs.declared.load.Load.{Load}
 use Rattle.program_words.specs.declared.new_store.NewStore.{NewStore}
-use Rattle.program_words.specs.declared.new_store.Wanted.{Wanted}
 use Rattle.surf_run.specs.Formats.{Formatted, WritesInFront, bad_settings_text}
 use Rattle.surf_run.specs.Unserved.{Unserved}
 
@@ -40,14 +39,15 @@ FormatEnds spelling store status old new =
     (Formatted spelling store.settings store.pages status old new × (new.beside.to_take ≡ old.beside.to_take) × WritesInFront old new)
     ⊎ Unserved IsMemoryText status old new
 
--- words that clap refuses or answers, or that want a store with a number out of range
+-- words that clap refuses or answers, or of whose numbers one is out of range
 abbrev pub AskNothing : List Text → Type 0
-AskNothing words = AreRefusedWords words ⊎ IsHelp words ⊎ ((wanted : Wanted) × (field : Field) × IsFormat words wanted × (first_bad_word wanted ≡ Some field))
+AskNothing words = AreRefusedWords words ⊎ IsHelp words ⊎ ((field : Field) × HasBadNumber words field)
 
 -- ---- what is so where this was asked for, or there was no memory
 
 abbrev pub IfServe : Asked → Type 0 → Type 0
 IfServe asked.Serve Holds = Holds
+IfServe (asked.Load load) Holds = Unit {0}
 IfServe asked.Memory Holds = Holds
 IfServe (asked.Format store) Holds = Unit {0}
 IfServe (asked.BadSettings field) Holds = Unit {0}
@@ -56,6 +56,7 @@ IfServe asked.Refused Holds = Unit {0}
 
 abbrev pub IfRefused : Asked → Type 0 → Type 0
 IfRefused asked.Serve Holds = Unit {0}
+IfRefused (asked.Load load) Holds = Unit {0}
 IfRefused asked.Memory Holds = Holds
 IfRefused (asked.Format store) Holds = Unit {0}
 IfRefused (asked.BadSettings field) Holds = Unit {0}
@@ -64,6 +65,7 @@ IfRefused asked.Refused Holds = Holds
 
 abbrev pub IfUnserved : Asked → Type 0 → Type 0
 IfUnserved asked.Serve Holds = Unit {0}
+IfUnserved (asked.Load load) Holds = Unit {0}
 IfUnserved asked.Memory Holds = Holds
 IfUnserved (asked.Format store) Holds = Unit {0}
 IfUnserved (asked.BadSettings field) Holds = Holds
@@ -72,6 +74,7 @@ IfUnserved asked.Refused Holds = Holds
 
 abbrev pub IfHelp : Asked → Type 0 → Type 0
 IfHelp asked.Serve Holds = Unit {0}
+IfHelp (asked.Load load) Holds = Unit {0}
 IfHelp asked.Memory Holds = Holds
 IfHelp (asked.Format store) Holds = Unit {0}
 IfHelp (asked.BadSettings field) Holds = Unit {0}
@@ -80,6 +83,7 @@ IfHelp asked.Refused Holds = Unit {0}
 
 abbrev pub IfFormat : Asked → (NewStore → Type 0) → Type 0 → Type 0
 IfFormat asked.Serve Holds Starved = Unit {0}
+IfFormat (asked.Load load) Holds Starved = Unit {0}
 IfFormat asked.Memory Holds Starved = Starved
 IfFormat (asked.Format store) Holds Starved = Holds store
 IfFormat (asked.BadSettings field) Holds Starved = Unit {0}
@@ -88,15 +92,46 @@ IfFormat asked.Refused Holds Starved = Unit {0}
 
 abbrev pub IfBadSettings : Asked → (Field → Type 0) → Type 0 → Type 0
 IfBadSettings asked.Serve Holds Starved = Unit {0}
+IfBadSettings (asked.Load load) Holds Starved = Unit {0}
 IfBadSettings asked.Memory Holds Starved = Starved
 IfBadSettings (asked.Format store) Holds Starved = Unit {0}
 IfBadSettings (asked.BadSettings field) Holds Starved = Holds field
 IfBadSettings (asked.Help text) Holds Starved = Unit {0}
 IfBadSettings asked.Refused Holds Starved = Unit {0}
 
--- only where it was refused, and nothing else
+abbrev pub IfLoad : Asked → (Load → Type 0) → Type 0 → Type 0
+IfLoad asked.Serve Holds Starved = Unit {0}
+IfLoad (asked.Load load) Holds Starved = Holds load
+IfLoad asked.Memory Holds Starved = Starved
+IfLoad (asked.Format store) Holds Starved = Unit {0}
+IfLoad (asked.BadSettings field) Holds Starved = Unit {0}
+IfLoad (asked.Help text) Holds Starved = Unit {0}
+IfLoad asked.Refused Holds Starved = Unit {0}
+
+-- where the store was to be opened
+abbrev pub IfOpens : Asked → Type 0 → Type 0
+IfOpens asked.Serve Holds = Holds
+IfOpens (asked.Load load) Holds = Holds
+IfOpens asked.Memory Holds = Holds
+IfOpens (asked.Format store) Holds = Unit {0}
+IfOpens (asked.BadSettings field) Holds = Unit {0}
+IfOpens (asked.Help text) Holds = Unit {0}
+IfOpens asked.Refused Holds = Unit {0}
+
+-- ---- this was asked for, and nothing else
+
+abbrev pub IsLoadAsk : Asked → Type 0
+IsLoadAsk asked.Serve = ⊥
+IsLoadAsk (asked.Load load) = Unit {0}
+IsLoadAsk asked.Memory = ⊥
+IsLoadAsk (asked.Format store) = ⊥
+IsLoadAsk (asked.BadSettings field) = ⊥
+IsLoadAsk (asked.Help text) = ⊥
+IsLoadAsk asked.Refused = ⊥
+
 abbrev pub IsRefusedAsk : Asked → Type 0
 IsRefusedAsk asked.Serve = ⊥
+IsRefusedAsk (asked.Load load) = ⊥
 IsRefusedAsk asked.Memory = ⊥
 IsRefusedAsk (asked.Format store) = ⊥
 IsRefusedAsk (asked.BadSettings field) = ⊥

@@ -4,13 +4,15 @@ use Rattle.block_model.specs.Pages.{page_bytes}
 use Rattle.disk_trait.specs.World.{World}
 use Rattle.line_model.specs.Lines.{lines_of, whole_lines}
 use Rattle.line_model.specs.Replies.{Bye, Device, Reply, text_of}
+use Rattle.line_model.specs.Requests.{request_of}
 use Rattle.map_model.specs.SortedMap.{Bytes}
 use Rattle.outside.specs.During.{During}
 use Rattle.outside.specs.Streams.{SaysPrefix}
-use Rattle.state_model.specs.Script.{AtDevice, AtQuit, Ending}
+use Rattle.state_model.specs.Script.{AtDevice, AtQuit, Ending, Script}
+use Rattle.state_model.specs.Sound.{IsSound}
 use Rattle.state_model.specs.State.{State}
 use Rattle.state_model.specs.Steps.{Step}
-use Rattle.store_commands.specs.Answered.{asked_here}
+use Rattle.state_model.specs.View.{state_map}
 use Rattle.store_commands.specs.Cutting.{NoNewline}
 use Rattle.store_core.specs.Answers.{HasCause}
 use Rattle.store_core.specs.Kept.{Kept}
@@ -18,9 +20,10 @@ use Rattle.store_core.specs.Tied.{Tied}
 use Rattle.surf_run.specs.Answering.{RunsOn}
 use Rattle.surf_run.specs.Causes.{EndCause, LineMoves, NoFall, RunShows, WritesWithin}
 use Rattle.surf_run.specs.Crash.{Acknowledged, Reached, Stands}
-use Rattle.surf_run.specs.Dialogue.{AreBounded, Script, SoFar, line_bound}
+use Rattle.surf_run.specs.Dialogue.{AreBounded, SoFar, line_bound}
 use Rattle.surf_run.specs.Holding.{Held, with_newline}
 use Rattle.surf_run.specs.Kind.{Kind}
+use Rattle.surf_run.specs.OneMap.{MapDialogue}
 use Rattle.surf_run.specs.Outcome.{EndsWith, TakenPast}
 use Rattle.surf_run.specs.declared.end.LineEnd.{LineEnd}
 use Rattle.surf_run.specs.declared.end.LineEnd.TheVariants.{End, Next, Quit}
@@ -36,6 +39,7 @@ pub record Served (kind : Kind) (start : State) (base : ℕ) (bytes kept : Bytes
   pub whole : All NoNewline lines
   pub open_end : NoNewline rest
   pub ran : SoFar (HasCause first w) kind.filter_bytes (Reached kind w) (length first.beside.said) start lines text most now
+  pub sound : IsSound kind.filter_bytes start
   pub told : w.beside.said ≡ first.beside.said ++ text
   pub held : Held rest kept
   pub history : During (Acknowledged (HasCause first w) kind start lines first.beside.said w.beside.said) first w
@@ -71,10 +75,11 @@ pub record Broken (kind : Kind) (past : ℕ) (start : State) (base : ℕ) (bytes
   pub most : ℕ
   pub now : State
   pub ran : SoFar (HasCause first w) kind.filter_bytes (Reached kind w) (length first.beside.said) start lines text most now
+  pub one_map : MapDialogue (state_map start) lines text (state_map now)
   pub reply : Reply
   pub last : State
-  pub step : Step (HasCause first w) kind.filter_bytes now (asked_here line) reply last
-  pub reads : AreBounded (lines ++ line ∷ []) → w.seen.reads ≤ base + most + line_bound now (asked_here line)
+  pub step : Step (HasCause first w) kind.filter_bytes now (request_of line) reply last
+  pub reads : AreBounded (lines ++ line ∷ []) → w.seen.reads ≤ base + most + line_bound now (request_of line)
   pub prefix : SaysPrefix (text_of reply) (first.beside.said ++ text) w.beside.said
   pub stands : reply ≢ Device → Stands kind last w
   pub history : During (Acknowledged (HasCause first w) kind start (lines ++ line ∷ []) first.beside.said w.beside.said) first w

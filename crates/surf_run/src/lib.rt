@@ -1,7 +1,8 @@
 //! The top call of a key-value store over a device, an input and an output.
 //!
 //! [`run`] reads the words by `program_words`. `format` makes the device an empty store. `serve` opens the store on it, answers
-//! the lines of the input until its end or `quit`, and answers the exit status. A put or a delete is written to the log and
+//! the lines of the input until its end or `quit`, and answers the exit status. `load` opens it too, makes steps that follow from
+//! a seed, and tells the summary of the map that is then there. A put or a delete is written to the log and
 //! made to last before its `ok` is said. Its contract is the promise of the whole program: what was said is what one sorted map
 //! answers, at each moment a crash leaves the map after some first lines that have all that was acknowledged, and no more
 //! blocks are read than the filters of the tables admit. [`serve_line`] answers one line over an opened store, with the slice
@@ -14,14 +15,17 @@
 //! nothing is said of it. All memory but the store's is taken before the first line. Not for more than one input.
 //!
 //! ```text
-//! let status = run(alloc, words, &mut outside);   // words: `format --pages 512 --variant base`, or `serve`
+//! let status = run(alloc, words, &mut outside);   // words: `format --pages 512 --variant base`, `serve`, or `load --seed=1 --count=1`
 //! ```
 #![tactic(auto)]
 
 mod end;
 mod format_lines;
 mod formatting;
+mod laws;
 mod line;
+mod loading;
+mod opening;
 mod pending;
 mod saying;
 mod serve;
@@ -30,5 +34,6 @@ mod slicing;
 mod top;
 
 pub use end::LineEnd;
+pub use laws::replies_are_of_the_map;
 pub use slicing::serve_line;
 pub use top::run;

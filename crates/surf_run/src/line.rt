@@ -1,12 +1,11 @@
 //! Requests, answered.
 ghost use Rattle.std.specs.Prelude.{◌≡◌, ◌≢◌, ◌⊎◌, ◌<◌, true, false, length, take, IfSome, IsTrue, Some, None};
 ghost use Rattle.std.specs.Option.{option_map};
-ghost use Rattle.line_model.specs.Requests.{Bad, Count, Del, Estimate, Explain, Flush, Get, Put, Quit, Range, Seek};
+ghost use Rattle.line_model.specs.Requests.{Bad, Compact, Count, Del, Estimate, Explain, Flush, Get, Put, Quit, Range, Seek};
 ghost use Rattle.entry_model.specs.Entries.{IsEntry, entry_of};
 ghost use Rattle.line_model.specs.Replies.{Reply as LineReply, found};
 ghost use Rattle.outside.specs.Streams.{SayMoves};
 ghost use Rattle.state_model.specs.PlayLaws.{has_slice};
-ghost use Rattle.store_commands.specs.Answered.{IsAskedHere};
 ghost use Rattle.store_commands.specs.Asks.{asked};
 ghost use Rattle.store_commands.specs.Spoken.{spoken};
 ghost use Rattle.store_core.specs.Answers.{told, told_change, told_limit};
@@ -160,6 +159,20 @@ fn flush_line<F: RangeFilter, W: Outside>(
     ensures { AnswersLine (filter_kind F.spelling F.built_cutoff) W.tells W.tells_output Flush result store.old store.new (W.world out.old) (W.world out.new) }
 {
     let changed = store.flush(out);
+    store.whole_law();
+    say_change(out, buffer, changed)
+}
+
+fn compact_line<F: RangeFilter, W: Outside>(
+    store: &mut Store<F>,
+    buffer: &mut [u8],
+    out: &mut W,
+) -> LineEnd
+    requires buffer { 0 < length buffer.old }
+    requires running { store.old.stopped ≡ false }
+    ensures { AnswersLine (filter_kind F.spelling F.built_cutoff) W.tells W.tells_output Compact result store.old store.new (W.world out.old) (W.world out.new) }
+{
+    let changed = store.compact(out);
     store.whole_law();
     say_change(out, buffer, changed)
 }
@@ -354,7 +367,6 @@ pub(crate) fn answer_request<F: RangeFilter, W: Outside>(
 ) -> LineEnd
     requires buffer { 0 < length buffer.old }
     requires running { store.old.stopped ≡ false }
-    requires asked { IsAskedHere (asked request) }
     ensures answers { AnswersLine (filter_kind F.spelling F.built_cutoff) W.tells W.tells_output (asked request.entry) result store.old store.new (W.world out.old) (W.world out.new) }
     ensures onward { has_slice (asked request.entry) ≡ true → IsTrue W.tells_output → result ≡ Next → SaysOnward (W.world out.old) (W.world out.new) }
 {
@@ -368,7 +380,7 @@ pub(crate) fn answer_request<F: RangeFilter, W: Outside>(
         Request::Estimate { lo, hi } => estimate_line(store, buffer, out, lo, hi),
         Request::Explain { key } => explain_line(store, buffer, out, key),
         Request::Flush => flush_line(store, buffer, out),
+        Request::Compact => compact_line(store, buffer, out),
         Request::Quit => quit_line(store, buffer, out),
-        _ => unreachable!(),
     }
 }

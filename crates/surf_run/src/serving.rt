@@ -6,45 +6,26 @@ ghost use Rattle.image_model.specs.Opening.{FirstDamage};
 ghost use Rattle.image_model.specs.Stands.{IsStateOf};
 ghost use Rattle.key_base.specs.Limits.{piece_bytes};
 ghost use Rattle.manifest_model.specs.Slots.{IsNoStore};
-ghost use Rattle.outside.specs.Streams.{SayMoves, SaysPrefix};
 ghost use Rattle.state_model.specs.State.{State};
-ghost use Rattle.surf_run.specs.Causes.{IsServing, NoFall, SayFailed, ShowsSomeDamage, StatusCause};
+ghost use Rattle.surf_run.specs.Causes.{IsServing, NoFall, ShowsSomeDamage, StatusCause};
 ghost use Rattle.surf_run.specs.Ends.{Completed, Ends, HasNoState, OpensNothing, Serves, SomeFailed, TellsDamage, Unanswered};
 ghost use Rattle.surf_run.specs.Kind.{filter_kind};
-ghost use Rattle.surf_run.specs.Open.{IsFreeText, IsOpening, IsOpeningText, opening_status, opening_text};
+ghost use Rattle.surf_run.specs.Open.{IsFreeText, IsOpeningText};
 ghost use Rattle.surf_run.specs.Outcome.{Outcome};
 ghost use Rattle.surf_run.specs.Serving.{Served};
 ghost use Rattle.surf_run.specs.Unserved.{Unserved};
 ghost use Rattle.table_file.specs.Faults.{filter_fault_of};
 
+use crate::opening::open_or_say;
 use crate::pending::Pending;
-use crate::saying::{last_line, say_last};
+use crate::saying::last_line;
 use crate::serve::serve;
 use filter_api::RangeFilter;
 use key_base::PIECE_BYTES;
 use outside::Outside;
 use std::alloc::{AllocError, Global};
 use store_commands::{Reply, Scratch};
-use store_core::{Store, StoreError};
-
-const NO_STORE: &[u8] = b"not a store\n";
-
-// Ends a run whose store was not opened.
-fn not_opened<W: Outside>(out: &mut W, why: StoreError) -> u8
-    requires { IsOpening why }
-    ensures said { IsTrue W.tells_output → result ≢ 6 → (W.world out.new).beside.said ≡ (W.world out.old).beside.said ++ opening_text why }
-    ensures prefix { IsTrue W.tells_output → SaysPrefix (opening_text why) (W.world out.old).beside.said (W.world out.new).beside.said }
-    ensures ends { (result ≡ opening_status why) ⊎ ((result ≡ 6) × SayFailed (W.world out.old) (W.world out.new)) }
-    ensures moves { SayMoves (W.world out.old) (W.world out.new) }
-{
-    match why {
-        StoreError::Memory => last_line(out, &Reply::Memory, 7),
-        StoreError::Device(_) => last_line(out, &Reply::Device, 4),
-        StoreError::Damaged(damage) => last_line(out, &Reply::Damaged(damage), 5),
-        StoreError::NotAStore => say_last(out, NO_STORE, 8),
-        _ => unreachable!(),
-    }
-}
+use store_core::Store;
 
 // What serving keeps in memory beside the store.
 #[derive(Drop)]
@@ -136,11 +117,8 @@ pub(crate) fn open_and_serve<F: RangeFilter, W: Outside>(alloc: Global, out: &mu
     ensures told_of_no_store { IsTrue W.tells → IsNoStore (W.world out.old).seen.held → (result ≡ 8) ⊎ (result ≡ 4) ⊎ (result ≡ 6) ⊎ (result ≡ 7) }
     ensures statuses { IsServing result ⊎ (result ≡ 5) ⊎ (result ≡ 7) ⊎ (result ≡ 8) }
 {
-    match Store::<F>::open_store(alloc, out) {
-        Ok(store) => {
-            store.whole_law();
-            serve_store(alloc, store, out)
-        }
-        Err(why) => not_opened(out, why),
+    match open_or_say::<F, W>(alloc, out) {
+        Ok(store) => serve_store(alloc, store, out),
+        Err(status) => status,
     }
 }

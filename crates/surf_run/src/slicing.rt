@@ -1,7 +1,7 @@
 //! A line, answered, and the merge slice behind it.
 ghost use Rattle.std.specs.Prelude.{◌≡◌, ◌<◌, true, false, length};
+ghost use Rattle.line_model.specs.Requests.{request_of};
 ghost use Rattle.state_model.specs.PlayLaws.{has_slice};
-ghost use Rattle.store_commands.specs.Answered.{IsAskedHere, asked_here};
 ghost use Rattle.store_commands.specs.Asks.{asked};
 ghost use Rattle.surf_run.specs.Kind.{filter_kind};
 ghost use Rattle.surf_run.specs.Refusals.{end_of_change};
@@ -11,7 +11,7 @@ use crate::end::LineEnd;
 use crate::line::{answer_request, bad_line, end_of};
 use filter_api::RangeFilter;
 use outside::Outside;
-use store_commands::{BadLine, Request, Scratch, parse_answered};
+use store_commands::{BadLine, Request, Scratch, parse_line};
 use store_core::{Store, StoreError, Tended};
 
 // The bytes in which a reply is laid out, a piece at a time.
@@ -37,9 +37,9 @@ fn end_of_slice(tended: Result<Tended, StoreError>) -> LineEnd
     }
 }
 
-// Goes on with the merge that runs, or begins one where some tables are to be merged. Nothing is said of it: want of memory, of room
-// or of an epoch is left for the next slice.
-fn merge_slice<F: RangeFilter, W: Outside>(store: &mut Store<F>, out: &mut W) -> LineEnd
+/// Goes on with the merge that runs, or begins one where some tables are to be merged. Nothing is said of it: want of memory, of room
+/// or of an epoch is left for the next slice.
+pub(crate) fn merge_slice<F: RangeFilter, W: Outside>(store: &mut Store<F>, out: &mut W) -> LineEnd
     requires running { store.old.stopped ≡ false }
     ensures { MakesSlice (filter_kind F.spelling F.built_cutoff) W.tells result store.old store.new (W.world out.old) (W.world out.new) }
 {
@@ -57,7 +57,6 @@ fn serve_change<F: RangeFilter, W: Outside>(
 ) -> LineEnd
     requires buffer { 0 < length buffer.old }
     requires running { store.old.stopped ≡ false }
-    requires asked { IsAskedHere (asked request) }
     requires change { has_slice (asked request) ≡ true }
     ensures { ServesLine (filter_kind F.spelling F.built_cutoff) W.tells W.tells_output (asked request.entry) result store.old store.new (W.world out.old) (W.world out.new) }
 {
@@ -76,7 +75,6 @@ fn serve_request<F: RangeFilter, W: Outside>(
 ) -> LineEnd
     requires buffer { 0 < length buffer.old }
     requires running { store.old.stopped ≡ false }
-    requires asked { IsAskedHere (asked request) }
     ensures { ServesLine (filter_kind F.spelling F.built_cutoff) W.tells W.tells_output (asked request.entry) result store.old store.new (W.world out.old) (W.world out.new) }
 {
     if is_change(&request) {
@@ -95,9 +93,9 @@ pub(crate) fn answer<F: RangeFilter, W: Outside>(
 ) -> LineEnd
     requires buffer { 0 < length buffer.old }
     requires running { store.old.stopped ≡ false }
-    ensures { ServesLine (filter_kind F.spelling F.built_cutoff) W.tells W.tells_output (asked_here line.now) result store.old store.new (W.world out.old) (W.world out.new) }
+    ensures { ServesLine (filter_kind F.spelling F.built_cutoff) W.tells W.tells_output (request_of line.now) result store.old store.new (W.world out.old) (W.world out.new) }
 {
-    match parse_answered(line, scratch) {
+    match parse_line(line, scratch) {
         Ok(request) => serve_request(store, buffer, out, request),
         Err(BadLine(code)) => bad_line(store, buffer, out, code),
     }
@@ -116,7 +114,7 @@ pub fn serve_line<F: RangeFilter, W: Outside>(
     scratch: &mut Scratch,
 ) -> LineEnd
     requires running { store.old.stopped ≡ false }
-    ensures { ServesLine (filter_kind F.spelling F.built_cutoff) W.tells W.tells_output (asked_here line.now) result store.old store.new (W.world out.old) (W.world out.new) }
+    ensures { ServesLine (filter_kind F.spelling F.built_cutoff) W.tells W.tells_output (request_of line.now) result store.old store.new (W.world out.old) (W.world out.new) }
 {
     answer(store, scratch, &mut [0; REPLY_BYTES], out, line)
 }

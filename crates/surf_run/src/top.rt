@@ -7,16 +7,18 @@ ghost use Rattle.image_model.specs.Stands.{IsStateOf};
 ghost use Rattle.manifest_model.specs.Slots.{IsNoStore};
 ghost use Rattle.outside.specs.Streams.{SayMoves};
 ghost use Rattle.state_model.specs.State.{State};
-ghost use Rattle.surf_run.specs.Causes.{IsServing, NoFall, SayFailed, ShowsSomeDamage, StatusCause};
+ghost use Rattle.surf_run.specs.Causes.{IsServing, NoFall, RunMeetsDamage, SayFailed, StatusCause};
 ghost use Rattle.surf_run.specs.Ends.{Completed, Ends, HasNoState, OpensNothing, Serves, SomeFailed, TellsDamage, Unanswered};
 ghost use Rattle.surf_run.specs.Kind.{filter_kind};
+ghost use Rattle.surf_run.specs.Loads.{IsLoading, LoadEnds, Loads};
 ghost use Rattle.surf_run.specs.Open.{IsOpeningText};
 ghost use Rattle.surf_run.specs.Ran.{Ran};
-ghost use Rattle.surf_run.specs.Run.{FormatEnds, IfBadSettings, IfFormat, IfHelp, IfRefused, IfServe, IfUnserved, IsBadSettingsText, IsHelpText, IsMemoryText, IsRefusedAsk, IsUsageText};
+ghost use Rattle.surf_run.specs.Run.{FormatEnds, IfBadSettings, IfFormat, IfHelp, IfLoad, IfOpens, IfRefused, IfServe, IfUnserved, IsBadSettingsText, IsHelpText, IsLoadAsk, IsMemoryText, IsRefusedAsk, IsUsageText};
 ghost use Rattle.surf_run.specs.Unserved.{Unserved};
 ghost use Rattle.table_file.specs.Faults.{filter_fault_of};
 
 use crate::formatting::{run_format, say_bad_settings};
+use crate::loading::open_and_load;
 use crate::saying::{last_line, say_last};
 use crate::serving::open_and_serve;
 use filter_api::RangeFilter;
@@ -34,6 +36,15 @@ fn run_asked<F: RangeFilter, W: Outside>(alloc: Global, asked: Asked, out: &mut 
         → IfServe asked (((opened : _) × Serves (filter_kind F.spelling F.built_cutoff) result s (W.world out.old) (W.world opened) (W.world out.new)) ⊎ Unanswered result s (W.world out.old) (W.world out.new)) }
     ensures complete { (s : State) → IsTrue W.tells → IsTrue W.tells_input → IsTrue W.tells_output → IsStateOf F.spelling s (W.world out.old).seen.held → (SomeFailed (W.world out.old) (W.world out.new) → ⊥)
         → IfServe asked (Completed result (W.world out.old) (W.world out.new)) }
+    ensures loaded { (s : State) → IsTrue W.tells → IsTrue W.tells_output → Now (IsStateOf F.spelling s) (W.world out.old)
+        → IfLoad asked (λ load. LoadEnds (filter_kind F.spelling F.built_cutoff) result s load.seed load.count (W.world out.old) (W.world out.new) ⊎ Unanswered result s (W.world out.old) (W.world out.new))
+        (Unanswered result s (W.world out.old) (W.world out.new)) }
+    ensures loads { (s : State) → IsTrue W.tells → IsTrue W.tells_output → IsStateOf F.spelling s (W.world out.old).seen.held
+        → IfLoad asked (λ load. ((opened : _) × Loads (filter_kind F.spelling F.built_cutoff) result s load.seed load.count (W.world out.old) (W.world opened) (W.world out.new)) ⊎ Unanswered result s (W.world out.old) (W.world out.new))
+        (Unanswered result s (W.world out.old) (W.world out.new)) }
+    ensures load_complete { (s : State) → IsTrue W.tells → IsTrue W.tells_output → IsStateOf F.spelling s (W.world out.old).seen.held → (SomeFailed (W.world out.old) (W.world out.new) → ⊥)
+        → IfLoad asked (λ _. (result ≡ 0) ⊎ (result ≡ 7)) ((result ≡ 0) ⊎ (result ≡ 7)) }
+    ensures load_statuses { IfLoad asked (λ _. IsLoading result ⊎ (result ≡ 8)) (IsLoading result ⊎ (result ≡ 8)) }
     ensures formatted { IsTrue W.tells → IsTrue W.tells_output → IfFormat asked (λ store. FormatEnds F.spelling store result (W.world out.old) (W.world out.new)) (Unserved IsMemoryText result (W.world out.old) (W.world out.new)) }
     ensures bad_settings { IsTrue W.tells_output → IfBadSettings asked (λ field. Unserved (IsBadSettingsText field) result (W.world out.old) (W.world out.new)) (Unserved IsMemoryText result (W.world out.old) (W.world out.new)) }
     ensures helped { IsTrue W.tells_output → IfHelp asked (Unserved IsHelpText result (W.world out.old) (W.world out.new)) }
@@ -43,17 +54,18 @@ fn run_asked<F: RangeFilter, W: Outside>(alloc: Global, asked: Asked, out: &mut 
     ensures only_at_wrong_words { result ≡ 2 → IsRefusedAsk asked }
     ensures told_of_wrong_words { IfRefused asked ((result ≡ 2) ⊎ (result ≡ 7) ⊎ ((result ≡ 6) × SayFailed (W.world out.old) (W.world out.new))) }
     ensures untouched { IfUnserved asked (SayMoves (W.world out.old) (W.world out.new)) }
-    ensures only_at_damage { IsTrue W.tells → IsTrue W.tells_input → IsTrue W.tells_output → result ≡ 5 → TellsDamage F.spelling F.first_fault (W.world out.old).seen.held (W.world out.old) (W.world out.new) ⊎ (HasNoState F.spelling (W.world out.old).seen.held × ShowsSomeDamage (W.world out.new)) }
+    ensures only_at_damage { IsTrue W.tells → IsTrue W.tells_input → IsTrue W.tells_output → result ≡ 5 → TellsDamage F.spelling F.first_fault (W.world out.old).seen.held (W.world out.old) (W.world out.new) ⊎ (HasNoState F.spelling (W.world out.old).seen.held × RunMeetsDamage (IsLoadAsk asked) (W.world out.old) (W.world out.new)) }
     ensures unopened { IsTrue W.tells → IsTrue W.tells_output → OpensNothing F.spelling F.first_fault (W.world out.old).seen.held
-        → IfServe asked (Unserved (IsOpeningText F.spelling F.first_fault (W.world out.old).seen.held) result (W.world out.old) (W.world out.new)) }
+        → IfOpens asked (Unserved (IsOpeningText F.spelling F.first_fault (W.world out.old).seen.held) result (W.world out.old) (W.world out.new)) }
     ensures told_of_damage { (d : Damage) → IsTrue W.tells → FirstDamage F.spelling (filter_fault_of F.first_fault) (W.world out.old).seen.held d
-        → IfServe asked ((result ≡ 5) ⊎ (result ≡ 4) ⊎ (result ≡ 6) ⊎ (result ≡ 7)) }
-    ensures only_at_no_store { IsTrue W.tells → result ≡ 8 → IfServe asked (IsNoStore (W.world out.old).seen.held) }
-    ensures told_of_no_store { IsTrue W.tells → IsNoStore (W.world out.old).seen.held → IfServe asked ((result ≡ 8) ⊎ (result ≡ 4) ⊎ (result ≡ 6) ⊎ (result ≡ 7)) }
+        → IfOpens asked ((result ≡ 5) ⊎ (result ≡ 4) ⊎ (result ≡ 6) ⊎ (result ≡ 7)) }
+    ensures only_at_no_store { IsTrue W.tells → result ≡ 8 → IfOpens asked (IsNoStore (W.world out.old).seen.held) }
+    ensures told_of_no_store { IsTrue W.tells → IsNoStore (W.world out.old).seen.held → IfOpens asked ((result ≡ 8) ⊎ (result ≡ 4) ⊎ (result ≡ 6) ⊎ (result ≡ 7)) }
     ensures statuses { IsServing result ⊎ (result ≡ 2) ⊎ (result ≡ 5) ⊎ (result ≡ 7) ⊎ (result ≡ 8) }
 {
     match asked {
         Asked::Serve => open_and_serve::<F, W>(alloc, out),
+        Asked::Load(load) => open_and_load::<F, W>(alloc, out, load),
         Asked::Format(store) => run_format::<F, W>(alloc, store.settings, store.pages, out),
         Asked::BadSettings(field) => say_bad_settings(out, field),
         Asked::Help(text) => say_last(out, text.as_bytes(), 0),
@@ -65,16 +77,17 @@ fn run_asked<F: RangeFilter, W: Outside>(alloc: Global, asked: Asked, out: &mut 
 /// Does what the words say over a device, an input and an output, with filters of this kind, and answers the exit status.
 ///
 /// `format` makes the device an empty store. `serve` opens the store on the device and answers the lines of the input, each
-/// reply said before the next line is begun. Help and the version are said with status 0.
+/// reply said before the next line is begun. `load` opens it too, makes its steps, each as a line would with a merge slice behind
+/// it, and says one line of the map that is then there. Help and the version are said with status 0.
 ///
 /// | status | comes |
 /// |---|---|
-/// | 0 | the input was read to its end or to `quit`, every reply said; or the store was made, or help was said |
+/// | 0 | the input was read to its end or to `quit`, every reply said; or the store was made, or loaded, or help was said |
 /// | 2 | clap refuses the words |
 /// | 3, 4, 6 | the input, the device, the output failed |
 /// | 5 | what was read of the device is damaged |
-/// | 7 | want of memory before the first line |
-/// | 8 | not a store, already a store, a setting out of range |
+/// | 7 | want of memory before the first line, or in a load |
+/// | 8 | not a store, already a store, a number out of range |
 /// | 9 | 2^40 bytes were taken |
 pub fn run<F: RangeFilter, W: Outside>(alloc: Global, words: &[String], out: &mut W) -> u8
     ensures { Ran W.world W.tells W.tells_input W.tells_output (filter_kind F.spelling F.built_cutoff) F.first_fault (map string_bytes words.now) result out.old out.new }

@@ -1,7 +1,7 @@
 use Rattle.std.proofs.Common.{rules, ◌≡◌, ◌∙◌, ap, ap₂, codes, true}
 use Rattle.std.proofs.lemmas.Result.{IfOk-weaker}
 use Rattle.clap.specs.Simple.{App, app_of, new_app, on_top, with_subcommand}
-use Rattle.program_words.specs.CommandLine.{format_app, serve_app}
+use Rattle.program_words.specs.CommandLine.{format_app, load_app, serve_app}
 use Rattle.program_words.proofs.command_line.store_command.Goals as goal
 
 abbrev bare : App
@@ -14,4 +14,6 @@ returns c =
     (ap (on_top (λ s. record s { no_binary_name = true; subcommand_required = true; disable_help_subcommand = true; has_version = true })) c.new.ensures.app) in
     let with_format_is : app_of c.in_ok-with_format.with_format ≡ with_subcommand bare format_app.top =
     c.in_ok-with_format.ensures.shape c.in_ok-format.ensures.local ∙ ap₂ with_subcommand bare_is (ap (λ (a : App). a.top) c.in_ok-format.ensures.app) in
-    IfOk-weaker c.subcommand-2.result _ _ (λ r h. h.shape c.serve_command.ensures.local ∙ ap₂ with_subcommand with_format_is (ap (λ (a : App). a.top) c.serve_command.ensures.app)) c.subcommand-2.ensures
+    let with_serve_is : app_of c.in_ok-with_serve.with_serve ≡ with_subcommand (with_subcommand bare format_app.top) serve_app.top =
+    c.in_ok-with_serve.ensures.shape c.serve_command.ensures.local ∙ ap₂ with_subcommand with_format_is (ap (λ (a : App). a.top) c.serve_command.ensures.app) in
+    IfOk-weaker c.subcommand-3.result _ _ (λ r h. h.shape c.in_ok-load.ensures.local ∙ ap₂ with_subcommand with_serve_is (ap (λ (a : App). a.top) c.in_ok-load.ensures.app)) c.subcommand-3.ensures

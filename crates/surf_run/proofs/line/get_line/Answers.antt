@@ -1,4 +1,4 @@
-use Rattle.std.proofs.Common.{◌≡◌, ◌*◌, Bor, List, ℕ, length, refl, subst}
+use Rattle.std.proofs.Common.{◌≡◌, ◌*◌, Bor, List, ℕ, length, ap, refl, subst}
 use Rattle.std.specs.Option.{option_map}
 use Rattle.std.specs.Prelude.{Option, Some, None}
 use Rattle.block_model.specs.Pages.{page_bytes}
@@ -8,9 +8,10 @@ use Rattle.map_model.specs.SortedMap.{get}
 use Rattle.state_model.specs.View.{state_map}
 use Rattle.store_core.specs.Answers.{HasCause}
 use Rattle.store_core.specs.Getting.{IsShown}
+use Rattle.store_core.specs.Kept.{Kept}
 use Rattle.surf_run.specs.Kind.{filter_kind}
 use Rattle.surf_run.specs.declared.end.LineEnd.TheVariants.{Next}
-use Rattle.surf_run.proofs.Calms.{get_cause, get_told, got_step, read_answers, refused_ends, said_cause, says_damage, still_next, tied_buffer}
+use Rattle.surf_run.proofs.Calms.{get_cause, get_told, got_step, read_answers, refused_ends, said_cause, says_damage, still_next}
 use Rattle.surf_run.proofs.EndCauses.{line_read, no_fall_say}
 use Rattle.surf_run.proofs.Footprint.{within_still}
 use Rattle.surf_run.proofs.Moments.{tied_stands}
@@ -24,10 +25,10 @@ returns-in-Ok-Some g c =
     let mid = g.W.Disk.world c.get.new.disk in
     let b = g.W.Disk.world c.say_reply.new.out in
     let after = c.get.follows.lender-at-none in
-    read_answers kind g.W.Disk.tells g.W.Outside.tells_output (Get c.args.key.now) c.args.store.now after after.buffer c.get.follows.holds-at-none c.requires.running c.say_reply.result a mid b c.get.ensures.moves c.say_reply.ensures.moves
+    read_answers kind g.W.Disk.tells g.W.Outside.tells_output (Get c.args.key.now) c.args.store.now after (ap (λ (k : Kept). k.stopped) c.get.follows.holds-at-none.same) c.requires.running c.say_reply.result a mid b c.get.ensures.moves c.say_reply.ensures.moves
     (λ s tells output tied.
     let moves = c.get.ensures.moves in
-    let held = tied_buffer kind c.args.store.now after after.buffer s mid c.get.follows.holds-at-none (c.get.ensures.tied s tied) in
+    let held = c.get.follows.holds-at-none.tied s tells tied in
     let stand = tied_stands kind c.args.store.now s a c.whole_law.ensures.slot tied in
     let writes = within_still (page_bytes * s.pages) a mid moves.held moves.time in
     let value = c.in-Ok-Some.value.now in
@@ -44,10 +45,10 @@ returns-in-Ok-None g c =
     let mid = g.W.Disk.world c.get.new.disk in
     let b = g.W.Disk.world c.say_reply-in-Ok-None.new.out in
     let after = c.get.follows.lender-at-none in
-    read_answers kind g.W.Disk.tells g.W.Outside.tells_output (Get c.args.key.now) c.args.store.now after after.buffer c.get.follows.holds-at-none c.requires.running c.say_reply-in-Ok-None.result a mid b c.get.ensures.moves c.say_reply-in-Ok-None.ensures.moves
+    read_answers kind g.W.Disk.tells g.W.Outside.tells_output (Get c.args.key.now) c.args.store.now after (ap (λ (k : Kept). k.stopped) c.get.follows.holds-at-none.same) c.requires.running c.say_reply-in-Ok-None.result a mid b c.get.ensures.moves c.say_reply-in-Ok-None.ensures.moves
     (λ s tells output tied.
     let moves = c.get.ensures.moves in
-    let held = tied_buffer kind c.args.store.now after after.buffer s mid c.get.follows.holds-at-none (c.get.ensures.tied s tied) in
+    let held = c.get.follows.holds-at-none.tied s tells tied in
     let stand = tied_stands kind c.args.store.now s a c.whole_law.ensures.slot tied in
     let writes = within_still (page_bytes * s.pages) a mid moves.held moves.time in
     let found = subst (λ (o : Option (Bor (List ℕ))). option_map (λ v. v.now) o ≡ get (state_map s) c.args.key.now) c.in-Ok-None.field-0-is (c.in-Ok-None.ensures.answer s tells tied) in
@@ -62,10 +63,10 @@ returns-in-Err g c =
     let mid = g.W.Disk.world c.get.new.disk in
     let b = g.W.Disk.world c.say_refusal.new.out in
     let after = c.get.follows.lender-at-none in
-    read_answers kind g.W.Disk.tells g.W.Outside.tells_output (Get c.args.key.now) c.args.store.now after after.buffer c.get.follows.holds-at-none c.requires.running c.say_refusal.result a mid b c.get.ensures.moves c.say_refusal.ensures.moves
+    read_answers kind g.W.Disk.tells g.W.Outside.tells_output (Get c.args.key.now) c.args.store.now after (ap (λ (k : Kept). k.stopped) c.get.follows.holds-at-none.same) c.requires.running c.say_refusal.result a mid b c.get.ensures.moves c.say_refusal.ensures.moves
     (λ s tells output tied.
     let moves = c.get.ensures.moves in
-    let held = tied_buffer kind c.args.store.now after after.buffer s mid c.get.follows.holds-at-none (c.get.ensures.tied s tied) in
+    let held = c.get.follows.holds-at-none.tied s tells tied in
     let stand = tied_stands kind c.args.store.now s a c.whole_law.ensures.slot tied in
     let writes = within_still (page_bytes * s.pages) a mid moves.held moves.time in
     refused_ends kind s c.args.key.now c.in-Err.why after c.say_refusal.result a mid b (get_told c.in-Err.why c.args.store.now.stopped c.args.key.now a mid c.requires.running c.in-Err.ensures.refused)

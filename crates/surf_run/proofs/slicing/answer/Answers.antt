@@ -1,7 +1,5 @@
 use Rattle.std.proofs.Common.{refl, subst, sym}
 use Rattle.line_model.specs.Requests.{Bad, Request}
-use Rattle.store_commands.proofs.AskedHere.{answered_alone}
-use Rattle.store_commands.specs.Answered.{IsAskedHere}
 use Rattle.surf_run.specs.Kind.{filter_kind}
 use Rattle.surf_run.specs.Slices.{ServesLine}
 use Rattle.surf_run.proofs.Slices.{serves_alone}
@@ -14,6 +12,3 @@ returns-in-Err g c =
     let b = g.W.Disk.world c.bad_line.new.out in
     subst (λ (r : Request). ServesLine kind g.W.Disk.tells g.W.Outside.tells_output r c.bad_line.result c.args.store.now c.args.store.now a b) (sym c.in-Err.ensures)
     (serves_alone kind g.W.Disk.tells g.W.Outside.tells_output (Bad c.in-Err.field-0.0) c.bad_line.result c.args.store.now c.args.store.now a b (g.met.W.Outside.said_now c.bad_line.new.out) (λ next. refl) c.bad_line.ensures)
-
-pub serve_request-requires-clause-asked : goal.serve_request-requires-clause-asked
-serve_request-requires-clause-asked g c = subst IsAskedHere c.in-Ok.ensures (answered_alone c.args.line.now)

@@ -1,7 +1,7 @@
-use Rattle.std.proofs.Common.{inr, map}
+use Rattle.std.proofs.Common.{inl, inr, map}
 use Rattle.std.specs.Prelude.{string_bytes}
 use Rattle.surf_run.specs.Run.{IsBadSettingsText, IsMemoryText}
-use Rattle.surf_run.proofs.Asking.{if_bad, if_format, if_help, if_nothing, if_refused, if_serve, is_refused}
+use Rattle.surf_run.proofs.Asking.{if_bad, if_format, if_help, if_load, if_nothing, if_opens, if_refused, if_serve, is_load, is_refused}
 use Rattle.surf_run.proofs.LastLines.{unserved_wider}
 use Rattle.surf_run.proofs.top.run.Goals as goal
 
@@ -16,7 +16,11 @@ returns g c =
       answers = λ s tells input output here is. if_serve words asked _ is asks (by.answers s tells input output here);
       complete = λ s tells input output here none is. if_serve words asked _ is asks (by.complete s tells input output here none);
       formatted = λ wanted store tells output is good of. if_format words asked wanted store _ _ is good of asks (by.formatted tells output) (λ none. inr none);
-      bad_settings = λ wanted field output is bad. if_bad words asked wanted field _ _ is bad asks (by.bad_settings output) (λ none. unserved_wider IsMemoryText (IsBadSettingsText field) (λ status text memory. inr memory) _ _ _ none);
+      bad_settings = λ field output bad. if_bad words asked field _ _ bad asks (by.bad_settings output) (λ none. unserved_wider IsMemoryText (IsBadSettingsText field) (λ status text memory. inr memory) _ _ _ none);
+      loaded = λ s load tells output now is. if_load words asked load _ _ is asks (by.loaded s tells output now) (λ none. inr none);
+      loads = λ s load tells output here is. if_load words asked load _ _ is asks (by.loads s tells output here) (λ none. inr none);
+      load_complete = λ s load tells output here none is. if_load words asked load _ _ is asks (by.load_complete s tells output here none) (λ ends. ends);
+      load_statuses = λ load is. if_load words asked load _ _ is asks by.load_statuses (λ ends. ends);
       helped = λ output is. if_help words asked _ is asks (by.helped output);
       refused = λ output is. if_refused words asked _ is asks (by.refused output);
       causes = by.causes;
@@ -24,10 +28,13 @@ returns g c =
       only_at_wrong_words = λ two. is_refused words asked asks (by.only_at_wrong_words two);
       told_of_wrong_words = λ is. if_refused words asked _ is asks by.told_of_wrong_words;
       untouched = λ is. if_nothing words asked _ is asks by.untouched;
-      unopened = λ tells output nothing is. if_serve words asked _ is asks (by.unopened tells output nothing);
-      only_at_damage = by.only_at_damage;
-      told_of_damage = λ d tells damaged is. if_serve words asked _ is asks (by.told_of_damage d tells damaged);
-      only_at_no_store = λ tells eight is. if_serve words asked _ is asks (by.only_at_no_store tells eight);
-      told_of_no_store = λ tells none is. if_serve words asked _ is asks (by.told_of_no_store tells none);
+      unopened = λ tells output nothing is. if_opens words asked _ is asks (by.unopened tells output nothing);
+      only_at_damage = λ tells input output five. elim (by.only_at_damage tells input output five) [
+        | inl told ↦ inl told
+        | inr none ↦ inr (none.0, elim none.1 [ inl shown ↦ inl shown | inr unsaid ↦ inr (is_load words asked asks unsaid.0, unsaid.1) ])
+      ];
+      told_of_damage = λ d tells damaged is. if_opens words asked _ is asks (by.told_of_damage d tells damaged);
+      only_at_no_store = λ tells eight is. if_opens words asked _ is asks (by.only_at_no_store tells eight);
+      told_of_no_store = λ tells none is. if_opens words asked _ is asks (by.told_of_no_store tells none);
       statuses = by.statuses;
     }

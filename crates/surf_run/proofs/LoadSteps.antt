@@ -1,0 +1,187 @@
+-- Steps of a load, and what they make of the map.
+use Rattle.std.proofs.Common.{◌≡◌, ◌⊎◌, inl, inr, ◌≤◌, ◌<◌, ◌++◌, ℕ, Bool, true, false, cond, List, [], ◌∷◌, refl, sym, ap, ◌∙◌, subst, arith}
+use Rattle.std.specs.Prelude.{Option, Some, None, Result, Ok, Err, fold}
+use Rattle.std.proofs.lemmas.List.Sums.{fold-append}
+use Rattle.disk_trait.specs.World.{Image}
+use Rattle.entry_model.specs.Entries.{Entry, change_by, changed, del_entry, put_entry}
+use Rattle.image_model.specs.Stands.{StandsForMap}
+use Rattle.line_model.specs.Limits.{limit_of}
+use Rattle.line_model.specs.Replies.{Damaged, Device, Done, Memory, Reply}
+use Rattle.line_model.specs.Requests.{Del, Put}
+use Rattle.map_model.specs.SortedMap.{Bytes, Map, del, put}
+use Rattle.state_model.proofs.Lines.{lines_change}
+use Rattle.state_model.specs.Causes.{Why}
+use Rattle.state_model.specs.Changes.{written}
+use Rattle.state_model.specs.Laws.{is_done, map_behind}
+use Rattle.state_model.specs.PlayLaws.{has_slice}
+use Rattle.state_model.specs.Script.{AtDevice, Onward, Over}
+use Rattle.state_model.specs.State.{State}
+use Rattle.state_model.specs.Steps.{Step, answer, answers, damage_met, done_or_refused, no_memory, read_failed, unless_limit, write_failed}
+use Rattle.state_model.specs.View.{state_map}
+use Rattle.surf_run.specs.Kind.{Kind}
+use Rattle.surf_run.specs.Loading.{HasStep, IsAnswer, stepped_map}
+use Rattle.surf_run.specs.Loads.{FailsAt, IsPassedOver, Loaded, PartLoaded, StepMade, change_of, change_to, step_behind}
+use Rattle.surf_run.specs.Loads as loads
+use Rattle.surf_run.proofs.Dialogues.{between_as, step_as}
+use Rattle.table_model.specs.Tables.{FilterBytes}
+
+-- ---- one step
+
+value_slices : (key : Bytes) (value : Option Bytes) → has_slice (change_to key value) ≡ true
+value_slices key (Some v) = refl
+value_slices key None = refl
+
+-- a merge slice comes behind it
+pub step_slices : (step : Entry) → has_slice (change_of step) ≡ true
+step_slices step = value_slices step.key step.value
+
+-- the map behind its line is the one before it, or the changed one
+either_map : (key : Bytes) (value : Option Bytes) (reply : Reply) (map : Map) → (map_behind (change_to key value) reply map ≡ map) ⊎ (map_behind (change_to key value) reply map ≡ change_by map key value)
+either_map key (Some v) reply map = elim (is_done reply) as (λ b. (cond b (put map key v) map ≡ map) ⊎ (cond b (put map key v) map ≡ put map key v)) [ true ↦ inr refl | false ↦ inl refl ]
+either_map key None reply map = elim (is_done reply) as (λ b. (cond b (del map key) map ≡ map) ⊎ (cond b (del map key) map ≡ del map key)) [ true ↦ inr refl | false ↦ inl refl ]
+
+answer_map : (filter_bytes : FilterBytes) (s : State) (step : Entry)
+    → (state_map (answer filter_bytes s (change_of step)).1 ≡ state_map s) ⊎ (state_map (answer filter_bytes s (change_of step)).1 ≡ changed (state_map s) step)
+answer_map filter_bytes s step =
+    let is = lines_change filter_bytes s (change_of step) in
+    elim (either_map step.key step.value (answer filter_bytes s (change_of step)).0 (state_map s)) [ inl same ↦ inl (is ∙ same) | inr other ↦ inr (is ∙ other) ]
+
+-- what a crash leaves in its call
+pub has_step : (kind : Kind) (s : State) (step : Entry) (image : Image)
+    → StandsForMap kind.spelling (state_map s) image ⊎ StandsForMap kind.spelling (state_map (answer kind.filter_bytes s (change_of step)).1) image → HasStep kind s step image
+has_step kind s step image has = elim has [
+  | inl before ↦ inl before
+  | inr behind ↦ elim (answer_map kind.filter_bytes s step) [
+    | inl same ↦ inl (subst (λ (m : Map). StandsForMap kind.spelling m image) same behind)
+    | inr other ↦ inr (subst (λ (m : Map). StandsForMap kind.spelling m image) other behind)
+  ]
+]
+
+-- ---- a step that is done
+
+done_by : (C : Why → Type 0) (filter_bytes : FilterBytes) (s : State) (key : Bytes) (value : Option Bytes) (reply : Reply) (after : State) → Step C filter_bytes s (change_to key value) reply after → reply ≡ Done
+    → state_map after ≡ change_by (state_map s) key value
+done_by C filter_bytes s key (Some v) reply after d = elim d as (λ r new _. r ≡ Done → state_map new ≡ put (state_map s) key v) [
+  | answers ↦ λ is. lines_change filter_bytes s (Put key v) ∙ ap (λ (r : Reply). map_behind (Put key v) r (state_map s)) is
+  | no_memory within takes cause ↦ λ is. absurd (let e : Memory ≡ Done = is in cc)
+  | read_failed r within reads cause so ↦ λ is. absurd (let e : Device ≡ Done = sym so ∙ is in cc)
+  | damage_met damage r within reads cause so ↦ λ is. absurd (let e : Damaged damage ≡ Done = sym so ∙ is in cc)
+  | write_failed new within writes cause left same ↦ λ is. absurd (let e : Device ≡ Done = is in cc)
+]
+done_by C filter_bytes s key None reply after d = elim d as (λ r new _. r ≡ Done → state_map new ≡ del (state_map s) key) [
+  | answers ↦ λ is. lines_change filter_bytes s (Del key) ∙ ap (λ (r : Reply). map_behind (Del key) r (state_map s)) is
+  | no_memory within takes cause ↦ λ is. absurd (let e : Memory ≡ Done = is in cc)
+  | read_failed r within reads cause so ↦ λ is. absurd (let e : Device ≡ Done = sym so ∙ is in cc)
+  | damage_met damage r within reads cause so ↦ λ is. absurd (let e : Damaged damage ≡ Done = sym so ∙ is in cc)
+  | write_failed new within writes cause left same ↦ λ is. absurd (let e : Device ≡ Done = is in cc)
+]
+
+-- ---- a step that is refused
+
+unless_stays : (s : State) (limit : Option Reply) (made : Result State Reply) → ((unless_limit limit s (done_or_refused s made)).0 ≡ Done → ⊥) → (unless_limit limit s (done_or_refused s made)).1 ≡ s
+unless_stays s (Some reply) made other = refl
+unless_stays s None (Ok new) other = absurd (other refl)
+unless_stays s None (Err refusal) other = refl
+
+stays_by : (C : Why → Type 0) (filter_bytes : FilterBytes) (s : State) (key : Bytes) (value : Option Bytes) (reply : Reply) (after : State) → Step C filter_bytes s (change_to key value) reply after
+    → (reply ≡ Done → ⊥) → (reply ≡ Device → ⊥) → after ≡ s
+stays_by C filter_bytes s key (Some v) reply after d = elim d as (λ r new _. (r ≡ Done → ⊥) → (r ≡ Device → ⊥) → new ≡ s) [
+  | answers ↦ λ done device. unless_stays s (limit_of (Put key v)) (written filter_bytes s (put_entry key v)) done
+  | no_memory within takes cause ↦ λ done device. refl
+  | read_failed r within reads cause so ↦ λ done device. refl
+  | damage_met damage r within reads cause so ↦ λ done device. refl
+  | write_failed new within writes cause left same ↦ λ done device. absurd (device refl)
+]
+stays_by C filter_bytes s key None reply after d = elim d as (λ r new _. (r ≡ Done → ⊥) → (r ≡ Device → ⊥) → new ≡ s) [
+  | answers ↦ λ done device. unless_stays s (limit_of (Del key)) (written filter_bytes s (del_entry key)) done
+  | no_memory within takes cause ↦ λ done device. refl
+  | read_failed r within reads cause so ↦ λ done device. refl
+  | damage_met damage r within reads cause so ↦ λ done device. refl
+  | write_failed new within writes cause left same ↦ λ done device. absurd (device refl)
+]
+
+module _ (C : Why → Type 0) (filter_bytes : FilterBytes) (s : State) (step : Entry) (reply : Reply) (after : State) (answered : Step C filter_bytes s (change_of step) reply after) where
+  pub done_map : reply ≡ Done → state_map after ≡ changed (state_map s) step
+  done_map is = done_by C filter_bytes s step.key step.value reply after answered is
+
+  pub refused_stays : (reply ≡ Done → ⊥) → (reply ≡ Device → ⊥) → after ≡ s
+  refused_stays done device = stays_by C filter_bytes s step.key step.value reply after answered done device
+
+  -- done, or passed over
+  pub answer_makes : (done : Bool) → IsAnswer done reply → state_map after ≡ stepped_map done (state_map s) step
+  answer_makes true is = done_map is
+  answer_makes false over = ap state_map (refused_stays (λ is. subst IsPassedOver is over) (λ is. subst IsPassedOver is over))
+
+-- ---- steps under other causes
+
+module _ (C D : Why → Type 0) (filter_bytes : FilterBytes) (weaker : (why : Why) → C why → D why) where
+  pub step_made_as : (step : Entry) (reply : Reply) (before after : State) → StepMade C filter_bytes step reply before after → StepMade D filter_bytes step reply before after
+  step_made_as step reply before after made = record {
+    mid = made.mid;
+    answered = step_as C D filter_bytes weaker before (change_of step) reply made.mid made.answered;
+    between = between_as C D filter_bytes weaker made.mid Onward after (change_of step) made.between;
+  }
+
+  pub fails_as : (step : Entry) (before : State) (text : Bytes) → FailsAt C filter_bytes step before text → FailsAt D filter_bytes step before text
+  fails_as step before text failed = elim failed as (λ t _. FailsAt D filter_bytes step before t) [
+    | loads.in_change after answered ↦ loads.in_change after (step_as C D filter_bytes weaker before (change_of step) Device after answered)
+    | loads.in_slice reply mid after answered is between ↦ loads.in_slice reply mid after (step_as C D filter_bytes weaker before (change_of step) reply mid answered) is
+        (between_as C D filter_bytes weaker mid (Over AtDevice) after (change_of step) between)
+  ]
+
+  module _ (start : State) (seed : ℕ) where
+    pub loaded_as : (n : ℕ) (kept : List Entry) (refused : ℕ) (now : State) → Loaded C filter_bytes start seed n kept refused now → Loaded D filter_bytes start seed n kept refused now
+    loaded_as n kept refused now loads.none = loads.none
+    loaded_as n kept refused now (loads.done m few less before after earlier made) =
+        loads.done m few less before after (loaded_as m few less before earlier) (step_made_as (step_behind seed m) Done before after made)
+    loaded_as n kept refused now (loads.passed_over m few less before after reply earlier made over) =
+        loads.passed_over m few less before after reply (loaded_as m few less before earlier) (step_made_as (step_behind seed m) reply before after made) over
+
+module _ (C D : Why → Type 0) (kind : Kind) (weaker : (why : Why) → C why → D why) (start : State) (seed n m : ℕ) (fewer : n ≤ m) (image : Image) where
+  -- some first steps of n are some of more
+  pub part_as : PartLoaded C kind start seed n image → PartLoaded D kind start seed m image
+  part_as part = record {
+    made = part.made;
+    kept = part.kept;
+    refused = part.refused;
+    now = part.now;
+    loaded = loaded_as C D kind.filter_bytes weaker start seed part.made part.kept part.refused part.now part.loaded;
+    within = omega (arith, part.within, fewer);
+    stands = elim part.stands [ inl here ↦ inl here | inr next ↦ inr (omega (arith, next.0, fewer), next.1) ];
+  }
+
+-- ---- the map of steps that were kept
+
+pub kept_more : (map : Map) (kept : List Entry) (step : Entry) → fold changed map (kept ++ (step ∷ [])) ≡ changed (fold changed map kept) step
+kept_more map kept step = fold-append changed map kept (step ∷ [])
+
+-- before the next step, or behind it
+module _ (C : Why → Type 0) (kind : Kind) (start : State) (seed n refused count : ℕ) (kept : List Entry) (now : State) (loaded : Loaded C kind.filter_bytes start seed n kept refused now)
+    (map : state_map now ≡ fold changed (state_map start) kept) where
+  pub part_here : n ≤ count → (image : Image) → StandsForMap kind.spelling (state_map now) image → PartLoaded C kind start seed count image
+  part_here within image has = record {
+    made = n;
+    kept = kept;
+    refused = refused;
+    now = now;
+    loaded = loaded;
+    within = within;
+    stands = inl (subst (λ (m : Map). StandsForMap kind.spelling m image) map has);
+  }
+
+  pub part_step : n < count → (image : Image) → HasStep kind now (step_behind seed n) image → PartLoaded C kind start seed count image
+  part_step less image has = elim has [
+    | inl before ↦ part_here (omega (arith, less)) image before
+    | inr behind ↦ record {
+      made = n;
+      kept = kept;
+      refused = refused;
+      now = now;
+      loaded = loaded;
+      within = omega (arith, less);
+      stands = inr (
+        less,
+        subst (λ (m : Map). StandsForMap kind.spelling m image) (ap (λ (m : Map). changed m (step_behind seed n)) map ∙ sym (kept_more (state_map start) kept (step_behind seed n))) behind,
+      );
+    }
+  ]

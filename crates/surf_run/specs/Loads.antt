@@ -1,0 +1,134 @@
+-- What a load makes of the state of a store, and how its run ends.
+use Rattle.std.specs.Prelude.{◌≡◌, ◌⊎◌, ◌<◌, ◌≤◌, ◌+◌, ◌*◌, ◌++◌, ℕ, List, [], ◌∷◌, length, fold, Option, Some, None}
+use Rattle.block_model.specs.Pages.{page_bytes}
+use Rattle.disk_trait.specs.World.{Image, World}
+use Rattle.entry_model.specs.Entries.{Entry, changed}
+use Rattle.image_model.specs.Stands.{StandsForMap}
+use Rattle.line_model.specs.Replies.{Device, Done, Full, LastEpoch, LongKey, LongValue, ManyTables, Memory, Reply, text_of}
+use Rattle.line_model.specs.Requests.{Del, Put, Request}
+use Rattle.load_gen.specs.Generator.{next_number, number_after, step_of}
+use Rattle.load_gen.specs.Summary.{summary_of, summary_text}
+use Rattle.map_model.specs.SortedMap.{Bytes}
+use Rattle.outside.specs.During.{During}
+use Rattle.state_model.specs.Causes.{Why}
+use Rattle.state_model.specs.Script.{AtDevice, Between, Onward, Over}
+use Rattle.state_model.specs.State.{State}
+use Rattle.state_model.specs.Steps.{Step}
+use Rattle.state_model.specs.View.{state_map}
+use Rattle.store_core.specs.Answers.{HasCause}
+use Rattle.surf_run.specs.Causes.{WritesWithin}
+use Rattle.surf_run.specs.Crash.{Stands}
+use Rattle.surf_run.specs.Kind.{Kind}
+use Rattle.surf_run.specs.Open.{OpenMoves}
+use Rattle.surf_run.specs.Unserved.{LastLine}
+use Rattle.table_model.specs.Tables.{FilterBytes}
+
+-- ---- one step
+
+-- the request by which an entry is written
+abbrev pub change_to : Bytes → Option Bytes → Request
+change_to key (Some value) = Put key value
+change_to key None = Del key
+
+abbrev pub change_of : Entry → Request
+change_of entry = change_to entry.key entry.value
+
+-- the step behind the first n of a seed
+abbrev pub step_behind : ℕ → ℕ → Entry
+step_behind seed n = step_of (next_number (number_after seed n))
+
+-- refused for want of room, or by a limit
+abbrev pub IsPassedOver : Reply → Type 0
+IsPassedOver (LongKey size) = Unit {0}
+IsPassedOver (LongValue size) = Unit {0}
+IsPassedOver ManyTables = Unit {0}
+IsPassedOver LastEpoch = Unit {0}
+IsPassedOver (Full need gap) = Unit {0}
+IsPassedOver reply = ⊥
+
+-- A step is made of a state and gets this reply; behind it and its merge slice, which ends nothing, stands the other state.
+pub record StepMade (Cause : Why → Type 0) (filter_bytes : FilterBytes) (step : Entry) (reply : Reply) (before after : State) : Type 0 where
+  pub mid : State
+  pub answered : Step Cause filter_bytes before (change_of step) reply mid
+  pub between : Between Cause filter_bytes (change_of step) mid Onward after
+
+-- ---- steps
+
+-- The first n steps of a seed were made of a state, one after the other: these were done, so many others were refused and passed
+-- over, and this state stands behind them.
+pub data Loaded (Cause : Why → Type 0) (filter_bytes : FilterBytes) (start : State) (seed : ℕ) : ℕ → List Entry → ℕ → State → Type 0 where
+  none : Loaded Cause filter_bytes start seed 0 [] 0 start
+  done : (n : ℕ) (kept : List Entry) (refused : ℕ) (before after : State) → Loaded Cause filter_bytes start seed n kept refused before
+      → StepMade Cause filter_bytes (step_behind seed n) Done before after
+      → Loaded Cause filter_bytes start seed (n + 1) (kept ++ (step_behind seed n ∷ [])) refused after
+  passed_over : (n : ℕ) (kept : List Entry) (refused : ℕ) (before after : State) (reply : Reply) → Loaded Cause filter_bytes start seed n kept refused before
+      → StepMade Cause filter_bytes (step_behind seed n) reply before after → IsPassedOver reply
+      → Loaded Cause filter_bytes start seed (n + 1) kept (refused + 1) after
+
+-- the image stands for the map that some entries make of that of a state
+abbrev pub HasLoaded : Kind → State → List Entry → Image → Type 0
+HasLoaded kind start kept image = StandsForMap kind.spelling (fold changed (state_map start) kept) image
+
+-- Of so many steps some first ones were made, and the image stands for the map that they make, those that were refused left out;
+-- or for the map with the next step too.
+pub record PartLoaded (Cause : Why → Type 0) (kind : Kind) (start : State) (seed count : ℕ) (image : Image) : Type 0 where
+  pub made : ℕ
+  pub kept : List Entry
+  pub refused : ℕ
+  pub now : State
+  pub loaded : Loaded Cause kind.filter_bytes start seed made kept refused now
+  pub within : made ≤ count
+  pub stands : HasLoaded kind start kept image ⊎ ((made < count) × HasLoaded kind start (kept ++ (step_behind seed made ∷ [])) image)
+
+-- The first n steps were made, so many of them refused. The map of the state behind them is the one that the others make, and each
+-- image that a crash may leave now stands for that state: so the next run begins with it.
+pub record LeavesLoaded (kind : Kind) (start : State) (seed n refused : ℕ) (now : State) (old new : World) : Type 0 where
+  pub kept : List Entry
+  pub loaded : Loaded (HasCause old new) kind.filter_bytes start seed n kept refused now
+  pub map : state_map now ≡ fold changed (state_map start) kept
+  pub number : length kept + refused ≡ n
+  pub stands : Stands kind now new
+
+-- ---- where the device fails
+
+-- In the change of a step, and `device` is said; or in the merge slice behind it, and nothing is.
+pub data FailsAt (Cause : Why → Type 0) (filter_bytes : FilterBytes) (step : Entry) (before : State) : Bytes → Type 0 where
+  in_change : (after : State) → Step Cause filter_bytes before (change_of step) Device after → FailsAt Cause filter_bytes step before (text_of Device)
+  in_slice : (reply : Reply) (mid after : State) → Step Cause filter_bytes before (change_of step) reply mid → (reply ≡ Done) ⊎ IsPassedOver reply
+      → Between Cause filter_bytes (change_of step) mid (Over AtDevice) after → FailsAt Cause filter_bytes step before []
+
+-- Some first steps were made, and the device failed the next one; or, behind all of them, the walk over the map, and `device` is said.
+pub record FailsBehind (kind : Kind) (start : State) (seed count : ℕ) (old new : World) (text : Bytes) : Type 0 where
+  pub made : ℕ
+  pub kept : List Entry
+  pub refused : ℕ
+  pub now : State
+  pub loaded : Loaded (HasCause old new) kind.filter_bytes start seed made kept refused now
+  pub fails : ((made < count) × FailsAt (HasCause old new) kind.filter_bytes (step_behind seed made) now text) ⊎ ((made ≡ count) × (text ≡ text_of Device))
+
+-- ---- the run
+
+-- Its last line: the summary of the map, where all steps were made; `memory`, behind some first steps; or `device`, but none where
+-- the device failed in a merge slice.
+abbrev pub IsLoadText : Kind → State → ℕ → ℕ → World → World → ℕ → Bytes → Type 0
+IsLoadText kind start seed count old new status text =
+    ((status ≡ 0) × (refused : ℕ) × (now : State) × LeavesLoaded kind start seed count refused now old new × (text ≡ summary_text count refused (summary_of (state_map now))))
+    ⊎ ((status ≡ 7) × (n : ℕ) × (refused : ℕ) × (now : State) × (n ≤ count) × LeavesLoaded kind start seed n refused now old new × (text ≡ text_of Memory))
+    ⊎ ((status ≡ 4) × FailsBehind kind start seed count old new text)
+
+-- A load of so many steps from a state: its last line, and that nothing is taken; at each moment a crash leaves the map after some
+-- first steps; and nothing is written behind the pages of the store.
+pub record LoadEnds (kind : Kind) (status : ℕ) (start : State) (seed count : ℕ) (old new : World) : Type 0 where
+  pub line : LastLine (IsLoadText kind start seed count old new) status old new
+  pub input : new.beside.to_take ≡ old.beside.to_take
+  pub crash : During (λ said image. PartLoaded (HasCause old new) kind start seed count image) old new
+  pub writes : WritesWithin (page_bytes * start.pages) old new
+
+-- the statuses of a run of it that was begun
+abbrev pub IsLoading : ℕ → Type 0
+IsLoading status = (status ≡ 0) ⊎ (status ≡ 4) ⊎ (status ≡ 5) ⊎ (status ≡ 6) ⊎ (status ≡ 7)
+
+-- The store was opened, with nothing written, taken or said by then; and steps were made from this state on.
+pub record Loads (kind : Kind) (status : ℕ) (start : State) (seed count : ℕ) (old opened new : World) : Type 0 where
+  pub opens : OpenMoves old opened
+  pub ends : LoadEnds kind status start seed count opened new
