@@ -1,13 +1,16 @@
 //! Calls that fail, and what the next run finds.
-use crate::runs::{Ended, Succinct, base_disk, failing, outside, ran, served, served_by};
-use disk_mem::{Choice, MemDisk};
+use crate::runs::{
+    Ended, Succinct, base_disk, boxed, calls_of, check, commanded, disk_of, failing, left_behind,
+    lost, opened, ran, served, served_by, written,
+};
+use disk_mem::MemDisk;
 use disk_trait::Disk;
 use filter_api::RangeFilter;
 use outside::MemOutside;
 use plain_filter::PlainFilter;
 use std::alloc::{AllocError, Global};
 use std::test::Fail;
-use store_core::{Store, StoreError};
+use store_core::StoreError;
 
 const SCRIPT: &[u8] = b"put 61 62\nput 62 63\nflush\ndel 61\nflush\nput 63 64\nget 62\nquit\n";
 
@@ -31,7 +34,7 @@ fn oks(said: &[u8]) -> usize {
 }
 
 // Whether the next run finds what was answered, or one line more.
-fn has_all<F: RangeFilter>(alloc: Global, disk: MemDisk, said: &[u8]) -> Result<bool, Fail> {
+fn has_all<F: RangeFilter>(alloc: Global, disk: Box<MemDisk>, said: &[u8]) -> Result<bool, Fail> {
     let again = served_by::<F>(alloc, disk, GETS)?;
     let found = again.said.as_slice();
     let done = oks(said).min(6);
@@ -52,14 +55,19 @@ fn differing(whole: &[u8], lost: &[u8]) -> (usize, usize) {
 }
 
 // Some bytes, of which those between two places are 07.
-fn with_sevens(alloc: Global, bytes: &[u8], from: usize, to: usize) -> Result<MemDisk, AllocError> {
+fn with_sevens(
+    alloc: Global,
+    bytes: &[u8],
+    from: usize,
+    to: usize,
+) -> Result<Box<MemDisk>, AllocError> {
     let mut bytes = Vec::from_slice(alloc, bytes)?;
     for place in from..to {
         if let Some(byte) = bytes.get_mut(place) {
             *byte = 7;
         }
     }
-    MemDisk::new(alloc, &bytes)
+    disk_of(alloc, &bytes)
 }
 
 // What a crash leaves of the writes that no sync followed.
@@ -72,9 +80,9 @@ enum Left {
 }
 
 // The disk as a crash leaves it. Half of a write is its first bytes, and 07 behind them.
-fn left_by(alloc: Global, disk: &MemDisk, left: Left) -> Result<MemDisk, AllocError> {
-    let lost = disk.crash(&[])?;
-    let whole = disk.crash(&[Choice::Whole, Choice::Whole, Choice::Whole, Choice::Whole])?;
+fn left_by(alloc: Global, disk: &MemDisk, left: Left) -> Result<Box<MemDisk>, AllocError> {
+    let lost = lost(alloc, disk)?;
+    let whole = written(alloc, disk)?;
     let (first, last) = differing(whole.bytes(), lost.bytes());
     match left {
         Left::Whole => Ok(whole),
@@ -149,22 +157,13 @@ fn a_flush_that_is_stopped_leaves_no_table(rt: HostRuntime) -> Result<(), Fail> 
     let alloc = rt.alloc();
     let first = base_disk(alloc)?;
     for call in 18..23 {
-        let end = served(
-            alloc,
-            failing(alloc, &first, call)?,
-            b"put 61 62\nput 62 63\nflush\n",
-        )?;
-        assert_eq!(rt;
-            end.said.as_slice(),
-            b"ok\nok\ndevice\n".as_slice(),
-            "call {call}"
-        );
-        let left = end.disk.crash(&[])?;
-        let again = served(alloc, left, b"get 61\nget 62\nget 63\nexplain 61\n")?;
-        assert_eq!(rt;
-            again.said.as_slice(),
-            b"val 62\nval 63\nnone\ntables 0 admitted 0 blocks 0\n".as_slice()
-        );
+        let disk = failing(alloc, &first, call)?;
+        let end = served(alloc, disk, b"put 61 62\nput 62 63\nflush\n")?;
+        check(&rt, &end, 4, b"ok\nok\ndevice\n", call);
+        let lines = b"get 61\nget 62\nget 63\nexplain 61\n";
+        let again = served(alloc, lost(alloc, &end.disk)?, lines)?;
+        let found = b"val 62\nval 63\nnone\ntables 0 admitted 0 blocks 0\n";
+        check(&rt, &again, 0, found, call);
         assert_eq!(rt; again.disk.reads(), 5, "call {call}");
     }
     Ok(())
@@ -183,14 +182,13 @@ pub fn push_large(lines: &mut Vec<u8>, key: &[u8]) -> Result<(), AllocError> {
 }
 
 // A disk of a store with a table of three blocks, of a pair each.
-fn three_blocks(alloc: Global) -> Result<MemDisk, Fail> {
+fn three_blocks(alloc: Global) -> Result<Box<MemDisk>, Fail> {
     let mut lines = Vec::new(alloc);
     push_large(&mut lines, b"61")?;
     push_large(&mut lines, b"62")?;
     push_large(&mut lines, b"63")?;
     lines.extend_from_slice(b"flush\n")?;
-    let end = served(alloc, base_disk(alloc)?, &lines)?;
-    MemDisk::new(alloc, end.disk.bytes()).map_err(Fail::from)
+    left_behind(alloc, base_disk(alloc)?, &lines)
 }
 
 // How many pairs were found: no other reply has a t.
@@ -202,19 +200,25 @@ fn pairs(said: &[u8]) -> usize {
 fn a_range_says_the_pairs_before_a_fault(rt: HostRuntime) -> Result<(), Fail> {
     let alloc = rt.alloc();
     let first = three_blocks(alloc)?;
-    let opened = served(alloc, MemDisk::new(alloc, first.bytes())?, b"")?
-        .disk
-        .calls();
+    let calls = calls_of(alloc, &first, b"")?;
     for block in 0..3 {
-        let disk = failing(alloc, &first, (opened as u64).saturating_add(block))?;
+        let disk = failing(alloc, &first, (calls as u64).saturating_add(block))?;
         let end = served(alloc, disk, b"range - - 3\nrange - 7a 3\nget 61\n")?;
         assert_eq!(rt; end.status, 4, "block {block}");
         assert!(rt; end.said.ends_with(b"device\n"));
         assert_eq!(rt; pairs(end.said.as_slice()) as u64, block);
     }
+    Ok(())
+}
+
+#[test]
+fn a_range_of_two_reads_two_blocks(rt: HostRuntime) -> Result<(), Fail> {
+    let alloc = rt.alloc();
+    let first = three_blocks(alloc)?;
+    let calls = calls_of(alloc, &first, b"")?;
     let end = served(alloc, first, b"range 61 7a 2\n")?;
     assert!(rt; end.said.ends_with(b"\nend 2\n"));
-    assert_eq!(rt; end.disk.calls(), opened.saturating_add(2));
+    assert_eq!(rt; end.disk.calls(), calls.saturating_add(2));
     Ok(())
 }
 
@@ -223,16 +227,12 @@ fn a_range_says_the_pairs_before_a_fault(rt: HostRuntime) -> Result<(), Fail> {
 fn a_range_says_the_pairs_before_damage(rt: HostRuntime) -> Result<(), Fail> {
     let alloc = rt.alloc();
     let mut disk = three_blocks(alloc)?;
-    assert!(rt; disk.write(791_528, &[7]).is_ok());
+    disk.write(791_528, &[7])?;
     let end = served(alloc, disk, b"range - 7a 3\nget 61\n")?;
     assert_eq!(rt; end.status, 5);
     assert_eq!(rt; pairs(end.said.as_slice()), 1);
-    let text = end.said.as_slice();
-    assert!(rt;
-        text.get(6_007..)
-            .unwrap_or(b"")
-            .starts_with(b"damaged block 790528 sum ")
-    );
+    let behind = end.said.get(6_007..).unwrap_or(b"");
+    assert!(rt; behind.starts_with(b"damaged block 790528 sum "));
     Ok(())
 }
 
@@ -242,30 +242,44 @@ fn a_put_behind_a_failed_sync_is_stopped(rt: HostRuntime) -> Result<(), Fail> {
     let alloc = rt.alloc();
     let first = base_disk(alloc)?;
     let mut disk = failing(alloc, &first, 7)?;
-    let mut store = match Store::<Succinct>::open_store(alloc, &mut disk) {
-        Ok(store) => store,
-        Err(_) => return Err(Fail::from("not opened")),
-    };
-    assert!(rt; matches!(store.put(&mut disk, b"a", b"b"), Err(StoreError::Device(_))));
-    assert!(rt; store.put(&mut disk, b"c", b"d") == Err(StoreError::Stopped));
+    let mut store = opened(alloc, &mut disk)?;
+    assert!(rt;
+        matches!(
+            store.put(&mut *disk, b"a", b"b"),
+            Err(StoreError::Device(_))
+        )
+    );
+    assert!(rt; store.put(&mut *disk, b"c", b"d") == Err(StoreError::Stopped));
     assert_eq!(rt; disk.calls(), 8);
     Ok(())
 }
 
-// A run of the script in which the take and the say of these numbers fail.
+// An outside over the bytes of a disk, with these lines to take, in which the take and the say of these numbers fail.
 fn with_streams(
     alloc: Global,
     first: &MemDisk,
+    lines: &[u8],
+    takes: &[u64],
+    says: &[u64],
+) -> Result<MemOutside, AllocError> {
+    let input = Vec::from_slice(alloc, lines)?;
+    let takes = Vec::from_slice(alloc, takes)?;
+    let says = Vec::from_slice(alloc, says)?;
+    let disk = MemDisk::new(alloc, first.bytes())?;
+    Ok(MemOutside::new(disk, input, takes, says))
+}
+
+// A run of these lines by so many bytes at a time, in which the take and the say of these numbers fail.
+fn paced(
+    alloc: Global,
+    first: &MemDisk,
+    lines: &[u8],
     takes: &[u64],
     says: &[u64],
     pace: usize,
 ) -> Result<Ended, Fail> {
-    let disk = MemDisk::new(alloc, first.bytes())?;
-    let input = Vec::from_slice(alloc, SCRIPT)?;
-    let takes = Vec::from_slice(alloc, takes)?;
-    let says = Vec::from_slice(alloc, says)?;
-    let out = MemOutside::new(disk, input, takes, says).with_pace(pace.max(1));
-    ran(alloc, "serve", out)
+    let out = with_streams(alloc, first, lines, takes, says)?.with_pace(pace.max(1));
+    ran(alloc, "serve", boxed(alloc, out)?)
 }
 
 #[test]
@@ -273,7 +287,7 @@ fn each_say_of_a_byte_failing_in_turn(rt: HostRuntime) -> Result<(), Fail> {
     let alloc = rt.alloc();
     let first = base_disk(alloc)?;
     for say in 0..29 {
-        let end = with_streams(alloc, &first, &[], &[say], 1)?;
+        let end = paced(alloc, &first, SCRIPT, &[], &[say], 1)?;
         assert_eq!(rt; end.status, 6);
         assert_eq!(rt; end.said.len() as u64, say);
         assert!(rt; outlasts::<Succinct>(alloc, &end, Left::Lost)?, "say {say}");
@@ -286,7 +300,7 @@ fn each_say_of_a_reply_failing_in_turn(rt: HostRuntime) -> Result<(), Fail> {
     let alloc = rt.alloc();
     let first = base_disk(alloc)?;
     for say in 0..8 {
-        let end = with_streams(alloc, &first, &[], &[say], SCRIPT.len())?;
+        let end = paced(alloc, &first, SCRIPT, &[], &[say], SCRIPT.len())?;
         assert_eq!(rt; end.status, 6);
         let replies = end.said.iter().filter(|byte| **byte == b'\n').count();
         assert_eq!(rt; replies as u64, say);
@@ -300,16 +314,15 @@ fn each_take_failing_in_turn(rt: HostRuntime) -> Result<(), Fail> {
     let alloc = rt.alloc();
     let first = base_disk(alloc)?;
     for take in 0..61 {
-        let end = with_streams(alloc, &first, &[take], &[], 1)?;
+        let end = paced(alloc, &first, SCRIPT, &[take], &[], 1)?;
         assert_eq!(rt; end.status, 3);
         assert!(rt;
             outlasts::<Succinct>(alloc, &end, Left::Lost)?,
             "take {take}"
         );
     }
-    let whole = with_streams(alloc, &first, &[0], &[], SCRIPT.len())?;
-    assert_eq!(rt; whole.status, 3);
-    assert_eq!(rt; whole.said.len(), 0);
+    let whole = paced(alloc, &first, SCRIPT, &[0], &[], SCRIPT.len())?;
+    check(&rt, &whole, 3, b"", 0);
     Ok(())
 }
 
@@ -318,6 +331,7 @@ fn each_take_failing_in_turn(rt: HostRuntime) -> Result<(), Fail> {
 fn what_was_said_outlasts_a_crash(rt: HostRuntime) -> Result<(), Fail> {
     let alloc = rt.alloc();
     let first = base_disk(alloc)?;
+    let lines = b"put 61 62\nput 62 63\ndel 61\nquit\n";
     let rows: [(u64, &[u8]); 5] = [
         (3, b"val 62\n"),
         (4, b"val 62\n"),
@@ -326,13 +340,9 @@ fn what_was_said_outlasts_a_crash(rt: HostRuntime) -> Result<(), Fail> {
         (10, b"none\n"),
     ];
     for (say, reply) in rows {
-        let disk = MemDisk::new(alloc, first.bytes())?;
-        let input = Vec::from_slice(alloc, b"put 61 62\nput 62 63\ndel 61\nquit\n")?;
-        let says = Vec::from_slice(alloc, &[say])?;
-        let out = MemOutside::new(disk, input, Vec::new(alloc), says).with_pace(1);
-        let end = ran(alloc, "serve", out)?;
-        let again = served(alloc, end.disk.crash(&[])?, b"get 61\n")?;
-        assert_eq!(rt; again.said.as_slice(), reply, "{say} bytes said");
+        let end = paced(alloc, &first, lines, &[], &[say], 1)?;
+        let again = served(alloc, lost(alloc, &end.disk)?, b"get 61\n")?;
+        check(&rt, &again, 0, reply, say);
     }
     Ok(())
 }
@@ -343,24 +353,13 @@ fn a_put_outlasts_what_the_next_one_leaves(rt: HostRuntime) -> Result<(), Fail> 
     let alloc = rt.alloc();
     let first = base_disk(alloc)?;
     for call in 10..14 {
-        let end = served(
-            alloc,
-            failing(alloc, &first, call)?,
-            b"put 61 62\nput 62 63\n",
-        )?;
-        assert_eq!(rt;
-            end.said.as_slice(),
-            b"ok\ndevice\n".as_slice(),
-            "call {call}"
-        );
+        let disk = failing(alloc, &first, call)?;
+        let end = served(alloc, disk, b"put 61 62\nput 62 63\n")?;
+        check(&rt, &end, 4, b"ok\ndevice\n", call);
         for left in [Left::Whole, Left::Lost, Left::Half, Left::Sevens] {
             let disk = left_by(alloc, &end.disk, left)?;
             let again = served(alloc, disk, b"get 61\n")?;
-            assert_eq!(rt;
-                again.said.as_slice(),
-                b"val 62\n".as_slice(),
-                "call {call}"
-            );
+            check(&rt, &again, 0, b"val 62\n", call);
         }
     }
     Ok(())
@@ -370,34 +369,23 @@ fn a_put_outlasts_what_the_next_one_leaves(rt: HostRuntime) -> Result<(), Fail> 
 fn a_reply_that_cannot_be_said_ends_the_run(rt: HostRuntime) -> Result<(), Fail> {
     let alloc = rt.alloc();
     let first = base_disk(alloc)?;
-    let end = with_streams(alloc, &first, &[], &[0], SCRIPT.len())?;
-    assert_eq!(rt; end.status, 6);
-    assert_eq!(rt; end.said.len(), 0);
+    let end = paced(alloc, &first, SCRIPT, &[], &[0], SCRIPT.len())?;
+    check(&rt, &end, 6, b"", 0);
     let again = served(alloc, end.disk, b"get 61\nget 62\n")?;
-    assert_eq!(rt; again.said.as_slice(), b"val 62\nnone\n".as_slice());
+    check(&rt, &again, 0, b"val 62\nnone\n", 1);
     Ok(())
 }
 
 #[test]
 fn a_format_that_fails_may_be_made_again(rt: HostRuntime) -> Result<(), Fail> {
     let alloc = rt.alloc();
-    let empty = MemDisk::new(alloc, b"")?;
+    let empty = disk_of(alloc, b"")?;
+    let words = "format --pages 512 --variant base";
     for call in 0..8 {
-        let disk = failing(alloc, &empty, call)?;
-        let end = ran(
-            alloc,
-            "format --pages 512 --variant base",
-            outside(alloc, disk, b"")?,
-        )?;
-        assert_eq!(rt; end.status, 4, "call {call}");
-        assert_eq!(rt; end.said.as_slice(), b"device\n".as_slice());
-        let left = end.disk.crash(&[])?;
-        let again = ran(
-            alloc,
-            "format --pages 512 --variant base",
-            outside(alloc, left, b"")?,
-        )?;
-        assert_eq!(rt; again.said.as_slice(), b"formatted 512\n".as_slice());
+        let end = commanded(alloc, words, failing(alloc, &empty, call)?)?;
+        check(&rt, &end, 4, b"device\n", call);
+        let again = commanded(alloc, words, lost(alloc, &end.disk)?)?;
+        check(&rt, &again, 0, b"formatted 512\n", call);
     }
     Ok(())
 }

@@ -1,32 +1,26 @@
 //! A version of as many tables as there may be.
 use crate::damage::sum_of;
-use crate::runs::{Succinct, commanded, served};
+use crate::runs::{check, formatted, opened, served};
 use disk_mem::MemDisk;
-use disk_trait::Disk;
+use disk_trait::{Disk, DiskFault};
 use std::alloc::{AllocError, Global};
 use std::test::Fail;
-use store_core::Store;
 
 // The tables of a version at most, and the bytes of its body before the sum: 64, and 64 for each table.
 const TABLES: u16 = 1_024;
 
 const BODY_BYTES: usize = 65_600;
 
-// A put and a flush for each table, with keys that fall: so the rows, the newest first, have keys that rise. No slice of a merge
-// comes between them.
-fn filled(alloc: Global, disk: MemDisk) -> Result<MemDisk, Fail> {
-    let mut disk = disk;
-    let mut store = match Store::<Succinct>::open_store(alloc, &mut disk) {
-        Ok(store) => store,
-        Err(_) => return Err(Fail::from("not opened")),
-    };
+// Makes a put and a flush for each table, with keys that fall: so the rows, the newest first, have keys that rise. No slice of a
+// merge comes between them.
+fn fill(alloc: Global, disk: &mut MemDisk) -> Result<(), Fail> {
+    let mut store = opened(alloc, disk)?;
     for number in 0..TABLES {
         let key = (0x7fff - number).to_be_bytes();
-        if store.put(&mut disk, &key, b"b").is_err() || store.flush(&mut disk).is_err() {
-            return Err(Fail::from("no table"));
-        }
+        store.put(disk, &key, b"b")?;
+        store.flush(disk)?;
     }
-    Ok(disk)
+    Ok(())
 }
 
 // Each row of a body with level 6, and the sum behind it.
@@ -43,42 +37,33 @@ fn deepened(body: Vec<u8>) -> Result<Vec<u8>, AllocError> {
 }
 
 // Reads as many bytes of slot A's body, which is at byte 8.
-fn read_body(disk: &mut MemDisk, body: &mut [u8]) -> Result<(), Fail> {
-    if body.len() > BODY_BYTES {
-        return Err(Fail::from("a long body"));
-    }
-    disk.read(8, body).map_err(|_| Fail::from("not read"))
+fn read_body(disk: &mut MemDisk, body: &mut [u8]) -> Result<(), DiskFault> {
+    let length = body.len().min(BODY_BYTES);
+    disk.read(8, &mut body[..length])
 }
 
-fn write_body(disk: &mut MemDisk, body: &[u8]) -> Result<(), Fail> {
-    if body.len() > BODY_BYTES + 8 {
-        return Err(Fail::from("a long body"));
-    }
-    disk.write(8, body).map_err(|_| Fail::from("not written"))
+fn write_body(disk: &mut MemDisk, body: &[u8]) -> Result<(), DiskFault> {
+    let length = body.len().min(BODY_BYTES + 8);
+    disk.write(8, &body[..length])
 }
 
-// The disk with level 6 in each row of slot A.
-fn of_level_6(alloc: Global, disk: MemDisk) -> Result<MemDisk, Fail> {
-    let mut disk = disk;
+// Writes level 6 into each row of slot A.
+fn deepen(alloc: Global, disk: &mut MemDisk) -> Result<(), Fail> {
     let mut body = vec![in alloc; 0; BODY_BYTES]?;
-    read_body(&mut disk, &mut body)?;
+    read_body(disk, &mut body)?;
     let body = deepened(body)?;
-    write_body(&mut disk, &body)?;
-    Ok(disk)
+    Ok(write_body(disk, &body)?)
 }
 
 #[test]
 fn no_flush_behind_1024_tables(rt: HostRuntime) -> Result<(), Fail> {
     let alloc = rt.alloc();
-    let words = "format --pages 4096 --variant base";
-    let first = commanded(alloc, words, MemDisk::new(alloc, b"")?)?;
-    let deep = of_level_6(alloc, filled(alloc, first.disk)?)?;
-    let lines = b"put 61 62\nflush\nget 61\nget 7fff\n".as_slice();
-    let end = served(alloc, deep, lines)?;
-    assert_eq!(rt;
-        end.said.as_slice(),
-        b"ok\nlimit tables\nval 62\nval 62\n".as_slice()
-    );
-    assert_eq!(rt; end.status, 0);
+    let mut disk = formatted(alloc, "format --pages 4096 --variant base")?;
+    fill(alloc, &mut disk)?;
+    deepen(alloc, &mut disk)?;
+    let lines = b"put 61 62\nflush\nget 61\nget 7fff\ncompact\nget 7c00\nexplain 61\n";
+    let end = served(alloc, disk, lines)?;
+    let replies = b"ok\nlimit tables\nval 62\nval 62\nok\nval 62\ntables 1 admitted 1 blocks 1\n";
+    check(&rt, &end, 0, replies, 0);
     Ok(())
 }

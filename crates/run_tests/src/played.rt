@@ -1,10 +1,10 @@
 //! Random scripts, beside a store that is played in memory.
-use crate::runs::{Ended, Succinct, commanded, failing, served, served_by};
-use disk_mem::{Choice, MemDisk};
+use crate::runs::{Ended, Succinct, boxed, failing, formatted, lost, served, served_by, written};
+use disk_mem::MemDisk;
 use filter_api::{RangeFilter, Settings};
 use plain_filter::PlainFilter;
 use plain_map::PlainMap;
-use plain_store::{Merge, Reply, Request, State, ask, get_bound, play, seek_bound, tend};
+use plain_store::{Merge, Played, Reply, Request, State, ask, get_bound, play, seek_bound, tend};
 use std::alloc::{AllocError, Global};
 use std::test::Fail;
 
@@ -41,11 +41,13 @@ struct Script {
     requests: Vec<Request<'static>>,
 }
 
-// One line more.
+// One line more. Of the lines without a word each sixth is a compaction.
 fn push_line(script: &mut Script, verb: usize, key: usize, value: usize) -> Result<(), AllocError> {
-    let (key, key_word) = KEYS[key.min(5)];
+    let number = key.min(5);
+    let (key, key_word) = KEYS[number];
     let (value, value_word) = VALUES[value.min(2)];
     let (name, request): (&[u8], _) = match verb {
+        0 if number == 0 => (b"compact", Request::Compact),
         0 => (b"flush", Request::Flush),
         1 | 2 => (b"del ", Request::Del { key }),
         3 | 4 => (b"get ", Request::Get { key }),
@@ -88,13 +90,18 @@ fn push_scan(script: &mut Script, verb: usize, lo: usize, hi: usize) -> Result<(
     Ok(())
 }
 
-// So many lines of the first verbs: twelve of them write and get, and six read pairs.
-fn drawn(alloc: Global, seed: u64, length: usize, verbs: u64) -> Result<Script, AllocError> {
-    let mut seed = seed;
-    let mut script = Script {
+fn no_lines(alloc: Global) -> Result<Box<Script>, AllocError> {
+    let script = Script {
         lines: Vec::new(alloc),
         requests: Vec::new(alloc),
     };
+    boxed(alloc, script)
+}
+
+// So many lines of the first verbs: twelve of them write and get, and six read pairs.
+fn drawn(alloc: Global, seed: u64, length: usize, verbs: u64) -> Result<Box<Script>, AllocError> {
+    let mut seed = seed;
+    let mut script = no_lines(alloc)?;
     for _ in 0..length {
         let verb = draw(&mut seed, verbs);
         let key = draw(&mut seed, 6);
@@ -143,32 +150,45 @@ fn push_pairs(text: &mut Vec<u8>, map: &PlainMap) -> Result<(), AllocError> {
     push_number(text, b"end ", map.len() as u64)
 }
 
-// What the requests are answered, as text.
-fn expected(alloc: Global, requests: &[Request<'static>]) -> Result<Vec<u8>, AllocError> {
-    let state = State::new(alloc, BASE, 512);
-    let played = play::<PlainFilter>(alloc, &state, requests)?;
-    let mut text = Vec::new(alloc);
-    for reply in &played.replies {
-        match reply {
-            Reply::Done => text.extend_from_slice(b"ok\n")?,
-            Reply::Value(value) => {
-                text.extend_from_slice(b"val ")?;
-                text.extend_from_slice(word_of(value))?;
-                text.push(b'\n')?;
-            }
-            Reply::Missing => text.extend_from_slice(b"none\n")?,
-            Reply::At { key, value } => push_pair(&mut text, key, value)?,
-            Reply::Pairs(map) => push_pairs(&mut text, map)?,
-            Reply::Counted(count) => push_number(&mut text, b"count ", *count)?,
-            _ => text.extend_from_slice(b"?\n")?,
+// The lines of a reply.
+fn push_reply(text: &mut Vec<u8>, reply: &Reply) -> Result<(), AllocError> {
+    match reply {
+        Reply::Done => text.extend_from_slice(b"ok\n")?,
+        Reply::Value(value) => {
+            text.extend_from_slice(b"val ")?;
+            text.extend_from_slice(word_of(value))?;
+            text.push(b'\n')?;
         }
+        Reply::Missing => text.extend_from_slice(b"none\n")?,
+        Reply::At { key, value } => push_pair(text, key, value)?,
+        Reply::Pairs(map) => push_pairs(text, map)?,
+        Reply::Counted(count) => push_number(text, b"count ", *count)?,
+        _ => text.extend_from_slice(b"?\n")?,
     }
-    Ok(text)
+    Ok(())
 }
 
-fn new_disk(alloc: Global, words: &str) -> Result<MemDisk, Fail> {
-    let end = commanded(alloc, words, MemDisk::new(alloc, b"")?)?;
-    Ok(end.disk)
+fn new_state(alloc: Global) -> Result<Box<State>, AllocError> {
+    boxed(alloc, State::new(alloc, BASE, 512))
+}
+
+fn played(
+    alloc: Global,
+    state: &State,
+    requests: &[Request<'static>],
+) -> Result<Box<Played>, AllocError> {
+    boxed(alloc, play::<PlainFilter>(alloc, state, requests)?)
+}
+
+// What the requests are answered, as text.
+fn expected(alloc: Global, requests: &[Request<'static>]) -> Result<Vec<u8>, AllocError> {
+    let state = new_state(alloc)?;
+    let played = played(alloc, &state, requests)?;
+    let mut text = Vec::new(alloc);
+    for reply in &played.replies {
+        push_reply(&mut text, reply)?;
+    }
+    Ok(text)
 }
 
 // What gets of all keys are answered behind so many lines of the script.
@@ -188,7 +208,7 @@ fn behind(alloc: Global, script: &Script, lines: usize) -> Result<Vec<u8>, Alloc
 }
 
 // What gets of all keys are answered by the next run.
-fn found<F: RangeFilter>(alloc: Global, disk: MemDisk) -> Result<Ended, Fail> {
+fn found<F: RangeFilter>(alloc: Global, disk: Box<MemDisk>) -> Result<Ended, Fail> {
     let mut lines = Vec::new(alloc);
     for (_, word) in KEYS {
         lines.extend_from_slice(b"get ")?;
@@ -202,7 +222,7 @@ fn found<F: RangeFilter>(alloc: Global, disk: MemDisk) -> Result<Ended, Fail> {
 fn is_played<F: RangeFilter>(alloc: Global, seed: u64, words: &str) -> Result<bool, Fail> {
     let script = drawn(alloc, seed, 200, 18)?;
     let text = expected(alloc, &script.requests)?;
-    let end = served_by::<F>(alloc, new_disk(alloc, words)?, &script.lines)?;
+    let end = served_by::<F>(alloc, formatted(alloc, words)?, &script.lines)?;
     let same = end.status == 0 && end.said.as_slice() == text.as_slice();
     let again = found::<F>(alloc, end.disk)?;
     let map = behind(alloc, &script, 200)?;
@@ -216,31 +236,59 @@ const VARIANTS: [&str; 4] = [
     "format --pages 512 --variant mixed",
 ];
 
-// Whether each get and each closed seek of a script reads no more blocks than its bound. Each line is a run of its own, behind
-// one without a line: their openings read the same.
+// The most blocks that a get or a closed seek may read, and more than any run does for others.
+fn bound_of<F: RangeFilter>(
+    alloc: Global,
+    state: &State,
+    request: Request<'static>,
+) -> Result<u64, AllocError> {
+    match request {
+        Request::Get { key } => get_bound::<F>(alloc, state, key),
+        Request::Seek { lo, hi: Some(hi) } => seek_bound::<F>(alloc, state, lo, hi),
+        _ => Ok(1_000),
+    }
+}
+
+// The state behind a request and its merge, which has eight blocks at most here, so one slice does it whole.
+fn tended<F: RangeFilter>(
+    alloc: Global,
+    state: &State,
+    request: Request<'static>,
+) -> Result<Box<State>, AllocError> {
+    let answered = ask::<F>(alloc, state, request)?.state;
+    boxed(alloc, tend::<F>(alloc, Merge::Whole, request, answered)?)
+}
+
+// The disk behind a line, and how many blocks it reads. The line is a run of its own, behind one without a line: their openings
+// read the same.
+fn read_by<F: RangeFilter>(
+    alloc: Global,
+    disk: Box<MemDisk>,
+    line: &[u8],
+) -> Result<(Box<MemDisk>, u64), Fail> {
+    let before = disk.reads();
+    let idle = served_by::<F>(alloc, disk, b"")?;
+    let opened = idle.disk.reads();
+    let end = served_by::<F>(alloc, idle.disk, line)?;
+    let both = opened.saturating_mul(2).saturating_sub(before);
+    let read = end.disk.reads().saturating_sub(both);
+    Ok((end.disk, read))
+}
+
+// Whether each get and each closed seek of a script reads no more blocks than its bound.
 fn reads_are_bounded<F: RangeFilter>(alloc: Global, seed: u64) -> Result<bool, Fail> {
     let script = drawn(alloc, seed, 60, 18)?;
-    let mut disk = new_disk(alloc, VARIANTS[0])?;
-    let mut state = State::new(alloc, BASE, 512);
+    let mut disk = formatted(alloc, VARIANTS[0])?;
+    let mut state = new_state(alloc)?;
     let lines = script.lines.split_inclusive(|byte| *byte == b'\n');
     for (line, request) in lines.zip(script.requests.iter()) {
-        let most = match *request {
-            Request::Get { key } => get_bound::<F>(alloc, &state, key)?,
-            Request::Seek { lo, hi: Some(hi) } => seek_bound::<F>(alloc, &state, lo, hi)?,
-            _ => 1_000,
-        };
-        let before = disk.reads();
-        let idle = served_by::<F>(alloc, disk, b"")?;
-        let opened = idle.disk.reads();
-        let end = served_by::<F>(alloc, idle.disk, line)?;
-        let read = end.disk.reads().saturating_sub(opened);
-        if read > opened.saturating_sub(before).saturating_add(most) {
+        let most = bound_of::<F>(alloc, &state, *request)?;
+        let (next, read) = read_by::<F>(alloc, disk, line)?;
+        if read > most {
             return Ok(false);
         }
-        disk = end.disk;
-        // A merge has eight blocks at most here, so one slice does it whole.
-        let answered = ask::<F>(alloc, &state, *request)?.state;
-        state = tend::<F>(alloc, Merge::Whole, *request, answered)?;
+        disk = next;
+        state = tended::<F>(alloc, &state, *request)?;
     }
     Ok(true)
 }
@@ -279,10 +327,9 @@ fn outlasts(alloc: Global, first: &MemDisk, script: &Script, call: u64) -> Resul
     let replies = end.said.iter().filter(|byte| **byte == b'\n').count();
     let lines = replies.saturating_sub(usize::from(end.said.ends_with(b"device\n")));
     let left = if call % 2 == 0 {
-        end.disk
-            .crash(&[Choice::Whole, Choice::Whole, Choice::Whole])?
+        written(alloc, &end.disk)?
     } else {
-        end.disk.crash(&[])?
+        lost(alloc, &end.disk)?
     };
     let again = found::<Succinct>(alloc, left)?;
     let before = behind(alloc, script, lines)?;
@@ -296,7 +343,7 @@ fn crashes_at_random_places(rt: HostRuntime) -> Result<(), Fail> {
     let alloc = rt.alloc();
     let mut seed = 11;
     for words in VARIANTS {
-        let first = new_disk(alloc, words)?;
+        let first = formatted(alloc, words)?;
         let script = drawn(alloc, seed, 60, 12)?;
         for _ in 0..4 {
             let call = draw(&mut seed, 200) as u64;

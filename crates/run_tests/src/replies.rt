@@ -1,13 +1,12 @@
 //! Lines and their replies, and the bytes that they leave.
-use crate::runs::{Succinct, base_disk, served, served_by};
-use disk_mem::MemDisk;
+use crate::runs::{Succinct, base_disk, check, served, served_by};
 use disk_trait::Disk;
 use filter_api::RangeFilter;
 use plain_filter::PlainFilter;
 use std::alloc::{AllocError, Global};
 use std::test::Fail;
 
-const ROWS: [(&[u8], &[u8]); 14] = [
+const ROWS: [(&[u8], &[u8]); 16] = [
     (b"put 61 62\nget 61\nquit\n", b"ok\nval 62\nbye\n"),
     (b"put 61 -\nget 61\nget 62\n", b"ok\nval -\nnone\n"),
     (
@@ -29,12 +28,20 @@ const ROWS: [(&[u8], &[u8]); 14] = [
         b"ok\nok\nok\nok\nnone\n",
     ),
     (
+        b"put 61 62\nflush\ndel 61\nflush\nget 61\ncompact\nget 61\nexplain 61\n",
+        b"ok\nok\nok\nok\nnone\nok\nnone\ntables 0 admitted 0 blocks 0\n",
+    ),
+    (
+        b"put 61 01\nput 62 02\nflush\nput 61 03\ndel 62\ncompact\nget 61\nget 62\nexplain 61\nput 62 04\nget 62\ncompact 61\n",
+        b"ok\nok\nok\nok\nok\nok\nval 03\nnone\ntables 1 admitted 1 blocks 1\nok\nval 04\nbad 3\n",
+    ),
+    (
         b"put 616131 01\nput 616231 02\nflush\ncount 616135 616230\nestimate 616135 616230\nexplain 616139\nexplain 616130\nexplain 616330\nget 616139\n",
         b"ok\nok\nok\ncount 0\nabout 2\ntables 1 admitted 1 blocks 1\ntables 1 admitted 1 blocks 0\ntables 1 admitted 0 blocks 0\nnone\n",
     ),
     (
         b"estimate - -\nexplain -\nestimate 62 61\ncompact\nput 61 62\nestimate 61 62\n",
-        b"about 0\nlimit key 0\nabout 0\nbad 2\nok\nabout 1\n",
+        b"about 0\nlimit key 0\nabout 0\nok\nok\nabout 1\n",
     ),
     (
         b"put 61 01\nflush\ndel 61\nput 63 03\nseek 60 62\nseek -\ncount - 7a\n",
@@ -52,7 +59,7 @@ const ROWS: [(&[u8], &[u8]); 14] = [
 ];
 
 // The sum of the manifest's body with the epoch 2^64 - 1, least byte first.
-const LAST_EPOCH_SUM: [u8; 8] = [0x6a, 0x42, 0x79, 0xfb, 0xdb, 0x1d, 0x01, 0xbb];
+pub const LAST_EPOCH_SUM: [u8; 8] = [0x6a, 0x42, 0x79, 0xfb, 0xdb, 0x1d, 0x01, 0xbb];
 
 // The first row whose lines get other replies by this kind of filter.
 fn other_row<F: RangeFilter>(alloc: Global) -> Result<Option<usize>, Fail> {
@@ -77,7 +84,7 @@ fn a_put_leaves_the_bytes_of_its_record(rt: HostRuntime) -> Result<(), Fail> {
     let alloc = rt.alloc();
     let mut end = served(alloc, base_disk(alloc)?, b"put 61 62\n")?;
     let mut bytes = [9; 11];
-    assert!(rt; end.disk.read(262_144, &mut bytes).is_ok());
+    end.disk.read(262_144, &mut bytes)?;
     assert_eq!(rt; bytes, [1, 1, 1, 0, 1, 0, 0, 0, 0x61, 0x62, 0]);
     Ok(())
 }
@@ -108,42 +115,27 @@ fn the_limits_of_keys_and_values(rt: HostRuntime) -> Result<(), Fail> {
     for (key, value, reply) in rows {
         let line = put_line(alloc, key, value)?;
         let end = served(alloc, base_disk(alloc)?, &line)?;
-        assert_eq!(rt; end.said.as_slice(), reply);
+        check(&rt, &end, 0, reply, value as u64);
     }
     Ok(())
 }
 
-// Stores this byte at a place of the disk, by a write of its own.
-fn with_byte(disk: MemDisk, at: u32, byte: u8) -> Result<MemDisk, Fail> {
-    let mut disk = disk;
-    match disk.write(u64::from(at), &[byte]) {
-        Ok(()) => Ok(disk),
-        Err(_) => Err(Fail::from("not written")),
-    }
-}
-
 // The block of one pair begins with 11 00 00 00 01 00 00 00 01 01 00 01 00 00 00 61 62; the sums are those of its 4,096 bytes as
-// they were written, and with the ninth changed from 01 to 03.
+// they were written, and with the ninth changed from 01 to 03. Each run makes the same reads to open, and the last reads one block.
 #[test]
 fn a_damaged_block_is_told_where_it_is_read(rt: HostRuntime) -> Result<(), Fail> {
     let alloc = rt.alloc();
-    let first = served(alloc, base_disk(alloc)?, b"put 61 62\nflush\n")?;
-    let damaged = with_byte(first.disk, 786_440, 3)?;
-    let reads = damaged.reads();
-    let none = served(alloc, damaged, b"get 7a\n")?;
-    assert_eq!(rt; none.said.as_slice(), b"none\n".as_slice());
-    let opening = none.disk.reads();
+    let mut first = served(alloc, base_disk(alloc)?, b"put 61 62\nflush\n")?;
+    first.disk.write(786_440, &[3])?;
+    let reads = first.disk.reads();
+    let none = served(alloc, first.disk, b"get 7a\n")?;
+    check(&rt, &none, 0, b"none\n", 0);
+    let opening = none.disk.reads().saturating_sub(reads);
     let told = served(alloc, none.disk, b"get 61\nget 7a\n")?;
-    assert_eq!(rt; told.status, 5);
-    assert_eq!(rt;
-        told.said.as_slice(),
-        b"damaged block 786432 sum eba7fa7c4d3d0fad 48e5c0a5221a7b73\n".as_slice()
-    );
-    // The same opening, and one block.
-    assert_eq!(rt;
-        told.disk.reads().saturating_sub(opening),
-        opening.saturating_sub(reads).saturating_add(1)
-    );
+    let sums = b"damaged block 786432 sum eba7fa7c4d3d0fad 48e5c0a5221a7b73\n";
+    check(&rt, &told, 5, sums, 1);
+    let read = told.disk.reads().saturating_sub(reads);
+    assert_eq!(rt; read, opening.saturating_mul(2).saturating_add(1));
     Ok(())
 }
 
@@ -152,12 +144,11 @@ fn a_damaged_block_is_told_where_it_is_read(rt: HostRuntime) -> Result<(), Fail>
 fn the_last_epoch_takes_no_flush(rt: HostRuntime) -> Result<(), Fail> {
     let alloc = rt.alloc();
     let mut disk = base_disk(alloc)?;
-    assert!(rt; disk.write(16, &[0xff; 8]).is_ok());
-    assert!(rt; disk.write(72, &LAST_EPOCH_SUM).is_ok());
-    let end = served(alloc, disk, b"put 61 62\nflush\nget 61\n")?;
-    assert_eq!(rt;
-        end.said.as_slice(),
-        b"ok\nlimit epoch\nval 62\n".as_slice()
-    );
+    disk.write(16, &[0xff; 8])?;
+    disk.write(72, &LAST_EPOCH_SUM)?;
+    let lines = b"compact\nput 61 62\nflush\nget 61\ncompact\nget 61\n";
+    let end = served(alloc, disk, lines)?;
+    let replies = b"ok\nok\nlimit epoch\nval 62\nlimit epoch\nval 62\n";
+    check(&rt, &end, 0, replies, 0);
     Ok(())
 }

@@ -1,6 +1,5 @@
 //! What the words ask for.
-use crate::runs::{base_disk, commanded, outside, ran, served};
-use disk_mem::MemDisk;
+use crate::runs::{base_disk, check, commanded, disk_of, served};
 use std::test::Fail;
 
 const USAGE: &[u8] = b"usage: surfstore PATH format|serve|load\n";
@@ -66,10 +65,9 @@ const ROWS: [(&str, u8, &[u8]); 18] = [
 #[test]
 fn words_and_their_last_lines(rt: HostRuntime) -> Result<(), Fail> {
     let alloc = rt.alloc();
-    for (words, status, line) in ROWS {
-        let end = commanded(alloc, words, MemDisk::new(alloc, b"")?)?;
-        assert_eq!(rt; end.status, status, "{words}");
-        assert_eq!(rt; end.said.as_slice(), line, "{words}");
+    for (number, (words, status, line)) in ROWS.iter().copied().enumerate() {
+        let end = commanded(alloc, words, disk_of(alloc, b"")?)?;
+        check(&rt, &end, status, line, number as u64);
     }
     Ok(())
 }
@@ -77,37 +75,46 @@ fn words_and_their_last_lines(rt: HostRuntime) -> Result<(), Fail> {
 #[test]
 fn settings_out_of_range_are_told_before_any_call(rt: HostRuntime) -> Result<(), Fail> {
     let alloc = rt.alloc();
-    let end = commanded(
-        alloc,
-        "format --pages 511 --variant base",
-        MemDisk::new(alloc, b"")?,
-    )?;
+    let words = "format --pages 511 --variant base";
+    let end = commanded(alloc, words, disk_of(alloc, b"")?)?;
     assert_eq!(rt; end.disk.calls(), 0);
     Ok(())
+}
+
+const HELP_PARTS: [&str; 12] = [
+    "format",
+    "serve",
+    "--pages",
+    "--variant",
+    "--hash-bits",
+    "--real-bits",
+    "--ratio",
+    "load",
+    "--seed",
+    "--count",
+    "16,777,216",
+    "formatted 512",
+];
+
+// The first of these parts that a text lacks.
+fn missing(text: &[u8]) -> Option<&'static str> {
+    let Ok(text) = str::from_utf8(text) else {
+        return Some("text");
+    };
+    for part in HELP_PARTS {
+        if !text.contains(part) {
+            return Some(part);
+        }
+    }
+    None
 }
 
 #[test]
 fn help_tells_each_option(rt: HostRuntime) -> Result<(), Fail> {
     let alloc = rt.alloc();
-    let disk = MemDisk::new(alloc, b"")?;
-    let end = ran(alloc, "--help", outside(alloc, disk, b"")?)?;
+    let end = commanded(alloc, "--help", disk_of(alloc, b"")?)?;
     assert_eq!(rt; end.status, 0);
-    let Ok(text) = str::from_utf8(end.said.as_slice()) else {
-        return Err(Fail::from("help is no text"));
-    };
-    for part in [
-        "format",
-        "serve",
-        "--pages",
-        "--variant",
-        "--hash-bits",
-        "--real-bits",
-        "--ratio",
-        "16,777,216",
-        "formatted 512",
-    ] {
-        assert!(rt; text.contains(part), "{part}");
-    }
+    assert_eq!(rt; missing(end.said.as_slice()), None);
     Ok(())
 }
 
@@ -115,11 +122,10 @@ fn help_tells_each_option(rt: HostRuntime) -> Result<(), Fail> {
 fn a_second_format_leaves_the_store(rt: HostRuntime) -> Result<(), Fail> {
     let alloc = rt.alloc();
     let first = served(alloc, base_disk(alloc)?, b"put 61 62\n")?;
-    assert_eq!(rt; first.said.as_slice(), b"ok\n".as_slice());
+    check(&rt, &first, 0, b"ok\n", 0);
     let second = commanded(alloc, "format --pages 512 --variant base", first.disk)?;
-    assert_eq!(rt; second.status, 8);
-    assert_eq!(rt; second.said.as_slice(), b"already a store\n".as_slice());
+    check(&rt, &second, 8, b"already a store\n", 1);
     let again = served(alloc, second.disk, b"get 61\n")?;
-    assert_eq!(rt; again.said.as_slice(), b"val 62\n".as_slice());
+    check(&rt, &again, 0, b"val 62\n", 2);
     Ok(())
 }
