@@ -1,8 +1,8 @@
 //! The calls that are measured. Each answers how many keys or pairs it found, so that none is left out.
+use crate::counted::Device;
 use crate::keys::Query;
 use anyhow::{Result, bail};
 use filter_api::RangeFilter;
-use real_outside::FileOutside;
 use store_core::{Scan, Store};
 
 /// Which call is measured.
@@ -15,7 +15,7 @@ pub enum Call {
 /// Asks the store for each query.
 pub fn ask<F: RangeFilter>(
     call: Call,
-    disk: &mut FileOutside,
+    disk: &mut Device,
     store: &mut Store<F>,
     queries: &[Query],
 ) -> Result<usize> {
@@ -26,11 +26,7 @@ pub fn ask<F: RangeFilter>(
 }
 
 // How many of the ranges have a first pair.
-fn seeks<F: RangeFilter>(
-    disk: &mut FileOutside,
-    store: &Store<F>,
-    queries: &[Query],
-) -> Result<usize> {
+fn seeks<F: RangeFilter>(disk: &mut Device, store: &Store<F>, queries: &[Query]) -> Result<usize> {
     let mut found = 0usize;
     for query in queries {
         if seek(disk, store, *query)? {
@@ -41,7 +37,7 @@ fn seeks<F: RangeFilter>(
 }
 
 // A closed seek with its first step.
-fn seek<F: RangeFilter>(disk: &mut FileOutside, store: &Store<F>, query: Query) -> Result<bool> {
+fn seek<F: RangeFilter>(disk: &mut Device, store: &Store<F>, query: Query) -> Result<bool> {
     let low = query.low.to_be_bytes();
     let high = query.high.to_be_bytes();
     let Ok(scan) = store.seek(&low, Some(&high)) else {
@@ -52,7 +48,7 @@ fn seek<F: RangeFilter>(disk: &mut FileOutside, store: &Store<F>, query: Query) 
 }
 
 // Whether a scan has another pair.
-fn step<F: RangeFilter>(disk: &mut FileOutside, scan: &mut Scan<'_, F>) -> Result<bool> {
+fn step<F: RangeFilter>(disk: &mut Device, scan: &mut Scan<'_, F>) -> Result<bool> {
     if scan.advance(disk).is_err() {
         bail!("a step failed");
     }
@@ -61,7 +57,7 @@ fn step<F: RangeFilter>(disk: &mut FileOutside, scan: &mut Scan<'_, F>) -> Resul
 
 // How many of the lower bounds are keys.
 fn gets<F: RangeFilter>(
-    disk: &mut FileOutside,
+    disk: &mut Device,
     store: &mut Store<F>,
     queries: &[Query],
 ) -> Result<usize> {
@@ -74,7 +70,7 @@ fn gets<F: RangeFilter>(
     Ok(found)
 }
 
-fn get<F: RangeFilter>(disk: &mut FileOutside, store: &mut Store<F>, query: Query) -> Result<bool> {
+fn get<F: RangeFilter>(disk: &mut Device, store: &mut Store<F>, query: Query) -> Result<bool> {
     match store.get(disk, &query.low.to_be_bytes()) {
         Ok(value) => Ok(value.is_some()),
         Err(_) => bail!("a get failed"),
@@ -82,11 +78,7 @@ fn get<F: RangeFilter>(disk: &mut FileOutside, store: &mut Store<F>, query: Quer
 }
 
 /// Walks over all pairs: how many there are, at most so many and one more.
-pub fn walk<F: RangeFilter>(
-    disk: &mut FileOutside,
-    store: &Store<F>,
-    pairs: usize,
-) -> Result<usize> {
+pub fn walk<F: RangeFilter>(disk: &mut Device, store: &Store<F>, pairs: usize) -> Result<usize> {
     let Ok(scan) = store.range(b"", &[255; 8], u64::MAX) else {
         bail!("a range was refused");
     };

@@ -1,19 +1,22 @@
 //! The calls of a load, once, and what they find.
 use crate::calls::{Call, ask, walk};
+use crate::counted::Device;
+use crate::filling::fill_and_print;
 use crate::floors::bounds;
 use crate::keys::{Query, denied, queries_elsewhere, queries_there};
 use crate::load::Load;
 use crate::made::Made;
 use anyhow::Result;
 use filter_api::RangeFilter;
-use real_outside::FileOutside;
 use std::alloc::Global;
+use std::time::CpuClock;
 
-/// Prints what the calls of a load find, and how many blocks they may read.
+/// Prints what the calls of a load find, and how many blocks they may read; then how much is written where the same keys are put
+/// in random order.
 pub fn counts<F: RangeFilter>(
-    rt: &impl Print,
+    rt: &(impl CpuClock + Print),
     alloc: Global,
-    disk: &mut FileOutside,
+    disk: &mut Device,
     load: &Load,
     keys: &[u64],
     made: &mut Made<F>,
@@ -27,13 +30,13 @@ pub fn counts<F: RangeFilter>(
     print(rt, "others whose range no filter admits", disk, made, &none)?;
     let walked = walk(disk, &made.store, load.pairs)?;
     println!(rt; "walked {walked}")?;
-    Ok(())
+    fill_and_print::<F>(rt, alloc, disk, load, keys)
 }
 
 fn print<F: RangeFilter>(
     rt: &impl Print,
     name: &str,
-    disk: &mut FileOutside,
+    disk: &mut Device,
     made: &mut Made<F>,
     queries: &[Query],
 ) -> Result<()> {

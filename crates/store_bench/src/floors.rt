@@ -3,6 +3,7 @@ ghost use Rattle.std.specs.Prelude.{◌≡◌};
 ghost use Rattle.key_base.specs.ByteOrder.{is_before};
 
 use crate::calls::Call;
+use crate::counted::Device;
 use crate::keys::Query;
 use crate::made::Made;
 use anyhow::{Result, bail};
@@ -10,13 +11,12 @@ use byte_fields::fnv1a;
 use disk_trait::Disk;
 use filter_api::RangeFilter;
 use key_base::{PAGE_BYTES, compare};
-use real_outside::FileOutside;
 
 /// Asks the filters for each query, and reads and sums a page for each block that the store may read for it. Answers how many
 /// these are.
 pub fn floor<F: RangeFilter>(
     call: Call,
-    disk: &mut FileOutside,
+    disk: &mut Device,
     made: &Made<F>,
     queries: &[Query],
 ) -> Result<usize> {
@@ -84,16 +84,16 @@ fn is_before(x: &[u8], y: &[u8]) -> bool
     compare(x, y).is_lt()
 }
 
-/// Reads and sums the pages of all blocks, one after the other: the floor of a walk.
-pub fn read_all<F: RangeFilter>(disk: &mut FileOutside, made: &Made<F>) -> Result<usize> {
-    for i in 0..made.pages.len() {
-        read(disk, &made.pages, i as u64)?;
+/// Reads and sums these pages, one after the other: the floor of a walk. Answers how many they are.
+pub fn read_all(disk: &mut Device, pages: &[u32]) -> Result<usize> {
+    for i in 0..pages.len() {
+        read(disk, pages, i as u64)?;
     }
-    Ok(made.pages.len())
+    Ok(pages.len())
 }
 
 // Reads and sums one of these pages.
-fn read(disk: &mut FileOutside, pages: &[u32], number: u64) -> Result<()> {
+fn read(disk: &mut Device, pages: &[u32], number: u64) -> Result<()> {
     let mut bytes = [0; PAGE_BYTES];
     let place = number as usize % pages.len().max(1);
     let page = pages.get(place).copied().unwrap_or(0);

@@ -32,13 +32,19 @@ impl Numbers {
     }
 }
 
-/// The keys of a load, rising. The one at place `i` goes into the table number `i` mod the tables, from the oldest.
-pub fn draw_keys(alloc: Global, load: &Load) -> Result<Vec<u64>, AllocError> {
+/// The keys of a load, in the order in which they are drawn.
+pub fn draw_in_turn(alloc: Global, load: &Load) -> Result<Vec<u64>, AllocError> {
     let mut numbers = Numbers { state: load.seed };
     let mut keys = Vec::with_capacity(alloc, load.pairs)?;
     for _ in 0..load.pairs {
         keys.push(numbers.draw())?;
     }
+    Ok(keys)
+}
+
+/// The keys of a load, rising. The one at place `i` goes into the table number `i` mod the tables, from the oldest.
+pub fn draw_keys(alloc: Global, load: &Load) -> Result<Vec<u64>, AllocError> {
+    let mut keys = draw_in_turn(alloc, load)?;
     keys.sort_unstable();
     Ok(keys)
 }

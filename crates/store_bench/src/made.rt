@@ -1,43 +1,33 @@
 //! A store that is made, and what its floors need.
+use crate::counted::Device;
 use crate::load::Load;
+use crate::stores::{flush, new_store, put, tables_of, value_of};
 use anyhow::{Result, bail};
-use disk_trait::Disk;
+use byte_fields::Row;
 use filter_api::{RangeFilter, Settings};
 use filter_model::are_keys;
-use key_base::{KeyList, SLOT_BYTES};
+use key_base::KeyList;
 use manifest::load as load_version;
-use real_outside::FileOutside;
 use std::alloc::Global;
 use store_core::Store;
-
-// The pages of the device.
-const PAGES: u64 = 65_536;
 
 /// A store, the filters of its tables, the newest first, and the pages of all their blocks.
 #[derive(Drop)]
 pub struct Made<F: RangeFilter> {
-    pub store: Store<F>,
+    pub store: Box<Store<F>>,
     pub filters: Vec<F>,
     pub pages: Vec<u32>,
 }
 
 impl<F: RangeFilter> Made<F> {
     /// A new store of the keys of a load.
-    pub fn new(
-        alloc: Global,
-        disk: &mut FileOutside,
-        load: &Load,
-        keys: &[u64],
-    ) -> Result<Made<F>> {
-        let mut store = new_store(alloc, disk, load.settings)?;
+    pub fn new(alloc: Global, disk: &mut Device, load: &Load, keys: &[u64]) -> Result<Made<F>> {
+        let store = filled(alloc, disk, load, keys)?;
         let mut filters = Vec::new(alloc);
         for table in 0..load.tables {
-            fill(disk, &mut store, load.tables, table, keys)?;
-            let newest = load.tables - 1 - table;
-            filters.push(filter_of(alloc, load.settings, load.tables, newest, keys)?)?;
+            filters.push(filter_of(alloc, load.settings, load.tables, table, keys)?)?;
         }
-        check(&store, load)?;
-        let pages = block_pages(alloc, disk)?;
+        let pages = block_pages(alloc, rows_of(alloc, disk)?.as_slice())?;
         Ok(Made {
             store,
             filters,
@@ -46,54 +36,31 @@ impl<F: RangeFilter> Made<F> {
     }
 }
 
-// An empty store in the place of what stands there.
-fn new_store<F: RangeFilter>(
+/// A new store of the keys of a load, in tables of level 0. The one at place 0 is the newest.
+pub fn filled<F: RangeFilter>(
     alloc: Global,
-    disk: &mut FileOutside,
-    settings: Settings,
-) -> Result<Store<F>> {
-    for gate in [0, SLOT_BYTES] {
-        if disk.write(gate, &[0]).is_err() {
-            bail!("the device failed");
-        }
-    }
-    if Store::<F>::format(alloc, disk, settings, PAGES).is_err() {
-        bail!("no store can be made");
-    }
-    match Store::open_store(alloc, disk) {
-        Ok(store) => Ok(store),
-        Err(_) => bail!("the store cannot be opened"),
-    }
-}
-
-// Puts the keys of a table, and makes them one.
-fn fill<F: RangeFilter>(
-    disk: &mut FileOutside,
-    store: &mut Store<F>,
-    tables: usize,
-    table: usize,
+    disk: &mut Device,
+    load: &Load,
     keys: &[u64],
-) -> Result<()> {
-    for (i, key) in keys.iter().enumerate() {
-        if i % tables.max(1) == table {
-            put(disk, store, *key)?;
+) -> Result<Box<Store<F>>> {
+    let mut store = new_store(alloc, disk, load)?;
+    let value = value_of(alloc, load)?;
+    for table in 0..load.tables {
+        for (i, key) in keys.iter().enumerate() {
+            if i % load.tables.max(1) == table {
+                put(disk, &mut store, *key, &value)?;
+            }
         }
+        flush(disk, &mut store)?;
     }
-    match store.flush(disk) {
-        Ok(()) => Ok(()),
-        Err(_) => bail!("a flush failed"),
+    if tables_of(&store)? != load.tables as u64 {
+        // a log area was too small for one of them
+        bail!("other tables than were asked for");
     }
+    Ok(store)
 }
 
-fn put<F: RangeFilter>(disk: &mut FileOutside, store: &mut Store<F>, key: u64) -> Result<()> {
-    let bytes = key.to_be_bytes();
-    match store.put(disk, &bytes, &bytes) {
-        Ok(()) => Ok(()),
-        Err(_) => bail!("a put failed"),
-    }
-}
-
-// The filter that a table of these keys has.
+// The filter that a table has: the newest has number 0.
 fn filter_of<F: RangeFilter>(
     alloc: Global,
     settings: Settings,
@@ -101,9 +68,10 @@ fn filter_of<F: RangeFilter>(
     table: usize,
     keys: &[u64],
 ) -> Result<F> {
+    let oldest_first = tables.saturating_sub(1).saturating_sub(table);
     let mut list = KeyList::new(alloc);
     for (i, key) in keys.iter().enumerate() {
-        if i % tables.max(1) == table {
+        if i % tables.max(1) == oldest_first {
             list.push(&key.to_be_bytes())?;
         }
     }
@@ -113,21 +81,18 @@ fn filter_of<F: RangeFilter>(
     Ok(F::build(alloc, &list, settings)?)
 }
 
-// Fails where the store has not as many tables as were asked for: a log area was too small for one.
-fn check<F: RangeFilter>(store: &Store<F>, load: &Load) -> Result<()> {
-    match store.explain(b"\0") {
-        Ok(told) if told.tables == load.tables as u64 => Ok(()),
-        _ => bail!("other tables than were asked for"),
+/// The rows of the tables of the store that stands on a device.
+pub fn rows_of(alloc: Global, disk: &mut Device) -> Result<Vec<Row>> {
+    match load_version(alloc, disk) {
+        Ok(version) => Ok(version.rows),
+        Err(_) => bail!("no manifest"),
     }
 }
 
-// The pages of the blocks of the store that stands on a device, each of which has one.
-fn block_pages(alloc: Global, disk: &mut FileOutside) -> Result<Vec<u32>> {
-    let Ok(version) = load_version(alloc, disk) else {
-        bail!("no manifest");
-    };
+/// The pages of the blocks of these tables, each of which has one.
+pub fn block_pages(alloc: Global, rows: &[Row]) -> Result<Vec<u32>> {
     let mut pages = Vec::new(alloc);
-    for row in &version.rows {
+    for row in rows {
         for page in 0..row.data_pages {
             pages.push(row.first_page.saturating_add(page))?;
         }

@@ -1,4 +1,6 @@
 //! Times, and what is printed of them.
+use crate::filling::Slices;
+use crate::merging::Merged;
 use std::io;
 use std::num::nearest_u64_to_f64;
 use std::time::{CpuClock, Duration};
@@ -75,4 +77,43 @@ pub fn print(rt: &impl Print, name: &str, times: (f64, f64)) -> io::Result<()> {
         call - floor,
         call / floor
     )
+}
+
+/// Prints what the slices behind all puts came to, with their times where they are wanted.
+pub fn print_slices(rt: &impl Print, timed: bool, slices: &Slices) -> io::Result<()> {
+    println!(rt;
+        "{} slices with something to do: at most {} blocks read and {} bytes written",
+        slices.count, slices.most_read, slices.most_written
+    )?;
+    if timed {
+        println!(rt;
+            "all slices {:.3} s, the longest {:.3} ms",
+            slices.all.as_secs_f64(),
+            slices.longest.as_secs_f64() * 1e3
+        )?;
+    }
+    Ok(())
+}
+
+/// Prints what was merged, and the bytes of the inputs that are merged a second: in all, without the filters, and at the floor.
+pub fn print_merge(rt: &impl Print, pairs: usize, merged: &Merged) -> io::Result<()> {
+    let merge = merged.merge.of_one(pairs.max(1));
+    let filters = merged.filters.of_one(pairs.max(1));
+    let floor = merged.floor.of_one(pairs.max(1));
+    println!(rt;
+        "merged {} bytes into {} in {} slices; ns a pair: {merge:.1}, of it filters {filters:.1}, floor {floor:.1}",
+        merged.input_bytes, merged.output_bytes, merged.slices
+    )?;
+    println!(rt;
+        "MB a second: {:.1}, without the filters {:.1}, floor {:.1}; the floor's part of the time without the filters {:.2}",
+        rate(merged.input_bytes, merge, pairs),
+        rate(merged.input_bytes, merge - filters, pairs),
+        rate(merged.input_bytes, floor, pairs),
+        floor / (merge - filters)
+    )
+}
+
+// Million bytes a second, where each pair takes so many nanoseconds.
+fn rate(bytes: u64, of_one: f64, pairs: usize) -> f64 {
+    nearest_u64_to_f64(bytes) * 1e3 / (of_one * nearest_u64_to_f64(pairs.max(1) as u64))
 }

@@ -1,5 +1,6 @@
 //! The calls of a load, in rounds that measure them.
 use crate::calls::{Call, ask, walk};
+use crate::counted::Device;
 use crate::floors::{floor, read_all};
 use crate::keys::{Query, denied, queries_elsewhere, queries_there};
 use crate::load::Load;
@@ -7,7 +8,6 @@ use crate::made::Made;
 use crate::report::{Measured, Watch, print};
 use anyhow::{Result, bail};
 use filter_api::RangeFilter;
-use real_outside::FileOutside;
 use std::alloc::Global;
 use std::time::CpuClock;
 
@@ -18,7 +18,7 @@ const ROUNDS: u32 = 20;
 pub fn times<F: RangeFilter>(
     rt: &(impl CpuClock + Print),
     alloc: Global,
-    disk: &mut FileOutside,
+    disk: &mut Device,
     load: &Load,
     keys: &[u64],
     made: &mut Made<F>,
@@ -53,7 +53,7 @@ fn measure<F: RangeFilter>(
     rt: &(impl CpuClock + Print),
     name: &str,
     call: Call,
-    disk: &mut FileOutside,
+    disk: &mut Device,
     made: &mut Made<F>,
     queries: &[Query],
 ) -> Result<()> {
@@ -76,7 +76,7 @@ fn measure<F: RangeFilter>(
 // Prints the least time of a step of a walk, and of its part of all blocks.
 fn measure_walks<F: RangeFilter>(
     rt: &(impl CpuClock + Print),
-    disk: &mut FileOutside,
+    disk: &mut Device,
     load: &Load,
     made: &Made<F>,
 ) -> Result<()> {
@@ -86,7 +86,7 @@ fn measure_walks<F: RangeFilter>(
         let walked = walk(disk, &made.store, load.pairs)?;
         measured.call.keep(watch.stop(rt)?);
         let watch = Watch::start(rt)?;
-        let blocks = read_all(disk, made)?;
+        let blocks = read_all(disk, &made.pages)?;
         measured.floor.keep(watch.stop(rt)?);
         if walked != load.pairs || blocks == 0 {
             bail!("a pair was lost");
