@@ -1,5 +1,6 @@
 pub mod FirstFills
 pub mod Fills
+pub mod FilledSteps
 pub mod Least
 pub mod Keys
 pub mod Memories
