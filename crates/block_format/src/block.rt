@@ -11,13 +11,14 @@ ghost use Rattle.block_format.specs.Reading.{Stand, seen};
 ghost use Rattle.block_format.specs.Spans.{StandsIn, kept_from, spanned};
 
 use crate::cursor::BlockCursor;
-use crate::entry::{EntryHere, WORD_BYTES, entry_here, first_entry, is_below};
+use crate::entry::{EntryHere, WORD_BYTES, entry_here, first_entry};
 use crate::fault::BlockFault;
 use crate::span::EntrySpan;
 use block_model::pages_for;
 use byte_fields::get_u32;
 use byteorder::{BigEndian, ByteOrder};
 use key_base::{PAGE_BYTES, compare};
+use std::cmp::Ordering;
 use std::marker::Model;
 
 /// The bytes before the first entry.
@@ -98,20 +99,6 @@ impl<'a> Block<'a> {
         ensures { option_map (λ found. option_map (λ v. v.now) found) result ≡ lookup self.now key.now }
     {
         find_in(self.rest, self.count, key)
-    }
-
-    /// What the block that these bytes spell says of a key, as [`Block::find`] does, where they are known to break no rule:
-    /// they were judged before.
-    ///
-    /// Judges the header alone, and goes from entry to entry, up to the first that is not below the key. No memory.
-    pub fn find_in_sound(bytes: &'a [u8], key: &[u8]) -> Option<Option<&'a [u8]>>
-        requires { block_fault bytes.now ≡ None }
-        ensures { option_map (λ found. option_map (λ v. v.now) found) result ≡ lookup (block_in bytes.now) key.now }
-    {
-        match header(bytes) {
-            Ok((used, count)) => find_in(&bytes[HEADER_BYTES..used], count, key),
-            Err(_) => None,
-        }
     }
 
     /// The entries from a key on, in order.
@@ -308,7 +295,7 @@ fn behind_zeros(bytes: &[u8], from: usize) -> usize
     from + WORD_BYTES * words
 }
 
-// What so many entries say of a key. Those whose keys are below it are passed by; the next one has it, or none has.
+// What so many entries say of a key.
 fn find_in<'a>(bytes: &'a [u8], count: u8, key: &[u8]) -> Option<Option<&'a [u8]>>
     requires { Stand count is_any bytes.now }
     ensures { option_map (λ found. option_map (λ v. v.now) found) result ≡ lookup (entries_in count bytes.now) key.now }
@@ -316,10 +303,11 @@ fn find_in<'a>(bytes: &'a [u8], count: u8, key: &[u8]) -> Option<Option<&'a [u8]
     let mut at = 0;
     for i in 0..count {
         let row = entry_here(&bytes[at..]);
-        if !is_below(row.key, key) {
-            return first_said(None, row, key);
+        match compare(row.key, key) {
+            Ordering::Less => at += row.width,
+            Ordering::Equal => return Some(row.value),
+            Ordering::Greater => return None,
         }
-        at += row.width;
     }
     None
 }

@@ -13,5 +13,4 @@ pub mod Following
 pub mod Begun
 pub mod SliceSteps
 pub mod SliceMoves
-pub mod Slicing
 pub mod Placed

@@ -1,6 +1,5 @@
 pub mod FirstFills
 pub mod Fills
-pub mod FilledSteps
 pub mod Least
 pub mod Keys
 pub mod Memories

@@ -6,7 +6,7 @@ ghost use Rattle.line_model.specs.Replies.{word_of};
 ghost use Rattle.store_commands.specs.Spoken.{HasPiece};
 
 // How many bytes are spelled at a time, and the digits that they take.
-const CHUNK_BYTES: usize = 32;
+const CHUNK_BYTES: usize = 512;
 
 const CHUNK_DIGITS: usize = 2 * CHUNK_BYTES;
 

@@ -1,7 +1,8 @@
 -- How the blocks of a builder grow.
 use Rattle.std.proofs.Common.{◌≡◌, ◌≤◌, ◌<◌, ◌+◌, ◌*◌, ◌-◌, ◌^◌, ℕ, Bool, true, false, cond, List, [], ◌∷◌, ◌++◌, length, take, drop, refl, sym, ap, ap₂, ◌∙◌, subst, arith, append_assoc, length-append}
-use Rattle.std.specs.Prelude.{◌||◌, map, flat_map, sum_by}
+use Rattle.std.specs.Prelude.{◌||◌, map, flat_map, sum_by, vec_items}
 use Rattle.std.specs.List.{AllByRecursion}
+use Rattle.std.proofs.Common.{Vec}
 use Rattle.std.proofs.lemmas.Grind.{flat_map-append}
 use Rattle.std.proofs.lemmas.List.{append-nil, drop_at, map-append, take_at}
 use Rattle.std.proofs.lemmas.List.Sums.{sum_by-append, sum_by-cons}
@@ -214,6 +215,11 @@ are_more entries e are is few = record { each = all_append IsEntry entries (e �
 
 pub few_pages : (block : List Entry) → IsBlock block → block_pages block ≤ 17
 few_pages block is = pages_bound block (record { each = is.each; some = is.some; few = is.few; small = is.small })
+
+pub keys_pushed : {X : Type 0} (keys : List (Vec ℕ X)) (key : Vec ℕ X) (bytes : Bytes) (more : List (Vec ℕ X)) → more ≡ keys ++ key ∷ [] → key.items ≡ bytes
+    → map vec_items more ≡ map vec_items keys ++ bytes ∷ []
+keys_pushed keys key bytes more pushed is =
+    ap (map vec_items) pushed ∙ map-append vec_items keys (key ∷ []) ∙ ap (λ (k : Bytes). map vec_items keys ++ k ∷ []) is
 
 -- ---- none yet
 

@@ -1,5 +1,5 @@
 //! A table that is built entry by entry.
-ghost use Rattle.std.specs.Prelude.{◌≡◌, true, false, ◌==◌, Option, ◌+◌, ◌*◌, ◌-◌, ◌<◌, ◌^◌, ◌++◌, [], ◌∷◌, List, length, IfOk, OnOk, OnErr};
+ghost use Rattle.std.specs.Prelude.{◌≡◌, true, false, ◌==◌, Option, ◌+◌, ◌*◌, ◌-◌, ◌<◌, ◌^◌, ◌++◌, [], ◌∷◌, List, length, map, vec_items, IfOk, OnOk, OnErr};
 ghost use Rattle.std.specs.Option.{option_map};
 ghost use Rattle.entry_model.specs.Entries.{IsEntry, entry_of, keys_of};
 ghost use Rattle.map_model.specs.SortedMap.{Bytes};
@@ -36,11 +36,11 @@ pub struct TableBuilder {
     // the next block, while the open one is closed
     spare: BlockBuilder,
     // the keys of all entries
-    keys: KeyList,
+    keys: Vec<Vec<u8>>,
 }
 
 impl Model for TableBuilder {
-    ghost use Rattle.std.specs.Prelude.{◌≡◌, []};
+    ghost use Rattle.std.specs.Prelude.{◌≡◌, [], map, vec_items};
     ghost use Rattle.filter_api.specs.Ranges.{InRange};
     ghost use Rattle.table_file.specs.BlockRows.{StandFrom, rows_seen};
     ghost use Rattle.table_file.specs.Building.{Built, Holds, closed_in, entries_with};
@@ -51,7 +51,7 @@ impl Model for TableBuilder {
 
     ghost invariant = { λ b. InRange b.settings
         × StandFrom 0 b.rows.items
-        × Holds (closed_in (rows_seen b.rows.items) b.blocks.items) b.blocks.items (rows_seen b.rows.items) b.«open» b.keys
+        × Holds (closed_in (rows_seen b.rows.items) b.blocks.items) b.blocks.items (rows_seen b.rows.items) b.«open» (map vec_items b.keys.items)
         × (b.spare ≡ []) };
 }
 
@@ -67,7 +67,7 @@ impl TableBuilder {
             rows: Vec::new(alloc),
             open: BlockBuilder::new(alloc),
             spare: BlockBuilder::new(alloc),
-            keys: KeyList::new(alloc),
+            keys: Vec::new(alloc),
         }
     }
 
@@ -85,30 +85,23 @@ impl TableBuilder {
         if self.is_full() {
             return Err(AllocError);
         }
-        let others = self.keys.len();
-        self.keys.push(key)?;
-        match self.open.add(key, value) {
-            Ok(true) => return Ok(()),
-            Ok(false) => {}
-            Err(fault) => {
-                self.keys.truncate(others);
-                return Err(fault);
-            }
+        let copy = Vec::from_slice(*self.blocks.allocator(), key)?;
+        self.keys.reserve(1)?;
+        if self.open.add(key, value)? {
+            self.keys.push_reserved(copy);
+            return Ok(());
         }
-        if let Err(fault) = begin(&mut self.spare, key, value) {
-            self.keys.truncate(others);
-            return Err(fault);
-        }
-        let last = self.keys.get(others - 1);
+        let last = last_of(self.keys.as_slice());
+        begin(&mut self.spare, key, value)?;
         match close_block(&mut self.open, last, &mut self.blocks, &mut self.rows) {
             Ok(()) => {
                 mem::swap(&mut self.open, &mut self.spare);
+                self.keys.push_reserved(copy);
                 Ok(())
             }
             // without memory the block that is begun goes, and all else stays as it was
             Err(fault) => {
                 self.spare.clear();
-                self.keys.truncate(others);
                 Err(fault)
             }
         }
@@ -136,12 +129,12 @@ impl TableBuilder {
         if self.keys.is_empty() {
             return true;
         }
-        compare(last_of(&self.keys), key).is_lt()
+        compare(last_of(self.keys.as_slice()), key).is_lt()
     }
 
     /// The parts of the table of the entries, one or more.
     ///
-    /// It closes the last block, builds the filter, and spells index and filter.
+    /// It closes the last block, copies the keys, builds the filter, and spells index and filter.
     pub fn finish<F: RangeFilter>(self) -> Result<Parts<F>, AllocError>
         requires { 0 < length self.entries }
         ensures { IfOk result (λ p. p ≡ self) }
@@ -155,7 +148,8 @@ impl TableBuilder {
             ..
         } = self;
         let alloc = *blocks.allocator();
-        close_block(&mut open, last_of(&keys), &mut blocks, &mut rows)?;
+        close_block(&mut open, last_of(keys.as_slice()), &mut blocks, &mut rows)?;
+        let keys = key_list(alloc, keys.as_slice())?;
         let least = Vec::from_slice(alloc, keys.get(0))?;
         Parts::new(alloc, settings, blocks, BlockIndex::new(least, rows), &keys)
     }
@@ -172,12 +166,23 @@ impl TableBuilder {
     }
 }
 
-// The last of some keys: those of entries, of which the last ones are not none.
-fn last_of(keys: &KeyList) -> &[u8]
-    requires { 0 < length keys.now }
-    ensures { (front back : List model.Entry) → 0 < length back → keys_of (front ++ back) ≡ keys.now → result.now ≡ last_key back }
+// The same keys as a list.
+fn key_list(alloc: Global, keys: &[Vec<u8>]) -> Result<KeyList, AllocError>
+    ensures { IfOk result (λ list. list ≡ map vec_items keys.now) }
 {
-    keys.get(keys.len() - 1)
+    let mut list = KeyList::new(alloc);
+    for key in keys {
+        list.push(key.as_slice())?;
+    }
+    Ok(list)
+}
+
+// The last of some keys: those of entries, of which the last ones are not none.
+fn last_of(keys: &[Vec<u8>]) -> &[u8]
+    requires { 0 < length keys.now }
+    ensures { (front back : List model.Entry) → 0 < length back → keys_of (front ++ back) ≡ map vec_items keys.now → result.now ≡ last_key back }
+{
+    keys[keys.len() - 1].as_slice()
 }
 
 // Begins a block with an entry.
