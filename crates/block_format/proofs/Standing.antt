@@ -1,8 +1,8 @@
 -- Entries that stand one after the other, by rising keys.
 use Rattle.std.proofs.Common.{◌≡◌, ◌≤◌, ◌<◌, ◌+◌, ◌-◌, ℕ, zero, suc, Bool, true, false, cond, not, List, ◌∷◌, length, drop, refl, sym, ap, ◌∙◌, subst, arith}
-use Rattle.std.specs.Prelude.{Some, None, bytes_eq, ◌||◌, nat_lt}
+use Rattle.std.specs.Prelude.{Some, None, bytes_eq, if◌then◌else◌, ◌||◌, nat_lt}
 use Rattle.std.specs.Cmp.Lexicographic.{nat_list_cmp_total, texts_ties}
-use Rattle.std.specs.Ordering.{is_ge, is_lt, is_eq, ordering_reverse}
+use Rattle.std.specs.Ordering.{is_lt, is_eq, ordering_reverse}
 use Rattle.std.specs.declared.cmp.Ordering.{Ordering}
 use Rattle.std.specs.declared.cmp.Ordering.TheVariants.{Less, Equal, Greater}
 use Rattle.std.proofs.lemmas.Bool.{ltb-false}
@@ -50,11 +50,6 @@ less_of : (o : Ordering) → is_lt o ≡ true → o ≡ Less
 less_of Less e = refl
 less_of Equal e = absurd cc
 less_of Greater e = absurd cc
-
-pub ge_not_lt : (o : Ordering) → is_ge o ≡ not (is_lt o)
-ge_not_lt Less = refl
-ge_not_lt Equal = refl
-ge_not_lt Greater = refl
 
 above_apart : (a b : Bytes) → byte_order a b ≡ Less → bytes_eq b a ≡ false
 above_apart a b less = texts_ties b a ∙ ap is_eq (nat_list_cmp_total.antisymm b a ∙ ap ordering_reverse less)
@@ -109,21 +104,35 @@ module _ (n : ℕ) (rest : Bytes) (some : 0 < n) (stand : Stand n is_any rest) w
   unfolding entries_in
   cells = ap (λ (k : ℕ). entries_in k rest) one_more
 
-  pub found : (key : Bytes) → byte_order (key_in rest) key ≡ Equal → lookup (entries_in n rest) key ≡ Some (entry_in rest).value
+  found : (key : Bytes) → byte_order (key_in rest) key ≡ Equal → lookup (entries_in n rest) key ≡ Some (entry_in rest).value
   unfolding entry_in
   found key equal = ap (λ (es : List Entry). lookup es key) cells
       ∙ ap (λ (t : Bool). cond t (Some (entry_in rest).value) (lookup later key)) (texts_ties (key_in rest) key ∙ ap is_eq equal)
 
-  pub passed_by : (key : Bytes) → byte_order (key_in rest) key ≡ Less → lookup (entries_in n rest) key ≡ lookup (entries_in (n - 1) (drop (width_in rest) rest)) key
+  passed_by : (key : Bytes) → byte_order (key_in rest) key ≡ Less → lookup (entries_in n rest) key ≡ lookup (entries_in (n - 1) (drop (width_in rest) rest)) key
   unfolding entry_in
   passed_by key less = ap (λ (es : List Entry). lookup es key) cells
       ∙ ap (λ (t : Bool). cond t (Some (entry_in rest).value) (lookup later key)) (texts_ties (key_in rest) key ∙ ap is_eq less)
 
-  pub missing : (key : Bytes) → byte_order (key_in rest) key ≡ Greater → lookup (entries_in n rest) key ≡ None
+  missing : (key : Bytes) → byte_order (key_in rest) key ≡ Greater → lookup (entries_in n rest) key ≡ None
   unfolding entry_in
   missing key greater = ap (λ (es : List Entry). lookup es key) cells
       ∙ ap (λ (t : Bool). cond t (Some (entry_in rest).value) (lookup later key)) (texts_ties (key_in rest) key ∙ ap is_eq greater)
       ∙ none_behind (n - 1) (key_in rest) key (drop (width_in rest) rest) (nat_list_cmp_total.antisymm key (key_in rest) ∙ ap ordering_reverse greater) first.2
+
+  -- where its key is below the one that is looked for, and where not
+  pub passed_below : (key : Bytes) → is_above (key_in rest) key ≡ true → lookup (entries_in n rest) key ≡ lookup (entries_in (n - 1) (drop (width_in rest) rest)) key
+  passed_below key below = passed_by key (less_of (byte_order (key_in rest) key) below)
+
+  pub here_or_missing : (key : Bytes) → is_above (key_in rest) key ≡ false
+      → lookup (entries_in n rest) key ≡ (if bytes_eq (key_in rest) key then Some (entry_in rest).value else None)
+  here_or_missing key not_below =
+      let says = λ (t : Bool). cond t (Some (entry_in rest).value) None in
+      elim (byte_order (key_in rest) key) as (λ o. byte_order (key_in rest) key ≡ o → is_lt o ≡ false → lookup (entries_in n rest) key ≡ says (bytes_eq (key_in rest) key)) [
+        | Less ↦ λ _ never. absurd cc
+        | Equal ↦ λ is _. found key is ∙ sym (ap says (texts_ties (key_in rest) key ∙ ap is_eq is))
+        | Greater ↦ λ is _. missing key is ∙ sym (ap says (texts_ties (key_in rest) key ∙ ap is_eq is))
+      ] refl not_below
 
   pub left_out : (low : Bytes) → is_from low (key_in rest) ≡ false → entries_from (entries_in n rest) low ≡ entries_from (entries_in (n - 1) (drop (width_in rest) rest)) low
   unfolding entry_in

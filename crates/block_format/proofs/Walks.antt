@@ -11,6 +11,7 @@ use Rattle.entry_model.specs.Newest.{lookup}
 use Rattle.entry_model.specs.Reading.{entry_in, key_in, width_in}
 use Rattle.byte_fields.specs.Faults.{Fault, fault, refuse}
 use Rattle.block_model.specs.Order.{is_above, is_any}
+use Rattle.block_model.proofs.Refusals.{neither}
 
 module _ (n place : ℕ) (test : Bytes → Bool) (rest : Bytes) (some : 0 < n) where
   one_more : n ≡ suc (n - 1)
@@ -56,6 +57,16 @@ no_fault bytes used count some is counted head entries tail =
     ∙ ap (λ (f : Option Fault). option_or f (tail_fault bytes)) part
     ∙ tail
 
+pub entries_broken : (bytes : Bytes) (used count : ℕ) (f : Fault) → 16 ≤ used → used ≡ used_in bytes → count ≡ count_in bytes
+    → header_fault bytes ≡ None → entries_fault count 8 is_any (take (used - 8) (drop 8 bytes)) ≡ Some f
+    → block_fault bytes ≡ Some f
+unfolding block_fault
+entries_broken bytes used count f some is counted head broken =
+    let part : entries_fault (count_in bytes) 8 is_any (entries_part bytes) ≡ Some f =
+    ap₂ (λ (n : ℕ) (l : Bytes). entries_fault n 8 is_any l) (sym counted) (sym (part_is bytes used some is)) ∙ broken in
+    ap (λ (g : Option Fault). option_or g (option_or (entries_fault (count_in bytes) 8 is_any (entries_part bytes)) (tail_fault bytes))) head
+    ∙ ap (λ (g : Option Fault). option_or g (tail_fault bytes)) part
+
 pub tail_broken : (bytes : Bytes) (used count : ℕ) (f : Fault) → 16 ≤ used → used ≡ used_in bytes → count ≡ count_in bytes
     → header_fault bytes ≡ None → entries_fault count 8 is_any (take (used - 8) (drop 8 bytes)) ≡ None → tail_fault bytes ≡ Some f
     → block_fault bytes ≡ Some f
@@ -66,6 +77,18 @@ tail_broken bytes used count f some is counted head entries tail =
     ap (λ (g : Option Fault). option_or g (option_or (entries_fault (count_in bytes) 8 is_any (entries_part bytes)) (tail_fault bytes))) head
     ∙ ap (λ (g : Option Fault). option_or g (tail_fault bytes)) part
     ∙ tail
+
+-- of a block that breaks no rule neither its header nor its entries do
+pub head_none : (bytes : Bytes) → block_fault bytes ≡ None → header_fault bytes ≡ None
+unfolding block_fault
+head_none bytes none = (neither (header_fault bytes) _ none).0
+
+pub entries_none : (bytes : Bytes) (used count : ℕ) → 16 ≤ used → used ≡ used_in bytes → count ≡ count_in bytes → block_fault bytes ≡ None
+    → entries_fault count 8 is_any (take (used - 8) (drop 8 bytes)) ≡ None
+unfolding block_fault
+entries_none bytes used count some is counted none =
+    ap₂ (λ (n : ℕ) (l : Bytes). entries_fault n 8 is_any l) counted (part_is bytes used some is)
+    ∙ (neither (entries_fault (count_in bytes) 8 is_any (entries_part bytes)) (tail_fault bytes) (neither (header_fault bytes) _ none).1).0
 
 -- ---- what entries say of a key, the first of them first
 

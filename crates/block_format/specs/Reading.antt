@@ -1,8 +1,9 @@
 -- What a reader of blocks asks of a key, and what it says of a fault.
-use Rattle.std.specs.Prelude.{◌≡◌, ◌≤◌, ℕ, zero, suc, Bool, true, Option, Some, None, length, drop}
+use Rattle.std.specs.Prelude.{◌≡◌, ◌≤◌, ℕ, zero, suc, Bool, true, false, [], Option, Some, None, length, drop}
 use Rattle.map_model.specs.SortedMap.{Bytes}
 use Rattle.entry_model.specs.Reading.{key_in, width_in}
 use Rattle.byte_fields.specs.Faults.{Fault, fault}
+use Rattle.byte_fields.specs.Sums.{fnv_of}
 use Rattle.block_model.specs.Order.{is_above, is_any}
 use Rattle.block_format.specs.declared.fault.BlockFault.{BlockFault}
 
@@ -19,3 +20,8 @@ seen found = fault found.place found.rule
 abbrev pub Stand : ℕ → (Bytes → Bool) → Bytes → Type 0
 Stand zero test rest = Unit {0}
 Stand (suc more) test rest = (width_in rest ≤ length rest) × (test (key_in rest) ≡ true) × Stand more (is_above (key_in rest)) (drop (width_in rest) rest)
+
+-- the sum of some bytes where it is wanted, else that of none
+abbrev pub sum_where : Bool → Bytes → ℕ
+sum_where true bytes = fnv_of bytes
+sum_where false bytes = fnv_of []

@@ -1,24 +1,25 @@
 //! A block: the entries that its bytes spell.
-ghost use Rattle.std.specs.Prelude.{◌≡◌, ◌≤◌, ◌<◌, ◌+◌, ◌-◌, ◌^◌, ◌==◌, true, false, not, slice_index, length, take, drop, Some, None, IfOk, IfErr, bytes_eq, if◌then◌else◌};
+ghost use Rattle.std.specs.Prelude.{◌≡◌, ◌≤◌, ◌<◌, ◌+◌, ◌++◌, ◌-◌, ◌^◌, ◌==◌, true, false, not, slice_index, length, take, drop, Some, None, IfOk, IfErr, bytes_eq, if◌then◌else◌};
 ghost use Rattle.entry_model.specs.Entries.{IsEntry};
 ghost use Rattle.std.specs.List.{AllByRecursion, position_or_len};
 ghost use Rattle.block_model.specs.BlockReading.{block_fault, block_in, count_in, entries_fault, entries_in, header_fault, tail_fault, used_in};
 ghost use Rattle.byte_fields.specs.Faults.{fault};
+ghost use Rattle.byte_fields.specs.Sums.{fnv_of};
+ghost use Rattle.map_model.specs.SortedMap.{Bytes};
 ghost use Rattle.block_model.specs.Order.{is_any};
 ghost use Rattle.std.specs.Option.{option_map, option_or};
 ghost use Rattle.entry_model.specs.Newest.{entries_from, lookup};
-ghost use Rattle.block_format.specs.Reading.{Stand, seen};
+ghost use Rattle.block_format.specs.Reading.{Stand, seen, sum_where};
 ghost use Rattle.block_format.specs.Spans.{StandsIn, kept_from, spanned};
 
 use crate::cursor::BlockCursor;
-use crate::entry::{EntryHere, WORD_BYTES, entry_here, first_entry};
+use crate::entry::{EntryHere, WORD_BYTES, entry_here, first_entry, is_below};
 use crate::fault::BlockFault;
 use crate::span::EntrySpan;
 use block_model::pages_for;
-use byte_fields::get_u32;
+use byte_fields::{Summer, get_u32};
 use byteorder::{BigEndian, ByteOrder};
-use key_base::{PAGE_BYTES, compare};
-use std::cmp::Ordering;
+use key_base::PAGE_BYTES;
 use std::marker::Model;
 
 /// The bytes before the first entry.
@@ -67,16 +68,17 @@ impl<'a> Block<'a> {
         ensures whole { IfOk result (λ _. block_fault bytes.now ≡ None) }
         ensures entries { IfOk result (λ b. b ≡ block_in bytes.now) }
     {
-        let (used, count) = judged(bytes)?;
-        let rest = &bytes[HEADER_BYTES..used];
+        let judged = judge(bytes, b"", false).1?;
+        let rest = &bytes[HEADER_BYTES..judged.used];
+        let count = judged.count;
         Ok(Block { rest, count })
     }
 
     /// What the block that these bytes spell says of a key, as [`Block::find`] does, or the first rule that they break, and
     /// where.
     ///
-    /// One pass over the bytes, in which they are judged and the key is looked for, and no memory.
-    #[tactic(auto, unfolding(block_model::specs::BlockReading::block_fault, block_model::specs::BlockReading::block_in, block_model::specs::BlockReading::entries_part))]
+    /// One pass over the bytes, in which they are judged and the key is looked for, and no memory. Where they were read just
+    /// now, [`Block::read_sum_and_find`] sums them in the same pass.
     pub fn read_and_find(
         bytes: &'a [u8],
         key: &[u8],
@@ -86,10 +88,28 @@ impl<'a> Block<'a> {
         ensures whole { IfOk result (λ _. block_fault bytes.now ≡ None) }
         ensures said { IfOk result (λ found. option_map (λ f. option_map (λ v. v.now) f) found ≡ lookup (block_in bytes.now) key.now) }
     {
-        let (used, count) = header(bytes)?;
-        let found = search(&bytes[HEADER_BYTES..used], count, key)?;
-        check_padding(bytes, used)?;
-        Ok(found)
+        Ok(judge(bytes, key, false).1?.found)
+    }
+
+    /// The sum of all these bytes, and what [`Block::read_and_find`] answers of them.
+    ///
+    /// One pass over the bytes, and no memory. A sum goes from byte to byte and keeps a processor waiting, which judges
+    /// meanwhile: the two take little longer than the sum alone.
+    pub fn read_sum_and_find(
+        bytes: &'a [u8],
+        key: &[u8],
+    ) -> (u64, Result<Option<Option<&'a [u8]>>, BlockFault>)
+        ensures sum { result.0 ≡ fnv_of bytes.now }
+        ensures broken { IfErr result.1 (λ found. block_fault bytes.now ≡ Some (seen found)) }
+        ensures place { IfErr result.1 (λ found. found.place ≤ length bytes.now) }
+        ensures whole { IfOk result.1 (λ _. block_fault bytes.now ≡ None) }
+        ensures said { IfOk result.1 (λ found. option_map (λ f. option_map (λ v. v.now) f) found ≡ lookup (block_in bytes.now) key.now) }
+    {
+        let (sum, judged) = judge(bytes, key, true);
+        match judged {
+            Ok(judged) => (sum, Ok(judged.found)),
+            Err(fault) => (sum, Err(fault)),
+        }
     }
 
     /// What the block says of a key: its value, or `Some(None)` for a tombstone. `None` where it has no such entry.
@@ -99,6 +119,20 @@ impl<'a> Block<'a> {
         ensures { option_map (λ found. option_map (λ v. v.now) found) result ≡ lookup self.now key.now }
     {
         find_in(self.rest, self.count, key)
+    }
+
+    /// What the block that these bytes spell says of a key, as [`Block::find`] does, where they are known to break no rule:
+    /// they were judged before.
+    ///
+    /// Judges the header alone, and goes from entry to entry, up to the first that is not below the key. No memory.
+    pub fn find_in_sound(bytes: &'a [u8], key: &[u8]) -> Option<Option<&'a [u8]>>
+        requires { block_fault bytes.now ≡ None }
+        ensures { option_map (λ found. option_map (λ v. v.now) found) result ≡ lookup (block_in bytes.now) key.now }
+    {
+        match header(bytes) {
+            Ok((used, count)) => find_in(&bytes[HEADER_BYTES..used], count, key),
+            Err(_) => None,
+        }
     }
 
     /// The entries from a key on, in order.
@@ -122,27 +156,82 @@ pub fn read_span(bytes: &[u8], low: Option<&[u8]>) -> Result<EntrySpan, BlockFau
     ensures some { low.entry ≡ None → IfOk result (λ span. 1 ≤ span.left) }
     ensures sound { IfOk result (λ span. AllByRecursion IsEntry (spanned span bytes.now)) }
 {
-    let (used, count) = judged(bytes)?;
-    let span = from_bound(&bytes[HEADER_BYTES..used], count, low);
-    Ok(behind_header(span))
+    let judged = judge(bytes, b"", false).1?;
+    Ok(from_judged(bytes, judged, low))
 }
 
-// The length that is used and the count of entries of a block that breaks no rule, or the first rule that it breaks.
-#[tactic(auto, unfolding(block_model::specs::BlockReading::block_fault, block_model::specs::BlockReading::block_in, block_model::specs::BlockReading::entries_part))]
-fn judged(bytes: &[u8]) -> Result<(usize, u8), BlockFault>
-    ensures broken { IfErr result (λ found. block_fault bytes.now ≡ Some (seen found)) }
-    ensures place { IfErr result (λ found. found.place ≤ length bytes.now) }
-    ensures whole { IfOk result (λ _. block_fault bytes.now ≡ None) }
-    ensures large { IfOk result (λ h. 8 ≤ h.0) }
-    ensures some { IfOk result (λ h. 1 ≤ h.1) }
-    ensures within { IfOk result (λ h. h.0 ≤ length bytes.now) }
-    ensures stand { IfOk result (λ h. Stand h.1 is_any (take (h.0 - 8) (drop 8 bytes.now))) }
-    ensures entries { IfOk result (λ h. entries_in h.1 (take (h.0 - 8) (drop 8 bytes.now)) ≡ block_in bytes.now) }
+/// The sum of all these bytes, and what [`read_span`] answers of them. One pass over the bytes, as by
+/// [`Block::read_sum_and_find`], and with a bound another up to it. No memory.
+pub fn read_sum_and_span(bytes: &[u8], low: Option<&[u8]>) -> (u64, Result<EntrySpan, BlockFault>)
+    ensures sum { result.0 ≡ fnv_of bytes.now }
+    ensures broken { IfErr result.1 (λ found. block_fault bytes.now ≡ Some (seen found)) }
+    ensures place { IfErr result.1 (λ found. found.place ≤ length bytes.now) }
+    ensures whole { IfOk result.1 (λ _. block_fault bytes.now ≡ None) }
+    ensures stands { IfOk result.1 (λ span. StandsIn span bytes.now) }
+    ensures entries { IfOk result.1 (λ span. spanned span bytes.now ≡ kept_from (option_map (λ k. k.now) low.entry) (block_in bytes.now)) }
+    ensures some { low.entry ≡ None → IfOk result.1 (λ span. 1 ≤ span.left) }
+    ensures sound { IfOk result.1 (λ span. AllByRecursion IsEntry (spanned span bytes.now)) }
 {
-    let (used, count) = header(bytes)?;
-    search(&bytes[HEADER_BYTES..used], count, b"")?;
-    check_padding(bytes, used)?;
-    Ok((used, count))
+    let (sum, judged) = judge(bytes, b"", true);
+    match judged {
+        Ok(judged) => (sum, Ok(from_judged(bytes, judged, low))),
+        Err(fault) => (sum, Err(fault)),
+    }
+}
+
+// A block that breaks no rule: the length that is used, the count of entries, and what they say of a key.
+#[derive(Clone, Copy)]
+struct Judged<'a> {
+    used: usize,
+    count: u8,
+    found: Option<Option<&'a [u8]>>,
+}
+
+// Where the entries of a block that breaks no rule stand, from a key on where there is a bound.
+fn from_judged(bytes: &[u8], judged: Judged<'_>, low: Option<&[u8]>) -> EntrySpan
+    requires whole { block_fault bytes.now ≡ None }
+    requires large { 8 ≤ judged.used }
+    requires within { judged.used ≤ length bytes.now }
+    requires some { 1 ≤ judged.count }
+    requires stand { Stand judged.count is_any (take (judged.used - 8) (drop 8 bytes.now)) }
+    requires entries { entries_in judged.count (take (judged.used - 8) (drop 8 bytes.now)) ≡ block_in bytes.now }
+    ensures stands { StandsIn result bytes.now }
+    ensures entries { spanned result bytes.now ≡ kept_from (option_map (λ k. k.now) low.entry) (block_in bytes.now) }
+    ensures some { low.entry ≡ None → 1 ≤ result.left }
+    ensures sound { AllByRecursion IsEntry (spanned result bytes.now) }
+{
+    let span = from_bound(&bytes[HEADER_BYTES..judged.used], judged.count, low);
+    behind_header(span)
+}
+
+// The sum of the bytes where it is wanted, and in the same pass the block that they spell, with what it says of a key, or the
+// first rule that they break.
+#[tactic(auto, unfolding(block_model::specs::BlockReading::block_fault, block_model::specs::BlockReading::block_in, block_model::specs::BlockReading::entries_part))]
+fn judge<'a>(bytes: &'a [u8], key: &[u8], summed: bool) -> (u64, Result<Judged<'a>, BlockFault>)
+    ensures sum { result.0 ≡ sum_where summed bytes.now }
+    ensures broken { IfErr result.1 (λ found. block_fault bytes.now ≡ Some (seen found)) }
+    ensures place { IfErr result.1 (λ found. found.place ≤ length bytes.now) }
+    ensures whole { IfOk result.1 (λ _. block_fault bytes.now ≡ None) }
+    ensures large { IfOk result.1 (λ b. 8 ≤ b.used) }
+    ensures some { IfOk result.1 (λ b. 1 ≤ b.count) }
+    ensures within { IfOk result.1 (λ b. b.used ≤ length bytes.now) }
+    ensures stand { IfOk result.1 (λ b. Stand b.count is_any (take (b.used - 8) (drop 8 bytes.now))) }
+    ensures entries { IfOk result.1 (λ b. entries_in b.count (take (b.used - 8) (drop 8 bytes.now)) ≡ block_in bytes.now) }
+    ensures said { IfOk result.1 (λ b. option_map (λ f. option_map (λ v. v.now) f) b.found ≡ lookup (block_in bytes.now) key.now) }
+{
+    match header(bytes) {
+        Ok((used, count)) => {
+            let (sum, found) = search(bytes, used, count, key, summed);
+            match found {
+                Ok(found) => match check_padding(bytes, used) {
+                    Ok(()) => (sum, Ok(Judged { used, count, found })),
+                    Err(fault) => (sum, Err(fault)),
+                },
+                Err(fault) => (sum, Err(fault)),
+            }
+        }
+        Err(fault) => (sum_of(bytes, summed), Err(fault)),
+    }
 }
 
 // The length that is used and the count of entries.
@@ -199,33 +288,72 @@ fn zero_at(bytes: &[u8], place: usize) -> Result<(), BlockFault>
     Ok(())
 }
 
-// What so many entries say of a key, where they keep each rule and fill these bytes.
+// The sum of a block's bytes where it is wanted, and what so many entries say of a key, where they keep each rule and fill the
+// bytes behind the header up to the length that is used.
+//
+// Each entry's bytes go into the sum where the entry is judged, as long as a processor looks ahead from the one to the other.
 fn search<'a>(
-    bytes: &'a [u8],
+    whole: &'a [u8],
+    used: usize,
     count: u8,
     key: &[u8],
-) -> Result<Option<Option<&'a [u8]>>, BlockFault>
-    ensures broken { IfErr result (λ found. entries_fault count 8 is_any bytes.now ≡ Some (seen found)) }
-    ensures place { IfErr result (λ found. found.place ≤ 8 + length bytes.now) }
-    ensures whole { IfOk result (λ _. entries_fault count 8 is_any bytes.now ≡ None) }
-    ensures said { IfOk result (λ found. option_map (λ f. option_map (λ v. v.now) f) found ≡ lookup (entries_in count bytes.now) key.now) }
+    summed: bool,
+) -> (u64, Result<Option<Option<&'a [u8]>>, BlockFault>)
+    requires large { 8 ≤ used }
+    requires within { used ≤ length whole.now }
+    ensures sum { result.0 ≡ sum_where summed whole.now }
+    ensures broken { IfErr result.1 (λ found. entries_fault count 8 is_any (take (used - 8) (drop 8 whole.now)) ≡ Some (seen found)) }
+    ensures place { IfErr result.1 (λ found. found.place ≤ length whole.now) }
+    ensures whole { IfOk result.1 (λ _. entries_fault count 8 is_any (take (used - 8) (drop 8 whole.now)) ≡ None) }
+    ensures said { IfOk result.1 (λ found. option_map (λ f. option_map (λ v. v.now) f) found ≡ lookup (entries_in count (take (used - 8) (drop 8 whole.now))) key.now) }
 {
+    let bytes = &whole[HEADER_BYTES..used];
+    let mut summer = Summer::new();
+    feed(&mut summer, &whole[..HEADER_BYTES], summed);
     let mut at = 0;
     let mut before = None;
     let mut found = None;
     for i in 0..count {
-        let row = first_entry(&bytes[at..], HEADER_BYTES + at, before)?;
+        let row = match first_entry(&bytes[at..], HEADER_BYTES + at, before) {
+            Ok(row) => row,
+            Err(fault) => {
+                feed(&mut summer, &whole[HEADER_BYTES + at..], summed);
+                return (summer.value(), Err(fault));
+            }
+        };
+        let from = HEADER_BYTES + at;
+        feed(&mut summer, &whole[from..from + row.width], summed);
         found = first_said(found, row, key);
         before = Some(row.key);
         at += row.width;
     }
+    feed(&mut summer, &whole[HEADER_BYTES + at..], summed);
     if at < bytes.len() {
-        return Err(BlockFault {
+        let fault = BlockFault {
             place: HEADER_BYTES + at,
             rule: BYTES_LEFT,
-        });
+        };
+        return (summer.value(), Err(fault));
     }
-    Ok(found)
+    (summer.value(), Ok(found))
+}
+
+// Goes on with a sum, where it is wanted.
+fn feed(summer: &mut Summer, bytes: &[u8], summed: bool)
+    ensures { (fed : Bytes) → summer.old ≡ sum_where summed fed → summer.new ≡ sum_where summed (fed ++ bytes.now) }
+{
+    if summed {
+        summer.feed(bytes);
+    }
+}
+
+// The sum of some bytes, where it is wanted.
+fn sum_of(bytes: &[u8], summed: bool) -> u64
+    ensures { result ≡ sum_where summed bytes.now }
+{
+    let mut summer = Summer::new();
+    feed(&mut summer, bytes, summed);
+    summer.value()
 }
 
 // What was found before, else what this entry says of the key.
@@ -295,7 +423,7 @@ fn behind_zeros(bytes: &[u8], from: usize) -> usize
     from + WORD_BYTES * words
 }
 
-// What so many entries say of a key.
+// What so many entries say of a key. Those whose keys are below it are passed by; the next one has it, or none has.
 fn find_in<'a>(bytes: &'a [u8], count: u8, key: &[u8]) -> Option<Option<&'a [u8]>>
     requires { Stand count is_any bytes.now }
     ensures { option_map (λ found. option_map (λ v. v.now) found) result ≡ lookup (entries_in count bytes.now) key.now }
@@ -303,11 +431,10 @@ fn find_in<'a>(bytes: &'a [u8], count: u8, key: &[u8]) -> Option<Option<&'a [u8]
     let mut at = 0;
     for i in 0..count {
         let row = entry_here(&bytes[at..]);
-        match compare(row.key, key) {
-            Ordering::Less => at += row.width,
-            Ordering::Equal => return Some(row.value),
-            Ordering::Greater => return None,
+        if !is_below(row.key, key) {
+            return first_said(None, row, key);
         }
+        at += row.width;
     }
     None
 }
@@ -323,7 +450,7 @@ fn seek_in(bytes: &[u8], count: u8, low: &[u8]) -> EntrySpan
     let mut at = 0;
     for i in 0..count {
         let row = entry_here(&bytes[at..]);
-        if compare(row.key, low).is_ge() {
+        if !is_below(row.key, low) {
             let left = count - i;
             return EntrySpan { at, end, left };
         }

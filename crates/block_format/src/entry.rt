@@ -128,8 +128,8 @@ fn is_above(before: Option<&[u8]>, key: &[u8]) -> bool
     }
 }
 
-// Whether a key is below another one, as `compare` says; eight bytes of each are compared at a time, as two numbers.
-fn is_below(low: &[u8], high: &[u8]) -> bool
+/// Whether a key is below another one, as `compare` says; eight bytes of each are compared at a time, as two numbers.
+pub(crate) fn is_below(low: &[u8], high: &[u8]) -> bool
     ensures { result ≡ is_above low.now high.now }
 {
     let words = low.len().min(high.len()) / WORD_BYTES;

@@ -8,6 +8,9 @@
 //! Whoever keeps the bytes of a block and cannot keep a cursor that borrows them asks [`read_span`] where the entries
 //! stand, and takes them one by one with [`EntrySpan::next`].
 //!
+//! Bytes that were read just now are also to be summed: [`read_sum_and_span`] and [`Block::read_sum_and_find`] do it in the
+//! pass that judges them.
+//!
 //! Finding goes from entry to entry, since entries have no index: half a page at the mean. Not for tables as a whole.
 //!
 //! ```text
@@ -25,7 +28,7 @@ mod entry;
 mod fault;
 mod span;
 
-pub use block::{Block, read_span};
+pub use block::{Block, read_span, read_sum_and_span};
 pub use builder::BlockBuilder;
 pub use cursor::BlockCursor;
 pub use fault::BlockFault;

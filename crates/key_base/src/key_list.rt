@@ -1,5 +1,5 @@
 //! A list of keys.
-ghost use Rattle.std.specs.Prelude.{◌≡◌, ◌<◌, ◌==◌, List, [], ◌∷◌, ◌++◌, length, slice_index_or, OnOk, OnErr};
+ghost use Rattle.std.specs.Prelude.{◌≡◌, ◌≤◌, ◌<◌, ◌==◌, List, [], ◌∷◌, ◌++◌, length, take, slice_index_or, OnOk, OnErr};
 
 use std::alloc::{AllocError, Global};
 use std::marker::Model;
@@ -7,15 +7,20 @@ use std::marker::Model;
 /// A list of byte strings, in the order in which they were pushed.
 #[derive(Drop)]
 pub struct KeyList {
-    keys: Vec<Vec<u8>>,
+    // the keys, one behind the other, and where each of them ends
+    bytes: Vec<u8>,
+    ends: Vec<usize>,
 }
 
 impl Model for KeyList {
-    ghost use Rattle.std.specs.Prelude.{ℕ, List, map};
+    ghost use Rattle.std.specs.Prelude.{ℕ, List, length};
+    ghost use Rattle.key_base.specs.KeyLists.{AreEnds, keys_in};
 
     ghost Value = { List (List ℕ) };
 
-    ghost view = { λ list. map (λ key. key.items) list.keys.items };
+    ghost view = { λ list. keys_in 0 list.ends.items list.bytes.items };
+
+    ghost invariant = { λ list. AreEnds 0 list.ends.items (length list.bytes.items) };
 }
 
 impl KeyList {
@@ -24,7 +29,8 @@ impl KeyList {
         ensures { result ≡ [] }
     {
         KeyList {
-            keys: Vec::new(alloc),
+            bytes: Vec::new(alloc),
+            ends: Vec::new(alloc),
         }
     }
 
@@ -33,9 +39,20 @@ impl KeyList {
         ensures added { OnOk result (self.new ≡ self.old ++ key.now ∷ []) }
         ensures unchanged { OnErr result (self.new ≡ self.old) }
     {
-        let key = Vec::from_slice(*self.keys.allocator(), key)?;
-        self.keys.push(key)?;
+        self.ends.reserve(1)?;
+        self.bytes.extend_from_slice(key)?;
+        self.ends.push_reserved(self.bytes.len());
         Ok(())
+    }
+
+    /// Keeps the first `n` keys. No memory.
+    pub fn truncate(&mut self, n: usize)
+        requires { n ≤ length self.old }
+        ensures { self.new ≡ take n self.old }
+    {
+        let end = end_of(self.ends.as_slice(), n);
+        self.ends.truncate(n);
+        self.bytes.truncate(end);
     }
 
     /// The key number `i`, from 0.
@@ -43,20 +60,30 @@ impl KeyList {
         requires { i < length self.now }
         ensures { result.now ≡ slice_index_or self.now i [] }
     {
-        self.keys[i].as_slice()
+        let bytes = self.bytes.as_slice();
+        let from = end_of(self.ends.as_slice(), i);
+        &bytes[from..self.ends[i]]
     }
 
     /// How many keys the list has.
     pub fn len(&self) -> usize
         ensures { result ≡ length self.now }
     {
-        self.keys.len()
+        self.ends.len()
     }
 
     /// Whether the list has no key.
     pub fn is_empty(&self) -> bool
         ensures { result ≡ (length self.now == 0) }
     {
-        self.keys.is_empty()
+        self.ends.is_empty()
     }
+}
+
+// Where the first `n` keys end.
+fn end_of(ends: &[usize], n: usize) -> usize
+    requires { n ≤ length ends.now }
+    ensures { result ≡ slice_index_or (0 ∷ ends.now) n 0 }
+{
+    if n == 0 { 0 } else { ends[n - 1] }
 }

@@ -1,8 +1,9 @@
 //! Byte strings and their order, the longest common prefix, lists of keys, and the limits of the store.
 //!
 //! Byte strings compare byte by byte, a proper prefix first. The definitions of the order and of the limits stand in
-//! `specs/`. [`compare`] and [`shared`] read as many bytes as the two have alike. A [`KeyList`] keeps each key in memory
-//! of its own; it is a list to build from. Do not use it as an index: finding a key in it is the caller's loop.
+//! `specs/`. [`compare`] and [`shared`] read as many bytes as the two have alike. A [`KeyList`] keeps all its keys
+//! in one piece of memory, and where each ends; it is a list to build from. Do not use it as an index: finding a key in
+//! it is the caller's loop.
 //!
 //! ```text
 //! let mut keys = KeyList::new(alloc);

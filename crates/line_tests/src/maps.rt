@@ -82,6 +82,14 @@ fn keys_stand_in_the_order_of_pushing(rt: HostRuntime) -> Result<(), Fail> {
     keys.push(b"")?;
     assert!(rt; keys.len() == 2);
     assert_eq!(rt; keys.get(0), b"far".as_slice());
+    keys.push(b"fast")?;
+    assert_eq!(rt; keys.get(2), b"fast".as_slice());
+    keys.truncate(1);
+    keys.push(b"toy")?;
+    assert!(rt; keys.len() == 2);
+    assert_eq!(rt; keys.get(1), b"toy".as_slice());
+    keys.truncate(0);
+    assert!(rt; keys.is_empty());
     Ok(())
 }
 

@@ -1,8 +1,7 @@
 -- How the blocks of a builder grow.
 use Rattle.std.proofs.Common.{◌≡◌, ◌≤◌, ◌<◌, ◌+◌, ◌*◌, ◌-◌, ◌^◌, ℕ, Bool, true, false, cond, List, [], ◌∷◌, ◌++◌, length, take, drop, refl, sym, ap, ap₂, ◌∙◌, subst, arith, append_assoc, length-append}
-use Rattle.std.specs.Prelude.{◌||◌, map, flat_map, sum_by, vec_items}
+use Rattle.std.specs.Prelude.{◌||◌, map, flat_map, sum_by}
 use Rattle.std.specs.List.{AllByRecursion}
-use Rattle.std.proofs.Common.{Vec}
 use Rattle.std.proofs.lemmas.Grind.{flat_map-append}
 use Rattle.std.proofs.lemmas.List.{append-nil, drop_at, map-append, take_at}
 use Rattle.std.proofs.lemmas.List.Sums.{sum_by-append, sum_by-cons}
@@ -20,7 +19,7 @@ use Rattle.block_model.proofs.Cutting.{all_append, blocks_are_sound, blocks_step
 use Rattle.block_model.proofs.EntriesRead.{eqb_zero}
 use Rattle.block_model.proofs.Lengths.{block_fills, blocks_fill}
 use Rattle.block_format.specs.Building.{takes}
-use Rattle.table_file.specs.BlockRows.{StandFrom, rows_seen}
+use Rattle.table_file.specs.BlockRows.{StandFrom, rows_seen, unsummed_row_of}
 use Rattle.table_file.specs.Building.{Holds, closed_in, entries_with, with_open}
 use Rattle.table_file.specs.declared.block_row.BlockRow.{BlockRow}
 
@@ -30,21 +29,29 @@ row_pages_are : (block : List Entry) → (index_row_of block).pages ≡ block_pa
 unfolding index_row_of
 row_pages_are block = refl
 
-pub closed_again : (blocks : List (List Entry)) → AllByRecursion IsBlock blocks → closed_in (map index_row_of blocks) (flat_map block_bytes blocks) ≡ blocks
-closed_again [] all = refl
-closed_again (b ∷ more) all =
-    let n = 4096 * (index_row_of b).pages in
+rows_again : (row_of : List Entry → IndexRow) → ((b : List Entry) → (row_of b).pages ≡ block_pages b) → (blocks : List (List Entry)) → AllByRecursion IsBlock blocks
+    → closed_in (map row_of blocks) (flat_map block_bytes blocks) ≡ blocks
+rows_again row_of pages [] all = refl
+rows_again row_of pages (b ∷ more) all =
+    let n = 4096 * (row_of b).pages in
     let rest = flat_map block_bytes more in
-    let long : length (block_bytes b) ≡ n = block_fills b ∙ ap (λ (k : ℕ). 4096 * k) (sym (row_pages_are b)) in
+    let long : length (block_bytes b) ≡ n = block_fills b ∙ ap (λ (k : ℕ). 4096 * k) (sym (pages b)) in
     let front : take n (block_bytes b ++ rest) ≡ block_bytes b = take_at (block_bytes b) rest n long in
     let back : drop n (block_bytes b ++ rest) ≡ rest = drop_at (block_bytes b) rest n long in
-    ap₂ (λ (x y : Bytes). block_in x ∷ closed_in (map index_row_of more) y) front back
-    ∙ ap₂ (λ (x : List Entry) (xs : List (List Entry)). x ∷ xs) (block_again b all.0).1 (closed_again more all.1)
+    ap₂ (λ (x y : Bytes). block_in x ∷ closed_in (map row_of more) y) front back
+    ∙ ap₂ (λ (x : List Entry) (xs : List (List Entry)). x ∷ xs) (block_again b all.0).1 (rows_again row_of pages more all.1)
 
-pub rows_pages : (blocks : List (List Entry)) → row_pages (map index_row_of blocks) ≡ sum_by block_pages blocks
+-- before they are summed, and then
+closed_again : (blocks : List (List Entry)) → AllByRecursion IsBlock blocks → closed_in (map unsummed_row_of blocks) (flat_map block_bytes blocks) ≡ blocks
+closed_again = rows_again unsummed_row_of (λ b. refl)
+
+summed_again : (blocks : List (List Entry)) → AllByRecursion IsBlock blocks → closed_in (map index_row_of blocks) (flat_map block_bytes blocks) ≡ blocks
+summed_again = rows_again index_row_of row_pages_are
+
+pub rows_pages : (blocks : List (List Entry)) → row_pages (map unsummed_row_of blocks) ≡ sum_by block_pages blocks
 rows_pages [] = refl
 rows_pages (b ∷ more) =
-    omega (arith, sum_by-cons (λ (r : IndexRow). r.pages) (index_row_of b) (map index_row_of more), sum_by-cons block_pages b more, row_pages_are b, rows_pages more)
+    omega (arith, sum_by-cons (λ (r : IndexRow). r.pages) (unsummed_row_of b) (map unsummed_row_of more), sum_by-cons block_pages b more, rows_pages more)
 
 -- ---- an entry more
 
@@ -151,10 +158,10 @@ module _ (closed : List (List Entry)) (bytes : Bytes) (rows : List IndexRow) (la
     pub in_next : entries_with (closed ++ last ∷ []) (e ∷ []) ≡ all ++ e ∷ []
     in_next = ap (λ (es : List Entry). es ++ e ∷ []) (joined_more closed last)
 
-    pub holds_behind : takes last e ≡ false → Holds (closed ++ last ∷ []) (bytes ++ block_bytes last) (rows ++ index_row_of last ∷ []) (e ∷ []) (keys ++ e.key ∷ [])
+    pub holds_behind : takes last e ≡ false → Holds (closed ++ last ∷ []) (bytes ++ block_bytes last) (rows ++ unsummed_row_of last ∷ []) (e ∷ []) (keys ++ e.key ∷ [])
     holds_behind room = record {
       bytes_are = flat_map-append block_bytes closed (last ∷ []) ∙ ap₂ (λ (x y : Bytes). x ++ y) holds.bytes_are (append-nil (block_bytes last));
-      rows_are = map-append index_row_of closed (last ∷ []) ∙ ap (λ (rs : List IndexRow). rs ++ index_row_of last ∷ []) holds.rows_are;
+      rows_are = map-append unsummed_row_of closed (last ∷ []) ∙ ap (λ (rs : List IndexRow). rs ++ unsummed_row_of last ∷ []) holds.rows_are;
       keys_are = ap keys_of in_next ∙ more_keys;
       cut = ap blocks_of in_next ∙ blocks_step all e ∙ ap (λ (bs : List (List Entry)). blocks_with bs e) holds.cut ∙ behind closed last e room;
       each = all_append IsBlock closed (last ∷ []) holds.each (open_is (some_open last e room), tt);
@@ -174,22 +181,27 @@ module _ (closed : List (List Entry)) (bytes : Bytes) (rows : List IndexRow) (la
         (as_read closed bytes rows (last ++ e ∷ []) (keys ++ e.key ∷ []) (all ++ e ∷ []) (holds_in_place room) in_open))
 
     pub built_behind : takes last e ≡ false → (d : Bytes) (r : List IndexRow) (o : List Entry) (k : List Bytes)
-        → d ≡ bytes ++ block_bytes last → r ≡ rows ++ index_row_of last ∷ [] → o ≡ e ∷ [] → k ≡ keys ++ e.key ∷ [] → IsBuilt (all ++ e ∷ []) d r o k
+        → d ≡ bytes ++ block_bytes last → r ≡ rows ++ unsummed_row_of last ∷ [] → o ≡ e ∷ [] → k ≡ keys ++ e.key ∷ [] → IsBuilt (all ++ e ∷ []) d r o k
     built_behind room d r o k d_is r_is o_is k_is =
         subst (λ (x : Bytes). IsBuilt (all ++ e ∷ []) x r o k) (sym d_is)
         (subst (λ (x : List IndexRow). IsBuilt (all ++ e ∷ []) (bytes ++ block_bytes last) x o k) (sym r_is)
-        (subst (λ (x : List Entry). IsBuilt (all ++ e ∷ []) (bytes ++ block_bytes last) (rows ++ index_row_of last ∷ []) x k) (sym o_is)
-        (subst (λ (x : List Bytes). IsBuilt (all ++ e ∷ []) (bytes ++ block_bytes last) (rows ++ index_row_of last ∷ []) (e ∷ []) x) (sym k_is)
-        (as_read (closed ++ last ∷ []) (bytes ++ block_bytes last) (rows ++ index_row_of last ∷ []) (e ∷ []) (keys ++ e.key ∷ []) (all ++ e ∷ []) (holds_behind room) in_next))))
+        (subst (λ (x : List Entry). IsBuilt (all ++ e ∷ []) (bytes ++ block_bytes last) (rows ++ unsummed_row_of last ∷ []) x k) (sym o_is)
+        (subst (λ (x : List Bytes). IsBuilt (all ++ e ∷ []) (bytes ++ block_bytes last) (rows ++ unsummed_row_of last ∷ []) (e ∷ []) x) (sym k_is)
+        (as_read (closed ++ last ∷ []) (bytes ++ block_bytes last) (rows ++ unsummed_row_of last ∷ []) (e ∷ []) (keys ++ e.key ∷ []) (all ++ e ∷ []) (holds_behind room) in_next))))
 
   -- the blocks when the open one is closed too
-  pub holds_closed : 0 < length last → (flat_map block_bytes (closed ++ last ∷ []) ≡ bytes ++ block_bytes last) × (map index_row_of (closed ++ last ∷ []) ≡ rows ++ index_row_of last ∷ [])
+  pub holds_closed : 0 < length last → (flat_map block_bytes (closed ++ last ∷ []) ≡ bytes ++ block_bytes last) × (map unsummed_row_of (closed ++ last ∷ []) ≡ rows ++ unsummed_row_of last ∷ [])
       × (closed_in (map index_row_of (closed ++ last ∷ [])) (flat_map block_bytes (closed ++ last ∷ [])) ≡ closed ++ last ∷ [])
   holds_closed some = (
     flat_map-append block_bytes closed (last ∷ []) ∙ ap₂ (λ (x y : Bytes). x ++ y) holds.bytes_are (append-nil (block_bytes last)),
-    map-append index_row_of closed (last ∷ []) ∙ ap (λ (rs : List IndexRow). rs ++ index_row_of last ∷ []) holds.rows_are,
-    closed_again (closed ++ last ∷ []) (all_append IsBlock closed (last ∷ []) holds.each (open_is some, tt)),
+    map-append unsummed_row_of closed (last ∷ []) ∙ ap (λ (rs : List IndexRow). rs ++ unsummed_row_of last ∷ []) holds.rows_are,
+    summed_again (closed ++ last ∷ []) (all_append IsBlock closed (last ∷ []) holds.each (open_is some, tt)),
   )
+
+  pub closed_long : 0 < length last → length (bytes ++ block_bytes last) ≡ 4096 * row_pages (rows ++ unsummed_row_of last ∷ [])
+  closed_long some =
+      let closing = holds_closed some in
+      omega (arith, ap length closing.0, ap row_pages closing.1, blocks_fill (closed ++ last ∷ []), rows_pages (closed ++ last ∷ []))
 
   -- ---- the pages so far
 
@@ -215,11 +227,6 @@ are_more entries e are is few = record { each = all_append IsEntry entries (e �
 
 pub few_pages : (block : List Entry) → IsBlock block → block_pages block ≤ 17
 few_pages block is = pages_bound block (record { each = is.each; some = is.some; few = is.few; small = is.small })
-
-pub keys_pushed : {X : Type 0} (keys : List (Vec ℕ X)) (key : Vec ℕ X) (bytes : Bytes) (more : List (Vec ℕ X)) → more ≡ keys ++ key ∷ [] → key.items ≡ bytes
-    → map vec_items more ≡ map vec_items keys ++ bytes ∷ []
-keys_pushed keys key bytes more pushed is =
-    ap (map vec_items) pushed ∙ map-append vec_items keys (key ∷ []) ∙ ap (λ (k : Bytes). map vec_items keys ++ k ∷ []) is
 
 -- ---- none yet
 

@@ -7,7 +7,7 @@ use Rattle.std.specs.Ordering.{is_lt}
 use Rattle.std.specs.declared.cmp.Ordering.{Ordering}
 use Rattle.std.specs.declared.cmp.Ordering.TheVariants.{Less, Equal, Greater}
 use Rattle.std.proofs.Math.ListN.{get_or-map}
-use Rattle.std.proofs.lemmas.List.{length-map}
+use Rattle.std.proofs.lemmas.List.{get_or_append_left, length-map}
 use Rattle.std.proofs.lemmas.List.Elements.{All-from_recursion}
 use Rattle.std.proofs.lemmas.List.Kept.{AllPairs-cons}
 use Rattle.filter_model.proofs.Pairs.{AllPairs-nil}
@@ -65,16 +65,24 @@ last_append (x ∷ []) (b ∷ back) some = refl
 last_append (x ∷ y ∷ more) back some = last_append (y ∷ more) back some
 
 -- the last of all keys is that of the entries at the end
-pub last_is : {X : Type 0} (v : X → Bytes) (front back : List Entry) (keys : List X) (d : X) → 0 < length back → keys_of (front ++ back) ≡ map v keys
-    → v (get_or keys (length keys - 1) d) ≡ last_key back
-last_is v front back keys d some same =
+pub last_is : (front back : List Entry) (keys : List Bytes) → 0 < length back → keys_of (front ++ back) ≡ keys → get_or keys (length keys - 1) [] ≡ last_key back
+last_is front back keys some same =
     let all = front ++ back in
-    let e : Entry = record { key = v d; value = None } in
-    let many : length keys ≡ length all = omega (arith, length-map keys v, ap length same, length-map all (λ (x : Entry). x.key)) in
+    let e : Entry = record { key = []; value = None } in
+    let many : length keys ≡ length all = omega (arith, ap length same, length-map all (λ (x : Entry). x.key)) in
     let last : length all - 1 ≡ length keys - 1 = omega (arith, many) in
-    sym (get_or-map v keys (length keys - 1) d)
-    ∙ ap (λ (ks : List Bytes). get_or ks (length keys - 1) (v d)) (sym same)
+    ap (λ (ks : List Bytes). get_or ks (length keys - 1) []) (sym same)
     ∙ get_or-map (λ (x : Entry). x.key) all (length keys - 1) e
     ∙ ap (λ (n : ℕ). (get_or all n e).key) (sym last)
     ∙ sym (last_key_at all e (omega (arith, length-append front back, some)))
     ∙ last_append front back some
+
+-- and so it is where another key follows
+pub last_before : (front back : List Entry) (keys more : List Bytes) (key : Bytes) (n : ℕ) → 0 < length back → keys_of (front ++ back) ≡ keys → n ≡ length keys → more ≡ keys ++ key ∷ []
+    → get_or more (n - 1) [] ≡ last_key back
+last_before front back keys more key n some same n_is pushed =
+    let filled : 0 < length keys = omega (arith, some, ap length same, length-map (front ++ back) (λ (x : Entry). x.key), length-append front back) in
+    ap (λ (ks : List Bytes). get_or ks (n - 1) []) pushed
+    ∙ get_or_append_left keys (key ∷ []) [] (n - 1) (omega (arith, filled, n_is))
+    ∙ ap (λ (m : ℕ). get_or keys (m - 1) []) n_is
+    ∙ last_is front back keys some same

@@ -1,4 +1,5 @@
 mod Keys
+mod BlockSums
 mod Builders
 mod Helds
 mod IndexWalks

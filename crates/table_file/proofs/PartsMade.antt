@@ -1,6 +1,7 @@
 -- The parts of a table: how long they are, and their row.
 use Rattle.std.proofs.Common.{◌≡◌, ◌<◌, ◌+◌, ◌*◌, ◌/◌, ℕ, List, [], ◌∷◌, ◌++◌, length, refl, sym, ap, ap₂, ◌∙◌, subst, arith}
 use Rattle.std.specs.Prelude.{map, flat_map, slice_index_or}
+use Rattle.std.proofs.lemmas.List.{length-map}
 use Rattle.byte_fields.specs.Sums.{fnv_of}
 use Rattle.byte_fields.specs.declared.parts.Row.{Row}
 use Rattle.filter_api.specs.Spellings.{Spelling}
@@ -19,7 +20,9 @@ use Rattle.table_model.specs.Tables.{filter_bytes_of, table_pages}
 use Rattle.table_model.specs.Written.{row_for}
 use Rattle.table_file.specs.Building.{Holds, closed_in, entries_with}
 use Rattle.table_file.specs.Parts.{ArePartsOf}
+use Rattle.table_file.specs.BlockRows.{summed_all, unsummed_row_of}
 use Rattle.table_file.proofs.Builders.{holds_closed, is_table, opened}
+use Rattle.table_file.proofs.BlockSums.{all_summed}
 
 module _ (spelling : Spelling) (built_cutoff : ℕ → List Leaf → ℕ) (settings : Settings) (entries : List Entry) (count : ℕ) (blocks : Bytes) (index : Index) (index_part : Bytes)
     (filter : Filter) (filter_part : Bytes) (parts : ArePartsOf spelling built_cutoff settings entries count blocks index index_part filter filter_part) where
@@ -98,12 +101,13 @@ module _ (closed : List (List Entry)) (bytes : Bytes) (rows : List IndexRow) (la
   cut : blocks_of (entries_with closed last) ≡ closed ++ last ∷ []
   cut = holds.cut ∙ opened closed last some_last
 
-  pub finished : (r : List IndexRow) (d : Bytes) → d ≡ bytes ++ block_bytes last → r ≡ rows ++ index_row_of last ∷ [] → IsFinished (entries_with closed last) r d
+  pub finished : (r : List IndexRow) (d : Bytes) → d ≡ bytes ++ block_bytes last → r ≡ summed_all (rows ++ unsummed_row_of last ∷ []) d → IsFinished (entries_with closed last) r d
   unfolding data_bytes index_of
   finished r d d_is r_is =
       let closing = holds_closed closed bytes rows last keys holds some_last in
       let bytes_are : d ≡ flat_map block_bytes (closed ++ last ∷ []) = d_is ∙ sym closing.0 in
-      let rows_are : r ≡ map index_row_of (closed ++ last ∷ []) = r_is ∙ sym closing.1 in
+      let rows_are : r ≡ map index_row_of (closed ++ last ∷ []) =
+      r_is ∙ ap₂ summed_all (sym closing.1) bytes_are ∙ all_summed (length (map unsummed_row_of (closed ++ last ∷ []))) (closed ++ last ∷ []) (length-map (closed ++ last ∷ []) unsummed_row_of) in
       record {
         entries_are = ap₂ (λ (x : List IndexRow) (y : Bytes). joined (closed_in x y)) rows_are bytes_are ∙ ap joined closing.2 ∙ ap joined (sym cut) ∙ blocks_joined (entries_with closed last);
         bytes_are = bytes_are ∙ ap (flat_map block_bytes) (sym cut);
@@ -139,7 +143,7 @@ pub record AreMade (entries : List Entry) (bytes : Bytes) (index : Index) (keys 
   pub keys_are : keys ≡ keys_of entries
 
 pub all_made : (closed : List (List Entry)) (bytes : Bytes) (rows : List IndexRow) (last : List Entry) (keys : List Bytes) → Holds closed bytes rows last keys
-    → 0 < length (entries_with closed last) → (r : List IndexRow) (d : Bytes) → d ≡ bytes ++ block_bytes last → r ≡ rows ++ index_row_of last ∷ []
+    → 0 < length (entries_with closed last) → (r : List IndexRow) (d : Bytes) → d ≡ bytes ++ block_bytes last → r ≡ summed_all (rows ++ unsummed_row_of last ∷ []) d
     → (index : Index) (least : Bytes) (all_keys : List Bytes) → index ≡ record { least = least; rows = r } → all_keys ≡ keys → least ≡ slice_index_or all_keys 0 []
     → (joined (closed_in index.rows d) ≡ entries_with closed last) × AreMade (joined (closed_in index.rows d)) d index all_keys
 all_made closed bytes rows last keys holds some r d d_is r_is index least all_keys index_is keys_are least_is =
@@ -155,7 +159,7 @@ all_made closed bytes rows last keys holds some r d d_is r_is index least all_ke
     (same, subst (λ (es : List Entry). AreMade es d index all_keys) (sym same) made)
 
 pub index_made : (closed : List (List Entry)) (bytes : Bytes) (rows : List IndexRow) (last : List Entry) (keys : List Bytes) → Holds closed bytes rows last keys
-    → 0 < length (entries_with closed last) → (r : List IndexRow) (d : Bytes) → d ≡ bytes ++ block_bytes last → r ≡ rows ++ index_row_of last ∷ []
+    → 0 < length (entries_with closed last) → (r : List IndexRow) (d : Bytes) → d ≡ bytes ++ block_bytes last → r ≡ summed_all (rows ++ unsummed_row_of last ∷ []) d
     → (least : Bytes) (all_keys : List Bytes) → all_keys ≡ keys → least ≡ slice_index_or all_keys 0 [] → IsIndex (row_pages r) (record { least = least; rows = r })
 index_made closed bytes rows last keys holds some r d d_is r_is least all_keys keys_are least_is =
     sound_index closed bytes rows last keys holds some r d (finished closed bytes rows last keys holds some r d d_is r_is) (record { least = least; rows = r }) least refl

@@ -21,9 +21,9 @@ use Rattle.disk_trait.specs.Image.{Image}
 use Rattle.disk_trait.specs.World.{World}
 use Rattle.filter_model.specs.Answers.{point}
 use Rattle.block_model.specs.Places.{byte_of_page}
-use Rattle.table_file.specs.Faults.{HasReadCause, IsOtherSum}
+use Rattle.table_file.specs.Faults.{HasReadCause, IsNoWant, IsOtherSum}
 use Rattle.table_file.specs.Opened.{Opened}
-use Rattle.table_file.specs.Search.{IsBrokenBlock, IsGetFault, IsOtherBlock, block_for, block_of_key, bytes_at, first_block, page_at, row_at}
+use Rattle.table_file.specs.Search.{IsBrokenBlock, IsDamagedBlock, IsGetFault, IsOtherBlock, block_for, block_of_key, bytes_at, first_block, page_at, row_at}
 use Rattle.table_file.specs.declared.fault.TableFault.{TableFault}
 use Rattle.table_file.specs.declared.fault.TableFault.TheVariants as table
 use Rattle.table_file.specs.declared.block_row.BlockRow.{BlockRow}
@@ -126,3 +126,30 @@ pub broken_cause : (t : Opened) (n at : ℕ) (bytes : Bytes) (old new : World) (
 broken_cause t n at bytes old new table.Memory is = absurd is
 broken_cause t n at bytes old new (table.Device cause) is = absurd is
 broken_cause t n at bytes old new (table.Damaged d) is = tt
+
+-- ---- faults of the bytes of a block
+
+pub sum_damaged : (t : Opened) (n : ℕ) (bytes : Bytes) (f : TableFault) → IsOtherSum part.Block (byte_of_page (page_at t n)) (row_at t.index.rows n).sum bytes f → IsDamagedBlock t n bytes f
+sum_damaged t n bytes table.Memory is = let no = is.fault_is in cc
+sum_damaged t n bytes (table.Device cause) is = let no = is.fault_is in cc
+sum_damaged t n bytes (table.Damaged d) is = inl is
+
+pub rule_damaged : (t : Opened) (n : ℕ) (bytes : Bytes) (f : TableFault) → (row_at t.index.rows n).sum ≡ fnv_of bytes → IsBrokenBlock t n bytes f → IsDamagedBlock t n bytes f
+rule_damaged t n bytes table.Memory sum is = absurd is
+rule_damaged t n bytes (table.Device cause) sum is = absurd is
+rule_damaged t n bytes (table.Damaged d) sum is = inr (sum, is)
+
+pub get_damaged : (t : Opened) (n : ℕ) (image : Image) (bytes : Bytes) (f : TableFault) → bytes ≡ bytes_at t n image → IsDamagedBlock t n bytes f → IsGetFault t n image f
+get_damaged t n image bytes table.Memory are is = absurd is
+get_damaged t n image bytes (table.Device cause) are is = absurd is
+get_damaged t n image bytes (table.Damaged d) are is = subst (λ (b : Bytes). IsDamagedBlock t n b (table.Damaged d)) are is
+
+pub damaged_cause : (t : Opened) (n at : ℕ) (bytes : Bytes) (old new : World) (f : TableFault) → IsDamagedBlock t n bytes f → HasReadCause at old new f
+damaged_cause t n at bytes old new table.Memory is = absurd is
+damaged_cause t n at bytes old new (table.Device cause) is = absurd is
+damaged_cause t n at bytes old new (table.Damaged d) is = tt
+
+pub damaged_taken : (t : Opened) (n : ℕ) (bytes : Bytes) (f : TableFault) → IsDamagedBlock t n bytes f → IsNoWant f
+damaged_taken t n bytes table.Memory is = absurd is
+damaged_taken t n bytes (table.Device cause) is = absurd is
+damaged_taken t n bytes (table.Damaged d) is = tt

@@ -1,5 +1,5 @@
 -- What is read of a table that stands on the device.
-use Rattle.std.proofs.Common.{◌≡◌, ◌≤◌, ◌<◌, ◌+◌, ◌*◌, ℕ, zero, suc, Bool, true, false, cond, List, [], ◌∷◌, length, take, get_or, refl, sym, ap, ap₂, ◌∙◌, arith}
+use Rattle.std.proofs.Common.{◌≡◌, ◌≤◌, ◌<◌, ◌+◌, ◌*◌, ℕ, zero, suc, Bool, true, false, cond, List, [], ◌∷◌, length, take, get_or, refl, sym, ap, ap₂, ◌∙◌, arith, inl, inr}
 use Rattle.std.specs.Prelude.{Option, Some, None, flat_map, map, nat_lt}
 use Rattle.std.specs.Option.{option_map}
 use Rattle.std.specs.List.{Contains, position_or_len}
@@ -40,7 +40,7 @@ use Rattle.table_file.specs.Laws.{OpenedStands}
 use Rattle.table_file.specs.declared.fault.TableFault.{TableFault}
 use Rattle.table_file.specs.declared.fault.TableFault.TheVariants as table
 use Rattle.table_file.specs.Opened.{Opened}
-use Rattle.table_file.specs.Search.{IsBrokenBlock, IsOtherBlock, IsSoundBlock, StandsThere, block_for, block_of_key, bytes_at, first_block, page_at, row_at}
+use Rattle.table_file.specs.Search.{IsBrokenBlock, IsDamagedBlock, IsOtherBlock, IsSoundBlock, StandsThere, block_for, block_of_key, bytes_at, first_block, page_at, row_at}
 use Rattle.table_file.proofs.Lookups.{nothing_before, said_by_block, said_is_there}
 
 -- ---- one block of those that are shown
@@ -152,6 +152,14 @@ module _ (spelling : Spelling) (settings : Settings) (t : Opened) (blocks : List
         let none : block_fault bytes ≡ None = ap block_fault are ∙ sound.rules in
         let never = sym (ap (option_map (λ (x : Fault). damage.Shape part.Block (byte_of_page (page_at t n) + x.place) x.rule)) none) ∙ broken in
         cc
+
+    pub not_damaged : (bytes : Bytes) → bytes ≡ bytes_at t n image → (f : TableFault) → IsDamagedBlock t n bytes f → IsNoDamage f
+    not_damaged bytes are table.Memory damaged = absurd damaged
+    not_damaged bytes are (table.Device cause) damaged = absurd damaged
+    not_damaged bytes are (table.Damaged d) damaged = elim damaged [
+      | inl other ↦ absurd (other.other (sound.sum ∙ sym (ap fnv_of are)))
+      | inr both ↦ not_broken bytes are (table.Damaged d) both.1
+    ]
 
     pub answer : (bytes : Bytes) → bytes ≡ bytes_at t n image → lookup (block_in bytes) key ≡ lookup (joined blocks) key
     answer bytes are =

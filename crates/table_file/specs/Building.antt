@@ -6,10 +6,11 @@ use Rattle.map_model.specs.SortedMap.{Bytes}
 use Rattle.entry_model.specs.Entries.{Entry, keys_of}
 use Rattle.block_model.specs.Block.{AreEntries, IsBlock, block_bytes}
 use Rattle.block_model.specs.BlockReading.{block_in}
-use Rattle.block_model.specs.Index.{IndexRow, index_row_of}
+use Rattle.block_model.specs.Index.{IndexRow}
 use Rattle.block_model.specs.Laws.{joined}
 use Rattle.block_model.specs.Order.{Follow, is_any}
 use Rattle.block_model.specs.Pages.{blocks_of, page_bytes}
+use Rattle.table_file.specs.BlockRows.{unsummed_row_of}
 
 -- the entries of a table that is built, and the settings of its filter
 pub record Built : Type 0 where
@@ -31,10 +32,10 @@ abbrev pub entries_with : List (List Entry) → List Entry → List Entry
 entries_with closed last = joined closed ++ last
 
 -- Bytes and rows of the closed blocks, an open block and all keys: the entries are cut into these blocks. No block is closed
--- before another one is open.
+-- before another one is open, and none is summed yet.
 pub record Holds (closed : List (List Entry)) (bytes : Bytes) (rows : List IndexRow) («open» : List Entry) (keys : List Bytes) : Type 0 where
   pub bytes_are : flat_map block_bytes closed ≡ bytes
-  pub rows_are : map index_row_of closed ≡ rows
+  pub rows_are : map unsummed_row_of closed ≡ rows
   pub keys_are : keys_of (entries_with closed «open») ≡ keys
   pub cut : blocks_of (entries_with closed «open») ≡ with_open closed «open»
   pub each : AllByRecursion IsBlock closed

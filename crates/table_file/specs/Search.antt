@@ -84,6 +84,13 @@ IsBrokenBlock t n bytes table.Memory = ⊥
 IsBrokenBlock t n bytes (table.Device cause) = ⊥
 IsBrokenBlock t n bytes (table.Damaged d) = option_map (λ (f : Fault). damage.Shape part.Block (byte_of_page (page_at t n) + f.place) f.rule) (block_fault bytes) ≡ Some d
 
+-- these bytes of a block have another sum than the index keeps, or where the sum agrees, break this rule first
+abbrev pub IsDamagedBlock : Opened → ℕ → Bytes → TableFault → Type 0
+IsDamagedBlock t n bytes table.Memory = ⊥
+IsDamagedBlock t n bytes (table.Device cause) = ⊥
+IsDamagedBlock t n bytes (table.Damaged d) =
+    IsOtherSum part.Block (byte_of_page (page_at t n)) (row_at t.index.rows n).sum bytes (table.Damaged d) ⊎ (((row_at t.index.rows n).sum ≡ fnv_of bytes) × IsBrokenBlock t n bytes (table.Damaged d))
+
 -- A get that fails in the block number n: the device's fault, another sum, or where the sum agrees, the first rule that the
 -- bytes break.
 abbrev pub IsGetFault : Opened → ℕ → Image → TableFault → Type 0

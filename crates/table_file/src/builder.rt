@@ -1,21 +1,21 @@
 //! A table that is built entry by entry.
-ghost use Rattle.std.specs.Prelude.{◌≡◌, true, false, ◌==◌, Option, ◌+◌, ◌*◌, ◌-◌, ◌<◌, ◌^◌, ◌++◌, [], ◌∷◌, List, length, map, vec_items, IfOk, OnOk, OnErr};
+ghost use Rattle.std.specs.Prelude.{◌≡◌, true, false, ◌==◌, Option, ◌+◌, ◌*◌, ◌-◌, ◌<◌, ◌^◌, ◌++◌, [], ◌∷◌, List, length, IfOk, OnOk, OnErr};
 ghost use Rattle.std.specs.Option.{option_map};
 ghost use Rattle.entry_model.specs.Entries.{IsEntry, entry_of, keys_of};
 ghost use Rattle.map_model.specs.SortedMap.{Bytes};
 ghost use Rattle.entry_model.specs.Entries as model;
 ghost use Rattle.block_model.specs.Block.{IsBlock, block_bytes};
-ghost use Rattle.block_model.specs.Index.{index_row_of, row_pages};
+ghost use Rattle.block_model.specs.Index.{row_pages};
 ghost use Rattle.block_model.specs.Order.{Follow, is_any};
 ghost use Rattle.block_model.specs.Pages.{data_pages, last_key, page_bytes};
 ghost use Rattle.filter_api.specs.Ranges.{InRange};
-ghost use Rattle.table_file.specs.BlockRows.{StandFrom, rows_seen};
+ghost use Rattle.table_file.specs.BlockRows.{StandFrom, rows_seen, unsummed_row_of};
 
 use crate::block_row::BlockRow;
 use crate::index::BlockIndex;
 use crate::parts::Parts;
+use crate::summing::sum_blocks;
 use block_format::BlockBuilder;
-use byte_fields::fnv1a;
 use filter_api::{RangeFilter, Settings};
 use key_base::{KeyList, PAGE_BYTES, compare};
 use std::alloc::{AllocError, Global};
@@ -36,11 +36,11 @@ pub struct TableBuilder {
     // the next block, while the open one is closed
     spare: BlockBuilder,
     // the keys of all entries
-    keys: Vec<Vec<u8>>,
+    keys: KeyList,
 }
 
 impl Model for TableBuilder {
-    ghost use Rattle.std.specs.Prelude.{◌≡◌, [], map, vec_items};
+    ghost use Rattle.std.specs.Prelude.{◌≡◌, []};
     ghost use Rattle.filter_api.specs.Ranges.{InRange};
     ghost use Rattle.table_file.specs.BlockRows.{StandFrom, rows_seen};
     ghost use Rattle.table_file.specs.Building.{Built, Holds, closed_in, entries_with};
@@ -51,7 +51,7 @@ impl Model for TableBuilder {
 
     ghost invariant = { λ b. InRange b.settings
         × StandFrom 0 b.rows.items
-        × Holds (closed_in (rows_seen b.rows.items) b.blocks.items) b.blocks.items (rows_seen b.rows.items) b.«open» (map vec_items b.keys.items)
+        × Holds (closed_in (rows_seen b.rows.items) b.blocks.items) b.blocks.items (rows_seen b.rows.items) b.«open» b.keys
         × (b.spare ≡ []) };
 }
 
@@ -67,7 +67,7 @@ impl TableBuilder {
             rows: Vec::new(alloc),
             open: BlockBuilder::new(alloc),
             spare: BlockBuilder::new(alloc),
-            keys: Vec::new(alloc),
+            keys: KeyList::new(alloc),
         }
     }
 
@@ -75,7 +75,7 @@ impl TableBuilder {
     /// [above all others](TableBuilder::is_above_all), the value at most 65,536 bytes. Without memory nothing is added, and
     /// none behind 2^32 - 1 others, since a row counts them in four bytes.
     ///
-    /// It copies the key and the value, and sums a block where the entry begins the next one.
+    /// It copies the key and the value.
     pub fn add(&mut self, key: &[u8], value: Option<&[u8]>) -> Result<(), AllocError>
         requires sound { IsEntry (entry_of key.now (option_map (λ v. v.now) value)) }
         requires rising { Follow is_any (keys_of (self.old.entries ++ entry_of key.now (option_map (λ v. v.now) value) ∷ [])) }
@@ -85,23 +85,30 @@ impl TableBuilder {
         if self.is_full() {
             return Err(AllocError);
         }
-        let copy = Vec::from_slice(*self.blocks.allocator(), key)?;
-        self.keys.reserve(1)?;
-        if self.open.add(key, value)? {
-            self.keys.push_reserved(copy);
-            return Ok(());
+        let others = self.keys.len();
+        self.keys.push(key)?;
+        match self.open.add(key, value) {
+            Ok(true) => return Ok(()),
+            Ok(false) => {}
+            Err(fault) => {
+                self.keys.truncate(others);
+                return Err(fault);
+            }
         }
-        let last = last_of(self.keys.as_slice());
-        begin(&mut self.spare, key, value)?;
+        if let Err(fault) = begin(&mut self.spare, key, value) {
+            self.keys.truncate(others);
+            return Err(fault);
+        }
+        let last = self.keys.get(others - 1);
         match close_block(&mut self.open, last, &mut self.blocks, &mut self.rows) {
             Ok(()) => {
                 mem::swap(&mut self.open, &mut self.spare);
-                self.keys.push_reserved(copy);
                 Ok(())
             }
             // without memory the block that is begun goes, and all else stays as it was
             Err(fault) => {
                 self.spare.clear();
+                self.keys.truncate(others);
                 Err(fault)
             }
         }
@@ -129,12 +136,12 @@ impl TableBuilder {
         if self.keys.is_empty() {
             return true;
         }
-        compare(last_of(self.keys.as_slice()), key).is_lt()
+        compare(last_of(&self.keys), key).is_lt()
     }
 
     /// The parts of the table of the entries, one or more.
     ///
-    /// It closes the last block, copies the keys, builds the filter, and spells index and filter.
+    /// It closes the last block, sums all of them, builds the filter, and spells index and filter.
     pub fn finish<F: RangeFilter>(self) -> Result<Parts<F>, AllocError>
         requires { 0 < length self.entries }
         ensures { IfOk result (λ p. p ≡ self) }
@@ -148,8 +155,8 @@ impl TableBuilder {
             ..
         } = self;
         let alloc = *blocks.allocator();
-        close_block(&mut open, last_of(keys.as_slice()), &mut blocks, &mut rows)?;
-        let keys = key_list(alloc, keys.as_slice())?;
+        close_block(&mut open, last_of(&keys), &mut blocks, &mut rows)?;
+        sum_blocks(&blocks, &mut rows);
         let least = Vec::from_slice(alloc, keys.get(0))?;
         Parts::new(alloc, settings, blocks, BlockIndex::new(least, rows), &keys)
     }
@@ -166,23 +173,12 @@ impl TableBuilder {
     }
 }
 
-// The same keys as a list.
-fn key_list(alloc: Global, keys: &[Vec<u8>]) -> Result<KeyList, AllocError>
-    ensures { IfOk result (λ list. list ≡ map vec_items keys.now) }
-{
-    let mut list = KeyList::new(alloc);
-    for key in keys {
-        list.push(key.as_slice())?;
-    }
-    Ok(list)
-}
-
 // The last of some keys: those of entries, of which the last ones are not none.
-fn last_of(keys: &[Vec<u8>]) -> &[u8]
+fn last_of(keys: &KeyList) -> &[u8]
     requires { 0 < length keys.now }
-    ensures { (front back : List model.Entry) → 0 < length back → keys_of (front ++ back) ≡ map vec_items keys.now → result.now ≡ last_key back }
+    ensures { (front back : List model.Entry) → 0 < length back → keys_of (front ++ back) ≡ keys.now → result.now ≡ last_key back }
 {
-    keys[keys.len() - 1].as_slice()
+    keys.get(keys.len() - 1)
 }
 
 // Begins a block with an entry.
@@ -196,8 +192,7 @@ fn begin(spare: &mut BlockBuilder, key: &[u8], value: Option<&[u8]>) -> Result<(
     Ok(())
 }
 
-// Appends a block to those that are closed, and its row to theirs. Without memory all stays as it was.
-#[tactic(auto, unfolding(block_model::specs::Index::index_row_of))]
+// Appends a block to those that are closed, and its row to theirs, with no sum yet. Without memory all stays as it was.
 fn close_block(
     open: &mut BlockBuilder,
     last: &[u8],
@@ -209,7 +204,7 @@ fn close_block(
     requires whole { length blocks.old.items ≡ page_bytes * row_pages (rows_seen rows.old.items) }
     requires stand { StandFrom 0 rows.old.items }
     ensures written { OnOk result (blocks.new.items ≡ blocks.old.items ++ block_bytes «open».old) }
-    ensures kept { OnOk result (rows_seen rows.new.items ≡ rows_seen rows.old.items ++ index_row_of «open».old ∷ []) }
+    ensures kept { OnOk result (rows_seen rows.new.items ≡ rows_seen rows.old.items ++ unsummed_row_of «open».old ∷ []) }
     ensures stand { OnOk result (StandFrom 0 rows.new.items) }
     ensures emptied { OnOk result («open».new ≡ []) }
     ensures same_blocks { OnErr result (blocks.new.items ≡ blocks.old.items) }
@@ -224,7 +219,7 @@ fn close_block(
     rows.push_reserved(BlockRow {
         first: (at / PAGE_BYTES) as u64,
         pages,
-        sum: fnv1a(&blocks[at..]),
+        sum: 0,
         last,
     });
     Ok(())

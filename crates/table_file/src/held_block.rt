@@ -12,7 +12,7 @@ ghost use Rattle.table_file.specs.Walks.{first_of, others_of};
 
 use crate::fault::TableFault;
 use crate::table::{LARGEST_BLOCK_BYTES, Table};
-use block_format::{EntrySpan, read_span};
+use block_format::EntrySpan;
 use disk_trait::Disk;
 use filter_api::RangeFilter;
 use std::alloc::{AllocError, Global};
@@ -95,14 +95,10 @@ impl HeldBlock {
         self.here = NO_ENTRY;
         self.rest = NO_ENTRY;
         lengthen(&mut self.bytes, table.block_bytes(n));
-        let size = table.read_block(disk, n, &mut self.bytes)?;
-        match read_span(&self.bytes[..size], low) {
-            Ok(span) => {
-                self.rest = span;
-                Ok(())
-            }
-            Err(fault) => Err(table.broken(n, fault)),
-        }
+        let size = table.fetch(disk, n, &mut self.bytes)?;
+        let span = table.span_read(n, &self.bytes[..size], low)?;
+        self.rest = span;
+        Ok(())
     }
 
     /// Takes the first entry that is still to come at hand, and answers whether there was one.

@@ -9,8 +9,8 @@
 //! they lie. The kind of filter and the device are parameters, known by their traits alone.
 //!
 //! An opened table keeps its index and its filter in memory: about 60 bytes and a key for each block. Building keeps all of
-//! the table's bytes, and its keys twice while the filter is built. Not for entries that come in any order, and not for a
-//! change of a table that is written: one writes another.
+//! the table's bytes, and its keys until the filter is built. Not for entries that come in any order, and not for a change of
+//! a table that is written: one writes another.
 //!
 //! ```text
 //! let mut builder = TableBuilder::new(alloc, settings);
@@ -29,6 +29,7 @@ mod block_row;
 mod builder;
 mod cursor;
 mod fault;
+mod four_sums;
 mod held_block;
 mod index;
 mod index_row;
@@ -36,6 +37,7 @@ mod laws;
 mod opening;
 mod padded;
 mod parts;
+mod summing;
 mod table;
 mod tables;
 mod writing;

@@ -5,6 +5,7 @@ ghost use Rattle.disk_trait.specs.Image.{Image, window};
 ghost use Rattle.disk_trait.specs.World.{ReadMoves};
 ghost use Rattle.filter_api.specs.Spellings.{IsSpelling};
 ghost use Rattle.filter_api.specs.declared.settings.Settings.{Settings};
+ghost use Rattle.map_model.specs.SortedMap.{Bytes};
 ghost use Rattle.block_model.specs.IndexReading.{index_fault, index_in};
 ghost use Rattle.block_model.specs.Places.{FitsDevice, byte_of_page, end_page, index_page};
 ghost use Rattle.table_model.specs.Damage.{filter_part, part_damage};
@@ -97,7 +98,14 @@ pub(crate) fn check_sum(part: Part, at: u64, kept: u64, bytes: &[u8]) -> Result<
     ensures other { IfErr result (IsOtherSum part at kept bytes.now) }
     ensures same { IfOk result (λ _. kept ≡ fnv_of bytes.now) }
 {
-    let seen = fnv1a(bytes);
+    same_sum(part, at, kept, fnv1a(bytes))
+}
+
+/// Whether the bytes of a part, whose sum was seen, have the one that is kept.
+pub(crate) fn same_sum(part: Part, at: u64, kept: u64, seen: u64) -> Result<(), TableFault>
+    ensures other { (bytes : Bytes) → seen ≡ fnv_of bytes → IfErr result (IsOtherSum part at kept bytes) }
+    ensures same { IfOk result (λ _. kept ≡ seen) }
+{
     if seen != kept {
         return Err(TableFault::Damaged(Damage::Sum {
             part,

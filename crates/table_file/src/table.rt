@@ -1,27 +1,32 @@
 //! A table that is opened.
-ghost use Rattle.std.specs.Prelude.{◌≡◌, ◌+◌, ◌-◌, ◌*◌, ◌≤◌, ◌<◌, ℕ, List, length, take, IsTrue, IfOk, IfErr, OnOk, Ok, Some, None};
+ghost use Rattle.std.specs.Prelude.{◌≡◌, ◌+◌, ◌-◌, ◌*◌, ◌≤◌, ◌<◌, ℕ, List, is_some, length, take, IsTrue, IfOk, IfErr, OnErr, OnOk, Ok, Some, None};
 ghost use Rattle.std.specs.Option.{option_map};
 ghost use Rattle.byte_fields.specs.Sums.{fnv_of};
-ghost use Rattle.disk_trait.specs.World.{ReadMoves};
+ghost use Rattle.disk_trait.specs.Fault.{IsFaultOf};
+ghost use Rattle.disk_trait.specs.World.{ReadMoves, Rose};
+ghost use Rattle.disk_trait.specs.declared.fault.Op.TheVariants.{Read};
+ghost use Rattle.std.specs.List.{AllByRecursion};
+ghost use Rattle.map_model.specs.SortedMap.{Bytes};
+ghost use Rattle.block_format.specs.Spans.{StandsIn, kept_from, spanned};
 ghost use Rattle.filter_api.specs.declared.settings.Settings.{Settings};
-ghost use Rattle.entry_model.specs.Entries.{Entry};
+ghost use Rattle.entry_model.specs.Entries.{Entry, IsEntry};
 ghost use Rattle.block_model.specs.Laws.{joined};
 ghost use Rattle.entry_model.specs.Newest.{lookup};
 ghost use Rattle.block_model.specs.BlockReading.{block_fault, block_in};
 ghost use Rattle.block_model.specs.Pages.{page_bytes};
 ghost use Rattle.block_model.specs.Places.{byte_of_page};
-ghost use Rattle.table_file.specs.Faults.{HasReadCause, IsNoDamage, IsNoWant};
-ghost use Rattle.table_file.specs.Search.{IsBrokenBlock, IsGetFault, IsOtherBlock, IsSoundBlock, StandsThere, block_for, blocks_of_get, bytes_at, largest_block, page_at, row_at};
+ghost use Rattle.table_file.specs.Faults.{HasReadCause, IsNoDamage, IsNoWant, IsOtherSum};
+ghost use Rattle.table_file.specs.Search.{IsBrokenBlock, IsDamagedBlock, IsGetFault, IsOtherBlock, IsSoundBlock, StandsThere, block_for, blocks_of_get, bytes_at, largest_block, page_at, row_at};
 ghost use Rattle.table_file.specs.Walks.{walk_from};
 
 use crate::cursor::TableCursor;
 use crate::fault::TableFault;
 use crate::held_block::HeldBlock;
 use crate::index::BlockIndex;
-use crate::opening::check_sum;
-use block_format::{Block, BlockFault};
-use byte_fields::{Damage, Part, Row};
-use disk_trait::Disk;
+use crate::opening::same_sum;
+use block_format::{Block, BlockFault, EntrySpan, read_sum_and_span};
+use byte_fields::{Damage, Part, Row, fnv1a};
+use disk_trait::{Disk, DiskFault};
 use filter_api::RangeFilter;
 use key_base::{MAX_BLOCK_PAGES, PAGE_BYTES};
 use std::alloc::{AllocError, Global};
@@ -138,8 +143,8 @@ impl<F: RangeFilter> Table<F> {
         // no block is larger than the largest
         let room = self.block_bytes(n);
         prove!(room <= buf.len());
-        let size = self.read_block(disk, n, buf)?;
-        self.find_in(n, &buf[..size], key)
+        let size = self.fetch(disk, n, buf)?;
+        self.find_read(n, &buf[..size], key)
     }
 
     /// The block that is read for a key: `None` where the key lies outside the least and the greatest key, or the filter
@@ -187,13 +192,128 @@ impl<F: RangeFilter> Table<F> {
         ensures moves { ReadMoves 1 (D.world disk.old) (D.world disk.new) }
         ensures counted { IsTrue D.tells → OnOk result ((D.world disk.new).seen.reads ≡ (D.world disk.old).seen.reads + 1) }
     {
+        let size = self.fetch(disk, n, buf)?;
+        self.check_block(n, fnv1a(&buf[..size]))?;
+        Ok(size)
+    }
+
+    /// Reads a block into a buffer that has room for its bytes, as [`read_block`](Table::read_block) does, and judges it. Answers
+    /// how many bytes it has, and whether it has an entry of a key. One read, one pass over the bytes, and no memory.
+    ///
+    /// `Damaged` exactly where the bytes have another sum than the index keeps, or else break a rule of the format.
+    pub fn read_and_find<D: Disk>(
+        &self,
+        disk: &mut D,
+        n: u32,
+        key: &[u8],
+        buf: &mut [u8],
+    ) -> Result<(usize, bool), TableFault>
+        requires there { n < length self.now.index.rows }
+        requires room { page_bytes * (row_at self.now.index.rows n).pages ≤ length buf.old }
+        ensures size { IfOk result (λ r. r.0 ≡ page_bytes * (row_at self.now.index.rows n).pages) }
+        ensures large { IfOk result (λ r. r.0 ≤ largest_block) }
+        ensures whole { IfOk result (λ r. block_fault (take r.0 buf.new) ≡ None) }
+        ensures has { IfOk result (λ r. r.1 ≡ is_some (lookup (block_in (take r.0 buf.new)) key.now)) }
+        ensures taken { IfErr result IsNoWant }
+        ensures bytes { IsTrue D.tells → IfOk result (λ r. take r.0 buf.new ≡ bytes_at self.now n (D.world disk.old).seen.held) }
+        ensures sum { IsTrue D.tells → IfOk result (λ _. (row_at self.now.index.rows n).sum ≡ fnv_of (bytes_at self.now n (D.world disk.old).seen.held)) }
+        ensures fault { IsTrue D.tells → IfErr result (IsGetFault self.now n (D.world disk.old).seen.held) }
+        ensures undamaged { (settings : Settings) (blocks : List (List Entry)) → IsTrue D.tells → block_for self.now key.now ≡ Some n → StandsThere F.spelling settings self.now blocks (D.world disk.old).seen.held → IfErr result IsNoDamage }
+        ensures length { length buf.new ≡ length buf.old }
+        ensures cause { IfErr result (HasReadCause (byte_of_page (page_at self.now n)) (D.world disk.old) (D.world disk.new)) }
+        ensures moves { ReadMoves 1 (D.world disk.old) (D.world disk.new) }
+        ensures counted { IsTrue D.tells → OnOk result ((D.world disk.new).seen.reads ≡ (D.world disk.old).seen.reads + 1) }
+    {
+        let size = self.fetch(disk, n, buf)?;
+        let found = self.find_read(n, &buf[..size], key)?;
+        Ok((size, found.is_some()))
+    }
+
+    /// Reads the bytes of a block into a buffer that has room for them, and looks at none of them. One read.
+    pub(crate) fn fetch<D: Disk>(
+        &self,
+        disk: &mut D,
+        n: u32,
+        buf: &mut [u8],
+    ) -> Result<usize, DiskFault>
+        requires there { n < length self.now.index.rows }
+        requires room { page_bytes * (row_at self.now.index.rows n).pages ≤ length buf.old }
+        ensures size { IfOk result (λ size. size ≡ page_bytes * (row_at self.now.index.rows n).pages) }
+        ensures large { IfOk result (λ size. size ≤ largest_block) }
+        ensures bytes { IsTrue D.tells → IfOk result (λ size. take size buf.new ≡ bytes_at self.now n (D.world disk.old).seen.held) }
+        ensures length { length buf.new ≡ length buf.old }
+        ensures fault { IfErr result (IsFaultOf Read (byte_of_page (page_at self.now n))) }
+        ensures cause { OnErr result (Rose (D.world disk.old).seen.read_faults (D.world disk.new).seen.read_faults) }
+        ensures moves { ReadMoves 1 (D.world disk.old) (D.world disk.new) }
+        ensures counted { IsTrue D.tells → OnOk result ((D.world disk.new).seen.reads ≡ (D.world disk.old).seen.reads + 1) }
+    {
         let block = self.index.row(n as usize);
         let at = PAGE_BYTES as u64 * (u64::from(self.row.first_page) + block.first);
         let size = PAGE_BYTES * block.pages as usize;
-        let bytes = &mut buf[..size];
-        disk.read(at, bytes)?;
-        check_sum(Part::Block, at, block.sum, bytes)?;
+        disk.read(at, &mut buf[..size])?;
         Ok(size)
+    }
+
+    // Whether the bytes of the block number `n`, whose sum was seen, have the one that the index keeps.
+    fn check_block(&self, n: u32, seen: u64) -> Result<(), TableFault>
+        requires there { n < length self.now.index.rows }
+        ensures other { (bytes : Bytes) → seen ≡ fnv_of bytes → IfErr result (IsOtherSum Part.Block (byte_of_page (page_at self.now n)) (row_at self.now.index.rows n).sum bytes) }
+        ensures same { IfOk result (λ _. (row_at self.now.index.rows n).sum ≡ seen) }
+    {
+        let block = self.index.row(n as usize);
+        let at = PAGE_BYTES as u64 * (u64::from(self.row.first_page) + block.first);
+        same_sum(Part::Block, at, block.sum, seen)
+    }
+
+    // What the block number `n` says of a key, where these are its bytes as they were read just now. Another sum than the index
+    // keeps is told before a rule that is broken. One pass over the bytes, and no memory.
+    fn find_read<'a>(
+        &self,
+        n: u32,
+        bytes: &'a [u8],
+        key: &[u8],
+    ) -> Result<Option<Option<&'a [u8]>>, TableFault>
+        requires there { n < length self.now.index.rows }
+        requires size { length bytes.now ≤ largest_block }
+        ensures sum { IfOk result (λ _. (row_at self.now.index.rows n).sum ≡ fnv_of bytes.now) }
+        ensures whole { IfOk result (λ _. block_fault bytes.now ≡ None) }
+        ensures said { IfOk result (λ found. option_map (λ f. option_map (λ v. v.now) f) found ≡ lookup (block_in bytes.now) key.now) }
+        ensures damaged { IfErr result (IsDamagedBlock self.now n bytes.now) }
+    {
+        let (sum, found) = Block::read_sum_and_find(bytes, key);
+        self.check_block(n, sum)?;
+        match found {
+            Ok(found) => Ok(found),
+            Err(fault) => Err(self.broken(n, fault)),
+        }
+    }
+
+    /// Where the entries of the block number `n` stand, from a key on where there is a bound, if these are its bytes as they were
+    /// read just now. Another sum than the index keeps is told before a rule that is broken.
+    ///
+    /// One pass over the bytes, and with a bound another up to it. No memory.
+    pub(crate) fn span_read(
+        &self,
+        n: u32,
+        bytes: &[u8],
+        low: Option<&[u8]>,
+    ) -> Result<EntrySpan, TableFault>
+        requires there { n < length self.now.index.rows }
+        requires size { length bytes.now ≤ largest_block }
+        ensures sum { IfOk result (λ _. (row_at self.now.index.rows n).sum ≡ fnv_of bytes.now) }
+        ensures whole { IfOk result (λ _. block_fault bytes.now ≡ None) }
+        ensures stands { IfOk result (λ span. StandsIn span bytes.now) }
+        ensures entries { IfOk result (λ span. spanned span bytes.now ≡ kept_from (option_map (λ k. k.now) low.entry) (block_in bytes.now)) }
+        ensures some { low.entry ≡ None → IfOk result (λ span. 1 ≤ span.left) }
+        ensures sound { IfOk result (λ span. AllByRecursion IsEntry (spanned span bytes.now)) }
+        ensures damaged { IfErr result (IsDamagedBlock self.now n bytes.now) }
+    {
+        let (sum, span) = read_sum_and_span(bytes, low);
+        self.check_block(n, sum)?;
+        match span {
+            Ok(span) => Ok(span),
+            Err(fault) => Err(self.broken(n, fault)),
+        }
     }
 
     /// What the block number `n` says of a key, where these are its bytes: its value, or `Some(None)` for a tombstone;

@@ -21,13 +21,16 @@ fn what_a_builder_wrote_is_read(rt: HostRuntime) -> Result<(), Fail> {
     assert!(rt; builder.add(b"ab", None)?);
     out.clear();
     builder.close(&mut out)?;
-    let Ok(block) = Block::read(out.as_slice()) else {
+    let bytes = out.as_slice();
+    let Ok(block) = Block::read(bytes) else {
         return Err(Fail::from("no block"));
     };
     assert_eq!(rt; block.find(b"a"), Some(Some(b"b".as_slice())));
     assert_eq!(rt; block.find(b"ab"), Some(None));
     assert_eq!(rt; block.find(b"aa"), None);
-    assert_eq!(rt; Block::read_and_find(out.as_slice(), b"ab"), Ok(Some(None)));
+    assert_eq!(rt; Block::read_and_find(bytes, b"ab"), Ok(Some(None)));
+    assert_eq!(rt; Block::find_in_sound(bytes, b"ab"), Some(None));
+    assert_eq!(rt; Block::find_in_sound(bytes, b"aa"), None);
     let mut cursor = block.from(b"aa");
     assert!(rt; matches!(cursor.next(), Some((b"ab", None))));
     assert!(rt; cursor.next().is_none());

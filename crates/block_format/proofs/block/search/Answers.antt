@@ -1,4 +1,4 @@
-use Rattle.std.proofs.Common.{rules, ◌≡◌, ◌+◌, ◌-◌, ℕ, length, drop, sym, ap, ap₂, ◌∙◌, arith, length-drop}
+use Rattle.std.proofs.Common.{rules, ◌≡◌, ◌+◌, ◌-◌, ℕ, [], length, take, drop, refl, sym, ap, ap₂, ◌∙◌, arith, length-drop}
 use Rattle.std.specs.Prelude.{Option, Some, None}
 use Rattle.std.specs.Option.{option_map, option_or}
 use Rattle.std.proofs.lemmas.List.{take_rest, drop-drop}
@@ -8,62 +8,76 @@ use Rattle.entry_model.specs.Entries.{Entry, entry_of}
 use Rattle.entry_model.specs.Newest.{lookup}
 use Rattle.entry_model.specs.Reading.{entry_in, key_in, width_in}
 use Rattle.block_model.specs.Order.{is_above, is_any}
-use Rattle.block_format.specs.Reading.{passes_after, seen}
+use Rattle.block_format.specs.Reading.{passes_after, seen, sum_where}
+use Rattle.block_format.proofs.Sums.{none_summed, taken_further}
 use Rattle.block_format.proofs.Walks.{all_said, next_broken, next_kept, next_said, none_is_left, says, some_are_left}
 use Rattle.block_format.proofs.block.search.Goals as goal
 
-pub returns-in_err-row-clause-broken : goal.returns-in_err-row-clause-broken
-returns-in_err-row-clause-broken c =
-    let bytes = c.args.bytes.now in
+pub loop-i-init : goal.loop-i-init
+loop-i-init c =
+    let bytes = take (c.args.used - 8) (drop 8 c.args.whole.now) in
+    let all : c.args.count ≡ c.args.count - 0 = omega arith in
+    record {
+      within = omega arith;
+      same = ap (λ (k : ℕ). entries_fault k 8 is_any bytes) all;
+      said = ap (λ (k : ℕ). lookup (entries_in k bytes) c.args.key.now) all;
+      sum = c.feed.ensures [] (c.new-summer.ensures ∙ none_summed c.args.summed);
+    }
+
+pub returns-in-Err-clause-broken : goal.returns-in-Err-clause-broken
+returns-in-Err-clause-broken c =
+    let bytes = take (c.args.used - 8) (drop 8 c.args.whole.now) in
     let at = c.loop-i.at in
     let n = c.args.count - c.loop-i.i in
     let test = passes_after (option_map (λ k. k.now) c.loop-i.before) in
-    let found = seen c.in_err-row.field-0.0 in
-    let here : entry_fault (8 + at) test (drop at bytes) ≡ Some found = ap (entry_fault (8 + at) test) (sym (take_rest bytes at)) ∙ c.in_err-row.ensures.broken in
+    let found = seen c.in-Err.fault in
+    let here : entry_fault (8 + at) test (drop at bytes) ≡ Some found = ap (entry_fault (8 + at) test) (sym (take_rest bytes at)) ∙ c.in-Err.ensures.broken in
     let broken : entries_fault c.args.count 8 is_any bytes ≡ Some found = c.loop-i.invariant.same ∙ next_broken n (8 + at) test (drop at bytes) (omega (arith, c.loop-i-test.true)) found here in
     search rules
 
 pub loop-i-preserved : goal.loop-i-preserved
 loop-i-preserved c =
-    let bytes = c.args.bytes.now in
+    let bytes = take (c.args.used - 8) (drop 8 c.args.whole.now) in
     let at = c.loop-i.at in
     let n = c.args.count - c.loop-i.i in
     let test = passes_after (option_map (λ k. k.now) c.loop-i.before) in
     let rest = take_rest bytes at in
     let here = drop at bytes in
-    let w = c.in_ok-row.row.width in
-    let none : entry_fault (8 + at) test here ≡ None = ap (entry_fault (8 + at) test) (sym rest) ∙ c.in_ok-row.ensures.whole in
-    let width : w ≡ width_in here = c.in_ok-row.ensures.width ∙ ap width_in rest in
-    let key : c.in_ok-row.row.key.now ≡ key_in here = c.in_ok-row.ensures.key ∙ ap key_in rest in
+    let w = c.in-Ok.row.width in
+    let none : entry_fault (8 + at) test here ≡ None = ap (entry_fault (8 + at) test) (sym rest) ∙ c.in-Ok.ensures.whole in
+    let width : w ≡ width_in here = c.in-Ok.ensures.width ∙ ap width_in rest in
+    let key : c.in-Ok.row.key.now ≡ key_in here = c.in-Ok.ensures.key ∙ ap key_in rest in
     let fewer : n - 1 ≡ c.args.count - (c.loop-i.i + 1) = omega arith in
     let place : 8 + at + w ≡ 8 + (at + w) = omega arith in
     let found = option_map (λ f. option_map (λ v. v.now) f) c.loop-i.found in
-    let entry : entry_of c.in_ok-row.row.key.now (option_map (λ v. v.now) c.in_ok-row.row.value) ≡ entry_in here = c.in_ok-row.ensures.entry ∙ ap entry_in rest in
+    let entry : entry_of c.in-Ok.row.key.now (option_map (λ v. v.now) c.in-Ok.row.value) ≡ entry_in here = c.in-Ok.ensures.entry ∙ ap entry_in rest in
     let next : drop (width_in here) here ≡ drop (at + w) bytes = ap (λ (k : ℕ). drop k here) (sym width) ∙ drop-drop w at bytes in
     record {
-      within = omega (arith, c.in_ok-row.ensures.within, ap length rest, length-drop at bytes, c.loop-i.invariant.within);
+      within = omega (arith, c.in-Ok.ensures.within, ap length rest, length-drop at bytes, c.loop-i.invariant.within);
       same = c.loop-i.invariant.same
           ∙ next_kept n (8 + at) test here (omega (arith, c.loop-i-test.true)) none
           ∙ ap (λ (k : ℕ). entries_fault (n - 1) (8 + at + k) (is_above (key_in here)) (drop k here)) (sym width)
           ∙ ap (λ (k : Bytes). entries_fault (n - 1) (8 + at + w) (is_above k) (drop w here)) (sym key)
-          ∙ ap₂ (λ (m p : ℕ). entries_fault m p (is_above c.in_ok-row.row.key.now) (drop w here)) fewer place
-          ∙ ap (entries_fault (c.args.count - (c.loop-i.i + 1)) (8 + (at + w)) (is_above c.in_ok-row.row.key.now)) (drop-drop w at bytes);
+          ∙ ap₂ (λ (m p : ℕ). entries_fault m p (is_above c.in-Ok.row.key.now) (drop w here)) fewer place
+          ∙ ap (entries_fault (c.args.count - (c.loop-i.i + 1)) (8 + (at + w)) (is_above c.in-Ok.row.key.now)) (drop-drop w at bytes);
       said = c.loop-i.invariant.said
           ∙ next_said n here c.args.key.now found (omega (arith, c.loop-i-test.true))
           ∙ ap (λ (e : Entry). option_or (option_or found (says e c.args.key.now)) (lookup (entries_in (n - 1) (drop (width_in here) here)) c.args.key.now)) (sym entry)
           ∙ ap (λ (f : Option (Option Bytes)). option_or f (lookup (entries_in (n - 1) (drop (width_in here) here)) c.args.key.now)) (sym c.first_said-found.ensures)
           ∙ ap₂ (λ (m : ℕ) (l : Bytes). option_or (option_map (λ f. option_map (λ v. v.now) f) c.first_said-found.result) (lookup (entries_in m l) c.args.key.now)) fewer next;
+      sum = c.feed-in-loop-i.ensures (take (8 + at) c.args.whole.now) c.loop-i.invariant.sum ∙ ap (sum_where c.args.summed) (taken_further c.args.whole.now (8 + at) (8 + at + w) (omega arith))
+          ∙ ap (λ (k : ℕ). sum_where c.args.summed (take k c.args.whole.now)) place;
     }
 
 pub returns-clause-said : goal.returns-clause-said
 returns-clause-said c =
     let zero : c.args.count - c.loop-i.i ≡ 0 = omega (arith, c.loop-i-test.false) in
     let found = option_map (λ f. option_map (λ v. v.now) f) c.loop-i.found in
-    sym (c.loop-i.invariant.said ∙ all_said (c.args.count - c.loop-i.i) (drop c.loop-i.at c.args.bytes.now) c.args.key.now found zero)
+    sym (c.loop-i.invariant.said ∙ all_said (c.args.count - c.loop-i.i) (drop c.loop-i.at (take (c.args.used - 8) (drop 8 c.args.whole.now))) c.args.key.now found zero)
 
 pub returns-then-at-bytes-clause-broken : goal.returns-then-at-bytes-clause-broken
 returns-then-at-bytes-clause-broken c =
-    let bytes = c.args.bytes.now in
+    let bytes = take (c.args.used - 8) (drop 8 c.args.whole.now) in
     let at = c.loop-i.at in
     let test = passes_after (option_map (λ k. k.now) c.loop-i.before) in
     let zero : c.args.count - c.loop-i.i ≡ 0 = omega (arith, c.loop-i-test.false) in
@@ -73,7 +87,7 @@ returns-then-at-bytes-clause-broken c =
 
 pub returns-clause-whole : goal.returns-clause-whole
 returns-clause-whole c =
-    let bytes = c.args.bytes.now in
+    let bytes = take (c.args.used - 8) (drop 8 c.args.whole.now) in
     let at = c.loop-i.at in
     let test = passes_after (option_map (λ k. k.now) c.loop-i.before) in
     let zero : c.args.count - c.loop-i.i ≡ 0 = omega (arith, c.loop-i-test.false) in

@@ -13,7 +13,7 @@ overflow_cast-pages c =
 
 pub returns-clause-stand : goal.returns-clause-stand
 returns-clause-stand c =
-    let row : BlockRow = record { first = c.len-at.result / 4096; pages = c.pages-pages.result; sum = c.fnv1a.result; last = c.in_ok-last.last } in
+    let row : BlockRow = record { first = c.len-at.result / 4096; pages = c.pages-pages.result; sum = 0; last = c.in_ok-last.last } in
     let pushed : c.push_reserved.new.self.items ≡ c.reserve.new.self.items ++ row ∷ [] = c.push_reserved.ensures.items in
     let same = c.in_ok-reserve.ensures.items in
     subst (StandFrom 0) (sym pushed)

@@ -1,8 +1,7 @@
-use Rattle.std.proofs.Common.{ap, ◌∙◌}
-use Rattle.std.specs.Prelude.{vec_items}
+use Rattle.std.proofs.Common.{◌∙◌, ◌-◌, ℕ, [], ap, get_or}
 use Rattle.table_file.proofs.Keys.{last_is}
 use Rattle.table_file.proofs.builder.last_of.Goals as goal
 
 pub returns : goal.returns
 returns c front back some same =
-    c.as_slice.ensures.value ∙ ap vec_items c.index-keys-keys.is ∙ last_is vec_items front back c.args.keys.now c.index-keys-keys.result some same
+    c.get.ensures ∙ ap (λ (n : ℕ). get_or c.args.keys.now (n - 1) []) c.len.ensures ∙ last_is front back c.args.keys.now some same

@@ -1,5 +1,4 @@
-use Rattle.std.proofs.Common.{◌≡◌, ◌<◌, ◌∙◌, ◌++◌, ◌∷◌, List, [], length, map, true, sym, ap, subst, arith}
-use Rattle.std.specs.Prelude.{vec_items, vec_len}
+use Rattle.std.proofs.Common.{◌≡◌, ◌<◌, ◌∙◌, ◌++◌, ◌∷◌, List, [], length, true, sym, ap, subst, arith}
 use Rattle.std.specs.Ordering.{is_lt}
 use Rattle.std.proofs.lemmas.Bool.{eqb-true}
 use Rattle.std.proofs.lemmas.List.{length-map}
@@ -18,12 +17,12 @@ returns-then-is_empty-clause-above c value said =
     let t = c.self.inside in
     let e = entry_of c.args.key.now value in
     let all = entries_with (closed_in (rows_seen t.rows.items) t.blocks.items) t.«open» in
-    let empty : vec_len t.keys ≡ 0 = eqb-true (vec_len t.keys) 0 (sym c.is_empty.ensures ∙ c.if-is_empty.true) in
-    let none : length all ≡ 0 = omega (arith, empty, ap length c.self.invariant.2.keys_are, length-map all (λ (x : Entry). x.key), length-map t.keys.items vec_items) in
+    let empty : length t.keys ≡ 0 = eqb-true (length t.keys) 0 (sym c.is_empty.ensures ∙ c.if-is_empty.true) in
+    let none : length all ≡ 0 = omega (arith, empty, ap length c.self.invariant.2.keys_are, length-map all (λ (x : Entry). x.key)) in
     subst (λ (es : List Entry). Follow is_any (keys_of (es ++ e ∷ []))) (ap (λ (b : Built). b.entries) c.self.view_is) (follow_alone all e none)
 
 pub last_of-requires : goal.last_of-requires
-last_of-requires c = omega (arith, c.as_slice.ensures.len, positive (vec_len c.self.inside.keys) (sym c.if-is_empty.false ∙ c.is_empty.ensures))
+last_of-requires c = positive (length c.self.inside.keys) (sym c.if-is_empty.false ∙ c.is_empty.ensures)
 
 pub returns-clause-above : goal.returns-clause-above
 returns-clause-above c value said =
@@ -31,9 +30,9 @@ returns-clause-above c value said =
     let key = c.args.key.now in
     let e = entry_of key value in
     let all = entries_with (closed_in (rows_seen t.rows.items) t.blocks.items) t.«open» in
-    let filled : 0 < vec_len t.keys = positive (vec_len t.keys) (sym c.if-is_empty.false ∙ c.is_empty.ensures) in
-    let some : 0 < length all = omega (arith, filled, ap length c.self.invariant.2.keys_are, length-map all (λ (x : Entry). x.key), length-map t.keys.items vec_items) in
-    let last : c.last_of.result.now ≡ last_key all = c.last_of.ensures [] all some (c.self.invariant.2.keys_are ∙ ap (map vec_items) (sym c.as_slice.ensures.value)) in
+    let filled : 0 < length t.keys = positive (length t.keys) (sym c.if-is_empty.false ∙ c.is_empty.ensures) in
+    let some : 0 < length all = omega (arith, filled, ap length c.self.invariant.2.keys_are, length-map all (λ (x : Entry). x.key)) in
+    let last : c.last_of.result.now ≡ last_key all = c.last_of.ensures [] all some c.self.invariant.2.keys_are in
     let above : is_above (last_key all) key ≡ true =
     ap (λ (k : Bytes). is_lt (byte_order k key)) (sym last) ∙ sym (ap is_lt c.compare.ensures) ∙ sym c.is_lt.ensures ∙ said in
     subst (λ (es : List Entry). Follow is_any (keys_of (es ++ e ∷ []))) (ap (λ (b : Built). b.entries) c.self.view_is)
@@ -45,8 +44,8 @@ returns-clause-all c value rises =
     let key = c.args.key.now in
     let e = entry_of key value in
     let all = entries_with (closed_in (rows_seen t.rows.items) t.blocks.items) t.«open» in
-    let filled : 0 < vec_len t.keys = positive (vec_len t.keys) (sym c.if-is_empty.false ∙ c.is_empty.ensures) in
-    let some : 0 < length all = omega (arith, filled, ap length c.self.invariant.2.keys_are, length-map all (λ (x : Entry). x.key), length-map t.keys.items vec_items) in
-    let last : c.last_of.result.now ≡ last_key all = c.last_of.ensures [] all some (c.self.invariant.2.keys_are ∙ ap (map vec_items) (sym c.as_slice.ensures.value)) in
+    let filled : 0 < length t.keys = positive (length t.keys) (sym c.if-is_empty.false ∙ c.is_empty.ensures) in
+    let some : 0 < length all = omega (arith, filled, ap length c.self.invariant.2.keys_are, length-map all (λ (x : Entry). x.key)) in
+    let last : c.last_of.result.now ≡ last_key all = c.last_of.ensures [] all some c.self.invariant.2.keys_are in
     let above = follow_last is_any all e (omega (arith, some)) (subst (λ (es : List Entry). Follow is_any (keys_of (es ++ e ∷ []))) (sym (ap (λ (b : Built). b.entries) c.self.view_is)) rises) in
     c.is_lt.ensures ∙ ap is_lt c.compare.ensures ∙ ap (λ (k : Bytes). is_lt (byte_order k key)) last ∙ above
