@@ -13,4 +13,5 @@ pub mod Following
 pub mod Begun
 pub mod SliceSteps
 pub mod SliceMoves
+pub mod Slicing
 pub mod Placed

@@ -8,6 +8,7 @@ pub mod Outputs
 pub mod Slices
 pub mod Held
 pub mod Making
+pub mod Slicing
 pub mod Follows
 pub mod FollowLaws
 pub mod Laws

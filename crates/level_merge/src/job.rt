@@ -1,5 +1,5 @@
 //! A merge that runs.
-ghost use Rattle.std.specs.Prelude.{◌≡◌, ◌≢◌, ◌==◌, ◌<◌, ◌≤◌, ◌+◌, ◌-◌, ◌++◌, length, IsTrue, IfOk, IfErr, IfSome, OnOk, OnErr, [], ◌∷◌};
+ghost use Rattle.std.specs.Prelude.{◌≡◌, ◌≢◌, ◌==◌, ◌<◌, ◌≤◌, ◌-◌, ◌++◌, length, IsTrue, IfOk, IfErr, IfSome, OnOk, [], ◌∷◌};
 ghost use Rattle.std.specs.List.{AllByRecursion, list_any};
 ghost use Rattle.std.specs.Option.{option_map};
 ghost use Rattle.disk_trait.specs.World.{Now, ReadMoves};
@@ -7,14 +7,13 @@ ghost use Rattle.entry_model.specs.Entries.{IsEntry};
 ghost use Rattle.filter_api.specs.Ranges.{InRange};
 ghost use Rattle.level_merge.specs.Follows.{SliceFollows};
 ghost use Rattle.level_merge.specs.Held.{IsHeld};
-ghost use Rattle.level_merge.specs.Making.{SliceMakes};
-ghost use Rattle.level_merge.specs.Merging.{AreAllWritten, begun, compaction, merge_of, work_left};
+ghost use Rattle.level_merge.specs.Merging.{begun, compaction, merge_of};
 ghost use Rattle.level_merge.specs.Plans.{MayStart};
-ghost use Rattle.level_merge.specs.Slices.{Closes, IsMetUnwritten, IsSliceFault, IsStop, IsTakeFault, IsWithin, SliceMoves, TakesRows, WritesOutput, made_opened, made_table, need_of};
+ghost use Rattle.level_merge.specs.Slices.{Closes, IsStop, IsTakeFault, TakesRows, WritesOutput, made_opened, made_table, need_of};
+ghost use Rattle.level_merge.specs.Slicing.{SlicesMerge};
 ghost use Rattle.level_merge.specs.Outputs.{IsCloseFault, last_row};
 ghost use Rattle.key_base.specs.Limits.{max_tables};
 ghost use Rattle.level_merge.specs.declared.fault.JobFault.TheVariants.{Memory};
-ghost use Rattle.level_merge.specs.declared.fault.Sliced.TheVariants.{Working};
 ghost use Rattle.merge_rows.specs.Reads.{OnlyReads, blocks_left};
 ghost use Rattle.merge_rows.specs.Steps.{AreNumbersIn, IsSoundMerge, numbers};
 ghost use Rattle.table_model.specs.Tables.{filter_bytes_of};
@@ -159,18 +158,8 @@ impl<'m, F: RangeFilter> Job<'m, F> {
     ) -> Result<Sliced, JobFault>
         requires some { 0 < blocks }
         requires there { AreNumbersIn tables.now.tables (numbers self.old.merge.walks) }
-        ensures makes { IsTrue D.tells → SliceMakes F.spelling (filter_bytes_of F.spelling F.built_cutoff) tables.now.tables self.old self.new extents.old extents.new result (D.world disk.old) (D.world disk.new) }
+        ensures slices { SlicesMerge F.spelling F.built_cutoff D.tells blocks tables.now.tables self.old self.new extents.old extents.new result (D.world disk.old) (D.world disk.new) }
         ensures follows { IsTrue D.tells → SliceFollows F.spelling (filter_bytes_of F.spelling F.built_cutoff) tables.now.tables self.old self.new extents.old extents.new result (D.world disk.old) (D.world disk.new) }
-        ensures bounded { IsTrue D.tells → IsSoundMerge self.old.merge tables.now.tables (D.world disk.old).seen.held → (D.world disk.new).seen.reads ≤ (D.world disk.old).seen.reads + blocks }
-        ensures ends { IfOk result (λ sliced. sliced ≡ Working → work_left tables.now.tables self.new < work_left tables.now.tables self.old) }
-        ensures level { (1 ≤ self.new.output) × (self.new.output ≤ 6) }
-        ensures same { (self.new.output ≡ self.old.output) × (self.new.settings ≡ self.old.settings) }
-        ensures numbers { numbers self.new.merge.walks ≡ numbers self.old.merge.walks }
-        ensures few { IfOk result (IsWithin self.old self.new) }
-        ensures rows { AreAllWritten self.old → OnOk result (AreAllWritten self.new) }
-        ensures moves { SliceMoves F.spelling F.built_cutoff self.old self.new extents.old extents.new (D.world disk.old) (D.world disk.new) }
-        ensures fault { IfErr result (IsSliceFault D.tells tables.now.tables (numbers self.old.merge.walks) (D.world disk.old) (D.world disk.new)) }
-        ensures unwritten { IfErr result (IsMetUnwritten (D.world disk.old) (D.world disk.new)) }
     {
         self.go_on(disk, tables, extents, blocks)
     }
@@ -214,17 +203,7 @@ impl<'m, F: RangeFilter> Job<'m, F> {
     ) -> Result<Sliced, JobFault>
         requires some { 0 < blocks }
         requires there { AreNumbersIn tables.now.tables (numbers self.old.merge.walks) }
-        ensures makes { IsTrue D.tells → SliceMakes F.spelling (filter_bytes_of F.spelling F.built_cutoff) tables.now.tables self.old self.new extents.old extents.new result (D.world disk.old) (D.world disk.new) }
-        ensures bounded { IsTrue D.tells → IsSoundMerge self.old.merge tables.now.tables (D.world disk.old).seen.held → (D.world disk.new).seen.reads ≤ (D.world disk.old).seen.reads + blocks }
-        ensures ends { IfOk result (λ sliced. sliced ≡ Working → work_left tables.now.tables self.new < work_left tables.now.tables self.old) }
-        ensures level { (1 ≤ self.new.output) × (self.new.output ≤ 6) }
-        ensures same { (self.new.output ≡ self.old.output) × (self.new.settings ≡ self.old.settings) }
-        ensures numbers { numbers self.new.merge.walks ≡ numbers self.old.merge.walks }
-        ensures few { IfOk result (IsWithin self.old self.new) }
-        ensures rows { AreAllWritten self.old → OnOk result (AreAllWritten self.new) }
-        ensures moves { SliceMoves F.spelling F.built_cutoff self.old self.new extents.old extents.new (D.world disk.old) (D.world disk.new) }
-        ensures fault { IfErr result (IsSliceFault D.tells tables.now.tables (numbers self.old.merge.walks) (D.world disk.old) (D.world disk.new)) }
-        ensures unwritten { IfErr result (IsMetUnwritten (D.world disk.old) (D.world disk.new)) }
+        ensures { SlicesMerge F.spelling F.built_cutoff D.tells blocks tables.now.tables self.old self.new extents.old extents.new result (D.world disk.old) (D.world disk.new) }
     {
         // the law of the tables: what stands is read as it is, and no read of it is damage
         standing_tables_are_read();

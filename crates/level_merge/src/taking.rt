@@ -7,7 +7,7 @@ ghost use Rattle.level_merge.specs.Merging.{IsBuilding, at_hand, is_full};
 ghost use Rattle.level_merge.specs.Slices.{FillsOutput, IsStop, IsTakeFault, KeepsRows};
 ghost use Rattle.level_merge.specs.declared.fault.JobFault.TheVariants.{Memory};
 ghost use Rattle.merge_rows.specs.Reads.{OnlyReads, blocks_left, wanted};
-ghost use Rattle.merge_rows.specs.Steps.{AreNumbersIn, IsSoundMerge, SourcesStay, numbers};
+ghost use Rattle.merge_rows.specs.Steps.{AreCaughtUp, AreHeadsClear, AreNumbersIn, IsSoundMerge, SourcesStay, numbers};
 ghost use Rattle.state_model.specs.Merges.{lasting};
 
 use crate::fault::JobFault;
@@ -58,10 +58,8 @@ pub(crate) fn take_rows<'m, F: RangeFilter, D: Disk>(
         if left == 0 {
             return Ok(Stop::Blocks);
         }
-        match rows.advance(disk, tables) {
-            Ok(true) => {}
-            Ok(false) => return Ok(Stop::End),
-            Err(why) => return Err(JobFault::from(why)),
+        if !rows.advance_filled() {
+            return Ok(Stop::End);
         }
         add_row(rows, drops, built)?;
     }
@@ -88,6 +86,8 @@ fn read_ahead<'m, F: RangeFilter, D: Disk>(
     ensures fewer { OnOk result (blocks_left tables.now.tables rows.new.walks ≤ blocks_left tables.now.tables rows.old.walks) }
     ensures some { IfOk result (λ left. left < blocks → blocks_left tables.now.tables rows.new.walks < blocks_left tables.now.tables rows.old.walks) }
     ensures ready { IsTrue D.tells → IsSoundMerge rows.old tables.now.tables (D.world disk.old).seen.held → IfOk result (λ left. 0 < left → wanted rows.new tables.now.tables ≡ 0) }
+    ensures clear { IfOk result (λ left. 0 < left → AreHeadsClear rows.new.floor rows.new.walks) }
+    ensures caught { IsTrue D.tells → IfOk result (λ left. 0 < left → AreCaughtUp rows.new.floor tables.now.tables (D.world disk.old).seen.held rows.new.walks) }
     ensures fault { IfErr result (IsTakeFault D.tells tables.now.tables (numbers rows.old.walks) (D.world disk.old) (D.world disk.new)) }
     ensures met { IsTrue D.tells → IsSoundMerge rows.old tables.now.tables (D.world disk.old).seen.held → OnErr result (1 ≤ blocks_left tables.now.tables rows.old.walks) }
     ensures moves { OnlyReads (D.world disk.old) (D.world disk.new) }

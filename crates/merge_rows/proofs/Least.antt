@@ -7,7 +7,7 @@ use Rattle.std.proofs.lemmas.Bool.{false≢true}
 use Rattle.entry_model.specs.Entries.{Entry}
 use Rattle.key_base.specs.ByteOrder.{IsBefore, is_before}
 use Rattle.map_model.specs.SortedMap.{Bytes}
-use Rattle.merge_rows.specs.Choosing.{IsHeadAbove, IsHeadFrom, IsLeastAt, IsNone, least_from, nearer, with_head}
+use Rattle.merge_rows.specs.Choosing.{IsHeadAbove, IsHeadFrom, IsLeastAt, IsNone, head_in, least_from, nearer, with_head}
 use Rattle.merge_rows.specs.Merges.{TableWalk}
 use Rattle.merge_rows.proofs.Keys.{at_or_after, before_of, before_then, is_before_of}
 
@@ -106,19 +106,24 @@ finds n (Some h ∷ older) = behind_head n h older (least_from (suc n) older) (f
 abbrev pub nows : List TableWalk → List (Option Entry)
 nows walks = map (λ (w : TableWalk). w.walk.now) walks
 
-drop_nows : (walks : List TableWalk) (n : ℕ) (other : TableWalk) → n < length walks → drop n (nows walks) ≡ (slice_index_or walks n other).walk.now ∷ drop (suc n) (nows walks)
-drop_nows [] n other lt = absurd (omega (arith, lt))
-drop_nows (w ∷ more) zero other lt = refl
-drop_nows (w ∷ more) (suc n) other lt = drop_nows more n other (omega (arith, lt))
+drop_nows : (walks : List TableWalk) (n : ℕ) → n < length walks → drop n (nows walks) ≡ head_in walks n ∷ drop (suc n) (nows walks)
+drop_nows [] n lt = absurd (omega (arith, lt))
+drop_nows (w ∷ more) zero lt = refl
+drop_nows (w ∷ more) (suc n) lt = drop_nows more n (omega (arith, lt))
 
 -- a walk before those that were seen
-pub least_step : (walks : List TableWalk) (i : ℕ) (w : TableWalk) (head : Option Entry) → 0 < i → i ≤ length walks → w ≡ slice_index_or walks (i - 1) w → head ≡ w.walk.now
-    → with_head (i - 1) head (least_from i (drop i (nows walks))) ≡ least_from (i - 1) (drop (i - 1) (nows walks))
-least_step walks i w head some le is now =
+pub least_step : (walks : List TableWalk) (i : ℕ) → 0 < i → i ≤ length walks
+    → with_head (i - 1) (head_in walks (i - 1)) (least_from i (drop i (nows walks))) ≡ least_from (i - 1) (drop (i - 1) (nows walks))
+least_step walks i some le =
     let same : suc (i - 1) ≡ i = omega (arith, some) in
-    ap (λ (h : Option Entry). with_head (i - 1) h (least_from i (drop i (nows walks)))) (now ∙ ap (λ (x : TableWalk). x.walk.now) is)
-    ∙ sym (ap (λ (k : ℕ). with_head (i - 1) (slice_index_or walks (i - 1) w).walk.now (least_from k (drop k (nows walks)))) same)
-    ∙ sym (ap (least_from (i - 1)) (drop_nows walks (i - 1) w (omega (arith, some, le))))
+    sym (ap (λ (k : ℕ). with_head (i - 1) (head_in walks (i - 1)) (least_from k (drop k (nows walks)))) same)
+    ∙ sym (ap (least_from (i - 1)) (drop_nows walks (i - 1) (omega (arith, some, le))))
+
+-- the entry at hand of a walk that was looked up
+pub head_here : (walks : List TableWalk) (at : ℕ) (w other : TableWalk) → at < length walks → w ≡ slice_index_or walks at other → w.walk.now ≡ head_in walks at
+head_here [] at w other lt is = absurd (omega (arith, lt))
+head_here (v ∷ more) zero w other lt is = ap (λ (x : TableWalk). x.walk.now) is
+head_here (v ∷ more) (suc at) w other lt is = head_here more at w other (omega (arith, lt)) is
 
 -- the least of the walks
 pub record IsFirst (walks : List TableWalk) (at : ℕ) (key : Bytes) : Type 0 where
@@ -144,18 +149,12 @@ least_there [] at e least = absurd least
 least_there (w ∷ more) zero e least = (omega arith, least.0)
 least_there (w ∷ more) (suc at) e least = let rest = least_there more at e least.1 in (omega (arith, rest.0), rest.1)
 
-abbrev pub head_in : List TableWalk → ℕ → Option Entry
-head_in walks at = option_map_or (λ (w : TableWalk). w.walk.now) (slice_get walks at) None
-
 -- a table's entry is the first with the least key, where that of the memory is above it
 pub first_table : (memory : Option Entry) (walks : List TableWalk) (at : ℕ) (key : Bytes) → Some (at, key) ≡ least_from 0 (nows walks) → IsHeadAbove key memory
     → (e : Entry) × (head_in walks at ≡ Some e) × (IsHeadAbove e.key memory × IsLeastAt (nows walks) at e)
 first_table memory walks at key is above =
     let first = first_found walks at key is in
     (first.entry, (least_there walks at first.entry first.least).1, (subst (λ (k : Bytes). IsHeadAbove k memory) (sym first.key_is) above, first.least))
-
-pub table_there : (walks : List TableWalk) (at : ℕ) (key : Bytes) → Some (at, key) ≡ least_from 0 (nows walks) → at < length walks
-table_there walks at key is = let first = first_found walks at key is in (least_there walks at first.entry first.least).0
 
 -- that of the memory is, where no table's is before it
 pub first_memory : (h : Entry) (head : Option Entry) (walks : List TableWalk) → Some h ≡ head → AllByRecursion (IsHeadFrom h.key) (nows walks)

@@ -1,7 +1,9 @@
 pub mod FirstFills
 pub mod Fills
+pub mod FilledSteps
 pub mod Least
 pub mod Keys
+pub mod LeadOrder
 pub mod Memories
 pub mod Merged
 pub mod Rank

@@ -1,6 +1,7 @@
 -- Which source has the next row: the first of those whose entry at hand has the least key.
-use Rattle.std.specs.Prelude.{◌≡◌, ℕ, zero, suc, false, List, [], ◌∷◌, map, Option, Some, None, if◌then◌else◌}
+use Rattle.std.specs.Prelude.{◌≡◌, ℕ, zero, suc, false, List, [], ◌∷◌, map, slice_get, Option, Some, None, if◌then◌else◌}
 use Rattle.std.specs.List.{AllByRecursion}
+use Rattle.std.specs.Option.{option_map_or}
 use Rattle.entry_model.specs.Entries.{Entry}
 use Rattle.key_base.specs.ByteOrder.{IsBefore, is_before}
 use Rattle.map_model.specs.SortedMap.{Bytes}
@@ -30,6 +31,10 @@ IsLeastAt (head ∷ older) zero entry = (head ≡ Some entry) × AllByRecursion 
 IsLeastAt (head ∷ older) (suc place) entry = IsHeadAbove entry.key head × IsLeastAt older place entry
 
 -- ---- as it is found, from the oldest on
+
+-- the entry at hand of the walk at a place
+abbrev pub head_in : List TableWalk → ℕ → Option Entry
+head_in walks at = option_map_or (λ (w : TableWalk). w.walk.now) (slice_get walks at) None
 
 -- a place with its key, or another one whose key is less
 abbrev pub nearer : ℕ → Bytes → Option (ℕ × Bytes) → Option (ℕ × Bytes)

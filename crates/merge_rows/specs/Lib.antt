@@ -9,6 +9,7 @@ pub use Rattle.table_file.specs.Walks
 pub mod Rows
 pub mod Examples
 pub mod Merges
+pub mod Leads
 pub mod Choosing
 pub mod SourcePlaces
 pub mod Steps

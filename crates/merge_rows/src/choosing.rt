@@ -1,14 +1,14 @@
 //! Which source has the next row.
-ghost use Rattle.std.specs.Prelude.{◌≡◌, map, Some, IfSome, MatchOption};
+ghost use Rattle.std.specs.Prelude.{◌≡◌, ◌<◌, length, map, Some, IfSome, MatchOption};
 ghost use Rattle.std.specs.List.{AllByRecursion};
 ghost use Rattle.std.specs.Option.{option_map};
 ghost use Rattle.entry_model.specs.Entries.{Entry, IsEntry, entry_of};
-ghost use Rattle.merge_rows.specs.Choosing.{IsLeastAt, IsNone, heads_of, least_from, nearer};
+ghost use Rattle.merge_rows.specs.Choosing.{IsLeastAt, IsNone, head_in, heads_of, least_from, with_head};
+ghost use Rattle.merge_rows.specs.Leads.{key_at_hand};
 ghost use Rattle.merge_rows.specs.Merges.{TableWalk};
 
 use crate::memory_source::MemorySource;
 use crate::table_source::TableSource;
-use key_base::compare;
 
 /// One of the sources of a merge: the memory table, or a walk over a table.
 #[derive(Clone, Copy)]
@@ -28,15 +28,15 @@ impl Source {
         ensures there { IfSome result (λ source. IsSourceIn source walks.now) }
     {
         match (memory.entry(), least_walk(walks)) {
-            (Some((key, _)), Some((at, other))) => {
-                if compare(other, key).is_lt() {
+            (Some((key, _)), Some(at)) => {
+                if walks[at].is_before_key(key) {
                     Some(Source::Table(at))
                 } else {
                     Some(Source::Memory)
                 }
             }
             (Some(_), None) => Some(Source::Memory),
-            (None, Some((at, _))) => Some(Source::Table(at)),
+            (None, Some(at)) => Some(Source::Table(at)),
             (None, None) => None,
         }
     }
@@ -58,34 +58,30 @@ impl Source {
     }
 }
 
-// The one of two walks whose key is less, the first where both have it.
-fn lesser<'w>(
-    newer: (usize, &'w [u8]),
-    older: Option<(usize, &'w [u8])>,
-) -> Option<(usize, &'w [u8])>
-    ensures { option_map (λ l. (l.0, l.1.now)) result ≡ nearer newer.entry.0 newer.entry.1.now (option_map (λ l. (l.0, l.1.now)) older.entry) }
-{
-    match older {
-        Some(other) => {
-            if compare(other.1, newer.1).is_lt() {
-                Some(other)
-            } else {
-                Some(newer)
-            }
-        }
-        None => Some(newer),
-    }
-}
-
-// The first of the walks whose entry at hand has the least key, and that key.
-fn least_walk(walks: &[TableSource]) -> Option<(usize, &[u8])>
-    ensures { option_map (λ l. (l.0, l.1.now)) result ≡ least_from 0 (map (λ (w : TableWalk). w.walk.now) walks.now) }
+// The first of the walks whose entry at hand has the least key.
+fn least_walk(walks: &[TableSource]) -> Option<usize>
+    ensures least { option_map (λ at. (at, key_at_hand (head_in walks.now at))) result ≡ least_from 0 (map (λ (w : TableWalk). w.walk.now) walks.now) }
+    ensures there { IfSome result (λ at. at < length walks.now) }
 {
     let mut least = None;
     for i in (0..walks.len()).rev() {
-        if let Some((key, _)) = walks[i].entry() {
-            least = lesser((i, key), least);
-        }
+        least = nearer(walks, i, least);
     }
     least
+}
+
+// The one of two walks whose key is less, the first where both have it; and the other where the first has no entry at hand.
+fn nearer(walks: &[TableSource], newer: usize, older: Option<usize>) -> Option<usize>
+    requires newer { newer < length walks.now }
+    requires older { IfSome older (λ at. at < length walks.now) }
+    ensures nearer { option_map (λ at. (at, key_at_hand (head_in walks.now at))) result ≡ with_head newer (head_in walks.now newer) (option_map (λ at. (at, key_at_hand (head_in walks.now at))) older) }
+    ensures there { IfSome result (λ at. at < length walks.now) }
+{
+    if !walks[newer].has_entry() {
+        return older;
+    }
+    match older {
+        Some(at) if walks[at].is_before(&walks[newer]) => older,
+        _ => Some(newer),
+    }
 }

@@ -1,9 +1,12 @@
 //! The keys that are still to come.
 ghost use Rattle.std.specs.Prelude.{◌≡◌, ◌≤◌, length, false, true, IfOk};
+ghost use Rattle.byte_fields.specs.Spelling.{IsBytes};
 ghost use Rattle.key_base.specs.Limits.{max_key_bytes};
+ghost use Rattle.merge_rows.specs.Leads.{lead_of};
 ghost use Rattle.merge_rows.specs.Rows.{clears};
 
-use key_base::{MAX_KEY_BYTES, compare};
+use crate::leads::{compare_alike, lead_of};
+use key_base::MAX_KEY_BYTES;
 use std::alloc::{AllocError, Global};
 use std::cmp::Ordering;
 use std::marker::Model;
@@ -13,18 +16,22 @@ use std::marker::Model;
 pub(crate) struct Floor {
     key: Vec<u8>,
     passed: bool,
+    // the lead of the key
+    lead: u64,
 }
 
 impl Model for Floor {
-    ghost use Rattle.std.specs.Prelude.{◌≤◌, vec_capacity};
+    ghost use Rattle.std.specs.Prelude.{◌≡◌, ◌≤◌, vec_capacity};
+    ghost use Rattle.byte_fields.specs.Spelling.{IsBytes};
     ghost use Rattle.key_base.specs.Limits.{max_key_bytes};
+    ghost use Rattle.merge_rows.specs.Leads.{lead_of};
     ghost use Rattle.merge_rows.specs.Rows.{KeyFloor};
 
     ghost Value = { KeyFloor };
 
     ghost view = { λ f. record { key = f.key.items; passed = f.passed } };
 
-    ghost invariant = { λ f. max_key_bytes ≤ vec_capacity f.key };
+    ghost invariant = { λ f. (max_key_bytes ≤ vec_capacity f.key) × (f.lead ≡ lead_of f.key.items) × IsBytes f.key.items };
 }
 
 impl Floor {
@@ -34,14 +41,38 @@ impl Floor {
     {
         let mut key = Vec::with_capacity(alloc, low.len() + MAX_KEY_BYTES)?;
         key.extend_from_slice(low)?;
-        Ok(Floor { key, passed: false })
+        Ok(Floor {
+            key,
+            passed: false,
+            lead: lead_of(low),
+        })
+    }
+
+    /// The lead of the bound, or of the key that was handed out last.
+    pub(crate) fn lead(&self) -> u64
+        ensures lead { result ≡ lead_of self.now.key }
+        ensures bytes { IsBytes self.now.key }
+    {
+        self.lead
     }
 
     /// Whether the key is one of them.
     pub(crate) fn clears(&self, key: &[u8]) -> bool
         ensures { result ≡ clears self.now key.now }
     {
-        match compare(&self.key, key) {
+        let lead = lead_of(key);
+        if self.lead != lead {
+            return self.lead < lead;
+        }
+        self.clears_alike(key)
+    }
+
+    /// Whether a key with the floor's lead is one of them.
+    pub(crate) fn clears_alike(&self, key: &[u8]) -> bool
+        requires { lead_of self.now.key ≡ lead_of key.now }
+        ensures { result ≡ clears self.now key.now }
+    {
+        match compare_alike(&self.key, key) {
             Ordering::Less => true,
             Ordering::Equal => !self.passed,
             Ordering::Greater => false,
@@ -59,5 +90,6 @@ impl Floor {
             Err(_) => unreachable!(),
         }
         self.passed = true;
+        self.lead = lead_of(key);
     }
 }

@@ -6,8 +6,9 @@
 //! the next row wants one. On a device whose blocks do not rise, which no table that was written has, an entry that is not
 //! above the last row is passed over.
 //!
-//! It takes a buffer of 69,632 bytes for each table, and a comparison with each of them for a row: for tens of tables, and
-//! not for thousands. Not for one key: that is [`Table::get`](table_file::Table::get), which reads one block at most.
+//! It takes a buffer of 69,632 bytes for each table, and for a row two comparisons with each of them, of the first eight bytes
+//! of keys as numbers; where these are the same, the keys are read. For tens of tables, and not for thousands. Not for one
+//! key: that is [`Table::get`](table_file::Table::get), which reads one block at most.
 //!
 //! ```text
 //! let mut rows = MergeRows::new(which, &tables, Some(&memory), b"a", true)?;   // all the memory; tombstones are left out
@@ -19,6 +20,7 @@ mod choosing;
 pub mod examples;
 mod floor;
 mod laws;
+mod leads;
 mod memory_source;
 mod rows;
 mod table_source;

@@ -1,16 +1,20 @@
 //! The merge.
-ghost use Rattle.std.specs.Prelude.{◌≡◌, ◌==◌, ◌<◌, ◌≤◌, ◌+◌, ◌||◌, Bool, false, not, is_some, [], length, map, Option, Some, None, slice_get, IsTrue, IfSome, IfOk, IfErr, OnOk, OnErr, MatchResult};
+ghost use Rattle.std.specs.Prelude.{◌≡◌, ◌==◌, ◌<◌, ◌≤◌, ◌+◌, ◌||◌, Bool, false, not, is_some, [], List, length, map, Option, Some, None, slice_get, IsTrue, IfSome, IfOk, IfErr, OnOk, OnErr, MatchResult};
 ghost use Rattle.std.specs.List.{AllByRecursion, list_any};
 ghost use Rattle.std.specs.Option.{option_map};
 ghost use Rattle.std.specs.Borrow.{sem};
 ghost use Rattle.block_model.specs.Places.{byte_of_page};
+ghost use Rattle.disk_trait.specs.Image.{Image};
 ghost use Rattle.disk_trait.specs.World.{ReadMoves};
 ghost use Rattle.entry_model.specs.Entries.{Entry, IsEntry, entry_of};
+ghost use Rattle.entry_model.specs.Newest.{KeysRise};
 ghost use Rattle.merge_rows.specs.Choosing.{heads_of};
 ghost use Rattle.merge_rows.specs.Merges.{TableWalk, merge_from, merged_left, numbered, rows_left, walk_at};
 ghost use Rattle.merge_rows.specs.Reads.{IsFewer, IsRead, OnlyReads, SomeBlock, blocks_left, next_blocks, wanted};
 ghost use Rattle.merge_rows.specs.Steps.{AreCaughtUp, AreHeadsClear, AreNumbersIn, HandsOutRow, IsCaughtUp, IsChosen, IsFaultStep, IsPaced, IsRowStep, IsSoundMerge, RowPasses, SourcesStay, StaysAt, numbers};
+ghost use Rattle.merge_rows.specs.Rows.{above_floor};
 ghost use Rattle.table_file.specs.Faults.{HasReadCause, IsNoWant};
+ghost use Rattle.table_file.specs.Opened.{Opened};
 ghost use Rattle.table_file.specs.Search.{IsGetFault, page_at};
 ghost use Rattle.table_file.specs.Walks.{first_of};
 
@@ -186,6 +190,22 @@ impl<'m> MergeRows<'m> {
         fill_first(&mut self.walks, disk, tables, &self.floor)
     }
 
+    /// Goes on to the next row where it wants no block, as behind a [`fill`](MergeRows::fill) that did not read, and answers
+    /// whether there is one: it is then at hand. No read and no memory. Not where tombstones are dropped: the rows behind them
+    /// may want blocks.
+    pub fn advance_filled(&mut self) -> bool
+        requires whole { self.old.drops ≡ false }
+        requires clear { AreHeadsClear self.old.floor self.old.walks }
+        ensures said { result ≡ is_some self.new.now }
+        ensures walks { self.new.walks ≡ self.old.walks }
+        ensures sound { IfSome self.new.now IsEntry }
+        ensures row { (tells : Bool) (tables : List Opened) (image : Image) → (IsTrue tells → AreCaughtUp self.old.floor tables image self.old.walks)
+            → SourcesStay tells tables image self.old self.new × IsRowStep tells tables image self.old self.new }
+    {
+        self.pass_memory();
+        self.choose()
+    }
+
     /// Whether the table of a number is one of those that are merged.
     pub fn has_table(&self, number: u32) -> bool
         ensures { result ≡ list_any (λ n. n == number) (numbers self.now.walks) }
@@ -197,8 +217,11 @@ impl<'m> MergeRows<'m> {
     fn is_shown(&self) -> bool
         ensures { IfSome self.now.now (λ e. result ≡ (not self.now.drops || is_some e.value)) }
     {
+        if !self.drops {
+            return true;
+        }
         match self.entry() {
-            Some((_, value)) => !self.drops || value.is_some(),
+            Some((_, value)) => value.is_some(),
             None => false,
         }
     }
@@ -231,6 +254,19 @@ impl<'m> MergeRows<'m> {
     {
         self.catch_up(disk, tables)?;
         Ok(self.choose())
+    }
+
+    // The memory goes on to its first entry above the floor. No row is at hand then.
+    fn pass_memory(&mut self)
+        ensures floor { self.new.floor ≡ self.old.floor }
+        ensures drops { self.new.drops ≡ self.old.drops }
+        ensures walks { self.new.walks ≡ self.old.walks }
+        ensures same { above_floor self.old.floor self.new.memory ≡ above_floor self.old.floor self.old.memory }
+        ensures rises { KeysRise self.old.memory → KeysRise self.new.memory }
+        ensures ready { IsCaughtUp self.old.floor (first_of self.new.memory) self.new.memory }
+    {
+        self.row = None;
+        self.memory.catch_up(&self.floor);
     }
 
     // Each source goes on to its first entry above the floor. No row is at hand then.

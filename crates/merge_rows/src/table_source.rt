@@ -1,10 +1,12 @@
 //! A walk over a table as a source.
-ghost use Rattle.std.specs.Prelude.{◌≡◌, ◌==◌, ◌<◌, ◌≤◌, ◌+◌, ◌-◌, ◌&&◌, ℕ, Bool, true, false, not, length, map, Option, Some, None, slice_get, IsTrue, IfSome, IfOk, IfErr, OnOk, OnErr};
+ghost use Rattle.std.specs.Prelude.{◌≡◌, ◌==◌, ◌<◌, ◌≤◌, ◌+◌, ◌-◌, ◌&&◌, ℕ, Bool, true, false, not, length, map, Option, Some, None, is_some, slice_get, IsTrue, IfSome, IfOk, IfErr, OnOk, OnErr};
 ghost use Rattle.std.specs.List.{list_any};
 ghost use Rattle.std.specs.Option.{option_map};
 ghost use Rattle.block_model.specs.Places.{byte_of_page};
 ghost use Rattle.disk_trait.specs.World.{ReadMoves};
 ghost use Rattle.entry_model.specs.Entries.{IsEntry, entry_of};
+ghost use Rattle.key_base.specs.ByteOrder.{is_before};
+ghost use Rattle.merge_rows.specs.Leads.{key_at_hand};
 ghost use Rattle.merge_rows.specs.Merges.{blocks_in, left_above, numbered, walk_at, walk_left, with_hand};
 ghost use Rattle.merge_rows.specs.Reads.{BlockOf, IsFewer, IsRead, SomeBlock, blocks_left, blocks_left_in, is_used_up, next_blocks, wanted_by, wanted_block_of};
 ghost use Rattle.merge_rows.specs.Rows.{above_floor};
@@ -14,6 +16,7 @@ ghost use Rattle.table_file.specs.Search.{IsGetFault, page_at};
 ghost use Rattle.table_file.specs.Walks.{blocks_on, is_due, to_come};
 
 use crate::floor::Floor;
+use crate::leads::{compare_alike, lead_of};
 use disk_trait::Disk;
 use filter_api::RangeFilter;
 use std::alloc::{AllocError, Global};
@@ -25,14 +28,21 @@ use table_file::{Table, TableCursor, TableFault, Tables};
 pub(crate) struct TableSource {
     number: u32,
     walk: TableCursor,
+    // the lead of the key at hand, 0 where none is
+    lead: u64,
 }
 
 impl Model for TableSource {
+    ghost use Rattle.std.specs.Prelude.{◌≡◌};
+    ghost use Rattle.byte_fields.specs.Spelling.{IsBytes};
+    ghost use Rattle.merge_rows.specs.Leads.{key_at_hand, lead_of};
     ghost use Rattle.merge_rows.specs.Merges.{TableWalk};
 
     ghost Value = { TableWalk };
 
     ghost view = { λ s. record { number = s.number; walk = s.walk } };
+
+    ghost invariant = { λ s. (s.lead ≡ lead_of (key_at_hand s.walk.now)) × IsBytes (key_at_hand s.walk.now) };
 }
 
 impl TableSource {
@@ -47,7 +57,11 @@ impl TableSource {
         ensures { IfOk result (λ s. s ≡ record { number = number; walk = walk_at (numbered tables.now.tables number) low.now }) }
     {
         let walk = table_of(number, tables).cursor(alloc, low)?;
-        Ok(TableSource { number, walk })
+        Ok(TableSource {
+            number,
+            walk,
+            lead: 0,
+        })
     }
 
     /// The key and the value of the entry at hand, `None` for a tombstone's value, or `None` where none is.
@@ -58,14 +72,53 @@ impl TableSource {
         self.walk.entry()
     }
 
+    /// Whether an entry is at hand.
+    pub(crate) fn has_entry(&self) -> bool
+        ensures { result ≡ is_some self.now.walk.now }
+    {
+        self.lead != 0 || self.entry().is_some()
+    }
+
+    /// Whether the key at hand is before that of another walk. A walk with none at hand counts as one at the key of no byte.
+    pub(crate) fn is_before(&self, other: &TableSource) -> bool
+        ensures { result ≡ is_before (key_at_hand self.now.walk.now) (key_at_hand other.now.walk.now) }
+    {
+        if self.lead != other.lead {
+            return self.lead < other.lead;
+        }
+        compare_alike(key_of(self.entry()), key_of(other.entry())).is_lt()
+    }
+
+    /// Whether the key at hand is before another one. A walk with none at hand counts as one at the key of no byte.
+    pub(crate) fn is_before_key(&self, other: &[u8]) -> bool
+        ensures { result ≡ is_before (key_at_hand self.now.walk.now) other.now }
+    {
+        let lead = lead_of(other);
+        if self.lead != lead {
+            return self.lead < lead;
+        }
+        compare_alike(key_of(self.entry()), other).is_lt()
+    }
+
     // Whether an entry above the floor is at hand.
     fn is_ready(&self, floor: &Floor) -> bool
         ensures { result ≡ not (is_used_up floor.now self.now.walk.now) }
     {
+        let passed = floor.lead();
+        if passed != self.lead {
+            return passed < self.lead;
+        }
         match self.entry() {
-            Some((key, _)) => floor.clears(key),
+            Some((key, _)) => floor.clears_alike(key),
             None => false,
         }
+    }
+
+    // Whether the lead of the key at hand is above the floor's. Then the key is; if not, it may be too.
+    fn leads(&self, floor: &Floor) -> bool
+        ensures { result ≡ true → is_used_up floor.now self.now.walk.now ≡ false }
+    {
+        floor.lead() < self.lead
     }
 
     // Passes over the entries in memory that are not above the floor, and answers whether a block is wanted then. No read.
@@ -94,8 +147,11 @@ impl TableSource {
                 return true;
             }
             match self.walk.advance(disk, table) {
-                Ok(true) => {}
-                Ok(false) => return false,
+                Ok(true) => self.lead = lead_of(key_of(self.walk.entry())),
+                Ok(false) => {
+                    self.lead = 0;
+                    return false;
+                }
                 // where no block is due, none is read
                 Err(_) => unreachable!(),
             }
@@ -131,11 +187,16 @@ impl TableSource {
         ensures once { IsTrue D.tells → IsSoundWalk floor.now self.old.walk (blocks_in (numbered tables.now.tables self.old.number) (D.world disk.old).seen.held)
             → ReadMoves 1 (D.world disk.old) (D.world disk.new) × IsFewer result (wanted_block_of floor.now tables.now.tables self.old) (wanted_block_of floor.now tables.now.tables self.new) }
     {
+        if self.leads(floor) {
+            return Ok(false);
+        }
         let table = table_of(self.number, tables);
         if !self.pass_over(disk, table, floor) {
             return Ok(false);
         }
-        match self.walk.advance(disk, table) {
+        let answer = self.walk.advance(disk, table);
+        self.lead = lead_of(key_of(self.walk.entry()));
+        match answer {
             Ok(_) => Ok(true),
             Err(why) => Err(why),
         }
@@ -177,6 +238,16 @@ pub(crate) fn fill_first<F: RangeFilter, D: Disk>(
         }
     }
     Ok(false)
+}
+
+// The key of an entry, or that of no byte where there is none.
+fn key_of<'w>(entry: Option<(&'w [u8], Option<&'w [u8]>)>) -> &'w [u8]
+    ensures { result.now ≡ key_at_hand (option_map (λ found. entry_of found.0.now (option_map (λ v. v.now) found.1)) entry.entry) }
+{
+    match entry {
+        Some((key, _)) => key,
+        None => &[],
+    }
 }
 
 // The table of a number.

@@ -3,7 +3,8 @@ use Rattle.std.specs.Prelude.{Ok}
 use Rattle.disk_trait.specs.Image.{Image}
 use Rattle.disk_trait.specs.World.{ReadMoves}
 use Rattle.merge_rows.specs.Reads.{IsFewer, blocks_left, wanted}
-use Rattle.merge_rows.specs.Steps.{IsSoundMerge, StaysAt, numbers}
+use Rattle.merge_rows.specs.Rows.{KeyFloor}
+use Rattle.merge_rows.specs.Steps.{AreCaughtUp, AreHeadsClear, IsSoundMerge, StaysAt, numbers}
 use Rattle.merge_rows.proofs.Stays.{only_then, read_none, read_one}
 use Rattle.level_merge.proofs.AllRead.{wanted_left}
 use Rattle.level_merge.proofs.Reading.{kept_then, later_fault, none_more, none_wanted, one_more, one_wanted, read_fault, within_all}
@@ -67,6 +68,17 @@ returns-in-Ok-false-clause-ready g c t s less =
     let is : c.fill.result ≡ Ok false = c.in-Ok-false.is ∙ ap (λ (b : Bool). Ok b) c.in-Ok-false.field-0-test in
     let once = subst (λ (h : Image). IsSoundMerge old tables h → IsFewer c.fill.result (wanted old tables) (wanted new tables)) from.moves.1.held (λ u. (c.fill.ensures.once t u).1) (from.kept.sources.sound t s) in
     none_wanted c.fill.result (wanted old tables) (wanted new tables) is once
+
+pub returns-in-Ok-false-clause-clear : goal.returns-in-Ok-false-clause-clear
+returns-in-Ok-false-clause-clear g c less =
+    subst (λ (f : KeyFloor). AreHeadsClear f c.fill.new.self.walks) (sym c.fill.ensures.stays.floor_is) (c.in-Ok-false.ensures.clear c.in-Ok-false.field-0-test)
+
+pub returns-in-Ok-false-clause-caught : goal.returns-in-Ok-false-clause-caught
+returns-in-Ok-false-clause-caught g c t less =
+    let tables = c.args.tables.now.tables in
+    let walks = c.fill.new.self.walks in
+    let caught = subst (λ (h : Image). AreCaughtUp c.loop-left.rows.floor tables h walks) c.loop-left.invariant.moves.1.held (c.in-Ok-false.ensures.ready t c.in-Ok-false.field-0-test) in
+    subst (λ (f : KeyFloor). AreCaughtUp f tables (g.D.Disk.world c.args.disk.now).seen.held walks) (sym c.fill.ensures.stays.floor_is) caught
 
 pub returns-in-Ok-false-clause-moves : goal.returns-in-Ok-false-clause-moves
 returns-in-Ok-false-clause-moves g c =

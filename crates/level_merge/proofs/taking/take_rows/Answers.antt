@@ -1,29 +1,59 @@
-use Rattle.std.proofs.Common.{rules, ◌≡◌, ◌∙◌, ◌++◌, ℕ, List, true, sym, ap, subst, arith}
-use Rattle.std.specs.Prelude.{is_some}
+use Rattle.std.proofs.Common.{rules, ◌≡◌, ◌<◌, ◌≤◌, ◌∙◌, ◌++◌, Bool, List, true, false, sym, ap, subst, arith}
+use Rattle.std.specs.Prelude.{IsTrue, is_some}
 use Rattle.disk_trait.specs.Image.{Image}
-use Rattle.disk_trait.specs.World.{ReadMoves}
 use Rattle.entry_model.specs.Entries.{Entry}
 use Rattle.key_base.specs.Limits.{max_key_bytes}
+use Rattle.merge_rows.specs.Merges.{Merge}
 use Rattle.merge_rows.specs.Reads.{blocks_left}
 use Rattle.merge_rows.specs.Rows.{KeyFloor}
-use Rattle.merge_rows.specs.Steps.{IsRowStep, IsSoundMerge, RowPasses, SourcesStay, numbers}
+use Rattle.merge_rows.specs.Steps.{AreCaughtUp, IsRowStep, IsSoundMerge, RowPasses, SourcesStay, numbers}
 use Rattle.merge_rows.proofs.Rank.{falls, key_of_entry}
 use Rattle.merge_rows.proofs.RowSteps.{rises_on}
 use Rattle.merge_rows.proofs.Stays.{only_both}
 use Rattle.level_merge.specs.Merging.{IsBuilding, at_hand}
-use Rattle.level_merge.specs.Slices.{FillsOutput, IsTakeFault, KeepsRows}
-use Rattle.level_merge.proofs.Reading.{both_within, later_fault, none_more, read_fault, some_then}
-use Rattle.level_merge.proofs.RowsTaken.{building_more, building_rises, fills_one, stays_on}
+use Rattle.level_merge.specs.Slices.{FillsOutput, KeepsRows}
+use Rattle.level_merge.proofs.Reading.{both_within, later_fault, some_then}
+use Rattle.level_merge.proofs.RowsTaken.{building_more, building_rises, fills_last, fills_one, none_left, row_follows, stays_on}
 use Rattle.state_model.specs.Merges.{lasting}
 use Rattle.table_file.specs.Building.{Built}
+use Rattle.table_file.specs.Opened.{Opened}
 use Rattle.level_merge.proofs.taking.take_rows.Goals as goal
+
+-- the step to the next row, as it is said of the device at first
+step_of : (tells : Bool) (tables : List Opened) (image here : Image) (mid new : Merge) → here ≡ image
+    → ((tells : Bool) (tables : List Opened) (image : Image) → (IsTrue tells → AreCaughtUp mid.floor tables image mid.walks) → SourcesStay tells tables image mid new × IsRowStep tells tables image mid new)
+    → (IsTrue tells → AreCaughtUp mid.floor tables here mid.walks) → SourcesStay tells tables image mid new × IsRowStep tells tables image mid new
+step_of tells tables image here mid new held row caught = row tells tables image (λ t. subst (λ (h : Image). AreCaughtUp mid.floor tables h mid.walks) held (caught t))
+
+-- no block is read for it
+same_blocks : (tables : List Opened) (mid new : Merge) → new.walks ≡ mid.walks → blocks_left tables new.walks ≤ blocks_left tables mid.walks
+same_blocks tables mid new walks = omega (arith, ap (blocks_left tables) walks)
+
+-- ---- a row was taken
+
+pub advance_filled-requires-clause-whole : goal.advance_filled-requires-clause-whole
+advance_filled-requires-clause-whole g c =
+    c.read_ahead.ensures.kept.sources.drops_are ∙ c.loop-rows.invariant.stay.drops_are ∙ c.requires.whole
+
+pub add_row-requires-clause-above : goal.add_row-requires-clause-above
+add_row-requires-clause-above g c =
+    let mid = c.read_ahead.new.rows in
+    let new = c.advance_filled.new.self in
+    let built = c.loop-rows.built.entries in
+    let less : 0 < c.in_ok-left.left = omega (arith, c.if-left-eq0.false) in
+    let step = c.advance_filled.ensures.row g.D.Disk.tells c.args.tables.now.tables (g.D.Disk.world c.loop-rows.disk).seen.held (λ t. c.in_ok-left.ensures.caught t less) in
+    let building = subst (λ (f : KeyFloor). IsBuilding f built) (sym c.read_ahead.ensures.kept.floor_is) c.loop-rows.invariant.building in
+    row_follows new.now mid.floor new.floor built step.1.passes building
 
 pub loop-rows-smaller : goal.loop-rows-smaller
 loop-rows-smaller g c =
-    let new = c.advance.new.self in
-    let some : is_some new.now ≡ true = sym c.in-Ok-true.ensures.said ∙ c.in-Ok-true.field-0-test in
-    let passes = subst (λ (f : KeyFloor). RowPasses new.now f new.floor) c.read_ahead.ensures.kept.floor_is c.in-Ok-true.ensures.row.passes in
-    falls max_key_bytes new.now c.loop-rows.rows.floor new.floor some passes (key_of_entry new.now c.in-Ok-true.ensures.sound)
+    let mid = c.read_ahead.new.rows in
+    let new = c.advance_filled.new.self in
+    let less : 0 < c.in_ok-left.left = omega (arith, c.if-left-eq0.false) in
+    let step = c.advance_filled.ensures.row g.D.Disk.tells c.args.tables.now.tables (g.D.Disk.world c.loop-rows.disk).seen.held (λ t. c.in_ok-left.ensures.caught t less) in
+    let some : is_some new.now ≡ true = sym c.advance_filled.ensures.said ∙ c.if-not-advance_filled.false in
+    let passes = subst (λ (f : KeyFloor). RowPasses new.now f new.floor) c.read_ahead.ensures.kept.floor_is step.1.passes in
+    falls max_key_bytes new.now c.loop-rows.rows.floor new.floor some passes (key_of_entry new.now c.advance_filled.ensures.sound)
 
 pub loop-rows-preserved : goal.loop-rows-preserved
 loop-rows-preserved g c =
@@ -31,46 +61,40 @@ loop-rows-preserved g c =
     let tables = c.args.tables.now.tables in
     let before = g.D.Disk.world c.args.disk.now in
     let start = g.D.Disk.world c.loop-rows.disk in
-    let here = g.D.Disk.world c.read_ahead.new.disk in
-    let after = g.D.Disk.world c.advance.new.disk in
+    let after = g.D.Disk.world c.read_ahead.new.disk in
     let image = before.seen.held in
     let first = c.args.rows.now in
     let old = c.loop-rows.rows in
     let mid = c.read_ahead.new.rows in
-    let new = c.advance.new.self in
+    let new = c.advance_filled.new.self in
     let begun = c.args.built.now.entries in
     let built = c.loop-rows.built.entries in
     let from = c.loop-rows.invariant in
     let read = c.in_ok-left.ensures in
-    let step = c.in-Ok-true.ensures in
     let held = from.moves.1.held in
-    let held_here = c.read_ahead.ensures.moves.1.held ∙ held in
+    let less : 0 < c.in_ok-left.left = omega (arith, c.if-left-eq0.false) in
     let kept : KeepsRows tells tables image old mid = subst (λ (h : Image). KeepsRows tells tables h old mid) held c.read_ahead.ensures.kept in
-    let goes : SourcesStay tells tables image mid new = subst (λ (h : Image). SourcesStay tells tables h mid new) held_here c.advance.ensures.kept in
-    let row : IsRowStep tells tables image mid new = subst (λ (h : Image). IsRowStep tells tables h mid new) held_here step.row in
-    let some : is_some new.now ≡ true = sym step.said ∙ c.in-Ok-true.field-0-test in
+    let step = step_of tells tables image start.seen.held mid new held c.advance_filled.ensures.row (λ t. read.caught t less) in
+    let left = same_blocks tables mid new c.advance_filled.ensures.walks in
+    let some : is_some new.now ≡ true = sym c.advance_filled.ensures.said ∙ c.if-not-advance_filled.false in
     let added : c.add_row.new.built.entries ≡ built ++ lasting c.args.drops (at_hand new.now) = ap (λ (b : Built). b.entries) c.in_ok-add_row.ensures.added in
     let building = subst (λ (f : KeyFloor). IsBuilding f built) (sym kept.floor_is) from.building in
     record {
-      stay = stays_on tells tables image c.args.beside c.args.drops first old mid begun built from.stay from.fills kept read.fewer new goes row step.left;
-      building = subst (IsBuilding new.floor) (sym added) (building_more new.now c.args.drops mid.floor new.floor built row.passes step.sound building);
+      stay = stays_on tells tables image c.args.beside c.args.drops first old mid begun built from.stay from.fills kept read.fewer new step.0 step.1 left;
+      building = subst (IsBuilding new.floor) (sym added) (building_more new.now c.args.drops mid.floor new.floor built step.1.passes c.advance_filled.ensures.sound building);
       settings = ap (λ (b : Built). b.settings) c.in_ok-add_row.ensures.added ∙ from.settings;
       fills = subst (λ (es : List Entry). FillsOutput tells tables image c.args.beside c.args.drops first new begun es) (sym added)
-          (fills_one tells tables image c.args.beside c.args.drops first old mid begun built from.stay from.fills kept read.fewer new goes row step.left some (sym c.is_full.ensures ∙ c.loop-rows-test.true));
+          (fills_one tells tables image c.args.beside c.args.drops first old mid begun built from.stay from.fills kept read.fewer new step.0 step.1 left some (sym c.is_full.ensures ∙ c.loop-rows-test.true));
       within = omega (arith, read.within, from.within);
       some = some_then c.args.blocks c.loop-rows.left c.in_ok-left.left (blocks_left tables first.walks) (blocks_left tables old.walks) (blocks_left tables new.walks)
-          read.within from.fills.fewer (let one = step.left in let two = read.fewer in omega (arith, one, two)) from.some
-          (λ less. let fell = read.some less in let one = step.left in omega (arith, fell, one));
-      moves = only_both before here after (only_both before start here from.moves c.read_ahead.ensures.moves) c.advance.ensures.moves;
-      counted = λ t s.
-          let sound_old = from.stay.sound t s in
-          let sound_start = subst (IsSoundMerge old tables) (sym held) sound_old in
-          let one = both_within c.args.blocks c.loop-rows.left c.in_ok-left.left before start here read.within from.within (from.counted t s) (read.counted t sound_start) in
-          let whole = kept.sources.drops_are ∙ from.stay.drops_are ∙ c.requires.whole in
-          let sound_here = subst (IsSoundMerge mid tables) (sym held_here) (kept.sources.sound t sound_old) in
-          let two = subst (λ (n : ℕ). ReadMoves n here after) (read.ready t sound_start (omega (arith, c.if-left-eq0.false))) (c.advance.ensures.bounded t whole sound_here) in
-          none_more c.args.blocks c.in_ok-left.left before here after one two;
+          read.within from.fills.fewer (let two = read.fewer in omega (arith, left, two)) from.some
+          (λ fewer. let fell = read.some fewer in omega (arith, fell, left));
+      moves = only_both before start after from.moves c.read_ahead.ensures.moves;
+      counted = λ t s. both_within c.args.blocks c.loop-rows.left c.in_ok-left.left before start after read.within from.within (from.counted t s)
+          (read.counted t (subst (IsSoundMerge old tables) (sym held) (from.stay.sound t s)));
     }
+
+-- ---- no row was taken
 
 pub returns-in_err-left-clause-moves : goal.returns-in_err-left-clause-moves
 returns-in_err-left-clause-moves g c =
@@ -88,46 +112,113 @@ pub returns-then-left-eq0-clause-moves : goal.returns-then-left-eq0-clause-moves
 returns-then-left-eq0-clause-moves g c =
     only_both (g.D.Disk.world c.args.disk.now) (g.D.Disk.world c.loop-rows.disk) (g.D.Disk.world c.read_ahead.new.disk) c.loop-rows.invariant.moves c.read_ahead.ensures.moves
 
-pub returns-in-Err-clause-moves : goal.returns-in-Err-clause-moves
-returns-in-Err-clause-moves g c =
-    let before = g.D.Disk.world c.args.disk.now in
-    let here = g.D.Disk.world c.read_ahead.new.disk in
-    only_both before here (g.D.Disk.world c.advance.new.disk)
-    (only_both before (g.D.Disk.world c.loop-rows.disk) here c.loop-rows.invariant.moves c.read_ahead.ensures.moves) c.advance.ensures.moves
-
-pub returns-in-Err-clause-fault : goal.returns-in-Err-clause-fault
-returns-in-Err-clause-fault g c =
+pub returns-then-not-advance_filled-clause-sources : goal.returns-then-not-advance_filled-clause-sources
+returns-then-not-advance_filled-clause-sources g c =
     let tells = g.D.Disk.tells in
     let tables = c.args.tables.now.tables in
-    let before = g.D.Disk.world c.args.disk.now in
-    let here = g.D.Disk.world c.read_ahead.new.disk in
-    let after = g.D.Disk.world c.advance.new.disk in
-    let reads = only_both before (g.D.Disk.world c.loop-rows.disk) here c.loop-rows.invariant.moves c.read_ahead.ensures.moves in
-    let now = numbers c.read_ahead.new.rows.walks in
-    let which = numbers c.args.rows.now.walks in
-    let same : now ≡ which = c.read_ahead.ensures.kept.sources.numbers_are ∙ c.loop-rows.invariant.stay.numbers_are in
-    let is = read_fault tells tables now here after c.in-Err.why c.in-Err.ensures.taken c.in-Err.ensures.cause c.in-Err.ensures.fault in
-    subst (IsTakeFault tells tables which before after) (sym c.from.ensures) (later_fault tells tables now which before here after _ same reads is)
+    let image = (g.D.Disk.world c.args.disk.now).seen.held in
+    let first = c.args.rows.now in
+    let old = c.loop-rows.rows in
+    let mid = c.read_ahead.new.rows in
+    let new = c.advance_filled.new.self in
+    let begun = c.args.built.now.entries in
+    let built = c.loop-rows.built.entries in
+    let from = c.loop-rows.invariant in
+    let read = c.in_ok-left.ensures in
+    let held = from.moves.1.held in
+    let less : 0 < c.in_ok-left.left = omega (arith, c.if-left-eq0.false) in
+    let kept : KeepsRows tells tables image old mid = subst (λ (h : Image). KeepsRows tells tables h old mid) held c.read_ahead.ensures.kept in
+    let step = step_of tells tables image (g.D.Disk.world c.loop-rows.disk).seen.held mid new held c.advance_filled.ensures.row (λ t. read.caught t less) in
+    let left = same_blocks tables mid new c.advance_filled.ensures.walks in
+    stays_on tells tables image c.args.beside c.args.drops first old mid begun built from.stay from.fills kept read.fewer new step.0 step.1 left
 
-pub returns-in-Ok-false-clause-moves : goal.returns-in-Ok-false-clause-moves
-returns-in-Ok-false-clause-moves g c =
-    let before = g.D.Disk.world c.args.disk.now in
-    let here = g.D.Disk.world c.read_ahead.new.disk in
-    only_both before here (g.D.Disk.world c.advance.new.disk)
-    (only_both before (g.D.Disk.world c.loop-rows.disk) here c.loop-rows.invariant.moves c.read_ahead.ensures.moves) c.advance.ensures.moves
+pub returns-then-not-advance_filled-clause-building : goal.returns-then-not-advance_filled-clause-building
+returns-then-not-advance_filled-clause-building g c =
+    let mid = c.read_ahead.new.rows in
+    let new = c.advance_filled.new.self in
+    let built = c.loop-rows.built.entries in
+    let less : 0 < c.in_ok-left.left = omega (arith, c.if-left-eq0.false) in
+    let step = c.advance_filled.ensures.row g.D.Disk.tells c.args.tables.now.tables (g.D.Disk.world c.loop-rows.disk).seen.held (λ t. c.in_ok-left.ensures.caught t less) in
+    let building = subst (λ (f : KeyFloor). IsBuilding f built) (sym c.read_ahead.ensures.kept.floor_is) c.loop-rows.invariant.building in
+    building_rises mid.floor new.floor built (rises_on new.now mid.floor new.floor step.1.passes) building
+
+pub returns-then-not-advance_filled-clause-taken : goal.returns-then-not-advance_filled-clause-taken
+returns-then-not-advance_filled-clause-taken g c =
+    let tells = g.D.Disk.tells in
+    let tables = c.args.tables.now.tables in
+    let image = (g.D.Disk.world c.args.disk.now).seen.held in
+    let first = c.args.rows.now in
+    let old = c.loop-rows.rows in
+    let mid = c.read_ahead.new.rows in
+    let new = c.advance_filled.new.self in
+    let begun = c.args.built.now.entries in
+    let built = c.loop-rows.built.entries in
+    let from = c.loop-rows.invariant in
+    let read = c.in_ok-left.ensures in
+    let held = from.moves.1.held in
+    let less : 0 < c.in_ok-left.left = omega (arith, c.if-left-eq0.false) in
+    let kept : KeepsRows tells tables image old mid = subst (λ (h : Image). KeepsRows tells tables h old mid) held c.read_ahead.ensures.kept in
+    let step = step_of tells tables image (g.D.Disk.world c.loop-rows.disk).seen.held mid new held c.advance_filled.ensures.row (λ t. read.caught t less) in
+    let left = same_blocks tables mid new c.advance_filled.ensures.walks in
+    let none : is_some new.now ≡ false = sym c.advance_filled.ensures.said ∙ c.if-not-advance_filled.true in
+    fills_last tells tables image c.args.beside c.args.drops first old mid begun built from.stay from.fills kept read.fewer new step.0 step.1 left none
+
+pub returns-then-not-advance_filled-clause-stop : goal.returns-then-not-advance_filled-clause-stop
+returns-then-not-advance_filled-clause-stop g c =
+    let tells = g.D.Disk.tells in
+    let tables = c.args.tables.now.tables in
+    let image = (g.D.Disk.world c.args.disk.now).seen.held in
+    let first = c.args.rows.now in
+    let old = c.loop-rows.rows in
+    let mid = c.read_ahead.new.rows in
+    let new = c.advance_filled.new.self in
+    let begun = c.args.built.now.entries in
+    let built = c.loop-rows.built.entries in
+    let from = c.loop-rows.invariant in
+    let read = c.in_ok-left.ensures in
+    let held = from.moves.1.held in
+    let less : 0 < c.in_ok-left.left = omega (arith, c.if-left-eq0.false) in
+    let kept : KeepsRows tells tables image old mid = subst (λ (h : Image). KeepsRows tells tables h old mid) held c.read_ahead.ensures.kept in
+    let step = step_of tells tables image (g.D.Disk.world c.loop-rows.disk).seen.held mid new held c.advance_filled.ensures.row (λ t. read.caught t less) in
+    let left = same_blocks tables mid new c.advance_filled.ensures.walks in
+    let none : is_some new.now ≡ false = sym c.advance_filled.ensures.said ∙ c.if-not-advance_filled.true in
+    none_left tells tables image c.args.beside c.args.drops first old mid begun built from.stay from.fills kept read.fewer new step.0 step.1 left none
+
+pub returns-then-not-advance_filled-clause-moves : goal.returns-then-not-advance_filled-clause-moves
+returns-then-not-advance_filled-clause-moves g c =
+    only_both (g.D.Disk.world c.args.disk.now) (g.D.Disk.world c.loop-rows.disk) (g.D.Disk.world c.read_ahead.new.disk) c.loop-rows.invariant.moves c.read_ahead.ensures.moves
+
+pub returns-in_err-add_row-clause-sources : goal.returns-in_err-add_row-clause-sources
+returns-in_err-add_row-clause-sources g c =
+    let tells = g.D.Disk.tells in
+    let tables = c.args.tables.now.tables in
+    let image = (g.D.Disk.world c.args.disk.now).seen.held in
+    let first = c.args.rows.now in
+    let old = c.loop-rows.rows in
+    let mid = c.read_ahead.new.rows in
+    let new = c.advance_filled.new.self in
+    let begun = c.args.built.now.entries in
+    let built = c.loop-rows.built.entries in
+    let from = c.loop-rows.invariant in
+    let read = c.in_ok-left.ensures in
+    let held = from.moves.1.held in
+    let less : 0 < c.in_ok-left.left = omega (arith, c.if-left-eq0.false) in
+    let kept : KeepsRows tells tables image old mid = subst (λ (h : Image). KeepsRows tells tables h old mid) held c.read_ahead.ensures.kept in
+    let step = step_of tells tables image (g.D.Disk.world c.loop-rows.disk).seen.held mid new held c.advance_filled.ensures.row (λ t. read.caught t less) in
+    let left = same_blocks tables mid new c.advance_filled.ensures.walks in
+    stays_on tells tables image c.args.beside c.args.drops first old mid begun built from.stay from.fills kept read.fewer new step.0 step.1 left
 
 pub returns-in_err-add_row-clause-building : goal.returns-in_err-add_row-clause-building
 returns-in_err-add_row-clause-building g c =
-    let old = c.read_ahead.new.rows in
-    let new = c.advance.new.self in
+    let mid = c.read_ahead.new.rows in
+    let new = c.advance_filled.new.self in
     let built = c.loop-rows.built.entries in
+    let less : 0 < c.in_ok-left.left = omega (arith, c.if-left-eq0.false) in
+    let step = c.advance_filled.ensures.row g.D.Disk.tells c.args.tables.now.tables (g.D.Disk.world c.loop-rows.disk).seen.held (λ t. c.in_ok-left.ensures.caught t less) in
     let building = subst (λ (f : KeyFloor). IsBuilding f built) (sym c.read_ahead.ensures.kept.floor_is) c.loop-rows.invariant.building in
     subst (IsBuilding new.floor) (sym (ap (λ (b : Built). b.entries) c.in_err-add_row.ensures.unchanged))
-    (building_rises old.floor new.floor built (rises_on new.now old.floor new.floor c.in-Ok-true.ensures.row.passes) building)
+    (building_rises mid.floor new.floor built (rises_on new.now mid.floor new.floor step.1.passes) building)
 
 pub returns-in_err-add_row-clause-moves : goal.returns-in_err-add_row-clause-moves
 returns-in_err-add_row-clause-moves g c =
-    let before = g.D.Disk.world c.args.disk.now in
-    let here = g.D.Disk.world c.read_ahead.new.disk in
-    only_both before here (g.D.Disk.world c.advance.new.disk)
-    (only_both before (g.D.Disk.world c.loop-rows.disk) here c.loop-rows.invariant.moves c.read_ahead.ensures.moves) c.advance.ensures.moves
+    only_both (g.D.Disk.world c.args.disk.now) (g.D.Disk.world c.loop-rows.disk) (g.D.Disk.world c.read_ahead.new.disk) c.loop-rows.invariant.moves c.read_ahead.ensures.moves

@@ -1,24 +1,11 @@
-use Rattle.std.proofs.Common.{◌≡◌, ◌∙◌, List, ℕ, sym, ap, subst}
-use Rattle.std.specs.declared.cmp.Ordering.TheVariants.{Less, Equal, Greater}
-use Rattle.key_base.specs.ByteOrder.{byte_order}
+use Rattle.std.proofs.Common.{ap, ◌∙◌}
 use Rattle.merge_rows.specs.Rows.{KeyFloor, clears}
-use Rattle.merge_rows.proofs.Keys.{clears_equal, clears_greater, clears_less}
+use Rattle.merge_rows.proofs.LeadOrder.{lead_clears}
 use Rattle.merge_rows.proofs.floor.Floor.clears.Goals as goal
 
-pub returns-in-Less : goal.returns-in-Less
-returns-in-Less c =
-    let less : byte_order c.self.inside.key.items c.args.key.now ≡ Less =
-    subst (λ (k : List ℕ). byte_order k c.args.key.now ≡ Less) c.deref.ensures.value (sym c.compare.ensures ∙ c.in-Less.is) in
-    clears_less (record { key = c.self.inside.key.items; passed = c.self.inside.passed }) c.args.key.now less ∙ ap (λ (f : KeyFloor). clears f c.args.key.now) c.self.view_is
-
-pub returns-in-Equal : goal.returns-in-Equal
-returns-in-Equal c =
-    let equal : byte_order c.self.inside.key.items c.args.key.now ≡ Equal =
-    subst (λ (k : List ℕ). byte_order k c.args.key.now ≡ Equal) c.deref.ensures.value (sym c.compare.ensures ∙ c.in-Equal.is) in
-    clears_equal (record { key = c.self.inside.key.items; passed = c.self.inside.passed }) c.args.key.now equal ∙ ap (λ (f : KeyFloor). clears f c.args.key.now) c.self.view_is
-
-pub returns-in-Greater : goal.returns-in-Greater
-returns-in-Greater c =
-    let greater : byte_order c.self.inside.key.items c.args.key.now ≡ Greater =
-    subst (λ (k : List ℕ). byte_order k c.args.key.now ≡ Greater) c.deref.ensures.value (sym c.compare.ensures ∙ c.in-Greater.is) in
-    clears_greater (record { key = c.self.inside.key.items; passed = c.self.inside.passed }) c.args.key.now greater ∙ ap (λ (f : KeyFloor). clears f c.args.key.now) c.self.view_is
+pub returns-then-self-lead : goal.returns-then-self-lead
+returns-then-self-lead c =
+    let key = c.args.key.now in
+    lead_clears (record { key = c.self.inside.key.items; passed = c.self.inside.passed }) key c.self.inside.lead c.lead_of-lead.result
+    c.self.invariant.2 (λ i. (c.type_inv.key i).fits) c.self.invariant.1 c.lead_of-lead.ensures c.if-self-lead.true
+    ∙ ap (λ (f : KeyFloor). clears f key) c.self.view_is

@@ -21,14 +21,14 @@ returns-clause-same g c t =
     let blocks = blocks_on table held in
     let first = c.args.self.now in
     let mid = c.self-2.inside.walk in
-    let new = c.advance.new.self in
+    let new = c.advance-answer.new.self in
     let there : numbered tables first.number ≡ Some table = subst (λ (n : ℕ). numbered tables n ≡ Some table) (ap (λ (s : TableWalk). s.number) c.self.view_is) c.table_of-table.ensures in
     let walk_is : c.pass_over.new.self.walk ≡ mid = sym (ap (λ (s : TableWalk). s.walk) c.self-2.view_is) in
     let used : is_used_up floor mid.now ≡ true = subst (λ (w : CursorWalk). is_used_up floor w.now ≡ true) walk_is
     (first_true (is_used_up floor c.pass_over.new.self.walk.now) (is_due c.pass_over.new.self.walk (length table.index.rows)) (sym c.pass_over.ensures.wanted ∙ c.if-not-pass_over.false)) in
     let held_is = c.pass_over.ensures.moves.held in
     let step : above_floor floor (with_hand new.now (to_come new blocks)) ≡ above_floor floor (with_hand mid.now (to_come mid blocks)) =
-    elim c.match-advance.branch as (λ _. above_floor floor (with_hand new.now (to_come new blocks)) ≡ above_floor floor (with_hand mid.now (to_come mid blocks))) [
+    elim c.match-answer.branch as (λ _. above_floor floor (with_hand new.now (to_come new blocks)) ≡ above_floor floor (with_hand mid.now (to_come mid blocks))) [
       | in-Ok w ↦ read_same floor table held mid new w.in-Ok.field-0 used (subst (λ (h : Image). HandsOut mid new (blocks_on table h)) held_is (w.in-Ok.ensures.hands_out t)) w.in-Ok.ensures.said w.in-Ok.ensures.ends
       | in-Err w ↦ failed_same floor mid new blocks used w.in-Err.ensures.none_at_hand (subst (λ (h : Image). to_come new (blocks_on table h) ≡ to_come mid (blocks_on table h)) held_is (w.in-Err.ensures.stays t))
     ] in
@@ -39,25 +39,25 @@ returns-clause-same g c t =
     ∙ sym (left_of tables held table first.number floor first there refl)
 
 pub returns-clause-cause : goal.returns-clause-cause
-returns-clause-cause g c = elim c.match-advance.branch [
-  | in-Ok w ↦ ok_is _ c.match-advance.result true w.result-is
-  | in-Err w ↦ err_is _ c.match-advance.result w.in-Err.why w.result-is (
+returns-clause-cause g c = elim c.match-answer.branch [
+  | in-Ok w ↦ ok_is _ c.match-answer.result true w.result-is
+  | in-Err w ↦ err_is _ c.match-answer.result w.in-Err.why w.result-is (
     c.table_of-table.result.now,
-    c.advance.new.self.block,
+    c.advance-answer.new.self.block,
     subst (λ (n : ℕ). numbered c.args.tables.now.tables n ≡ Some c.table_of-table.result.now) (ap (λ (s : TableWalk). s.number) c.self.view_is) c.table_of-table.ensures,
     w.in-Err.ensures.there,
-    cause_since (byte_of_page (page_at c.table_of-table.result.now c.advance.new.self.block)) (g.D.Disk.world c.args.disk.now) (g.D.Disk.world c.pass_over.new.disk) (g.D.Disk.world c.advance.new.disk) w.in-Err.why c.pass_over.ensures.moves.read_faults w.in-Err.ensures.cause,
+    cause_since (byte_of_page (page_at c.table_of-table.result.now c.advance-answer.new.self.block)) (g.D.Disk.world c.args.disk.now) (g.D.Disk.world c.pass_over.new.disk) (g.D.Disk.world c.advance-answer.new.disk) w.in-Err.why c.pass_over.ensures.moves.read_faults w.in-Err.ensures.cause,
   )
 ]
 
 pub returns-clause-fault : goal.returns-clause-fault
-returns-clause-fault g c t = elim c.match-advance.branch [
-  | in-Ok w ↦ ok_is _ c.match-advance.result true w.result-is
-  | in-Err w ↦ err_is _ c.match-advance.result w.in-Err.why w.result-is (
+returns-clause-fault g c t = elim c.match-answer.branch [
+  | in-Ok w ↦ ok_is _ c.match-answer.result true w.result-is
+  | in-Err w ↦ err_is _ c.match-answer.result w.in-Err.why w.result-is (
     c.table_of-table.result.now,
-    c.advance.new.self.block,
+    c.advance-answer.new.self.block,
     subst (λ (n : ℕ). numbered c.args.tables.now.tables n ≡ Some c.table_of-table.result.now) (ap (λ (s : TableWalk). s.number) c.self.view_is) c.table_of-table.ensures,
     w.in-Err.ensures.there,
-    subst (λ (h : Image). IsGetFault c.table_of-table.result.now c.advance.new.self.block h w.in-Err.why) c.pass_over.ensures.moves.held (w.in-Err.ensures.fault t),
+    subst (λ (h : Image). IsGetFault c.table_of-table.result.now c.advance-answer.new.self.block h w.in-Err.why) c.pass_over.ensures.moves.held (w.in-Err.ensures.fault t),
   )
 ]

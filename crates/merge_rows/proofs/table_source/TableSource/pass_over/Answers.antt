@@ -7,6 +7,7 @@ use Rattle.merge_rows.specs.Reads.{is_used_up}
 use Rattle.merge_rows.specs.Rows.{above_floor}
 use Rattle.merge_rows.specs.Steps.{IsSoundWalk}
 use Rattle.table_file.specs.Walks.{CursorWalk, HandsOut, blocks_on, is_due, to_come}
+use Rattle.merge_rows.proofs.LeadOrder.{lead_ended}
 use Rattle.merge_rows.proofs.Steps.{caught_none, moved_walk, none_of, passed_all, passed_moved, passed_same, passed_sound, used_of, walk_ended}
 use Rattle.merge_rows.proofs.table_source.TableSource.pass_over.Goals as goal
 
@@ -58,3 +59,6 @@ returns-in-Ok-false-clause-ready g c t wants =
     let new = c.advance.new.self in
     caught_none c.args.floor.now new.now (to_come new (blocks_on c.args.table.now held)) (none_of new.now (sym c.in-Ok-false.ensures.said ∙ c.in-Ok-false.field-0-test))
     (walk_ended c.args.table.now held new (c.in-Ok-false.ensures.ends c.in-Ok-false.field-0-test))
+
+pub invariant_of-self-in-Ok-false : goal.invariant_of-self-in-Ok-false
+invariant_of-self-in-Ok-false g c = lead_ended c.advance.new.self.now (none_of c.advance.new.self.now (sym c.in-Ok-false.ensures.said ∙ c.in-Ok-false.field-0-test))

@@ -1,0 +1,169 @@
+-- A slice, whole: rows were taken, and an output was closed behind them or was not.
+use Rattle.std.proofs.Common.{◌≡◌, ◌∙◌, ℕ, ◌+◌, ◌<◌, ◌≤◌, Bool, true, IsTrue, List, Ok, Err, ap, subst, sym}
+use Rattle.disk_trait.specs.World.{ReadMoves, World}
+use Rattle.extent_map.specs.Taken.{Taken}
+use Rattle.filter_api.specs.Spellings.{Spelling}
+use Rattle.filter_model.specs.Leaves.{Leaf}
+use Rattle.byte_fields.specs.declared.parts.Row.{Row}
+use Rattle.level_merge.specs.Making.{SliceMakes}
+use Rattle.level_merge.specs.Merging.{Merging, is_full}
+use Rattle.level_merge.specs.Outputs.{IsCloseFault}
+use Rattle.level_merge.specs.Slices.{Closes, IsMetUnwritten, IsTakeFault, WritesOutput}
+use Rattle.level_merge.specs.Slicing.{SlicesMerge}
+use Rattle.level_merge.specs.declared.fault.JobFault.{JobFault}
+use Rattle.level_merge.specs.declared.fault.JobFault.TheVariants as fault
+use Rattle.level_merge.specs.declared.fault.Sliced.{Sliced}
+use Rattle.level_merge.specs.declared.fault.Sliced.TheVariants as sliced
+use Rattle.level_merge.proofs.SliceMoves.{closing_ends, fault_of_close, fault_of_take, reads_end, slice_reads, slice_writes, still_bounded, within_last, within_none, within_one, within_same, written_one, written_same}
+use Rattle.merge_rows.specs.Merges.{Merge}
+use Rattle.merge_rows.specs.Reads.{OnlyReads, blocks_left}
+use Rattle.merge_rows.specs.Steps.{IsSoundMerge, numbers}
+use Rattle.table_file.specs.Opened.{Opened}
+use Rattle.table_model.specs.Tables.{filter_bytes_of}
+
+-- what is ready does not work
+abbrev IsAtWork : Sliced → Type 0
+IsAtWork sliced.Working = Unit {0}
+IsAtWork sliced.Ready = ⊥
+
+ready_is_none : sliced.Ready ≡ sliced.Working → ⊥
+ready_is_none is = subst IsAtWork (sym is) tt
+
+-- no damage is met behind what was written
+unwritten_of_take : (before here : World) (why : JobFault) → OnlyReads before here → IsMetUnwritten before here why
+unwritten_of_take before here fault.Memory reads = tt
+unwritten_of_take before here (fault.Device cause) reads = tt
+unwritten_of_take before here (fault.Damaged d) reads = reads.1.held
+unwritten_of_take before here (fault.Full need gap) reads = tt
+
+unwritten_of_close : (need : ℕ) (free : Taken) (before here after : World) (why : JobFault) → IsCloseFault need free here after why → IsMetUnwritten before after why
+unwritten_of_close need free before here after fault.Memory fails = tt
+unwritten_of_close need free before here after (fault.Device cause) fails = tt
+unwritten_of_close need free before here after (fault.Damaged d) fails = absurd fails
+unwritten_of_close need free before here after (fault.Full wanted gap) fails = tt
+
+module _ (spelling : Spelling) (built_cutoff : ℕ → List Leaf → ℕ) (tells : Bool) (blocks : ℕ) (opened : List Opened) (old mid : Merging) (free : Taken) (before here : World)
+    (rest : mid ≡ record old { merge = mid.merge; built = mid.built }) (reads : OnlyReads before here) (level : (1 ≤ old.output) × (old.output ≤ 6))
+    (walks : numbers mid.merge.walks ≡ numbers old.merge.walks) (bounded : IsTrue tells → IsSoundMerge old.merge opened before.seen.held → ReadMoves blocks before here) where
+  same_output : mid.output ≡ old.output
+  same_output = ap (λ (m : Merging). m.output) rest
+
+  same_settings : mid.settings ≡ old.settings
+  same_settings = ap (λ (m : Merging). m.settings) rest
+
+  level_of : (n : ℕ) → n ≡ old.output → (1 ≤ n) × (n ≤ 6)
+  level_of n is = subst (λ (k : ℕ). (1 ≤ k) × (k ≤ 6)) (sym is) level
+
+  -- ---- nothing was written
+
+  pub waited : blocks_left opened mid.merge.walks ≤ blocks_left opened old.merge.walks → blocks_left opened mid.merge.walks < blocks_left opened old.merge.walks
+      → (IsTrue tells → SliceMakes spelling (filter_bytes_of spelling built_cutoff) opened old mid free free (Ok sliced.Working) before here)
+      → SlicesMerge spelling built_cutoff tells blocks opened old mid free free (Ok sliced.Working) before here
+  waited fewer less makes = record {
+    makes = makes;
+    bounded = λ t sound. (bounded t sound).reads;
+    ends = λ _. reads_end opened old mid mid rest fewer less;
+    level = level_of mid.output same_output;
+    same = (same_output, same_settings);
+    numbers_are = walks;
+    few = within_same opened old mid mid rest fewer;
+    rows = written_same opened old mid mid rest fewer;
+    moves = slice_reads spelling built_cutoff old mid mid free free before here here rest reads;
+    fault = tt;
+    unwritten = tt;
+  }
+
+  pub had_nothing : blocks_left opened mid.merge.walks ≤ blocks_left opened old.merge.walks
+      → (IsTrue tells → SliceMakes spelling (filter_bytes_of spelling built_cutoff) opened old mid free free (Ok sliced.Ready) before here)
+      → SlicesMerge spelling built_cutoff tells blocks opened old mid free free (Ok sliced.Ready) before here
+  had_nothing fewer makes = record {
+    makes = makes;
+    bounded = λ t sound. (bounded t sound).reads;
+    ends = λ is. absurd (ready_is_none is);
+    level = level_of mid.output same_output;
+    same = (same_output, same_settings);
+    numbers_are = walks;
+    few = within_none opened old mid mid rest fewer;
+    rows = written_same opened old mid mid rest fewer;
+    moves = slice_reads spelling built_cutoff old mid mid free free before here here rest reads;
+    fault = tt;
+    unwritten = tt;
+  }
+
+  pub took_no_row : (why : JobFault) → IsTakeFault tells opened (numbers old.merge.walks) before here why
+      → (IsTrue tells → SliceMakes spelling (filter_bytes_of spelling built_cutoff) opened old mid free free (Err why) before here)
+      → SlicesMerge spelling built_cutoff tells blocks opened old mid free free (Err why) before here
+  took_no_row why fails makes = record {
+    makes = makes;
+    bounded = λ t sound. (bounded t sound).reads;
+    ends = tt;
+    level = level_of mid.output same_output;
+    same = (same_output, same_settings);
+    numbers_are = walks;
+    few = tt;
+    rows = λ _. tt;
+    moves = slice_reads spelling built_cutoff old mid mid free free before here here rest reads;
+    fault = fault_of_take tells opened (numbers old.merge.walks) before here why fails;
+    unwritten = unwritten_of_take before here why reads;
+  }
+
+  -- ---- an output was to be closed
+
+  module _ (new : Merging) (extents : Taken) (after : World) (merge : new.merge ≡ mid.merge) (same : (new.output ≡ mid.output) × (new.settings ≡ mid.settings))
+      (writes : WritesOutput spelling built_cutoff mid new free extents here after) where
+    walks_on : numbers new.merge.walks ≡ numbers old.merge.walks
+    walks_on = ap (λ (m : Merge). numbers m.walks) merge ∙ walks
+
+    bounded_on : IsTrue tells → IsSoundMerge old.merge opened before.seen.held → after.seen.reads ≤ before.seen.reads + blocks
+    bounded_on t sound = still_bounded spelling built_cutoff mid new free extents here after (before.seen.reads + blocks) (bounded t sound).reads writes
+
+    pub closed_one : (row : Row) → Closes spelling built_cutoff mid new free extents row → blocks_left opened mid.merge.walks ≤ blocks_left opened old.merge.walks → is_full mid.beside mid.built ≡ true
+        → (IsTrue tells → SliceMakes spelling (filter_bytes_of spelling built_cutoff) opened old new free extents (Ok sliced.Working) before after)
+        → SlicesMerge spelling built_cutoff tells blocks opened old new free extents (Ok sliced.Working) before after
+    closed_one row closes fewer full makes = record {
+      makes = makes;
+      bounded = bounded_on;
+      ends = λ _. closing_ends opened old mid new rest fewer spelling built_cutoff free extents row closes full;
+      level = level_of new.output (same.0 ∙ same_output);
+      same = (same.0 ∙ same_output, same.1 ∙ same_settings);
+      numbers_are = walks_on;
+      few = within_one opened old mid new rest fewer spelling built_cutoff free extents row closes full;
+      rows = written_one opened old mid new rest fewer spelling built_cutoff free extents row closes;
+      moves = slice_writes spelling built_cutoff old mid new free extents before here after rest reads writes;
+      fault = tt;
+      unwritten = tt;
+    }
+
+    pub closed_last : (row : Row) → Closes spelling built_cutoff mid new free extents row → blocks_left opened mid.merge.walks ≤ blocks_left opened old.merge.walks
+        → (IsTrue tells → SliceMakes spelling (filter_bytes_of spelling built_cutoff) opened old new free extents (Ok sliced.Ready) before after)
+        → SlicesMerge spelling built_cutoff tells blocks opened old new free extents (Ok sliced.Ready) before after
+    closed_last row closes fewer makes = record {
+      makes = makes;
+      bounded = bounded_on;
+      ends = λ is. absurd (ready_is_none is);
+      level = level_of new.output (same.0 ∙ same_output);
+      same = (same.0 ∙ same_output, same.1 ∙ same_settings);
+      numbers_are = walks_on;
+      few = within_last opened old mid new rest fewer spelling built_cutoff free extents row closes;
+      rows = written_one opened old mid new rest fewer spelling built_cutoff free extents row closes;
+      moves = slice_writes spelling built_cutoff old mid new free extents before here after rest reads writes;
+      fault = tt;
+      unwritten = tt;
+    }
+
+    pub closed_none : (need : ℕ) (why : JobFault) → IsCloseFault need free here after why
+        → (IsTrue tells → SliceMakes spelling (filter_bytes_of spelling built_cutoff) opened old new free extents (Err why) before after)
+        → SlicesMerge spelling built_cutoff tells blocks opened old new free extents (Err why) before after
+    closed_none need why fails makes = record {
+      makes = makes;
+      bounded = bounded_on;
+      ends = tt;
+      level = level_of new.output (same.0 ∙ same_output);
+      same = (same.0 ∙ same_output, same.1 ∙ same_settings);
+      numbers_are = walks_on;
+      few = tt;
+      rows = λ _. tt;
+      moves = slice_writes spelling built_cutoff old mid new free extents before here after rest reads writes;
+      fault = fault_of_close tells opened (numbers old.merge.walks) need free before here after why reads fails;
+      unwritten = unwritten_of_close need free before here after why fails;
+    }

@@ -1,0 +1,13 @@
+use Rattle.merge_rows.proofs.FilledSteps.{filled_row, filled_sources}
+use Rattle.merge_rows.proofs.rows.MergeRows.advance_filled.Goals as goal
+
+pub returns-clause-row : goal.returns-clause-row
+returns-clause-row c tells tables image caught =
+    let old = c.args.self.now in
+    let mid = c.pass_memory.new.self in
+    let new = c.choose.new.self in
+    let memory = c.pass_memory.ensures in
+    let chosen = c.choose.ensures in (
+      filled_sources old mid new memory.floor memory.drops memory.walks memory.same memory.rises memory.ready c.requires.clear chosen.memory chosen.walks chosen.drops chosen.chosen tells tables image caught,
+      filled_row old mid new memory.floor memory.drops memory.walks memory.same memory.rises memory.ready c.requires.clear chosen.memory chosen.walks chosen.drops chosen.chosen tells tables image caught c.requires.whole,
+    )
