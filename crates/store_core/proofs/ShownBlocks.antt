@@ -1,29 +1,16 @@
 -- A block that was read for a key shows its fault.
-use Rattle.std.proofs.Common.{◌≡◌, inl, inr, sym, subst, List, [], ◌∷◌, ℕ, arith, refl}
+use Rattle.std.proofs.Common.{◌≡◌, sym, subst, List, [], ◌∷◌, ℕ, arith, refl}
 use Rattle.std.specs.Prelude.{Contains, Some, Result, Ok, Err, IfErr}
 use Rattle.std.specs.Result.{IsErrAnd}
 use Rattle.std.proofs.lemmas.List.Elements.{Contains-append_right}
-use Rattle.byte_fields.specs.Sums.{fnv_of}
 use Rattle.disk_trait.specs.Image.{Image}
 use Rattle.map_model.specs.SortedMap.{Bytes}
 use Rattle.store_core.specs.Faults.{of_table_fault}
 use Rattle.store_core.specs.Getting.{IsBlockFault, IsFaultIn, IsShown}
 use Rattle.store_core.specs.declared.error.StoreError.{StoreError}
 use Rattle.table_file.specs.Opened.{Opened}
-use Rattle.table_file.specs.Search.{IsBrokenBlock, IsOtherBlock, block_for, bytes_at, row_at}
 use Rattle.table_file.specs.declared.fault.TableFault.{TableFault}
 use Rattle.table_file.specs.declared.fault.TableFault.TheVariants as table
-
-pub other_block : (t : Opened) (key : Bytes) (n : ℕ) (image : Image) (f : TableFault) → block_for t key ≡ Some n → IsOtherBlock t n image f → IsBlockFault t key image f
-other_block t key n image table.Memory some is = tt
-other_block t key n image (table.Device cause) some is = tt
-other_block t key n image (table.Damaged d) some is = (n, some, inl is)
-
-pub broken_block : (t : Opened) (key : Bytes) (n : ℕ) (image : Image) (bytes : Bytes) (f : TableFault) → block_for t key ≡ Some n → bytes ≡ bytes_at t n image
-    → (row_at t.index.rows n).sum ≡ fnv_of (bytes_at t n image) → IsBrokenBlock t n bytes f → IsBlockFault t key image f
-broken_block t key n image bytes table.Memory some are sum is = tt
-broken_block t key n image bytes (table.Device cause) some are sum is = tt
-broken_block t key n image bytes (table.Damaged d) some are sum is = (n, some, inr (sum, subst (λ (b : Bytes). IsBrokenBlock t n b (table.Damaged d)) are is))
 
 -- one of all tables, the first or an older one
 pub first_fault : (t : Opened) (older tables : List Opened) (key : Bytes) (image : Image) (f : TableFault) → tables ≡ t ∷ older → IsBlockFault t key image f → IsFaultIn tables key image f

@@ -2,8 +2,7 @@
 ghost use Rattle.std.specs.Prelude.{◌≡◌, is_some, None, IfOk, IfSome};
 ghost use Rattle.std.specs.Option.{option_map};
 ghost use Rattle.block_cache.specs.Kept.{brought_first, kept_of};
-ghost use Rattle.block_model.specs.BlockReading.{block_fault, block_in};
-ghost use Rattle.entry_model.specs.Newest.{lookup};
+ghost use Rattle.block_model.specs.BlockReading.{block_fault};
 ghost use Rattle.store_core.specs.Caching.{Cached, MayKeep, none_cached, number_of, renumbered, said_by};
 
 use block_cache::BlockCache;
@@ -77,7 +76,7 @@ impl CachedBlocks {
         ensures { option_map (λ found. option_map (λ v. v.now) found) result ≡ said_by (kept_of (number, block) self.now.kept) key.now }
     {
         match self.cache.peek(number, block) {
-            Some(bytes) => found_in(bytes, key),
+            Some(bytes) => Block::find_in_sound(bytes, key),
             None => None,
         }
     }
@@ -93,16 +92,5 @@ impl CachedBlocks {
         if let Ok(copy) = BoxedSlice::from_slice(alloc, bytes) {
             let _ = self.cache.keep(number, block, copy);
         }
-    }
-}
-
-// What a block that breaks no rule says of a key.
-pub(crate) fn found_in<'a>(bytes: &'a [u8], key: &[u8]) -> Option<Option<&'a [u8]>>
-    requires { block_fault bytes.now ≡ None }
-    ensures { option_map (λ found. option_map (λ v. v.now) found) result ≡ lookup (block_in bytes.now) key.now }
-{
-    match Block::read_and_find(bytes, key) {
-        Ok(found) => found,
-        Err(_) => None,
     }
 }

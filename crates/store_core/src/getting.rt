@@ -24,10 +24,11 @@ ghost use Rattle.table_file.specs.Faults.{IsNoDamage};
 ghost use Rattle.table_file.specs.Search.{StandsThere, block_for, blocks_of_get, bytes_at, largest_block};
 ghost use Rattle.table_model.specs.Tables as model;
 
-use crate::caching::{CachedBlocks, found_in};
+use crate::caching::CachedBlocks;
 use crate::error::StoreError;
 use crate::limits::check_key;
 use crate::store::Store;
+use block_format::Block;
 use disk_trait::Disk;
 use filter_api::RangeFilter;
 use std::alloc::Global;
@@ -86,9 +87,7 @@ fn read_in<F: RangeFilter, D: Disk>(
     // no block is larger than the largest
     let room = table.block_bytes(block);
     prove!(room <= buffer.len());
-    let size = table.read_block(disk, block, buffer)?;
-    let found = table.find_in(block, &buffer[..size], key)?;
-    Ok((size, found.is_some()))
+    table.read_and_find(disk, block, key, buffer)
 }
 
 // The kept block, where it has the key.
@@ -322,7 +321,9 @@ impl<F: RangeFilter> Store<F> {
         let found = match place {
             Place::Nowhere => None,
             Place::InMemory => self.memory.get(key),
-            Place::InTable(Spot::InBuffer(size)) => found_in(&self.buffer[..size], key),
+            Place::InTable(Spot::InBuffer(size)) => {
+                Block::find_in_sound(&self.buffer[..size], key)
+            }
             Place::InTable(Spot::InCache(number, block)) => self.blocks.find(number, block, key),
         };
         match found {

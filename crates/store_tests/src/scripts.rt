@@ -31,6 +31,17 @@ fn all_done(replies: &[Reply]) -> bool {
     true
 }
 
+fn is_explained(reply: &Reply, tables: u64, admitted: u64, blocks: u64) -> bool {
+    match reply {
+        Reply::Explained {
+            tables: t,
+            admitted: a,
+            blocks: b,
+        } => *t == tables && *a == admitted && *b == blocks,
+        _ => false,
+    }
+}
+
 #[test]
 fn a_tombstone_hides_and_a_compaction_drops_it(rt: HostRuntime) -> Result<(), Fail> {
     let script = [
@@ -49,21 +60,12 @@ fn a_tombstone_hides_and_a_compaction_drops_it(rt: HostRuntime) -> Result<(), Fa
     assert!(rt; matches!(end.replies[4], Reply::Missing));
     assert!(rt; matches!(end.replies[5], Reply::Done));
     assert!(rt; matches!(end.replies[6], Reply::Missing));
-    assert!(rt;
-        matches!(
-            end.replies[7],
-            Reply::Explained {
-                tables: 0,
-                admitted: 0,
-                blocks: 0
-            }
-        )
-    );
+    assert!(rt; is_explained(&end.replies[7], 0, 0, 0));
     Ok(())
 }
 
 #[test]
-fn numbers_of_one_table(rt: HostRuntime) -> Result<(), Fail> {
+fn what_one_table_says_of_keys(rt: HostRuntime) -> Result<(), Fail> {
     let (lo, hi) = (b"aa5".as_slice(), b"ab0".as_slice());
     let script = [
         put(b"aa1", b"\x01"),
@@ -81,36 +83,9 @@ fn numbers_of_one_table(rt: HostRuntime) -> Result<(), Fail> {
     assert!(rt; all_done(&end.replies[..3]));
     assert!(rt; matches!(end.replies[3], Reply::Counted(0)));
     assert!(rt; matches!(end.replies[4], Reply::About(2)));
-    assert!(rt;
-        matches!(
-            end.replies[5],
-            Reply::Explained {
-                tables: 1,
-                admitted: 1,
-                blocks: 1
-            }
-        )
-    );
-    assert!(rt;
-        matches!(
-            end.replies[6],
-            Reply::Explained {
-                tables: 1,
-                admitted: 1,
-                blocks: 0
-            }
-        )
-    );
-    assert!(rt;
-        matches!(
-            end.replies[7],
-            Reply::Explained {
-                tables: 1,
-                admitted: 0,
-                blocks: 0
-            }
-        )
-    );
+    assert!(rt; is_explained(&end.replies[5], 1, 1, 1));
+    assert!(rt; is_explained(&end.replies[6], 1, 1, 0));
+    assert!(rt; is_explained(&end.replies[7], 1, 0, 0));
     assert!(rt; matches!(end.replies[8], Reply::Missing));
     Ok(())
 }

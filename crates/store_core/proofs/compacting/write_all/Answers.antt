@@ -73,7 +73,7 @@ returns-in_err-slice-clause-stays g c s tells held =
     let w = g.D.Disk.world c.loop-job.disk in
     let going = c.loop-job.invariant.going s tells held in
     let under = now_at _ a w going.meanwhile w.seen.held (g.met.D.Disk.current c.loop-job.disk tells) in
-    slice_stays spelling bytes c.args.version.now c.args.tables.now.tables c.requires.slot c.requires.rows s held.no_job held.none_kept g.F.RangeFilter.built_cutoff a w _ _ _ _ _ going under.tables c.slice.ensures.moves
+    slice_stays spelling bytes c.args.version.now c.args.tables.now.tables c.requires.slot c.requires.rows s held.no_job held.none_kept g.F.RangeFilter.built_cutoff a w _ _ _ _ _ going under.tables c.slice.ensures.slices.moves
 
 pub returns-in_err-slice-clause-made : goal.returns-in_err-slice-clause-made
 returns-in_err-slice-clause-made g c s tells held =
@@ -87,9 +87,9 @@ returns-in_err-slice-clause-made g c s tells held =
     let going = c.loop-job.invariant.going s tells held in
     let under = now_at _ a w going.meanwhile w.seen.held (g.met.D.Disk.current c.loop-job.disk tells) in
     let not = makes_not spelling bytes m opened c.requires.slot c.requires.rows s held.no_job held.none_kept g.F.RangeFilter.built_cutoff a w x c.loop-job.job c.slice.new.self c.loop-job.extents c.slice.new.extents going under.tables
-    c.in_err-slice.field-0.0 (c.in_err-slice.ensures.makes tells) in
+    c.in_err-slice.field-0.0 (c.in_err-slice.ensures.slices.makes tells) in
     let why = slice_refused spelling bytes m opened c.requires.slot c.requires.rows s held.no_job held.none_kept g.F.RangeFilter.built_cutoff a w x c.loop-job.job c.slice.new.self c.loop-job.extents c.slice.new.extents going under.tables
-    c.in_err-slice.field-0.0 c.slice.ensures.moves not in
+    c.in_err-slice.field-0.0 c.slice.ensures.slices.moves not in
     refused_so c.from_residual-in_err-slice.result c.in_err-slice.field-0.0 (λ made. AreAllMade spelling bytes s made.items x) (IsWritingCause bytes s a x) c.from_residual-in_err-slice.ensures.1 why
 
 pub returns-in_err-slice-clause-fault : goal.returns-in_err-slice-clause-fault
@@ -98,7 +98,7 @@ returns-in_err-slice-clause-fault g c =
     let w = g.D.Disk.world c.loop-job.disk in
     let x = g.D.Disk.world c.slice.new.disk in
     fails_so c.from_residual-in_err-slice.result c.in_err-slice.field-0.0 (IsWritingFault a x) c.from_residual-in_err-slice.ensures.1
-    (writing_fault g.D.Disk.tells c.args.tables.now.tables _ _ a w x c.loop-job.invariant.moves c.in_err-slice.field-0.0 c.in_err-slice.ensures.fault)
+    (writing_fault g.D.Disk.tells c.args.tables.now.tables _ _ a w x c.loop-job.invariant.moves c.in_err-slice.field-0.0 c.in_err-slice.ensures.slices.fault)
 
 pub returns-in_err-slice-clause-shown : goal.returns-in_err-slice-clause-shown
 returns-in_err-slice-clause-shown g c tells =
@@ -106,15 +106,15 @@ returns-in_err-slice-clause-shown g c tells =
     let w = g.D.Disk.world c.loop-job.disk in
     let x = g.D.Disk.world c.slice.new.disk in
     fails_so c.from_residual-in_err-slice.result c.in_err-slice.field-0.0 (λ why. IsScanShown c.args.tables.now.tables x.seen.held (of_job_fault why)) c.from_residual-in_err-slice.ensures.1
-    (writing_shown g.D.Disk.tells c.args.tables.now.tables _ _ a w x c.loop-job.invariant.moves c.in_err-slice.field-0.0 tells c.in_err-slice.ensures.fault c.in_err-slice.ensures.unwritten)
+    (writing_shown g.D.Disk.tells c.args.tables.now.tables _ _ a w x c.loop-job.invariant.moves c.in_err-slice.field-0.0 tells c.in_err-slice.ensures.slices.fault c.in_err-slice.ensures.slices.unwritten)
 
 pub returns-in_err-slice-clause-moves : goal.returns-in_err-slice-clause-moves
 returns-in_err-slice-clause-moves g c =
     slice_moved g.F.RangeFilter.spelling g.F.RangeFilter.built_cutoff c.args.version.now.version.pages c.loop-job.job c.slice.new.self c.loop-job.extents c.slice.new.extents (g.D.Disk.world c.args.disk.now)
-    (g.D.Disk.world c.loop-job.disk) (g.D.Disk.world c.slice.new.disk) c.loop-job.invariant.on.pages c.loop-job.invariant.moves c.slice.ensures.moves
+    (g.D.Disk.world c.loop-job.disk) (g.D.Disk.world c.slice.new.disk) c.loop-job.invariant.on.pages c.loop-job.invariant.moves c.slice.ensures.slices.moves
 
 pub loop-job-smaller : goal.loop-job-smaller
-loop-job-smaller g c = c.in_ok-slice.ensures.ends c.in-Working.is
+loop-job-smaller g c = c.in_ok-slice.ensures.slices.ends c.in-Working.is
 
 pub loop-job-preserved : goal.loop-job-preserved
 loop-job-preserved g c =
@@ -131,15 +131,15 @@ loop-job-preserved g c =
     let free = c.loop-job.extents in
     let now = c.slice.new.extents in
     let on = c.loop-job.invariant.on in
-    let within = subst (λ (said : Sliced). IsWithin old new said) c.in-Working.is c.in_ok-slice.ensures.few in
+    let within = subst (λ (said : Sliced). IsWithin old new said) c.in-Working.is c.in_ok-slice.ensures.slices.few in
     record {
-      on = compacting_more spelling cutoff m.version opened old new free now w x on c.slice.ensures.numbers c.slice.ensures.same.0 c.slice.ensures.moves within (c.in_ok-slice.ensures.rows on.written);
+      on = compacting_more spelling cutoff m.version opened old new free now w x on c.slice.ensures.slices.numbers_are c.slice.ensures.slices.same.0 c.slice.ensures.slices.moves within (c.in_ok-slice.ensures.slices.rows on.written);
       going = λ s tells held.
           let going = c.loop-job.invariant.going s tells held in
           let under = now_at _ a w going.meanwhile w.seen.held (g.met.D.Disk.current c.loop-job.disk tells) in
-          let made = makes_on spelling bytes m opened c.requires.slot c.requires.rows s held.no_job held.none_kept cutoff a w x old new free now going under.tables c.in_ok-slice.field-0 (c.in_ok-slice.ensures.makes tells) in
-          slice_goes_on spelling bytes m opened c.requires.slot c.requires.rows s held.no_job held.none_kept cutoff a w x old new free now going under.tables c.in_ok-slice.field-0 made c.slice.ensures.moves;
-      moves = slice_moved spelling cutoff m.version.pages old new free now a w x on.pages c.loop-job.invariant.moves c.slice.ensures.moves;
+          let made = makes_on spelling bytes m opened c.requires.slot c.requires.rows s held.no_job held.none_kept cutoff a w x old new free now going under.tables c.in_ok-slice.field-0 (c.in_ok-slice.ensures.slices.makes tells) in
+          slice_goes_on spelling bytes m opened c.requires.slot c.requires.rows s held.no_job held.none_kept cutoff a w x old new free now going under.tables c.in_ok-slice.field-0 made c.slice.ensures.slices.moves;
+      moves = slice_moved spelling cutoff m.version.pages old new free now a w x on.pages c.loop-job.invariant.moves c.slice.ensures.slices.moves;
     }
 
 pub returns-in-Ready-clause-stays : goal.returns-in-Ready-clause-stays
@@ -150,7 +150,7 @@ returns-in-Ready-clause-stays g c s tells held =
     let w = g.D.Disk.world c.loop-job.disk in
     let going = c.loop-job.invariant.going s tells held in
     let under = now_at _ a w going.meanwhile w.seen.held (g.met.D.Disk.current c.loop-job.disk tells) in
-    slice_stays spelling bytes c.args.version.now c.args.tables.now.tables c.requires.slot c.requires.rows s held.no_job held.none_kept g.F.RangeFilter.built_cutoff a w _ _ _ _ _ going under.tables c.slice.ensures.moves
+    slice_stays spelling bytes c.args.version.now c.args.tables.now.tables c.requires.slot c.requires.rows s held.no_job held.none_kept g.F.RangeFilter.built_cutoff a w _ _ _ _ _ going under.tables c.slice.ensures.slices.moves
 
 pub returns-in-Ready-clause-made : goal.returns-in-Ready-clause-made
 returns-in-Ready-clause-made g c s tells held =
@@ -164,21 +164,21 @@ returns-in-Ready-clause-made g c s tells held =
     let x = g.D.Disk.world c.slice.new.disk in
     let going = c.loop-job.invariant.going s tells held in
     let under = now_at _ a w going.meanwhile w.seen.held (g.met.D.Disk.current c.loop-job.disk tells) in
-    let makes = subst (λ (said : Sliced). SliceMakes spelling bytes opened c.loop-job.job c.slice.new.self c.loop-job.extents c.slice.new.extents (Ok said) w x) c.in-Ready.is (c.in_ok-slice.ensures.makes tells) in
+    let makes = subst (λ (said : Sliced). SliceMakes spelling bytes opened c.loop-job.job c.slice.new.self c.loop-job.extents c.slice.new.extents (Ok said) w x) c.in-Ready.is (c.in_ok-slice.ensures.slices.makes tells) in
     let on = makes_on spelling bytes m opened c.requires.slot c.requires.rows s held.no_job held.none_kept cutoff a w x c.loop-job.job c.slice.new.self c.loop-job.extents c.slice.new.extents going under.tables sliced.Ready makes in
     let all = all_are_made spelling bytes m opened c.requires.slot c.requires.rows s held.no_job held.none_kept cutoff a w x c.loop-job.job c.slice.new.self c.loop-job.extents c.slice.new.extents going under.tables sliced.Ready on
-    c.slice.ensures.moves on.said.1 in
+    c.slice.ensures.slices.moves on.said.1 in
     subst (λ (made : List Opened). AreAllMade spelling bytes s made x) (sym c.into_tables.ensures) all
 
 pub returns-in-Ready-clause-compact : goal.returns-in-Ready-clause-compact
 returns-in-Ready-clause-compact g c =
     let on = c.loop-job.invariant.on in
-    let within = subst (λ (said : Sliced). IsWithin c.loop-job.job c.slice.new.self said) c.in-Ready.is c.in_ok-slice.ensures.few in
+    let within = subst (λ (said : Sliced). IsWithin c.loop-job.job c.slice.new.self said) c.in-Ready.is c.in_ok-slice.ensures.slices.few in
     subst (λ (made : List Opened). AreCompact c.args.version.now.version (rows_of made)) (sym c.into_tables.ensures)
     (compacted_rows g.F.RangeFilter.spelling g.F.RangeFilter.built_cutoff c.args.version.now.version c.args.tables.now.tables c.loop-job.job c.slice.new.self c.loop-job.extents c.slice.new.extents
-    (g.D.Disk.world c.loop-job.disk) (g.D.Disk.world c.slice.new.disk) on c.slice.ensures.numbers c.slice.ensures.same.0 c.slice.ensures.moves within (c.in_ok-slice.ensures.rows on.written))
+    (g.D.Disk.world c.loop-job.disk) (g.D.Disk.world c.slice.new.disk) on c.slice.ensures.slices.numbers_are c.slice.ensures.slices.same.0 c.slice.ensures.slices.moves within (c.in_ok-slice.ensures.slices.rows on.written))
 
 pub returns-in-Ready-clause-moves : goal.returns-in-Ready-clause-moves
 returns-in-Ready-clause-moves g c =
     slice_moved g.F.RangeFilter.spelling g.F.RangeFilter.built_cutoff c.args.version.now.version.pages c.loop-job.job c.slice.new.self c.loop-job.extents c.slice.new.extents (g.D.Disk.world c.args.disk.now)
-    (g.D.Disk.world c.loop-job.disk) (g.D.Disk.world c.slice.new.disk) c.loop-job.invariant.on.pages c.loop-job.invariant.moves c.slice.ensures.moves
+    (g.D.Disk.world c.loop-job.disk) (g.D.Disk.world c.slice.new.disk) c.loop-job.invariant.on.pages c.loop-job.invariant.moves c.slice.ensures.slices.moves

@@ -25,11 +25,11 @@ returns-clause-run g c =
     let pages = c.in_ok-extents.ensures.pages ∙ ap (λ (k : Kept). k.manifest.version.pages) c.self.view_is in
     let extents = subst (λ (k : Kept). IsPermutation (extents_with k.manifest.version old.outputs) free.extents) c.self.view_is
     (subst (λ (rows : List Row). IsPermutation (extents_with c.self.inside.version.version rows) free.extents) c.outputs.ensures c.in_ok-extents.ensures.extents) in
-    let level = c.slice.ensures.level.1 in
-    let same = c.slice.ensures.same.0 in
+    let level = c.slice.ensures.slices.level.1 in
+    let same = c.slice.ensures.slices.same.0 in
     slices_run g.F.RangeFilter.spelling g.F.RangeFilter.built_cutoff v c.args.self.now.tables old c.slice.new.self free c.slice.new.extents c.requires.run pages extents
-    (g.D.Disk.world c.args.disk.now) (g.D.Disk.world c.slice.new.disk) c.slice.ensures.moves c.slice.result (omega (arith, level, same)) c.requires.more c.slice.ensures.numbers
-    (c.slice.ensures.rows c.requires.run.written) c.slice.ensures.few
+    (g.D.Disk.world c.args.disk.now) (g.D.Disk.world c.slice.new.disk) c.slice.ensures.slices.moves c.slice.result (omega (arith, level, same)) c.requires.more c.slice.ensures.slices.numbers_are
+    (c.slice.ensures.slices.rows c.requires.run.written) c.slice.ensures.slices.few
 
 pub returns-clause-more : goal.returns-clause-more
 returns-clause-more g c =
@@ -40,7 +40,7 @@ returns-clause-more g c =
     let extents = subst (λ (k : Kept). IsPermutation (extents_with k.manifest.version old.outputs) free.extents) c.self.view_is
     (subst (λ (rows : List Row). IsPermutation (extents_with c.self.inside.version.version rows) free.extents) c.outputs.ensures c.in_ok-extents.ensures.extents) in
     slices_more g.F.RangeFilter.spelling g.F.RangeFilter.built_cutoff v c.args.self.now.tables old c.slice.new.self free c.slice.new.extents c.requires.run pages extents
-    (g.D.Disk.world c.args.disk.now) (g.D.Disk.world c.slice.new.disk) c.slice.ensures.moves c.slice.result c.requires.more c.slice.ensures.numbers c.slice.ensures.few
+    (g.D.Disk.world c.args.disk.now) (g.D.Disk.world c.slice.new.disk) c.slice.ensures.slices.moves c.slice.result c.requires.more c.slice.ensures.slices.numbers_are c.slice.ensures.slices.few
 
 pub returns-clause-slices : goal.returns-clause-slices
 returns-clause-slices g c s running tells here tied =
@@ -56,7 +56,7 @@ returns-clause-slices g c s running tells here tied =
     (subst (λ (rows : List Row). IsPermutation (extents_with c.self.inside.version.version rows) free.extents) c.outputs.ensures c.in_ok-extents.ensures.extents) in
     let follow = subst (λ (k : Kept). SliceFollows spelling (filter_bytes_of spelling cutoff) k.tables old c.slice.new.self free c.slice.new.extents c.slice.result before after) c.self.view_is (c.slice.ensures.follows tells) in
     slices_job c.jobs_are_followed.ensures.image spelling cutoff c.args.self.now s running old before whole.slot whole.rows (g.met.D.Disk.current c.args.disk.now tells) here tied free pages extents
-    c.slice.new.self c.slice.new.extents after c.slice.ensures.moves c.slice.result follow
+    c.slice.new.self c.slice.new.extents after c.slice.ensures.slices.moves c.slice.result follow
 
 pub returns-clause-reads : goal.returns-clause-reads
 returns-clause-reads g c s running tells here tied =
@@ -64,7 +64,7 @@ returns-clause-reads g c s running tells here tied =
     let whole = subst IsWhole c.self.view_is c.self.invariant.0 in
     let follows = now_follows c.jobs_are_followed.ensures.image g.F.RangeFilter.spelling g.F.RangeFilter.built_cutoff c.args.self.now s running c.args.job.now before whole.slot whole.rows
     (g.met.D.Disk.current c.args.disk.now tells) here tied in
-    c.slice.ensures.bounded tells
+    c.slice.ensures.slices.bounded tells
     (subst (λ (tables : List Opened). IsSoundMerge c.args.job.now.merge tables before.seen.held) (sym (ap (λ (k : Kept). k.tables) c.self.view_is)) follows.makes.sound)
 
 pub returns-clause-moves : goal.returns-clause-moves
@@ -76,4 +76,4 @@ returns-clause-moves g c =
     let extents = subst (λ (k : Kept). IsPermutation (extents_with k.manifest.version old.outputs) free.extents) c.self.view_is
     (subst (λ (rows : List Row). IsPermutation (extents_with c.self.inside.version.version rows) free.extents) c.outputs.ensures c.in_ok-extents.ensures.extents) in
     slice_moved g.F.RangeFilter.spelling g.F.RangeFilter.built_cutoff v c.args.self.now.tables old c.slice.new.self free c.slice.new.extents c.requires.run pages extents
-    (g.D.Disk.world c.args.disk.now) (g.D.Disk.world c.slice.new.disk) c.slice.ensures.moves
+    (g.D.Disk.world c.args.disk.now) (g.D.Disk.world c.slice.new.disk) c.slice.ensures.slices.moves
