@@ -1,5 +1,5 @@
 -- A text grows, and with it what stands of it in a buffer.
-use Rattle.std.proofs.Common.{◌≡◌, ◌⊎◌, inl, inr, ◌≤◌, ◌+◌, ◌-◌, ◌++◌, ℕ, zero, suc, [], ◌∷◌, length, take, drop, slice_index, ◌/◌, ◌%◌, min, refl, sym, ap, ◌∙◌, subst, arith, length-append}
+use Rattle.std.proofs.Common.{◌≡◌, ◌⊎◌, inl, inr, ◌≤◌, ◌+◌, ◌-◌, ◌++◌, ℕ, zero, suc, [], ◌∷◌, length, take, drop, slice_index, ◌/◌, ◌%◌, min, refl, sym, ap, ap₂, ◌∙◌, subst, arith, append_assoc, length-append, take-append-drop}
 use Rattle.std.proofs.lemmas.Bool.{cases_lt}
 use Rattle.std.proofs.lemmas.List.{append-nil, length-take, take_min, take_all}
 use Rattle.std.proofs.Math.ListN.{drop_of_length-le}
@@ -59,7 +59,7 @@ shows_added from whole text filled skip old new filled' skipped part n shows sam
     subst (λ (k : ℕ). HasPiece from (whole ++ text) filled' k new) left
     (shows_more from whole text filled skip old new filled' shows same (ends ∙ ap (λ (l : Bytes). filled + length l) copied) (puts ∙ ap (λ (l : Bytes). take filled old ++ l) copied))
 
--- a chunk of which nothing lands
+-- a text of which nothing lands
 pub shows_past : (from : ℕ) (whole text : Bytes) (filled skip : ℕ) (buffer : Bytes) → HasPiece from whole filled skip buffer → (length text ≤ skip) ⊎ (filled ≡ length buffer)
     → HasPiece from (whole ++ text) filled (skip - length text) buffer
 shows_past from whole text filled skip buffer shows out =
@@ -74,6 +74,16 @@ pub encode_more : (xs ys : Bytes) → encode_lower (xs ++ ys) ≡ encode_lower x
 unfolding encode_with
 encode_more [] ys = refl
 encode_more (x ∷ xs) ys = ap (λ (l : Bytes). slice_index lower_digits (x / 16) ∷ slice_index lower_digits (x % 16) ∷ l) (encode_more xs ys)
+
+-- a list is its front and its back
+pub joined : (n : ℕ) (xs front back : Bytes) → front ≡ take n xs → back ≡ drop n xs → xs ≡ front ++ back
+joined n xs front back is_front is_back = sym (take-append-drop n xs) ∙ ap₂ (λ (a b : Bytes). a ++ b) (sym is_front) (sym is_back)
+
+-- the hex of three parts
+pub encode_parts : (whole bytes a b c : Bytes) → bytes ≡ a ++ (b ++ c) → ((whole ++ encode_lower a) ++ encode_lower b) ++ encode_lower c ≡ whole ++ encode_lower bytes
+encode_parts whole bytes a b c is =
+    append_assoc (whole ++ encode_lower a) (encode_lower b) (encode_lower c) ∙ append_assoc whole (encode_lower a) (encode_lower b ++ encode_lower c)
+    ∙ ap (λ (l : Bytes). whole ++ l) (ap (λ (l : Bytes). encode_lower a ++ l) (sym (encode_more b c)) ∙ sym (encode_more a (b ++ c)) ∙ ap encode_lower (sym is))
 
 -- before anything
 pub shows_none : (from : ℕ) (buffer : Bytes) → HasPiece from [] 0 from buffer

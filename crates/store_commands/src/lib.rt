@@ -20,6 +20,7 @@ mod parse;
 mod reply;
 mod request;
 mod verb;
+mod whole;
 mod window;
 mod words;
 

@@ -5,6 +5,7 @@ ghost use Rattle.line_model.specs.Replies.{Explained, text_of, word_of, at_words
 ghost use Rattle.byte_fields.specs.declared.parts.Damage.TheVariants.{Sum, Shape};
 ghost use Rattle.store_commands.specs.Spoken.{spoken, HasPiece};
 
+use crate::whole::{has_room, put_pair};
 use crate::window::{Window, add, add_hex, add_number, add_word};
 use byte_fields::{Damage, Part};
 use byteorder::{BigEndian, ByteOrder};
@@ -213,7 +214,8 @@ fn say_damage(into: &mut [u8], window: Window, damage: &Damage) -> Window
     }
 }
 
-// A reply's line.
+// A reply's line. It stands apart so that `piece` is small, and a caller that says a pair has no look at other replies.
+#[inline(never)]
 fn say_line(into: &mut [u8], window: Window, reply: &Reply<'_>) -> Window
     requires { window.filled ≤ length into.old }
     ensures shows { (from : ℕ) → HasPiece from [] window.filled window.skip into.old → HasPiece from (text_of (spoken reply.now)) result.filled result.skip into.new }
@@ -250,14 +252,23 @@ fn say_line(into: &mut [u8], window: Window, reply: &Reply<'_>) -> Window
 /// Writes the bytes of a reply from place `from` on, as many as fit, and answers how many they are: 0 at its end.
 ///
 /// The newline is the reply's last byte. What is passed over or does not fit is not spelled out, so a long reply that goes
-/// out in pieces costs its length. Takes no memory.
+/// out in pieces costs its length. The pairs of a range mostly fit whole, and are then spelled with no look at each text of
+/// the line. Takes no memory.
+#[inline]
 pub fn piece(reply: &Reply<'_>, from: usize, into: &mut [u8]) -> usize
     ensures count { result ≡ min (length into.old) (length (text_of (spoken reply.now)) - from) }
     ensures bytes { take result into.new ≡ take (length into.old) (drop from (text_of (spoken reply.now))) }
 {
-    let window = Window {
-        filled: 0,
-        skip: from,
-    };
-    say_line(into, window, reply).filled
+    match reply {
+        Reply::At { key, value } if from == 0 && has_room(into.len(), key, value) => {
+            put_pair(into, key, value)
+        }
+        _ => {
+            let window = Window {
+                filled: 0,
+                skip: from,
+            };
+            say_line(into, window, reply).filled
+        }
+    }
 }

@@ -1,14 +1,11 @@
 //! What stands of a reply in a buffer.
-ghost use Rattle.std.specs.Prelude.{◌≡◌, ◌≤◌, ◌+◌, ◌-◌, ◌*◌, ◌++◌, ℕ, length, take, decimal};
+ghost use Rattle.std.specs.Prelude.{◌≡◌, ◌≤◌, ◌⊎◌, ◌+◌, ◌-◌, ◌*◌, ◌++◌, ℕ, length, min, decimal};
 ghost use Rattle.hex.specs.Hex.{encode_lower};
 ghost use Rattle.map_model.specs.SortedMap.{Bytes};
 ghost use Rattle.line_model.specs.Replies.{word_of};
 ghost use Rattle.store_commands.specs.Spoken.{HasPiece};
 
-// How many bytes are spelled at a time, and the digits that they take.
-const CHUNK_BYTES: usize = 512;
-
-const CHUNK_DIGITS: usize = 2 * CHUNK_BYTES;
+use crate::whole::{put_hex, put_text};
 
 /// How much of a reply stands in a buffer, and how many of its bytes are still to be passed over.
 #[derive(Clone, Copy)]
@@ -17,21 +14,13 @@ pub struct Window {
     pub skip: usize,
 }
 
-// Puts a text behind what stands in the buffer, and answers where it ends.
-fn put_text(into: &mut [u8], at: usize, text: &[u8]) -> usize
-    requires { at + length text.now ≤ length into.old }
-    ensures end { result ≡ at + length text.now }
-    ensures text { take result into.new ≡ take at into.old ++ text.now }
-{
-    into[at..at + text.len()].copy_from_slice(text);
-    at + text.len()
-}
-
 /// A text more: its bytes behind those that are passed over, as many as fit.
 pub fn add(into: &mut [u8], window: Window, text: &[u8]) -> Window
     requires { window.filled ≤ length into.old }
     ensures shows { (from : ℕ) (whole : Bytes) → HasPiece from whole window.filled window.skip into.old → HasPiece from (whole ++ text.now) result.filled result.skip into.new }
     ensures within { result.filled ≤ length into.old }
+    ensures lands { result.filled ≡ window.filled + min (length text.now - window.skip) (length into.old - window.filled) }
+    ensures skips { result.skip ≡ window.skip - length text.now }
 {
     let skipped = window.skip.min(text.len());
     let part = &text[skipped..];
@@ -53,41 +42,91 @@ pub fn add_number(into: &mut [u8], window: Window, number: u64) -> Window
     add(into, window, buffer.format(number).as_bytes())
 }
 
-// Some bytes more, in hex. What does not land in the buffer is not spelled.
-fn add_chunk(into: &mut [u8], window: Window, chunk: &[u8]) -> Window
-    requires filled { window.filled ≤ length into.old }
-    requires short { length chunk.now ≤ CHUNK_BYTES }
-    ensures shows { (from : ℕ) (whole : Bytes) → HasPiece from whole window.filled window.skip into.old → HasPiece from (whole ++ encode_lower chunk.now) result.filled result.skip into.new }
-    ensures within { result.filled ≤ length into.old }
+// Bytes more, in hex, of which no digit lands: they stand before the buffer, or behind it.
+fn pass_hex(window: Window, bytes: &[u8]) -> Window
+    ensures shows { (from : ℕ) (whole buffer : Bytes) → HasPiece from whole window.filled window.skip buffer → (2 * length bytes.now ≤ window.skip) ⊎ (window.filled ≡ length buffer)
+        → HasPiece from (whole ++ encode_lower bytes.now) result.filled result.skip buffer }
+    ensures same { result.filled ≡ window.filled }
+    ensures skips { result.skip ≡ window.skip - 2 * length bytes.now }
 {
-    let n = 2 * chunk.len();
-    if n <= window.skip || window.filled == into.len() {
-        return Window {
-            filled: window.filled,
-            skip: window.skip.saturating_sub(n),
-        };
+    Window {
+        filled: window.filled,
+        skip: window.skip.saturating_sub(2 * bytes.len()),
     }
-    let mut digits = [0; CHUNK_DIGITS];
-    match hex::encode_to_slice(chunk, &mut digits[..n]) {
+}
+
+// Bytes more, in hex, of which each digit lands.
+fn put_whole(into: &mut [u8], window: Window, bytes: &[u8]) -> Window
+    requires here { window.skip ≡ 0 }
+    requires room { window.filled + 2 * length bytes.now ≤ length into.old }
+    ensures shows { (from : ℕ) (whole : Bytes) → HasPiece from whole window.filled window.skip into.old → HasPiece from (whole ++ encode_lower bytes.now) result.filled result.skip into.new }
+    ensures lands { result.filled ≡ window.filled + 2 * length bytes.now }
+    ensures skips { result.skip ≡ 0 }
+{
+    Window {
+        filled: put_hex(into, window.filled, bytes),
+        skip: 0,
+    }
+}
+
+// A byte more, or none, in hex, of which a digit may stand before the buffer or behind it.
+fn add_byte(into: &mut [u8], window: Window, byte: &[u8]) -> Window
+    requires filled { window.filled ≤ length into.old }
+    requires one { length byte.now ≤ 1 }
+    ensures shows { (from : ℕ) (whole : Bytes) → HasPiece from whole window.filled window.skip into.old → HasPiece from (whole ++ encode_lower byte.now) result.filled result.skip into.new }
+    ensures within { result.filled ≤ length into.old }
+    ensures lands { result.filled ≡ window.filled + min (2 * length byte.now - window.skip) (length into.old - window.filled) }
+    ensures skips { result.skip ≡ window.skip - 2 * length byte.now }
+{
+    let n = 2 * byte.len();
+    let mut digits = [0; 2];
+    match hex::encode_to_slice(byte, &mut digits[..n]) {
         Ok(()) => add(into, window, &digits[..n]),
         Err(_) => unreachable!(),
     }
 }
 
-/// Bytes more, in hex, a chunk at a time.
+// Bytes more, in hex, of which none stands before the buffer: those of which both digits land, one of which one does, and
+// those behind it.
+fn add_hex_front(into: &mut [u8], window: Window, bytes: &[u8]) -> Window
+    requires filled { window.filled ≤ length into.old }
+    requires here { window.skip ≡ 0 }
+    ensures shows { (from : ℕ) (whole : Bytes) → HasPiece from whole window.filled window.skip into.old → HasPiece from (whole ++ encode_lower bytes.now) result.filled result.skip into.new }
+    ensures within { result.filled ≤ length into.old }
+{
+    let (inside, rest) = bytes.split_at(bytes.len().min((into.len() - window.filled) / 2));
+    let window = put_whole(into, window, inside);
+    let (cut, behind) = rest.split_at(rest.len().min(into.len() - window.filled));
+    let window = add_byte(into, window, cut);
+    pass_hex(window, behind)
+}
+
+// Bytes more, in hex, of which some may stand before the buffer or behind it. It costs what lands, and not what is passed.
+fn add_cut_hex(into: &mut [u8], window: Window, bytes: &[u8]) -> Window
+    requires { window.filled ≤ length into.old }
+    ensures shows { (from : ℕ) (whole : Bytes) → HasPiece from whole window.filled window.skip into.old → HasPiece from (whole ++ encode_lower bytes.now) result.filled result.skip into.new }
+    ensures within { result.filled ≤ length into.old }
+{
+    let (before, rest) = bytes.split_at(bytes.len().min(window.skip / 2));
+    let window = pass_hex(window, before);
+    if rest.is_empty() {
+        return window;
+    }
+    let (cut, rest) = rest.split_at(window.skip);
+    let window = add_byte(into, window, cut);
+    add_hex_front(into, window, rest)
+}
+
+/// Bytes more, in hex: straight into the buffer, where all of their digits land there.
 pub fn add_hex(into: &mut [u8], window: Window, bytes: &[u8]) -> Window
     requires { window.filled ≤ length into.old }
     ensures shows { (from : ℕ) (whole : Bytes) → HasPiece from whole window.filled window.skip into.old → HasPiece from (whole ++ encode_lower bytes.now) result.filled result.skip into.new }
     ensures within { result.filled ≤ length into.old }
 {
-    let mut window = window;
-    let mut rest = bytes;
-    while !rest.is_empty() {
-        let (chunk, more) = rest.split_at(rest.len().min(CHUNK_BYTES));
-        window = add_chunk(into, window, chunk);
-        rest = more;
+    if window.skip > 0 || bytes.len() > (into.len() - window.filled) / 2 {
+        return add_cut_hex(into, window, bytes);
     }
-    window
+    put_whole(into, window, bytes)
 }
 
 /// Bytes more, as a word: in hex, or a dash for none.

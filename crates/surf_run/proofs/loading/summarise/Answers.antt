@@ -5,7 +5,7 @@ use Rattle.disk_trait.proofs.Calls.{reads_none}
 use Rattle.disk_trait.specs.Image.{Image}
 use Rattle.load_gen.specs.Summary.{Summary, summary_of, with_pair}
 use Rattle.map_model.specs.Slices.{between}
-use Rattle.map_model.specs.SortedMap.{Bytes, Map}
+use Rattle.map_model.specs.SortedMap.{Map}
 use Rattle.state_model.specs.View.{state_map}
 use Rattle.store_core.proofs.ScanCauses.{reads_on}
 use Rattle.store_core.proofs.ScanCounts.{count_few, drop_next, none_behind, none_pair, scan_count, scan_shown, scan_undamaged, some_behind, step_count}
@@ -98,8 +98,7 @@ loop-preserved g c =
       summed = λ m so shows.
           let here = subst (λ (f : Image). StillComes spelling c.loop.scan (drop c.loop.counter m) f) (sym held) (c.loop.invariant.shows m so shows) in
           let on = c.in_ok-advance.ensures.pairs (drop c.loop.counter m) so here in
-          let pair : Bytes × Bytes = (c.in-Some.field-0-0.now, c.in-Some.value.now) in
-          c.add.ensures ∙ ap (λ (t : Summary). with_pair t ([], c.in-Some.value.now)) (c.loop.invariant.summed m so shows) ∙ sym (summed_next c.loop.counter m pair (sym on.0 ∙ sym c.in-Some.ensures.now));
+          c.add.ensures ∙ ap (λ (t : Summary). with_pair t ([], c.in-Some.value.now)) (c.loop.invariant.summed m so shows) ∙ sym (summed_next c.loop.counter m _ (sym on.0 ∙ sym c.in-Some.ensures.now));
       live = ap (λ (t : Summary). t.live) c.add.ensures ∙ ap (λ (k : ℕ). k + 1) c.loop.invariant.live;
       tables = c.advance.ensures.same.0 ∙ c.loop.invariant.tables;
       moves = reads_on (g.W.Disk.world c.args.out.now) (g.W.Disk.world c.loop.out) (g.W.Disk.world c.advance.new.disk) c.loop.invariant.moves c.advance.ensures.moves;
