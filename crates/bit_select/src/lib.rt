@@ -15,7 +15,8 @@
 #![tactic(auto)]
 
 mod byte;
+mod near;
 mod selected;
 mod word;
 
-pub use selected::Selected;
+pub use selected::{Selected, Start};

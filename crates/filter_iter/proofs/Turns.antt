@@ -26,7 +26,7 @@ use Rattle.filter_model.specs.Valid.{IsValid}
 use Rattle.filter_trie.proofs.Down.{node_passes}
 use Rattle.filter_trie.proofs.Finding.{branches_lead, searches_find}
 use Rattle.filter_trie.proofs.Halves.{begins_next}
-use Rattle.filter_trie.proofs.Numbers.{next_search}
+use Rattle.filter_trie.proofs.Numbers.{IsSearch, branch_search, found_in, next_search}
 use Rattle.filter_trie.proofs.Starts.{rests_fine, start-push}
 use Rattle.filter_trie.specs.Laws.{IsByteBranch, NoneBetween}
 use Rattle.filter_trie.specs.Walks.{IsNodeAt, IsSlotAt}
@@ -35,8 +35,8 @@ use Rattle.trie_laws.proofs.NodeLists.{height_above}
 use Rattle.trie_laws.proofs.Places.{at-trie_of, last_letter-push, length-trie_of}
 use Rattle.trie_levels.proofs.Totals.{valid_lists_have_tries}
 use Rattle.trie_levels.specs.Tries.{HasTrie}
-use Rattle.trie_model.specs.Branching.{next_at}
-use Rattle.trie_model.specs.Halves.{Half, begin_of, byte_at, child_at, first_below, next_place, node_at, slot_at, whole}
+use Rattle.trie_model.specs.Branching.{branch_at, next_at}
+use Rattle.trie_model.specs.Halves.{Half, begin_of, branch_place, byte_at, child_at, first_below, next_place, node_at, slot_at, whole}
 use Rattle.trie_model.specs.Letters.{order_of}
 use Rattle.trie_model.specs.Rests.{ahead, first_leaf, leaves_below, rests, tails}
 
@@ -156,6 +156,37 @@ module _ (hash_bits real_bits : ℕ) (ls : List Leaf) (valid : IsValid hash_bits
   pub first_whole : NoneBetween ls v c 256 → first_leaf ls (p ++ c ∷ []) ≡ first_leaf ls p + leaves_below ls p
   first_whole none = start-push p c (map path ls) ∙ ap (λ (n : ℕ). first_leaf ls p + n) (ahead_all c (heads g) g (all_before none) own.within fine.small)
 
+  -- ---- a branch of the node
+
+  in_list : v < length ns
+  in_list = omega (arith, l, length-trie_of ls)
+
+  own_place : (f : Node → Option ℕ) → IsSearch f → (m : ℕ) → Some m ≡ found_in f (whole ns) v → (first_place ns v ≤ m) × (m < first_place ns (v + 1))
+  own_place f search m e = go (f (node_at (whole ns) v)) refl e
+    where
+      go : (q : Option ℕ) → f (node_at (whole ns) v) ≡ q → Some m ≡ option_map (λ i. begin_of (whole ns) v + i) q → (first_place ns v ≤ m) × (m < first_place ns (v + 1))
+      go None h x = absurd (cc)
+      go (Some i) h x =
+          let sum : m ≡ begin_of (whole ns) v + i = cc in
+          let same : v - 0 ≡ v = omega arith in
+          let within : i < length (get_or ns v []) = omega (arith, search (node_at (whole ns) v) i h, ap (λ (k : ℕ). length (get_or ns k [])) same) in
+          (omega (arith, sum, begins ns v), omega (arith, sum, begins ns v, within, begins_next ns v in_list))
+
+  -- the one at place m is the first from the byte on
+  pub record StandsFrom (m : ℕ) : Type 0 where
+    pub found : (d : ℕ) × (c ≤ d) × IsByteBranch ls v d m × NoneBetween ls v c d
+    pub place : (first_place ns v ≤ m) × (m < first_place ns (v + 1))
+
+  pub by_next : (m : ℕ) → Some m ≡ next_place (whole ns) v c → StandsFrom m
+  by_next m e = record { found = (searches_find ls v has l).next c m e; place = own_place (λ n. next_at n c) (next_search c) m e }
+
+  -- so is the byte's own
+  pub by_branch : (m : ℕ) → Some m ≡ branch_place (whole ns) v c → StandsFrom m
+  by_branch m e = record {
+    found = (c, omega arith, record { byte = byte; place = (searches_find ls v has l).branch c m e }, λ a from to. absurd (omega (arith, from, to)));
+    place = own_place (λ n. branch_at n c) (branch_search c) m e;
+  }
+
   -- ---- the border below
 
   pub node_high : length p < height ls
@@ -183,26 +214,12 @@ module _ (hash_bits real_bits : ℕ) (ls : List Leaf) (valid : IsValid hash_bits
     turns_nowhere e = (searches_find ls v has l).no_next c e c (omega arith) byte
 
     -- or its first one stands at place m
-    module _ (m : ℕ) (e : Some m ≡ next_place (whole ns) v c) where
+    module _ (m : ℕ) (stand : StandsFrom m) where
       found : (d : ℕ) × (c ≤ d) × IsByteBranch ls v d m × NoneBetween ls v c d
-      found = (searches_find ls v has l).next c m e
-
-      in_list : v < length ns
-      in_list = omega (arith, l, length-trie_of ls)
-
-      own_place : (first_place ns v ≤ m) × (m < first_place ns (v + 1))
-      own_place = go (next_at (node_at (whole ns) v) c) refl e
-        where
-          go : (q : Option ℕ) → next_at (node_at (whole ns) v) c ≡ q → Some m ≡ option_map (λ i. begin_of (whole ns) v + i) q → (first_place ns v ≤ m) × (m < first_place ns (v + 1))
-          go None h x = absurd (cc)
-          go (Some i) h x =
-              let sum : m ≡ begin_of (whole ns) v + i = cc in
-              let same : v - 0 ≡ v = omega arith in
-              let within : i < length (get_or ns v []) = omega (arith, next_search c (node_at (whole ns) v) i h, ap (λ (k : ℕ). length (get_or ns k [])) same) in
-              (omega (arith, sum, begins ns v), omega (arith, sum, begins ns v, within, begins_next ns v in_list))
+      found = stand.found
 
       pub is_down : c'.node ≡ first_below (whole ns) m → c'.sum ≡ b.sum + slot_at (whole ns) m → IsDown hash_bits real_bits ls valid m b c'
-      is_down node sum = record { place = let f = found in omega (arith, f.2.place.within); from = omega (arith, own_place.0, ap (first_place ns) at_node); node = node; sum = sum }
+      is_down node sum = record { place = let f = found in omega (arith, f.2.place.within); from = omega (arith, stand.place.0, ap (first_place ns) at_node); node = node; sum = sum }
 
       pub at_place : IsDown hash_bits real_bits ls valid m b c' → leaves_at ls (length p + 1) c' ≡ first_leaf ls (p ++ c ∷ [])
       at_place d =
@@ -211,7 +228,7 @@ module _ (hash_bits real_bits : ℕ) (ls : List Leaf) (valid : IsValid hash_bits
             arith,
             here,
             step_counts hash_bits real_bits ls valid m b c' d,
-            by_place hash_bits real_bits ls valid v m l own_place.0 own_place.1,
+            by_place hash_bits real_bits ls valid v m l stand.place.0 stand.place.1,
             first_same f.0 f.1 f.2.byte f.3,
             ap (first_leaf ls) f.2.place.is,
             one_more (length p) (length ls),
@@ -224,17 +241,24 @@ module _ (hash_bits real_bits : ℕ) (ls : List Leaf) (valid : IsValid hash_bits
           ap label_of letter ∙ ap (λ (t : Bool). cond t 255 f.0) (ne_eqb f.0 256 (λ x. omega (arith, x, f.2.byte)))
 
       pub leads : (t : Turn) → c'.node ≡ first_below (whole ns) m → IsTurnAt (whole ns) m c t → IsTurn ls (p ++ c ∷ []) c' t
-      leads turn.Nowhere at w = let f = found in f.3 c (omega arith) (omega (arith, f.1, apart))
+      leads turn.Nowhere node w = let f = found in f.3 c (omega arith) (omega (arith, f.1, apart))
         where
           apart : found.0 ≡ c → ⊥
           apart x = w (byte_is ∙ x)
-      leads (turn.Leaf slot) at w =
+      leads (turn.Leaf slot) node w =
           let f = found in
           let is_c : f.0 ≡ c = sym byte_is ∙ w.0 in
           subst (λ (s : ℕ). IsSlotAt ls s (p ++ c ∷ [])) (sym w.2)
           ((branches_lead ls m (p ++ c ∷ []) has (record { within = f.2.place.within; is = f.2.place.is ∙ ap (λ (d : ℕ). p ++ d ∷ []) is_c })).leaf w.1)
-      leads turn.Node at w =
+      leads turn.Node node w =
           let f = found in
           let is_c : f.0 ≡ c = sym byte_is ∙ w.0 in
-          subst (λ (n : ℕ). IsNodeAt ls n (p ++ c ∷ [])) (sym at)
+          subst (λ (n : ℕ). IsNodeAt ls n (p ++ c ∷ [])) (sym node)
           ((branches_lead ls m (p ++ c ∷ []) has (record { within = f.2.place.within; is = f.2.place.is ∙ ap (λ (d : ℕ). p ++ d ∷ []) is_c })).child (first_below (whole ns) m) w.1)
+
+    -- the byte's own branch leads on, or to the leaf of the next slot
+    pub own_leads : (m : ℕ) → Some m ≡ branch_place (whole ns) v c → (on : Bool) (slots : ℕ) → on ≡ is_some (child_at (whole ns) m) → slots ≡ slot_at (whole ns) m → c'.node ≡ first_below (whole ns) m
+        → IsTurn ls (p ++ c ∷ []) c' (cond on turn.Node (turn.Leaf slots))
+    unfolding found by_branch
+    own_leads m e true slots on is node = leads m (by_branch m e) turn.Node node (byte_is m (by_branch m e), child_if (whole ns) m on)
+    own_leads m e false slots on is node = leads m (by_branch m e) (turn.Leaf slots) node (byte_is m (by_branch m e), no_child_if (whole ns) m on, is)

@@ -11,7 +11,7 @@ ghost use Rattle.trie_model.specs.Rests.{first_leaf};
 use super::borders::{leaves_before, root_border};
 use super::branches::{first_branch, last_branch, order};
 use super::parts::{Border, END_LETTER, Pass, Step, Turn, Way};
-use super::reaching::turn;
+use super::reaching::{turn, turn_beside};
 use filter_trie::Trie;
 use std::alloc::Allocator;
 
@@ -26,7 +26,8 @@ fn count_to<A: Allocator>(
     requires { StandsAtNode trie.now border level height }
     ensures { result ≡ first_leaf trie.now.leaves (get_or (nodes trie.now.leaves) border.node [] ++ byte ∷ []) }
 {
-    let (next, _) = turn(trie, border, byte);
+    // Mostly no branch of the node is by this byte.
+    let (next, _) = turn_beside(trie, border, byte);
     leaves_before(trie, next, level + 1, height)
 }
 

@@ -1,8 +1,9 @@
 //! Where a bound leads in a trie, and how many leaves come before it.
 
-ghost use Rattle.std.specs.Prelude.{◌≡◌, ◌<◌, ◌+◌, ◌++◌, ◌∷◌, [], false, true, length, get_or};
+ghost use Rattle.std.specs.Prelude.{◌≡◌, ◌<◌, ◌+◌, ◌++◌, ◌∷◌, [], cond, false, true, length, get_or};
 ghost use Rattle.filter_api.specs.Spellings.{MayStand};
 ghost use Rattle.filter_iter.specs.Borders.{HasLeft, HaveMet, IsBorder, IsDescent, IsTurn, IsTurnAt, LeadsOn, leaves_at};
+ghost use Rattle.filter_iter.specs.declared.parts.Turn.TheVariants as turn;
 ghost use Rattle.filter_model.specs.Trie.{height as height_of, nodes};
 ghost use Rattle.filter_trie.specs.Places.{IsTaken, branch_number, trie as trie_in};
 ghost use Rattle.trie_model.specs.Halves.{slot_at};
@@ -29,7 +30,42 @@ fn turn_at<A: Allocator>(trie: &Trie<A>, place: Place, byte: u8, slots: u64) -> 
 }
 
 /// Goes down by a byte of the bound from the node at the border, which the letters so far lead to.
+///
+/// In the sparse half the byte's own branch is found as a walk finds it, and the one behind is searched for where there is
+/// none, which ends the bound's way.
 pub(crate) fn turn<A: Allocator>(trie: &Trie<A>, border: Border, byte: u8) -> (Border, Turn)
+    requires stands { MayStand trie.now.hash_bits trie.now.real_bits trie.now.cutoff trie.now.leaves }
+    requires node { border.node < length (nodes trie.now.leaves) }
+    requires border { IsBorder trie.now.leaves (length (get_or (nodes trie.now.leaves) border.node [])) border }
+    requires before { leaves_at trie.now.leaves (length (get_or (nodes trie.now.leaves) border.node [])) border ≡ first_leaf trie.now.leaves (get_or (nodes trie.now.leaves) border.node []) }
+    ensures border { IsBorder trie.now.leaves (length (get_or (nodes trie.now.leaves) border.node []) + 1) result.0 }
+    ensures before { leaves_at trie.now.leaves (length (get_or (nodes trie.now.leaves) border.node []) + 1) result.0 ≡ first_leaf trie.now.leaves (get_or (nodes trie.now.leaves) border.node [] ++ byte ∷ []) }
+    ensures turn { IsTurn trie.now.leaves (get_or (nodes trie.now.leaves) border.node [] ++ byte ∷ []) result.0 result.1 }
+{
+    if trie.dense().has_node(border.node) {
+        return turn_beside(trie, border, byte);
+    }
+    match trie.placed(border.node, byte) {
+        None => turn_beside(trie, border, byte),
+        Some(at) => {
+            let next = Border {
+                node: at.below,
+                sum: border.sum + at.slots,
+            };
+            (next, own_turn(at.leads, at.slots))
+        }
+    }
+}
+
+// Where a branch by the bound's byte leads, before which so many leaves stand.
+fn own_turn(leads: bool, slots: u64) -> Turn
+    ensures { result ≡ cond leads turn.Node (turn.Leaf slots) }
+{
+    if leads { Turn::Node } else { Turn::Leaf(slots) }
+}
+
+/// The same by the node's first branch from the byte on, whether or not it is the byte's own.
+pub(crate) fn turn_beside<A: Allocator>(trie: &Trie<A>, border: Border, byte: u8) -> (Border, Turn)
     requires stands { MayStand trie.now.hash_bits trie.now.real_bits trie.now.cutoff trie.now.leaves }
     requires node { border.node < length (nodes trie.now.leaves) }
     requires border { IsBorder trie.now.leaves (length (get_or (nodes trie.now.leaves) border.node [])) border }

@@ -1,5 +1,5 @@
 -- Places of a trie over both halves. The trie is one list of nodes, and a place the number of a branch among all of them.
-use Rattle.std.specs.Prelude.{◌≡◌, ℕ, ◌+◌, ◌<◌, ◌≤◌, ◌⊎◌, true, List, [], get_or, length}
+use Rattle.std.specs.Prelude.{◌≡◌, ℕ, ◌+◌, ◌<◌, ◌≤◌, ◌⊎◌, true, is_some, List, [], get_or, length}
 use Rattle.filter_model.specs.Leaves.{Filter}
 use Rattle.filter_model.specs.Image.{has_letter}
 use Rattle.filter_model.specs.Nodes.{all, trie_of}
@@ -8,7 +8,8 @@ use Rattle.filter_trie.specs.Parts.{lower, upper}
 use Rattle.filter_trie.specs.declared.place.Place.{Place}
 use Rattle.filter_trie.specs.declared.place.Place.TheVariants as place
 use Rattle.louds_dense.specs.Places as dense
-use Rattle.trie_model.specs.Halves.{Half, begin_of, first_below, node_at, whole}
+use Rattle.louds_sparse.specs.declared.lead.Placed.{Placed}
+use Rattle.trie_model.specs.Halves.{Half, begin_of, child_at, first_below, node_at, slot_at, whole}
 
 -- the trie
 abbrev pub trie : Filter → Half
@@ -37,3 +38,10 @@ pub record BeginsAt (h : Half) (v n : ℕ) : Type 0 where
 -- the string that the branch at a place leads to
 abbrev pub string_at : Filter → Place → List ℕ
 string_at i p = get_or (places i.leaves) (branch_number i p) []
+
+-- what is said of a branch of the sparse half is so of the one at its place
+pub record StandsAt (i : Filter) (at : Placed) : Type 0 where
+  pub taken : IsTaken i (place.Sparse at.place)
+  pub slots : at.slots ≡ slot_at (trie i) (branch_number i (place.Sparse at.place))
+  pub below : at.below ≡ first_below (trie i) (branch_number i (place.Sparse at.place))
+  pub leads : at.leads ≡ is_some (child_at (trie i) (branch_number i (place.Sparse at.place)))

@@ -2,11 +2,14 @@
 ghost use Rattle.std.specs.Prelude.{◌≡◌, ◌<◌, ◌≤◌, length, is_some, IfSome};
 ghost use Rattle.std.specs.Option.{option_map};
 ghost use Rattle.filter_model.specs.Trie.{nodes};
-ghost use Rattle.filter_trie.specs.Places.{BeginsAt, IsTaken, IsWithin, branch_number, trie};
+ghost use Rattle.filter_trie.specs.Parts.{upper};
+ghost use Rattle.filter_trie.specs.Places.{BeginsAt, IsTaken, IsWithin, StandsAt, branch_number, trie};
+ghost use Rattle.filter_trie.specs.declared.place.Place.TheVariants as in_half;
 ghost use Rattle.trie_model.specs.Halves.{begin_of, branch_place, byte_at, child_at, end_slot, first_below, next_place, prev_place, slot_at};
 
 use super::place::Place;
 use super::trie::Trie;
+use louds_sparse::Placed;
 use std::alloc::Allocator;
 
 impl<A: Allocator> Trie<A> {
@@ -27,6 +30,17 @@ impl<A: Allocator> Trie<A> {
                 None => None,
             }
         }
+    }
+
+    /// The branch by this byte of a node of the sparse half, with what stands before it, by one count; `None` where the node
+    /// has none, and END is no byte.
+    pub fn placed(&self, node: u64, byte: u8) -> Option<Placed>
+        requires behind { length (upper self.now.cutoff self.now.leaves) ≤ node }
+        requires there { node < length (nodes self.now.leaves) }
+        ensures place { option_map (λ at. branch_number self.now (in_half.Sparse at.place)) result ≡ branch_place (trie self.now) node byte }
+        ensures stands { IfSome result (StandsAt self.now) }
+    {
+        self.sparse.placed(node, byte)
     }
 
     /// The place of the node's first branch by this byte or a greater one, `None` where it has none. `byte` is at most 256.

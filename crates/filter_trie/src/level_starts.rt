@@ -13,7 +13,7 @@ use std::alloc::Allocator;
 
 impl<A: Allocator> Trie<A> {
     /// How many leaves stand before a node, none of its own among them, and the first node below its first branch or a later
-    /// one: what `slots_before` and `first_below` of its `first_place` say, by one search and one count where it is sparse.
+    /// one: what `slots_before` and `first_below` of its `first_place` say, by one search, that counts too, where it is sparse.
     pub fn before_node(&self, node: u64) -> (u64, u64)
         requires { node ≤ length (nodes self.now.leaves) }
         ensures slots { result.0 ≡ slot_at (trie self.now) (begin_of (trie self.now) node) }
@@ -26,7 +26,7 @@ impl<A: Allocator> Trie<A> {
                 dense.first_below(dense.first_place(node)),
             )
         } else {
-            self.before_sparse(self.sparse.first_place(node))
+            self.sparse.before_node(node)
         }
     }
 

@@ -9,7 +9,8 @@
 //!
 //! Whoever goes over many leaves asks for a [`Place`]: `branch`, `next_branch` and `prev_branch` find one by a byte of a
 //! node, `child`, `leaf_slot` and `first_below` say what it leads to and what stands before it, and `leftmost` the least
-//! leaf behind it. What a place says is said of the one list of nodes, and whoever holds one need not know of which half it is.
+//! leaf behind it; `placed` says all but the last at once, of a branch of the sparse half. What a place says is said of the
+//! one list of nodes, and whoever holds one need not know of which half it is.
 //!
 //! A walk looks at one node for each level: in the dense half at two bits and one count, in the sparse half at where the
 //! node begins, its labels and one count. It takes no memory. `walk_counted` counts the nodes, by a [`Steps`] that takes no
@@ -46,6 +47,7 @@ mod walk;
 
 pub use building::build;
 pub use laws::{branches_lead, leaves_are_counted, places_are_numbers, searches_find};
+pub use louds_sparse::Placed;
 pub use place::Place;
 pub use steps::Steps;
 pub use trie::Trie;

@@ -32,6 +32,6 @@ mod sections;
 mod sparse;
 
 pub use builder::SparseBuilder;
-pub use lead::Lead;
+pub use lead::{Lead, Placed};
 pub use sparse::Sparse;
 pub use trie_model::{Before, Branch};

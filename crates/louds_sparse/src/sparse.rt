@@ -4,14 +4,14 @@ ghost use Rattle.std.specs.Option.{option_map};
 ghost use Rattle.bit_rank.specs.Words.{IsWordOf};
 ghost use Rattle.bit_model.specs.Packed.{packed};
 ghost use Rattle.filter_model.specs.Image.{sparse_children, sparse_labels, sparse_louds};
-ghost use Rattle.filter_model.specs.Nodes.{first_place};
+ghost use Rattle.filter_model.specs.Nodes.{children_before, first_place};
 ghost use Rattle.filter_model.specs.Trie.{END};
 ghost use Rattle.louds_sparse.specs.Cuts.{AreSearched, IsCut, StandBytes};
-ghost use Rattle.louds_sparse.specs.Leads.{IsLead};
+ghost use Rattle.louds_sparse.specs.Leads.{IsLead, StandsAt};
 ghost use Rattle.louds_sparse.specs.Spelling.{IsSpelled, half_in};
 ghost use Rattle.trie_model.specs.Halves.{HasNode, begin_of, branch_place, byte_at, child_at, end_slot, first_below, next_place, places_in, prev_place, slot_at};
 
-use super::lead::Lead;
+use super::lead::{Lead, Placed};
 use super::sections::END_LABEL;
 use bit_rank::{Ranked, RankedWord};
 use bit_select::Selected;
@@ -97,6 +97,21 @@ impl<A: Allocator> Sparse<A> {
         self.begin((node - self.before.nodes) as usize) as u64
     }
 
+    /// How many leaves stand before a node, those before this half counted in, and the first node whose branch is one of the
+    /// node's or stands later: what `leaf_slot` and `first_below` of its `first_place` say, mostly by counting both at once.
+    pub fn before_node(&self, node: u64) -> (u64, u64)
+        requires behind { self.now.before.nodes ≤ node }
+        requires there { node ≤ self.now.before.nodes + length self.now.nodes }
+        ensures slots { result.0 ≡ slot_at self.now (begin_of self.now node) }
+        ensures below { result.1 ≡ first_below self.now (begin_of self.now node) }
+    {
+        let (place, leading) = self.begin_counted((node - self.before.nodes) as usize);
+        (
+            self.before.slots + (place - leading) as u64,
+            self.before.children + leading as u64 + 1,
+        )
+    }
+
     /// The places of a node's labels: the first, and the one after the last.
     pub fn node_range(&self, node: u64) -> (u64, u64)
         requires { HasNode self.now node }
@@ -131,6 +146,22 @@ impl<A: Allocator> Sparse<A> {
         let word = self.has_child.word_of(start);
         match find_label_between(&self.labels, start, end, byte) {
             Some(place) => Some((place as u64, self.lead_by(word, place))),
+            None => None,
+        }
+    }
+
+    /// The node's branch by this byte, with what stands before it: what `branch` says, and `leaf_slot`, `first_below` and
+    /// `leads_on` of its place, by one count. `None` where the node has none; END is no byte.
+    pub fn placed(&self, node: u64, byte: u8) -> Option<Placed>
+        requires { HasNode self.now node }
+        ensures place { option_map (λ at. at.place) result ≡ branch_place self.now node byte }
+        ensures stands { IfSome result (StandsAt self.now) }
+    {
+        let (start, end) = self.searched(node, byte);
+        // Read before the labels, so that the processor waits for both at once.
+        let word = self.has_child.word_of(start);
+        match find_label_between(&self.labels, start, end, byte) {
+            Some(place) => Some(self.placed_by(word, place)),
             None => None,
         }
     }
@@ -271,6 +302,22 @@ impl<A: Allocator> Sparse<A> {
         }
     }
 
+    // The branch at a place, by a word of `has_child` that was read. One count says what stands before it.
+    fn placed_by(&self, word: RankedWord, place: usize) -> Placed
+        requires place { place < places_in self.now }
+        requires word { IsWordOf (sparse_children self.now.nodes) word }
+        ensures place { result.place ≡ place }
+        ensures stands { StandsAt self.now result }
+    {
+        let (leads, before) = self.has_child.bit_and_rank_by(word, place);
+        Placed {
+            place: place as u64,
+            slots: self.before.slots + (place - before) as u64,
+            below: self.before.children + before as u64 + 1,
+            leads,
+        }
+    }
+
     // The place at which a node begins, by its number in this half, or the one after the last.
     fn begin(&self, number: usize) -> usize
         requires { number ≤ length self.now.nodes }
@@ -279,6 +326,34 @@ impl<A: Allocator> Sparse<A> {
         match self.louds.select(number) {
             Some(place) => place,
             None => self.labels.len(),
+        }
+    }
+
+    // The same place, and how many branches before it lead to a node, where it is near a place that `louds` keeps: both are
+    // counted from there on, so that no count waits for the place.
+    fn near_begin(&self, number: usize) -> Option<(usize, usize)>
+        requires { number ≤ length self.now.nodes }
+        ensures place { IfSome result (λ found. found.0 ≡ first_place self.now.nodes number) }
+        ensures leading { IfSome result (λ found. found.1 ≡ children_before self.now.nodes found.0) }
+    {
+        let start = self.louds.start(number)?;
+        let before = self.has_child.rank(64 * start.word);
+        let (place, behind) = self.louds.near(start, self.has_child.words())?;
+        Some((place, before + behind as usize))
+    }
+
+    // The place at which a node begins, or the one after the last, and how many branches before it lead to a node.
+    fn begin_counted(&self, number: usize) -> (usize, usize)
+        requires { number ≤ length self.now.nodes }
+        ensures place { result.0 ≡ first_place self.now.nodes number }
+        ensures leading { result.1 ≡ children_before self.now.nodes result.0 }
+    {
+        match self.near_begin(number) {
+            Some(found) => found,
+            None => {
+                let place = self.begin(number);
+                (place, self.has_child.rank(place))
+            }
         }
     }
 

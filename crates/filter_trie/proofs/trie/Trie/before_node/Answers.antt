@@ -1,5 +1,5 @@
 use Rattle.std.proofs.Common.{◌∙◌, ap, refl}
-use Rattle.filter_trie.proofs.Numbers.{behind, dense_before, dense_begins_at, dense_below_is, dense_number, inside, sparse_before, sparse_begins, sparse_behind, sparse_below_is, sparse_within}
+use Rattle.filter_trie.proofs.Numbers.{behind, dense_before, dense_begins_at, dense_below_is, dense_number, inside, sparse_before, sparse_begins, sparse_behind, sparse_below_is}
 use Rattle.louds_dense.specs.Places.{branches_before, first_below as dense_below, node_slot}
 use Rattle.filter_trie.specs.Parts.{AreParts, lower, upper}
 use Rattle.filter_trie.specs.Places.{trie}
@@ -7,15 +7,10 @@ use Rattle.trie_laws.specs.Halves.{second_half}
 use Rattle.trie_model.specs.Halves.{Half, begin_of, first_below, slot_at}
 use Rattle.filter_trie.proofs.trie.Trie.before_node.Goals as goal
 
-pub first_place-requires-else-has_node-clause-there : goal.first_place-requires-else-has_node-clause-there
-first_place-requires-else-has_node-clause-there g c =
+pub before_node-requires-clause-there : goal.before_node-requires-clause-there
+before_node-requires-clause-there g c =
     let s : AreParts c.args.self.now c.self.inside.cutoff c.self.inside.height c.self.inside.dense c.self.inside.sparse c.self.inside.suffixes = rw c.self.view_is at c.self.invariant.0 in
     rw s.sparse_is (sparse_behind s c.args.node c.requires)
-
-pub before_sparse-requires : goal.before_sparse-requires
-before_sparse-requires g c =
-    let s : AreParts c.args.self.now c.self.inside.cutoff c.self.inside.height c.self.inside.dense c.self.inside.sparse c.self.inside.suffixes = rw c.self.view_is at c.self.invariant.0 in
-    sparse_within s c.args.node c.first_place-else-has_node.result (behind s c.args.node c.if-has_node.ensures.has.1) c.requires (c.first_place-else-has_node.ensures ∙ ap (λ (h : Half). begin_of h c.args.node) s.sparse_is)
 
 pub returns-then-has_node-clause-slots : goal.returns-then-has_node-clause-slots
 returns-then-has_node-clause-slots g c =
@@ -32,13 +27,12 @@ pub returns-else-has_node-clause-slots : goal.returns-else-has_node-clause-slots
 returns-else-has_node-clause-slots g c =
     let s : AreParts c.args.self.now c.self.inside.cutoff c.self.inside.height c.self.inside.dense c.self.inside.sparse c.self.inside.suffixes = rw c.self.view_is at c.self.invariant.0 in
     let from = behind s c.args.node c.if-has_node.ensures.has.1 in
-    let half = second_half (upper c.args.self.now.cutoff c.args.self.now.leaves) (lower c.args.self.now.cutoff c.args.self.now.leaves) in
-    c.before_sparse.ensures.slots ∙ ap (slot_at half) (c.first_place-else-has_node.ensures ∙ ap (λ (h : Half). begin_of h c.args.node) s.sparse_is) ∙ sparse_before s c.args.node from
+    c.before_node.ensures.slots ∙ ap (λ (h : Half). slot_at h (begin_of h c.args.node)) s.sparse_is ∙ sparse_before s c.args.node from
 
 pub returns-else-has_node-clause-below : goal.returns-else-has_node-clause-below
 returns-else-has_node-clause-below g c =
     let s : AreParts c.args.self.now c.self.inside.cutoff c.self.inside.height c.self.inside.dense c.self.inside.sparse c.self.inside.suffixes = rw c.self.view_is at c.self.invariant.0 in
     let from = behind s c.args.node c.if-has_node.ensures.has.1 in
     let half = second_half (upper c.args.self.now.cutoff c.args.self.now.leaves) (lower c.args.self.now.cutoff c.args.self.now.leaves) in
-    c.before_sparse.ensures.below ∙ ap (first_below half) (c.first_place-else-has_node.ensures ∙ ap (λ (h : Half). begin_of h c.args.node) s.sparse_is) ∙ sparse_below_is s (begin_of half c.args.node)
+    c.before_node.ensures.below ∙ ap (λ (h : Half). first_below h (begin_of h c.args.node)) s.sparse_is ∙ sparse_below_is s (begin_of half c.args.node)
     ∙ ap (first_below (trie c.args.self.now)) (sparse_begins s c.args.node from)
