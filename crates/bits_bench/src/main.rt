@@ -7,14 +7,18 @@
 //! ```
 #![tactic(auto)]
 
+mod boxes;
 mod inputs;
 mod measures;
 mod plain;
 mod report;
+mod rounds;
 mod searches;
 
 use anyhow::Result;
+use std::alloc::Global;
 use std::env;
+use std::time::CpuClock;
 
 const USAGE: &str = "usage: bits_bench KERNEL SIZE CALLS SEED [ONE_IN]
   rank, ones                     SIZE random bits
@@ -24,6 +28,11 @@ each called CALLS times, at random places";
 
 fn main(rt: HostRuntime) -> Result<()> {
     let words: Vec<String> = env::args(&rt)?.skip(1).collect(rt.alloc())?;
+    measure(&rt, rt.alloc(), &words)
+}
+
+// Measures what the words ask for.
+fn measure(rt: &(impl Print + CpuClock), alloc: Global, words: &[String]) -> Result<()> {
     if words.len() != 4 && words.len() != 5 {
         println!(rt; "{USAGE}")?;
         return Ok(());
@@ -36,12 +45,12 @@ fn main(rt: HostRuntime) -> Result<()> {
         None => 2,
     };
     match words[0].as_str() {
-        "rank" => measures::rank(&rt, rt.alloc(), size, calls, seed),
-        "select" => measures::select(&rt, rt.alloc(), size, calls, seed, one_in),
-        "ones" => measures::ones(&rt, rt.alloc(), size, calls, seed),
-        "node_range" => searches::node_range(&rt, rt.alloc(), size, calls, seed, one_in),
-        "find_label" => searches::find_label(&rt, rt.alloc(), size, calls, seed, false),
-        "find_in_section" => searches::find_label(&rt, rt.alloc(), size, calls, seed, true),
+        "rank" => measures::rank(rt, alloc, size, calls, seed),
+        "select" => measures::select(rt, alloc, size, calls, seed, one_in),
+        "ones" => measures::ones(rt, alloc, size, calls, seed),
+        "node_range" => searches::node_range(rt, alloc, size, calls, seed, one_in),
+        "find_label" => searches::find_label(rt, alloc, size, calls, seed, false),
+        "find_in_section" => searches::find_label(rt, alloc, size, calls, seed, true),
         _ => {
             println!(rt; "{USAGE}")?;
             Ok(())

@@ -1,21 +1,24 @@
 //! Counts and places of set bits.
 ghost use Rattle.std.specs.Prelude.{◌≤◌, ◌<◌, ◌^◌, length};
 
+use crate::boxes::boxed;
 use crate::inputs::{Numbers, random_bytes, random_numbers};
 use crate::plain;
-use crate::report::{Race, Watch};
-use anyhow::{Result, bail};
+use crate::rounds::{Kernel, measure, rounds};
+use anyhow::Result;
 use bit_rank::Ranked;
 use bit_select::Selected;
 use bit_words::Bits;
 use std::alloc::{AllocError, Global};
 use std::time::CpuClock;
 
-/// How many rounds kernel and plain loop run in turn.
-pub const ROUNDS: u32 = 5;
-
 // How many calls of a kernel stand against one of a plain loop that begins at the first bit.
 const PLAIN_SHARE: usize = 5000;
+
+// The numbers that such a plain loop is called for.
+fn few_of(numbers: &[u64]) -> &[u64] {
+    &numbers[..numbers.len().div_ceil(PLAIN_SHARE)]
+}
 
 // As many random bits.
 fn random_bits(alloc: Global, count: u64, numbers: &mut Numbers) -> Result<Bits<Global>> {
@@ -59,6 +62,38 @@ fn sum_of_plain_ranks(words: &[u64], places: &[u64]) -> u64 {
     sum
 }
 
+// Random bits with their counts.
+fn random_ranked(alloc: Global, count: u64, numbers: &mut Numbers) -> Result<Box<Ranked<Global>>> {
+    let bits = random_bits(alloc, count, numbers)?;
+    Ok(boxed(alloc, Ranked::new(alloc, bits)?)?)
+}
+
+// Ranks at some places, and the plain loop's at few of them.
+#[derive(Clone, Copy)]
+struct Ranks<'a> {
+    ranked: &'a Ranked<Global>,
+    places: &'a [u64],
+    few: &'a [u64],
+}
+
+impl<'a> Kernel for Ranks<'a> {
+    fn kernel(&self) -> u64 {
+        sum_of_ranks(self.ranked, self.ranked.bits().len(), self.places)
+    }
+
+    fn plain(&self) -> u64 {
+        sum_of_plain_ranks(self.ranked.words(), self.few)
+    }
+
+    fn agree(&self, _kernel: u64, plain: u64) -> bool {
+        sum_of_ranks(self.ranked, self.ranked.bits().len(), self.few) == plain
+    }
+
+    fn calls(&self) -> (u64, u64) {
+        (self.places.len() as u64, self.few.len() as u64)
+    }
+}
+
 /// Measures `rank` at random places of `size` random bits.
 pub fn rank(
     rt: &(impl Print + CpuClock),
@@ -68,28 +103,14 @@ pub fn rank(
     seed: u64,
 ) -> Result<()> {
     let mut numbers = Numbers::new(seed);
-    let bits = random_bits(alloc, size, &mut numbers)?;
-    let len = bits.len();
-    let ranked = Ranked::new(alloc, bits)?;
+    let ranked = random_ranked(alloc, size, &mut numbers)?;
     let places = random_numbers(alloc, usize::try_from(calls)?, size, &mut numbers)?;
-    let few = &places[..places.len().div_ceil(PLAIN_SHARE)];
-    let mut sum = 0u64;
-    let mut race = Race::new();
-    for _ in 0..ROUNDS {
-        let watch = Watch::start(rt)?;
-        let kernel_sum = sum_of_ranks(&ranked, len, &places);
-        let kernel = watch.stop(rt, calls)?;
-        let watch = Watch::start(rt)?;
-        let plain_sum = sum_of_plain_ranks(ranked.words(), few);
-        race.keep(kernel, watch.stop(rt, few.len() as u64)?);
-        if sum_of_ranks(&ranked, len, few) != plain_sum {
-            bail!("the two do not agree");
-        }
-        sum = sum.wrapping_add(kernel_sum);
-    }
-    race.print(rt, "rank")?;
-    println!(rt; "sum {sum}")?;
-    Ok(())
+    let ranks = Ranks {
+        ranked: &ranked,
+        places: &places,
+        few: few_of(&places),
+    };
+    measure(rt, "rank", &ranks)
 }
 
 // The sum of the places of these set bits.
@@ -112,6 +133,43 @@ fn sum_of_plain_selects(words: &[u64], numbers: &[u64]) -> u64 {
     sum
 }
 
+// Bits, one in `one_in` of them set, with the places of some.
+fn sparse_selected(
+    alloc: Global,
+    count: u64,
+    one_in: u64,
+    numbers: &mut Numbers,
+) -> Result<Box<Selected<Global>>, AllocError> {
+    let bits = sparse_bits(alloc, count, one_in, numbers)?;
+    boxed(alloc, Selected::new(alloc, bits)?)
+}
+
+// The places of some set bits, and the plain loop's of few of them.
+#[derive(Clone, Copy)]
+struct Selects<'a> {
+    selected: &'a Selected<Global>,
+    wanted: &'a [u64],
+    few: &'a [u64],
+}
+
+impl<'a> Kernel for Selects<'a> {
+    fn kernel(&self) -> u64 {
+        sum_of_selects(self.selected, self.wanted)
+    }
+
+    fn plain(&self) -> u64 {
+        sum_of_plain_selects(self.selected.words(), self.few)
+    }
+
+    fn agree(&self, _kernel: u64, plain: u64) -> bool {
+        sum_of_selects(self.selected, self.few) == plain
+    }
+
+    fn calls(&self) -> (u64, u64) {
+        (self.wanted.len() as u64, self.few.len() as u64)
+    }
+}
+
 /// Measures `select` at random set bits of `size` bits, one in `one_in` of them set.
 pub fn select(
     rt: &(impl Print + CpuClock),
@@ -122,28 +180,15 @@ pub fn select(
     one_in: u64,
 ) -> Result<()> {
     let mut numbers = Numbers::new(seed);
-    let bits = sparse_bits(alloc, size, one_in, &mut numbers)?;
-    let last = plain::ones(bits.words()).saturating_sub(1);
-    let selected = Selected::new(alloc, bits)?;
+    let selected = sparse_selected(alloc, size, one_in, &mut numbers)?;
+    let last = plain::ones(selected.words()).saturating_sub(1);
     let wanted = random_numbers(alloc, usize::try_from(calls)?, last, &mut numbers)?;
-    let few = &wanted[..wanted.len().div_ceil(PLAIN_SHARE)];
-    let mut sum = 0u64;
-    let mut race = Race::new();
-    for _ in 0..ROUNDS {
-        let watch = Watch::start(rt)?;
-        let kernel_sum = sum_of_selects(&selected, &wanted);
-        let kernel = watch.stop(rt, calls)?;
-        let watch = Watch::start(rt)?;
-        let plain_sum = sum_of_plain_selects(selected.words(), few);
-        race.keep(kernel, watch.stop(rt, few.len() as u64)?);
-        if sum_of_selects(&selected, few) != plain_sum {
-            bail!("the two do not agree");
-        }
-        sum = sum.wrapping_add(kernel_sum);
-    }
-    race.print(rt, "select")?;
-    println!(rt; "sum {sum}")?;
-    Ok(())
+    let selects = Selects {
+        selected: &selected,
+        wanted: &wanted,
+        few: few_of(&wanted),
+    };
+    measure(rt, "select", &selects)
 }
 
 // The set bits of the words, as often as there are calls. Each call leaves out some words at the start, so that none
@@ -173,6 +218,31 @@ fn sum_of_plain_ones(words: &[u64], calls: u64) -> u64 {
     sum
 }
 
+// The set bits of all words, again and again.
+#[derive(Clone, Copy)]
+struct AllOnes<'a> {
+    bits: &'a Bits<Global>,
+    calls: u64,
+}
+
+impl<'a> Kernel for AllOnes<'a> {
+    fn kernel(&self) -> u64 {
+        sum_of_ones(self.bits.words(), self.calls)
+    }
+
+    fn plain(&self) -> u64 {
+        sum_of_plain_ones(self.bits.words(), self.calls)
+    }
+
+    fn agree(&self, kernel: u64, plain: u64) -> bool {
+        kernel == plain
+    }
+
+    fn calls(&self) -> (u64, u64) {
+        (self.calls, self.calls)
+    }
+}
+
 /// Measures `ones` on `size` random bits.
 pub fn ones(
     rt: &(impl Print + CpuClock),
@@ -182,27 +252,15 @@ pub fn ones(
     seed: u64,
 ) -> Result<()> {
     let mut numbers = Numbers::new(seed);
-    let bits = random_bits(alloc, size, &mut numbers)?;
-    let words = bits.words();
-    let mut sum = 0u64;
-    let mut race = Race::new();
-    for _ in 0..ROUNDS {
-        let watch = Watch::start(rt)?;
-        let kernel_sum = sum_of_ones(words, calls);
-        let kernel = watch.stop(rt, calls)?;
-        let watch = Watch::start(rt)?;
-        let plain_sum = sum_of_plain_ones(words, calls);
-        race.keep(kernel, watch.stop(rt, calls)?);
-        if kernel_sum != plain_sum {
-            bail!("the two do not agree");
-        }
-        sum = sum.wrapping_add(kernel_sum);
-    }
+    let bits = boxed(alloc, random_bits(alloc, size, &mut numbers)?)?;
+    measure_ones(rt, &AllOnes { bits: &bits, calls })
+}
+
+fn measure_ones(rt: &(impl Print + CpuClock), ones: &AllOnes<'_>) -> Result<()> {
+    let (race, sum) = rounds(rt, ones)?;
     race.print(rt, "ones")?;
-    println!(rt;
-        "{:.2} bytes a nanosecond",
-        race.bytes(8usize.saturating_mul(words.len()))
-    )?;
+    let bytes = 8usize.saturating_mul(ones.bits.words().len());
+    println!(rt; "{:.2} bytes a nanosecond", race.bytes(bytes))?;
     println!(rt; "sum {sum}")?;
     Ok(())
 }

@@ -1,10 +1,11 @@
 //! Searches for a label and for the set bits beside a place.
 ghost use Rattle.std.specs.Prelude.{◌≤◌, ◌<◌, length};
 
+use crate::boxes::boxed;
 use crate::inputs::{Numbers, random_numbers};
-use crate::measures::{ROUNDS, sparse_bits};
+use crate::measures::sparse_bits;
 use crate::plain;
-use crate::report::{Race, Watch};
+use crate::rounds::{Kernel, measure};
 use anyhow::{Result, bail};
 use bit_words::Bits;
 use std::alloc::{AllocError, Global};
@@ -120,6 +121,39 @@ fn sum_of_plain_labels(labels: &[u8], fan_out: usize, queries: &[Query], rounds:
 // How many queries are made, before they are asked again.
 const QUERIES: usize = 65536;
 
+// Queries in nodes of `fan_out` labels, `rounds` times over.
+#[derive(Clone, Copy)]
+struct Labels<'a> {
+    labels: &'a [u8],
+    fan_out: usize,
+    queries: &'a [Query],
+    rounds: u64,
+    in_section: bool,
+}
+
+impl<'a> Kernel for Labels<'a> {
+    fn kernel(&self) -> u64 {
+        if self.in_section {
+            sum_in_section(self.labels, self.fan_out, self.queries, self.rounds)
+        } else {
+            sum_of_labels(self.labels, self.fan_out, self.queries, self.rounds)
+        }
+    }
+
+    fn plain(&self) -> u64 {
+        sum_of_plain_labels(self.labels, self.fan_out, self.queries, self.rounds)
+    }
+
+    fn agree(&self, kernel: u64, plain: u64) -> bool {
+        kernel == plain
+    }
+
+    fn calls(&self) -> (u64, u64) {
+        let calls = self.rounds.saturating_mul(self.queries.len() as u64);
+        (calls, calls)
+    }
+}
+
 /// Measures `find_label` in nodes of `fan_out` labels, or `find_label_between` in one section of all these nodes.
 pub fn find_label(
     rt: &(impl Print + CpuClock),
@@ -135,36 +169,19 @@ pub fn find_label(
     let mut numbers = Numbers::new(seed);
     let labels = random_labels(alloc, fan_out, &mut numbers)?;
     let queries = random_queries(alloc, &labels, fan_out, QUERIES, &mut numbers)?;
-    let rounds = calls / QUERIES as u64 + 1;
-    let asked = rounds.saturating_mul(QUERIES as u64);
-    let mut sum = 0u64;
-    let mut race = Race::new();
-    for _ in 0..ROUNDS {
-        let watch = Watch::start(rt)?;
-        let kernel_sum = if in_section {
-            sum_in_section(&labels, fan_out as usize, &queries, rounds)
-        } else {
-            sum_of_labels(&labels, fan_out as usize, &queries, rounds)
-        };
-        let kernel = watch.stop(rt, asked)?;
-        let watch = Watch::start(rt)?;
-        let plain_sum = sum_of_plain_labels(&labels, fan_out as usize, &queries, rounds);
-        race.keep(kernel, watch.stop(rt, asked)?);
-        if kernel_sum != plain_sum {
-            bail!("the two do not agree");
-        }
-        sum = sum.wrapping_add(kernel_sum);
-    }
-    race.print(
-        rt,
-        if in_section {
-            "find_in_section"
-        } else {
-            "find_label"
-        },
-    )?;
-    println!(rt; "sum {sum}")?;
-    Ok(())
+    let asked = Labels {
+        labels: &labels,
+        fan_out: fan_out as usize,
+        queries: &queries,
+        rounds: calls / QUERIES as u64 + 1,
+        in_section,
+    };
+    let name = if in_section {
+        "find_in_section"
+    } else {
+        "find_label"
+    };
+    measure(rt, name, &asked)
 }
 
 // The sum of the set bits around these places: the last at or before each, and the first behind it.
@@ -193,6 +210,31 @@ fn sum_of_plain_ranges(words: &[u64], places: &[u64]) -> u64 {
     sum
 }
 
+// The set bits around some places.
+#[derive(Clone, Copy)]
+struct Ranges<'a> {
+    bits: &'a Bits<Global>,
+    places: &'a [u64],
+}
+
+impl<'a> Kernel for Ranges<'a> {
+    fn kernel(&self) -> u64 {
+        sum_of_ranges(self.bits, self.places)
+    }
+
+    fn plain(&self) -> u64 {
+        sum_of_plain_ranges(self.bits.words(), self.places)
+    }
+
+    fn agree(&self, kernel: u64, plain: u64) -> bool {
+        kernel == plain
+    }
+
+    fn calls(&self) -> (u64, u64) {
+        (self.places.len() as u64, self.places.len() as u64)
+    }
+}
+
 /// Measures `last_one_before` and `first_one_from`, one after the other, at random places of `size` bits, one in
 /// `one_in` of them set.
 pub fn node_range(
@@ -204,23 +246,11 @@ pub fn node_range(
     one_in: u64,
 ) -> Result<()> {
     let mut numbers = Numbers::new(seed);
-    let bits = sparse_bits(alloc, size, one_in, &mut numbers)?;
+    let bits = boxed(alloc, sparse_bits(alloc, size, one_in, &mut numbers)?)?;
     let places = random_numbers(alloc, usize::try_from(calls)?, size, &mut numbers)?;
-    let mut sum = 0u64;
-    let mut race = Race::new();
-    for _ in 0..ROUNDS {
-        let watch = Watch::start(rt)?;
-        let kernel_sum = sum_of_ranges(&bits, &places);
-        let kernel = watch.stop(rt, calls)?;
-        let watch = Watch::start(rt)?;
-        let plain_sum = sum_of_plain_ranges(bits.words(), &places);
-        race.keep(kernel, watch.stop(rt, calls)?);
-        if kernel_sum != plain_sum {
-            bail!("the two do not agree");
-        }
-        sum = sum.wrapping_add(kernel_sum);
-    }
-    race.print(rt, "node_range")?;
-    println!(rt; "sum {sum}")?;
-    Ok(())
+    let ranges = Ranges {
+        bits: &bits,
+        places: &places,
+    };
+    measure(rt, "node_range", &ranges)
 }

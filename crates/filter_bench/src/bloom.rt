@@ -1,4 +1,5 @@
 //! A Bloom filter.
+use crate::boxes::boxed;
 use key_base::KeyList;
 use std::alloc::{AllocError, Global};
 
@@ -19,14 +20,12 @@ pub struct Bloom {
 }
 
 impl Bloom {
-    pub fn new(alloc: Global, keys: &KeyList) -> Result<Bloom, AllocError> {
+    pub fn new(alloc: Global, keys: &KeyList) -> Result<Box<Bloom>, AllocError> {
         let count = keys.len().saturating_mul(KEY_BITS);
         let mut words = vec![in alloc; 0u64; count.div_ceil(64)]?;
-        for i in 0..keys.len() {
-            add(words.as_mut_slice(), count as u64, hash_of(keys.get(i)));
-        }
         let count = count as u64;
-        Ok(Bloom { words, count })
+        add_all(words.as_mut_slice(), count, keys);
+        boxed(alloc, Bloom { words, count })
     }
 
     /// Whether the key may be one of those.
@@ -44,6 +43,12 @@ impl Bloom {
     /// The bits that it keeps.
     pub fn bits(&self) -> usize {
         self.words.len().saturating_mul(64)
+    }
+}
+
+fn add_all(words: &mut [u64], count: u64, keys: &KeyList) {
+    for i in 0..keys.len() {
+        add(words, count, hash_of(keys.get(i)));
     }
 }
 

@@ -8,6 +8,7 @@ use filter_trie::{Trie, build};
 use key_base::KeyList;
 use key_truncate::truncate;
 use std::alloc::Global;
+use std::io;
 use std::time::CpuClock;
 use trie_levels::{cutoff, plan_spans, spans_of};
 
@@ -27,11 +28,21 @@ pub fn build_rounds(
         build_timed(rt, alloc, keys, ratio, &mut whole, &mut planned)?;
     }
     let trie = build_timed(rt, alloc, keys, ratio, &mut whole, &mut planned)?;
-    println!(rt; "{} keys", keys.len())?;
+    print_built(rt, keys.len(), &trie, whole, planned)?;
+    Ok(trie)
+}
+
+fn print_built(
+    rt: &impl Print,
+    keys: usize,
+    trie: &Trie<Global>,
+    whole: Least,
+    planned: Least,
+) -> io::Result<()> {
+    println!(rt; "{keys} keys")?;
     println!(rt; "{} levels, {} of them dense", trie.height(), trie.cutoff())?;
     println!(rt; "build: {:.2} million keys a second", whole.millions())?;
-    println!(rt; "build from their plan: {:.2} million", planned.millions())?;
-    Ok(trie)
+    println!(rt; "build from their plan: {:.2} million", planned.millions())
 }
 
 // Builds it once, from the keys alone.

@@ -5,23 +5,39 @@ use anyhow::{Result, bail};
 use filter_codec::{decode, encode};
 use filter_trie::Trie;
 use std::alloc::Global;
+use std::io;
 use std::time::CpuClock;
 
 /// Writes the image of a trie and reads it again, several times, and prints how fast both were at best. The first time its
 /// bytes need memory, and later they stand where those of the time before stood.
 pub fn code_rounds(rt: &(impl Print + CpuClock), alloc: Global, trie: &Trie<Global>) -> Result<()> {
+    let mut image = Vec::new(alloc);
+    let (written, read) = rounds(rt, alloc, trie, &mut image)?;
+    print_codes(rt, image.len(), written, read)?;
+    Ok(())
+}
+
+// Writes it to `image` and reads it from there: the least times of both.
+fn rounds(
+    rt: &impl CpuClock,
+    alloc: Global,
+    trie: &Trie<Global>,
+    image: &mut Vec<u8>,
+) -> Result<(Least, Least)> {
     let mut written = Least::new();
     let mut read = Least::new();
-    let mut image = Vec::new(alloc);
     for _ in 0..ROUNDS {
         image.clear();
-        written.keep(encode_timed(rt, trie, &mut image)?);
-        read.keep(decode_timed(rt, alloc, trie, &image)?);
+        written.keep(encode_timed(rt, trie, image)?);
+        read.keep(decode_timed(rt, alloc, trie, image.as_slice())?);
     }
-    println!(rt; "image: {} bytes", image.len())?;
+    Ok((written, read))
+}
+
+fn print_codes(rt: &impl Print, bytes: usize, written: Least, read: Least) -> io::Result<()> {
+    println!(rt; "image: {bytes} bytes")?;
     println!(rt; "image: encode {:.1} MB a second", written.millions())?;
-    println!(rt; "image: decode {:.1} MB a second", read.millions())?;
-    Ok(())
+    println!(rt; "image: decode {:.1} MB a second", read.millions())
 }
 
 // Appends the image once: nanoseconds a byte.

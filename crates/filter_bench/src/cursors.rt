@@ -26,8 +26,17 @@ fn leaves_timed(rt: &impl CpuClock, alloc: Global, trie: &Trie<Global>) -> Resul
     let Some(mut cursor) = FilterCursor::start(alloc, trie, b"")? else {
         bail!("a trie has no first leaf");
     };
+    next_timed(rt, &mut cursor, leaves)
+}
+
+// Goes from the first leaf over all.
+fn next_timed(
+    rt: &impl CpuClock,
+    cursor: &mut FilterCursor<'_, Global>,
+    leaves: u64,
+) -> Result<f64> {
     let watch = Watch::start(rt)?;
-    let count = count_leaves(&mut cursor, leaves);
+    let count = count_leaves(cursor, leaves);
     let taken = watch.stop(rt, leaves)?;
     if count != leaves {
         bail!("a cursor leaves out a leaf");

@@ -1,4 +1,5 @@
 //! Keys that are drawn, and others that are not among them.
+use crate::boxes::boxed;
 use crate::draws::Numbers;
 use crate::stubs::StubSearch;
 use crate::texts::Texts;
@@ -65,14 +66,31 @@ fn draw_word(drawn: &Texts, numbers: &mut Numbers, word: &mut Vec<u8>) -> Result
 }
 
 /// As many keys of a kind, in the order in which they were drawn. A word may be drawn twice.
-pub fn draw_keys(alloc: Global, kind: Kind, count: u32, numbers: &mut Numbers) -> Result<Texts> {
-    let mut drawn = Texts::new(alloc)?;
+pub fn draw_keys(
+    alloc: Global,
+    kind: Kind,
+    count: u32,
+    numbers: &mut Numbers,
+) -> Result<Box<Texts>> {
+    let mut drawn = Texts::in_box(alloc)?;
     let mut key = Vec::new(alloc);
-    for _ in 0..count {
-        draw_key(kind, &drawn, numbers, &mut key)?;
-        drawn.push(&key)?;
-    }
+    push_drawn(kind, count, numbers, &mut key, &mut drawn)?;
     Ok(drawn)
+}
+
+// Draws so many keys, each in `key`.
+fn push_drawn(
+    kind: Kind,
+    count: u32,
+    numbers: &mut Numbers,
+    key: &mut Vec<u8>,
+    drawn: &mut Texts,
+) -> Result<()> {
+    for _ in 0..count {
+        draw_key(kind, drawn, numbers, key)?;
+        drawn.push(key.as_slice())?;
+    }
+    Ok(())
 }
 
 /// Keys drawn as those of `keys` were, as many or a few less, that are not among them.
@@ -83,16 +101,37 @@ pub fn draw_absent(
     keys: &KeyList,
     search: &StubSearch,
     numbers: &mut Numbers,
-) -> Result<Texts> {
-    let mut absent = Texts::new(alloc)?;
+) -> Result<Box<Texts>> {
+    let mut absent = Texts::in_box(alloc)?;
     let mut key = Vec::new(alloc);
+    let held = Held { keys, search };
+    push_absent(kind, present, held, numbers, &mut key, &mut absent)?;
+    Ok(absent)
+}
+
+// Keys that are there, and the stubs by which one is found among them.
+#[derive(Clone, Copy)]
+struct Held<'a> {
+    keys: &'a KeyList,
+    search: &'a StubSearch,
+}
+
+// Draws as many keys as were drawn, each in `key`, and takes those that are not held.
+fn push_absent(
+    kind: Kind,
+    present: &Texts,
+    held: Held<'_>,
+    numbers: &mut Numbers,
+    key: &mut Vec<u8>,
+    absent: &mut Texts,
+) -> Result<()> {
     for _ in 0..present.len() {
-        draw_key(kind, present, numbers, &mut key)?;
-        if !is_held(keys, search, &key) {
-            absent.push(&key)?;
+        draw_key(kind, present, numbers, key)?;
+        if !is_held(held.keys, held.search, key.as_slice()) {
+            absent.push(key.as_slice())?;
         }
     }
-    Ok(absent)
+    Ok(())
 }
 
 // Whether a key is one of `keys`, whose stubs these are.
@@ -104,29 +143,46 @@ fn is_held(keys: &KeyList, search: &StubSearch, key: &[u8]) -> bool {
 }
 
 /// The same keys in rising order, each once.
-pub fn sorted(alloc: Global, drawn: &Texts) -> Result<KeyList, AllocError> {
+pub fn sorted(alloc: Global, drawn: &Texts) -> Result<Box<KeyList>, AllocError> {
+    let order = order_of(alloc, drawn)?;
+    let mut keys = boxed(alloc, KeyList::new(alloc))?;
+    push_once(drawn, &order, &mut keys)?;
+    Ok(keys)
+}
+
+// The places of keys, by the keys.
+fn order_of(alloc: Global, drawn: &Texts) -> Result<Vec<usize>, AllocError> {
     let mut order = Vec::with_capacity(alloc, drawn.len())?;
     for i in 0..drawn.len() {
         order.push(i)?;
     }
     order.sort_by(|one, other| compare(drawn.get(*one), drawn.get(*other)))?;
-    let mut keys = KeyList::new(alloc);
-    for i in &order {
+    Ok(order)
+}
+
+// Adds the keys in an order, each once.
+fn push_once(drawn: &Texts, order: &[usize], keys: &mut KeyList) -> Result<(), AllocError> {
+    for i in order {
         let key = drawn.get(*i);
-        if !is_last(&keys, key) {
+        if !is_last(keys, key) {
             keys.push(key)?;
         }
     }
-    Ok(keys)
+    Ok(())
 }
 
 /// The keys of a list in one array.
-pub fn texts_of(alloc: Global, keys: &KeyList) -> Result<Texts> {
-    let mut texts = Texts::new(alloc)?;
+pub fn texts_of(alloc: Global, keys: &KeyList) -> Result<Box<Texts>> {
+    let mut texts = Texts::in_box(alloc)?;
+    push_keys(keys, &mut texts)?;
+    Ok(texts)
+}
+
+fn push_keys(keys: &KeyList, texts: &mut Texts) -> Result<()> {
     for i in 0..keys.len() {
         texts.push(keys.get(i))?;
     }
-    Ok(texts)
+    Ok(())
 }
 
 // Whether a key is the last of a list.

@@ -35,8 +35,6 @@ mod texts;
 mod variants;
 
 use anyhow::{Result, bail};
-use boxes::boxed;
-use building::build_rounds;
 use codes::code_rounds;
 use cursors::cursor_rounds;
 use draws::Numbers;
@@ -50,7 +48,6 @@ use ranges::{highs, print_full, range_rounds};
 use std::alloc::Global;
 use std::env;
 use std::time::CpuClock;
-use stubs::StubSearch;
 use texts::Texts;
 use variants::{Queries, variant_rounds};
 
@@ -122,15 +119,19 @@ fn measure_keys(
 ) -> Result<()>
     requires { IsKeyList keys.now }
 {
-    let trie = build_rounds(rt, alloc, keys, asked.ratio)?;
-    code_rounds(rt, alloc, &trie)?;
-    cursor_rounds(rt, alloc, &trie)?;
-    let search = boxed(alloc, StubSearch::new(alloc, keys)?)?;
-    let absent = draw_absent(alloc, asked.kind, present, keys, &search, numbers)?;
-    ask_ranges(rt, alloc, asked.kind, "present", &trie, present)?;
-    ask_ranges(rt, alloc, asked.kind, "absent", &trie, &absent)?;
-    let finders = Finders::new(alloc, keys, trie, search)?;
-    ask_all(rt, &finders, keys.len(), present, &absent)?;
+    let finders = Finders::new(rt, alloc, keys, asked.ratio)?;
+    code_rounds(rt, alloc, &finders.trie)?;
+    cursor_rounds(rt, alloc, &finders.trie)?;
+    let absent = draw_absent(alloc, asked.kind, present, keys, &finders.search, numbers)?;
+    ask_finders(
+        rt,
+        alloc,
+        asked.kind,
+        &finders,
+        keys.len(),
+        present,
+        &absent,
+    )?;
     ask_variants(rt, alloc, asked, keys, present, &absent)
 }
 
@@ -146,7 +147,8 @@ fn ask_variants(
     requires { IsKeyList keys.now }
 {
     let highs = highs(alloc, asked.kind, absent)?;
-    print_full(rt, &texts_of(alloc, keys)?, absent, &highs)?;
+    let texts = texts_of(alloc, keys)?;
+    print_full(rt, &texts, absent, &highs)?;
     let queries = Queries {
         present,
         absent,
@@ -154,6 +156,23 @@ fn ask_variants(
     };
     variant_rounds(rt, alloc, keys, asked.ratio, queries)?;
     plain_round(rt, alloc, keys, absent)
+}
+
+// Asks the trie for ranges from both lists of keys on, and all three for the keys.
+fn ask_finders(
+    rt: &(impl Print + CpuClock),
+    alloc: Global,
+    kind: Kind,
+    finders: &Finders,
+    count: usize,
+    present: &Texts,
+    absent: &Texts,
+) -> Result<()> {
+    ask_ranges(rt, alloc, kind, "present", &finders.trie, present)?;
+    ask_ranges(rt, alloc, kind, "absent", &finders.trie, absent)?;
+    finders.print_sizes(rt, count)?;
+    race(rt, "present", finders, present)?;
+    race(rt, "absent", finders, absent)
 }
 
 fn ask_ranges(
@@ -166,16 +185,4 @@ fn ask_ranges(
 ) -> Result<()> {
     let highs = highs(alloc, kind, lows)?;
     range_rounds(rt, name, trie, lows, &highs)
-}
-
-fn ask_all(
-    rt: &(impl Print + CpuClock),
-    finders: &Finders,
-    count: usize,
-    present: &Texts,
-    absent: &Texts,
-) -> Result<()> {
-    finders.print_sizes(rt, count)?;
-    race(rt, "present", finders, present)?;
-    race(rt, "absent", finders, absent)
 }

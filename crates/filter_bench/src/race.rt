@@ -1,6 +1,9 @@
 //! The trie, the Bloom filter and the search, asked in turn.
+ghost use Rattle.filter_model.specs.Keys.{IsKeyList};
+
 use crate::bloom::Bloom;
 use crate::boxes::boxed;
+use crate::building::build_rounds;
 use crate::finder::{Found, ask};
 use crate::levels::levels;
 use crate::report::{Least, ROUNDS, Watch, share};
@@ -10,32 +13,39 @@ use crate::texts::Texts;
 use anyhow::{Result, bail};
 use filter_trie::Trie;
 use key_base::KeyList;
-use std::alloc::{AllocError, Global};
+use std::alloc::Global;
 use std::io;
 use std::time::CpuClock;
 
 /// All that is asked, over the same keys.
 #[derive(Drop)]
 pub struct Finders {
-    trie: Box<Trie<Global>>,
+    pub trie: Box<Trie<Global>>,
+    pub search: Box<StubSearch>,
     bloom: Box<Bloom>,
-    search: Box<StubSearch>,
 }
 
 impl Finders {
-    /// These two, and the Bloom filter of the keys.
+    /// Builds all three. The trie has its upper levels dense by a ratio, and how fast it is built is printed.
     pub fn new(
+        rt: &(impl Print + CpuClock),
         alloc: Global,
         keys: &KeyList,
-        trie: Box<Trie<Global>>,
-        search: Box<StubSearch>,
-    ) -> Result<Finders, AllocError> {
-        let bloom = boxed(alloc, Bloom::new(alloc, keys)?)?;
-        Ok(Finders {
-            trie,
-            bloom,
-            search,
-        })
+        ratio: u16,
+    ) -> Result<Box<Finders>>
+        requires { IsKeyList keys.now }
+    {
+        let trie = build_rounds(rt, alloc, keys, ratio)?;
+        let search = StubSearch::new(alloc, keys)?;
+        let bloom = Bloom::new(alloc, keys)?;
+        Ok(boxed(
+            alloc,
+            Finders {
+                trie,
+                search,
+                bloom,
+            },
+        )?)
     }
 
     /// Prints the bits a key of each.

@@ -14,9 +14,15 @@ use std::time::CpuClock;
 const RAISED: usize = 3;
 
 /// The upper bounds of ranges that begin at these keys: 2^32 above a random key, and a word with a last letter one higher.
-pub fn highs(alloc: Global, kind: Kind, lows: &Texts) -> Result<Texts> {
-    let mut highs = Texts::new(alloc)?;
+pub fn highs(alloc: Global, kind: Kind, lows: &Texts) -> Result<Box<Texts>> {
+    let mut highs = Texts::in_box(alloc)?;
     let mut key = Vec::new(alloc);
+    push_highs(kind, lows, &mut key, &mut highs)?;
+    Ok(highs)
+}
+
+// Adds the upper bound of each, which is made in `key`.
+fn push_highs(kind: Kind, lows: &Texts, key: &mut Vec<u8>, highs: &mut Texts) -> Result<()> {
     for i in 0..lows.len() {
         key.clear();
         key.extend_from_slice(lows.get(i))?;
@@ -24,10 +30,10 @@ pub fn highs(alloc: Global, kind: Kind, lows: &Texts) -> Result<Texts> {
             Kind::Random => RAISED,
             Kind::Words => key.len().saturating_sub(1),
         };
-        raise(&mut key, place);
-        highs.push(&key)?;
+        raise(key.as_mut_slice(), place);
+        highs.push(key.as_slice())?;
     }
-    Ok(highs)
+    Ok(())
 }
 
 // Adds one to the byte number `place` of a key, and where that is FF to the one before it too.
@@ -85,22 +91,33 @@ pub fn range_rounds(
     let mut held = 0u64;
     let mut sum = 0u64;
     for _ in 0..ROUNDS {
-        times.walk.keep(walks_timed(rt, trie, lows, &mut sum)?);
-        times.seek.keep(seeks_timed(rt, trie, lows, &mut sum)?);
-        times
-            .range
-            .keep(ranges_timed(rt, trie, lows, highs, &mut held)?);
-        times
-            .tally
-            .keep(tallies_timed(rt, trie, lows, highs, held)?);
+        held = range_round(rt, trie, lows, highs, &mut times, &mut sum)?;
     }
     print_times(rt, name, times)?;
-    println!(rt; "ranges {name}: {} ranges, sum {sum}", lows.len())?;
-    println!(rt;
-        "ranges {name}: {:.6} may hold a key",
-        share(held, lows.len() as u64)
-    )?;
+    let count = lows.len();
+    println!(rt; "ranges {name}: {count} ranges, sum {sum}")?;
+    let part = share(held, count as u64);
+    println!(rt; "ranges {name}: {part:.6} may hold a key")?;
     Ok(())
+}
+
+// Asks all four once: how many ranges may hold a key.
+fn range_round(
+    rt: &impl CpuClock,
+    trie: &Trie<Global>,
+    lows: &Texts,
+    highs: &Texts,
+    times: &mut Times,
+    sum: &mut u64,
+) -> Result<u64> {
+    let mut held = 0u64;
+    times.walk.keep(walks_timed(rt, trie, lows, sum)?);
+    times.seek.keep(seeks_timed(rt, trie, lows, sum)?);
+    let taken = ranges_timed(rt, trie, lows, highs, &mut held)?;
+    times.range.keep(taken);
+    let taken = tallies_timed(rt, trie, lows, highs, held)?;
+    times.tally.keep(taken);
+    Ok(held)
 }
 
 // Prints all four, and how many times a walk's time the others take.

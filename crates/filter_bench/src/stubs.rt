@@ -1,11 +1,12 @@
 //! A binary search over stubs.
 ghost use Rattle.filter_model.specs.Keys.{IsKeyList};
 
+use crate::boxes::boxed;
 use crate::texts::Texts;
 use anyhow::Result;
 use key_base::KeyList;
 use key_truncate::{Stub, truncate};
-use std::alloc::Global;
+use std::alloc::{AllocError, Global};
 
 /// The stubs of keys in one array, in rising order, and which of them end.
 #[derive(Drop)]
@@ -16,19 +17,30 @@ pub struct StubSearch {
 
 impl StubSearch {
     /// Those of sorted keys.
-    pub fn new(alloc: Global, keys: &KeyList) -> Result<StubSearch>
+    pub fn new(alloc: Global, keys: &KeyList) -> Result<Box<StubSearch>>
         requires { IsKeyList keys.now }
     {
         let cuts = truncate(alloc, keys)?;
-        let mut stubs = Texts::new(alloc)?;
-        let mut ends = Vec::with_capacity(alloc, keys.len())?;
+        let mut search = StubSearch::with_room(alloc, keys.len())?;
+        search.push_all(keys, &cuts)?;
+        Ok(search)
+    }
+
+    // No stub yet.
+    fn with_room(alloc: Global, count: usize) -> Result<Box<StubSearch>, AllocError> {
+        let stubs = Texts::new(alloc)?;
+        let ends = Vec::with_capacity(alloc, count)?;
+        boxed(alloc, StubSearch { stubs, ends })
+    }
+
+    fn push_all(&mut self, keys: &KeyList, cuts: &[Stub]) -> Result<()> {
         for (i, cut) in cuts.iter().enumerate() {
             if i < keys.len() {
-                stubs.push(stub_of(keys.get(i), *cut))?;
-                ends.push(cut.ends)?;
+                self.stubs.push(stub_of(keys.get(i), *cut))?;
+                self.ends.push(cut.ends)?;
             }
         }
-        Ok(StubSearch { stubs, ends })
+        Ok(())
     }
 
     /// The number of the leaf that the key reaches: its stub is the key where it ends, and else a prefix of it.

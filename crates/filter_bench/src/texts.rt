@@ -1,4 +1,5 @@
 //! Byte strings in one array.
+use crate::boxes::boxed;
 use anyhow::Result;
 use key_base::compare;
 use std::alloc::{AllocError, Global};
@@ -22,6 +23,11 @@ impl Texts {
             bytes: Vec::new(alloc),
             starts,
         })
+    }
+
+    /// No string yet, in a box.
+    pub fn in_box(alloc: Global) -> Result<Box<Texts>, AllocError> {
+        boxed(alloc, Texts::new(alloc)?)
     }
 
     /// Adds a string at the end. Fails at 2^32 bytes in all.

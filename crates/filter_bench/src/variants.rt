@@ -54,19 +54,34 @@ pub fn variant_rounds(
 ) -> Result<()>
     requires { IsKeyList keys.now }
 {
-    for (name, hash_bits, real_bits) in VARIANTS {
-        let settings = Settings {
-            hash_bits,
-            real_bits,
-            ratio,
-        };
-        if settings.check().is_err() {
-            bail!("no settings");
-        }
-        let filter = build_rounds(rt, alloc, keys, name, settings)?;
-        ask_all(rt, alloc, name, &filter, queries)?;
+    for variant in VARIANTS {
+        variant_round(rt, alloc, keys, ratio, variant, queries)?;
     }
     Ok(())
+}
+
+// Builds the filter of one variant, and prints what is found of it.
+fn variant_round(
+    rt: &(impl Print + CpuClock),
+    alloc: Global,
+    keys: &KeyList,
+    ratio: u16,
+    variant: (&str, u8, u8),
+    queries: Queries<'_>,
+) -> Result<()>
+    requires { IsKeyList keys.now }
+{
+    let (name, hash_bits, real_bits) = variant;
+    let settings = Settings {
+        hash_bits,
+        real_bits,
+        ratio,
+    };
+    if settings.check().is_err() {
+        bail!("no settings");
+    }
+    let filter = build_rounds(rt, alloc, keys, name, settings)?;
+    ask_all(rt, alloc, name, &filter, queries)
 }
 
 // Builds a filter several times, and prints how fast that was at best.
