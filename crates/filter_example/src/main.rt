@@ -60,8 +60,12 @@ fn count(rt: &impl Print, filter: &SurfFilter<Global>) -> Result<()> {
 // Builds the filter, asks it, and gives its image.
 fn write(rt: &impl Print, alloc: Global) -> Result<Vec<u8>> {
     let filter = build(alloc)?;
-    ask(rt, &filter)?;
-    count(rt, &filter)?;
+    write_asked(rt, alloc, &filter)
+}
+
+fn write_asked(rt: &impl Print, alloc: Global, filter: &SurfFilter<Global>) -> Result<Vec<u8>> {
+    ask(rt, filter)?;
+    count(rt, filter)?;
     let mut image = Vec::new(alloc);
     filter.encode(&mut image)?;
     Ok(image)

@@ -12,6 +12,7 @@
 #![tactic(auto)]
 
 mod bare;
+mod boxes;
 mod keys;
 mod race;
 mod records;
@@ -20,6 +21,7 @@ mod tables;
 
 use anyhow::Result;
 use bare::BareFile;
+use boxes::boxed;
 use race::{Load, race};
 use real_outside::FileOutside;
 use records::Records;
@@ -40,7 +42,12 @@ const VALUE: &[u8] = b"0123456789abcdef0123456789abcdef";
 
 fn main(rt: HostRuntime) -> Result<()> {
     let words: Vec<String> = env::args(&rt)?.skip(1).collect(rt.alloc())?;
-    match words.as_slice() {
+    measure(rt, words.as_slice())
+}
+
+// Measures what the words ask for.
+fn measure(rt: HostRuntime, words: &[String]) -> Result<()> {
+    match words {
         [path, count] => appends(rt, path.as_str(), count.as_str()),
         [path, order, key, value, count, seed] => {
             let order = order.as_str();
@@ -49,8 +56,7 @@ fn main(rt: HostRuntime) -> Result<()> {
             let count = count.as_str().parse::<usize>()?;
             let seed = seed.as_str().parse::<u64>()?;
             let load = Load::new(rt.alloc(), order, key, value, count, seed)?;
-            let copy = String::from_str(rt.alloc(), path.as_str())?;
-            race(&rt, rt.alloc(), &mut FileOutside::at(rt, copy), &load)
+            puts(rt, path.as_str(), &load)
         }
         _ => {
             println!(rt; "{USAGE}")?;
@@ -59,20 +65,54 @@ fn main(rt: HostRuntime) -> Result<()> {
     }
 }
 
+// The device file at a path.
+fn device(rt: HostRuntime, path: &str) -> Result<Box<FileOutside>> {
+    let copy = String::from_str(rt.alloc(), path)?;
+    Ok(boxed(rt.alloc(), FileOutside::at(rt, copy))?)
+}
+
+fn puts(rt: HostRuntime, path: &str, load: &Load) -> Result<()> {
+    let mut disk = device(rt, path)?;
+    race(&rt, rt.alloc(), &mut disk, load)
+}
+
 fn appends(rt: HostRuntime, path: &str, count: &str) -> Result<()> {
     let count = count.parse::<u32>()?;
     let bare = BareFile::open(&rt, path)?;
-    let copy = String::from_str(rt.alloc(), path)?;
-    let mut disk = FileOutside::at(rt, copy);
+    let mut disk = device(rt, path)?;
     let mut records = Records::start(rt.alloc(), &mut disk)?;
     let mut times = Times::new();
-    for _ in 0..count {
-        let start = Instant::now(&rt)?;
-        records.append(&mut disk, KEY, VALUE)?;
-        let between = start.elapsed(&rt)?;
-        bare.two_pairs()?;
-        times.add(between, start.elapsed(&rt)?.saturating_sub(between));
-    }
+    append_all(&rt, count, &bare, &mut disk, &mut records, &mut times)?;
     times.print(&rt)?;
+    Ok(())
+}
+
+fn append_all(
+    rt: &HostRuntime,
+    count: u32,
+    bare: &BareFile,
+    disk: &mut FileOutside,
+    records: &mut Records,
+    times: &mut Times,
+) -> Result<()> {
+    for _ in 0..count {
+        append(rt, bare, disk, records, times)?;
+    }
+    Ok(())
+}
+
+// An append, and then the bare pairs.
+fn append(
+    rt: &HostRuntime,
+    bare: &BareFile,
+    disk: &mut FileOutside,
+    records: &mut Records,
+    times: &mut Times,
+) -> Result<()> {
+    let start = Instant::now(rt)?;
+    records.append(disk, KEY, VALUE)?;
+    let between = start.elapsed(rt)?;
+    bare.two_pairs()?;
+    times.add(between, start.elapsed(rt)?.saturating_sub(between));
     Ok(())
 }

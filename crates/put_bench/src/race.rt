@@ -131,9 +131,21 @@ fn puts<T: Keeper>(alloc: Global, disk: &mut FileOutside, load: &Load) -> Result
     let mut table = T::new(alloc);
     let mut key = Vec::with_capacity(alloc, load.width)?;
     let mut records = Records::start(alloc, disk)?;
+    put_all(alloc, disk, load, &mut table, &mut records, &mut key)
+}
+
+// Puts each key, made in `key`.
+fn put_all<T: Keeper>(
+    alloc: Global,
+    disk: &mut FileOutside,
+    load: &Load,
+    table: &mut T,
+    records: &mut Records,
+    key: &mut Vec<u8>,
+) -> Result<()> {
     for i in 0..load.numbers.len() {
-        write_key(load.numbers[i], &mut key, load.width)?;
-        table.put(alloc, &mut records, disk, &key, &load.value)?;
+        write_key(load.numbers[i], key, load.width)?;
+        table.put(alloc, records, disk, key.as_slice(), &load.value)?;
     }
     Ok(())
 }
@@ -151,20 +163,31 @@ fn starts<T: Keeper>(alloc: Global, disk: &mut FileOutside) -> Result<()> {
 fn sets<T: Keeper>(alloc: Global, load: &Load) -> Result<T> {
     let mut table = T::new(alloc);
     let mut key = Vec::with_capacity(alloc, load.width)?;
-    for i in 0..load.numbers.len() {
-        write_key(load.numbers[i], &mut key, load.width)?;
-        table.set(alloc, &key, &load.value)?;
-    }
+    set_all(alloc, load, &mut table, &mut key)?;
     Ok(table)
+}
+
+// Sets each key, made in `key`.
+fn set_all<T: Keeper>(alloc: Global, load: &Load, table: &mut T, key: &mut Vec<u8>) -> Result<()> {
+    for i in 0..load.numbers.len() {
+        write_key(load.numbers[i], key, load.width)?;
+        table.set(alloc, key.as_slice(), &load.value)?;
+    }
+    Ok(())
 }
 
 // Looks each key up, and answers how many bytes were found.
 fn gets<T: Keeper>(alloc: Global, load: &Load, table: &T) -> Result<usize> {
     let mut key = Vec::with_capacity(alloc, load.width)?;
+    get_all(load, table, &mut key)
+}
+
+// Looks each key up, made in `key`.
+fn get_all<T: Keeper>(load: &Load, table: &T, key: &mut Vec<u8>) -> Result<usize> {
     let mut found = 0usize;
     for i in 0..load.numbers.len() {
-        write_key(load.numbers[i], &mut key, load.width)?;
-        found = found.saturating_add(table.look_up(&key));
+        write_key(load.numbers[i], key, load.width)?;
+        found = found.saturating_add(table.look_up(key.as_slice()));
     }
     Ok(found)
 }

@@ -1,4 +1,5 @@
 //! A log that records are added to.
+use crate::boxes::boxed;
 use anyhow::{Result, bail};
 use gate_log::{BUFFER_BYTES, Log, record_need};
 use key_base::{MAX_KEY_BYTES, MAX_VALUE_BYTES};
@@ -13,12 +14,12 @@ pub struct Records {
 }
 
 impl Records {
-    pub fn start(alloc: Global, disk: &mut FileOutside) -> Result<Records> {
+    pub fn start(alloc: Global, disk: &mut FileOutside) -> Result<Box<Records>> {
         let Ok(log) = Log::start(disk, 0) else {
             bail!("the log cannot be begun");
         };
         let buffer = vec![in alloc; 0; BUFFER_BYTES]?;
-        Ok(Records { log, buffer })
+        Ok(boxed(alloc, Records { log, buffer })?)
     }
 
     /// Adds a put, where it fits.
