@@ -39,6 +39,7 @@ mod building;
 mod laws;
 mod leftmost;
 mod level_starts;
+mod level_sums;
 mod looks;
 mod place;
 mod steps;
