@@ -20,4 +20,3 @@ pub mod PlaceLaws
 pub mod Finding
 pub mod KeyOrder
 pub mod LevelStarts
-pub mod Sums

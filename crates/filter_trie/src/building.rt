@@ -23,8 +23,7 @@ use trie_levels::{Levels, Span};
 ///
 /// `spans` are those of the keys and `levels` their plan, by which all room is made at once; each width is at most 32 and
 /// the cutoff at most the height. Goes over the leaves that are left once a level, so that the work is at most in the
-/// letters of all paths; no leaf is made, and beside the sections it takes the spans and one open node of 512 bytes. In the end the
-/// sums of one level are kept (`keep_sums`), a bit for eight labels or less. The
+/// letters of all paths; no leaf is made, and beside the sections it takes the spans and one open node of 512 bytes. The
 /// only error is want of memory: a sparse half with 2^32 labels or more is one, and a dense half with 2^24 nodes or more, as
 /// sections do not grow past that.
 pub fn build(
@@ -55,9 +54,7 @@ pub fn build(
     add_levels(&mut sparse, keys, &mut node, &mut pending, cutoff, height)?;
     let sparse = sparse.finish()?;
     drop(node);
-    let mut trie = joined(cutoff, height, dense, sparse, pending.finish());
-    trie.keep_sums(alloc)?;
-    Ok(trie)
+    Ok(joined(cutoff, height, dense, sparse, pending.finish()))
 }
 
 // The trie with these parts.

@@ -39,7 +39,6 @@ mod building;
 mod laws;
 mod leftmost;
 mod level_starts;
-mod level_sums;
 mod looks;
 mod place;
 mod steps;

@@ -18,7 +18,6 @@
 
 mod choosing;
 pub mod examples;
-mod filling;
 mod floor;
 mod laws;
 mod leads;

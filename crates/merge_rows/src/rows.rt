@@ -19,10 +19,9 @@ ghost use Rattle.table_file.specs.Search.{IsGetFault, page_at};
 ghost use Rattle.table_file.specs.Walks.{first_of};
 
 use crate::choosing::Source;
-use crate::filling::fill_behind;
 use crate::floor::Floor;
 use crate::memory_source::MemorySource;
-use crate::table_source::{TableSource, has_number};
+use crate::table_source::{TableSource, fill_first, has_number};
 use disk_trait::Disk;
 use filter_api::RangeFilter;
 use mem_table::MemTable;
@@ -187,9 +186,8 @@ impl<'m> MergeRows<'m> {
         ensures once { IsTrue D.tells → IsSoundMerge self.old tables.now.tables (D.world disk.old).seen.held
             → ReadMoves 1 (D.world disk.old) (D.world disk.new) × IsFewer result (wanted self.old tables.now.tables) (wanted self.new tables.now.tables) }
     {
-        let row = self.row;
         self.row = None;
-        fill_behind(row, &mut self.walks, disk, tables, &self.floor)
+        fill_first(&mut self.walks, disk, tables, &self.floor)
     }
 
     /// Goes on to the next row where it wants no block, as behind a [`fill`](MergeRows::fill) that did not read, and answers

@@ -6,11 +6,11 @@ ghost use Rattle.block_model.specs.Places.{byte_of_page};
 ghost use Rattle.disk_trait.specs.World.{ReadMoves};
 ghost use Rattle.entry_model.specs.Entries.{IsEntry, entry_of};
 ghost use Rattle.key_base.specs.ByteOrder.{is_before};
-ghost use Rattle.merge_rows.specs.Leads.{key_at_hand, lead_of};
+ghost use Rattle.merge_rows.specs.Leads.{key_at_hand};
 ghost use Rattle.merge_rows.specs.Merges.{blocks_in, left_above, numbered, walk_at, walk_left, with_hand};
 ghost use Rattle.merge_rows.specs.Reads.{BlockOf, IsFewer, IsRead, SomeBlock, blocks_left, blocks_left_in, is_used_up, next_blocks, wanted_by, wanted_block_of};
 ghost use Rattle.merge_rows.specs.Rows.{above_floor};
-ghost use Rattle.merge_rows.specs.Steps.{AreCaughtUp, AreHeadsClear, AreNumbersIn, AreSoundWalks, IsCaughtUp, IsHeadClear, IsPassed, IsSoundWalk, numbers};
+ghost use Rattle.merge_rows.specs.Steps.{AreCaughtUp, AreHeadsClear, AreNumbersIn, AreSoundWalks, IsCaughtUp, IsHeadClear, IsSoundWalk, numbers};
 ghost use Rattle.table_file.specs.Faults.{HasReadCause, IsNoWant};
 ghost use Rattle.table_file.specs.Search.{IsGetFault, page_at};
 ghost use Rattle.table_file.specs.Walks.{blocks_on, is_due, to_come};
@@ -86,15 +86,6 @@ impl TableSource {
         if self.lead != other.lead {
             return self.lead < other.lead;
         }
-        self.is_before_alike(other)
-    }
-
-    // So where both keys have the same lead. It stays out of its caller: most keys differ in their leads.
-    #[inline(never)]
-    fn is_before_alike(&self, other: &TableSource) -> bool
-        requires { lead_of (key_at_hand self.now.walk.now) ≡ lead_of (key_at_hand other.now.walk.now) }
-        ensures { result ≡ is_before (key_at_hand self.now.walk.now) (key_at_hand other.now.walk.now) }
-    {
         compare_alike(key_of(self.entry()), key_of(other.entry())).is_lt()
     }
 
@@ -168,22 +159,6 @@ impl TableSource {
         false
     }
 
-    // Passes over the entries in memory that are not above the floor. No read and no memory.
-    fn pass<F: RangeFilter, D: Disk>(&mut self, disk: &mut D, tables: &Tables<F>, floor: &Floor)
-        requires { self.old.number < length tables.now.tables }
-        ensures number { self.new.number ≡ self.old.number }
-        ensures same { IsTrue D.tells → left_above floor.now tables.now.tables (D.world disk.old).seen.held self.new ≡ left_above floor.now tables.now.tables (D.world disk.old).seen.held self.old }
-        ensures sound { IsTrue D.tells → IsSoundWalk floor.now self.old.walk (blocks_in (numbered tables.now.tables self.old.number) (D.world disk.old).seen.held)
-            → IsSoundWalk floor.now self.new.walk (blocks_in (numbered tables.now.tables self.old.number) (D.world disk.old).seen.held) }
-        ensures block { self.new.walk.block ≡ self.old.walk.block }
-        ensures wanted { IsTrue D.tells → IsSoundWalk floor.now self.old.walk (blocks_in (numbered tables.now.tables self.old.number) (D.world disk.old).seen.held)
-            → wanted_block_of floor.now tables.now.tables self.new ≡ wanted_block_of floor.now tables.now.tables self.old }
-        ensures moves { ReadMoves 0 (D.world disk.old) (D.world disk.new) }
-    {
-        let table = table_of(self.number, tables);
-        self.pass_over(disk, table, floor);
-    }
-
     /// Passes over the entries in memory that are not above the floor, and reads a block where none is left then: the next one.
     /// Answers whether it read. If not, an entry above the floor is at hand, or none is left. No memory.
     ///
@@ -226,23 +201,6 @@ impl TableSource {
             Err(why) => Err(why),
         }
     }
-}
-
-/// One of the walks passes over the entries in memory that are not above the floor. No read and no memory: each of them wants a
-/// block then where it wanted one.
-pub(crate) fn pass_one<F: RangeFilter, D: Disk>(
-    walks: &mut [TableSource],
-    at: usize,
-    disk: &mut D,
-    tables: &Tables<F>,
-    floor: &Floor,
-)
-    requires known { AreNumbersIn tables.now.tables (numbers walks.old) }
-    requires there { at < length walks.old }
-    ensures passed { IsPassed D.tells floor.now tables.now.tables (D.world disk.old).seen.held walks.old walks.new }
-    ensures moves { ReadMoves 0 (D.world disk.old) (D.world disk.new) }
-{
-    walks[at].pass(disk, tables, floor);
 }
 
 /// Reads a block for the first of the walks that wants one, and answers whether it read. If not, each walk has an entry above
