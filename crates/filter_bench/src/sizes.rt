@@ -4,7 +4,7 @@ use filter_trie::Trie;
 use std::alloc::Global;
 
 // A count of four bytes stands before each 128 bits and behind the last ones; a place of four bytes is kept for each 64
-// set bits.
+// set bits. The sums of a level are bits with such places, and no section.
 const BLOCK: u64 = 128;
 
 const STEP: u64 = 64;
@@ -39,14 +39,31 @@ impl Sizes {
         ] {
             sizes.add(bits, (bits.len() as u64 / BLOCK).saturating_add(1));
         }
+        if let Some(bits) = trie.sum_bits() {
+            sizes.keep(bits, ones_in(bits).div_ceil(STEP));
+        }
         sizes
     }
 
     // Adds a section, and so many counts or places that are kept beside it.
     fn add(&mut self, bits: &Bits<Global>, kept: u64) {
-        let words = (bits.words().len() as u64).saturating_mul(64);
         self.sections = self.sections.saturating_add(bits.len() as u64);
+        self.keep(bits, kept);
+    }
+
+    // Adds bits in memory, which are no section or one that was added, and what is kept beside them.
+    fn keep(&mut self, bits: &Bits<Global>, kept: u64) {
+        let words = (bits.words().len() as u64).saturating_mul(64);
         self.memory = self.memory.saturating_add(words);
         self.memory = self.memory.saturating_add(kept.saturating_mul(KEPT_BITS));
     }
+}
+
+// How many bits are set.
+fn ones_in(bits: &Bits<Global>) -> u64 {
+    let mut ones: u64 = 0;
+    for word in bits.words() {
+        ones = ones.saturating_add(u64::from(word.count_ones()));
+    }
+    ones
 }

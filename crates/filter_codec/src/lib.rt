@@ -5,7 +5,8 @@
 //!
 //! `encode` copies the sections and takes what `out` lacks for them; without memory `out` stays as it was. `decode` looks
 //! at each section a few times and at each level twice at most, and takes what the sections and the counts over their bits
-//! need, each block once and none by a number that the bytes do not bear.
+//! need, each block once and none by a number that the bytes do not bear. Of the trie that it has judged it then counts the
+//! sums of one level, and takes what these need.
 //!
 //! Do not use it for a list of leaves whose filter is to be read by plain loops: `plain_filter` spells that. Nor for a trie
 //! that is asked while it is read: `decode` judges all of it first.

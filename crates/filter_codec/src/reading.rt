@@ -29,7 +29,8 @@ use suffix_bits::Suffixes;
 /// Fails exactly where the bytes are no image, with the first rule that they break and the place where they do, or for want
 /// of memory, which says nothing of the bytes. An image of 2^32 labels, or of 2^24 dense nodes, is want of memory too: the
 /// counts over its bits are not made. Takes what the sections and these counts need, each block once and none before the
-/// bytes of its section are there. Looks at each section a few times, and at each level twice at most.
+/// bytes of its section are there, and in the end what the sums of one level need (`Trie::keep_sums`). Looks at each section
+/// a few times, at each level twice at most, and for those sums at each node a few times.
 pub fn decode<A: Allocator + Clone>(alloc: A, bytes: &[u8]) -> Result<Trie<A>, DecodeError>
     ensures read { IfOk result (λ trie. IsImage trie bytes.now) }
     ensures refused { IfErr result (IsCause bytes.now) }
@@ -73,7 +74,11 @@ fn read_nodes<A: Allocator + Clone>(
     }
     let packed = Packed::of(alloc.clone()?, bytes, header, places, louds)?;
     let width = usize::from(header.hash_bits) + usize::from(header.real_bits);
-    let bits = Bits::from_bytes(alloc, sections.suffixes, header.leaves as usize * width)?;
+    let bits = Bits::from_bytes(
+        alloc.clone()?,
+        sections.suffixes,
+        header.leaves as usize * width,
+    )?;
     let suffixes = Suffixes::of(
         bits,
         header.hash_bits,
@@ -83,7 +88,9 @@ fn read_nodes<A: Allocator + Clone>(
     if let Some(fault) = nodes_fault(header, &packed, &suffixes, places.suffixes) {
         return Err(DecodeError::Fault(fault));
     }
-    Ok(trie_of(header, packed, suffixes))
+    let mut trie = trie_of(header, packed, suffixes);
+    trie.keep_sums(alloc)?;
+    Ok(trie)
 }
 
 // The first of the rules 8 to 10 that the nodes and the suffixes break, which begin at a place.

@@ -1,5 +1,5 @@
 -- Borders, level by level.
-use Rattle.std.proofs.Common.{◌≡◌, ℕ, zero, suc, ◌+◌, ◌-◌, ◌*◌, ◌<◌, ◌≤◌, ◌^◌, List, length, map, refl, ap, sym, ◌∙◌, arith}
+use Rattle.std.proofs.Common.{◌≡◌, ℕ, zero, suc, ◌+◌, ◌-◌, ◌*◌, ◌<◌, ◌≤◌, ◌^◌, List, length, map, refl, ap, subst, sym, ◌∙◌, arith}
 use Rattle.std.proofs.lemmas.List.{length-map}
 use native.Mathlib.Nat.{mul-le-mul_right}
 use Rattle.filter_image_model.proofs.Sizes.{low_height, some_height}
@@ -152,6 +152,34 @@ module _ (hash_bits real_bits : ℕ) (ls : List Leaf) (valid : IsValid hash_bits
 
   pub starts_before : (b : Border) → IsBorder ls (height ls) b → slots_down (whole ns) (height ls) 0 ≤ b.sum
   starts_before b is = omega (arith, starts_are, ap (below_first ls) (at_end b is), is.counted)
+
+  -- what still is to be counted from a border on, on n levels: with it all is counted
+  rest_border : (n level : ℕ) (b : Border) → level + n ≡ height ls → IsBorder ls level b
+      → (leaves_at ls level b + slots_down (whole ns) (height ls) 0 ≡ b.sum + slots_down (whole ns) n b.node) × ((leaves_at ls level b ≤ length ls) → b.sum + slots_down (whole ns) n b.node ≤ 1025 * length ls)
+  rest_border zero level b end is =
+      let last : level ≡ height ls = omega (arith, end) in
+      let at : IsBorder ls (height ls) b = subst (λ (n : ℕ). IsBorder ls n b) last is in
+      let same : leaves_at ls level b ≡ leaves_at ls (height ls) b = ap (λ (n : ℕ). leaves_at ls n b) last in
+      let none : slots_down (whole ns) zero b.node ≡ 0 = refl in (
+        omega (arith, none, same, last_border b at, starts_before b at),
+        λ few. omega (arith, none, sum_small level b is few),
+      )
+  rest_border (suc n) level b end is =
+      let p = begin_of (whole ns) b.node in
+      let c : Border = record { node = first_below (whole ns) p; sum = b.sum + slot_at (whole ns) p } in
+      let down = below_border level b c is (omega (arith, end)) refl refl in
+      let rest = rest_border n (level + 1) c (omega (arith, end)) down.0 in
+      let here : slots_down (whole ns) (suc n) b.node ≡ slot_at (whole ns) p + slots_down (whole ns) n (first_below (whole ns) p) = refl in (
+        omega (arith, here, down.1, rest.0),
+        λ few. omega (arith, here, rest.1 (omega (arith, down.1, few))),
+      )
+
+  -- so it is the sum that a trie keeps
+  pub rest_counted : (level : ℕ) (b : Border) → IsBorder ls level b → leaves_at ls level b + slots_down (whole ns) (height ls) 0 ≡ b.sum + slots_down (whole ns) (height ls - level) b.node
+  rest_counted level b is = (rest_border (height ls - level) level b (omega (arith, is.high)) is).0
+
+  pub rest_small : (level : ℕ) (b : Border) → IsBorder ls level b → leaves_at ls level b ≤ length ls → b.sum + slots_down (whole ns) (height ls - level) b.node ≤ 1025 * length ls
+  rest_small level b is few = (rest_border (height ls - level) level b (omega (arith, is.high)) is).1 few
 
   -- two borders at one node: what was counted differs as much as the leaves that come before them
   pub at_one_node : (level m n : ℕ) (b c : Border) → IsBorder ls level b → IsBorder ls level c → b.node ≡ c.node → leaves_at ls level b ≡ m → leaves_at ls level c ≡ n → c.sum + m ≡ b.sum + n

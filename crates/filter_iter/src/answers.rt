@@ -78,7 +78,8 @@ fn count_past<A: Allocator>(trie: &Trie<A>, lo: &[u8]) -> u64
 
 /// The number, in key order from 0, of the first leaf that is not past `lo`, `None` where all are.
 ///
-/// Looks at a node for each byte of `lo` that leads on, and counts at one place a level. Takes no memory.
+/// Looks at a node for each byte of `lo` that leads on, and counts at one place a level, down to the last one or to the one
+/// whose sums the trie keeps. Takes no memory.
 pub fn seek<A: Allocator>(trie: &Trie<A>, lo: &[u8]) -> Option<u32>
     ensures { result ≡ first trie.now.real_bits trie.now.leaves lo.now }
 {

@@ -65,7 +65,11 @@ pub(crate) fn leaves_before<A: Allocator>(
     ensures { result ≡ leaves_at trie.now.leaves level border }
 {
     let mut border = border;
-    for _ in level..height {
+    for at in level..height {
+        // Mostly the way ends here: the trie keeps what is still to be counted from one level on.
+        if let Some(rest) = trie.kept_sum(at, border.node) {
+            return border.sum + rest - trie.level_starts();
+        }
         border = below(trie, border);
     }
     border.sum - trie.level_starts()

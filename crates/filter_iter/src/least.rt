@@ -30,8 +30,8 @@ fn least_string<A: Allocator>(alloc: Global, trie: &Trie<A>, n: u32) -> Result<V
 /// Appends the least string that fits leaf `n`, in key order from 0: its stub, and its real bits in bytes without the
 /// zero bytes at the end.
 ///
-/// Goes down from the root by counts, nine at most at a node of several branches, each of which goes down to the last level.
-/// Without memory `out` stays as it was.
+/// Goes down from the root by counts, nine at most at a node of several branches, each of which goes down to the last level
+/// or to the one whose sums the trie keeps. Without memory `out` stays as it was.
 pub fn least_of<A: Allocator>(trie: &Trie<A>, n: u32, out: &mut Vec<u8>) -> Result<(), AllocError>
     requires { n < length trie.now.leaves }
     ensures added { OnOk result (IfSome (slice_get trie.now.leaves n) (λ l. out.new.items ≡ out.old.items ++ begins trie.now.real_bits l)) }

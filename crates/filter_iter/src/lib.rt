@@ -4,9 +4,10 @@
 //! Where a bound or a leaf stands is told by counts. A [`Trie`](filter_trie::Trie) has its leaves level by level and not in
 //! key order, so what comes before a bound is counted on each level: the leaves that stand before the bound's *border*
 //! there. The border goes down by the bound's letters as a walk does, and below the point where the bound leaves the trie by
-//! one count a level. What stands before the levels themselves is counted too, but is the same for every bound: the trie
-//! keeps it as one number, which is taken off at the end. No path is kept and no memory is taken, and the cost of `seek` and
-//! `tally` goes as the height, whatever the number of leaves.
+//! one count a level, until it comes to the level of which the trie keeps what all those below add. What stands before the
+//! levels themselves is counted too, but is the same for every bound: the trie keeps it as one number, which is taken off at
+//! the end. No path is kept and no memory is taken, and the cost of `seek` and `tally` goes as the height, whatever the
+//! number of leaves.
 //!
 //! `tally` follows both bounds together and stops where both have left the trie at one node, as all further levels count the
 //! same for both.
@@ -14,7 +15,7 @@
 //! A [`FilterCursor`] alone keeps a path, that to its leaf: the next leaf is mostly a branch of the same node. In the sparse
 //! half it knows where that branch stands, and where the next node of a level begins, so that `next` searches for neither.
 //! `start` takes memory for the path, and no later call takes any. It finds its leaf by number, as [`least_of`] does, by
-//! counts at each node of several branches, each of which goes down to the last level.
+//! counts at each node of several branches, each of which goes down to the last level or to the one whose sums are kept.
 //!
 //! The answers are those of the leaf list (`filter_model`): leaves are numbered in key order, and that number is not the
 //! slot, which goes by levels.

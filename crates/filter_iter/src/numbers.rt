@@ -92,8 +92,8 @@ fn step_to<A: Allocator>(
 /// Goes down to the leaf of a number in key order. Its slot; `way` becomes the way to it.
 ///
 /// On each level it halves the bytes from the node's first branch to its last one, and each of these counts, nine at most,
-/// goes down to the last level: the cost goes as the height times the number of levels at which the way's node has branches
-/// beside the way.
+/// goes down to the last level or to the one whose sums the trie keeps: the cost goes as the height times the number of levels
+/// at which the way's node has branches beside the way.
 ///
 /// `way` is empty, and has room for as many passes as the trie is high.
 pub(crate) fn find<A: Allocator>(trie: &Trie<A>, n: u32, way: &mut Way) -> u64

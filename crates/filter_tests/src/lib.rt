@@ -61,6 +61,8 @@ mod sets;
 #[cfg(test)]
 mod suffixes;
 #[cfg(test)]
+mod sums;
+#[cfg(test)]
 mod tries;
 #[cfg(test)]
 mod walks;

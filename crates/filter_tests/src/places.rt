@@ -3,7 +3,8 @@ ghost use Rattle.std.specs.Prelude.{◌<◌, length};
 ghost use Rattle.filter_model.specs.Trie.{nodes};
 ghost use Rattle.filter_trie.specs.Places.{IsTaken, IsWithin};
 
-use super::keys::{list_of, some_keys, step};
+use super::codec::{image_of, read};
+use super::keys::{list_of, list_of_words, some_keys, step};
 use super::plain::{END, Plain};
 use super::tries::{has_node, trie_of};
 use super::walks::counted;
@@ -150,12 +151,24 @@ pub(crate) fn check_walks(
     Ok(())
 }
 
+// The sums that the trie keeps at a node, which is one or the one behind the last.
+fn check_sums(rt: &impl Abort, trie: &Trie<Global>, plain: &Plain, node: u64) {
+    let height = usize::from(trie.height());
+    for level in 0..height {
+        if let Some(sum) = trie.kept_sum(level, node) {
+            assert!(rt; sum == plain.slots_down(height.saturating_sub(level), node));
+        }
+    }
+}
+
 fn check_nodes(rt: &impl Abort, trie: &Trie<Global>, plain: &Plain) {
     for node in 0..plain.node_count() as u64 {
         let there = has_node(trie, node);
         assert!(rt; there);
         check_node(rt, trie, plain, node);
+        check_sums(rt, trie, plain, node);
     }
+    check_sums(rt, trie, plain, plain.node_count() as u64);
     assert!(rt; !has_node(trie, plain.node_count() as u64));
     assert!(rt; trie.level_starts() == plain.level_starts());
 }
@@ -207,5 +220,23 @@ fn random_sets_at_every_cutoff_answer_as_plain_loops(rt: HostRuntime) -> Result<
         seed = step(seed);
         check_set(&rt, rt.alloc(), seed)?;
     }
+    Ok(())
+}
+
+// The sums that a trie of two keys of 16 letters keeps, which part at the last one: those of level 0, where two nodes have
+// one.
+fn check_kept(rt: &impl Abort, trie: &Trie<Global>) {
+    assert!(rt; trie.kept_sum(0, 0) == Some(0) && trie.kept_sum(0, 1) == Some(2));
+    assert!(rt; trie.kept_sum(0, 2).is_none() && trie.kept_sum(1, 1).is_none());
+}
+
+#[test]
+fn sums_are_kept_and_kept_again_when_it_is_read(rt: HostRuntime) -> Result<(), Fail> {
+    let keys = list_of_words(rt.alloc(), &[b"aaaaaaaaaaaaaaab", b"aaaaaaaaaaaaaaac"])?;
+    let trie = trie_of(rt.alloc(), &keys, 0)?;
+    check_kept(&rt, &trie);
+    let image = image_of(rt.alloc(), &trie)?;
+    let again = read(rt.alloc(), image.as_slice())?;
+    check_kept(&rt, &again);
     Ok(())
 }

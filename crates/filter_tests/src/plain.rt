@@ -223,6 +223,18 @@ impl Plain {
         u64::MAX
     }
 
+    /// The leaves before a node, before the first node below its first branch or a later one, and so on, on so many levels.
+    pub(crate) fn slots_down(&self, levels: usize, node: u64) -> u64 {
+        let mut node = node;
+        let mut sum = 0u64;
+        for _ in 0..levels {
+            let first = self.range(node as usize).0;
+            sum = sum.saturating_add(self.leaf_slot(first));
+            node = self.first_below(first);
+        }
+        sum
+    }
+
     /// The slot of a place's least leaf, by first branches. No key of the sets has ten letters.
     pub(crate) fn leftmost(&self, place: usize) -> u64 {
         let mut place = place;

@@ -20,3 +20,4 @@ pub mod PlaceLaws
 pub mod Finding
 pub mod KeyOrder
 pub mod LevelStarts
+pub mod LevelSums

@@ -1,5 +1,6 @@
 -- Where the levels of a trie begin.
-use Rattle.std.specs.Prelude.{ℕ, zero, suc, ◌+◌}
+use Rattle.std.specs.Prelude.{◌≡◌, ℕ, zero, suc, ◌+◌, ◌-◌, ◌<◌, ◌^◌, Bool, true, List, length}
+use Rattle.bit_words.specs.Counts.{is_set_at, rank_of}
 use Rattle.filter_model.specs.Leaves.{Filter}
 use Rattle.filter_model.specs.Nodes.{trie_of}
 use Rattle.filter_model.specs.Trie.{height}
@@ -13,3 +14,16 @@ slots_down h (suc n) v = slot_at h (begin_of h v) + slots_down h n (first_below 
 -- and before the first node of each level
 abbrev pub slots_before_levels : Filter → ℕ
 slots_before_levels i = slots_down (whole (trie_of i.leaves)) (height i.leaves) 0
+
+-- the sums of a level whose first node this is: of node first + i the sum is base and the clear bits before set bit i
+pub record AreSums (i : Filter) (level first base : ℕ) (places : List Bool) : Type 0 where
+  pub room : base + length places < 2 ^ 64
+  pub each : (p : ℕ) → is_set_at places p ≡ true
+      → p + base ≡ rank_of places p + slots_down (whole (trie_of i.leaves)) (height i.leaves - level) (first + rank_of places p)
+
+-- bits that are the sums of some level
+pub record KeepsSums (i : Filter) (places : List Bool) : Type 0 where
+  pub level : ℕ
+  pub first : ℕ
+  pub base : ℕ
+  pub are : AreSums i level first base places

@@ -23,9 +23,10 @@ use trie_levels::{Levels, Span};
 ///
 /// `spans` are those of the keys and `levels` their plan, by which all room is made at once; each width is at most 32 and
 /// the cutoff at most the height. Goes over the leaves that are left once a level, so that the work is at most in the
-/// letters of all paths; no leaf is made, and beside the sections it takes the spans and one open node of 512 bytes. The
-/// only error is want of memory: a sparse half with 2^32 labels or more is one, and a dense half with 2^24 nodes or more, as
-/// sections do not grow past that.
+/// letters of all paths; no leaf is made, and beside the sections it takes the spans and one open node of 512 bytes. In the
+/// end the sums of one level are kept (`keep_sums`), for which each node is looked at a few times. The only error is want of
+/// memory: a sparse half with 2^32 labels or more is one, and a dense half with 2^24 nodes or more, as sections do not grow
+/// past that.
 pub fn build(
     alloc: Global,
     keys: &KeyList,
@@ -54,21 +55,24 @@ pub fn build(
     add_levels(&mut sparse, keys, &mut node, &mut pending, cutoff, height)?;
     let sparse = sparse.finish()?;
     drop(node);
-    Ok(joined(cutoff, height, dense, sparse, pending.finish()))
+    joined(alloc, cutoff, height, dense, sparse, pending.finish())
 }
 
-// The trie with these parts.
+// The trie with these parts, and the sums of one of its levels.
 fn joined(
+    alloc: Global,
     cutoff: u16,
     height: u16,
     dense: Dense<Global>,
     sparse: Sparse<Global>,
     suffixes: Suffixes<Global>,
-) -> Trie<Global>
+) -> Result<Trie<Global>, AllocError>
     requires { AreParts (image_by cutoff height dense sparse.nodes suffixes) cutoff height dense sparse suffixes }
-    ensures { result ≡ image_by cutoff height dense sparse.nodes suffixes }
+    ensures { IfOk result (λ trie. trie ≡ image_by cutoff height dense sparse.nodes suffixes) }
 {
-    Trie::of(cutoff, height, dense, sparse, suffixes)
+    let mut trie = Trie::of(cutoff, height, dense, sparse, suffixes);
+    trie.keep_sums(alloc)?;
+    Ok(trie)
 }
 
 // The nodes of the first levels.

@@ -59,13 +59,6 @@ impl<A: Allocator> Trie<A> {
     pub(crate) fn count_level_starts(&self) -> u64
         ensures { result ≡ slots_before_levels self.now }
     {
-        let mut node: u64 = 0;
-        let mut starts: u64 = 0;
-        for _ in 0..self.height {
-            let (slots, below) = self.before_node(node);
-            starts += slots;
-            node = below;
-        }
-        starts
+        self.count_down(0, 0)
     }
 }

@@ -12,6 +12,7 @@ ghost use Rattle.suffix_bits.specs.Slots.{array_bits, leaf_suffix};
 ghost use Rattle.trie_laws.specs.Halves.{second_half};
 ghost use Rattle.trie_model.specs.Walks.{slot_of_key, steps as steps_of};
 
+use super::level_sums::LevelSums;
 use super::steps::Steps;
 use super::walk::{Step, Walk};
 use louds_dense::Dense;
@@ -31,19 +32,21 @@ pub struct Trie<A: Allocator> {
     pub(crate) suffixes: Suffixes<A>,
     // Of the finished trie; `of` has none while it counts them.
     level_starts: Option<u64>,
+    // Of one level, where they are kept.
+    pub(crate) sums: Option<LevelSums<A>>,
 }
 
 impl<A: Allocator> Model for Trie<A> {
     ghost use Rattle.std.specs.Prelude.{◌≡◌, IfSome};
     ghost use Rattle.filter_model.specs.Leaves.{Filter};
-    ghost use Rattle.filter_trie.specs.LevelStarts.{slots_before_levels};
+    ghost use Rattle.filter_trie.specs.LevelStarts.{AreSums, slots_before_levels};
     ghost use Rattle.filter_trie.specs.Parts.{AreParts, image_by};
 
     ghost Value = { Filter };
 
     ghost view = { λ t. image_by t.cutoff t.height t.dense t.sparse.nodes t.suffixes };
 
-    ghost invariant = { λ t. AreParts (image_by t.cutoff t.height t.dense t.sparse.nodes t.suffixes) t.cutoff t.height t.dense t.sparse t.suffixes × IfSome t.level_starts (λ n. n ≡ slots_before_levels (image_by t.cutoff t.height t.dense t.sparse.nodes t.suffixes)) };
+    ghost invariant = { λ t. AreParts (image_by t.cutoff t.height t.dense t.sparse.nodes t.suffixes) t.cutoff t.height t.dense t.sparse t.suffixes × IfSome t.level_starts (λ n. n ≡ slots_before_levels (image_by t.cutoff t.height t.dense t.sparse.nodes t.suffixes)) × IfSome t.sums (λ s. AreSums (image_by t.cutoff t.height t.dense t.sparse.nodes t.suffixes) s.level s.first s.base s.places) };
 }
 
 impl<A: Allocator> Trie<A> {
@@ -67,6 +70,7 @@ impl<A: Allocator> Trie<A> {
             sparse,
             suffixes,
             level_starts: None,
+            sums: None,
         };
         trie.level_starts = Some(trie.count_level_starts());
         trie

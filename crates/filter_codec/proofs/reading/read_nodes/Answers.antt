@@ -33,6 +33,14 @@ pub returns-in_err-packed-clause-refused : goal.returns-in_err-packed-clause-ref
 returns-in_err-packed-clause-refused g c =
     out_of_memory c.args.bytes.now c.from_residual-in_err-packed.result c.from_residual-in_err-packed.ensures.1
 
+pub returns-in_err-clone-3-clause-refused : goal.returns-in_err-clone-3-clause-refused
+returns-in_err-clone-3-clause-refused g c =
+    out_of_memory c.args.bytes.now c.from_residual-in_err-clone-3.result c.from_residual-in_err-clone-3.ensures.1
+
+pub returns-in_err-keep_sums-clause-refused : goal.returns-in_err-keep_sums-clause-refused
+returns-in_err-keep_sums-clause-refused g c =
+    out_of_memory c.args.bytes.now c.from_residual-in_err-keep_sums.result c.from_residual-in_err-keep_sums.ensures.1
+
 pub returns-in_err-bits-clause-refused : goal.returns-in_err-bits-clause-refused
 returns-in_err-bits-clause-refused g c =
     out_of_memory c.args.bytes.now c.from_residual-in_err-bits.result c.from_residual-in_err-bits.ensures.1
@@ -199,8 +207,8 @@ returns-in-Some-nodes_fault-clause-refused g c =
     let rule = rule_by b h is c.args.places.now c.requires.places c.of-suffixes.result (array ∙ array_by b h is c.in_ok-bits.bits bits) c.in_ok-packed.packed c.in_ok-packed.ensures in
     at_nodes b k.bytes_are c.in-Some-nodes_fault.fault k none (c.in-Some-nodes_fault.ensures ∙ rule)
 
-pub trie_of-requires : goal.trie_of-requires
-trie_of-requires g c =
+pub trie_of-trie-requires : goal.trie_of-trie-requires
+trie_of-trie-requires g c =
     let b = c.args.bytes.now in
     let h = c.args.header.now in
     let k = c.requires.kept in
@@ -229,4 +237,4 @@ returns-clause-read g c =
     let array = c.of-suffixes.ensures ∙ ap (array_from h c.in_ok-bits.bits) c.from-3.ensures in
     let rule = rule_by b h is c.args.places.now c.requires.places c.of-suffixes.result (array ∙ array_by b h is c.in_ok-bits.bits bits) c.in_ok-packed.packed c.in_ok-packed.ensures in
     let whole_kept = none_broken b k.bytes_are k none (c.in_default-nodes_fault.ensures ∙ rule) in
-    read_by b h is c.args.places.now c.requires.places c.of-suffixes.result (array ∙ array_by b h is c.in_ok-bits.bits bits) c.in_ok-packed.packed c.in_ok-packed.ensures k.bytes_are whole_kept c.trie_of.result c.trie_of.ensures
+    read_by b h is c.args.places.now c.requires.places c.of-suffixes.result (array ∙ array_by b h is c.in_ok-bits.bits bits) c.in_ok-packed.packed c.in_ok-packed.ensures k.bytes_are whole_kept _ (c.keep_sums.ensures ∙ c.trie_of-trie.ensures)

@@ -1,5 +1,6 @@
 use Rattle.std.proofs.Common.{◌≡◌, ◌∙◌, length, ap, arith, subst, sym}
 use Rattle.std.proofs.lemmas.List.{length-map}
+use Rattle.std.proofs.lemmas.Result.{IfOk-weaker}
 use Rattle.filter_model.specs.Leaves.{Filter, base_leaves, leaves_of}
 use Rattle.filter_model.specs.Nodes.{Node, node_of}
 use Rattle.filter_model.specs.Trie.{height as height_of, nodes_to}
@@ -87,4 +88,5 @@ joined-requires c =
     subst (λ (x : Filter). AreParts x c.args.cutoff c.height-height.result c.in_ok-dense-2.dense c.in_ok-sparse-2.sparse c.finish-3.result) (sym (stands_for (parts c))) (parts c)
 
 pub returns : goal.returns
-returns c = c.joined.ensures ∙ stands_for (parts c.before)
+returns c =
+    IfOk-weaker c.joined.result _ _ (λ trie is. is ∙ stands_for (parts c.before)) c.joined.ensures

@@ -1,0 +1,136 @@
+//! What a trie takes with the sums that it keeps, and of which level they are.
+use super::codec::image_of;
+use super::tries::base_trie;
+use bit_words::Bits;
+use filter_trie::Trie;
+use key_base::KeyList;
+use std::alloc::{AllocError, Global};
+use std::process::Abort;
+use std::test::Fail;
+
+// How many pairs of keys there are.
+const PAIRS: u16 = 2_048;
+
+// How many levels of their trie are dense, as by ratio 64.
+const CUTOFF: u16 = 2;
+
+// A pair of keys: their first letters, so many m, and last an a or a b.
+fn push_pair(
+    alloc: Global,
+    keys: &mut KeyList,
+    head: &[u8],
+    shared: usize,
+) -> Result<(), AllocError> {
+    let mut key = Vec::from_slice(alloc, head)?;
+    for _ in 0..shared {
+        key.push(0x6D)?;
+    }
+    for last in [0x61, 0x62] {
+        key.push(last)?;
+        keys.push(key.as_slice())?;
+        key.pop();
+    }
+    Ok(())
+}
+
+// Pairs each of which has its own two first letters, and so many behind these that both keys share.
+fn pairs(alloc: Global, shared: usize) -> Result<KeyList, AllocError> {
+    let mut keys = KeyList::new(alloc);
+    for number in 0..PAIRS {
+        let head = [(number / 256) as u8, (number % 256) as u8];
+        push_pair(alloc, &mut keys, &head, shared)?;
+    }
+    Ok(keys)
+}
+
+// So many keys that begin with a, and two pairs with long paths.
+fn many_below(alloc: Global, count: u8) -> Result<KeyList, AllocError> {
+    let mut keys = KeyList::new(alloc);
+    for last in 0..count {
+        keys.push(&[0x61, last])?;
+    }
+    push_pair(alloc, &mut keys, b"b", 600)?;
+    push_pair(alloc, &mut keys, b"c", 600)?;
+    Ok(keys)
+}
+
+// The bits of whole words.
+fn word_bits(bits: &Bits<Global>) -> u64 {
+    (bits.words().len() as u64).saturating_mul(64)
+}
+
+// With a count of four bytes before each 128 bits and behind the last ones.
+fn counted(bits: &Bits<Global>) -> u64 {
+    let counts = (bits.len() as u64 / 128).saturating_add(1);
+    word_bits(bits).saturating_add(counts.saturating_mul(32))
+}
+
+// With a place of four bytes for each 64 set bits.
+fn selected(bits: &Bits<Global>) -> u64 {
+    let mut ones: u64 = 0;
+    for word in bits.words() {
+        ones = ones.saturating_add(u64::from(word.count_ones()));
+    }
+    word_bits(bits).saturating_add(ones.div_ceil(64).saturating_mul(32))
+}
+
+// The bits that a trie without suffixes has in memory.
+fn memory_of(trie: &Trie<Global>) -> u64 {
+    let dense = trie.dense();
+    let sparse = trie.sparse();
+    let labels = sparse.place_count().saturating_mul(8);
+    labels
+        .saturating_add(counted(dense.label_bits()))
+        .saturating_add(counted(dense.child_bits()))
+        .saturating_add(counted(dense.end_bits()))
+        .saturating_add(counted(sparse.child_bits()))
+        .saturating_add(selected(sparse.louds_bits()))
+        .saturating_add(trie.sum_bits().map_or(0, |bits| selected(bits)))
+}
+
+// The memory is within 1.10 of the image.
+fn check_memory(rt: &impl Abort, alloc: Global, trie: &Trie<Global>) -> Result<(), AllocError> {
+    let image = image_of(alloc, trie)?;
+    let bits = (image.len() as u64).saturating_mul(8);
+    assert!(rt; memory_of(trie).saturating_mul(10) <= bits.saturating_mul(11));
+    Ok(())
+}
+
+fn check_pairs(rt: &impl Abort, alloc: Global, shared: usize) -> Result<(), Fail> {
+    let keys = pairs(alloc, shared)?;
+    let trie = base_trie(alloc, &keys, CUTOFF)?;
+    assert!(rt; trie.sum_bits().is_some() == (shared > 12));
+    check_memory(rt, alloc, &trie)?;
+    Ok(())
+}
+
+// On each level a pair has a node and two leaves, which take three bits and a half, and in all of the sparse half two places
+// more than letters that it shares.
+#[test]
+fn sums_are_kept_within_the_memory_that_a_trie_may_take(rt: HostRuntime) -> Result<(), Fail> {
+    for shared in 12..14 {
+        check_pairs(&rt, rt.alloc(), shared)?;
+    }
+    Ok(())
+}
+
+// The sums of a level from a node on to the next one, below which so many leaves stand.
+fn check_kept(rt: &impl Abort, trie: &Trie<Global>, level: usize, node: u64, leaves: u64) {
+    let starts = trie.level_starts();
+    assert!(rt; trie.kept_sum(level, node) == Some(starts));
+    assert!(rt;
+        trie.kept_sum(level, node.saturating_add(1)) == Some(starts.saturating_add(leaves))
+    );
+}
+
+// All leaves stand below the one node of level 0, and most below the first one of level 1.
+#[test]
+fn sums_are_of_a_level_with_few_leaves_below_each_node(rt: HostRuntime) -> Result<(), Fail> {
+    let alloc = rt.alloc();
+    let few = base_trie(alloc, &many_below(alloc, 252)?, 0)?;
+    check_kept(&rt, &few, 0, 0, 256);
+    let many = base_trie(alloc, &many_below(alloc, 253)?, 0)?;
+    assert!(rt; many.kept_sum(0, 0).is_none());
+    check_kept(&rt, &many, 1, 1, 253);
+    Ok(())
+}
