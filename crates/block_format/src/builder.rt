@@ -9,7 +9,7 @@ ghost use Rattle.block_model.specs.Pages.{max_block_entries, block_pages, page_b
 ghost use Rattle.block_format.specs.Building.{laid, takes};
 
 use crate::block::HEADER_BYTES;
-use crate::entry::{TOMBSTONE, VALUE};
+use crate::entry::{TOMBSTONE, VALUE, WORD_BYTES};
 use block_model::pages_for;
 use byte_fields::{put_u16, put_u32};
 use key_base::{ENTRY_HEAD_BYTES, MAX_BLOCK_ENTRIES, PAGE_BYTES};
@@ -64,6 +64,9 @@ impl BlockBuilder {
 
     /// Adds an entry behind the others, or answers `false` where the block has no room for it. Without memory nothing
     /// is added.
+    //
+    // It goes into its caller, which is a step of each merge.
+    #[inline(always)]
     pub fn add(&mut self, key: &[u8], value: Option<&[u8]>) -> Result<bool, AllocError>
         requires { IsEntry (entry_of key.now (option_map (λ v. v.now) value)) }
         ensures room { IfOk result (λ added. added ≡ takes self.old (entry_of key.now (option_map (λ v. v.now) value.entry))) }
@@ -129,14 +132,20 @@ fn kind(value: Option<&[u8]>) -> u8
     }
 }
 
-// Appends where there is room.
+// Appends where there is room. Many keys and values are numbers of eight bytes: these are moved at once, with no call.
+#[inline(always)]
 fn append(more: &[u8], out: &mut Vec<u8>)
     requires { vec_len out.old + length more.now ≤ vec_capacity out.old }
     ensures items { out.new.items ≡ out.old.items ++ more.now }
     ensures len { vec_len out.new ≡ vec_len out.old + length more.now }
     ensures capacity { vec_capacity out.old ≤ vec_capacity out.new }
 {
-    match out.extend_from_slice(more) {
+    let appended = if more.len() == WORD_BYTES {
+        out.extend_from_slice(&more[..WORD_BYTES])
+    } else {
+        out.extend_from_slice(more)
+    };
+    match appended {
         Ok(()) => {}
         Err(_) => unreachable!(),
     }

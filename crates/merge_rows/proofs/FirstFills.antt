@@ -1,14 +1,17 @@
 -- Walks that are asked one after the other whether they want a block.
-use Rattle.std.proofs.Common.{◌≡◌, ◌+◌, ◌≤◌, ◌<◌, ℕ, zero, suc, List, [], ◌∷◌, length, map, get_or, slice_set, refl, sym, ap, ap₂, ◌∙◌, subst, Bool, true, false, arith}
+use Rattle.std.proofs.Common.{◌≡◌, ◌+◌, ◌≤◌, ◌<◌, ℕ, zero, suc, List, [], ◌∷◌, length, map, get_or, slice_set, refl, sym, ap, ap₂, ◌∙◌, subst, Bool, true, false, not, arith}
 use Rattle.std.specs.List.{AllByRecursion, sum_by}
+use Rattle.std.proofs.lemmas.Bool.{false≢true}
 use Rattle.std.proofs.lemmas.List.Sums.{sum_by-cons, sum_by-set}
-use Rattle.std.specs.Prelude.{Contains, Result, Ok, Err}
+use Rattle.std.specs.Prelude.{Contains, Result, Ok, Err, Option, Some, None, ◌&&◌}
 use Rattle.disk_trait.specs.Image.{Image}
-use Rattle.merge_rows.specs.Merges.{TableWalk, blocks_in, left_above, numbered, walk_left}
-use Rattle.merge_rows.specs.Reads.{IsFewer, IsRead, blocks_left, blocks_left_in, next_blocks, next_block_of, wanted_by, wanted_block_of}
-use Rattle.merge_rows.specs.Rows.{KeyFloor}
+use Rattle.entry_model.specs.Entries.{Entry}
+use Rattle.merge_rows.specs.Merges.{TableWalk, blocks_in, left_above, numbered, row_count, walk_left}
+use Rattle.merge_rows.specs.Reads.{IsFewer, IsRead, blocks_left, blocks_left_in, is_used_up, next_blocks, next_block_of, ones, wanted_by, wanted_block_of}
+use Rattle.merge_rows.specs.Rows.{KeyFloor, clears}
 use Rattle.merge_rows.specs.Steps.{AreCaughtUp, AreHeadsClear, AreSoundWalks, IsCaughtUp, IsHeadClear, IsSoundWalk, AreNumbersIn, number_of_walk, numbers}
 use Rattle.table_file.specs.Opened.{Opened}
+use Rattle.table_file.specs.Walks.{is_due}
 
 abbrev pub IsSoundHere : KeyFloor → List Opened → Image → TableWalk → Type 0
 IsSoundHere floor tables image w = IsSoundWalk floor w.walk (blocks_in (numbered tables w.number) image)
@@ -59,6 +62,41 @@ number_among [] i d lt = absurd (omega (arith, lt))
 number_among (w ∷ more) zero d lt = (0, omega arith, refl)
 number_among (w ∷ more) (suc i) d lt = let rest = number_among more i d (omega (arith, lt)) in (suc rest.0, omega (arith, rest.1), rest.2)
 
+-- an item in its own place
+set_again : (walks : List TableWalk) (i : ℕ) (d : TableWalk) → i < length walks → slice_set walks i (get_or walks i d) ≡ walks
+set_again [] i d lt = absurd (omega (arith, lt))
+set_again (w ∷ more) zero d lt = refl
+set_again (w ∷ more) (suc i) d lt = ap (λ l. w ∷ l) (set_again more i d (omega (arith, lt)))
+
+-- ---- a walk that stands above the floor
+
+above_clear : (floor : KeyFloor) (now : Option Entry) → is_used_up floor now ≡ false → IsHeadClear floor now
+above_clear floor None above = tt
+above_clear floor (Some e) above = of_not (clears floor e.key) above
+  where
+    of_not : (b : Bool) → not b ≡ false → b ≡ true
+    of_not true is = refl
+    of_not false is = absurd (false≢true (sym is))
+
+above_caught : (floor : KeyFloor) (now : Option Entry) (left : List Entry) → is_used_up floor now ≡ false → IsCaughtUp floor now left
+above_caught floor None left above = absurd (false≢true (sym above))
+above_caught floor (Some e) left above = above_clear floor (Some e) above
+
+-- it wants none, and stays where it stands
+pub passed_above : (tells : Type 0) (floor : KeyFloor) (tables : List Opened) (image : Image) (w : TableWalk) → is_used_up floor w.walk.now ≡ false → Passed tells floor tables image w w
+passed_above tells floor tables image w above =
+    let none : wanted_block_of floor tables w ≡ 0 = ap (λ (b : Bool). ones (b && is_due w.walk (row_count (numbered tables w.number)))) above in
+    record {
+      number = refl;
+      same = λ t. refl;
+      ready = λ t. above_caught floor w.walk.now (walk_left tables image w) above;
+      clear = above_clear floor w.walk.now above;
+      sound = λ t s. s;
+      block = λ t. refl;
+      left = refl;
+      fewer = λ t s. (none, none);
+    }
+
 -- ---- as far as they went
 
 module _ (tells : Type 0) (floor : KeyFloor) (tables : List Opened) (image : Image) where
@@ -84,6 +122,11 @@ module _ (tells : Type 0) (floor : KeyFloor) (tables : List Opened) (image : Ima
   went_on (suc i) [] new x d lt went passed = absurd went
   went_on (suc i) (w ∷ old) [] x d lt went passed = absurd went
   went_on (suc i) (w ∷ old) (y ∷ new) x d lt went passed = (went.0, went_on i old new x d (omega (arith, lt)) went.1 passed)
+
+  -- one more that stays where it stands
+  pub went_by : (i : ℕ) (old new : List TableWalk) (d : TableWalk) → i < length new → Gone i old new → is_used_up floor (get_or new i d).walk.now ≡ false → Gone (suc i) old new
+  went_by i old new d lt went above =
+      subst (Gone (suc i) old) (set_again new i d lt) (went_on i old new (get_or new i d) d lt went (passed_above tells floor tables image (get_or new i d) above))
 
   pub went_map : {A : Type 0} (f : TableWalk → A) → ((w x : TableWalk) → Passed tells floor tables image w x → f x ≡ f w) → (i : ℕ) (old new : List TableWalk) → Gone i old new → map f new ≡ map f old
   went_map f keeps zero old new went = ap (map f) went

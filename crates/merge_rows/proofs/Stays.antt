@@ -24,7 +24,7 @@ stays_then tells tables image a b c one two = record {
 }
 
 -- as many walks
-lengths_are : (xs ys : List TableWalk) → numbers xs ≡ numbers ys → length xs ≡ length ys
+pub lengths_are : (xs ys : List TableWalk) → numbers xs ≡ numbers ys → length xs ≡ length ys
 lengths_are [] [] same = refl
 lengths_are [] (y ∷ ys) same = absurd cc
 lengths_are (x ∷ xs) [] same = absurd cc

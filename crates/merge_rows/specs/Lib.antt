@@ -14,6 +14,7 @@ pub mod Choosing
 pub mod SourcePlaces
 pub mod Steps
 pub mod Reads
+pub mod Filling
 pub mod RowLaws
 pub mod Laws
 pub mod Ends

@@ -7,6 +7,7 @@ use Rattle.entry_model.specs.Newest.{KeysRise}
 use Rattle.map_model.specs.SortedMap.{Bytes}
 use Rattle.merge_rows.specs.Choosing.{IsHeadFrom, IsLeastAt, IsNone}
 use Rattle.merge_rows.specs.Merges.{Merge, TableWalk, blocks_in, left_above, merged_left, numbered, rows_left, walk_left, with_hand}
+use Rattle.merge_rows.specs.Reads.{blocks_left, next_blocks, wanted_by}
 use Rattle.merge_rows.specs.Rows.{KeyFloor, clears}
 use Rattle.table_file.specs.Opened.{Opened}
 use Rattle.table_file.specs.Walks.{BeginsWell, CursorWalk, to_come}
@@ -110,3 +111,14 @@ pub record IsPaced (tables : List Opened) (image : Image) (old new : Merge) : Ty
   pub same : map (left_above old.floor tables image) new.walks ≡ map (left_above old.floor tables image) old.walks
   pub ready : AreCaughtUp old.floor tables image new.walks
   pub least : IfSome new.now (λ row. AllByRecursion (λ (w : TableWalk). IsHeadFrom row.key w.walk.now) new.walks)
+
+-- ---- walks that pass over what is in memory
+
+-- Above the floor the same is left of each walk, and no block was read.
+pub record IsPassed (tells : Bool) (floor : KeyFloor) (tables : List Opened) (image : Image) (old new : List TableWalk) : Type 0 where
+  pub numbers_are : numbers new ≡ numbers old
+  pub same : IsTrue tells → map (left_above floor tables image) new ≡ map (left_above floor tables image) old
+  pub sound : IsTrue tells → AreSoundWalks floor tables image old → AreSoundWalks floor tables image new
+  pub next : next_blocks new ≡ next_blocks old
+  pub left : blocks_left tables new ≡ blocks_left tables old
+  pub wanted : IsTrue tells → AreSoundWalks floor tables image old → wanted_by floor tables new ≡ wanted_by floor tables old

@@ -1,5 +1,5 @@
 //! Which source has the next row.
-ghost use Rattle.std.specs.Prelude.{◌≡◌, ◌<◌, length, map, Some, IfSome, MatchOption};
+ghost use Rattle.std.specs.Prelude.{◌≡◌, ◌<◌, length, map, Some, IfSome, MatchOption, if◌then◌else◌};
 ghost use Rattle.std.specs.List.{AllByRecursion};
 ghost use Rattle.std.specs.Option.{option_map};
 ghost use Rattle.entry_model.specs.Entries.{Entry, IsEntry, entry_of};
@@ -81,7 +81,14 @@ fn nearer(walks: &[TableSource], newer: usize, older: Option<usize>) -> Option<u
         return older;
     }
     match older {
-        Some(at) if walks[at].is_before(&walks[newer]) => older,
-        _ => Some(newer),
+        Some(at) => Some(one_of(walks[at].is_before(&walks[newer]), at, newer)),
+        None => Some(newer),
     }
+}
+
+// One of two places. Each is as likely as the other: who picks one without a jump guesses none.
+fn one_of(first: bool, one: usize, other: usize) -> usize
+    ensures { result ≡ (if first then one else other) }
+{
+    if first { one } else { other }
 }

@@ -1,11 +1,11 @@
 //! The keys that are still to come.
-ghost use Rattle.std.specs.Prelude.{◌≡◌, ◌≤◌, length, false, true, IfOk};
+ghost use Rattle.std.specs.Prelude.{◌≡◌, ◌≤◌, length, vec_capacity, false, true, IfOk};
 ghost use Rattle.byte_fields.specs.Spelling.{IsBytes};
 ghost use Rattle.key_base.specs.Limits.{max_key_bytes};
 ghost use Rattle.merge_rows.specs.Leads.{lead_of};
 ghost use Rattle.merge_rows.specs.Rows.{clears};
 
-use crate::leads::{compare_alike, lead_of};
+use crate::leads::{LEAD_BYTES, compare_alike, lead_of};
 use key_base::MAX_KEY_BYTES;
 use std::alloc::{AllocError, Global};
 use std::cmp::Ordering;
@@ -84,12 +84,28 @@ impl Floor {
         requires { length key.now ≤ max_key_bytes }
         ensures { self.new ≡ record { key = key.now; passed = true } }
     {
-        self.key.clear();
-        match self.key.extend_from_slice(key) {
-            Ok(()) => {}
-            Err(_) => unreachable!(),
-        }
+        copy_over(key, &mut self.key);
         self.passed = true;
         self.lead = lead_of(key);
+    }
+}
+
+// Copies a key over what is there, where there is room. Many keys are numbers of eight bytes: these are moved at once, with no
+// call.
+#[inline(always)]
+fn copy_over(key: &[u8], into: &mut Vec<u8>)
+    requires { length key.now ≤ vec_capacity into.old }
+    ensures items { into.new.items ≡ key.now }
+    ensures capacity { vec_capacity into.old ≤ vec_capacity into.new }
+{
+    into.clear();
+    let copied = if key.len() == LEAD_BYTES {
+        into.extend_from_slice(&key[..LEAD_BYTES])
+    } else {
+        into.extend_from_slice(key)
+    };
+    match copied {
+        Ok(()) => {}
+        Err(_) => unreachable!(),
     }
 }

@@ -7,8 +7,8 @@ use byteorder::{BigEndian, ByteOrder};
 use key_base::compare;
 use std::cmp::Ordering;
 
-// The bytes of a lead.
-const LEAD_BYTES: usize = 8;
+/// The bytes of a lead.
+pub(crate) const LEAD_BYTES: usize = 8;
 
 /// The first eight bytes of a key as one number, of which the first is the highest; zeros stand behind a shorter key. A key
 /// with a lesser lead is before the other one; where two leads are the same, the keys may differ.

@@ -18,6 +18,7 @@
 
 mod choosing;
 pub mod examples;
+mod filling;
 mod floor;
 mod laws;
 mod leads;

@@ -19,9 +19,10 @@ ghost use Rattle.table_file.specs.Search.{IsGetFault, page_at};
 ghost use Rattle.table_file.specs.Walks.{first_of};
 
 use crate::choosing::Source;
+use crate::filling::fill_behind;
 use crate::floor::Floor;
 use crate::memory_source::MemorySource;
-use crate::table_source::{TableSource, fill_first, has_number};
+use crate::table_source::{TableSource, has_number};
 use disk_trait::Disk;
 use filter_api::RangeFilter;
 use mem_table::MemTable;
@@ -165,6 +166,9 @@ impl<'m> MergeRows<'m> {
     /// at hand. No memory. Who counts blocks asks for it before [`advance`](MergeRows::advance).
     ///
     /// At `Err` no row is lost.
+    //
+    // It goes into its callers, which are steps of each merge, as `choose` does.
+    #[inline(always)]
     pub fn fill<F: RangeFilter, D: Disk>(
         &mut self,
         disk: &mut D,
@@ -186,8 +190,9 @@ impl<'m> MergeRows<'m> {
         ensures once { IsTrue D.tells → IsSoundMerge self.old tables.now.tables (D.world disk.old).seen.held
             → ReadMoves 1 (D.world disk.old) (D.world disk.new) × IsFewer result (wanted self.old tables.now.tables) (wanted self.new tables.now.tables) }
     {
+        let row = self.row;
         self.row = None;
-        fill_first(&mut self.walks, disk, tables, &self.floor)
+        fill_behind(row, &mut self.walks, disk, tables, &self.floor)
     }
 
     /// Goes on to the next row where it wants no block, as behind a [`fill`](MergeRows::fill) that did not read, and answers
@@ -304,6 +309,7 @@ impl<'m> MergeRows<'m> {
 
     // Takes the first of the entries at hand with the least key as the row at hand, passes its key, and answers whether there
     // is one.
+    #[inline(always)]
     fn choose(&mut self) -> bool
         ensures memory { self.new.memory ≡ self.old.memory }
         ensures walks { self.new.walks ≡ self.old.walks }

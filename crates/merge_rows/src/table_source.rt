@@ -1,16 +1,17 @@
 //! A walk over a table as a source.
-ghost use Rattle.std.specs.Prelude.{◌≡◌, ◌==◌, ◌<◌, ◌≤◌, ◌+◌, ◌-◌, ◌&&◌, ℕ, Bool, true, false, not, length, map, Option, Some, None, is_some, slice_get, IsTrue, IfSome, IfOk, IfErr, OnOk, OnErr};
+ghost use Rattle.std.specs.Prelude.{◌≡◌, ◌==◌, ◌<◌, ◌+◌, ◌-◌, ◌&&◌, true, false, not, length, Option, Some, None, is_some, IsTrue, IfSome, IfOk, IfErr, OnOk};
 ghost use Rattle.std.specs.List.{list_any};
 ghost use Rattle.std.specs.Option.{option_map};
 ghost use Rattle.block_model.specs.Places.{byte_of_page};
 ghost use Rattle.disk_trait.specs.World.{ReadMoves};
 ghost use Rattle.entry_model.specs.Entries.{IsEntry, entry_of};
 ghost use Rattle.key_base.specs.ByteOrder.{is_before};
-ghost use Rattle.merge_rows.specs.Leads.{key_at_hand};
+ghost use Rattle.merge_rows.specs.Filling.{FillsWalks};
+ghost use Rattle.merge_rows.specs.Leads.{key_at_hand, lead_of};
 ghost use Rattle.merge_rows.specs.Merges.{blocks_in, left_above, numbered, walk_at, walk_left, with_hand};
-ghost use Rattle.merge_rows.specs.Reads.{BlockOf, IsFewer, IsRead, SomeBlock, blocks_left, blocks_left_in, is_used_up, next_blocks, wanted_by, wanted_block_of};
+ghost use Rattle.merge_rows.specs.Reads.{BlockOf, IsFewer, IsRead, blocks_left_in, is_used_up, wanted_block_of};
 ghost use Rattle.merge_rows.specs.Rows.{above_floor};
-ghost use Rattle.merge_rows.specs.Steps.{AreCaughtUp, AreHeadsClear, AreNumbersIn, AreSoundWalks, IsCaughtUp, IsHeadClear, IsSoundWalk, numbers};
+ghost use Rattle.merge_rows.specs.Steps.{AreNumbersIn, IsCaughtUp, IsHeadClear, IsPassed, IsSoundWalk, numbers};
 ghost use Rattle.table_file.specs.Faults.{HasReadCause, IsNoWant};
 ghost use Rattle.table_file.specs.Search.{IsGetFault, page_at};
 ghost use Rattle.table_file.specs.Walks.{blocks_on, is_due, to_come};
@@ -86,6 +87,15 @@ impl TableSource {
         if self.lead != other.lead {
             return self.lead < other.lead;
         }
+        self.is_before_alike(other)
+    }
+
+    // So where both keys have the same lead. It stays out of its caller: most keys differ in their leads.
+    #[inline(never)]
+    fn is_before_alike(&self, other: &TableSource) -> bool
+        requires { lead_of (key_at_hand self.now.walk.now) ≡ lead_of (key_at_hand other.now.walk.now) }
+        ensures { result ≡ is_before (key_at_hand self.now.walk.now) (key_at_hand other.now.walk.now) }
+    {
         compare_alike(key_of(self.entry()), key_of(other.entry())).is_lt()
     }
 
@@ -122,6 +132,7 @@ impl TableSource {
     }
 
     // Passes over the entries in memory that are not above the floor, and answers whether a block is wanted then. No read.
+    #[inline(always)]
     fn pass_over<F: RangeFilter, D: Disk>(
         &mut self,
         disk: &mut D,
@@ -159,11 +170,30 @@ impl TableSource {
         false
     }
 
+    // Passes over the entries in memory that are not above the floor. No read and no memory.
+    fn pass<F: RangeFilter, D: Disk>(&mut self, disk: &mut D, tables: &Tables<F>, floor: &Floor)
+        requires { self.old.number < length tables.now.tables }
+        ensures number { self.new.number ≡ self.old.number }
+        ensures same { IsTrue D.tells → left_above floor.now tables.now.tables (D.world disk.old).seen.held self.new ≡ left_above floor.now tables.now.tables (D.world disk.old).seen.held self.old }
+        ensures sound { IsTrue D.tells → IsSoundWalk floor.now self.old.walk (blocks_in (numbered tables.now.tables self.old.number) (D.world disk.old).seen.held)
+            → IsSoundWalk floor.now self.new.walk (blocks_in (numbered tables.now.tables self.old.number) (D.world disk.old).seen.held) }
+        ensures block { self.new.walk.block ≡ self.old.walk.block }
+        ensures wanted { IsTrue D.tells → IsSoundWalk floor.now self.old.walk (blocks_in (numbered tables.now.tables self.old.number) (D.world disk.old).seen.held)
+            → wanted_block_of floor.now tables.now.tables self.new ≡ wanted_block_of floor.now tables.now.tables self.old }
+        ensures moves { ReadMoves 0 (D.world disk.old) (D.world disk.new) }
+    {
+        let table = table_of(self.number, tables);
+        self.pass_over(disk, table, floor);
+    }
+
     /// Passes over the entries in memory that are not above the floor, and reads a block where none is left then: the next one.
     /// Answers whether it read. If not, an entry above the floor is at hand, or none is left. No memory.
     ///
     /// Where blocks do not rise, which those of a sound table do, no entry above the floor may be at hand behind a read. At
     /// `Err` no entry above the floor is lost.
+    //
+    // Most walks lead and want none, which the caller asks first: the question goes into each step, the rest into none.
+    #[inline(never)]
     pub(crate) fn fill<F: RangeFilter, D: Disk>(
         &mut self,
         disk: &mut D,
@@ -187,9 +217,6 @@ impl TableSource {
         ensures once { IsTrue D.tells → IsSoundWalk floor.now self.old.walk (blocks_in (numbered tables.now.tables self.old.number) (D.world disk.old).seen.held)
             → ReadMoves 1 (D.world disk.old) (D.world disk.new) × IsFewer result (wanted_block_of floor.now tables.now.tables self.old) (wanted_block_of floor.now tables.now.tables self.new) }
     {
-        if self.leads(floor) {
-            return Ok(false);
-        }
         let table = table_of(self.number, tables);
         if !self.pass_over(disk, table, floor) {
             return Ok(false);
@@ -203,6 +230,23 @@ impl TableSource {
     }
 }
 
+/// One of the walks passes over the entries in memory that are not above the floor. No read and no memory: each of them wants a
+/// block then where it wanted one.
+pub(crate) fn pass_one<F: RangeFilter, D: Disk>(
+    walks: &mut [TableSource],
+    at: usize,
+    disk: &mut D,
+    tables: &Tables<F>,
+    floor: &Floor,
+)
+    requires known { AreNumbersIn tables.now.tables (numbers walks.old) }
+    requires there { at < length walks.old }
+    ensures passed { IsPassed D.tells floor.now tables.now.tables (D.world disk.old).seen.held walks.old walks.new }
+    ensures moves { ReadMoves 0 (D.world disk.old) (D.world disk.new) }
+{
+    walks[at].pass(disk, tables, floor);
+}
+
 /// Reads a block for the first of the walks that wants one, and answers whether it read. If not, each walk has an entry above
 /// the floor at hand, or none is left of it. No memory.
 ///
@@ -214,23 +258,13 @@ pub(crate) fn fill_first<F: RangeFilter, D: Disk>(
     floor: &Floor,
 ) -> Result<bool, TableFault>
     requires { AreNumbersIn tables.now.tables (numbers walks.old) }
-    ensures numbers { numbers walks.new ≡ numbers walks.old }
-    ensures same { IsTrue D.tells → map (left_above floor.now tables.now.tables (D.world disk.old).seen.held) walks.new ≡ map (left_above floor.now tables.now.tables (D.world disk.old).seen.held) walks.old }
-    ensures ready { IsTrue D.tells → IfOk result (λ read. read ≡ false → AreCaughtUp floor.now tables.now.tables (D.world disk.old).seen.held walks.new) }
-    ensures clear { IfOk result (λ read. read ≡ false → AreHeadsClear floor.now walks.new) }
-    ensures sound { IsTrue D.tells → AreSoundWalks floor.now tables.now.tables (D.world disk.old).seen.held walks.old → AreSoundWalks floor.now tables.now.tables (D.world disk.old).seen.held walks.new }
-    ensures met { OnErr result (1 ≤ length walks.old) }
-    ensures taken { IfErr result IsNoWant }
-    ensures cause { IfErr result (λ why. SomeBlock tables.now.tables (numbers walks.old) (λ t n. HasReadCause (byte_of_page (page_at t n)) (D.world disk.old) (D.world disk.new) why)) }
-    ensures fault { IsTrue D.tells → IfErr result (λ why. SomeBlock tables.now.tables (numbers walks.old) (λ t n. IsGetFault t n (D.world disk.old).seen.held why)) }
-    ensures moves { ReadMoves 2 (D.world disk.old) (D.world disk.new) }
-    ensures idle { IfOk result (λ read. read ≡ false → ReadMoves 0 (D.world disk.old) (D.world disk.new)) }
-    ensures counted { IsTrue D.tells → OnOk result ((D.world disk.new).seen.reads + next_blocks walks.old ≡ (D.world disk.old).seen.reads + next_blocks walks.new) }
-    ensures left { IsRead result (blocks_left tables.now.tables walks.old) (blocks_left tables.now.tables walks.new) }
-    ensures once { IsTrue D.tells → AreSoundWalks floor.now tables.now.tables (D.world disk.old).seen.held walks.old
-        → ReadMoves 1 (D.world disk.old) (D.world disk.new) × IsFewer result (wanted_by floor.now tables.now.tables walks.old) (wanted_by floor.now tables.now.tables walks.new) }
+    ensures { FillsWalks D.tells floor.now tables.now.tables walks.old walks.new result (D.world disk.old) (D.world disk.new) }
 {
     for i in 0..walks.len() {
+        // most walks stand above the floor already, and want none
+        if walks[i].leads(floor) {
+            continue;
+        }
         match walks[i].fill(disk, tables, floor) {
             Ok(false) => {}
             Ok(true) => return Ok(true),

@@ -67,6 +67,9 @@ impl TableCursor {
     ///
     /// Reads exactly where a block is [`due`](TableCursor::due), and then one; where the first block has no entry from the
     /// bound on, which no sound table has, the one after it too. At `Err` it stands where it stood, and none is at hand.
+    //
+    // It goes into its callers: where one has asked whether a block is due, it is not asked again.
+    #[inline(always)]
     pub fn advance<F: RangeFilter, D: Disk>(
         &mut self,
         disk: &mut D,
@@ -135,6 +138,9 @@ impl TableCursor {
     }
 
     // Reads the next block where one is due. The entries to come are the same.
+    //
+    // Few steps find one due: the question goes into each step, the reading into none.
+    #[inline(always)]
     fn fill<F: RangeFilter, D: Disk>(
         &mut self,
         disk: &mut D,
@@ -165,6 +171,7 @@ impl TableCursor {
     }
 
     // Reads the next block. At `Err` the walk stands where it stood.
+    #[inline(never)]
     fn load<F: RangeFilter, D: Disk>(
         &mut self,
         disk: &mut D,

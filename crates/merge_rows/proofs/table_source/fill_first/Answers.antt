@@ -1,5 +1,6 @@
 use Rattle.std.proofs.Common.{◌≡◌, ◌∙◌, ◌+◌, ◌<◌, ℕ, suc, Bool, true, false, length, get_or, slice_set, sym, ap, subst, arith}
 use Rattle.std.specs.Prelude.{Contains, IsTrue, List, Ok}
+use Rattle.std.proofs.lemmas.Bool.{false≢true}
 use Rattle.disk_trait.specs.Image.{Image}
 use Rattle.disk_trait.specs.World.{ReadMoves}
 use Rattle.disk_trait.proofs.Calls.{reads_more, reads_then}
@@ -9,7 +10,7 @@ use Rattle.merge_rows.specs.Reads.{IsFewer, blocks_left_in, next_block_of, wante
 use Rattle.merge_rows.specs.Steps.{AreNumbersIn, IsCaughtUp, IsSoundWalk, number_of_walk, numbers}
 use Rattle.table_file.specs.Search.{IsGetFault, page_at}
 use Rattle.merge_rows.proofs.Fills.{cause_since}
-use Rattle.merge_rows.proofs.FirstFills.{IsSoundHere, Went, all_clear, all_ready, fewer_err, fewer_none, fewer_one, none_wanted, number_among, number_here, read_none, read_one, set_left, set_next, set_numbers, set_same, set_sound, set_wanted, sound_here, wanted_here, went_map, went_on, went_sound, went_sum, went_wanted}
+use Rattle.merge_rows.proofs.FirstFills.{IsSoundHere, Went, all_clear, all_ready, fewer_err, fewer_none, fewer_one, none_wanted, number_among, number_here, read_none, read_one, set_left, set_next, set_numbers, set_same, set_sound, set_wanted, sound_here, wanted_here, went_by, went_length, went_map, went_on, went_sound, went_sum, went_wanted}
 use Rattle.merge_rows.proofs.table_source.fill_first.Goals as goal
 
 pub fill-requires : goal.fill-requires
@@ -19,7 +20,23 @@ fill-requires g c =
     let tables = c.args.tables.now.tables in
     let lt : i < length now = omega (arith, c.loop-i-test.true, c.loop-i.auto.walks) in
     let same : numbers now ≡ numbers c.args.walks.now = went_map (IsTrue g.D.Disk.tells) c.args.floor.now tables (g.D.Disk.world c.args.disk.now).seen.held number_of_walk (λ w y p. p.number) i c.args.walks.now now c.loop-i.invariant.went in
-    number_here tables now i c.index-walks-i.result lt (subst (AreNumbersIn tables) (sym same) c.requires)
+    number_here tables now i c.index-walks-i-in-loop-i.result lt (subst (AreNumbersIn tables) (sym same) c.requires)
+
+pub loop-i-preserved-then-leads : goal.loop-i-preserved-then-leads
+loop-i-preserved-then-leads g c =
+    let tells = IsTrue g.D.Disk.tells in
+    let floor = c.args.floor.now in
+    let tables = c.args.tables.now.tables in
+    let image = (g.D.Disk.world c.args.disk.now).seen.held in
+    let i = c.loop-i.i in
+    let old = c.args.walks.now in
+    let now = c.loop-i.walks in
+    let lt : i < length now = omega (arith, c.loop-i-test.true, c.loop-i.auto.walks) in
+    let one : suc i ≡ i + 1 = omega arith in
+    record {
+      went = subst (λ (n : ℕ). Went tells floor tables image n old now) one (went_by tells floor tables image i old now c.index-walks-i.result lt c.loop-i.invariant.went (c.leads.ensures c.if-leads.true));
+      moves = c.loop-i.invariant.moves;
+    }
 
 pub loop-i-preserved : goal.loop-i-preserved
 loop-i-preserved g c =
@@ -30,7 +47,7 @@ loop-i-preserved g c =
     let i = c.loop-i.i in
     let old = c.args.walks.now in
     let now = c.loop-i.walks in
-    let d = c.index-walks-i.result in
+    let d = c.index-walks-i-in-loop-i.result in
     let x = c.fill.new.self in
     let went = c.loop-i.invariant.went in
     let held = c.loop-i.invariant.moves.held in
@@ -54,328 +71,137 @@ loop-i-preserved g c =
       moves = reads_then 0 0 (g.D.Disk.world c.args.disk.now) (g.D.Disk.world c.loop-i.disk) (g.D.Disk.world c.fill.new.disk) c.loop-i.invariant.moves idle;
     }
 
-pub returns-in-Ok-true-clause-numbers : goal.returns-in-Ok-true-clause-numbers
-returns-in-Ok-true-clause-numbers g c =
+pub returns-in-Ok-true : goal.returns-in-Ok-true
+returns-in-Ok-true g c =
     let tells = IsTrue g.D.Disk.tells in
     let floor = c.args.floor.now in
     let tables = c.args.tables.now.tables in
-    let image = (g.D.Disk.world c.args.disk.now).seen.held in
+    let before = g.D.Disk.world c.args.disk.now in
+    let mid = g.D.Disk.world c.loop-i.disk in
+    let after = g.D.Disk.world c.fill.new.disk in
+    let image = before.seen.held in
     let i = c.loop-i.i in
     let old = c.args.walks.now in
     let now = c.loop-i.walks in
-    let d = c.index-walks-i.result in
-    let x = c.fill.new.self in
-    let went = c.loop-i.invariant.went in
-    let held = c.loop-i.invariant.moves.held in
-    let lt : i < length now = omega (arith, c.loop-i-test.true, c.loop-i.auto.walks) in
-    set_numbers tells floor tables image i old now d x went lt c.fill.ensures.number
-
-pub returns-in-Ok-true-clause-same : goal.returns-in-Ok-true-clause-same
-returns-in-Ok-true-clause-same g c t =
-    let tells = IsTrue g.D.Disk.tells in
-    let floor = c.args.floor.now in
-    let tables = c.args.tables.now.tables in
-    let image = (g.D.Disk.world c.args.disk.now).seen.held in
-    let i = c.loop-i.i in
-    let old = c.args.walks.now in
-    let now = c.loop-i.walks in
-    let d = c.index-walks-i.result in
-    let x = c.fill.new.self in
-    let went = c.loop-i.invariant.went in
-    let held = c.loop-i.invariant.moves.held in
-    let lt : i < length now = omega (arith, c.loop-i-test.true, c.loop-i.auto.walks) in
-    let same : left_above floor tables image x ≡ left_above floor tables image (get_or now i d) =
-    subst (λ (h : Image). left_above floor tables h x ≡ left_above floor tables h (get_or now i d)) held (c.fill.ensures.same t) in
-    set_same tells floor tables image i old now d x went lt t same
-
-pub returns-in-Ok-true-clause-sound : goal.returns-in-Ok-true-clause-sound
-returns-in-Ok-true-clause-sound g c t sound =
-    let tells = IsTrue g.D.Disk.tells in
-    let floor = c.args.floor.now in
-    let tables = c.args.tables.now.tables in
-    let image = (g.D.Disk.world c.args.disk.now).seen.held in
-    let i = c.loop-i.i in
-    let old = c.args.walks.now in
-    let now = c.loop-i.walks in
-    let d = c.index-walks-i.result in
-    let x = c.fill.new.self in
-    let went = c.loop-i.invariant.went in
-    let held = c.loop-i.invariant.moves.held in
-    let lt : i < length now = omega (arith, c.loop-i-test.true, c.loop-i.auto.walks) in
-    let sounds : IsSoundHere floor tables image (get_or now i d) → IsSoundHere floor tables image x =
-    λ s. subst (λ (n : ℕ). IsSoundWalk floor x.walk (blocks_in (numbered tables n) image)) (sym c.fill.ensures.number)
-    (subst (λ (h : Image). IsSoundWalk floor (get_or now i d).walk (blocks_in (numbered tables (get_or now i d).number) h) → IsSoundWalk floor x.walk (blocks_in (numbered tables (get_or now i d).number) h)) held (c.fill.ensures.sound t) s) in
-    set_sound tells floor tables image i old now d x went lt t sounds sound
-
-pub returns-in-Ok-true-clause-counted : goal.returns-in-Ok-true-clause-counted
-returns-in-Ok-true-clause-counted g c t =
-    let tells = IsTrue g.D.Disk.tells in
-    let floor = c.args.floor.now in
-    let tables = c.args.tables.now.tables in
-    let image = (g.D.Disk.world c.args.disk.now).seen.held in
-    let i = c.loop-i.i in
-    let old = c.args.walks.now in
-    let now = c.loop-i.walks in
-    let d = c.index-walks-i.result in
-    let x = c.fill.new.self in
-    let went = c.loop-i.invariant.went in
-    let held = c.loop-i.invariant.moves.held in
-    let lt : i < length now = omega (arith, c.loop-i-test.true, c.loop-i.auto.walks) in
-    let sum = set_next tells floor tables image i old now d x went lt t in
-    let counted = c.in-Ok-true.ensures.counted t in
-    omega (arith, sum, counted, c.loop-i.invariant.moves.reads, c.loop-i.invariant.moves.reads_later)
-
-pub returns-in-Ok-true-clause-left : goal.returns-in-Ok-true-clause-left
-returns-in-Ok-true-clause-left g c =
-    let tells = IsTrue g.D.Disk.tells in
-    let floor = c.args.floor.now in
-    let tables = c.args.tables.now.tables in
-    let image = (g.D.Disk.world c.args.disk.now).seen.held in
-    let i = c.loop-i.i in
-    let old = c.args.walks.now in
-    let now = c.loop-i.walks in
-    let d = c.index-walks-i.result in
+    let d = c.index-walks-i-in-loop-i.result in
     let x = c.fill.new.self in
     let went = c.loop-i.invariant.went in
     let held = c.loop-i.invariant.moves.held in
     let lt : i < length now = omega (arith, c.loop-i-test.true, c.loop-i.auto.walks) in
     let is : c.fill.result ≡ Ok true = c.in-Ok-true.is ∙ ap (λ (b : Bool). Ok b) c.in-Ok-true.field-0-test in
-    let sum = set_left tells floor tables image i old now d x went lt in
-    let one = read_one c.fill.result (blocks_left_in tables (get_or now i d)) (blocks_left_in tables x) is c.fill.ensures.left in
-    omega (arith, sum, one)
-
-pub returns-in-Ok-true-clause-once : goal.returns-in-Ok-true-clause-once
-returns-in-Ok-true-clause-once g c t sound =
-    let tells = IsTrue g.D.Disk.tells in
-    let floor = c.args.floor.now in
-    let tables = c.args.tables.now.tables in
-    let image = (g.D.Disk.world c.args.disk.now).seen.held in
-    let i = c.loop-i.i in
-    let old = c.args.walks.now in
-    let now = c.loop-i.walks in
-    let d = c.index-walks-i.result in
-    let x = c.fill.new.self in
-    let went = c.loop-i.invariant.went in
-    let held = c.loop-i.invariant.moves.held in
-    let lt : i < length now = omega (arith, c.loop-i-test.true, c.loop-i.auto.walks) in
-    let once = subst (λ (h : Image). IsSoundWalk floor (get_or now i d).walk (blocks_in (numbered tables (get_or now i d).number) h) → ReadMoves 1 (g.D.Disk.world c.loop-i.disk) (g.D.Disk.world c.fill.new.disk)
-    × IsFewer c.fill.result (wanted_block_of floor tables (get_or now i d)) (wanted_block_of floor tables x)) held (c.fill.ensures.once t) (sound_here tells floor tables image i old now d x went lt t sound) in
-    let is : c.fill.result ≡ Ok true = c.in-Ok-true.is ∙ ap (λ (b : Bool). Ok b) c.in-Ok-true.field-0-test in
-    let one = fewer_one c.fill.result (wanted_block_of floor tables (get_or now i d)) (wanted_block_of floor tables x) is once.1 in
-    let sum = set_wanted tells floor tables image i old now d x went lt t sound in
-    (reads_then 0 1 (g.D.Disk.world c.args.disk.now) (g.D.Disk.world c.loop-i.disk) (g.D.Disk.world c.fill.new.disk) c.loop-i.invariant.moves once.0, omega (arith, one, sum))
-
-pub returns-in-Err-clause-numbers : goal.returns-in-Err-clause-numbers
-returns-in-Err-clause-numbers g c =
-    let tells = IsTrue g.D.Disk.tells in
-    let floor = c.args.floor.now in
-    let tables = c.args.tables.now.tables in
-    let image = (g.D.Disk.world c.args.disk.now).seen.held in
-    let i = c.loop-i.i in
-    let old = c.args.walks.now in
-    let now = c.loop-i.walks in
-    let d = c.index-walks-i.result in
-    let x = c.fill.new.self in
-    let went = c.loop-i.invariant.went in
-    let held = c.loop-i.invariant.moves.held in
-    let lt : i < length now = omega (arith, c.loop-i-test.true, c.loop-i.auto.walks) in
-    set_numbers tells floor tables image i old now d x went lt c.fill.ensures.number
-
-pub returns-in-Err-clause-same : goal.returns-in-Err-clause-same
-returns-in-Err-clause-same g c t =
-    let tells = IsTrue g.D.Disk.tells in
-    let floor = c.args.floor.now in
-    let tables = c.args.tables.now.tables in
-    let image = (g.D.Disk.world c.args.disk.now).seen.held in
-    let i = c.loop-i.i in
-    let old = c.args.walks.now in
-    let now = c.loop-i.walks in
-    let d = c.index-walks-i.result in
-    let x = c.fill.new.self in
-    let went = c.loop-i.invariant.went in
-    let held = c.loop-i.invariant.moves.held in
-    let lt : i < length now = omega (arith, c.loop-i-test.true, c.loop-i.auto.walks) in
-    let same : left_above floor tables image x ≡ left_above floor tables image (get_or now i d) =
-    subst (λ (h : Image). left_above floor tables h x ≡ left_above floor tables h (get_or now i d)) held (c.fill.ensures.same t) in
-    set_same tells floor tables image i old now d x went lt t same
-
-pub returns-in-Err-clause-sound : goal.returns-in-Err-clause-sound
-returns-in-Err-clause-sound g c t sound =
-    let tells = IsTrue g.D.Disk.tells in
-    let floor = c.args.floor.now in
-    let tables = c.args.tables.now.tables in
-    let image = (g.D.Disk.world c.args.disk.now).seen.held in
-    let i = c.loop-i.i in
-    let old = c.args.walks.now in
-    let now = c.loop-i.walks in
-    let d = c.index-walks-i.result in
-    let x = c.fill.new.self in
-    let went = c.loop-i.invariant.went in
-    let held = c.loop-i.invariant.moves.held in
-    let lt : i < length now = omega (arith, c.loop-i-test.true, c.loop-i.auto.walks) in
-    let sounds : IsSoundHere floor tables image (get_or now i d) → IsSoundHere floor tables image x =
-    λ s. subst (λ (n : ℕ). IsSoundWalk floor x.walk (blocks_in (numbered tables n) image)) (sym c.fill.ensures.number)
+    let same : tells → left_above floor tables image x ≡ left_above floor tables image (get_or now i d) =
+    λ t. subst (λ (h : Image). left_above floor tables h x ≡ left_above floor tables h (get_or now i d)) held (c.fill.ensures.same t) in
+    let sounds : tells → IsSoundHere floor tables image (get_or now i d) → IsSoundHere floor tables image x =
+    λ t s. subst (λ (n : ℕ). IsSoundWalk floor x.walk (blocks_in (numbered tables n) image)) (sym c.fill.ensures.number)
     (subst (λ (h : Image). IsSoundWalk floor (get_or now i d).walk (blocks_in (numbered tables (get_or now i d).number) h) → IsSoundWalk floor x.walk (blocks_in (numbered tables (get_or now i d).number) h)) held (c.fill.ensures.sound t) s) in
-    set_sound tells floor tables image i old now d x went lt t sounds sound
+    record {
+      numbers_are = set_numbers tells floor tables image i old now d x went lt c.fill.ensures.number;
+      same = λ t. set_same tells floor tables image i old now d x went lt t (same t);
+      ready = λ t none. absurd (false≢true (sym none));
+      clear = λ none. absurd (false≢true (sym none));
+      sound = λ t s. set_sound tells floor tables image i old now d x went lt t (sounds t) s;
+      met = tt;
+      taken = tt;
+      cause = tt;
+      fault = λ t. tt;
+      moves = reads_then 0 2 before mid after c.loop-i.invariant.moves c.fill.ensures.moves;
+      idle = λ none. absurd (false≢true (sym none));
+      counted = λ t.
+          let sum = set_next tells floor tables image i old now d x went lt t in
+          let counted = c.in-Ok-true.ensures.counted t in
+          omega (arith, sum, counted, c.loop-i.invariant.moves.reads, c.loop-i.invariant.moves.reads_later);
+      left =
+          let sum = set_left tells floor tables image i old now d x went lt in
+          let one = read_one c.fill.result (blocks_left_in tables (get_or now i d)) (blocks_left_in tables x) is c.fill.ensures.left in
+          omega (arith, sum, one);
+      once = λ t sound.
+          let once = subst (λ (h : Image). IsSoundWalk floor (get_or now i d).walk (blocks_in (numbered tables (get_or now i d).number) h) → ReadMoves 1 mid after × IsFewer c.fill.result (wanted_block_of floor tables (get_or now i d)) (wanted_block_of floor tables x))
+          held (c.fill.ensures.once t) (sound_here tells floor tables image i old now d x went lt t sound) in
+          let one = fewer_one c.fill.result (wanted_block_of floor tables (get_or now i d)) (wanted_block_of floor tables x) is once.1 in
+          let sum = set_wanted tells floor tables image i old now d x went lt t sound in
+          (reads_then 0 1 before mid after c.loop-i.invariant.moves once.0, omega (arith, one, sum));
+    }
 
-pub returns-in-Err-clause-cause : goal.returns-in-Err-clause-cause
-returns-in-Err-clause-cause g c =
+pub returns-in-Err : goal.returns-in-Err
+returns-in-Err g c =
     let tells = IsTrue g.D.Disk.tells in
     let floor = c.args.floor.now in
     let tables = c.args.tables.now.tables in
-    let image = (g.D.Disk.world c.args.disk.now).seen.held in
+    let before = g.D.Disk.world c.args.disk.now in
+    let mid = g.D.Disk.world c.loop-i.disk in
+    let after = g.D.Disk.world c.fill.new.disk in
+    let image = before.seen.held in
     let i = c.loop-i.i in
     let old = c.args.walks.now in
     let now = c.loop-i.walks in
-    let d = c.index-walks-i.result in
-    let went = c.loop-i.invariant.went in
-    let lt : i < length now = omega (arith, c.loop-i-test.true, c.loop-i.auto.walks) in
-    let among : Contains (numbers old) (get_or now i d).number =
-    subst (λ (which : List ℕ). Contains which (get_or now i d).number) (went_map tells floor tables image number_of_walk (λ w y p. p.number) i old now went) (number_among now i d lt) in
-    let is = c.in-Err.ensures.cause in (
-      (get_or now i d).number,
-      among,
-      (
-        is.0,
-        is.1,
-        is.2,
-        is.3,
-        cause_since (byte_of_page (page_at is.0 is.1)) (g.D.Disk.world c.args.disk.now) (g.D.Disk.world c.loop-i.disk) (g.D.Disk.world c.fill.new.disk) c.in-Err.why c.loop-i.invariant.moves.read_faults is.4,
-      ),
-    )
-
-pub returns-in-Err-clause-fault : goal.returns-in-Err-clause-fault
-returns-in-Err-clause-fault g c t =
-    let tells = IsTrue g.D.Disk.tells in
-    let floor = c.args.floor.now in
-    let tables = c.args.tables.now.tables in
-    let image = (g.D.Disk.world c.args.disk.now).seen.held in
-    let i = c.loop-i.i in
-    let old = c.args.walks.now in
-    let now = c.loop-i.walks in
-    let d = c.index-walks-i.result in
-    let went = c.loop-i.invariant.went in
-    let lt : i < length now = omega (arith, c.loop-i-test.true, c.loop-i.auto.walks) in
-    let among : Contains (numbers old) (get_or now i d).number =
-    subst (λ (which : List ℕ). Contains which (get_or now i d).number) (went_map tells floor tables image number_of_walk (λ w y p. p.number) i old now went) (number_among now i d lt) in
-    let is = c.in-Err.ensures.fault t in
-    ((get_or now i d).number, among, (is.0, is.1, is.2, is.3, subst (λ (h : Image). IsGetFault is.0 is.1 h c.in-Err.why) c.loop-i.invariant.moves.held is.4))
-
-pub returns-in-Err-clause-once : goal.returns-in-Err-clause-once
-returns-in-Err-clause-once g c t sound =
-    let tells = IsTrue g.D.Disk.tells in
-    let floor = c.args.floor.now in
-    let tables = c.args.tables.now.tables in
-    let image = (g.D.Disk.world c.args.disk.now).seen.held in
-    let i = c.loop-i.i in
-    let old = c.args.walks.now in
-    let now = c.loop-i.walks in
-    let d = c.index-walks-i.result in
+    let d = c.index-walks-i-in-loop-i.result in
     let x = c.fill.new.self in
     let went = c.loop-i.invariant.went in
     let held = c.loop-i.invariant.moves.held in
     let lt : i < length now = omega (arith, c.loop-i-test.true, c.loop-i.auto.walks) in
-    let once = subst (λ (h : Image). IsSoundWalk floor (get_or now i d).walk (blocks_in (numbered tables (get_or now i d).number) h) → ReadMoves 1 (g.D.Disk.world c.loop-i.disk) (g.D.Disk.world c.fill.new.disk)
-    × IsFewer c.fill.result (wanted_block_of floor tables (get_or now i d)) (wanted_block_of floor tables x)) held (c.fill.ensures.once t) (sound_here tells floor tables image i old now d x went lt t sound) in
-    let one = fewer_err c.fill.result c.in-Err.why (wanted_block_of floor tables (get_or now i d)) (wanted_block_of floor tables x) c.in-Err.is once.1 in
-    let most = wanted_here tells floor tables image i old now d x went lt t sound in
-    (reads_then 0 1 (g.D.Disk.world c.args.disk.now) (g.D.Disk.world c.loop-i.disk) (g.D.Disk.world c.fill.new.disk) c.loop-i.invariant.moves once.0, omega (arith, one, most))
+    let same : tells → left_above floor tables image x ≡ left_above floor tables image (get_or now i d) =
+    λ t. subst (λ (h : Image). left_above floor tables h x ≡ left_above floor tables h (get_or now i d)) held (c.fill.ensures.same t) in
+    let sounds : tells → IsSoundHere floor tables image (get_or now i d) → IsSoundHere floor tables image x =
+    λ t s. subst (λ (n : ℕ). IsSoundWalk floor x.walk (blocks_in (numbered tables n) image)) (sym c.fill.ensures.number)
+    (subst (λ (h : Image). IsSoundWalk floor (get_or now i d).walk (blocks_in (numbered tables (get_or now i d).number) h) → IsSoundWalk floor x.walk (blocks_in (numbered tables (get_or now i d).number) h)) held (c.fill.ensures.sound t) s) in
+    let among : Contains (numbers old) (get_or now i d).number =
+    subst (λ (which : List ℕ). Contains which (get_or now i d).number) (went_map tells floor tables image number_of_walk (λ w y p. p.number) i old now went) (number_among now i d lt) in
+    record {
+      numbers_are = set_numbers tells floor tables image i old now d x went lt c.fill.ensures.number;
+      same = λ t. set_same tells floor tables image i old now d x went lt t (same t);
+      ready = λ t. tt;
+      clear = tt;
+      sound = λ t s. set_sound tells floor tables image i old now d x went lt t (sounds t) s;
+      met = let as_long = went_length tells floor tables image i old now went in omega (arith, lt, as_long);
+      taken = c.in-Err.ensures.taken;
+      cause =
+          let is = c.in-Err.ensures.cause in
+          ((get_or now i d).number, among, (is.0, is.1, is.2, is.3, cause_since (byte_of_page (page_at is.0 is.1)) before mid after c.in-Err.why c.loop-i.invariant.moves.read_faults is.4));
+      fault = λ t.
+          let is = c.in-Err.ensures.fault t in
+          ((get_or now i d).number, among, (is.0, is.1, is.2, is.3, subst (λ (h : Image). IsGetFault is.0 is.1 h c.in-Err.why) held is.4));
+      moves = reads_then 0 2 before mid after c.loop-i.invariant.moves c.fill.ensures.moves;
+      idle = tt;
+      counted = λ t. tt;
+      left = tt;
+      once = λ t sound.
+          let once = subst (λ (h : Image). IsSoundWalk floor (get_or now i d).walk (blocks_in (numbered tables (get_or now i d).number) h) → ReadMoves 1 mid after × IsFewer c.fill.result (wanted_block_of floor tables (get_or now i d)) (wanted_block_of floor tables x))
+          held (c.fill.ensures.once t) (sound_here tells floor tables image i old now d x went lt t sound) in
+          let one = fewer_err c.fill.result c.in-Err.why (wanted_block_of floor tables (get_or now i d)) (wanted_block_of floor tables x) c.in-Err.is once.1 in
+          let most = wanted_here tells floor tables image i old now d x went lt t sound in
+          (reads_then 0 1 before mid after c.loop-i.invariant.moves once.0, omega (arith, one, most));
+    }
 
-pub returns-clause-numbers : goal.returns-clause-numbers
-returns-clause-numbers g c =
+pub returns : goal.returns
+returns g c =
     let tells = IsTrue g.D.Disk.tells in
     let floor = c.args.floor.now in
     let tables = c.args.tables.now.tables in
-    let image = (g.D.Disk.world c.args.disk.now).seen.held in
+    let before = g.D.Disk.world c.args.disk.now in
+    let after = g.D.Disk.world c.loop-i.disk in
+    let image = before.seen.held in
     let i = c.loop-i.i in
     let old = c.args.walks.now in
     let now = c.loop-i.walks in
     let went = c.loop-i.invariant.went in
-    went_map tells floor tables image number_of_walk (λ w y p. p.number) i old now went
-
-pub returns-clause-same : goal.returns-clause-same
-returns-clause-same g c t =
-    let tells = IsTrue g.D.Disk.tells in
-    let floor = c.args.floor.now in
-    let tables = c.args.tables.now.tables in
-    let image = (g.D.Disk.world c.args.disk.now).seen.held in
-    let i = c.loop-i.i in
-    let old = c.args.walks.now in
-    let now = c.loop-i.walks in
-    let went = c.loop-i.invariant.went in
-    went_map tells floor tables image (left_above floor tables image) (λ w y p. p.same t) i old now went
-
-pub returns-clause-ready : goal.returns-clause-ready
-returns-clause-ready g c t none =
-    let tells = IsTrue g.D.Disk.tells in
-    let floor = c.args.floor.now in
-    let tables = c.args.tables.now.tables in
-    let image = (g.D.Disk.world c.args.disk.now).seen.held in
-    let i = c.loop-i.i in
-    let old = c.args.walks.now in
-    let now = c.loop-i.walks in
-    let went = c.loop-i.invariant.went in
-    all_ready tells floor tables image i old now c.loop-i-test.false t went
-
-pub returns-clause-clear : goal.returns-clause-clear
-returns-clause-clear g c none =
-    let tells = IsTrue g.D.Disk.tells in
-    let floor = c.args.floor.now in
-    let tables = c.args.tables.now.tables in
-    let image = (g.D.Disk.world c.args.disk.now).seen.held in
-    let i = c.loop-i.i in
-    let old = c.args.walks.now in
-    let now = c.loop-i.walks in
-    let went = c.loop-i.invariant.went in
-    all_clear tells floor tables image i old now c.loop-i-test.false went
-
-pub returns-clause-sound : goal.returns-clause-sound
-returns-clause-sound g c t sound =
-    let tells = IsTrue g.D.Disk.tells in
-    let floor = c.args.floor.now in
-    let tables = c.args.tables.now.tables in
-    let image = (g.D.Disk.world c.args.disk.now).seen.held in
-    let i = c.loop-i.i in
-    let old = c.args.walks.now in
-    let now = c.loop-i.walks in
-    let went = c.loop-i.invariant.went in
-    went_sound tells floor tables image i old now t went sound
-
-pub returns-clause-counted : goal.returns-clause-counted
-returns-clause-counted g c t =
-    let tells = IsTrue g.D.Disk.tells in
-    let floor = c.args.floor.now in
-    let tables = c.args.tables.now.tables in
-    let image = (g.D.Disk.world c.args.disk.now).seen.held in
-    let i = c.loop-i.i in
-    let old = c.args.walks.now in
-    let now = c.loop-i.walks in
-    let went = c.loop-i.invariant.went in
-    let sum = went_sum tells floor tables image next_block_of i old now went (went_map tells floor tables image next_block_of (λ w y p. p.block t) i old now went) in
-    omega (arith, sum, c.loop-i.invariant.moves.reads, c.loop-i.invariant.moves.reads_later)
-
-pub returns-clause-left : goal.returns-clause-left
-returns-clause-left g c =
-    let tells = IsTrue g.D.Disk.tells in
-    let floor = c.args.floor.now in
-    let tables = c.args.tables.now.tables in
-    let image = (g.D.Disk.world c.args.disk.now).seen.held in
-    let i = c.loop-i.i in
-    let old = c.args.walks.now in
-    let now = c.loop-i.walks in
-    let went = c.loop-i.invariant.went in
-    went_sum tells floor tables image (blocks_left_in tables) i old now went (went_map tells floor tables image (blocks_left_in tables) (λ w y p. p.left) i old now went)
-
-pub returns-clause-once : goal.returns-clause-once
-returns-clause-once g c t sound =
-    let tells = IsTrue g.D.Disk.tells in
-    let floor = c.args.floor.now in
-    let tables = c.args.tables.now.tables in
-    let image = (g.D.Disk.world c.args.disk.now).seen.held in
-    let i = c.loop-i.i in
-    let old = c.args.walks.now in
-    let now = c.loop-i.walks in
-    let went = c.loop-i.invariant.went in
-    let none = none_wanted tells floor tables image i old now c.loop-i-test.false t went sound in
-    let same = went_sum tells floor tables image (wanted_block_of floor tables) i old now went (went_wanted tells floor tables image i old now t went sound) in
-    (reads_more 0 1 (g.D.Disk.world c.args.disk.now) (g.D.Disk.world c.loop-i.disk) (omega arith) c.loop-i.invariant.moves, (same ∙ none, none))
+    record {
+      numbers_are = went_map tells floor tables image number_of_walk (λ w y p. p.number) i old now went;
+      same = λ t. went_map tells floor tables image (left_above floor tables image) (λ w y p. p.same t) i old now went;
+      ready = λ t none. all_ready tells floor tables image i old now c.loop-i-test.false t went;
+      clear = λ none. all_clear tells floor tables image i old now c.loop-i-test.false went;
+      sound = λ t s. went_sound tells floor tables image i old now t went s;
+      met = tt;
+      taken = tt;
+      cause = tt;
+      fault = λ t. tt;
+      moves = reads_more 0 2 before after (omega arith) c.loop-i.invariant.moves;
+      idle = λ none. c.loop-i.invariant.moves;
+      counted = λ t.
+          let sum = went_sum tells floor tables image next_block_of i old now went (went_map tells floor tables image next_block_of (λ w y p. p.block t) i old now went) in
+          omega (arith, sum, c.loop-i.invariant.moves.reads, c.loop-i.invariant.moves.reads_later);
+      left = went_sum tells floor tables image (blocks_left_in tables) i old now went (went_map tells floor tables image (blocks_left_in tables) (λ w y p. p.left) i old now went);
+      once = λ t sound.
+          let none = none_wanted tells floor tables image i old now c.loop-i-test.false t went sound in
+          let same = went_sum tells floor tables image (wanted_block_of floor tables) i old now went (went_wanted tells floor tables image i old now t went sound) in
+          (reads_more 0 1 before after (omega arith) c.loop-i.invariant.moves, (same ∙ none, none));
+    }

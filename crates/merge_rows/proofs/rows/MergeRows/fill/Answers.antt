@@ -11,6 +11,6 @@ returns-clause-fault g c t =
     let tables = c.args.tables.now.tables in
     let held = (g.D.Disk.world c.args.disk.now).seen.held in
     let here =
-    subst (λ (walks : List TableWalk). IfErr c.fill_first.result (λ why. SomeBlock tables (numbers walks) (λ t n. IsGetFault t n held why))) c.deref_mut.ensures.value
-    (c.fill_first.ensures.fault t) in
-    subst (λ (m : Merge). IfErr c.fill_first.result (λ why. SomeBlock tables (numbers m.walks) (λ t n. IsGetFault t n held why))) c.self.view_is here
+    subst (λ (walks : List TableWalk). IfErr c.fill_behind.result (λ why. SomeBlock tables (numbers walks) (λ t n. IsGetFault t n held why))) c.deref_mut.ensures.value
+    (c.fill_behind.ensures.fault t) in
+    subst (λ (m : Merge). IfErr c.fill_behind.result (λ why. SomeBlock tables (numbers m.walks) (λ t n. IsGetFault t n held why))) c.self.view_is here

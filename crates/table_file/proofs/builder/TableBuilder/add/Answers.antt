@@ -16,7 +16,7 @@ use Rattle.table_file.proofs.builder.TableBuilder.add.Goals as goal
 
 pub get-last-requires : goal.get-last-requires
 get-last-requires c =
-    omega (arith, c.len-others.ensures, ap length c.in_ok-push.ensures.added, length-append c.self.inside.keys (c.args.key.now ∷ []))
+    omega (arith, c.len-others.ensures, ap length c.in_ok-push_key.ensures.added, length-append c.self.inside.keys (c.args.key.now ∷ []))
 
 pub close_block-requires-clause-sound : goal.close_block-requires-clause-sound
 close_block-requires-clause-sound c =
@@ -33,8 +33,8 @@ close_block-requires-clause-last c =
     let unadded : c.add.new.self ≡ t.«open» = c.in-Ok-false.ensures.added ∙ ap (λ (b : Bool). cond b (t.«open» ++ e ∷ []) t.«open») c.in-Ok-false.field-0-test in
     let full : takes t.«open» e ≡ false = sym c.in-Ok-false.ensures.room ∙ c.in-Ok-false.field-0-test in
     c.get-last.ensures
-    ∙ last_before (joined (closed_in (rows_seen t.rows.items) t.blocks.items)) t.«open» t.keys c.push.new.self c.args.key.now c.len-others.result (some_open t.«open» e full) c.self.invariant.2.keys_are
-    c.len-others.ensures c.in_ok-push.ensures.added
+    ∙ last_before (joined (closed_in (rows_seen t.rows.items) t.blocks.items)) t.«open» t.keys c.push_key.new.keys c.args.key.now c.len-others.result (some_open t.«open» e full) c.self.invariant.2.keys_are
+    c.len-others.ensures c.in_ok-push_key.ensures.added
     ∙ ap last_key (sym unadded)
 
 pub close_block-requires-clause-whole : goal.close_block-requires-clause-whole
@@ -54,7 +54,7 @@ invariant_of-self-in-Ok-true c =
     let rises = subst (λ (es : List Entry). Follow is_any (keys_of (es ++ e ∷ []))) (sym entries) c.requires.rising in
     let added : c.add.new.self ≡ t.«open» ++ e ∷ [] = c.in-Ok-true.ensures.added ∙ ap (λ (b : Bool). cond b (t.«open» ++ e ∷ []) t.«open») c.in-Ok-true.field-0-test in
     let room : takes t.«open» e ≡ true = sym c.in-Ok-true.ensures.room ∙ c.in-Ok-true.field-0-test in
-    let built = built_in_place _ t.blocks.items (rows_seen t.rows.items) t.«open» t.keys c.self.invariant.2 e is rises room c.add.new.self c.push.new.self added c.in_ok-push.ensures.added in
+    let built = built_in_place _ t.blocks.items (rows_seen t.rows.items) t.«open» t.keys c.self.invariant.2 e is rises room c.add.new.self c.push_key.new.keys added c.in_ok-push_key.ensures.added in
     (c.self.invariant.0, c.self.invariant.1, built.0, c.self.invariant.3)
 
 pub returns-in-Ok-true-clause-added : goal.returns-in-Ok-true-clause-added
@@ -79,9 +79,9 @@ invariant_of-self-in-Ok c =
     let unadded : c.add.new.self ≡ t.«open» = c.in-Ok-false.ensures.added ∙ ap (λ (b : Bool). cond b (t.«open» ++ e ∷ []) t.«open») c.in-Ok-false.field-0-test in
     let full : takes t.«open» e ≡ false = sym c.in-Ok-false.ensures.room ∙ c.in-Ok-false.field-0-test in
     let built = built_behind _ t.blocks.items (rows_seen t.rows.items) t.«open» t.keys c.self.invariant.2 e is rises full
-    c.close_block.new.blocks.items (rows_seen c.close_block.new.rows.items) c.swap.new.x c.push.new.self
+    c.close_block.new.blocks.items (rows_seen c.close_block.new.rows.items) c.swap.new.x c.push_key.new.keys
     (c.in-Ok.ensures.written ∙ ap (λ (o : List Entry). t.blocks.items ++ block_bytes o) unadded)
-    (c.in-Ok.ensures.kept ∙ ap (λ (o : List Entry). rows_seen t.rows.items ++ unsummed_row_of o ∷ []) unadded) (c.swap.ensures.x_after ∙ c.in_default.ensures.begun) c.in_ok-push.ensures.added in
+    (c.in-Ok.ensures.kept ∙ ap (λ (o : List Entry). rows_seen t.rows.items ++ unsummed_row_of o ∷ []) unadded) (c.swap.ensures.x_after ∙ c.in_default.ensures.begun) c.in_ok-push_key.ensures.added in
     (c.self.invariant.0, c.in-Ok.ensures.stand, built.0, c.swap.ensures.y_after ∙ c.in-Ok.ensures.emptied)
 
 pub returns-in-Ok-clause-added : goal.returns-in-Ok-clause-added
@@ -96,8 +96,8 @@ returns-in-Ok-clause-added c =
     let full : takes t.«open» e ≡ false = sym c.in-Ok-false.ensures.room ∙ c.in-Ok-false.field-0-test in
     let begun : c.begin.new.spare ≡ e ∷ [] = search rules in
     let built = built_behind _ t.blocks.items (rows_seen t.rows.items) t.«open» t.keys c.self.invariant.2 e is rises full
-    c.close_block.new.blocks.items (rows_seen c.close_block.new.rows.items) c.swap.new.x c.push.new.self
+    c.close_block.new.blocks.items (rows_seen c.close_block.new.rows.items) c.swap.new.x c.push_key.new.keys
     (c.in-Ok.ensures.written ∙ ap (λ (o : List Entry). t.blocks.items ++ block_bytes o) unadded)
-    (c.in-Ok.ensures.kept ∙ ap (λ (o : List Entry). rows_seen t.rows.items ++ unsummed_row_of o ∷ []) unadded) (c.swap.ensures.x_after ∙ begun) c.in_ok-push.ensures.added in
+    (c.in-Ok.ensures.kept ∙ ap (λ (o : List Entry). rows_seen t.rows.items ++ unsummed_row_of o ∷ []) unadded) (c.swap.ensures.x_after ∙ begun) c.in_ok-push_key.ensures.added in
     let all = built.1 ∙ ap (λ (es : List Entry). es ++ e ∷ []) entries in
     (λ i. record { settings = (c.self.view_is i).settings; entries = all i })

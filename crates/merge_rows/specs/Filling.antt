@@ -1,0 +1,36 @@
+-- What filling does, whole: a block is read for the first of some walks that wants one.
+use Rattle.std.specs.Prelude.{◌≡◌, ◌≤◌, ◌+◌, Bool, false, List, length, map, Result, IsTrue, IfOk, IfErr, OnOk, OnErr}
+use Rattle.block_model.specs.Places.{byte_of_page}
+use Rattle.disk_trait.specs.World.{ReadMoves, World}
+use Rattle.merge_rows.specs.Merges.{TableWalk, left_above}
+use Rattle.merge_rows.specs.Reads.{IsFewer, IsRead, SomeBlock, blocks_left, next_blocks, wanted_by}
+use Rattle.merge_rows.specs.Rows.{KeyFloor}
+use Rattle.merge_rows.specs.Steps.{AreCaughtUp, AreHeadsClear, AreSoundWalks, numbers}
+use Rattle.table_file.specs.Faults.{HasReadCause, IsNoWant}
+use Rattle.table_file.specs.Opened.{Opened}
+use Rattle.table_file.specs.Search.{IsGetFault, page_at}
+use Rattle.table_file.specs.declared.fault.TableFault.{TableFault}
+
+-- A block was read for one of the walks, or none of them wanted one, or the read was refused with its cause.
+pub record FillsWalks (tells : Bool) (floor : KeyFloor) (tables : List Opened) (old new : List TableWalk) (result : Result Bool TableFault) (before after : World) : Type 0 where
+  pub numbers_are : numbers new ≡ numbers old
+  -- above the floor no entry is lost, however it ends
+  pub same : IsTrue tells → map (left_above floor tables before.seen.held) new ≡ map (left_above floor tables before.seen.held) old
+  -- where none was read, each walk has an entry above the floor at hand, or none is left of it
+  pub ready : IsTrue tells → IfOk result (λ read. read ≡ false → AreCaughtUp floor tables before.seen.held new)
+  -- then no entry at hand is at or below the floor, on any device
+  pub clear : IfOk result (λ read. read ≡ false → AreHeadsClear floor new)
+  pub sound : IsTrue tells → AreSoundWalks floor tables before.seen.held old → AreSoundWalks floor tables before.seen.held new
+  -- where there is no walk, none is refused
+  pub met : OnErr result (1 ≤ length old)
+  pub taken : IfErr result IsNoWant
+  pub cause : IfErr result (λ why. SomeBlock tables (numbers old) (λ t n. HasReadCause (byte_of_page (page_at t n)) before after why))
+  -- what was refused is a fault of a block, and the image shows it
+  pub fault : IsTrue tells → IfErr result (λ why. SomeBlock tables (numbers old) (λ t n. IsGetFault t n before.seen.held why))
+  pub moves : ReadMoves 2 before after
+  pub idle : IfOk result (λ read. read ≡ false → ReadMoves 0 before after)
+  -- as many reads as the numbers of the blocks that are read next rose
+  pub counted : IsTrue tells → OnOk result (after.seen.reads + next_blocks old ≡ before.seen.reads + next_blocks new)
+  pub left : IsRead result (blocks_left tables old) (blocks_left tables new)
+  -- of sound tables at most one block, which the next row wanted
+  pub once : IsTrue tells → AreSoundWalks floor tables before.seen.held old → ReadMoves 1 before after × IsFewer result (wanted_by floor tables old) (wanted_by floor tables new)

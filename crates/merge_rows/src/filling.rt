@@ -1,0 +1,47 @@
+//! The blocks that the next row wants.
+ghost use Rattle.disk_trait.specs.World.{ReadMoves};
+ghost use Rattle.merge_rows.specs.Filling.{FillsWalks};
+ghost use Rattle.merge_rows.specs.SourcePlaces.{IsChosenIn};
+ghost use Rattle.merge_rows.specs.Steps.{AreNumbersIn, IsPassed, numbers};
+
+use crate::choosing::Source;
+use crate::floor::Floor;
+use crate::table_source::{TableSource, fill_first, pass_one};
+use disk_trait::Disk;
+use filter_api::RangeFilter;
+use table_file::{TableFault, Tables};
+
+/// Reads a block for the first of the walks that wants one, as [`fill_first`] does. The walk of the last row passes its entry
+/// first: which one that is needs no guess then, and all the others stand above the floor, but for older entries of its key.
+pub(crate) fn fill_behind<F: RangeFilter, D: Disk>(
+    row: Option<Source>,
+    walks: &mut [TableSource],
+    disk: &mut D,
+    tables: &Tables<F>,
+    floor: &Floor,
+) -> Result<bool, TableFault>
+    requires known { AreNumbersIn tables.now.tables (numbers walks.old) }
+    requires there { IsChosenIn row walks.old }
+    ensures { FillsWalks D.tells floor.now tables.now.tables walks.old walks.new result (D.world disk.old) (D.world disk.new) }
+{
+    pass_row(row, walks, disk, tables, floor);
+    fill_first(walks, disk, tables, floor)
+}
+
+// The walk of the last row, where it is one, passes over the entries in memory that are not above the floor.
+fn pass_row<F: RangeFilter, D: Disk>(
+    row: Option<Source>,
+    walks: &mut [TableSource],
+    disk: &mut D,
+    tables: &Tables<F>,
+    floor: &Floor,
+)
+    requires known { AreNumbersIn tables.now.tables (numbers walks.old) }
+    requires there { IsChosenIn row walks.old }
+    ensures passed { IsPassed D.tells floor.now tables.now.tables (D.world disk.old).seen.held walks.old walks.new }
+    ensures moves { ReadMoves 0 (D.world disk.old) (D.world disk.new) }
+{
+    if let Some(Source::Table(at)) = row {
+        pass_one(walks, at, disk, tables, floor);
+    }
+}
