@@ -1,32 +1,38 @@
 -- What a get leaves of a store.
-use Rattle.std.proofs.Common.{◌≡◌, ◌≤◌, ◌+◌, ◌++◌, ℕ, Bool, false, List, length, take, sym, ap, subst, ◌∙◌}
+use Rattle.std.proofs.Common.{◌≡◌, ◌≤◌, ◌+◌, ◌++◌, ℕ, Bool, true, false, List, length, take, sym, ap, subst, ◌∙◌, arith}
 use Rattle.std.proofs.Math.Seq.{take-append_seam}
 use Rattle.std.specs.Option.{option_map, option_or}
-use Rattle.std.specs.Prelude.{is_some, IfErr, Option, None, Result, Ok, Err}
+use Rattle.std.specs.Prelude.{is_some, IsTrue, Option, None, Result, Ok, Err}
 use Rattle.std.specs.Result.{IsErrAnd}
 use Rattle.block_cache.specs.Kept.{KeptBlock}
 use Rattle.disk_trait.specs.World.{ReadMoves, World}
 use Rattle.entry_model.specs.Entries.{Entry}
 use Rattle.entry_model.specs.Newest.{lookup}
 use Rattle.filter_api.specs.Spellings.{Spelling}
+use Rattle.filter_api.specs.declared.settings.Settings.{Settings}
+use Rattle.line_model.specs.Limits.{key_limit}
 use Rattle.map_model.specs.SortedMap.{Bytes}
-use Rattle.state_model.specs.Bounds.{unless_found}
+use Rattle.state_model.specs.Bounds.{get_bound, searched, unless_found}
 use Rattle.state_model.specs.State.{State}
 use Rattle.state_model.specs.View.{first_found, memory, view}
 use Rattle.store_core.specs.Caching.{AreNumbered, AreTrue, Cached, unkept}
 use Rattle.store_core.specs.Faults.{of_table_fault}
-use Rattle.store_core.specs.Getting.{IsMet, entries_by_table, said_at, said_in, unkept_bound}
+use Rattle.store_core.specs.Getting.{GetsKey, IsFaultIn, IsGetRefusal, IsLookFault, IsMet, IsShown, IsUndamaged, entries_by_table, said_at, said_in, unkept_bound}
 use Rattle.store_core.specs.Kept.{IsWhole, Kept}
+use Rattle.level_merge.specs.Held.{AreHeld}
 use Rattle.store_core.specs.Tied.{Tied}
 use Rattle.store_core.specs.declared.error.StoreError.{StoreError}
 use Rattle.store_core.specs.declared.getting.Place.{Place}
 use Rattle.store_core.specs.declared.getting.Spot.{Spot}
 use Rattle.store_core.proofs.Lookings.{none_of}
+use Rattle.store_core.proofs.ReadBounds.{bound_is}
+use Rattle.store_core.proofs.ShownBlocks.{told_fault}
 use Rattle.store_core.proofs.Ties.{tied_read}
+use Rattle.table_file.specs.Faults.{IsNoDamage}
 use Rattle.table_file.specs.Opened.{Opened}
 use Rattle.table_file.specs.declared.fault.TableFault.{TableFault}
 use Rattle.table_file.specs.declared.fault.TableFault.TheVariants as table
-use Rattle.table_model.specs.Tables.{FilterBytes}
+use Rattle.table_model.specs.Tables.{FilterBytes, Table}
 
 -- other blocks are kept, whose numbers were given
 pub whole_asked : (store : Kept) (buffer : Bytes) (blocks : Cached) → AreNumbered blocks (length store.tables) → IsWhole store → IsWhole (record store { buffer = buffer; blocks = blocks })
@@ -43,10 +49,10 @@ whole_asked store buffer blocks numbered whole = record {
 -- and they say what their tables say
 pub tied_asked : (spelling : Spelling) (bytes : FilterBytes) (store after : Kept) (s : State) (n : ℕ) (a b : World) → after ≡ record store { buffer = after.buffer; blocks = after.blocks }
     → ReadMoves n a b → AreTrue after.blocks store.tables s.tables → Tied spelling bytes store s a → Tied spelling bytes after s b
-tied_asked spelling bytes store after s n a b same moves true tied =
+tied_asked spelling bytes store after s n a b same moves says tied =
     let read = tied_read spelling bytes store s a b n moves tied in
     subst (λ (k : Kept). Tied spelling bytes k s b) (sym same)
-    (record { sound = read.sound; none_kept = read.none_kept; images = read.images; log = read.log; memory = read.memory; blocks = true })
+    (record { sound = read.sound; none_kept = read.none_kept; images = read.images; log = read.log; memory = read.memory; blocks = says })
 
 -- ---- where nothing of the key is in memory
 
@@ -66,22 +72,90 @@ found_view place after s key found buffer kept said buffer_is kept_is none is =
     said after key ∙ ap (λ (b : Bytes). said_in found b after.blocks.kept key) buffer_is ∙ ap (λ (l : List KeptBlock). said_in found buffer l key) kept_is
     ∙ is ∙ ap (λ (o : Option (Option Bytes)). option_or o (first_found (entries_by_table s.tables) key)) (sym none)
 
-met_fault : (f : TableFault) (most : ℕ) → 1 ≤ most → IsMet most (of_table_fault f)
-met_fault table.Memory most some = tt
-met_fault (table.Device cause) most some = some
-met_fault (table.Damaged d) most some = tt
-
-pub met_by : {T : Type 0} (r : Result T StoreError) (f : TableFault) (most : ℕ) → IsErrAnd r (λ why. why ≡ of_table_fault f) → 1 ≤ most → IfErr r (IsMet most)
-met_by (Ok v) f most told some = tt
-met_by (Err e) f most told some = subst (IsMet most) (sym told) (met_fault f most some)
-
 -- ---- how many blocks are read
 
 -- none that is kept
-pub unkept_read : (store : Kept) (s : State) (key : Bytes) (blocks : Cached) (opened : List Opened) (reads after : ℕ) → store.blocks ≡ blocks → store.tables ≡ opened → lookup (memory s) key ≡ None
+unkept_read : (store : Kept) (s : State) (key : Bytes) (blocks : Cached) (opened : List Opened) (reads after : ℕ) → store.blocks ≡ blocks → store.tables ≡ opened → lookup (memory s) key ≡ None
     → after ≤ reads + unkept blocks key opened s.tables → after ≤ reads + unkept_bound store s key
 unkept_read store s key blocks opened reads after same_blocks same_tables none le =
     let is : unkept_bound store s key ≡ unkept blocks key opened s.tables =
     ap (λ (said : Option (Option Bytes)). unless_found said (unkept store.blocks key store.tables s.tables)) none
     ∙ ap (λ (b : Cached). unkept b key store.tables s.tables) same_blocks ∙ ap (λ (ts : List Opened). unkept blocks key ts s.tables) same_tables in
     subst (λ (n : ℕ). after ≤ reads + n) (sym is) le
+
+-- ---- why no block was looked through
+
+undamaged_fault : (f : TableFault) → IsNoDamage f → IsUndamaged (of_table_fault f)
+undamaged_fault table.Memory is = tt
+undamaged_fault (table.Device cause) is = tt
+undamaged_fault (table.Damaged d) is = is
+
+met_fault : (f : TableFault) (most : ℕ) → 1 ≤ most → IsMet most (of_table_fault f)
+met_fault table.Memory most some = tt
+met_fault (table.Device cause) most some = some
+met_fault (table.Damaged d) most some = tt
+
+refused_fault : (f : TableFault) (stopped : Bool) (key : Bytes) (a b : World) → stopped ≡ false → key_limit key ≡ None → IsLookFault a b f → IsGetRefusal stopped key a b (of_table_fault f)
+refused_fault table.Memory stopped key a b runs limit is = is
+refused_fault (table.Device cause) stopped key a b runs limit is = (runs, limit, is)
+refused_fault (table.Damaged d) stopped key a b runs limit is = (runs, limit)
+
+-- ---- the key was looked for in these tables, of which these blocks are kept
+
+module _ (spelling : Spelling) (filter_bytes : FilterBytes) (tells : Bool) (store : Kept) (key : Bytes) (opened : List Opened) (blocks : Cached) (a b : World)
+    (same_tables : opened ≡ store.tables) (same_blocks : blocks ≡ store.blocks) (current : IsTrue tells → a.leaves a.moment a.seen.held) where
+  pub held_of : (s : State) → IsTrue tells → Tied spelling filter_bytes store s a → AreHeld spelling s.settings opened s.tables a.seen.held
+  held_of s t tied = subst (λ (ts : List Opened). AreHeld spelling s.settings ts s.tables a.seen.held) (sym same_tables) (tied.images a.seen.held (current t)).tables
+
+  pub true_of : (s : State) → Tied spelling filter_bytes store s a → AreTrue blocks opened s.tables
+  true_of s tied = subst (λ (c : Cached). AreTrue c opened s.tables) (sym same_blocks) (subst (λ (ts : List Opened). AreTrue store.blocks ts s.tables) (sym same_tables) tied.blocks)
+
+  module _ (runs : store.stopped ≡ false) (limit : key_limit key ≡ None) (none : (s : State) → store.memory.entries ≡ memory s → lookup (memory s) key ≡ None) (moves : ReadMoves (length opened) a b)
+      (within : (settings : Settings) (states : List Table) → IsTrue tells → AreHeld spelling settings opened states a.seen.held → AreTrue blocks opened states
+      → b.seen.reads ≤ a.seen.reads + searched settings key states)
+      (bounded : (settings : Settings) (states : List Table) → IsTrue tells → AreHeld spelling settings opened states a.seen.held → AreTrue blocks opened states
+      → b.seen.reads ≤ a.seen.reads + unkept blocks key opened states) where
+    bounded_of : (s : State) → IsTrue tells → Tied spelling filter_bytes store s a → b.seen.reads ≤ a.seen.reads + get_bound s key
+    bounded_of s t tied = omega (arith, within s.settings s.tables t (held_of s t tied) (true_of s tied), bound_is s key (none s tied.memory))
+
+    unkept_of : (s : State) → IsTrue tells → Tied spelling filter_bytes store s a → b.seen.reads ≤ a.seen.reads + unkept_bound store s key
+    unkept_of s t tied =
+        unkept_read store s key blocks opened a.seen.reads b.seen.reads (sym same_blocks) (sym same_tables) (none s tied.memory) (bounded s.settings s.tables t (held_of s t tied) (true_of s tied))
+
+    still_of : store.stopped ≡ true → ReadMoves 0 a b
+    still_of stopped = absurd (let is : false ≡ true = sym runs ∙ stopped in cc)
+
+    moves_of : ReadMoves (length store.tables) a b
+    moves_of = subst (λ (ts : List Opened). ReadMoves (length ts) a b) same_tables moves
+
+    pub gets_found : {T : Type 0} (found : T) → GetsKey spelling filter_bytes tells store key (Ok found) a b
+    gets_found found = record {
+      undamaged = λ s t tied. tt;
+      shown = λ t. tt;
+      met = λ s t tied. tt;
+      refused = (runs, limit);
+      bounded = bounded_of;
+      unkept = unkept_of;
+      still = still_of;
+      moves = moves_of;
+    }
+
+    -- and a table could not be looked through
+    pub gets_refused : {T : Type 0} (r : Result T StoreError) (f : TableFault) → IsErrAnd r (λ why. why ≡ of_table_fault f)
+        → ((settings : Settings) (states : List Table) → IsTrue tells → AreHeld spelling settings opened states a.seen.held → IsNoDamage f)
+        → (IsTrue tells → IsFaultIn opened key a.seen.held f)
+        → ((settings : Settings) (states : List Table) → IsTrue tells → AreHeld spelling settings opened states a.seen.held → AreTrue blocks opened states → 1 ≤ searched settings key states)
+        → IsLookFault a b f → GetsKey spelling filter_bytes tells store key r a b
+    gets_refused (Ok v) f told undamaged shown met cause = absurd told
+    gets_refused (Err e) f told undamaged shown met cause = record {
+      undamaged = λ s t tied. subst IsUndamaged (sym told) (undamaged_fault f (undamaged s.settings s.tables t (held_of s t tied)));
+      shown = λ t. subst (IsShown store.tables key a.seen.held) (sym told) (told_fault store.tables key a.seen.held f (subst (λ (ts : List Opened). IsFaultIn ts key a.seen.held f) same_tables (shown t)));
+      met = λ s t tied.
+          let some = met s.settings s.tables t (held_of s t tied) (true_of s tied) in
+          subst (IsMet (get_bound s key)) (sym told) (met_fault f (get_bound s key) (omega (arith, some, bound_is s key (none s tied.memory))));
+      refused = subst (IsGetRefusal store.stopped key a b) (sym told) (refused_fault f store.stopped key a b runs limit cause);
+      bounded = bounded_of;
+      unkept = unkept_of;
+      still = still_of;
+      moves = moves_of;
+    }

@@ -1,13 +1,11 @@
 -- A block that was read for a key shows its fault.
 use Rattle.std.proofs.Common.{◌≡◌, sym, subst, List, [], ◌∷◌, ℕ, arith, refl}
-use Rattle.std.specs.Prelude.{Contains, Some, Result, Ok, Err, IfErr}
-use Rattle.std.specs.Result.{IsErrAnd}
+use Rattle.std.specs.Prelude.{Contains}
 use Rattle.std.proofs.lemmas.List.Elements.{Contains-append_right}
 use Rattle.disk_trait.specs.Image.{Image}
 use Rattle.map_model.specs.SortedMap.{Bytes}
 use Rattle.store_core.specs.Faults.{of_table_fault}
 use Rattle.store_core.specs.Getting.{IsBlockFault, IsFaultIn, IsShown}
-use Rattle.store_core.specs.declared.error.StoreError.{StoreError}
 use Rattle.table_file.specs.Opened.{Opened}
 use Rattle.table_file.specs.declared.fault.TableFault.{TableFault}
 use Rattle.table_file.specs.declared.fault.TableFault.TheVariants as table
@@ -26,12 +24,7 @@ older_fault t older tables key image held (table.Damaged d) all same is =
     (there.0, subst (λ (l : List Opened). Contains l there.0) (sym all) (Contains-append_right (t ∷ []) older there.0 there.1), there.2)
 
 -- and it is told
-told_fault : (tables : List Opened) (key : Bytes) (image : Image) (f : TableFault) → IsFaultIn tables key image f → IsShown tables key image (of_table_fault f)
+pub told_fault : (tables : List Opened) (key : Bytes) (image : Image) (f : TableFault) → IsFaultIn tables key image f → IsShown tables key image (of_table_fault f)
 told_fault tables key image table.Memory is = tt
 told_fault tables key image (table.Device cause) is = tt
 told_fault tables key image (table.Damaged d) is = is
-
-pub told_result : {T : Type 0} (r : Result T StoreError) (tables : List Opened) (key : Bytes) (image : Image) (f : TableFault) → IsErrAnd r (λ why. why ≡ of_table_fault f)
-    → IsFaultIn tables key image f → IfErr r (IsShown tables key image)
-told_result (Ok v) tables key image f told is = tt
-told_result (Err e) tables key image f told is = subst (IsShown tables key image) (sym told) (told_fault tables key image f is)

@@ -1,9 +1,9 @@
 -- Where a key's newest entry was found, and why none was.
-use Rattle.std.specs.Prelude.{◌≡◌, ◌≤◌, ◌<◌, ℕ, Bool, true, false, List, Contains, map, take, is_some, IsTrue, Option, Some, None}
+use Rattle.std.specs.Prelude.{◌≡◌, ◌≤◌, ◌<◌, ◌+◌, ℕ, Bool, true, false, List, Contains, length, map, take, is_some, IsTrue, IfErr, MatchResult, Option, Some, None, Result}
 use Rattle.block_cache.specs.Kept.{BlockPlace, KeptBlock, kept_of}
 use Rattle.block_model.specs.BlockReading.{block_fault, block_in}
 use Rattle.disk_trait.specs.Image.{Image}
-use Rattle.disk_trait.specs.World.{Rose, World}
+use Rattle.disk_trait.specs.World.{ReadMoves, Rose, World}
 use Rattle.disk_trait.specs.declared.fault.DiskFault.{DiskFault}
 use Rattle.disk_trait.specs.declared.fault.Op.TheVariants.{Read}
 use Rattle.filter_api.specs.Spellings.{Spelling}
@@ -11,7 +11,7 @@ use Rattle.entry_model.specs.Entries.{Entry}
 use Rattle.entry_model.specs.Newest.{lookup}
 use Rattle.line_model.specs.Limits.{key_limit}
 use Rattle.map_model.specs.SortedMap.{Bytes}
-use Rattle.state_model.specs.Bounds.{unless_found}
+use Rattle.state_model.specs.Bounds.{get_bound, unless_found}
 use Rattle.state_model.specs.State.{State}
 use Rattle.state_model.specs.View.{memory}
 use Rattle.store_core.specs.Answers.{told_limit}
@@ -165,3 +165,16 @@ IsUndamaged (error.Full need gap) = Unit {0}
 IsUndamaged error.NotAStore = Unit {0}
 IsUndamaged error.AlreadyAStore = Unit {0}
 IsUndamaged (error.BadSettings field) = Unit {0}
+
+-- A get of a key read only what may have the key, and was refused with its cause, or not at all.
+pub record GetsKey {T : Type 0} (spelling : Spelling) (filter_bytes : FilterBytes) (tells : Bool) (store : Kept) (key : Bytes) (result : Result T StoreError) (before after : World) : Type 0 where
+  pub undamaged : (s : State) → IsTrue tells → Tied spelling filter_bytes store s before → IfErr result IsUndamaged
+  pub shown : IsTrue tells → IfErr result (IsShown store.tables key before.seen.held)
+  pub met : (s : State) → IsTrue tells → Tied spelling filter_bytes store s before → IfErr result (IsMet (get_bound s key))
+  pub refused : MatchResult result (λ _. (store.stopped ≡ false) × (key_limit key ≡ None)) (IsGetRefusal store.stopped key before after)
+  pub bounded : (s : State) → IsTrue tells → Tied spelling filter_bytes store s before → after.seen.reads ≤ before.seen.reads + get_bound s key
+  -- of those blocks, only the ones that were not kept
+  pub unkept : (s : State) → IsTrue tells → Tied spelling filter_bytes store s before → after.seen.reads ≤ before.seen.reads + unkept_bound store s key
+  -- a stopped store reads nothing
+  pub still : store.stopped ≡ true → ReadMoves 0 before after
+  pub moves : ReadMoves (length store.tables) before after

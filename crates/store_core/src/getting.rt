@@ -1,5 +1,5 @@
 //! What the store says of a key.
-ghost use Rattle.std.specs.Prelude.{◌≡◌, ◌≤◌, ◌<◌, ◌+◌, ℕ, List, length, take, true, false, is_some, Some, None, IsTrue, IfOk, IfErr, IfSome, OnErr, OnOk, MatchResult};
+ghost use Rattle.std.specs.Prelude.{◌≡◌, ◌≤◌, ◌<◌, ◌+◌, ℕ, List, length, take, is_some, Some, None, IsTrue, IfOk, IfErr, IfSome, OnErr};
 ghost use Rattle.std.specs.Option.{option_map};
 ghost use Rattle.std.specs.Borrow.{sem};
 ghost use Rattle.block_cache.specs.Kept.{kept_of};
@@ -9,13 +9,12 @@ ghost use Rattle.disk_trait.specs.World.{ReadMoves};
 ghost use Rattle.entry_model.specs.Entries.{Entry, live};
 ghost use Rattle.entry_model.specs.Newest.{lookup};
 ghost use Rattle.filter_api.specs.declared.settings.Settings.{Settings};
-ghost use Rattle.line_model.specs.Limits.{key_limit};
 ghost use Rattle.map_model.specs.SortedMap.{Bytes, get};
-ghost use Rattle.state_model.specs.Bounds.{get_bound, searched};
+ghost use Rattle.state_model.specs.Bounds.{searched};
 ghost use Rattle.state_model.specs.State.{State};
 ghost use Rattle.state_model.specs.View.{first_found, state_map, view};
 ghost use Rattle.store_core.specs.Caching.{AreNumbered, AreSame, AreTrue, IsFirst, IsTrueOf, SaysOf, number_of, past_cache, reads_for, said_by, unkept};
-ghost use Rattle.store_core.specs.Getting.{IsBlockFault, IsBlockIn, IsFaultIn, IsFoundAt, IsGetRefusal, IsLookFault, IsMet, IsPlaceIn, IsReadIn, IsShown, IsSpotIn, IsUndamaged, MayKeepRead, entries_by_table, said_at, said_in, unkept_bound};
+ghost use Rattle.store_core.specs.Getting.{IsBlockFault, IsBlockIn, IsFaultIn, IsFoundAt, IsLookFault, IsPlaceIn, IsReadIn, IsSpotIn, MayKeepRead, entries_by_table, said_at, said_in};
 ghost use Rattle.store_core.specs.Kept.{Kept};
 ghost use Rattle.level_merge.specs.Held.{AreHeld};
 ghost use Rattle.store_core.specs.Tied.{Tied};
@@ -256,7 +255,7 @@ fn place_of(found: Option<Spot>) -> Place
 
 impl<F: RangeFilter> Store<F> {
     ghost use Rattle.store_core.specs.Ends.{store_ends};
-    ghost use Rattle.store_core.specs.Getting.{Asked};
+    ghost use Rattle.store_core.specs.Getting.{Asked, GetsKey};
 
     /// The value of a key, or `None` where it was never put or was deleted last.
     ///
@@ -267,16 +266,7 @@ impl<F: RangeFilter> Store<F> {
         ensures* after { sem 𝓛 (store_ends F.row F.RangeFilter self.entry (λ s. Asked F.spelling (filter_bytes_of F.spelling F.built_cutoff) D.tells self.old s (D.world disk.old) (D.world disk.new))) }
         ensures answer { (s : State) → IsTrue D.tells → Tied F.spelling (filter_bytes_of F.spelling F.built_cutoff) self.old s (D.world disk.old)
             → IfOk result (λ found. option_map (λ v. v.now) found ≡ get (state_map s) key.now) }
-        ensures undamaged { (s : State) → IsTrue D.tells → Tied F.spelling (filter_bytes_of F.spelling F.built_cutoff) self.old s (D.world disk.old) → IfErr result IsUndamaged }
-        ensures shown { IsTrue D.tells → IfErr result (IsShown self.old.tables key.now (D.world disk.old).seen.held) }
-        ensures met { (s : State) → IsTrue D.tells → Tied F.spelling (filter_bytes_of F.spelling F.built_cutoff) self.old s (D.world disk.old) → IfErr result (IsMet (get_bound s key.now)) }
-        ensures refused { MatchResult result (λ _. (self.old.stopped ≡ false) × (key_limit key.now ≡ None)) (IsGetRefusal self.old.stopped key.now (D.world disk.old) (D.world disk.new)) }
-        ensures bounded { (s : State) → IsTrue D.tells → Tied F.spelling (filter_bytes_of F.spelling F.built_cutoff) self.old s (D.world disk.old)
-            → (D.world disk.new).seen.reads ≤ (D.world disk.old).seen.reads + get_bound s key.now }
-        ensures unkept { (s : State) → IsTrue D.tells → Tied F.spelling (filter_bytes_of F.spelling F.built_cutoff) self.old s (D.world disk.old)
-            → (D.world disk.new).seen.reads ≤ (D.world disk.old).seen.reads + unkept_bound self.old s key.now }
-        ensures still { self.old.stopped ≡ true → ReadMoves 0 (D.world disk.old) (D.world disk.new) }
-        ensures moves { ReadMoves (length self.old.tables) (D.world disk.old) (D.world disk.new) }
+        ensures gets { GetsKey F.spelling (filter_bytes_of F.spelling F.built_cutoff) D.tells self.old key.now result (D.world disk.old) (D.world disk.new) }
     {
         let place = self.look_for(disk, key)?;
         Ok(self.value_at(place, key))
@@ -284,21 +274,11 @@ impl<F: RangeFilter> Store<F> {
 
     // Where the newest entry of a key stands.
     fn look_for<D: Disk>(&mut self, disk: &mut D, key: &[u8]) -> Result<Place, StoreError>
-        ensures same { self.new ≡ record self.old { buffer = self.new.buffer; blocks = self.new.blocks } }
-        ensures tied { (s : State) → IsTrue D.tells → Tied F.spelling (filter_bytes_of F.spelling F.built_cutoff) self.old s (D.world disk.old) → Tied F.spelling (filter_bytes_of F.spelling F.built_cutoff) self.new s (D.world disk.new) }
+        ensures asked { Asked F.spelling (filter_bytes_of F.spelling F.built_cutoff) D.tells self.old self.new (D.world disk.old) (D.world disk.new) }
         ensures place { IfOk result (λ place. IsPlaceIn place self.new.buffer) }
         ensures answer { (s : State) → IsTrue D.tells → Tied F.spelling (filter_bytes_of F.spelling F.built_cutoff) self.old s (D.world disk.old)
             → IfOk result (λ place. said_at place self.new key.now ≡ view s key.now) }
-        ensures undamaged { (s : State) → IsTrue D.tells → Tied F.spelling (filter_bytes_of F.spelling F.built_cutoff) self.old s (D.world disk.old) → IfErr result IsUndamaged }
-        ensures shown { IsTrue D.tells → IfErr result (IsShown self.old.tables key.now (D.world disk.old).seen.held) }
-        ensures met { (s : State) → IsTrue D.tells → Tied F.spelling (filter_bytes_of F.spelling F.built_cutoff) self.old s (D.world disk.old) → IfErr result (IsMet (get_bound s key.now)) }
-        ensures refused { MatchResult result (λ _. (self.old.stopped ≡ false) × (key_limit key.now ≡ None)) (IsGetRefusal self.old.stopped key.now (D.world disk.old) (D.world disk.new)) }
-        ensures bounded { (s : State) → IsTrue D.tells → Tied F.spelling (filter_bytes_of F.spelling F.built_cutoff) self.old s (D.world disk.old)
-            → (D.world disk.new).seen.reads ≤ (D.world disk.old).seen.reads + get_bound s key.now }
-        ensures unkept { (s : State) → IsTrue D.tells → Tied F.spelling (filter_bytes_of F.spelling F.built_cutoff) self.old s (D.world disk.old)
-            → (D.world disk.new).seen.reads ≤ (D.world disk.old).seen.reads + unkept_bound self.old s key.now }
-        ensures still { self.old.stopped ≡ true → ReadMoves 0 (D.world disk.old) (D.world disk.new) }
-        ensures moves { ReadMoves (length self.old.tables) (D.world disk.old) (D.world disk.new) }
+        ensures gets { GetsKey F.spelling (filter_bytes_of F.spelling F.built_cutoff) D.tells self.old key.now result (D.world disk.old) (D.world disk.new) }
     {
         if self.stopped {
             return Err(StoreError::Stopped);

@@ -11,7 +11,7 @@ use Rattle.line_model.specs.Replies.{Bye, Device, Reply, text_of}
 use Rattle.line_model.specs.Requests.{request_of}
 use Rattle.map_model.specs.SortedMap.{Bytes}
 use Rattle.outside.specs.During.{During}
-use Rattle.outside.specs.Streams.{SaidByNow, SaysPrefix, TakeMoves}
+use Rattle.outside.specs.Streams.{SaidByNow, TakeMoves}
 use Rattle.outside.proofs.Crossing.{during_take, during_then, during_weaker}
 use Rattle.state_model.specs.Script.{AtDevice, AtQuit, Between, Ending, Onward, Script, ToLast, turn_of}
 use Rattle.state_model.specs.State.{State}
@@ -37,7 +37,7 @@ use Rattle.surf_run.proofs.Footprint.{within_on, within_take}
 use Rattle.surf_run.proofs.History.{ack_here, ack_more, reached_on}
 use Rattle.surf_run.proofs.Moments.{map_of_state, stands_still, tied_still}
 use Rattle.surf_run.proofs.OneMap.{one_map}
-use Rattle.surf_run.proofs.Progress.{LastLine, ends_by_device, ends_by_slice, ends_with, history_then, past_wider, ran_on, ran_then, reached_as, reached_then, reads_then, said_then, step_whole, told_then, writes_then}
+use Rattle.surf_run.proofs.Progress.{LastLine, breaks_off, ends_by_device, ends_by_slice, ends_with, history_then, past_wider, ran_on, ran_then, reached_as, reached_then, reads_then, said_then, step_whole, told_then, writes_then}
 use Rattle.surf_run.proofs.Texts.{held_none, held_same, held_some, last_line, lines_first, whole_first}
 
 -- ---- before a line was answered
@@ -170,6 +170,7 @@ settled_end kind most status start base taken first w fits ended = elim ended [
       }
   | inr six ↦
       let broken = six.1 in
+      let breaks = broken.breaks in
       let first_lines = broken.first_lines [] in
       let before = broken.lines ++ broken.line ∷ [] in
       record {
@@ -184,21 +185,10 @@ settled_end kind most status start base taken first w fits ended = elim ended [
           split = lines_now taken before first_lines.0 first_lines.2 ∙ append_assoc broken.lines (broken.line ∷ []) first_lines.0;
           ended = inl (first_lines.1, ap whole_lines (sym (append-nil taken)) ∙ first_lines.3 ∙ append_assoc broken.lines (broken.line ∷ []) first_lines.1);
           taken_to = inl (past_wider most piece_bytes taken before fits broken.taken_past);
-          text = broken.text;
-          most = broken.most;
-          now = broken.now;
-          so_far = broken.ran;
-          one_map = broken.one_map;
-          reply = broken.reply;
-          last = broken.last;
-          step = broken.step;
-          reads = broken.reads;
-          prefix = broken.prefix;
-          crash = broken.history;
-          stands = broken.stands;
+          breaks = breaks;
         };
-        said = (broken.text ++ broken.prefix.done, broken.prefix.said ∙ append_assoc first.beside.said broken.text broken.prefix.done);
-        crash = more_lines kind start taken before first_lines.0 first w (lines_now taken before first_lines.0 first_lines.2) broken.history;
+        said = (breaks.text ++ breaks.prefix.done, breaks.prefix.said ∙ append_assoc first.beside.said breaks.text breaks.prefix.done);
+        crash = more_lines kind start taken before first_lines.0 first w (lines_now taken before first_lines.0 first_lines.2) breaks.crash;
         writes = broken.writes;
       }
 ]
@@ -298,19 +288,7 @@ module _ (kind : Kind) (start : State) (base : ℕ) (taken kept : Bytes) (store 
       split = last;
       ended = inr none;
       taken_to = inr taken_all;
-      text = served.text;
-      most = served.most;
-      now = served.now;
-      so_far = ran_then kind start base taken kept store first w served served.rest w' counts reply new answer;
-      one_map = one_map (HasCause first w') kind.filter_bytes (Reached kind w') (length first.beside.said) start served.now served.lines served.text served.most served.sound
-          (ran_then kind start base taken kept store first w served served.rest w' counts reply new answer);
-      reply = reply;
-      last = new;
-      step = step_whole kind start base taken kept store first w served served.rest w' counts reply new answer;
-      reads = reads_then kind start base taken kept store first w served served.rest w' counts reply new answer;
-      prefix = subst (λ (s : Bytes). SaysPrefix (text_of reply) s w'.beside.said) served.told answer.prefix;
-      crash = history_then kind start base taken kept store first w served served.rest w' counts reply new answer;
-      stands = stands;
+      breaks = breaks_off kind start base taken kept store first w served served.rest w' counts reply new answer stands;
     }
 
     module _ (all : Whole reply w w') where

@@ -28,7 +28,7 @@ use Rattle.surf_run.specs.Crash.{Acknowledged, Reached, Stands}
 use Rattle.surf_run.specs.Dialogue.{AreBounded, IsBounded, SoFar, line_bound}
 use Rattle.surf_run.specs.Holding.{Held, with_newline}
 use Rattle.surf_run.specs.Kind.{Kind}
-use Rattle.surf_run.specs.Outcome.{EndsWith, TakenPast}
+use Rattle.surf_run.specs.Outcome.{BreaksOff, EndsWith, TakenPast}
 use Rattle.surf_run.specs.Serving.{After, AreFirst, Broken, Closed, EndsPast, Served}
 use Rattle.surf_run.specs.Slices.{EndsServed}
 use Rattle.surf_run.specs.declared.end.LineEnd.{LineEnd}
@@ -72,6 +72,22 @@ module _ (kind : Kind) (start : State) (base : ℕ) (bytes kept : Bytes) (store 
 
   pub writes_then : WritesWithin (page_bytes * start.pages) first w'
   writes_then = within_on (page_bytes * start.pages) first w w' served.writes (subst (λ (n : ℕ). WritesWithin (page_bytes * n) w w') served.pages answer.writes)
+
+  pub breaks_off : (reply ≢ Device → Stands kind new w') → BreaksOff kind start base served.lines line first w'
+  breaks_off stands = record {
+    text = served.text;
+    most = served.most;
+    now = served.now;
+    so_far = ran_then;
+    one_map = one_map (HasCause first w') kind.filter_bytes (Reached kind w') (length first.beside.said) start served.now served.lines served.text served.most served.sound ran_then;
+    reply = reply;
+    last = new;
+    step = step_whole;
+    reads = reads_then;
+    prefix = subst (λ (s : Bytes). SaysPrefix (text_of reply) s w'.beside.said) served.told answer.prefix;
+    crash = history_then;
+    stands = stands;
+  }
 
   module _ (all : Whole reply w w') where
     pub told_then : w'.beside.said ≡ first.beside.said ++ (served.text ++ text_of reply)
@@ -233,19 +249,7 @@ module _ (kind : Kind) (start : State) (base : ℕ) (bytes kept : Bytes) (store 
       line = served.rest ++ part;
       first_lines = first_lines;
       taken_past = taken_past;
-      text = served.text;
-      most = served.most;
-      now = served.now;
-      ran = ran_then kind start base bytes kept store first w served (served.rest ++ part) w' counts reply new answer;
-      one_map = one_map (HasCause first w') kind.filter_bytes (Reached kind w') (length first.beside.said) start served.now served.lines served.text served.most served.sound
-          (ran_then kind start base bytes kept store first w served (served.rest ++ part) w' counts reply new answer);
-      reply = reply;
-      last = new;
-      step = step_whole kind start base bytes kept store first w served (served.rest ++ part) w' counts reply new answer;
-      reads = reads_then kind start base bytes kept store first w served (served.rest ++ part) w' counts reply new answer;
-      prefix = subst (λ (s : Bytes). SaysPrefix (text_of reply) s w'.beside.said) served.told answer.prefix;
-      stands = stands;
-      history = history_then kind start base bytes kept store first w served (served.rest ++ part) w' counts reply new answer;
+      breaks = breaks_off kind start base bytes kept store first w served (served.rest ++ part) w' counts reply new answer stands;
       writes = writes_then kind start base bytes kept store first w served (served.rest ++ part) w' counts reply new answer;
     }
 
@@ -307,18 +311,7 @@ broken_more kind least most start base bytes more first w fits broken = record {
   line = broken.line;
   first_lines = first_more bytes more (broken.lines ++ broken.line ∷ []) broken.first_lines;
   taken_past = past_more least most bytes more (broken.lines ++ broken.line ∷ []) fits broken.taken_past;
-  text = broken.text;
-  most = broken.most;
-  now = broken.now;
-  ran = broken.ran;
-  one_map = broken.one_map;
-  reply = broken.reply;
-  last = broken.last;
-  step = broken.step;
-  reads = broken.reads;
-  prefix = broken.prefix;
-  stands = broken.stands;
-  history = broken.history;
+  breaks = broken.breaks;
   writes = broken.writes;
 }
 

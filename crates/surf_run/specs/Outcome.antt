@@ -97,16 +97,9 @@ pub record CutOff (kind : Kind) (start : State) (base : ℕ) (taken : Bytes) (ol
   pub crash : During (Acknowledged (HasCause old new) kind start (whole_lines taken) old.beside.said new.beside.said) old new
   pub leaves : LeavesState kind start base (whole_lines taken) old new
 
--- The output failed: some first lines were answered whole, none of them with a last reply, and of the next line's reply
--- a prefix was said. That line has its newline, or the input is at its end; less than one piece was taken behind it. What
--- a crash may leave at each moment is told over these lines alone. The state now is that after that line, but for `device`.
-pub record SaidInPart (kind : Kind) (start : State) (base : ℕ) (taken : Bytes) (old new : World) : Type 0 where
-  pub lines : List Bytes
-  pub line : Bytes
-  pub later : List Bytes
-  pub split : lines_of taken ≡ lines ++ line ∷ later
-  pub ended : ((whole : List Bytes) × (whole_lines taken ≡ lines ++ line ∷ whole)) ⊎ (new.beside.to_take ≡ [])
-  pub taken_to : TakenTo piece_bytes taken lines line
+-- These lines were answered whole, none of them with a last reply, and of the reply to this one a prefix was said. What a crash
+-- may leave at each moment is told over these lines alone. The state now is that after the line, but for `device`.
+pub record BreaksOff (kind : Kind) (start : State) (base : ℕ) (lines : List Bytes) (line : Bytes) (old new : World) : Type 0 where
   pub text : Bytes
   pub most : ℕ
   pub now : State
@@ -119,6 +112,17 @@ pub record SaidInPart (kind : Kind) (start : State) (base : ℕ) (taken : Bytes)
   pub prefix : SaysPrefix (text_of reply) (old.beside.said ++ text) new.beside.said
   pub crash : During (Acknowledged (HasCause old new) kind start (lines ++ line ∷ []) old.beside.said new.beside.said) old new
   pub stands : reply ≢ Device → Stands kind last new
+
+-- The output failed: some first lines were answered whole, and of the next line's reply a prefix was said. That line has its
+-- newline, or the input is at its end; less than one piece was taken behind it.
+pub record SaidInPart (kind : Kind) (start : State) (base : ℕ) (taken : Bytes) (old new : World) : Type 0 where
+  pub lines : List Bytes
+  pub line : Bytes
+  pub later : List Bytes
+  pub split : lines_of taken ≡ lines ++ line ∷ later
+  pub ended : ((whole : List Bytes) × (whole_lines taken ≡ lines ++ line ∷ whole)) ⊎ (new.beside.to_take ≡ [])
+  pub taken_to : TakenTo piece_bytes taken lines line
+  pub breaks : BreaksOff kind start base lines line old new
 
 -- what was said by the status, and what each image that a crash may leave at each moment stands for
 pub record Settled (kind : Kind) (status : ℕ) (start : State) (base : ℕ) (taken : Bytes) (old new : World) : Type 0 where

@@ -1,18 +1,14 @@
 -- How far a run has come.
-use Rattle.std.specs.Prelude.{◌≡◌, ◌≢◌, ◌⊎◌, ◌≤◌, ◌+◌, ◌*◌, ℕ, Bool, List, [], ◌∷◌, ◌++◌, length, flat_map, All, IsTrue}
+use Rattle.std.specs.Prelude.{◌≡◌, ◌⊎◌, ◌≤◌, ◌+◌, ◌*◌, ℕ, Bool, List, [], ◌∷◌, ◌++◌, length, flat_map, All, IsTrue}
 use Rattle.block_model.specs.Pages.{page_bytes}
 use Rattle.disk_trait.specs.World.{World}
 use Rattle.line_model.specs.Lines.{lines_of, whole_lines}
-use Rattle.line_model.specs.Replies.{Bye, Device, Reply, text_of}
-use Rattle.line_model.specs.Requests.{request_of}
+use Rattle.line_model.specs.Replies.{Bye, Reply}
 use Rattle.map_model.specs.SortedMap.{Bytes}
 use Rattle.outside.specs.During.{During}
-use Rattle.outside.specs.Streams.{SaysPrefix}
 use Rattle.state_model.specs.Script.{AtDevice, AtQuit, Ending, Script}
 use Rattle.state_model.specs.Sound.{IsSound}
 use Rattle.state_model.specs.State.{State}
-use Rattle.state_model.specs.Steps.{Step}
-use Rattle.state_model.specs.View.{state_map}
 use Rattle.store_commands.specs.Cutting.{NoNewline}
 use Rattle.store_core.specs.Answers.{HasCause}
 use Rattle.store_core.specs.Kept.{Kept}
@@ -20,11 +16,10 @@ use Rattle.store_core.specs.Tied.{Tied}
 use Rattle.surf_run.specs.Answering.{RunsOn}
 use Rattle.surf_run.specs.Causes.{EndCause, LineMoves, NoFall, RunShows, WritesWithin}
 use Rattle.surf_run.specs.Crash.{Acknowledged, Reached, Stands}
-use Rattle.surf_run.specs.Dialogue.{AreBounded, SoFar, line_bound}
+use Rattle.surf_run.specs.Dialogue.{AreBounded, SoFar}
 use Rattle.surf_run.specs.Holding.{Held, with_newline}
 use Rattle.surf_run.specs.Kind.{Kind}
-use Rattle.surf_run.specs.OneMap.{MapDialogue}
-use Rattle.surf_run.specs.Outcome.{EndsWith, TakenPast}
+use Rattle.surf_run.specs.Outcome.{BreaksOff, EndsWith, TakenPast}
 use Rattle.surf_run.specs.declared.end.LineEnd.{LineEnd}
 use Rattle.surf_run.specs.declared.end.LineEnd.TheVariants.{End, Next, Quit}
 
@@ -64,25 +59,14 @@ pub record Closed (kind : Kind) (ending : Ending) (start : State) (bytes : Bytes
   pub history : During (Acknowledged (HasCause first w) kind start lines first.beside.said w.beside.said) first w
   pub writes : WritesWithin (page_bytes * start.pages) first w
 
--- The first lines were answered whole, none of them with a last reply, and of the next line's reply a prefix was said; behind
--- that line stand less bytes than these.
+-- Some first lines were answered whole, and of the next line's reply a prefix was said; behind that line stand less bytes than
+-- these.
 pub record Broken (kind : Kind) (past : ℕ) (start : State) (base : ℕ) (bytes : Bytes) (first w : World) : Type 0 where
   pub lines : List Bytes
   pub line : Bytes
   pub first_lines : AreFirst bytes (lines ++ line ∷ [])
   pub taken_past : TakenPast past bytes (lines ++ line ∷ [])
-  pub text : Bytes
-  pub most : ℕ
-  pub now : State
-  pub ran : SoFar (HasCause first w) kind.filter_bytes (Reached kind w) (length first.beside.said) start lines text most now
-  pub one_map : MapDialogue (state_map start) lines text (state_map now)
-  pub reply : Reply
-  pub last : State
-  pub step : Step (HasCause first w) kind.filter_bytes now (request_of line) reply last
-  pub reads : AreBounded (lines ++ line ∷ []) → w.seen.reads ≤ base + most + line_bound now (request_of line)
-  pub prefix : SaysPrefix (text_of reply) (first.beside.said ++ text) w.beside.said
-  pub stands : reply ≢ Device → Stands kind last w
-  pub history : During (Acknowledged (HasCause first w) kind start (lines ++ line ∷ []) first.beside.said w.beside.said) first w
+  pub breaks : BreaksOff kind start base lines line first w
   pub writes : WritesWithin (page_bytes * start.pages) first w
 
 -- this was the last reply, to a line with its newline, behind which stand less bytes than these
