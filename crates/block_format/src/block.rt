@@ -143,25 +143,10 @@ impl<'a> Block<'a> {
     }
 }
 
-/// Where the entries of the block that these bytes spell stand, from a key on where there is a bound, or the first rule of
-/// the format that the bytes break, and where.
+/// The sum of all these bytes, and where the entries of the block that they spell stand, from a key on where there is a bound,
+/// or the first rule of the format that the bytes break, and where.
 ///
-/// One pass over the bytes, as by [`Block::read`], and with a bound another up to it. No memory.
-pub fn read_span(bytes: &[u8], low: Option<&[u8]>) -> Result<EntrySpan, BlockFault>
-    ensures broken { IfErr result (λ found. block_fault bytes.now ≡ Some (seen found)) }
-    ensures place { IfErr result (λ found. found.place ≤ length bytes.now) }
-    ensures whole { IfOk result (λ _. block_fault bytes.now ≡ None) }
-    ensures stands { IfOk result (λ span. StandsIn span bytes.now) }
-    ensures entries { IfOk result (λ span. spanned span bytes.now ≡ kept_from (option_map (λ k. k.now) low.entry) (block_in bytes.now)) }
-    ensures some { low.entry ≡ None → IfOk result (λ span. 1 ≤ span.left) }
-    ensures sound { IfOk result (λ span. AllByRecursion IsEntry (spanned span bytes.now)) }
-{
-    let judged = judge(bytes, b"", false).1?;
-    Ok(from_judged(bytes, judged, low))
-}
-
-/// The sum of all these bytes, and what [`read_span`] answers of them. One pass over the bytes, as by
-/// [`Block::read_sum_and_find`], and with a bound another up to it. No memory.
+/// One pass over the bytes, as by [`Block::read_sum_and_find`], and with a bound another up to it. No memory.
 pub fn read_sum_and_span(bytes: &[u8], low: Option<&[u8]>) -> (u64, Result<EntrySpan, BlockFault>)
     ensures sum { result.0 ≡ fnv_of bytes.now }
     ensures broken { IfErr result.1 (λ found. block_fault bytes.now ≡ Some (seen found)) }

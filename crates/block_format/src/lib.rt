@@ -5,11 +5,9 @@
 //! [`Block::find`] and a [`BlockCursor`] hand out are parts of the bytes that were read. [`BlockBuilder`] keeps the
 //! entries of the next block as they will be written, and appends it in whole pages.
 //!
-//! Whoever keeps the bytes of a block and cannot keep a cursor that borrows them asks [`read_span`] where the entries
-//! stand, and takes them one by one with [`EntrySpan::next`].
-//!
-//! Bytes that were read just now are also to be summed: [`read_sum_and_span`] and [`Block::read_sum_and_find`] do it in the
-//! pass that judges them.
+//! Bytes that were read just now are also to be summed: [`Block::read_sum_and_find`] does it in the pass that judges them.
+//! Whoever keeps the bytes and cannot keep a cursor that borrows them asks [`read_sum_and_span`] where the entries stand,
+//! and takes them one by one with [`EntrySpan::next`].
 //!
 //! Finding goes from entry to entry, since entries have no index: half a page at the mean. Not for tables as a whole.
 //!
@@ -28,7 +26,7 @@ mod entry;
 mod fault;
 mod span;
 
-pub use block::{Block, read_span, read_sum_and_span};
+pub use block::{Block, read_sum_and_span};
 pub use builder::BlockBuilder;
 pub use cursor::BlockCursor;
 pub use fault::BlockFault;

@@ -11,7 +11,7 @@ use std::test::Fail;
 // How many pairs of keys there are.
 const PAIRS: u16 = 2_048;
 
-// How many levels of their trie are dense, as by ratio 64.
+// How many levels of their trie are dense.
 const CUTOFF: u16 = 2;
 
 // A pair of keys: their first letters, so many m, and last an a or a b.

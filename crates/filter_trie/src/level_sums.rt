@@ -47,9 +47,9 @@ struct SummedLevel {
 impl<A: Allocator> Trie<A> {
     /// Keeps the sums of one level: of the first sparse one at which they take a bit for four places of the sparse half or
     /// less. Where a node of it has more than 256 leaves below, a level more than twice as deep is tried, and so on; there may
-    /// be none. Of eleven levels at most each node, and each node behind them, is looked at twice at most; two blocks of memory
-    /// are taken. The trie stands for the same list, and what is counted is the same; without the sums it is counted level by
-    /// level.
+    /// be none. Of eleven levels at most each node, and each node behind them, is looked at twice at most; one block of memory
+    /// is taken for each level that is tried, and one in the end. The trie stands for the same list, and what is counted is the
+    /// same; without the sums it is counted level by level.
     pub fn keep_sums(&mut self, alloc: A) -> Result<(), AllocError>
     where
         A: Clone,
