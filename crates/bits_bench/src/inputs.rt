@@ -10,6 +10,7 @@ pub struct Numbers {
 }
 
 impl Numbers {
+    /// The sequence that follows from a seed.
     pub fn new(seed: u64) -> Numbers {
         Numbers { state: seed }
     }

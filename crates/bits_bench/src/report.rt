@@ -9,6 +9,7 @@ pub struct Watch {
 }
 
 impl Watch {
+    /// Begins now.
     pub fn start(rt: &impl CpuClock) -> io::Result<Watch> {
         Ok(Watch {
             start: rt.thread_cpu_time()?,
@@ -31,6 +32,7 @@ pub struct Race {
 }
 
 impl Race {
+    /// More than anything takes.
     pub fn new() -> Race {
         Race {
             kernel: 1e300,
@@ -38,6 +40,7 @@ impl Race {
         }
     }
 
+    /// Keeps the nanoseconds of a round where they are fewer.
     pub fn keep(&mut self, kernel: f64, plain: f64) {
         if kernel < self.kernel {
             self.kernel = kernel;

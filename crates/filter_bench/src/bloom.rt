@@ -20,6 +20,7 @@ pub struct Bloom {
 }
 
 impl Bloom {
+    /// The filter of these keys.
     pub fn new(alloc: Global, keys: &KeyList) -> Result<Box<Bloom>, AllocError> {
         let count = keys.len().saturating_mul(KEY_BITS);
         let mut words = vec![in alloc; 0u64; count.div_ceil(64)]?;

@@ -8,6 +8,7 @@ pub struct Numbers {
 }
 
 impl Numbers {
+    /// The sequence that follows from a seed.
     pub fn new(seed: u64) -> Numbers {
         Numbers { state: seed }
     }

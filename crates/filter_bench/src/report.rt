@@ -13,6 +13,7 @@ pub struct Watch {
 }
 
 impl Watch {
+    /// Begins now.
     pub fn start(rt: &impl CpuClock) -> io::Result<Watch> {
         Ok(Watch {
             start: rt.thread_cpu_time()?,
@@ -38,6 +39,7 @@ impl Least {
         Least { nanoseconds: 1e300 }
     }
 
+    /// Keeps the time of a round where it is less.
     pub fn keep(&mut self, nanoseconds: f64) {
         if nanoseconds < self.nanoseconds {
             self.nanoseconds = nanoseconds;

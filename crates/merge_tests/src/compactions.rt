@@ -81,7 +81,7 @@ fn live_pairs_stand_in_one_table(rt: HostRuntime) -> Result<(), Fail> {
     Ok(())
 }
 
-// A slice behind a change, which may be refused.
+// A merge slice behind a change, which may be refused.
 fn slice(store: &mut PlainStore, disk: &mut MemDisk) -> Result<(), StoreError> {
     store.tend(disk, 8)?;
     Ok(())

@@ -2,7 +2,7 @@
 //! random scripts beside the plain program.
 //!
 //! Nothing is exported. What the tests show at some values `level_merge`, `store_core` and `plain_store` prove at all;
-//! here the bytes that a merge leaves, changes between slices, faults, crashes and reopenings come together.
+//! here the bytes that a merge leaves, changes between merge slices, faults, crashes and reopenings come together.
 #![tactic(auto)]
 
 #[cfg(test)]

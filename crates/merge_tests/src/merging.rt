@@ -1,4 +1,4 @@
-//! Merges of tables, in slices.
+//! Merges of tables, in merge slices.
 ghost use Rattle.std.specs.Prelude.{IfOk};
 ghost use Rattle.merge_rows.specs.Steps.{AreNumbersIn, numbers};
 
@@ -54,7 +54,7 @@ fn begun(alloc: Global, tables: &Tables<PlainFilter>) -> Result<Box<Merge<'stati
     Ok(Box::new(alloc, job)?)
 }
 
-// How many slices of so many blocks each answer that something is left, and what the next one answers.
+// How many merge slices of so many blocks each answer that something is left, and what the next one answers.
 fn slices(
     job: &mut Merge<'_>,
     disk: &mut MemDisk,

@@ -1,4 +1,5 @@
-//! Random scripts over a store, with a slice behind each put and delete, beside the same scripts as they are played.
+//! Random scripts over a store, with a merge slice behind each put and delete, beside the same scripts as they are
+//! played.
 use disk_mem::MemDisk;
 use plain_filter::PlainFilter;
 use plain_store::{Answer, Reply, Request, State, ask, choose, sliced};
@@ -247,7 +248,7 @@ fn replies_so(
     }
 }
 
-// A slice of so many blocks behind a put or a delete: whether it is refused.
+// A merge slice of so many blocks behind a put or a delete: whether it is refused.
 fn slice_is_refused(
     store: &mut PlainStore,
     disk: &mut MemDisk,
@@ -288,7 +289,8 @@ fn to_read(alloc: Global, state: &State) -> Result<Option<u64>, AllocError> {
     Ok(Some(blocks))
 }
 
-// The played state behind a slice of the store: where fewer blocks are left than it may read, it goes on to the install.
+// The played state behind a merge slice of the store: where fewer blocks are left than it may read, it goes on to the
+// install.
 fn behind_slice(alloc: Global, blocks: u64, state: Box<State>) -> Result<Box<State>, AllocError> {
     let Some(left) = to_read(alloc, &state)? else {
         return Ok(state);
@@ -306,7 +308,7 @@ fn behind_slice(alloc: Global, blocks: u64, state: Box<State>) -> Result<Box<Sta
     Ok(state)
 }
 
-// The played state behind a request that was answered so, and behind the slice of a put or a delete.
+// The played state behind a request that was answered so, and behind the merge slice of a put or a delete.
 fn behind(
     alloc: Global,
     blocks: u64,
@@ -333,7 +335,7 @@ fn has_map(alloc: Global, disk: &mut MemDisk, state: &State) -> Result<bool, Fai
 }
 
 // How a script goes over a store and in a played state: the first line with another reply, their number where another
-// map is found in the end, and how many lines and slices of the store are refused.
+// map is found in the end, and how many lines and merge slices of the store are refused.
 #[derive(Clone, Copy, Debug, PartialEq, Eq)]
 struct Compared {
     other: Option<usize>,
@@ -347,7 +349,8 @@ fn is_refused(reply: &Reply) -> bool {
     )
 }
 
-// A script over a store of so many pages, with slices of so many blocks, and as it is played in slices of others.
+// A script over a store of so many pages, with merge slices of so many blocks, and as it is played in merge slices of
+// others.
 fn side_by_side(
     alloc: Global,
     script: &[Request<'_>],
@@ -397,7 +400,8 @@ fn a_store_in_slices_replies_as_it_is_played_in_them(rt: HostRuntime) -> Result<
     Ok(())
 }
 
-// Where nothing is refused, slices of any number of blocks give the replies of whole merges, which 1,000 blocks are here.
+// Where nothing is refused, merge slices of any number of blocks give the replies of whole merges, which 1,000 blocks
+// are here.
 #[test]
 fn replies_are_the_same_in_all_slices(rt: HostRuntime) -> Result<(), Fail> {
     let alloc = rt.alloc();

@@ -1,4 +1,4 @@
-//! Calls of a slice and of a compaction that fail, and what a crash then leaves.
+//! Calls of a merge slice and of a compaction that fail, and what a crash then leaves.
 use crate::tended::{FOUR, has_keys, tended};
 use disk_mem::MemDisk;
 use disk_trait::{DiskFault, Op};
@@ -26,8 +26,8 @@ fn done(store: &mut PlainStore, disk: &mut MemDisk, work: Work) -> Result<(), St
     }
 }
 
-// The calls of a merge in one slice: four blocks are read, a table is written and synced, then the gate of the slot
-// that is not in use is closed, its body is written, and its gate is opened.
+// The calls of a whole merge in one merge slice: four blocks are read, a table is written and synced, then the gate of
+// the slot that is not in use is closed, its body is written, and its gate is opened.
 const SLICE: [Op; 14] = [
     Op::Read,
     Op::Read,

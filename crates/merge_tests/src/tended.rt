@@ -15,8 +15,8 @@ pub const FOUR: [Change<'static>; 8] = [
     Change::Flush,
 ];
 
-/// Slices of so many blocks each, until nothing is to be merged: how many worked, and how many blocks one of them read
-/// at most.
+/// Merge slices of so many blocks each, until nothing is to be merged: how many worked, and how many blocks one of them
+/// read at most.
 pub fn tended(
     store: &mut PlainStore,
     disk: &mut MemDisk,

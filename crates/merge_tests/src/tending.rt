@@ -1,4 +1,4 @@
-//! Merges of a store, a slice at a call.
+//! Merges of a store, a merge slice at a call.
 use crate::tended::{FOUR, has_keys, tended};
 use disk_mem::MemDisk;
 use std::alloc::Global;
@@ -75,7 +75,7 @@ fn a_block_at_a_slice(rt: HostRuntime) -> Result<(), Fail> {
     Ok(())
 }
 
-// Slices of one block, with a put and a flush behind the first so many of them.
+// Merge slices of one block, with a put and a flush behind the first so many of them.
 fn with_flush(alloc: Global, disk: &mut MemDisk, slices: u64) -> Result<bool, Fail> {
     let mut store = changed(alloc, disk, &FOUR)?;
     for _ in 0..slices {
@@ -88,7 +88,8 @@ fn with_flush(alloc: Global, disk: &mut MemDisk, slices: u64) -> Result<bool, Fa
     Ok(before && has_keys(&mut store, disk, b"abcde"))
 }
 
-// Without a slice before it the flush makes a fifth table, which is merged with the others; else it stays before them.
+// Without a merge slice before it the flush makes a fifth table, which is merged with the others; else it stays before
+// them.
 #[test]
 fn a_flush_between_two_slices(rt: HostRuntime) -> Result<(), Fail> {
     for slices in 1..5 {

@@ -6,6 +6,7 @@ use std::os::unix::fs::FileExt;
 // Behind both log areas.
 const AT: u64 = 1 << 20;
 
+/// A file that is written and synced, and nothing else.
 #[derive(Drop)]
 pub struct BareFile {
     file: File,

@@ -14,6 +14,7 @@ pub struct Records {
 }
 
 impl Records {
+    /// Begins the log, and takes a buffer for the longest record.
     pub fn start(alloc: Global, disk: &mut FileOutside) -> Result<Box<Records>> {
         let Ok(log) = Log::start(disk, 0) else {
             bail!("the log cannot be begun");

@@ -13,6 +13,7 @@ pub struct Times {
 }
 
 impl Times {
+    /// None yet.
     pub fn new() -> Times {
         Times {
             count: 0,
@@ -21,6 +22,7 @@ impl Times {
         }
     }
 
+    /// Adds the time of an append and that of two bare pairs.
     pub fn add(&mut self, append: Duration, bare: Duration) {
         self.count = self.count.saturating_add(1);
         self.appends = self.appends.saturating_add(append);

@@ -11,8 +11,8 @@ const TABLES: u16 = 1_024;
 
 const BODY_BYTES: usize = 65_600;
 
-// Makes a put and a flush for each table, with keys that fall: so the rows, the newest first, have keys that rise. No slice of a
-// merge comes between them.
+// Makes a put and a flush for each table, with keys that fall: so the rows, the newest first, have keys that rise. No
+// merge slice comes between them.
 fn fill(alloc: Global, disk: &mut MemDisk) -> Result<(), Fail> {
     let mut store = opened(alloc, disk)?;
     for number in 0..TABLES {

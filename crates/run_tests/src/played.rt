@@ -249,7 +249,7 @@ fn bound_of<F: RangeFilter>(
     }
 }
 
-// The state behind a request and its merge, which has eight blocks at most here, so one slice does it whole.
+// The state behind a request and its merge, which has eight blocks at most here, so one merge slice does it whole.
 fn tended<F: RangeFilter>(
     alloc: Global,
     state: &State,

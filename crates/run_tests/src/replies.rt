@@ -58,7 +58,7 @@ const ROWS: [(&[u8], &[u8]); 16] = [
     (b"quit\nget 61\n", b"bye\n"),
 ];
 
-// The sum of the manifest's body with the epoch 2^64 - 1, least byte first.
+/// The sum of the manifest's body with the epoch 2^64 - 1, least byte first.
 pub const LAST_EPOCH_SUM: [u8; 8] = [0x6a, 0x42, 0x79, 0xfb, 0xdb, 0x1d, 0x01, 0xbb];
 
 // The first row whose lines get other replies by this kind of filter.

@@ -1,4 +1,4 @@
-//! Slices of merges behind puts and deletes.
+//! Merge slices behind puts and deletes.
 use crate::faults::push_large;
 use crate::runs::{
     base_disk, calls_of, check, disk_of, failing, left_behind, lost, served, written,
@@ -16,12 +16,13 @@ const GETS: &[u8] = b"get 61\nget 62\nget 63\nget 64\nget 65\n";
 
 const FOUND: &[u8] = b"val 01\nval 02\nval 03\nval 04\nval 05\n";
 
-/// A disk of a store with four tables of a pair each, which the next slice makes one.
+/// A disk of a store with four tables of a pair each, which the next merge slice makes one.
 pub fn four_tables(alloc: Global) -> Result<Box<MemDisk>, Fail> {
     left_behind(alloc, base_disk(alloc)?, FOUR_TABLES)
 }
 
-// Four blocks are one slice: behind the put the tables are one. A limit has a slice behind it too, a bad line has none.
+// Four blocks are one merge slice: behind the put the tables are one. A limit has a merge slice behind it too, a bad
+// line has none.
 const ROWS: [(&[u8], &[u8]); 4] = [
     (
         b"explain 61\nput 65 05\nexplain 61\n",
@@ -62,7 +63,8 @@ fn outlasts(alloc: Global, disk: &MemDisk) -> Result<bool, Fail> {
     Ok(has_all(alloc, lost(alloc, disk)?)? && has_all(alloc, written(alloc, disk)?)?)
 }
 
-// Behind the opening and the four calls of the put each call of the slice fails in turn: the reply was said, and no line more is.
+// Behind the opening and the four calls of the put each call of the merge slice fails in turn: the reply was said, and
+// no line more is.
 #[test]
 fn a_fault_in_a_slice_ends_the_run(rt: HostRuntime) -> Result<(), Fail> {
     let alloc = rt.alloc();
@@ -102,7 +104,8 @@ fn twelve_blocks(alloc: Global) -> Result<Box<MemDisk>, Fail> {
     left_behind(alloc, base_disk(alloc)?, &lines)
 }
 
-// Twelve blocks are two slices. Between them a flush puts its table in front, and all is found; a next run begins anew.
+// Twelve blocks are two merge slices. Between them a flush puts its table in front, and all is found; a next run begins
+// anew.
 #[test]
 fn a_merge_goes_on_behind_the_next_put(rt: HostRuntime) -> Result<(), Fail> {
     let alloc = rt.alloc();

@@ -62,6 +62,7 @@ pub struct Counted<D: Disk + Drop> {
 }
 
 impl<D: Disk + Drop> Counted<D> {
+    /// A disk through which nothing went yet.
     pub fn new(disk: D) -> Counted<D> {
         Counted {
             disk,

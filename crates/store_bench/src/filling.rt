@@ -1,4 +1,4 @@
-//! A store that is filled by puts in random order, each with its slice of a merge behind it, as the program makes them.
+//! A store that is filled by puts in random order, each with its merge slice behind it, as the program makes them.
 use crate::counted::{Device, Traffic};
 use crate::keys::{draw_in_turn, queries_elsewhere};
 use crate::load::{Load, Wanted};
@@ -15,7 +15,7 @@ use store_core::Store;
 // The bytes of a key.
 const KEY_BYTES: usize = 8;
 
-/// What the slices behind all puts came to.
+/// What the merge slices behind all puts came to.
 #[derive(Clone, Copy)]
 pub struct Slices {
     /// How many had something to do.
@@ -50,8 +50,8 @@ impl Slices {
     }
 }
 
-/// Fills a store, and prints what that wrote and, where times are wanted, what the slices took; then compacts it, and prints how
-/// many blocks are read for what is not there.
+/// Fills a store, and prints what that wrote and, where times are wanted, what the merge slices took; then compacts it,
+/// and prints how many blocks are read for what is not there.
 pub fn fill_and_print<F: RangeFilter>(
     rt: &(impl CpuClock + Print),
     alloc: Global,
@@ -86,7 +86,7 @@ fn fill<F: RangeFilter>(
     Ok(slices)
 }
 
-// The slice behind a put.
+// The merge slice behind a put.
 fn slice<F: RangeFilter>(
     rt: &impl CpuClock,
     disk: &mut Device,

@@ -15,8 +15,8 @@ pub struct Query {
     pub place: Option<usize>,
 }
 
-/// A sequence of random numbers, a linear congruence whose high bits are folded down: none comes twice before each has come
-/// once.
+// A sequence of random numbers, a linear congruence whose high bits are folded down: none comes twice before each has come
+// once.
 #[derive(Drop)]
 struct Numbers {
     state: u64,

@@ -11,7 +11,8 @@ pub enum Wanted {
     Counts,
     /// What a merge takes beside its floor.
     Merge,
-    /// What puts and their slices write, the longest slice, and what a compacted store reads for what is not there.
+    /// What puts and their merge slices write, the longest merge slice, and what a compacted store reads for what is
+    /// not there.
     Puts,
 }
 

@@ -79,7 +79,7 @@ fn merge_once<F: RangeFilter>(
     Ok(())
 }
 
-// Slices, until nothing is to be done: how many did something, fewer than so many.
+// Merge slices, until nothing is to be done: how many did something, fewer than so many.
 fn merge<F: RangeFilter>(disk: &mut Device, store: &mut Store<F>, most: usize) -> Result<u64> {
     for slices in 0..most {
         if !tend(disk, store)? {

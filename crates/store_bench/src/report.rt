@@ -12,6 +12,7 @@ pub struct Watch {
 }
 
 impl Watch {
+    /// Begins now.
     pub fn start(rt: &impl CpuClock) -> io::Result<Watch> {
         Ok(Watch {
             start: rt.thread_cpu_time()?,
@@ -32,12 +33,14 @@ pub struct Least {
 }
 
 impl Least {
+    /// More than anything takes.
     pub fn new() -> Least {
         Least {
             time: Duration::from_secs(1_000_000),
         }
     }
 
+    /// Keeps the time of a round where it is less.
     pub fn keep(&mut self, time: Duration) {
         self.time = self.time.min(time);
     }
@@ -56,6 +59,7 @@ pub struct Measured {
 }
 
 impl Measured {
+    /// Nothing measured yet.
     pub fn new() -> Measured {
         Measured {
             call: Least::new(),
@@ -79,7 +83,7 @@ pub fn print(rt: &impl Print, name: &str, times: (f64, f64)) -> io::Result<()> {
     )
 }
 
-/// Prints what the slices behind all puts came to, with their times where they are wanted.
+/// Prints what the merge slices behind all puts came to, with their times where they are wanted.
 pub fn print_slices(rt: &impl Print, timed: bool, slices: &Slices) -> io::Result<()> {
     println!(rt;
         "{} slices with something to do: at most {} blocks read and {} bytes written",

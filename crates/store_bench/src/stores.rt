@@ -11,7 +11,7 @@ use store_core::{Store, Tended};
 // The pages of the device.
 const PAGES: u64 = 65_536;
 
-// How many blocks a slice may read: so many as the program reads behind a put.
+// How many blocks a merge slice may read: so many as the program reads behind a put.
 const SLICE_BLOCKS: u32 = 8;
 
 /// An empty store in the place of what stands there.
@@ -41,6 +41,7 @@ pub fn value_of(alloc: Global, load: &Load) -> Result<Vec<u8>, AllocError> {
     Ok(value)
 }
 
+/// Puts a value under the eight bytes of a number, highest first.
 pub fn put<F: RangeFilter>(
     disk: &mut Device,
     store: &mut Store<F>,
@@ -53,6 +54,7 @@ pub fn put<F: RangeFilter>(
     }
 }
 
+/// Makes the memory a table.
 pub fn flush<F: RangeFilter>(disk: &mut Device, store: &mut Store<F>) -> Result<()> {
     match store.flush(disk) {
         Ok(()) => Ok(()),
@@ -60,7 +62,7 @@ pub fn flush<F: RangeFilter>(disk: &mut Device, store: &mut Store<F>) -> Result<
     }
 }
 
-/// A slice of a merge: whether there was something to be done.
+/// A merge slice: whether there was something to be done.
 pub fn tend<F: RangeFilter>(disk: &mut Device, store: &mut Store<F>) -> Result<bool> {
     match store.tend(disk, SLICE_BLOCKS) {
         Ok(Tended::Worked) => Ok(true),
@@ -70,6 +72,7 @@ pub fn tend<F: RangeFilter>(disk: &mut Device, store: &mut Store<F>) -> Result<b
     }
 }
 
+/// Merges all that the store holds.
 pub fn compact<F: RangeFilter>(disk: &mut Device, store: &mut Store<F>) -> Result<()> {
     match store.compact(disk) {
         Ok(()) => Ok(()),

@@ -10,6 +10,7 @@ pub struct Watch {
 }
 
 impl Watch {
+    /// Begins now.
     pub fn start(rt: &impl CpuClock) -> io::Result<Watch> {
         Ok(Watch {
             start: rt.thread_cpu_time()?,
@@ -30,12 +31,14 @@ pub struct Least {
 }
 
 impl Least {
+    /// More than anything takes.
     pub fn new() -> Least {
         Least {
             time: Duration::from_secs(1_000_000),
         }
     }
 
+    /// Keeps the time of a round where it is less.
     pub fn keep(&mut self, time: Duration) {
         self.time = self.time.min(time);
     }
@@ -54,6 +57,7 @@ pub struct Measured {
 }
 
 impl Measured {
+    /// Nothing measured yet.
     pub fn new() -> Measured {
         Measured {
             call: Least::new(),

@@ -1,4 +1,4 @@
-// Merges of a memory table and tables, beside a plain body that looks each key up.
+//! Merges of a memory table and tables, beside a plain body that looks each key up.
 ghost use Rattle.std.specs.Prelude.{◌≡◌, IfOk, IfSome};
 ghost use Rattle.std.specs.List.{AllByRecursion};
 ghost use Rattle.entry_model.specs.Entries.{IsEntry};
