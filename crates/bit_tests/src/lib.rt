@@ -5,10 +5,10 @@
 #![tactic(auto)]
 
 #[cfg(test)]
+mod examples;
+#[cfg(test)]
 mod labels;
 #[cfg(test)]
 mod lengths;
 #[cfg(test)]
 mod patterns;
-#[cfg(test)]
-mod rows;

@@ -1,4 +1,6 @@
+pub use Rattle.filter_model.specs.Answers
 pub use Rattle.filter_trie.specs.Laws
+pub use Rattle.key_base.specs.Limits
 pub mod Counts
 pub mod Borders
 pub mod Cuts

@@ -19,9 +19,11 @@ mod cursors;
 #[cfg(test)]
 mod cutoffs;
 #[cfg(test)]
-mod filter_images;
+mod examples;
 #[cfg(test)]
-mod filter_rows;
+mod filter_examples;
+#[cfg(test)]
+mod filter_images;
 #[cfg(test)]
 mod filter_sets;
 #[cfg(test)]
@@ -52,8 +54,6 @@ mod places;
 mod plain;
 #[cfg(test)]
 mod ranges;
-#[cfg(test)]
-mod rows;
 #[cfg(test)]
 mod sections;
 #[cfg(test)]

@@ -1,4 +1,4 @@
--- Why a slice of a merge is refused.
+-- Why a merge slice is refused.
 use Rattle.extent_map.specs.declared.extents.NoGap.{NoGap}
 use Rattle.level_merge.specs.declared.fault.JobFault.{JobFault}
 use Rattle.level_merge.specs.declared.fault.JobFault.TheVariants as job

@@ -1,4 +1,4 @@
--- A merge that follows a job goes on to follow it, whatever is done between two slices.
+-- A merge that follows a job goes on to follow it, whatever is done between two merge slices.
 use Rattle.std.specs.Prelude.{◌≡◌, ◌<◌, ◌-◌, ◌++◌, ℕ, Bool, List, [], ◌∷◌, length, map, Option, Some}
 use Rattle.std.specs.List.{AllByRecursion}
 use Rattle.disk_trait.specs.Image.{Image}

@@ -1,4 +1,4 @@
--- A merge that runs in memory is the job of a state, and what a slice makes of both.
+-- A merge that runs in memory is the job of a state, and what a merge slice makes of both.
 use Rattle.std.specs.Prelude.{◌≡◌, ◌≢◌, ◌⊎◌, ◌<◌, List, map, Some, Err, Result, MatchResult}
 use Rattle.std.specs.List.Sorted.{IsPermutation}
 use Rattle.disk_trait.specs.Image.{Image}
@@ -64,7 +64,8 @@ pub record SlicesTo (spelling : Spelling) (filter_bytes : FilterBytes) (s : Stat
   pub taken_are : AreTaken s later extents
   pub said : IsSliced s job later sliced
 
--- What a slice makes of a merge that follows a job of a state: the job goes on and is followed, or the slice is refused with its cause.
+-- What a merge slice makes of a merge that follows a job of a state: the job goes on and is followed, or the slice is refused with
+-- its cause.
 abbrev pub Slices : Spelling → FilterBytes → State → Job → List Opened → Merging → Merging → Taken → Result Sliced JobFault → World → World → Type 0
 Slices spelling filter_bytes s job opened old new extents result before after =
     MatchResult result (SlicesTo spelling filter_bytes s job opened old new extents before after) (IsJobRefusal filter_bytes s job before after)

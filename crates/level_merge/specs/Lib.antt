@@ -1,6 +1,11 @@
 pub use Rattle.table_file.specs.Opened
 pub use Rattle.table_file.specs.TableLists
 pub use Rattle.state_model.specs.Merges
+pub use Rattle.entry_model.specs.Entries
+pub use Rattle.filter_api.specs.Ranges
+pub use Rattle.key_base.specs.Limits
+pub use Rattle.merge_rows.specs.Steps
+pub use Rattle.table_model.specs.Tables
 pub mod Plans
 pub mod Outlines
 pub mod Merging

@@ -1,4 +1,4 @@
--- What a merge still makes of its tables, which tables it has made, and what a slice makes of that.
+-- What a merge still makes of its tables, which tables it has made, and what a merge slice makes of that.
 use Rattle.std.specs.Prelude.{◌≡◌, ◌≢◌, ◌⊎◌, ◌<◌, ◌≤◌, ◌++◌, ℕ, List, [], ◌∷◌, map, length, Some, Result, MatchResult}
 use Rattle.std.specs.List.Sorted.{IsPermutation}
 use Rattle.disk_trait.specs.Image.{Image}
@@ -59,7 +59,7 @@ abbrev pub IsSaid : List Opened → Merging → Merging → List (List Entry) �
 IsSaid opened old new later made now sliced.Working = (blocks_left opened new.merge.walks < blocks_left opened old.merge.walks) ⊎ (length made < length now)
 IsSaid opened old new later made now sliced.Ready = (blocks_left opened new.merge.walks ≡ 0) × (later ≡ [])
 
--- A slice that is done: no more blocks are left than before, one output was made or none, the tables that are read and those
+-- A merge slice that is done: no more blocks are left than before, one output was made or none, the tables that are read and those
 -- that are made stand on the device as it is then, and those that are made on each image that a crash may leave where they did
 -- before.
 pub record MakesOn (spelling : Spelling) (filter_bytes : FilterBytes) (opened : List Opened) (tables : List Table) (old new : Merging) (left : List (List Entry)) (made : List Table)
@@ -89,7 +89,7 @@ IsMakeRefusal filter_bytes opened m left free before after (fault.Full need gap)
     (output : List Entry) × (later : List (List Entry)) × (left ≡ output ∷ later) × (need ≡ table_pages filter_bytes m.settings output)
     × (gap ≡ largest_gap free.pages free.extents) × (gap < need)
 
--- what a slice makes of a merge that makes these outputs
+-- what a merge slice makes of a merge that makes these outputs
 abbrev pub MakesOrNot : Spelling → FilterBytes → List Opened → List Table → Merging → Merging → List (List Entry) → List Table → List Extent → Taken → Taken → Result Sliced JobFault
     → World → World → Type 0
 MakesOrNot spelling filter_bytes opened tables old new left made others free taken result before after =

@@ -1,4 +1,4 @@
--- What a slice does of a merge.
+-- What a merge slice does of its merge.
 use Rattle.std.specs.Prelude.{◌≡◌, ◌≢◌, ◌⊎◌, ◌<◌, ◌≤◌, ◌+◌, ◌-◌, ◌*◌, ℕ, Bool, true, List, [], ◌∷◌, ◌++◌, length, IsTrue}
 use Rattle.std.specs.List.{AllByRecursion}
 use Rattle.std.specs.List.Sorted.{IsPermutation}
@@ -98,7 +98,7 @@ abbrev pub WritesOutput : Spelling → (ℕ → List Leaf → ℕ) → Merging �
 WritesOutput spelling built_cutoff old new free taken before after =
     WritesPlaced spelling built_cutoff (built_of old) old.output old.outputs new.outputs free taken before after
 
--- ---- a slice
+-- ---- a merge slice
 
 -- the row of a table of some entries, with the merge's settings and on its level
 pub record IsRowOf (spelling : Spelling) (built_cutoff : ℕ → List Leaf → ℕ) (m : Merging) (row : Row) : Type 0 where

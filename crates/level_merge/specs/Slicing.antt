@@ -1,4 +1,4 @@
--- What a slice does, whole.
+-- What a merge slice does, whole.
 use Rattle.std.specs.Prelude.{◌≡◌, ◌<◌, ◌≤◌, ◌+◌, ℕ, Bool, List, Result, IsTrue, IfOk, IfErr, OnOk}
 use Rattle.disk_trait.specs.World.{World}
 use Rattle.extent_map.specs.Taken.{Taken}

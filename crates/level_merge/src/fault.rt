@@ -1,4 +1,4 @@
-//! What a slice of a merge is answered.
+//! What a merge slice is answered.
 ghost use Rattle.std.specs.Prelude.{◌≡◌};
 ghost use Rattle.level_merge.specs.Faults.{of_gap, of_table_fault};
 ghost use Rattle.level_merge.specs.declared.fault.JobFault.TheVariants.{Device, Memory};
@@ -9,7 +9,7 @@ use extent_map::NoGap;
 use std::alloc::AllocError;
 use table_file::TableFault;
 
-/// How far a merge is after a slice.
+/// How far a merge is after a merge slice.
 #[derive(Clone, Copy, Debug, PartialEq, Eq)]
 pub enum Sliced {
     /// Something is left to read or to write.
@@ -18,7 +18,7 @@ pub enum Sliced {
     Ready,
 }
 
-/// Why a slice is refused. The merge can only be dropped then.
+/// Why a merge slice is refused. The merge can only be dropped then.
 #[derive(Clone, Copy, Debug, PartialEq, Eq)]
 pub enum JobFault {
     /// There is no memory.

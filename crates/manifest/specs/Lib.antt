@@ -1,5 +1,12 @@
+pub use Rattle.byte_fields.specs.declared.parts
+pub use Rattle.disk_trait.specs.World
+pub use Rattle.filter_api.specs.Ranges
+pub use Rattle.key_base.specs.Limits
+pub use Rattle.manifest_model.specs.Installs
+pub use Rattle.manifest_model.specs.Laws
 pub use Rattle.manifest_model.specs.NewVersion
 pub use Rattle.manifest_model.specs.Slots
+pub use Rattle.manifest_model.specs.Version
 pub mod Manifest
 pub mod Causes
 pub mod Steps

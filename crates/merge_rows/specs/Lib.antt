@@ -1,7 +1,10 @@
+pub use Rattle.block_model.specs.Places
+pub use Rattle.disk_trait.specs.Image
 pub use Rattle.disk_trait.specs.World
 pub use Rattle.entry_model.specs.Entries
 pub use Rattle.entry_model.specs.Newest
 pub use Rattle.mem_table.specs.Table
+pub use Rattle.table_file.specs.Faults
 pub use Rattle.table_file.specs.Opened
 pub use Rattle.table_file.specs.Search
 pub use Rattle.table_file.specs.TableLists

@@ -1,3 +1,4 @@
+pub use Rattle.filter_api.specs.declared.settings
 pub mod CommandLine
 pub mod Loads
 pub mod NewStores

@@ -34,7 +34,7 @@ fn change(
 }
 
 // Lines that make tables, changes of the body at a byte, which has so many bytes before its sum, and what a get is told.
-type Row = (
+type Example = (
     &'static [u8],
     u64,
     &'static [(usize, u8)],
@@ -44,7 +44,7 @@ type Row = (
 
 // A filter of no suffix bits, under settings of eight hash bits in slot B: its widths are at byte 5 of its page, the third of
 // the table. And two tables with one key, named as tables of level 1 in slot A: the second row is told.
-const ROWS: [Row; 2] = [
+const EXAMPLES: [Example; 2] = [
     (
         b"put 61 62\nflush\n",
         131_080,
@@ -64,7 +64,7 @@ const ROWS: [Row; 2] = [
 #[test]
 fn parts_that_do_not_fit_are_told(rt: HostRuntime) -> Result<(), Fail> {
     let alloc = rt.alloc();
-    for (number, (lines, body, changes, length, told)) in ROWS.iter().copied().enumerate() {
+    for (number, (lines, body, changes, length, told)) in EXAMPLES.iter().copied().enumerate() {
         let mut end = served(alloc, base_disk(alloc)?, lines)?;
         change(&mut end.disk, body, changes, length)?;
         let again = served(alloc, end.disk, b"get 61\n")?;

@@ -6,7 +6,7 @@ use plain_filter::PlainFilter;
 use std::alloc::{AllocError, Global};
 use std::test::Fail;
 
-const ROWS: [(&[u8], &[u8]); 16] = [
+const EXAMPLES: [(&[u8], &[u8]); 16] = [
     (b"put 61 62\nget 61\nquit\n", b"ok\nval 62\nbye\n"),
     (b"put 61 -\nget 61\nget 62\n", b"ok\nval -\nnone\n"),
     (
@@ -61,12 +61,12 @@ const ROWS: [(&[u8], &[u8]); 16] = [
 /// The sum of the manifest's body with the epoch 2^64 - 1, least byte first.
 pub const LAST_EPOCH_SUM: [u8; 8] = [0x6a, 0x42, 0x79, 0xfb, 0xdb, 0x1d, 0x01, 0xbb];
 
-// The first row whose lines get other replies by this kind of filter.
-fn other_row<F: RangeFilter>(alloc: Global) -> Result<Option<usize>, Fail> {
-    for (row, (lines, replies)) in ROWS.iter().copied().enumerate() {
+// The first example whose lines get other replies by this kind of filter.
+fn other_example<F: RangeFilter>(alloc: Global) -> Result<Option<usize>, Fail> {
+    for (number, (lines, replies)) in EXAMPLES.iter().copied().enumerate() {
         let end = served_by::<F>(alloc, base_disk(alloc)?, lines)?;
         if end.status != 0 || end.said.as_slice() != replies {
-            return Ok(Some(row));
+            return Ok(Some(number));
         }
     }
     Ok(None)
@@ -74,8 +74,8 @@ fn other_row<F: RangeFilter>(alloc: Global) -> Result<Option<usize>, Fail> {
 
 #[test]
 fn each_line_gets_its_reply(rt: HostRuntime) -> Result<(), Fail> {
-    assert_eq!(rt; other_row::<Succinct>(rt.alloc())?, None);
-    assert_eq!(rt; other_row::<PlainFilter>(rt.alloc())?, None);
+    assert_eq!(rt; other_example::<Succinct>(rt.alloc())?, None);
+    assert_eq!(rt; other_example::<PlainFilter>(rt.alloc())?, None);
     Ok(())
 }
 

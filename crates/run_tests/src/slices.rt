@@ -23,7 +23,7 @@ pub fn four_tables(alloc: Global) -> Result<Box<MemDisk>, Fail> {
 
 // Four blocks are one merge slice: behind the put the tables are one. A limit has a merge slice behind it too, a bad
 // line has none.
-const ROWS: [(&[u8], &[u8]); 4] = [
+const EXAMPLES: [(&[u8], &[u8]); 4] = [
     (
         b"explain 61\nput 65 05\nexplain 61\n",
         b"tables 4 admitted 1 blocks 1\nok\ntables 1 admitted 1 blocks 1\n",
@@ -45,7 +45,7 @@ const ROWS: [(&[u8], &[u8]); 4] = [
 #[test]
 fn four_tables_become_one_behind_a_put(rt: HostRuntime) -> Result<(), Fail> {
     let alloc = rt.alloc();
-    for (number, (lines, replies)) in ROWS.iter().copied().enumerate() {
+    for (number, (lines, replies)) in EXAMPLES.iter().copied().enumerate() {
         let end = served(alloc, four_tables(alloc)?, lines)?;
         check(&rt, &end, 0, replies, number as u64);
     }

@@ -5,7 +5,7 @@ use std::test::Fail;
 const USAGE: &[u8] = b"usage: surfstore PATH format|serve|load\n";
 
 // Words over a device without a store, the status, and the line that is said.
-const ROWS: [(&str, u8, &[u8]); 18] = [
+const EXAMPLES: [(&str, u8, &[u8]); 18] = [
     ("", 2, USAGE),
     ("load", 2, USAGE),
     ("serve serve", 2, USAGE),
@@ -65,7 +65,7 @@ const ROWS: [(&str, u8, &[u8]); 18] = [
 #[test]
 fn words_and_their_last_lines(rt: HostRuntime) -> Result<(), Fail> {
     let alloc = rt.alloc();
-    for (number, (words, status, line)) in ROWS.iter().copied().enumerate() {
+    for (number, (words, status, line)) in EXAMPLES.iter().copied().enumerate() {
         let end = commanded(alloc, words, disk_of(alloc, b"")?)?;
         check(&rt, &end, status, line, number as u64);
     }

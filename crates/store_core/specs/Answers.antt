@@ -91,7 +91,7 @@ HasCause old new ReadFailed = Rose old.seen.read_faults new.seen.read_faults
 HasCause old new WriteFailed = Rose old.seen.write_faults new.seen.write_faults
 HasCause old new (DamageMet damage) = ⊥
 
--- not stopped, and no limit broken
+-- the call is tried: the store is not stopped, and no limit is broken
 abbrev pub IsRun : Bool → Option Reply → Type 0
 IsRun stopped broken = (stopped ≡ false) × (broken ≡ None)
 

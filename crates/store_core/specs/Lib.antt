@@ -1,10 +1,22 @@
+pub use Rattle.block_model.specs.Pages
+pub use Rattle.disk_trait.specs.Image
 pub use Rattle.disk_trait.specs.World
+pub use Rattle.entry_model.specs.Entries
 pub use Rattle.image_model.specs.Stands
+pub use Rattle.key_base.specs.Limits
 pub use Rattle.level_merge.specs.Follows
 pub use Rattle.level_merge.specs.Held
 pub use Rattle.level_merge.specs.Merging
+pub use Rattle.line_model.specs.Limits as LineLimits
+pub use Rattle.line_model.specs.Requests
+pub use Rattle.log_model.specs.Area
+pub use Rattle.manifest.specs.NewManifest
+pub use Rattle.manifest_model.specs.Slots
+pub use Rattle.map_model.specs.Slices
+pub use Rattle.map_model.specs.SortedMap
 pub use Rattle.merge_rows.specs.Merges
 pub use Rattle.merge_rows.specs.Reads
+pub use Rattle.merge_rows.specs.Steps as MergeSteps
 pub use Rattle.state_model.specs.Bounds
 pub use Rattle.state_model.specs.State
 pub use Rattle.state_model.specs.Steps

@@ -39,8 +39,8 @@ told_slice (Ok tended.Idle) = Some model.Idle
 told_slice (Ok (tended.Full need gap)) = Some (model.Refused (reply.Full need gap))
 told_slice (Err why) = option_map (λ (r : reply.Reply). model.Refused r) (told why)
 
--- From a state a slice is answered so, by one merge slice of it. At each moment meanwhile a crash leaves its map. The store is then
--- that of the state behind the slice, unless it is stopped.
+-- From a state a merge slice is answered so, by one of it. At each moment meanwhile a crash leaves its map. The store is then
+-- that of the state behind the merge slice, unless it is stopped.
 pub record Tends (spelling : Spelling) (filter_bytes : FilterBytes) (s : State) (told_as : Option model.Tended) (store : Kept) (old new : World) : Type 0 where
   pub tended : model.Tended
   pub told_is : told_as ≡ Some tended
@@ -61,7 +61,7 @@ IsTended before after old new tended.Worked = Unit {0}
 IsTended before after old new tended.Idle = (before.job ≡ None) × NoneIsChosen before.tables × (after ≡ before) × ReadMoves 0 old new
 IsTended before after old new (tended.Full need gap) = (after.job ≡ None) × (gap < need)
 
--- why a slice is refused, of a store that was stopped or not, whose version has this epoch
+-- why a merge slice is refused, of a store that was stopped or not, whose version has this epoch
 abbrev pub IsTendRefusal : Bool → ℕ → World → World → StoreError → Type 0
 IsTendRefusal stopped epoch old new error.Memory = stopped ≡ false
 IsTendRefusal stopped epoch old new (error.Device cause) = (stopped ≡ false) × FaultRose old new cause
@@ -101,14 +101,14 @@ pub record GoesOn (spelling : Spelling) (filter_bytes : FilterBytes) (store : Ke
   pub said : IsSliced s job later sliced
   pub tied : Tied spelling filter_bytes (record store { job = Some m }) (with_job s later) w
 
--- A slice of the merge that follows a job of a state: meanwhile a crash leaves the map of the state. The job goes on, or it is
+-- A merge slice of the merge that follows a job of a state: meanwhile a crash leaves the map of the state. The job goes on, or it is
 -- refused with its cause and the store stands without it.
 pub record SlicesJob (spelling : Spelling) (filter_bytes : FilterBytes) (store : Kept) (s : State) (job : Job) (m : Merging) (result : Result Sliced JobFault) (old new : World) : Type 0 where
   pub meanwhile : Meanwhile (StandsForMap spelling (state_map s)) old new
   pub done : MatchResult result (GoesOn spelling filter_bytes store s job m new) (IsJobRefusal filter_bytes s job old new)
   pub dropped : IsErr result → Tied spelling filter_bytes (record store { job = None }) (without_job s) new
 
--- what a slice that is refused is answered
+-- what a merge slice that is refused is answered
 abbrev pub answer_to : JobFault → Result Tended StoreError
 answer_to job.Memory = Err error.Memory
 answer_to (job.Device cause) = Err (error.Device cause)

@@ -34,7 +34,7 @@ use mem_table::MemTable;
 use std::alloc::{AllocError, Global};
 use table_file::{Table, Tables};
 
-// So many blocks are read in one slice of a compaction's merge.
+// So many blocks are read in one merge slice of a compaction.
 const SLICE_BLOCKS: u32 = 64;
 
 // What a compaction has installed.

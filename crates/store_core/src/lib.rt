@@ -5,7 +5,7 @@
 //! write a record to the log before the entry stands in memory; where it does not fit, [`Store::flush`] makes the memory a
 //! table of level 0. [`Store::get`] looks for a key in memory and then in the tables, newest first, and reads at most one
 //! block of each, and none that it keeps. [`Store::seek`] and [`Store::range`] give the pairs between two bounds, by rising
-//! keys: they open those tables alone whose filter admits the bounds. [`Store::tend`] merges tables, a slice at each call;
+//! keys: they open those tables alone whose filter admits the bounds. [`Store::tend`] merges tables, a merge slice at each call;
 //! [`Store::compact`] merges all that the store holds, in one call.
 //!
 //! `specs/Tied` has what a caller may rest on: a store value, the device under it and a state of `state_model` are one,

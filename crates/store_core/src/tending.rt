@@ -1,4 +1,4 @@
-//! The merge of tables, slice by slice.
+//! The merge of tables, in merge slices.
 ghost use Rattle.std.specs.Prelude.{◌≡◌, ◌≤◌, ◌+◌, ◌*◌, ◌||◌, true, false, Some, None, IsTrue, IfOk, IfErr, OnErr, OnOk, MatchResult, length};
 ghost use Rattle.block_model.specs.Pages.{page_bytes};
 ghost use Rattle.disk_trait.specs.Image.{Image};
@@ -30,7 +30,7 @@ use manifest::Version;
 use std::alloc::Global;
 use table_file::Tables;
 
-/// How far the merges of a store came with a slice.
+/// How far the merges of a store came with a merge slice.
 #[derive(Clone, Copy, Debug, PartialEq, Eq)]
 pub enum Tended {
     /// Blocks were read, an output was written, or the outputs of a merge took the place of what it read.
@@ -59,7 +59,7 @@ fn next_job<F: RangeFilter>(
 }
 
 impl<F: RangeFilter> Store<F> {
-    /// One slice of the merge that runs, or of a new one where some tables are to be merged: it reads at most so many blocks,
+    /// One merge slice of the merge that runs, or of a new one where some tables are to be merged: it reads at most so many blocks,
     /// one or more, and writes at most one output and the version in which the outputs stand.
     ///
     /// The map stays as it is. At `Full` and at each error the merge is dropped, and its outputs give their pages back.
@@ -113,7 +113,7 @@ impl<F: RangeFilter> Store<F> {
         self.job.take()
     }
 
-    // A slice of a merge that was taken out of the store. It is put back where something is left of it.
+    // A merge slice, its merge taken out of the store. It is put back where something is left of it.
     fn work<D: Disk>(
         &mut self,
         disk: &mut D,
@@ -150,7 +150,7 @@ impl<F: RangeFilter> Store<F> {
         }
     }
 
-    // A slice of a merge that was taken out of the store: its outputs lie apart from all that the version names.
+    // A merge slice, its merge taken out of the store: its outputs lie apart from all that the version names.
     fn slice_job<D: Disk>(
         &self,
         disk: &mut D,
@@ -179,7 +179,7 @@ impl<F: RangeFilter> Store<F> {
         job.slice(disk, &self.tables, &mut extents, blocks)
     }
 
-    // What a refused slice is answered. A write or a sync that failed stops the store.
+    // What a refused merge slice is answered. A write or a sync that failed stops the store.
     fn refuse(&mut self, why: JobFault) -> Result<Tended, StoreError>
         requires running { self.old.stopped ≡ false }
         ensures answer { result ≡ answer_to why }

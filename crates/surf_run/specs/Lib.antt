@@ -1,5 +1,6 @@
 pub use Rattle.disk_trait.specs.World
 pub use Rattle.image_model.specs.Stands
+pub use Rattle.line_model.specs.Requests
 pub use Rattle.outside.specs.Streams
 pub use Rattle.state_model.specs.State
 pub mod Answering

@@ -5,13 +5,13 @@
 //! a seed, and tells the summary of the map that is then there. A put or a delete is written to the log and
 //! made to last before its `ok` is said. Its contract is the promise of the whole program: what was said is what one sorted map
 //! answers, at each moment a crash leaves the map after some first lines that have all that was acknowledged, and no more
-//! blocks are read than the filters of the tables admit. [`serve_line`] answers one line over an opened store, with the slice
-//! behind it.
+//! blocks are read than the filters of the tables admit. [`serve_line`] answers one line over an opened store, with the merge
+//! slice behind it.
 //!
 //! A put makes two writes and two syncs, and where it does not fit the log a flush before; a get reads at most one block of each
 //! table that admits its key, and a closed seek one of each table that admits its range and one more for each entry of a deleted key
-//! that it passes. A range says its pairs as they are found, in pieces of the reply buffer. Behind each put and delete comes a slice
-//! of a merge, where tables are to be merged: it reads at most eight blocks and writes at most one table, and
+//! that it passes. A range says its pairs as they are found, in pieces of the reply buffer. Behind each put and delete comes a merge
+//! slice, where tables are to be merged: it reads at most eight blocks and writes at most one table, and
 //! nothing is said of it. All memory but the store's is taken before the first line. Not for more than one input.
 //!
 //! ```text

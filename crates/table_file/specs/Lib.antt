@@ -1,17 +1,25 @@
 pub use Rattle.byte_fields.specs.Sums
 pub use Rattle.disk_trait.specs.World
+pub use Rattle.disk_trait.specs.Image
 pub use Rattle.filter_api.specs.Spellings
+pub use Rattle.filter_api.specs.declared.settings
+pub use Rattle.filter_api.specs.Ranges
 pub use Rattle.entry_model.specs.Entries
 pub use Rattle.entry_model.specs.Newest
 pub use Rattle.block_model.specs.Block
 pub use Rattle.block_model.specs.BlockReading
 pub use Rattle.block_model.specs.Index
 pub use Rattle.block_model.specs.Places
+pub use Rattle.block_model.specs.Laws as BlockLaws
+pub use Rattle.block_model.specs.Order
+pub use Rattle.block_model.specs.Pages
 pub use Rattle.block_format.specs.Spans
 pub use Rattle.table_model.specs.Damage
 pub use Rattle.table_model.specs.Images
 pub use Rattle.table_model.specs.Tables
 pub use Rattle.table_model.specs.Written
+pub use Rattle.key_base.specs.Limits
+pub use Rattle.map_model.specs.SortedMap
 pub mod BeforeLast
 pub mod BlockRows
 pub mod Building

@@ -10,8 +10,8 @@ use std::test::Fail;
 // Keys, and the labels and the words of bits that spell their trie where no level is dense.
 type Spelled<'a> = (&'a [&'a [u8]], &'a [u8], u64, u64);
 
-fn check_spelled(rt: &impl Abort, alloc: Global, row: &Spelled) -> Result<(), Fail> {
-    let (words, labels, has_child, louds) = *row;
+fn check_spelled(rt: &impl Abort, alloc: Global, example: &Spelled) -> Result<(), Fail> {
+    let (words, labels, has_child, louds) = *example;
     let keys = list_of_words(alloc, words)?;
     let trie = trie_of(alloc, &keys, 0)?;
     check_sparse(rt, trie.sparse(), labels, has_child, louds);
@@ -32,7 +32,7 @@ fn check_sparse(
 
 #[test]
 fn a_lone_ff_is_a_byte_and_a_first_one_of_two_is_end(rt: HostRuntime) -> Result<(), Fail> {
-    let rows: [Spelled; 3] = [
+    let examples: [Spelled; 3] = [
         (
             &[b"far", b"fast", b"s", b"top", b"toy"],
             b"fstaorspy",
@@ -47,8 +47,8 @@ fn a_lone_ff_is_a_byte_and_a_first_one_of_two_is_end(rt: HostRuntime) -> Result<
         ),
         (&[b"\x61", b"\x61\xFF"], b"\x61\xFF\xFF", 0x01, 0x03),
     ];
-    for row in &rows {
-        check_spelled(&rt, rt.alloc(), row)?;
+    for example in &examples {
+        check_spelled(&rt, rt.alloc(), example)?;
     }
     Ok(())
 }
