@@ -13,7 +13,8 @@ use Rattle.key_base.specs.Limits.{is_no_key_length}
 use Rattle.block_model.specs.BlockReading.{entries_fault, entries_in, entry_fault, has_no_kind}
 use Rattle.entry_model.specs.Reading.{entry_in, key_in, key_length_in, value_length_in, width_in}
 use Rattle.byte_fields.specs.Faults.{refuse}
-use Rattle.block_model.specs.Order.{is_above, is_any, is_from}
+use Rattle.key_base.specs.ByteOrder.{is_before}
+use Rattle.block_model.specs.Order.{is_any, is_from}
 use Rattle.block_model.proofs.Refusals.{kept, neither, not_false}
 use Rattle.block_format.specs.Reading.{Stand}
 
@@ -42,7 +43,7 @@ all_stand zero place test rest none = tt
 all_stand (suc n) place test rest none =
     let both = neither _ _ none in
     let one = one_stands place test rest both.0 in
-    (one.0, one.1, all_stand n (place + width_in rest) (is_above (key_in rest)) (drop (width_in rest) rest) both.1)
+    (one.0, one.1, all_stand n (place + width_in rest) (is_before (key_in rest)) (drop (width_in rest) rest) both.1)
 
 -- ---- orders
 
@@ -63,7 +64,7 @@ still_from before key low from less = elim (is_lt (byte_order key low)) as (λ t
 
 -- ---- behind a key
 
-none_behind : (n : ℕ) (before key rest : Bytes) → byte_order key before ≡ Less → Stand n (is_above before) rest → lookup (entries_in n rest) key ≡ None
+none_behind : (n : ℕ) (before key rest : Bytes) → byte_order key before ≡ Less → Stand n (is_before before) rest → lookup (entries_in n rest) key ≡ None
 unfolding entries_in entry_in
 none_behind zero before key rest above s = refl
 none_behind (suc n) before key rest above s =
@@ -72,7 +73,7 @@ none_behind (suc n) before key rest above s =
     let later = lookup (entries_in n (drop (width_in rest) rest)) key in
     ap (λ (t : Bool). cond t (Some (entry_in rest).value) later) (above_apart key k here) ∙ none_behind n k key (drop (width_in rest) rest) here s.2
 
-all_behind : (n : ℕ) (before low rest : Bytes) → is_from low before ≡ true → Stand n (is_above before) rest → entries_from (entries_in n rest) low ≡ entries_in n rest
+all_behind : (n : ℕ) (before low rest : Bytes) → is_from low before ≡ true → Stand n (is_before before) rest → entries_from (entries_in n rest) low ≡ entries_in n rest
 unfolding entries_in entry_in
 all_behind zero before low rest from s = refl
 all_behind (suc n) before low rest from s =
@@ -98,7 +99,7 @@ module _ (n : ℕ) (rest : Bytes) (some : 0 < n) (stand : Stand n is_any rest) w
   later = entries_in (n - 1) (drop (width_in rest) rest)
 
   pub behind : Stand (n - 1) is_any (drop (width_in rest) rest)
-  behind = weaker (n - 1) (is_above (key_in rest)) (drop (width_in rest) rest) first.2
+  behind = weaker (n - 1) (is_before (key_in rest)) (drop (width_in rest) rest) first.2
 
   pub cells : entries_in n rest ≡ entry_in rest ∷ entries_in (n - 1) (drop (width_in rest) rest)
   unfolding entries_in
@@ -121,10 +122,10 @@ module _ (n : ℕ) (rest : Bytes) (some : 0 < n) (stand : Stand n is_any rest) w
       ∙ none_behind (n - 1) (key_in rest) key (drop (width_in rest) rest) (nat_list_cmp_total.antisymm key (key_in rest) ∙ ap ordering_reverse greater) first.2
 
   -- where its key is below the one that is looked for, and where not
-  pub passed_below : (key : Bytes) → is_above (key_in rest) key ≡ true → lookup (entries_in n rest) key ≡ lookup (entries_in (n - 1) (drop (width_in rest) rest)) key
+  pub passed_below : (key : Bytes) → is_before (key_in rest) key ≡ true → lookup (entries_in n rest) key ≡ lookup (entries_in (n - 1) (drop (width_in rest) rest)) key
   passed_below key below = passed_by key (less_of (byte_order (key_in rest) key) below)
 
-  pub here_or_missing : (key : Bytes) → is_above (key_in rest) key ≡ false
+  pub here_or_missing : (key : Bytes) → is_before (key_in rest) key ≡ false
       → lookup (entries_in n rest) key ≡ (if bytes_eq (key_in rest) key then Some (entry_in rest).value else None)
   here_or_missing key not_below =
       let says = λ (t : Bool). cond t (Some (entry_in rest).value) None in

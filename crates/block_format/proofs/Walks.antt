@@ -10,7 +10,8 @@ use Rattle.entry_model.specs.Entries.{Entry}
 use Rattle.entry_model.specs.Newest.{lookup}
 use Rattle.entry_model.specs.Reading.{entry_in, key_in, width_in}
 use Rattle.byte_fields.specs.Faults.{Fault, fault, refuse}
-use Rattle.block_model.specs.Order.{is_above, is_any}
+use Rattle.key_base.specs.ByteOrder.{is_before}
+use Rattle.block_model.specs.Order.{is_any}
 use Rattle.block_model.proofs.Refusals.{neither}
 
 module _ (n place : ℕ) (test : Bytes → Bool) (rest : Bytes) (some : 0 < n) where
@@ -18,16 +19,16 @@ module _ (n place : ℕ) (test : Bytes → Bool) (rest : Bytes) (some : 0 < n) w
   one_more = omega (arith, some)
 
   pub next_kept : entry_fault place test rest ≡ None
-      → entries_fault n place test rest ≡ entries_fault (n - 1) (place + width_in rest) (is_above (key_in rest)) (drop (width_in rest) rest)
+      → entries_fault n place test rest ≡ entries_fault (n - 1) (place + width_in rest) (is_before (key_in rest)) (drop (width_in rest) rest)
   unfolding entries_fault
   next_kept none =
-      let later = entries_fault (n - 1) (place + width_in rest) (is_above (key_in rest)) (drop (width_in rest) rest) in
+      let later = entries_fault (n - 1) (place + width_in rest) (is_before (key_in rest)) (drop (width_in rest) rest) in
       ap (λ (k : ℕ). entries_fault k place test rest) one_more ∙ ap (λ (f : Option Fault). option_or f later) none
 
   pub next_broken : (f : Fault) → entry_fault place test rest ≡ Some f → entries_fault n place test rest ≡ Some f
   unfolding entries_fault
   next_broken f broken =
-      let later = entries_fault (n - 1) (place + width_in rest) (is_above (key_in rest)) (drop (width_in rest) rest) in
+      let later = entries_fault (n - 1) (place + width_in rest) (is_before (key_in rest)) (drop (width_in rest) rest) in
       ap (λ (k : ℕ). entries_fault k place test rest) one_more ∙ ap (λ (g : Option Fault). option_or g later) broken
 
 pub none_is_left : (place : ℕ) (test : Bytes → Bool) (rest : Bytes) → length rest ≤ 0 → entries_fault 0 place test rest ≡ None

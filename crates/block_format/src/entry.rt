@@ -4,7 +4,7 @@ ghost use Rattle.std.specs.Option.{option_map};
 ghost use Rattle.entry_model.specs.Entries.{entry_of};
 ghost use Rattle.block_model.specs.BlockReading.{entry_fault};
 ghost use Rattle.entry_model.specs.Reading.{entry_in, key_in, width_in};
-ghost use Rattle.block_model.specs.Order.{is_above};
+ghost use Rattle.key_base.specs.ByteOrder.{is_before};
 ghost use Rattle.block_format.specs.Reading.{passes_after, seen};
 
 use crate::fault::BlockFault;
@@ -130,7 +130,7 @@ fn is_above(before: Option<&[u8]>, key: &[u8]) -> bool
 
 /// Whether a key is below another one, as `compare` says; eight bytes of each are compared at a time, as two numbers.
 pub(crate) fn is_below(low: &[u8], high: &[u8]) -> bool
-    ensures { result ≡ is_above low.now high.now }
+    ensures { result ≡ is_before low.now high.now }
 {
     let words = low.len().min(high.len()) / WORD_BYTES;
     for word in 0..words {

@@ -9,7 +9,8 @@ use Rattle.map_model.specs.SortedMap.{Bytes}
 use Rattle.entry_model.specs.Entries.{Entry, IsEntry, keys_of}
 use Rattle.block_model.specs.Block.{IsBlock}
 use Rattle.block_model.specs.Laws.{joined, BlocksAreTheEntries, BlocksGrow, BlocksAreSound}
-use Rattle.block_model.specs.Order.{Follow, is_any, is_above}
+use Rattle.key_base.specs.ByteOrder.{is_before}
+use Rattle.block_model.specs.Order.{Follow, is_any}
 use Rattle.block_model.specs.Pages.{page_bytes, max_block_entries, block_length, has_room, blocks_with, blocks_of}
 
 pub blocks_step : BlocksGrow
@@ -103,11 +104,11 @@ any_follow test (key ∷ later) f = (refl, f.1)
 
 follow_front : (test : Bytes → Bool) (a b : List Entry) → Follow test (keys_of (a ++ b)) → Follow test (keys_of a)
 follow_front test [] b f = tt
-follow_front test (e ∷ a) b f = (f.0, follow_front (is_above e.key) a b f.1)
+follow_front test (e ∷ a) b f = (f.0, follow_front (is_before e.key) a b f.1)
 
 follow_back : (test : Bytes → Bool) (a b : List Entry) → Follow test (keys_of (a ++ b)) → Follow is_any (keys_of b)
 follow_back test [] b f = any_follow test (keys_of b) f
-follow_back test (e ∷ a) b f = follow_back (is_above e.key) a b f.1
+follow_back test (e ∷ a) b f = follow_back (is_before e.key) a b f.1
 
 each_rises : (blocks : List (List Entry)) → Follow is_any (keys_of (joined blocks)) → AllByRecursion (λ b. Follow is_any (keys_of b)) blocks
 each_rises [] f = tt

@@ -11,7 +11,8 @@ use Rattle.entry_model.specs.Entries.{Entry, body, bytes_of, kind_of, IsEntry, k
 use Rattle.entry_model.specs.Reading.{entry_in, key_in, key_length_in, value_length_in, width_in}
 use Rattle.key_base.specs.Limits.{is_no_key_length}
 use Rattle.block_model.specs.BlockReading.{entries_fault, entries_in, entry_fault}
-use Rattle.block_model.specs.Order.{Follow, is_above}
+use Rattle.key_base.specs.ByteOrder.{is_before}
+use Rattle.block_model.specs.Order.{Follow}
 use Rattle.entry_model.proofs.Bodies.{body_size, key_length_again, value_length_again, width_again, key_again, entry_again, behind_body}
 use Rattle.block_model.proofs.Refusals.{none_of, not_true, passed}
 
@@ -48,9 +49,9 @@ entries_kept place test [] is rises = refl
 entries_kept place test (e ∷ es) is rises =
     let rest = flat_map body es in
     let b = body e ++ rest in
-    let later = entries_kept (place + width_in b) (is_above e.key) es is.1 rises.1 in
+    let later = entries_kept (place + width_in b) (is_before e.key) es is.1 rises.1 in
     none_of _ _ (entry_kept place test e rest is.0 rises.0)
-    (ap₂ (λ (k : Bytes) (r : Bytes). entries_fault (length es) (place + width_in b) (is_above k) r) (key_again e rest is.0) (behind_body e rest is.0) ∙ later)
+    (ap₂ (λ (k : Bytes) (r : Bytes). entries_fault (length es) (place + width_in b) (is_before k) r) (key_again e rest is.0) (behind_body e rest is.0) ∙ later)
 
 pub entries_again : (es : List Entry) → AllByRecursion IsEntry es → entries_in (length es) (flat_map body es) ≡ es
 unfolding entries_in

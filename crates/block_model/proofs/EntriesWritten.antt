@@ -13,7 +13,8 @@ use Rattle.entry_model.specs.Entries.{body, bytes_of, kind_of, IsEntry, keys_of}
 use Rattle.entry_model.specs.Reading.{entry_in, key_in, key_length_in, kind_in, value_length_in, width_in}
 use Rattle.key_base.specs.Limits.{is_no_key_length}
 use Rattle.block_model.specs.BlockReading.{entries_fault, entries_in, entry_fault}
-use Rattle.block_model.specs.Order.{Follow, is_above}
+use Rattle.key_base.specs.ByteOrder.{is_before}
+use Rattle.block_model.specs.Order.{Follow}
 use Rattle.block_model.proofs.LastBlocks.{positive}
 use Rattle.entry_model.proofs.Bodies.{KeepsLimits, sound_read, body_read}
 use Rattle.block_model.proofs.Refusals.{kept, neither, not_false}
@@ -74,7 +75,7 @@ entries_written (suc n) place test rest bytes none =
     let both = neither _ _ none in
     let one = entry_written place test rest bytes both.0 in
     let w = width_in rest in
-    let later = entries_written n (place + w) (is_above (key_in rest)) (drop w rest) (IsBytes-drop w rest bytes) both.1 in
+    let later = entries_written n (place + w) (is_before (key_in rest)) (drop w rest) (IsBytes-drop w rest bytes) both.1 in
     record {
       written = ap₂ (λ (a b : Bytes). a ++ b) one.written later.written ∙ take-append-drop w rest;
       each = (one.is, later.each);

@@ -10,7 +10,8 @@ use Rattle.byte_fields.proofs.NumberLemmas.{IsBytes-drop, number_again, number_b
 use Rattle.map_model.specs.SortedMap.{Bytes}
 use Rattle.block_model.specs.Index.{IndexRow, IsIndexRow, index_row_bytes}
 use Rattle.block_model.specs.IndexReading.{last_in, last_length_in, pages_in, row_fault, row_in, row_width_in, rows_fault, rows_in, sum_in}
-use Rattle.block_model.specs.Order.{Follow, is_above}
+use Rattle.key_base.specs.ByteOrder.{is_before}
+use Rattle.block_model.specs.Order.{Follow}
 use Rattle.block_model.proofs.EntriesRead.{eqb_zero, key_length_kept}
 use Rattle.block_model.proofs.EntriesWritten.{key_length_sound}
 use Rattle.entry_model.proofs.Bodies.{joined}
@@ -75,9 +76,9 @@ rows_kept place test [] is rises = refl
 rows_kept place test (row ∷ rows) is rises =
     let rest = flat_map index_row_bytes rows in
     let b = index_row_bytes row ++ rest in
-    let later = rows_kept (place + row_width_in b) (is_above row.last) rows is.1 rises.1 in
+    let later = rows_kept (place + row_width_in b) (is_before row.last) rows is.1 rises.1 in
     none_of _ _ (row_kept place test row rest is.0 rises.0)
-    (ap₂ (λ (k : Bytes) (r : Bytes). rows_fault (length rows) (place + row_width_in b) (is_above k) r) (last_again row rest is.0) (past_row row rest is.0) ∙ later)
+    (ap₂ (λ (k : Bytes) (r : Bytes). rows_fault (length rows) (place + row_width_in b) (is_before k) r) (last_again row rest is.0) (past_row row rest is.0) ∙ later)
 
 pub rows_again : (rows : List IndexRow) → AllByRecursion IsIndexRow rows → rows_in (length rows) (flat_map index_row_bytes rows) ≡ rows
 unfolding rows_in
@@ -154,7 +155,7 @@ rows_written (suc n) place test rest bytes none =
     let both = neither _ _ none in
     let one = row_written place test rest bytes both.0 in
     let w = row_width_in rest in
-    let later = rows_written n (place + w) (is_above (last_in rest)) (drop w rest) (IsBytes-drop w rest bytes) both.1 in
+    let later = rows_written n (place + w) (is_before (last_in rest)) (drop w rest) (IsBytes-drop w rest bytes) both.1 in
     record {
       written = ap₂ (λ (a b : Bytes). a ++ b) one.written later.written ∙ take-append-drop w rest;
       each = (one.is, later.each);

@@ -15,7 +15,8 @@ use Rattle.entry_model.specs.Entries.{Entry, IsEntry, keys_of}
 use Rattle.block_model.specs.Block.{block_bytes}
 use Rattle.block_model.specs.Index.{IndexRow, IsIndexRow, index_of, index_row_of, row_pages}
 use Rattle.block_model.specs.Laws.{IndexIsSound, joined}
-use Rattle.block_model.specs.Order.{Follow, is_above, is_any, is_from}
+use Rattle.key_base.specs.ByteOrder.{is_before}
+use Rattle.block_model.specs.Order.{Follow, is_any, is_from}
 use Rattle.block_model.specs.Pages.{block_length, block_pages, blocks_of, data_pages, first_key, last_key, pages_for}
 use Rattle.block_model.proofs.Bounds.{few_blocks, pages_bound}
 use Rattle.block_model.proofs.Cutting.{IsPart, blocks_are_parts, blocks_joined}
@@ -73,46 +74,46 @@ less_of Less e = refl
 less_of Equal e = absurd cc
 less_of Greater e = absurd cc
 
-above_above : (a b c : Bytes) → is_above a b ≡ true → is_above b c ≡ true → is_above a c ≡ true
+above_above : (a b c : Bytes) → is_before a b ≡ true → is_before b c ≡ true → is_before a c ≡ true
 above_above a b c ab bc = ap is_lt (nat_list_cmp_total.trans a b c (less_of (byte_order a b) ab) (less_of (byte_order b c) bc))
 
 from_itself : (a : Bytes) → is_from a a ≡ true
 from_itself a = ap (λ (o : Ordering). not (is_lt o)) (tied_itself nat_list_cmp_total a)
 
-from_above : (a b : Bytes) → is_above a b ≡ true → is_from a b ≡ true
+from_above : (a b : Bytes) → is_before a b ≡ true → is_from a b ≡ true
 from_above a b ab = ap (λ (o : Ordering). not (is_lt o)) (nat_list_cmp_total.antisymm b a ∙ ap ordering_reverse (less_of (byte_order a b) ab))
 
 -- the last key of some entries is above what their first is above
-last_above : (low : Bytes) (e : Entry) (es : List Entry) → Follow (is_above low) (keys_of (e ∷ es)) → is_above low (last_key (e ∷ es)) ≡ true
+last_above : (low : Bytes) (e : Entry) (es : List Entry) → Follow (is_before low) (keys_of (e ∷ es)) → is_before low (last_key (e ∷ es)) ≡ true
 last_above low e [] f = f.0
 last_above low e (next ∷ more) f = above_above low e.key (last_key (next ∷ more)) f.0 (last_above e.key next more f.1)
 
-last_from : (e : Entry) (es : List Entry) → Follow (is_above e.key) (keys_of es) → is_from e.key (last_key (e ∷ es)) ≡ true
+last_from : (e : Entry) (es : List Entry) → Follow (is_before e.key) (keys_of es) → is_from e.key (last_key (e ∷ es)) ≡ true
 last_from e [] f = from_itself e.key
 last_from e (next ∷ more) f = from_above e.key (last_key (next ∷ more)) (last_above e.key next more f)
 
 -- what follows some entries is above their last key
-behind_last : (test : Bytes → Bool) (e : Entry) (es rest : List Entry) → Follow test (keys_of ((e ∷ es) ++ rest)) → Follow (is_above (last_key (e ∷ es))) (keys_of rest)
+behind_last : (test : Bytes → Bool) (e : Entry) (es rest : List Entry) → Follow test (keys_of ((e ∷ es) ++ rest)) → Follow (is_before (last_key (e ∷ es))) (keys_of rest)
 behind_last test e [] rest f = f.1
-behind_last test e (next ∷ more) rest f = behind_last (is_above e.key) next more rest f.1
+behind_last test e (next ∷ more) rest f = behind_last (is_before e.key) next more rest f.1
 
 front_follows : (test : Bytes → Bool) (a b : List Entry) → Follow test (keys_of (a ++ b)) → Follow test (keys_of a)
 front_follows test [] b f = tt
-front_follows test (e ∷ a) b f = (f.0, front_follows (is_above e.key) a b f.1)
+front_follows test (e ∷ a) b f = (f.0, front_follows (is_before e.key) a b f.1)
 
-lasts_above : (low : Bytes) (blocks : List (List Entry)) → AllByRecursion IsPart blocks → Follow (is_above low) (keys_of (joined blocks)) → Follow (is_above low) (map last_key blocks)
+lasts_above : (low : Bytes) (blocks : List (List Entry)) → AllByRecursion IsPart blocks → Follow (is_before low) (keys_of (joined blocks)) → Follow (is_before low) (map last_key blocks)
 lasts_above low [] parts f = tt
 lasts_above low ([] ∷ more) parts f = absurd (omega (arith, parts.0.some))
 lasts_above low ((e ∷ es) ∷ more) parts f = (
-  last_above low e es (front_follows (is_above low) (e ∷ es) (joined more) f),
-  lasts_above (last_key (e ∷ es)) more parts.1 (behind_last (is_above low) e es (joined more) f),
+  last_above low e es (front_follows (is_before low) (e ∷ es) (joined more) f),
+  lasts_above (last_key (e ∷ es)) more parts.1 (behind_last (is_before low) e es (joined more) f),
 )
 
 lasts_from : (blocks : List (List Entry)) → AllByRecursion IsPart blocks → Follow is_any (keys_of (joined blocks)) → Follow (is_from (first_key (joined blocks))) (map last_key blocks)
 lasts_from [] parts f = tt
 lasts_from ([] ∷ more) parts f = absurd (omega (arith, parts.0.some))
 lasts_from ((e ∷ es) ∷ more) parts f =
-    (last_from e es (front_follows (is_above e.key) es (joined more) f.1), lasts_above (last_key (e ∷ es)) more parts.1 (behind_last is_any e es (joined more) f))
+    (last_from e es (front_follows (is_before e.key) es (joined more) f.1), lasts_above (last_key (e ∷ es)) more parts.1 (behind_last is_any e es (joined more) f))
 
 -- ---- the index
 

@@ -7,7 +7,8 @@ use Rattle.map_model.specs.SortedMap.{Bytes}
 use Rattle.entry_model.specs.Entries.{Entry, entry_head_bytes}
 use Rattle.entry_model.specs.Reading.{kind_in, key_length_in, value_length_in, width_in, key_in, entry_in}
 use Rattle.byte_fields.specs.Faults.{Fault, fault, refuse}
-use Rattle.block_model.specs.Order.{is_above, is_any}
+use Rattle.key_base.specs.ByteOrder.{is_before}
+use Rattle.block_model.specs.Order.{is_any}
 use Rattle.block_model.specs.Pages.{page_bytes, pages_for}
 
 -- ---- an entry, of the bytes that begin with it
@@ -33,7 +34,7 @@ entry_fault place test rest =
 unfoldable pub entries_fault : ℕ → ℕ → (Bytes → Bool) → Bytes → Option Fault
 entries_fault zero place test rest = refuse (nat_lt 0 (length rest)) place 7 None
 entries_fault (suc more) place test rest =
-    option_or (entry_fault place test rest) (entries_fault more (place + width_in rest) (is_above (key_in rest)) (drop (width_in rest) rest))
+    option_or (entry_fault place test rest) (entries_fault more (place + width_in rest) (is_before (key_in rest)) (drop (width_in rest) rest))
 
 unfoldable pub entries_in : ℕ → Bytes → List Entry
 entries_in zero rest = []

@@ -6,7 +6,8 @@ use Rattle.map_model.specs.SortedMap.{Bytes}
 use Rattle.key_base.specs.Limits.{is_no_key_length, max_block_pages}
 use Rattle.byte_fields.specs.Faults.{Fault, refuse}
 use Rattle.block_model.specs.Index.{Index, IndexRow, index_magic, row_pages}
-use Rattle.block_model.specs.Order.{is_above, is_from}
+use Rattle.key_base.specs.ByteOrder.{is_before}
+use Rattle.block_model.specs.Order.{is_from}
 
 -- ---- the head
 
@@ -64,7 +65,7 @@ row_fault place test rest =
 unfoldable pub rows_fault : ℕ → ℕ → (Bytes → Bool) → Bytes → Option Fault
 rows_fault zero place test rest = refuse (nat_lt 0 (length rest)) place 7 None
 rows_fault (suc more) place test rest =
-    option_or (row_fault place test rest) (rows_fault more (place + row_width_in rest) (is_above (last_in rest)) (drop (row_width_in rest) rest))
+    option_or (row_fault place test rest) (rows_fault more (place + row_width_in rest) (is_before (last_in rest)) (drop (row_width_in rest) rest))
 
 unfoldable pub rows_in : ℕ → Bytes → List IndexRow
 rows_in zero rest = []

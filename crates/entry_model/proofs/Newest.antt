@@ -11,7 +11,7 @@ use Rattle.std.specs.declared.cmp.Ordering.TheVariants.{Less, Greater}
 use Rattle.map_model.specs.SortedMap.{Bytes, byte_order, in_place}
 use Rattle.entry_model.specs.Entries.{Entry, newest}
 use Rattle.map_model.proofs.Maps.{same_key, other_key, equal_keys, less_of_greater, by_order}
-use Rattle.entry_model.specs.Newest.{IsAbove, KeysRise, with_entry, newest_entries, lookup}
+use Rattle.entry_model.specs.Newest.{ComesBehind, KeysRise, with_entry, newest_entries, lookup}
 
 pub greater_of_less : (a b : Bytes) → byte_order a b ≡ Less → byte_order b a ≡ Greater
 greater_of_less a b less = nat_list_cmp_total.antisymm b a ∙ ap ordering_reverse less
@@ -50,12 +50,12 @@ lookup_with (entry ∷ more) new key = by_order (λ o. lookup (in_place o new en
     (λ equal. sym (said_again new entry key (lookup more key) (equal_keys new.key entry.key equal)))
     (λ greater. ap (said entry key) (lookup_with more new key) ∙ said_apart entry new key (lookup more key) (below_apart entry.key new.key (less_of_greater new.key entry.key greater)))
 
-pub above_with : (low : Bytes) (entries : List Entry) (new : Entry) → byte_order low new.key ≡ Less → AllByRecursion (IsAbove low) entries → AllByRecursion (IsAbove low) (with_entry entries new)
+pub above_with : (low : Bytes) (entries : List Entry) (new : Entry) → byte_order low new.key ≡ Less → AllByRecursion (ComesBehind low) entries → AllByRecursion (ComesBehind low) (with_entry entries new)
 above_with low [] new less above = (less, tt)
-above_with low (entry ∷ more) new less above = by_order (λ o. AllByRecursion (IsAbove low) (in_place o new entry more (with_entry more new))) new.key entry.key
+above_with low (entry ∷ more) new less above = by_order (λ o. AllByRecursion (ComesBehind low) (in_place o new entry more (with_entry more new))) new.key entry.key
     (λ _. (less, above)) (λ _. (less, above.1)) (λ _. (above.0, above_with low more new less above.1))
 
-pub above_lower : (low high : Bytes) (entries : List Entry) → byte_order low high ≡ Less → AllByRecursion (IsAbove high) entries → AllByRecursion (IsAbove low) entries
+pub above_lower : (low high : Bytes) (entries : List Entry) → byte_order low high ≡ Less → AllByRecursion (ComesBehind high) entries → AllByRecursion (ComesBehind low) entries
 above_lower low high [] less above = tt
 above_lower low high (entry ∷ more) less above = (nat_list_cmp_total.trans low high entry.key less above.0, above_lower low high more less above.1)
 
@@ -63,7 +63,7 @@ pub rises_with : (entries : List Entry) (new : Entry) → KeysRise entries → K
 rises_with [] new rises = (tt, tt)
 rises_with (entry ∷ more) new rises = by_order (λ o. KeysRise (in_place o new entry more (with_entry more new))) new.key entry.key
     (λ less. ((less, above_lower new.key entry.key more less rises.0), rises))
-    (λ equal. (subst (λ (k : Bytes). AllByRecursion (IsAbove k) more) (sym (equal_keys new.key entry.key equal)) rises.0, rises.1))
+    (λ equal. (subst (λ (k : Bytes). AllByRecursion (ComesBehind k) more) (sym (equal_keys new.key entry.key equal)) rises.0, rises.1))
     (λ greater. (above_with entry.key more new (less_of_greater new.key entry.key greater) rises.0, rises_with more new rises.1))
 
 -- ---- all of them
@@ -94,7 +94,7 @@ newest_more entries entry = fold-append with_entry [] entries (entry ∷ [])
 
 -- ---- no other list
 
-pub none_above : (low : Bytes) (entries : List Entry) → AllByRecursion (IsAbove low) entries → lookup entries low ≡ None
+pub none_above : (low : Bytes) (entries : List Entry) → AllByRecursion (ComesBehind low) entries → lookup entries low ≡ None
 none_above low [] above = refl
 none_above low (entry ∷ more) above = ap (λ (t : Bool). cond t (Some entry.value) (lookup more low)) (above_apart low entry.key above.0) ∙ none_above low more above.1
 
@@ -115,7 +115,7 @@ tails_same : (a b : Entry) (more others : List Entry) → KeysRise (a ∷ more) 
 tails_same a b more others rises_a rises_b same says key = elim (bytes_eq a.key key) as (λ t. bytes_eq a.key key ≡ t → lookup more key ≡ lookup others key) [
   | true ↦ λ e. let at_key : a.key ≡ key = (bytes_eq-Decides a.key key).0 e in
       subst (λ (k : Bytes). lookup more k ≡ lookup others k) at_key
-      (none_above a.key more rises_a.0 ∙ sym (none_above a.key others (subst (λ (k : Bytes). AllByRecursion (IsAbove k) others) (sym same) rises_b.0)))
+      (none_above a.key more rises_a.0 ∙ sym (none_above a.key others (subst (λ (k : Bytes). AllByRecursion (ComesBehind k) others) (sym same) rises_b.0)))
   | false ↦ λ e. sym (ap (λ (t : Bool). cond t (Some a.value) (lookup more key)) e)
       ∙ says key
       ∙ ap (λ (t : Bool). cond t (Some b.value) (lookup others key)) (subst (λ (k : Bytes). bytes_eq k key ≡ false) same e)

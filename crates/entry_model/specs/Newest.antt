@@ -5,16 +5,17 @@ use Rattle.key_base.specs.ByteOrder.{IsBefore, is_before}
 use Rattle.map_model.specs.SortedMap.{Bytes, byte_order, in_place}
 use Rattle.entry_model.specs.Entries.{Entry}
 
-abbrev pub IsBelow : Bytes → Entry → Type 0
-IsBelow key entry = IsBefore entry.key key
+-- the entry's key is before the key, or behind it
+abbrev pub ComesBefore : Bytes → Entry → Type 0
+ComesBefore key entry = IsBefore entry.key key
 
-abbrev pub IsAbove : Bytes → Entry → Type 0
-IsAbove key entry = IsBefore key entry.key
+abbrev pub ComesBehind : Bytes → Entry → Type 0
+ComesBehind key entry = IsBefore key entry.key
 
--- each key is below all that come after it
+-- each key is before all that come after it
 abbrev pub KeysRise : List Entry → Type 0
 KeysRise [] = Unit {0}
-KeysRise (entry ∷ later) = AllByRecursion (IsAbove entry.key) later × KeysRise later
+KeysRise (entry ∷ later) = AllByRecursion (ComesBehind entry.key) later × KeysRise later
 
 -- the entries with a new one at its key's place, where an older one of that key goes
 abbrev pub with_entry : List Entry → Entry → List Entry

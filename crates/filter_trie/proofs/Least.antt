@@ -14,7 +14,7 @@ use Rattle.filter_trie.proofs.Down.{node_passes, slot_within}
 use Rattle.filter_trie.proofs.Halves.{begins_next, dense_end, none_given, some_given}
 use Rattle.filter_trie.proofs.Reached.{position_some}
 use Rattle.filter_trie.proofs.Starts.{first_letter, own_number, rests_fine, start-push}
-use Rattle.filter_trie.specs.WaysDown.{IsOnWay, levels_below}
+use Rattle.filter_trie.proofs.WaysDown.{IsOnWay, levels_below}
 use Rattle.louds_sparse.specs.Leads.{IsLead}
 use Rattle.louds_sparse.specs.declared.lead.Lead.{Lead}
 use Rattle.louds_sparse.specs.declared.lead.Lead.TheVariants as lead

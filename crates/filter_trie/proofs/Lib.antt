@@ -14,6 +14,7 @@ pub mod PassedSuffixes
 pub mod Whole
 pub mod Numbers
 pub mod Starts
+pub mod WaysDown
 pub mod Least
 pub mod Suffixes
 pub mod PlaceLaws

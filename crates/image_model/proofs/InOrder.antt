@@ -7,7 +7,7 @@ use Rattle.byte_fields.specs.declared.parts.Row.{Row}
 use Rattle.disk_trait.specs.Image.{Image}
 use Rattle.filter_api.specs.Spellings.{Spelling}
 use Rattle.filter_api.specs.declared.settings.Settings.{Settings}
-use Rattle.block_model.specs.Order.{is_above}
+use Rattle.key_base.specs.ByteOrder.{is_before}
 use Rattle.block_model.proofs.Refusals.{kept, not_false}
 use Rattle.extent_model.proofs.Lists.{Pairs, all_pairs}
 use Rattle.manifest_model.specs.Reading.{levels_fault}
@@ -46,7 +46,7 @@ abbrev Next : Table → List Table → Type 0
 Next t [] = Unit {0}
 Next t (u ∷ later) = StandsBefore t u × Next u later
 
-by_tests : (t u : Table) (a b c : Bool) → (t.level == u.level) ≡ a → (u.level == 0) ≡ b → is_above (greatest_key t) (least_key u) ≡ c → t.level ≤ u.level
+by_tests : (t u : Table) (a b c : Bool) → (t.level == u.level) ≡ a → (u.level == 0) ≡ b → is_before (greatest_key t) (least_key u) ≡ c → t.level ≤ u.level
     → (not a || b || c) ≡ true → StandsBefore t u
 by_tests t u false b c level zeroth above up so = inl (grind arith)
 by_tests t u true true c level zeroth above up so = let same = eqb-true t.level u.level level in inr (same, inl (same ∙ eqb-true u.level 0 zeroth))
@@ -54,7 +54,7 @@ by_tests t u true false true level zeroth above up so = inr (eqb-true t.level u.
 by_tests t u true false false level zeroth above up so = absurd cc
 
 stands_next : (t u : Table) → t.level ≤ u.level → follows (range_of_table t) (range_of_table u) ≡ true → StandsBefore t u
-stands_next t u up so = by_tests t u (t.level == u.level) (u.level == 0) (is_above (greatest_key t) (least_key u)) refl refl refl up so
+stands_next t u up so = by_tests t u (t.level == u.level) (u.level == 0) (is_before (greatest_key t) (least_key u)) refl refl refl up so
 
 next_of : (place : ℕ) (t : Table) (later : List Table) → Climb t.level later → ranges_after place (range_of_table t) (map range_of_table later) ≡ None → Next t later
 unfolding ranges_after

@@ -14,7 +14,7 @@ use Rattle.block_model.specs.Block.{IsBlock}
 use Rattle.block_model.specs.Index.{Index, index_row_of}
 use Rattle.block_model.specs.IndexReading.{index_in}
 use Rattle.block_model.specs.Laws.{joined}
-use Rattle.block_model.specs.Order.{is_above}
+use Rattle.key_base.specs.ByteOrder.{is_before}
 use Rattle.block_model.specs.Pages.{first_key, last_key}
 use Rattle.block_model.proofs.Refusals.{not_true, passed}
 use Rattle.manifest_model.specs.Tables.{KeyRange, follows, ranges_after, ranges_fault}
@@ -91,8 +91,8 @@ one_of_three false false false (inr (inr p)) = absurd cc
 level_differs : (a b : ℕ) → (a ≡ b → ⊥) → not (a == b) ≡ true
 level_differs a b differ = elim (a == b) as (λ t. (a == b) ≡ t → not t ≡ true) [ true ↦ λ same. absurd (differ (eqb-true a b same)) | false ↦ λ same. refl ] refl
 
-one_of : (t u : Table) → (not (t.level == u.level) ≡ true) ⊎ (((u.level == 0) ≡ true) ⊎ (is_above (greatest_key t) (least_key u) ≡ true)) → follows (range_of_table t) (range_of_table u) ≡ true
-one_of t u which = one_of_three (not (t.level == u.level)) (u.level == 0) (is_above (greatest_key t) (least_key u)) which
+one_of : (t u : Table) → (not (t.level == u.level) ≡ true) ⊎ (((u.level == 0) ≡ true) ⊎ (is_before (greatest_key t) (least_key u) ≡ true)) → follows (range_of_table t) (range_of_table u) ≡ true
+one_of t u which = one_of_three (not (t.level == u.level)) (u.level == 0) (is_before (greatest_key t) (least_key u)) which
 
 in_order : (t u : Table) → StandsBefore t u → follows (range_of_table t) (range_of_table u) ≡ true
 in_order t u (inl less) = one_of t u (inl (level_differs t.level u.level (λ same. omega (arith, less, same))))

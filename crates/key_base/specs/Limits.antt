@@ -79,6 +79,10 @@ last_epoch = 18446744073709551615
 abbrev pub max_tables : ℕ
 max_tables = 1024
 
+-- the last level of tables; the first is 0
+abbrev pub max_level : ℕ
+max_level = 6
+
 -- the data pages at which a merge closes an output table
 abbrev pub merge_data_pages : ℕ
 merge_data_pages = 1024

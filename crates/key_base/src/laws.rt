@@ -1,12 +1,13 @@
 //! Laws of the limits; the functions do nothing.
 ghost use Rattle.std.specs.Prelude.{◌≡◌, ◌*◌, ◌+◌};
-ghost use Rattle.key_base.specs.Limits.{max_key_bytes, max_bound_bytes, max_value_bytes, max_line_bytes, max_input_bytes, piece_bytes, max_range_pairs, page_bytes, min_device_pages, max_device_pages, log_pages, log_bytes, slot_bytes, first_table_page, max_block_entries, max_block_pages, entry_head_bytes, last_epoch, max_tables, merge_data_pages, max_hash_bits, max_real_bits, max_ratio};
+ghost use Rattle.key_base.specs.Limits.{max_key_bytes, max_bound_bytes, max_value_bytes, max_line_bytes, max_input_bytes, piece_bytes, max_range_pairs, page_bytes, min_device_pages, max_device_pages, log_pages, log_bytes, slot_bytes, first_table_page, max_block_entries, max_block_pages, entry_head_bytes, last_epoch, max_tables, max_level, merge_data_pages, max_hash_bits, max_real_bits, max_ratio};
 
 use crate::limits::{
     ENTRY_HEAD_BYTES, FIRST_TABLE_PAGE, LAST_EPOCH, LOG_BYTES, LOG_PAGES, MAX_BLOCK_ENTRIES,
     MAX_BLOCK_PAGES, MAX_BOUND_BYTES, MAX_DEVICE_PAGES, MAX_HASH_BITS, MAX_INPUT_BYTES,
-    MAX_KEY_BYTES, MAX_LINE_BYTES, MAX_RANGE_PAIRS, MAX_RATIO, MAX_REAL_BITS, MAX_TABLES,
-    MAX_VALUE_BYTES, MERGE_DATA_PAGES, MIN_DEVICE_PAGES, PAGE_BYTES, PIECE_BYTES, SLOT_BYTES,
+    MAX_KEY_BYTES, MAX_LEVEL, MAX_LINE_BYTES, MAX_RANGE_PAIRS, MAX_RATIO, MAX_REAL_BITS,
+    MAX_TABLES, MAX_VALUE_BYTES, MERGE_DATA_PAGES, MIN_DEVICE_PAGES, PAGE_BYTES, PIECE_BYTES,
+    SLOT_BYTES,
 };
 
 /// Law: each constant for code is the limit of that name.
@@ -31,6 +32,7 @@ pub fn constants_are_limits()
     ensures max_block_pages { MAX_BLOCK_PAGES ≡ max_block_pages }
     ensures last_epoch { LAST_EPOCH ≡ last_epoch }
     ensures max_tables { MAX_TABLES ≡ max_tables }
+    ensures max_level { MAX_LEVEL ≡ max_level }
     ensures merge_data_pages { MERGE_DATA_PAGES ≡ merge_data_pages }
     ensures max_hash_bits { MAX_HASH_BITS ≡ max_hash_bits }
     ensures max_real_bits { MAX_REAL_BITS ≡ max_real_bits }

@@ -23,6 +23,9 @@ pub const PIECE_BYTES: usize = 65_536;
 /// How many tables a version has at most.
 pub const MAX_TABLES: usize = 1_024;
 
+/// The last level of tables; the first is 0.
+pub const MAX_LEVEL: u8 = 6;
+
 /// The bytes of a page.
 pub const PAGE_BYTES: usize = 4_096;
 

@@ -10,7 +10,12 @@ use Rattle.filter_model.proofs.Order.{Lt, Lt-from}
 use Rattle.filter_model.proofs.Shared.{shared_outer, shared_sym}
 use Rattle.filter_model.proofs.Stubs.{nearest_or_none, shared_most-ge, shared_most-le, different}
 use Rattle.key_truncate.specs.declared.stubs.Stub.{Stub}
-use Rattle.key_truncate.specs.Stubs.{shared_next, shared_before, stub_in}
+use Rattle.key_truncate.specs.Stubs.{shared_next, stub_in}
+
+-- what the key at place i shares with the one before
+abbrev pub shared_before : List (List ℕ) → ℕ → ℕ
+shared_before keys zero = 0
+shared_before keys (suc i) = shared_next keys i
 
 abbrev at : List (List ℕ) → ℕ → List ℕ
 at keys i = get_or keys i []

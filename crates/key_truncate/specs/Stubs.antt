@@ -1,5 +1,5 @@
 -- The stub of a key, as its length and whether the key ends with it.
-use Rattle.std.specs.Prelude.{ℕ, zero, suc, ◌+◌, nat_lt, min, cond, List, [], map, length, slice_index_or}
+use Rattle.std.specs.Prelude.{ℕ, ◌+◌, nat_lt, min, cond, List, [], map, length, slice_index_or}
 use Rattle.key_truncate.specs.declared.stubs.Stub.{Stub}
 use Rattle.filter_model.specs.Leaves.{shared_most, ends_of}
 use Rattle.filter_model.specs.Strings.{shared}
@@ -11,10 +11,6 @@ stub_in keys k = record { len = min (shared_most keys k + 1) (length k); ends = 
 abbrev pub stubs_in : List (List ℕ) → List Stub
 stubs_in keys = map (stub_in keys) keys
 
--- what the key at place i shares with the next one, and with the one before
+-- what the key at place i shares with the next one
 abbrev pub shared_next : List (List ℕ) → ℕ → ℕ
 shared_next keys i = cond (nat_lt (i + 1) (length keys)) (shared (slice_index_or keys i []) (slice_index_or keys (i + 1) [])) 0
-
-abbrev pub shared_before : List (List ℕ) → ℕ → ℕ
-shared_before keys zero = 0
-shared_before keys (suc i) = shared_next keys i

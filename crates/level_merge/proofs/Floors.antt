@@ -1,16 +1,17 @@
 -- The keys of an output that is built, and those that are still to come.
 use Rattle.std.proofs.Common.{◌≡◌, List, [], ◌∷◌, ◌++◌, Bool, true, refl}
-use Rattle.block_model.specs.Order.{Follow, is_above, is_any}
+use Rattle.key_base.specs.ByteOrder.{is_before}
+use Rattle.block_model.specs.Order.{Follow, is_any}
 use Rattle.entry_model.specs.Entries.{Entry, keys_of}
 use Rattle.level_merge.specs.Merging.{AreBelow}
 use Rattle.map_model.specs.SortedMap.{Bytes}
 use Rattle.merge_rows.specs.Rows.{KeyFloor}
 use Rattle.merge_rows.specs.Steps.{FloorRises, passed_at}
 
-follow_more : (test : Bytes → Bool) (entries : List Entry) (e f : Entry) → Follow test (keys_of (entries ++ e ∷ [])) → is_above e.key f.key ≡ true
+follow_more : (test : Bytes → Bool) (entries : List Entry) (e f : Entry) → Follow test (keys_of (entries ++ e ∷ [])) → is_before e.key f.key ≡ true
     → Follow test (keys_of ((entries ++ e ∷ []) ++ f ∷ []))
 follow_more test [] e f follow above = (follow.0, (above, tt))
-follow_more test (x ∷ more) e f follow above = (follow.0, follow_more (is_above x.key) more e f follow.1 above)
+follow_more test (x ∷ more) e f follow above = (follow.0, follow_more (is_before x.key) more e f follow.1 above)
 
 -- keys above the one that was added
 pub below_added : (built : List Entry) (e : Entry) → Follow is_any (keys_of (built ++ e ∷ [])) → AreBelow (passed_at e.key) (built ++ e ∷ [])

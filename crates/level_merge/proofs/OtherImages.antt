@@ -6,7 +6,7 @@ use Rattle.std.proofs.lemmas.Bool.{false≢true}
 use Rattle.block_model.specs.Block.{IsBlock}
 use Rattle.block_model.specs.Index.{Index, IndexRow, index_row_of}
 use Rattle.block_model.specs.Laws.{joined}
-use Rattle.block_model.specs.Order.{Follow, is_above, is_any}
+use Rattle.block_model.specs.Order.{Follow, is_any}
 use Rattle.block_model.specs.Pages.{last_key}
 use Rattle.disk_trait.specs.Image.{Image}
 use Rattle.entry_model.specs.Entries.{Entry, keys_of}
@@ -30,11 +30,11 @@ use Rattle.table_model.specs.Tables.{Table}
 
 -- ---- the blocks of a table: of the same entries, each with the same last key, they are the same
 
-follow_lower : (low key : Bytes) (keys : List Bytes) → is_before low key ≡ true → Follow (is_above key) keys → Follow (is_above low) keys
+follow_lower : (low key : Bytes) (keys : List Bytes) → is_before low key ≡ true → Follow (is_before key) keys → Follow (is_before low) keys
 follow_lower low key [] above follow = tt
 follow_lower low key (k ∷ keys) above follow = (is_before_of low k (before_then low key k (before_of low key above) (before_of key k follow.0)), follow.1)
 
-all_above : (low : Bytes) (keys : List Bytes) → Follow (is_above low) keys → AllByRecursion (λ k. is_before low k ≡ true) keys
+all_above : (low : Bytes) (keys : List Bytes) → Follow (is_before low) keys → AllByRecursion (λ k. is_before low k ≡ true) keys
 all_above low [] follow = tt
 all_above low (k ∷ keys) follow = (follow.0, all_above low keys (follow_lower low k keys follow.0 follow.1))
 
@@ -44,7 +44,7 @@ last_above low e [] rest all = all.0
 last_above low e (f ∷ es) rest all = last_above low f es rest all.1
 
 -- so it is not that one
-not_last : (e f : Entry) (es rest : List Entry) → Follow (is_above e.key) (keys_of ((f ∷ es) ++ rest)) → last_key (f ∷ es) ≡ e.key → ⊥
+not_last : (e f : Entry) (es rest : List Entry) → Follow (is_before e.key) (keys_of ((f ∷ es) ++ rest)) → last_key (f ∷ es) ≡ e.key → ⊥
 not_last e f es rest follow same =
     absurd (false≢true (sym (not_before_itself e.key) ∙ subst (λ (k : Bytes). is_before e.key k ≡ true) same (last_above e.key f es rest (all_above e.key (keys_of ((f ∷ es) ++ rest)) follow))))
 
@@ -57,13 +57,13 @@ same_front test (e ∷ b) [] xs ys same some_b some_c last follow = absurd (omeg
 same_front test (e ∷ []) (f ∷ []) xs ys same some_b some_c last follow = ap (λ (x : Entry). x ∷ []) (first_of_same e f xs ys same).0
 same_front test (e ∷ []) (f ∷ g ∷ c) xs ys same some_b some_c last follow =
     let both = first_of_same e f xs ((g ∷ c) ++ ys) same in
-    absurd (not_last e g c ys (subst (λ (l : List Entry). Follow (is_above e.key) (keys_of l)) both.1 follow.1) (sym last))
+    absurd (not_last e g c ys (subst (λ (l : List Entry). Follow (is_before e.key) (keys_of l)) both.1 follow.1) (sym last))
 same_front test (e ∷ g ∷ b) (f ∷ []) xs ys same some_b some_c last follow =
     let both = first_of_same e f ((g ∷ b) ++ xs) ys same in
     absurd (not_last e g b xs follow.1 (last ∙ ap (λ (x : Entry). x.key) (sym both.0)))
 same_front test (e ∷ g ∷ b) (f ∷ h ∷ c) xs ys same some_b some_c last follow =
     let both = first_of_same e f ((g ∷ b) ++ xs) ((h ∷ c) ++ ys) same in
-    ap₂ (λ (x : Entry) (l : List Entry). x ∷ l) both.0 (same_front (is_above e.key) (g ∷ b) (h ∷ c) xs ys both.1 (omega arith) (omega arith) last follow.1)
+    ap₂ (λ (x : Entry) (l : List Entry). x ∷ l) both.0 (same_front (is_before e.key) (g ∷ b) (h ∷ c) xs ys both.1 (omega arith) (omega arith) last follow.1)
 
 same_rest : (b c xs ys : List Entry) → b ≡ c → b ++ xs ≡ c ++ ys → xs ≡ ys
 same_rest b c xs ys same all = behind b xs ys (all ∙ ap (λ (l : List Entry). l ++ ys) (sym same))
@@ -74,7 +74,7 @@ same_rest b c xs ys same all = behind b xs ys (all ∙ ap (λ (l : List Entry). 
 
 follow_rest : (test : Bytes → Bool) (b xs : List Entry) → Follow test (keys_of (b ++ xs)) → (after : Bytes → Bool) × Follow after (keys_of xs)
 follow_rest test [] xs follow = (test, follow)
-follow_rest test (e ∷ b) xs follow = follow_rest (is_above e.key) b xs follow.1
+follow_rest test (e ∷ b) xs follow = follow_rest (is_before e.key) b xs follow.1
 
 -- the last keys of blocks
 lasts : List (List Entry) → List Bytes

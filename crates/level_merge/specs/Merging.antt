@@ -8,7 +8,7 @@ use Rattle.disk_trait.specs.Image.{Image}
 use Rattle.entry_model.specs.Entries.{Entry, IsEntry, keys_of}
 use Rattle.filter_api.specs.Ranges.{InRange}
 use Rattle.filter_api.specs.declared.settings.Settings.{Settings}
-use Rattle.key_base.specs.Limits.{merge_data_pages}
+use Rattle.key_base.specs.Limits.{max_level, merge_data_pages}
 use Rattle.level_merge.specs.Plans.{PlanByNumbers}
 use Rattle.merge_rows.specs.Merges.{Merge, merge_from, rows_left}
 use Rattle.merge_rows.specs.Reads.{blocks_left}
@@ -52,7 +52,7 @@ all_numbers (suc many) = many ∷ all_numbers many
 
 -- that of a memory table and all tables, into the deepest level
 abbrev pub compaction : List Entry → Settings → List Opened → Merging
-compaction memory settings tables = merge_of (all_numbers (length tables)) (Some memory) 6 true settings tables
+compaction memory settings tables = merge_of (all_numbers (length tables)) (Some memory) max_level true settings tables
 
 -- the keys that are still to come are above those of some entries
 abbrev pub AreBelow : KeyFloor → List Entry → Type 0
@@ -68,7 +68,7 @@ pub record IsBuilding (floor : KeyFloor) (built : List Entry) : Type 0 where
 pub record IsMerging (m : Merging) (settings : Settings) : Type 0 where
   pub same : settings ≡ m.settings
   pub range : InRange m.settings
-  pub level : (1 ≤ m.output) × (m.output ≤ 6)
+  pub level : (1 ≤ m.output) × (m.output ≤ max_level)
   pub whole : m.merge.drops ≡ false
   pub building : IsBuilding m.merge.floor m.built
 

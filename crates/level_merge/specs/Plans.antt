@@ -1,6 +1,7 @@
 -- Tables that are to be merged, by their numbers.
 use Rattle.std.specs.Prelude.{◌≡◌, ◌≢◌, ◌<◌, ◌≤◌, ◌-◌, ℕ, List, [], ◌∷◌, length, map, Option, Some, None}
 use Rattle.std.specs.List.{AllByRecursion, AllPairs}
+use Rattle.key_base.specs.Limits.{max_level}
 use Rattle.block_model.specs.Places.{pages_of}
 -- tables are numbered from the last, which has 0
 pub use Rattle.merge_rows.specs.Merges.{numbered}
@@ -35,9 +36,9 @@ IsPlanOf tables None None = Unit {0}
 IsPlanOf tables (Some p) (Some plan) = (map (numbered tables) p.inputs ≡ map (λ (t : Table). Some t) plan.inputs) × (p.output ≡ plan.output)
 IsPlanOf tables p plan = ⊥
 
--- a plan names one table or more, each of them there and once, and a level from 1 to 6
+-- a plan names one table or more, each of them there and once, and a level from 1 to the last
 pub record MayStart (tables : List Opened) (p : PlanByNumbers) : Type 0 where
   pub some : 1 ≤ length p.inputs
   pub there : AllByRecursion (λ number. number < length tables) p.inputs
   pub apart : AllPairs (λ m n. m ≢ n) p.inputs
-  pub output : (1 ≤ p.output) × (p.output ≤ 6)
+  pub output : (1 ≤ p.output) × (p.output ≤ max_level)

@@ -1,5 +1,6 @@
 -- What a merge slice does, whole.
 use Rattle.std.specs.Prelude.{◌≡◌, ◌<◌, ◌≤◌, ◌+◌, ℕ, Bool, List, Result, IsTrue, IfOk, IfErr, OnOk}
+use Rattle.key_base.specs.Limits.{max_level}
 use Rattle.disk_trait.specs.World.{World}
 use Rattle.extent_map.specs.Taken.{Taken}
 use Rattle.filter_api.specs.Spellings.{Spelling}
@@ -22,7 +23,7 @@ pub record SlicesMerge (spelling : Spelling) (built_cutoff : ℕ → List Leaf �
   pub bounded : IsTrue tells → IsSoundMerge old.merge opened before.seen.held → after.seen.reads ≤ before.seen.reads + blocks
   -- where something is left, it is less than before
   pub ends : IfOk result (λ sliced. sliced ≡ Working → work_left opened new < work_left opened old)
-  pub level : (1 ≤ new.output) × (new.output ≤ 6)
+  pub level : (1 ≤ new.output) × (new.output ≤ max_level)
   pub same : (new.output ≡ old.output) × (new.settings ≡ old.settings)
   pub numbers_are : numbers new.merge.walks ≡ numbers old.merge.walks
   pub few : IfOk result (IsWithin old new)

@@ -186,7 +186,7 @@ fn chosen<F: RangeFilter>(alloc: Global, tables: &[Table<F>]) -> Result<Option<P
 /// What is to be merged of the tables of a version, at most 1,024: level 0 where it has four tables or more, else the first
 /// table of the first level that has too many pages, each with the tables of the level below that they meet.
 ///
-/// Too many pages are more than 256 on level 1 and eight times as many on each deeper level; the last one, 6, takes any.
+/// Too many pages are more than 256 on level 1 and eight times as many on each deeper level; the last one takes any.
 /// No read. It takes memory for the numbers, and none where nothing is to be merged.
 pub fn choose<F: RangeFilter>(alloc: Global, tables: &Tables<F>) -> Result<Option<Plan>, AllocError>
     requires few { length tables.now.tables ≤ max_tables }

@@ -12,7 +12,7 @@ ghost use Rattle.level_merge.specs.Plans.{MayStart};
 ghost use Rattle.level_merge.specs.Slices.{Closes, IsStop, IsTakeFault, TakesRows, WritesOutput, made_opened, made_table, need_of};
 ghost use Rattle.level_merge.specs.Slicing.{SlicesMerge};
 ghost use Rattle.level_merge.specs.Outputs.{IsCloseFault, last_row};
-ghost use Rattle.key_base.specs.Limits.{max_tables};
+ghost use Rattle.key_base.specs.Limits.{max_level, max_tables};
 ghost use Rattle.level_merge.specs.declared.fault.JobFault.TheVariants.{Memory};
 ghost use Rattle.merge_rows.specs.Reads.{OnlyReads, blocks_left};
 ghost use Rattle.merge_rows.specs.Steps.{AreNumbersIn, IsSoundMerge, numbers};
@@ -27,15 +27,13 @@ use byte_fields::Row;
 use disk_trait::Disk;
 use extent_map::Extents;
 use filter_api::{RangeFilter, Settings};
+use key_base::MAX_LEVEL;
 use mem_table::MemTable;
 use merge_rows::MergeRows;
 use std::alloc::{AllocError, Global};
 use std::marker::Model;
 use std::mem;
 use table_file::{Table, TableBuilder, Tables, standing_tables_are_read};
-
-// The level of a compaction's tables.
-const DEEPEST_LEVEL: u8 = 6;
 
 /// A merge that runs: the rows that are left of its tables, the output that is built, and the outputs that are written.
 #[derive(Drop)]
@@ -99,7 +97,7 @@ impl<'m, F: RangeFilter> Job<'m, F> {
         Job::of(plan.inputs, None, plan.output, drops, settings, tables)
     }
 
-    /// The merge of a memory table and of all tables into tables of level 6, with nothing done. No read.
+    /// The merge of a memory table and of all tables into tables of the last level, with nothing done. No read.
     ///
     /// Tombstones are left out. It takes the memory that [`Job::start`] takes, and borrows the memory table.
     pub fn compact(
@@ -114,7 +112,7 @@ impl<'m, F: RangeFilter> Job<'m, F> {
         ensures begun { IfOk result (λ job. job ≡ compaction memory.now.entries settings tables.now.tables) }
     {
         let which = numbers_of_all(alloc, tables.len() as u32)?;
-        Job::of(which, Some(memory), DEEPEST_LEVEL, true, settings, tables)
+        Job::of(which, Some(memory), MAX_LEVEL, true, settings, tables)
     }
 
     // A merge with nothing done.
@@ -127,7 +125,7 @@ impl<'m, F: RangeFilter> Job<'m, F> {
         tables: &Tables<F>,
     ) -> Result<Job<'m, F>, AllocError>
         requires range { InRange settings }
-        requires level { (1 ≤ output) × (output ≤ 6) }
+        requires level { (1 ≤ output) × (output ≤ max_level) }
         requires there { AreNumbersIn tables.now.tables which.items }
         requires sound { IfSome memory (λ m. AllByRecursion IsEntry m.now.entries) }
         ensures { IfOk result (λ job. job ≡ merge_of which.items (option_map (λ m. m.now.entries) memory.entry) output drops settings tables.now.tables) }
@@ -234,7 +232,7 @@ impl<'m, F: RangeFilter> Job<'m, F> {
         blocks: u32,
     ) -> Result<Stop, JobFault>
         requires there { AreNumbersIn tables.now.tables (numbers self.old.merge.walks) }
-        ensures level { (1 ≤ self.old.output) × (self.old.output ≤ 6) }
+        ensures level { (1 ≤ self.old.output) × (self.old.output ≤ max_level) }
         ensures numbers { numbers self.new.merge.walks ≡ numbers self.old.merge.walks }
         ensures rest { self.new ≡ record self.old { merge = self.new.merge; built = self.new.built } }
         ensures taken { OnOk result (TakesRows D.tells tables.now.tables (D.world disk.old).seen.held self.old self.new) }

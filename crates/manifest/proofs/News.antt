@@ -10,10 +10,15 @@ use Rattle.map_model.specs.SortedMap.{Bytes}
 use Rattle.manifest_model.specs.Installs.{WriteTurns}
 use Rattle.manifest_model.specs.Laws.{IsVersion}
 use Rattle.manifest_model.specs.Slots.{IsNoStore, IsVersionOf}
-use Rattle.manifest_model.specs.Version.{Version, body_bytes}
+use Rattle.manifest_model.specs.Version.{Version, body_bytes, body_place, slot_a}
 use Rattle.manifest_model.proofs.Held.{body_fits}
 use Rattle.manifest_model.proofs.Installs.{turns_leads}
-use Rattle.manifest.specs.NewManifest.{IsNew, IsNewOrNone, IsPrepared}
+use Rattle.manifest.specs.NewManifest.{IsNew, IsNewOrNone}
+
+-- its body stands, and no slot is open
+pub record IsPrepared (v : Version) (image : Image) : Type 0 where
+  pub closed : IsNoStore image
+  pub body : Shows (body_place slot_a) (body_bytes v) image
 
 module _ (v : Version) (is : IsVersion v) where
   fits : length (body_bytes v) ≤ 131064

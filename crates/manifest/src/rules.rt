@@ -14,12 +14,11 @@ use block_model::pages_for;
 use byte_fields::{Row, get_u16, get_u32, get_u64};
 use extent_map::Extents;
 use key_base::{
-    LOG_PAGES, MAX_DEVICE_PAGES, MAX_HASH_BITS, MAX_REAL_BITS, MAX_TABLES, MIN_DEVICE_PAGES,
+    LOG_PAGES, MAX_DEVICE_PAGES, MAX_HASH_BITS, MAX_LEVEL, MAX_REAL_BITS, MAX_TABLES,
+    MIN_DEVICE_PAGES,
 };
 use std::alloc::AllocError;
 use std::marker::Model;
-
-const MAX_LEVEL: u8 = 6;
 
 /// A rule that a body breaks, and the place in the body.
 #[derive(Drop)]

@@ -9,7 +9,7 @@ use Rattle.byte_fields.specs.declared.parts.Row.{Row}
 use Rattle.byte_fields.specs.declared.parts.Damage.{Damage}
 use Rattle.byte_fields.specs.declared.parts.Damage.TheVariants as damage
 use Rattle.byte_fields.specs.declared.parts.Part.TheVariants as part
-use Rattle.key_base.specs.Limits.{first_table_page, log_pages, max_device_pages, max_hash_bits, max_real_bits, max_tables, min_device_pages}
+use Rattle.key_base.specs.Limits.{first_table_page, log_pages, max_device_pages, max_hash_bits, max_level, max_real_bits, max_tables, min_device_pages}
 use Rattle.map_model.specs.SortedMap.{Bytes}
 use Rattle.byte_fields.specs.Faults.{Fault, fault, refuse}
 use Rattle.block_model.specs.Pages.{pages_for}
@@ -108,7 +108,7 @@ row_zeros_fault (suc more) place rest =
 
 unfoldable pub table_row_fault : ℕ → Row → Option Fault
 table_row_fault place row =
-    refuse (nat_lt 6 row.level) place 8
+    refuse (nat_lt max_level row.level) place 8
     (refuse (row.data_pages == 0) (place + 8) 8
     (refuse (not (row.index_pages == pages_for row.index_len)) (place + 12) 8
     (refuse (not (row.filter_pages == pages_for row.filter_len)) (place + 16) 8

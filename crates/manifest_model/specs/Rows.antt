@@ -1,6 +1,7 @@
 -- What the rules say of the rows of a version: of each by itself, of their levels, and of where their tables lie.
 use Rattle.std.specs.Prelude.{◌≡◌, ◌≤◌, ℕ, List, map, None}
 use Rattle.std.specs.List.{AllByRecursion, AllPairs}
+use Rattle.key_base.specs.Limits.{max_level}
 use Rattle.byte_fields.specs.declared.parts.Row.{Row}
 use Rattle.block_model.specs.Pages.{pages_for}
 use Rattle.block_model.specs.Places.{FitsDevice, pages_of}
@@ -9,9 +10,9 @@ use Rattle.manifest_model.specs.Laws.{IsVersion}
 use Rattle.manifest_model.specs.Reading.{of_version}
 use Rattle.manifest_model.specs.Version.{Version}
 
--- a level from 0 to 6, blocks, an index and a filter in the pages that their lengths want, and entries
+-- a level from 0 to the last, blocks, an index and a filter in the pages that their lengths want, and entries
 pub record IsTableRow (row : Row) : Type 0 where
-  pub level : row.level ≤ 6
+  pub level : row.level ≤ max_level
   pub data_pages : 1 ≤ row.data_pages
   pub index_pages : row.index_pages ≡ pages_for row.index_len
   pub filter_pages : row.filter_pages ≡ pages_for row.filter_len

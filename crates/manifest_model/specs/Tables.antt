@@ -2,7 +2,7 @@
 use Rattle.std.specs.Prelude.{ℕ, ◌+◌, nat_lt, ◌==◌, Bool, not, ◌||◌, List, [], ◌∷◌, Option, None}
 use Rattle.map_model.specs.SortedMap.{Bytes}
 use Rattle.byte_fields.specs.Faults.{Fault, refuse}
-use Rattle.block_model.specs.Order.{is_above}
+use Rattle.key_base.specs.ByteOrder.{is_before}
 use Rattle.manifest_model.specs.Version.{Version}
 
 -- 11: both slots are open, with one epoch; it is a fault of slot B
@@ -21,7 +21,7 @@ pub record KeyRange : Type 0 where
 
 -- in a deeper level a table's keys are above those of the table before it
 abbrev pub follows : KeyRange → KeyRange → Bool
-follows before range = not (before.level == range.level) || range.level == 0 || is_above before.greatest range.least
+follows before range = not (before.level == range.level) || range.level == 0 || is_before before.greatest range.least
 
 -- 12: the tables of a deeper level do not rise without overlap; the ranges are in the order of the rows, and the place is
 -- the second row's

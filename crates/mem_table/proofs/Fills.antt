@@ -18,7 +18,7 @@ use Rattle.std.specs.declared.cmp.Ordering.TheVariants.{Less, Equal, Greater}
 use Rattle.map_model.specs.SortedMap.{Bytes, byte_order, in_place}
 use Rattle.entry_model.specs.Entries.{Entry, newest, entry_of}
 use Rattle.map_model.proofs.Maps.{order_same, equal_keys, less_of_greater, by_order}
-use Rattle.entry_model.specs.Newest.{IsBelow, IsAbove, KeysRise, with_entry, newest_entries}
+use Rattle.entry_model.specs.Newest.{ComesBefore, ComesBehind, KeysRise, with_entry, newest_entries}
 use Rattle.mem_table.specs.Filling.{DoNotFall}
 use Rattle.mem_table.specs.Chunks.{flat, entry_at, in_order, NoneEmpty, Orders}
 use Rattle.entry_model.proofs.Newest.{above_apart, below_apart, newest_more, lookup_newest, rises_after, one_list}
@@ -73,14 +73,14 @@ last_of : (P : Entry → Type 0) (front : List Entry) (x : Entry) → AllByRecur
 last_of P [] x all = all.0
 last_of P (entry ∷ front) x all = last_of P front x all.1
 
-below_last : (front : List Entry) (x : Entry) → KeysRise (front ++ x ∷ []) → AllByRecursion (IsBelow x.key) front
+below_last : (front : List Entry) (x : Entry) → KeysRise (front ++ x ∷ []) → AllByRecursion (ComesBefore x.key) front
 below_last [] x rises = tt
-below_last (entry ∷ front) x rises = (last_of (IsAbove entry.key) front x rises.0, below_last front x rises.1)
+below_last (entry ∷ front) x rises = (last_of (ComesBehind entry.key) front x rises.0, below_last front x rises.1)
 
-below_same : (front : List Entry) (low key : Bytes) → low ≡ key → AllByRecursion (IsBelow low) front → AllByRecursion (IsBelow key) front
-below_same front low key same all = subst (λ (k : Bytes). AllByRecursion (IsBelow k) front) same all
+below_same : (front : List Entry) (low key : Bytes) → low ≡ key → AllByRecursion (ComesBefore low) front → AllByRecursion (ComesBefore key) front
+below_same front low key same all = subst (λ (k : Bytes). AllByRecursion (ComesBefore k) front) same all
 
-below_more : (front : List Entry) (x : Entry) (key : Bytes) → byte_order x.key key ≡ Less → AllByRecursion (IsBelow x.key) front → AllByRecursion (IsBelow key) (front ++ x ∷ [])
+below_more : (front : List Entry) (x : Entry) (key : Bytes) → byte_order x.key key ≡ Less → AllByRecursion (ComesBefore x.key) front → AllByRecursion (ComesBefore key) (front ++ x ∷ [])
 below_more [] x key less all = (less, tt)
 below_more (entry ∷ front) x key less all = (nat_list_cmp_total.trans entry.key x.key key all.0 less, below_more front x key less all.1)
 

@@ -9,7 +9,7 @@ use Rattle.arrayvec.specs.ArrayVec.{ArrayVec}
 use Rattle.map_model.specs.SortedMap.{Bytes, byte_order}
 use Rattle.entry_model.specs.Entries.{Entry}
 use Rattle.map_model.proofs.Maps.{order_same}
-use Rattle.entry_model.specs.Newest.{IsAbove, KeysRise}
+use Rattle.entry_model.specs.Newest.{ComesBehind, KeysRise}
 use Rattle.mem_table.specs.Chunks.{flat, entry_at, in_order, NoneEmpty}
 use Rattle.mem_table.proofs.Places.{above_at}
 
@@ -71,7 +71,7 @@ apart entries p q less same =
     let equal = order_same (entry_at entries p).key (entry_at entries q).key (ap (λ (n : ℕ). (entry_at entries n).key) same) in
     let both : Less ≡ Equal = sym less ∙ equal in cc
 
-in_order_apart : (entries : List Entry) (entry : Entry) (p : ℕ) (places : List ℕ) → AllByRecursion (IsAbove (entry_at entries p).key) (in_order entries places)
+in_order_apart : (entries : List Entry) (entry : Entry) (p : ℕ) (places : List ℕ) → AllByRecursion (ComesBehind (entry_at entries p).key) (in_order entries places)
     → in_order (set entries p entry) places ≡ in_order entries places
 in_order_apart entries entry p [] above = refl
 in_order_apart entries entry p (q ∷ more) above =

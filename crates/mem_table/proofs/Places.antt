@@ -14,12 +14,12 @@ use Rattle.map_model.specs.SortedMap.{Bytes, byte_order, in_place}
 use Rattle.entry_model.specs.Entries.{Entry}
 use Rattle.map_model.proofs.Maps.{same_key, order_same, equal_keys, less_of_greater}
 use Rattle.mem_table.specs.Table.{StandsAt, BelongsAt}
-use Rattle.entry_model.specs.Newest.{IsBelow, IsAbove, KeysRise, with_entry, lookup, entries_from}
+use Rattle.entry_model.specs.Newest.{ComesBefore, ComesBehind, KeysRise, with_entry, lookup, entries_from}
 use Rattle.entry_model.proofs.Newest.{greater_of_less, below_apart, none_above}
 
 -- ---- the orders of rising keys to one key rise
 
-pub above_at : (low : Bytes) (entries : List Entry) (j : ℕ) (d : Entry) → AllByRecursion (IsAbove low) entries → j < length entries → IsAbove low (get_or entries j d)
+pub above_at : (low : Bytes) (entries : List Entry) (j : ℕ) (d : Entry) → AllByRecursion (ComesBehind low) entries → j < length entries → ComesBehind low (get_or entries j d)
 above_at low [] j d above lt = absurd (omega arith)
 above_at low (entry ∷ more) zero d above lt = above.0
 above_at low (entry ∷ more) (suc j) d above lt = above_at low more j d above.1 (omega arith)
@@ -54,9 +54,9 @@ pub stands : (key : Bytes) (entries : List Entry) (at : ℕ) → KeysRise entrie
 stands key entries at rises within equal = record {
   within = within;
   here = λ d. equal_keys (get_or entries at d).key key (equal d);
-  before = recursion_from_All (IsBelow key) (take at entries) (λ k d lt.
+  before = recursion_from_All (ComesBefore key) (take at entries) (λ k d lt.
       let k_at : k < at = omega (arith, length-take-le at entries (omega arith)) in
-      subst (λ (e : Entry). IsBelow key e) (sym (get_or-take at entries k d k_at))
+      subst (λ (e : Entry). ComesBefore key e) (sym (get_or-take at entries k d k_at))
       (subst (λ (other : Bytes). byte_order (get_or entries k d).key other ≡ Less) (equal_keys (get_or entries at d).key key (equal d)) (rises_between entries k at d rises k_at within)));
 }
 
@@ -78,39 +78,39 @@ module _ (key : Bytes) (entries : List Entry) (at : ℕ) (rises : KeysRise entri
       → BelongsAt at key entries
   belongs within last first = record {
     within = within;
-    before = recursion_from_All (IsBelow key) (take at entries) (λ k d lt.
+    before = recursion_from_All (ComesBefore key) (take at entries) (λ k d lt.
         let k_at : k < at = omega (arith, length-take-le at entries within) in
-        subst (λ (e : Entry). IsBelow key e) (sym (get_or-take at entries k d k_at)) (all_below (last (omega arith)) k d k_at within));
-    behind = recursion_from_All (IsAbove key) (drop at entries) (λ k d lt.
+        subst (λ (e : Entry). ComesBefore key e) (sym (get_or-take at entries k d k_at)) (all_below (last (omega arith)) k d k_at within));
+    behind = recursion_from_All (ComesBehind key) (drop at entries) (λ k d lt.
         let inside : at + k < length entries = omega (arith, length-drop at entries) in
-        subst (λ (e : Entry). IsAbove key e) (sym (get_or-drop at entries k d)) (all_above (first (omega arith)) (at + k) d (omega arith) inside));
+        subst (λ (e : Entry). ComesBehind key e) (sym (get_or-drop at entries k d)) (all_above (first (omega arith)) (at + k) d (omega arith) inside));
   }
 
 -- ---- what stands before the place changes nothing
 
-pub with_behind : (front back : List Entry) (new : Entry) → AllByRecursion (IsBelow new.key) front → with_entry (front ++ back) new ≡ front ++ with_entry back new
+pub with_behind : (front back : List Entry) (new : Entry) → AllByRecursion (ComesBefore new.key) front → with_entry (front ++ back) new ≡ front ++ with_entry back new
 with_behind [] back new below = refl
 with_behind (entry ∷ front) back new below =
     ap (λ (o : Ordering). in_place o new entry (front ++ back) (with_entry (front ++ back) new)) (greater_of_less entry.key new.key below.0)
     ∙ ap (λ (es : List Entry). entry ∷ es) (with_behind front back new below.1)
 
-lookup_behind : (front back : List Entry) (key : Bytes) → AllByRecursion (IsBelow key) front → lookup (front ++ back) key ≡ lookup back key
+lookup_behind : (front back : List Entry) (key : Bytes) → AllByRecursion (ComesBefore key) front → lookup (front ++ back) key ≡ lookup back key
 lookup_behind [] back key below = refl
 lookup_behind (entry ∷ front) back key below =
     ap (λ (t : Bool). cond t (Some entry.value) (lookup (front ++ back) key)) (below_apart entry.key key below.0) ∙ lookup_behind front back key below.1
 
-from_behind : (front back : List Entry) (low : Bytes) → AllByRecursion (IsBelow low) front → entries_from (front ++ back) low ≡ entries_from back low
+from_behind : (front back : List Entry) (low : Bytes) → AllByRecursion (ComesBefore low) front → entries_from (front ++ back) low ≡ entries_from back low
 from_behind [] back low below = refl
 from_behind (entry ∷ front) back low below =
     ap (λ (o : Ordering). cond (not (is_lt o)) (entry ∷ entries_from (front ++ back) low) (entries_from (front ++ back) low)) below.0 ∙ from_behind front back low below.1
 
-from_above : (back : List Entry) (low : Bytes) → AllByRecursion (IsAbove low) back → entries_from back low ≡ back
+from_above : (back : List Entry) (low : Bytes) → AllByRecursion (ComesBehind low) back → entries_from back low ≡ back
 from_above [] low above = refl
 from_above (entry ∷ back) low above =
     ap (λ (o : Ordering). cond (not (is_lt o)) (entry ∷ entries_from back low) (entries_from back low)) (greater_of_less low entry.key above.0)
     ∙ ap (λ (es : List Entry). entry ∷ es) (from_above back low above.1)
 
-with_above : (back : List Entry) (new : Entry) → AllByRecursion (IsAbove new.key) back → with_entry back new ≡ new ∷ back
+with_above : (back : List Entry) (new : Entry) → AllByRecursion (ComesBehind new.key) back → with_entry back new ≡ new ∷ back
 with_above [] new above = refl
 with_above (entry ∷ more) new above = ap (λ (o : Ordering). in_place o new entry more (with_entry more new)) above.0
 
@@ -135,10 +135,10 @@ module _ (entries : List Entry) (key : Bytes) (at : ℕ) (s : StandsAt at key en
       ∙ ap (λ (es : List Entry). get_or entries at d ∷ es) (from_above (drop (at + 1) entries) key (above_next entries at rises s.within (s.here d)))
       ∙ sym (drop_more entries at d s.within)
     where
-      above_next : (entries : List Entry) (at : ℕ) → KeysRise entries → at < length entries → (get_or entries at d).key ≡ key → AllByRecursion (IsAbove key) (drop (at + 1) entries)
+      above_next : (entries : List Entry) (at : ℕ) → KeysRise entries → at < length entries → (get_or entries at d).key ≡ key → AllByRecursion (ComesBehind key) (drop (at + 1) entries)
       above_next [] at rises lt is = absurd (omega arith)
-      above_next (entry ∷ more) zero rises lt is = subst (λ (k : Bytes). AllByRecursion (IsAbove k) more) is rises.0
-      above_next (entry ∷ more) (suc at) rises lt is = let one : suc (at + 1) ≡ suc at + 1 = omega arith in subst (λ (k : ℕ). AllByRecursion (IsAbove key) (drop k (entry ∷ more))) one (above_next more at rises.1 (omega arith) is)
+      above_next (entry ∷ more) zero rises lt is = subst (λ (k : Bytes). AllByRecursion (ComesBehind k) more) is rises.0
+      above_next (entry ∷ more) (suc at) rises lt is = let one : suc (at + 1) ≡ suc at + 1 = omega arith in subst (λ (k : ℕ). AllByRecursion (ComesBehind key) (drop k (entry ∷ more))) one (above_next more at rises.1 (omega arith) is)
 
 module _ (entries : List Entry) (key : Bytes) (at : ℕ) (b : BelongsAt at key entries) where
   pub lookup_none : lookup entries key ≡ None

@@ -3,7 +3,7 @@ use Rattle.std.specs.Prelude.{◌≡◌, ℕ, ◌<◌, ◌≤◌, length, take, 
 use Rattle.std.specs.List.{AllByRecursion, HoldsAt}
 use Rattle.map_model.specs.SortedMap.{Bytes}
 use Rattle.entry_model.specs.Entries.{Entry}
-use Rattle.entry_model.specs.Newest.{IsBelow, IsAbove}
+use Rattle.entry_model.specs.Newest.{ComesBefore, ComesBehind}
 
 -- its entries, and for how many more it has room
 pub record MemoryTable : Type 0 where
@@ -14,10 +14,10 @@ pub record MemoryTable : Type 0 where
 pub record StandsAt (at : ℕ) (key : Bytes) (entries : List Entry) : Type 0 where
   pub within : at < length entries
   pub here : HoldsAt (λ e. e.key ≡ key) entries at
-  pub before : AllByRecursion (IsBelow key) (take at entries)
+  pub before : AllByRecursion (ComesBefore key) (take at entries)
 
 -- no entry has the key, and this place parts the lesser keys from the greater
 pub record BelongsAt (at : ℕ) (key : Bytes) (entries : List Entry) : Type 0 where
   pub within : at ≤ length entries
-  pub before : AllByRecursion (IsBelow key) (take at entries)
-  pub behind : AllByRecursion (IsAbove key) (drop at entries)
+  pub before : AllByRecursion (ComesBefore key) (take at entries)
+  pub behind : AllByRecursion (ComesBehind key) (drop at entries)

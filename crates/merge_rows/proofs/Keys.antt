@@ -13,7 +13,7 @@ use Rattle.key_base.specs.ByteOrder.{IsBefore, byte_order, is_before}
 use Rattle.map_model.specs.SortedMap.{Bytes}
 use Rattle.map_model.proofs.Maps.{by_order, equal_keys, less_of_greater, order_same}
 use Rattle.entry_model.specs.Entries.{Entry, newest}
-use Rattle.entry_model.specs.Newest.{IsAbove}
+use Rattle.entry_model.specs.Newest.{ComesBehind}
 use Rattle.entry_model.proofs.Newest.{above_apart, greater_of_less}
 use Rattle.merge_rows.specs.Rows.{KeyFloor, above_floor, clears}
 
@@ -91,7 +91,7 @@ clears_greater floor key greater = clears_greater_by floor.key key floor.passed 
 
 -- ---- what some entries say of a key
 
-pub newest_above : (key : Bytes) (entries : List Entry) → AllByRecursion (IsAbove key) entries → newest entries key ≡ None
+pub newest_above : (key : Bytes) (entries : List Entry) → AllByRecursion (ComesBehind key) entries → newest entries key ≡ None
 newest_above key [] above = refl
 newest_above key (entry ∷ later) above =
     ap (λ (o : Option (Option Bytes)). option_or o (cond (bytes_eq entry.key key) (Some entry.value) None)) (newest_above key later above.1)
@@ -127,11 +127,11 @@ newest_cut floor key (entry ∷ later) not_so =
     ] refl
 
 -- what is above a passed key comes after it
-pub all_above : (floor : KeyFloor) (low : Bytes) (entries : List Entry) → floor ≡ record { key = low; passed = true } → AllByRecursion (IsAbove low) (above_floor floor entries)
+pub all_above : (floor : KeyFloor) (low : Bytes) (entries : List Entry) → floor ≡ record { key = low; passed = true } → AllByRecursion (ComesBehind low) (above_floor floor entries)
 all_above floor low [] is = tt
 all_above floor low (entry ∷ later) is =
     let rest = all_above floor low later is in
-    elim (clears floor entry.key) as (λ t. clears floor entry.key ≡ t → AllByRecursion (IsAbove low) (cond t (entry ∷ above_floor floor later) (above_floor floor later))) [
+    elim (clears floor entry.key) as (λ t. clears floor entry.key ≡ t → AllByRecursion (ComesBehind low) (cond t (entry ∷ above_floor floor later) (above_floor floor later))) [
       | true ↦ λ e. (before_of low entry.key (subst (λ (f : KeyFloor). clears f entry.key ≡ true) is e), rest)
       | false ↦ λ _. rest
     ] refl

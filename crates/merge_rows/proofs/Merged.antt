@@ -11,7 +11,7 @@ use Rattle.key_base.specs.ByteOrder.{IsBefore, is_before}
 use Rattle.map_model.specs.SortedMap.{Bytes}
 use Rattle.map_model.proofs.Maps.{by_order, equal_keys, less_of_greater, same_key}
 use Rattle.entry_model.specs.Entries.{Entry, newest}
-use Rattle.entry_model.specs.Newest.{IsAbove, KeysRise, lookup, newest_entries, with_entry}
+use Rattle.entry_model.specs.Newest.{ComesBehind, KeysRise, lookup, newest_entries, with_entry}
 use Rattle.entry_model.proofs.Newest.{above_apart, above_lower, above_with, below_apart, lookup_after, one_list, rises_after}
 use Rattle.merge_rows.specs.Choosing.{IsHeadAbove, IsHeadFrom, IsLeastAt}
 use Rattle.merge_rows.specs.Rows.{KeyFloor, above_floor, clears, merged_rows}
@@ -39,14 +39,14 @@ merged_says (source ∷ older) key = ap (λ (l : List Entry). lookup l key) (mer
 pub merged_rises : (sources : List (List Entry)) → KeysRise (merged_rows sources)
 merged_rises sources = rises_after [] (joined (reverse sources)) tt
 
-above_folded : (low : Bytes) (start source : List Entry) → AllByRecursion (IsAbove low) start → AllByRecursion (IsAbove low) source → AllByRecursion (IsAbove low) (fold with_entry start source)
+above_folded : (low : Bytes) (start source : List Entry) → AllByRecursion (ComesBehind low) start → AllByRecursion (ComesBehind low) source → AllByRecursion (ComesBehind low) (fold with_entry start source)
 above_folded low start [] above all = above
 above_folded low start (entry ∷ later) above all = above_folded low (with_entry start entry) later (above_with low start entry all.0 above) all.1
 
-pub merged_above : (low : Bytes) (sources : List (List Entry)) → AllByRecursion (AllByRecursion (IsAbove low)) sources → AllByRecursion (IsAbove low) (merged_rows sources)
+pub merged_above : (low : Bytes) (sources : List (List Entry)) → AllByRecursion (AllByRecursion (ComesBehind low)) sources → AllByRecursion (ComesBehind low) (merged_rows sources)
 merged_above low [] all = tt
 merged_above low (source ∷ older) all =
-    subst (AllByRecursion (IsAbove low)) (sym (merged_first source older)) (above_folded low (merged_rows older) source (merged_above low older all.1) all.0)
+    subst (AllByRecursion (ComesBehind low)) (sym (merged_first source older)) (above_folded low (merged_rows older) source (merged_above low older all.1) all.0)
 
 -- ---- cut at a floor
 
@@ -65,7 +65,7 @@ said_cut floor key (source ∷ older) not_so =
     ap (λ (o : Option (Option Bytes)). option_or o (said_by (cut floor older) key)) (newest_cut floor key source not_so)
     ∙ said_cut floor key older not_so
 
-all_cut : (floor : KeyFloor) (low : Bytes) (sources : List (List Entry)) → floor ≡ record { key = low; passed = true } → AllByRecursion (AllByRecursion (IsAbove low)) (cut floor sources)
+all_cut : (floor : KeyFloor) (low : Bytes) (sources : List (List Entry)) → floor ≡ record { key = low; passed = true } → AllByRecursion (AllByRecursion (ComesBehind low)) (cut floor sources)
 all_cut floor low [] is = tt
 all_cut floor low (source ∷ older) is = (all_above floor low source is, all_cut floor low older is)
 
@@ -75,7 +75,7 @@ abbrev pub AllRise : List (List Entry) → Type 0
 AllRise sources = AllByRecursion KeysRise sources
 
 -- a source whose first key is above one says nothing of it
-above_head : (key : Bytes) (source : List Entry) → KeysRise source → IsHeadAbove key (first_of source) → AllByRecursion (IsAbove key) source
+above_head : (key : Bytes) (source : List Entry) → KeysRise source → IsHeadAbove key (first_of source) → AllByRecursion (ComesBehind key) source
 above_head key [] rises above = tt
 above_head key (entry ∷ later) rises above = (above, above_lower key entry.key later above rises.0)
 
@@ -95,7 +95,7 @@ is_head (entry ∷ later) e is = let same : entry ≡ e = cc in (later, ap (λ (
 first_says : (source : List Entry) (e : Entry) (rest : Option (Option Bytes)) → KeysRise source → first_of source ≡ Some e → option_or (newest source e.key) rest ≡ Some e.value
 first_says source e rest rises is =
     let split = is_head source e is in
-    let above : AllByRecursion (IsAbove e.key) split.0 = (subst KeysRise split.1 rises).0 in
+    let above : AllByRecursion (ComesBehind e.key) split.0 = (subst KeysRise split.1 rises).0 in
     ap (λ (l : List Entry). option_or (newest l e.key) rest) split.1
     ∙ ap (λ (o : Option (Option Bytes)). option_or (option_or o (cond (bytes_eq e.key e.key) (Some e.value) None)) rest) (newest_above e.key split.0 above)
     ∙ ap (λ (t : Bool). option_or (cond t (Some e.value) None) rest) (same_key e.key)

@@ -6,10 +6,11 @@ use Rattle.std.proofs.lemmas.Bool.{false≢true}
 use Rattle.std.proofs.lemmas.Slice.Eq.{bytes_eq-Decides}
 use Rattle.block_model.specs.Block.{IsBlock}
 use Rattle.block_model.specs.Laws.{joined}
-use Rattle.block_model.specs.Order.{Follow, is_above, is_any}
+use Rattle.key_base.specs.ByteOrder.{is_before}
+use Rattle.block_model.specs.Order.{Follow, is_any}
 use Rattle.disk_trait.specs.Image.{Image}
 use Rattle.entry_model.specs.Entries.{Entry, keys_of}
-use Rattle.entry_model.specs.Newest.{IsAbove, KeysRise, entries_from, lookup}
+use Rattle.entry_model.specs.Newest.{ComesBehind, KeysRise, entries_from, lookup}
 use Rattle.entry_model.proofs.Newest.{above_lower, one_list}
 use Rattle.filter_api.specs.Spellings.{Spelling}
 use Rattle.filter_api.specs.declared.settings.Settings.{Settings}
@@ -42,9 +43,9 @@ cut_again floor [] clear = refl
 cut_again floor (e ∷ later) clear =
     ap (λ (t : Bool). cond t (e ∷ above_floor floor later) (above_floor floor later)) clear.0 ∙ ap (λ (l : List Entry). e ∷ l) (cut_again floor later clear.1)
 
-above_cut : (floor : KeyFloor) (low : Bytes) (entries : List Entry) → AllByRecursion (IsAbove low) entries → AllByRecursion (IsAbove low) (above_floor floor entries)
+above_cut : (floor : KeyFloor) (low : Bytes) (entries : List Entry) → AllByRecursion (ComesBehind low) entries → AllByRecursion (ComesBehind low) (above_floor floor entries)
 above_cut floor low [] above = tt
-above_cut floor low (e ∷ later) above = elim (clears floor e.key) as (λ t. AllByRecursion (IsAbove low) (cond t (e ∷ above_floor floor later) (above_floor floor later))) [
+above_cut floor low (e ∷ later) above = elim (clears floor e.key) as (λ t. AllByRecursion (ComesBehind low) (cond t (e ∷ above_floor floor later) (above_floor floor later))) [
   | true ↦ (above.0, above_cut floor low later above.1)
   | false ↦ above_cut floor low later above.1
 ]
@@ -93,7 +94,7 @@ merged_cut floor sources = one_list (merged_rows (cut floor sources)) (above_flo
 
 -- ---- a table that stands there
 
-follow_above : (low : Bytes) (entries : List Entry) → Follow (is_above low) (keys_of entries) → AllByRecursion (IsAbove low) entries × KeysRise entries
+follow_above : (low : Bytes) (entries : List Entry) → Follow (is_before low) (keys_of entries) → AllByRecursion (ComesBehind low) entries × KeysRise entries
 follow_above low [] follow = (tt, tt)
 follow_above low (e ∷ later) follow =
     let less = less_of (byte_order low e.key) follow.0 in

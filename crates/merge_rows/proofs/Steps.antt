@@ -5,7 +5,7 @@ use Rattle.std.specs.List.{AllByRecursion}
 use Rattle.std.proofs.lemmas.Bool.{false≢true}
 use Rattle.block_format.specs.Spans.{kept_from}
 use Rattle.entry_model.specs.Entries.{Entry}
-use Rattle.entry_model.specs.Newest.{IsAbove, KeysRise}
+use Rattle.entry_model.specs.Newest.{ComesBehind, KeysRise}
 use Rattle.map_model.specs.SortedMap.{Bytes}
 use Rattle.merge_rows.specs.Merges.{TableWalk, with_hand}
 use Rattle.merge_rows.specs.Reads.{is_used_up}
@@ -109,7 +109,7 @@ ended walk blocks none le =
 -- ---- a floor is passed
 
 -- the keys behind a row are above its key
-clear_above : (low : Bytes) (entries : List Entry) → AllByRecursion (IsAbove low) entries → Clear (passed_at low) entries
+clear_above : (low : Bytes) (entries : List Entry) → AllByRecursion (ComesBehind low) entries → Clear (passed_at low) entries
 clear_above low [] above = tt
 clear_above low (e ∷ later) above = (is_before_of low e.key above.0, clear_above low later above.1)
 
@@ -118,7 +118,7 @@ behind_row : (floor : KeyFloor) (low : Bytes) (now : Option Entry) (later : List
     → Clear (passed_at low) later
 behind_row floor low None later none from rises = subst (Clear (passed_at low)) (sym none) tt
 behind_row floor low (Some e) later caught from rises = at_or_after (Clear (passed_at low) later) e.key low from
-    (λ same. clear_above low later (subst (λ (k : Bytes). AllByRecursion (IsAbove k) later) same rises.0))
+    (λ same. clear_above low later (subst (λ (k : Bytes). AllByRecursion (ComesBehind k) later) same rises.0))
     (λ after. clear_above low later (above_lower low e.key later after rises.0))
 
 pub sound_passed : (floor : KeyFloor) (low : Bytes) (walk : CursorWalk) (blocks : List (List Entry)) → IsCaughtUp floor walk.now (with_hand walk.now (to_come walk blocks)) → IsHeadFrom low walk.now

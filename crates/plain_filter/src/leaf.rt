@@ -1,5 +1,5 @@
 //! What one leaf answers.
-ghost use Rattle.std.specs.Prelude.{◌≡◌, ◌==◌, ◌&&◌, ◌*◌, ◌-◌, ◌<◌, ◌≤◌, ◌^◌, length, slice_index, IsTrue};
+ghost use Rattle.std.specs.Prelude.{◌≡◌, ◌==◌, ◌&&◌, ◌*◌, ◌-◌, ◌<◌, ◌≤◌, ◌^◌, length, IsTrue};
 ghost use Rattle.std.specs.Ordering.{nat_cmp};
 ghost use Rattle.key_base.specs.Limits.{max_real_bits};
 ghost use Rattle.filter_model.specs.Answers.{begins, fits, is_past, meets};
@@ -9,7 +9,7 @@ ghost use Rattle.filter_api.specs.Seen.{seen};
 use filter_api::Leaf;
 use key_base::compare;
 use std::cmp::Ordering;
-use suffix_bits::{filled, real_bits_of, shortest_bytes};
+use suffix_bits::{byte_at, filled, real_bits_of, shortest_bytes};
 
 // Whether `key` fits the leaf, hash apart.
 fn leaf_fits(leaf: &Leaf, key: &[u8], real_bits: u8) -> bool
@@ -85,12 +85,6 @@ fn compare_padded(stub: &[u8], lo: &[u8]) -> Ordering
         }
     }
     Ordering::Equal
-}
-
-fn byte_at(bytes: &[u8], i: usize) -> u8
-    ensures { result ≡ slice_index bytes.now i }
-{
-    if i < bytes.len() { bytes[i] } else { 0 }
 }
 
 /// Whether the two are one byte string.

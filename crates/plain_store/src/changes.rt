@@ -1,5 +1,6 @@
 //! What a put, a flush and a compaction make of a state.
 ghost use Rattle.std.specs.Prelude.{◌≡◌, ◌+◌, map, vec_items, IfOk};
+ghost use Rattle.key_base.specs.Limits.{max_level};
 ghost use Rattle.entry_model.specs.Entries.{need, gap, body, filled};
 ghost use Rattle.table_model.specs.Tables.{filter_bytes_of};
 ghost use Rattle.state_model.specs.Changes as model;
@@ -17,7 +18,7 @@ use crate::table::Table;
 use crate::view::newest_entries;
 use entry_list::{Entry, copied, push_copy};
 use filter_api::RangeFilter;
-use key_base::{LOG_BYTES, MAX_TABLES};
+use key_base::{LOG_BYTES, MAX_LEVEL, MAX_TABLES};
 use plain_blocks::entry_length;
 use std::alloc::{AllocError, Global};
 
@@ -149,7 +150,7 @@ fn log_gap(state: &State) -> Result<u64, AllocError>
     Ok((LOG_BYTES as u64).saturating_sub(filled))
 }
 
-/// The live pairs alone stand in tables of level 6, and the log is empty. An empty store stays as it is.
+/// The live pairs alone stand in tables of the last level, and the log is empty. An empty store stays as it is.
 #[tactic(auto, unfolding(key_base::specs::Limits::last_epoch))]
 pub fn compacted<F: RangeFilter>(
     alloc: Global,
@@ -186,11 +187,17 @@ fn compacted_at<F: RangeFilter>(
 ) -> Result<Result<State, Refusal>, AllocError>
     requires { epoch ≡ state.now.epoch + 1 }
     ensures { IfOk result (λ changed. as_replied changed ≡ model.compact_placed state.now
-        (placed (filter_bytes_of F.spelling F.built_cutoff) state.now.settings state.now.pages (taken (without_job state.now)) 6 (outputs_for state.now.tables (model.live_entries state.now)))) }
+        (placed (filter_bytes_of F.spelling F.built_cutoff) state.now.settings state.now.pages (taken (without_job state.now)) max_level (outputs_for state.now.tables (model.live_entries state.now)))) }
 {
     let outputs = live_outputs(alloc, state)?;
     let taken = taken_without(alloc, state)?;
-    match placed::<F>(alloc, state, taken.as_slice(), 6, outputs.as_slice())? {
+    match placed::<F>(
+        alloc,
+        state,
+        taken.as_slice(),
+        MAX_LEVEL,
+        outputs.as_slice(),
+    )? {
         Ok(tables) => Ok(Ok(State {
             settings: state.settings,
             pages: state.pages,

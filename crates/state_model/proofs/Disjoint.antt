@@ -9,7 +9,7 @@ use Rattle.std.specs.Cmp.Lexicographic.{nat_list_cmp_total}
 use Rattle.map_model.specs.SortedMap.{Bytes}
 use Rattle.entry_model.specs.Entries.{Entry}
 use Rattle.map_model.proofs.Maps.{equal_keys, less_of_greater, by_order, order_same}
-use Rattle.entry_model.specs.Newest.{IsAbove, KeysRise, lookup}
+use Rattle.entry_model.specs.Newest.{ComesBehind, KeysRise, lookup}
 use Rattle.entry_model.proofs.Newest.{greater_of_less}
 use Rattle.block_model.specs.Pages.{first_key, last_key}
 use Rattle.map_model.specs.Slices.{is_before}
@@ -65,7 +65,7 @@ not_both None b apart = inl refl
 not_both (Some x) None apart = inr refl
 not_both (Some x) (Some y) apart = absurd (apart tt tt)
 
-above_found : (low : Bytes) (entries : List Entry) (key : Bytes) → AllByRecursion (IsAbove low) entries → IsSome (lookup entries key) → IsBefore low key
+above_found : (low : Bytes) (entries : List Entry) (key : Bytes) → AllByRecursion (ComesBehind low) entries → IsSome (lookup entries key) → IsBefore low key
 above_found low [] key above some = absurd some
 above_found low (entry ∷ more) key above some = elim (bytes_eq entry.key key) as (λ t. bytes_eq entry.key key ≡ t → IsSome (cond t (Some entry.value) (lookup more key)) → IsBefore low key) [
   | true ↦ λ e _. subst (λ (k : Bytes). IsBefore low k) ((bytes_eq-Decides entry.key key).0 e) above.0
@@ -79,7 +79,7 @@ first_upto (entry ∷ more) key rises some = elim (bytes_eq entry.key key) as (�
   | false ↦ λ _ found. inr (above_found entry.key more key rises.0 found)
 ] refl some
 
-above_last : (low : Bytes) (entry : Entry) (more : List Entry) → AllByRecursion (IsAbove low) (entry ∷ more) → IsBefore low (last_key (entry ∷ more))
+above_last : (low : Bytes) (entry : Entry) (more : List Entry) → AllByRecursion (ComesBehind low) (entry ∷ more) → IsBefore low (last_key (entry ∷ more))
 above_last low entry [] above = above.0
 above_last low entry (next ∷ more) above = above_last low next more above.1
 

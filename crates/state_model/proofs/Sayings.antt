@@ -12,9 +12,10 @@ use Rattle.std.specs.declared.cmp.Ordering.{Ordering}
 use Rattle.std.specs.declared.cmp.Ordering.TheVariants.{Less, Equal, Greater}
 use Rattle.map_model.specs.SortedMap.{Bytes, byte_order}
 use Rattle.entry_model.specs.Entries.{Entry, newest, live, keys_of}
-use Rattle.entry_model.specs.Newest.{IsAbove, KeysRise, newest_entries, lookup}
+use Rattle.entry_model.specs.Newest.{ComesBehind, KeysRise, newest_entries, lookup}
 use Rattle.entry_model.proofs.Newest.{none_above, above_lower, rises_after, lookup_newest}
-use Rattle.block_model.specs.Order.{Follow, is_above}
+use Rattle.key_base.specs.ByteOrder.{is_before}
+use Rattle.block_model.specs.Order.{Follow}
 use Rattle.table_model.specs.Tables.{Table}
 use Rattle.state_model.specs.View.{first_found, oldest_first}
 use Rattle.state_model.specs.Merges.{has_value}
@@ -84,7 +85,7 @@ less_of Less e = refl
 less_of Equal e = absurd (false≢true e)
 less_of Greater e = absurd (false≢true e)
 
-above_follow : (low : Bytes) (entries : List Entry) → Follow (is_above low) (keys_of entries) → AllByRecursion (IsAbove low) entries × KeysRise entries
+above_follow : (low : Bytes) (entries : List Entry) → Follow (is_before low) (keys_of entries) → AllByRecursion (ComesBehind low) entries × KeysRise entries
 above_follow low [] follow = (tt, tt)
 above_follow low (entry ∷ later) follow =
     let less = less_of (byte_order low entry.key) follow.0 in
@@ -102,9 +103,9 @@ lookup-append (x ∷ xs) ys key = elim (bytes_eq x.key key) as (λ t. cond t (So
   | false ↦ lookup-append xs ys key
 ]
 
-above_filter : (test : Entry → Bool) (low : Bytes) (entries : List Entry) → AllByRecursion (IsAbove low) entries → AllByRecursion (IsAbove low) (filter test entries)
+above_filter : (test : Entry → Bool) (low : Bytes) (entries : List Entry) → AllByRecursion (ComesBehind low) entries → AllByRecursion (ComesBehind low) (filter test entries)
 above_filter test low [] above = tt
-above_filter test low (entry ∷ later) above = elim (test entry) as (λ t. AllByRecursion (IsAbove low) (cond t (entry ∷ filter test later) (filter test later))) [
+above_filter test low (entry ∷ later) above = elim (test entry) as (λ t. AllByRecursion (ComesBehind low) (cond t (entry ∷ filter test later) (filter test later))) [
   | true ↦ (above.0, above_filter test low later above.1)
   | false ↦ above_filter test low later above.1
 ]
@@ -116,7 +117,7 @@ rises_filter test (entry ∷ later) rises = elim (test entry) as (λ t. KeysRise
   | false ↦ rises_filter test later rises.1
 ]
 
-above_part : (low : Bytes) (xs ys : List Entry) → AllByRecursion (IsAbove low) (xs ++ ys) → AllByRecursion (IsAbove low) xs
+above_part : (low : Bytes) (xs ys : List Entry) → AllByRecursion (ComesBehind low) (xs ++ ys) → AllByRecursion (ComesBehind low) xs
 above_part low [] ys above = tt
 above_part low (x ∷ xs) ys above = (above.0, above_part low xs ys above.1)
 

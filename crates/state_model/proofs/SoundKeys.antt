@@ -12,7 +12,7 @@ use Rattle.filter_model.specs.Keys.{IsKey, IsKeyList}
 use Rattle.filter_model.specs.Strings.{is_before}
 use Rattle.key_base.specs.Limits.{first_table_page, log_bytes, max_tables}
 use Rattle.map_model.specs.SortedMap.{Bytes}
-use Rattle.entry_model.specs.Newest.{IsAbove, KeysRise}
+use Rattle.entry_model.specs.Newest.{ComesBehind, KeysRise}
 use Rattle.state_model.specs.State.{State, written_by}
 use Rattle.table_model.specs.Tables.{FilterBytes, Table}
 use Rattle.state_model.specs.Taken.{extent_of}
@@ -25,7 +25,7 @@ key_of_entry e is = record { bytes = is.key_bytes; filled = is.some_key; short =
 
 rising_pairs : (entries : List Entry) → KeysRise entries → Pairs (λ (x y : Entry). is_before x.key y.key ≡ true) entries
 rising_pairs [] rises = tt
-rising_pairs (e ∷ more) rises = (weaker (IsAbove e.key) (λ (y : Entry). is_before e.key y.key ≡ true) (λ y less. ap is_lt less) more rises.0, rising_pairs more rises.1)
+rising_pairs (e ∷ more) rises = (weaker (ComesBehind e.key) (λ (y : Entry). is_before e.key y.key ≡ true) (λ y less. ap is_lt less) more rises.0, rising_pairs more rises.1)
 
 pub key_list : (t : Table) → IsSoundTable t → IsKeyList (keys_of t.entries)
 key_list t is =

@@ -5,7 +5,7 @@ use Rattle.std.specs.List.{AllByRecursion}
 use Rattle.filter_api.specs.declared.settings.Settings.{Settings}
 use Rattle.map_model.specs.SortedMap.{Bytes}
 use Rattle.entry_model.specs.Entries.{Entry, IsEntry}
-use Rattle.entry_model.specs.Newest.{IsAbove, KeysRise}
+use Rattle.entry_model.specs.Newest.{ComesBehind, KeysRise}
 use Rattle.block_model.specs.Pages.{first_key, last_key}
 use Rattle.table_model.specs.Tables.{FilterBytes, Table, table_of, table_pages}
 use Rattle.state_model.specs.View.{oldest_first}
@@ -85,20 +85,20 @@ made_sound filter_bytes settings level pages (output ∷ outputs) (t ∷ more) d
 
 -- ---- their order
 
-above_last : (xs ys : List Entry) → 1 ≤ length xs → KeysRise (xs ++ ys) → AllByRecursion (IsAbove (last_key xs)) ys
+above_last : (xs ys : List Entry) → 1 ≤ length xs → KeysRise (xs ++ ys) → AllByRecursion (ComesBehind (last_key xs)) ys
 above_last [] ys some rises = absurd (omega arith)
 above_last (e ∷ []) ys some rises = rises.0
 above_last (e ∷ next ∷ more) ys some rises = above_last (next ∷ more) ys (omega arith) rises.1
 
-above_first : (low : Bytes) (entries : List Entry) → 1 ≤ length entries → AllByRecursion (IsAbove low) entries → IsBefore low (first_key entries)
+above_first : (low : Bytes) (entries : List Entry) → 1 ≤ length entries → AllByRecursion (ComesBehind low) entries → IsBefore low (first_key entries)
 above_first low [] some above = absurd (omega arith)
 above_first low (e ∷ more) some above = above.0
 
 stands_before : (level : ℕ) (t : Table) (more : List Table) → t.level ≡ level → AllAt level more → AllByRecursion (λ (u : Table). 1 ≤ length u.entries) more
-    → AllByRecursion (IsAbove (greatest_key t)) (joined (lists_of more)) → AllByRecursion (StandsBefore t) more
+    → AllByRecursion (ComesBehind (greatest_key t)) (joined (lists_of more)) → AllByRecursion (StandsBefore t) more
 stands_before level t [] at all some above = tt
 stands_before level t (u ∷ more) at all some above =
-    let parts = all_parts (IsAbove (greatest_key t)) u.entries (joined (lists_of more)) above in
+    let parts = all_parts (ComesBehind (greatest_key t)) u.entries (joined (lists_of more)) above in
     (inr (at ∙ sym all.0, inr (above_first (greatest_key t) u.entries some.0 parts.0)), stands_before level t more at all.1 some.1 parts.1)
 
 -- tables of one level whose entries rise, one table after the other, stand in their order

@@ -1,6 +1,6 @@
 -- What a put, a flush and a compaction make of a state, or the reply by which they are refused.
 use Rattle.std.specs.Prelude.{◌+◌, ◌==◌, nat_le, if◌then◌else◌, List, [], ◌∷◌, ◌++◌, length, filter, None, Result, Ok, Err}
-use Rattle.key_base.specs.Limits.{last_epoch, max_tables}
+use Rattle.key_base.specs.Limits.{last_epoch, max_level, max_tables}
 use Rattle.entry_model.specs.Entries.{Entry, need, gap}
 use Rattle.entry_model.specs.Newest.{newest_entries}
 use Rattle.state_model.specs.State.{State, without_job}
@@ -53,13 +53,13 @@ compact_placed s (Err refusal) = Err (Full refusal.need refusal.gap)
 abbrev pub live_entries : State → List Entry
 live_entries s = filter (λ (e : Entry). has_value e.value) (newest_entries (entries_of s))
 
--- Some entries, and tables with them, become tables of level 6.
+-- Some entries, and tables with them, become tables of the last level.
 abbrev pub compacted_with : FilterBytes → State → List Entry → Result State Reply
 compacted_with filter_bytes s [] = Ok s
 compacted_with filter_bytes s (entry ∷ more) =
     if s.epoch == last_epoch then Err LastEpoch
-    else compact_placed s (placed filter_bytes s.settings s.pages (taken (without_job s)) 6 (outputs_for s.tables (live_entries s)))
+    else compact_placed s (placed filter_bytes s.settings s.pages (taken (without_job s)) max_level (outputs_for s.tables (live_entries s)))
 
--- The live pairs alone stand in tables of level 6, the log is empty and no job runs. An empty store stays as it is.
+-- The live pairs alone stand in tables of the last level, the log is empty and no job runs. An empty store stays as it is.
 abbrev pub compacted : FilterBytes → State → Result State Reply
 compacted filter_bytes s = compacted_with filter_bytes s (entries_of s)

@@ -1,7 +1,7 @@
 -- Laws of what the state does not explain: where it may be met, and what it leaves.
 use Rattle.std.specs.Prelude.{◌≡◌, ◌⊎◌, ◌<◌, ℕ, Bool, true, false, [], take, Some, None, Err}
 use Rattle.byte_fields.specs.declared.parts.Damage.{Damage}
-use Rattle.key_base.specs.Limits.{last_epoch}
+use Rattle.key_base.specs.Limits.{last_epoch, max_level}
 use Rattle.map_model.specs.SortedMap.{Bytes, Map}
 use Rattle.map_model.specs.Slices.{slice}
 use Rattle.entry_model.specs.Entries.{put_entry, del_entry}
@@ -102,7 +102,7 @@ pub record FaultsHaveCauses : Type 0 where
       → IsAnswered filter_bytes s Compact reply after
   pub compaction_without_room :
       (filter_bytes : FilterBytes) (s after : State) (reply : Reply) (refusal : NoRoom)
-      → placed filter_bytes s.settings s.pages (taken (without_job s)) 6 (take 1 (outputs_for s.tables (live_entries s))) ≡ Err refusal
+      → placed filter_bytes s.settings s.pages (taken (without_job s)) max_level (take 1 (outputs_for s.tables (live_entries s))) ≡ Err refusal
       → Step (Only WriteFailed) filter_bytes s Compact reply after → IsAnswered filter_bytes s Compact reply after
   pub get_of_no_block :
       (filter_bytes : FilterBytes) (s after : State) (reply : Reply) (key : Bytes) → get_bound s key ≡ 0 → Step Ever filter_bytes s (Get key) reply after

@@ -1,6 +1,7 @@
 -- Laws of the state: which map it is, and what each change leaves of it.
 use Rattle.std.specs.Prelude.{◌≡◌, ◌⊎◌, ◌<◌, ◌≤◌, Bool, true, false, if◌then◌else◌, List, [], ◌∷◌, ◌++◌, length, map, flat_map, Some, Ok}
 use Rattle.std.specs.List.{AllByRecursion, AllPairs}
+use Rattle.key_base.specs.Limits.{max_level, merge_data_pages}
 use Rattle.map_model.specs.SortedMap.{Bytes, Map, get, put, del, Rises}
 use Rattle.entry_model.specs.Entries.{Entry, live, changed}
 use Rattle.block_model.specs.Pages.{data_pages}
@@ -70,11 +71,11 @@ AreSomeOf [] all = Unit {0}
 AreSomeOf (t ∷ more) [] = ⊥
 AreSomeOf (t ∷ more) (u ∷ all) = ((t ≡ u) × AreSomeOf more all) ⊎ AreSomeOf (t ∷ more) all
 
--- What is chosen is not empty, and becomes tables of a level from 1 to 6. Of tables in their order it is a part in their
+-- What is chosen is not empty, and becomes tables of a level from 1 to the last. Of tables in their order it is a part in their
 -- order, and so is what a job merges, also behind later flushes.
 pub record ChoiceLaws : Type 0 where
   pub some : (tables : List Table) (plan : Plan) → choose tables ≡ Some plan → 1 ≤ length plan.inputs
-  pub output : (tables : List Table) (plan : Plan) → choose tables ≡ Some plan → (1 ≤ plan.output) × (plan.output ≤ 6)
+  pub output : (tables : List Table) (plan : Plan) → choose tables ≡ Some plan → (1 ≤ plan.output) × (plan.output ≤ max_level)
   pub part : (tables : List Table) (plan : Plan) → AllPairs StandsBefore tables → choose tables ≡ Some plan → AreSomeOf plan.inputs tables
   pub job_part :
       (filter_bytes : FilterBytes) (s : State) (job : Job) → IsSound filter_bytes s → s.job ≡ Some job
@@ -82,5 +83,5 @@ pub record ChoiceLaws : Type 0 where
 
 -- An output that others follow has the data pages at which it is closed, or more, and fewer without its last entry.
 pub record OutputLaws : Type 0 where
-  pub full : (entries : List Entry) → 1 ≤ length (split_output [] entries).1 → 1024 ≤ data_pages (split_output [] entries).0
-  pub first : (entries front : List Entry) (last : Entry) → (split_output [] entries).0 ≡ front ++ (last ∷ []) → data_pages front < 1024
+  pub full : (entries : List Entry) → 1 ≤ length (split_output [] entries).1 → merge_data_pages ≤ data_pages (split_output [] entries).0
+  pub first : (entries front : List Entry) (last : Entry) → (split_output [] entries).0 ≡ front ++ (last ∷ []) → data_pages front < merge_data_pages

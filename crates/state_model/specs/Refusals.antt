@@ -1,7 +1,7 @@
 -- Why a line is refused.
 use Rattle.std.specs.Prelude.{ℕ, ◌≡◌, ◌≢◌, ◌⊎◌, ◌<◌, ◌≤◌, Bool, true, false, List, [], ◌∷◌, length, Option, Some, None, Result, Ok, Err}
 use Rattle.filter_api.specs.declared.settings.Settings.{Settings}
-use Rattle.key_base.specs.Limits.{last_epoch, max_bound_bytes, max_key_bytes, max_tables, max_value_bytes}
+use Rattle.key_base.specs.Limits.{last_epoch, max_bound_bytes, max_key_bytes, max_level, max_tables, max_value_bytes}
 use Rattle.map_model.specs.SortedMap.{Bytes}
 use Rattle.entry_model.specs.Entries.{Entry, put_entry, del_entry, need, gap}
 use Rattle.state_model.specs.State.{State, without_job}
@@ -81,7 +81,7 @@ abbrev pub flush_places : FilterBytes → State → Result (List Table) NoRoom
 flush_places filter_bytes s = placed filter_bytes s.settings s.pages (taken s) 0 (memory s ∷ [])
 
 abbrev pub compaction_places : FilterBytes → State → Result (List Table) NoRoom
-compaction_places filter_bytes s = placed filter_bytes s.settings s.pages (taken (without_job s)) 6 (outputs_for s.tables (live_entries s))
+compaction_places filter_bytes s = placed filter_bytes s.settings s.pages (taken (without_job s)) max_level (outputs_for s.tables (live_entries s))
 
 -- The causes for which a line is refused, and the reply by which it is. Limits come first. A flush asks for fewer tables
 -- than the most, then for room, then for a next epoch; a compaction asks for a next epoch, then for room.

@@ -3,7 +3,7 @@ use Rattle.std.specs.Prelude.{◌≡◌, ◌⊎◌, ◌<◌, ◌≤◌, ◌*◌,
 use Rattle.std.specs.List.{AllByRecursion, AllPairs, sum_by}
 use Rattle.filter_api.specs.declared.settings.Settings.{Settings}
 use Rattle.filter_api.specs.Ranges.{InRange}
-use Rattle.key_base.specs.Limits.{last_epoch, log_bytes, max_block_entries, max_device_pages, max_ratio, max_tables, min_device_pages}
+use Rattle.key_base.specs.Limits.{last_epoch, log_bytes, max_block_entries, max_device_pages, max_level, max_ratio, max_tables, min_device_pages}
 use Rattle.key_base.specs.ByteOrder.{IsBefore}
 use Rattle.entry_model.specs.Entries.{Entry, filled, IsEntry}
 use Rattle.block_model.specs.Block.{IsTable}
@@ -16,7 +16,7 @@ use Rattle.state_model.specs.Merges.{Plan, choose, planned, on_level, least_key,
 -- a table has one entry or more, with strictly rising keys, and one block or more, each of a page or more and of not too
 -- many entries
 pub record IsSoundTable (t : Table) : Type 0 where
-  pub level : t.level ≤ 6
+  pub level : t.level ≤ max_level
   pub entries : IsTable t.entries
   pub blocks : (1 ≤ t.blocks) × (t.blocks ≤ t.pages)
   pub few : length t.entries ≤ max_block_entries * t.blocks

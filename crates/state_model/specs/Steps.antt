@@ -1,7 +1,7 @@
 -- What one line is answered, and the state that it leaves.
 use Rattle.std.specs.Prelude.{◌≡◌, ◌≢◌, ◌⊎◌, ◌<◌, ℕ, [], length, take, Option, Some, None, Result, Ok, Err, IsOk}
 use Rattle.byte_fields.specs.declared.parts.Damage.{Damage}
-use Rattle.key_base.specs.Limits.{last_epoch}
+use Rattle.key_base.specs.Limits.{last_epoch, max_level}
 use Rattle.map_model.specs.SortedMap.{Map, get}
 use Rattle.entry_model.specs.Entries.{put_entry, del_entry}
 use Rattle.map_model.specs.Slices.{slice, seek, count}
@@ -81,7 +81,7 @@ abbrev pub Writes : FilterBytes → State → Request → Type 0
 Writes filter_bytes s (Put key value) = IsOk (written filter_bytes s (put_entry key value))
 Writes filter_bytes s (Del key) = IsOk (written filter_bytes s (del_entry key))
 Writes filter_bytes s Flush = (memory s ≢ []) × IsOk (flushed filter_bytes s)
-Writes filter_bytes s Compact = IsBegun s × IsOk (placed filter_bytes s.settings s.pages (taken (without_job s)) 6 (take 1 (outputs_for s.tables (live_entries s))))
+Writes filter_bytes s Compact = IsBegun s × IsOk (placed filter_bytes s.settings s.pages (taken (without_job s)) max_level (take 1 (outputs_for s.tables (live_entries s))))
 Writes filter_bytes s request = ⊥
 
 -- A get, a closed seek and a count read where their bounds allow a block, and so does a range that asks for pairs; an open

@@ -29,7 +29,7 @@ pub fn install_laws()
     ensures { InstallLaws }
 {}
 
-/// Law: what is chosen is some of the tables, in their order, and becomes tables of a level from 1 to 6; so it is with what
+/// Law: what is chosen is some of the tables, in their order, and becomes tables of a level from 1 to the last; so it is with what
 /// a job merges.
 pub fn choice_laws()
     ensures { ChoiceLaws }

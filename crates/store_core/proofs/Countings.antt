@@ -8,7 +8,7 @@ use Rattle.std.proofs.lemmas.List.{length-map}
 use Rattle.std.proofs.lemmas.List.Sums.{sum_by-cons}
 use Rattle.byte_fields.specs.declared.parts.Row.{Row}
 use Rattle.entry_model.specs.Entries.{Entry}
-use Rattle.entry_model.specs.Newest.{IsAbove, KeysRise, entries_from}
+use Rattle.entry_model.specs.Newest.{ComesBehind, KeysRise, entries_from}
 use Rattle.entry_model.proofs.Newest.{rises_after}
 use Rattle.map_model.specs.Slices.{is_before, is_between, is_up_to}
 use Rattle.map_model.specs.SortedMap.{Bytes}
@@ -50,7 +50,7 @@ from_then_up_to low high (e ∷ more) = by_test (from_then_up_to low high more) 
         omega (arith, here, ap (up_to_count high) rest, between_more low high e more, up_to_more high e (entries_from more low), later)
 
 -- above the upper one there are none
-pub none_above : (high key : Bytes) (entries : List Entry) → is_before high key ≡ true → AllByRecursion (λ (e : Entry). IsAbove key e) entries → up_to_count high entries ≡ 0
+pub none_above : (high key : Bytes) (entries : List Entry) → is_before high key ≡ true → AllByRecursion (λ (e : Entry). ComesBehind key e) entries → up_to_count high entries ≡ 0
 none_above high key [] above all = refl
 none_above high key (e ∷ more) above all =
     let after : is_before high e.key ≡ true = ap is_lt (nat_list_cmp_total.trans high key e.key (before_less high key above) all.0) in
@@ -69,9 +69,9 @@ one_up_to high e more upto =
 
 -- ---- entries that rise, from a bound on
 
-pub above_from : (key low : Bytes) (entries : List Entry) → AllByRecursion (λ (e : Entry). IsAbove key e) entries → AllByRecursion (λ (e : Entry). IsAbove key e) (entries_from entries low)
+pub above_from : (key low : Bytes) (entries : List Entry) → AllByRecursion (λ (e : Entry). ComesBehind key e) entries → AllByRecursion (λ (e : Entry). ComesBehind key e) (entries_from entries low)
 above_from key low [] all = tt
-above_from key low (e ∷ more) all = elim (is_before e.key low) as (λ b. AllByRecursion (λ (x : Entry). IsAbove key x) (cond (not b) (e ∷ entries_from more low) (entries_from more low))) [
+above_from key low (e ∷ more) all = elim (is_before e.key low) as (λ b. AllByRecursion (λ (x : Entry). ComesBehind key x) (cond (not b) (e ∷ entries_from more low) (entries_from more low))) [
   | true ↦ above_from key low more all.1
   | false ↦ (all.0, above_from key low more all.1)
 ]

@@ -6,7 +6,7 @@ use Rattle.std.proofs.lemmas.List.{append-nil, map-append, take_more}
 use Rattle.std.proofs.lemmas.List.Elements.{recursion_from_All, All-from_recursion}
 use Rattle.std.proofs.lemmas.List.Sorted.{All-permutation, IsPermutation-append_right, IsPermutation-cons, IsPermutation-middle, IsPermutation-trans}
 use Rattle.block_model.specs.Block.{IsTable}
-use Rattle.block_model.specs.Order.{Follow, is_above, is_any}
+use Rattle.block_model.specs.Order.{Follow, is_any}
 use Rattle.byte_fields.specs.declared.parts.Row.{Row}
 use Rattle.entry_model.specs.Entries.{Entry, IsEntry, keys_of}
 use Rattle.entry_model.specs.Newest.{entries_from}
@@ -142,7 +142,7 @@ each_behind P (x ∷ xs) y ys all = each_behind P xs y ys all.1
 
 front_follows : (test : Bytes → Bool) (a b : List Entry) → Follow test (keys_of (a ++ b)) → Follow test (keys_of a)
 front_follows test [] b f = tt
-front_follows test (e ∷ a) b f = (f.0, front_follows (is_above e.key) a b f.1)
+front_follows test (e ∷ a) b f = (f.0, front_follows (is_before e.key) a b f.1)
 
 -- an entry of a table behind some others, and before the rest
 module _ (all front : List Entry) (e : Entry) (rest : List Entry) (are : front ++ e ∷ rest ≡ all) (table : IsTable all) where

@@ -8,7 +8,7 @@ use Rattle.std.proofs.lemmas.Bool.{false≢true}
 use Rattle.std.proofs.lemmas.Slice.Eq.{bytes_eq-Decides}
 use Rattle.std.specs.declared.cmp.Ordering.TheVariants.{Less}
 use Rattle.entry_model.specs.Entries.{Entry, live}
-use Rattle.entry_model.specs.Newest.{IsAbove, KeysRise, entries_from, lookup}
+use Rattle.entry_model.specs.Newest.{ComesBehind, KeysRise, entries_from, lookup}
 use Rattle.entry_model.proofs.Newest.{above_lower, none_above}
 use Rattle.map_model.specs.Slices.{between, count, is_before, is_between, is_up_to}
 use Rattle.map_model.specs.SortedMap.{Bytes, Map, Rises, byte_order, get}
@@ -102,7 +102,7 @@ with_above : (low key : Bytes) (value : Option Bytes) (later : Map) → byte_ord
 with_above low key None later less above = above
 with_above low key (Some value) later less above = (less, above)
 
-pub pairs_above : (high : Option Bytes) (key : Bytes) (rows : List Entry) → AllByRecursion (IsAbove key) rows → ArePairsAbove key (pairs_up_to high rows)
+pub pairs_above : (high : Option Bytes) (key : Bytes) (rows : List Entry) → AllByRecursion (ComesBehind key) rows → ArePairsAbove key (pairs_up_to high rows)
 pairs_above high key [] above = tt
 pairs_above high key (e ∷ more) above = elim (is_up_to high e.key) as (λ t. ArePairsAbove key (cond t (before_pairs e.key e.value (pairs_up_to high more)) [])) [
   | true ↦ with_above key e.key e.value (pairs_up_to high more) above.0 (pairs_above high key more above.1)

@@ -7,7 +7,7 @@ use Rattle.disk_trait.specs.declared.fault.DiskFault.{DiskFault}
 use Rattle.entry_model.specs.Entries.{Entry}
 use Rattle.extent_model.specs.Extents.{AreLaid}
 use Rattle.filter_api.specs.Spellings.{Spelling}
-use Rattle.key_base.specs.Limits.{last_epoch, max_tables}
+use Rattle.key_base.specs.Limits.{last_epoch, max_level, max_tables}
 use Rattle.level_merge.specs.Held.{AreHeld}
 use Rattle.level_merge.specs.declared.fault.JobFault.{JobFault}
 use Rattle.level_merge.specs.declared.fault.JobFault.TheVariants as job
@@ -71,7 +71,7 @@ IsCompactFault old new (error.BadSettings field) = ⊥
 pub record AreCompact (v : Version) (rows : List Row) : Type 0 where
   pub few : length rows ≤ max_tables
   pub each : AllByRecursion IsTableRow rows
-  pub deepest : AllByRecursion (λ (row : Row). row.level ≡ 6) rows
+  pub deepest : AllByRecursion (λ (row : Row). row.level ≡ max_level) rows
   pub laid : AreLaid v.pages (map extent_of (v.rows ++ rows))
 
 -- the version in which some tables stand alone, and the other log area is in use
@@ -100,10 +100,10 @@ pub record IsHeldBy (spelling : Spelling) (filter_bytes : FilterBytes) (m : Mani
 
 -- what its live pairs become, and the first of these tables
 abbrev pub compact_tables : FilterBytes → State → Result (List Table) NoRoom
-compact_tables filter_bytes s = placed filter_bytes s.settings s.pages (taken s) 6 (outputs_for s.tables (live_entries s))
+compact_tables filter_bytes s = placed filter_bytes s.settings s.pages (taken s) max_level (outputs_for s.tables (live_entries s))
 
 abbrev pub first_compact_table : FilterBytes → State → Result (List Table) NoRoom
-first_compact_table filter_bytes s = placed filter_bytes s.settings s.pages (taken s) 6 (take 1 (outputs_for s.tables (live_entries s)))
+first_compact_table filter_bytes s = placed filter_bytes s.settings s.pages (taken s) max_level (take 1 (outputs_for s.tables (live_entries s)))
 
 -- the state in which they stand alone
 abbrev pub compacted_into : List Table → State → State

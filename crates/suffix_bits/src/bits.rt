@@ -65,7 +65,8 @@ fn first_four(bytes: &[u8]) -> u32
     a * 0x100_0000 + b * 0x1_0000 + c * 0x100 + d
 }
 
-fn byte_at(bytes: &[u8], i: usize) -> u8
+/// The byte at a place, from 0; zero where there is none.
+pub fn byte_at(bytes: &[u8], i: usize) -> u8
     ensures { result ≡ slice_index bytes.now i }
 {
     if i < bytes.len() { bytes[i] } else { 0 }

@@ -24,7 +24,7 @@ pub mod examples;
 mod laws;
 mod suffixes;
 
-pub use bits::{filled, hash_bits_of, real_bits_of, shortest_bytes};
+pub use bits::{byte_at, filled, hash_bits_of, real_bits_of, shortest_bytes};
 pub use builder::SuffixesBuilder;
 pub use laws::suffix_laws;
 pub use suffixes::Suffixes;

@@ -11,7 +11,8 @@ use Rattle.block_model.specs.Block.{AreEntries, IsBlock, IsTable, block_bytes}
 use Rattle.block_model.specs.BlockReading.{block_in}
 use Rattle.block_model.specs.Index.{IndexRow, index_row_of, row_pages}
 use Rattle.block_model.specs.Laws.{joined}
-use Rattle.block_model.specs.Order.{Follow, is_above, is_any}
+use Rattle.key_base.specs.ByteOrder.{is_before}
+use Rattle.block_model.specs.Order.{Follow, is_any}
 use Rattle.block_model.specs.Pages.{block_pages, blocks_of, blocks_with, data_pages, has_room, last_key}
 use Rattle.block_model.proofs.Bounds.{pages_bound}
 use Rattle.block_model.proofs.BlocksRead.{block_again}
@@ -246,16 +247,16 @@ pub stand_none : (rows : List BlockRow) → rows ≡ [] → StandFrom 0 rows
 stand_none rows none = subst (StandFrom 0) (sym none) tt
 
 -- a key above the last one follows
-pub follow_push : (test : Bytes → Bool) (es : List Entry) (e : Entry) → 1 ≤ length es → Follow test (keys_of es) → is_above (last_key es) e.key ≡ true → Follow test (keys_of (es ++ e ∷ []))
+pub follow_push : (test : Bytes → Bool) (es : List Entry) (e : Entry) → 1 ≤ length es → Follow test (keys_of es) → is_before (last_key es) e.key ≡ true → Follow test (keys_of (es ++ e ∷ []))
 follow_push test [] e some f above = absurd (omega (arith, some))
 follow_push test (x ∷ []) e some f above = (f.0, (above, tt))
-follow_push test (x ∷ y ∷ more) e some f above = (f.0, follow_push (is_above x.key) (y ∷ more) e (omega arith) f.1 above)
+follow_push test (x ∷ y ∷ more) e some f above = (f.0, follow_push (is_before x.key) (y ∷ more) e (omega arith) f.1 above)
 
 -- and back
-pub follow_last : (test : Bytes → Bool) (es : List Entry) (e : Entry) → 1 ≤ length es → Follow test (keys_of (es ++ e ∷ [])) → is_above (last_key es) e.key ≡ true
+pub follow_last : (test : Bytes → Bool) (es : List Entry) (e : Entry) → 1 ≤ length es → Follow test (keys_of (es ++ e ∷ [])) → is_before (last_key es) e.key ≡ true
 follow_last test [] e some f = absurd (omega (arith, some))
 follow_last test (x ∷ []) e some f = f.1.0
-follow_last test (x ∷ y ∷ more) e some f = follow_last (is_above x.key) (y ∷ more) e (omega arith) f.1
+follow_last test (x ∷ y ∷ more) e some f = follow_last (is_before x.key) (y ∷ more) e (omega arith) f.1
 
 pub follow_alone : (es : List Entry) (e : Entry) → length es ≡ 0 → Follow is_any (keys_of (es ++ e ∷ []))
 follow_alone [] e none = (refl, tt)

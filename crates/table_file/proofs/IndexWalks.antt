@@ -11,7 +11,8 @@ use Rattle.byte_fields.specs.Spelling.{IsBytes}
 use Rattle.map_model.specs.SortedMap.{Bytes}
 use Rattle.block_model.specs.Index.{Index, IndexRow, IsIndex, index_row_bytes, row_pages}
 use Rattle.block_model.specs.IndexReading.{head_width_in, index_fault, index_head_fault, index_in, last_in, least_in, pages_fault, row_fault, row_in, row_width_in, rows_count_in, rows_fault, rows_in}
-use Rattle.block_model.specs.Order.{is_above, is_from}
+use Rattle.key_base.specs.ByteOrder.{is_before}
+use Rattle.block_model.specs.Order.{is_from}
 use Rattle.block_model.proofs.IndexesRead.{index_written}
 use Rattle.block_model.proofs.Refusals.{not_true}
 use Rattle.table_file.specs.BlockRows.{StandFrom, row_seen, rows_seen}
@@ -25,16 +26,16 @@ module _ (n place : ℕ) (test : Bytes → Bool) (rest : Bytes) (some : 0 < n) w
   one_more = omega (arith, some)
 
   pub next_kept : row_fault place test rest ≡ None
-      → rows_fault n place test rest ≡ rows_fault (n - 1) (place + row_width_in rest) (is_above (last_in rest)) (drop (row_width_in rest) rest)
+      → rows_fault n place test rest ≡ rows_fault (n - 1) (place + row_width_in rest) (is_before (last_in rest)) (drop (row_width_in rest) rest)
   unfolding rows_fault
   next_kept none =
-      let later = rows_fault (n - 1) (place + row_width_in rest) (is_above (last_in rest)) (drop (row_width_in rest) rest) in
+      let later = rows_fault (n - 1) (place + row_width_in rest) (is_before (last_in rest)) (drop (row_width_in rest) rest) in
       ap (λ (k : ℕ). rows_fault k place test rest) one_more ∙ ap (λ (f : Option Fault). option_or f later) none
 
   pub next_broken : (f : Fault) → row_fault place test rest ≡ Some f → rows_fault n place test rest ≡ Some f
   unfolding rows_fault
   next_broken f broken =
-      let later = rows_fault (n - 1) (place + row_width_in rest) (is_above (last_in rest)) (drop (row_width_in rest) rest) in
+      let later = rows_fault (n - 1) (place + row_width_in rest) (is_before (last_in rest)) (drop (row_width_in rest) rest) in
       ap (λ (k : ℕ). rows_fault k place test rest) one_more ∙ ap (λ (g : Option Fault). option_or g later) broken
 
 pub none_is_left : (n place : ℕ) (test : Bytes → Bool) (rest : Bytes) → n ≡ 0 → length rest ≤ 0 → rows_fault n place test rest ≡ None

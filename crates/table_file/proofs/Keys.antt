@@ -12,11 +12,11 @@ use Rattle.std.proofs.lemmas.List.Elements.{All-from_recursion}
 use Rattle.std.proofs.lemmas.List.Kept.{AllPairs-cons}
 use Rattle.filter_model.proofs.Pairs.{AllPairs-nil}
 use Rattle.filter_model.specs.Keys.{IsKey, IsKeyList}
-use Rattle.filter_model.specs.Strings.{is_before}
 use Rattle.map_model.specs.SortedMap.{Bytes, byte_order}
 use Rattle.entry_model.specs.Entries.{Entry, IsEntry, keys_of}
 use Rattle.block_model.specs.Block.{IsTable}
-use Rattle.block_model.specs.Order.{Follow, is_above, is_any}
+use Rattle.key_base.specs.ByteOrder.{is_before}
+use Rattle.block_model.specs.Order.{Follow, is_any}
 use Rattle.block_model.specs.Pages.{last_key}
 use Rattle.block_model.proofs.LastBlocks.{last_key_at}
 
@@ -25,21 +25,21 @@ less_of Less e = refl
 less_of Equal e = absurd cc
 less_of Greater e = absurd cc
 
-pub above_above : (a b c : Bytes) → is_above a b ≡ true → is_above b c ≡ true → is_above a c ≡ true
+pub above_above : (a b c : Bytes) → is_before a b ≡ true → is_before b c ≡ true → is_before a c ≡ true
 above_above a b c ab bc = ap is_lt (nat_list_cmp_total.trans a b c (less_of (byte_order a b) ab) (less_of (byte_order b c) bc))
 
-pub follow_lower : (low key : Bytes) (keys : List Bytes) → is_above low key ≡ true → Follow (is_above key) keys → Follow (is_above low) keys
+pub follow_lower : (low key : Bytes) (keys : List Bytes) → is_before low key ≡ true → Follow (is_before key) keys → Follow (is_before low) keys
 follow_lower low key [] above f = tt
 follow_lower low key (k ∷ keys) above f = (above_above low key k above f.0, f.1)
 
-pub all_above : (low : Bytes) (keys : List Bytes) → Follow (is_above low) keys → AllByRecursion (λ k. is_before low k ≡ true) keys
+pub all_above : (low : Bytes) (keys : List Bytes) → Follow (is_before low) keys → AllByRecursion (λ k. is_before low k ≡ true) keys
 all_above low [] f = tt
 all_above low (k ∷ keys) f = (f.0, all_above low keys (follow_lower low k keys f.0 f.1))
 
 pairs_of : (test : Bytes → Bool) (keys : List Bytes) → Follow test keys → AllPairs (λ a b. is_before a b ≡ true) keys
 pairs_of test [] f = AllPairs-nil (λ a b. is_before a b ≡ true)
 pairs_of test (k ∷ keys) f =
-    AllPairs-cons (λ a b. is_before a b ≡ true) k keys (All-from_recursion (λ b. is_before k b ≡ true) keys (all_above k keys f.1)) (pairs_of (is_above k) keys f.1)
+    AllPairs-cons (λ a b. is_before a b ≡ true) k keys (All-from_recursion (λ b. is_before k b ≡ true) keys (all_above k keys f.1)) (pairs_of (is_before k) keys f.1)
 
 keys_sound : (entries : List Entry) → AllByRecursion IsEntry entries → AllByRecursion IsKey (keys_of entries)
 keys_sound [] all = tt

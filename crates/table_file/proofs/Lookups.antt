@@ -12,7 +12,8 @@ use Rattle.entry_model.specs.Entries.{Entry, keys_of}
 use Rattle.entry_model.specs.Newest.{lookup}
 use Rattle.block_model.specs.Index.{IndexRow, index_row_of}
 use Rattle.block_model.specs.Laws.{joined}
-use Rattle.block_model.specs.Order.{Follow, is_above, is_any, is_from}
+use Rattle.key_base.specs.ByteOrder.{is_before}
+use Rattle.block_model.specs.Order.{Follow, is_any, is_from}
 use Rattle.block_model.specs.Pages.{first_key, last_key}
 use Rattle.table_file.proofs.Keys.{above_above, follow_lower}
 
@@ -27,12 +28,12 @@ over_apart a b lt =
     texts_ties a b ∙ ap is_eq turned ∙ by_order (λ o. is_lt o ≡ true → is_eq (ordering_reverse o) ≡ false) b a (λ _ _. refl) (λ _ f. absurd cc) (λ _ f. absurd cc) lt
 
 -- a key that is not above low is below what is above low
-below_above : (key low k : Bytes) → is_from key low ≡ true → is_above low k ≡ true → is_above key k ≡ true
+below_above : (key low k : Bytes) → is_from key low ≡ true → is_before low k ≡ true → is_before key k ≡ true
 below_above key low k from above =
     let turned : byte_order low key ≡ ordering_reverse (byte_order key low) = nat_list_cmp_total.antisymm low key in
-    by_order (λ o. byte_order key low ≡ o → not (is_lt (ordering_reverse o)) ≡ true → is_above key k ≡ true) key low
+    by_order (λ o. byte_order key low ≡ o → not (is_lt (ordering_reverse o)) ≡ true → is_before key k ≡ true) key low
     (λ less is _. above_above key low k (ap is_lt less) above)
-    (λ equal is _. subst (λ (x : Bytes). is_above x k ≡ true) (sym (equal_keys key low equal)) above)
+    (λ equal is _. subst (λ (x : Bytes). is_before x k ≡ true) (sym (equal_keys key low equal)) above)
     (λ greater is f. absurd cc)
     refl (ap (λ (o : Ordering). not (is_lt o)) (sym turned) ∙ from)
 
@@ -41,7 +42,7 @@ below_above key low k from above =
 skip : (e : Entry) (more : List Entry) (key : Bytes) → bytes_eq e.key key ≡ false → lookup more key ≡ None → lookup (e ∷ more) key ≡ None
 skip e more key apart none = ap (λ (t : Bool). cond t (Some e.value) (lookup more key)) apart ∙ none
 
-pub nothing_above : (key low : Bytes) (es : List Entry) → is_from key low ≡ true → Follow (is_above low) (keys_of es) → lookup es key ≡ None
+pub nothing_above : (key low : Bytes) (es : List Entry) → is_from key low ≡ true → Follow (is_before low) (keys_of es) → lookup es key ≡ None
 nothing_above key low [] from f = refl
 nothing_above key low (e ∷ more) from f =
     skip e more key (over_apart e.key key (below_above key low e.key from f.0)) (nothing_above key low more from (follow_lower low e.key (keys_of more) f.0 f.1))
@@ -60,7 +61,7 @@ nothing_before key (e ∷ more) from f =
     turned : is_lt (byte_order key e.key) ≡ true → not (is_lt (ordering_reverse (byte_order key e.key))) ≡ true
     turned lt = by_order (λ o. is_lt o ≡ true → not (is_lt (ordering_reverse o)) ≡ true) key e.key (λ _ _. refl) (λ _ f. absurd cc) (λ _ f. absurd cc) lt
 
-last_above : (low : Bytes) (e : Entry) (es : List Entry) → Follow (is_above low) (keys_of (e ∷ es)) → is_above low (last_key (e ∷ es)) ≡ true
+last_above : (low : Bytes) (e : Entry) (es : List Entry) → Follow (is_before low) (keys_of (e ∷ es)) → is_before low (last_key (e ∷ es)) ≡ true
 last_above low e [] f = f.0
 last_above low e (next ∷ more) f = above_above low e.key (last_key (next ∷ more)) f.0 (last_above e.key next more f.1)
 
@@ -68,7 +69,7 @@ pub nothing_under : (key : Bytes) (test : Bytes → Bool) (es : List Entry) → 
 nothing_under key test [] under f = refl
 nothing_under key test (e ∷ []) under f = skip e [] key (under_apart e.key key under) refl
 nothing_under key test (e ∷ next ∷ more) under f =
-    skip e (next ∷ more) key (under_apart e.key key (above_above e.key (last_key (next ∷ more)) key (last_above e.key next more f.1) under)) (nothing_under key (is_above e.key) (next ∷ more) under f.1)
+    skip e (next ∷ more) key (under_apart e.key key (above_above e.key (last_key (next ∷ more)) key (last_above e.key next more f.1) under)) (nothing_under key (is_before e.key) (next ∷ more) under f.1)
 
 -- ---- the one block that says it
 
@@ -86,11 +87,11 @@ or_none (Some v) = refl
 
 pub front_follows : (test : Bytes → Bool) (a b : List Entry) → Follow test (keys_of (a ++ b)) → Follow test (keys_of a)
 front_follows test [] b f = tt
-front_follows test (e ∷ a) b f = (f.0, front_follows (is_above e.key) a b f.1)
+front_follows test (e ∷ a) b f = (f.0, front_follows (is_before e.key) a b f.1)
 
-pub behind_last : (test : Bytes → Bool) (e : Entry) (es rest : List Entry) → Follow test (keys_of ((e ∷ es) ++ rest)) → Follow (is_above (last_key (e ∷ es))) (keys_of rest)
+pub behind_last : (test : Bytes → Bool) (e : Entry) (es rest : List Entry) → Follow test (keys_of ((e ∷ es) ++ rest)) → Follow (is_before (last_key (e ∷ es))) (keys_of rest)
 behind_last test e [] rest f = f.1
-behind_last test e (next ∷ more) rest f = behind_last (is_above e.key) next more rest f.1
+behind_last test e (next ∷ more) rest f = behind_last (is_before e.key) next more rest f.1
 
 pub row_last : (b : List Entry) → (index_row_of b).last ≡ last_key b
 unfolding index_row_of
@@ -109,7 +110,7 @@ said_by_block key test ((e ∷ es) ∷ more) some f =
     elim (is_lt (byte_order (last_key b) key)) as (λ t. is_lt (byte_order (last_key b) key) ≡ t
     → lookup (b ++ joined more) key ≡ lookup (get_or (b ∷ more) (cond (not (not t)) (1 + place_of more key) 0) []) key) [
       | true ↦ λ is. lookup_append b (joined more) key ∙ ap (λ (a : Option (Option Bytes)). option_or a (lookup (joined more) key)) (nothing_under key test b is (front_follows test b (joined more) f))
-          ∙ said_by_block key (is_above (last_key b)) more some.1 later ∙ next more key
+          ∙ said_by_block key (is_before (last_key b)) more some.1 later ∙ next more key
       | false ↦ λ is. lookup_append b (joined more) key
           ∙ ap (option_or (lookup b key)) (nothing_above key (last_key b) (joined more) (ap not is) later) ∙ or_none (lookup b key)
     ] refl ∙ ap (λ (k : Bytes). lookup (get_or (b ∷ more) (cond (not (is_from key k)) (1 + place_of more key) 0) []) key) (sym (row_last b))
@@ -141,12 +142,12 @@ last_append [] e es = refl
 last_append (x ∷ []) e es = refl
 last_append (x ∷ y ∷ a) e es = last_append (y ∷ a) e es
 
-pub lasts_rise : (b : List Entry) (test : Bytes → Bool) (e : Entry) (es : List Entry) → 1 ≤ length b → Follow test (keys_of (b ++ (e ∷ es))) → is_above (last_key b) (last_key (e ∷ es)) ≡ true
+pub lasts_rise : (b : List Entry) (test : Bytes → Bool) (e : Entry) (es : List Entry) → 1 ≤ length b → Follow test (keys_of (b ++ (e ∷ es))) → is_before (last_key b) (last_key (e ∷ es)) ≡ true
 lasts_rise [] test e es some f = absurd (omega (arith, some))
 lasts_rise (x ∷ b) test e es some f = last_above (last_key (x ∷ b)) e es (behind_last test x b (e ∷ es) f)
 
 -- a key that is not above one is not above what comes later
-pub from_above : (key a b : Bytes) → is_from key a ≡ true → is_above a b ≡ true → is_from key b ≡ true
+pub from_above : (key a b : Bytes) → is_from key a ≡ true → is_before a b ≡ true → is_from key b ≡ true
 from_above key a b from above =
     elim (is_lt (byte_order b key)) as (λ t. is_lt (byte_order b key) ≡ t → not t ≡ true) [
       | true ↦ λ under. let never : not true ≡ true = ap not (sym (above_above a b key above under)) ∙ from in absurd cc

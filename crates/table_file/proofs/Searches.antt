@@ -9,10 +9,10 @@ use Rattle.std.proofs.lemmas.List.{get_or-map as get_or-map_within}
 use Rattle.std.proofs.lemmas.List.Quantifiers.{position-Some}
 use Rattle.std.proofs.lemmas.List.Sums.{sum_by-cons}
 use Rattle.std.proofs.Math.ListN.{get_or-map}
-use Rattle.filter_model.specs.Strings.{is_before}
 use Rattle.map_model.specs.SortedMap.{Bytes, byte_order}
 use Rattle.block_model.specs.Index.{IndexRow, row_pages}
-use Rattle.block_model.specs.Order.{Follow, is_above, is_from}
+use Rattle.key_base.specs.ByteOrder.{is_before}
+use Rattle.block_model.specs.Order.{Follow, is_from}
 use Rattle.block_model.proofs.Sizes.{all_at}
 use Rattle.table_file.specs.BlockRows.{StandFrom, lasts, row_seen, rows_seen}
 use Rattle.byte_fields.specs.declared.parts.Part.TheVariants as part
@@ -42,7 +42,7 @@ parted key test (r ∷ rows) f zero (suc j) d le lt e =
     all_at (λ k. is_before r.last.items k ≡ true) (lasts rows) j d.last.items (all_above r.last.items (lasts rows) f.1) (omega (arith, many, lt)) in
     above_above r.last.items (get_or rows j d).last.items key (ap (λ (k : Bytes). is_before r.last.items k) (sym at) ∙ above) e
 parted key test (r ∷ rows) f (suc i) zero d le lt e = absurd (omega (arith, le))
-parted key test (r ∷ rows) f (suc i) (suc j) d le lt e = parted key (is_above r.last.items) rows f.1 i j d (omega (arith, le)) (omega (arith, lt)) e
+parted key test (r ∷ rows) f (suc i) (suc j) d le lt e = parted key (is_before r.last.items) rows f.1 i j d (omega (arith, le)) (omega (arith, lt)) e
 
 -- where the rows under the key end, the first one that is not under it begins
 pub point_is : (key : Bytes) (rows : List BlockRow) (n : ℕ) → n ≤ length rows → IsPartitionPoint (λ row. is_under key row ≡ true) (λ row. is_under key row ≡ false) rows n

@@ -18,7 +18,7 @@ use Rattle.block_model.specs.Block.{IsBlock, block_bytes}
 use Rattle.block_model.specs.BlockReading.{block_fault, block_in}
 use Rattle.block_model.specs.Index.{IndexRow, index_row_of}
 use Rattle.block_model.specs.Laws.{joined}
-use Rattle.block_model.specs.Order.{Follow, is_above, is_any, is_from}
+use Rattle.block_model.specs.Order.{Follow, is_any, is_from}
 use Rattle.block_model.specs.Pages.{last_key}
 use Rattle.block_model.specs.Places.{byte_of_page}
 use Rattle.block_model.proofs.BlocksRead.{block_again}
@@ -136,7 +136,7 @@ within key test ((x ∷ b) ∷ (e ∷ es) ∷ more) each some f =
     → nat_lt (cond (not t) (1 + place_of key ((e ∷ es) ∷ more)) 0) (suc (length rows)) ≡ is_from key (last_key (e ∷ rest))) [
       | true ↦ λ from. lt-ltb 0 (suc (length rows)) (omega arith) ∙ sym (from_above key (last_key (x ∷ b)) (last_key (e ∷ rest)) from (lasts_rise (x ∷ b) test e rest (omega arith) f))
       | false ↦ λ below. lt_more (place_of key ((e ∷ es) ∷ more)) (length rows)
-          ∙ within key (is_above (last_key (x ∷ b))) ((e ∷ es) ∷ more) each.1 (omega arith) (behind_last test x b (e ∷ rest) f)
+          ∙ within key (is_before (last_key (x ∷ b))) ((e ∷ es) ∷ more) each.1 (omega arith) (behind_last test x b (e ∷ rest) f)
     ] refl)
     ∙ after
 
@@ -184,14 +184,14 @@ standing_keys spelling settings t blocks image s =
 
 -- ---- a walk
 
-from_down : (low a b : Bytes) → is_from low b ≡ false → is_above a b ≡ true → is_from low a ≡ false
+from_down : (low a b : Bytes) → is_from low b ≡ false → is_before a b ≡ true → is_from low a ≡ false
 from_down low a b below above =
     elim (is_from low a) as (λ t. is_from low a ≡ t → t ≡ false) [
       | true ↦ λ from. sym (from_above low a b from above) ∙ below
       | false ↦ λ _. refl
     ] refl
 
-all_from : (low k : Bytes) (es : List Entry) → is_from low k ≡ true → Follow (is_above k) (keys_of es) → entries_from es low ≡ es
+all_from : (low k : Bytes) (es : List Entry) → is_from low k ≡ true → Follow (is_before k) (keys_of es) → entries_from es low ≡ es
 all_from low k [] from f = refl
 all_from low k (e ∷ es) from f =
     let here : is_from low e.key ≡ true = from_above low k e.key from f.0 in
@@ -202,7 +202,7 @@ none_from low test [] below f = refl
 none_from low test (e ∷ []) below f = ap (λ (t : Bool). cond t (e ∷ []) []) below
 none_from low test (e ∷ next ∷ more) below f =
     let here : is_from low e.key ≡ false = from_down low e.key (last_key (next ∷ more)) below (lasts_rise (e ∷ []) test next more (omega arith) f) in
-    ap (λ (t : Bool). cond t (e ∷ entries_from (next ∷ more) low) (entries_from (next ∷ more) low)) here ∙ none_from low (is_above e.key) (next ∷ more) below f.1
+    ap (λ (t : Bool). cond t (e ∷ entries_from (next ∷ more) low) (entries_from (next ∷ more) low)) here ∙ none_from low (is_before e.key) (next ∷ more) below f.1
 
 kept_some : (low : Bytes) (es : List Entry) → 1 ≤ length es → is_from low (last_key es) ≡ true → 1 ≤ length (entries_from es low)
 kept_some low [] some from = absurd (omega (arith, some))
@@ -228,7 +228,7 @@ whole low test ((x ∷ b) ∷ more) each f =
       | false ↦ λ below.
           let one : 1 + place_of low more ≡ suc (place_of low more) = omega arith in
           ap (λ (n : ℕ). joined_from (Some low) (drop n ((x ∷ b) ∷ more))) one
-          ∙ whole low (is_above (last_key (x ∷ b))) more each.1 later
+          ∙ whole low (is_before (last_key (x ∷ b))) more each.1 later
           ∙ sym (ap (λ (es : List Entry). es ++ entries_from (joined more) low) (none_from low test (x ∷ b) below (front_follows test (x ∷ b) (joined more) f)))
     ] refl)
     ∙ sym (filter-append p (x ∷ b) (joined more))

@@ -6,7 +6,8 @@ use Rattle.entry_model.specs.Entries.{Entry}
 use Rattle.entry_model.specs.Newest.{lookup}
 use Rattle.block_model.specs.BlockReading.{entries_in}
 use Rattle.entry_model.specs.Reading.{entry_in, key_in, width_in}
-use Rattle.block_model.specs.Order.{is_above, is_any}
+use Rattle.key_base.specs.ByteOrder.{is_before}
+use Rattle.block_model.specs.Order.{is_any}
 use Rattle.block_format.specs.Reading.{Stand}
 use Rattle.block_format.proofs.Standing.{behind, fits, here_or_missing, passed_below}
 use Rattle.block_format.proofs.block.find_in.Goals as goal
@@ -23,7 +24,7 @@ returns-then-not-is_below c =
     let here = drop c.loop-i.at bytes in
     let rest = take_rest bytes c.loop-i.at in
     let keys : c.entry_here-row.result.key.now ≡ key_in here = c.entry_here-row.ensures.key ∙ ap key_in rest in
-    let not_below : is_above (key_in here) key ≡ false = ap (λ (k : Bytes). is_above k key) (sym keys) ∙ sym c.is_below.ensures ∙ c.if-not-is_below.true in
+    let not_below : is_before (key_in here) key ≡ false = ap (λ (k : Bytes). is_before k key) (sym keys) ∙ sym c.is_below.ensures ∙ c.if-not-is_below.true in
     c.first_said.ensures
     ∙ ap₂ (λ (k : Bytes) (e : Entry). if bytes_eq k key then Some e.value else None) keys (c.entry_here-row.ensures.entry ∙ ap entry_in rest)
     ∙ sym (here_or_missing (c.args.count - c.loop-i.i) here (omega (arith, c.loop-i-test.true)) c.loop-i.invariant.stand key not_below)
@@ -40,7 +41,7 @@ loop-i-preserved c =
     let rest = take_rest bytes at in
     let w = c.entry_here-row.result.width in
     let keys : c.entry_here-row.result.key.now ≡ key_in here = c.entry_here-row.ensures.key ∙ ap key_in rest in
-    let below : is_above (key_in here) key ≡ true = ap (λ (k : Bytes). is_above k key) (sym keys) ∙ sym c.is_below.ensures ∙ c.if-not-is_below.false in
+    let below : is_before (key_in here) key ≡ true = ap (λ (k : Bytes). is_before k key) (sym keys) ∙ sym c.is_below.ensures ∙ c.if-not-is_below.false in
     let width : w ≡ width_in here = c.entry_here-row.ensures.width ∙ ap width_in rest in
     let fewer : n - 1 ≡ c.args.count - (c.loop-i.i + 1) = omega arith in
     let next : drop (width_in here) here ≡ drop (at + w) bytes = ap (λ (k : ℕ). drop k here) (sym width) ∙ drop-drop w at bytes in

@@ -7,7 +7,8 @@ use Rattle.block_model.specs.BlockReading.{entries_fault, entries_in, entry_faul
 use Rattle.entry_model.specs.Entries.{Entry, entry_of}
 use Rattle.entry_model.specs.Newest.{lookup}
 use Rattle.entry_model.specs.Reading.{entry_in, key_in, width_in}
-use Rattle.block_model.specs.Order.{is_above, is_any}
+use Rattle.key_base.specs.ByteOrder.{is_before}
+use Rattle.block_model.specs.Order.{is_any}
 use Rattle.block_format.specs.Reading.{passes_after, seen, sum_where}
 use Rattle.block_format.proofs.Sums.{none_summed, taken_further}
 use Rattle.block_format.proofs.Walks.{all_said, next_broken, next_kept, next_said, none_is_left, says, some_are_left}
@@ -56,10 +57,10 @@ loop-i-preserved c =
       within = omega (arith, c.in-Ok.ensures.within, ap length rest, length-drop at bytes, c.loop-i.invariant.within);
       same = c.loop-i.invariant.same
           ∙ next_kept n (8 + at) test here (omega (arith, c.loop-i-test.true)) none
-          ∙ ap (λ (k : ℕ). entries_fault (n - 1) (8 + at + k) (is_above (key_in here)) (drop k here)) (sym width)
-          ∙ ap (λ (k : Bytes). entries_fault (n - 1) (8 + at + w) (is_above k) (drop w here)) (sym key)
-          ∙ ap₂ (λ (m p : ℕ). entries_fault m p (is_above c.in-Ok.row.key.now) (drop w here)) fewer place
-          ∙ ap (entries_fault (c.args.count - (c.loop-i.i + 1)) (8 + (at + w)) (is_above c.in-Ok.row.key.now)) (drop-drop w at bytes);
+          ∙ ap (λ (k : ℕ). entries_fault (n - 1) (8 + at + k) (is_before (key_in here)) (drop k here)) (sym width)
+          ∙ ap (λ (k : Bytes). entries_fault (n - 1) (8 + at + w) (is_before k) (drop w here)) (sym key)
+          ∙ ap₂ (λ (m p : ℕ). entries_fault m p (is_before c.in-Ok.row.key.now) (drop w here)) fewer place
+          ∙ ap (entries_fault (c.args.count - (c.loop-i.i + 1)) (8 + (at + w)) (is_before c.in-Ok.row.key.now)) (drop-drop w at bytes);
       said = c.loop-i.invariant.said
           ∙ next_said n here c.args.key.now found (omega (arith, c.loop-i-test.true))
           ∙ ap (λ (e : Entry). option_or (option_or found (says e c.args.key.now)) (lookup (entries_in (n - 1) (drop (width_in here) here)) c.args.key.now)) (sym entry)

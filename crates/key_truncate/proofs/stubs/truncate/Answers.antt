@@ -1,6 +1,6 @@
 use Rattle.std.proofs.Common.{◌≡◌, ◌==◌, ◌<◌, ◌+◌, [], ◌∷◌, ◌++◌, length, slice_index_or, min, max, arith, add-one, sym, ap, ◌∙◌}
-use Rattle.key_truncate.specs.Stubs.{shared_before, shared_next}
-use Rattle.key_truncate.proofs.Neighbours.{neighbours-le, stub_next}
+use Rattle.key_truncate.specs.Stubs.{shared_next}
+use Rattle.key_truncate.proofs.Neighbours.{neighbours-le, shared_before, stub_next}
 use Rattle.key_truncate.proofs.stubs.truncate.Goals as goal
 
 pub stub_after-requires-clause-most : goal.stub_after-requires-clause-most

@@ -1,5 +1,6 @@
 use Rattle.std.proofs.Common.{◌≡◌, map, take}
-use Rattle.key_truncate.specs.Stubs.{shared_before, stub_in}
+use Rattle.key_truncate.proofs.Neighbours.{shared_before}
+use Rattle.key_truncate.specs.Stubs.{stub_in}
 use Rattle.key_truncate.proofs.stubs.truncate.Given as goal
 
 -- the stubs of the keys passed, and what the last of them shares with the next key

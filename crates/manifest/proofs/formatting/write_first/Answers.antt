@@ -3,8 +3,8 @@ use Rattle.std.specs.Prelude.{Ok, Err}
 use Rattle.disk_trait.specs.declared.fault.DiskFault.{DiskFault}
 use Rattle.disk_trait.proofs.Calls.{leads_then, leads_stop}
 use Rattle.manifest_model.specs.Slots.{IsNoStore}
-use Rattle.manifest.specs.NewManifest.{IsNew, IsNewOrNone, IsPrepared}
-use Rattle.manifest.proofs.News.{prepares_at, opens_at}
+use Rattle.manifest.specs.NewManifest.{IsNew, IsNewOrNone}
+use Rattle.manifest.proofs.News.{IsPrepared, prepares_at, opens_at}
 use Rattle.manifest.proofs.formatting.write_first.Goals as goal
 
 pub returns-clause-crash : goal.returns-clause-crash

@@ -4,7 +4,8 @@ use Rattle.std.proofs.lemmas.List.{take_rest, drop-drop}
 use Rattle.map_model.specs.SortedMap.{Bytes}
 use Rattle.block_model.specs.Index.{row_pages}
 use Rattle.block_model.specs.IndexReading.{last_in, pages_in, row_fault, row_in, row_width_in, rows_fault, rows_in, sum_in}
-use Rattle.block_model.specs.Order.{is_above, is_from}
+use Rattle.key_base.specs.ByteOrder.{is_before}
+use Rattle.block_model.specs.Order.{is_from}
 use Rattle.table_file.specs.BeforeLast.{passes}
 use Rattle.table_file.specs.BlockRows.{StandFrom, row_seen, rows_seen}
 use Rattle.table_file.specs.Faults.{IsIndexFault, IsShape}
@@ -54,10 +55,10 @@ loop-i-preserved c =
       within = omega (arith, c.in_ok-row.ensures.within, ap length rest, length-drop at bytes, c.loop-i.invariant.within);
       same = c.loop-i.invariant.same
           ∙ next_kept n place test here (omega (arith, some)) none
-          ∙ ap (λ (k : ℕ). rows_fault (n - 1) (place + k) (is_above (last_in here)) (drop k here)) (sym width)
-          ∙ ap (λ (k : Bytes). rows_fault (n - 1) (place + w) (is_above k) (drop w here)) (sym last)
-          ∙ ap₂ (λ (m p : ℕ). rows_fault m p (is_above row.last.now) (drop w here)) fewer behind
-          ∙ ap (rows_fault (c.args.count - (c.loop-i.i + 1)) (c.args.place + (at + w)) (is_above row.last.now)) next;
+          ∙ ap (λ (k : ℕ). rows_fault (n - 1) (place + k) (is_before (last_in here)) (drop k here)) (sym width)
+          ∙ ap (λ (k : Bytes). rows_fault (n - 1) (place + w) (is_before k) (drop w here)) (sym last)
+          ∙ ap₂ (λ (m p : ℕ). rows_fault m p (is_before row.last.now) (drop w here)) fewer behind
+          ∙ ap (rows_fault (c.args.count - (c.loop-i.i + 1)) (c.args.place + (at + w)) (is_before row.last.now)) next;
       read = c.loop-i.invariant.read
           ∙ next_read n here kept c.loop-i.rows.items (omega (arith, some)) seen
           ∙ ap (λ (k : ℕ). rows_seen (c.loop-i.rows.items ++ kept ∷ []) ++ rows_in (n - 1) (drop k here)) (sym width)

@@ -1,5 +1,5 @@
 use Rattle.filter_trie.proofs.Least.{first_way, least_slot, less_below, next_way}
-use Rattle.filter_trie.specs.WaysDown.{IsOnWay}
+use Rattle.filter_trie.proofs.WaysDown.{IsOnWay}
 use Rattle.filter_trie.specs.Places.{branch_number, string_at}
 use Rattle.louds_sparse.specs.declared.lead.Lead.TheVariants as lead
 use Rattle.filter_trie.proofs.trie.Trie.leftmost.Goals as goal

@@ -1,4 +1,4 @@
-use Rattle.filter_trie.specs.WaysDown.{IsOnWay, levels_below}
+use Rattle.filter_trie.proofs.WaysDown.{IsOnWay, levels_below}
 use Rattle.filter_trie.specs.Places.{string_at}
 use Rattle.filter_model.specs.Trie.{height}
 use Rattle.filter_trie.proofs.trie.Trie.leftmost.Given as goal

@@ -4,7 +4,8 @@ use Rattle.std.proofs.lemmas.Bool.{eqb-true}
 use Rattle.std.proofs.lemmas.List.{length-map}
 use Rattle.map_model.specs.SortedMap.{Bytes, byte_order}
 use Rattle.entry_model.specs.Entries.{Entry, entry_of, keys_of}
-use Rattle.block_model.specs.Order.{Follow, is_above, is_any}
+use Rattle.key_base.specs.ByteOrder.{is_before}
+use Rattle.block_model.specs.Order.{Follow, is_any}
 use Rattle.block_model.specs.Pages.{last_key}
 use Rattle.block_model.proofs.LastBlocks.{positive}
 use Rattle.table_file.specs.BlockRows.{rows_seen}
@@ -33,7 +34,7 @@ returns-clause-above c value said =
     let filled : 0 < length t.keys = positive (length t.keys) (sym c.if-is_empty.false ∙ c.is_empty.ensures) in
     let some : 0 < length all = omega (arith, filled, ap length c.self.invariant.2.keys_are, length-map all (λ (x : Entry). x.key)) in
     let last : c.last_of.result.now ≡ last_key all = c.last_of.ensures [] all some c.self.invariant.2.keys_are in
-    let above : is_above (last_key all) key ≡ true =
+    let above : is_before (last_key all) key ≡ true =
     ap (λ (k : Bytes). is_lt (byte_order k key)) (sym last) ∙ sym (ap is_lt c.compare.ensures) ∙ sym c.is_lt.ensures ∙ said in
     subst (λ (es : List Entry). Follow is_any (keys_of (es ++ e ∷ []))) (ap (λ (b : Built). b.entries) c.self.view_is)
     (follow_push is_any all e (omega (arith, some)) c.self.invariant.2.rising above)
