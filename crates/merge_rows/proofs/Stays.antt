@@ -1,24 +1,35 @@
 -- A merge that stays at its floor, and the reads meanwhile.
 use Rattle.std.proofs.Common.{◌≡◌, ◌∙◌, ◌+◌, ◌-◌, ◌≤◌, ◌<◌, ℕ, suc, List, [], ◌∷◌, length, refl, ap, subst, Bool, true, false, map, arith}
-use Rattle.std.specs.Prelude.{Result, Ok}
+use Rattle.std.specs.Prelude.{Result, Ok, None}
 use Rattle.disk_trait.specs.Image.{Image}
 use Rattle.disk_trait.specs.World.{ReadMoves, World}
 use Rattle.disk_trait.proofs.Calls.{reads_more, reads_then}
 use Rattle.merge_rows.specs.Merges.{Merge, TableWalk, left_above}
 use Rattle.merge_rows.specs.Reads.{IsRead, OnlyReads}
 use Rattle.merge_rows.specs.Rows.{KeyFloor}
-use Rattle.merge_rows.specs.Steps.{StaysAt, numbers}
+use Rattle.merge_rows.specs.Steps.{IsSoundMerge, StaysAt, numbers}
 use Rattle.table_file.specs.Opened.{Opened}
 
-pub stays_then : (tells : Bool) (tables : List Opened) (image : Image) (a b c : Merge) → StaysAt tells tables image a b → StaysAt tells tables image b c → StaysAt tells tables image a c
-stays_then tells tables image a b c one two = record {
+-- soundness asks nothing of the row at hand
+pub sound_too : (tables : List Opened) (image : Image) (m : Merge) → IsSoundMerge (record m { now = None }) tables image → IsSoundMerge m tables image
+sound_too tables image m is = record {
+  memory = is.memory;
+  walks = is.walks;
+}
+
+-- the row at hand may be kept up to there
+pub stays_since : (tells : Bool) (tables : List Opened) (image : Image) (a b c : Merge) → StaysAt tells tables image a (record b { now = None }) → StaysAt tells tables image b c → StaysAt tells tables image a (record c { now = None })
+stays_since tells tables image a b c one two = record {
   sources = record {
     numbers_are = two.sources.numbers_are ∙ one.sources.numbers_are;
     drops_are = two.sources.drops_are ∙ one.sources.drops_are;
-    sound = λ t s. two.sources.sound t (one.sources.sound t s);
+    sound = λ t s. let is = two.sources.sound t (sound_too tables image b (one.sources.sound t s)) in record {
+      memory = is.memory;
+      walks = is.walks;
+    };
   };
   floor_is = two.floor_is ∙ one.floor_is;
-  none = two.none;
+  none = refl;
   left = λ t. two.left t ∙ one.left t;
   each = λ t. subst (λ (f : KeyFloor). map (left_above f tables image) c.walks ≡ map (left_above f tables image) b.walks) one.floor_is (two.each t) ∙ one.each t;
 }

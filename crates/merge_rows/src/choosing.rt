@@ -23,6 +23,7 @@ impl Source {
     /// The first of the sources whose entry at hand has the least key: the memory stands before the walks.
     ///
     /// A comparison with each. No memory.
+    #[inline(always)]
     pub(crate) fn first(memory: &MemorySource<'_>, walks: &[TableSource]) -> Option<Source>
         ensures least { MatchOption result (AllByRecursion IsNone (heads_of memory.now walks.now)) (λ source. (e : Entry) × (head_at source memory.now walks.now ≡ Some e) × IsLeastAt (heads_of memory.now walks.now) (place_in source) e) }
         ensures there { IfSome result (λ source. IsSourceIn source walks.now) }

@@ -13,6 +13,7 @@ use table_file::{TableFault, Tables};
 
 /// Reads a block for the first of the walks that wants one, as [`fill_first`] does. The walk of the last row passes its entry
 /// first: which one that is needs no guess then, and all the others stand above the floor, but for older entries of its key.
+#[inline(always)]
 pub(crate) fn fill_behind<F: RangeFilter, D: Disk>(
     row: Option<Source>,
     walks: &mut [TableSource],

@@ -80,6 +80,7 @@ impl Floor {
     }
 
     /// From now on the keys above this one. No memory.
+    #[inline(always)]
     pub(crate) fn pass(&mut self, key: &[u8])
         requires { length key.now ≤ max_key_bytes }
         ensures { self.new ≡ record { key = key.now; passed = true } }

@@ -74,6 +74,7 @@ impl<'m> MemorySource<'m> {
     }
 
     /// Passes over the entries below a floor. No memory.
+    #[inline(always)]
     pub(crate) fn catch_up(&mut self, floor: &Floor)
         ensures same { above_floor floor.now self.new ≡ above_floor floor.now self.old }
         ensures ready { IsCaughtUp floor.now (first_of self.new) self.new }

@@ -127,6 +127,9 @@ impl<'m> MergeRows<'m> {
     ///
     /// A block is read of each table that has no entry above the last row in memory, and of no other. At `Err` no row is lost:
     /// the next call goes on where this one stood. Whatever stands on the device, keys rise from row to row.
+    //
+    // A scan takes a step for each pair: where its parts are calls, with results that go by memory, a pair costs a quarter more.
+    #[inline(always)]
     pub fn advance<F: RangeFilter, D: Disk>(
         &mut self,
         disk: &mut D,
@@ -232,6 +235,7 @@ impl<'m> MergeRows<'m> {
     }
 
     // Goes on to the next row, a tombstone too, and answers whether there is one.
+    #[inline(always)]
     fn step<F: RangeFilter, D: Disk>(
         &mut self,
         disk: &mut D,
@@ -275,6 +279,7 @@ impl<'m> MergeRows<'m> {
     }
 
     // Each source goes on to its first entry above the floor. No row is at hand then.
+    #[inline(always)]
     fn catch_up<F: RangeFilter, D: Disk>(
         &mut self,
         disk: &mut D,
@@ -296,7 +301,7 @@ impl<'m> MergeRows<'m> {
         ensures bounded { IsTrue D.tells → IsSoundMerge self.old tables.now.tables (D.world disk.old).seen.held
             → ReadMoves (wanted self.old tables.now.tables) (D.world disk.old) (D.world disk.new) }
     {
-        self.row = None;
+        // the row stays at hand up to the first filling, by which its walk passes it
         self.memory.catch_up(&self.floor);
         loop {
             match self.fill(disk, tables) {

@@ -4,6 +4,7 @@ ghost use Rattle.std.specs.Option.{option_map};
 ghost use Rattle.disk_trait.specs.Image.{Image};
 ghost use Rattle.disk_trait.specs.World.{ReadMoves};
 ghost use Rattle.entry_model.specs.Entries.{Entry, IsEntry, entry_of};
+ghost use Rattle.key_base.specs.ByteOrder.{is_before};
 ghost use Rattle.line_model.specs.Limits.{limit_of};
 ghost use Rattle.line_model.specs.Requests.{Range, Seek};
 ghost use Rattle.map_model.specs.Slices.{between, first_pair, is_up_to, slice};
@@ -92,13 +93,25 @@ fn numbers_of<F: RangeFilter>(
 }
 
 // Whether a key is above the upper bound, where there is one.
+#[inline(always)]
 fn is_above(high: &Option<Vec<u8>>, key: &[u8]) -> bool
     ensures { is_up_to (option_map (λ v. v.items) high.now) key.now ≡ not result }
 {
     match high {
-        Some(high) => compare(high, key).is_lt(),
+        Some(high) => is_before(high, key),
         None => false,
     }
+}
+
+// Whether a bound is before a key. Where their first bytes differ, these say so with no call.
+#[inline(always)]
+fn is_before(bound: &[u8], key: &[u8]) -> bool
+    ensures { result ≡ is_before bound.now key.now }
+{
+    if bound.is_empty() || key.is_empty() || bound[0] == key[0] {
+        return compare(bound, key).is_lt();
+    }
+    bound[0] < key[0]
 }
 
 // How many pairs more at most, behind a step that gave one or not.
@@ -116,6 +129,7 @@ fn left_behind(found: bool, left: Option<u64>) -> Option<u64>
 
 // Goes on to the next pair of some rows up to a bound, and answers whether there is one: its row is then at hand. Tombstones are
 // passed over.
+#[inline(always)]
 fn next_pair<F: RangeFilter, D: Disk>(
     rows: &mut MergeRows<'_>,
     disk: &mut D,
@@ -262,6 +276,9 @@ impl<'s, F: RangeFilter> Scan<'s, F> {
     ///
     /// At `Err` it stands where it stood, and the next step tries again. Where so many pairs were given as were asked for,
     /// nothing is read.
+    //
+    // It goes into its callers, as the merge's step does: a scan of a hundred pairs takes a hundred steps.
+    #[inline(always)]
     pub fn advance<D: Disk>(&mut self, disk: &mut D) -> Result<bool, StoreError>
         ensures pairs { (m : Map) → IsTrue D.tells → StillComes F.spelling self.old m (D.world disk.old).seen.held
             → OnOk result ((self.new.now ≡ first_pair m) × StillComes F.spelling self.new (drop 1 m) (D.world disk.old).seen.held) }

@@ -61,7 +61,7 @@ pub fn say_reply<W: Outside>(
 
 /// Lays a reply out behind the `used` bytes of the buffer that wait to be said, says the buffer whenever it is full, and answers
 /// how many bytes wait now.
-#[inline]
+#[inline(always)]
 pub fn add_reply<W: Outside>(
     out: &mut W,
     buffer: &mut [u8],

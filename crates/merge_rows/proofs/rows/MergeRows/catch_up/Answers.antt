@@ -10,7 +10,7 @@ use Rattle.table_file.specs.Search.{IsGetFault, page_at}
 use Rattle.table_file.specs.Walks.{first_of}
 use Rattle.merge_rows.proofs.Fills.{cause_since}
 use Rattle.merge_rows.proofs.FirstFills.{fewer_err, fewer_one}
-use Rattle.merge_rows.proofs.Stays.{fewer_then, only_then, read_none, read_one, stays_then, still_some}
+use Rattle.merge_rows.proofs.Stays.{fewer_then, only_then, read_none, read_one, sound_too, stays_since, still_some}
 use Rattle.merge_rows.proofs.rows.MergeRows.catch_up.Goals as goal
 
 pub loop-why-preserved : goal.loop-why-preserved
@@ -26,13 +26,13 @@ loop-why-preserved g c =
     let is : c.fill.result ≡ Ok true = c.in-Ok-true.is ∙ ap (λ (b : Bool). Ok b) c.in-Ok-true.field-0-test in
     let fewer : blocks_left tables new.walks < blocks_left tables old.walks = read_one c.fill.result (blocks_left tables old.walks) (blocks_left tables new.walks) is c.fill.ensures.left in
     record {
-      stays = stays_then g.D.Disk.tells tables before.seen.held c.args.self.now old new from.stays (subst (λ (h : Image). StaysAt g.D.Disk.tells tables h old new) held c.fill.ensures.stays);
+      stays = stays_since g.D.Disk.tells tables before.seen.held c.args.self.now old new from.stays (subst (λ (h : Image). StaysAt g.D.Disk.tells tables h old new) held c.fill.ensures.stays);
       memory = subst (λ (es : List Entry). IsCaughtUp c.args.self.now.floor (first_of es) es) (sym c.fill.ensures.memory) from.memory;
       moves = only_then 2 before mid after from.moves c.fill.ensures.moves;
       left = omega (arith, fewer, from.left);
       counted = λ t. let one = from.counted t in let two = c.in-Ok-true.ensures.counted t in omega (arith, one, two);
       bounded = λ t s.
-          let once = subst (λ (h : Image). IsSoundMerge old tables h → ReadMoves 1 mid after × IsFewer c.fill.result (wanted old tables) (wanted new tables)) held (c.fill.ensures.once t) (from.stays.sources.sound t s) in
+          let once = subst (λ (h : Image). IsSoundMerge old tables h → ReadMoves 1 mid after × IsFewer c.fill.result (wanted old tables) (wanted new tables)) held (c.fill.ensures.once t) (sound_too tables before.seen.held old (from.stays.sources.sound t s)) in
           fewer_then (wanted c.args.self.now tables) (wanted old tables) (wanted new tables) before mid after (fewer_one c.fill.result (wanted old tables) (wanted new tables) is once.1) (from.bounded t s) once.0;
     }
 
@@ -76,7 +76,7 @@ returns-in-Err-clause-owed g c t s =
     let old = c.loop-why.self in
     let new = c.fill.new.self in
     let from = c.loop-why.invariant in
-    let fewer = subst (λ (h : Image). IsSoundMerge old tables h → IsFewer c.fill.result (wanted old tables) (wanted new tables)) from.moves.1.held (λ u. (c.fill.ensures.once t u).1) (from.stays.sources.sound t s) in
+    let fewer = subst (λ (h : Image). IsSoundMerge old tables h → IsFewer c.fill.result (wanted old tables) (wanted new tables)) from.moves.1.held (λ u. (c.fill.ensures.once t u).1) (sound_too tables (g.D.Disk.world c.args.disk.now).seen.held old (from.stays.sources.sound t s)) in
     let some = fewer_err c.fill.result c.in-Err.why (wanted old tables) (wanted new tables) c.in-Err.is fewer in
     let most = (from.bounded t s).0 in
     omega (arith, some, most)

@@ -1,5 +1,5 @@
 use Rattle.std.proofs.Common.{◌≡◌, ◌+◌, ◌-◌, ◌≤◌}
-use Rattle.std.specs.Prelude.{IsTrue}
+use Rattle.std.specs.Prelude.{IsTrue, None}
 use Rattle.disk_trait.specs.World.{ReadMoves}
 use Rattle.merge_rows.specs.Reads.{OnlyReads, blocks_left, next_blocks, wanted}
 use Rattle.merge_rows.specs.Steps.{IsCaughtUp, IsSoundMerge, StaysAt}
@@ -14,7 +14,7 @@ invariant-loop-why g l =
     let after = g.D.Disk.world l.disk in
     let tables = l.tables.tables in
     record {
-      stays : StaysAt g.D.Disk.tells tables before.seen.held l.fn.self l.self;
+      stays : StaysAt g.D.Disk.tells tables before.seen.held l.fn.self (record l.self { now = None });
       memory : IsCaughtUp l.fn.self.floor (first_of l.self.memory) l.self.memory;
       moves : OnlyReads before after;
       left : blocks_left tables l.self.walks ≤ blocks_left tables l.fn.self.walks;
