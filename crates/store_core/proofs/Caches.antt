@@ -1,5 +1,5 @@
 -- The blocks that are kept, and the numbers of their tables.
-use Rattle.std.proofs.Common.{◌≡◌, ◌≢◌, ◌⊎◌, inl, inr, ◌≤◌, ◌<◌, ◌+◌, ℕ, suc, Bool, true, false, cond, List, [], ◌∷◌, length, take, refl, sym, ap, subst, ◌∙◌, arith}
+use Rattle.std.proofs.Common.{◌≡◌, ◌≢◌, inl, inr, ◌≤◌, ◌<◌, ◌+◌, ℕ, suc, Bool, true, false, cond, List, [], ◌∷◌, length, take, refl, sym, ap, subst, ◌∙◌, arith}
 use Rattle.std.specs.Prelude.{is_some, Option, Some, None}
 use Rattle.block_cache.specs.Kept.{BlockPlace, KeptBlock, is_place, kept_of, others, brought_first, with_kept}
 use Rattle.block_cache.proofs.Gives.{by_place, found_here, not_found_here, get_same, hit, keep_here, keep_elsewhere}

@@ -1,12 +1,12 @@
 -- What a compaction answers: it is a step of the state under the store.
 use Rattle.std.proofs.Common.{◌≡◌, ◌≢◌, ◌⊎◌, inl, inr, ◌∙◌, ◌<◌, ◌≤◌, ℕ, Bool, true, false, cond, List, [], ◌∷◌, ◌++◌, length, refl, sym, ap, ap₂, subst, arith}
-use Rattle.std.specs.Prelude.{Option, None, Some, Result, Ok, Err, IsOk, ◌==◌}
+use Rattle.std.specs.Prelude.{Option, None, Some, Result, Ok, Err, ◌==◌}
 use Rattle.std.specs.List.{AllByRecursion}
 use Rattle.disk_trait.specs.Image.{Image}
-use Rattle.disk_trait.specs.World.{Meanwhile, Now, Rose, World}
+use Rattle.disk_trait.specs.World.{Meanwhile, Now, World}
 use Rattle.disk_trait.proofs.Moments.{meanwhile_weaker, started}
 use Rattle.disk_trait.specs.declared.fault.DiskFault.{DiskFault}
-use Rattle.entry_model.specs.Entries.{Entry, IsEntry, filled}
+use Rattle.entry_model.specs.Entries.{Entry, IsEntry}
 use Rattle.filter_api.specs.Spellings.{Spelling}
 use Rattle.image_model.proofs.Frames.{ready_is_state}
 use Rattle.image_model.specs.Stands.{StandsForMap}
@@ -18,20 +18,18 @@ use Rattle.line_model.specs.Requests.{Compact}
 use Rattle.log_model.proofs.Logs.{none_filled}
 use Rattle.manifest.specs.Manifest.{Manifest, other_place, place_of}
 use Rattle.state_model.proofs.EmptyStores.{compaction_left}
-use Rattle.state_model.proofs.SoundJobs.{drop_sound}
 use Rattle.state_model.proofs.SoundCompaction.{compacted_sound}
 use Rattle.state_model.proofs.SoundLogs.{newest_all, newest_none}
-use Rattle.state_model.specs.Changes.{compact_placed, compacted, compacted_with, live_entries}
+use Rattle.state_model.specs.Changes.{compact_placed, compacted_with}
 use Rattle.state_model.specs.Merges.{NoRoom}
 use Rattle.state_model.specs.Sound.{IsSound}
-use Rattle.state_model.specs.SoundLaws.{Ever}
 use Rattle.state_model.specs.State.{Job, State, without_job}
 use Rattle.state_model.specs.Steps.{Answer, Step, answer, answers, done_or_refused, no_memory, read_failed, write_failed}
-use Rattle.state_model.specs.View.{entries_of, memory, oldest_first, state_map}
+use Rattle.state_model.specs.View.{entries_of, oldest_first, state_map}
 use Rattle.table_file.specs.Opened.{Opened}
 use Rattle.table_model.specs.Tables.{FilterBytes, Table}
 use Rattle.store_core.specs.Answers.{Answered, HasCause, stops, told}
-use Rattle.store_core.specs.Compacting.{FailsSo, IsFailedCall, IsHeldBy, IsInstalledWhole, StandAlone, compact_tables, compacted_into, first_compact_table}
+use Rattle.store_core.specs.Compacting.{FailsSo, IsFailedCall, IsHeldBy, IsInstalledWhole, StandAlone, compact_tables, compacted_into}
 use Rattle.store_core.specs.Caching.{AreNumbered, AreTrue, Cached}
 use Rattle.store_core.specs.Kept.{IsWhole, Kept}
 use Rattle.store_core.specs.Running.{MayRunIn, RunsAs}

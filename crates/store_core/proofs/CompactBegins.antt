@@ -1,8 +1,7 @@
 -- What a compaction does before it begins: the merge that runs is dropped.
-use Rattle.std.proofs.Common.{◌≡◌, ◌≢◌, ◌⊎◌, inl, inr, ◌∙◌, ◌<◌, ◌≤◌, ℕ, Bool, true, [], refl, sym, ap, subst, arith}
+use Rattle.std.proofs.Common.{◌≡◌, ◌≢◌, ◌⊎◌, inl, inr, ◌∙◌, ◌<◌, ℕ, true, [], refl, sym, ap, subst}
 use Rattle.std.specs.Prelude.{None, Some, ◌==◌}
 use Rattle.disk_trait.specs.World.{World}
-use Rattle.entry_model.specs.Entries.{Entry}
 use Rattle.filter_api.specs.Spellings.{Spelling}
 use Rattle.key_base.specs.Limits.{last_epoch}
 use Rattle.line_model.specs.Replies as reply
@@ -10,10 +9,9 @@ use Rattle.line_model.specs.Requests.{Compact}
 use Rattle.state_model.specs.State.{State, without_job}
 use Rattle.state_model.specs.View.{entries_of}
 use Rattle.table_model.specs.Tables.{FilterBytes}
-use Rattle.store_core.specs.Answers.{Answered, told}
+use Rattle.store_core.specs.Answers.{Answered}
 use Rattle.store_core.specs.Kept.{IsWhole, Kept}
 use Rattle.store_core.specs.Tied.{Tied}
-use Rattle.store_core.specs.declared.error.StoreError.{StoreError}
 use Rattle.store_core.specs.declared.error.StoreError.TheVariants as error
 use Rattle.store_core.proofs.CompactAnswers.{compact_empty, compact_last}
 use Rattle.store_core.proofs.CompactLeads.{some_entries}

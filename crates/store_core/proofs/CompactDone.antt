@@ -1,47 +1,45 @@
 -- The tables of a compaction are written, the other log is begun and the version is installed, step by step.
-use Rattle.std.proofs.Common.{◌≡◌, ◌≢◌, ◌⊎◌, inl, inr, ◌∙◌, ◌+◌, ◌-◌, ◌*◌, ◌<◌, ◌≤◌, ◌++◌, ℕ, Bool, true, false, List, [], refl, sym, ap, subst, arith}
-use Rattle.std.specs.Prelude.{Option, None, Result, Ok, Err, IfErr, IsOk, IsTrue, MatchResult, OnErr, OnOk}
+use Rattle.std.proofs.Common.{◌≡◌, ◌≢◌, ◌⊎◌, inl, inr, ◌∙◌, ◌+◌, ◌<◌, ◌≤◌, ℕ, true, List, [], refl, sym, subst, arith}
+use Rattle.std.specs.Prelude.{None, Result, Ok, Err, IsOk, MatchResult, OnOk}
 use Rattle.std.specs.List.{AllByRecursion}
 use Rattle.std.specs.Result.{IsErrAnd}
 use Rattle.disk_trait.specs.Image.{Image}
-use Rattle.disk_trait.specs.World.{Leads, Meanwhile, Now, ReadMoves, Rose, World, WriteMoves}
-use Rattle.disk_trait.proofs.Calls.{moves_joined, moves_of_write, moves_wider, reads_keep}
+use Rattle.disk_trait.specs.World.{Leads, Meanwhile, Now, Rose, World, WriteMoves}
+use Rattle.disk_trait.proofs.Calls.{moves_joined, moves_of_write, moves_wider}
 use Rattle.disk_trait.proofs.Moments.{meanwhile_then, meanwhile_weaker, now_at}
 use Rattle.disk_trait.specs.declared.fault.DiskFault.{DiskFault}
 use Rattle.entry_model.specs.Entries.{Entry}
 use Rattle.filter_api.specs.Spellings.{Spelling}
 use Rattle.image_model.specs.Stands.{StandsForMap}
 use Rattle.key_base.specs.Limits.{last_epoch}
-use Rattle.level_merge.specs.Held.{AreHeld}
 use Rattle.level_merge.specs.declared.fault.JobFault.{JobFault}
 use Rattle.level_merge.specs.declared.fault.JobFault.TheVariants as job
 use Rattle.log_model.specs.Area.{LogIs, Position, start_of}
 use Rattle.manifest.proofs.Steps.{raised_is}
 use Rattle.manifest.specs.Causes.{HasInstallCause}
-use Rattle.manifest.specs.Manifest.{Manifest, StandsInSlot, install_of, other_place, raised}
+use Rattle.manifest.specs.Manifest.{Manifest, StandsInSlot, install_of, other_place}
 use Rattle.manifest.specs.declared.fault.ManifestFault.{ManifestFault}
 use Rattle.manifest.specs.declared.fault.ManifestFault.TheVariants as fault
 use Rattle.manifest_model.specs.Installs.{IsInstalled, IsOldOrNew}
 use Rattle.manifest_model.specs.Laws.{IsVersion, RowFits}
 use Rattle.manifest_model.specs.Version.{Version, log_page_of}
 use Rattle.state_model.specs.State.{State}
-use Rattle.state_model.specs.View.{entries_of, memory, state_map}
+use Rattle.state_model.specs.View.{entries_of, state_map}
 use Rattle.table_file.specs.Opened.{Opened}
-use Rattle.table_model.specs.Tables.{FilterBytes, Table}
-use Rattle.store_core.specs.Answers.{is_write, stops}
-use Rattle.store_core.specs.Compacting.{AreAllMade, AreCompact, FailsSo, IsCompactCause, IsFailedCall, IsHeldBy, IsInstalledWhole, IsWritingCause, StandAlone, compacted_manifest, first_compact_table}
+use Rattle.table_model.specs.Tables.{FilterBytes}
+use Rattle.store_core.specs.Answers.{is_write}
+use Rattle.store_core.specs.Compacting.{AreAllMade, AreCompact, FailsSo, IsCompactCause, IsHeldBy, IsInstalledWhole, IsWritingCause, StandAlone, compacted_manifest, first_compact_table}
 use Rattle.store_core.specs.Faults.{of_job_fault, of_manifest_fault}
 use Rattle.store_core.specs.Flushing.{installed_manifest, other_log_page}
 use Rattle.store_core.specs.Kept.{rows_of}
 use Rattle.store_core.specs.Tending.{SomeMoves}
 use Rattle.store_core.specs.Tied.{IsUnder}
-use Rattle.store_core.specs.declared.error.StoreError.{StoreError}
 use Rattle.store_core.specs.declared.error.StoreError.TheVariants as error
 use Rattle.store_core.proofs.CompactLeads as leads
 use Rattle.store_core.proofs.CompactPlaces.{all_then_first}
-use Rattle.store_core.proofs.CompactSlices.{later_rose, none_open}
+use Rattle.store_core.proofs.CompactSlices.{none_open}
 use Rattle.store_core.proofs.CompactVersions.{compacted_is_version}
-use Rattle.store_core.proofs.InstallRefusals.{slot_writes, through_writes}
+use Rattle.store_core.proofs.InstallRefusals.{slot_writes}
 
 -- ---- refusals that a `?` passes on
 

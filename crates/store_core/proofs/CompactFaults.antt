@@ -1,10 +1,10 @@
 -- What the slices of a compaction do to the device, and why one is refused, whatever the device is.
-use Rattle.std.proofs.Common.{◌≡◌, ◌⊎◌, inl, inr, ◌∙◌, ◌+◌, ◌*◌, ◌≤◌, ℕ, Bool, List, sym, ap, subst, arith}
+use Rattle.std.proofs.Common.{◌≡◌, inl, inr, ◌+◌, ◌*◌, ℕ, Bool, List, sym, subst, arith}
 use Rattle.std.specs.Prelude.{IfErr, IsTrue, MatchResult, Result, Ok, Err}
 use Rattle.std.specs.Result.{IsErrAnd}
 use Rattle.block_model.specs.Places.{byte_of_page, pages_of}
 use Rattle.disk_trait.specs.Image.{Image}
-use Rattle.disk_trait.specs.World.{Moves, World, WriteMoves}
+use Rattle.disk_trait.specs.World.{World}
 use Rattle.disk_trait.proofs.Calls.{moves_joined, moves_none, moves_of_read, moves_of_write}
 use Rattle.extent_map.specs.Taken.{Taken}
 use Rattle.filter_api.specs.Spellings.{Spelling}

@@ -1,17 +1,15 @@
 -- The other log is begun, and the version is installed in which the tables of a compaction stand alone.
-use Rattle.std.proofs.Common.{◌≡◌, ◌≢◌, ◌⊎◌, inl, inr, ◌∙◌, ◌+◌, ◌-◌, ◌*◌, ◌<◌, ◌≤◌, ◌++◌, ℕ, Bool, true, false, cond, List, [], ◌∷◌, length, map, refl, sym, ap, ap₂, subst, arith}
-use Rattle.std.specs.Prelude.{Option, None, Some, Result, Ok, Err, IsErr, IsOk, OnOk, ◌==◌}
-use Rattle.std.specs.List.{AllByRecursion}
+use Rattle.std.proofs.Common.{◌≡◌, ◌≢◌, ◌⊎◌, inl, inr, ◌∙◌, ◌-◌, ◌<◌, ◌≤◌, ◌++◌, ℕ, Bool, true, false, cond, List, [], ◌∷◌, map, refl, sym, ap, subst, arith}
+use Rattle.std.specs.Prelude.{Option, None, Result, Ok, Err, OnOk, ◌==◌}
 use Rattle.std.proofs.lemmas.Bool.{ne_eqb}
 use Rattle.disk_trait.specs.Image.{Image, Torn}
-use Rattle.disk_trait.specs.World.{Leads, Meanwhile, Now, ReadMoves, Rose, World, WriteMoves}
+use Rattle.disk_trait.specs.World.{Leads, Meanwhile, Now, ReadMoves, World, WriteMoves}
 use Rattle.disk_trait.proofs.Calls.{leads_around, reads_keep}
-use Rattle.disk_trait.proofs.Moments.{meanwhile_then, meanwhile_weaker, now_at}
-use Rattle.disk_trait.specs.declared.fault.DiskFault.{DiskFault}
+use Rattle.disk_trait.proofs.Moments.{meanwhile_then, meanwhile_weaker}
 use Rattle.entry_model.specs.Entries.{Entry}
 use Rattle.entry_model.specs.Newest.{newest_entries}
 use Rattle.filter_api.specs.Spellings.{Spelling}
-use Rattle.image_model.proofs.Frames.{other_log_apart, ready_is_state, ready_kept}
+use Rattle.image_model.proofs.Frames.{other_log_apart, ready_is_state}
 use Rattle.image_model.proofs.Placed.{behind_logs}
 use Rattle.image_model.specs.Stands.{IsReady, StandsForMap}
 use Rattle.key_base.specs.Limits.{last_epoch}
@@ -25,20 +23,19 @@ use Rattle.state_model.proofs.EmptyStores.{without_entries}
 use Rattle.state_model.proofs.Kept.{compacted_keeps}
 use Rattle.state_model.proofs.SoundCompaction.{compacted_sound}
 use Rattle.state_model.specs.Changes.{compact_placed, compacted, compacted_with, live_entries}
-use Rattle.state_model.specs.Merges.{NoRoom, outputs_for, placed}
+use Rattle.state_model.specs.Merges.{outputs_for, placed}
 use Rattle.state_model.specs.Sound.{IsSound}
 use Rattle.state_model.specs.State.{Job, State, without_job, written_by}
 use Rattle.state_model.specs.Taken.{extent_of, taken}
 use Rattle.state_model.specs.View.{entries_of, memory, state_map}
-use Rattle.line_model.specs.Replies.{LastEpoch, Reply}
+use Rattle.line_model.specs.Replies.{LastEpoch}
 use Rattle.table_file.specs.Opened.{Opened}
-use Rattle.table_model.specs.Laws.{IsApartFromRow}
 use Rattle.table_model.specs.Tables.{FilterBytes, Table}
-use Rattle.store_core.specs.Compacting.{IsHeldBy, StandAlone, compact_tables, compacted_into, compacted_manifest}
+use Rattle.store_core.specs.Compacting.{StandAlone, compact_tables, compacted_into, compacted_manifest}
 use Rattle.store_core.specs.Flushing.{installed_manifest, other_log_page}
 use Rattle.store_core.specs.Kept.{rows_of}
 use Rattle.store_core.specs.Tied.{IsUnder}
-use Rattle.store_core.proofs.CompactSlices.{Under, under_kept}
+use Rattle.store_core.proofs.CompactSlices.{under_kept}
 use Rattle.store_core.proofs.Frames.{are_slots, held_kept}
 use Rattle.store_core.proofs.InstallLeads.{After, Before, install_leads}
 

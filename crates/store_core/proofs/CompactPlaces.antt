@@ -1,7 +1,6 @@
 -- The outputs of a compaction are placed one after the other.
-use Rattle.std.proofs.Common.{◌≡◌, ◌≢◌, ◌∙◌, ◌+◌, ◌<◌, ◌≤◌, ◌++◌, ℕ, List, [], ◌∷◌, length, map, take, refl, sym, ap, ap₂, subst, arith, append_assoc}
+use Rattle.std.proofs.Common.{◌≡◌, ◌∙◌, ◌<◌, ◌++◌, ℕ, List, [], ◌∷◌, take, refl, sym, ap, subst, append_assoc}
 use Rattle.std.specs.Prelude.{Option, Some, None, Result, Ok, Err, IsOk}
-use Rattle.std.specs.List.{AllByRecursion}
 use Rattle.std.specs.List.Sorted.{IsPermutation}
 use Rattle.std.proofs.lemmas.List.{append-nil}
 use Rattle.std.proofs.lemmas.List.Sorted.{IsPermutation-cons}

@@ -1,7 +1,7 @@
 -- The merge of a compaction on a device that stands for a state: what a crash leaves meanwhile, and what the merge still makes.
-use Rattle.std.proofs.Common.{◌≡◌, ◌≢◌, ◌⊎◌, inl, inr, ◌∙◌, ◌+◌, ◌-◌, ◌*◌, ◌<◌, ◌≤◌, ◌++◌, ℕ, Bool, true, false, List, [], ◌∷◌, length, map, take, refl, sym, ap, ap₂, subst, arith}
-use Rattle.std.specs.Prelude.{Option, None, Some, Result, Ok, Err, IsOk, min}
-use Rattle.std.specs.List.{AllByRecursion, sum_by}
+use Rattle.std.proofs.Common.{◌≡◌, ◌≢◌, ◌⊎◌, inl, inr, ◌∙◌, ◌+◌, ◌*◌, ◌<◌, ◌≤◌, ◌++◌, ℕ, true, List, [], ◌∷◌, map, take, refl, sym, ap, ap₂, subst, arith}
+use Rattle.std.specs.Prelude.{Option, None, Some, Result, Ok, Err, IsOk}
+use Rattle.std.specs.List.{AllByRecursion}
 use Rattle.std.specs.List.Sorted.{IsPermutation}
 use Rattle.std.proofs.lemmas.List.{append-nil}
 use Rattle.std.proofs.lemmas.List.Sums.{sum_by-cons}
@@ -9,7 +9,7 @@ use Rattle.std.proofs.lemmas.List.Sorted.{IsPermutation-sym}
 use Rattle.block_model.specs.Places.{byte_of_page, pages_of}
 use Rattle.byte_fields.specs.declared.parts.Row.{Row}
 use Rattle.disk_trait.specs.Image.{Image, Same, Torn}
-use Rattle.disk_trait.specs.World.{Meanwhile, Moves, Now, Rose, World}
+use Rattle.disk_trait.specs.World.{Meanwhile, Now, Rose, World}
 use Rattle.disk_trait.proofs.Moments.{goes_on, now_at, started}
 use Rattle.disk_trait.specs.declared.fault.DiskFault.{DiskFault}
 use Rattle.disk_trait.specs.declared.fault.Op.{Op}
@@ -26,14 +26,13 @@ use Rattle.image_model.proofs.Frames.{free_apart, ready_kept}
 use Rattle.image_model.specs.Frames.{IsApartFromReady}
 use Rattle.level_merge.specs.FollowLaws.{CompactionMakes}
 use Rattle.level_merge.specs.Held.{AreHeld}
-use Rattle.level_merge.specs.Making.{AreTakenBy, HasPlace, IsMakeRefusal, IsSaid, Makes, MakesFirst, MakesOn, MakesOne, SliceMakes, extents_with}
+use Rattle.level_merge.specs.Making.{AreTakenBy, HasPlace, IsMakeRefusal, Makes, MakesOn, MakesOne, SliceMakes, extents_with}
 use Rattle.level_merge.specs.Merging.{Merging, compaction}
 use Rattle.level_merge.specs.Outputs.{extent_at}
 use Rattle.level_merge.specs.Slices.{SliceMoves}
 use Rattle.level_merge.specs.declared.fault.JobFault.{JobFault}
 use Rattle.level_merge.specs.declared.fault.JobFault.TheVariants as job
 use Rattle.level_merge.specs.declared.fault.Sliced.{Sliced}
-use Rattle.level_merge.specs.declared.fault.Sliced.TheVariants as sliced
 use Rattle.manifest.specs.Manifest.{Manifest, other_place, place_of}
 use Rattle.manifest_model.specs.Rows as model
 use Rattle.merge_rows.specs.Merges.{TableWalk}
@@ -47,7 +46,7 @@ use Rattle.table_file.specs.Opened.{Opened}
 use Rattle.table_model.specs.Laws.{IsApartFromRow}
 use Rattle.table_model.specs.Tables.{FilterBytes, Table, table_of, table_pages}
 use Rattle.store_core.specs.Answers.{is_write}
-use Rattle.store_core.specs.Compacting.{AreAllMade, IsFailedCall, IsHeldBy, IsWritingCause, compact_tables, first_compact_table}
+use Rattle.store_core.specs.Compacting.{AreAllMade, IsFailedCall, IsWritingCause, compact_tables, first_compact_table}
 use Rattle.store_core.specs.Kept.{rows_of}
 use Rattle.store_core.specs.Running.{RunsAs}
 use Rattle.store_core.specs.Tied.{IsUnder}

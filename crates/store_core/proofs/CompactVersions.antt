@@ -1,10 +1,10 @@
 -- The version in which the tables of a compaction stand alone keeps the rules.
-use Rattle.std.proofs.Common.{◌≡◌, ◌⊎◌, inl, inr, ◌∙◌, ◌<◌, ◌≤◌, ◌++◌, List, [], ◌∷◌, length, map, refl, sym, ap, subst, arith}
+use Rattle.std.proofs.Common.{◌≡◌, ◌⊎◌, inl, inr, ◌++◌, List, [], ◌∷◌, map, subst, arith}
 use Rattle.std.specs.List.{AllByRecursion}
 use Rattle.std.proofs.lemmas.List.{map-append}
 use Rattle.byte_fields.specs.declared.parts.Row.{Row}
 use Rattle.extent_model.proofs.Lists.{Pairs, all_pairs, pairs_of}
-use Rattle.extent_model.specs.Extents.{AreApart, AreLaid, Extent, IsOnDevice}
+use Rattle.extent_model.specs.Extents.{AreApart, IsOnDevice}
 use Rattle.manifest.specs.Manifest.{Manifest}
 use Rattle.manifest_model.proofs.Rows.{rows_keep}
 use Rattle.manifest_model.specs.Laws.{IsVersion, RowFits}

@@ -1,5 +1,5 @@
 -- A store whose merge is dropped is that of the state without its job.
-use Rattle.std.proofs.Common.{◌≡◌, ◌∙◌, ℕ, List, [], ◌++◌, sym, ap, subst}
+use Rattle.std.proofs.Common.{◌≡◌, ◌∙◌, List, [], sym, ap, subst}
 use Rattle.std.specs.Prelude.{Option, None}
 use Rattle.std.specs.List.{AllByRecursion}
 use Rattle.disk_trait.specs.Image.{Image}
@@ -10,7 +10,7 @@ use Rattle.state_model.proofs.SoundJobs.{drop_sound}
 use Rattle.state_model.specs.State.{State, without_job}
 use Rattle.table_file.specs.Opened.{Opened}
 use Rattle.table_model.specs.Images.{StandsInExtent}
-use Rattle.table_model.specs.Tables.{FilterBytes, Table}
+use Rattle.table_model.specs.Tables.{FilterBytes}
 use Rattle.manifest.specs.Manifest.{Manifest}
 use Rattle.store_core.specs.Caching.{AreTrue, Cached}
 use Rattle.store_core.specs.Kept.{Kept}

@@ -1,12 +1,11 @@
 -- What a flush makes of the state under a store, and why it makes nothing of it.
-use Rattle.std.proofs.Common.{◌≡◌, ◌≢◌, ◌⊎◌, inl, inr, ◌∙◌, ◌<◌, ◌≤◌, ◌+◌, ℕ, Bool, true, false, List, [], ◌∷◌, length, refl, sym, ap, subst, arith}
-use Rattle.std.specs.Prelude.{Option, Some, None, Result, Ok, Err, IfErr, IsErrAnd, ◌==◌}
+use Rattle.std.proofs.Common.{◌≡◌, ◌≢◌, inl, inr, ◌∙◌, ◌<◌, ◌≤◌, ◌+◌, ℕ, true, false, List, [], ◌∷◌, length, refl, sym, ap, subst, arith}
+use Rattle.std.specs.Prelude.{Option, Result, Ok, Err, IsErrAnd, ◌==◌}
 use Rattle.block_model.specs.Places.{end_page}
 use Rattle.byte_fields.specs.declared.parts.Row.{Row}
 use Rattle.disk_trait.specs.Image.{Image}
 use Rattle.disk_trait.specs.World.{Meanwhile, Now, World}
 use Rattle.disk_trait.proofs.Moments.{meanwhile_weaker, started}
-use Rattle.disk_trait.specs.declared.fault.DiskFault.{DiskFault}
 use Rattle.entry_model.specs.Entries.{Entry}
 use Rattle.extent_model.proofs.Rooms.{gap_small}
 use Rattle.extent_model.specs.Extents.{AreLaid, Extent}
@@ -34,7 +33,7 @@ use Rattle.table_file.specs.Building.{Built}
 use Rattle.table_file.specs.Opened.{Opened}
 use Rattle.table_file.specs.Writing.{made_filter, made_row}
 use Rattle.table_model.specs.Tables.{FilterBytes, filter_bytes_of, table_of, table_pages}
-use Rattle.store_core.specs.Answers.{IsFailure, Turns, Wrote, refused, turns}
+use Rattle.store_core.specs.Answers.{IsFailure, Wrote, refused, stops, turns}
 use Rattle.store_core.specs.Faults.{of_manifest_fault}
 use Rattle.store_core.specs.Flushing.{IsFlushFault, IsPlan, IsPlanRefusal, Replaces, flushed_at, installed_manifest, need_under, opened_of}
 use Rattle.level_merge.specs.Merging.{Merging}
@@ -244,15 +243,15 @@ module _ (spelling : Spelling) (built_cutoff : ℕ → List Leaf → ℕ) (store
         wanted spelling bytes after s (flushed bytes s) a b (tied_at after same_manifest same_tables same_job same_log same_memory same_blocks (replaces.wanted refl)) replaces.meanwhile
 
     told_as : {T U : Type 0} (f : ManifestFault) → Replaces {T = T} spelling built_cutoff store s parts row next (Err f) a b → IsFlushFault a b f
-        → ((cause : DiskFault) → f ≡ fault.Device cause → after.stopped ≡ true) → Wrote {T = U} spelling bytes s (flushed bytes s) (Err (of_manifest_fault f)) after a b
+        → after.stopped ≡ stops (of_manifest_fault f) → Wrote {T = U} spelling bytes s (flushed bytes s) (Err (of_manifest_fault f)) after a b
     told_as fault.Memory replaces why stopped = by_memory replaces
-    told_as (fault.Device cause) replaces why stopped = flush_stops (fault.Device cause) (error.Device cause) after replaces tt (stopped cause refl)
+    told_as (fault.Device cause) replaces why stopped = flush_stops (fault.Device cause) (error.Device cause) after replaces tt (stopped ∙ why.0)
     told_as fault.NotAStore replaces why stopped = absurd why
     told_as fault.AlreadyAStore replaces why stopped = absurd why
     told_as fault.Epoch replaces why stopped = absurd why
     told_as (fault.Damaged damage) replaces why stopped = absurd why
 
     pub flush_failed : {T U : Type 0} (f : ManifestFault) (x : StoreError) → x ≡ of_manifest_fault f → Replaces {T = T} spelling built_cutoff store s parts row next (Err f) a b
-        → IsFlushFault a b f → ((cause : DiskFault) → f ≡ fault.Device cause → after.stopped ≡ true) → Wrote {T = U} spelling bytes s (flushed bytes s) (Err x) after a b
+        → IsFlushFault a b f → after.stopped ≡ stops x → Wrote {T = U} spelling bytes s (flushed bytes s) (Err x) after a b
     flush_failed {U = U} f x is replaces why stopped =
-        subst (λ (e : StoreError). Wrote {T = U} spelling bytes s (flushed bytes s) (Err e) after a b) (sym is) (told_as f replaces why stopped)
+        subst (λ (e : StoreError). Wrote {T = U} spelling bytes s (flushed bytes s) (Err e) after a b) (sym is) (told_as f replaces why (stopped ∙ ap stops is))

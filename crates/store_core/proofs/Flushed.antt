@@ -1,11 +1,10 @@
 -- What a flush makes of a state, computed.
-use Rattle.std.proofs.Common.{◌≡◌, ◌≢◌, ◌∙◌, ◌<◌, ◌≤◌, ℕ, Bool, true, false, cond, List, [], ◌∷◌, length, refl, ap, arith}
+use Rattle.std.proofs.Common.{◌≡◌, ◌≢◌, ◌∙◌, ◌<◌, ◌≤◌, ℕ, Bool, true, false, cond, [], ◌∷◌, length, refl, ap, arith}
 use Rattle.std.specs.Prelude.{Option, Some, None, Ok, Err, ◌==◌}
-use Rattle.entry_model.specs.Entries.{Entry}
 use Rattle.extent_model.proofs.Rooms.{no_gap}
 use Rattle.extent_model.specs.Gaps.{first_gap, largest_gap}
 use Rattle.key_base.specs.Limits.{last_epoch}
-use Rattle.line_model.specs.Replies.{Reply, LastEpoch, Full}
+use Rattle.line_model.specs.Replies.{LastEpoch, Full}
 use Rattle.state_model.proofs.Reasons.{flush_few}
 use Rattle.state_model.specs.Changes.{flush_placed, flushed, flushed_with}
 use Rattle.state_model.specs.Merges.{NoRoom, at_page, placed}

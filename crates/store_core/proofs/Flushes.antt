@@ -1,6 +1,6 @@
 -- The table of a plan is written, the other log is begun, and the version is installed: what a crash leaves meanwhile.
-use Rattle.std.proofs.Common.{◌≡◌, ◌⊎◌, inl, inr, ◌≤◌, ◌<◌, ◌+◌, ◌-◌, ◌*◌, ◌∙◌, ℕ, Bool, false, true, List, [], ◌∷◌, ◌++◌, length, refl, sym, ap, ap₂, subst, arith, append-nil}
-use Rattle.std.specs.Prelude.{◌≢◌, Option, Some, Result, Ok, Err, IsErr, IfErr, OnOk, map, ◌==◌}
+use Rattle.std.proofs.Common.{◌≡◌, inl, inr, ◌≤◌, ◌<◌, ◌+◌, ◌-◌, ◌*◌, ◌∙◌, ℕ, false, true, List, [], ◌∷◌, length, refl, sym, ap, ap₂, subst, arith}
+use Rattle.std.specs.Prelude.{◌≢◌, Some, Result, Ok, Err, IsErr, IfErr, OnOk, ◌==◌}
 use Rattle.std.specs.List.{AllByRecursion}
 use Rattle.std.specs.Result.{IsErrAnd}
 use Rattle.std.proofs.lemmas.Bool.{ne_eqb}
@@ -9,7 +9,7 @@ use Rattle.block_model.specs.Pages.{index_length, pages_for}
 use Rattle.block_model.specs.Places.{byte_of_page}
 use Rattle.byte_fields.specs.declared.parts.Row.{Row}
 use Rattle.disk_trait.specs.Image.{Image, Torn}
-use Rattle.disk_trait.specs.World.{Leads, Meanwhile, Now, ReadMoves, Rose, World, WriteMoves}
+use Rattle.disk_trait.specs.World.{Leads, Now, ReadMoves, Rose, World, WriteMoves}
 use Rattle.disk_trait.specs.declared.fault.DiskFault.{DiskFault}
 use Rattle.disk_trait.proofs.Calls.{leads_around, leads_framed, leads_then, leads_weaker, on_ok_two, reads_keep}
 use Rattle.disk_trait.proofs.Moments.{meanwhile_weaker}
@@ -34,13 +34,12 @@ use Rattle.manifest.specs.declared.fault.ManifestFault.{ManifestFault}
 use Rattle.manifest.specs.declared.fault.ManifestFault.TheVariants as fault
 use Rattle.manifest_model.specs.Installs.{Install, IsInstalled, IsOldOrNew, MayInstall}
 use Rattle.manifest_model.specs.Laws.{IsVersion}
-use Rattle.manifest_model.specs.Rows as rows
 use Rattle.manifest_model.specs.Version.{Version, log_page_of}
 use Rattle.state_model.proofs.Kept.{flushed_keeps}
 use Rattle.state_model.proofs.SoundChanges.{flushed_sound}
 use Rattle.state_model.specs.Changes.{flushed}
 use Rattle.state_model.specs.State.{State}
-use Rattle.state_model.specs.Taken.{extent_of, taken}
+use Rattle.state_model.specs.Taken.{taken}
 use Rattle.state_model.specs.View.{memory, state_map}
 use Rattle.table_file.specs.Building.{Built}
 use Rattle.table_file.specs.Opened.{Opened}
@@ -50,8 +49,8 @@ use Rattle.table_model.specs.Images.{IsTableOf}
 use Rattle.table_model.specs.Laws.{IsApartFromRow}
 use Rattle.table_model.specs.Tables.{FilterBytes, Table, filter_bytes_of, table_of, table_pages}
 use Rattle.store_core.specs.Answers.{is_write}
-use Rattle.store_core.specs.Flushing.{IsFlushFault, IsPlan, Replaces, flushed_at, installed_manifest, need_under, next_manifest, opened_of, other_log_page}
-use Rattle.store_core.specs.Kept.{IsWhole, Kept, rows_of}
+use Rattle.store_core.specs.Flushing.{IsFlushFault, IsPlan, Replaces, flushed_at, installed_manifest, next_manifest, opened_of, other_log_page}
+use Rattle.store_core.specs.Kept.{IsWhole, Kept}
 use Rattle.level_merge.specs.FollowLaws.{FlushedIsFollowed, OtherImageIsFollowed}
 use Rattle.level_merge.specs.Held.{AreHeld, IsHeld}
 use Rattle.store_core.specs.Running.{RunsAs, extents_with, outputs_in}

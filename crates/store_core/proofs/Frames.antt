@@ -1,8 +1,7 @@
 -- What is written apart from what is under a store, done or cut short, changes none of it.
-use Rattle.std.proofs.Common.{◌≡◌, ◌⊎◌, inl, inr, ◌≤◌, ◌+◌, ◌-◌, ◌*◌, ℕ, zero, suc, List, [], ◌∷◌, ◌++◌, refl, sym, ap, subst, ◌∙◌, arith}
+use Rattle.std.proofs.Common.{◌≡◌, inl, inr, ◌≤◌, ◌+◌, ℕ, zero, suc, List, [], ◌∷◌, ◌++◌, refl, sym, subst, arith}
 use Rattle.std.specs.Prelude.{Option, Some, None, map}
 use Rattle.std.specs.List.{AllByRecursion}
-use Rattle.byte_fields.specs.declared.parts.Row.{Row}
 use Rattle.disk_trait.specs.Image.{Image, Torn}
 use Rattle.entry_model.specs.Entries.{Entry}
 use Rattle.filter_api.specs.Spellings.{Spelling}
@@ -10,12 +9,11 @@ use Rattle.filter_api.specs.declared.settings.Settings.{Settings}
 use Rattle.image_model.proofs.Frames.{log_replaced, ready_is_state, ready_kept}
 use Rattle.image_model.proofs.Placed.{behind_logs}
 use Rattle.image_model.specs.Frames.{IsApartFromExtent, IsApartFromReady}
-use Rattle.image_model.specs.Stands.{IsReady, StandsForMap}
+use Rattle.image_model.specs.Stands.{StandsForMap}
 use Rattle.log_model.specs.Area.{LogIs, start_of}
 use Rattle.manifest.specs.Manifest.{Manifest, other_place, place_of}
-use Rattle.manifest_model.specs.Laws.{IsVersion}
 use Rattle.manifest_model.specs.Slots.{AreSlots}
-use Rattle.manifest_model.specs.Version.{Version, log_page_of}
+use Rattle.manifest_model.specs.Version.{log_page_of}
 use Rattle.extent_model.specs.Extents.{IsOnDevice}
 use Rattle.state_model.specs.State.{Job, State, written_by}
 use Rattle.state_model.specs.Taken.{extent_of, taken}

@@ -1,7 +1,7 @@
 -- The tables of a merge stand in the place of those that it read, in memory as in the state.
-use Rattle.std.proofs.Common.{◌≡◌, ◌≢◌, ◌⊎◌, inl, inr, ◌∙◌, ◌+◌, ◌-◌, ◌<◌, ◌≤◌, ℕ, zero, suc, Bool, true, false, cond, List, [], ◌∷◌, length, fold, map, refl, sym, ap, subst, arith}
-use Rattle.std.specs.Prelude.{◌==◌, ◌&&◌, ◌||◌, nat_lt, not, Option, Some, None, filter, slice_get}
-use Rattle.std.specs.List.{AllByRecursion, list_any}
+use Rattle.std.proofs.Common.{◌≡◌, ◌∙◌, ℕ, suc, Bool, true, false, cond, List, [], ◌∷◌, length, fold, refl, sym, ap, subst}
+use Rattle.std.specs.Prelude.{◌==◌, ◌&&◌, ◌||◌, nat_lt}
+use Rattle.std.specs.List.{list_any}
 use Rattle.disk_trait.specs.Image.{Image}
 use Rattle.filter_api.specs.Spellings.{Spelling}
 use Rattle.filter_api.specs.declared.settings.Settings.{Settings}
@@ -10,7 +10,6 @@ use Rattle.level_merge.specs.Held.{AreHeld, IsHeld}
 use Rattle.level_merge.specs.Laws.{StandingAgrees}
 use Rattle.level_merge.specs.Plans.{Agrees}
 use Rattle.map_model.specs.SortedMap.{Bytes}
-use Rattle.merge_rows.specs.Merges.{numbered}
 use Rattle.state_model.specs.Merges.{least_key}
 use Rattle.state_model.specs.Tends as model
 use Rattle.table_file.specs.Opened.{Opened}

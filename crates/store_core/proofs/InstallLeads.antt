@@ -1,6 +1,6 @@
 -- A version is installed whose rows are those of open tables: what a crash leaves meanwhile.
-use Rattle.std.proofs.Common.{◌≡◌, ◌⊎◌, inl, inr, ◌≤◌, ◌<◌, ◌+◌, ◌-◌, ◌∙◌, ℕ, true, List, [], ◌∷◌, refl, sym, ap, subst, arith}
-use Rattle.std.specs.Prelude.{None, Result, map}
+use Rattle.std.proofs.Common.{◌≡◌, inl, inr, ◌≤◌, ◌<◌, ◌+◌, ℕ, true, List, [], ◌∷◌, refl, sym, ap, subst, arith}
+use Rattle.std.specs.Prelude.{None, Result}
 use Rattle.std.specs.List.{AllPairs}
 use Rattle.disk_trait.specs.Image.{Image, Torn}
 use Rattle.disk_trait.specs.World.{Leads, World, WriteMoves}
@@ -16,7 +16,7 @@ use Rattle.image_model.specs.Tables.{AreTablesOf}
 use Rattle.key_base.specs.Limits.{last_epoch}
 use Rattle.level_merge.specs.Held.{AreHeld}
 use Rattle.log_model.proofs.Logs.{log_kept}
-use Rattle.log_model.specs.Area.{LogIs, start_of}
+use Rattle.log_model.specs.Area.{LogIs}
 use Rattle.manifest.proofs.Steps.{may_install, raised_is}
 use Rattle.manifest.specs.Manifest.{Manifest, StandsInSlot, install_of, other_place, place_of, raised}
 use Rattle.manifest_model.specs.Installs.{Install, IsInstalled, IsOldOrNew, MayInstall}

@@ -1,6 +1,6 @@
 -- A merge that is done is installed: what a crash leaves meanwhile, and what the store is then.
-use Rattle.std.proofs.Common.{◌≡◌, ◌≢◌, inl, ◌∙◌, ◌+◌, ◌-◌, ◌<◌, ◌≤◌, ℕ, Bool, true, false, List, [], ◌∷◌, length, map, refl, sym, ap, subst, arith}
-use Rattle.std.specs.Prelude.{Option, Some, None, Result, Ok, Err, IfErr, OnErr, OnOk}
+use Rattle.std.proofs.Common.{◌≡◌, ◌≢◌, inl, ◌∙◌, ◌-◌, ◌<◌, ◌≤◌, ℕ, true, List, [], length, refl, sym, ap, subst, arith}
+use Rattle.std.specs.Prelude.{Option, Some, None, Result, Ok, Err}
 use Rattle.std.specs.Result.{IsErrAnd}
 use Rattle.std.specs.List.{AllByRecursion}
 use Rattle.std.proofs.lemmas.List.{append-nil}
@@ -8,7 +8,6 @@ use Rattle.disk_trait.specs.Image.{Image, Same}
 use Rattle.disk_trait.specs.World.{Leads, Meanwhile, Now, ReadMoves, World, WriteMoves}
 use Rattle.disk_trait.proofs.Calls.{reads_keep, reads_none}
 use Rattle.disk_trait.proofs.Moments.{in_call, started}
-use Rattle.disk_trait.specs.declared.fault.DiskFault.{DiskFault}
 use Rattle.filter_api.specs.Spellings.{Spelling}
 use Rattle.filter_api.specs.declared.settings.Settings.{Settings}
 use Rattle.image_model.proofs.Frames.{ready_is_state}
@@ -35,11 +34,12 @@ use Rattle.state_model.specs.State.{Job, State, without_job}
 use Rattle.state_model.specs.Tends.{IsDone, Progresses, Tend, Worked, installed, installed_tables, installs}
 use Rattle.state_model.specs.View.{state_map}
 use Rattle.table_file.specs.Opened.{Opened}
-use Rattle.table_model.specs.Tables.{FilterBytes, Table}
+use Rattle.table_model.specs.Tables.{FilterBytes}
+use Rattle.store_core.specs.Answers.{stops}
 use Rattle.store_core.specs.Faults.{of_manifest_fault}
 use Rattle.store_core.specs.Flushing.{installed_manifest}
 use Rattle.store_core.specs.Installing.{Installs}
-use Rattle.store_core.specs.Kept.{IsWhole, Kept, rows_of}
+use Rattle.store_core.specs.Kept.{Kept, rows_of}
 use Rattle.store_core.specs.Replacing.{merged_manifest, tables_behind}
 use Rattle.store_core.specs.Running.{IsRun, RunsAs}
 use Rattle.store_core.specs.Tied.{IsUnder, Tied}
@@ -53,6 +53,7 @@ use Rattle.store_core.proofs.Frames.{are_slots}
 use Rattle.store_core.proofs.InstallHeld.{many_held}
 use Rattle.store_core.proofs.InstallLeads.{After, Before, install_leads}
 use Rattle.store_core.proofs.InstallOthers.{behind_held}
+use Rattle.store_core.proofs.InstallRefusals.{slot_writes}
 
 -- ---- the state
 
@@ -211,13 +212,13 @@ module _ (agree : StandingAgrees) (spelling : Spelling) (bytes : FilterBytes) (s
         → (f ≢ fault.Epoch → m.version.epoch < last_epoch)
         → Leads {T = T} (StandsInSlot m.slot m.other_open m.version) (IsOldOrNew (install_of (merged_manifest m (rows_of behind)) m.version)) (IsInstalled (install_of (merged_manifest m (rows_of behind)) m.version)) (Err f) a b
         → after.manifest ≡ store.manifest → after.tables ≡ store.tables → after.job ≡ None → after.log ≡ store.log → after.memory ≡ store.memory → after.blocks ≡ store.blocks
-        → ((cause : DiskFault) → f ≡ fault.Device cause → after.stopped ≡ true) → Installs {T = U} spelling bytes s job (Err x) after a b
-    install_refused {U = U} fault.Memory x after is cause last below leads manifest_is tables_are job_is log_is memory_is blocks_is stops =
+        → after.stopped ≡ stops x → Installs {T = U} spelling bytes s job (Err x) after a b
+    install_refused {U = U} fault.Memory x after is cause last below leads manifest_is tables_are job_is log_is memory_is blocks_is stopped =
         not_begun {T = U} x after b cause (unread cause) manifest_is tables_are job_is log_is memory_is blocks_is
-    install_refused {U = U} fault.Epoch x after is cause last below leads manifest_is tables_are job_is log_is memory_is blocks_is stops =
+    install_refused {U = U} fault.Epoch x after is cause last below leads manifest_is tables_are job_is log_is memory_is blocks_is stopped =
         not_begun {T = U} x after b (last refl) (unread (last refl)) manifest_is tables_are job_is log_is memory_is blocks_is
-    install_refused {U = U} (fault.Device f) x after is cause last below leads manifest_is tables_are job_is log_is memory_is blocks_is stops =
-        install_failed {U = U} (Err (fault.Device f)) x after (below (λ never. absurd cc)) leads (stops f refl)
-    install_refused fault.NotAStore x after is cause last below leads manifest_is tables_are job_is log_is memory_is blocks_is stops = absurd cause
-    install_refused fault.AlreadyAStore x after is cause last below leads manifest_is tables_are job_is log_is memory_is blocks_is stops = absurd cause
-    install_refused (fault.Damaged damage) x after is cause last below leads manifest_is tables_are job_is log_is memory_is blocks_is stops = absurd cause
+    install_refused {U = U} (fault.Device f) x after is cause last below leads manifest_is tables_are job_is log_is memory_is blocks_is stopped =
+        install_failed {U = U} (Err (fault.Device f)) x after (below (λ never. absurd cc)) leads (stopped ∙ ap stops is ∙ slot_writes _ f cause.0)
+    install_refused fault.NotAStore x after is cause last below leads manifest_is tables_are job_is log_is memory_is blocks_is stopped = absurd cause
+    install_refused fault.AlreadyAStore x after is cause last below leads manifest_is tables_are job_is log_is memory_is blocks_is stopped = absurd cause
+    install_refused (fault.Damaged damage) x after is cause last below leads manifest_is tables_are job_is log_is memory_is blocks_is stopped = absurd cause

@@ -1,6 +1,6 @@
 -- The tables that a job does not merge, by their numbers and by their first pages.
-use Rattle.std.proofs.Common.{◌≡◌, ◌⊎◌, inl, inr, ◌∙◌, ◌+◌, ◌-◌, ◌<◌, ℕ, zero, suc, Bool, true, false, cond, List, [], ◌∷◌, length, map, refl, sym, ap, ap₂, subst, arith}
-use Rattle.std.specs.Prelude.{◌==◌, ◌||◌, not, Option, Some, None, filter, fold, slice_get}
+use Rattle.std.proofs.Common.{◌≡◌, ◌⊎◌, inl, inr, ◌∙◌, ◌-◌, ◌<◌, ℕ, zero, suc, Bool, true, false, cond, List, [], ◌∷◌, length, map, refl, sym, ap, ap₂, subst, arith}
+use Rattle.std.specs.Prelude.{◌==◌, ◌||◌, not, Some, slice_get}
 use Rattle.std.specs.List.{AllByRecursion, list_any}
 use Rattle.std.proofs.lemmas.Bool.{ne_eqb}
 use Rattle.disk_trait.specs.Image.{Image}
@@ -14,7 +14,7 @@ use Rattle.merge_rows.specs.Merges.{numbered}
 use Rattle.merge_rows.specs.Steps.{numbers}
 use Rattle.state_model.proofs.Taken.{Apart}
 use Rattle.state_model.specs.State.{Job}
-use Rattle.state_model.specs.Tends.{inserted, installed_tables, without}
+use Rattle.state_model.specs.Tends.{installed_tables, without}
 use Rattle.table_file.specs.Opened.{Opened}
 use Rattle.table_model.specs.Tables.{Table}
 use Rattle.store_core.specs.Replacing.{others_in, tables_behind}

@@ -1,7 +1,7 @@
 -- The version in which the tables of a merge stand in the place of those that it read keeps the rules.
-use Rattle.std.proofs.Common.{◌≡◌, ◌⊎◌, inl, inr, ◌∙◌, ◌+◌, ◌<◌, ◌≤◌, ◌++◌, ℕ, List, [], ◌∷◌, fold, length, map, refl, sym, ap, subst, arith}
+use Rattle.std.proofs.Common.{◌≡◌, inl, inr, ◌∙◌, ◌+◌, ◌≤◌, ◌++◌, ℕ, List, [], ◌∷◌, length, map, refl, sym, ap, subst, arith}
 use Rattle.std.specs.List.{AllByRecursion}
-use Rattle.std.proofs.lemmas.List.{length-map, map-append}
+use Rattle.std.proofs.lemmas.List.{length-map}
 use Rattle.byte_fields.specs.declared.parts.Row.{Row}
 use Rattle.extent_model.proofs.Lists.{Mutual, Pairs, all_pairs, pairs_of}
 use Rattle.extent_model.specs.Extents.{AreApart, AreLaid, Extent, IsOnDevice}
@@ -13,7 +13,7 @@ use Rattle.manifest_model.specs.Rows.{AreTableRows, IsNoDeeper, IsTableRow, exte
 use Rattle.merge_rows.specs.Steps.{numbers}
 use Rattle.table_file.specs.Opened.{Opened}
 use Rattle.store_core.specs.Kept.{rows_of}
-use Rattle.store_core.specs.Replacing.{merged_manifest, others_in, put_in, tables_behind}
+use Rattle.store_core.specs.Replacing.{merged_manifest, others_in, tables_behind}
 use Rattle.store_core.specs.Running.{IsRun, extents_with}
 use Rattle.store_core.proofs.InstallLists.{IsUpTo, all_first, all_of_seen, all_second, all_seen, fold_all, fold_length, fold_levels, fold_pairs, others_all, others_few, others_pairs, pairs_between, pairs_first, pairs_of_seen, pairs_second, pairs_seen}
 

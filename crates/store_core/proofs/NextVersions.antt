@@ -2,7 +2,7 @@
 use Rattle.std.proofs.Common.{◌≡◌, ◌⊎◌, inl, inr, ◌<◌, List, [], ◌∷◌, length, arith, map}
 use Rattle.std.specs.List.{AllByRecursion}
 use Rattle.byte_fields.specs.declared.parts.Row.{Row}
-use Rattle.extent_model.specs.Extents.{AreApart, AreLaid, IsOnDevice}
+use Rattle.extent_model.specs.Extents.{AreApart, IsOnDevice}
 use Rattle.manifest.specs.Manifest.{Manifest}
 use Rattle.extent_model.proofs.Lists.{all_pairs, pairs_of}
 use Rattle.manifest_model.proofs.Rows.{rows_keep}

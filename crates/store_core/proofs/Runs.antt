@@ -2,13 +2,13 @@
 use Rattle.std.proofs.Common.{◌≡◌, ◌≤◌, ◌+◌, ◌∙◌, ℕ, inr, List, [], ◌∷◌, ◌++◌, length, map, refl, sym, ap, subst, arith}
 use Rattle.std.specs.Prelude.{Option, Some, None}
 use Rattle.std.specs.List.{AllByRecursion}
-use Rattle.disk_trait.specs.Image.{Image, Torn}
+use Rattle.disk_trait.specs.Image.{Image}
 use Rattle.extent_model.specs.Extents.{Extent, IsOnDevice}
 use Rattle.filter_api.specs.Spellings.{Spelling}
 use Rattle.filter_api.specs.declared.settings.Settings.{Settings}
 use Rattle.image_model.specs.Frames.{IsApartFromExtent}
 use Rattle.image_model.specs.Stands.{unnamed}
-use Rattle.level_merge.specs.FollowLaws.{FlushedIsFollowed, OtherImageIsFollowed}
+use Rattle.level_merge.specs.FollowLaws.{FlushedIsFollowed}
 use Rattle.level_merge.specs.Follows.{Follows}
 use Rattle.level_merge.specs.Held.{AreHeld}
 use Rattle.level_merge.specs.Making.{Makes}

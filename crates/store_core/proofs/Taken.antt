@@ -1,5 +1,5 @@
 -- The extents that a state takes are those of the rows under it.
-use Rattle.std.proofs.Common.{◌≡◌, ◌∙◌, List, [], ◌∷◌, ◌++◌, refl, sym, ap, map}
+use Rattle.std.proofs.Common.{◌≡◌, ◌∙◌, List, [], ◌∷◌, refl, ap, map}
 use Rattle.byte_fields.specs.declared.parts.Row.{Row}
 use Rattle.disk_trait.specs.Image.{Image}
 use Rattle.extent_model.specs.Extents.{Extent}
@@ -7,8 +7,7 @@ use Rattle.filter_api.specs.Spellings.{Spelling}
 use Rattle.filter_api.specs.declared.settings.Settings.{Settings}
 use Rattle.image_model.specs.Tables.{AreTablesOf}
 use Rattle.manifest_model.specs.Rows as rows
-use Rattle.state_model.specs.State.{State, written_by}
-use Rattle.state_model.specs.Taken.{extent_of, taken}
+use Rattle.state_model.specs.Taken.{extent_of}
 use Rattle.table_model.specs.Images.{IsTableOf}
 use Rattle.table_model.specs.Tables.{Table}
 

@@ -1,14 +1,13 @@
 -- An entry that is written, with a flush before it or without.
-use Rattle.std.proofs.Common.{◌≡◌, ◌⊎◌, inl, inr, ◌+◌, ◌<◌, ◌≤◌, ℕ, List, Bool, true, false, cond, refl, sym, ap, subst, ◌∙◌, arith}
+use Rattle.std.proofs.Common.{◌≡◌, ◌⊎◌, inl, inr, ◌+◌, ◌<◌, ◌≤◌, ℕ, List, Bool, true, false, cond, sym, ap, subst, ◌∙◌, arith}
 use Rattle.std.proofs.lemmas.Bool.{le-leb}
-use Rattle.std.specs.Prelude.{Result, Ok, Err, IfErr, IsErr, OnErr, nat_le}
+use Rattle.std.specs.Prelude.{Result, Ok, Err, IfErr, OnErr, nat_le}
 use Rattle.disk_trait.specs.Image.{Image}
-use Rattle.disk_trait.specs.World.{Meanwhile, World}
+use Rattle.disk_trait.specs.World.{World}
 use Rattle.disk_trait.proofs.Moments.{meanwhile_then, meanwhile_weaker}
 use Rattle.entry_model.specs.Entries.{Entry, filled, gap, need}
 use Rattle.filter_api.specs.Spellings.{Spelling}
 use Rattle.image_model.specs.Stands.{StandsForMap}
-use Rattle.line_model.specs.Replies.{Reply}
 use Rattle.map_model.specs.SortedMap.{Map}
 use Rattle.mem_table.specs.Table.{MemoryTable}
 use Rattle.state_model.proofs.Kept.{flushed_keeps}
@@ -16,7 +15,7 @@ use Rattle.state_model.specs.Changes.{flushed, logged, logged_then, written}
 use Rattle.state_model.specs.State.{State}
 use Rattle.state_model.specs.View.{state_map}
 use Rattle.table_model.specs.Tables.{FilterBytes}
-use Rattle.store_core.specs.Answers.{IsFailure, IsWriteFailure, IsWriteRefusal, Turns, Wrote, refused, stopped_by, turns}
+use Rattle.store_core.specs.Answers.{IsFailure, IsWriteFailure, Turns, Wrote, refused, stopped_by, turns}
 use Rattle.store_core.specs.Kept.{IsWhole, Kept}
 use Rattle.store_core.specs.Tied.{Tied}
 use Rattle.store_core.specs.declared.error.StoreError.{StoreError}

@@ -1,7 +1,6 @@
 -- What a call of the store answers: the step of its state.
-use Rattle.std.specs.Prelude.{◌≡◌, ◌⊎◌, ◌||◌, Bool, true, false, Option, Some, None, Result, Ok, Err, IfErr, IsErr, OnOk, OnErr}
+use Rattle.std.specs.Prelude.{◌≡◌, ◌⊎◌, Bool, true, false, Option, Some, None, Result, Ok, Err, IfErr, IsErr, OnOk, OnErr}
 use Rattle.disk_trait.specs.World.{Meanwhile, Rose, World}
-use Rattle.disk_trait.specs.declared.fault.DiskFault.{DiskFault}
 use Rattle.disk_trait.specs.declared.fault.Op.{Op}
 use Rattle.disk_trait.specs.declared.fault.Op.TheVariants as op
 use Rattle.filter_api.specs.Spellings.{Spelling}

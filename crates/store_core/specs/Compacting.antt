@@ -1,5 +1,5 @@
 -- What a compaction makes of a store, and why it is refused.
-use Rattle.std.specs.Prelude.{◌≡◌, ◌≢◌, ◌⊎◌, ◌<◌, ◌≤◌, ◌+◌, ◌++◌, ℕ, Bool, false, true, List, [], map, length, take, None, Result, Ok, Err, IsOk, IsTrue}
+use Rattle.std.specs.Prelude.{◌≡◌, ◌≢◌, ◌⊎◌, ◌<◌, ◌≤◌, ◌+◌, ◌++◌, ℕ, Bool, false, true, List, [], map, length, take, None, Result, Ok, Err, IsOk}
 use Rattle.std.specs.List.{AllByRecursion}
 use Rattle.byte_fields.specs.declared.parts.Row.{Row}
 use Rattle.disk_trait.specs.World.{Now, Rose, World}
@@ -14,7 +14,7 @@ use Rattle.level_merge.specs.declared.fault.JobFault.TheVariants as job
 use Rattle.line_model.specs.Replies.{LastEpoch}
 use Rattle.log_model.specs.Area.{Position}
 use Rattle.manifest.specs.Manifest.{Manifest}
-use Rattle.manifest_model.specs.Laws.{IsVersion, RowFits}
+use Rattle.manifest_model.specs.Laws.{IsVersion}
 use Rattle.manifest_model.specs.Rows.{IsTableRow, extent_of}
 use Rattle.manifest_model.specs.Version.{Version, log_page_of}
 use Rattle.state_model.specs.Changes.{live_entries}
@@ -24,7 +24,6 @@ use Rattle.state_model.specs.State.{State}
 use Rattle.state_model.specs.Taken.{taken}
 use Rattle.state_model.specs.View.{memory}
 use Rattle.store_core.specs.Answers.{is_write, stops, told_limit}
-use Rattle.store_core.specs.Faults.{of_job_fault}
 use Rattle.store_core.specs.Flushing.{other_log_page}
 use Rattle.store_core.specs.Getting.{ReadRose}
 use Rattle.store_core.specs.Kept.{rows_of}

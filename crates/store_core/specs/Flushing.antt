@@ -1,5 +1,5 @@
 -- What a flush writes and installs, why it does not, and what it makes of a store.
-use Rattle.std.specs.Prelude.{◌≡◌, ◌<◌, ◌≤◌, ◌+◌, ◌-◌, ℕ, List, [], ◌∷◌, length, true, Option, Some, Result, IfErr, OnOk}
+use Rattle.std.specs.Prelude.{◌≡◌, ◌<◌, ◌≤◌, ◌+◌, ◌-◌, ℕ, List, [], ◌∷◌, length, true, Some, Result, IfErr, OnOk}
 use Rattle.byte_fields.specs.declared.parts.Row.{Row}
 use Rattle.disk_trait.specs.World.{Meanwhile, Now, Rose, World}
 use Rattle.entry_model.specs.Entries.{Entry}

@@ -1,5 +1,5 @@
 -- The tables of a merge that is done take the place of those that it read.
-use Rattle.std.specs.Prelude.{◌≡◌, ◌<◌, ◌==◌, ◌&&◌, ◌||◌, ℕ, nat_lt, Bool, if◌then◌else◌, List, [], ◌∷◌, fold, length}
+use Rattle.std.specs.Prelude.{◌==◌, ◌&&◌, ◌||◌, ℕ, nat_lt, Bool, if◌then◌else◌, List, [], ◌∷◌, fold, length}
 use Rattle.std.specs.List.{list_any}
 use Rattle.byte_fields.specs.declared.parts.Row.{Row}
 use Rattle.key_base.specs.ByteOrder.{is_before}

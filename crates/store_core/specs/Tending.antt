@@ -1,5 +1,5 @@
 -- What a slice of a merge is answered by a store: it is a merge slice of its state.
-use Rattle.std.specs.Prelude.{◌≡◌, ◌<◌, ℕ, Bool, true, false, List, Contains, length, Option, Some, None, Result, Ok, Err, IsErr, MatchResult}
+use Rattle.std.specs.Prelude.{◌≡◌, ◌<◌, ℕ, Bool, true, false, List, Option, Some, None, Result, Ok, Err, IsErr, MatchResult}
 use Rattle.std.specs.Option.{option_map}
 use Rattle.disk_trait.specs.Image.{Image}
 use Rattle.disk_trait.specs.World.{Meanwhile, Moves, ReadMoves, World}

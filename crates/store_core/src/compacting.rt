@@ -161,7 +161,7 @@ fn replace_all<F: RangeFilter, D: Disk>(
 }
 
 // Whether a refusal stops the store: a write or a sync failed.
-fn is_stop(why: &StoreError) -> bool
+pub(crate) fn is_stop(why: &StoreError) -> bool
     ensures { result ≡ stops why.now }
 {
     match why {

@@ -23,6 +23,7 @@ ghost use Rattle.store_core.specs.Running.{extents_with, outputs_in};
 ghost use Rattle.store_core.specs.Tied.{Tied};
 ghost use Rattle.table_model.specs.Tables.{filter_bytes_of, table_pages};
 
+use crate::compacting::is_stop;
 use crate::error::{Limit, StoreError};
 use crate::store::Store;
 use byte_fields::Row;
@@ -261,10 +262,9 @@ impl<F: RangeFilter> Store<F> {
                 Ok(())
             }
             Err(fault) => {
-                if let ManifestFault::Device(_) = fault {
-                    self.stopped = true;
-                }
-                Err(StoreError::from(fault))
+                let why = StoreError::from(fault);
+                self.stopped = is_stop(&why);
+                Err(why)
             }
         }
     }

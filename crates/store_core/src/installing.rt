@@ -10,13 +10,14 @@ ghost use Rattle.store_core.specs.Running.{IsRun};
 ghost use Rattle.store_core.specs.Tied.{Tied};
 ghost use Rattle.table_model.specs.Tables.{filter_bytes_of};
 
+use crate::compacting::is_stop;
 use crate::error::StoreError;
-use crate::replacing::{merged_version, put_made, take_merged};
+use crate::replacing::{merged_version, replace_tables};
 use crate::store::Store;
 use disk_trait::Disk;
 use filter_api::RangeFilter;
 use level_merge::{Job, standing_tables_agree};
-use manifest::{ManifestFault, install};
+use manifest::install;
 
 impl<F: RangeFilter> Store<F> {
     // Installs the version in which the tables of a merge that is done stand in the place of those that it read.
@@ -46,18 +47,14 @@ impl<F: RangeFilter> Store<F> {
         self.tables.reserve(job.tables().len())?;
         match install(alloc, disk, &next) {
             Ok(()) => {
-                // no table behind it has a number that one before it had
-                self.blocks.renumber(self.tables.len());
-                take_merged(&mut self.tables, &job);
-                put_made(&mut self.tables, job.into_tables());
+                replace_tables(&mut self.tables, &mut self.blocks, job);
                 self.version = next.installed();
                 Ok(())
             }
             Err(fault) => {
-                if let ManifestFault::Device(_) = fault {
-                    self.stopped = true;
-                }
-                Err(StoreError::from(fault))
+                let why = StoreError::from(fault);
+                self.stopped = is_stop(&why);
+                Err(why)
             }
         }
     }

@@ -4,9 +4,11 @@ ghost use Rattle.std.specs.List.{AllByRecursion, insert as list_with};
 ghost use Rattle.key_base.specs.Limits.{max_tables};
 ghost use Rattle.manifest_model.specs.Laws.{RowFits};
 ghost use Rattle.merge_rows.specs.Steps.{numbers};
+ghost use Rattle.store_core.specs.Caching.{renumbered};
 ghost use Rattle.store_core.specs.Replacing.{goes_before, merged_manifest, others_in, put_in, tables_behind};
 ghost use Rattle.store_core.specs.Kept.{rows_of};
 
+use crate::caching::CachedBlocks;
 use byte_fields::Row;
 use filter_api::RangeFilter;
 use key_base::compare;
@@ -138,7 +140,7 @@ pub(crate) fn merged_version<'m, F: RangeFilter>(
 }
 
 // Takes out the tables that a merge read.
-pub(crate) fn take_merged<'m, F: RangeFilter>(tables: &mut Tables<F>, job: &Job<'m, F>)
+fn take_merged<'m, F: RangeFilter>(tables: &mut Tables<F>, job: &Job<'m, F>)
     requires few { length tables.old.tables ≤ max_tables }
     ensures others { tables.new.tables ≡ others_in (numbers job.now.merge.walks) tables.old.tables }
     ensures room { tables.old.room ≤ tables.new.room }
@@ -152,7 +154,7 @@ pub(crate) fn take_merged<'m, F: RangeFilter>(tables: &mut Tables<F>, job: &Job<
 }
 
 // Puts tables into their places, where there is room for them.
-pub(crate) fn put_made<F: RangeFilter>(tables: &mut Tables<F>, made: Vec<Table<F>>)
+fn put_made<F: RangeFilter>(tables: &mut Tables<F>, made: Vec<Table<F>>)
     requires room { length tables.old.tables + length made.items ≤ tables.old.room }
     ensures { tables.new.tables ≡ fold put_in tables.old.tables made.items }
 {
@@ -160,4 +162,21 @@ pub(crate) fn put_made<F: RangeFilter>(tables: &mut Tables<F>, made: Vec<Table<F
         let place = place_in(&new, tables);
         tables.insert(place, new);
     }
+}
+
+// Puts the tables of a merge in the place of those that it read, where there is room for them. No table behind it has a number
+// that one before it had.
+pub(crate) fn replace_tables<'m, F: RangeFilter>(
+    tables: &mut Tables<F>,
+    blocks: &mut CachedBlocks,
+    job: Job<'m, F>,
+)
+    requires few { length tables.old.tables ≤ max_tables }
+    requires room { length (others_in (numbers job.merge.walks) tables.old.tables) + length job.made ≤ tables.old.room }
+    ensures tables { tables.new.tables ≡ tables_behind tables.old.tables job.entry }
+    ensures blocks { blocks.new ≡ renumbered blocks.old (length tables.old.tables) }
+{
+    blocks.renumber(tables.len());
+    take_merged(tables, &job);
+    put_made(tables, job.into_tables());
 }

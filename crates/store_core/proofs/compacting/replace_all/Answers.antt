@@ -1,18 +1,16 @@
-use Rattle.std.proofs.Common.{◌≡◌, ◌≢◌, ◌∙◌, ◌≤◌, ◌<◌, List, [], refl, sym, ap, subst, arith, rules, true}
+use Rattle.std.proofs.Common.{◌≡◌, ◌∙◌, List, sym, ap, subst, arith}
 use Rattle.std.specs.Prelude.{Ok, Err}
-use Rattle.std.specs.List.{AllByRecursion}
 use Rattle.disk_trait.specs.World.{Leads, WriteMoves}
 use Rattle.log_model.specs.Area.{Position}
 use Rattle.manifest.specs.Causes.{HasInstallCause}
 use Rattle.manifest.specs.Manifest.{Manifest, StandsInSlot, install_of, other_place}
 use Rattle.manifest.specs.declared.fault.ManifestFault.{ManifestFault}
-use Rattle.manifest.specs.declared.fault.ManifestFault.TheVariants as fault
 use Rattle.manifest_model.specs.Installs.{IsInstalled, IsOldOrNew}
 use Rattle.manifest_model.specs.Laws.{IsVersion}
 use Rattle.manifest_model.specs.Version.{log_page_of}
 use Rattle.table_file.specs.Opened.{Opened}
 use Rattle.table_model.specs.Tables.{filter_bytes_of}
-use Rattle.store_core.specs.Compacting.{AreAllMade, AreCompact, StandAlone, compacted_manifest}
+use Rattle.store_core.specs.Compacting.{AreAllMade, AreCompact, StandAlone}
 use Rattle.store_core.specs.Flushing.{installed_manifest, other_log_page}
 use Rattle.store_core.specs.Kept.{rows_of}
 use Rattle.store_core.proofs.CompactDone.{fails_by, fails_wanting, install_done, install_fails_so, install_meanwhile, installed_whole, log_failed, log_fails_so, moved_write, other_area_of, passed_so, stays_map}

@@ -1,18 +1,14 @@
-use Rattle.std.proofs.Common.{◌≡◌, ◌∙◌, ◌≤◌, ◌++◌, List, [], map, refl, sym, ap, subst, arith, rules}
-use Rattle.std.specs.Prelude.{Result, Ok, Err, IsTrue, MatchResult}
-use Rattle.std.specs.List.Sorted.{IsPermutation}
-use Rattle.std.specs.Result.{IsErrAnd}
+use Rattle.std.proofs.Common.{◌≡◌, ◌∙◌, List, map, sym, ap, subst}
+use Rattle.std.specs.Prelude.{Ok}
 use Rattle.std.proofs.lemmas.List.{append-nil}
 use Rattle.byte_fields.specs.declared.parts.Row.{Row}
 use Rattle.disk_trait.proofs.Moments.{now_at, started}
-use Rattle.disk_trait.specs.World.{World}
 use Rattle.extent_model.specs.Extents.{AreLaid}
 use Rattle.filter_api.specs.declared.settings.Settings.{Settings}
 use Rattle.image_model.specs.Stands.{settings_of}
 use Rattle.level_merge.specs.Making.{SliceMakes}
 use Rattle.level_merge.specs.Merging.{Merging, compaction}
 use Rattle.level_merge.specs.Slices.{IsWithin}
-use Rattle.level_merge.specs.declared.fault.JobFault.{JobFault}
 use Rattle.level_merge.specs.declared.fault.Sliced.{Sliced}
 use Rattle.level_merge.specs.declared.fault.Sliced.TheVariants as sliced
 use Rattle.manifest.specs.Manifest.{Manifest}
@@ -24,7 +20,6 @@ use Rattle.store_core.specs.Compacting.{AreAllMade, AreCompact, IsWritingCause, 
 use Rattle.store_core.specs.Faults.{of_job_fault}
 use Rattle.store_core.specs.Kept.{rows_of}
 use Rattle.store_core.specs.Scans.{IsScanShown}
-use Rattle.store_core.specs.Tied.{IsUnder}
 use Rattle.store_core.proofs.CompactFaults.{fails_so, none_moved, refused_so, slice_moved, writing_fault, writing_shown}
 use Rattle.store_core.proofs.CompactRuns.{IsCompacting, compacted_rows, compacting_begun, compacting_more}
 use Rattle.store_core.proofs.CompactSlices.{IsGoing, all_are_made, free_begun, going_begun, makes_not, makes_on, slice_goes_on, slice_refused, slice_stays, taken_is}

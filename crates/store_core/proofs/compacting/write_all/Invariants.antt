@@ -1,4 +1,4 @@
-use Rattle.std.proofs.Common.{◌≡◌, ◌*◌}
+use Rattle.std.proofs.Common.{◌*◌}
 use Rattle.std.specs.Prelude.{IsTrue}
 use Rattle.block_model.specs.Pages.{page_bytes}
 use Rattle.level_merge.specs.Merging.{work_left}

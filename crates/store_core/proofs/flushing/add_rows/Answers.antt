@@ -1,4 +1,4 @@
-use Rattle.std.proofs.Common.{◌≡◌, ◌∙◌, ◌<◌, ℕ, length, get_or, sym, subst, arith}
+use Rattle.std.proofs.Common.{◌∙◌, ◌<◌, ℕ, length, get_or, sym, subst, arith}
 use Rattle.byte_fields.specs.declared.parts.Row.{Row}
 use Rattle.extent_model.specs.Extents.{IsOnDevice}
 use Rattle.manifest_model.specs.Rows.{extent_of}

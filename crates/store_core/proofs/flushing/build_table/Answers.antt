@@ -1,4 +1,4 @@
-use Rattle.std.proofs.Common.{◌≡◌, ◌∙◌, ◌++◌, ◌∷◌, List, length, ap, subst}
+use Rattle.std.proofs.Common.{◌≡◌, ◌∙◌, ◌++◌, List, length, ap, subst}
 use Rattle.entry_model.specs.Entries.{Entry}
 use Rattle.table_file.specs.Building.{Built}
 use Rattle.store_core.proofs.PlannedRows.{entries_from_all, entry_follows, entry_is_sound}

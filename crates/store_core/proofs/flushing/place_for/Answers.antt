@@ -1,4 +1,4 @@
-use Rattle.std.proofs.Common.{◌≡◌, ◌∙◌, ◌<◌, ℕ, sym, ap, subst, refl}
+use Rattle.std.proofs.Common.{◌∙◌, ◌<◌, ℕ, sym, ap, subst, refl}
 use Rattle.extent_map.specs.declared.extents.NoGap.{NoGap}
 use Rattle.store_core.proofs.PlansMade.{first_gap_is, largest_gap_is}
 use Rattle.store_core.proofs.flushing.place_for.Goals as goal

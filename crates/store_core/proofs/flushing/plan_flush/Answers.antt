@@ -1,7 +1,6 @@
-use Rattle.std.proofs.Common.{◌≡◌, ◌∙◌, ◌<◌, length, sym, ap, arith}
+use Rattle.std.proofs.Common.{◌∙◌, ◌<◌, length, sym, ap, arith}
 use Rattle.key_base.specs.Limits.{last_epoch}
 use Rattle.manifest.specs.Manifest.{Manifest}
-use Rattle.store_core.specs.Flushing.{IsPlan}
 use Rattle.store_core.proofs.Flushed.{last_is}
 use Rattle.store_core.proofs.Plans.{plan_fits, plan_is_version}
 use Rattle.store_core.proofs.PlansMade.{no_epoch, page_fits, parts_of, plan_is}

@@ -1,10 +1,9 @@
-use Rattle.std.proofs.Common.{◌≡◌, ◌∙◌, ◌+◌, ◌-◌, ◌<◌, ◌++◌, ℕ, List, [], ◌∷◌, Bool, true, false, drop, get_or, length, map, sym, ap, subst, arith, append_assoc}
+use Rattle.std.proofs.Common.{◌≡◌, ◌∙◌, ◌+◌, ◌-◌, ◌<◌, ◌++◌, ℕ, [], ◌∷◌, true, false, drop, get_or, length, map, sym, ap, arith, append_assoc}
 use Rattle.std.specs.Prelude.{◌==◌, vec_capacity, vec_len}
 use Rattle.std.specs.List.{list_any}
 use Rattle.std.proofs.lemmas.List.{map-append}
 use Rattle.std.proofs.lemmas.Option.{get_or_from_slice_get}
 use Rattle.merge_rows.specs.Steps.{numbers}
-use Rattle.table_file.specs.Opened.{Opened}
 use Rattle.store_core.specs.Replacing.{others_in}
 use Rattle.store_core.proofs.InstallSteps.{first_at, others_kept, others_passed}
 use Rattle.store_core.proofs.replacing.others_of.Goals.{then-not-merges, else-not-merges}

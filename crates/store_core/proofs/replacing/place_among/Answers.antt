@@ -1,7 +1,7 @@
 use Rattle.std.proofs.Common.{◌≡◌, ◌∙◌, ◌<◌, List, length, map, get_or, sym, ap, arith}
 use Rattle.std.proofs.lemmas.List.{get_or-map, length-map}
 use Rattle.table_file.specs.Opened.{Opened}
-use Rattle.store_core.proofs.InstallSteps.{look_end, look_found, look_next}
+use Rattle.store_core.proofs.InstallSteps.{look_found, look_next}
 use Rattle.store_core.proofs.replacing.place_among.Goals as goal
 
 pub returns-then-goes_before-clause-place : goal.returns-then-goes_before-clause-place

@@ -1,7 +1,6 @@
-use Rattle.std.proofs.Common.{◌≡◌, ◌∙◌, ◌<◌, List, length, get_or, sym, ap, arith}
+use Rattle.std.proofs.Common.{◌≡◌, ◌∙◌, ◌<◌, length, get_or, sym, arith}
 use Rattle.std.proofs.lemmas.Option.{get_or_from_slice_get}
-use Rattle.table_file.specs.Opened.{Opened}
-use Rattle.store_core.proofs.InstallSteps.{look_end, look_found, look_next}
+use Rattle.store_core.proofs.InstallSteps.{look_found, look_next}
 use Rattle.store_core.proofs.replacing.place_in.Goals as goal
 
 pub returns-then-goes_before-clause-place : goal.returns-then-goes_before-clause-place

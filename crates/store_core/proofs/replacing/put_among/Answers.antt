@@ -1,6 +1,5 @@
-use Rattle.std.proofs.Common.{◌≡◌, ◌∙◌, ◌+◌, List, Bor, drop, fold, map, sym, ap, subst, arith}
+use Rattle.std.proofs.Common.{◌≡◌, ◌∙◌, ◌+◌, drop, fold, map, sym, ap, subst, arith}
 use Rattle.std.specs.List.{insert}
-use Rattle.table_file.specs.Opened.{Opened}
 use Rattle.store_core.specs.Replacing.{put_in}
 use Rattle.store_core.proofs.InstallSteps.{map_insert, put_next}
 use Rattle.store_core.proofs.replacing.put_among.Goals as goal

@@ -1,8 +1,7 @@
-use Rattle.std.proofs.Common.{◌≡◌, ◌∙◌, ◌+◌, ◌-◌, ◌<◌, ◌++◌, ℕ, List, Bool, true, false, drop, length, take, sym, ap, ap₂, subst, arith}
+use Rattle.std.proofs.Common.{◌≡◌, ◌∙◌, ◌+◌, ◌-◌, ◌<◌, ◌++◌, ℕ, drop, length, take, sym, ap, ap₂, arith}
 use Rattle.std.specs.Prelude.{◌==◌}
 use Rattle.std.specs.List.{list_any, remove}
 use Rattle.merge_rows.specs.Steps.{numbers}
-use Rattle.table_file.specs.Opened.{Opened}
 use Rattle.store_core.specs.Replacing.{others_in}
 use Rattle.store_core.proofs.InstallSteps.{kept_back, passed_back}
 use Rattle.store_core.proofs.replacing.take_merged.Goals.{then-merges, else-merges}

@@ -1,11 +1,9 @@
-use Rattle.std.proofs.Common.{◌≡◌, ◌≢◌, ◌⊎◌, ◌∙◌, ◌<◌, List, [], length, refl, sym, ap, subst, arith, rules, true}
-use Rattle.std.specs.Prelude.{None}
-use Rattle.key_base.specs.Limits.{last_epoch}
+use Rattle.std.proofs.Common.{◌≢◌, ◌⊎◌, ◌∙◌, [], length, sym, ap, subst}
 use Rattle.state_model.specs.State.{without_job}
 use Rattle.table_model.specs.Tables.{filter_bytes_of}
 use Rattle.store_core.specs.Caching.{AreNumbered, AreTrue, Cached, renumbered}
 use Rattle.store_core.specs.Compacting.{FailsSo, IsHeldBy}
-use Rattle.store_core.specs.Kept.{IsWhole, Kept}
+use Rattle.store_core.specs.Kept.{Kept}
 use Rattle.store_core.proofs.Caches.{numbered_anew, true_anew}
 use Rattle.store_core.proofs.CompactAnswers.{answered_done, answered_failed, compacted_whole, entries_sound, held_by}
 use Rattle.store_core.proofs.store.Store.compact_all.Goals as goal

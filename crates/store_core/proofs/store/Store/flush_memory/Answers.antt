@@ -1,8 +1,7 @@
-use Rattle.std.proofs.Common.{◌≡◌, ◌≢◌, List, [], ◌∷◌, ◌∙◌, refl, sym, ap, subst, arith, rules, true}
-use Rattle.std.specs.Prelude.{Result, Err}
+use Rattle.std.proofs.Common.{◌≡◌, ◌≢◌, List, [], ◌∷◌, ◌∙◌, refl, sym, ap, subst, arith}
+use Rattle.std.specs.Prelude.{Result}
 use Rattle.byte_fields.specs.declared.parts.Row.{Row}
 use Rattle.extent_model.specs.Extents.{AreLaid}
-use Rattle.manifest.specs.declared.fault.ManifestFault.TheVariants as fault
 use Rattle.state_model.specs.Changes.{flushed}
 use Rattle.table_file.specs.Opened.{Opened}
 use Rattle.table_file.specs.Writing.{opened_of}
@@ -18,7 +17,6 @@ use Rattle.store_core.proofs.Plans.{row_free}
 use Rattle.store_core.proofs.Wholes.{begun_where_none, flushed_whole, laid_with, memory_table, whole_stopped}
 use Rattle.store_core.proofs.Writing.{never}
 use Rattle.store_core.proofs.store.Store.flush_memory.Goals as goal
-use Rattle.store_core.proofs.store.Store.flush_memory.Goals.{in-Device, in_default}
 
 pub returns-then-is_empty-clause-wrote : goal.returns-then-is_empty-clause-wrote
 returns-then-is_empty-clause-wrote g c s tells tied =
@@ -69,8 +67,8 @@ into_table-requires-clause-within g c =
     row_within g.F.RangeFilter.spelling g.F.RangeFilter.built_cutoff _ _ _ c.in_ok-plan.plan.parts c.in_ok-plan.plan.row _ c.in_ok-plan.ensures.plan c.self.invariant.0.version laid c.in_ok-plan.ensures.next
     c.in_ok-plan.ensures.fits
 
-pub invariant_of-self-in-Device : goal.invariant_of-self-in-Device
-invariant_of-self-in-Device g c = (whole_stopped _ true _ c.reserve.ensures.tables c.self.invariant.0, c.self.invariant.1)
+pub invariant_of-self-in-Err-1 : goal.invariant_of-self-in-Err-1
+invariant_of-self-in-Err-1 g c = (whole_stopped _ _ _ c.reserve.ensures.tables c.self.invariant.0, c.self.invariant.1)
 
 pub invariant_of-self-in-Ok : goal.invariant_of-self-in-Ok
 invariant_of-self-in-Ok g c =
@@ -108,8 +106,8 @@ returns-in-Ok-clause-wrote g c s tells tied =
     ∙ ap (λ (ts : List Opened). opened_of cutoff parts row ∷ ts) (c.reserve.ensures.tables ∙ ap (λ (k : Kept). k.tables) c.self.view_is))
     (ap (λ (k : Kept). k.job) c.self.view_is) (ap (λ (k : Kept). k.blocks) c.self.view_is) (subst IsWhole c.self.view_is c.self.invariant.0) c.in-Ok.ensures.log.0 c.clear.ensures.empty
 
-pub returns-after-fault-clause-wrote : goal.returns-after-fault-clause-wrote
-returns-after-fault-clause-wrote g c s tells tied =
+pub returns-in-Err-clause-wrote : goal.returns-in-Err-clause-wrote
+returns-in-Err-clause-wrote g c s tells tied =
     let spelling = g.F.RangeFilter.spelling in
     let cutoff = g.F.RangeFilter.built_cutoff in
     let store = c.args.self.now in
@@ -123,18 +121,6 @@ returns-after-fault-clause-wrote g c s tells tied =
     let here = subst (λ (rs : List Row). IsPlan spelling cutoff c.self.inside.version rs c.self.inside.memory.entries parts row next) c.outputs_of.ensures c.in_ok-plan.ensures.plan in
     let plan = subst (λ (k : Kept). IsPlan spelling cutoff k.manifest (outputs_in k.job) k.memory.entries parts row next) c.self.view_is here in
     let replaces = c.in-Err.ensures.replaces store s tells (subst IsWhole c.self.view_is c.self.invariant.0) tied (plan_of_memory spelling cutoff store s old new current tied some parts row next plan) in
-    let after = c.match-fault.self in
-    let same_manifest : after.manifest ≡ store.manifest =
-    elim c.match-fault.branch [ in-Device w ↦ ap (λ (k : Kept). k.manifest) w.self-is | in_default w ↦ ap (λ (k : Kept). k.manifest) w.self-is ] ∙ ap (λ (k : Kept). k.manifest) c.self.view_is in
-    let same_tables : after.tables ≡ store.tables =
-    elim c.match-fault.branch [ in-Device w ↦ ap (λ (k : Kept). k.tables) w.self-is | in_default w ↦ ap (λ (k : Kept). k.tables) w.self-is ] ∙ c.reserve.ensures.tables ∙ ap (λ (k : Kept). k.tables) c.self.view_is in
-    let same_job : after.job ≡ store.job =
-    elim c.match-fault.branch [ in-Device w ↦ ap (λ (k : Kept). k.job) w.self-is | in_default w ↦ ap (λ (k : Kept). k.job) w.self-is ] ∙ ap (λ (k : Kept). k.job) c.self.view_is in
-    let same_log : after.log ≡ store.log =
-    elim c.match-fault.branch [ in-Device w ↦ ap (λ (k : Kept). k.log) w.self-is | in_default w ↦ ap (λ (k : Kept). k.log) w.self-is ] ∙ ap (λ (k : Kept). k.log) c.self.view_is in
-    let same_memory : after.memory ≡ store.memory =
-    elim c.match-fault.branch [ in-Device w ↦ ap (λ (k : Kept). k.memory) w.self-is | in_default w ↦ ap (λ (k : Kept). k.memory) w.self-is ] ∙ ap (λ (k : Kept). k.memory) c.self.view_is in
-    let same_blocks : after.blocks ≡ store.blocks =
-    elim c.match-fault.branch [ in-Device w ↦ ap (λ (k : Kept). k.blocks) w.self-is | in_default w ↦ ap (λ (k : Kept). k.blocks) w.self-is ] ∙ ap (λ (k : Kept). k.blocks) c.self.view_is in
-    flush_failed spelling cutoff store s old new current tied some parts row next plan after same_manifest same_tables same_job same_log same_memory same_blocks c.in-Err.fault c.from.result c.from.ensures replaces c.in-Err.ensures.cause
-    (λ cause is. elim c.match-fault.branch [ in-Device w ↦ ap (λ (k : Kept). k.stopped) w.self-is | in_default w ↦ search rules ])
+    flush_failed spelling cutoff store s old new current tied some parts row next plan _ (ap (λ (k : Kept). k.manifest) c.self.view_is) (c.reserve.ensures.tables ∙ ap (λ (k : Kept). k.tables) c.self.view_is)
+    (ap (λ (k : Kept). k.job) c.self.view_is) (ap (λ (k : Kept). k.log) c.self.view_is) (ap (λ (k : Kept). k.memory) c.self.view_is) (ap (λ (k : Kept). k.blocks) c.self.view_is)
+    c.in-Err.fault c.from-why.result c.from-why.ensures replaces c.in-Err.ensures.cause c.is_stop-self-inside.ensures

@@ -1,8 +1,7 @@
-use Rattle.std.proofs.Common.{◌≡◌, ◌≢◌, ◌∙◌, ◌<◌, ◌≤◌, ◌+◌, ◌-◌, ◌*◌, List, fold, length, refl, sym, ap, ap₂, subst, arith, rules, true}
-use Rattle.std.specs.Prelude.{Option, Some, None, Result, Ok, Err}
+use Rattle.std.proofs.Common.{◌∙◌, ◌<◌, ◌≤◌, List, length, refl, sym, ap, subst, arith}
+use Rattle.std.specs.Prelude.{Option, Some, Ok, Err}
 use Rattle.std.specs.List.{AllByRecursion}
 use Rattle.disk_trait.specs.World.{Leads, WriteMoves}
-use Rattle.disk_trait.proofs.Calls.{moves_wider}
 use Rattle.extent_model.proofs.Lists.{pairs_of}
 use Rattle.key_base.specs.Limits.{last_epoch}
 use Rattle.level_merge.specs.Merging.{Merging}
@@ -13,24 +12,22 @@ use Rattle.manifest.specs.declared.fault.ManifestFault.{ManifestFault}
 use Rattle.manifest.specs.declared.fault.ManifestFault.TheVariants as fault
 use Rattle.manifest_model.specs.Installs.{IsInstalled, IsOldOrNew}
 use Rattle.manifest_model.specs.Laws.{IsVersion, RowFits}
-use Rattle.manifest_model.specs.Version.{log_page_of}
 use Rattle.merge_rows.specs.Steps.{numbers}
 use Rattle.table_file.specs.Opened.{Opened}
 use Rattle.table_model.specs.Tables.{filter_bytes_of}
 use Rattle.store_core.specs.Caching.{AreNumbered, Cached, renumbered}
 use Rattle.store_core.specs.Flushing.{installed_manifest}
 use Rattle.store_core.specs.Kept.{IsWhole, Kept, rows_of}
-use Rattle.store_core.specs.Replacing.{merged_manifest, others_in, put_in, tables_behind}
+use Rattle.store_core.specs.Replacing.{merged_manifest, tables_behind}
 use Rattle.store_core.specs.Running.{IsRun, MayRunIn}
 use Rattle.store_core.proofs.Agreed.{tied_agree}
 use Rattle.store_core.proofs.Caches.{numbered_anew}
 use Rattle.store_core.proofs.InstallLists.{others_few}
 use Rattle.store_core.proofs.InstallMerges.{install_done, install_refused, wanted}
-use Rattle.store_core.proofs.InstallRefusals.{below_last, install_is_refused, one_fault}
+use Rattle.store_core.proofs.InstallRefusals.{below_last, install_is_refused, moves_within, no_fault, one_fault, room_for}
 use Rattle.store_core.proofs.MergedVersions.{made_few, merged_is_version}
 use Rattle.store_core.proofs.Wholes.{whole_stopped}
 use Rattle.store_core.proofs.store.Store.install_merge.Goals as goal
-use Rattle.store_core.proofs.store.Store.install_merge.Goals.{in-Device, in_default}
 
 pub merged_version-requires-clause-few_made : goal.merged_version-requires-clause-few_made
 merged_version-requires-clause-few_made g c =
@@ -62,18 +59,12 @@ install-requires-clause-sound g c =
     (merged_is_version c.self.inside.version c.self.inside.tables.tables c.args.job c.self.invariant.0.version c.self.invariant.0.rows run
     (subst (λ (m : Manifest). AllByRecursion RowFits m.version.rows) c.in_ok-next.ensures.next c.in_ok-next.ensures.fits))
 
-pub put_made-requires : goal.put_made-requires
-put_made-requires g c =
+pub replace_tables-requires-clause-room : goal.replace_tables-requires-clause-room
+replace_tables-requires-clause-room g c =
     let which = numbers c.args.job.merge.walks in
     let tables = c.self.inside.tables.tables in
     let run = subst (λ (k : Kept). IsRun k.manifest.version k.tables c.args.job) (sym c.self.view_is) c.requires.run in
-    let few = others_few which tables (pairs_of _ which run.apart) run.numbers in
-    let others = ap length (c.take_merged.ensures.others ∙ ap (λ (ts : List Opened). others_in which ts) c.reserve.ensures.tables) in
-    let made = ap length c.into_tables.ensures in
-    let asked = ap length c.tables.ensures in
-    let room = c.in_ok-reserve.ensures.room in
-    let kept = c.take_merged.ensures.room in
-    record { room = omega (arith, few, others, made, asked, room, kept) }
+    room_for which tables c.reserve.new.self.tables (length c.args.job.made) (length c.tables.result.now) c.reserve.new.self.room c.reserve.ensures.tables (others_few which tables (pairs_of _ which run.apart) run.numbers) (ap length c.tables.ensures) c.in_ok-reserve.ensures.room
 
 pub installed-requires-clause-epoch : goal.installed-requires-clause-epoch
 installed-requires-clause-epoch g c =
@@ -81,10 +72,10 @@ installed-requires-clause-epoch g c =
     let sound : IsVersion c.in_ok-next.next.version = subst (λ (m : Manifest). IsVersion m.version) (sym c.in_ok-next.ensures.next)
     (merged_is_version c.self.inside.version c.self.inside.tables.tables c.args.job c.self.invariant.0.version c.self.invariant.0.rows run_in
     (subst (λ (m : Manifest). AllByRecursion RowFits m.version.rows) c.in_ok-next.ensures.next c.in_ok-next.ensures.fits)) in
-    below_last c.in_ok-next.next.version.epoch sound.epoch (λ last. let never = c.in-Ok.ensures.limit.1 last in absurd cc)
+    below_last c.in_ok-next.next.version.epoch sound.epoch (λ last. no_fault _ _ (c.in-Ok.ensures.limit.1 last))
 
-pub invariant_of-self-in-Device : goal.invariant_of-self-in-Device
-invariant_of-self-in-Device g c = (whole_stopped _ true _ c.reserve.ensures.tables c.self.invariant.0, c.self.invariant.1)
+pub invariant_of-self-in-Err-1 : goal.invariant_of-self-in-Err-1
+invariant_of-self-in-Err-1 g c = (whole_stopped _ _ _ c.reserve.ensures.tables c.self.invariant.0, c.self.invariant.1)
 
 pub invariant_of-self-in-Ok : goal.invariant_of-self-in-Ok
 invariant_of-self-in-Ok g c =
@@ -92,11 +83,9 @@ invariant_of-self-in-Ok g c =
     let sound : IsVersion c.in_ok-next.next.version = subst (λ (m : Manifest). IsVersion m.version) (sym c.in_ok-next.ensures.next)
     (merged_is_version c.self.inside.version c.self.inside.tables.tables c.args.job c.self.invariant.0.version c.self.invariant.0.rows run_in
     (subst (λ (m : Manifest). AllByRecursion RowFits m.version.rows) c.in_ok-next.ensures.next c.in_ok-next.ensures.fits)) in
-    let left : c.in_ok-next.next.version.epoch < last_epoch = below_last c.in_ok-next.next.version.epoch sound.epoch (λ last. let never = c.in-Ok.ensures.limit.1 last in absurd cc) in
+    let left : c.in_ok-next.next.version.epoch < last_epoch = below_last c.in_ok-next.next.version.epoch sound.epoch (λ last. no_fault _ _ (c.in-Ok.ensures.limit.1 last)) in
     let whole = c.self.invariant.0 in
-    let which = numbers c.args.job.merge.walks in
-    let tables_are = c.put_made.ensures
-    ∙ ap₂ (λ (ts made : List Opened). fold put_in ts made) (c.take_merged.ensures.others ∙ ap (λ (ts : List Opened). others_in which ts) c.reserve.ensures.tables) c.into_tables.ensures in
+    let tables_are = c.replace_tables.ensures.tables ∙ ap (λ (ts : List Opened). tables_behind ts c.args.job) c.reserve.ensures.tables in
     let none = ap (λ (k : Kept). k.job) c.self.view_is ∙ c.requires.taken_out in (
       record {
         version = subst (λ (m : Manifest). IsVersion m.version) (sym c.installed.ensures) (raised_is c.in_ok-next.next.version sound (λ last. absurd (omega (arith, last, left))));
@@ -104,9 +93,9 @@ invariant_of-self-in-Ok g c =
         rows = ap rows_of tables_are ∙ sym (ap (λ (m : Manifest). m.version.rows) c.installed.ensures ∙ ap (λ (m : Manifest). m.version.rows) c.in_ok-next.ensures.next);
         area = ap (λ (m : Manifest). m.version.log_page) c.installed.ensures ∙ ap (λ (m : Manifest). m.version.log_page) c.in_ok-next.ensures.next ∙ whole.area;
         entries = whole.entries;
-        job = subst (λ (running : Option Merging). MayRunIn c.installed.result.version c.put_made.new.tables.tables running) (sym none) tt;
-        numbered = subst (λ (b : Cached). AreNumbered b (length c.put_made.new.tables.tables)) (sym (c.renumber.ensures ∙ ap (renumbered c.self.inside.blocks) (c.len.ensures ∙ ap length c.reserve.ensures.tables)))
-            (numbered_anew c.self.inside.blocks (length c.self.inside.tables.tables) (length c.put_made.new.tables.tables) whole.numbered);
+        job = subst (λ (running : Option Merging). MayRunIn c.installed.result.version c.replace_tables.new.tables.tables running) (sym none) tt;
+        numbered = subst (λ (b : Cached). AreNumbered b (length c.replace_tables.new.tables.tables)) (sym (c.replace_tables.ensures.blocks ∙ ap (λ (ts : List Opened). renumbered c.self.inside.blocks (length ts)) c.reserve.ensures.tables))
+            (numbered_anew c.self.inside.blocks (length c.self.inside.tables.tables) (length c.replace_tables.new.tables.tables) whole.numbered);
       },
       c.self.invariant.1,
     )
@@ -117,20 +106,18 @@ returns-in-Ok-clause-installs g c s done tells runs is_done tied =
     let sound : IsVersion c.in_ok-next.next.version = subst (λ (m : Manifest). IsVersion m.version) (sym c.in_ok-next.ensures.next)
     (merged_is_version c.self.inside.version c.self.inside.tables.tables c.args.job c.self.invariant.0.version c.self.invariant.0.rows run_in
     (subst (λ (m : Manifest). AllByRecursion RowFits m.version.rows) c.in_ok-next.ensures.next c.in_ok-next.ensures.fits)) in
-    let left : c.in_ok-next.next.version.epoch < last_epoch = below_last c.in_ok-next.next.version.epoch sound.epoch (λ last. let never = c.in-Ok.ensures.limit.1 last in absurd cc) in
+    let left : c.in_ok-next.next.version.epoch < last_epoch = below_last c.in_ok-next.next.version.epoch sound.epoch (λ last. no_fault _ _ (c.in-Ok.ensures.limit.1 last)) in
     let spelling = g.F.RangeFilter.spelling in
     let bytes = filter_bytes_of spelling g.F.RangeFilter.built_cutoff in
     let store = c.args.self.now in
     let v = store.manifest.version in
     let job = c.args.job in
-    let which = numbers job.merge.walks in
     let a = g.D.Disk.world c.args.disk.now in
     let b = g.D.Disk.world c.install.new.disk in
     let whole = subst IsWhole c.self.view_is c.self.invariant.0 in
     let next_is = c.in_ok-next.ensures.next ∙ ap (λ (k : Kept). merged_manifest k.manifest (rows_of (tables_behind k.tables job))) c.self.view_is in
     let agrees = tied_agree spelling bytes (record store { job = Some job }) s a (g.met.D.Disk.current c.args.disk.now tells) tied in
-    let tables_are = c.put_made.ensures
-    ∙ ap₂ (λ (ts made : List Opened). fold put_in ts made) (c.take_merged.ensures.others ∙ ap (λ (ts : List Opened). others_in which ts) c.reserve.ensures.tables) c.into_tables.ensures in
+    let tables_are = c.replace_tables.ensures.tables ∙ ap (λ (ts : List Opened). tables_behind ts job) c.reserve.ensures.tables in
     install_done c.standing_tables_agree.ensures spelling bytes store job s done a whole.slot whole.area whole.version c.requires.run runs is_done tied b
     (subst (λ (m : Manifest). IsVersion m.version) next_is sound) agrees.epoch (subst (λ (m : Manifest). WriteMoves (other_place m.slot) 131072 a b) next_is c.install.ensures.moves)
     c.in-Ok.field-0 _ _ (subst (λ (m : Manifest). m.version.epoch < last_epoch) next_is left)
@@ -138,28 +125,26 @@ returns-in-Ok-clause-installs g c s done tells runs is_done tied =
     (c.in-Ok.ensures.crash v tells (sym (ap (λ (m : Manifest). m.version.epoch) next_is))))
     (c.installed.ensures ∙ ap installed_manifest next_is) (tables_are ∙ ap (λ (k : Kept). tables_behind k.tables job) c.self.view_is) (ap (λ (k : Kept). k.job) c.self.view_is ∙ c.requires.taken_out)
     (ap (λ (k : Kept). k.log) c.self.view_is) (ap (λ (k : Kept). k.memory) c.self.view_is) whole.numbered
-    (c.renumber.ensures ∙ ap (renumbered c.self.inside.blocks) (c.len.ensures ∙ ap length c.reserve.ensures.tables) ∙ ap (λ (k : Kept). renumbered k.blocks (length k.tables)) c.self.view_is)
+    (c.replace_tables.ensures.blocks ∙ ap (λ (ts : List Opened). renumbered c.self.inside.blocks (length ts)) c.reserve.ensures.tables ∙ ap (λ (k : Kept). renumbered k.blocks (length k.tables)) c.self.view_is)
 
 pub returns-in-Ok-clause-moves : goal.returns-in-Ok-clause-moves
 returns-in-Ok-clause-moves g c =
-    let a = g.D.Disk.world c.args.disk.now in
-    let b = g.D.Disk.world c.install.new.disk in
     let whole = subst IsWhole c.self.view_is c.self.invariant.0 in
     let next_is = c.in_ok-next.ensures.next ∙ ap (λ (k : Kept). merged_manifest k.manifest (rows_of (tables_behind k.tables c.args.job))) c.self.view_is in
-    moves_wider (other_place c.args.self.now.manifest.slot) 131072 0 (4096 * c.args.self.now.manifest.version.pages) a b (omega arith) (omega (arith, whole.slot, whole.version.some_pages))
-    (subst (λ (m : Manifest). WriteMoves (other_place m.slot) 131072 a b) next_is c.install.ensures.moves)
-
-pub returns-after-fault-clause-moves : goal.returns-after-fault-clause-moves
-returns-after-fault-clause-moves g c =
     let a = g.D.Disk.world c.args.disk.now in
     let b = g.D.Disk.world c.install.new.disk in
+    moves_within c.args.self.now.manifest a b whole.slot whole.version (subst (λ (m : Manifest). WriteMoves (other_place m.slot) 131072 a b) next_is c.install.ensures.moves)
+
+pub returns-in-Err-clause-moves : goal.returns-in-Err-clause-moves
+returns-in-Err-clause-moves g c =
     let whole = subst IsWhole c.self.view_is c.self.invariant.0 in
     let next_is = c.in_ok-next.ensures.next ∙ ap (λ (k : Kept). merged_manifest k.manifest (rows_of (tables_behind k.tables c.args.job))) c.self.view_is in
-    moves_wider (other_place c.args.self.now.manifest.slot) 131072 0 (4096 * c.args.self.now.manifest.version.pages) a b (omega arith) (omega (arith, whole.slot, whole.version.some_pages))
-    (subst (λ (m : Manifest). WriteMoves (other_place m.slot) 131072 a b) next_is c.install.ensures.moves)
+    let a = g.D.Disk.world c.args.disk.now in
+    let b = g.D.Disk.world c.install.new.disk in
+    moves_within c.args.self.now.manifest a b whole.slot whole.version (subst (λ (m : Manifest). WriteMoves (other_place m.slot) 131072 a b) next_is c.install.ensures.moves)
 
-pub returns-after-fault-clause-refused : goal.returns-after-fault-clause-refused
-returns-after-fault-clause-refused g c =
+pub returns-in-Err-clause-refused : goal.returns-in-Err-clause-refused
+returns-in-Err-clause-refused g c =
     let run_in = subst (λ (k : Kept). IsRun k.manifest.version k.tables c.args.job) (sym c.self.view_is) c.requires.run in
     let sound : IsVersion c.in_ok-next.next.version = subst (λ (m : Manifest). IsVersion m.version) (sym c.in_ok-next.ensures.next)
     (merged_is_version c.self.inside.version c.self.inside.tables.tables c.args.job c.self.invariant.0.version c.self.invariant.0.rows run_in
@@ -168,13 +153,13 @@ returns-after-fault-clause-refused g c =
     let b = g.D.Disk.world c.install.new.disk in
     let next_is = c.in_ok-next.ensures.next ∙ ap (λ (k : Kept). merged_manifest k.manifest (rows_of (tables_behind k.tables c.args.job))) c.self.view_is in
     let same = ap (λ (m : Manifest). m.version.epoch) next_is in
-    install_is_refused c.args.self.now.manifest.version (other_place c.in_ok-next.next.slot) a b c.in-Err.fault c.from.result c.from.ensures c.in-Err.ensures.cause
+    install_is_refused c.args.self.now.manifest.version (other_place c.in_ok-next.next.slot) a b c.in-Err.fault c.from-why.result c.from-why.ensures c.in-Err.ensures.cause
     (λ is. sym same ∙ c.in-Err.ensures.limit.0 (ap Err is))
     (λ other. subst (λ (m : Manifest). m.version.epoch < last_epoch) next_is
     (below_last c.in_ok-next.next.version.epoch sound.epoch (λ last. other (one_fault _ c.in-Err.fault fault.Epoch refl (c.in-Err.ensures.limit.1 last)))))
 
-pub returns-after-fault-clause-installs : goal.returns-after-fault-clause-installs
-returns-after-fault-clause-installs g c s done tells runs is_done tied =
+pub returns-in-Err-clause-installs : goal.returns-in-Err-clause-installs
+returns-in-Err-clause-installs g c s done tells runs is_done tied =
     let run_in = subst (λ (k : Kept). IsRun k.manifest.version k.tables c.args.job) (sym c.self.view_is) c.requires.run in
     let sound : IsVersion c.in_ok-next.next.version = subst (λ (m : Manifest). IsVersion m.version) (sym c.in_ok-next.ensures.next)
     (merged_is_version c.self.inside.version c.self.inside.tables.tables c.args.job c.self.invariant.0.version c.self.invariant.0.rows run_in
@@ -189,26 +174,13 @@ returns-after-fault-clause-installs g c s done tells runs is_done tied =
     let whole = subst IsWhole c.self.view_is c.self.invariant.0 in
     let next_is = c.in_ok-next.ensures.next ∙ ap (λ (k : Kept). merged_manifest k.manifest (rows_of (tables_behind k.tables job))) c.self.view_is in
     let agrees = tied_agree spelling bytes (record store { job = Some job }) s a (g.met.D.Disk.current c.args.disk.now tells) tied in
-    let after = c.match-fault.self in
-    let same_manifest : after.manifest ≡ store.manifest =
-    elim c.match-fault.branch [ in-Device w ↦ ap (λ (k : Kept). k.manifest) w.self-is | in_default w ↦ ap (λ (k : Kept). k.manifest) w.self-is ] ∙ ap (λ (k : Kept). k.manifest) c.self.view_is in
-    let same_tables : after.tables ≡ store.tables =
-    elim c.match-fault.branch [ in-Device w ↦ ap (λ (k : Kept). k.tables) w.self-is | in_default w ↦ ap (λ (k : Kept). k.tables) w.self-is ] ∙ c.reserve.ensures.tables ∙ ap (λ (k : Kept). k.tables) c.self.view_is in
-    let no_job : after.job ≡ None =
-    elim c.match-fault.branch [ in-Device w ↦ ap (λ (k : Kept). k.job) w.self-is | in_default w ↦ ap (λ (k : Kept). k.job) w.self-is ] ∙ ap (λ (k : Kept). k.job) c.self.view_is ∙ c.requires.taken_out in
-    let same_log : after.log ≡ store.log =
-    elim c.match-fault.branch [ in-Device w ↦ ap (λ (k : Kept). k.log) w.self-is | in_default w ↦ ap (λ (k : Kept). k.log) w.self-is ] ∙ ap (λ (k : Kept). k.log) c.self.view_is in
-    let same_memory : after.memory ≡ store.memory =
-    elim c.match-fault.branch [ in-Device w ↦ ap (λ (k : Kept). k.memory) w.self-is | in_default w ↦ ap (λ (k : Kept). k.memory) w.self-is ] ∙ ap (λ (k : Kept). k.memory) c.self.view_is in
-    let same_blocks : after.blocks ≡ store.blocks =
-    elim c.match-fault.branch [ in-Device w ↦ ap (λ (k : Kept). k.blocks) w.self-is | in_default w ↦ ap (λ (k : Kept). k.blocks) w.self-is ] ∙ ap (λ (k : Kept). k.blocks) c.self.view_is in
     install_refused c.standing_tables_agree.ensures spelling bytes store job s done a whole.slot whole.area whole.version c.requires.run runs is_done tied b
     (subst (λ (m : Manifest). IsVersion m.version) next_is sound) agrees.epoch (subst (λ (m : Manifest). WriteMoves (other_place m.slot) 131072 a b) next_is c.install.ensures.moves)
-    c.in-Err.fault c.from.result after c.from.ensures (subst (λ (m : Manifest). HasInstallCause (other_place m.slot) a b c.in-Err.fault) next_is c.in-Err.ensures.cause)
+    c.in-Err.fault c.from-why.result _ c.from-why.ensures (subst (λ (m : Manifest). HasInstallCause (other_place m.slot) a b c.in-Err.fault) next_is c.in-Err.ensures.cause)
     (λ is. c.in-Err.ensures.unwritten (c.in-Err.ensures.limit.0 (ap Err is)))
     (λ other. subst (λ (m : Manifest). m.version.epoch < last_epoch) next_is
     (below_last c.in_ok-next.next.version.epoch sound.epoch (λ last. other (one_fault _ c.in-Err.fault fault.Epoch refl (c.in-Err.ensures.limit.1 last)))))
     (subst (λ (m : Manifest). Leads {T = Unit {0}} {E = ManifestFault} (StandsInSlot m.slot m.other_open v) (IsOldOrNew (install_of m v)) (IsInstalled (install_of m v)) (Err c.in-Err.fault) a b) next_is
     (c.in-Err.ensures.crash v tells (sym (ap (λ (m : Manifest). m.version.epoch) next_is))))
-    same_manifest same_tables no_job same_log same_memory same_blocks
-    (λ cause is. elim c.match-fault.branch [ in-Device w ↦ ap (λ (k : Kept). k.stopped) w.self-is | in_default w ↦ absurd (w.in_default.not-Device cause is) ])
+    (ap (λ (k : Kept). k.manifest) c.self.view_is) (c.reserve.ensures.tables ∙ ap (λ (k : Kept). k.tables) c.self.view_is) (ap (λ (k : Kept). k.job) c.self.view_is ∙ c.requires.taken_out)
+    (ap (λ (k : Kept). k.log) c.self.view_is) (ap (λ (k : Kept). k.memory) c.self.view_is) (ap (λ (k : Kept). k.blocks) c.self.view_is) c.is_stop-self-inside.ensures
