@@ -27,7 +27,7 @@ use byte_fields::Row;
 use disk_trait::Disk;
 use extent_map::Extents;
 use filter_api::{RangeFilter, Settings};
-use key_base::MAX_LEVEL;
+use key_base::{MAX_LEVEL, MERGE_DATA_PAGES};
 use mem_table::MemTable;
 use merge_rows::MergeRows;
 use std::alloc::{AllocError, Global};
@@ -81,7 +81,7 @@ impl<'m, F: RangeFilter> Model for Job<'m, F> {
 
 impl<'m, F: RangeFilter> Job<'m, F> {
     /// The merge of a plan of some tables, with nothing done. It takes the memory that reading takes: for each table a buffer
-    /// for its largest block. No read.
+    /// for its largest block. Where there is as much, it takes room for all blocks of an output too, 4 MiB. No read.
     ///
     /// Tombstones are left out where no table lies deeper than the plan's level.
     pub fn start(
@@ -139,7 +139,7 @@ impl<'m, F: RangeFilter> Job<'m, F> {
             output,
             drops,
             beside,
-            built: TableBuilder::new(alloc, settings),
+            built: TableBuilder::with_room(alloc, settings, MERGE_DATA_PAGES),
             outputs: Vec::new(alloc),
             made: Vec::new(alloc),
         })
@@ -207,7 +207,7 @@ impl<'m, F: RangeFilter> Job<'m, F> {
         standing_tables_are_read();
         match self.take_rows(disk, tables, blocks) {
             Ok(Stop::Blocks) => Ok(Sliced::Working),
-            Ok(Stop::Full) => match self.close(disk, extents) {
+            Ok(Stop::Full) => match self.close(disk, extents, MERGE_DATA_PAGES) {
                 Ok(()) => Ok(Sliced::Working),
                 Err(why) => Err(why),
             },
@@ -215,7 +215,7 @@ impl<'m, F: RangeFilter> Job<'m, F> {
                 if self.built.is_empty() {
                     return Ok(Sliced::Ready);
                 }
-                match self.close(disk, extents) {
+                match self.close(disk, extents, 0) {
                     Ok(()) => Ok(Sliced::Ready),
                     Err(why) => Err(why),
                 }
@@ -253,8 +253,13 @@ impl<'m, F: RangeFilter> Job<'m, F> {
         )
     }
 
-    // Writes the output that is built in the first gap that holds it, and begins the next one.
-    fn close<D: Disk>(&mut self, disk: &mut D, extents: &mut Extents) -> Result<(), JobFault>
+    // Writes the output that is built in the first gap that holds it, and begins the next one, with room for so many pages.
+    fn close<D: Disk>(
+        &mut self,
+        disk: &mut D,
+        extents: &mut Extents,
+        room: u32,
+    ) -> Result<(), JobFault>
         requires some { 0 < length self.old.built }
         ensures merge { self.new.merge ≡ self.old.merge }
         ensures same { (self.new.output ≡ self.old.output) × (self.new.settings ≡ self.old.settings) }
@@ -263,7 +268,8 @@ impl<'m, F: RangeFilter> Job<'m, F> {
         ensures writes { WritesOutput F.spelling F.built_cutoff self.old self.new extents.old extents.new (D.world disk.old) (D.world disk.new) }
         ensures fault { IfErr result (IsCloseFault (need_of F.spelling F.built_cutoff self.old) extents.old (D.world disk.old) (D.world disk.new)) }
     {
-        let next = TableBuilder::new(*self.outputs.allocator(), self.settings);
+        let alloc = *self.outputs.allocator();
+        let next = TableBuilder::with_room(alloc, self.settings, room);
         let built = mem::replace(&mut self.built, next);
         self.beside = self.beside.saturating_sub(1);
         write_output(

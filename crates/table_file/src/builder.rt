@@ -74,6 +74,21 @@ impl TableBuilder {
         }
     }
 
+    /// No entry, and room for blocks of so many pages, where there is memory for them: they need not be moved as they grow.
+    pub fn with_room(alloc: Global, settings: Settings, pages: u32) -> Self
+        requires { InRange settings }
+        ensures { result ≡ record { settings = settings; entries = [] } }
+    {
+        TableBuilder {
+            settings,
+            blocks: room_for(alloc, pages),
+            rows: Vec::new(alloc),
+            open: BlockBuilder::new(alloc),
+            spare: BlockBuilder::new(alloc),
+            keys: KeyList::new(alloc),
+        }
+    }
+
     /// Adds an entry, `None` for a tombstone's value. The key has 1 to 1,024 bytes and is
     /// [above all others](TableBuilder::is_above_all), the value at most 65,536 bytes. Without memory nothing is added, and
     /// none behind 2^32 - 1 others, since a row counts them in four bytes.
@@ -173,6 +188,16 @@ impl TableBuilder {
             return closed;
         }
         closed + self.open.pages()
+    }
+}
+
+// No byte, and room for so many pages, where there is memory for them.
+fn room_for(alloc: Global, pages: u32) -> Vec<u8>
+    ensures { result.items ≡ [] }
+{
+    match Vec::with_capacity(alloc, PAGE_BYTES * pages as usize) {
+        Ok(bytes) => bytes,
+        Err(_) => Vec::new(alloc),
     }
 }
 

@@ -18,9 +18,9 @@ type Entry = (usize, usize);
 
 const FIRST_LETTER: u8 = b'a';
 
-// A builder with these entries, of the letters from a on.
+// A builder with these entries, of the letters from a on. It has room for two pages at first.
 fn builder_of(alloc: Global, entries: &[Entry]) -> Result<TableBuilder, Fail> {
-    let mut builder = TableBuilder::new(alloc, BASE);
+    let mut builder = TableBuilder::with_room(alloc, BASE, 2);
     for ((key, value), letter) in entries.iter().copied().zip(FIRST_LETTER..) {
         let key = vec![in alloc; letter; key]?;
         let value = vec![in alloc; letter; value]?;
