@@ -96,7 +96,7 @@ impl BlockBuilder {
         ensures written { OnOk result (out.new.items ≡ out.old.items ++ block_bytes self.old) }
         ensures emptied { OnOk result (self.new ≡ []) }
         ensures unchanged { OnErr result (self.new ≡ self.old) }
-        ensures unwritten { OnErr result (out.new.items ≡ out.old.items) }
+        ensures out_unchanged { OnErr result (out.new.items ≡ out.old.items) }
     {
         push_block(self.bytes.as_slice(), self.count, out)?;
         self.clear();

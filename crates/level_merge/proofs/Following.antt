@@ -15,7 +15,7 @@ use Rattle.filter_api.specs.Spellings.{Spelling}
 use Rattle.filter_api.specs.declared.settings.Settings.{Settings}
 use Rattle.level_merge.specs.Follows.{AreTaken, Follows, IsJobRefusal, IsSliced, SliceFollows, Slices, SlicesTo}
 use Rattle.level_merge.specs.Held.{AreHeld}
-use Rattle.level_merge.specs.Making.{AreTakenBy, HasPlace, IsMakeRefusal, IsSaid, Makes, MakesFirst, MakesOn, MakesOne, SliceMakes, extents_with}
+use Rattle.level_merge.specs.Making.{AreTakenBy, HasPlace, IsMakeRefusal, IsSaid, Makes, MakesFirst, MakesOn, MakesOne, SliceMakes, merge_extents}
 use Rattle.level_merge.specs.Merging.{Merging}
 use Rattle.level_merge.specs.Plans.{numbered}
 use Rattle.level_merge.specs.Outputs.{extent_at}
@@ -73,7 +73,7 @@ held_extents spelling settings (o ∷ opened) (t ∷ tables) image held =
 
 -- those of the state and of a job are those of the open tables
 taken_with : (spelling : Spelling) (s : State) (job : Job) (opened made : List Opened) (image : Image) (settings : Settings) → AreHeld spelling settings opened s.tables image
-    → AreHeld spelling settings made job.written image → taken (with_job s job) ≡ extents_with opened made (map extent_of s.kept)
+    → AreHeld spelling settings made job.written image → taken (with_job s job) ≡ merge_extents opened made (map extent_of s.kept)
 taken_with spelling s job opened made image settings held written =
     map-append extent_of (s.tables ++ job.written) s.kept
     ∙ ap (λ (xs : List Extent). xs ++ map extent_of s.kept) (map-append extent_of s.tables job.written)

@@ -21,7 +21,7 @@ use Rattle.filter_api.specs.Spellings.{Spelling}
 use Rattle.filter_api.specs.declared.settings.Settings.{Settings}
 use Rattle.filter_model.specs.Leaves.{Leaf}
 use Rattle.level_merge.specs.Held.{AreHeld, IsHeld}
-use Rattle.level_merge.specs.Making.{AreTakenBy, IsMakeRefusal, IsSaid, Makes, MakesOn, extents_with}
+use Rattle.level_merge.specs.Making.{AreTakenBy, IsMakeRefusal, IsSaid, Makes, MakesOn, merge_extents}
 use Rattle.level_merge.specs.Merging.{AreAllWritten, Merging, is_full, outputs_left, outputs_with}
 use Rattle.level_merge.specs.Slices.{Closes, IsTakeFault, TakesRows, made_opened, made_table, need_of}
 use Rattle.level_merge.specs.Outputs.{IsCloseFault, extent_at}
@@ -95,10 +95,10 @@ apart_rows e [] all = tt
 apart_rows e (t ∷ opened) all = (apart_row e t.row all.0, apart_rows e opened all.1)
 
 module _ (e : Extent) (opened made : List Opened) (others : List Extent) (free : Taken) (taken : AreTakenBy opened made others free) (apart : AllByRecursion (AreApart e) free.extents) where
-  all_apart : AllByRecursion (AreApart e) (extents_with opened made others)
+  all_apart : AllByRecursion (AreApart e) (merge_extents opened made others)
   all_apart =
-      recursion_from_All (AreApart e) (extents_with opened made others)
-      (All-permutation (AreApart e) free.extents (extents_with opened made others) taken (All-from_recursion (AreApart e) free.extents apart))
+      recursion_from_All (AreApart e) (merge_extents opened made others)
+      (All-permutation (AreApart e) free.extents (merge_extents opened made others) taken (All-from_recursion (AreApart e) free.extents apart))
 
   opened_apart : AllByRecursion (λ (t : Opened). IsApartFromRow (byte_of_page e.0) (page_bytes * e.1) t.row) opened
   opened_apart = apart_rows e opened (all_front (AreApart e) (map (λ (t : Opened). extent_at t.row) opened) (map (λ (t : Opened). extent_at t.row) made ++ others) all_apart)

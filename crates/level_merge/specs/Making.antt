@@ -30,11 +30,11 @@ pub record Makes (spelling : Spelling) (opened : List Opened) (image : Image) (m
   pub made_are : AreHeld spelling m.settings m.made made image
 
 -- the extents of the tables that it reads, of those that it has made and of some others are taken, in any order
-abbrev pub extents_with : List Opened → List Opened → List Extent → List Extent
-extents_with opened made others = map (λ (t : Opened). extent_at t.row) opened ++ (map (λ (t : Opened). extent_at t.row) made ++ others)
+abbrev pub merge_extents : List Opened → List Opened → List Extent → List Extent
+merge_extents opened made others = map (λ (t : Opened). extent_at t.row) opened ++ (map (λ (t : Opened). extent_at t.row) made ++ others)
 
 abbrev pub AreTakenBy : List Opened → List Opened → List Extent → Taken → Type 0
-AreTakenBy opened made others taken = IsPermutation taken.extents (extents_with opened made others)
+AreTakenBy opened made others taken = IsPermutation taken.extents (merge_extents opened made others)
 
 -- the first of the outputs that are left has a place: the first gap that holds it
 pub record HasPlace (filter_bytes : FilterBytes) (settings : Settings) (free : Taken) (left later : List (List Entry)) : Type 0 where

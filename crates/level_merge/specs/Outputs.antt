@@ -24,8 +24,8 @@ abbrev pub extent_at : Row → Extent
 extent_at row = (row.first_page, pages_of row)
 
 -- the table that it becomes on a level, at a page
-abbrev pub table_at : Spelling → (ℕ → List Leaf → ℕ) → Built → ℕ → ℕ → Table
-table_at spelling built_cutoff built level page = table_of (filter_bytes_of spelling built_cutoff) built.settings level page built.entries
+abbrev pub built_table : Spelling → (ℕ → List Leaf → ℕ) → Built → ℕ → ℕ → Table
+built_table spelling built_cutoff built level page = table_of (filter_bytes_of spelling built_cutoff) built.settings level page built.entries
 
 -- Its place is the first gap that holds it, its pages are taken, and its row is the last of some rows. It has the entries of a
 -- table.

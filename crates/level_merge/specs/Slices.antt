@@ -14,7 +14,7 @@ use Rattle.extent_map.specs.Taken.{Taken}
 use Rattle.extent_model.specs.Extents.{AreApart, IsOnDevice}
 use Rattle.filter_api.specs.Spellings.{Spelling}
 use Rattle.filter_model.specs.Leaves.{Leaf}
-use Rattle.level_merge.specs.Outputs.{PlacesOutput, WritesPlaced, extent_at, table_at}
+use Rattle.level_merge.specs.Outputs.{PlacesOutput, WritesPlaced, built_table, extent_at}
 use Rattle.level_merge.specs.Merging.{Merging, is_full, outputs_left, outputs_with}
 use Rattle.level_merge.specs.declared.fault.JobFault.{JobFault}
 use Rattle.level_merge.specs.declared.fault.JobFault.TheVariants as fault
@@ -79,7 +79,7 @@ need_of spelling built_cutoff m = table_pages (filter_bytes_of spelling built_cu
 
 -- the table that it is then, at a page, and as it is open
 abbrev pub made_table : Spelling → (ℕ → List Leaf → ℕ) → Merging → ℕ → Table
-made_table spelling built_cutoff m page = table_at spelling built_cutoff (built_of m) m.output page
+made_table spelling built_cutoff m page = built_table spelling built_cutoff (built_of m) m.output page
 
 abbrev pub made_opened : (ℕ → List Leaf → ℕ) → Merging → Row → Opened
 made_opened built_cutoff m row = opened_of built_cutoff (built_of m) row
@@ -122,9 +122,9 @@ SliceMoves spelling built_cutoff old new free taken before after =
     ⊎ ((row : Row) × (most : ℕ) × AddsOutput spelling built_cutoff old new free taken row × Moves (byte_of_page row.first_page) (page_bytes * pages_of row) most before after)
 
 -- as many outputs may be made in all as before, or one more where nothing is left
-abbrev pub IsWithin : Merging → Merging → Sliced → Type 0
-IsWithin old new sliced.Working = length new.outputs + new.beside ≡ length old.outputs + old.beside
-IsWithin old new sliced.Ready = length new.outputs ≤ length old.outputs + old.beside + 1
+abbrev pub MayMakeAsMany : Merging → Merging → Sliced → Type 0
+MayMakeAsMany old new sliced.Working = length new.outputs + new.beside ≡ length old.outputs + old.beside
+MayMakeAsMany old new sliced.Ready = length new.outputs ≤ length old.outputs + old.beside + 1
 
 -- a fault of the reads or of the writes
 abbrev pub IsSliceFault : Bool → List Opened → List ℕ → World → World → JobFault → Type 0

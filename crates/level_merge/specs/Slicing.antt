@@ -7,7 +7,7 @@ use Rattle.filter_api.specs.Spellings.{Spelling}
 use Rattle.filter_model.specs.Leaves.{Leaf}
 use Rattle.level_merge.specs.Making.{SliceMakes}
 use Rattle.level_merge.specs.Merging.{AreAllWritten, Merging, work_left}
-use Rattle.level_merge.specs.Slices.{IsMetUnwritten, IsSliceFault, IsWithin, SliceMoves}
+use Rattle.level_merge.specs.Slices.{IsMetUnwritten, IsSliceFault, MayMakeAsMany, SliceMoves}
 use Rattle.level_merge.specs.declared.fault.JobFault.{JobFault}
 use Rattle.level_merge.specs.declared.fault.Sliced.{Sliced}
 use Rattle.level_merge.specs.declared.fault.Sliced.TheVariants.{Working}
@@ -26,7 +26,7 @@ pub record SlicesMerge (spelling : Spelling) (built_cutoff : ℕ → List Leaf �
   pub level : (1 ≤ new.output) × (new.output ≤ max_level)
   pub same : (new.output ≡ old.output) × (new.settings ≡ old.settings)
   pub numbers_are : numbers new.merge.walks ≡ numbers old.merge.walks
-  pub few : IfOk result (IsWithin old new)
+  pub few : IfOk result (MayMakeAsMany old new)
   pub rows : AreAllWritten old → OnOk result (AreAllWritten new)
   pub moves : SliceMoves spelling built_cutoff old new free taken before after
   pub fault : IfErr result (IsSliceFault tells opened (numbers old.merge.walks) before after)

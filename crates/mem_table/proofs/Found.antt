@@ -12,7 +12,7 @@ use Rattle.arrayvec.specs.ArrayVec.{ArrayVec}
 use Rattle.map_model.specs.SortedMap.{Bytes, byte_order}
 use Rattle.entry_model.specs.Entries.{Entry}
 use Rattle.map_model.proofs.Maps.{less_of_greater}
-use Rattle.mem_table.specs.Table.{StandsAt, BelongsAt}
+use Rattle.mem_table.specs.Table.{KeyStandsAt, BelongsAt}
 use Rattle.entry_model.specs.Newest.{KeysRise}
 use Rattle.mem_table.specs.Chunks.{flat, flat_at, IsPlace, IsGap, NoneEmpty, Orders, entry_at, first_in, in_order}
 use Rattle.mem_table.proofs.Flat.{place_in, gap_in, place_chunk, place_from, gap_from, first_place, place_is, within_at, next_at, end_at, chunks_rise}
@@ -54,7 +54,7 @@ module _ (key : Bytes) (entries : List Entry) (chunks : List (ArrayVec ℕ)) (or
 
   -- ---- found
 
-  pub found_at : (c k : ℕ) (e : ArrayVec ℕ) → IsPlace chunks c k → byte_order (entry_at entries (get_or (get_or chunks c e).items k 0)).key key ≡ Equal → StandsAt (flat_at chunks c k) key (in_order entries (flat chunks))
+  pub found_at : (c k : ℕ) (e : ArrayVec ℕ) → IsPlace chunks c k → byte_order (entry_at entries (get_or (get_or chunks c e).items k 0)).key key ≡ Equal → KeyStandsAt (flat_at chunks c k) key (in_order entries (flat chunks))
   found_at c k e is equal =
       stands key (in_order entries (flat chunks)) (flat_at chunks c k) orders.rises (omega (arith, place_in chunks c k is, length-map (flat chunks) (entry_at entries)))
       (λ d. subst (λ (x : Entry). byte_order x.key key ≡ Equal) (sym (seen c k e 0 d is)) equal)

@@ -13,7 +13,7 @@ use Rattle.std.specs.declared.cmp.Ordering.TheVariants.{Less, Equal, Greater}
 use Rattle.map_model.specs.SortedMap.{Bytes, byte_order, in_place}
 use Rattle.entry_model.specs.Entries.{Entry}
 use Rattle.map_model.proofs.Maps.{same_key, order_same, equal_keys, less_of_greater}
-use Rattle.mem_table.specs.Table.{StandsAt, BelongsAt}
+use Rattle.mem_table.specs.Table.{KeyStandsAt, BelongsAt}
 use Rattle.entry_model.specs.Newest.{ComesBefore, ComesBehind, KeysRise, with_entry, lookup, entries_from}
 use Rattle.entry_model.proofs.Newest.{greater_of_less, below_apart, none_above}
 
@@ -50,7 +50,7 @@ orders_rise e key xs rise i j d le within = elim (cases_lt i j) [
 
 -- ---- what a search found
 
-pub stands : (key : Bytes) (entries : List Entry) (at : ℕ) → KeysRise entries → at < length entries → HoldsAt (λ e. byte_order e.key key ≡ Equal) entries at → StandsAt at key entries
+pub stands : (key : Bytes) (entries : List Entry) (at : ℕ) → KeysRise entries → at < length entries → HoldsAt (λ e. byte_order e.key key ≡ Equal) entries at → KeyStandsAt at key entries
 stands key entries at rises within equal = record {
   within = within;
   here = λ d. equal_keys (get_or entries at d).key key (equal d);
@@ -116,7 +116,7 @@ with_above (entry ∷ more) new above = ap (λ (o : Ordering). in_place o new en
 
 -- ---- at the place
 
-module _ (entries : List Entry) (key : Bytes) (at : ℕ) (s : StandsAt at key entries) where
+module _ (entries : List Entry) (key : Bytes) (at : ℕ) (s : KeyStandsAt at key entries) where
   -- parted at the entry of the key
   parted : (d : Entry) → entries ≡ take at entries ++ get_or entries at d ∷ drop (at + 1) entries
   parted d = sym (take-append-drop at entries) ∙ ap (λ (es : List Entry). take at entries ++ es) (drop_more entries at d s.within)
@@ -153,11 +153,11 @@ module _ (entries : List Entry) (key : Bytes) (at : ℕ) (b : BelongsAt at key e
       ∙ from_behind (take at entries) (drop at entries) key b.before
       ∙ from_above (drop at entries) key b.behind
 
-pub from_found : (entries : List Entry) (key : Bytes) (at : ℕ) → StandsAt at key entries → KeysRise entries → entries_from entries key ≡ drop at entries
+pub from_found : (entries : List Entry) (key : Bytes) (at : ℕ) → KeyStandsAt at key entries → KeysRise entries → entries_from entries key ≡ drop at entries
 from_found [] key at s rises = absurd (omega (arith, s.within))
 from_found (entry ∷ more) key at s rises = from_at (entry ∷ more) key at s entry rises
 
-pub set_at : (entries : List Entry) (new : Entry) (at : ℕ) → StandsAt at new.key entries → set entries at new ≡ with_entry entries new
+pub set_at : (entries : List Entry) (new : Entry) (at : ℕ) → KeyStandsAt at new.key entries → set entries at new ≡ with_entry entries new
 set_at entries new at s =
     let old = get_or entries at new in
     let next : suc at ≡ at + 1 = omega arith in

@@ -7,7 +7,7 @@ use Rattle.std.proofs.lemmas.List.Edits.{length-insert}
 use Rattle.arrayvec.specs.ArrayVec.{ArrayVec}
 use Rattle.map_model.specs.SortedMap.{Bytes}
 use Rattle.entry_model.specs.Entries.{Entry}
-use Rattle.mem_table.specs.Table.{StandsAt, BelongsAt}
+use Rattle.mem_table.specs.Table.{KeyStandsAt, BelongsAt}
 use Rattle.entry_model.specs.Newest.{KeysRise, with_entry, lookup}
 use Rattle.mem_table.specs.Chunks.{flat, entry_at, in_order, Orders, NoneEmpty}
 use Rattle.entry_model.proofs.Newest.{rises_with}
@@ -16,7 +16,7 @@ use Rattle.mem_table.proofs.Ordered.{within_at, within_more, within_insert, in_o
 
 module _ (entries : List Entry) (chunks : List (ArrayVec ℕ)) (orders : Orders chunks entries) (at : ℕ) where
   -- what is looked up is what stands at the place
-  pub looked_up : (key : Bytes) (entry : Entry) (place : ℕ) → StandsAt at key (in_order entries (flat chunks)) → at < length (flat chunks) → place ≡ get_or (flat chunks) at 0
+  pub looked_up : (key : Bytes) (entry : Entry) (place : ℕ) → KeyStandsAt at key (in_order entries (flat chunks)) → at < length (flat chunks) → place ≡ get_or (flat chunks) at 0
       → entry ≡ get_or entries place entry → lookup (in_order entries (flat chunks)) key ≡ Some entry.value
   looked_up key entry place stands lt is here =
       let inside : place < length entries = rw is (within_at entries (flat chunks) at orders.within lt) in
@@ -24,7 +24,7 @@ module _ (entries : List Entry) (chunks : List (ArrayVec ℕ)) (orders : Orders 
       get_or-map (entry_at entries) (flat chunks) at 0 entry lt ∙ ap (entry_at entries) (sym is) ∙ get_or_default entries place (record { key = []; value = None }) entry inside ∙ sym here in
       lookup_at (in_order entries (flat chunks)) key at stands entry ∙ ap (λ (e : Entry). Some e.value) shown
 
-  module _ (entry : Entry) (place : ℕ) (stands : StandsAt at entry.key (in_order entries (flat chunks))) (lt : at < length (flat chunks)) (is : place ≡ get_or (flat chunks) at 0) where
+  module _ (entry : Entry) (place : ℕ) (stands : KeyStandsAt at entry.key (in_order entries (flat chunks))) (lt : at < length (flat chunks)) (is : place ≡ get_or (flat chunks) at 0) where
     pub set_shows : in_order (set entries place entry) (flat chunks) ≡ with_entry (in_order entries (flat chunks)) entry
     set_shows =
         ap (λ (p : ℕ). in_order (set entries p entry) (flat chunks)) is

@@ -11,7 +11,7 @@ pub record MemoryTable : Type 0 where
   pub spare : ℕ
 
 -- the entry of the key stands at this place, behind those of lesser keys
-pub record StandsAt (at : ℕ) (key : Bytes) (entries : List Entry) : Type 0 where
+pub record KeyStandsAt (at : ℕ) (key : Bytes) (entries : List Entry) : Type 0 where
   pub within : at < length entries
   pub here : HoldsAt (λ e. e.key ≡ key) entries at
   pub before : AllByRecursion (ComesBefore key) (take at entries)

@@ -3,7 +3,7 @@ ghost use Rattle.std.specs.Prelude.{◌≡◌, IfOk, IfErr, length, drop};
 ghost use Rattle.std.specs.List.Sorted.{IsBinarySearchResult, IsSearchInRange};
 ghost use Rattle.map_model.specs.SortedMap.{byte_order};
 ghost use Rattle.mem_table.specs.Chunks.{flat, flat_at, IsPlace, IsGap, Orders, entry_at, first_in, in_order};
-ghost use Rattle.mem_table.specs.Table.{StandsAt, BelongsAt};
+ghost use Rattle.mem_table.specs.Table.{KeyStandsAt, BelongsAt};
 ghost use Rattle.entry_model.specs.Newest.{entries_from};
 
 use crate::chunks::{Chunk, Spot};
@@ -52,7 +52,7 @@ fn within_of(entries: &[Entry], chunk: &Chunk, key: &[u8]) -> Result<usize, usiz
 pub(crate) fn spot_of(entries: &[Entry], chunks: &[Chunk], key: &[u8]) -> Result<Spot, Spot>
     requires { Orders chunks.now entries.now }
     ensures place { IfOk result (λ spot. IsPlace chunks.now spot.chunk spot.within) }
-    ensures found { IfOk result (λ spot. StandsAt (flat_at chunks.now spot.chunk spot.within) key.now (in_order entries.now (flat chunks.now))) }
+    ensures found { IfOk result (λ spot. KeyStandsAt (flat_at chunks.now spot.chunk spot.within) key.now (in_order entries.now (flat chunks.now))) }
     ensures gap { IfErr result (λ spot. IsGap chunks.now spot.chunk spot.within) }
     ensures missing { IfErr result (λ spot. BelongsAt (flat_at chunks.now spot.chunk spot.within) key.now (in_order entries.now (flat chunks.now))) }
 {

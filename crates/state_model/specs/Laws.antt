@@ -84,4 +84,4 @@ pub record ChoiceLaws : Type 0 where
 -- An output that others follow has the data pages at which it is closed, or more, and fewer without its last entry.
 pub record OutputLaws : Type 0 where
   pub full : (entries : List Entry) → 1 ≤ length (split_output [] entries).1 → merge_data_pages ≤ data_pages (split_output [] entries).0
-  pub first : (entries front : List Entry) (last : Entry) → (split_output [] entries).0 ≡ front ++ (last ∷ []) → data_pages front < merge_data_pages
+  pub first : (entries before : List Entry) (last : Entry) → (split_output [] entries).0 ≡ before ++ (last ∷ []) → data_pages before < merge_data_pages

@@ -6,20 +6,20 @@ use Rattle.block_cache.proofs.Gives.{by_place, found_here, not_found_here, get_s
 use Rattle.block_cache.proofs.Places.{same_place}
 use Rattle.block_model.specs.BlockReading.{block_fault}
 use Rattle.map_model.specs.SortedMap.{Bytes}
-use Rattle.store_core.specs.Caching.{AreNumbered, AreSame, AreSound, AreTrue, Cached, IsFirst, IsTrueOf, MayKeep, none_cached, number_of, past_cache, renumbered}
+use Rattle.store_core.specs.Caching.{AreNumbered, AreSame, AreSound, AreTrue, Cached, IsFirst, IsTrueOf, MayKeep, cache_number, none_cached, past_cache, renumbered}
 use Rattle.table_file.specs.Opened.{Opened}
 use Rattle.table_model.specs.Tables.{Table}
 
 -- ---- numbers
 
-pub number_from : (first behind : ℕ) → first < 18446744073709551615 → first ≤ number_of first behind
+pub number_from : (first behind : ℕ) → first < 18446744073709551615 → first ≤ cache_number first behind
 number_from first behind lt = omega (arith, lt)
 
-pub number_to : (first behind : ℕ) → number_of first behind ≤ first + behind
+pub number_to : (first behind : ℕ) → cache_number first behind ≤ first + behind
 number_to first behind = omega arith
 
 -- of one more table
-pub number_more : (first behind : ℕ) → number_of first behind ≤ number_of first (suc behind)
+pub number_more : (first behind : ℕ) → cache_number first behind ≤ cache_number first (suc behind)
 number_more first behind = omega arith
 
 -- ---- a search
@@ -90,13 +90,13 @@ first_stays place first bytes old new (inr more) none is =
 
 pub numbered_same : (old new : Cached) (tables : ℕ) → AreSame old new → AreNumbered old tables → AreNumbered new tables
 numbered_same old new tables same numbered place bytes is =
-    subst (λ (n : ℕ). place.0 < number_of n tables) (sym same.first) (numbered place bytes (sym (same.kept place) ∙ is))
+    subst (λ (n : ℕ). place.0 < cache_number n tables) (sym same.first) (numbered place bytes (sym (same.kept place) ∙ is))
 
-pub numbered_kept : (place : BlockPlace) (bytes : Bytes) (old new : Cached) (tables : ℕ) → MayKeep place bytes old new → (place.0 < past_cache → place.0 < number_of old.first tables)
+pub numbered_kept : (place : BlockPlace) (bytes : Bytes) (old new : Cached) (tables : ℕ) → MayKeep place bytes old new → (place.0 < past_cache → place.0 < cache_number old.first tables)
     → AreNumbered old tables → AreNumbered new tables
 numbered_kept place bytes old new tables (inl same) given numbered = subst (λ (c : Cached). AreNumbered c tables) (sym same) numbered
 numbered_kept place bytes old new tables (inr more) given numbered =
-    subst (λ (c : Cached). AreNumbered c tables) (sym more.1) (with_each place bytes old.kept (λ p _. p.0 < number_of old.first tables) (given more.0) numbered)
+    subst (λ (c : Cached). AreNumbered c tables) (sym more.1) (with_each place bytes old.kept (λ p _. p.0 < cache_number old.first tables) (given more.0) numbered)
 
 -- of one table more
 pub numbered_more : (blocks : Cached) (tables : ℕ) → AreNumbered blocks tables → AreNumbered blocks (suc tables)
@@ -151,4 +151,4 @@ numbered_anew blocks before tables numbered place bytes is = omega (arith, numbe
 pub true_anew : (blocks : Cached) (before : ℕ) (opened : List Opened) (tables : List Table) → AreNumbered blocks before → AreTrue (renumbered blocks before) opened tables
 true_anew blocks before opened tables numbered place bytes is =
     let below = numbered place bytes is in
-    true_before (number_of blocks.first before) place bytes opened tables below (omega (arith, below))
+    true_before (cache_number blocks.first before) place bytes opened tables below (omega (arith, below))

@@ -18,7 +18,7 @@ use Rattle.filter_api.specs.declared.settings.Settings.{Settings}
 use Rattle.filter_model.specs.Leaves.{Leaf}
 use Rattle.level_merge.proofs.Begun.{numbers_below}
 use Rattle.level_merge.specs.Merging.{AreAllWritten, Merging, all_numbers, compaction}
-use Rattle.level_merge.specs.Slices.{AddsOutput, IsWithin, SliceMoves}
+use Rattle.level_merge.specs.Slices.{AddsOutput, MayMakeAsMany, SliceMoves}
 use Rattle.level_merge.specs.declared.fault.Sliced.TheVariants as sliced
 use Rattle.manifest_model.proofs.Rows.{rows_keep}
 use Rattle.manifest_model.specs.Laws.{IsVersion}
@@ -157,7 +157,7 @@ module _ (spelling : Spelling) (built_cutoff : ℕ → List Leaf → ℕ) (v : V
   outputs_so (inr is) = added is.0 is.2
 
   -- more is left
-  pub compacting_more : SliceMoves spelling built_cutoff old new free taken before after → IsWithin old new sliced.Working → AreAllWritten new → IsCompacting v tables new taken
+  pub compacting_more : SliceMoves spelling built_cutoff old new free taken before after → MayMakeAsMany old new sliced.Working → AreAllWritten new → IsCompacting v tables new taken
   compacting_more moves within written =
       let so = outputs_so moves in
       record {
@@ -173,7 +173,7 @@ module _ (spelling : Spelling) (built_cutoff : ℕ → List Leaf → ℕ) (v : V
       }
 
   -- nothing is left
-  pub compacted_rows : SliceMoves spelling built_cutoff old new free taken before after → IsWithin old new sliced.Ready → AreAllWritten new → AreCompact v (rows_of new.made)
+  pub compacted_rows : SliceMoves spelling built_cutoff old new free taken before after → MayMakeAsMany old new sliced.Ready → AreAllWritten new → AreCompact v (rows_of new.made)
   compacted_rows moves within written =
       let so = outputs_so moves in
       subst (AreCompact v) written (record { few = omega (arith, within, on.few); each = so.each; deepest = so.deepest; laid = so.laid })

@@ -26,7 +26,7 @@ use Rattle.image_model.proofs.Frames.{free_apart, ready_kept}
 use Rattle.image_model.specs.Frames.{IsApartFromReady}
 use Rattle.level_merge.specs.FollowLaws.{CompactionMakes}
 use Rattle.level_merge.specs.Held.{AreHeld}
-use Rattle.level_merge.specs.Making.{AreTakenBy, HasPlace, IsMakeRefusal, Makes, MakesOn, MakesOne, SliceMakes, extents_with}
+use Rattle.level_merge.specs.Making.{AreTakenBy, HasPlace, IsMakeRefusal, Makes, MakesOn, MakesOne, SliceMakes, merge_extents}
 use Rattle.level_merge.specs.Merging.{Merging, compaction}
 use Rattle.level_merge.specs.Outputs.{extent_at}
 use Rattle.level_merge.specs.Slices.{SliceMoves}
@@ -142,7 +142,7 @@ module _ (spelling : Spelling) (bytes : FilterBytes) (m : Manifest) (opened : Li
     apart_of row apart image under =
         subst (AllByRecursion (AreApart (extent_at row))) (sym (taken_is image under))
         (front_extents (AreApart (extent_at row)) (map (λ (t : Opened). extent_at t.row) opened) _
-        (all_permuted (AreApart (extent_at row)) free.extents (extents_with opened old.made []) going.taken_are apart))
+        (all_permuted (AreApart (extent_at row)) free.extents (merge_extents opened old.made []) going.taken_are apart))
 
     pub slice_stays : SliceMoves spelling built_cutoff old new free now w x → Meanwhile Under a x
     slice_stays (inl is) = goes_on Under Same a w x going.meanwhile is.2.1.time (λ was image left same. subst Under (sym same) (now_at Under a w going.meanwhile was left))

@@ -14,7 +14,7 @@ use Rattle.filter_api.specs.declared.settings.Settings.{Settings}
 use Rattle.map_model.specs.SortedMap.{Bytes}
 use Rattle.state_model.specs.Bounds.{searched, unless_found}
 use Rattle.state_model.specs.View.{first_found}
-use Rattle.store_core.specs.Caching.{AreNumbered, AreSame, AreTrue, Cached, IsTrueOf, SaysOf, number_of, past_cache, reads_for, said_by, unkept}
+use Rattle.store_core.specs.Caching.{AreNumbered, AreSame, AreTrue, Cached, IsTrueOf, SaysOf, cache_number, past_cache, reads_for, said_by, unkept}
 use Rattle.store_core.specs.Getting.{IsBlockIn, IsFoundAt, IsReadIn, IsSpotIn, MayKeepRead, entries_by_table, said_in}
 use Rattle.level_merge.specs.Held.{AreHeld, IsHeld}
 use Rattle.store_core.specs.declared.getting.BlockRead.{BlockRead}
@@ -44,9 +44,9 @@ module _ (spelling : Spelling) (settings : Settings) (first : Opened) (more : Li
 
 -- kept blocks of the first table say what its blocks say
 pub first_says : (spelling : Spelling) (settings : Settings) (first : Opened) (more : List Opened) (t : Table) (older : List Table) (image : Image) (blocks : Cached) (held : IsHeld spelling settings first t image)
-    → AreTrue blocks (first ∷ more) (t ∷ older) → (n : ℕ) (bytes : Bytes) → kept_of (number_of blocks.first (length more), n) blocks.kept ≡ Some bytes → SaysOf n bytes first (joined held.blocks)
+    → AreTrue blocks (first ∷ more) (t ∷ older) → (n : ℕ) (bytes : Bytes) → kept_of (cache_number blocks.first (length more), n) blocks.kept ≡ Some bytes → SaysOf n bytes first (joined held.blocks)
 first_says spelling settings first more t older image blocks held are n bytes is key named =
-    (are (number_of blocks.first (length more), n) bytes is).0 refl key named ∙ ap (λ (es : List Entry). lookup es key) (held_entries spelling settings first t image held)
+    (are (cache_number blocks.first (length more), n) bytes is).0 refl key named ∙ ap (λ (es : List Entry). lookup es key) (held_entries spelling settings first t image held)
 
 pub older_true : (blocks : Cached) (first : Opened) (more : List Opened) (t : Table) (older : List Table) → AreTrue blocks (first ∷ more) (t ∷ older) → AreTrue blocks more older
 older_true blocks first more t older are place bytes is = (are place bytes is).1
@@ -75,29 +75,29 @@ pub unkept_same : (old new : Cached) (key : Bytes) (opened : List Opened) (table
 unkept_same old new key [] tables same = refl
 unkept_same old new key (o ∷ more) [] same = refl
 unkept_same old new key (o ∷ more) (t ∷ tables) same =
-    let number = ap (λ (n : ℕ). number_of n (length more)) same.first in
+    let number = ap (λ (n : ℕ). cache_number n (length more)) same.first in
     ap (λ (k : ℕ). reads_for new.kept k (block_for o key) + unless_found (lookup t.entries key) (unkept new key more tables)) number
-    ∙ ap (λ (r : ℕ). r + unless_found (lookup t.entries key) (unkept new key more tables)) (reads_same old new (number_of old.first (length more)) (block_for o key) same)
-    ∙ ap (λ (u : ℕ). reads_for old.kept (number_of old.first (length more)) (block_for o key) + unless_found (lookup t.entries key) u) (unkept_same old new key more tables same)
+    ∙ ap (λ (r : ℕ). r + unless_found (lookup t.entries key) (unkept new key more tables)) (reads_same old new (cache_number old.first (length more)) (block_for o key) same)
+    ∙ ap (λ (u : ℕ). reads_for old.kept (cache_number old.first (length more)) (block_for o key) + unless_found (lookup t.entries key) u) (unkept_same old new key more tables same)
 
 pub unkept_first : (blocks : Cached) (key : Bytes) (first : Opened) (more : List Opened) (t : Table) (older : List Table)
-    → reads_for blocks.kept (number_of blocks.first (length more)) (block_for first key) ≤ unkept blocks key (first ∷ more) (t ∷ older)
+    → reads_for blocks.kept (cache_number blocks.first (length more)) (block_for first key) ≤ unkept blocks key (first ∷ more) (t ∷ older)
 unkept_first blocks key first more t older = omega arith
 
 pub unkept_next : (blocks : Cached) (key : Bytes) (first : Opened) (more : List Opened) (t : Table) (older : List Table) → lookup t.entries key ≡ None
-    → unkept blocks key (first ∷ more) (t ∷ older) ≡ reads_for blocks.kept (number_of blocks.first (length more)) (block_for first key) + unkept blocks key more older
+    → unkept blocks key (first ∷ more) (t ∷ older) ≡ reads_for blocks.kept (cache_number blocks.first (length more)) (block_for first key) + unkept blocks key more older
 unkept_next blocks key first more t older none =
-    ap (λ (o : Option (Option Bytes)). reads_for blocks.kept (number_of blocks.first (length more)) (block_for first key) + unless_found o (unkept blocks key more older)) none
+    ap (λ (o : Option (Option Bytes)). reads_for blocks.kept (cache_number blocks.first (length more)) (block_for first key) + unless_found o (unkept blocks key more older)) none
 
 -- ---- the block that was read last
 
 -- one of the first table
-pub first_true : (first : ℕ) (o : Opened) (more : List Opened) (t : Table) (older : List Table) (number block : ℕ) (bytes : Bytes) → number ≡ number_of first (length more) → number < past_cache
+pub first_true : (first : ℕ) (o : Opened) (more : List Opened) (t : Table) (older : List Table) (number block : ℕ) (bytes : Bytes) → number ≡ cache_number first (length more) → number < past_cache
     → SaysOf block bytes o t.entries → IsTrueOf first (number, block) bytes (o ∷ more) (t ∷ older)
 first_true first o more t older number block bytes is given says = ((λ _. says), true_past first (number, block) bytes more older (omega (arith, is, given)))
 
 -- one of an older table
-pub next_true : (first : ℕ) (o : Opened) (more : List Opened) (t : Table) (older : List Table) (number block : ℕ) (bytes : Bytes) → number < number_of first (length more)
+pub next_true : (first : ℕ) (o : Opened) (more : List Opened) (t : Table) (older : List Table) (number block : ℕ) (bytes : Bytes) → number < cache_number first (length more)
     → IsTrueOf first (number, block) bytes more older → IsTrueOf first (number, block) bytes (o ∷ more) (t ∷ older)
 next_true first o more t older number block bytes less is = ((λ same. absurd (omega (arith, same, less))), is)
 
@@ -186,7 +186,7 @@ nothing_said found buffer kept key none = ap (λ (o : Option Spot). said_in o bu
 abbrev pub IsReadHere : BlockRead → ℕ → Bytes → Cached → Type 0
 IsReadHere r number buffer blocks = (r.number ≡ number) × IsBlockIn r.size buffer × (kept_of (number, r.block) blocks.kept ≡ None)
 
-pub read_first : (read : Option BlockRead) (buffer : Bytes) (blocks : Cached) (number behind : ℕ) → number ≡ number_of blocks.first behind → IfSome read (λ r. IsReadHere r number buffer blocks)
+pub read_first : (read : Option BlockRead) (buffer : Bytes) (blocks : Cached) (number behind : ℕ) → number ≡ cache_number blocks.first behind → IfSome read (λ r. IsReadHere r number buffer blocks)
     → IfSome read (λ r. IsReadIn r buffer blocks (suc behind))
 read_first None buffer blocks number behind is here = tt
 read_first (Some r) buffer blocks number behind is here = record {
@@ -196,7 +196,7 @@ read_first (Some r) buffer blocks number behind is here = record {
 }
 
 module _ (spelling : Spelling) (settings : Settings) (first : Opened) (more : List Opened) (t : Table) (older : List Table) (image : Image) (held : IsHeld spelling settings first t image)
-    (blocks : Cached) (number : ℕ) (is : number ≡ number_of blocks.first (length more)) where
+    (blocks : Cached) (number : ℕ) (is : number ≡ cache_number blocks.first (length more)) where
   -- it says what its table says
   pub read_true : (read : Option BlockRead) (buffer : Bytes) (after : Cached) → IfSome read (λ r. IsReadHere r number buffer after) → IfSome read (λ r. SaysOf r.block (take r.size buffer) first (joined held.blocks))
       → IfSome read (λ r. r.number < past_cache → IsTrueOf blocks.first (r.number, r.block) (take r.size buffer) (first ∷ more) (t ∷ older))
@@ -212,7 +212,7 @@ module _ (spelling : Spelling) (settings : Settings) (first : Opened) (more : Li
 -- ---- and then the older ones
 
 -- the block that was read last
-module _ (old mid new : Cached) (same : AreSame old mid) (later_same : AreSame mid new) (number behind : ℕ) (is : number ≡ number_of old.first behind) (before after : Bytes) where
+module _ (old mid new : Cached) (same : AreSame old mid) (later_same : AreSame mid new) (number behind : ℕ) (is : number ≡ cache_number old.first behind) (before after : Bytes) where
   pub read_later : (later here : Option BlockRead) → IfSome later (λ r. IsReadIn r after new behind) → (later ≡ None → after ≡ before) → IfSome here (λ r. IsReadHere r number before mid)
       → IfSome (option_or later here) (λ r. IsReadIn r after new (suc behind))
   read_later (Some r) here there stays of = record {
@@ -223,7 +223,7 @@ module _ (old mid new : Cached) (same : AreSame old mid) (later_same : AreSame m
   read_later None None there stays of = tt
   read_later None (Some r) there stays of =
       let first_is : new.first ≡ old.first = later_same.first ∙ same.first in
-      read_first (Some r) after new number behind (is ∙ ap (λ (n : ℕ). number_of n behind) (sym first_is))
+      read_first (Some r) after new number behind (is ∙ ap (λ (n : ℕ). cache_number n behind) (sym first_is))
       (of.0, subst (IsBlockIn r.size) (sym (stays refl)) of.1, later_same.kept (number, r.block) ∙ of.2)
 
   pub unread_both : (later here : Option BlockRead) (first : Bytes) → (later ≡ None → after ≡ before) → (here ≡ None → before ≡ first) → option_or later here ≡ None → after ≡ first
@@ -240,7 +240,7 @@ module _ (old : Cached) (o : Opened) (more : List Opened) (t : Table) (older : L
       → Says here before (o ∷ more) (t ∷ older) → Says (option_or later here) after (o ∷ more) (t ∷ older)
   true_later mid new (Some r) here same later_same there says stays of = λ given.
       let first_is : new.first ≡ old.first = later_same.first ∙ same.first in
-      next_true old.first o more t older r.number r.block (take r.size after) (subst (λ (n : ℕ). r.number < number_of n (length more)) first_is (there.given given))
+      next_true old.first o more t older r.number r.block (take r.size after) (subst (λ (n : ℕ). r.number < cache_number n (length more)) first_is (there.given given))
       (subst (λ (n : ℕ). IsTrueOf n (r.number, r.block) (take r.size after) more older) same.first (says given))
   true_later mid new None None same later_same there says stays of = tt
   true_later mid new None (Some r) same later_same there says stays of =
@@ -267,5 +267,5 @@ unkept_within laws spelling settings blocks key image (o ∷ more) [] held = eli
 unkept_within laws spelling settings blocks key image (o ∷ more) (t ∷ older) held =
     subst (λ (b : Bool). unkept blocks key (o ∷ more) (t ∷ older) ≤ cond b (suc (unless_found (lookup t.entries key) (searched settings key older))) (searched settings key older))
     (read_where_searched laws spelling settings o t image held.0 key)
-    (one_more blocks.kept (number_of blocks.first (length more)) (block_for o key) (lookup t.entries key) (unkept blocks key more older) (searched settings key older)
+    (one_more blocks.kept (cache_number blocks.first (length more)) (block_for o key) (lookup t.entries key) (unkept blocks key more older) (searched settings key older)
     (unkept_within laws spelling settings blocks key image more older held.1))

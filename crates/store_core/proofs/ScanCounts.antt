@@ -17,7 +17,7 @@ use Rattle.state_model.specs.Sound.{IsSound, IsSoundTable}
 use Rattle.state_model.specs.State.{State}
 use Rattle.state_model.specs.View.{entries_of, oldest_first, state_map}
 use Rattle.store_core.proofs.ScanStates.{crossed_key}
-use Rattle.store_core.specs.Answers.{IsRun}
+use Rattle.store_core.specs.Answers.{IsTried}
 use Rattle.store_core.specs.Counts.{IsCountRefusal}
 use Rattle.store_core.specs.Getting.{IsMet, IsUndamaged}
 use Rattle.store_core.specs.Scans.{IsScanRefusal, IsScanShown, IsStepFault}
@@ -127,7 +127,7 @@ scan_count stopped broken a error.NotAStore is = is
 scan_count stopped broken a error.AlreadyAStore is = is
 scan_count stopped broken a (error.BadSettings field) is = is
 
-pub step_count : (stopped : Bool) (broken : Option Reply) (a b c : World) (why : StoreError) → a.seen.read_faults ≤ b.seen.read_faults → IsRun stopped broken → IsStepFault b c why → IsCountRefusal stopped broken a c why
+pub step_count : (stopped : Bool) (broken : Option Reply) (a b c : World) (why : StoreError) → a.seen.read_faults ≤ b.seen.read_faults → IsTried stopped broken → IsStepFault b c why → IsCountRefusal stopped broken a c why
 step_count stopped broken a b c error.Memory earlier run is = absurd is
 step_count stopped broken a b c (error.Device cause) earlier run is = (run, (is.0, omega (arith, earlier, is.1)))
 step_count stopped broken a b c error.Stopped earlier run is = absurd is

@@ -31,7 +31,7 @@ use Rattle.table_model.specs.Images.{StandsInExtent}
 use Rattle.table_model.specs.Tables.{Table}
 use Rattle.store_core.specs.Kept.{Kept}
 use Rattle.store_core.specs.Running.{HasMoreToMake, IsRun, MayRunIn, RunsAs, extents_with}
-use Rattle.store_core.specs.Tending.{IsBegun, IsNext}
+use Rattle.store_core.specs.Tending.{IsBegunAmong, IsNext}
 use Rattle.store_core.specs.Tied.{IsUnder}
 use Rattle.store_core.proofs.Runs.{follows_as, none_runs}
 
@@ -146,7 +146,7 @@ begun_has_more tables p set may =
     let many = sym (length-map (begun p set tables).merge.walks number_of_walk) ∙ ap length (numbers_from tables [] p.inputs) in
     omega (arith, may.some, many)
 
-pub begun_may_run : (v : Version) (tables : List Opened) (set : Settings) (found : Option Merging) → IsVersion v → IsBegun tables set found → MayRunIn v tables found
+pub begun_may_run : (v : Version) (tables : List Opened) (set : Settings) (found : Option Merging) → IsVersion v → IsBegunAmong tables set found → MayRunIn v tables found
 begun_may_run v tables set None version is = tt
 begun_may_run v tables set (Some m) version is =
     subst (λ (x : Merging). IsRun v tables x × HasMoreToMake x) (sym is.2) (begun_runs v tables is.0 set version is.1, begun_has_more tables is.0 set is.1)
@@ -156,7 +156,7 @@ begun_may_run v tables set (Some m) version is =
 module _ (spelling : Spelling) (store : Kept) (s : State) (agrees : StandingAgrees) (begins : BegunFollows) (set : Settings) (same : set ≡ settings_of store.manifest.version)
     (none : store.job ≡ None) (image : Image) (under : IsUnder spelling store.manifest store.tables store.job s image) where
   -- the one that begins
-  pub next_of_begun : (found : Option Merging) → IsBegun store.tables set found → IsNext spelling store s found
+  pub next_of_begun : (found : Option Merging) → IsBegunAmong store.tables set found → IsNext spelling store s found
   next_of_begun None is = next_none spelling store s image none under (is s.tables (all_agree agrees spelling s.settings image store.tables s.tables under.tables))
   next_of_begun (Some m) is =
       subst (λ (x : Merging). IsNext spelling store s (Some x)) (sym is.2)

@@ -20,7 +20,7 @@ use Rattle.filter_api.specs.Spellings.{Spelling}
 use Rattle.filter_model.specs.Leaves.{Leaf}
 use Rattle.level_merge.specs.Merging.{AreAllWritten, Merging}
 use Rattle.level_merge.specs.Outputs.{extent_at}
-use Rattle.level_merge.specs.Slices.{AddsOutput, IsRowOf, IsWithin, SliceMoves}
+use Rattle.level_merge.specs.Slices.{AddsOutput, IsRowOf, MayMakeAsMany, SliceMoves}
 use Rattle.level_merge.specs.declared.fault.JobFault.{JobFault}
 use Rattle.level_merge.specs.declared.fault.Sliced.{Sliced}
 use Rattle.level_merge.specs.declared.fault.Sliced.TheVariants as sliced
@@ -98,11 +98,11 @@ module _ (spelling : Spelling) (cutoff : ℕ → List Leaf → ℕ) (v : Version
       walks_are : numbers new.merge.walks ≡ numbers old.merge.walks → length new.merge.walks ≡ length old.merge.walks
       walks_are same = sym (length-map new.merge.walks number_of_walk) ∙ ap length same ∙ length-map old.merge.walks number_of_walk
 
-      few_by : (said : Sliced) → HasMoreToMake old → IsWithin old new said → length new.outputs ≤ length old.merge.walks
+      few_by : (said : Sliced) → HasMoreToMake old → MayMakeAsMany old new said → length new.outputs ≤ length old.merge.walks
       few_by sliced.Working more within = omega (arith, more, within)
       few_by sliced.Ready more within = omega (arith, more, within)
 
-      pub slice_runs : (said : Sliced) → old.output ≤ 6 → HasMoreToMake old → numbers new.merge.walks ≡ numbers old.merge.walks → AreAllWritten new → IsWithin old new said → IsRun v tables new
+      pub slice_runs : (said : Sliced) → old.output ≤ 6 → HasMoreToMake old → numbers new.merge.walks ≡ numbers old.merge.walks → AreAllWritten new → MayMakeAsMany old new said → IsRun v tables new
       slice_runs said small more same written within =
           let walks = walks_are same in
           let few = few_by said more within in
@@ -115,7 +115,7 @@ module _ (spelling : Spelling) (cutoff : ℕ → List Leaf → ℕ) (v : Version
             few = omega (arith, few, walks);
           }
 
-      pub slice_has_more : HasMoreToMake old → numbers new.merge.walks ≡ numbers old.merge.walks → IsWithin old new sliced.Working → HasMoreToMake new
+      pub slice_has_more : HasMoreToMake old → numbers new.merge.walks ≡ numbers old.merge.walks → MayMakeAsMany old new sliced.Working → HasMoreToMake new
       slice_has_more more same within = let walks = walks_are same in omega (arith, more, within, walks)
 
       moved_by : SliceMoves spelling cutoff old new free after a b → SomeMoves (page_bytes * v.pages) a b
@@ -129,12 +129,12 @@ module _ (spelling : Spelling) (cutoff : ℕ → List Leaf → ℕ) (v : Version
       slice_moved = moved_by moves
 
       -- so it is of a slice that is answered, and nothing is said of one that is refused
-      pub slices_run : (r : Result Sliced JobFault) → old.output ≤ 6 → HasMoreToMake old → numbers new.merge.walks ≡ numbers old.merge.walks → OnOk r (AreAllWritten new) → IfOk r (IsWithin old new)
+      pub slices_run : (r : Result Sliced JobFault) → old.output ≤ 6 → HasMoreToMake old → numbers new.merge.walks ≡ numbers old.merge.walks → OnOk r (AreAllWritten new) → IfOk r (MayMakeAsMany old new)
           → OnOk r (IsRun v tables new)
       slices_run (Ok said) small more same written within = slice_runs said small more same written within
       slices_run (Err why) small more same written within = tt
 
-      pub slices_more : (r : Result Sliced JobFault) → HasMoreToMake old → numbers new.merge.walks ≡ numbers old.merge.walks → IfOk r (IsWithin old new)
+      pub slices_more : (r : Result Sliced JobFault) → HasMoreToMake old → numbers new.merge.walks ≡ numbers old.merge.walks → IfOk r (MayMakeAsMany old new)
           → IfOk r (λ (said : Sliced). said ≡ sliced.Working → HasMoreToMake new)
-      slices_more (Ok said) more same within = λ is. slice_has_more more same (subst (IsWithin old new) is within)
+      slices_more (Ok said) more same within = λ is. slice_has_more more same (subst (MayMakeAsMany old new) is within)
       slices_more (Err why) more same within = tt

@@ -91,8 +91,8 @@ HasCause old new WriteFailed = Rose old.seen.write_faults new.seen.write_faults
 HasCause old new (DamageMet damage) = ⊥
 
 -- the call is tried: the store is not stopped, and no limit is broken
-abbrev pub IsRun : Bool → Option Reply → Type 0
-IsRun stopped broken = (stopped ≡ false) × (broken ≡ None)
+abbrev pub IsTried : Bool → Option Reply → Type 0
+IsTried stopped broken = (stopped ≡ false) × (broken ≡ None)
 
 -- a limit of the key or the value is the one that is broken; those of tables and of the epoch are met behind them
 abbrev pub IsLimitAt : Option Reply → Limit → Type 0
@@ -103,11 +103,11 @@ IsLimitAt broken limit.Epoch = broken ≡ None
 
 -- why an entry is not written, or the memory not flushed, of a store that was stopped or not, where this limit was broken
 abbrev pub IsWriteRefusal : Bool → Option Reply → World → World → StoreError → Type 0
-IsWriteRefusal stopped broken old new error.Memory = IsRun stopped broken
-IsWriteRefusal stopped broken old new (error.Device cause) = IsRun stopped broken × (is_write cause.op ≡ true) × Rose old.seen.write_faults new.seen.write_faults
+IsWriteRefusal stopped broken old new error.Memory = IsTried stopped broken
+IsWriteRefusal stopped broken old new (error.Device cause) = IsTried stopped broken × (is_write cause.op ≡ true) × Rose old.seen.write_faults new.seen.write_faults
 IsWriteRefusal stopped broken old new error.Stopped = stopped ≡ true
 IsWriteRefusal stopped broken old new (error.Limit limit) = (stopped ≡ false) × IsLimitAt broken limit
-IsWriteRefusal stopped broken old new (error.Full need gap) = IsRun stopped broken
+IsWriteRefusal stopped broken old new (error.Full need gap) = IsTried stopped broken
 IsWriteRefusal stopped broken old new (error.Damaged damage) = ⊥
 IsWriteRefusal stopped broken old new error.NotAStore = ⊥
 IsWriteRefusal stopped broken old new error.AlreadyAStore = ⊥

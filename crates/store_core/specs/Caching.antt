@@ -24,12 +24,12 @@ abbrev pub past_cache : ℕ
 past_cache = 2 ^ 64 - 1
 
 -- the number of a table behind which so many stand: numbers go on from that of the last table, until they run out
-abbrev pub number_of : ℕ → ℕ → ℕ
-number_of first behind = min (first + behind) past_cache
+abbrev pub cache_number : ℕ → ℕ → ℕ
+cache_number first behind = min (first + behind) past_cache
 
 -- so many tables are given numbers anew
 abbrev pub renumbered : Cached → ℕ → Cached
-renumbered blocks tables = record blocks { first = number_of blocks.first tables }
+renumbered blocks tables = record blocks { first = cache_number blocks.first tables }
 
 -- the same blocks are kept, in whatever order
 pub record AreSame (old new : Cached) : Type 0 where
@@ -48,7 +48,7 @@ AreSound kept = (place : BlockPlace) (bytes : Bytes) → kept_of place kept ≡ 
 
 -- each was kept under a number that was given: one below that of the next table, where there are so many
 abbrev pub AreNumbered : Cached → ℕ → Type 0
-AreNumbered blocks tables = (place : BlockPlace) (bytes : Bytes) → kept_of place blocks.kept ≡ Some bytes → place.0 < number_of blocks.first tables
+AreNumbered blocks tables = (place : BlockPlace) (bytes : Bytes) → kept_of place blocks.kept ≡ Some bytes → place.0 < cache_number blocks.first tables
 
 -- the bytes say of each key, for which the block number n of the table is read, what is said by these entries
 abbrev pub SaysOf : ℕ → Bytes → Opened → List Entry → Type 0
@@ -59,7 +59,7 @@ abbrev pub IsTrueOf : ℕ → BlockPlace → Bytes → List Opened → List Tabl
 IsTrueOf first place bytes [] tables = Unit {0}
 IsTrueOf first place bytes (opened ∷ more) [] = Unit {0}
 IsTrueOf first place bytes (opened ∷ more) (t ∷ tables) =
-    (number_of first (length more) ≡ place.0 → SaysOf place.1 bytes opened t.entries) × IsTrueOf first place bytes more tables
+    (cache_number first (length more) ≡ place.0 → SaysOf place.1 bytes opened t.entries) × IsTrueOf first place bytes more tables
 
 -- each kept block says what its table says
 abbrev pub AreTrue : Cached → List Opened → List Table → Type 0
@@ -86,4 +86,4 @@ abbrev pub unkept : Cached → Bytes → List Opened → List Table → ℕ
 unkept blocks key [] tables = 0
 unkept blocks key (opened ∷ more) [] = 0
 unkept blocks key (opened ∷ more) (t ∷ tables) =
-    reads_for blocks.kept (number_of blocks.first (length more)) (block_for opened key) + unless_found (lookup t.entries key) (unkept blocks key more tables)
+    reads_for blocks.kept (cache_number blocks.first (length more)) (block_for opened key) + unless_found (lookup t.entries key) (unkept blocks key more tables)

@@ -15,7 +15,7 @@ use Rattle.state_model.specs.Bounds.{get_bound, unless_found}
 use Rattle.state_model.specs.State.{State}
 use Rattle.state_model.specs.View.{memory}
 use Rattle.store_core.specs.Answers.{told_limit}
-use Rattle.store_core.specs.Caching.{Cached, IsFirst, MayKeep, number_of, past_cache, said_by, unkept}
+use Rattle.store_core.specs.Caching.{Cached, IsFirst, MayKeep, cache_number, past_cache, said_by, unkept}
 use Rattle.store_core.specs.Kept.{Kept}
 use Rattle.store_core.specs.Tied.{Tied}
 use Rattle.store_core.specs.declared.getting.BlockRead.{BlockRead}
@@ -77,7 +77,7 @@ said_at (place.InTable spot) store key = said_in (Some spot) store.buffer store.
 -- a block that was read into a buffer breaks no rule, is not kept, and its table is one of so many, if that has a number
 pub record IsReadIn (read : BlockRead) (buffer : Bytes) (blocks : Cached) (tables : ℕ) : Type 0 where
   pub block : IsBlockIn read.size buffer
-  pub given : read.number < past_cache → read.number < number_of blocks.first tables
+  pub given : read.number < past_cache → read.number < cache_number blocks.first tables
   pub new : kept_of (read.number, read.block) blocks.kept ≡ None
 
 -- where a block was read, it is kept as far as it may be

@@ -16,7 +16,7 @@ use Rattle.merge_rows.specs.Rows.{KeyFloor, clears}
 use Rattle.merge_rows.specs.Steps.{IsSoundMerge}
 use Rattle.state_model.specs.Bounds.{is_passed, seek_bound}
 use Rattle.state_model.specs.State.{State}
-use Rattle.store_core.specs.Answers.{IsRun, told_limit}
+use Rattle.store_core.specs.Answers.{IsTried, told_limit}
 use Rattle.store_core.specs.Getting.{ReadRose}
 use Rattle.level_merge.specs.Held.{AreHeld}
 use Rattle.store_core.specs.declared.error.StoreError.{StoreError}
@@ -150,7 +150,7 @@ left_behind false left = Some 0
 
 -- why there is no scan, of a store that was stopped or not, where this limit was broken
 abbrev pub IsScanRefusal : Bool → Option Reply → StoreError → Type 0
-IsScanRefusal stopped broken error.Memory = IsRun stopped broken
+IsScanRefusal stopped broken error.Memory = IsTried stopped broken
 IsScanRefusal stopped broken error.Stopped = stopped ≡ true
 IsScanRefusal stopped broken (error.Limit limit) = (stopped ≡ false) × (broken ≡ Some (told_limit limit))
 IsScanRefusal stopped broken (error.Device cause) = ⊥

@@ -1,4 +1,4 @@
--- What a slice of a merge is answered by a store: it is a merge slice of its state.
+-- What a merge slice is answered by a store: it is one of its state.
 use Rattle.std.specs.Prelude.{◌≡◌, ◌<◌, ℕ, Bool, true, false, List, Option, Some, None, Result, Ok, Err, IsErr, MatchResult}
 use Rattle.std.specs.Option.{option_map}
 use Rattle.disk_trait.specs.Image.{Image}
@@ -81,9 +81,9 @@ SomeMoves bytes old new = (most : ℕ) × Moves 0 bytes most old new
 
 -- A merge that begins among some tables is that of a plan, which each state that has these tables chooses. Where there is none
 -- no such state chooses one.
-abbrev pub IsBegun : List Opened → Settings → Option Merging → Type 0
-IsBegun tables settings None = NoneIsChosen tables
-IsBegun tables settings (Some m) =
+abbrev pub IsBegunAmong : List Opened → Settings → Option Merging → Type 0
+IsBegunAmong tables settings None = NoneIsChosen tables
+IsBegunAmong tables settings (Some m) =
     (p : PlanByNumbers) × MayStart tables p × (m ≡ begun p settings tables) × ((of_state : List Table) → Agree tables of_state → IsPlanOf of_state (Some p) (choose of_state))
 
 -- The merge that runs, or one that begins where none does, is that of a job of the state, as each image on which the store stands

@@ -3,7 +3,7 @@ ghost use Rattle.std.specs.Prelude.{◌≡◌, is_some, None, IfOk, IfSome};
 ghost use Rattle.std.specs.Option.{option_map};
 ghost use Rattle.block_cache.specs.Kept.{brought_first, kept_of};
 ghost use Rattle.block_model.specs.BlockReading.{block_fault};
-ghost use Rattle.store_core.specs.Caching.{Cached, MayKeep, none_cached, number_of, renumbered, said_by};
+ghost use Rattle.store_core.specs.Caching.{Cached, MayKeep, cache_number, none_cached, renumbered, said_by};
 
 use block_cache::BlockCache;
 use block_format::Block;
@@ -45,7 +45,7 @@ impl CachedBlocks {
     /// The number of a table behind which so many stand. Once numbers have run out it is that of all tables that are read past
     /// the cache.
     pub(crate) fn number(&self, behind: usize) -> u64
-        ensures { result ≡ number_of self.now.first behind }
+        ensures { result ≡ cache_number self.now.first behind }
     {
         self.first.saturating_add(behind as u64)
     }

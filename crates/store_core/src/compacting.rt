@@ -10,7 +10,7 @@ ghost use Rattle.line_model.specs.Requests.{Compact as compact_line};
 ghost use Rattle.manifest_model.specs.Laws.{IsVersion, RowFits};
 ghost use Rattle.state_model.specs.State.{State, without_job};
 ghost use Rattle.state_model.specs.View.{state_map};
-ghost use Rattle.store_core.specs.Answers.{Answered, IsRun, stopped_by, stops, told_change};
+ghost use Rattle.store_core.specs.Answers.{Answered, IsTried, stopped_by, stops, told_change};
 ghost use Rattle.store_core.specs.Compacting.{AreAllMade, AreCompact, FailsSo, IsCompactFault, IsCompactRefusal, IsHeldBy, IsInstalledWhole, IsWritingCause, IsWritingFault, StandAlone, compacted_manifest};
 ghost use Rattle.store_core.specs.Faults.{of_job_fault};
 ghost use Rattle.store_core.specs.Kept.{rows_of};
@@ -180,7 +180,7 @@ impl<F: RangeFilter> Store<F> {
     pub fn compact<D: Disk>(&mut self, disk: &mut D) -> Result<(), StoreError>
         ensures answered { (s : State) → IsTrue D.tells → self.old.stopped ≡ false → Tied F.spelling (filter_bytes_of F.spelling F.built_cutoff) self.old s (D.world disk.old)
             → Answered F.spelling (filter_bytes_of F.spelling F.built_cutoff) s compact_line (told_change result) self.new (D.world disk.old) (D.world disk.new) }
-        ensures refused { MatchResult result (λ _. IsRun self.old.stopped None) (IsCompactRefusal self.old.stopped self.old.manifest.version.epoch (D.world disk.old) (D.world disk.new)) }
+        ensures refused { MatchResult result (λ _. IsTried self.old.stopped None) (IsCompactRefusal self.old.stopped self.old.manifest.version.epoch (D.world disk.old) (D.world disk.new)) }
         ensures shown { IsTrue D.tells → IfErr result (IsScanShown self.old.tables (D.world disk.new).seen.held) }
         ensures dropped { self.old.stopped ≡ false → self.new.job ≡ None }
         ensures stopped { self.new.stopped ≡ (self.old.stopped || stopped_by result) }

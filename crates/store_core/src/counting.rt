@@ -8,7 +8,7 @@ ghost use Rattle.merge_rows.specs.Reads.{OnlyReads};
 ghost use Rattle.state_model.specs.Bounds.{seek_bound};
 ghost use Rattle.state_model.specs.State.{State};
 ghost use Rattle.state_model.specs.View.{state_map};
-ghost use Rattle.store_core.specs.Answers.{IsRun};
+ghost use Rattle.store_core.specs.Answers.{IsTried};
 ghost use Rattle.store_core.specs.Getting.{IsMet, IsUndamaged};
 ghost use Rattle.store_core.specs.Counts.{IsCountRefusal};
 ghost use Rattle.store_core.specs.Scans.{IsScanShown};
@@ -33,7 +33,7 @@ impl<F: RangeFilter> Store<F> {
         ensures undamaged { (s : State) → IsTrue D.tells → Tied F.spelling (filter_bytes_of F.spelling F.built_cutoff) self.now s (D.world disk.old) → IfErr result IsUndamaged }
         ensures shown { IsTrue D.tells → IfErr result (IsScanShown self.now.tables (D.world disk.old).seen.held) }
         ensures met { (s : State) → IsTrue D.tells → Tied F.spelling (filter_bytes_of F.spelling F.built_cutoff) self.now s (D.world disk.old) → IfErr result (IsMet (seek_bound s low.now high.now)) }
-        ensures refused { MatchResult result (λ _. IsRun self.now.stopped (limit_of (Count low.now high.now))) (IsCountRefusal self.now.stopped (limit_of (Count low.now high.now)) (D.world disk.old) (D.world disk.new)) }
+        ensures refused { MatchResult result (λ _. IsTried self.now.stopped (limit_of (Count low.now high.now))) (IsCountRefusal self.now.stopped (limit_of (Count low.now high.now)) (D.world disk.old) (D.world disk.new)) }
         ensures still { self.now.stopped ≡ true → ReadMoves 0 (D.world disk.old) (D.world disk.new) }
         ensures crossed { is_before high.now low.now ≡ true → ReadMoves 0 (D.world disk.old) (D.world disk.new) }
         ensures limited { limit_of (Count low.now high.now) ≢ None → ReadMoves 0 (D.world disk.old) (D.world disk.new) }

@@ -8,7 +8,7 @@ ghost use Rattle.line_model.specs.Requests.{Estimate, Explain};
 ghost use Rattle.map_model.specs.Slices.{is_before, is_between};
 ghost use Rattle.state_model.specs.Bounds.{admitted, blocks_read, estimate};
 ghost use Rattle.state_model.specs.State.{State};
-ghost use Rattle.store_core.specs.Answers.{IsRun};
+ghost use Rattle.store_core.specs.Answers.{IsTried};
 ghost use Rattle.store_core.specs.Telling.{IsAskRefusal, is_admitting, is_read_for, tally_of};
 ghost use Rattle.store_core.specs.Tied.{IsSeenAs};
 ghost use Rattle.table_model.specs.Tables.{filter_bytes_of};
@@ -95,7 +95,7 @@ impl<F: RangeFilter> Store<F> {
     pub fn estimate(&self, low: &[u8], high: &[u8]) -> Result<u64, StoreError>
         ensures answer { (s : State) (image : Image) → IsSeenAs F.spelling (filter_bytes_of F.spelling F.built_cutoff) self.now s image
             → IfOk result (λ n. n ≡ estimate s low.now high.now) }
-        ensures refused { MatchResult result (λ _. IsRun self.now.stopped (limit_of (Estimate low.now high.now))) (IsAskRefusal self.now.stopped (limit_of (Estimate low.now high.now))) }
+        ensures refused { MatchResult result (λ _. IsTried self.now.stopped (limit_of (Estimate low.now high.now))) (IsAskRefusal self.now.stopped (limit_of (Estimate low.now high.now))) }
     {
         if self.stopped {
             return Err(StoreError::Stopped);
@@ -114,7 +114,7 @@ impl<F: RangeFilter> Store<F> {
     pub fn explain(&self, key: &[u8]) -> Result<Explained, StoreError>
         ensures answer { (s : State) (image : Image) → IsSeenAs F.spelling (filter_bytes_of F.spelling F.built_cutoff) self.now s image
             → IfOk result (λ e. (e.tables ≡ length s.tables) × (e.admitted ≡ admitted s key.now) × (e.blocks ≡ blocks_read s key.now)) }
-        ensures refused { MatchResult result (λ _. IsRun self.now.stopped (limit_of (Explain key.now))) (IsAskRefusal self.now.stopped (limit_of (Explain key.now))) }
+        ensures refused { MatchResult result (λ _. IsTried self.now.stopped (limit_of (Explain key.now))) (IsAskRefusal self.now.stopped (limit_of (Explain key.now))) }
     {
         if self.stopped {
             return Err(StoreError::Stopped);

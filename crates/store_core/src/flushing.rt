@@ -16,7 +16,7 @@ ghost use Rattle.manifest_model.specs.Version.{log_page_of};
 ghost use Rattle.state_model.specs.Changes.{flushed};
 ghost use Rattle.state_model.specs.State.{State};
 ghost use Rattle.state_model.specs.View.{memory};
-ghost use Rattle.store_core.specs.Answers.{Answered, IsRun, IsWriteRefusal, Wrote, stopped_by, told_change};
+ghost use Rattle.store_core.specs.Answers.{Answered, IsTried, IsWriteRefusal, Wrote, stopped_by, told_change};
 ghost use Rattle.store_core.specs.Flushing.{IsFlushFault, IsNoPlace, IsPlan, IsPlanRefusal, Replaces, next_manifest};
 ghost use Rattle.store_core.specs.Kept.{IsWhole, Kept};
 ghost use Rattle.store_core.specs.Running.{extents_with, outputs_in};
@@ -221,7 +221,7 @@ impl<F: RangeFilter> Store<F> {
     pub fn flush<D: Disk>(&mut self, disk: &mut D) -> Result<(), StoreError>
         ensures answered { (s : State) → IsTrue D.tells → self.old.stopped ≡ false → Tied F.spelling (filter_bytes_of F.spelling F.built_cutoff) self.old s (D.world disk.old)
             → Answered F.spelling (filter_bytes_of F.spelling F.built_cutoff) s flush_line (told_change result) self.new (D.world disk.old) (D.world disk.new) }
-        ensures refused { MatchResult result (λ _. IsRun self.old.stopped None) (IsWriteRefusal self.old.stopped None (D.world disk.old) (D.world disk.new)) }
+        ensures refused { MatchResult result (λ _. IsTried self.old.stopped None) (IsWriteRefusal self.old.stopped None (D.world disk.old) (D.world disk.new)) }
         ensures stopped { self.new.stopped ≡ (self.old.stopped || stopped_by result) }
         ensures still { self.old.stopped ≡ true → ReadMoves 0 (D.world disk.old) (D.world disk.new) }
         ensures moves { WriteMoves 0 (page_bytes * self.old.manifest.version.pages) (D.world disk.old) (D.world disk.new) }

@@ -13,7 +13,7 @@ ghost use Rattle.map_model.specs.SortedMap.{Bytes, get};
 ghost use Rattle.state_model.specs.Bounds.{searched};
 ghost use Rattle.state_model.specs.State.{State};
 ghost use Rattle.state_model.specs.View.{first_found, state_map, view};
-ghost use Rattle.store_core.specs.Caching.{AreNumbered, AreSame, AreTrue, IsFirst, IsTrueOf, SaysOf, number_of, past_cache, reads_for, said_by, unkept};
+ghost use Rattle.store_core.specs.Caching.{AreNumbered, AreSame, AreTrue, IsFirst, IsTrueOf, SaysOf, cache_number, past_cache, reads_for, said_by, unkept};
 ghost use Rattle.store_core.specs.Getting.{IsBlockFault, IsBlockIn, IsFaultIn, IsFoundAt, IsLookFault, IsPlaceIn, IsReadIn, IsSpotIn, MayKeepRead, entries_by_table, said_at, said_in};
 ghost use Rattle.store_core.specs.Kept.{Kept};
 ghost use Rattle.level_merge.specs.Held.{AreHeld};

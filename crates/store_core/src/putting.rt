@@ -9,7 +9,7 @@ ghost use Rattle.line_model.specs.Limits.{limit_of};
 ghost use Rattle.line_model.specs.Requests.{Del, Put};
 ghost use Rattle.state_model.specs.Changes.{logged, written};
 ghost use Rattle.state_model.specs.State.{State};
-ghost use Rattle.store_core.specs.Answers.{Answered, IsRun, IsWriteFailure, IsWriteRefusal, Turns, Wrote, stopped_by, told_change};
+ghost use Rattle.store_core.specs.Answers.{Answered, IsTried, IsWriteFailure, IsWriteRefusal, Turns, Wrote, stopped_by, told_change};
 ghost use Rattle.store_core.specs.Tied.{Tied};
 ghost use Rattle.table_model.specs.Tables.{filter_bytes_of};
 
@@ -30,7 +30,7 @@ impl<F: RangeFilter> Store<F> {
     pub fn put<D: Disk>(&mut self, disk: &mut D, key: &[u8], value: &[u8]) -> Result<(), StoreError>
         ensures answered { (s : State) → IsTrue D.tells → self.old.stopped ≡ false → Tied F.spelling (filter_bytes_of F.spelling F.built_cutoff) self.old s (D.world disk.old)
             → Answered F.spelling (filter_bytes_of F.spelling F.built_cutoff) s (Put key.now value.now) (told_change result) self.new (D.world disk.old) (D.world disk.new) }
-        ensures refused { MatchResult result (λ _. IsRun self.old.stopped (limit_of (Put key.now value.now))) (IsWriteRefusal self.old.stopped (limit_of (Put key.now value.now)) (D.world disk.old) (D.world disk.new)) }
+        ensures refused { MatchResult result (λ _. IsTried self.old.stopped (limit_of (Put key.now value.now))) (IsWriteRefusal self.old.stopped (limit_of (Put key.now value.now)) (D.world disk.old) (D.world disk.new)) }
         ensures stopped { self.new.stopped ≡ (self.old.stopped || stopped_by result) }
         ensures still { self.old.stopped ≡ true → ReadMoves 0 (D.world disk.old) (D.world disk.new) }
         ensures moves { WriteMoves 0 (page_bytes * self.old.manifest.version.pages) (D.world disk.old) (D.world disk.new) }
@@ -47,7 +47,7 @@ impl<F: RangeFilter> Store<F> {
     pub fn delete<D: Disk>(&mut self, disk: &mut D, key: &[u8]) -> Result<(), StoreError>
         ensures answered { (s : State) → IsTrue D.tells → self.old.stopped ≡ false → Tied F.spelling (filter_bytes_of F.spelling F.built_cutoff) self.old s (D.world disk.old)
             → Answered F.spelling (filter_bytes_of F.spelling F.built_cutoff) s (Del key.now) (told_change result) self.new (D.world disk.old) (D.world disk.new) }
-        ensures refused { MatchResult result (λ _. IsRun self.old.stopped (limit_of (Del key.now))) (IsWriteRefusal self.old.stopped (limit_of (Del key.now)) (D.world disk.old) (D.world disk.new)) }
+        ensures refused { MatchResult result (λ _. IsTried self.old.stopped (limit_of (Del key.now))) (IsWriteRefusal self.old.stopped (limit_of (Del key.now)) (D.world disk.old) (D.world disk.new)) }
         ensures stopped { self.new.stopped ≡ (self.old.stopped || stopped_by result) }
         ensures still { self.old.stopped ≡ true → ReadMoves 0 (D.world disk.old) (D.world disk.new) }
         ensures moves { WriteMoves 0 (page_bytes * self.old.manifest.version.pages) (D.world disk.old) (D.world disk.new) }

@@ -15,7 +15,7 @@ ghost use Rattle.merge_rows.specs.Steps.{AreNumbersIn, IsSoundMerge, SourcesStay
 ghost use Rattle.state_model.specs.Bounds.{seek_bound};
 ghost use Rattle.state_model.specs.State.{State};
 ghost use Rattle.state_model.specs.View.{state_map};
-ghost use Rattle.store_core.specs.Answers.{IsRun};
+ghost use Rattle.store_core.specs.Answers.{IsTried};
 ghost use Rattle.store_core.specs.Getting.{IsLookFault, IsUndamaged};
 ghost use Rattle.store_core.specs.Scans.{IsScanRefusal, IsScanShown, IsStepFault, IsWalkShown, MayRead, StillComes, admits_keys, at_most, blocks_on_way, given, is_ended, left_behind, numbers_admitting, pair_in, pairs_up_to, opened_tables, step_bound};
 ghost use Rattle.store_core.specs.Tied.{IsSeenAs};
@@ -195,7 +195,7 @@ impl<F: RangeFilter> Store<F> {
         ensures met { (s : State) (image : Image) → IsSeenAs F.spelling (filter_bytes_of F.spelling F.built_cutoff) self.now s image
             → IfOk result (λ scan. 1 ≤ opened_tables scan → MayRead s low.now (option_map (λ h. h.now) high.entry)) }
         ensures made { IfOk result (λ scan. (scan.tables ≡ self.now.tables) × (scan.left ≡ None)) }
-        ensures refused { MatchResult result (λ _. IsRun self.now.stopped (limit_of (Seek low.now (option_map (λ h. h.now) high.entry)))) (IsScanRefusal self.now.stopped (limit_of (Seek low.now (option_map (λ h. h.now) high.entry)))) }
+        ensures refused { MatchResult result (λ _. IsTried self.now.stopped (limit_of (Seek low.now (option_map (λ h. h.now) high.entry)))) (IsScanRefusal self.now.stopped (limit_of (Seek low.now (option_map (λ h. h.now) high.entry)))) }
     {
         self.scan(low, high, None)
     }
@@ -211,7 +211,7 @@ impl<F: RangeFilter> Store<F> {
         ensures met { (s : State) (image : Image) → IsSeenAs F.spelling (filter_bytes_of F.spelling F.built_cutoff) self.now s image
             → IfOk result (λ scan. 1 ≤ opened_tables scan → MayRead s low.now (Some high.now)) }
         ensures made { IfOk result (λ scan. (scan.tables ≡ self.now.tables) × (scan.left ≡ Some most)) }
-        ensures refused { MatchResult result (λ _. IsRun self.now.stopped (limit_of (Range low.now high.now most))) (IsScanRefusal self.now.stopped (limit_of (Range low.now high.now most))) }
+        ensures refused { MatchResult result (λ _. IsTried self.now.stopped (limit_of (Range low.now high.now most))) (IsScanRefusal self.now.stopped (limit_of (Range low.now high.now most))) }
     {
         self.scan(low, Some(high), Some(most))
     }
@@ -230,7 +230,7 @@ impl<F: RangeFilter> Store<F> {
         ensures met { (s : State) (image : Image) → IsSeenAs F.spelling (filter_bytes_of F.spelling F.built_cutoff) self.now s image
             → IfOk result (λ scan. 1 ≤ opened_tables scan → MayRead s low.now (option_map (λ h. h.now) high.entry)) }
         ensures made { IfOk result (λ scan. (scan.tables ≡ self.now.tables) × (scan.left ≡ most)) }
-        ensures refused { MatchResult result (λ _. IsRun self.now.stopped (limit_of (Seek low.now (option_map (λ h. h.now) high.entry)))) (IsScanRefusal self.now.stopped (limit_of (Seek low.now (option_map (λ h. h.now) high.entry)))) }
+        ensures refused { MatchResult result (λ _. IsTried self.now.stopped (limit_of (Seek low.now (option_map (λ h. h.now) high.entry)))) (IsScanRefusal self.now.stopped (limit_of (Seek low.now (option_map (λ h. h.now) high.entry)))) }
     {
         if self.stopped {
             return Err(StoreError::Stopped);

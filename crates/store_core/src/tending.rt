@@ -14,7 +14,7 @@ ghost use Rattle.store_core.specs.Answers.{stopped_by};
 ghost use Rattle.store_core.specs.Kept.{IsWhole};
 ghost use Rattle.store_core.specs.Running.{HasMoreToMake, IsRun, MayRunIn};
 ghost use Rattle.store_core.specs.Scans.{IsScanShown};
-ghost use Rattle.store_core.specs.Tending.{IsBegun, IsNext, IsTended, IsTendRefusal, NoneIsChosen, SlicesJob, SomeMoves, Tends, answer_to, told_slice};
+ghost use Rattle.store_core.specs.Tending.{IsBegunAmong, IsNext, IsTended, IsTendRefusal, NoneIsChosen, SlicesJob, SomeMoves, Tends, answer_to, told_slice};
 ghost use Rattle.store_core.specs.Tied.{IsUnder, Tied};
 ghost use Rattle.table_model.specs.Tables.{filter_bytes_of};
 
@@ -49,7 +49,7 @@ fn next_job<F: RangeFilter>(
 ) -> Result<Option<Job<'static, F>>, StoreError>
     requires sound { IsVersion version.now.version }
     requires few { length tables.now.tables ≤ max_tables }
-    ensures begun { IfOk result (IsBegun tables.now.tables (settings_of version.now.version)) }
+    ensures begun { IfOk result (IsBegunAmong tables.now.tables (settings_of version.now.version)) }
     ensures memory { IfErr result (λ why. why ≡ StoreError.Memory) }
 {
     match choose(alloc, tables)? {

@@ -12,7 +12,7 @@ use Rattle.state_model.specs.Script.{Onward, turn_of}
 use Rattle.state_model.specs.State.{State}
 use Rattle.state_model.specs.Steps.{Step}
 use Rattle.store_core.specs.Answers as core
-use Rattle.store_core.specs.Answers.{HasCause, IsRun, IsWriteRefusal, stopped_by, told_change}
+use Rattle.store_core.specs.Answers.{HasCause, IsTried, IsWriteRefusal, stopped_by, told_change}
 use Rattle.store_core.specs.Kept.{Kept}
 use Rattle.store_core.specs.Tied.{Tied}
 use Rattle.store_core.specs.declared.error.Limit.TheVariants as limit
@@ -42,7 +42,7 @@ abbrev pub ChangeTold : {T : Type 0} → Result T StoreError → World → World
 ChangeTold changed a b = (reply : Reply) × (told_change changed ≡ Some reply) × IsTold changed a b reply
 
 pub change_told : {T : Type 0} (changed : Result T StoreError) (stopped : Bool) (broken : Option Reply) (a b : World) → stopped ≡ false
-    → MatchResult changed (λ _. IsRun stopped broken) (IsWriteRefusal stopped broken a b) → ChangeTold changed a b
+    → MatchResult changed (λ _. IsTried stopped broken) (IsWriteRefusal stopped broken a b) → ChangeTold changed a b
 change_told (Ok done) stopped broken a b runs refused = (Done, refl, inr (inl (refl, refl, refl, refl)))
 change_told (Err error.Memory) stopped broken a b runs refused = (Memory, refl, inr (inl (refl, refl, refl, refl)))
 change_told (Err (error.Device cause)) stopped broken a b runs refused = (Device, refl, inl (refl, inr refused.2, refl))
@@ -59,8 +59,8 @@ change_told (Err (error.BadSettings field)) stopped broken a b runs refused = ab
 
 -- a write meets no damage
 module _ {T : Type 0} (changed : Result T StoreError) (stopped : Bool) (broken : Option Reply) (a b : World) where
-  pub write_unharmed : MatchResult changed (λ _. IsRun stopped broken) (IsWriteRefusal stopped broken a b) → (damage : Damage) → changed ≡ Err (error.Damaged damage) → ⊥
-  write_unharmed refused damage is = subst (λ (c : Result T StoreError). MatchResult c (λ _. IsRun stopped broken) (IsWriteRefusal stopped broken a b)) is refused
+  pub write_unharmed : MatchResult changed (λ _. IsTried stopped broken) (IsWriteRefusal stopped broken a b) → (damage : Damage) → changed ≡ Err (error.Damaged damage) → ⊥
+  write_unharmed refused damage is = subst (λ (c : Result T StoreError). MatchResult c (λ _. IsTried stopped broken) (IsWriteRefusal stopped broken a b)) is refused
 
 -- it is told by some reply
 pub is_told : {T : Type 0} (changed : Result T StoreError) (a b : World) → ChangeTold changed a b → told_change changed ≢ None

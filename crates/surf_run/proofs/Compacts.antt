@@ -11,7 +11,7 @@ use Rattle.state_model.proofs.FaultsMet.{answer_plain, no_fault}
 use Rattle.state_model.specs.State.{State}
 use Rattle.state_model.specs.Steps.{Step, answer, answers, damage_met, no_memory, read_failed, write_failed}
 use Rattle.store_core.specs.Answers as core
-use Rattle.store_core.specs.Answers.{HasCause, IsRun, stopped_by, told_change}
+use Rattle.store_core.specs.Answers.{HasCause, IsTried, stopped_by, told_change}
 use Rattle.store_core.specs.Kept.{Kept}
 use Rattle.store_core.specs.Scans.{IsScanShown}
 use Rattle.store_core.specs.Tied.{Tied}
@@ -55,7 +55,7 @@ never_told_damage a b filter_bytes s reply after d damage = elim d as (λ r _ _.
 -- ---- what is known of its answer
 
 pub compact_told : {T : Type 0} (changed : Result T StoreError) (stopped : Bool) (epoch : ℕ) (a b : World) → stopped ≡ false
-    → MatchResult changed (λ _. IsRun stopped None) (IsCompactRefusal stopped epoch a b) → ChangeTold changed a b
+    → MatchResult changed (λ _. IsTried stopped None) (IsCompactRefusal stopped epoch a b) → ChangeTold changed a b
 compact_told (Ok done) stopped epoch a b runs refused = (Done, refl, inr (inl (refl, refl, refl, refl)))
 compact_told (Err error.Memory) stopped epoch a b runs refused = (Memory, refl, inr (inl (refl, refl, refl, refl)))
 compact_told (Err (error.Device cause)) stopped epoch a b runs refused =

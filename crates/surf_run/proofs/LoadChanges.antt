@@ -20,7 +20,7 @@ use Rattle.state_model.specs.State.{State}
 use Rattle.state_model.specs.Steps.{Step, answer}
 use Rattle.state_model.specs.View.{state_map}
 use Rattle.store_core.specs.Answers as core
-use Rattle.store_core.specs.Answers.{HasCause, IsRun, IsWriteRefusal, stopped_by, stops, told, told_change}
+use Rattle.store_core.specs.Answers.{HasCause, IsTried, IsWriteRefusal, stopped_by, stops, told, told_change}
 use Rattle.store_core.specs.Kept.{Kept}
 use Rattle.store_core.specs.Tied.{Tied}
 use Rattle.store_core.specs.declared.error.Limit.TheVariants as limit

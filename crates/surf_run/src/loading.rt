@@ -13,7 +13,7 @@ ghost use Rattle.merge_rows.specs.Reads.{OnlyReads};
 ghost use Rattle.outside.specs.Streams.{SayMoves, SaysPrefix};
 ghost use Rattle.state_model.specs.State.{State};
 ghost use Rattle.state_model.specs.View.{state_map};
-ghost use Rattle.store_core.specs.Answers.{Answered, IsRun, IsWriteRefusal, stopped_by, told_change};
+ghost use Rattle.store_core.specs.Answers.{Answered, IsTried, IsWriteRefusal, stopped_by, told_change};
 ghost use Rattle.store_core.specs.Counts.{IsCountRefusal};
 ghost use Rattle.store_core.specs.Getting.{IsUndamaged};
 ghost use Rattle.store_core.specs.Scans.{IsScanShown};
@@ -55,7 +55,7 @@ fn write_step<F: RangeFilter, W: Outside>(
     requires running { store.old.stopped ≡ false }
     ensures answered { (s : State) → IsTrue W.tells → Tied F.spelling (filter_bytes_of F.spelling F.built_cutoff) store.old s (W.world out.old)
         → Answered F.spelling (filter_bytes_of F.spelling F.built_cutoff) s (change_of (entry_of step.key step.value)) (told_change result) store.new (W.world out.old) (W.world out.new) }
-    ensures refused { MatchResult result (λ _. IsRun store.old.stopped (limit_of (change_of (entry_of step.key step.value)))) (IsWriteRefusal store.old.stopped (limit_of (change_of (entry_of step.key step.value))) (W.world out.old) (W.world out.new)) }
+    ensures refused { MatchResult result (λ _. IsTried store.old.stopped (limit_of (change_of (entry_of step.key step.value)))) (IsWriteRefusal store.old.stopped (limit_of (change_of (entry_of step.key step.value))) (W.world out.old) (W.world out.new)) }
     ensures stopped { store.new.stopped ≡ stopped_by result }
     ensures moves { WriteMoves 0 (page_bytes * store.old.manifest.version.pages) (W.world out.old) (W.world out.new) }
 {

@@ -10,35 +10,35 @@ use Rattle.block_model.specs.Block.{block_bytes}
 use Rattle.block_model.specs.Index.{IndexRow, index_row_of, row_pages}
 use Rattle.block_model.specs.Pages.{block_pages}
 use Rattle.block_model.proofs.Lengths.{block_fills}
-use Rattle.table_file.specs.BlockRows.{AreRowsOf, StandFrom, row_bytes, row_seen, rows_seen, summed, unsummed_row_of}
+use Rattle.table_file.specs.BlockRows.{AreRowsOf, StandFrom, block_at, row_seen, rows_seen, summed_rows, unsummed_row_of}
 use Rattle.table_file.specs.Search.{row_at}
 use Rattle.table_file.specs.declared.block_row.BlockRow.{BlockRow}
 use Rattle.table_file.proofs.Searches.{pages_within, row_of, stand_at}
 
 -- ---- sums change neither pages nor keys
 
-pub summed_long : (k : ℕ) (rows : List IndexRow) (bytes : Bytes) → length (summed k rows bytes) ≡ length rows
+pub summed_long : (k : ℕ) (rows : List IndexRow) (bytes : Bytes) → length (summed_rows k rows bytes) ≡ length rows
 summed_long zero rows bytes = refl
 summed_long (suc k) [] bytes = refl
 summed_long (suc k) (r ∷ later) bytes = omega (arith, summed_long k later (drop (4096 * r.pages) bytes))
 
-same_pages : (k n : ℕ) (rows : List IndexRow) (bytes : Bytes) → (row_at (summed k rows bytes) n).pages ≡ (row_at rows n).pages
+same_pages : (k n : ℕ) (rows : List IndexRow) (bytes : Bytes) → (row_at (summed_rows k rows bytes) n).pages ≡ (row_at rows n).pages
 same_pages zero n rows bytes = refl
 same_pages (suc k) n [] bytes = refl
 same_pages (suc k) zero (r ∷ later) bytes = refl
 same_pages (suc k) (suc n) (r ∷ later) bytes = same_pages k n later (drop (4096 * r.pages) bytes)
 
-same_before : (k n : ℕ) (rows : List IndexRow) (bytes : Bytes) → row_pages (take n (summed k rows bytes)) ≡ row_pages (take n rows)
+same_before : (k n : ℕ) (rows : List IndexRow) (bytes : Bytes) → row_pages (take n (summed_rows k rows bytes)) ≡ row_pages (take n rows)
 same_before zero n rows bytes = refl
 same_before (suc k) n [] bytes = refl
 same_before (suc k) zero (r ∷ later) bytes = refl
 same_before (suc k) (suc n) (r ∷ later) bytes =
     let rest = drop (4096 * r.pages) bytes in
     let one : IndexRow = record r { sum = fnv_of (take (4096 * r.pages) bytes) } in
-    omega (arith, same_before k n later rest, sum_by-cons (λ (x : IndexRow). x.pages) one (take n (summed k later rest)), sum_by-cons (λ (x : IndexRow). x.pages) r (take n later))
+    omega (arith, same_before k n later rest, sum_by-cons (λ (x : IndexRow). x.pages) one (take n (summed_rows k later rest)), sum_by-cons (λ (x : IndexRow). x.pages) r (take n later))
 
 -- the next one is as it was
-same_next : (n : ℕ) (rows : List IndexRow) (bytes : Bytes) → row_at (summed n rows bytes) n ≡ row_at rows n
+same_next : (n : ℕ) (rows : List IndexRow) (bytes : Bytes) → row_at (summed_rows n rows bytes) n ≡ row_at rows n
 same_next zero rows bytes = refl
 same_next (suc n) [] bytes = refl
 same_next (suc n) (r ∷ later) bytes = same_next n later (drop (4096 * r.pages) bytes)
@@ -46,7 +46,7 @@ same_next (suc n) (r ∷ later) bytes = same_next n later (drop (4096 * r.pages)
 -- ---- one more
 
 summed_more : (n : ℕ) (rows : List IndexRow) (bytes : Bytes) → n < length rows
-    → set (summed n rows bytes) n (record (row_at rows n) { sum = fnv_of (row_bytes n rows bytes) }) ≡ summed (suc n) rows bytes
+    → set (summed_rows n rows bytes) n (record (row_at rows n) { sum = fnv_of (block_at n rows bytes) }) ≡ summed_rows (suc n) rows bytes
 summed_more n [] bytes lt = absurd (omega (arith, lt))
 summed_more zero (r ∷ later) bytes lt = refl
 summed_more (suc n) (r ∷ later) bytes lt =
@@ -55,7 +55,7 @@ summed_more (suc n) (r ∷ later) bytes lt =
     let one : IndexRow = record r { sum = fnv_of (take (4096 * r.pages) bytes) } in
     let far : 4096 * row_pages (r ∷ take n later) ≡ 4096 * r.pages + m = omega (arith, sum_by-cons (λ (x : IndexRow). x.pages) r (take n later)) in
     let here : drop (4096 * row_pages (r ∷ take n later)) bytes ≡ drop m rest = ap (λ (k : ℕ). drop k bytes) far ∙ sym (drop-drop m (4096 * r.pages) bytes) in
-    ap (λ (b : Bytes). one ∷ set (summed n later rest) n (record (row_at later n) { sum = fnv_of (take (4096 * (row_at later n).pages) b) })) here
+    ap (λ (b : Bytes). one ∷ set (summed_rows n later rest) n (record (row_at later n) { sum = fnv_of (take (4096 * (row_at later n).pages) b) })) here
     ∙ ap (λ (l : List IndexRow). one ∷ l) (summed_more n later rest (omega (arith, lt)))
 
 -- ---- in memory
@@ -89,8 +89,8 @@ module _ (rows : List BlockRow) (n : ℕ) (there : n < length rows) (d : BlockRo
       whole = are.whole ∙ ap (λ (k : ℕ). 4096 * k) (sym (pages_put rows n d put there refl));
     }
 
-    pub sums_put : (first : List IndexRow) (bytes : Bytes) → rows_seen rows ≡ summed n first bytes → sum ≡ fnv_of (row_bytes n first bytes)
-        → rows_seen (set rows n (record (get_or rows n d) { sum = sum })) ≡ summed (n + 1) first bytes
+    pub sums_put : (first : List IndexRow) (bytes : Bytes) → rows_seen rows ≡ summed_rows n first bytes → sum ≡ fnv_of (block_at n first bytes)
+        → rows_seen (set rows n (record (get_or rows n d) { sum = sum })) ≡ summed_rows (n + 1) first bytes
     sums_put first bytes seen sum_is =
         let within : n < length first = omega (arith, there, length-map rows row_seen, ap length seen, summed_long n first bytes) in
         let here : row_seen (get_or rows n d) ≡ row_at first n =
@@ -98,12 +98,12 @@ module _ (rows : List BlockRow) (n : ℕ) (there : n < length rows) (d : BlockRo
         let one : suc n ≡ n + 1 = omega arith in
         map-set row_seen rows n put
         ∙ ap₂ (λ (rs : List IndexRow) (x : IndexRow). set rs n (record x { sum = sum })) seen here
-        ∙ ap (λ (k : ℕ). set (summed n first bytes) n (record (row_at first n) { sum = k })) sum_is
+        ∙ ap (λ (k : ℕ). set (summed_rows n first bytes) n (record (row_at first n) { sum = k })) sum_is
         ∙ summed_more n first bytes within
-        ∙ ap (λ (k : ℕ). summed k first bytes) one
+        ∙ ap (λ (k : ℕ). summed_rows k first bytes) one
 
   module _ (is : d ≡ get_or rows n d) (bytes : Bytes) (are : AreRowsOf rows bytes) where
-    pub bytes_are : (first : List IndexRow) (k : ℕ) → rows_seen rows ≡ summed k first bytes → take (4096 * d.pages) (drop (4096 * d.first) bytes) ≡ row_bytes n first bytes
+    pub bytes_are : (first : List IndexRow) (k : ℕ) → rows_seen rows ≡ summed_rows k first bytes → take (4096 * d.pages) (drop (4096 * d.first) bytes) ≡ block_at n first bytes
     bytes_are first k seen =
         let pages : d.pages ≡ (row_at first n).pages =
         ap (λ (r : IndexRow). r.pages) (row_of rows n d there is) ∙ ap (λ (rs : List IndexRow). (row_at rs n).pages) seen ∙ same_pages k n first bytes in
@@ -138,7 +138,7 @@ turn_more bytes turn =
 
 -- ---- all blocks
 
-pub all_summed : (n : ℕ) (blocks : List (List Entry)) → n ≡ length blocks → summed n (map unsummed_row_of blocks) (flat_map block_bytes blocks) ≡ map index_row_of blocks
+pub all_summed : (n : ℕ) (blocks : List (List Entry)) → n ≡ length blocks → summed_rows n (map unsummed_row_of blocks) (flat_map block_bytes blocks) ≡ map index_row_of blocks
 unfolding index_row_of
 all_summed zero [] is = refl
 all_summed zero (b ∷ more) is = absurd (omega (arith, is))
@@ -146,6 +146,6 @@ all_summed (suc n) [] is = refl
 all_summed (suc n) (b ∷ more) is =
     let rest = flat_map block_bytes more in
     let long : length (block_bytes b) ≡ 4096 * block_pages b = block_fills b in
-    ap₂ (λ (x y : Bytes). record (unsummed_row_of b) { sum = fnv_of x } ∷ summed n (map unsummed_row_of more) y)
+    ap₂ (λ (x y : Bytes). record (unsummed_row_of b) { sum = fnv_of x } ∷ summed_rows n (map unsummed_row_of more) y)
     (take_at (block_bytes b) rest (4096 * block_pages b) long) (drop_at (block_bytes b) rest (4096 * block_pages b) long)
     ∙ ap (λ (rs : List IndexRow). index_row_of b ∷ rs) (all_summed n more (omega (arith, is)))

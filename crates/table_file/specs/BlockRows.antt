@@ -34,15 +34,15 @@ abbrev pub unsummed_row_of : List Entry → IndexRow
 unsummed_row_of block = record { pages = block_pages block; sum = 0; last = last_key block }
 
 -- the rows of the blocks that these bytes are, the first so many with their sums
-abbrev pub summed : ℕ → List IndexRow → Bytes → List IndexRow
-summed zero rows bytes = rows
-summed (suc more) [] bytes = []
-summed (suc more) (row ∷ later) bytes =
-    record row { sum = fnv_of (take (page_bytes * row.pages) bytes) } ∷ summed more later (drop (page_bytes * row.pages) bytes)
+abbrev pub summed_rows : ℕ → List IndexRow → Bytes → List IndexRow
+summed_rows zero rows bytes = rows
+summed_rows (suc more) [] bytes = []
+summed_rows (suc more) (row ∷ later) bytes =
+    record row { sum = fnv_of (take (page_bytes * row.pages) bytes) } ∷ summed_rows more later (drop (page_bytes * row.pages) bytes)
 
 abbrev pub summed_all : List IndexRow → Bytes → List IndexRow
-summed_all rows bytes = summed (length rows) rows bytes
+summed_all rows bytes = summed_rows (length rows) rows bytes
 
 -- the bytes of one of the blocks, numbered from 0
-abbrev pub row_bytes : ℕ → List IndexRow → Bytes → Bytes
-row_bytes n rows bytes = take (page_bytes * (row_at rows n).pages) (drop (page_bytes * row_pages (take n rows)) bytes)
+abbrev pub block_at : ℕ → List IndexRow → Bytes → Bytes
+block_at n rows bytes = take (page_bytes * (row_at rows n).pages) (drop (page_bytes * row_pages (take n rows)) bytes)

@@ -204,7 +204,7 @@ fn room_for(alloc: Global, pages: u32) -> Vec<u8>
 // The last of some keys: those of entries, of which the last ones are not none.
 fn last_of(keys: &KeyList) -> &[u8]
     requires { 0 < length keys.now }
-    ensures { (front back : List model.Entry) → 0 < length back → keys_of (front ++ back) ≡ keys.now → result.now ≡ last_key back }
+    ensures { (before behind : List model.Entry) → 0 < length behind → keys_of (before ++ behind) ≡ keys.now → result.now ≡ last_key behind }
 {
     keys.get(keys.len() - 1)
 }

@@ -4,7 +4,7 @@ ghost use Rattle.byte_fields.specs.Sums.{fnv_of};
 ghost use Rattle.map_model.specs.SortedMap.{Bytes};
 ghost use Rattle.block_model.specs.Index.{IndexRow};
 ghost use Rattle.block_model.specs.Pages.{page_bytes};
-ghost use Rattle.table_file.specs.BlockRows.{AreRowsOf, row_bytes, rows_seen, summed, summed_all};
+ghost use Rattle.table_file.specs.BlockRows.{AreRowsOf, block_at, rows_seen, summed_all, summed_rows};
 
 use crate::block_row::BlockRow;
 use crate::four_sums::fnv1a_four;
@@ -35,7 +35,7 @@ fn sum_fours(blocks: &[u8], rows: &mut [BlockRow]) -> usize
     ensures rows { AreRowsOf rows.new blocks.now }
     ensures length { length rows.new ≡ length rows.old }
     ensures some { result ≤ length rows.old }
-    ensures sums { rows_seen rows.new ≡ summed result (rows_seen rows.old) blocks.now }
+    ensures sums { rows_seen rows.new ≡ summed_rows result (rows_seen rows.old) blocks.now }
 {
     let fours = rows.len() / SIDE_BY_SIDE;
     for four in 0..fours {
@@ -50,7 +50,7 @@ fn sum_four(blocks: &[u8], rows: &mut [BlockRow], n: usize)
     requires rows { AreRowsOf rows.old blocks.now }
     ensures rows { AreRowsOf rows.new blocks.now }
     ensures length { length rows.new ≡ length rows.old }
-    ensures sums { (first : List IndexRow) → rows_seen rows.old ≡ summed n first blocks.now → rows_seen rows.new ≡ summed (n + 4) first blocks.now }
+    ensures sums { (first : List IndexRow) → rows_seen rows.old ≡ summed_rows n first blocks.now → rows_seen rows.new ≡ summed_rows (n + 4) first blocks.now }
 {
     let (first, second) = (block_of(blocks, rows, n), block_of(blocks, rows, n + 1));
     let (third, fourth) = (block_of(blocks, rows, n + 2), block_of(blocks, rows, n + 3));
@@ -75,7 +75,7 @@ fn sum_one(blocks: &[u8], rows: &mut [BlockRow], n: usize)
     requires rows { AreRowsOf rows.old blocks.now }
     ensures rows { AreRowsOf rows.new blocks.now }
     ensures length { length rows.new ≡ length rows.old }
-    ensures sums { (first : List IndexRow) → rows_seen rows.old ≡ summed n first blocks.now → rows_seen rows.new ≡ summed (n + 1) first blocks.now }
+    ensures sums { (first : List IndexRow) → rows_seen rows.old ≡ summed_rows n first blocks.now → rows_seen rows.new ≡ summed_rows (n + 1) first blocks.now }
 {
     let sum = fnv1a(block_of(blocks, rows, n));
     put_sum(rows, n, sum);
@@ -85,7 +85,7 @@ fn sum_one(blocks: &[u8], rows: &mut [BlockRow], n: usize)
 fn block_of<'a>(blocks: &'a [u8], rows: &[BlockRow], n: usize) -> &'a [u8]
     requires there { n < length rows.now }
     requires rows { AreRowsOf rows.now blocks.now }
-    ensures { (first : List IndexRow) (k : ℕ) → rows_seen rows.now ≡ summed k first blocks.now → result.now ≡ row_bytes n first blocks.now }
+    ensures { (first : List IndexRow) (k : ℕ) → rows_seen rows.now ≡ summed_rows k first blocks.now → result.now ≡ block_at n first blocks.now }
 {
     let row = &rows[n];
     let at = PAGE_BYTES * row.first as usize;
@@ -97,7 +97,7 @@ fn put_sum(rows: &mut [BlockRow], n: usize, sum: u64)
     requires { n < length rows.old }
     ensures rows { (bytes : Bytes) → AreRowsOf rows.old bytes → AreRowsOf rows.new bytes }
     ensures length { length rows.new ≡ length rows.old }
-    ensures sums { (first : List IndexRow) (bytes : Bytes) → rows_seen rows.old ≡ summed n first bytes → sum ≡ fnv_of (row_bytes n first bytes) → rows_seen rows.new ≡ summed (n + 1) first bytes }
+    ensures sums { (first : List IndexRow) (bytes : Bytes) → rows_seen rows.old ≡ summed_rows n first bytes → sum ≡ fnv_of (block_at n first bytes) → rows_seen rows.new ≡ summed_rows (n + 1) first bytes }
 {
     rows[n].sum = sum;
 }

@@ -8,7 +8,7 @@ use Rattle.filter_api.specs.declared.settings.Settings.{Settings}
 use Rattle.image_model.specs.Stands.{settings_of}
 use Rattle.level_merge.specs.Making.{SliceMakes}
 use Rattle.level_merge.specs.Merging.{Merging, compaction}
-use Rattle.level_merge.specs.Slices.{IsWithin}
+use Rattle.level_merge.specs.Slices.{MayMakeAsMany}
 use Rattle.level_merge.specs.declared.fault.Sliced.{Sliced}
 use Rattle.level_merge.specs.declared.fault.Sliced.TheVariants as sliced
 use Rattle.manifest.specs.Manifest.{Manifest}
@@ -126,7 +126,7 @@ loop-job-preserved g c =
     let free = c.loop-job.extents in
     let now = c.slice.new.extents in
     let on = c.loop-job.invariant.on in
-    let within = subst (λ (said : Sliced). IsWithin old new said) c.in-Working.is c.in_ok-slice.ensures.slices.few in
+    let within = subst (λ (said : Sliced). MayMakeAsMany old new said) c.in-Working.is c.in_ok-slice.ensures.slices.few in
     record {
       on = compacting_more spelling cutoff m.version opened old new free now w x on c.slice.ensures.slices.numbers_are c.slice.ensures.slices.same.0 c.slice.ensures.slices.moves within (c.in_ok-slice.ensures.slices.rows on.written);
       going = λ s tells held.
@@ -168,7 +168,7 @@ returns-in-Ready-clause-made g c s tells held =
 pub returns-in-Ready-clause-compact : goal.returns-in-Ready-clause-compact
 returns-in-Ready-clause-compact g c =
     let on = c.loop-job.invariant.on in
-    let within = subst (λ (said : Sliced). IsWithin c.loop-job.job c.slice.new.self said) c.in-Ready.is c.in_ok-slice.ensures.slices.few in
+    let within = subst (λ (said : Sliced). MayMakeAsMany c.loop-job.job c.slice.new.self said) c.in-Ready.is c.in_ok-slice.ensures.slices.few in
     subst (λ (made : List Opened). AreCompact c.args.version.now.version (rows_of made)) (sym c.into_tables.ensures)
     (compacted_rows g.F.RangeFilter.spelling g.F.RangeFilter.built_cutoff c.args.version.now.version c.args.tables.now.tables c.loop-job.job c.slice.new.self c.loop-job.extents c.slice.new.extents
     (g.D.Disk.world c.loop-job.disk) (g.D.Disk.world c.slice.new.disk) on c.slice.ensures.slices.numbers_are c.slice.ensures.slices.same.0 c.slice.ensures.slices.moves within (c.in_ok-slice.ensures.slices.rows on.written))

@@ -10,7 +10,7 @@ use Rattle.entry_model.specs.Newest.{lookup}
 use Rattle.map_model.specs.SortedMap.{Bytes}
 use Rattle.state_model.specs.Bounds.{searched}
 use Rattle.state_model.specs.View.{first_found}
-use Rattle.store_core.specs.Caching.{AreTrue, IsTrueOf, number_of, past_cache, reads_for, unkept}
+use Rattle.store_core.specs.Caching.{AreTrue, IsTrueOf, cache_number, past_cache, reads_for, unkept}
 use Rattle.store_core.specs.Getting.{IsReadIn, entries_by_table, said_in}
 use Rattle.level_merge.specs.Held.{AreHeld}
 use Rattle.store_core.specs.declared.getting.BlockRead.{BlockRead}
@@ -34,7 +34,7 @@ returns-in_err-here-clause-bounded g t c settings states tells held are =
     let blocks = c.args.blocks.now in
     let first = c.in-Some.table.now in
     let more = c.in-Some.older.now in
-    let num : c.number-number.result ≡ number_of blocks.first (length more) = c.number-number.ensures in
+    let num : c.number-number.result ≡ cache_number blocks.first (length more) = c.number-number.ensures in
     let reads = subst (λ (k : ℕ). new.seen.reads ≤ old.seen.reads + reads_for blocks.kept k (block_for first key)) num c.look_in.ensures.moves.reads in
     by_first g.F.RangeFilter.spelling settings first more old.seen.held (λ ts us. new.seen.reads ≤ old.seen.reads + unkept blocks key ts us)
     (λ one older h rest. let most = unkept_first blocks key first more one older in omega (arith, reads, most)) c.args.tables.now states c.in-Some.ensures.cases.0 held
@@ -56,9 +56,9 @@ pub returns-then-is_some-clause-read : goal.returns-then-is_some-clause-read
 returns-then-is_some-clause-read g t c =
     let blocks = c.args.blocks.now in
     let more = c.in-Some.older.now in
-    let num : c.number-number.result ≡ number_of blocks.first (length more) = c.number-number.ensures in
+    let num : c.number-number.result ≡ cache_number blocks.first (length more) = c.number-number.ensures in
     subst (λ (ts : List Opened). IfSome c.in_ok-here.here.read (λ r. IsReadIn r c.look_in.new.buffer c.look_in.new.blocks (length ts))) (sym c.in-Some.ensures.cases.0)
-    (read_first c.in_ok-here.here.read c.look_in.new.buffer c.look_in.new.blocks c.number-number.result (length more) (num ∙ ap (λ (n : ℕ). number_of n (length more)) (sym c.look_in.ensures.same.first)) c.in_ok-here.ensures.read)
+    (read_first c.in_ok-here.here.read c.look_in.new.buffer c.look_in.new.blocks c.number-number.result (length more) (num ∙ ap (λ (n : ℕ). cache_number n (length more)) (sym c.look_in.ensures.same.first)) c.in_ok-here.ensures.read)
 
 pub returns-then-is_some-clause-answer : goal.returns-then-is_some-clause-answer
 returns-then-is_some-clause-answer g t c settings states tells held are =
@@ -68,7 +68,7 @@ returns-then-is_some-clause-answer g t c settings states tells held are =
     let blocks = c.args.blocks.now in
     let first = c.in-Some.table.now in
     let more = c.in-Some.older.now in
-    let num : c.number-number.result ≡ number_of blocks.first (length more) = c.number-number.ensures in
+    let num : c.number-number.result ≡ cache_number blocks.first (length more) = c.number-number.ensures in
     let said = said_in c.in_ok-here.here.found c.look_in.new.buffer c.look_in.new.blocks.kept key in
     by_first spelling settings first more image (λ ts us. AreTrue blocks ts us → said ≡ first_found (entries_by_table us) key)
     (λ one older h rest ours. said_first spelling settings first one older image h key said
@@ -83,7 +83,7 @@ returns-then-is_some-clause-says g t c settings states tells held =
     let blocks = c.args.blocks.now in
     let first = c.in-Some.table.now in
     let more = c.in-Some.older.now in
-    let num : c.number-number.result ≡ number_of blocks.first (length more) = c.number-number.ensures in
+    let num : c.number-number.result ≡ cache_number blocks.first (length more) = c.number-number.ensures in
     by_first spelling settings first more image
     (λ ts us. IfSome c.in_ok-here.here.read (λ r. r.number < past_cache → IsTrueOf blocks.first (r.number, r.block) (take r.size c.look_in.new.buffer) ts us))
     (λ one older h rest. read_true spelling settings first more one older image h blocks c.number-number.result num c.in_ok-here.here.read c.look_in.new.buffer c.look_in.new.blocks c.in_ok-here.ensures.read
@@ -98,7 +98,7 @@ returns-then-is_some-clause-bounded g t c settings states tells held are =
     let blocks = c.args.blocks.now in
     let first = c.in-Some.table.now in
     let more = c.in-Some.older.now in
-    let num : c.number-number.result ≡ number_of blocks.first (length more) = c.number-number.ensures in
+    let num : c.number-number.result ≡ cache_number blocks.first (length more) = c.number-number.ensures in
     let reads = subst (λ (k : ℕ). new.seen.reads ≤ old.seen.reads + reads_for blocks.kept k (block_for first key)) num c.look_in.ensures.moves.reads in
     by_first g.F.RangeFilter.spelling settings first more old.seen.held (λ ts us. new.seen.reads ≤ old.seen.reads + unkept blocks key ts us)
     (λ one older h rest. let most = unkept_first blocks key first more one older in omega (arith, reads, most)) c.args.tables.now states c.in-Some.ensures.cases.0 held
@@ -115,7 +115,7 @@ pub returns-clause-read : goal.returns-clause-read
 returns-clause-read g t c =
     let blocks = c.args.blocks.now in
     let more = c.in-Some.older.now in
-    let num : c.number-number.result ≡ number_of blocks.first (length more) = c.number-number.ensures in
+    let num : c.number-number.result ≡ cache_number blocks.first (length more) = c.number-number.ensures in
     subst (λ (ts : List Opened). IfSome c.or.result (λ r. IsReadIn r c.look_in_all.new.buffer c.look_in_all.new.blocks (length ts))) (sym c.in-Some.ensures.cases.0)
     (subst (λ (o : Option BlockRead). IfSome o (λ r. IsReadIn r c.look_in_all.new.buffer c.look_in_all.new.blocks (suc (length more)))) (sym c.or.ensures)
     (read_later blocks c.look_in.new.blocks c.look_in_all.new.blocks c.look_in.ensures.same c.look_in_all.ensures.same c.number-number.result (length more) num c.look_in.new.buffer c.look_in_all.new.buffer
@@ -134,7 +134,7 @@ returns-clause-answer g t c settings states tells held are =
     let blocks = c.args.blocks.now in
     let first = c.in-Some.table.now in
     let more = c.in-Some.older.now in
-    let num : c.number-number.result ≡ number_of blocks.first (length more) = c.number-number.ensures in
+    let num : c.number-number.result ≡ cache_number blocks.first (length more) = c.number-number.ensures in
     let said = said_in c.in_ok-later.later.found c.look_in_all.new.buffer c.look_in_all.new.blocks.kept key in
     let nothing = nothing_said c.in_ok-here.here.found c.look_in.new.buffer c.look_in.new.blocks.kept key (sym c.is_some.ensures ∙ c.if-is_some.false) in
     by_first spelling settings first more image (λ ts us. AreTrue blocks ts us → said ≡ first_found (entries_by_table us) key)
@@ -152,7 +152,7 @@ returns-clause-says g t c settings states tells held =
     let blocks = c.args.blocks.now in
     let first = c.in-Some.table.now in
     let more = c.in-Some.older.now in
-    let num : c.number-number.result ≡ number_of blocks.first (length more) = c.number-number.ensures in
+    let num : c.number-number.result ≡ cache_number blocks.first (length more) = c.number-number.ensures in
     subst (λ (o : Option BlockRead). IfSome o (λ r. r.number < past_cache → IsTrueOf blocks.first (r.number, r.block) (take r.size c.look_in_all.new.buffer) c.args.tables.now states)) (sym c.or.ensures)
     (by_first spelling settings first more image
     (λ ts us. IfSome (option_or c.in_ok-later.later.read c.in_ok-here.here.read) (λ r. r.number < past_cache → IsTrueOf blocks.first (r.number, r.block) (take r.size c.look_in_all.new.buffer) ts us))
@@ -174,7 +174,7 @@ returns-in_err-later-clause-bounded g t c settings states tells held are =
     let blocks = c.args.blocks.now in
     let first = c.in-Some.table.now in
     let more = c.in-Some.older.now in
-    let num : c.number-number.result ≡ number_of blocks.first (length more) = c.number-number.ensures in
+    let num : c.number-number.result ≡ cache_number blocks.first (length more) = c.number-number.ensures in
     let reads = subst (λ (k : ℕ). mid.seen.reads ≤ old.seen.reads + reads_for blocks.kept k (block_for first key)) num c.look_in.ensures.moves.reads in
     let nothing = nothing_said c.in_ok-here.here.found c.look_in.new.buffer c.look_in.new.blocks.kept key (sym c.is_some.ensures ∙ c.if-is_some.false) in
     by_first spelling settings first more old.seen.held (λ ts us. AreTrue blocks ts us → new.seen.reads ≤ old.seen.reads + unkept blocks key ts us)
@@ -196,7 +196,7 @@ returns-clause-bounded g t c settings states tells held are =
     let blocks = c.args.blocks.now in
     let first = c.in-Some.table.now in
     let more = c.in-Some.older.now in
-    let num : c.number-number.result ≡ number_of blocks.first (length more) = c.number-number.ensures in
+    let num : c.number-number.result ≡ cache_number blocks.first (length more) = c.number-number.ensures in
     let reads = subst (λ (k : ℕ). mid.seen.reads ≤ old.seen.reads + reads_for blocks.kept k (block_for first key)) num c.look_in.ensures.moves.reads in
     let nothing = nothing_said c.in_ok-here.here.found c.look_in.new.buffer c.look_in.new.blocks.kept key (sym c.is_some.ensures ∙ c.if-is_some.false) in
     by_first spelling settings first more old.seen.held (λ ts us. AreTrue blocks ts us → new.seen.reads ≤ old.seen.reads + unkept blocks key ts us)
@@ -216,7 +216,7 @@ returns-in_err-later-clause-met g t c settings states tells held are =
     let blocks = c.args.blocks.now in
     let first = c.in-Some.table.now in
     let more = c.in-Some.older.now in
-    let num : c.number-number.result ≡ number_of blocks.first (length more) = c.number-number.ensures in
+    let num : c.number-number.result ≡ cache_number blocks.first (length more) = c.number-number.ensures in
     let nothing = nothing_said c.in_ok-here.here.found c.look_in.new.buffer c.look_in.new.blocks.kept key (sym c.is_some.ensures ∙ c.if-is_some.false) in
     let here : 1 ≤ searched settings key states =
     by_first spelling settings first more old.seen.held (λ ts us. AreTrue blocks ts us → 1 ≤ searched settings key us)

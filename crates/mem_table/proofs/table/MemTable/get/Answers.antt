@@ -3,7 +3,7 @@ use Rattle.std.specs.Prelude.{Option, Some}
 use Rattle.arrayvec.specs.ArrayVec.{ArrayVec}
 use Rattle.map_model.specs.SortedMap.{Bytes}
 use Rattle.entry_model.specs.Entries.{Entry}
-use Rattle.mem_table.specs.Table.{MemoryTable, StandsAt, BelongsAt}
+use Rattle.mem_table.specs.Table.{MemoryTable, KeyStandsAt, BelongsAt}
 use Rattle.entry_model.specs.Newest.{lookup}
 use Rattle.mem_table.specs.Chunks.{flat, flat_at, in_order, IsPlace}
 use Rattle.mem_table.proofs.Flat.{place_in}
@@ -17,7 +17,7 @@ returns-in-Ok c =
     let chunks = c.self.inside.chunks.items in
     let at = flat_at chunks c.in-Ok.spot.chunk c.in-Ok.spot.within in
     let place : IsPlace chunks c.in-Ok.spot.chunk c.in-Ok.spot.within = rw (← c.deref-2.ensures.value) c.in-Ok.ensures.place in
-    let found : StandsAt at c.args.key.now (in_order entries (flat chunks)) = rw (← c.deref.ensures.value, ← c.deref-2.ensures.value) c.in-Ok.ensures.found in
+    let found : KeyStandsAt at c.args.key.now (in_order entries (flat chunks)) = rw (← c.deref.ensures.value, ← c.deref-2.ensures.value) c.in-Ok.ensures.found in
     ap (λ (v : Option Bytes). Some v) c.value.ensures
     ∙ sym (looked_up entries chunks c.self.invariant.0 at c.args.key.now c.index-entry.result.now c.place_at-place.result found (place_in chunks c.in-Ok.spot.chunk c.in-Ok.spot.within place)
     (rw (← c.deref-in-Ok.ensures.value) c.place_at-place.ensures) c.index-entry.ensures)

@@ -3,7 +3,7 @@ use Rattle.std.specs.Prelude.{insert}
 use Rattle.arrayvec.specs.ArrayVec.{ArrayVec}
 use Rattle.map_model.specs.SortedMap.{Bytes}
 use Rattle.entry_model.specs.Entries.{Entry}
-use Rattle.mem_table.specs.Table.{MemoryTable, StandsAt, BelongsAt}
+use Rattle.mem_table.specs.Table.{MemoryTable, KeyStandsAt, BelongsAt}
 use Rattle.entry_model.specs.Newest.{with_entry}
 use Rattle.mem_table.specs.Chunks.{flat, flat_at, in_order, IsPlace, IsGap, Orders, NoneEmpty}
 use Rattle.mem_table.proofs.Flat.{place_in, gap_in}
@@ -17,10 +17,10 @@ Found entries chunks chunk within entry place = Orders chunks (set entries place
 
 -- over the places that are read, which are the table's
 found : (entries seen : List Entry) (chunks places : List (ArrayVec ℕ)) (chunk within place : ℕ) (key : Bytes) (entry : Entry) → Orders chunks entries → seen ≡ entries → places ≡ chunks → key ≡ entry.key
-    → IsPlace places chunk within → StandsAt (flat_at places chunk within) key (in_order seen (flat places)) → place ≡ get_or (flat chunks) (flat_at chunks chunk within) 0 → Found entries chunks chunk within entry place
+    → IsPlace places chunk within → KeyStandsAt (flat_at places chunk within) key (in_order seen (flat places)) → place ≡ get_or (flat chunks) (flat_at chunks chunk within) 0 → Found entries chunks chunk within entry place
 found entries seen chunks places chunk within place key entry orders same_entries same_chunks same_key is stands at =
     let here : IsPlace chunks chunk within = rw (← same_chunks) is in
-    let there : StandsAt (flat_at chunks chunk within) entry.key (in_order entries (flat chunks)) = rw (← same_entries, ← same_chunks, ← same_key) stands in
+    let there : KeyStandsAt (flat_at chunks chunk within) entry.key (in_order entries (flat chunks)) = rw (← same_entries, ← same_chunks, ← same_key) stands in
     let lt = place_in chunks chunk within here in
     (set_orders entries chunks orders (flat_at chunks chunk within) entry place there lt at, set_shows entries chunks orders (flat_at chunks chunk within) entry place there lt at)
 
