@@ -12,6 +12,7 @@ use crate::block::HEADER_BYTES;
 use crate::entry::{TOMBSTONE, VALUE, WORD_BYTES};
 use block_model::pages_for;
 use byte_fields::{put_u16, put_u32};
+use entry_list::body_length;
 use key_base::{ENTRY_HEAD_BYTES, MAX_BLOCK_ENTRIES, PAGE_BYTES};
 use std::alloc::{AllocError, Global};
 use std::marker::Model;
@@ -73,7 +74,7 @@ impl BlockBuilder {
         ensures added { IfOk result (λ added. self.new ≡ (if added then self.old ++ entry_of key.now (option_map (λ v. v.now) value.entry) ∷ [] else self.old)) }
         ensures unchanged { OnErr result (self.new ≡ self.old) }
     {
-        let width = ENTRY_HEAD_BYTES + key.len() + value_bytes(value).len();
+        let width = body_length(key.len(), value_bytes(value).len());
         if !fits(self.count, self.bytes.len(), width) {
             return Ok(false);
         }
@@ -160,7 +161,7 @@ fn push_entry(key: &[u8], value: Option<&[u8]>, out: &mut Vec<u8>) -> Result<(),
     let value = value_bytes(value);
     put_u16(&mut head, 1, key.len() as u16);
     put_u32(&mut head, 3, value.len() as u32);
-    out.reserve(ENTRY_HEAD_BYTES + key.len() + value.len())?;
+    out.reserve(body_length(key.len(), value.len()))?;
     append(&head, out);
     append(key, out);
     append(value, out);

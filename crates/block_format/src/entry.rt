@@ -10,6 +10,7 @@ ghost use Rattle.block_format.specs.Reading.{passes_after, seen};
 use crate::fault::BlockFault;
 use byte_fields::{get_u16, get_u32};
 use byteorder::{BigEndian, ByteOrder};
+use entry_list::body_length;
 use key_base::{ENTRY_HEAD_BYTES, MAX_KEY_BYTES, MAX_VALUE_BYTES, compare};
 use std::cmp::Ordering;
 
@@ -79,7 +80,7 @@ pub(crate) fn first_entry<'a>(
             rule: OUT_OF_LIMITS,
         });
     }
-    if bytes.len() < ENTRY_HEAD_BYTES + key_bytes + value_bytes {
+    if bytes.len() < body_length(key_bytes, value_bytes) {
         return Err(BlockFault {
             place,
             rule: PAST_THE_LENGTH,

@@ -50,7 +50,7 @@ abbrev pub all_numbers : ℕ → List ℕ
 all_numbers zero = []
 all_numbers (suc many) = many ∷ all_numbers many
 
--- that of a memory table and all tables, into the deepest level
+-- that of a memory table and all tables, into the last level
 abbrev pub compaction : List Entry → Settings → List Opened → Merging
 compaction memory settings tables = merge_of (all_numbers (length tables)) (Some memory) max_level true settings tables
 

@@ -81,7 +81,8 @@ impl<'m, F: RangeFilter> Model for Job<'m, F> {
 
 impl<'m, F: RangeFilter> Job<'m, F> {
     /// The merge of a plan of some tables, with nothing done. It takes the memory that reading takes: for each table a buffer
-    /// for the largest block. Where there is as much, it takes room for all blocks of an output too, 4 MiB. No read.
+    /// for the largest block. Where there is as much, it takes room for the blocks of an output too: 1,024 pages, 4 MiB. No
+    /// read.
     ///
     /// Tombstones are left out where no table lies deeper than the plan's level.
     pub fn start(

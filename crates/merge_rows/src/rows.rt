@@ -128,7 +128,7 @@ impl<'m> MergeRows<'m> {
     /// A block is read of each table that has no entry above the last row in memory, and of no other. At `Err` no row is lost:
     /// the next call goes on where this one stood. Whatever stands on the device, keys rise from row to row.
     //
-    // A scan takes a step for each pair: where its parts are calls, with results that go by memory, a pair costs a quarter more.
+    // A scan takes a step for each pair: where its parts are calls, results go by memory, and a pair costs more.
     #[inline(always)]
     pub fn advance<F: RangeFilter, D: Disk>(
         &mut self,

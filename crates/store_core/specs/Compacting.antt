@@ -66,7 +66,7 @@ IsCompactFault old new error.NotAStore = ⊥
 IsCompactFault old new error.AlreadyAStore = ⊥
 IsCompactFault old new (error.BadSettings field) = ⊥
 
--- Tables of the deepest level, which lie apart from one another and from those of a version, and no more than a version may have.
+-- Tables of the last level, which lie apart from one another and from those of a version, and no more than a version may have.
 pub record AreCompact (v : Version) (rows : List Row) : Type 0 where
   pub few : length rows ≤ max_tables
   pub each : AllByRecursion IsTableRow rows

@@ -1,4 +1,4 @@
--- What a merge slice is answered by a store: it is one of its state.
+-- What a store answers to a merge slice: it is a merge slice of its state.
 use Rattle.std.specs.Prelude.{◌≡◌, ◌<◌, ℕ, Bool, true, false, List, Option, Some, None, Result, Ok, Err, IsErr, MatchResult}
 use Rattle.std.specs.Option.{option_map}
 use Rattle.disk_trait.specs.Image.{Image}
@@ -39,8 +39,8 @@ told_slice (Ok tended.Idle) = Some model.Idle
 told_slice (Ok (tended.Full need gap)) = Some (model.Refused (reply.Full need gap))
 told_slice (Err why) = option_map (λ (r : reply.Reply). model.Refused r) (told why)
 
--- From a state a merge slice is answered so, by one of it. At each moment meanwhile a crash leaves its map. The store is then
--- that of the state behind the merge slice, unless it is stopped.
+-- From a state a merge slice is answered so: by a merge slice of that state. At each moment meanwhile a crash leaves its map.
+-- The store is then that of the state behind the merge slice, unless it is stopped.
 pub record Tends (spelling : Spelling) (filter_bytes : FilterBytes) (s : State) (told_as : Option model.Tended) (store : Kept) (old new : World) : Type 0 where
   pub tended : model.Tended
   pub told_is : told_as ≡ Some tended
@@ -101,8 +101,8 @@ pub record GoesOn (spelling : Spelling) (filter_bytes : FilterBytes) (store : Ke
   pub said : IsSliced s job later sliced
   pub tied : Tied spelling filter_bytes (record store { job = Some m }) (with_job s later) w
 
--- A merge slice of the merge that follows a job of a state: meanwhile a crash leaves the map of the state. The job goes on, or it is
--- refused with its cause and the store stands without it.
+-- A merge slice of the merge that follows a job of a state: meanwhile a crash leaves the map of the state. The job goes on, or
+-- it is refused with its cause and the store stands without it.
 pub record SlicesJob (spelling : Spelling) (filter_bytes : FilterBytes) (store : Kept) (s : State) (job : Job) (m : Merging) (result : Result Sliced JobFault) (old new : World) : Type 0 where
   pub meanwhile : Meanwhile (StandsForMap spelling (state_map s)) old new
   pub done : MatchResult result (GoesOn spelling filter_bytes store s job m new) (IsJobRefusal filter_bytes s job old new)

@@ -1,4 +1,4 @@
-//! All of a store becomes tables of the deepest level.
+//! All of a store becomes tables of the last level.
 ghost use Rattle.std.specs.Prelude.{◌≡◌, ◌≢◌, ◌<◌, ◌≤◌, ◌*◌, ◌||◌, ◌⊎◌, [], true, false, None, IsTrue, IfOk, IfErr, MatchResult};
 ghost use Rattle.std.specs.List.{AllByRecursion};
 ghost use Rattle.block_model.specs.Pages.{page_bytes};
@@ -45,7 +45,7 @@ struct Compacted<F: RangeFilter> {
     log: Log,
 }
 
-// Merges the memory and all tables into tables of the deepest level: each is written in the first gap that holds it.
+// Merges the memory and all tables into tables of the last level: each is written in the first gap that holds it.
 fn write_all<F: RangeFilter, D: Disk>(
     alloc: Global,
     disk: &mut D,
@@ -171,7 +171,7 @@ pub(crate) fn is_stop(why: &StoreError) -> bool
 }
 
 impl<F: RangeFilter> Store<F> {
-    /// Merges all that the store holds into tables of the deepest level, in which the live pairs stand alone, and begins the
+    /// Merges all that the store holds into tables of the last level, in which the live pairs stand alone, and begins the
     /// other log area. A merge that runs is dropped. On an empty store it does nothing.
     ///
     /// The tables are written and made to last, then the other log area is begun, then the version is installed, then the

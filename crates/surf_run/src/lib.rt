@@ -8,10 +8,10 @@
 //! blocks are read than the filters of the tables admit. [`serve_line`] answers one line over an opened store, with the merge
 //! slice behind it.
 //!
-//! A put makes two writes and two syncs, and where it does not fit the log a flush before; a get reads at most one block of each
-//! table that admits its key, and a closed seek one of each table that admits its range and one more for each entry of a deleted key
-//! that it passes. A range says its pairs as they are found, in pieces of the reply buffer. Behind each put and delete comes a merge
-//! slice, where tables are to be merged: it reads at most eight blocks and writes at most one table, and
+//! A put makes two writes and two syncs, and where it does not fit the log a flush before; a get reads at most one block of
+//! each table that admits its key, and a closed seek one of each table that admits its range and one more for each entry of a
+//! deleted key that it passes. A range says its pairs as they are found, in pieces of the reply buffer. Behind each put and
+//! delete comes a merge slice, where tables are to be merged: it reads at most eight blocks and writes at most one table, and
 //! nothing is said of it. All memory but the store's is taken before the first line. Not for more than one input.
 //!
 //! ```text

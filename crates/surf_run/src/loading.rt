@@ -206,7 +206,8 @@ fn load_store<F: RangeFilter, W: Outside>(store: Store<F>, out: &mut W, load: Lo
     }
 }
 
-/// Opens the store, makes the steps of a load, each with a merge slice behind it, and says the summary of the map that is then there.
+/// Opens the store, makes the steps of a load, each with a merge slice behind it, and says the summary of the map that is there
+/// then.
 pub(crate) fn open_and_load<F: RangeFilter, W: Outside>(
     alloc: Global,
     out: &mut W,

@@ -12,16 +12,16 @@ use Rattle.block_format.proofs.builder.BlockBuilder.add.Goals as goal
 pub fits-requires : goal.fits-requires
 fits-requires c =
     let few = short c.self.inside.count c.self.inside.bytes.items c.self.invariant in
-    omega (arith, few, c.len.ensures, ap length c.value_bytes.ensures, c.requires.short_key, c.requires.short_value)
+    omega (arith, few, c.len.ensures, c.body_length-width.ensures, ap length c.value_bytes.ensures, c.requires.short_key, c.requires.short_value)
 
 pub returns-then-not-fits-clause-room : goal.returns-then-not-fits-clause-room
 returns-then-not-fits-clause-room c =
     let e = entry_of c.args.key.now (option_map (λ v. v.now) c.args.value) in
     let n = c.self.inside.count in
     let bytes = c.self.inside.bytes.items in
-    let size : c.len.result + (7 + length c.args.key.now + length c.value_bytes.result.now) ≡ length bytes + length (body e) =
-    omega (arith, c.len.ensures, ap length c.value_bytes.ensures, length-body e) in
-    let sum : 8 + c.len.result + (7 + length c.args.key.now + length c.value_bytes.result.now) ≡ 8 + length bytes + length (body e) = omega (arith, size) in
+    let size : c.len.result + c.body_length-width.result ≡ length bytes + length (body e) =
+    omega (arith, c.len.ensures, c.body_length-width.ensures, ap length c.value_bytes.ensures, length-body e) in
+    let sum : 8 + c.len.result + c.body_length-width.result ≡ 8 + length bytes + length (body e) = omega (arith, size) in
     sym (ap (λ (es : List Entry). takes es e) (sym c.self.view_is)
     ∙ takes_is n bytes c.self.invariant e
     ∙ ap (λ (k : ℕ). (n == 0 || (nat_le k 4096 && nat_lt n 255))) (sym sum)
@@ -33,9 +33,9 @@ returns-clause-room c =
     let e = entry_of c.args.key.now (option_map (λ v. v.now) c.args.value) in
     let n = c.self.inside.count in
     let bytes = c.self.inside.bytes.items in
-    let size : c.len.result + (7 + length c.args.key.now + length c.value_bytes.result.now) ≡ length bytes + length (body e) =
-    omega (arith, c.len.ensures, ap length c.value_bytes.ensures, length-body e) in
-    let sum : 8 + c.len.result + (7 + length c.args.key.now + length c.value_bytes.result.now) ≡ 8 + length bytes + length (body e) = omega (arith, size) in
+    let size : c.len.result + c.body_length-width.result ≡ length bytes + length (body e) =
+    omega (arith, c.len.ensures, c.body_length-width.ensures, ap length c.value_bytes.ensures, length-body e) in
+    let sum : 8 + c.len.result + c.body_length-width.result ≡ 8 + length bytes + length (body e) = omega (arith, size) in
     sym (ap (λ (es : List Entry). takes es e) (sym c.self.view_is)
     ∙ takes_is n bytes c.self.invariant e
     ∙ ap (λ (k : ℕ). (n == 0 || (nat_le k 4096 && nat_lt n 255))) (sym sum)
