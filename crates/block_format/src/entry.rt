@@ -11,7 +11,7 @@ use crate::fault::BlockFault;
 use byte_fields::{get_u16, get_u32};
 use byteorder::{BigEndian, ByteOrder};
 use entry_list::body_length;
-use key_base::{ENTRY_HEAD_BYTES, MAX_KEY_BYTES, MAX_VALUE_BYTES, compare};
+use key_base::{ENTRY_HEAD_BYTES, MAX_KEY_BYTES, MAX_LOGGED_VALUE_BYTES, compare};
 use std::cmp::Ordering;
 
 /// The bytes that are read at once, as one number.
@@ -74,7 +74,7 @@ pub(crate) fn first_entry<'a>(
             rule: NO_KIND,
         });
     }
-    if key_bytes == 0 || key_bytes > MAX_KEY_BYTES || value_bytes > MAX_VALUE_BYTES {
+    if key_bytes == 0 || key_bytes > MAX_KEY_BYTES || value_bytes > MAX_LOGGED_VALUE_BYTES {
         return Err(BlockFault {
             place,
             rule: OUT_OF_LIMITS,

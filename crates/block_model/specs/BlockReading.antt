@@ -2,7 +2,7 @@
 use Rattle.std.specs.Prelude.{ℕ, zero, suc, ◌+◌, ◌*◌, nat_lt, ◌==◌, Bool, not, ◌&&◌, ◌||◌, List, [], ◌∷◌, length, take, drop, slice_index, position, Option, Some, None, if◌then◌else◌}
 use Rattle.std.specs.Option.{option_map, option_or}
 use Rattle.byteorder.specs.Endian.{little_number}
-use Rattle.key_base.specs.Limits.{is_no_key_length, max_value_bytes}
+use Rattle.key_base.specs.Limits.{is_no_key_length, max_logged_value_bytes}
 use Rattle.map_model.specs.SortedMap.{Bytes}
 use Rattle.entry_model.specs.Entries.{Entry, entry_head_bytes}
 use Rattle.entry_model.specs.Reading.{kind_in, key_length_in, value_length_in, width_in, key_in, entry_in}
@@ -23,7 +23,7 @@ unfoldable pub entry_fault : ℕ → (Bytes → Bool) → Bytes → Option Fault
 entry_fault place test rest =
     refuse (nat_lt (length rest) entry_head_bytes) place 3
     (refuse (has_no_kind rest) place 4
-    (refuse (is_no_key_length (key_length_in rest) || nat_lt max_value_bytes (value_length_in rest)) place 5
+    (refuse (is_no_key_length (key_length_in rest) || nat_lt max_logged_value_bytes (value_length_in rest)) place 5
     (refuse (nat_lt (length rest) (width_in rest)) place 3
     (refuse (not (test (key_in rest))) place 6
     None))))

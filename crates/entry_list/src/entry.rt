@@ -5,7 +5,7 @@ ghost use Rattle.std.specs.Box.{boxed_slice_items};
 ghost use Rattle.entry_model.specs.Entries.{IsEntry, entry_of};
 ghost use Rattle.map_model.specs.SortedMap.{byte_order};
 
-use key_base::{MAX_KEY_BYTES, MAX_VALUE_BYTES};
+use key_base::{MAX_KEY_BYTES, MAX_LOGGED_VALUE_BYTES};
 use std::alloc::{AllocError, Global};
 use std::boxed::BoxedSlice;
 use std::cmp::Ordering;
@@ -102,5 +102,5 @@ impl Entry {
 fn keeps_limits(key: &[u8], value: &[u8]) -> bool
     ensures { IsTrue result ↔ IsEntry (entry_of key.now (Some value.now)) }
 {
-    !key.is_empty() && key.len() <= MAX_KEY_BYTES && value.len() <= MAX_VALUE_BYTES
+    !key.is_empty() && key.len() <= MAX_KEY_BYTES && value.len() <= MAX_LOGGED_VALUE_BYTES
 }

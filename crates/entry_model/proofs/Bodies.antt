@@ -4,7 +4,7 @@ use Rattle.std.specs.Prelude.{Option, Some, None, ◌==◌}
 use Rattle.std.proofs.lemmas.List.{take_at, drop_at, drop-drop}
 use Rattle.std.proofs.Math.Seq.{take-add}
 use Rattle.byteorder.specs.Endian.{little_bytes}
-use Rattle.key_base.specs.Limits.{max_key_bytes, max_value_bytes}
+use Rattle.key_base.specs.Limits.{max_key_bytes, max_logged_value_bytes}
 use Rattle.byte_fields.specs.Spelling.{IsBytes}
 use Rattle.byte_fields.proofs.NumberLemmas.{IsBytes-drop, IsBytes-take, number_again, number_back}
 use Rattle.map_model.specs.SortedMap.{Bytes}
@@ -66,7 +66,7 @@ pub record KeepsLimits (bytes : Bytes) : Type 0 where
   pub kind : (kind_in bytes ≡ 1) ⊎ (kind_in bytes ≡ 2)
   pub some_key : 1 ≤ key_length_in bytes
   pub short_key : key_length_in bytes ≤ max_key_bytes
-  pub short_value : value_length_in bytes ≤ max_value_bytes
+  pub short_value : value_length_in bytes ≤ max_logged_value_bytes
   pub no_value : kind_in bytes ≡ 2 → value_length_in bytes ≡ 0
   pub room : 7 + key_length_in bytes + value_length_in bytes ≤ length bytes
 

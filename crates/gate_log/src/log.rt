@@ -3,7 +3,7 @@ ghost use Rattle.std.specs.Prelude.{◌≡◌, ◌+◌, ◌*◌, ◌≤◌, ◌<
 ghost use Rattle.disk_trait.specs.Fault.{IsWriteThroughFault};
 ghost use Rattle.disk_trait.specs.Image.{overwritten};
 ghost use Rattle.disk_trait.specs.World.{Now, Leads, ReadMoves, WriteMoves, Rose};
-ghost use Rattle.key_base.specs.Limits.{log_bytes, max_key_bytes, max_value_bytes};
+ghost use Rattle.key_base.specs.Limits.{log_bytes, max_key_bytes, max_logged_value_bytes};
 ghost use Rattle.entry_model.specs.Entries.{filled, need, body_length, record_bytes, entry_of, IsEntry};
 ghost use Rattle.entry_model.specs.Entries as model;
 ghost use Rattle.log_model.specs.Area.{Position, LogIs, WithOrWithout, IsNextRecord, start_of, area_in};
@@ -79,7 +79,7 @@ impl Log {
         requires area { area ≤ 1 }
         requires sound { AllByRecursion IsEntry entries.now }
         requires fits { filled entries.now < log_bytes }
-        requires room { body_length max_key_bytes max_value_bytes + 1 ≤ length buf.old }
+        requires room { body_length max_key_bytes max_logged_value_bytes + 1 ≤ length buf.old }
         ensures log { IfOk result (λ log. log ≡ record { area = area; filled = filled entries.now }) }
         ensures stands { IsTrue D.tells → OnOk result (Now (LogIs area entries.now) (D.world disk.new)) }
         ensures moves { WriteMoves (start_of area) log_bytes (D.world disk.old) (D.world disk.new) }
@@ -176,7 +176,7 @@ impl Log {
     fn add<D: Disk>(&mut self, disk: &mut D, buf: &mut [u8], entry: &Entry) -> Result<(), DiskFault>
         requires sound { IsEntry entry.now }
         requires fits { self.old.filled + need entry.now ≤ log_bytes }
-        requires room { body_length max_key_bytes max_value_bytes + 1 ≤ length buf.old }
+        requires room { body_length max_key_bytes max_logged_value_bytes + 1 ≤ length buf.old }
         ensures crash { (entries : List model.Entry) → IsTrue D.tells → self.old.filled ≡ filled entries
             → Leads (LogIs self.old.area entries) (WithOrWithout self.old.area entries entry.now) (LogIs self.old.area (entries ++ entry.now ∷ []))
             result (D.world disk.old) (D.world disk.new) }

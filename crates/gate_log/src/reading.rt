@@ -11,7 +11,7 @@ use crate::kind::Kind;
 use crate::writing::OPEN;
 use byte_fields::{PartFault, get_u16, get_u32};
 use entry_list::Entry;
-use key_base::{ENTRY_HEAD_BYTES, MAX_KEY_BYTES, MAX_VALUE_BYTES};
+use key_base::{ENTRY_HEAD_BYTES, MAX_KEY_BYTES, MAX_LOGGED_VALUE_BYTES};
 use std::alloc::Global;
 
 // The body, or the gate behind it, runs past the area.
@@ -52,7 +52,7 @@ fn body_in(bytes: &[u8]) -> Result<Body<'_>, u8>
     };
     let key_bytes = usize::from(get_u16(bytes, 1));
     let value_bytes = get_u32(bytes, 3) as usize;
-    if key_bytes == 0 || key_bytes > MAX_KEY_BYTES || value_bytes > MAX_VALUE_BYTES {
+    if key_bytes == 0 || key_bytes > MAX_KEY_BYTES || value_bytes > MAX_LOGGED_VALUE_BYTES {
         return Err(OUT_OF_LIMITS);
     }
     if kind == Kind::Delete && value_bytes > 0 {

@@ -6,7 +6,7 @@ ghost use Rattle.gate_log.specs.Values.{value_of};
 use crate::kind::Kind;
 use byte_fields::{put_u16, put_u32};
 use entry_list::body_length;
-use key_base::{ENTRY_HEAD_BYTES, MAX_KEY_BYTES, MAX_VALUE_BYTES};
+use key_base::{ENTRY_HEAD_BYTES, MAX_KEY_BYTES, MAX_LOGGED_VALUE_BYTES};
 
 /// What a gate reads that is open. Every other byte is a closed one.
 pub(crate) const OPEN: u8 = 1;
@@ -17,7 +17,10 @@ pub(crate) const CLOSED: u8 = 0;
 const GATE_BYTES: usize = 1;
 
 /// The bytes in which each record is laid out: the longest body, and the gate behind it.
-pub const BUFFER_BYTES: usize = ENTRY_HEAD_BYTES + MAX_KEY_BYTES + MAX_VALUE_BYTES + GATE_BYTES;
+pub const BUFFER_BYTES: usize = ENTRY_HEAD_BYTES
+    + MAX_KEY_BYTES
+    + MAX_LOGGED_VALUE_BYTES
+    + GATE_BYTES;
 
 // Puts bytes behind those that stand at the start of a buffer, and answers where they end.
 fn put(buf: &mut [u8], at: usize, bytes: &[u8]) -> usize

@@ -1,1 +1,2 @@
 mod KeyLists
+mod Prefixes

@@ -1,3 +1,4 @@
 pub mod ByteOrder
 pub mod KeyLists
 pub mod Limits
+pub mod Prefixes

@@ -13,9 +13,9 @@ is_no_key_length bytes = bytes == 0 || nat_lt max_key_bytes bytes
 abbrev pub max_bound_bytes : ℕ
 max_bound_bytes = 1024
 
--- the bytes of the longest value; the shortest has none
-abbrev pub max_value_bytes : ℕ
-max_value_bytes = 65536
+-- the bytes of the longest value that the log takes; the shortest has none
+abbrev pub max_logged_value_bytes : ℕ
+max_logged_value_bytes = 65536
 
 -- the bytes of the longest line, without its newline
 abbrev pub max_line_bytes : ℕ
@@ -63,13 +63,17 @@ first_table_page = 192
 abbrev pub max_block_entries : ℕ
 max_block_entries = 255
 
+-- from one listed entry of a block to the next: blocks of the second format list the first entry and each sixteenth after it
+abbrev pub restart_entries : ℕ
+restart_entries = 16
+
 -- the bytes of an entry before its key and its value: its kind and their lengths
 abbrev pub entry_head_bytes : ℕ
 entry_head_bytes = 7
 
--- the pages of the largest block: one entry, of the longest key and value
-abbrev pub max_block_pages : ℕ
-max_block_pages = 17
+-- the pages of the largest block of the first format: one entry, of the longest key and of the longest value of the log
+abbrev pub max_old_block_pages : ℕ
+max_old_block_pages = 17
 
 -- the last number of an epoch
 unfoldable pub last_epoch : ℕ

@@ -8,8 +8,8 @@ pub const MAX_KEY_BYTES: usize = 1_024;
 /// The bytes of the longest bound of a range; the shortest has none.
 pub const MAX_BOUND_BYTES: usize = 1_024;
 
-/// The bytes of the longest value; the shortest has none.
-pub const MAX_VALUE_BYTES: usize = 65_536;
+/// The bytes of the longest value that the log takes; the shortest has none.
+pub const MAX_LOGGED_VALUE_BYTES: usize = 65_536;
 
 /// The bytes of the longest line, without its newline.
 pub const MAX_LINE_BYTES: usize = 140_000;
@@ -47,11 +47,15 @@ pub const MAX_RATIO: u16 = 65_535;
 /// The most entries of a block; the fewest is one.
 pub const MAX_BLOCK_ENTRIES: usize = 255;
 
+/// How many entries it is from one listed entry of a block to the next: blocks of the second format list the first entry and
+/// each sixteenth after it.
+pub const RESTART_ENTRIES: usize = 16;
+
 /// The bytes of an entry before its key and its value: its kind and their lengths.
 pub const ENTRY_HEAD_BYTES: usize = 7;
 
-/// The pages of the largest block: one entry, of the longest key and value.
-pub const MAX_BLOCK_PAGES: u32 = 17;
+/// The pages of the largest block of the first format: one entry, of the longest key and of the longest value of the log.
+pub const MAX_OLD_BLOCK_PAGES: u32 = 17;
 
 /// The last number of an epoch: 2^64 - 1.
 pub const LAST_EPOCH: u64 = 18_446_744_073_709_551_615;

@@ -1,7 +1,7 @@
 -- The bytes of a log: records of entries, each behind an open gate, and then a gate that is not open.
 use Rattle.std.specs.Prelude.{◌≡◌, ◌≢◌, ℕ, ◌+◌, ◌<◌, List, length, take, drop, slice_index, flat_map, Bool, ◌==◌, ◌&&◌, ◌||◌, not, nat_lt, nat_le, if◌then◌else◌, Option, Some, None}
 use Rattle.std.specs.List.{AllByRecursion}
-use Rattle.key_base.specs.Limits.{is_no_key_length, max_value_bytes}
+use Rattle.key_base.specs.Limits.{is_no_key_length, max_logged_value_bytes}
 use Rattle.map_model.specs.SortedMap.{Bytes}
 use Rattle.entry_model.specs.Entries.{Entry, IsEntry, entry_head_bytes, record_bytes, filled}
 use Rattle.entry_model.specs.Reading.{kind_in, key_length_in, value_length_in, width_in}
@@ -21,7 +21,7 @@ pub record Spells (entries : List Entry) (bytes : Bytes) : Type 0 where
 
 -- a key of no byte or of too many, a value of too many, or a delete with one
 abbrev pub breaks_a_limit : ℕ → ℕ → ℕ → Bool
-breaks_a_limit kind key value = is_no_key_length key || nat_lt max_value_bytes value || (kind == 2 && not (value == 0))
+breaks_a_limit kind key value = is_no_key_length key || nat_lt max_logged_value_bytes value || (kind == 2 && not (value == 0))
 
 -- this rule where it is broken, else what later rules say
 abbrev pub rule_if : Bool → ℕ → Option ℕ → Option ℕ

@@ -3,14 +3,16 @@ use crate::boxes::{boxed, failing_disk, new_disk};
 use disk_mem::{Choice, MemDisk};
 use disk_trait::{Disk, DiskFault, Op};
 use gate_log::{BUFFER_BYTES, Log, LogFault, record_need};
-use key_base::{LOG_BYTES, MAX_KEY_BYTES, MAX_VALUE_BYTES};
+use key_base::{LOG_BYTES, MAX_KEY_BYTES, MAX_LOGGED_VALUE_BYTES};
 use mem_table::MemTable;
 use std::alloc::{AllocError, Global};
 use std::test::Fail;
 
 // Puts a value, where key and value keep their limits and the record fits. Answers whether the record is there.
 fn put<D: Disk>(log: &mut Log, disk: &mut D, buf: &mut [u8], key: &[u8], value: &[u8]) -> bool {
-    let short = !key.is_empty() && key.len() <= MAX_KEY_BYTES && value.len() <= MAX_VALUE_BYTES;
+    let short = !key.is_empty()
+        && key.len() <= MAX_KEY_BYTES
+        && value.len() <= MAX_LOGGED_VALUE_BYTES;
     if !short || buf.len() < BUFFER_BYTES || !log.fits(record_need(key, Some(value))) {
         return false;
     }
@@ -212,7 +214,7 @@ fn repeated(alloc: Global, byte: u8, count: usize) -> Result<Vec<u8>, AllocError
 // A log of three records of the longest key and value, and one of a short key that leaves so many bytes.
 fn filled_to(alloc: Global, disk: &mut MemDisk, buf: &mut [u8], left: usize) -> Result<bool, Fail> {
     let key = repeated(alloc, b'k', MAX_KEY_BYTES)?;
-    let value = repeated(alloc, b'x', MAX_VALUE_BYTES)?;
+    let value = repeated(alloc, b'x', MAX_LOGGED_VALUE_BYTES)?;
     let Ok(mut log) = Log::start(disk, 0) else {
         return Ok(false);
     };

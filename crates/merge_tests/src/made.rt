@@ -3,7 +3,7 @@ ghost use Rattle.std.specs.Prelude.{◌≡◌, length};
 ghost use Rattle.byte_fields.specs.Spelling.{IsBytes};
 
 use disk_mem::MemDisk;
-use key_base::{MAX_KEY_BYTES, MAX_VALUE_BYTES};
+use key_base::{MAX_KEY_BYTES, MAX_LOGGED_VALUE_BYTES};
 use plain_filter::PlainFilter;
 use std::alloc::Global;
 use std::test::Fail;
@@ -26,7 +26,7 @@ fn bytes_in(bytes: &[u8]) -> usize
 /// Adds an entry that a table takes behind the others.
 pub fn add(builder: &mut TableBuilder, key: &[u8], value: &[u8]) -> Result<(), Fail> {
     let length = bytes_in(key);
-    if length == 0 || length > MAX_KEY_BYTES || bytes_in(value) > MAX_VALUE_BYTES {
+    if length == 0 || length > MAX_KEY_BYTES || bytes_in(value) > MAX_LOGGED_VALUE_BYTES {
         return Err(Fail::from("no entry"));
     }
     if !builder.is_above_all(key) {
@@ -64,7 +64,7 @@ pub fn placed(
 
 // A value of so many bytes.
 fn value_of(alloc: Global, size: usize) -> Result<Vec<u8>, Fail> {
-    if size > MAX_VALUE_BYTES {
+    if size > MAX_LOGGED_VALUE_BYTES {
         return Err(Fail::from("no value"));
     }
     Ok(vec![in alloc; 7; size]?)

@@ -2,12 +2,12 @@
 ghost use Rattle.std.specs.Prelude.{◌≡◌, ◌≤◌, ◌<◌, ◌+◌, ◌++◌, [], ◌∷◌, IfOk, OnOk, IsTrue, ◌↔◌, length, map, vec_items, sum_by, flat_map, ◌^◌};
 ghost use Rattle.std.specs.List.{AllByRecursion};
 ghost use Rattle.entry_model.specs.Entries.{body, body_length, IsEntry};
-ghost use Rattle.key_base.specs.Limits.{max_key_bytes, max_value_bytes};
+ghost use Rattle.key_base.specs.Limits.{max_key_bytes, max_logged_value_bytes};
 ghost use Rattle.block_model.specs.Block.{AreEntries};
 ghost use Rattle.block_model.specs.Pages.{block_length, block_pages, blocks_of, blocks_with, data_pages, has_room, last_has_room};
 
 use entry_list::{Entry, body_length, push_copy};
-use key_base::{MAX_BLOCK_ENTRIES, MAX_KEY_BYTES, MAX_VALUE_BYTES, PAGE_BYTES};
+use key_base::{MAX_BLOCK_ENTRIES, MAX_KEY_BYTES, MAX_LOGGED_VALUE_BYTES, PAGE_BYTES};
 use std::alloc::{AllocError, Global};
 
 /// Whether a table takes these entries: fewer than 2^32, each with a key and a value within the limits of an entry.
@@ -40,7 +40,7 @@ pub fn block_length(block: &[Entry]) -> u64
 pub fn entry_length(entry: &Entry) -> u64
     requires { IsEntry entry.now }
     ensures length { result ≡ length (body entry.now) }
-    ensures small { result ≤ body_length max_key_bytes max_value_bytes }
+    ensures small { result ≤ body_length max_key_bytes max_logged_value_bytes }
 {
     let value = match entry.value() {
         Some(bytes) => bytes.len(),

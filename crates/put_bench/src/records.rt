@@ -2,7 +2,7 @@
 use crate::boxes::boxed;
 use anyhow::{Result, bail};
 use gate_log::{BUFFER_BYTES, Log, record_need};
-use key_base::{MAX_KEY_BYTES, MAX_VALUE_BYTES};
+use key_base::{MAX_KEY_BYTES, MAX_LOGGED_VALUE_BYTES};
 use real_outside::FileOutside;
 use std::alloc::Global;
 
@@ -25,7 +25,9 @@ impl Records {
 
     /// Adds a put, where it fits.
     pub fn append(&mut self, disk: &mut FileOutside, key: &[u8], value: &[u8]) -> Result<()> {
-        let sound = !key.is_empty() && key.len() <= MAX_KEY_BYTES && value.len() <= MAX_VALUE_BYTES;
+        let sound = !key.is_empty()
+            && key.len() <= MAX_KEY_BYTES
+            && value.len() <= MAX_LOGGED_VALUE_BYTES;
         if !sound
             || self.buffer.len() < BUFFER_BYTES
             || !self.log.fits(record_need(key, Some(value)))

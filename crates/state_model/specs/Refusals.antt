@@ -1,7 +1,7 @@
 -- Why a line is refused.
 use Rattle.std.specs.Prelude.{ℕ, ◌≡◌, ◌≢◌, ◌⊎◌, ◌<◌, ◌≤◌, Bool, true, false, List, [], ◌∷◌, length, Option, Some, None, Result, Ok, Err}
 use Rattle.filter_api.specs.declared.settings.Settings.{Settings}
-use Rattle.key_base.specs.Limits.{last_epoch, max_bound_bytes, max_key_bytes, max_level, max_tables, max_value_bytes}
+use Rattle.key_base.specs.Limits.{last_epoch, max_bound_bytes, max_key_bytes, max_level, max_tables, max_logged_value_bytes}
 use Rattle.map_model.specs.SortedMap.{Bytes}
 use Rattle.entry_model.specs.Entries.{Entry, put_entry, del_entry, need, gap}
 use Rattle.state_model.specs.State.{State, without_job}
@@ -56,7 +56,7 @@ bounds_of request = []
 -- one first. A bound may be empty.
 pub data BreaksLimit (request : Request) : Reply → Type 0 where
   by_key : (key : Bytes) → key_of request ≡ Some key → KeyBreaks key → BreaksLimit request (LongKey (length key))
-  by_value : (key value : Bytes) → request ≡ Put key value → KeyFits key → max_value_bytes < length value
+  by_value : (key value : Bytes) → request ≡ Put key value → KeyFits key → max_logged_value_bytes < length value
       → BreaksLimit request (LongValue (length value))
   by_lower : (lo : Bytes) (more : List Bytes) → bounds_of request ≡ lo ∷ more → max_bound_bytes < length lo → BreaksLimit request (LongKey (length lo))
   by_upper : (lo hi : Bytes) → bounds_of request ≡ lo ∷ hi ∷ [] → length lo ≤ max_bound_bytes → max_bound_bytes < length hi

@@ -3,7 +3,7 @@ use Rattle.std.proofs.Common.{◌≡◌, ◌≢◌, ◌⊎◌, inl, inr, ◌+◌
 use Rattle.std.specs.Option.{option_or}
 use Rattle.std.specs.Prelude.{Err, None, Ok, Option, Result, Some, ◌==◌, length, nat_le, nat_lt, take}
 use Rattle.entry_model.specs.Entries.{Entry, del_entry, gap, need, put_entry}
-use Rattle.key_base.specs.Limits.{is_no_key_length, last_epoch, max_bound_bytes, max_tables, max_value_bytes}
+use Rattle.key_base.specs.Limits.{is_no_key_length, last_epoch, max_bound_bytes, max_tables, max_logged_value_bytes}
 use Rattle.line_model.specs.Limits.{bound_limit, key_limit, limit_of, value_limit}
 use Rattle.line_model.specs.Replies.{About, BadLine, Bye, Counted, Damaged, Device, Done, Explained, Full, LastEpoch, LongKey, LongValue, ManyTables, Memory, Pairs, Reply, found, got, text_of}
 use Rattle.line_model.specs.Requests.{Bad, Compact, Count, Del, Estimate, Explain, Flush, Get, Put, Quit, Range, Request, Seek, request_of}
@@ -93,7 +93,7 @@ both_refuse lo hi = first_refuses (bound_limit lo) (bound_limit hi) (bound_refus
 
 limits_refuse : (request : Request) → LimitRefuses (limit_of request)
 limits_refuse (Put key value) =
-    first_refuses (key_limit key) (value_limit value) (key_refuses key) (limited (nat_lt max_value_bytes (length value)) (LongValue (length value)) (inl refl))
+    first_refuses (key_limit key) (value_limit value) (key_refuses key) (limited (nat_lt max_logged_value_bytes (length value)) (LongValue (length value)) (inl refl))
 limits_refuse (Del key) = key_refuses key
 limits_refuse (Get key) = key_refuses key
 limits_refuse (Seek lo None) = bound_refuses lo

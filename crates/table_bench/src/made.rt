@@ -3,7 +3,7 @@ use crate::keys::{Load, write_key};
 use anyhow::{Result, bail};
 use byte_fields::Row;
 use filter_api::Settings;
-use key_base::{MAX_KEY_BYTES, MAX_VALUE_BYTES};
+use key_base::{MAX_KEY_BYTES, MAX_LOGGED_VALUE_BYTES};
 use plain_filter::PlainFilter;
 use real_outside::FileOutside;
 use std::alloc::Global;
@@ -68,7 +68,9 @@ pub fn build(alloc: Global, load: &Load) -> Result<Parts<PlainFilter>> {
 
 // Adds a pair that a table takes behind the others.
 fn add(builder: &mut TableBuilder, key: &[u8], value: &[u8]) -> Result<()> {
-    let sound = !key.is_empty() && key.len() <= MAX_KEY_BYTES && value.len() <= MAX_VALUE_BYTES;
+    let sound = !key.is_empty()
+        && key.len() <= MAX_KEY_BYTES
+        && value.len() <= MAX_LOGGED_VALUE_BYTES;
     if !sound || !builder.is_above_all(key) {
         bail!("a pair that a table does not take");
     }

@@ -10,7 +10,7 @@ use Rattle.filter_api.specs.Spellings.{Spelling}
 use Rattle.filter_api.specs.declared.settings.Settings.{Settings}
 use Rattle.filter_model.specs.Answers.{point}
 use Rattle.filter_model.specs.Leaves.{leaves_of}
-use Rattle.key_base.specs.Limits.{max_block_pages, page_bytes}
+use Rattle.key_base.specs.Limits.{max_old_block_pages, page_bytes}
 use Rattle.map_model.specs.SortedMap.{Bytes}
 use Rattle.entry_model.specs.Entries.{Entry, keys_of}
 use Rattle.block_model.specs.Index.{Index, IndexRow, row_pages}
@@ -65,7 +65,7 @@ pub record IsSoundBlock (t : Opened) (n : ℕ) (image : Image) : Type 0 where
 
 -- the bytes of the largest block
 abbrev pub largest_block : ℕ
-largest_block = page_bytes * max_block_pages
+largest_block = page_bytes * max_old_block_pages
 
 -- how many blocks a get reads
 abbrev pub blocks_of_get : Option ℕ → ℕ

@@ -1,6 +1,6 @@
 //! The index of a table in memory.
 ghost use Rattle.std.specs.Prelude.{◌≡◌, ◌+◌, ◌-◌, ◌≤◌, ◌<◌, ◌^◌, ◌++◌, length, take, flat_map, Some, None, IfOk, IfErr, OnOk};
-ghost use Rattle.key_base.specs.Limits.{max_block_pages};
+ghost use Rattle.key_base.specs.Limits.{max_old_block_pages};
 ghost use Rattle.block_model.specs.Index.{IsIndex, index_bytes, index_row_bytes, row_pages};
 ghost use Rattle.block_model.specs.IndexReading.{index_fault, index_in, rows_fault, rows_in};
 ghost use Rattle.block_model.specs.Order.{Follow, is_any, is_from};
@@ -127,7 +127,7 @@ impl BlockIndex {
         ensures row { row_seen result.now ≡ row_at self.now.rows n }
         ensures first { result.now.first ≡ row_pages (take n self.now.rows) }
         ensures within { result.now.first + result.now.pages ≤ row_pages self.now.rows }
-        ensures few { result.now.pages ≤ max_block_pages }
+        ensures few { result.now.pages ≤ max_old_block_pages }
     {
         let rows = self.rows.as_slice();
         &rows[n]

@@ -28,12 +28,12 @@ use block_format::{Block, BlockFault, EntrySpan, read_sum_and_span};
 use byte_fields::{Damage, Part, Row, fnv1a};
 use disk_trait::{Disk, DiskFault};
 use filter_api::RangeFilter;
-use key_base::{MAX_BLOCK_PAGES, PAGE_BYTES};
+use key_base::{MAX_OLD_BLOCK_PAGES, PAGE_BYTES};
 use std::alloc::{AllocError, Global};
 use std::marker::Model;
 
 /// The bytes of the largest block: the room that a buffer needs into which blocks are read.
-pub const LARGEST_BLOCK_BYTES: usize = PAGE_BYTES * MAX_BLOCK_PAGES as usize;
+pub const LARGEST_BLOCK_BYTES: usize = PAGE_BYTES * MAX_OLD_BLOCK_PAGES as usize;
 
 /// A table on a device: its row, its index and its filter in memory.
 #[derive(Drop)]

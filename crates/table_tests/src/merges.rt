@@ -8,7 +8,7 @@ use crate::made::{
     BASE, FIRST_PAGE, add, boxed, bytes_in, key_of, new_disk, opened, row_at, size_of,
 };
 use disk_mem::MemDisk;
-use key_base::{MAX_KEY_BYTES, MAX_VALUE_BYTES};
+use key_base::{MAX_KEY_BYTES, MAX_LOGGED_VALUE_BYTES};
 use mem_table::MemTable;
 use merge_rows::MergeRows;
 use plain_filter::PlainFilter;
@@ -90,7 +90,7 @@ fn set(memory: &mut MemTable, key: &[u8], value: Option<&[u8]>) -> Result<(), Fa
     ensures { AllByRecursion IsEntry memory.new.entries }
 {
     let length = bytes_in(key);
-    if length == 0 || length > MAX_KEY_BYTES || size_of(value) > MAX_VALUE_BYTES {
+    if length == 0 || length > MAX_KEY_BYTES || size_of(value) > MAX_LOGGED_VALUE_BYTES {
         return Err(Fail::from("no entry"));
     }
     let entry = memory.reserve_for(key, value)?;
