@@ -1,2 +1,2 @@
 mod KeyLists
-mod Prefixes
+pub mod Prefixes
