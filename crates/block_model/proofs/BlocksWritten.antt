@@ -30,7 +30,7 @@ pub record HeaderKept (bytes : Bytes) : Type 0 where
   pub six : slice_index bytes 6 ≡ 0
   pub seven : slice_index bytes 7 ≡ 0
 
-small_or : (n used : ℕ) → (nat_lt 4096 used && nat_lt 1 n) ≡ false → 1 < n → used ≤ 4096
+pub small_or : (n used : ℕ) → (nat_lt 4096 used && nat_lt 1 n) ≡ false → 1 < n → used ≤ 4096
 small_or n used e lt = elim (and_cases (nat_lt 4096 used) (nat_lt 1 n) e) [
   | inl few ↦ ltb-false 4096 used few
   | inr one ↦ absurd (omega (arith, ltb-false 1 n one, lt))
@@ -59,38 +59,38 @@ header_was_kept bytes none =
       seven = eqb-true _ _ (not_false _ f.0);
     }
 
--- the eight bytes of a header are those of its numbers
-eight_bytes : (bytes : Bytes) → IsBytes bytes → 8 ≤ length bytes → slice_index bytes 5 ≡ 0 → slice_index bytes 6 ≡ 0 → slice_index bytes 7 ≡ 0
-    → little_bytes 4 (little_number 4 bytes) ++ (slice_index bytes 4 % 256 ∷ 0 ∷ 0 ∷ 0 ∷ []) ≡ take 8 bytes
-eight_bytes [] is le five six seven = absurd (omega (arith, le))
-eight_bytes (a ∷ []) is le five six seven = absurd (omega (arith, le))
-eight_bytes (a ∷ b ∷ []) is le five six seven = absurd (omega (arith, le))
-eight_bytes (a ∷ b ∷ c ∷ []) is le five six seven = absurd (omega (arith, le))
-eight_bytes (a ∷ b ∷ c ∷ d ∷ []) is le five six seven = absurd (omega (arith, le))
-eight_bytes (a ∷ b ∷ c ∷ d ∷ e ∷ []) is le five six seven = absurd (omega (arith, le))
-eight_bytes (a ∷ b ∷ c ∷ d ∷ e ∷ f ∷ []) is le five six seven = absurd (omega (arith, le))
-eight_bytes (a ∷ b ∷ c ∷ d ∷ e ∷ f ∷ g ∷ []) is le five six seven = absurd (omega (arith, le))
-eight_bytes (a ∷ b ∷ c ∷ d ∷ e ∷ f ∷ g ∷ h ∷ more) is le five six seven =
+-- the eight bytes of a header are those of its numbers; byte 5 is the format's
+pub eight_bytes : (m : ℕ) (bytes : Bytes) → IsBytes bytes → 8 ≤ length bytes → slice_index bytes 5 ≡ m → slice_index bytes 6 ≡ 0 → slice_index bytes 7 ≡ 0
+    → little_bytes 4 (little_number 4 bytes) ++ (slice_index bytes 4 % 256 ∷ m ∷ 0 ∷ 0 ∷ []) ≡ take 8 bytes
+eight_bytes m [] is le five six seven = absurd (omega (arith, le))
+eight_bytes m (a ∷ []) is le five six seven = absurd (omega (arith, le))
+eight_bytes m (a ∷ b ∷ []) is le five six seven = absurd (omega (arith, le))
+eight_bytes m (a ∷ b ∷ c ∷ []) is le five six seven = absurd (omega (arith, le))
+eight_bytes m (a ∷ b ∷ c ∷ d ∷ []) is le five six seven = absurd (omega (arith, le))
+eight_bytes m (a ∷ b ∷ c ∷ d ∷ e ∷ []) is le five six seven = absurd (omega (arith, le))
+eight_bytes m (a ∷ b ∷ c ∷ d ∷ e ∷ f ∷ []) is le five six seven = absurd (omega (arith, le))
+eight_bytes m (a ∷ b ∷ c ∷ d ∷ e ∷ f ∷ g ∷ []) is le five six seven = absurd (omega (arith, le))
+eight_bytes m (a ∷ b ∷ c ∷ d ∷ e ∷ f ∷ g ∷ h ∷ more) is le five six seven =
     let four = number_back 4 (a ∷ b ∷ c ∷ d ∷ e ∷ f ∷ g ∷ h ∷ more) is (omega arith) in
     let low = is 4 in
     let count : e % 256 ≡ e = omega (arith, low) in
-    ap (λ (l : Bytes). l ++ (e % 256 ∷ 0 ∷ 0 ∷ 0 ∷ [])) four
-    ∙ ap (λ (n : ℕ). a ∷ b ∷ c ∷ d ∷ n ∷ 0 ∷ 0 ∷ 0 ∷ []) count
+    ap (λ (l : Bytes). l ++ (e % 256 ∷ m ∷ 0 ∷ 0 ∷ [])) four
+    ∙ ap (λ (n : ℕ). a ∷ b ∷ c ∷ d ∷ n ∷ m ∷ 0 ∷ 0 ∷ []) count
     ∙ ap (λ (l : Bytes). a ∷ b ∷ c ∷ d ∷ e ∷ l) (ap₂ (λ (x : ℕ) (l : Bytes). x ∷ l) (sym five) (ap₂ (λ (x y : ℕ). x ∷ y ∷ []) (sym six) (sym seven)))
 
 header_written : (bytes : Bytes) (block : List Entry) → IsBytes bytes → HeaderKept bytes → block_length block ≡ used_in bytes → length block ≡ count_in bytes → header_bytes block ≡ take 8 bytes
 unfolding header_bytes
 header_written bytes block is head long many =
     ap₂ (λ (n m : ℕ). little_bytes 4 n ++ (m % 256 ∷ 0 ∷ 0 ∷ 0 ∷ [])) long many
-    ∙ eight_bytes bytes is head.eight head.five head.six head.seven
+    ∙ eight_bytes 0 bytes is head.eight head.five head.six head.seven
 
 -- ---- the block
 
-used_within : (n : ℕ) → n ≤ 4096 * pages_for n
+pub used_within : (n : ℕ) → n ≤ 4096 * pages_for n
 unfolding pages_for
 used_within n = omega arith
 
-IsBytes-take : (n : ℕ) (bytes : Bytes) → IsBytes bytes → IsBytes (take n bytes)
+pub IsBytes-take : (n : ℕ) (bytes : Bytes) → IsBytes bytes → IsBytes (take n bytes)
 IsBytes-take zero bytes is i = omega arith
 IsBytes-take (suc n) [] is i = omega arith
 IsBytes-take (suc n) (x ∷ bytes) is zero = is 0

@@ -1,14 +1,11 @@
 -- Entries are read as they were written, and were written as they are read.
-use Rattle.std.proofs.Common.{◌≡◌, ◌≤◌, ◌+◌, ℕ, Bool, true, false, cond, List, [], ◌∷◌, ◌++◌, length, take, drop, refl, sym, ap, ap₂, ◌∙◌, arith, append_assoc, length-append}
+use Rattle.std.proofs.Common.{◌≡◌, ◌≤◌, ◌+◌, ℕ, Bool, true, false, List, [], ◌∷◌, ◌++◌, length, refl, ap, ap₂, ◌∙◌, arith, length-append}
 use Rattle.std.specs.Prelude.{Option, Some, None, ◌==◌, ◌&&◌, ◌||◌, nat_lt, not, flat_map}
 use Rattle.std.specs.List.{AllByRecursion}
 use Rattle.std.proofs.lemmas.Bool.{ne_eqb, le-ltb, or_from}
-use Rattle.std.proofs.lemmas.List.{drop-drop, drop_at, take_at}
-use Rattle.byteorder.specs.Endian.{little_bytes}
-use Rattle.byte_fields.proofs.NumberLemmas.{number_again}
 use Rattle.map_model.specs.SortedMap.{Bytes}
 use Rattle.entry_model.specs.Entries.{Entry, body, bytes_of, kind_of, IsEntry, keys_of}
-use Rattle.entry_model.specs.Reading.{entry_in, key_in, key_length_in, value_length_in, width_in}
+use Rattle.entry_model.specs.Reading.{key_in, key_length_in, value_length_in, width_in}
 use Rattle.key_base.specs.Limits.{is_no_key_length}
 use Rattle.block_model.specs.BlockReading.{entries_fault, entries_in, entry_fault}
 use Rattle.key_base.specs.ByteOrder.{is_before}

@@ -1,15 +1,13 @@
 -- Entries that break no rule were written as they are read.
-use Rattle.std.proofs.Common.{◌≡◌, ◌⊎◌, inl, inr, ◌≤◌, ◌+◌, ℕ, zero, suc, Bool, true, false, cond, [], ◌∷◌, ◌++◌, length, take, drop, refl, sym, ap, ap₂, ◌∙◌, subst, arith, length-drop}
-use Rattle.std.specs.Prelude.{Some, None, ◌==◌, ◌&&◌, ◌||◌, nat_lt, not, flat_map, slice_index}
+use Rattle.std.proofs.Common.{◌≡◌, ◌⊎◌, inl, inr, ◌≤◌, ◌+◌, ℕ, zero, suc, Bool, true, false, ◌++◌, length, take, drop, refl, sym, ap₂, ◌∙◌, arith}
+use Rattle.std.specs.Prelude.{None, ◌==◌, ◌&&◌, ◌||◌, nat_lt, not, flat_map}
 use Rattle.std.specs.List.{AllByRecursion}
 use Rattle.std.proofs.lemmas.Bool.{eqb-true, ltb-false, or_parts}
-use Rattle.std.proofs.lemmas.List.{drop-drop, length-take, nil_from_length, take-append-drop}
-use Rattle.std.proofs.Math.Seq.{take-add}
-use Rattle.byteorder.specs.Endian.{little_bytes}
+use Rattle.std.proofs.lemmas.List.{nil_from_length, take-append-drop}
 use Rattle.byte_fields.specs.Spelling.{IsBytes}
-use Rattle.byte_fields.proofs.NumberLemmas.{IsBytes-drop, IsBytes-take, number_back}
+use Rattle.byte_fields.proofs.NumberLemmas.{IsBytes-drop}
 use Rattle.map_model.specs.SortedMap.{Bytes}
-use Rattle.entry_model.specs.Entries.{body, bytes_of, kind_of, IsEntry, keys_of}
+use Rattle.entry_model.specs.Entries.{body, IsEntry, keys_of}
 use Rattle.entry_model.specs.Reading.{entry_in, key_in, key_length_in, kind_in, value_length_in, width_in}
 use Rattle.key_base.specs.Limits.{is_no_key_length}
 use Rattle.block_model.specs.BlockReading.{entries_fault, entries_in, entry_fault}
@@ -29,7 +27,7 @@ key_length_sound n e =
     (omega (arith, some), omega (arith, few))
 
 -- the kind is a value's, or a tombstone's without one
-kind_sound : (kind v : ℕ) → (not (kind == 1) && (not (kind == 2) || nat_lt 0 v)) ≡ false → ((kind ≡ 1) ⊎ (kind ≡ 2)) × (kind ≡ 2 → v ≡ 0)
+pub kind_sound : (kind v : ℕ) → (not (kind == 1) && (not (kind == 2) || nat_lt 0 v)) ≡ false → ((kind ≡ 1) ⊎ (kind ≡ 2)) × (kind ≡ 2 → v ≡ 0)
 kind_sound kind v ok = elim (kind == 1) as (λ t. (kind == 1) ≡ t → (not t && (not (kind == 2) || nat_lt 0 v)) ≡ false → ((kind ≡ 1) ⊎ (kind ≡ 2)) × (kind ≡ 2 → v ≡ 0)) [
   | true ↦ λ is ok. (inl (eqb-true kind 1 is), λ two. absurd (omega (arith, eqb-true kind 1 is, two)))
   | false ↦ λ is ok.

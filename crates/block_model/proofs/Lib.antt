@@ -11,3 +11,10 @@ pub mod BlocksWritten
 pub mod RowsRead
 pub mod IndexesRead
 pub mod TableIndex
+pub mod PrefixedBodies
+pub mod PrefixedEntriesRead
+pub mod PrefixedBlocksRead
+pub mod PrefixedEntriesWritten
+pub mod PrefixedBlocksWritten
+pub mod OldBlocks
+pub mod ListedEntries

@@ -69,12 +69,12 @@ rows_lasts (block ∷ more) = ap (λ (l : List Bytes). last_key block ∷ l) (ro
 
 -- ---- the order of keys
 
-less_of : (o : Ordering) → is_lt o ≡ true → o ≡ Less
+pub less_of : (o : Ordering) → is_lt o ≡ true → o ≡ Less
 less_of Less e = refl
 less_of Equal e = absurd cc
 less_of Greater e = absurd cc
 
-above_above : (a b c : Bytes) → is_before a b ≡ true → is_before b c ≡ true → is_before a c ≡ true
+pub above_above : (a b c : Bytes) → is_before a b ≡ true → is_before b c ≡ true → is_before a c ≡ true
 above_above a b c ab bc = ap is_lt (nat_list_cmp_total.trans a b c (less_of (byte_order a b) ab) (less_of (byte_order b c) bc))
 
 from_itself : (a : Bytes) → is_from a a ≡ true

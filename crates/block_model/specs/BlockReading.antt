@@ -1,5 +1,5 @@
 -- What is read from the bytes of a block, and the first rule that they break.
-use Rattle.std.specs.Prelude.{ℕ, zero, suc, ◌+◌, ◌*◌, nat_lt, ◌==◌, Bool, not, ◌&&◌, ◌||◌, List, [], ◌∷◌, length, take, drop, slice_index, position, Option, Some, None, if◌then◌else◌}
+use Rattle.std.specs.Prelude.{ℕ, zero, suc, ◌+◌, ◌*◌, nat_lt, ◌==◌, Bool, not, ◌&&◌, ◌||◌, List, [], ◌∷◌, length, take, drop, slice_index, position, Option, None}
 use Rattle.std.specs.Option.{option_map, option_or}
 use Rattle.byteorder.specs.Endian.{little_number}
 use Rattle.key_base.specs.Limits.{is_no_key_length, max_logged_value_bytes}

@@ -8,5 +8,10 @@ pub mod Block
 pub mod BlockReading
 pub mod Index
 pub mod IndexReading
+pub mod Formats
+pub mod FormatFaults
+pub mod Prefixed
 pub mod Laws
+pub mod FormatLaws
 pub mod Examples
+pub mod PrefixedExamples

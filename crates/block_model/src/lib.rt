@@ -5,6 +5,10 @@
 //! break first, and where; `Places` says where the parts of a table stand, by its row. Whoever writes or reads a table is
 //! proved against these.
 //!
+//! A second format of a block stands beside the first, and nothing writes it yet: its entries keep of a key only what it has
+//! beyond the key before, and each sixteenth entry is listed. `Formats` says what is read of an entry in either, `Prefixed`
+//! how such a block is spelled, `FormatFaults` which rule bytes of either break first, `FormatLaws` what holds of both.
+//!
 //! Nothing here reads or writes: `plain_blocks` has the obvious loops, `block_format` what a store uses. The functions
 //! with no parameter have no body: each has examples or laws as its contract, and none needs to be called.
 //!
@@ -17,9 +21,10 @@
 pub mod examples;
 mod laws;
 mod pages;
+pub mod prefixed_examples;
 
 pub use laws::{
-    blocks_are_the_entries, blocks_have_one_spelling, indexes_have_one_spelling,
-    lengths_are_counted,
+    blocks_are_the_entries, blocks_have_one_spelling, either_format_has_one_spelling,
+    indexes_have_one_spelling, lengths_are_counted, listed_entries_are_found_by_halves,
 };
 pub use pages::pages_for;

@@ -71,22 +71,22 @@ pub record KeepsLimits (bytes : Bytes) : Type 0 where
   pub room : 7 + key_length_in bytes + value_length_in bytes ≤ length bytes
 
 -- the value of an entry of a kind
-abbrev valued : ℕ → Bytes → Option Bytes
+abbrev pub valued : ℕ → Bytes → Option Bytes
 valued kind bytes = cond (kind == 1) (Some bytes) None
 
 -- two pieces of some bytes, one behind the other
 pub joined : (m n at : ℕ) (bytes : Bytes) → take m (drop at bytes) ++ take n (drop (at + m) bytes) ≡ take (m + n) (drop at bytes)
 joined m n at bytes = ap (λ (l : Bytes). take m (drop at bytes) ++ take n l) (sym (drop-drop m at bytes)) ∙ sym (take-add m n (drop at bytes))
 
-kind_again : (kind : ℕ) (bytes : Bytes) → (kind ≡ 1) ⊎ (kind ≡ 2) → kind_of (valued kind bytes) ≡ kind
+pub kind_again : (kind : ℕ) (bytes : Bytes) → (kind ≡ 1) ⊎ (kind ≡ 2) → kind_of (valued kind bytes) ≡ kind
 kind_again kind bytes (inl one) = ap (λ (n : ℕ). kind_of (valued n bytes)) one ∙ sym one
 kind_again kind bytes (inr two) = ap (λ (n : ℕ). kind_of (valued n bytes)) two ∙ sym two
 
-bytes_again : (kind v : ℕ) (bytes : Bytes) → (kind ≡ 1) ⊎ (kind ≡ 2) → (kind ≡ 2 → v ≡ 0) → bytes_of (valued kind (take v bytes)) ≡ take v bytes
+pub bytes_again : (kind v : ℕ) (bytes : Bytes) → (kind ≡ 1) ⊎ (kind ≡ 2) → (kind ≡ 2 → v ≡ 0) → bytes_of (valued kind (take v bytes)) ≡ take v bytes
 bytes_again kind v bytes (inl one) none = ap (λ (n : ℕ). bytes_of (valued n (take v bytes))) one
 bytes_again kind v bytes (inr two) none = ap (λ (n : ℕ). bytes_of (valued n (take v bytes))) two ∙ ap (λ (n : ℕ). take n bytes) (sym (none two))
 
-first_again : (n : ℕ) (bytes : Bytes) → 0 < length bytes → kind_in bytes ∷ take n (drop 1 bytes) ≡ take (suc n) bytes
+pub first_again : (n : ℕ) (bytes : Bytes) → 0 < length bytes → kind_in bytes ∷ take n (drop 1 bytes) ≡ take (suc n) bytes
 first_again n [] some = absurd (omega arith)
 first_again n (b ∷ bytes) some = refl
 

@@ -1,0 +1,45 @@
+-- Laws of both formats of a block: what was written is read again, what breaks no rule was written so, and what the list of a
+-- block says.
+use Rattle.std.specs.Prelude.{◌≡◌, ◌<◌, ℕ, ◌-◌, ◌*◌, List, [], drop, take, None}
+use Rattle.byte_fields.specs.Spelling.{IsBytes}
+use Rattle.key_base.specs.ByteOrder.{IsBefore}
+use Rattle.key_base.specs.Limits.{restart_entries}
+use Rattle.map_model.specs.SortedMap.{Bytes}
+use Rattle.entry_model.specs.Entries.{Entry}
+use Rattle.block_model.specs.BlockReading.{block_fault, block_in, count_in, used_in}
+use Rattle.block_model.specs.FormatFaults.{any_block_fault, any_block_in}
+use Rattle.block_model.specs.Formats.{Format, Old, Prefixed, entries_by, format_in, key_by, listed_in}
+use Rattle.block_model.specs.Prefixed.{IsBlockBy, bytes_by}
+
+-- what was written is read again
+abbrev pub EitherIsReadAgain : Type 0
+EitherIsReadAgain =
+    (f : Format) (block : List Entry) → IsBlockBy f block → (any_block_fault (bytes_by f block) ≡ None) × (any_block_in (bytes_by f block) ≡ block)
+
+-- what breaks no rule was written so
+abbrev pub EitherWasWrittenSo : Type 0
+EitherWasWrittenSo =
+    (bytes : Bytes) → IsBytes bytes → any_block_fault bytes ≡ None
+    → IsBlockBy (format_in bytes) (any_block_in bytes) × (bytes_by (format_in bytes) (any_block_in bytes) ≡ bytes)
+
+-- bytes that name the old format are judged and read as before
+abbrev pub OldIsReadAsBefore : Type 0
+OldIsReadAsBefore = (bytes : Bytes) → format_in bytes ≡ Old → (any_block_fault bytes ≡ block_fault bytes) × (any_block_in bytes ≡ block_in bytes)
+
+-- where bytes break no rule, the entries from a listed place on are those from that one on, whatever key is before
+abbrev pub ListedEntriesAreTheLater : Type 0
+ListedEntriesAreTheLater =
+    (bytes : Bytes) → format_in bytes ≡ Prefixed → any_block_fault bytes ≡ None
+    → (j : ℕ) → restart_entries * j < count_in bytes → (other : Bytes)
+    → entries_by Prefixed (count_in bytes - restart_entries * j) other (drop (listed_in bytes j) (take (used_in bytes) bytes))
+    ≡ drop (restart_entries * j) (any_block_in bytes)
+
+-- the key of a listed entry, which shares nothing
+abbrev pub listed_key : Bytes → ℕ → Bytes
+listed_key bytes j = key_by Prefixed [] (drop (listed_in bytes j) (take (used_in bytes) bytes))
+
+-- the listed keys rise
+abbrev pub ListedKeysRise : Type 0
+ListedKeysRise =
+    (bytes : Bytes) → format_in bytes ≡ Prefixed → any_block_fault bytes ≡ None
+    → (j k : ℕ) → j < k → restart_entries * k < count_in bytes → IsBefore (listed_key bytes j) (listed_key bytes k)
