@@ -62,14 +62,14 @@ fn push_block(block: &[Entry], out: &mut Vec<u8>) -> Result<(), AllocError>
 
 // How many bytes are left of the last page.
 #[tactic(auto, unfolding(block_model::specs::Pages::pages_for))]
-fn left_in_page(used: u64) -> u64
+pub(crate) fn left_in_page(used: u64) -> u64
     requires { used < 2 ^ 49 }
     ensures { result ≡ page_bytes * pages_for used - used }
 {
     PAGE_BYTES as u64 * pages_for(used) - used
 }
 
-fn push_zeros(count: u64, out: &mut Vec<u8>) -> Result<(), AllocError>
+pub(crate) fn push_zeros(count: u64, out: &mut Vec<u8>) -> Result<(), AllocError>
     ensures { OnOk result (out.new.items ≡ out.old.items ++ replicate count 0) }
 {
     for _ in 0..count {
