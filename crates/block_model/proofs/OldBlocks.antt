@@ -17,7 +17,7 @@ use Rattle.block_model.specs.FormatFaults.{block_fault_by, block_in_by, entries_
 use Rattle.block_model.specs.FormatLaws.{OldIsReadAsBefore, EitherIsReadAgain, EitherWasWrittenSo}
 use Rattle.block_model.specs.Formats.{Format, Old, Prefixed, entries_by, format_in, key_by, value_by, width_by}
 use Rattle.block_model.specs.Order.{is_any}
-use Rattle.block_model.specs.Prefixed.{IsBlockBy, IsEntryBy, bytes_by}
+use Rattle.block_model.specs.Prefixed.{IsBlockBy, IsEntryBy, spelled_by}
 use Rattle.block_model.proofs.BlocksRead.{block_again}
 use Rattle.block_model.proofs.BlocksWritten.{block_written}
 use Rattle.block_model.proofs.EntriesWritten.{key_length_sound}
@@ -125,7 +125,7 @@ either_again Old block is =
 either_again Prefixed block is = prefixed_again block is
 
 abbrev was_written : Format → Bytes → Type 0
-was_written f bytes = IsBlockBy f (block_in_by f bytes) × (bytes_by f (block_in_by f bytes) ≡ bytes)
+was_written f bytes = IsBlockBy f (block_in_by f bytes) × (spelled_by f (block_in_by f bytes) ≡ bytes)
 
 written_by : (f : Format) (bytes : Bytes) → IsBytes bytes → block_fault_by f bytes ≡ None → was_written f bytes
 written_by Old bytes is none =

@@ -8,7 +8,7 @@ use Rattle.entry_model.specs.Entries.{Entry}
 use Rattle.entry_model.specs.Reading.{kind_in}
 use Rattle.byte_fields.specs.Faults.{Fault, refuse}
 use Rattle.block_model.specs.BlockReading.{used_in, count_in, tail_fault}
-use Rattle.block_model.specs.Formats.{Format, Old, Prefixed, begins_anew, entries_by, format_byte, format_in, head_bytes, key_by, list_length, listed_in, most_value, rest_length_in, shared_in, value_length_by, wants_shared, width_by}
+use Rattle.block_model.specs.Formats.{Format, Old, Prefixed, begins_anew, entries_by, format_byte, format_in, entry_head_by, key_by, list_length, listed_in, most_value, rest_length_in, shared_in, value_length_by, wants_shared, width_by}
 use Rattle.block_model.specs.Pages.{page_bytes, pages_for}
 
 -- ---- an entry
@@ -27,7 +27,7 @@ shares_otherwise Prefixed i before rest = not (shared_in Prefixed rest == wants_
 -- 10: how much it shares; 6: its key is not above the one before.
 unfoldable pub entry_fault_by : Format → ℕ → ℕ → Bytes → Bytes → Option Fault
 entry_fault_by f i place before rest =
-    refuse (nat_lt (length rest) (head_bytes f)) place 3
+    refuse (nat_lt (length rest) (entry_head_by f)) place 3
     (refuse (has_wrong_kind f rest) place 4
     (refuse (is_no_key_length (shared_in f rest + rest_length_in f rest) || nat_lt (most_value f) (value_length_by f rest)) place 5
     (refuse (nat_lt (length rest) (width_by f rest)) place 3

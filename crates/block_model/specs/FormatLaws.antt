@@ -9,18 +9,18 @@ use Rattle.entry_model.specs.Entries.{Entry}
 use Rattle.block_model.specs.BlockReading.{block_fault, block_in, count_in, used_in}
 use Rattle.block_model.specs.FormatFaults.{any_block_fault, any_block_in}
 use Rattle.block_model.specs.Formats.{Format, Old, Prefixed, entries_by, format_in, key_by, listed_in}
-use Rattle.block_model.specs.Prefixed.{IsBlockBy, bytes_by}
+use Rattle.block_model.specs.Prefixed.{IsBlockBy, spelled_by}
 
 -- what was written is read again
 abbrev pub EitherIsReadAgain : Type 0
 EitherIsReadAgain =
-    (f : Format) (block : List Entry) → IsBlockBy f block → (any_block_fault (bytes_by f block) ≡ None) × (any_block_in (bytes_by f block) ≡ block)
+    (f : Format) (block : List Entry) → IsBlockBy f block → (any_block_fault (spelled_by f block) ≡ None) × (any_block_in (spelled_by f block) ≡ block)
 
 -- what breaks no rule was written so
 abbrev pub EitherWasWrittenSo : Type 0
 EitherWasWrittenSo =
     (bytes : Bytes) → IsBytes bytes → any_block_fault bytes ≡ None
-    → IsBlockBy (format_in bytes) (any_block_in bytes) × (bytes_by (format_in bytes) (any_block_in bytes) ≡ bytes)
+    → IsBlockBy (format_in bytes) (any_block_in bytes) × (spelled_by (format_in bytes) (any_block_in bytes) ≡ bytes)
 
 -- bytes that name the old format are judged and read as before
 abbrev pub OldIsReadAsBefore : Type 0

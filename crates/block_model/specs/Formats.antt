@@ -50,9 +50,9 @@ listed_in bytes j = little_number 2 (drop (8 + 2 * j) bytes)
 -- ---- an entry, of the bytes that begin with it
 
 -- its bytes before the key: its kind, and the lengths
-abbrev pub head_bytes : Format → ℕ
-head_bytes Old = 7
-head_bytes Prefixed = 9
+abbrev pub entry_head_by : Format → ℕ
+entry_head_by Old = 7
+entry_head_by Prefixed = 9
 
 -- how many bytes of the key before begin its key
 abbrev pub shared_in : Format → Bytes → ℕ
@@ -70,13 +70,13 @@ value_length_by Prefixed rest = little_number 4 (drop 5 rest)
 
 -- the bytes that it takes
 unfoldable pub width_by : Format → Bytes → ℕ
-width_by f rest = head_bytes f + rest_length_in f rest + value_length_by f rest
+width_by f rest = entry_head_by f + rest_length_in f rest + value_length_by f rest
 
 unfoldable pub key_by : Format → Bytes → Bytes → Bytes
-key_by f before rest = take (shared_in f rest) before ++ take (rest_length_in f rest) (drop (head_bytes f) rest)
+key_by f before rest = take (shared_in f rest) before ++ take (rest_length_in f rest) (drop (entry_head_by f) rest)
 
 unfoldable pub value_by : Format → Bytes → Option Bytes
-value_by f rest = if kind_in rest == 1 then Some (take (value_length_by f rest) (drop (head_bytes f + rest_length_in f rest) rest)) else None
+value_by f rest = if kind_in rest == 1 then Some (take (value_length_by f rest) (drop (entry_head_by f + rest_length_in f rest) rest)) else None
 
 -- ---- entries, one after the other, the first of them after a key
 

@@ -69,9 +69,9 @@ abbrev pub length_by : Format → List Entry → ℕ
 length_by Old block = block_length block
 length_by Prefixed block = prefixed_block_length block
 
-abbrev pub bytes_by : Format → List Entry → Bytes
-bytes_by Old block = block_bytes block
-bytes_by Prefixed block = prefixed_block_bytes block
+abbrev pub spelled_by : Format → List Entry → Bytes
+spelled_by Old block = block_bytes block
+spelled_by Prefixed block = prefixed_block_bytes block
 
 -- a key of one byte or more, and key and value within the limits of the format
 pub record IsEntryBy (f : Format) (entry : Entry) : Type 0 where
