@@ -14,13 +14,13 @@ count_by-map p f [] = refl
 count_by-map p f (x ∷ xs) =
     count_by-cons p (f x) (map f xs) ∙ ap (λ n. cond (p (f x)) 1 0 + n) (count_by-map p f xs) ∙ sym (count_by-cons (λ x. p (f x)) x xs)
 
-one_if : (b : Bool) → b ≡ true → cond {A = ℕ} b 1 0 ≡ 1
+pub one_if : (b : Bool) → b ≡ true → cond {A = ℕ} b 1 0 ≡ 1
 one_if b e = cond-true b 1 0 e
 
 none_if : (b : Bool) → b ≡ false → cond {A = ℕ} b 1 0 ≡ 0
 none_if b e = cond-false b 1 0 e
 
-one_at_most : (b : Bool) → cond {A = ℕ} b 1 0 ≤ 1
+pub one_at_most : (b : Bool) → cond {A = ℕ} b 1 0 ≤ 1
 one_at_most true = omega arith
 one_at_most false = omega arith
 
@@ -61,7 +61,7 @@ AllPairs-tail R x xs h i j d l k = h (suc i) (suc j) d (omega arith) (omega arit
 pub AllPairs-head : {X : Type 0} (R : X → X → Type 0) (x : X) (xs : List X) → AllPairs R (x ∷ xs) → (y : X) → Contains xs y → R x y
 AllPairs-head R x xs h y c = subst (R x) c.2 (h 0 (suc c.0) y (omega arith) (omega (arith, c.1)))
 
-count_none : {X : Type 0} (p : X → Bool) (xs : List X) → ((x : X) → Contains xs x → p x ≡ false) → count_by p xs ≡ 0
+pub count_none : {X : Type 0} (p : X → Bool) (xs : List X) → ((x : X) → Contains xs x → p x ≡ false) → count_by p xs ≡ 0
 count_none p [] h = refl
 count_none p (x ∷ xs) h =
     let rest = count_none p xs (λ y c. h y (Contains-more x xs y c)) in

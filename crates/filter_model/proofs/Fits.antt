@@ -48,7 +48,7 @@ least_leq n t r x h p e =
     let step = Leq-append t (shortest 4 (r * unit n)) rest (shortest_least 4 (r * unit n) rest (IsBytes-drop (length t) x h) enough) in
     rw (prefix_parts t x p) step
 
-least_after : (n : ℕ) (t : List ℕ) (r : ℕ) → n ≤ 32 → r < 2 ^ n → after n t (least n t r) ≡ r
+pub least_after : (n : ℕ) (t : List ℕ) (r : ℕ) → n ≤ 32 → r < 2 ^ n → after n t (least n t r) ≡ r
 least_after n t r h k =
     ap (bits n) (drop_at t (shortest 4 (r * unit n)) (length t) refl)
     ∙ ap (λ (z : ℕ). z / unit n) (prefix_number-shortest 4 (r * unit n) (filled_below n r h k))
@@ -111,10 +111,10 @@ fits_end n x l e = cond-true l.ends (bytes_eq l.stub x) _ e
 fits_open : (n : ℕ) (x : List ℕ) (l : Leaf) → l.ends ≡ false → fits n x l ≡ (is_prefix l.stub x && (after n l.stub x == l.real))
 fits_open n x l e = cond-false l.ends (bytes_eq l.stub x) _ e
 
-begins_end : (n : ℕ) (l : Leaf) → l.ends ≡ true → begins n l ≡ l.stub
+pub begins_end : (n : ℕ) (l : Leaf) → l.ends ≡ true → begins n l ≡ l.stub
 begins_end n l e = ap (λ (u : List ℕ). l.stub ++ u) (cond-true l.ends [] _ e) ∙ append-nil l.stub
 
-begins_open : (n : ℕ) (l : Leaf) → l.ends ≡ false → begins n l ≡ least n l.stub l.real
+pub begins_open : (n : ℕ) (l : Leaf) → l.ends ≡ false → begins n l ≡ least n l.stub l.real
 begins_open n l e = ap (λ (u : List ℕ). l.stub ++ u) (cond-false l.ends [] _ e)
 
 past_end : (n : ℕ) (lo : List ℕ) (l : Leaf) → l.ends ≡ true → is_past n lo l ≡ is_before l.stub lo

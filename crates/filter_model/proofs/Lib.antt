@@ -8,6 +8,9 @@ pub mod Counts
 pub mod Crowds
 pub mod Validity
 pub mod Tallies
+pub mod LeastStrings
+pub mod Seeks
+pub mod OfKeys
 pub mod Pairs
 pub mod Levels
 pub mod KeyLists

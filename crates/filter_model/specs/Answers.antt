@@ -50,3 +50,7 @@ is_within lo hi k = not (is_before k lo) && not (is_before hi k)
 
 abbrev pub true_count : List (List ℕ) → List ℕ → List ℕ → ℕ
 true_count keys lo hi = count_by (is_within lo hi) keys
+
+-- how many come before lo
+abbrev pub keys_below : List (List ℕ) → List ℕ → ℕ
+keys_below keys lo = count_by (λ k. is_before k lo) keys

@@ -1,14 +1,14 @@
 -- What the definitions keep, whatever the leaves and the keys.
-use Rattle.std.specs.Prelude.{◌≡◌, ◌==◌, ◌↔◌, ◌<◌, ℕ, ◌+◌, ◌≤◌, nat_lt, Bool, true, false, ◌&&◌, ◌||◌, List, length}
+use Rattle.std.specs.Prelude.{◌≡◌, ◌==◌, ◌↔◌, ◌<◌, ℕ, ◌+◌, ◌≤◌, nat_lt, Bool, true, false, ◌&&◌, ◌||◌, List, length, map, get_or, Option, Some, None}
 use Rattle.std.specs.List.{All, AllPairs, Contains, list_any}
-use Rattle.key_base.specs.Limits.{max_real_bits}
+use Rattle.key_base.specs.Limits.{max_real_bits, max_key_bytes}
 use Rattle.byte_fields.specs.Spelling.{IsBytes}
 use Rattle.filter_model.specs.Strings.{extends, is_before, bytes_eq}
 use Rattle.filter_model.specs.Keys.{IsKeyList}
-use Rattle.filter_model.specs.Leaves.{Leaf, leaves_of}
-use Rattle.filter_model.specs.Answers.{fits, point, ranged, tally, is_within, true_count}
+use Rattle.filter_model.specs.Leaves.{Leaf, leaf_of, leaves_of}
+use Rattle.filter_model.specs.Answers.{begins, first, fits, is_past, point, ranged, tally, is_within, keys_below, true_count}
 use Rattle.filter_model.specs.Trie.{branches, nodes, parent}
-use Rattle.filter_model.specs.Valid.{IsValid}
+use Rattle.filter_model.specs.Valid.{IsLeaf, IsValid}
 
 -- the leaves of every list of keys are valid
 abbrev pub LeavesAreValid : Type 0
@@ -50,6 +50,62 @@ TallyIsNear =
     (hash_bits real_bits : ℕ) (keys : List (List ℕ)) (lo hi : List ℕ) → real_bits ≤ max_real_bits → IsKeyList keys → AreBounds lo hi
     → (true_count keys lo hi ≤ tally real_bits (leaves_of hash_bits real_bits keys) lo hi)
     × (tally real_bits (leaves_of hash_bits real_bits keys) lo hi ≤ true_count keys lo hi + 2)
+
+-- what a seek's answer says of the keys: as many as its leaf's number are below lo, or one more; without a leaf, all
+pub record IsNear (keys : List (List ℕ)) (lo : List ℕ) (answer : Option ℕ) : Type 0 where
+  pub some : (n : ℕ) → answer ≡ Some n → (n ≤ keys_below keys lo) × (keys_below keys lo ≤ n + 1)
+  pub none : answer ≡ None → keys_below keys lo ≡ length keys
+
+abbrev pub SeeksAreNear : Type 0
+SeeksAreNear =
+    (hash_bits real_bits : ℕ) (keys : List (List ℕ)) (lo : List ℕ) → real_bits ≤ max_real_bits → IsKeyList keys → IsBytes lo
+    → IsNear keys lo (first real_bits (leaves_of hash_bits real_bits keys) lo)
+
+-- no key from lo on comes before the least string of the leaf that a seek of lo answers
+abbrev pub NothingBeforeFirst : Type 0
+NothingBeforeFirst =
+    (hash_bits real_bits : ℕ) (keys : List (List ℕ)) (lo k : List ℕ) (n : ℕ) (l : Leaf) → real_bits ≤ max_real_bits → IsKeyList keys → IsBytes lo
+    → first real_bits (leaves_of hash_bits real_bits keys) lo ≡ Some n → Contains keys k → is_before k lo ≡ false
+    → is_before k (begins real_bits (get_or (leaves_of hash_bits real_bits keys) n l)) ≡ false
+
+-- a range holds a leaf exactly where a seek of lo answers one whose least string is not above hi
+abbrev pub RangedByFirst : Type 0
+RangedByFirst =
+    (hash_bits real_bits : ℕ) (ls : List Leaf) (lo hi : List ℕ) (l : Leaf) → real_bits ≤ max_real_bits → IsValid hash_bits real_bits ls
+    → (ranged real_bits ls lo hi ≡ true) ↔ ((n : ℕ) × (first real_bits ls lo ≡ Some n) × (is_before hi (begins real_bits (get_or ls n l)) ≡ false))
+
+-- x is the least byte string that fits the leaf, hash apart
+pub record IsLeast (real_bits : ℕ) (l : Leaf) (x : List ℕ) : Type 0 where
+  pub bytes : IsBytes x
+  pub fit : fits real_bits x l ≡ true
+  pub least : (y : List ℕ) → IsBytes y → fits real_bits y l ≡ true → is_before y x ≡ false
+
+-- each leaf of a valid list begins with the least string that fits it
+abbrev pub LeastStringsFit : Type 0
+LeastStringsFit =
+    (hash_bits real_bits : ℕ) (ls : List Leaf) → real_bits ≤ max_real_bits → IsValid hash_bits real_bits ls → All (λ l. IsLeast real_bits l (begins real_bits l)) ls
+
+-- and no key comes before that of its leaf
+abbrev pub NoKeyBeforeLeast : Type 0
+NoKeyBeforeLeast =
+    (hash_bits real_bits : ℕ) (keys : List (List ℕ)) (k : List ℕ) → IsKeyList keys → Contains keys k
+    → is_before k (begins real_bits (leaf_of hash_bits real_bits keys k)) ≡ false
+
+-- a leaf is past lo exactly where each byte string that fits it is below lo
+abbrev pub PastIsBelow : Type 0
+PastIsBelow =
+    (hash_bits real_bits : ℕ) (lo : List ℕ) (l : Leaf) → real_bits ≤ max_real_bits → IsBytes lo → IsLeaf hash_bits real_bits l
+    → (is_past real_bits lo l ≡ true) ↔ ((x : List ℕ) → IsBytes x → fits real_bits x l ≡ true → is_before x lo ≡ true)
+
+-- a valid list without hash bits, whose least strings are no longer than a key, is the leaves of its least strings
+pub record IsOfKeys (real_bits : ℕ) (ls : List Leaf) (keys : List (List ℕ)) : Type 0 where
+  pub list : IsKeyList keys
+  pub same : leaves_of 0 real_bits keys ≡ ls
+
+abbrev pub ValidListsComeOfKeys : Type 0
+ValidListsComeOfKeys =
+    (real_bits : ℕ) (ls : List Leaf) → real_bits ≤ max_real_bits → IsValid 0 real_bits ls → All (λ l. length (begins real_bits l) ≤ max_key_bytes) ls
+    → IsOfKeys real_bits ls (map (begins real_bits) ls)
 
 -- the leaves' stubs are byte strings
 abbrev pub AreByteStubs : List Leaf → Type 0

@@ -45,6 +45,11 @@ pub fn other_examples()
     ensures none_is_there { true_count aa1_ab1 (codes "aa5") (codes "ab0") ≡ 0 }
     ensures hash_of_a { hash_bits_of 8 (codes "a") ≡ 0x8C }
     ensures leaf_of_a { leaves_of 8 0 (codes "a" ∷ []) ≡ record { stub = codes "a"; ends = false; hash = 0x8C; real = 0 } ∷ [] }
+    ensures a_alone_is_held { point 8 0 (leaves_of 8 0 (codes "a" ∷ [])) (codes "a") ≡ true }
+    ensures b_differs_by_the_stub { point 8 0 (leaves_of 8 0 (codes "a" ∷ [])) (codes "b") ≡ false }
+    ensures aa_differs_by_the_hash_alone { point 8 0 (leaves_of 8 0 (codes "a" ∷ [])) (codes "aa") ≡ false }
+    ensures without_hash_bits_aa_may_be_held { point 0 0 (base_leaves (codes "a" ∷ [])) (codes "aa") ≡ true }
+    ensures hash_of_aa { hash_bits_of 8 (codes "aa") ≡ 0xB7 }
     ensures zoo_may_be_held { point 0 0 (base_leaves (codes "zebra" ∷ [])) (codes "zoo") ≡ true }
     ensures y_is_not { point 0 0 (base_leaves (codes "zebra" ∷ [])) (codes "y") ≡ false }
     ensures two_bytes_of_all { cutoff_of 64 (1 ∷ 256 ∷ []) (256 ∷ 65536 ∷ []) ≡ 1 }

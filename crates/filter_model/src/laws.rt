@@ -1,5 +1,5 @@
 //! Laws of the definitions. They are proved and never called.
-ghost use Rattle.filter_model.specs.Laws.{LeavesAreValid, NodesAreThePrefixes, NodesBranch, NodesStandInOrder, NoHeldRangeIsDenied, NoKeyIsDenied, RangeIsExact, TallyIsNear};
+ghost use Rattle.filter_model.specs.Laws.{LeastStringsFit, LeavesAreValid, NodesAreThePrefixes, NodesBranch, NodesStandInOrder, NoHeldRangeIsDenied, NoKeyBeforeLeast, NoKeyIsDenied, NothingBeforeFirst, PastIsBelow, RangedByFirst, RangeIsExact, SeeksAreNear, TallyIsNear, ValidListsComeOfKeys};
 
 /// A range answers yes exactly where some byte string in it fits a leaf, hash bits apart.
 pub fn range_is_exact()
@@ -17,6 +17,26 @@ pub fn tally_is_near()
     ensures { TallyIsNear }
 {}
 
+/// Where a seek of `lo` answers the leaf of number n, n keys are below `lo`, or n + 1; where it answers none, all are. No
+/// key from `lo` on comes before the least string of the answered leaf, and a range from `lo` to `hi` holds a leaf exactly
+/// where that string is not above `hi`.
+pub fn seeks_are_near()
+    ensures keys { SeeksAreNear }
+    ensures before { NothingBeforeFirst }
+    ensures ranges { RangedByFirst }
+{}
+
+/// A leaf of a valid list begins with the least byte string that fits it, and no key comes before that of its leaf.
+pub fn least_strings_fit()
+    ensures leaves { LeastStringsFit }
+    ensures keys { NoKeyBeforeLeast }
+{}
+
+/// A leaf is past a string exactly where each byte string that fits it is below that string.
+pub fn past_is_below()
+    ensures { PastIsBelow }
+{}
+
 /// The leaves of a list of keys are a valid leaf list, and each is a branch of a node of two branches or more.
 pub fn leaves_are_valid()
     ensures valid { LeavesAreValid }
@@ -27,4 +47,10 @@ pub fn leaves_are_valid()
 pub fn nodes_are_the_prefixes()
     ensures prefixes { NodesAreThePrefixes }
     ensures order { NodesStandInOrder }
+{}
+
+/// Each valid leaf list without hash bits, whose least strings are no longer than a key may be, is the leaves of some keys:
+/// of these least strings.
+pub fn valid_lists_come_of_keys()
+    ensures { ValidListsComeOfKeys }
 {}

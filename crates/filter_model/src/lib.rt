@@ -24,5 +24,6 @@ mod laws;
 
 pub use keys::are_keys;
 pub use laws::{
-    leaves_are_valid, nodes_are_the_prefixes, nothing_held_is_denied, range_is_exact, tally_is_near,
+    least_strings_fit, leaves_are_valid, nodes_are_the_prefixes, nothing_held_is_denied,
+    past_is_below, range_is_exact, seeks_are_near, tally_is_near, valid_lists_come_of_keys,
 };
