@@ -60,10 +60,15 @@ pub fn section_faults()
     ensures many_dense_nodes { image_fault (with_bytes ((23, 0x10) ∷ []) a_ab_sparse) ≡ Some (fault 45 1) }
     ensures fewer_labels { image_fault (with_bytes ((32, 2) ∷ []) a_ab_sparse) ≡ Some (fault 44 5) }
     ensures a_byte_more { image_fault (with_bytes ((43, 9) ∷ []) a_ab_sparse ++ 0 ∷ []) ≡ Some (fault 45 5) }
+    ensures two_bytes_more { image_fault (a_ab_sparse ++ 0 ∷ 0 ∷ []) ≡ Some (fault 45 5) }
+    ensures more_dense_nodes { image_fault (with_bytes ((16, 3) ∷ []) a_ab_dense) ≡ Some (fault 169 1) }
     ensures padding { image_fault (with_bytes ((43, 9) ∷ (44, 9) ∷ []) a_ab_sparse) ≡ Some (fault 43 6) }
     ensures padding_of_openings { image_fault (with_bytes ((44, 9) ∷ []) a_ab_sparse) ≡ Some (fault 44 6) }
+    ensures padding_in_a_second_byte { image_fault (with_bytes ((50, 2) ∷ []) far_to_toy_sparse) ≡ Some (fault 50 6) }
+    ensures padding_of_openings_in_a_second_byte { image_fault (with_bytes ((52, 2) ∷ []) far_to_toy_sparse) ≡ Some (fault 52 6) }
     ensures padding_of_ends { image_fault (with_bytes ((116, 6) ∷ (168, 0x82) ∷ []) a_ab_dense) ≡ Some (fault 168 6) }
     ensures stray { image_fault (with_bytes ((116, 6) ∷ (12, 3) ∷ []) a_ab_dense) ≡ Some (fault 116 7) }
+    ensures stray_in_the_second_node { image_fault (with_bytes ((148, 8) ∷ []) a_ab_dense) ≡ Some (fault 148 7) }
     ensures stray_before_openings { image_fault (with_bytes ((84, 6) ∷ (108, 2) ∷ []) a_ab_root_dense) ≡ Some (fault 84 7) }
 {}
 
