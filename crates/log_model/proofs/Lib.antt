@@ -1,5 +1,6 @@
 pub mod Appended
 pub mod Bodies
+pub mod BrokenAreas
 pub mod Ends
 pub mod Logs
 pub mod Readings

@@ -1,6 +1,7 @@
 //! The definitions, shown by examples. Each computes.
 ghost use Rattle.std.specs.Prelude.{◌≡◌, [], ◌∷◌, map, Some, None};
-ghost use Rattle.log_model.specs.Area.{start_of};
+ghost use Rattle.disk_trait.specs.Image.{Image};
+ghost use Rattle.log_model.specs.Area.{LogBreaks, start_of};
 ghost use Rattle.log_model.specs.Records.{broken_rule};
 
 /// Where the two areas begin.
@@ -19,4 +20,9 @@ pub fn rules()
     ensures a_key_of_1025_bytes { broken_rule (2 ∷ 1 ∷ 4 ∷ 0 ∷ 0 ∷ 0 ∷ 0 ∷ []) ≡ Some 3 }
     ensures a_delete_with_a_value { broken_rule (2 ∷ 1 ∷ 0 ∷ 1 ∷ 0 ∷ 0 ∷ 0 ∷ 107 ∷ 120 ∷ 0 ∷ []) ≡ Some 3 }
     ensures no_gate_behind_the_body { broken_rule (1 ∷ 1 ∷ 0 ∷ 1 ∷ 0 ∷ 0 ∷ 0 ∷ 107 ∷ 120 ∷ []) ≡ Some 1 }
+{}
+
+/// The place of a broken rule is that of the device's byte: area 1 begins with an open gate, and kind 3 stands behind it.
+pub fn open_gates()
+    ensures kind_three_in_area_1 { (image : Image) → image 524288 ≡ 1 → image 524289 ≡ 3 → LogBreaks 1 524288 2 image }
 {}
