@@ -16,6 +16,7 @@
 
 mod asked;
 mod command_line;
+pub mod examples;
 mod load;
 mod new_store;
 

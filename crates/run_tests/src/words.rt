@@ -93,7 +93,7 @@ const HELP_PARTS: [&str; 12] = [
     "--seed",
     "--count",
     "16,777,216",
-    "formatted 512",
+    "formatted 1048576",
 ];
 
 // The first of these parts that a text lacks.
