@@ -1,6 +1,6 @@
 //! Loads beside the standard library's ordered map.
+use crate::plain_load::{loaded, summed};
 use load_gen::LoadGen;
-use plain_load::{loaded, summed};
 use std::alloc::Global;
 use std::collections::BTreeMap;
 use std::test::Fail;

@@ -7,10 +7,10 @@
 #[cfg(test)]
 mod boxes;
 #[cfg(test)]
+mod crashes;
+#[cfg(test)]
 mod fields;
 #[cfg(test)]
 mod records;
 #[cfg(test)]
 mod table;
-#[cfg(test)]
-mod tests;

@@ -1,8 +1,8 @@
 use Rattle.std.proofs.Common.{subst}
 use Rattle.std.specs.Prelude.{IfSome, Option}
 use Rattle.level_merge.specs.Plans.{MayStart, PlanByNumbers}
-use Rattle.merge_tests.proofs.Numbers.{begun_there}
-use Rattle.merge_tests.proofs.merging.chosen.Goals as goal
+use Rattle.compaction_tests.proofs.Numbers.{begun_there}
+use Rattle.compaction_tests.proofs.merging.chosen.Goals as goal
 
 pub returns-in_ok-start-in-Some : goal.returns-in_ok-start-in-Some
 returns-in_ok-start-in-Some c =

@@ -1,6 +1,6 @@
 use Rattle.std.proofs.Common.{◌≡◌, take}
 use Rattle.load_gen.specs.Summary.{summary_of}
-use Rattle.plain_load.proofs.load.summed.Given as goal
+use Rattle.line_tests.proofs.plain_load.summed.Given as goal
 
 abbrev pub invariant-loop-pair : goal.invariant-loop-pair
 invariant-loop-pair l = record {

@@ -3,7 +3,7 @@ use Rattle.map_model.specs.SortedMap.{Map}
 use Rattle.entry_model.specs.Entries.{Entry, changed}
 use Rattle.load_gen.specs.Generator.{next_number, step_of}
 use Rattle.load_gen.proofs.Steps.{number_more, map_more}
-use Rattle.plain_load.proofs.load.loaded.Goals as goal
+use Rattle.line_tests.proofs.plain_load.loaded.Goals as goal
 
 pub loop-preserved : goal.loop-preserved
 loop-preserved c = record {

@@ -1,7 +1,7 @@
 use Rattle.std.proofs.Common.{◌≡◌}
 use Rattle.entry_model.specs.Entries.{map_of}
 use Rattle.load_gen.specs.Generator.{number_after, first_steps}
-use Rattle.plain_load.proofs.load.loaded.Given as goal
+use Rattle.line_tests.proofs.plain_load.loaded.Given as goal
 
 abbrev pub invariant-loop : goal.invariant-loop
 invariant-loop l = record {
