@@ -6,6 +6,7 @@ use plain_store::{Answer, Reply, Request, State, ask, choose, sliced};
 use std::alloc::{AllocError, Global};
 use std::test::Fail;
 use store_core::{Explained, Limit, Scan, StoreError, Tended};
+use test_kit::Numbers;
 use test_stores::{BASE, PlainStore, disk_of, new_state, opened};
 
 const KEYS: [&[u8]; 16] = [
@@ -27,33 +28,25 @@ const KEYS: [&[u8]; 16] = [
     b"\xff\xff",
 ];
 
-// The next of a row of draws, and a number below a bound from it.
-fn draw(seed: &mut u64, bound: u64) -> usize {
-    *seed = seed
-        .wrapping_mul(6_364_136_223_846_793_005)
-        .wrapping_add(1_442_695_040_888_963_407);
-    ((*seed >> 33) % bound.max(1)) as usize
-}
-
 // Bytes that values are cut from.
 fn long_text(alloc: Global) -> Result<Vec<u8>, AllocError> {
-    let mut seed = 1;
+    let mut numbers = Numbers::new(1);
     let mut bytes = Vec::with_capacity(alloc, 65_536)?;
     for _ in 0..65_536u32 {
-        bytes.push(u8::try_from(draw(&mut seed, 256)).unwrap_or(0))?;
+        bytes.push(u8::try_from(numbers.draw_below(256)).unwrap_or(0))?;
     }
     Ok(bytes)
 }
 
 // A value: one in eight is empty, half have less than 200 bytes, two in eight near a page, and one in eight is long.
-fn drawn_value<'a>(seed: &mut u64, text: &'a [u8], longest: u64) -> &'a [u8] {
-    let length = match draw(seed, 8) {
+fn drawn_value<'a>(numbers: &mut Numbers, text: &'a [u8], longest: u64) -> &'a [u8] {
+    let length = match numbers.draw_below(8) {
         0 => 0,
-        1 => draw(seed, longest),
-        2 | 3 => draw(seed, 3_000).saturating_add(2_000),
-        _ => draw(seed, 200),
+        1 => numbers.draw_below(longest),
+        2 | 3 => numbers.draw_below(3_000).saturating_add(2_000),
+        _ => numbers.draw_below(200),
     };
-    let from = draw(seed, 256);
+    let from = numbers.draw_below(256);
     text.get(from..from.saturating_add(length)).unwrap_or(b"")
 }
 
@@ -65,15 +58,20 @@ enum Lines {
 }
 
 // A line.
-fn drawn_line<'a>(seed: &mut u64, lines: Lines, text: &'a [u8], longest: u64) -> Request<'a> {
+fn drawn_line<'a>(
+    numbers: &mut Numbers,
+    lines: Lines,
+    text: &'a [u8],
+    longest: u64,
+) -> Request<'a> {
     let verbs = match lines {
         Lines::All => 27,
         Lines::OfTheMap => 24,
     };
-    let verb = draw(seed, verbs);
-    let key = KEYS[draw(seed, 16).min(15)];
-    let hi = KEYS[draw(seed, 16).min(15)];
-    let rare = draw(seed, 4) == 0;
+    let verb = numbers.draw_below(verbs);
+    let key = KEYS[numbers.draw_below(16).min(15)];
+    let hi = KEYS[numbers.draw_below(16).min(15)];
+    let rare = numbers.draw_below(4) == 0;
     match verb {
         0 if rare => Request::Compact,
         0 | 1 => Request::Flush,
@@ -91,7 +89,7 @@ fn drawn_line<'a>(seed: &mut u64, lines: Lines, text: &'a [u8], longest: u64) ->
         26 => Request::Del { key: b"" },
         _ => Request::Put {
             key,
-            value: drawn_value(seed, text, longest),
+            value: drawn_value(numbers, text, longest),
         },
     }
 }
@@ -105,10 +103,10 @@ fn drawn<'a>(
     text: &'a [u8],
     longest: u64,
 ) -> Result<Vec<Request<'a>>, AllocError> {
-    let mut seed = seed;
+    let mut numbers = Numbers::new(seed);
     let mut script = Vec::new(alloc);
     for _ in 0..count {
-        let line = drawn_line(&mut seed, lines, text, longest);
+        let line = drawn_line(&mut numbers, lines, text, longest);
         script.push(line).map_err(AllocError::from)?;
     }
     Ok(script)

@@ -15,6 +15,7 @@ use key_truncate::{Stub, truncate};
 use plain_filter::PlainFilter;
 use std::alloc::{AllocError, Global};
 use std::test::Fail;
+pub(crate) use test_kit::boxed;
 use trie_levels::{plan_spans, spans_of};
 
 /// So many that two of the keys hardly share them.
@@ -22,11 +23,6 @@ pub(crate) const HASH_BITS: u8 = 32;
 
 /// How many real bits a leaf has.
 pub(crate) const REAL_BITS: u8 = 8;
-
-/// The value in a box.
-pub(crate) fn boxed<T: Drop>(alloc: Global, value: T) -> Result<Box<T>, AllocError> {
-    Ok(Box::new(alloc, value)?)
-}
 
 // The trie of keys with its first `cutoff` levels dense, `None` where it has not so many.
 fn planned(

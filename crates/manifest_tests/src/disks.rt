@@ -14,16 +14,7 @@ use manifest::{ManifestFault, Version as Loaded, format, install, load};
 use manifest_model::{Version, body_bytes};
 use std::alloc::{AllocError, Global};
 use std::test::Fail;
-
-/// The value in a box.
-pub fn boxed<T: Drop>(alloc: Global, value: T) -> Result<Box<T>, AllocError> {
-    Ok(Box::new(alloc, value)?)
-}
-
-/// A new disk.
-pub fn new_disk(alloc: Global) -> Result<Box<MemDisk>, AllocError> {
-    boxed(alloc, MemDisk::new(alloc, &[])?)
-}
+pub use test_kit::{boxed, new_disk};
 
 /// The first byte of each slot.
 pub const SLOTS: [u64; 2] = [0, 131_072];

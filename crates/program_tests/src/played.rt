@@ -7,6 +7,7 @@ use plain_map::PlainMap;
 use plain_store::{Merge, Played, Reply, Request, State, ask, get_bound, play, seek_bound, tend};
 use std::alloc::{AllocError, Global};
 use std::test::Fail;
+use test_kit::Numbers;
 
 // Keys and values, and each as a word.
 const KEYS: [(&[u8], &[u8]); 6] = [
@@ -25,14 +26,6 @@ const BASE: Settings = Settings {
     real_bits: 0,
     ratio: 64,
 };
-
-// The next of a row of draws, and a number below a bound from it.
-fn draw(seed: &mut u64, bound: u64) -> usize {
-    *seed = seed
-        .wrapping_mul(6_364_136_223_846_793_005)
-        .wrapping_add(1_442_695_040_888_963_407);
-    ((*seed >> 33) % bound.max(1)) as usize
-}
 
 // A script, as lines and as requests.
 #[derive(Drop)]
@@ -100,15 +93,15 @@ fn no_lines(alloc: Global) -> Result<Box<Script>, AllocError> {
 
 // So many lines of the first verbs: twelve of them write and get, and six read pairs.
 fn drawn(alloc: Global, seed: u64, length: usize, verbs: u64) -> Result<Box<Script>, AllocError> {
-    let mut seed = seed;
+    let mut numbers = Numbers::new(seed);
     let mut script = no_lines(alloc)?;
     for _ in 0..length {
-        let verb = draw(&mut seed, verbs);
-        let key = draw(&mut seed, 6);
+        let verb = numbers.draw_below(verbs);
+        let key = numbers.draw_below(6);
         if verb < 12 {
-            push_line(&mut script, verb, key, draw(&mut seed, 3))?;
+            push_line(&mut script, verb, key, numbers.draw_below(3))?;
         } else {
-            push_scan(&mut script, verb - 12, key, draw(&mut seed, 6))?;
+            push_scan(&mut script, verb - 12, key, numbers.draw_below(6))?;
         }
     }
     Ok(script)
@@ -341,12 +334,12 @@ fn outlasts(alloc: Global, first: &MemDisk, script: &Script, call: u64) -> Resul
 #[test]
 fn crashes_at_random_places(rt: HostRuntime) -> Result<(), Fail> {
     let alloc = rt.alloc();
-    let mut seed = 11;
+    let mut numbers = Numbers::new(11);
     for words in VARIANTS {
         let first = formatted(alloc, words)?;
-        let script = drawn(alloc, seed, 60, 12)?;
+        let script = drawn(alloc, numbers.draw(), 60, 12)?;
         for _ in 0..4 {
-            let call = draw(&mut seed, 200) as u64;
+            let call = numbers.draw_below(200) as u64;
             assert!(rt; outlasts(alloc, &first, &script, call)?, "call {call}");
         }
     }

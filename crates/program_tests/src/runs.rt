@@ -10,27 +10,14 @@ use std::test::Fail;
 use store_core::Store;
 use surf_filter::SurfFilter;
 use surf_run::run;
+pub use test_kit::{boxed, disk_of};
 
 /// The filter that the program has.
 pub type Succinct = SurfFilter<Global>;
 
-/// The value in a box.
-pub fn boxed<T: Drop>(alloc: Global, value: T) -> Result<Box<T>, AllocError> {
-    Ok(Box::new(alloc, value)?)
-}
-
-/// A disk that holds these bytes.
-pub fn disk_of(alloc: Global, bytes: &[u8]) -> Result<Box<MemDisk>, AllocError> {
-    boxed(alloc, MemDisk::new(alloc, bytes)?)
-}
-
 /// A disk with the bytes of another, of which the call of this number fails.
 pub fn failing(alloc: Global, disk: &MemDisk, call: u64) -> Result<Box<MemDisk>, AllocError> {
-    let faults = Vec::from_slice(alloc, &[call])?;
-    boxed(
-        alloc,
-        MemDisk::new(alloc, disk.bytes())?.with_faults(faults),
-    )
+    test_kit::failing(alloc, disk.bytes(), call)
 }
 
 /// The disk that a crash leaves where no write behind the last sync reached it.

@@ -9,12 +9,7 @@ use table_file::{
     LARGEST_BLOCK_BYTES, Parts, Table, TableBuilder, TableFault, fits_device, open_table, pages_of,
     write_parts,
 };
-
-// A disk on which the call of this number fails.
-fn failing_disk(alloc: Global, call: u64) -> Result<Box<MemDisk>, AllocError> {
-    let faults = Vec::from_slice(alloc, &[call])?;
-    boxed(alloc, MemDisk::new(alloc, b"")?.with_faults(faults))
-}
+use test_kit::failing_disk;
 
 // The parts of two entries in one block.
 fn parts(alloc: Global) -> Result<Parts<PlainFilter>, Fail> {

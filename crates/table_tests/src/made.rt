@@ -19,16 +19,7 @@ use table_file::{
     LARGEST_BLOCK_BYTES, Parts, Table, TableBuilder, TableCursor, TableFault, fits_device,
     open_table, pages_of, write_parts,
 };
-
-/// The value in a box.
-pub fn boxed<T: Drop>(alloc: Global, value: T) -> Result<Box<T>, AllocError> {
-    Ok(Box::new(alloc, value)?)
-}
-
-/// A new disk.
-pub fn new_disk(alloc: Global) -> Result<Box<MemDisk>, AllocError> {
-    boxed(alloc, MemDisk::new(alloc, b"")?)
-}
+pub use test_kit::{boxed, new_disk};
 
 /// Filters with no suffix bits.
 pub const BASE: Settings = Settings {

@@ -1,4 +1,5 @@
-//! Stores over disks in memory, what a crash leaves of them, and states that are played: what tests begin with.
+//! Stores over disks in memory, and states that are played: what tests of a store begin with, and the disks of `test_kit`
+//! beside them. (`test_kit` has none of them, so that tests of the layers below wait for no store.)
 //!
 //! Each comes in a box: a function that holds one is then proved soon, whatever it owns. No clause is stated; a test says
 //! what it finds.
@@ -8,6 +9,7 @@ mod crashes;
 mod plays;
 mod stores;
 
-pub use crashes::{Left, failing_behind, left_by};
+pub use crashes::failing_behind;
 pub use plays::{new_state, played};
-pub use stores::{BASE, Change, PlainStore, apply, changed, crashed, disk_of, failing, opened};
+pub use stores::{BASE, Change, PlainStore, apply, changed, opened};
+pub use test_kit::{Left, crashed, disk_of, failing, left_by};

@@ -1,10 +1,10 @@
 //! Stores behind some changes, and their disks.
 //!
 //! Both come in boxes: a function that holds one is then proved soon, whatever the store and the disk own.
-use disk_mem::{Choice, MemDisk};
+use disk_mem::MemDisk;
 use filter_api::Settings;
 use plain_filter::PlainFilter;
-use std::alloc::{AllocError, Global};
+use std::alloc::Global;
 use store_core::{Store, StoreError};
 
 /// A store with the plain filter.
@@ -39,27 +39,6 @@ pub fn apply(
         Change::Del(key) => store.delete(disk, key),
         Change::Flush => store.flush(disk),
     }
-}
-
-/// A disk that holds these bytes.
-pub fn disk_of(alloc: Global, bytes: &[u8]) -> Result<Box<MemDisk>, AllocError> {
-    Ok(Box::new(alloc, MemDisk::new(alloc, bytes)?)?)
-}
-
-/// A disk that holds these bytes, whose call of this number fails.
-pub fn failing(alloc: Global, bytes: &[u8], call: u64) -> Result<Box<MemDisk>, AllocError> {
-    let faults = Vec::from_slice(alloc, &[call])?;
-    let disk = MemDisk::new(alloc, bytes)?.with_faults(faults);
-    Ok(Box::new(alloc, disk)?)
-}
-
-/// A disk that a crash left, by these choices.
-pub fn crashed(
-    alloc: Global,
-    disk: &MemDisk,
-    choice: &[Choice],
-) -> Result<Box<MemDisk>, AllocError> {
-    Ok(Box::new(alloc, disk.crash(choice)?)?)
 }
 
 /// The store that stands on a disk.
