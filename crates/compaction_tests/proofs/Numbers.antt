@@ -1,6 +1,6 @@
 -- The tables of a merge that is begun are there.
 use Rattle.std.proofs.Common.{◌≡◌, ◌∙◌, ◌≤◌, ◌<◌, ℕ, Bool, true, false, List, [], ◌∷◌, length, map, refl, sym, ap, subst}
-use Rattle.level_merge.specs.Merging.{Merging, begun}
+use Rattle.level_merge.specs.JobValue.{JobValue, begun}
 use Rattle.level_merge.specs.Plans.{MayStart, PlanByNumbers}
 use Rattle.merge_rows.specs.Merges.{numbered, walk_at}
 use Rattle.merge_rows.specs.Steps.{AreNumbersIn, numbers}
@@ -10,5 +10,5 @@ walked : (which : List ℕ) (tables : List Opened) (low : List ℕ) → numbers 
 walked [] tables low = refl
 walked (number ∷ which) tables low = ap (λ (l : List ℕ). number ∷ l) (walked which tables low)
 
-pub begun_there : (plan : PlanByNumbers) (settings : _) (tables : List Opened) (job : Merging) → MayStart tables plan → job ≡ begun plan settings tables → AreNumbersIn tables (numbers job.merge.walks)
-begun_there plan settings tables job starts is = subst (AreNumbersIn tables) (sym (ap (λ (m : Merging). numbers m.merge.walks) is ∙ walked plan.inputs tables [])) starts.there
+pub begun_there : (plan : PlanByNumbers) (settings : _) (tables : List Opened) (job : JobValue) → MayStart tables plan → job ≡ begun plan settings tables → AreNumbersIn tables (numbers job.merge.walks)
+begun_there plan settings tables job starts is = subst (AreNumbersIn tables) (sym (ap (λ (m : JobValue). numbers m.merge.walks) is ∙ walked plan.inputs tables [])) starts.there

@@ -16,9 +16,9 @@ use Rattle.filter_api.specs.Spellings.{Spelling}
 use Rattle.filter_api.specs.declared.settings.Settings.{Settings}
 use Rattle.key_base.specs.ByteOrder.{is_before}
 use Rattle.level_merge.specs.FollowLaws.{BegunFollows, CompactionMakes, MergeBegins}
-use Rattle.level_merge.specs.Held.{AreHeld, IsHeld}
-use Rattle.level_merge.specs.Making.{Makes}
-use Rattle.level_merge.specs.Merging.{all_numbers, begun, compaction, merge_of, outputs_with}
+use Rattle.level_merge.specs.TablesAgree.{TableAgrees, TablesAgree}
+use Rattle.level_merge.specs.Making.{OutputsLeft}
+use Rattle.level_merge.specs.JobValue.{all_numbers, begun, compaction, merge_of, outputs_with}
 use Rattle.level_merge.specs.Plans.{numbered}
 use Rattle.level_merge.proofs.Flushed.{all_later}
 use Rattle.level_merge.proofs.OutputLists.{none_built}
@@ -72,7 +72,7 @@ newest_of_newest older log =
 
 -- ---- tables by their numbers
 
-as_many : (spelling : Spelling) (settings : Settings) (opened : List Opened) (tables : List Table) (image : Image) → AreHeld spelling settings opened tables image → length opened ≡ length tables
+as_many : (spelling : Spelling) (settings : Settings) (opened : List Opened) (tables : List Table) (image : Image) → TablesAgree spelling settings opened tables image → length opened ≡ length tables
 as_many spelling settings [] [] image held = refl
 as_many spelling settings [] (t ∷ tables) image held = absurd held
 as_many spelling settings (o ∷ opened) [] image held = absurd held
@@ -80,20 +80,20 @@ as_many spelling settings (o ∷ opened) (t ∷ tables) image held = ap suc (as_
 
 -- the open table of a state's table
 abbrev OpenOf : Spelling → Settings → Image → Option Opened → Table → Type 0
-OpenOf spelling settings image opened t = (o : Opened) × (opened ≡ Some o) × IsHeld spelling settings o t image
+OpenOf spelling settings image opened t = (o : Opened) × (opened ≡ Some o) × TableAgrees spelling settings o t image
 
 some_is : (t u : Table) → Some t ≡ Some u → t ≡ u
 some_is t u same = cc
 
-open_at : (spelling : Spelling) (settings : Settings) (opened : List Opened) (tables : List Table) (image : Image) (place : ℕ) (t : Table) → AreHeld spelling settings opened tables image
+open_at : (spelling : Spelling) (settings : Settings) (opened : List Opened) (tables : List Table) (image : Image) (place : ℕ) (t : Table) → TablesAgree spelling settings opened tables image
     → slice_get tables place ≡ Some t → OpenOf spelling settings image (slice_get opened place) t
 open_at spelling settings [] [] image place t held there = absurd cc
 open_at spelling settings [] (u ∷ tables) image place t held there = absurd held
 open_at spelling settings (o ∷ opened) [] image place t held there = absurd held
-open_at spelling settings (o ∷ opened) (u ∷ tables) image zero t held there = (o, refl, subst (λ (v : Table). IsHeld spelling settings o v image) (some_is u t there) held.0)
+open_at spelling settings (o ∷ opened) (u ∷ tables) image zero t held there = (o, refl, subst (λ (v : Table). TableAgrees spelling settings o v image) (some_is u t there) held.0)
 open_at spelling settings (o ∷ opened) (u ∷ tables) image (suc place) t held there = open_at spelling settings opened tables image place t held.1 there
 
-module _ (spelling : Spelling) (settings : Settings) (opened : List Opened) (tables : List Table) (image : Image) (held : AreHeld spelling settings opened tables image) where
+module _ (spelling : Spelling) (settings : Settings) (opened : List Opened) (tables : List Table) (image : Image) (held : TablesAgree spelling settings opened tables image) where
   open_numbered : (number : ℕ) (t : Table) → numbered tables number ≡ Some t → OpenOf spelling settings image (numbered opened number) t
   open_numbered number t there =
       open_at spelling settings opened tables image (length opened - 1 - number) t held
@@ -127,7 +127,7 @@ module _ (spelling : Spelling) (settings : Settings) (opened : List Opened) (tab
 
   pub begins : StandingMerges → (inputs : List Table) (which : List ℕ) (entries : Option (List Entry)) (output : ℕ) (drops : Bool)
       → map (numbered tables) which ≡ map (λ (t : Table). Some t) inputs → KeysRise (memory_entries entries)
-      → Makes spelling opened image (merge_of which entries output drops settings opened)
+      → OutputsLeft spelling opened image (merge_of which entries output drops settings opened)
       (outputs_of (length which - 1) (lasting drops (newest_entries (oldest_first inputs ++ memory_entries entries)))) []
   begins merges inputs which entries output drops same rise =
       let stand = all_stand which inputs same in
@@ -193,7 +193,7 @@ same_length f g (x ∷ xs) (y ∷ ys) same = let rest : map f xs ≡ map g ys = 
 many_named : (tables : List Table) (which : List ℕ) (inputs : List Table) → map (numbered tables) which ≡ map (λ (t : Table). Some t) inputs → length which ≡ length inputs
 many_named tables which inputs same = same_length (λ (n : ℕ). numbered tables n) (λ (t : Table). Some t) which inputs same
 
-deepest_held : (spelling : Spelling) (settings : Settings) (opened : List Opened) (tables : List Table) (image : Image) (level : ℕ) → AreHeld spelling settings opened tables image
+deepest_held : (spelling : Spelling) (settings : Settings) (opened : List Opened) (tables : List Table) (image : Image) (level : ℕ) → TablesAgree spelling settings opened tables image
     → list_any (λ (t : Opened). nat_lt level t.row.level) opened ≡ list_any (λ (t : Table). nat_lt level t.level) tables
 deepest_held spelling settings [] [] image level held = refl
 deepest_held spelling settings [] (t ∷ tables) image level held = absurd held
@@ -219,7 +219,7 @@ begun_follows merges standing spelling s opened image p plan held may is =
       inputs = ap (map (numbered s.tables)) (numbers_are spelling s.settings opened s.tables image held p.inputs []) ∙ is.0;
       output = is.1;
       to_read = all_read spelling s.settings opened s.tables image held standing p.inputs plan.inputs is.0;
-      makes = subst (λ (outputs : List (List Entry)). Makes spelling opened image (begun p s.settings opened) outputs []) left made;
+      makes = subst (λ (outputs : List (List Entry)). OutputsLeft spelling opened image (begun p s.settings opened) outputs []) left made;
     }
 
 -- ---- all tables
@@ -242,4 +242,4 @@ compaction_makes merges spelling s opened image held =
     let made = begins spelling s.settings opened s.tables image held merges s.tables (all_numbers (length opened)) (Some (memory s)) 6 true named (newest_entries_rise s.log) in
     let left : outputs_of (length (all_numbers (length opened)) - 1) (lasting true (newest_entries (oldest_first s.tables ++ memory s))) ≡ outputs_for s.tables (live_entries s) =
     ap₂ (λ (n : ℕ) (es : List Entry). outputs_of (n - 1) (lasting true es)) (many_named s.tables (all_numbers (length opened)) s.tables named) (newest_of_newest (oldest_first s.tables) s.log) in
-    subst (λ (outputs : List (List Entry)). Makes spelling opened image (compaction (memory s) s.settings opened) outputs []) left made
+    subst (λ (outputs : List (List Entry)). OutputsLeft spelling opened image (compaction (memory s) s.settings opened) outputs []) left made

@@ -3,7 +3,7 @@ use Rattle.std.proofs.Common.{◌≡◌, List, [], ◌∷◌, ◌++◌, Bool, tr
 use Rattle.key_base.specs.ByteOrder.{is_before}
 use Rattle.block_model.specs.Order.{Follow, is_any}
 use Rattle.entry_model.specs.Entries.{Entry, keys_of}
-use Rattle.level_merge.specs.Merging.{AreBelow}
+use Rattle.level_merge.specs.JobValue.{AreBelow}
 use Rattle.map_model.specs.SortedMap.{Bytes}
 use Rattle.merge_rows.specs.Rows.{KeyFloor}
 use Rattle.merge_rows.specs.Steps.{FloorRises, passed_at}

@@ -6,7 +6,7 @@ use Rattle.std.proofs.lemmas.List.Sums.{sum_by-cons}
 use Rattle.disk_trait.specs.Image.{Image}
 use Rattle.entry_model.specs.Entries.{Entry}
 use Rattle.level_merge.specs.FollowLaws.{FlushedIsFollowed}
-use Rattle.level_merge.specs.Merging.{outputs_with}
+use Rattle.level_merge.specs.JobValue.{outputs_with}
 use Rattle.merge_rows.specs.Merges.{Merge, TableWalk, blocks_in, left_above, merged_left, numbered, row_count, rows_left, sources_above}
 use Rattle.merge_rows.specs.Reads.{blocks_left, blocks_left_in}
 use Rattle.merge_rows.specs.Rows.{KeyFloor, merged_rows, rows_shown}

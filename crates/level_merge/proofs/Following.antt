@@ -13,10 +13,10 @@ use Rattle.extent_model.specs.Extents.{Extent}
 use Rattle.extent_model.specs.Gaps.{first_gap, largest_gap}
 use Rattle.filter_api.specs.Spellings.{Spelling}
 use Rattle.filter_api.specs.declared.settings.Settings.{Settings}
-use Rattle.level_merge.specs.Follows.{AreTaken, Follows, IsJobRefusal, IsSliced, SliceFollows, Slices, SlicesTo}
-use Rattle.level_merge.specs.Held.{AreHeld}
-use Rattle.level_merge.specs.Making.{AreTakenBy, HasPlace, IsMakeRefusal, IsSaid, Makes, MakesFirst, MakesOn, MakesOne, SliceMakes, merge_extents}
-use Rattle.level_merge.specs.Merging.{Merging}
+use Rattle.level_merge.specs.Follows.{AreTaken, Follows, FollowsAnyJob, IsJobRefusal, IsSliced, JobProgress, ProgressOrRefusal}
+use Rattle.level_merge.specs.TablesAgree.{TablesAgree}
+use Rattle.level_merge.specs.Making.{AnswersProgress, AreTakenBy, FirstOutput, HasPlace, IsMakeRefusal, MakesAnyOutputs, OneOutput, OutputsLeft, SliceOf, merge_extents}
+use Rattle.level_merge.specs.JobValue.{JobValue}
 use Rattle.level_merge.specs.Plans.{numbered}
 use Rattle.level_merge.specs.Outputs.{extent_at}
 use Rattle.level_merge.specs.declared.fault.JobFault.{JobFault}
@@ -63,7 +63,7 @@ none_placed filter_bytes settings pages extents level output gap = rw gap refl
 
 -- ---- extents
 
-held_extents : (spelling : Spelling) (settings : Settings) (opened : List Opened) (tables : List Table) (image : Image) → AreHeld spelling settings opened tables image
+held_extents : (spelling : Spelling) (settings : Settings) (opened : List Opened) (tables : List Table) (image : Image) → TablesAgree spelling settings opened tables image
     → map extent_of tables ≡ map (λ (t : Opened). extent_at t.row) opened
 held_extents spelling settings [] [] image held = refl
 held_extents spelling settings [] (t ∷ tables) image held = absurd held
@@ -72,8 +72,8 @@ held_extents spelling settings (o ∷ opened) (t ∷ tables) image held =
     ap₂ (λ (e : Extent) (more : List Extent). e ∷ more) (ap extent_of held.0.table_is) (held_extents spelling settings opened tables image held.1)
 
 -- those of the state and of a job are those of the open tables
-taken_with : (spelling : Spelling) (s : State) (job : Job) (opened made : List Opened) (image : Image) (settings : Settings) → AreHeld spelling settings opened s.tables image
-    → AreHeld spelling settings made job.written image → taken (with_job s job) ≡ merge_extents opened made (map extent_of s.kept)
+taken_with : (spelling : Spelling) (s : State) (job : Job) (opened made : List Opened) (image : Image) (settings : Settings) → TablesAgree spelling settings opened s.tables image
+    → TablesAgree spelling settings made job.written image → taken (with_job s job) ≡ merge_extents opened made (map extent_of s.kept)
 taken_with spelling s job opened made image settings held written =
     map-append extent_of (s.tables ++ job.written) s.kept
     ∙ ap (λ (xs : List Extent). xs ++ map extent_of s.kept) (map-append extent_of s.tables job.written)
@@ -83,7 +83,7 @@ taken_with spelling s job opened made image settings held written =
 
 -- ---- a slice
 
-module _ (spelling : Spelling) (filter_bytes : FilterBytes) (s : State) (job : Job) (opened : List Opened) (old new : Merging) (free extents : Taken) (before after : World)
+module _ (spelling : Spelling) (filter_bytes : FilterBytes) (s : State) (job : Job) (opened : List Opened) (old new : JobValue) (free extents : Taken) (before after : World)
     (follows : Follows spelling s opened before.seen.held old job) (taken_are : AreTaken s job free) where
   -- the gap for an output is that of the state
   gap_is : (output : List Entry) → first_gap s.pages (taken (with_job s job)) (table_pages filter_bytes s.settings output) ≡ first_gap free.pages free.extents (table_pages filter_bytes old.settings output)
@@ -143,14 +143,14 @@ module _ (spelling : Spelling) (filter_bytes : FilterBytes) (s : State) (job : J
 
   -- ---- the job goes on
 
-  module _ (said : Sliced) (on : MakesOn spelling filter_bytes opened s.tables old new (outstanding s.tables job) job.written (map extent_of s.kept) free extents before after said) where
+  module _ (said : Sliced) (on : SliceOf spelling filter_bytes opened s.tables old new (outstanding s.tables job) job.written (map extent_of s.kept) free extents before after said) where
     abbrev next : Job
     next = record { inputs = job.inputs; output = job.output; to_read = blocks_left opened new.merge.walks; written = on.now }
 
     fewer : blocks_left opened new.merge.walks ≤ job.to_read
     fewer = subst (λ (n : ℕ). blocks_left opened new.merge.walks ≤ n) follows.to_read on.read
 
-    goes_on : MakesOne filter_bytes old free extents (outstanding s.tables job) on.later job.written on.now → Progresses filter_bytes s job next
+    goes_on : OneOutput filter_bytes old free extents (outstanding s.tables job) on.later job.written on.now → Progresses filter_bytes s job next
     goes_on (inl same) = record { inputs = refl; output = refl; to_read = fewer; more = 0; made = []; placed_so = refl; written = same.1 ∙ sym (append-nil job.written) }
     goes_on (inr first) = record {
       inputs = refl;
@@ -162,23 +162,23 @@ module _ (spelling : Spelling) (filter_bytes : FilterBytes) (s : State) (job : J
       written = first.made_is ∙ ap₂ (λ (set : Settings) (level : ℕ). job.written ++ table_of filter_bytes set level first.placed.page first.placed.output ∷ []) follows.settings follows.output;
     }
 
-    left_is : MakesOne filter_bytes old free extents (outstanding s.tables job) on.later job.written on.now → on.later ≡ outstanding s.tables next
+    left_is : OneOutput filter_bytes old free extents (outstanding s.tables job) on.later job.written on.now → on.later ≡ outstanding s.tables next
     left_is (inl same) = same.0 ∙ sym (same_outstanding s.tables job next refl refl same.1)
     left_is (inr first) =
         sym (others_outstanding s.tables job next (table_of filter_bytes old.settings old.output first.placed.page first.placed.output) first.placed.output on.later refl refl first.made_is first.placed.first)
 
-    pages_are : MakesOne filter_bytes old free extents (outstanding s.tables job) on.later job.written on.now → extents.pages ≡ s.pages
+    pages_are : OneOutput filter_bytes old free extents (outstanding s.tables job) on.later job.written on.now → extents.pages ≡ s.pages
     pages_are (inl same) = ap (λ (t : Taken). t.pages) same.2 ∙ taken_are.pages
     pages_are (inr first) = first.pages ∙ taken_are.pages
 
     settings_are : new.settings ≡ s.settings
     settings_are = on.settings ∙ follows.settings
 
-    now_held : AreHeld spelling s.settings new.made on.now after.seen.held
-    now_held = subst (λ (set : Settings). AreHeld spelling set new.made on.now after.seen.held) settings_are on.makes.made_are
+    now_held : TablesAgree spelling s.settings new.made on.now after.seen.held
+    now_held = subst (λ (set : Settings). TablesAgree spelling set new.made on.now after.seen.held) settings_are on.makes.made_are
 
-    tables_held : AreHeld spelling s.settings opened s.tables after.seen.held
-    tables_held = subst (λ (set : Settings). AreHeld spelling set opened s.tables after.seen.held) follows.settings on.held
+    tables_held : TablesAgree spelling s.settings opened s.tables after.seen.held
+    tables_held = subst (λ (set : Settings). TablesAgree spelling set opened s.tables after.seen.held) follows.settings on.held
 
     next_follows : Follows spelling s opened after.seen.held new next
     next_follows = record {
@@ -186,21 +186,21 @@ module _ (spelling : Spelling) (filter_bytes : FilterBytes) (s : State) (job : J
       inputs = ap (map (numbered s.tables)) on.numbers_are ∙ follows.inputs;
       output = on.output ∙ follows.output;
       to_read = refl;
-      makes = subst (λ outputs. Makes spelling opened after.seen.held new outputs on.now) (left_is on.one) on.makes;
+      makes = subst (λ outputs. OutputsLeft spelling opened after.seen.held new outputs on.now) (left_is on.one) on.makes;
     }
 
-    other_job : (said : Sliced) → IsSaid opened old new on.later job.written on.now said → IsSliced s job next said
+    other_job : (said : Sliced) → AnswersProgress opened old new on.later job.written on.now said → IsSliced s job next said
     other_job sliced.Working (inl less) = λ same. let all : blocks_left opened new.merge.walks ≡ job.to_read = ap (λ (j : Job). j.to_read) same in let read = follows.to_read in absurd (omega (arith, all, read, less))
     other_job sliced.Working (inr more) = λ same. let all : length on.now ≡ length job.written = ap (λ (j : Job). length j.written) same in absurd (omega (arith, all, more))
     other_job sliced.Ready is = record { all_read = is.0; all_written = sym (left_is on.one) ∙ is.1 }
 
-    done : SlicesTo spelling filter_bytes s job opened old new extents before after said
+    done : JobProgress spelling filter_bytes s job opened old new extents before after said
     done = record {
       later = next;
       progresses = goes_on on.one;
       follows = next_follows;
       held = tables_held;
-      lasting = subst (λ (set : Settings). Now (AreHeld spelling set old.made job.written) before → Now (AreHeld spelling set new.made on.now) after) follows.settings on.lasting;
+      lasting = subst (λ (set : Settings). Now (TablesAgree spelling set old.made job.written) before → Now (TablesAgree spelling set new.made on.now) after) follows.settings on.lasting;
       taken_are = record {
         pages = pages_are on.one;
         taken_are = subst (λ (es : List Extent). IsPermutation extents.extents es) (sym (taken_with spelling s next opened new.made after.seen.held s.settings tables_held now_held)) on.taken_are;
@@ -209,17 +209,17 @@ module _ (spelling : Spelling) (filter_bytes : FilterBytes) (s : State) (job : J
     }
 
 -- what it makes of a state's job
-pub makes_follow : (spelling : Spelling) (filter_bytes : FilterBytes) (opened : List Opened) (old new : Merging) (free extents : Taken) (result : Result Sliced JobFault) (before after : World)
-    → SliceMakes spelling filter_bytes opened old new free extents result before after → SliceFollows spelling filter_bytes opened old new free extents result before after
+pub makes_follow : (spelling : Spelling) (filter_bytes : FilterBytes) (opened : List Opened) (old new : JobValue) (free extents : Taken) (result : Result Sliced JobFault) (before after : World)
+    → MakesAnyOutputs spelling filter_bytes opened old new free extents result before after → FollowsAnyJob spelling filter_bytes opened old new free extents result before after
 makes_follow spelling filter_bytes opened old new free extents result before after makes s job held follows taken_are =
-    let tables_held = subst (λ (set : Settings). AreHeld spelling set opened s.tables before.seen.held) (sym follows.settings) held in
+    let tables_held = subst (λ (set : Settings). TablesAgree spelling set opened s.tables before.seen.held) (sym follows.settings) held in
     let others = taken_with spelling s job opened old.made before.seen.held old.settings tables_held follows.makes.made_are in
     let here = makes s.tables (outstanding s.tables job) job.written (map extent_of s.kept) tables_held follows.makes
     (subst (λ (es : List Extent). IsPermutation free.extents es) others taken_are.taken_are) in
     by_result result here
   where
     by_result : (result : Result Sliced JobFault)
-        → Rattle.level_merge.specs.Making.MakesOrNot spelling filter_bytes opened s.tables old new (outstanding s.tables job) job.written (map extent_of s.kept) free extents result before after
-        → Slices spelling filter_bytes s job opened old new extents result before after
+        → Rattle.level_merge.specs.Making.OutputOrNone spelling filter_bytes opened s.tables old new (outstanding s.tables job) job.written (map extent_of s.kept) free extents result before after
+        → ProgressOrRefusal spelling filter_bytes s job opened old new extents result before after
     by_result (Ok said) on = done spelling filter_bytes s job opened old new free extents before after follows taken_are said on
     by_result (Err why) is = refused spelling filter_bytes s job opened old new free extents before after follows taken_are why is

@@ -14,8 +14,8 @@ use Rattle.filter_api.specs.Spellings.{Spelling}
 use Rattle.filter_api.specs.declared.settings.Settings.{Settings}
 use Rattle.key_base.specs.ByteOrder.{is_before}
 use Rattle.level_merge.specs.FollowLaws.{OtherImageIsFollowed}
-use Rattle.level_merge.specs.Held.{AreHeld, IsHeld}
-use Rattle.level_merge.specs.Merging.{Merging, outputs_left, outputs_with}
+use Rattle.level_merge.specs.TablesAgree.{TableAgrees, TablesAgree}
+use Rattle.level_merge.specs.JobValue.{JobValue, outputs_left, outputs_with}
 use Rattle.map_model.specs.SortedMap.{Bytes}
 use Rattle.merge_rows.specs.Merges.{Merge, TableWalk, blocks_in, left_above, with_hand}
 use Rattle.merge_rows.specs.Rows.{KeyFloor, above_floor, merged_rows, rows_shown}
@@ -109,14 +109,14 @@ index_rows bs cs same = ap (λ (i : Index). i.rows) same
 -- ---- the tables of two images
 
 module _ (standing : StandingBlocks) (spelling : Spelling) (settings : Settings) (image other : Image) where
-  same_blocks : (t : Opened) (u : Table) → IsHeld spelling settings t u image → IsHeld spelling settings t u other → blocks_on t image ≡ blocks_on t other
+  same_blocks : (t : Opened) (u : Table) → TableAgrees spelling settings t u image → TableAgrees spelling settings t u other → blocks_on t image ≡ blocks_on t other
   same_blocks t u here there =
       let entries : joined here.blocks ≡ joined there.blocks = sym (ap (λ (v : Table). v.entries) here.table_is) ∙ ap (λ (v : Table). v.entries) there.table_is in
       let rows = index_rows here.blocks there.blocks (sym here.stands.index_is ∙ there.stands.index_is) in
       let cut = same_cut is_any here.blocks there.blocks here.stands.at.each there.stands.at.each entries (rows_lasts here.blocks there.blocks rows) here.stands.at.table.rising in
       (standing spelling settings t here.blocks image here.stands).on_device ∙ cut ∙ sym (standing spelling settings t there.blocks other there.stands).on_device
 
-  same_at : (opened : List Opened) (tables : List Table) (place : ℕ) → AreHeld spelling settings opened tables image → AreHeld spelling settings opened tables other
+  same_at : (opened : List Opened) (tables : List Table) (place : ℕ) → TablesAgree spelling settings opened tables image → TablesAgree spelling settings opened tables other
       → blocks_in (slice_get opened place) image ≡ blocks_in (slice_get opened place) other
   same_at [] [] place here there = refl
   same_at [] (u ∷ tables) place here there = absurd here
@@ -124,7 +124,7 @@ module _ (standing : StandingBlocks) (spelling : Spelling) (settings : Settings)
   same_at (t ∷ more) (u ∷ tables) zero here there = same_blocks t u here.0 there.0
   same_at (t ∷ more) (u ∷ tables) (suc place) here there = same_at more tables place here.1 there.1
 
-  module _ (opened : List Opened) (tables : List Table) (here : AreHeld spelling settings opened tables image) (there : AreHeld spelling settings opened tables other) where
+  module _ (opened : List Opened) (tables : List Table) (here : TablesAgree spelling settings opened tables image) (there : TablesAgree spelling settings opened tables other) where
     left_same : (floor : KeyFloor) (walks : List TableWalk) → map (left_above floor opened image) walks ≡ map (left_above floor opened other) walks
     left_same floor [] = refl
     left_same floor (w ∷ more) =
@@ -140,7 +140,7 @@ module _ (standing : StandingBlocks) (spelling : Spelling) (settings : Settings)
     pub sound_same : (m : Merge) → IsSoundMerge m opened image → IsSoundMerge m opened other
     sound_same m sound = record { memory = sound.memory; walks = walks_same m.floor m.walks sound.walks }
 
-    pub outputs_same : (m : Merging) → outputs_left m opened image ≡ outputs_left m opened other
+    pub outputs_same : (m : JobValue) → outputs_left m opened image ≡ outputs_left m opened other
     outputs_same m =
         ap (λ (l : List (List Entry)). outputs_with m.beside m.built (lasting m.drops (rows_shown m.merge.drops (merged_rows (above_floor m.merge.floor m.merge.memory ∷ l)))))
         (left_same m.merge.floor m.merge.walks)
@@ -157,6 +157,6 @@ image_follows standing spelling s opened image other m job here there made follo
         sound = sound_same standing spelling s.settings image other opened s.tables here there m.merge makes.sound;
         left_are = sym (outputs_same standing spelling s.settings image other opened s.tables here there m) ∙ makes.left_are;
         rows = makes.rows;
-        made_are = subst (λ (x : Settings). AreHeld spelling x m.made job.written other) (sym follows.settings) made;
+        made_are = subst (λ (x : Settings). TablesAgree spelling x m.made job.written other) (sym follows.settings) made;
       };
     }

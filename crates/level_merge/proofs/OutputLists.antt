@@ -6,7 +6,7 @@ use Rattle.std.proofs.lemmas.List.{append-nil}
 use Rattle.block_model.specs.Pages.{blocks_of, data_pages}
 use Rattle.entry_model.specs.Entries.{Entry}
 use Rattle.key_base.specs.Limits.{merge_data_pages}
-use Rattle.level_merge.specs.Merging.{is_full, outputs_with}
+use Rattle.level_merge.specs.JobValue.{is_full, outputs_with}
 use Rattle.state_model.specs.Merges.{has_value, lasting, outputs_of, split_output}
 
 -- what follows an entry with which the output is full or not

@@ -20,7 +20,7 @@ use Rattle.extent_model.specs.Gaps.{first_gap}
 use Rattle.filter_api.specs.Spellings.{Spelling}
 use Rattle.filter_api.specs.declared.settings.Settings.{Settings}
 use Rattle.filter_model.specs.Leaves.{Leaf}
-use Rattle.level_merge.specs.Held.{IsHeld}
+use Rattle.level_merge.specs.TablesAgree.{TableAgrees}
 use Rattle.level_merge.specs.Outputs.{PlacesOutput, WritesPlaced, built_table, extent_at, last_row, no_row}
 use Rattle.map_model.specs.SortedMap.{Bytes}
 use Rattle.table_file.specs.Building.{Built}
@@ -128,19 +128,19 @@ module _ (spelling : Spelling) (built_cutoff : ℕ → List Leaf → ℕ) (built
 
   held_there : (image : Image) → IsTableOf spelling built.settings (made_row spelling built_cutoff built level page) (table_of (filter_bytes_of spelling built_cutoff) built.settings level page built.entries) image
       → StandsWith spelling built.settings (opened_of built_cutoff built (made_row spelling built_cutoff built level page)) built.entries image
-      → IsHeld spelling built.settings (opened_of built_cutoff built row) (built_table spelling built_cutoff built level row.first_page) image
+      → TableAgrees spelling built.settings (opened_of built_cutoff built row) (built_table spelling built_cutoff built level row.first_page) image
   held_there image is stands =
-      let first : IsHeld spelling built.settings (opened_of built_cutoff built (made_row spelling built_cutoff built level page)) (built_table spelling built_cutoff built level page) image =
+      let first : TableAgrees spelling built.settings (opened_of built_cutoff built (made_row spelling built_cutoff built level page)) (built_table spelling built_cutoff built level page) image =
       record { blocks = stands.0; stands = stands.1; table_is = one_table spelling built.settings built.settings _ _ _ image is (stands.0, stands.1.at, refl) } in
-      subst (λ (n : ℕ). IsHeld spelling built.settings (opened_of built_cutoff built row) (built_table spelling built_cutoff built level n) image) (sym page_is)
-      (subst (λ (r : Row). IsHeld spelling built.settings (opened_of built_cutoff built r) (built_table spelling built_cutoff built level page) image) (sym row_is) first)
+      subst (λ (n : ℕ). TableAgrees spelling built.settings (opened_of built_cutoff built row) (built_table spelling built_cutoff built level n) image) (sym page_is)
+      (subst (λ (r : Row). TableAgrees spelling built.settings (opened_of built_cutoff built r) (built_table spelling built_cutoff built level page) image) (sym row_is) first)
 
   pub now_held : (after : World) (rows : List Row) → last_row rows ≡ row
       → Now (IsTableOf spelling built.settings (made_row spelling built_cutoff built level page) (table_of (filter_bytes_of spelling built_cutoff) built.settings level page built.entries)) after
       → Now (StandsWith spelling built.settings (opened_of built_cutoff built (made_row spelling built_cutoff built level page)) built.entries) after
-      → Now (IsHeld spelling built.settings (opened_of built_cutoff built (last_row rows)) (built_table spelling built_cutoff built level (last_row rows).first_page)) after
+      → Now (TableAgrees spelling built.settings (opened_of built_cutoff built (last_row rows)) (built_table spelling built_cutoff built level (last_row rows).first_page)) after
   now_held after rows last is stands = λ image leaves.
-      subst (λ (r : Row). IsHeld spelling built.settings (opened_of built_cutoff built r) (built_table spelling built_cutoff built level r.first_page) image) (sym last)
+      subst (λ (r : Row). TableAgrees spelling built.settings (opened_of built_cutoff built r) (built_table spelling built_cutoff built level r.first_page) image) (sym last)
       (held_there image (is image leaves) (stands image leaves))
 
 -- ---- a write that failed

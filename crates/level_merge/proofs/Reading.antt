@@ -8,7 +8,7 @@ use Rattle.disk_trait.specs.World.{ReadMoves, Rose, World}
 use Rattle.disk_trait.specs.declared.fault.DiskFault.{DiskFault}
 use Rattle.disk_trait.proofs.Calls.{reads_more, reads_then}
 use Rattle.level_merge.specs.Faults.{of_table_fault}
-use Rattle.level_merge.specs.Slices.{IsTakeFault, KeepsRows}
+use Rattle.level_merge.specs.SliceSteps.{IsTakeFault, KeepsRows}
 use Rattle.level_merge.specs.declared.fault.JobFault.{JobFault}
 use Rattle.level_merge.specs.declared.fault.JobFault.TheVariants as fault
 use Rattle.merge_rows.specs.Merges.{Merge}

@@ -7,8 +7,8 @@ use Rattle.std.proofs.lemmas.List.{append-nil}
 use Rattle.block_model.specs.Order.{Follow, is_any}
 use Rattle.disk_trait.specs.Image.{Image}
 use Rattle.entry_model.specs.Entries.{Entry, IsEntry, keys_of}
-use Rattle.level_merge.specs.Merging.{IsBuilding, at_hand, is_full, outputs_with}
-use Rattle.level_merge.specs.Slices.{FillsOutput, KeepsRows}
+use Rattle.level_merge.specs.JobValue.{IsBuilding, at_hand, is_full, outputs_with}
+use Rattle.level_merge.specs.SliceSteps.{FillsOutput, KeepsRows}
 use Rattle.level_merge.proofs.Floors.{below_added, below_rises}
 use Rattle.level_merge.proofs.OutputLists.{with_lasting}
 use Rattle.merge_rows.specs.Merges.{Merge, rows_left}
@@ -42,7 +42,7 @@ building_with e old new built passes entry is =
     record {
       each = all_back IsEntry built (e ∷ []) is.each (entry, tt);
       rising = follow;
-      below = subst (λ (f : KeyFloor). Rattle.level_merge.specs.Merging.AreBelow f (built ++ e ∷ [])) (sym passes.1) (below_added built e follow);
+      below = subst (λ (f : KeyFloor). Rattle.level_merge.specs.JobValue.AreBelow f (built ++ e ∷ [])) (sym passes.1) (below_added built e follow);
     }
 
 building_same : (floor : KeyFloor) (built : List Entry) → IsBuilding floor built → IsBuilding floor (built ++ [])

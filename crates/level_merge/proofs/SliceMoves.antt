@@ -11,8 +11,8 @@ use Rattle.entry_model.specs.Entries.{Entry}
 use Rattle.extent_map.specs.Taken.{Taken}
 use Rattle.filter_api.specs.Spellings.{Spelling}
 use Rattle.filter_model.specs.Leaves.{Leaf}
-use Rattle.level_merge.specs.Merging.{AreAllWritten, Merging, is_full, work_left}
-use Rattle.level_merge.specs.Slices.{AddsOutput, Closes, IsSliceFault, IsTakeFault, Places, SliceMoves, WritesOutput, made_opened}
+use Rattle.level_merge.specs.JobValue.{AreAllWritten, JobValue, is_full, work_left}
+use Rattle.level_merge.specs.SliceSteps.{AddsOutput, Closes, IsSliceFault, IsTakeFault, Places, SliceMoves, WritesOutput, made_opened}
 use Rattle.level_merge.specs.Outputs.{IsCloseFault, last_row}
 use Rattle.level_merge.proofs.Placed.{last_is}
 use Rattle.level_merge.specs.declared.fault.JobFault.{JobFault}
@@ -23,10 +23,10 @@ use Rattle.table_file.specs.Writing.{made_row}
 
 -- ---- what is read and written
 
-module _ (spelling : Spelling) (built_cutoff : ℕ → List Leaf → ℕ) (old mid new : Merging) (free extents : Taken) (before here after : World)
+module _ (spelling : Spelling) (built_cutoff : ℕ → List Leaf → ℕ) (old mid new : JobValue) (free extents : Taken) (before here after : World)
     (rest : mid ≡ record old { merge = mid.merge; built = mid.built }) (reads : OnlyReads before here) where
   outputs_are : mid.outputs ≡ old.outputs
-  outputs_are = ap (λ (m : Merging). m.outputs) rest
+  outputs_are = ap (λ (m : JobValue). m.outputs) rest
 
   pub slice_reads : SliceMoves spelling built_cutoff old mid free free before here
   slice_reads = inl (outputs_are, refl, reads)
@@ -37,7 +37,7 @@ module _ (spelling : Spelling) (built_cutoff : ℕ → List Leaf → ℕ) (old m
     row_of = record {
       entries = mid.built;
       table = places.table;
-      row_is = places.row_is ∙ ap (λ (m : Merging). made_row spelling built_cutoff (record { settings = m.settings; entries = mid.built }) m.output row.first_page) rest;
+      row_is = places.row_is ∙ ap (λ (m : JobValue). made_row spelling built_cutoff (record { settings = m.settings; entries = mid.built }) m.output row.first_page) rest;
     };
     on_device = places.on_device;
     apart = places.apart;
@@ -53,7 +53,7 @@ module _ (spelling : Spelling) (built_cutoff : ℕ → List Leaf → ℕ) (old m
       inr (one.0, reads.0 + 0, adds one.0 one.1, moves_joined at n reads.0 0 before here after (moves_of_read at n reads.0 before here reads.1) (moves_of_write at n 0 here after one.2))
 
 -- where an output is closed, its pages were written
-pub closed_moves : (spelling : Spelling) (built_cutoff : ℕ → List Leaf → ℕ) (mid new : Merging) (free extents : Taken) (row : Row) (here after : World)
+pub closed_moves : (spelling : Spelling) (built_cutoff : ℕ → List Leaf → ℕ) (mid new : JobValue) (free extents : Taken) (row : Row) (here after : World)
     → Closes spelling built_cutoff mid new free extents row → WritesOutput spelling built_cutoff mid new free extents here after
     → WriteMoves (byte_of_page row.first_page) (page_bytes * pages_of row) here after
 closed_moves spelling built_cutoff mid new free extents row here after closes (inl none) =
@@ -65,7 +65,7 @@ closed_moves spelling built_cutoff mid new free extents row here after closes (i
     subst (λ (r : Row). WriteMoves (byte_of_page r.first_page) (page_bytes * pages_of r) here after) same one.2
 
 -- no more reads
-pub still_bounded : (spelling : Spelling) (built_cutoff : ℕ → List Leaf → ℕ) (mid new : Merging) (free extents : Taken) (here after : World) (most : ℕ) → here.seen.reads ≤ most
+pub still_bounded : (spelling : Spelling) (built_cutoff : ℕ → List Leaf → ℕ) (mid new : JobValue) (free extents : Taken) (here after : World) (most : ℕ) → here.seen.reads ≤ most
     → WritesOutput spelling built_cutoff mid new free extents here after → after.seen.reads ≤ most
 still_bounded spelling built_cutoff mid new free extents here after most le (inl none) = let same = none.2.reads in omega (arith, le, same)
 still_bounded spelling built_cutoff mid new free extents here after most le (inr one) = let same = one.2.reads in omega (arith, le, same)
@@ -77,33 +77,33 @@ beside_some : (beside : ℕ) (built : List Entry) → is_full beside built ≡ t
 beside_some zero built full = absurd (false≢true full)
 beside_some (suc n) built full = omega arith
 
-module _ (opened : List Opened) (old mid new : Merging) (rest : mid ≡ record old { merge = mid.merge; built = mid.built })
+module _ (opened : List Opened) (old mid new : JobValue) (rest : mid ≡ record old { merge = mid.merge; built = mid.built })
     (fewer : blocks_left opened mid.merge.walks ≤ blocks_left opened old.merge.walks) where
   pub reads_end : blocks_left opened mid.merge.walks < blocks_left opened old.merge.walks → work_left opened mid < work_left opened old
-  reads_end less = let same = ap (λ (m : Merging). m.beside) rest in omega (arith, less, same)
+  reads_end less = let same = ap (λ (m : JobValue). m.beside) rest in omega (arith, less, same)
 
   pub within_same : length mid.outputs + mid.beside ≡ length old.outputs + old.beside
-  within_same = ap (λ (m : Merging). length m.outputs + m.beside) rest
+  within_same = ap (λ (m : JobValue). length m.outputs + m.beside) rest
 
   pub within_none : length mid.outputs ≤ length old.outputs + old.beside + 1
-  within_none = let same = ap (λ (m : Merging). length m.outputs) rest in omega (arith, same)
+  within_none = let same = ap (λ (m : JobValue). length m.outputs) rest in omega (arith, same)
 
   pub written_same : AreAllWritten old → AreAllWritten mid
-  written_same all = ap (λ (m : Merging). m.outputs) rest ∙ all ∙ sym (ap (λ (m : Merging). map (λ (t : Opened). t.row) m.made) rest)
+  written_same all = ap (λ (m : JobValue). m.outputs) rest ∙ all ∙ sym (ap (λ (m : JobValue). map (λ (t : Opened). t.row) m.made) rest)
 
   module _ (spelling : Spelling) (built_cutoff : ℕ → List Leaf → ℕ) (free extents : Taken) (row : Row) (closes : Closes spelling built_cutoff mid new free extents row) where
     pub closing_ends : is_full mid.beside mid.built ≡ true → work_left opened new < work_left opened old
     closing_ends full =
         let some = beside_some mid.beside mid.built full in
-        let same = ap (λ (m : Merging). m.beside) rest in
-        let one = ap (λ (m : Merging). m.beside) closes.new_is in
-        let blocks = ap (λ (m : Merging). blocks_left opened m.merge.walks) closes.new_is in
+        let same = ap (λ (m : JobValue). m.beside) rest in
+        let one = ap (λ (m : JobValue). m.beside) closes.new_is in
+        let blocks = ap (λ (m : JobValue). blocks_left opened m.merge.walks) closes.new_is in
         omega (arith, some, same, one, blocks, fewer)
 
     pub within_one : is_full mid.beside mid.built ≡ true → length new.outputs + new.beside ≡ length old.outputs + old.beside
     within_one full =
         let some = beside_some mid.beside mid.built full in
-        let one = ap (λ (m : Merging). m.beside) closes.new_is in
+        let one = ap (λ (m : JobValue). m.beside) closes.new_is in
         let long = ap length closes.placed.outputs ∙ length_push mid.outputs row in
         let same = within_same in
         omega (arith, some, one, long, same)
@@ -111,14 +111,14 @@ module _ (opened : List Opened) (old mid new : Merging) (rest : mid ≡ record o
     pub within_last : length new.outputs ≤ length old.outputs + old.beside + 1
     within_last =
         let long = ap length closes.placed.outputs ∙ length_push mid.outputs row in
-        let same = ap (λ (m : Merging). length m.outputs) rest in
+        let same = ap (λ (m : JobValue). length m.outputs) rest in
         omega (arith, long, same)
 
     pub written_one : AreAllWritten old → AreAllWritten new
     written_one all =
-        ap (λ (m : Merging). m.outputs) closes.new_is ∙ ap (λ (rows : List Row). rows ++ row ∷ []) (written_same all)
+        ap (λ (m : JobValue). m.outputs) closes.new_is ∙ ap (λ (rows : List Row). rows ++ row ∷ []) (written_same all)
         ∙ sym (map-append (λ (t : Opened). t.row) mid.made (made_opened built_cutoff mid row ∷ []))
-        ∙ sym (ap (λ (m : Merging). map (λ (t : Opened). t.row) m.made) closes.new_is)
+        ∙ sym (ap (λ (m : JobValue). map (λ (t : Opened). t.row) m.made) closes.new_is)
 
 -- ---- faults
 

@@ -20,10 +20,10 @@ use Rattle.extent_model.specs.Gaps.{first_gap}
 use Rattle.filter_api.specs.Spellings.{Spelling}
 use Rattle.filter_api.specs.declared.settings.Settings.{Settings}
 use Rattle.filter_model.specs.Leaves.{Leaf}
-use Rattle.level_merge.specs.Held.{AreHeld, IsHeld}
-use Rattle.level_merge.specs.Making.{AreTakenBy, IsMakeRefusal, IsSaid, Makes, MakesOn, merge_extents}
-use Rattle.level_merge.specs.Merging.{AreAllWritten, Merging, is_full, outputs_left, outputs_with}
-use Rattle.level_merge.specs.Slices.{Closes, IsTakeFault, TakesRows, made_opened, made_table, need_of}
+use Rattle.level_merge.specs.TablesAgree.{TableAgrees, TablesAgree}
+use Rattle.level_merge.specs.Making.{AnswersProgress, AreTakenBy, IsMakeRefusal, OutputsLeft, SliceOf, merge_extents}
+use Rattle.level_merge.specs.JobValue.{AreAllWritten, JobValue, is_full, outputs_left, outputs_with}
+use Rattle.level_merge.specs.SliceSteps.{Closes, IsTakeFault, TakesRows, made_opened, made_table, need_of}
 use Rattle.level_merge.specs.Outputs.{IsCloseFault, extent_at}
 use Rattle.level_merge.specs.declared.fault.JobFault.{JobFault}
 use Rattle.level_merge.specs.declared.fault.JobFault.TheVariants as fault
@@ -48,7 +48,7 @@ use Rattle.table_model.specs.Tables.{FilterBytes, Table, filter_bytes_of, table_
 -- ---- tables that stand apart from what is written
 
 module _ (spelling : Spelling) (settings : Settings) (at n : ℕ) (f g : Image) (torn : Torn at n f g) where
-  one_kept : (opened : Opened) (t : Table) → IsApartFromRow at n opened.row → IsHeld spelling settings opened t f → IsHeld spelling settings opened t g
+  one_kept : (opened : Opened) (t : Table) → IsApartFromRow at n opened.row → TableAgrees spelling settings opened t f → TableAgrees spelling settings opened t g
   one_kept opened t apart held = record {
     blocks = held.blocks;
     stands = record {
@@ -61,15 +61,15 @@ module _ (spelling : Spelling) (settings : Settings) (at n : ℕ) (f g : Image) 
     table_is = held.table_is;
   }
 
-  held_kept : (opened : List Opened) (tables : List Table) → AllByRecursion (λ (t : Opened). IsApartFromRow at n t.row) opened → AreHeld spelling settings opened tables f
-      → AreHeld spelling settings opened tables g
+  held_kept : (opened : List Opened) (tables : List Table) → AllByRecursion (λ (t : Opened). IsApartFromRow at n t.row) opened → TablesAgree spelling settings opened tables f
+      → TablesAgree spelling settings opened tables g
   held_kept [] [] apart held = tt
   held_kept [] (t ∷ tables) apart held = absurd held
   held_kept (o ∷ opened) [] apart held = absurd held
   held_kept (o ∷ opened) (t ∷ tables) apart held = (one_kept o t apart.0 held.0, held_kept opened tables apart.1 held.1)
 
-held_more : (spelling : Spelling) (settings : Settings) (opened : List Opened) (tables : List Table) (o : Opened) (t : Table) (image : Image) → AreHeld spelling settings opened tables image
-    → IsHeld spelling settings o t image → AreHeld spelling settings (opened ++ o ∷ []) (tables ++ t ∷ []) image
+held_more : (spelling : Spelling) (settings : Settings) (opened : List Opened) (tables : List Table) (o : Opened) (t : Table) (image : Image) → TablesAgree spelling settings opened tables image
+    → TableAgrees spelling settings o t image → TablesAgree spelling settings (opened ++ o ∷ []) (tables ++ t ∷ []) image
 held_more spelling settings [] [] o t image held here = (here, tt)
 held_more spelling settings [] (u ∷ tables) o t image held here = absurd held
 held_more spelling settings (x ∷ opened) [] o t image held here = absurd held
@@ -145,27 +145,27 @@ some_length (e ∷ built) some = omega arith
 -- ---- damage
 
 -- no block of a table that stands is damaged
-standing_at : (spelling : Spelling) (settings : Settings) (opened : List Opened) (tables : List Table) (image : Image) (place : ℕ) (t : Opened) → AreHeld spelling settings opened tables image
-    → slice_get opened place ≡ Some t → (u : Table) × IsHeld spelling settings t u image
+standing_at : (spelling : Spelling) (settings : Settings) (opened : List Opened) (tables : List Table) (image : Image) (place : ℕ) (t : Opened) → TablesAgree spelling settings opened tables image
+    → slice_get opened place ≡ Some t → (u : Table) × TableAgrees spelling settings t u image
 standing_at spelling settings [] tables image place t held there = absurd cc
 standing_at spelling settings (o ∷ opened) [] image place t held there = absurd held
-standing_at spelling settings (o ∷ opened) (u ∷ tables) image zero t held there = let same : o ≡ t = cc in (u, subst (λ (x : Opened). IsHeld spelling settings x u image) same held.0)
+standing_at spelling settings (o ∷ opened) (u ∷ tables) image zero t held there = let same : o ≡ t = cc in (u, subst (λ (x : Opened). TableAgrees spelling settings x u image) same held.0)
 standing_at spelling settings (o ∷ opened) (u ∷ tables) image (suc place) t held there = standing_at spelling settings opened tables image place t held.1 there
 
 -- ---- rows were taken
 
-module _ (standing : StandingBlocks) (spelling : Spelling) (built_cutoff : ℕ → List Leaf → ℕ) (opened : List Opened) (tables : List Table) (old mid : Merging) (left : List (List Entry)) (made : List Table)
-    (others : List Extent) (free : Taken) (before here : World) (tells : Bool) (is : IsTrue tells) (held : AreHeld spelling old.settings opened tables before.seen.held)
-    (makes : Makes spelling opened before.seen.held old left made) (taken : AreTakenBy opened old.made others free) (takes : TakesRows tells opened before.seen.held old mid)
+module _ (standing : StandingBlocks) (spelling : Spelling) (built_cutoff : ℕ → List Leaf → ℕ) (opened : List Opened) (tables : List Table) (old mid : JobValue) (left : List (List Entry)) (made : List Table)
+    (others : List Extent) (free : Taken) (before here : World) (tells : Bool) (is : IsTrue tells) (held : TablesAgree spelling old.settings opened tables before.seen.held)
+    (makes : OutputsLeft spelling opened before.seen.held old left made) (taken : AreTakenBy opened old.made others free) (takes : TakesRows tells opened before.seen.held old mid)
     (reads : OnlyReads before here) where
   abbrev filter_bytes : FilterBytes
   filter_bytes = filter_bytes_of spelling built_cutoff
 
   settings_are : mid.settings ≡ old.settings
-  settings_are = ap (λ (m : Merging). m.settings) takes.rest
+  settings_are = ap (λ (m : JobValue). m.settings) takes.rest
 
   made_is : mid.made ≡ old.made
-  made_is = ap (λ (m : Merging). m.made) takes.rest
+  made_is = ap (λ (m : JobValue). m.made) takes.rest
 
   left_is : outputs_left mid opened before.seen.held ≡ left
   left_is = takes.left is makes.sound ∙ makes.left_are
@@ -174,10 +174,10 @@ module _ (standing : StandingBlocks) (spelling : Spelling) (built_cutoff : ℕ �
   sound = takes.sources.sound is makes.sound
 
   written : AreAllWritten mid
-  written = ap (λ (m : Merging). m.outputs) takes.rest ∙ makes.rows ∙ sym (ap (λ (m : Merging). map (λ (t : Opened). t.row) m.made) takes.rest)
+  written = ap (λ (m : JobValue). m.outputs) takes.rest ∙ makes.rows ∙ sym (ap (λ (m : JobValue). map (λ (t : Opened). t.row) m.made) takes.rest)
 
   -- blocks alone were read
-  pub waits : (said : Sliced) → IsSaid opened old mid left made made said → MakesOn spelling filter_bytes opened tables old mid left made others free free before here said
+  pub waits : (said : Sliced) → AnswersProgress opened old mid left made made said → SliceOf spelling filter_bytes opened tables old mid left made others free free before here said
   waits said says = record {
     later = left;
     now = made;
@@ -185,15 +185,15 @@ module _ (standing : StandingBlocks) (spelling : Spelling) (built_cutoff : ℕ �
     read = takes.fewer;
     numbers_are = takes.sources.numbers_are;
     settings = settings_are;
-    output = ap (λ (m : Merging). m.output) takes.rest;
-    makes = subst (λ (h : Image). Makes spelling opened h mid left made) (sym reads.1.held) (record {
+    output = ap (λ (m : JobValue). m.output) takes.rest;
+    makes = subst (λ (h : Image). OutputsLeft spelling opened h mid left made) (sym reads.1.held) (record {
       sound = sound;
       left_are = left_is;
       rows = written;
-      made_are = subst (λ (m : Merging). AreHeld spelling m.settings m.made made before.seen.held) (sym takes.rest) makes.made_are;
+      made_are = subst (λ (m : JobValue). TablesAgree spelling m.settings m.made made before.seen.held) (sym takes.rest) makes.made_are;
     });
-    held = subst (AreHeld spelling old.settings opened tables) (sym reads.1.held) held;
-    lasting = λ now. subst (λ (m : List Opened). Now (AreHeld spelling old.settings m made) here) (sym made_is) (reads_keep (AreHeld spelling old.settings old.made made) reads.0 before here reads.1 now);
+    held = subst (TablesAgree spelling old.settings opened tables) (sym reads.1.held) held;
+    lasting = λ now. subst (λ (m : List Opened). Now (TablesAgree spelling old.settings m made) here) (sym made_is) (reads_keep (TablesAgree spelling old.settings old.made made) reads.0 before here reads.1 now);
     taken_are = subst (λ (m : List Opened). AreTakenBy opened m others free) (sym made_is) taken;
     said = says;
   }
@@ -209,7 +209,7 @@ module _ (standing : StandingBlocks) (spelling : Spelling) (built_cutoff : ℕ �
     left_of_none =
         sym (ap (outputs_with mid.beside mid.built) (ap (lasting mid.drops) none ∙ none_lasts mid.drops) ∙ no_row mid.beside mid.built) ∙ left_is
 
-    pub ready_with_none : length mid.built ≡ 0 → MakesOn spelling filter_bytes opened tables old mid left made others free free before here sliced.Ready
+    pub ready_with_none : length mid.built ≡ 0 → SliceOf spelling filter_bytes opened tables old mid left made others free free before here sliced.Ready
     ready_with_none empty = waits sliced.Ready (all_read, sym left_of_none ∙ no_output mid.built empty)
       where
         no_output : (built : List Entry) → length built ≡ 0 → outputs_of zero built ≡ []
@@ -252,9 +252,9 @@ module _ (standing : StandingBlocks) (spelling : Spelling) (built_cutoff : ℕ �
     close_refused after (fault.Full need gap) fails =
         (mid.built, later, first, fails.0 ∙ gap_need, fails.1, subst (λ (n : ℕ). gap < n) (sym fails.0) fails.2)
 
-    module _ (new : Merging) (extents : Taken) (row : Row) (after : World) (closes : Closes spelling built_cutoff mid new free extents row)
+    module _ (new : JobValue) (extents : Taken) (row : Row) (after : World) (closes : Closes spelling built_cutoff mid new free extents row)
         (moves : WriteMoves (byte_of_page row.first_page) (page_bytes * pages_of row) here after)
-        (stands : Now (IsHeld spelling mid.settings (made_opened built_cutoff mid row) (made_table spelling built_cutoff mid row.first_page)) after)
+        (stands : Now (TableAgrees spelling mid.settings (made_opened built_cutoff mid row) (made_table spelling built_cutoff mid row.first_page)) after)
         (current : after.leaves after.moment after.seen.held) (next : later ≡ outputs_of (mid.beside - 1) (lasting mid.drops (rows_left mid.merge opened before.seen.held))) where
       abbrev new_table : Table
       new_table = table_of filter_bytes old.settings old.output row.first_page mid.built
@@ -263,70 +263,70 @@ module _ (standing : StandingBlocks) (spelling : Spelling) (built_cutoff : ℕ �
       new_opened = made_opened built_cutoff mid row
 
       output_is : mid.output ≡ old.output
-      output_is = ap (λ (m : Merging). m.output) takes.rest
+      output_is = ap (λ (m : JobValue). m.output) takes.rest
 
-      new_stands : Now (IsHeld spelling old.settings new_opened new_table) after
+      new_stands : Now (TableAgrees spelling old.settings new_opened new_table) after
       new_stands =
-          subst (λ (level : ℕ). Now (IsHeld spelling old.settings new_opened (table_of filter_bytes old.settings level row.first_page mid.built)) after) output_is
-          (subst (λ (set : Settings). Now (IsHeld spelling set new_opened (table_of filter_bytes set mid.output row.first_page mid.built)) after) settings_are stands)
+          subst (λ (level : ℕ). Now (TableAgrees spelling old.settings new_opened (table_of filter_bytes old.settings level row.first_page mid.built)) after) output_is
+          (subst (λ (set : Settings). Now (TableAgrees spelling set new_opened (table_of filter_bytes set mid.output row.first_page mid.built)) after) settings_are stands)
 
       new_made : new.made ≡ old.made ++ new_opened ∷ []
-      new_made = ap (λ (m : Merging). m.made) closes.new_is ∙ ap (λ (m : List Opened). m ++ new_opened ∷ []) made_is
+      new_made = ap (λ (m : JobValue). m.made) closes.new_is ∙ ap (λ (m : List Opened). m ++ new_opened ∷ []) made_is
 
       new_settings : new.settings ≡ old.settings
-      new_settings = ap (λ (m : Merging). m.settings) closes.new_is ∙ settings_are
+      new_settings = ap (λ (m : JobValue). m.settings) closes.new_is ∙ settings_are
 
       torn : Torn (byte_of_page row.first_page) (page_bytes * pages_of row) before.seen.held after.seen.held
       torn = subst (λ (h : Image). Torn (byte_of_page row.first_page) (page_bytes * pages_of row) h after.seen.held) reads.1.held moves.torn
 
-      tables_after : AreHeld spelling old.settings opened tables after.seen.held
+      tables_after : TablesAgree spelling old.settings opened tables after.seen.held
       tables_after =
           held_kept spelling old.settings (byte_of_page row.first_page) (page_bytes * pages_of row) before.seen.held after.seen.held torn opened tables
           (opened_apart (extent_at row) opened old.made others free taken closes.placed.apart) held
 
-      made_after : AreHeld spelling old.settings old.made made after.seen.held
+      made_after : TablesAgree spelling old.settings old.made made after.seen.held
       made_after =
           held_kept spelling old.settings (byte_of_page row.first_page) (page_bytes * pages_of row) before.seen.held after.seen.held torn old.made made
           (made_apart (extent_at row) opened old.made others free taken closes.placed.apart) makes.made_are
 
-      all_after : AreHeld spelling old.settings new.made (made ++ new_table ∷ []) after.seen.held
+      all_after : TablesAgree spelling old.settings new.made (made ++ new_table ∷ []) after.seen.held
       all_after =
-          subst (λ (m : List Opened). AreHeld spelling old.settings m (made ++ new_table ∷ []) after.seen.held) (sym new_made)
+          subst (λ (m : List Opened). TablesAgree spelling old.settings m (made ++ new_table ∷ []) after.seen.held) (sym new_made)
           (held_more spelling old.settings old.made made new_opened new_table after.seen.held made_after (new_stands after.seen.held current))
 
-      on_each : Now (AreHeld spelling old.settings old.made made) before → Now (AreHeld spelling old.settings new.made (made ++ new_table ∷ [])) after
+      on_each : Now (TablesAgree spelling old.settings old.made made) before → Now (TablesAgree spelling old.settings new.made (made ++ new_table ∷ [])) after
       on_each now =
           let at = byte_of_page row.first_page in
           let n = page_bytes * pages_of row in
-          let F = AreHeld spelling old.settings old.made made in
-          let R = IsHeld spelling old.settings new_opened new_table in
+          let F = TablesAgree spelling old.settings old.made made in
+          let R = TableAgrees spelling old.settings new_opened new_table in
           let keeps = λ (f g : Image) (there : F f) (cut : Torn at n f g).
           held_kept spelling old.settings at n f g cut old.made made (made_apart (extent_at row) opened old.made others free taken closes.placed.apart) there in
           let both = (leads_around {T = ℕ} {E = ℕ} F R at n (Ok 0) here after keeps moves.time new_stands).after (reads_keep F reads.0 before here reads.1 now) in
-          λ image leaves. subst (λ (m : List Opened). AreHeld spelling old.settings m (made ++ new_table ∷ []) image) (sym new_made)
+          λ image leaves. subst (λ (m : List Opened). TablesAgree spelling old.settings m (made ++ new_table ∷ []) image) (sym new_made)
           (held_more spelling old.settings old.made made new_opened new_table image (both image leaves).0 (both image leaves).1)
 
       later_is : outputs_left new opened before.seen.held ≡ later
       later_is =
-          ap (λ (m : Merging). outputs_left m opened before.seen.held) closes.new_is
+          ap (λ (m : JobValue). outputs_left m opened before.seen.held) closes.new_is
           ∙ none_built (mid.beside - 1) (lasting mid.drops (rows_left mid.merge opened before.seen.held)) ∙ sym next
 
       new_sound : IsSoundMerge new.merge opened after.seen.held
       new_sound =
-          subst (λ (m : Merging). IsSoundMerge m.merge opened after.seen.held) (sym closes.new_is)
+          subst (λ (m : JobValue). IsSoundMerge m.merge opened after.seen.held) (sym closes.new_is)
           (sound_same standing spelling old.settings before.seen.held after.seen.held opened tables held tables_after mid.merge sound)
 
       rows_are : AreAllWritten new
       rows_are =
-          ap (λ (m : Merging). m.outputs) closes.new_is ∙ ap (λ (rows : List Row). rows ++ row ∷ []) written
+          ap (λ (m : JobValue). m.outputs) closes.new_is ∙ ap (λ (rows : List Row). rows ++ row ∷ []) written
           ∙ sym (map-append (λ (t : Opened). t.row) mid.made (new_opened ∷ []))
-          ∙ sym (ap (λ (m : Merging). map (λ (t : Opened). t.row) m.made) closes.new_is)
+          ∙ sym (ap (λ (m : JobValue). map (λ (t : Opened). t.row) m.made) closes.new_is)
 
       walks_are : new.merge ≡ mid.merge
-      walks_are = ap (λ (m : Merging). m.merge) closes.new_is
+      walks_are = ap (λ (m : JobValue). m.merge) closes.new_is
 
-      pub makes_one : (said : Sliced) → IsSaid opened old new later made (made ++ new_table ∷ []) said
-          → MakesOn spelling filter_bytes opened tables old new left made others free extents before after said
+      pub makes_one : (said : Sliced) → AnswersProgress opened old new later made (made ++ new_table ∷ []) said
+          → SliceOf spelling filter_bytes opened tables old new left made others free extents before after said
       makes_one said says = record {
         later = later;
         now = made ++ new_table ∷ [];
@@ -344,12 +344,12 @@ module _ (standing : StandingBlocks) (spelling : Spelling) (built_cutoff : ℕ �
         read = subst (λ (m : Merge). blocks_left opened m.walks ≤ blocks_left opened old.merge.walks) (sym walks_are) takes.fewer;
         numbers_are = ap (λ (m : Merge). numbers m.walks) walks_are ∙ takes.sources.numbers_are;
         settings = new_settings;
-        output = ap (λ (m : Merging). m.output) closes.new_is ∙ output_is;
+        output = ap (λ (m : JobValue). m.output) closes.new_is ∙ output_is;
         makes = record {
           sound = new_sound;
           left_are = sym (outputs_same standing spelling old.settings before.seen.held after.seen.held opened tables held tables_after new) ∙ later_is;
           rows = rows_are;
-          made_are = subst (λ (set : Settings). AreHeld spelling set new.made (made ++ new_table ∷ []) after.seen.held) (sym new_settings) all_after;
+          made_are = subst (λ (set : Settings). TablesAgree spelling set new.made (made ++ new_table ∷ []) after.seen.held) (sym new_settings) all_after;
         };
         held = tables_after;
         lasting = on_each;
@@ -360,16 +360,16 @@ module _ (standing : StandingBlocks) (spelling : Spelling) (built_cutoff : ℕ �
         said = says;
       }
 
-      pub works : MakesOn spelling filter_bytes opened tables old new left made others free extents before after sliced.Working
+      pub works : SliceOf spelling filter_bytes opened tables old new left made others free extents before after sliced.Working
       works = makes_one sliced.Working (inr (let more = length_push made new_table in omega (arith, more)))
 
-      pub ends : blocks_left opened mid.merge.walks ≡ 0 → later ≡ [] → MakesOn spelling filter_bytes opened tables old new left made others free extents before after sliced.Ready
+      pub ends : blocks_left opened mid.merge.walks ≡ 0 → later ≡ [] → SliceOf spelling filter_bytes opened tables old new left made others free extents before after sliced.Ready
       ends read none = makes_one sliced.Ready (ap (λ (m : Merge). blocks_left opened m.walks) walks_are ∙ read, none)
 
 -- ---- rows could not be taken
 
-module _ (standing : StandingBlocks) (spelling : Spelling) (filter_bytes : FilterBytes) (opened : List Opened) (tables : List Table) (old : Merging) (left : List (List Entry)) (free : Taken) (before after : World)
-    (tells : Bool) (is : IsTrue tells) (held : AreHeld spelling old.settings opened tables before.seen.held) where
+module _ (standing : StandingBlocks) (spelling : Spelling) (filter_bytes : FilterBytes) (opened : List Opened) (tables : List Table) (old : JobValue) (left : List (List Entry)) (free : Taken) (before after : World)
+    (tells : Bool) (is : IsTrue tells) (held : TablesAgree spelling old.settings opened tables before.seen.held) where
   never_damaged : (d : Rattle.byte_fields.specs.declared.parts.Damage.Damage) → (which : List ℕ) → SomeBlock opened which (λ t n. IsGetFault t n before.seen.held (table.Damaged d)) → ⊥
   never_damaged d which some =
       let here = standing_at spelling old.settings opened tables before.seen.held (length opened - 1 - some.0) some.2.0 held some.2.2 in

@@ -5,11 +5,11 @@ use Rattle.extent_map.specs.Taken.{Taken}
 use Rattle.filter_api.specs.Spellings.{Spelling}
 use Rattle.filter_model.specs.Leaves.{Leaf}
 use Rattle.byte_fields.specs.declared.parts.Row.{Row}
-use Rattle.level_merge.specs.Making.{SliceMakes}
-use Rattle.level_merge.specs.Merging.{Merging, is_full}
+use Rattle.level_merge.specs.Making.{MakesAnyOutputs}
+use Rattle.level_merge.specs.JobValue.{JobValue, is_full}
 use Rattle.level_merge.specs.Outputs.{IsCloseFault}
-use Rattle.level_merge.specs.Slices.{Closes, IsMetUnwritten, IsTakeFault, WritesOutput}
-use Rattle.level_merge.specs.Slicing.{SlicesMerge}
+use Rattle.level_merge.specs.SliceSteps.{Closes, FailsBeforeWrite, IsTakeFault, WritesOutput}
+use Rattle.level_merge.specs.SliceContract.{SliceContract}
 use Rattle.level_merge.specs.declared.fault.JobFault.{JobFault}
 use Rattle.level_merge.specs.declared.fault.JobFault.TheVariants as fault
 use Rattle.level_merge.specs.declared.fault.Sliced.{Sliced}
@@ -30,26 +30,26 @@ ready_is_none : sliced.Ready ≡ sliced.Working → ⊥
 ready_is_none is = subst IsAtWork (sym is) tt
 
 -- no damage is met behind what was written
-unwritten_of_take : (before here : World) (why : JobFault) → OnlyReads before here → IsMetUnwritten before here why
+unwritten_of_take : (before here : World) (why : JobFault) → OnlyReads before here → FailsBeforeWrite before here why
 unwritten_of_take before here fault.Memory reads = tt
 unwritten_of_take before here (fault.Device cause) reads = tt
 unwritten_of_take before here (fault.Damaged d) reads = reads.1.held
 unwritten_of_take before here (fault.Full need gap) reads = tt
 
-unwritten_of_close : (need : ℕ) (free : Taken) (before here after : World) (why : JobFault) → IsCloseFault need free here after why → IsMetUnwritten before after why
+unwritten_of_close : (need : ℕ) (free : Taken) (before here after : World) (why : JobFault) → IsCloseFault need free here after why → FailsBeforeWrite before after why
 unwritten_of_close need free before here after fault.Memory fails = tt
 unwritten_of_close need free before here after (fault.Device cause) fails = tt
 unwritten_of_close need free before here after (fault.Damaged d) fails = absurd fails
 unwritten_of_close need free before here after (fault.Full wanted gap) fails = tt
 
-module _ (spelling : Spelling) (built_cutoff : ℕ → List Leaf → ℕ) (tells : Bool) (blocks : ℕ) (opened : List Opened) (old mid : Merging) (free : Taken) (before here : World)
+module _ (spelling : Spelling) (built_cutoff : ℕ → List Leaf → ℕ) (tells : Bool) (blocks : ℕ) (opened : List Opened) (old mid : JobValue) (free : Taken) (before here : World)
     (rest : mid ≡ record old { merge = mid.merge; built = mid.built }) (reads : OnlyReads before here) (level : (1 ≤ old.output) × (old.output ≤ 6))
     (walks : numbers mid.merge.walks ≡ numbers old.merge.walks) (bounded : IsTrue tells → IsSoundMerge old.merge opened before.seen.held → ReadMoves blocks before here) where
   same_output : mid.output ≡ old.output
-  same_output = ap (λ (m : Merging). m.output) rest
+  same_output = ap (λ (m : JobValue). m.output) rest
 
   same_settings : mid.settings ≡ old.settings
-  same_settings = ap (λ (m : Merging). m.settings) rest
+  same_settings = ap (λ (m : JobValue). m.settings) rest
 
   level_of : (n : ℕ) → n ≡ old.output → (1 ≤ n) × (n ≤ 6)
   level_of n is = subst (λ (k : ℕ). (1 ≤ k) × (k ≤ 6)) (sym is) level
@@ -57,8 +57,8 @@ module _ (spelling : Spelling) (built_cutoff : ℕ → List Leaf → ℕ) (tells
   -- ---- nothing was written
 
   pub waited : blocks_left opened mid.merge.walks ≤ blocks_left opened old.merge.walks → blocks_left opened mid.merge.walks < blocks_left opened old.merge.walks
-      → (IsTrue tells → SliceMakes spelling (filter_bytes_of spelling built_cutoff) opened old mid free free (Ok sliced.Working) before here)
-      → SlicesMerge spelling built_cutoff tells blocks opened old mid free free (Ok sliced.Working) before here
+      → (IsTrue tells → MakesAnyOutputs spelling (filter_bytes_of spelling built_cutoff) opened old mid free free (Ok sliced.Working) before here)
+      → SliceContract spelling built_cutoff tells blocks opened old mid free free (Ok sliced.Working) before here
   waited fewer less makes = record {
     makes = makes;
     bounded = λ t sound. (bounded t sound).reads;
@@ -74,8 +74,8 @@ module _ (spelling : Spelling) (built_cutoff : ℕ → List Leaf → ℕ) (tells
   }
 
   pub had_nothing : blocks_left opened mid.merge.walks ≤ blocks_left opened old.merge.walks
-      → (IsTrue tells → SliceMakes spelling (filter_bytes_of spelling built_cutoff) opened old mid free free (Ok sliced.Ready) before here)
-      → SlicesMerge spelling built_cutoff tells blocks opened old mid free free (Ok sliced.Ready) before here
+      → (IsTrue tells → MakesAnyOutputs spelling (filter_bytes_of spelling built_cutoff) opened old mid free free (Ok sliced.Ready) before here)
+      → SliceContract spelling built_cutoff tells blocks opened old mid free free (Ok sliced.Ready) before here
   had_nothing fewer makes = record {
     makes = makes;
     bounded = λ t sound. (bounded t sound).reads;
@@ -91,8 +91,8 @@ module _ (spelling : Spelling) (built_cutoff : ℕ → List Leaf → ℕ) (tells
   }
 
   pub took_no_row : (why : JobFault) → IsTakeFault tells opened (numbers old.merge.walks) before here why
-      → (IsTrue tells → SliceMakes spelling (filter_bytes_of spelling built_cutoff) opened old mid free free (Err why) before here)
-      → SlicesMerge spelling built_cutoff tells blocks opened old mid free free (Err why) before here
+      → (IsTrue tells → MakesAnyOutputs spelling (filter_bytes_of spelling built_cutoff) opened old mid free free (Err why) before here)
+      → SliceContract spelling built_cutoff tells blocks opened old mid free free (Err why) before here
   took_no_row why fails makes = record {
     makes = makes;
     bounded = λ t sound. (bounded t sound).reads;
@@ -109,7 +109,7 @@ module _ (spelling : Spelling) (built_cutoff : ℕ → List Leaf → ℕ) (tells
 
   -- ---- an output was to be closed
 
-  module _ (new : Merging) (extents : Taken) (after : World) (merge : new.merge ≡ mid.merge) (same : (new.output ≡ mid.output) × (new.settings ≡ mid.settings))
+  module _ (new : JobValue) (extents : Taken) (after : World) (merge : new.merge ≡ mid.merge) (same : (new.output ≡ mid.output) × (new.settings ≡ mid.settings))
       (writes : WritesOutput spelling built_cutoff mid new free extents here after) where
     walks_on : numbers new.merge.walks ≡ numbers old.merge.walks
     walks_on = ap (λ (m : Merge). numbers m.walks) merge ∙ walks
@@ -118,8 +118,8 @@ module _ (spelling : Spelling) (built_cutoff : ℕ → List Leaf → ℕ) (tells
     bounded_on t sound = still_bounded spelling built_cutoff mid new free extents here after (before.seen.reads + blocks) (bounded t sound).reads writes
 
     pub closed_one : (row : Row) → Closes spelling built_cutoff mid new free extents row → blocks_left opened mid.merge.walks ≤ blocks_left opened old.merge.walks → is_full mid.beside mid.built ≡ true
-        → (IsTrue tells → SliceMakes spelling (filter_bytes_of spelling built_cutoff) opened old new free extents (Ok sliced.Working) before after)
-        → SlicesMerge spelling built_cutoff tells blocks opened old new free extents (Ok sliced.Working) before after
+        → (IsTrue tells → MakesAnyOutputs spelling (filter_bytes_of spelling built_cutoff) opened old new free extents (Ok sliced.Working) before after)
+        → SliceContract spelling built_cutoff tells blocks opened old new free extents (Ok sliced.Working) before after
     closed_one row closes fewer full makes = record {
       makes = makes;
       bounded = bounded_on;
@@ -135,8 +135,8 @@ module _ (spelling : Spelling) (built_cutoff : ℕ → List Leaf → ℕ) (tells
     }
 
     pub closed_last : (row : Row) → Closes spelling built_cutoff mid new free extents row → blocks_left opened mid.merge.walks ≤ blocks_left opened old.merge.walks
-        → (IsTrue tells → SliceMakes spelling (filter_bytes_of spelling built_cutoff) opened old new free extents (Ok sliced.Ready) before after)
-        → SlicesMerge spelling built_cutoff tells blocks opened old new free extents (Ok sliced.Ready) before after
+        → (IsTrue tells → MakesAnyOutputs spelling (filter_bytes_of spelling built_cutoff) opened old new free extents (Ok sliced.Ready) before after)
+        → SliceContract spelling built_cutoff tells blocks opened old new free extents (Ok sliced.Ready) before after
     closed_last row closes fewer makes = record {
       makes = makes;
       bounded = bounded_on;
@@ -152,8 +152,8 @@ module _ (spelling : Spelling) (built_cutoff : ℕ → List Leaf → ℕ) (tells
     }
 
     pub closed_none : (need : ℕ) (why : JobFault) → IsCloseFault need free here after why
-        → (IsTrue tells → SliceMakes spelling (filter_bytes_of spelling built_cutoff) opened old new free extents (Err why) before after)
-        → SlicesMerge spelling built_cutoff tells blocks opened old new free extents (Err why) before after
+        → (IsTrue tells → MakesAnyOutputs spelling (filter_bytes_of spelling built_cutoff) opened old new free extents (Err why) before after)
+        → SliceContract spelling built_cutoff tells blocks opened old new free extents (Err why) before after
     closed_none need why fails makes = record {
       makes = makes;
       bounded = bounded_on;

@@ -7,9 +7,9 @@ use Rattle.entry_model.specs.Newest.{KeysRise, newest_entries}
 use Rattle.filter_api.specs.Spellings.{Spelling}
 use Rattle.filter_api.specs.declared.settings.Settings.{Settings}
 use Rattle.level_merge.specs.Follows.{Follows}
-use Rattle.level_merge.specs.Held.{AreHeld}
-use Rattle.level_merge.specs.Making.{Makes}
-use Rattle.level_merge.specs.Merging.{Merging, begun, compaction, merge_of}
+use Rattle.level_merge.specs.TablesAgree.{TablesAgree}
+use Rattle.level_merge.specs.Making.{OutputsLeft}
+use Rattle.level_merge.specs.JobValue.{JobValue, begun, compaction, merge_of}
 use Rattle.level_merge.specs.Plans.{IsPlanOf, MayStart, PlanByNumbers, numbered}
 use Rattle.merge_rows.specs.Laws.{memory_entries}
 use Rattle.merge_rows.specs.Steps.{numbers}
@@ -25,26 +25,26 @@ use Rattle.table_model.specs.Tables.{Table}
 abbrev pub MergeBegins : Type 0
 MergeBegins =
     (spelling : Spelling) (settings : Settings) (opened : List Opened) (tables inputs : List Table) (image : Image) (which : List ℕ) (entries : Option (List Entry)) (output : ℕ)
-    (drops : Bool) → AreHeld spelling settings opened tables image → map (numbered tables) which ≡ map (λ (t : Table). Some t) inputs → KeysRise (memory_entries entries)
-    → Makes spelling opened image (merge_of which entries output drops settings opened)
+    (drops : Bool) → TablesAgree spelling settings opened tables image → map (numbered tables) which ≡ map (λ (t : Table). Some t) inputs → KeysRise (memory_entries entries)
+    → OutputsLeft spelling opened image (merge_of which entries output drops settings opened)
     (outputs_of (length which - 1) (lasting drops (newest_entries (oldest_first inputs ++ memory_entries entries)))) []
 
 -- a merge that begins follows the job that begins
 abbrev pub BegunFollows : Type 0
 BegunFollows =
-    (spelling : Spelling) (s : State) (opened : List Opened) (image : Image) (p : PlanByNumbers) (plan : Plan) → AreHeld spelling s.settings opened s.tables image
+    (spelling : Spelling) (s : State) (opened : List Opened) (image : Image) (p : PlanByNumbers) (plan : Plan) → TablesAgree spelling s.settings opened s.tables image
     → MayStart opened p → IsPlanOf s.tables (Some p) (Some plan) → Follows spelling s opened image (begun p s.settings opened) (started plan)
 
 -- the merge of the memory and of all tables makes the outputs of a compaction
 abbrev pub CompactionMakes : Type 0
 CompactionMakes =
-    (spelling : Spelling) (s : State) (opened : List Opened) (image : Image) → AreHeld spelling s.settings opened s.tables image
-    → Makes spelling opened image (compaction (memory s) s.settings opened) (outputs_for s.tables (live_entries s)) []
+    (spelling : Spelling) (s : State) (opened : List Opened) (image : Image) → TablesAgree spelling s.settings opened s.tables image
+    → OutputsLeft spelling opened image (compaction (memory s) s.settings opened) (outputs_for s.tables (live_entries s)) []
 
 -- a table of level 0 that is put before all others changes nothing for it
 abbrev pub FlushedIsFollowed : Type 0
 FlushedIsFollowed =
-    (spelling : Spelling) (s after : State) (opened : List Opened) (new : Opened) (t : Table) (image : Image) (m : Merging) (job : Job) → t.level ≡ 0
+    (spelling : Spelling) (s after : State) (opened : List Opened) (new : Opened) (t : Table) (image : Image) (m : JobValue) (job : Job) → t.level ≡ 0
     → AllByRecursion (λ number. number < length opened) (numbers m.merge.walks) → length opened ≡ length s.tables
     → after.settings ≡ s.settings → after.tables ≡ t ∷ s.tables
     → Follows spelling s opened image m job → Follows spelling after (new ∷ opened) image m job
@@ -52,6 +52,6 @@ FlushedIsFollowed =
 -- nor does another image that shows the same tables
 abbrev pub OtherImageIsFollowed : Type 0
 OtherImageIsFollowed =
-    (spelling : Spelling) (s : State) (opened : List Opened) (image other : Image) (m : Merging) (job : Job) → AreHeld spelling s.settings opened s.tables image
-    → AreHeld spelling s.settings opened s.tables other → AreHeld spelling s.settings m.made job.written other
+    (spelling : Spelling) (s : State) (opened : List Opened) (image other : Image) (m : JobValue) (job : Job) → TablesAgree spelling s.settings opened s.tables image
+    → TablesAgree spelling s.settings opened s.tables other → TablesAgree spelling s.settings m.made job.written other
     → Follows spelling s opened image m job → Follows spelling s opened other m job

@@ -6,9 +6,9 @@ use Rattle.disk_trait.specs.World.{Now, Rose, World}
 use Rattle.disk_trait.specs.declared.fault.Op.TheVariants.{Read}
 use Rattle.extent_map.specs.Taken.{Taken}
 use Rattle.filter_api.specs.Spellings.{Spelling}
-use Rattle.level_merge.specs.Held.{AreHeld}
-use Rattle.level_merge.specs.Making.{Makes}
-use Rattle.level_merge.specs.Merging.{Merging}
+use Rattle.level_merge.specs.TablesAgree.{TablesAgree}
+use Rattle.level_merge.specs.Making.{OutputsLeft}
+use Rattle.level_merge.specs.JobValue.{JobValue}
 use Rattle.level_merge.specs.Plans.{numbered}
 use Rattle.level_merge.specs.declared.fault.JobFault.{JobFault}
 use Rattle.level_merge.specs.declared.fault.JobFault.TheVariants as fault
@@ -24,12 +24,12 @@ use Rattle.table_model.specs.Tables.{FilterBytes, Table}
 
 -- The merge reads the job's inputs, has as many blocks to read, still makes the outputs that the job has not written, and has made
 -- those that it has, which stand on the device.
-pub record Follows (spelling : Spelling) (s : State) (opened : List Opened) (image : Image) (m : Merging) (job : Job) : Type 0 where
+pub record Follows (spelling : Spelling) (s : State) (opened : List Opened) (image : Image) (m : JobValue) (job : Job) : Type 0 where
   pub settings : m.settings ≡ s.settings
   pub inputs : map (numbered s.tables) (numbers m.merge.walks) ≡ map (λ (t : Table). Some t) job.inputs
   pub output : m.output ≡ job.output
   pub to_read : blocks_left opened m.merge.walks ≡ job.to_read
-  pub makes : Makes spelling opened image m (outstanding s.tables job) job.written
+  pub makes : OutputsLeft spelling opened image m (outstanding s.tables job) job.written
 
 -- the extents that are taken with a job are these, in any order
 pub record AreTaken (s : State) (job : Job) (extents : Taken) : Type 0 where
@@ -54,24 +54,24 @@ IsJobRefusal filter_bytes s job old new (fault.Full need gap) =
 
 -- The job goes on and is followed; the tables that are read and those that are made stand on the device as it is then, and those
 -- that are made on each image that a crash may leave where they did before.
-pub record SlicesTo (spelling : Spelling) (filter_bytes : FilterBytes) (s : State) (job : Job) (opened : List Opened) (old new : Merging) (extents : Taken)
+pub record JobProgress (spelling : Spelling) (filter_bytes : FilterBytes) (s : State) (job : Job) (opened : List Opened) (old new : JobValue) (extents : Taken)
     (before after : World) (sliced : Sliced) : Type 0 where
   pub later : Job
   pub progresses : Progresses filter_bytes s job later
   pub follows : Follows spelling s opened after.seen.held new later
-  pub held : AreHeld spelling s.settings opened s.tables after.seen.held
-  pub lasting : Now (AreHeld spelling s.settings old.made job.written) before → Now (AreHeld spelling s.settings new.made later.written) after
+  pub held : TablesAgree spelling s.settings opened s.tables after.seen.held
+  pub lasting : Now (TablesAgree spelling s.settings old.made job.written) before → Now (TablesAgree spelling s.settings new.made later.written) after
   pub taken_are : AreTaken s later extents
   pub said : IsSliced s job later sliced
 
 -- What a merge slice makes of a merge that follows a job of a state: the job goes on and is followed, or the slice is refused with
 -- its cause.
-abbrev pub Slices : Spelling → FilterBytes → State → Job → List Opened → Merging → Merging → Taken → Result Sliced JobFault → World → World → Type 0
-Slices spelling filter_bytes s job opened old new extents result before after =
-    MatchResult result (SlicesTo spelling filter_bytes s job opened old new extents before after) (IsJobRefusal filter_bytes s job before after)
+abbrev pub ProgressOrRefusal : Spelling → FilterBytes → State → Job → List Opened → JobValue → JobValue → Taken → Result Sliced JobFault → World → World → Type 0
+ProgressOrRefusal spelling filter_bytes s job opened old new extents result before after =
+    MatchResult result (JobProgress spelling filter_bytes s job opened old new extents before after) (IsJobRefusal filter_bytes s job before after)
 
 -- the same, of each job of a state that the merge follows
-abbrev pub SliceFollows : Spelling → FilterBytes → List Opened → Merging → Merging → Taken → Taken → Result Sliced JobFault → World → World → Type 0
-SliceFollows spelling filter_bytes opened old new free extents result before after =
-    (s : State) (job : Job) → AreHeld spelling s.settings opened s.tables before.seen.held → Follows spelling s opened before.seen.held old job → AreTaken s job free
-    → Slices spelling filter_bytes s job opened old new extents result before after
+abbrev pub FollowsAnyJob : Spelling → FilterBytes → List Opened → JobValue → JobValue → Taken → Taken → Result Sliced JobFault → World → World → Type 0
+FollowsAnyJob spelling filter_bytes opened old new free extents result before after =
+    (s : State) (job : Job) → TablesAgree spelling s.settings opened s.tables before.seen.held → Follows spelling s opened before.seen.held old job → AreTaken s job free
+    → ProgressOrRefusal spelling filter_bytes s job opened old new extents result before after

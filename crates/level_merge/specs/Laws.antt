@@ -4,7 +4,7 @@ use Rattle.disk_trait.specs.Image.{Image}
 use Rattle.entry_model.specs.Entries.{Entry}
 use Rattle.filter_api.specs.Spellings.{Spelling}
 use Rattle.filter_api.specs.declared.settings.Settings.{Settings}
-use Rattle.level_merge.specs.Merging.{outputs_with}
+use Rattle.level_merge.specs.JobValue.{outputs_with}
 use Rattle.level_merge.specs.Plans.{Agrees}
 use Rattle.state_model.specs.Merges.{outputs_of}
 use Rattle.table_file.specs.Opened.{Opened}

@@ -8,12 +8,12 @@ pub use Rattle.merge_rows.specs.Steps
 pub use Rattle.table_model.specs.Tables
 pub mod Plans
 pub mod Outlines
-pub mod Merging
+pub mod JobValue
 pub mod Outputs
-pub mod Slices
-pub mod Held
+pub mod SliceSteps
+pub mod TablesAgree
 pub mod Making
-pub mod Slicing
+pub mod SliceContract
 pub mod Follows
 pub mod FollowLaws
 pub mod Laws

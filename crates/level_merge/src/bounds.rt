@@ -3,7 +3,7 @@ ghost use Rattle.std.specs.Prelude.{◌≡◌, ◌<◌, ◌≤◌, ◌-◌, leng
 ghost use Rattle.std.specs.List.{AllByRecursion, list_any};
 ghost use Rattle.key_base.specs.ByteOrder.{is_before};
 ghost use Rattle.key_base.specs.Limits.{max_tables};
-ghost use Rattle.level_merge.specs.Merging.{all_numbers};
+ghost use Rattle.level_merge.specs.JobValue.{all_numbers};
 ghost use Rattle.level_merge.specs.Outlines.{outline, outline_of, outlines, table_number};
 ghost use Rattle.state_model.specs.Merges as model;
 

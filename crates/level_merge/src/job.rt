@@ -5,12 +5,12 @@ ghost use Rattle.std.specs.Option.{option_map};
 ghost use Rattle.disk_trait.specs.World.{Now, ReadMoves};
 ghost use Rattle.entry_model.specs.Entries.{IsEntry};
 ghost use Rattle.filter_api.specs.Ranges.{InRange};
-ghost use Rattle.level_merge.specs.Follows.{SliceFollows};
-ghost use Rattle.level_merge.specs.Held.{IsHeld};
-ghost use Rattle.level_merge.specs.Merging.{begun, compaction, merge_of};
+ghost use Rattle.level_merge.specs.Follows.{FollowsAnyJob};
+ghost use Rattle.level_merge.specs.TablesAgree.{TableAgrees};
+ghost use Rattle.level_merge.specs.JobValue.{begun, compaction, merge_of};
 ghost use Rattle.level_merge.specs.Plans.{MayStart};
-ghost use Rattle.level_merge.specs.Slices.{Closes, IsStop, IsTakeFault, TakesRows, WritesOutput, made_opened, made_table, need_of};
-ghost use Rattle.level_merge.specs.Slicing.{SlicesMerge};
+ghost use Rattle.level_merge.specs.SliceSteps.{Closes, IsStop, IsTakeFault, TakesRows, WritesOutput, made_opened, made_table, need_of};
+ghost use Rattle.level_merge.specs.SliceContract.{SliceContract};
 ghost use Rattle.level_merge.specs.Outputs.{IsCloseFault, last_row};
 ghost use Rattle.key_base.specs.Limits.{max_level, max_tables};
 ghost use Rattle.level_merge.specs.declared.fault.JobFault.TheVariants.{Memory};
@@ -52,9 +52,9 @@ pub struct Job<'m, F: RangeFilter> {
 }
 
 impl<'m, F: RangeFilter> Model for Job<'m, F> {
-    ghost use Rattle.level_merge.specs.Merging.{IsMerging, Merging};
+    ghost use Rattle.level_merge.specs.JobValue.{IsMerging, JobValue};
 
-    ghost Value = { Merging };
+    ghost Value = { JobValue };
 
     ghost view = { λ j. record {
       merge = j.rows;
@@ -157,8 +157,8 @@ impl<'m, F: RangeFilter> Job<'m, F> {
     ) -> Result<Sliced, JobFault>
         requires some { 0 < blocks }
         requires there { AreNumbersIn tables.now.tables (numbers self.old.merge.walks) }
-        ensures slices { SlicesMerge F.spelling F.built_cutoff D.tells blocks tables.now.tables self.old self.new extents.old extents.new result (D.world disk.old) (D.world disk.new) }
-        ensures follows { IsTrue D.tells → SliceFollows F.spelling (filter_bytes_of F.spelling F.built_cutoff) tables.now.tables self.old self.new extents.old extents.new result (D.world disk.old) (D.world disk.new) }
+        ensures slices { SliceContract F.spelling F.built_cutoff D.tells blocks tables.now.tables self.old self.new extents.old extents.new result (D.world disk.old) (D.world disk.new) }
+        ensures follows { IsTrue D.tells → FollowsAnyJob F.spelling (filter_bytes_of F.spelling F.built_cutoff) tables.now.tables self.old self.new extents.old extents.new result (D.world disk.old) (D.world disk.new) }
     {
         self.go_on(disk, tables, extents, blocks)
     }
@@ -202,7 +202,7 @@ impl<'m, F: RangeFilter> Job<'m, F> {
     ) -> Result<Sliced, JobFault>
         requires some { 0 < blocks }
         requires there { AreNumbersIn tables.now.tables (numbers self.old.merge.walks) }
-        ensures { SlicesMerge F.spelling F.built_cutoff D.tells blocks tables.now.tables self.old self.new extents.old extents.new result (D.world disk.old) (D.world disk.new) }
+        ensures { SliceContract F.spelling F.built_cutoff D.tells blocks tables.now.tables self.old self.new extents.old extents.new result (D.world disk.old) (D.world disk.new) }
     {
         // the law of the tables: what stands is read as it is, and no read of it is damage
         standing_tables_are_read();
@@ -265,7 +265,7 @@ impl<'m, F: RangeFilter> Job<'m, F> {
         ensures merge { self.new.merge ≡ self.old.merge }
         ensures same { (self.new.output ≡ self.old.output) × (self.new.settings ≡ self.old.settings) }
         ensures closed { OnOk result (Closes F.spelling F.built_cutoff self.old self.new extents.old extents.new (last_row self.new.outputs)) }
-        ensures stands { IsTrue D.tells → OnOk result (Now (IsHeld F.spelling self.old.settings (made_opened F.built_cutoff self.old (last_row self.new.outputs)) (made_table F.spelling F.built_cutoff self.old (last_row self.new.outputs).first_page)) (D.world disk.new)) }
+        ensures stands { IsTrue D.tells → OnOk result (Now (TableAgrees F.spelling self.old.settings (made_opened F.built_cutoff self.old (last_row self.new.outputs)) (made_table F.spelling F.built_cutoff self.old (last_row self.new.outputs).first_page)) (D.world disk.new)) }
         ensures writes { WritesOutput F.spelling F.built_cutoff self.old self.new extents.old extents.new (D.world disk.old) (D.world disk.new) }
         ensures fault { IfErr result (IsCloseFault (need_of F.spelling F.built_cutoff self.old) extents.old (D.world disk.old) (D.world disk.new)) }
     {

@@ -3,8 +3,8 @@ ghost use Rattle.std.specs.Prelude.{◌≡◌, ◌≢◌, ◌<◌, ◌≤◌, �
 ghost use Rattle.block_model.specs.Order.{Follow, is_any};
 ghost use Rattle.disk_trait.specs.World.{ReadMoves};
 ghost use Rattle.entry_model.specs.Entries.{IsEntry, keys_of};
-ghost use Rattle.level_merge.specs.Merging.{IsBuilding, at_hand, is_full};
-ghost use Rattle.level_merge.specs.Slices.{FillsOutput, IsStop, IsTakeFault, KeepsRows};
+ghost use Rattle.level_merge.specs.JobValue.{IsBuilding, at_hand, is_full};
+ghost use Rattle.level_merge.specs.SliceSteps.{FillsOutput, IsStop, IsTakeFault, KeepsRows};
 ghost use Rattle.level_merge.specs.declared.fault.JobFault.TheVariants.{Memory};
 ghost use Rattle.merge_rows.specs.Reads.{OnlyReads, blocks_left, wanted};
 ghost use Rattle.merge_rows.specs.Steps.{AreCaughtUp, AreHeadsClear, AreNumbersIn, IsSoundMerge, SourcesStay, numbers};
@@ -85,9 +85,9 @@ fn read_ahead<'m, F: RangeFilter, D: Disk>(
     ensures within { IfOk result (λ left. left ≤ blocks) }
     ensures fewer { OnOk result (blocks_left tables.now.tables rows.new.walks ≤ blocks_left tables.now.tables rows.old.walks) }
     ensures some { IfOk result (λ left. left < blocks → blocks_left tables.now.tables rows.new.walks < blocks_left tables.now.tables rows.old.walks) }
-    ensures ready { IsTrue D.tells → IsSoundMerge rows.old tables.now.tables (D.world disk.old).seen.held → IfOk result (λ left. 0 < left → wanted rows.new tables.now.tables ≡ 0) }
-    ensures clear { IfOk result (λ left. 0 < left → AreHeadsClear rows.new.floor rows.new.walks) }
-    ensures caught { IsTrue D.tells → IfOk result (λ left. 0 < left → AreCaughtUp rows.new.floor tables.now.tables (D.world disk.old).seen.held rows.new.walks) }
+    ensures none_wanted { IsTrue D.tells → IsSoundMerge rows.old tables.now.tables (D.world disk.old).seen.held → IfOk result (λ left. 0 < left → wanted rows.new tables.now.tables ≡ 0) }
+    ensures heads_pass { IfOk result (λ left. 0 < left → AreHeadsClear rows.new.floor rows.new.walks) }
+    ensures caught_up { IsTrue D.tells → IfOk result (λ left. 0 < left → AreCaughtUp rows.new.floor tables.now.tables (D.world disk.old).seen.held rows.new.walks) }
     ensures fault { IfErr result (IsTakeFault D.tells tables.now.tables (numbers rows.old.walks) (D.world disk.old) (D.world disk.new)) }
     ensures met { IsTrue D.tells → IsSoundMerge rows.old tables.now.tables (D.world disk.old).seen.held → OnErr result (1 ≤ blocks_left tables.now.tables rows.old.walks) }
     ensures moves { OnlyReads (D.world disk.old) (D.world disk.new) }

@@ -9,8 +9,8 @@ use Rattle.extent_model.specs.Extents.{Extent}
 use Rattle.filter_api.specs.Spellings.{Spelling}
 use Rattle.filter_api.specs.declared.settings.Settings.{Settings}
 use Rattle.image_model.specs.Stands.{settings_of}
-use Rattle.level_merge.specs.Held.{AreHeld}
-use Rattle.level_merge.specs.Merging.{Merging}
+use Rattle.level_merge.specs.TablesAgree.{TablesAgree}
+use Rattle.level_merge.specs.JobValue.{JobValue}
 use Rattle.manifest.specs.Manifest.{Manifest}
 use Rattle.manifest_model.specs.Rows as rows
 use Rattle.manifest_model.specs.Version.{Version}
@@ -18,9 +18,9 @@ use Rattle.state_model.specs.State.{Job, State, written_by}
 use Rattle.state_model.specs.Taken.{extent_of, taken}
 use Rattle.table_file.specs.Opened.{Opened}
 use Rattle.table_model.specs.Tables.{FilterBytes, Table}
-use Rattle.store_core.specs.Kept.{Kept, rows_of}
+use Rattle.store_core.specs.StoreValue.{StoreValue, rows_of}
 use Rattle.store_core.specs.Running.{RunsAs, extents_with, outputs_in}
-use Rattle.store_core.specs.Tied.{IsUnder, Tied}
+use Rattle.store_core.specs.Represents.{Represents, RepresentsOn}
 use Rattle.store_core.proofs.Taken.{rows_extents}
 
 pub record Agree (v : Version) (outputs : List Row) (s : State) : Type 0 where
@@ -31,7 +31,7 @@ pub record Agree (v : Version) (outputs : List Row) (s : State) : Type 0 where
   pub many : length s.tables ≡ length v.rows
 
 -- the extents of tables are those of the rows of the open tables
-pub held_extents : (spelling : Spelling) (settings : Settings) (image : Image) (opened : List Opened) (tables : List Table) → AreHeld spelling settings opened tables image
+pub held_extents : (spelling : Spelling) (settings : Settings) (image : Image) (opened : List Opened) (tables : List Table) → TablesAgree spelling settings opened tables image
     → map extent_of tables ≡ map rows.extent_of (rows_of opened)
 held_extents spelling settings image [] [] held = refl
 held_extents spelling settings image [] (t ∷ tables) held = absurd held
@@ -40,7 +40,7 @@ held_extents spelling settings image (o ∷ opened) (t ∷ tables) held =
     ap₂ (λ (e : Extent) (more : List Extent). e ∷ more) (ap extent_of held.0.table_is) (held_extents spelling settings image opened tables held.1)
 
 -- and those of what a job has written are those of the outputs
-pub written_extents : (spelling : Spelling) (s : State) (image : Image) (opened : List Opened) (running : Option Merging) (job : Option Job) → RunsAs spelling opened running s job image
+pub written_extents : (spelling : Spelling) (s : State) (image : Image) (opened : List Opened) (running : Option JobValue) (job : Option Job) → RunsAs spelling opened running s job image
     → map extent_of (written_by job) ≡ map rows.extent_of (outputs_in running)
 written_extents spelling s image opened None None runs = refl
 written_extents spelling s image opened None (Some job) runs = absurd runs
@@ -55,7 +55,7 @@ taken_parts s none_kept =
     ∙ ap (λ (ts : List Table). map extent_of ts) (append-nil (s.tables ++ written_by s.job))
     ∙ map-append extent_of s.tables (written_by s.job)
 
-pub agree : (spelling : Spelling) (m : Manifest) (opened : List Opened) (running : Option Merging) (s : State) (image : Image) → s.kept ≡ [] → IsUnder spelling m opened running s image
+pub agree : (spelling : Spelling) (m : Manifest) (opened : List Opened) (running : Option JobValue) (s : State) (image : Image) → s.kept ≡ [] → RepresentsOn spelling m opened running s image
     → Agree m.version (outputs_in running) s
 agree spelling m opened running s image none_kept under =
     let named = under.ready.named in
@@ -71,6 +71,6 @@ agree spelling m opened running s image none_kept under =
     }
 
 -- by the image that the device holds
-pub tied_agree : (spelling : Spelling) (bytes : FilterBytes) (store : Kept) (s : State) (w : World) → w.leaves w.moment w.seen.held → Tied spelling bytes store s w
+pub tied_agree : (spelling : Spelling) (bytes : FilterBytes) (store : StoreValue) (s : State) (w : World) → w.leaves w.moment w.seen.held → Represents spelling bytes store s w
     → Agree store.manifest.version (outputs_in store.job) s
 tied_agree spelling bytes store s w current tied = agree spelling store.manifest store.tables store.job s w.seen.held tied.none_kept (tied.images w.seen.held current)

@@ -20,9 +20,9 @@ use Rattle.state_model.specs.State.{State, without_job}
 use Rattle.state_model.specs.Steps.{Answer, Step, TakesMemory, Writes, answer, answer_within, answers, done_or_refused, left_by, no_memory, unless_limit, write_failed}
 use Rattle.state_model.specs.View.{state_map}
 use Rattle.table_model.specs.Tables.{FilterBytes}
-use Rattle.store_core.specs.Answers.{Answered, HasCause, IsFailure, IsWriteRefusal, Turns, Wrote, refused, stopped_by, told, told_change, turns}
-use Rattle.store_core.specs.Kept.{Kept}
-use Rattle.store_core.specs.Tied.{Tied}
+use Rattle.store_core.specs.Answers.{AnswersRequest, HasCause, IsFailure, IsWriteRefusal, MovesTo, WroteEntry, refused, stopped_by, told, told_change, turns}
+use Rattle.store_core.specs.StoreValue.{StoreValue}
+use Rattle.store_core.specs.Represents.{Represents}
 use Rattle.store_core.specs.declared.error.StoreError.{StoreError}
 use Rattle.store_core.specs.declared.error.StoreError.TheVariants as error
 
@@ -35,8 +35,8 @@ module _ (spelling : Spelling) (bytes : FilterBytes) (s : State) (request : Requ
   Cause = HasCause a b
 
   -- the answer of the state
-  as_answered : (result : Reply) (to : State) → answer bytes s request ≡ (result, to) → (told_as : Option Reply) → told_as ≡ Some result → (store : Kept)
-      → Meanwhile (Both to) a b → (store.stopped ≡ false → Tied spelling bytes store to b) → Answered spelling bytes s request told_as store a b
+  as_answered : (result : Reply) (to : State) → answer bytes s request ≡ (result, to) → (told_as : Option Reply) → told_as ≡ Some result → (store : StoreValue)
+      → Meanwhile (Both to) a b → (store.stopped ≡ false → Represents spelling bytes store to b) → AnswersRequest spelling bytes s request told_as store a b
   as_answered result to is told_as told_is store meanwhile tied = record {
     reply = result;
     told_is = told_is;
@@ -48,7 +48,7 @@ module _ (spelling : Spelling) (bytes : FilterBytes) (s : State) (request : Requ
 
   -- a failure that the state does not explain, and what it leaves
   as_failed_in : (left : State) (result : Reply) → Step Cause bytes s request result left → (to : State) → (answer bytes s request).1 ≡ to → (told_as : Option Reply) → told_as ≡ Some result
-      → (store : Kept) → Meanwhile (Both to) a b → (store.stopped ≡ false → Tied spelling bytes store left b) → Answered spelling bytes s request told_as store a b
+      → (store : StoreValue) → Meanwhile (Both to) a b → (store.stopped ≡ false → Represents spelling bytes store left b) → AnswersRequest spelling bytes s request told_as store a b
   as_failed_in left result step to is told_as told_is store meanwhile tied = record {
     reply = result;
     told_is = told_is;
@@ -59,19 +59,19 @@ module _ (spelling : Spelling) (bytes : FilterBytes) (s : State) (request : Requ
   }
 
   -- one that leaves the state
-  as_failed : (result : Reply) → Step Cause bytes s request result s → (to : State) → (answer bytes s request).1 ≡ to → (told_as : Option Reply) → told_as ≡ Some result → (store : Kept)
-      → Meanwhile (Both to) a b → (store.stopped ≡ false → Tied spelling bytes store s b) → Answered spelling bytes s request told_as store a b
+  as_failed : (result : Reply) → Step Cause bytes s request result s → (to : State) → (answer bytes s request).1 ≡ to → (told_as : Option Reply) → told_as ≡ Some result → (store : StoreValue)
+      → Meanwhile (Both to) a b → (store.stopped ≡ false → Represents spelling bytes store s b) → AnswersRequest spelling bytes s request told_as store a b
   as_failed result step to is told_as told_is store meanwhile tied = as_failed_in s result step to is told_as told_is store meanwhile tied
 
   -- the first of a limit that is broken
-  pub limited : (limit : Reply) → limit_of request ≡ Some limit → (told_as : Option Reply) → told_as ≡ Some limit → (store : Kept)
-      → Meanwhile (StandsForMap spelling (state_map s)) a b → Tied spelling bytes store s b → Answered spelling bytes s request told_as store a b
+  pub limited : (limit : Reply) → limit_of request ≡ Some limit → (told_as : Option Reply) → told_as ≡ Some limit → (store : StoreValue)
+      → Meanwhile (StandsForMap spelling (state_map s)) a b → Represents spelling bytes store s b → AnswersRequest spelling bytes s request told_as store a b
   limited limit broken told_as told_is store meanwhile tied =
       as_answered limit s (ap (λ (o : Option Reply). unless_limit o s (answer_within bytes s request)) broken) told_as told_is store
       (meanwhile_weaker _ _ a b meanwhile (λ image map. inl map)) (λ _. tied)
 
   -- a request that breaks no limit, and is a change
-  module _ {T : Type 0} (change : Result State Reply) (result : Result T StoreError) (store : Kept) (free : limit_of request ≡ None)
+  module _ {T : Type 0} (change : Result State Reply) (result : Result T StoreError) (store : StoreValue) (free : limit_of request ≡ None)
       (is : answer_within bytes s request ≡ done_or_refused s change) (left : left_by request s ≡ s) (takes : IsErr result → TakesMemory s request)
       (writes : IsErr result → (to : State) → change ≡ Ok to → Writes bytes s request) (sound : IsLeft bytes s (without_job s)) (stopped : store.stopped ≡ stopped_by result)
       (cause : IfErr result (IsWriteRefusal false None a b)) where
@@ -92,7 +92,7 @@ module _ (spelling : Spelling) (bytes : FilterBytes) (s : State) (request : Requ
     step_failed failed to made rose = write_failed (without_job s) free (writes failed to made) rose sound (inl refl)
 
     by_result : (r : Result T StoreError) → r ≡ result → (to : State) → change ≡ Ok to → IfErr r IsFailure → IfErr r (IsWriteRefusal false None a b)
-        → Turns spelling bytes s to r store a b → Answered spelling bytes s request (told_change r) store a b
+        → MovesTo spelling bytes s to r store a b → AnswersRequest spelling bytes s request (told_change r) store a b
     by_result (Ok x) same to made fails why t = as_answered reply.Done to (done_is to made) (Some reply.Done) refl store t.meanwhile (λ _. t.done)
     by_result (Err error.Memory) same to made fails why t =
         as_failed reply.Memory (step_memory (subst IsErr same refl)) to (ap (λ (p : Answer). p.1) (done_is to made)) (Some reply.Memory) refl store t.meanwhile t.refused
@@ -108,19 +108,19 @@ module _ (spelling : Spelling) (bytes : FilterBytes) (s : State) (request : Requ
     by_result (Err (error.BadSettings field)) same to made fails why t = absurd fails
 
     by_refusal : (why : Reply) → change ≡ Err why → IsErr result → (told_change result ≡ Some why) ⊎ (told_change result ≡ Some reply.Memory)
-        → Tied spelling bytes store s b → Meanwhile (StandsForMap spelling (state_map s)) a b → Answered spelling bytes s request (told_change result) store a b
+        → Represents spelling bytes store s b → Meanwhile (StandsForMap spelling (state_map s)) a b → AnswersRequest spelling bytes s request (told_change result) store a b
     by_refusal why made failed (inl told_is) tied meanwhile =
         as_answered why s (refused_is why made) (told_change result) told_is store (meanwhile_weaker _ _ a b meanwhile (λ image map. inl map)) (λ _. tied)
     by_refusal why made failed (inr told_is) tied meanwhile =
         as_failed reply.Memory (step_memory failed) s (ap (λ (p : Answer). p.1) (refused_is why made)) (told_change result) told_is store
         (meanwhile_weaker _ _ a b meanwhile (λ image map. inl map)) (λ _. tied)
 
-    pub wrote_answers : Wrote spelling bytes s change result store a b → Answered spelling bytes s request (told_change result) store a b
+    pub wrote_answers : WroteEntry spelling bytes s change result store a b → AnswersRequest spelling bytes s request (told_change result) store a b
     wrote_answers (turns to made fails t) = by_result result refl to made fails cause t
     wrote_answers (refused why made failed told_is tied meanwhile) = by_refusal why made failed told_is tied meanwhile
 
 -- what stands as it stood is left, but for the job
-pub is_left : (spelling : Spelling) (bytes : FilterBytes) (store : Kept) (s : State) (w : World) → Tied spelling bytes store s w → IsLeft bytes s (without_job s)
+pub is_left : (spelling : Spelling) (bytes : FilterBytes) (store : StoreValue) (s : State) (w : World) → Represents spelling bytes store s w → IsLeft bytes s (without_job s)
 is_left spelling bytes store s w tied = record { settings = refl; pages = refl; no_job = refl; sound = drop_sound bytes s tied.sound }
 
 -- what an error has

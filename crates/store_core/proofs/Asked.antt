@@ -15,12 +15,12 @@ use Rattle.map_model.specs.SortedMap.{Bytes}
 use Rattle.state_model.specs.Bounds.{get_bound, searched, unless_found}
 use Rattle.state_model.specs.State.{State}
 use Rattle.state_model.specs.View.{first_found, memory, view}
-use Rattle.store_core.specs.Caching.{AreNumbered, AreTrue, Cached, unkept}
+use Rattle.store_core.specs.Caching.{AreNumbered, CacheAgrees, Cached, unkept}
 use Rattle.store_core.specs.Faults.{of_table_fault}
 use Rattle.store_core.specs.Getting.{GetsKey, IsFaultIn, IsGetRefusal, IsLookFault, IsMet, IsShown, IsUndamaged, entries_by_table, said_at, said_in, unkept_bound}
-use Rattle.store_core.specs.Kept.{IsWhole, Kept}
-use Rattle.level_merge.specs.Held.{AreHeld}
-use Rattle.store_core.specs.Tied.{Tied}
+use Rattle.store_core.specs.StoreValue.{IsConsistent, StoreValue}
+use Rattle.level_merge.specs.TablesAgree.{TablesAgree}
+use Rattle.store_core.specs.Represents.{Represents}
 use Rattle.store_core.specs.declared.error.StoreError.{StoreError}
 use Rattle.store_core.specs.declared.getting.Place.{Place}
 use Rattle.store_core.specs.declared.getting.Spot.{Spot}
@@ -35,7 +35,7 @@ use Rattle.table_file.specs.declared.fault.TableFault.TheVariants as table
 use Rattle.table_model.specs.Tables.{FilterBytes, Table}
 
 -- other blocks are kept, whose numbers were given
-pub whole_asked : (store : Kept) (buffer : Bytes) (blocks : Cached) → AreNumbered blocks (length store.tables) → IsWhole store → IsWhole (record store { buffer = buffer; blocks = blocks })
+pub whole_asked : (store : StoreValue) (buffer : Bytes) (blocks : Cached) → AreNumbered blocks (length store.tables) → IsConsistent store → IsConsistent (record store { buffer = buffer; blocks = blocks })
 whole_asked store buffer blocks numbered whole = record {
   version = whole.version;
   slot = whole.slot;
@@ -47,11 +47,11 @@ whole_asked store buffer blocks numbered whole = record {
 }
 
 -- and they say what their tables say
-pub tied_asked : (spelling : Spelling) (bytes : FilterBytes) (store after : Kept) (s : State) (n : ℕ) (a b : World) → after ≡ record store { buffer = after.buffer; blocks = after.blocks }
-    → ReadMoves n a b → AreTrue after.blocks store.tables s.tables → Tied spelling bytes store s a → Tied spelling bytes after s b
+pub tied_asked : (spelling : Spelling) (bytes : FilterBytes) (store after : StoreValue) (s : State) (n : ℕ) (a b : World) → after ≡ record store { buffer = after.buffer; blocks = after.blocks }
+    → ReadMoves n a b → CacheAgrees after.blocks store.tables s.tables → Represents spelling bytes store s a → Represents spelling bytes after s b
 tied_asked spelling bytes store after s n a b same moves says tied =
     let read = tied_read spelling bytes store s a b n moves tied in
-    subst (λ (k : Kept). Tied spelling bytes k s b) (sym same)
+    subst (λ (k : StoreValue). Represents spelling bytes k s b) (sym same)
     (record { sound = read.sound; none_kept = read.none_kept; images = read.images; log = read.log; memory = read.memory; blocks = says })
 
 -- ---- where nothing of the key is in memory
@@ -65,8 +65,8 @@ pub written_whole : (n : ℕ) (bytes rest : Bytes) → length bytes ≡ n → ta
 written_whole n bytes rest is = ap (λ (k : ℕ). take k (bytes ++ rest)) (sym is) ∙ take-append_seam bytes rest
 
 -- the tables say it, or a block that was kept of them
-pub found_view : (place : Place) (after : Kept) (s : State) (key : Bytes) (found : Option Spot) (buffer : Bytes) (kept : List KeptBlock)
-    → ((store : Kept) (k : Bytes) → said_at place store k ≡ said_in found store.buffer store.blocks.kept k) → after.buffer ≡ buffer → after.blocks.kept ≡ kept → lookup (memory s) key ≡ None
+pub found_view : (place : Place) (after : StoreValue) (s : State) (key : Bytes) (found : Option Spot) (buffer : Bytes) (kept : List KeptBlock)
+    → ((store : StoreValue) (k : Bytes) → said_at place store k ≡ said_in found store.buffer store.blocks.kept k) → after.buffer ≡ buffer → after.blocks.kept ≡ kept → lookup (memory s) key ≡ None
     → said_in found buffer kept key ≡ first_found (entries_by_table s.tables) key → said_at place after key ≡ view s key
 found_view place after s key found buffer kept said buffer_is kept_is none is =
     said after key ∙ ap (λ (b : Bytes). said_in found b after.blocks.kept key) buffer_is ∙ ap (λ (l : List KeptBlock). said_in found buffer l key) kept_is
@@ -75,7 +75,7 @@ found_view place after s key found buffer kept said buffer_is kept_is none is =
 -- ---- how many blocks are read
 
 -- none that is kept
-unkept_read : (store : Kept) (s : State) (key : Bytes) (blocks : Cached) (opened : List Opened) (reads after : ℕ) → store.blocks ≡ blocks → store.tables ≡ opened → lookup (memory s) key ≡ None
+unkept_read : (store : StoreValue) (s : State) (key : Bytes) (blocks : Cached) (opened : List Opened) (reads after : ℕ) → store.blocks ≡ blocks → store.tables ≡ opened → lookup (memory s) key ≡ None
     → after ≤ reads + unkept blocks key opened s.tables → after ≤ reads + unkept_bound store s key
 unkept_read store s key blocks opened reads after same_blocks same_tables none le =
     let is : unkept_bound store s key ≡ unkept blocks key opened s.tables =
@@ -102,23 +102,23 @@ refused_fault (table.Damaged d) stopped key a b runs limit is = (runs, limit)
 
 -- ---- the key was looked for in these tables, of which these blocks are kept
 
-module _ (spelling : Spelling) (filter_bytes : FilterBytes) (tells : Bool) (store : Kept) (key : Bytes) (opened : List Opened) (blocks : Cached) (a b : World)
+module _ (spelling : Spelling) (filter_bytes : FilterBytes) (tells : Bool) (store : StoreValue) (key : Bytes) (opened : List Opened) (blocks : Cached) (a b : World)
     (same_tables : opened ≡ store.tables) (same_blocks : blocks ≡ store.blocks) (current : IsTrue tells → a.leaves a.moment a.seen.held) where
-  pub held_of : (s : State) → IsTrue tells → Tied spelling filter_bytes store s a → AreHeld spelling s.settings opened s.tables a.seen.held
-  held_of s t tied = subst (λ (ts : List Opened). AreHeld spelling s.settings ts s.tables a.seen.held) (sym same_tables) (tied.images a.seen.held (current t)).tables
+  pub held_of : (s : State) → IsTrue tells → Represents spelling filter_bytes store s a → TablesAgree spelling s.settings opened s.tables a.seen.held
+  held_of s t tied = subst (λ (ts : List Opened). TablesAgree spelling s.settings ts s.tables a.seen.held) (sym same_tables) (tied.images a.seen.held (current t)).tables
 
-  pub true_of : (s : State) → Tied spelling filter_bytes store s a → AreTrue blocks opened s.tables
-  true_of s tied = subst (λ (c : Cached). AreTrue c opened s.tables) (sym same_blocks) (subst (λ (ts : List Opened). AreTrue store.blocks ts s.tables) (sym same_tables) tied.blocks)
+  pub true_of : (s : State) → Represents spelling filter_bytes store s a → CacheAgrees blocks opened s.tables
+  true_of s tied = subst (λ (c : Cached). CacheAgrees c opened s.tables) (sym same_blocks) (subst (λ (ts : List Opened). CacheAgrees store.blocks ts s.tables) (sym same_tables) tied.blocks)
 
   module _ (runs : store.stopped ≡ false) (limit : key_limit key ≡ None) (none : (s : State) → store.memory.entries ≡ memory s → lookup (memory s) key ≡ None) (moves : ReadMoves (length opened) a b)
-      (within : (settings : Settings) (states : List Table) → IsTrue tells → AreHeld spelling settings opened states a.seen.held → AreTrue blocks opened states
+      (within : (settings : Settings) (states : List Table) → IsTrue tells → TablesAgree spelling settings opened states a.seen.held → CacheAgrees blocks opened states
       → b.seen.reads ≤ a.seen.reads + searched settings key states)
-      (bounded : (settings : Settings) (states : List Table) → IsTrue tells → AreHeld spelling settings opened states a.seen.held → AreTrue blocks opened states
+      (bounded : (settings : Settings) (states : List Table) → IsTrue tells → TablesAgree spelling settings opened states a.seen.held → CacheAgrees blocks opened states
       → b.seen.reads ≤ a.seen.reads + unkept blocks key opened states) where
-    bounded_of : (s : State) → IsTrue tells → Tied spelling filter_bytes store s a → b.seen.reads ≤ a.seen.reads + get_bound s key
+    bounded_of : (s : State) → IsTrue tells → Represents spelling filter_bytes store s a → b.seen.reads ≤ a.seen.reads + get_bound s key
     bounded_of s t tied = omega (arith, within s.settings s.tables t (held_of s t tied) (true_of s tied), bound_is s key (none s tied.memory))
 
-    unkept_of : (s : State) → IsTrue tells → Tied spelling filter_bytes store s a → b.seen.reads ≤ a.seen.reads + unkept_bound store s key
+    unkept_of : (s : State) → IsTrue tells → Represents spelling filter_bytes store s a → b.seen.reads ≤ a.seen.reads + unkept_bound store s key
     unkept_of s t tied =
         unkept_read store s key blocks opened a.seen.reads b.seen.reads (sym same_blocks) (sym same_tables) (none s tied.memory) (bounded s.settings s.tables t (held_of s t tied) (true_of s tied))
 
@@ -132,30 +132,30 @@ module _ (spelling : Spelling) (filter_bytes : FilterBytes) (tells : Bool) (stor
     gets_found found = record {
       undamaged = λ s t tied. tt;
       shown = λ t. tt;
-      met = λ s t tied. tt;
+      only_if_read = λ s t tied. tt;
       refused = (runs, limit);
       bounded = bounded_of;
       unkept = unkept_of;
-      still = still_of;
+      no_call = still_of;
       moves = moves_of;
     }
 
     -- and a table could not be looked through
     pub gets_refused : {T : Type 0} (r : Result T StoreError) (f : TableFault) → IsErrAnd r (λ why. why ≡ of_table_fault f)
-        → ((settings : Settings) (states : List Table) → IsTrue tells → AreHeld spelling settings opened states a.seen.held → IsNoDamage f)
+        → ((settings : Settings) (states : List Table) → IsTrue tells → TablesAgree spelling settings opened states a.seen.held → IsNoDamage f)
         → (IsTrue tells → IsFaultIn opened key a.seen.held f)
-        → ((settings : Settings) (states : List Table) → IsTrue tells → AreHeld spelling settings opened states a.seen.held → AreTrue blocks opened states → 1 ≤ searched settings key states)
+        → ((settings : Settings) (states : List Table) → IsTrue tells → TablesAgree spelling settings opened states a.seen.held → CacheAgrees blocks opened states → 1 ≤ searched settings key states)
         → IsLookFault a b f → GetsKey spelling filter_bytes tells store key r a b
     gets_refused (Ok v) f told undamaged shown met cause = absurd told
     gets_refused (Err e) f told undamaged shown met cause = record {
       undamaged = λ s t tied. subst IsUndamaged (sym told) (undamaged_fault f (undamaged s.settings s.tables t (held_of s t tied)));
       shown = λ t. subst (IsShown store.tables key a.seen.held) (sym told) (told_fault store.tables key a.seen.held f (subst (λ (ts : List Opened). IsFaultIn ts key a.seen.held f) same_tables (shown t)));
-      met = λ s t tied.
+      only_if_read = λ s t tied.
           let some = met s.settings s.tables t (held_of s t tied) (true_of s tied) in
           subst (IsMet (get_bound s key)) (sym told) (met_fault f (get_bound s key) (omega (arith, some, bound_is s key (none s tied.memory))));
       refused = subst (IsGetRefusal store.stopped key a b) (sym told) (refused_fault f store.stopped key a b runs limit cause);
       bounded = bounded_of;
       unkept = unkept_of;
-      still = still_of;
+      no_call = still_of;
       moves = moves_of;
     }

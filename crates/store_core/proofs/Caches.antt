@@ -6,7 +6,7 @@ use Rattle.block_cache.proofs.Gives.{by_place, found_here, not_found_here, get_s
 use Rattle.block_cache.proofs.Places.{same_place}
 use Rattle.block_model.specs.BlockReading.{block_fault}
 use Rattle.map_model.specs.SortedMap.{Bytes}
-use Rattle.store_core.specs.Caching.{AreNumbered, AreSame, AreSound, AreTrue, Cached, IsFirst, IsTrueOf, MayKeep, cache_number, none_cached, past_cache, renumbered}
+use Rattle.store_core.specs.Caching.{AreNumbered, AreSame, AreSound, BlockAgrees, CacheAgrees, Cached, IsFirst, MayKeep, cache_number, none_cached, past_cache, renumbered}
 use Rattle.table_file.specs.Opened.{Opened}
 use Rattle.table_model.specs.Tables.{Table}
 
@@ -109,38 +109,38 @@ none_sound place bytes is = cc
 pub none_numbered : (tables : ℕ) → AreNumbered none_cached tables
 none_numbered tables place bytes is = cc
 
-pub none_true : (opened : List Opened) (tables : List Table) → AreTrue none_cached opened tables
+pub none_true : (opened : List Opened) (tables : List Table) → CacheAgrees none_cached opened tables
 none_true opened tables place bytes is = cc
 
 -- ---- what kept blocks say
 
-pub true_same : (old new : Cached) (opened : List Opened) (tables : List Table) → AreSame old new → AreTrue old opened tables → AreTrue new opened tables
+pub true_same : (old new : Cached) (opened : List Opened) (tables : List Table) → AreSame old new → CacheAgrees old opened tables → CacheAgrees new opened tables
 true_same old new opened tables same are place bytes is =
-    subst (λ (n : ℕ). IsTrueOf n place bytes opened tables) (sym same.first) (are place bytes (sym (same.kept place) ∙ is))
+    subst (λ (n : ℕ). BlockAgrees n place bytes opened tables) (sym same.first) (are place bytes (sym (same.kept place) ∙ is))
 
 pub true_kept : (place : BlockPlace) (bytes : Bytes) (old new : Cached) (opened : List Opened) (tables : List Table) → MayKeep place bytes old new
-    → (place.0 < past_cache → IsTrueOf old.first place bytes opened tables) → AreTrue old opened tables → AreTrue new opened tables
-true_kept place bytes old new opened tables (inl same) is are = subst (λ (c : Cached). AreTrue c opened tables) (sym same) are
+    → (place.0 < past_cache → BlockAgrees old.first place bytes opened tables) → CacheAgrees old opened tables → CacheAgrees new opened tables
+true_kept place bytes old new opened tables (inl same) is are = subst (λ (c : Cached). CacheAgrees c opened tables) (sym same) are
 true_kept place bytes old new opened tables (inr more) is are =
-    subst (λ (c : Cached). AreTrue c opened tables) (sym more.1) (with_each place bytes old.kept (λ p b. IsTrueOf old.first p b opened tables) (is more.0) are)
+    subst (λ (c : Cached). CacheAgrees c opened tables) (sym more.1) (with_each place bytes old.kept (λ p b. BlockAgrees old.first p b opened tables) (is more.0) are)
 
 -- none of the tables has a number that is past all of theirs
-pub true_past : (first : ℕ) (place : BlockPlace) (bytes : Bytes) (opened : List Opened) (tables : List Table) → first + length opened ≤ place.0 → IsTrueOf first place bytes opened tables
+pub true_past : (first : ℕ) (place : BlockPlace) (bytes : Bytes) (opened : List Opened) (tables : List Table) → first + length opened ≤ place.0 → BlockAgrees first place bytes opened tables
 true_past first place bytes [] tables past = tt
 true_past first place bytes (o ∷ more) [] past = tt
 true_past first place bytes (o ∷ more) (t ∷ tables) past =
     ((λ is. absurd (omega (arith, is, past, number_to first (length more)))), true_past first place bytes more tables (omega (arith, past)))
 
 -- nor one before them
-true_before : (first : ℕ) (place : BlockPlace) (bytes : Bytes) (opened : List Opened) (tables : List Table) → place.0 < first → place.0 < past_cache → IsTrueOf first place bytes opened tables
+true_before : (first : ℕ) (place : BlockPlace) (bytes : Bytes) (opened : List Opened) (tables : List Table) → place.0 < first → place.0 < past_cache → BlockAgrees first place bytes opened tables
 true_before first place bytes [] tables before small = tt
 true_before first place bytes (o ∷ more) [] before small = tt
 true_before first place bytes (o ∷ more) (t ∷ tables) before small =
     ((λ is. absurd (omega (arith, is, before, small))), true_before first place bytes more tables before small)
 
 -- a table in front has a number of its own
-pub true_in_front : (blocks : Cached) (o : Opened) (more : List Opened) (t : Table) (tables : List Table) → AreNumbered blocks (length more) → AreTrue blocks more tables
-    → AreTrue blocks (o ∷ more) (t ∷ tables)
+pub true_in_front : (blocks : Cached) (o : Opened) (more : List Opened) (t : Table) (tables : List Table) → AreNumbered blocks (length more) → CacheAgrees blocks more tables
+    → CacheAgrees blocks (o ∷ more) (t ∷ tables)
 true_in_front blocks o more t tables numbered are place bytes is = ((λ same. absurd (omega (arith, same, numbered place bytes is))), are place bytes is)
 
 -- ---- numbers anew
@@ -148,7 +148,7 @@ true_in_front blocks o more t tables numbered are place bytes is = ((λ same. ab
 pub numbered_anew : (blocks : Cached) (before tables : ℕ) → AreNumbered blocks before → AreNumbered (renumbered blocks before) tables
 numbered_anew blocks before tables numbered place bytes is = omega (arith, numbered place bytes is)
 
-pub true_anew : (blocks : Cached) (before : ℕ) (opened : List Opened) (tables : List Table) → AreNumbered blocks before → AreTrue (renumbered blocks before) opened tables
+pub true_anew : (blocks : Cached) (before : ℕ) (opened : List Opened) (tables : List Table) → AreNumbered blocks before → CacheAgrees (renumbered blocks before) opened tables
 true_anew blocks before opened tables numbered place bytes is =
     let below = numbered place bytes is in
     true_before (cache_number blocks.first before) place bytes opened tables below (omega (arith, below))

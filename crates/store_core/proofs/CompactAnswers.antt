@@ -11,7 +11,7 @@ use Rattle.filter_api.specs.Spellings.{Spelling}
 use Rattle.image_model.proofs.Frames.{ready_is_state}
 use Rattle.image_model.specs.Stands.{StandsForMap}
 use Rattle.key_base.specs.Limits.{last_epoch}
-use Rattle.level_merge.specs.Held.{AreHeld}
+use Rattle.level_merge.specs.TablesAgree.{TablesAgree}
 use Rattle.line_model.specs.Replies.{LastEpoch, Reply}
 use Rattle.line_model.specs.Replies as reply
 use Rattle.line_model.specs.Requests.{Compact}
@@ -28,12 +28,12 @@ use Rattle.state_model.specs.Steps.{Answer, Step, answer, answers, done_or_refus
 use Rattle.state_model.specs.View.{entries_of, oldest_first, state_map}
 use Rattle.table_file.specs.Opened.{Opened}
 use Rattle.table_model.specs.Tables.{FilterBytes, Table}
-use Rattle.store_core.specs.Answers.{Answered, HasCause, stops, told}
+use Rattle.store_core.specs.Answers.{AnswersRequest, HasCause, stops, told}
 use Rattle.store_core.specs.Compacting.{FailsSo, IsFailedCall, IsHeldBy, IsInstalledWhole, StandAlone, compact_tables, compacted_into}
-use Rattle.store_core.specs.Caching.{AreNumbered, AreTrue, Cached}
-use Rattle.store_core.specs.Kept.{IsWhole, Kept}
+use Rattle.store_core.specs.Caching.{AreNumbered, CacheAgrees, Cached}
+use Rattle.store_core.specs.StoreValue.{IsConsistent, StoreValue}
 use Rattle.store_core.specs.Running.{MayRunIn, RunsAs}
-use Rattle.store_core.specs.Tied.{IsUnder, Tied}
+use Rattle.store_core.specs.Represents.{Represents, RepresentsOn}
 use Rattle.store_core.specs.declared.error.StoreError.{StoreError}
 use Rattle.store_core.specs.declared.error.StoreError.TheVariants as error
 use Rattle.store_core.proofs.CompactLeads.{compacted_ok, compacted_so, some_entries}
@@ -43,7 +43,7 @@ use Rattle.store_core.proofs.Frames.{are_slots}
 
 -- ---- a compaction that is begun
 
-module _ (spelling : Spelling) (bytes : FilterBytes) (store after : Kept) (s : State) (a b : World) (some : entries_of s ≢ []) (left : s.epoch ≢ last_epoch) where
+module _ (spelling : Spelling) (bytes : FilterBytes) (store after : StoreValue) (s : State) (a b : World) (some : entries_of s ≢ []) (left : s.epoch ≢ last_epoch) where
   abbrev dropped : State
   dropped = without_job s
 
@@ -65,7 +65,7 @@ module _ (spelling : Spelling) (bytes : FilterBytes) (store after : Kept) (s : S
     done_is = answer_so (Ok alone.tables) alone.placed_so
 
     pub compact_done : Meanwhile (StandsForMap spelling (state_map s)) a b → after.manifest ≡ m → after.tables ≡ opened → after.job ≡ None → after.log.filled ≡ 0 → after.memory.entries ≡ []
-        → ((tables : List Table) → AreTrue after.blocks after.tables tables) → Answered spelling bytes s Compact (Some reply.Done) after a b
+        → ((tables : List Table) → CacheAgrees after.blocks after.tables tables) → AnswersRequest spelling bytes s Compact (Some reply.Done) after a b
     compact_done meanwhile manifest_is tables_are none begun cleared are = record {
       reply = reply.Done;
       told_is = refl;
@@ -76,9 +76,9 @@ module _ (spelling : Spelling) (bytes : FilterBytes) (store after : Kept) (s : S
         sound = sound;
         none_kept = none_kept;
         images = λ image here.
-            subst (λ (j : Option _). IsUnder spelling after.manifest after.tables j (compacted_into alone.tables (without_job s)) image) (sym none)
-            (subst (λ (ts : List Opened). IsUnder spelling after.manifest ts None (compacted_into alone.tables (without_job s)) image) (sym tables_are)
-            (subst (λ (n : Manifest). IsUnder spelling n opened None (compacted_into alone.tables (without_job s)) image) (sym manifest_is) (alone.images image here)));
+            subst (λ (j : Option _). RepresentsOn spelling after.manifest after.tables j (compacted_into alone.tables (without_job s)) image) (sym none)
+            (subst (λ (ts : List Opened). RepresentsOn spelling after.manifest ts None (compacted_into alone.tables (without_job s)) image) (sym tables_are)
+            (subst (λ (n : Manifest). RepresentsOn spelling n opened None (compacted_into alone.tables (without_job s)) image) (sym manifest_is) (alone.images image here)));
         log = begun ∙ sym none_filled;
         memory = cleared;
         blocks = are alone.tables;
@@ -87,27 +87,27 @@ module _ (spelling : Spelling) (bytes : FilterBytes) (store after : Kept) (s : S
 
   -- ---- it fails
 
-  module _ (tied : Tied spelling bytes store (without_job s) a) (same_manifest : after.manifest ≡ store.manifest) (same_tables : after.tables ≡ store.tables) (same_job : after.job ≡ None) (same_log : after.log ≡ store.log)
+  module _ (tied : Represents spelling bytes store (without_job s) a) (same_manifest : after.manifest ≡ store.manifest) (same_tables : after.tables ≡ store.tables) (same_job : after.job ≡ None) (same_log : after.log ≡ store.log)
       (same_memory : after.memory ≡ store.memory) (same_blocks : after.blocks ≡ store.blocks) (meanwhile : Meanwhile (StandsForMap spelling (state_map s)) a b) where
-    tied_as : Now (IsUnder spelling store.manifest store.tables None (without_job s)) b → Tied spelling bytes after (without_job s) b
+    tied_as : Now (RepresentsOn spelling store.manifest store.tables None (without_job s)) b → Represents spelling bytes after (without_job s) b
     tied_as here = record {
       sound = tied.sound;
       none_kept = tied.none_kept;
       images = λ image left_there.
-          subst (λ (j : Option _). IsUnder spelling after.manifest after.tables j (without_job s) image) (sym same_job)
-          (subst (λ (ts : List Opened). IsUnder spelling after.manifest ts None (without_job s) image) (sym same_tables)
-          (subst (λ (n : Manifest). IsUnder spelling n store.tables None (without_job s) image) (sym same_manifest) (here image left_there)));
+          subst (λ (j : Option _). RepresentsOn spelling after.manifest after.tables j (without_job s) image) (sym same_job)
+          (subst (λ (ts : List Opened). RepresentsOn spelling after.manifest ts None (without_job s) image) (sym same_tables)
+          (subst (λ (n : Manifest). RepresentsOn spelling n store.tables None (without_job s) image) (sym same_manifest) (here image left_there)));
       log = ap (λ (p : _). p.filled) same_log ∙ tied.log;
       memory = ap (λ (m : _). m.entries) same_memory ∙ tied.memory;
-      blocks = subst (λ (b : Cached). AreTrue b after.tables s.tables) (sym same_blocks) (subst (λ (ts : List Opened). AreTrue store.blocks ts s.tables) (sym same_tables) tied.blocks);
+      blocks = subst (λ (b : Cached). CacheAgrees b after.tables s.tables) (sym same_blocks) (subst (λ (ts : List Opened). CacheAgrees store.blocks ts s.tables) (sym same_tables) tied.blocks);
     }
 
-    ties : (why : StoreError) → (stops why ≡ false → Now (IsUnder spelling store.manifest store.tables None (without_job s)) b) → after.stopped ≡ stops why
-        → after.stopped ≡ false → Tied spelling bytes after (without_job s) b
+    ties : (why : StoreError) → (stops why ≡ false → Now (RepresentsOn spelling store.manifest store.tables None (without_job s)) b) → after.stopped ≡ stops why
+        → after.stopped ≡ false → Represents spelling bytes after (without_job s) b
     ties why stays stopped runs = tied_as (stays (sym stopped ∙ runs))
 
-    call_failed : (cause : DiskFault) → IsFailedCall bytes (without_job s) a b cause → (after.stopped ≡ false → Tied spelling bytes after (without_job s) b)
-        → Answered spelling bytes s Compact (Some reply.Device) after a b
+    call_failed : (cause : DiskFault) → IsFailedCall bytes (without_job s) a b cause → (after.stopped ≡ false → Represents spelling bytes after (without_job s) b)
+        → AnswersRequest spelling bytes s Compact (Some reply.Device) after a b
     call_failed cause (inl read) ties_so = record {
       reply = reply.Device;
       told_is = refl;
@@ -129,7 +129,7 @@ module _ (spelling : Spelling) (bytes : FilterBytes) (store after : Kept) (s : S
     full_is need gap is = answer_so (Err (record { need = need; gap = gap })) is
 
     pub compact_failed : (why : StoreError) → FailsSo spelling bytes store.manifest store.tables (without_job s) a b why → after.stopped ≡ stops why
-        → Answered spelling bytes s Compact (told why) after a b
+        → AnswersRequest spelling bytes s Compact (told why) after a b
     compact_failed error.Memory fails stopped = record {
       reply = reply.Memory;
       told_is = refl;
@@ -156,8 +156,8 @@ module _ (spelling : Spelling) (bytes : FilterBytes) (store after : Kept) (s : S
 
 -- ---- nothing is done
 
-module _ (spelling : Spelling) (bytes : FilterBytes) (store : Kept) (s : State) (w : World) (slot : store.manifest.slot ≤ 1) (tied : Tied spelling bytes store s w) where
-  under_map : (image : Image) → IsUnder spelling store.manifest store.tables store.job s image → StandsForMap spelling (state_map s) image
+module _ (spelling : Spelling) (bytes : FilterBytes) (store : StoreValue) (s : State) (w : World) (slot : store.manifest.slot ≤ 1) (tied : Represents spelling bytes store s w) where
+  under_map : (image : Image) → RepresentsOn spelling store.manifest store.tables store.job s image → StandsForMap spelling (state_map s) image
   under_map image under = (
     s,
     (store.manifest.version, ready_is_state spelling (place_of store.manifest.slot) (other_place store.manifest.slot) store.manifest.other_open store.manifest.version s image (are_slots store.manifest.slot slot) under.ready),
@@ -169,7 +169,7 @@ module _ (spelling : Spelling) (bytes : FilterBytes) (store : Kept) (s : State) 
 
   -- on an empty store
   module _ (current : w.leaves w.moment w.seen.held) (no_memory : store.memory.entries ≡ []) (no_tables : store.tables ≡ []) where
-    no_tables_held : (opened : List Opened) (tables : List Table) → opened ≡ [] → AreHeld spelling s.settings opened tables w.seen.held → tables ≡ []
+    no_tables_held : (opened : List Opened) (tables : List Table) → opened ≡ [] → TablesAgree spelling s.settings opened tables w.seen.held → tables ≡ []
     no_tables_held [] [] none held = refl
     no_tables_held [] (t ∷ tables) none held = absurd held
     no_tables_held (o ∷ opened) tables none held = absurd cc
@@ -186,7 +186,7 @@ module _ (spelling : Spelling) (bytes : FilterBytes) (store : Kept) (s : State) 
     no_job : s.job ≡ None
     no_job = ap (λ (x : Answer). x.1.job) (sym empty_is) ∙ compaction_left bytes s (answer bytes s Compact).1 (answer bytes s Compact).0 tied.sound answers
 
-    pub compact_empty : Answered spelling bytes s Compact (Some reply.Done) (record store { job = None }) w w
+    pub compact_empty : AnswersRequest spelling bytes s Compact (Some reply.Done) (record store { job = None }) w w
     compact_empty = record {
       reply = reply.Done;
       told_is = refl;
@@ -211,10 +211,10 @@ module _ (spelling : Spelling) (bytes : FilterBytes) (store : Kept) (s : State) 
   last_with (e ∷ more) some last = ap (λ (b : Bool). cond b (Err LastEpoch) (compact_placed s (compact_tables bytes (without_job s)))) last
 
   pub compact_last : (why : StoreError) → why ≡ error.Limit Rattle.store_core.specs.declared.error.Limit.TheVariants.Epoch → entries_of s ≢ [] → (s.epoch == last_epoch) ≡ true
-      → Answered spelling bytes s Compact (told why) (record store { job = None }) w w
+      → AnswersRequest spelling bytes s Compact (told why) (record store { job = None }) w w
   compact_last why is some last =
       let answer_is : answer bytes s Compact ≡ (LastEpoch, without_job s) = ap (done_or_refused (without_job s)) (last_with (entries_of s) some last) in
-      subst (λ (e : StoreError). Answered spelling bytes s Compact (told e) (record store { job = None }) w w) (sym is) (record {
+      subst (λ (e : StoreError). AnswersRequest spelling bytes s Compact (told e) (record store { job = None }) w w) (sym is) (record {
         reply = LastEpoch;
         told_is = refl;
         after = without_job s;
@@ -226,19 +226,19 @@ module _ (spelling : Spelling) (bytes : FilterBytes) (store : Kept) (s : State) 
 -- ---- a store in which no merge runs
 
 -- on a device that stands for its state
-pub held_by : (spelling : Spelling) (bytes : FilterBytes) (store : Kept) (s : State) (w : World) → store.job ≡ None → Tied spelling bytes store (without_job s) w
+pub held_by : (spelling : Spelling) (bytes : FilterBytes) (store : StoreValue) (s : State) (w : World) → store.job ≡ None → Represents spelling bytes store (without_job s) w
     → IsHeldBy spelling bytes store.manifest store.tables store.memory.entries (without_job s) w
 held_by spelling bytes store s w none tied = record {
   sound = tied.sound;
   no_job = refl;
   none_kept = tied.none_kept;
-  images = λ image left. subst (λ (j : Option _). IsUnder spelling store.manifest store.tables j (without_job s) image) none (tied.images image left);
+  images = λ image left. subst (λ (j : Option _). RepresentsOn spelling store.manifest store.tables j (without_job s) image) none (tied.images image left);
   memory = tied.memory;
 }
 
-module _ (spelling : Spelling) (bytes : FilterBytes) (store after : Kept) (s : State) (a b : World) (none : store.job ≡ None) (tied : Tied spelling bytes store (without_job s) a) (current : a.leaves a.moment a.seen.held)
+module _ (spelling : Spelling) (bytes : FilterBytes) (store after : StoreValue) (s : State) (a b : World) (none : store.job ≡ None) (tied : Represents spelling bytes store (without_job s) a) (current : a.leaves a.moment a.seen.held)
     (premise : (store.memory.entries ≢ []) ⊎ (store.tables ≢ [])) (epoch : store.manifest.version.epoch < last_epoch) (meanwhile : Meanwhile (StandsForMap spelling (state_map s)) a b) where
-  under : IsUnder spelling store.manifest store.tables store.job (without_job s) a.seen.held
+  under : RepresentsOn spelling store.manifest store.tables store.job (without_job s) a.seen.held
   under = tied.images a.seen.held current
 
   some_are : entries_of s ≢ []
@@ -251,23 +251,23 @@ module _ (spelling : Spelling) (bytes : FilterBytes) (store after : Kept) (s : S
   is_left last = let same : s.epoch ≡ store.manifest.version.epoch = under.ready.named.epoch in absurd (omega (arith, last, same, epoch))
 
   pub answered_done : StandAlone spelling bytes (without_job s) after.manifest after.tables b → after.job ≡ None → after.log.filled ≡ 0 → after.memory.entries ≡ []
-      → ((tables : List Table) → AreTrue after.blocks after.tables tables) → Answered spelling bytes s Compact (Some reply.Done) after a b
+      → ((tables : List Table) → CacheAgrees after.blocks after.tables tables) → AnswersRequest spelling bytes s Compact (Some reply.Done) after a b
   answered_done alone gone begun cleared are =
       let sound = compacted_sound bytes (without_job s) (compacted_into alone.tables (without_job s)) tied.sound (compacted_ok bytes (without_job s) alone.tables refl some_are is_left alone.placed_so) in
       compact_done spelling bytes store after s a b some_are is_left after.manifest after.tables alone sound tied.none_kept meanwhile refl refl gone begun cleared are
 
   pub answered_failed : (why : StoreError) → FailsSo spelling bytes store.manifest store.tables (without_job s) a b why → after.stopped ≡ stops why
       → after.manifest ≡ store.manifest → after.tables ≡ store.tables → after.job ≡ None → after.log ≡ store.log → after.memory ≡ store.memory → after.blocks ≡ store.blocks
-      → Answered spelling bytes s Compact (told why) after a b
+      → AnswersRequest spelling bytes s Compact (told why) after a b
   answered_failed why fails stopped manifest_is tables_are gone log_is memory_is blocks_is =
       compact_failed spelling bytes store after s a b some_are is_left tied manifest_is tables_are gone log_is memory_is blocks_is meanwhile why fails stopped
 
 -- ---- whatever the device is
 
-pub entries_sound : (store : Kept) → IsWhole store → AllByRecursion IsEntry store.memory.entries
+pub entries_sound : (store : StoreValue) → IsConsistent store → AllByRecursion IsEntry store.memory.entries
 entries_sound store whole = subst (AllByRecursion IsEntry) (sym whole.entries.memory_is) (newest_all IsEntry whole.entries.entries whole.entries.sound)
 
-pub compacted_whole : (after : Kept) (old : Manifest) → IsInstalledWhole old after.manifest after.tables after.log → after.memory.entries ≡ [] → after.job ≡ None → AreNumbered after.blocks (length after.tables) → IsWhole after
+pub compacted_whole : (after : StoreValue) (old : Manifest) → IsInstalledWhole old after.manifest after.tables after.log → after.memory.entries ≡ [] → after.job ≡ None → AreNumbered after.blocks (length after.tables) → IsConsistent after
 compacted_whole after old is cleared gone numbered = record {
   version = is.version;
   slot = is.slot;

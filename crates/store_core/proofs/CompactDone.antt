@@ -31,9 +31,9 @@ use Rattle.store_core.specs.Answers.{is_write}
 use Rattle.store_core.specs.Compacting.{AreAllMade, AreCompact, FailsSo, IsCompactCause, IsHeldBy, IsInstalledWhole, IsWritingCause, StandAlone, compacted_manifest, first_compact_table}
 use Rattle.store_core.specs.Faults.{of_job_fault, of_manifest_fault}
 use Rattle.store_core.specs.Flushing.{installed_manifest, other_log_page}
-use Rattle.store_core.specs.Kept.{rows_of}
+use Rattle.store_core.specs.StoreValue.{rows_of}
 use Rattle.store_core.specs.Tending.{SomeMoves}
-use Rattle.store_core.specs.Tied.{IsUnder}
+use Rattle.store_core.specs.Represents.{RepresentsOn}
 use Rattle.store_core.specs.declared.error.StoreError.TheVariants as error
 use Rattle.store_core.proofs.CompactLeads as leads
 use Rattle.store_core.proofs.CompactPlaces.{all_then_first}
@@ -72,9 +72,9 @@ other_area_of v area is area_is = elim is.log_page [
 
 module _ (spelling : Spelling) (bytes : FilterBytes) (m : Manifest) (opened : List Opened) (entries : List Entry) (s : State) (a b : World) (slot : m.slot ≤ 1) (rows : rows_of opened ≡ m.version.rows)
     (is : IsVersion m.version) (epoch : m.version.epoch < last_epoch) (held : IsHeldBy spelling bytes m opened entries s a) (current : a.leaves a.moment a.seen.held)
-    (premise : (entries ≢ []) ⊎ (opened ≢ [])) (stays : Meanwhile (IsUnder spelling m opened None s) a b) where
+    (premise : (entries ≢ []) ⊎ (opened ≢ [])) (stays : Meanwhile (RepresentsOn spelling m opened None s) a b) where
   abbrev Under : Image → Type 0
-  Under = IsUnder spelling m opened None s
+  Under = RepresentsOn spelling m opened None s
 
   abbrev pub Map : Image → Type 0
   Map = StandsForMap spelling (state_map s)

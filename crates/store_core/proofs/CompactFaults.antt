@@ -9,8 +9,8 @@ use Rattle.disk_trait.proofs.Calls.{moves_joined, moves_none, moves_of_read, mov
 use Rattle.extent_map.specs.Taken.{Taken}
 use Rattle.filter_api.specs.Spellings.{Spelling}
 use Rattle.filter_model.specs.Leaves.{Leaf}
-use Rattle.level_merge.specs.Merging.{Merging}
-use Rattle.level_merge.specs.Slices.{IsMetUnwritten, IsSliceFault, SliceMoves}
+use Rattle.level_merge.specs.JobValue.{JobValue}
+use Rattle.level_merge.specs.SliceSteps.{FailsBeforeWrite, IsSliceFault, SliceMoves}
 use Rattle.level_merge.specs.declared.fault.JobFault.{JobFault}
 use Rattle.level_merge.specs.declared.fault.JobFault.TheVariants as job
 use Rattle.table_file.specs.Opened.{Opened}
@@ -30,7 +30,7 @@ none_moved bytes a = (0, moves_of_write 0 bytes 0 a a (moves_none 0 bytes a))
 pub moved_then : (bytes : ℕ) (a b c : World) → SomeMoves bytes a b → SomeMoves bytes b c → SomeMoves bytes a c
 moved_then bytes a b c first second = (first.0 + second.0, moves_joined 0 bytes first.0 second.0 a b c first.1 second.1)
 
-module _ (spelling : Spelling) (built_cutoff : ℕ → List Leaf → ℕ) (pages : ℕ) (old new : Merging) (free now : Taken) (a w x : World) (same : free.pages ≡ pages) (so_far : SomeMoves (4096 * pages) a w) where
+module _ (spelling : Spelling) (built_cutoff : ℕ → List Leaf → ℕ) (pages : ℕ) (old new : JobValue) (free now : Taken) (a w x : World) (same : free.pages ≡ pages) (so_far : SomeMoves (4096 * pages) a w) where
   one_moved : SliceMoves spelling built_cutoff old new free now w x → SomeMoves (4096 * pages) w x
   one_moved (inl is) = (is.2.0, moves_of_read 0 (4096 * pages) is.2.0 w x is.2.1)
   one_moved (inr is) =
@@ -50,7 +50,7 @@ module _ (tells : Bool) (tables : List Opened) (which : List ℕ) (bytes : ℕ) 
   writing_fault (job.Damaged damage) is = tt
   writing_fault (job.Full need gap) is = is
 
-  pub writing_shown : (why : JobFault) → IsTrue tells → IsSliceFault tells tables which w x why → IsMetUnwritten w x why → IsScanShown tables x.seen.held (of_job_fault why)
+  pub writing_shown : (why : JobFault) → IsTrue tells → IsSliceFault tells tables which w x why → FailsBeforeWrite w x why → IsScanShown tables x.seen.held (of_job_fault why)
   writing_shown job.Memory t is same = tt
   writing_shown (job.Device cause) t is same = tt
   writing_shown (job.Damaged damage) t is same = subst (λ (image : Image). IsScanShown tables image (error.Damaged damage)) (sym same) (told_block tables which w.seen.held (table.Damaged damage) (is t))

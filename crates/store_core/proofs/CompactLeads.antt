@@ -13,7 +13,7 @@ use Rattle.image_model.proofs.Frames.{other_log_apart, ready_is_state}
 use Rattle.image_model.proofs.Placed.{behind_logs}
 use Rattle.image_model.specs.Stands.{IsReady, StandsForMap}
 use Rattle.key_base.specs.Limits.{last_epoch}
-use Rattle.level_merge.specs.Held.{AreHeld}
+use Rattle.level_merge.specs.TablesAgree.{TablesAgree}
 use Rattle.log_model.specs.Area.{LogIs, start_of}
 use Rattle.manifest.specs.Manifest.{Manifest, StandsInSlot, install_of, other_place, place_of, raised}
 use Rattle.manifest_model.specs.Installs.{IsInstalled, IsOldOrNew}
@@ -33,8 +33,8 @@ use Rattle.table_file.specs.Opened.{Opened}
 use Rattle.table_model.specs.Tables.{FilterBytes, Table}
 use Rattle.store_core.specs.Compacting.{StandAlone, compact_tables, compacted_into, compacted_manifest}
 use Rattle.store_core.specs.Flushing.{installed_manifest, other_log_page}
-use Rattle.store_core.specs.Kept.{rows_of}
-use Rattle.store_core.specs.Tied.{IsUnder}
+use Rattle.store_core.specs.StoreValue.{rows_of}
+use Rattle.store_core.specs.Represents.{RepresentsOn}
 use Rattle.store_core.proofs.CompactSlices.{under_kept}
 use Rattle.store_core.proofs.Frames.{are_slots, held_kept}
 use Rattle.store_core.proofs.InstallLeads.{After, Before, install_leads}
@@ -78,7 +78,7 @@ compacted_ok bytes s tables none some other placed_so =
 
 -- ---- the images
 
-pub under_map : (spelling : Spelling) (m : Manifest) (opened : List Opened) → m.slot ≤ 1 → (s : State) (image : Image) → IsUnder spelling m opened None s image → StandsForMap spelling (state_map s) image
+pub under_map : (spelling : Spelling) (m : Manifest) (opened : List Opened) → m.slot ≤ 1 → (s : State) (image : Image) → RepresentsOn spelling m opened None s image → StandsForMap spelling (state_map s) image
 under_map spelling m opened slot s image under = (s, (m.version, ready_is_state spelling (place_of m.slot) (other_place m.slot) m.other_open m.version s image (are_slots m.slot slot) under.ready), refl)
 
 module _ (spelling : Spelling) (bytes : FilterBytes) (m : Manifest) (opened : List Opened) (slot : m.slot ≤ 1) (rows : rows_of opened ≡ m.version.rows) (s : State) (no_job : s.job ≡ None) (none_kept : s.kept ≡ [])
@@ -101,10 +101,10 @@ module _ (spelling : Spelling) (bytes : FilterBytes) (m : Manifest) (opened : Li
   to_keeps = compacted_keeps bytes s (compacted_into tables s) to_is
 
   abbrev Now_under : Image → Type 0
-  Now_under = IsUnder spelling m opened None s
+  Now_under = RepresentsOn spelling m opened None s
 
   abbrev Stand : Image → Type 0
-  Stand = AreHeld spelling s.settings made tables
+  Stand = TablesAgree spelling s.settings made tables
 
   pub to_map : (image : Image) → Now_under image → StandsForMap spelling (state_map s) image
   to_map image under = (s, (m.version, ready_is_state spelling (place_of m.slot) (other_place m.slot) m.other_open m.version s image (are_slots m.slot slot) under.ready), refl)

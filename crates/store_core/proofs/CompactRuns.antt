@@ -17,8 +17,8 @@ use Rattle.filter_api.specs.Spellings.{Spelling}
 use Rattle.filter_api.specs.declared.settings.Settings.{Settings}
 use Rattle.filter_model.specs.Leaves.{Leaf}
 use Rattle.level_merge.proofs.Begun.{numbers_below}
-use Rattle.level_merge.specs.Merging.{AreAllWritten, Merging, all_numbers, compaction}
-use Rattle.level_merge.specs.Slices.{AddsOutput, MayMakeAsMany, SliceMoves}
+use Rattle.level_merge.specs.JobValue.{AreAllWritten, JobValue, all_numbers, compaction}
+use Rattle.level_merge.specs.SliceSteps.{AddsOutput, MayMakeAsMany, SliceMoves}
 use Rattle.level_merge.specs.declared.fault.Sliced.TheVariants as sliced
 use Rattle.manifest_model.proofs.Rows.{rows_keep}
 use Rattle.manifest_model.specs.Laws.{IsVersion}
@@ -31,10 +31,10 @@ use Rattle.state_model.proofs.Places.{entries_in_pages}
 use Rattle.table_file.specs.Opened.{Opened}
 use Rattle.table_model.specs.Written.{row_for}
 use Rattle.store_core.specs.Compacting.{AreCompact}
-use Rattle.store_core.specs.Kept.{rows_of}
+use Rattle.store_core.specs.StoreValue.{rows_of}
 
 -- it reads tables that are there, and its outputs are so
-pub record IsCompacting (v : Version) (tables : List Opened) (m : Merging) (free : Taken) : Type 0 where
+pub record IsCompacting (v : Version) (tables : List Opened) (m : JobValue) (free : Taken) : Type 0 where
   pub numbers : AreNumbersIn tables (numbers m.merge.walks)
   pub written : AreAllWritten m
   pub output : m.output ≡ 6
@@ -113,7 +113,7 @@ flipped e (x ∷ xs) all = (apart_mutual e x all.0, flipped e xs all.1)
 more_extents : (rows outputs : List Row) (row : Row) → map extent_of (rows ++ (outputs ++ row ∷ [])) ≡ map extent_of (rows ++ outputs) ++ extent_of row ∷ []
 more_extents rows outputs row = ap (map extent_of) (sym (append_assoc rows outputs (row ∷ []))) ∙ map-append extent_of (rows ++ outputs) (row ∷ [])
 
-module _ (spelling : Spelling) (built_cutoff : ℕ → List Leaf → ℕ) (v : Version) (tables : List Opened) (old new : Merging) (free taken : Taken) (before after : World) (on : IsCompacting v tables old free)
+module _ (spelling : Spelling) (built_cutoff : ℕ → List Leaf → ℕ) (v : Version) (tables : List Opened) (old new : JobValue) (free taken : Taken) (before after : World) (on : IsCompacting v tables old free)
     (same_numbers : numbers new.merge.walks ≡ numbers old.merge.walks) (same_output : new.output ≡ old.output) where
   -- what is so of its outputs, however many more may come
   pub record GoesOnSo : Type 0 where

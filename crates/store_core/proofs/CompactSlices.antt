@@ -25,11 +25,11 @@ use Rattle.filter_model.specs.Leaves.{Leaf}
 use Rattle.image_model.proofs.Frames.{free_apart, ready_kept}
 use Rattle.image_model.specs.Frames.{IsApartFromReady}
 use Rattle.level_merge.specs.FollowLaws.{CompactionMakes}
-use Rattle.level_merge.specs.Held.{AreHeld}
-use Rattle.level_merge.specs.Making.{AreTakenBy, HasPlace, IsMakeRefusal, Makes, MakesOn, MakesOne, SliceMakes, merge_extents}
-use Rattle.level_merge.specs.Merging.{Merging, compaction}
+use Rattle.level_merge.specs.TablesAgree.{TablesAgree}
+use Rattle.level_merge.specs.Making.{AreTakenBy, HasPlace, IsMakeRefusal, MakesAnyOutputs, OneOutput, OutputsLeft, SliceOf, merge_extents}
+use Rattle.level_merge.specs.JobValue.{JobValue, compaction}
 use Rattle.level_merge.specs.Outputs.{extent_at}
-use Rattle.level_merge.specs.Slices.{SliceMoves}
+use Rattle.level_merge.specs.SliceSteps.{SliceMoves}
 use Rattle.level_merge.specs.declared.fault.JobFault.{JobFault}
 use Rattle.level_merge.specs.declared.fault.JobFault.TheVariants as job
 use Rattle.level_merge.specs.declared.fault.Sliced.{Sliced}
@@ -47,16 +47,16 @@ use Rattle.table_model.specs.Laws.{IsApartFromRow}
 use Rattle.table_model.specs.Tables.{FilterBytes, Table, table_of, table_pages}
 use Rattle.store_core.specs.Answers.{is_write}
 use Rattle.store_core.specs.Compacting.{AreAllMade, IsFailedCall, IsWritingCause, compact_tables, first_compact_table}
-use Rattle.store_core.specs.Kept.{rows_of}
+use Rattle.store_core.specs.StoreValue.{rows_of}
 use Rattle.store_core.specs.Running.{RunsAs}
-use Rattle.store_core.specs.Tied.{IsUnder}
+use Rattle.store_core.specs.Represents.{RepresentsOn}
 use Rattle.store_core.proofs.CompactPlaces.{all_made, behind_made, first_placed, no_place_first, place_first, placed_same}
 use Rattle.store_core.proofs.CompactRuns.{all_permuted}
 use Rattle.store_core.proofs.Frames.{are_slots, held_kept}
 
 -- ---- extents of open tables
 
-held_extents : (spelling : Spelling) (settings : Settings) (image : Image) (opened : List Opened) (tables : List Table) → AreHeld spelling settings opened tables image
+held_extents : (spelling : Spelling) (settings : Settings) (image : Image) (opened : List Opened) (tables : List Table) → TablesAgree spelling settings opened tables image
     → map extent_of tables ≡ map (λ (t : Opened). extent_at t.row) opened
 held_extents spelling settings image [] [] held = refl
 held_extents spelling settings image [] (t ∷ tables) held = absurd held
@@ -82,7 +82,7 @@ none_left : (walks : List TableWalk) → blocks_left [] walks ≡ 0
 none_left [] = refl
 none_left (w ∷ walks) = let here : blocks_left_in [] w ≡ 0 = omega arith in sum_by-cons (blocks_left_in []) w walks ∙ ap₂ (λ (a b : ℕ). a + b) here (none_left walks)
 
-pub none_open : (spelling : Spelling) (settings : Settings) (image : Image) (opened : List Opened) (tables : List Table) → AreHeld spelling settings opened tables image → tables ≡ [] → opened ≡ []
+pub none_open : (spelling : Spelling) (settings : Settings) (image : Image) (opened : List Opened) (tables : List Table) → TablesAgree spelling settings opened tables image → tables ≡ [] → opened ≡ []
 none_open spelling settings image [] tables held none = refl
 none_open spelling settings image (o ∷ opened) [] held none = absurd held
 none_open spelling settings image (o ∷ opened) (t ∷ tables) held none = absurd cc
@@ -96,18 +96,18 @@ is_write_op op.Write other = refl
 is_write_op op.Sync other = refl
 
 -- the merge of a compaction since some moment, as it goes on
-pub record IsGoing (spelling : Spelling) (bytes : FilterBytes) (mf : Manifest) (opened : List Opened) (s : State) (a w : World) (m : Merging) (free : Taken) : Type 0 where
-  pub meanwhile : Meanwhile (IsUnder spelling mf opened None s) a w
+pub record IsGoing (spelling : Spelling) (bytes : FilterBytes) (mf : Manifest) (opened : List Opened) (s : State) (a w : World) (m : JobValue) (free : Taken) : Type 0 where
+  pub meanwhile : Meanwhile (RepresentsOn spelling mf opened None s) a w
   pub left : List (List Entry)
   pub made : List Table
-  pub makes : Makes spelling opened w.seen.held m left made
+  pub makes : OutputsLeft spelling opened w.seen.held m left made
   pub settings : m.settings ≡ s.settings
   pub output : m.output ≡ 6
   pub pages : free.pages ≡ s.pages
   pub taken_are : AreTakenBy opened m.made [] free
   pub placed_so : compact_tables bytes s ≡ behind_made made (placed bytes s.settings s.pages free.extents 6 left)
   pub first : ((left ≡ outputs_for s.tables (live_entries s)) × IsPermutation free.extents (taken s)) ⊎ IsOk (first_compact_table bytes s)
-  pub lasting : Now (AreHeld spelling s.settings m.made made) w
+  pub lasting : Now (TablesAgree spelling s.settings m.made made) w
   pub reads : a.seen.read_faults ≤ w.seen.read_faults
   pub writes : a.seen.write_faults ≤ w.seen.write_faults
 
@@ -117,7 +117,7 @@ none_before (Err refusal) = refl
 
 module _ (spelling : Spelling) (bytes : FilterBytes) (m : Manifest) (opened : List Opened) (slot : m.slot ≤ 1) (rows : rows_of opened ≡ m.version.rows) (s : State) (no_job : s.job ≡ None) (none_kept : s.kept ≡ []) where
   abbrev pub Under : Image → Type 0
-  Under = IsUnder spelling m opened None s
+  Under = RepresentsOn spelling m opened None s
 
   abbrev outputs : List (List Entry)
   outputs = outputs_for s.tables (live_entries s)
@@ -137,7 +137,7 @@ module _ (spelling : Spelling) (bytes : FilterBytes) (m : Manifest) (opened : Li
   taken_is image under = taken_alone s no_job none_kept ∙ held_extents spelling s.settings image opened s.tables under.tables
 
   -- the moves of a slice keep what was under the store
-  module _ (built_cutoff : ℕ → List Leaf → ℕ) (a w x : World) (old new : Merging) (free now : Taken) (going : IsGoing spelling bytes m opened s a w old free) (held : AreHeld spelling s.settings opened s.tables w.seen.held) where
+  module _ (built_cutoff : ℕ → List Leaf → ℕ) (a w x : World) (old new : JobValue) (free now : Taken) (going : IsGoing spelling bytes m opened s a w old free) (held : TablesAgree spelling s.settings opened s.tables w.seen.held) where
     apart_of : (row : Row) → AllByRecursion (AreApart (extent_at row)) free.extents → (image : Image) → Under image → AllByRecursion (AreApart (extent_at row)) (taken s)
     apart_of row apart image under =
         subst (AllByRecursion (AreApart (extent_at row))) (sym (taken_is image under))
@@ -173,13 +173,13 @@ module _ (spelling : Spelling) (bytes : FilterBytes) (m : Manifest) (opened : Li
       | inr is ↦ is
     ]
 
-    held_so : AreHeld spelling old.settings opened s.tables w.seen.held
-    held_so = subst (λ (set : Settings). AreHeld spelling set opened s.tables w.seen.held) (sym going.settings) held
+    held_so : TablesAgree spelling old.settings opened s.tables w.seen.held
+    held_so = subst (λ (set : Settings). TablesAgree spelling set opened s.tables w.seen.held) (sym going.settings) held
 
-    pub makes_on : (said : Sliced) → SliceMakes spelling bytes opened old new free now (Ok said) w x → MakesOn spelling bytes opened s.tables old new going.left going.made [] free now w x said
+    pub makes_on : (said : Sliced) → MakesAnyOutputs spelling bytes opened old new free now (Ok said) w x → SliceOf spelling bytes opened s.tables old new going.left going.made [] free now w x said
     makes_on said makes = makes s.tables going.left going.made [] held_so going.makes going.taken_are
 
-    pub makes_not : (why : JobFault) → SliceMakes spelling bytes opened old new free now (Err why) w x → IsMakeRefusal bytes opened old going.left free w x why
+    pub makes_not : (why : JobFault) → MakesAnyOutputs spelling bytes opened old new free now (Err why) w x → IsMakeRefusal bytes opened old going.left free w x why
     makes_not why makes = makes s.tables going.left going.made [] held_so going.makes going.taken_are
 
     -- ---- it is refused
@@ -219,8 +219,8 @@ module _ (spelling : Spelling) (bytes : FilterBytes) (m : Manifest) (opened : Li
 
     -- ---- it goes on
 
-    module _ (said : Sliced) (on : MakesOn spelling bytes opened s.tables old new going.left going.made [] free now w x said) (moves : SliceMoves spelling built_cutoff old new free now w x) where
-      placed_on : MakesOne bytes old free now going.left on.later going.made on.now → compact_tables bytes s ≡ behind_made on.now (placed bytes s.settings s.pages now.extents 6 on.later)
+    module _ (said : Sliced) (on : SliceOf spelling bytes opened s.tables old new going.left going.made [] free now w x said) (moves : SliceMoves spelling built_cutoff old new free now w x) where
+      placed_on : OneOutput bytes old free now going.left on.later going.made on.now → compact_tables bytes s ≡ behind_made on.now (placed bytes s.settings s.pages now.extents 6 on.later)
       placed_on (inl same) =
           going.placed_so
           ∙ ap₂ (λ (made : List Table) (left : List (List Entry)). behind_made made (placed bytes s.settings s.pages free.extents 6 left)) (sym same.1) (sym same.0)
@@ -237,14 +237,14 @@ module _ (spelling : Spelling) (bytes : FilterBytes) (m : Manifest) (opened : Li
           ∙ place_first bytes s.settings s.pages 6 free.extents now.extents output on.later page going.made (place_is output page one.placed.place) extents
           ∙ ap (λ (made : List Table). behind_made made (placed bytes s.settings s.pages now.extents 6 on.later)) (sym made_is)
 
-      first_on : MakesOne bytes old free now going.left on.later going.made on.now → (((on.later ≡ outputs) × IsPermutation now.extents (taken s)) ⊎ IsOk (first_compact_table bytes s))
+      first_on : OneOutput bytes old free now going.left on.later going.made on.now → (((on.later ≡ outputs) × IsPermutation now.extents (taken s)) ⊎ IsOk (first_compact_table bytes s))
       first_on (inl same) = elim going.first [
         | inl begun ↦ inl (same.0 ∙ begun.0, subst (λ (t : Taken). IsPermutation t.extents (taken s)) (sym same.2) begun.1)
         | inr is ↦ inr is
       ]
       first_on (inr one) = inr (first_has_place on.later one.placed)
 
-      pages_on : MakesOne bytes old free now going.left on.later going.made on.now → now.pages ≡ s.pages
+      pages_on : OneOutput bytes old free now going.left on.later going.made on.now → now.pages ≡ s.pages
       pages_on (inl same) = ap (λ (t : Taken). t.pages) same.2 ∙ going.pages
       pages_on (inr one) = one.pages ∙ going.pages
 
@@ -260,7 +260,7 @@ module _ (spelling : Spelling) (bytes : FilterBytes) (m : Manifest) (opened : Li
         taken_are = on.taken_are;
         placed_so = placed_on on.one;
         first = first_on on.one;
-        lasting = subst (λ (set : Settings). Now (AreHeld spelling set old.made going.made) w → Now (AreHeld spelling set new.made on.now) x) going.settings on.lasting going.lasting;
+        lasting = subst (λ (set : Settings). Now (TablesAgree spelling set old.made going.made) w → Now (TablesAgree spelling set new.made on.now) x) going.settings on.lasting going.lasting;
         reads = let later = (faults_later moves).0 in omega (arith, going.reads, later);
         writes = let later = (faults_later moves).1 in omega (arith, going.writes, later);
       }
@@ -282,13 +282,13 @@ module _ (spelling : Spelling) (bytes : FilterBytes) (m : Manifest) (opened : Li
       ap (λ (rs : List Row). map model.extent_of rs) (append-nil m.version.rows ∙ sym rows) ∙ extents_shown opened ∙ sym is in
       IsPermutation-sym (taken s) xs (subst (λ (es : List Extent). IsPermutation es xs) all same)
 
-  pub going_begun : CompactionMakes → (a : World) (entries : List Entry) (free : Taken) → entries ≡ memory s → Now Under a → AreHeld spelling s.settings opened s.tables a.seen.held → free.pages ≡ s.pages
+  pub going_begun : CompactionMakes → (a : World) (entries : List Entry) (free : Taken) → entries ≡ memory s → Now Under a → TablesAgree spelling s.settings opened s.tables a.seen.held → free.pages ≡ s.pages
       → IsPermutation free.extents (taken s) → taken s ≡ map (λ (t : Opened). extent_at t.row) opened → IsGoing spelling bytes m opened s a a (compaction entries s.settings opened) free
   going_begun begins a entries free memory_is here held pages same is = record {
     meanwhile = started Under a here;
     left = outputs;
     made = [];
-    makes = subst (λ (es : List Entry). Makes spelling opened a.seen.held (compaction es s.settings opened) outputs []) (sym memory_is) (begins spelling s opened a.seen.held held);
+    makes = subst (λ (es : List Entry). OutputsLeft spelling opened a.seen.held (compaction es s.settings opened) outputs []) (sym memory_is) (begins spelling s opened a.seen.held held);
     settings = refl;
     output = refl;
     pages = pages;

@@ -15,7 +15,7 @@ use Rattle.map_model.specs.SortedMap.{Bytes}
 use Rattle.map_model.proofs.Between.{before_less}
 use Rattle.state_model.proofs.SoundLogs.{few_filled, newest_few}
 use Rattle.table_file.specs.Opened.{Opened}
-use Rattle.store_core.specs.Kept.{IsOfEntries, IsWhole, Kept}
+use Rattle.store_core.specs.StoreValue.{IsConsistent, IsOfEntries, StoreValue}
 
 abbrev pub up_to_count : Bytes → List Entry → ℕ
 up_to_count high entries = count_by (λ (e : Entry). is_up_to (Some high) e.key) entries
@@ -98,6 +98,6 @@ memory_rises log memory of = subst KeysRise (sym of.memory_is) (rises_after [] o
 pub memory_few : (log : _) (memory : List Entry) → IsOfEntries log memory → length memory < 262144
 memory_few log memory of = omega (arith, ap (λ (es : List Entry). length es) of.memory_is, newest_few of.entries, few_filled of.entries, of.fits)
 
-pub tables_few : (store : Kept) → IsWhole store → length store.tables ≤ 1024
+pub tables_few : (store : StoreValue) → IsConsistent store → length store.tables ≤ 1024
 tables_few store whole =
     omega (arith, length-map store.tables (λ (t : Opened). t.row), ap (λ (rows : List Row). length rows) whole.rows, whole.version.few_tables)

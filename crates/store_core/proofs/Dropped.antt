@@ -5,19 +5,19 @@ use Rattle.std.specs.List.{AllByRecursion}
 use Rattle.disk_trait.specs.Image.{Image}
 use Rattle.disk_trait.specs.World.{World}
 use Rattle.filter_api.specs.Spellings.{Spelling}
-use Rattle.level_merge.specs.Merging.{Merging}
+use Rattle.level_merge.specs.JobValue.{JobValue}
 use Rattle.state_model.proofs.SoundJobs.{drop_sound}
 use Rattle.state_model.specs.State.{State, without_job}
 use Rattle.table_file.specs.Opened.{Opened}
 use Rattle.table_model.specs.Images.{StandsInExtent}
 use Rattle.table_model.specs.Tables.{FilterBytes}
 use Rattle.manifest.specs.Manifest.{Manifest}
-use Rattle.store_core.specs.Caching.{AreTrue, Cached}
-use Rattle.store_core.specs.Kept.{Kept}
-use Rattle.store_core.specs.Tied.{IsUnder, Tied}
+use Rattle.store_core.specs.Caching.{CacheAgrees, Cached}
+use Rattle.store_core.specs.StoreValue.{StoreValue}
+use Rattle.store_core.specs.Represents.{Represents, RepresentsOn}
 
-pub under_dropped : (spelling : Spelling) (m : Manifest) (opened : List Opened) (running : Option Merging) (s : State) (image : Image) → s.kept ≡ [] → IsUnder spelling m opened running s image
-    → IsUnder spelling m opened None (without_job s) image
+pub under_dropped : (spelling : Spelling) (m : Manifest) (opened : List Opened) (running : Option JobValue) (s : State) (image : Image) → s.kept ≡ [] → RepresentsOn spelling m opened running s image
+    → RepresentsOn spelling m opened None (without_job s) image
 under_dropped spelling m opened running s image none_kept under = record {
   ready = record {
     current = under.ready.current;
@@ -29,8 +29,8 @@ under_dropped spelling m opened running s image none_kept under = record {
   job = tt;
 }
 
-pub tied_dropped : (spelling : Spelling) (bytes : FilterBytes) (store : Kept) (s : State) (w : World) → Tied spelling bytes store s w
-    → Tied spelling bytes (record store { job = None }) (without_job s) w
+pub tied_dropped : (spelling : Spelling) (bytes : FilterBytes) (store : StoreValue) (s : State) (w : World) → Represents spelling bytes store s w
+    → Represents spelling bytes (record store { job = None }) (without_job s) w
 tied_dropped spelling bytes store s w tied = record {
   sound = drop_sound bytes s tied.sound;
   none_kept = tied.none_kept;
@@ -41,16 +41,16 @@ tied_dropped spelling bytes store s w tied = record {
 }
 
 -- with other fields the same
-pub tied_fields : (spelling : Spelling) (bytes : FilterBytes) (store after : Kept) (s : State) (w : World) → after.manifest ≡ store.manifest → after.tables ≡ store.tables → after.job ≡ store.job
-    → after.log ≡ store.log → after.memory ≡ store.memory → after.blocks ≡ store.blocks → Tied spelling bytes store s w → Tied spelling bytes after s w
+pub tied_fields : (spelling : Spelling) (bytes : FilterBytes) (store after : StoreValue) (s : State) (w : World) → after.manifest ≡ store.manifest → after.tables ≡ store.tables → after.job ≡ store.job
+    → after.log ≡ store.log → after.memory ≡ store.memory → after.blocks ≡ store.blocks → Represents spelling bytes store s w → Represents spelling bytes after s w
 tied_fields spelling bytes store after s w manifest_is tables_are job_is log_is memory_is blocks_is tied = record {
   sound = tied.sound;
   none_kept = tied.none_kept;
   images = λ image left.
-      subst (λ (j : Option Merging). IsUnder spelling after.manifest after.tables j s image) (sym job_is)
-      (subst (λ (ts : List Opened). IsUnder spelling after.manifest ts store.job s image) (sym tables_are)
-      (subst (λ (m : Manifest). IsUnder spelling m store.tables store.job s image) (sym manifest_is) (tied.images image left)));
+      subst (λ (j : Option JobValue). RepresentsOn spelling after.manifest after.tables j s image) (sym job_is)
+      (subst (λ (ts : List Opened). RepresentsOn spelling after.manifest ts store.job s image) (sym tables_are)
+      (subst (λ (m : Manifest). RepresentsOn spelling m store.tables store.job s image) (sym manifest_is) (tied.images image left)));
   log = ap (λ (p : _). p.filled) log_is ∙ tied.log;
   memory = ap (λ (m : _). m.entries) memory_is ∙ tied.memory;
-  blocks = subst (λ (b : Cached). AreTrue b after.tables s.tables) (sym blocks_is) (subst (λ (ts : List Opened). AreTrue store.blocks ts s.tables) (sym tables_are) tied.blocks);
+  blocks = subst (λ (b : Cached). CacheAgrees b after.tables s.tables) (sym blocks_is) (subst (λ (ts : List Opened). CacheAgrees store.blocks ts s.tables) (sym tables_are) tied.blocks);
 }

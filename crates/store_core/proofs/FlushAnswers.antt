@@ -33,14 +33,14 @@ use Rattle.table_file.specs.Building.{Built}
 use Rattle.table_file.specs.Opened.{Opened}
 use Rattle.table_file.specs.Writing.{made_filter, made_row}
 use Rattle.table_model.specs.Tables.{FilterBytes, filter_bytes_of, table_of, table_pages}
-use Rattle.store_core.specs.Answers.{IsFailure, Wrote, refused, stops, turns}
+use Rattle.store_core.specs.Answers.{IsFailure, WroteEntry, refused, stops, turns}
 use Rattle.store_core.specs.Faults.{of_manifest_fault}
-use Rattle.store_core.specs.Flushing.{IsFlushFault, IsPlan, IsPlanRefusal, Replaces, flushed_at, installed_manifest, need_under, opened_of}
-use Rattle.level_merge.specs.Merging.{Merging}
-use Rattle.store_core.specs.Caching.{AreTrue, Cached}
-use Rattle.store_core.specs.Kept.{IsWhole, Kept}
+use Rattle.store_core.specs.Flushing.{FlushedTo, IsFlushFault, IsPlan, IsPlanRefusal, flushed_at, installed_manifest, need_under, opened_of}
+use Rattle.level_merge.specs.JobValue.{JobValue}
+use Rattle.store_core.specs.Caching.{CacheAgrees, Cached}
+use Rattle.store_core.specs.StoreValue.{IsConsistent, StoreValue}
 use Rattle.store_core.specs.Running.{extents_with, outputs_in}
-use Rattle.store_core.specs.Tied.{IsUnder, Tied}
+use Rattle.store_core.specs.Represents.{Represents, RepresentsOn}
 use Rattle.store_core.specs.declared.error.Limit.TheVariants as limit
 use Rattle.store_core.specs.declared.error.StoreError.{StoreError}
 use Rattle.store_core.specs.declared.error.StoreError.TheVariants as error
@@ -62,45 +62,45 @@ pub passed_on : {T : Type 0} (r : Result T StoreError) (x : StoreError) → IsEr
 passed_on (Ok y) x is = absurd is
 passed_on (Err e) x is = ap Err (sym is)
 
-module _ (spelling : Spelling) (bytes : FilterBytes) (store : Kept) (s : State) where
+module _ (spelling : Spelling) (bytes : FilterBytes) (store : StoreValue) (s : State) where
   abbrev Map : Image → Type 0
   Map = StandsForMap spelling (state_map s)
 
   -- before anything is written
-  pub stands_now : IsWhole store → (w : World) → Tied spelling bytes store s w → Meanwhile Map w w
+  pub stands_now : IsConsistent store → (w : World) → Represents spelling bytes store s w → Meanwhile Map w w
   stands_now whole w tied = started Map w (λ image left. under_stands spelling store.manifest store.tables store.job whole.slot whole.rows s image (tied.images image left))
 
   -- memory was wanted, whatever the change
-  wanted_in : {T : Type 0} (after : Kept) (change : Result State Reply) (a b : World) → Tied spelling bytes after s b → Meanwhile Map a b → Wrote {T = T} spelling bytes s change (Err error.Memory) after a b
-  wanted_in {T = T} after change a b tied meanwhile = elim change as (λ r. change ≡ r → Wrote {T = T} spelling bytes s change (Err error.Memory) after a b) [
+  wanted_in : {T : Type 0} (after : StoreValue) (change : Result State Reply) (a b : World) → Represents spelling bytes after s b → Meanwhile Map a b → WroteEntry {T = T} spelling bytes s change (Err error.Memory) after a b
+  wanted_in {T = T} after change a b tied meanwhile = elim change as (λ r. change ≡ r → WroteEntry {T = T} spelling bytes s change (Err error.Memory) after a b) [
     | Ok to ↦ λ is. turns to is tt (record { meanwhile = meanwhile_weaker Map _ a b meanwhile (λ image map. inl map); done = tt; refused = λ _. tied })
     | Err why ↦ λ is. refused why is refl (inr refl) tied meanwhile
   ] refl
 
-  pub wanted : {T : Type 0} (change : Result State Reply) (a b : World) → Tied spelling bytes store s b → Meanwhile Map a b → Wrote {T = T} spelling bytes s change (Err error.Memory) store a b
+  pub wanted : {T : Type 0} (change : Result State Reply) (a b : World) → Represents spelling bytes store s b → Meanwhile Map a b → WroteEntry {T = T} spelling bytes s change (Err error.Memory) store a b
   wanted change a b tied meanwhile = wanted_in store change a b tied meanwhile
 
   -- with room for more tables
   pub wanted_with : {T : Type 0} (change : Result State Reply) (r : Result T StoreError) (ts : List Opened) (w : World) → IsErrAnd r (λ (e : StoreError). e ≡ error.Memory) → ts ≡ store.tables
-      → IsWhole store → Tied spelling bytes store s w → Wrote spelling bytes s change r (record store { tables = ts }) w w
+      → IsConsistent store → Represents spelling bytes store s w → WroteEntry spelling bytes s change r (record store { tables = ts }) w w
   wanted_with {T = T} change r ts w is same whole tied =
-      subst (λ (l : List Opened). Wrote spelling bytes s change r (record store { tables = l }) w w) (sym same)
-      (subst (λ (x : Result T StoreError). Wrote spelling bytes s change x store w w) (passed_on r error.Memory is) (wanted change w w tied (stands_now whole w tied)))
+      subst (λ (l : List Opened). WroteEntry spelling bytes s change r (record store { tables = l }) w w) (sym same)
+      (subst (λ (x : Result T StoreError). WroteEntry spelling bytes s change x store w w) (passed_on r error.Memory is) (wanted change w w tied (stands_now whole w tied)))
 
   -- with another room for entries
   pub wanted_room : {T : Type 0} (change : Result State Reply) (r : Result T StoreError) (m : MemoryTable) (w : World) → IsErrAnd r (λ (e : StoreError). e ≡ error.Memory) → m.entries ≡ store.memory.entries
-      → IsWhole store → Tied spelling bytes store s w → Wrote spelling bytes s change r (record store { memory = m }) w w
+      → IsConsistent store → Represents spelling bytes store s w → WroteEntry spelling bytes s change r (record store { memory = m }) w w
   wanted_room {T = T} change r m w is kept whole tied =
-      subst (λ (x : Result T StoreError). Wrote spelling bytes s change x (record store { memory = m }) w w) (passed_on r error.Memory is)
+      subst (λ (x : Result T StoreError). WroteEntry spelling bytes s change x (record store { memory = m }) w w) (passed_on r error.Memory is)
       (wanted_in (record store { memory = m }) change w w (tied_with spelling bytes store s w m kept tied) (stands_now whole w tied))
 
   -- nothing is in memory
-  pub nothing_to_flush : {T : Type 0} (x : T) (w : World) → IsWhole store → Tied spelling bytes store s w → store.memory.entries ≡ [] → Wrote spelling bytes s (flushed bytes s) (Ok x) store w w
+  pub nothing_to_flush : {T : Type 0} (x : T) (w : World) → IsConsistent store → Represents spelling bytes store s w → store.memory.entries ≡ [] → WroteEntry spelling bytes s (flushed bytes s) (Ok x) store w w
   nothing_to_flush x w whole tied none =
       turns s (flushed_none bytes s (sym tied.memory ∙ none)) tt
       (record { meanwhile = meanwhile_weaker Map _ w w (stands_now whole w tied) (λ image map. inl map); done = tied; refused = tt })
 
-  module _ (a : World) (current : a.leaves a.moment a.seen.held) (tied : Tied spelling bytes store s a) (some : store.memory.entries ≢ []) where
+  module _ (a : World) (current : a.leaves a.moment a.seen.held) (tied : Represents spelling bytes store s a) (some : store.memory.entries ≢ []) where
     abbrev v : Version
     v = store.manifest.version
 
@@ -139,7 +139,7 @@ module _ (spelling : Spelling) (bytes : FilterBytes) (store : Kept) (s : State) 
     last_refuses less room last =
         flushed_last bytes s some_memory (few less) (omega (arith, room, need_is, largest_is)) (eq_true s.epoch last_epoch (omega (arith, agrees.epoch, last, last_is)))
 
-    pub plan_refused : {T : Type 0} (whole : IsWhole store) (x : StoreError) → IsPlanRefusal bytes v (outputs_in store.job) store.memory.entries x → Wrote {T = T} spelling bytes s (flushed bytes s) (Err x) store a a
+    pub plan_refused : {T : Type 0} (whole : IsConsistent store) (x : StoreError) → IsPlanRefusal bytes v (outputs_in store.job) store.memory.entries x → WroteEntry {T = T} spelling bytes s (flushed bytes s) (Err x) store a a
     plan_refused whole error.Memory why = wanted (flushed bytes s) a a tied (stands_now whole a tied)
     plan_refused whole (error.Limit limit.Tables) why = refused ManyTables (many_refuse why) refl (inl refl) tied (stands_now whole a tied)
     plan_refused whole (error.Limit limit.Epoch) why = refused LastEpoch (last_refuses why.0 why.1 why.2) refl (inl refl) tied (stands_now whole a tied)
@@ -168,8 +168,8 @@ module _ (spelling : Spelling) (built_cutoff : ℕ → List Leaf → ℕ) (m : M
       → end_page row ≤ 16777216
   row_within is laid next_is fits = omega (arith, fits, next_is.few_pages, pages_are spelling built_cutoff m outputs entries parts row next is laid plan)
 
-module _ (spelling : Spelling) (built_cutoff : ℕ → List Leaf → ℕ) (store : Kept) (s : State) (a b : World) (current : a.leaves a.moment a.seen.held)
-    (tied : Tied spelling (filter_bytes_of spelling built_cutoff) store s a) (some : store.memory.entries ≢ []) (parts : Built) (row : Row) (next : Manifest)
+module _ (spelling : Spelling) (built_cutoff : ℕ → List Leaf → ℕ) (store : StoreValue) (s : State) (a b : World) (current : a.leaves a.moment a.seen.held)
+    (tied : Represents spelling (filter_bytes_of spelling built_cutoff) store s a) (some : store.memory.entries ≢ []) (parts : Built) (row : Row) (next : Manifest)
     (plan : IsPlan spelling built_cutoff store.manifest (outputs_in store.job) store.memory.entries parts row next) where
   abbrev bytes : FilterBytes
   bytes = filter_bytes_of spelling built_cutoff
@@ -192,58 +192,58 @@ module _ (spelling : Spelling) (built_cutoff : ℕ → List Leaf → ℕ) (store
       let epoch_is = (agrees spelling bytes store s a current tied some).epoch in
       flushed_done bytes s (some_memory spelling bytes store s a current tied some) less row.first_page here (below s.epoch last_epoch (omega (arith, epoch_is, plan.epoch, last_is)))
 
-  pub flush_done : {T U : Type 0} (x : T) (y : U) (after : Kept) → Replaces spelling built_cutoff store s parts row next (Ok x) a b → after.manifest ≡ installed_manifest next
-      → after.tables ≡ opened_of built_cutoff parts row ∷ store.tables → after.job ≡ store.job → after.blocks ≡ store.blocks → IsWhole store → after.log.filled ≡ 0 → after.memory.entries ≡ [] → Wrote spelling bytes s (flushed bytes s) (Ok y) after a b
+  pub flush_done : {T U : Type 0} (x : T) (y : U) (after : StoreValue) → FlushedTo spelling built_cutoff store s parts row next (Ok x) a b → after.manifest ≡ installed_manifest next
+      → after.tables ≡ opened_of built_cutoff parts row ∷ store.tables → after.job ≡ store.job → after.blocks ≡ store.blocks → IsConsistent store → after.log.filled ≡ 0 → after.memory.entries ≡ [] → WroteEntry spelling bytes s (flushed bytes s) (Ok y) after a b
   flush_done x y after replaces manifest_is tables_are same_job blocks_are whole begun cleared = turns to planned tt (record {
     meanwhile = meanwhile_weaker Before _ a b replaces.meanwhile (λ image map. inl map);
     done = record {
       sound = flushed_sound bytes s to tied.sound planned;
       none_kept = tied.none_kept;
       images = λ image left.
-          subst (λ (ts : List Opened). IsUnder spelling after.manifest ts after.job to image) (sym tables_are)
-          (subst (λ (m : Manifest). IsUnder spelling m (opened_of built_cutoff parts row ∷ store.tables) after.job to image) (sym manifest_is)
-          (subst (λ (running : Option Merging). IsUnder spelling (installed_manifest next) (opened_of built_cutoff parts row ∷ store.tables) running to image) (sym same_job) (replaces.done image left)));
+          subst (λ (ts : List Opened). RepresentsOn spelling after.manifest ts after.job to image) (sym tables_are)
+          (subst (λ (m : Manifest). RepresentsOn spelling m (opened_of built_cutoff parts row ∷ store.tables) after.job to image) (sym manifest_is)
+          (subst (λ (running : Option JobValue). RepresentsOn spelling (installed_manifest next) (opened_of built_cutoff parts row ∷ store.tables) running to image) (sym same_job) (replaces.done image left)));
       log = begun ∙ sym none_filled;
       memory = cleared;
-      blocks = subst (λ (b : Cached). AreTrue b after.tables to.tables) (sym blocks_are)
-          (subst (λ (ts : List Opened). AreTrue store.blocks ts to.tables) (sym tables_are)
+      blocks = subst (λ (b : Cached). CacheAgrees b after.tables to.tables) (sym blocks_are)
+          (subst (λ (ts : List Opened). CacheAgrees store.blocks ts to.tables) (sym tables_are)
           (true_in_front store.blocks (opened_of built_cutoff parts row) store.tables (table_of bytes s.settings 0 row.first_page (memory s)) s.tables whole.numbered tied.blocks));
     };
     refused = tt;
   })
 
   -- the store with other fields the same
-  tied_at : (after : Kept) → after.manifest ≡ store.manifest → after.tables ≡ store.tables → after.job ≡ store.job → after.log ≡ store.log → after.memory ≡ store.memory → after.blocks ≡ store.blocks
-      → Now (IsUnder spelling store.manifest store.tables store.job s) b → Tied spelling bytes after s b
+  tied_at : (after : StoreValue) → after.manifest ≡ store.manifest → after.tables ≡ store.tables → after.job ≡ store.job → after.log ≡ store.log → after.memory ≡ store.memory → after.blocks ≡ store.blocks
+      → Now (RepresentsOn spelling store.manifest store.tables store.job s) b → Represents spelling bytes after s b
   tied_at after same_manifest same_tables same_job same_log same_memory same_blocks images = record {
     sound = tied.sound;
     none_kept = tied.none_kept;
     images = λ image left.
-        subst (λ (ts : List Opened). IsUnder spelling after.manifest ts after.job s image) (sym same_tables)
-        (subst (λ (m : Manifest). IsUnder spelling m store.tables after.job s image) (sym same_manifest)
-        (subst (λ (running : Option Merging). IsUnder spelling store.manifest store.tables running s image) (sym same_job) (images image left)));
+        subst (λ (ts : List Opened). RepresentsOn spelling after.manifest ts after.job s image) (sym same_tables)
+        (subst (λ (m : Manifest). RepresentsOn spelling m store.tables after.job s image) (sym same_manifest)
+        (subst (λ (running : Option JobValue). RepresentsOn spelling store.manifest store.tables running s image) (sym same_job) (images image left)));
     log = ap (λ (p : _). p.filled) same_log ∙ tied.log;
     memory = ap (λ (m : _). m.entries) same_memory ∙ tied.memory;
-    blocks = subst (λ (b : Cached). AreTrue b after.tables s.tables) (sym same_blocks) (subst (λ (ts : List Opened). AreTrue store.blocks ts s.tables) (sym same_tables) tied.blocks);
+    blocks = subst (λ (b : Cached). CacheAgrees b after.tables s.tables) (sym same_blocks) (subst (λ (ts : List Opened). CacheAgrees store.blocks ts s.tables) (sym same_tables) tied.blocks);
   }
 
-  flush_stops : {T U : Type 0} (f : ManifestFault) (x : StoreError) (after : Kept) → Replaces {T = T} spelling built_cutoff store s parts row next (Err f) a b → IsFailure x → after.stopped ≡ true
-      → Wrote {T = U} spelling bytes s (flushed bytes s) (Err x) after a b
+  flush_stops : {T U : Type 0} (f : ManifestFault) (x : StoreError) (after : StoreValue) → FlushedTo {T = T} spelling built_cutoff store s parts row next (Err f) a b → IsFailure x → after.stopped ≡ true
+      → WroteEntry {T = U} spelling bytes s (flushed bytes s) (Err x) after a b
   flush_stops f x after replaces fails stopped = turns to planned fails (record {
     meanwhile = meanwhile_weaker Before _ a b replaces.meanwhile (λ image map. inl map);
     done = tt;
     refused = λ runs. absurd (never after.stopped stopped runs);
   })
 
-  module _ (after : Kept) (same_manifest : after.manifest ≡ store.manifest) (same_tables : after.tables ≡ store.tables) (same_job : after.job ≡ store.job) (same_log : after.log ≡ store.log) (same_memory : after.memory ≡ store.memory)
+  module _ (after : StoreValue) (same_manifest : after.manifest ≡ store.manifest) (same_tables : after.tables ≡ store.tables) (same_job : after.job ≡ store.job) (same_log : after.log ≡ store.log) (same_memory : after.memory ≡ store.memory)
       (same_blocks : after.blocks ≡ store.blocks) where
     -- nothing was written
-    by_memory : {T U : Type 0} → Replaces {T = T} spelling built_cutoff store s parts row next (Err fault.Memory) a b → Wrote {T = U} spelling bytes s (flushed bytes s) (Err error.Memory) after a b
+    by_memory : {T U : Type 0} → FlushedTo {T = T} spelling built_cutoff store s parts row next (Err fault.Memory) a b → WroteEntry {T = U} spelling bytes s (flushed bytes s) (Err error.Memory) after a b
     by_memory replaces =
         wanted spelling bytes after s (flushed bytes s) a b (tied_at after same_manifest same_tables same_job same_log same_memory same_blocks (replaces.wanted refl)) replaces.meanwhile
 
-    told_as : {T U : Type 0} (f : ManifestFault) → Replaces {T = T} spelling built_cutoff store s parts row next (Err f) a b → IsFlushFault a b f
-        → after.stopped ≡ stops (of_manifest_fault f) → Wrote {T = U} spelling bytes s (flushed bytes s) (Err (of_manifest_fault f)) after a b
+    told_as : {T U : Type 0} (f : ManifestFault) → FlushedTo {T = T} spelling built_cutoff store s parts row next (Err f) a b → IsFlushFault a b f
+        → after.stopped ≡ stops (of_manifest_fault f) → WroteEntry {T = U} spelling bytes s (flushed bytes s) (Err (of_manifest_fault f)) after a b
     told_as fault.Memory replaces why stopped = by_memory replaces
     told_as (fault.Device cause) replaces why stopped = flush_stops (fault.Device cause) (error.Device cause) after replaces tt (stopped ∙ why.0)
     told_as fault.NotAStore replaces why stopped = absurd why
@@ -251,7 +251,7 @@ module _ (spelling : Spelling) (built_cutoff : ℕ → List Leaf → ℕ) (store
     told_as fault.Epoch replaces why stopped = absurd why
     told_as (fault.Damaged damage) replaces why stopped = absurd why
 
-    pub flush_failed : {T U : Type 0} (f : ManifestFault) (x : StoreError) → x ≡ of_manifest_fault f → Replaces {T = T} spelling built_cutoff store s parts row next (Err f) a b
-        → IsFlushFault a b f → after.stopped ≡ stops x → Wrote {T = U} spelling bytes s (flushed bytes s) (Err x) after a b
+    pub flush_failed : {T U : Type 0} (f : ManifestFault) (x : StoreError) → x ≡ of_manifest_fault f → FlushedTo {T = T} spelling built_cutoff store s parts row next (Err f) a b
+        → IsFlushFault a b f → after.stopped ≡ stops x → WroteEntry {T = U} spelling bytes s (flushed bytes s) (Err x) after a b
     flush_failed {U = U} f x is replaces why stopped =
-        subst (λ (e : StoreError). Wrote {T = U} spelling bytes s (flushed bytes s) (Err e) after a b) (sym is) (told_as f replaces why (stopped ∙ ap stops is))
+        subst (λ (e : StoreError). WroteEntry {T = U} spelling bytes s (flushed bytes s) (Err e) after a b) (sym is) (told_as f replaces why (stopped ∙ ap stops is))

@@ -49,12 +49,12 @@ use Rattle.table_model.specs.Images.{IsTableOf}
 use Rattle.table_model.specs.Laws.{IsApartFromRow}
 use Rattle.table_model.specs.Tables.{FilterBytes, Table, filter_bytes_of, table_of, table_pages}
 use Rattle.store_core.specs.Answers.{is_write}
-use Rattle.store_core.specs.Flushing.{IsFlushFault, IsPlan, Replaces, flushed_at, installed_manifest, next_manifest, opened_of, other_log_page}
-use Rattle.store_core.specs.Kept.{IsWhole, Kept}
+use Rattle.store_core.specs.Flushing.{FlushedTo, IsFlushFault, IsPlan, flushed_at, installed_manifest, next_manifest, opened_of, other_log_page}
+use Rattle.store_core.specs.StoreValue.{IsConsistent, StoreValue}
 use Rattle.level_merge.specs.FollowLaws.{FlushedIsFollowed, OtherImageIsFollowed}
-use Rattle.level_merge.specs.Held.{AreHeld, IsHeld}
+use Rattle.level_merge.specs.TablesAgree.{TableAgrees, TablesAgree}
 use Rattle.store_core.specs.Running.{RunsAs, extents_with, outputs_in}
-use Rattle.store_core.specs.Tied.{IsUnder, Tied}
+use Rattle.store_core.specs.Represents.{Represents, RepresentsOn}
 use Rattle.store_core.proofs.Agreed.{Agree, tied_agree}
 use Rattle.store_core.proofs.Flushed.{flushed_done}
 use Rattle.store_core.proofs.Frames.{held_kept, runs_kept, under_kept, under_stands}
@@ -102,8 +102,8 @@ device_cause f (Err e) old new is writes rose = subst (IsFlushFault old new) (sy
 never_memory : {T : Type 0} (P : Type 0) (r : Result T ManifestFault) → IfErr r (λ why. why ≢ fault.Memory) → IfErr r (λ why. why ≡ fault.Memory → P)
 never_memory P r other = if_err (λ why. why ≢ fault.Memory) (λ why. why ≡ fault.Memory → P) r (λ why never is. absurd (never is)) other
 
-module _ (image_law : OtherImageIsFollowed) (flush_law : FlushedIsFollowed) (spelling : Spelling) (built_cutoff : ℕ → List Leaf → ℕ) (store : Kept) (s : State) (parts : Built) (row : Row) (next : Manifest)
-    (whole : IsWhole store) (plan : IsPlan spelling built_cutoff store.manifest (outputs_in store.job) (memory s) parts row next) where
+module _ (image_law : OtherImageIsFollowed) (flush_law : FlushedIsFollowed) (spelling : Spelling) (built_cutoff : ℕ → List Leaf → ℕ) (store : StoreValue) (s : State) (parts : Built) (row : Row) (next : Manifest)
+    (whole : IsConsistent store) (plan : IsPlan spelling built_cutoff store.manifest (outputs_in store.job) (memory s) parts row next) where
   abbrev filter_bytes : FilterBytes
   filter_bytes = filter_bytes_of spelling built_cutoff
 
@@ -130,10 +130,10 @@ module _ (image_law : OtherImageIsFollowed) (flush_law : FlushedIsFollowed) (spe
   i = install_of (next_manifest store.manifest row) store.manifest.version
 
   abbrev Under : Image → Type 0
-  Under = IsUnder spelling store.manifest store.tables store.job s
+  Under = RepresentsOn spelling store.manifest store.tables store.job s
 
   abbrev Held : Image → Type 0
-  Held = IsHeld spelling s.settings (opened_of built_cutoff parts row) made
+  Held = TableAgrees spelling s.settings (opened_of built_cutoff parts row) made
 
   -- the table as the call that writes it says it
   abbrev IsThere : Image → Type 0
@@ -143,7 +143,7 @@ module _ (image_law : OtherImageIsFollowed) (flush_law : FlushedIsFollowed) (spe
   abbrev IsOpenThere : Image → Type 0
   IsOpenThere = StandsWith spelling parts.settings (opened_of built_cutoff parts (made_row spelling built_cutoff parts 0 row.first_page)) parts.entries
 
-  module _ (a : World) (tied : Tied spelling (filter_bytes_of spelling built_cutoff) store s a) (current : a.leaves a.moment a.seen.held) where
+  module _ (a : World) (tied : Represents spelling (filter_bytes_of spelling built_cutoff) store s a) (current : a.leaves a.moment a.seen.held) where
     agrees : Agree v (outputs_in store.job) s
     agrees = tied_agree spelling (filter_bytes_of spelling built_cutoff) store s a current tied
 
@@ -178,16 +178,16 @@ module _ (image_law : OtherImageIsFollowed) (flush_law : FlushedIsFollowed) (spe
 
     held_there : (image : Image) → IsThere image → IsOpenThere image → Held image
     held_there image is stands =
-        let first : IsHeld spelling parts.settings (opened_of built_cutoff parts (made_row spelling built_cutoff parts 0 row.first_page))
+        let first : TableAgrees spelling parts.settings (opened_of built_cutoff parts (made_row spelling built_cutoff parts 0 row.first_page))
         (table_of filter_bytes parts.settings 0 row.first_page parts.entries) image =
         record {
           blocks = stands.0;
           stands = stands.1;
           table_is = one_table spelling parts.settings parts.settings _ _ _ image is (stands.0, stands.1.at, refl);
         } in
-        subst (λ (es : List Entry). IsHeld spelling s.settings (opened_of built_cutoff parts row) (table_of filter_bytes s.settings 0 row.first_page es) image) entries_are
-        (subst (λ (set : Settings). IsHeld spelling set (opened_of built_cutoff parts row) (table_of filter_bytes set 0 row.first_page parts.entries) image) settings_are
-        (subst (λ (r : Row). IsHeld spelling parts.settings (opened_of built_cutoff parts r) (table_of filter_bytes parts.settings 0 row.first_page parts.entries) image) (sym plan.row_is) first))
+        subst (λ (es : List Entry). TableAgrees spelling s.settings (opened_of built_cutoff parts row) (table_of filter_bytes s.settings 0 row.first_page es) image) entries_are
+        (subst (λ (set : Settings). TableAgrees spelling set (opened_of built_cutoff parts row) (table_of filter_bytes set 0 row.first_page parts.entries) image) settings_are
+        (subst (λ (r : Row). TableAgrees spelling parts.settings (opened_of built_cutoff parts r) (table_of filter_bytes parts.settings 0 row.first_page parts.entries) image) (sym plan.row_is) first))
 
     held_apart : (at n : ℕ) (f g : Image) → at + n ≤ 4096 * row.first_page → Torn at n f g → Held f → Held g
     held_apart at n f g before torn held =
@@ -206,7 +206,7 @@ module _ (image_law : OtherImageIsFollowed) (flush_law : FlushedIsFollowed) (spe
 
     pub no_table : {T U E : Type 0} (first : Result T E) (result : Result U ManifestFault) (b : World) → WriteMoves (byte_of_page row.first_page) (4096 * need) a b
         → OnOk first (Now IsThere b) → OnOk first (Now IsOpenThere b) → IsErr result → IfErr result (λ why. why ≢ fault.Memory)
-        → Replaces spelling built_cutoff store s parts row next result a b
+        → FlushedTo spelling built_cutoff store s parts row next result a b
     no_table first result b moves is stands failed other_cause = record {
       meanwhile = meanwhile_weaker Under (StandsForMap spelling (state_map s)) a b ((table_leads first b moves is stands).meanwhile tied.images)
           (under_stands spelling store.manifest store.tables store.job whole.slot whole.rows s);
@@ -240,7 +240,7 @@ module _ (image_law : OtherImageIsFollowed) (flush_law : FlushedIsFollowed) (spe
 
       -- all that lies behind the slots
       abbrev Behind : Image → Type 0
-      Behind image = IsNamedBy spelling v (as_shown s) image × AreHeld spelling s.settings store.tables s.tables image × Held image × LogIs area [] image × UnnamedStand spelling s image
+      Behind image = IsNamedBy spelling v (as_shown s) image × TablesAgree spelling s.settings store.tables s.tables image × Held image × LogIs area [] image × UnnamedStand spelling s image
           × RunsAs spelling store.tables store.job s s.job image
 
       slots_keep : (f g : Image) → Behind f → Torn (other_place m.slot) 131072 f g → Behind g
@@ -288,7 +288,7 @@ module _ (image_law : OtherImageIsFollowed) (flush_law : FlushedIsFollowed) (spe
       runs_then image runs = runs_behind flush_law spelling v s to store.tables (opened_of built_cutoff parts row) made image store.job s.job refl whole.job many refl refl runs
 
       ends : MayInstall i → (image : Image) → Behind image × IsInstalled i image
-          → IsUnder spelling (installed_manifest new) (opened_of built_cutoff parts row ∷ store.tables) store.job to image
+          → RepresentsOn spelling (installed_manifest new) (opened_of built_cutoff parts row ∷ store.tables) store.job to image
       ends may image (here, is) =
           let back : 1 - (1 - m.slot) ≡ m.slot = omega (arith, whole.slot) in
           let ready : IsReady spelling (other_place m.slot) (place_of m.slot) true (raised new.version) to image =
@@ -302,16 +302,16 @@ module _ (image_law : OtherImageIsFollowed) (flush_law : FlushedIsFollowed) (spe
       pub install_leads : {T E : Type 0} (result : Result T E) (c d : World) → MayInstall i → WriteMoves (other_place next.slot) 131072 c d
           → Leads (StandsInSlot next.slot next.other_open v) (IsOldOrNew (install_of next v)) (IsInstalled (install_of next v)) result c d
           → Leads (λ image. (Under image × Held image) × LogIs area [] image) (StandsForMap spelling (state_map s))
-          (IsUnder spelling (installed_manifest next) (opened_of built_cutoff parts row ∷ store.tables) store.job to) result c d
+          (RepresentsOn spelling (installed_manifest next) (opened_of built_cutoff parts row ∷ store.tables) store.job to) result c d
       install_leads result c d may moves leads =
           let moved : WriteMoves (other_place m.slot) 131072 c d = subst (λ (n : Manifest). WriteMoves (other_place n.slot) 131072 c d) plan.next_is moves in
           let own : Leads (StandsInSlot m.slot m.other_open v) (IsOldOrNew i) (IsInstalled i) result c d =
           subst (λ (n : Manifest). Leads (StandsInSlot n.slot n.other_open v) (IsOldOrNew (install_of n v)) (IsInstalled (install_of n v)) result c d) plan.next_is leads in
           subst (λ (n : Manifest). Leads (λ image. (Under image × Held image) × LogIs area [] image) (StandsForMap spelling (state_map s))
-          (IsUnder spelling (installed_manifest n) (opened_of built_cutoff parts row ∷ store.tables) store.job to) result c d) (sym plan.next_is)
+          (RepresentsOn spelling (installed_manifest n) (opened_of built_cutoff parts row ∷ store.tables) store.job to) result c d) (sym plan.next_is)
           (leads_weaker (λ image. Behind image × StandsInSlot m.slot m.other_open v image) (λ image. Behind image × IsOldOrNew i image) (λ image. Behind image × IsInstalled i image)
           (λ image. (Under image × Held image) × LogIs area [] image) (StandsForMap spelling (state_map s))
-          (IsUnder spelling (installed_manifest new) (opened_of built_cutoff parts row ∷ store.tables) store.job to) result c d
+          (RepresentsOn spelling (installed_manifest new) (opened_of built_cutoff parts row ∷ store.tables) store.job to) result c d
           (leads_framed Behind (StandsInSlot m.slot m.other_open v) (IsOldOrNew i) (IsInstalled i) (other_place m.slot) 131072 result c d slots_keep moved.time own)
           (λ image all. (
             (all.0.0.ready.named, all.0.0.tables, all.0.1, all.1, all.0.0.ready.unnamed, all.0.0.job),
@@ -328,7 +328,7 @@ module _ (image_law : OtherImageIsFollowed) (flush_law : FlushedIsFollowed) (spe
       Started image = (Under image × Held image) × LogIs area [] image
 
       abbrev Done : Image → Type 0
-      Done = IsUnder spelling (installed_manifest next) (opened_of built_cutoff parts row ∷ store.tables) store.job to
+      Done = RepresentsOn spelling (installed_manifest next) (opened_of built_cutoff parts row ∷ store.tables) store.job to
 
       to_map : (image : Image) → Under image → Map image
       to_map = under_stands spelling store.manifest store.tables store.job whole.slot whole.rows s
@@ -349,7 +349,7 @@ module _ (image_law : OtherImageIsFollowed) (flush_law : FlushedIsFollowed) (spe
             (log_leads result b c log_moves log) (λ f both. both) (λ f both. to_map f both.0) (λ f all. all))
 
         pub no_log : {T U E : Type 0} (first : Result T E) (result : Result U ManifestFault) → OnOk first (Now (LogIs area []) c) → IsErr result → IfErr result (λ why. why ≢ fault.Memory)
-            → Replaces spelling built_cutoff store s parts row next result a c
+            → FlushedTo spelling built_cutoff store s parts row next result a c
         no_log first result log failed other_cause = record {
           meanwhile = (begun first log).meanwhile tied.images;
           done = not_ok _ result failed;
@@ -364,7 +364,7 @@ module _ (image_law : OtherImageIsFollowed) (flush_law : FlushedIsFollowed) (spe
 
           pub no_install : {T U E : Type 0} (first : Result T E) (result : Result U ManifestFault)
               → Leads (StandsInSlot next.slot next.other_open v) (IsOldOrNew (install_of next v)) (IsInstalled (install_of next v)) first c d
-              → IsErr result → IfErr result (λ why. why ≡ fault.Memory → ReadMoves 0 c d) → Replaces spelling built_cutoff store s parts row next result a d
+              → IsErr result → IfErr result (λ why. why ≡ fault.Memory → ReadMoves 0 c d) → FlushedTo spelling built_cutoff store s parts row next result a d
           no_install first result leads failed still = record {
             meanwhile = (all_leads first leads).meanwhile tied.images;
             done = not_ok _ result failed;
@@ -373,7 +373,7 @@ module _ (image_law : OtherImageIsFollowed) (flush_law : FlushedIsFollowed) (spe
           }
 
           pub installed : {T U E : Type 0} (x : T) (y : U) → Leads {E = E} (StandsInSlot next.slot next.other_open v) (IsOldOrNew (install_of next v)) (IsInstalled (install_of next v)) (Ok x) c d
-              → Replaces spelling built_cutoff store s parts row next (Ok y) a d
+              → FlushedTo spelling built_cutoff store s parts row next (Ok y) a d
           installed x y leads =
               let all = all_leads (Ok x) leads in
               record { meanwhile = all.meanwhile tied.images; done = all.after tied.images; wanted = tt }

@@ -11,7 +11,7 @@ use Rattle.block_model.specs.Laws.{joined}
 use Rattle.map_model.specs.SortedMap.{Bytes}
 use Rattle.state_model.specs.View.{first_found}
 use Rattle.store_core.specs.Getting.{entries_by_table}
-use Rattle.level_merge.specs.Held.{AreHeld, IsHeld}
+use Rattle.level_merge.specs.TablesAgree.{TableAgrees, TablesAgree}
 use Rattle.table_file.specs.Opened.{Opened}
 use Rattle.table_file.specs.Search.{StandsThere}
 use Rattle.table_model.specs.Tables.{Table}
@@ -21,10 +21,10 @@ first_said None older is = absurd cc
 first_said (Some value) older is = refl
 
 -- the entries are those of the blocks
-pub held_entries : (spelling : Spelling) (settings : Settings) (opened : Opened) (t : Table) (image : Image) (held : IsHeld spelling settings opened t image) → t.entries ≡ joined held.blocks
+pub held_entries : (spelling : Spelling) (settings : Settings) (opened : Opened) (t : Table) (image : Image) (held : TableAgrees spelling settings opened t image) → t.entries ≡ joined held.blocks
 held_entries spelling settings opened t image held = ap (λ (u : Table). u.entries) held.table_is
 
-module _ (spelling : Spelling) (settings : Settings) (opened : Opened) (t : Table) (older : List Table) (image : Image) (held : IsHeld spelling settings opened t image) (key : Bytes)
+module _ (spelling : Spelling) (settings : Settings) (opened : Opened) (t : Table) (older : List Table) (image : Image) (held : TableAgrees spelling settings opened t image) (key : Bytes)
     (said : Option (Option Bytes)) (is : said ≡ lookup (joined held.blocks) key) where
   here : said ≡ lookup t.entries key
   here = is ∙ ap (λ (es : List Entry). lookup es key) (sym (held_entries spelling settings opened t image held))
@@ -36,10 +36,10 @@ module _ (spelling : Spelling) (settings : Settings) (opened : Opened) (t : Tabl
 
 -- of some open tables, the first one
 module _ (spelling : Spelling) (settings : Settings) (first : Opened) (more : List Opened) (image : Image) (key : Bytes) where
-  pub found_first : (opened : List Opened) (states : List Table) (said : Option (Option Bytes)) → opened ≡ first ∷ more → AreHeld spelling settings opened states image → is_some said ≡ true
+  pub found_first : (opened : List Opened) (states : List Table) (said : Option (Option Bytes)) → opened ≡ first ∷ more → TablesAgree spelling settings opened states image → is_some said ≡ true
       → ((blocks : List (List Entry)) → StandsThere spelling settings first blocks image → said ≡ lookup (joined blocks) key) → said ≡ first_found (entries_by_table states) key
-  found_first opened states said split held some says = of_cells states (subst (λ (ts : List Opened). AreHeld spelling settings ts states image) split held)
+  found_first opened states said split held some says = of_cells states (subst (λ (ts : List Opened). TablesAgree spelling settings ts states image) split held)
     where
-      of_cells : (states : List Table) → AreHeld spelling settings (first ∷ more) states image → said ≡ first_found (entries_by_table states) key
+      of_cells : (states : List Table) → TablesAgree spelling settings (first ∷ more) states image → said ≡ first_found (entries_by_table states) key
       of_cells [] held = elim held [ ]
       of_cells (t ∷ older) held = said_first spelling settings first t older image held.0 key said (says held.0.blocks held.0.stands) some

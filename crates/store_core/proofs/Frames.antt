@@ -23,12 +23,12 @@ use Rattle.table_file.specs.Search.{StandsThere}
 use Rattle.table_model.proofs.Kept.{at_kept}
 use Rattle.table_model.specs.Laws.{IsApartFromRow}
 use Rattle.table_model.specs.Tables.{Table}
-use Rattle.store_core.specs.Kept.{rows_of}
+use Rattle.store_core.specs.StoreValue.{rows_of}
 use Rattle.level_merge.specs.FollowLaws.{OtherImageIsFollowed}
-use Rattle.level_merge.specs.Merging.{Merging}
-use Rattle.level_merge.specs.Held.{AreHeld, IsHeld}
+use Rattle.level_merge.specs.JobValue.{JobValue}
+use Rattle.level_merge.specs.TablesAgree.{TableAgrees, TablesAgree}
 use Rattle.store_core.specs.Running.{RunsAs}
-use Rattle.store_core.specs.Tied.{IsUnder}
+use Rattle.store_core.specs.Represents.{RepresentsOn}
 use Rattle.store_core.proofs.Runs.{front_of, made_held, rows_apart, runs_as, unnamed_apart}
 
 pub are_slots : (slot : ℕ) → slot ≤ 1 → AreSlots (place_of slot) (other_place slot)
@@ -47,10 +47,10 @@ module _ (spelling : Spelling) (settings : Settings) (at n : ℕ) (f g : Image) 
     leaves_are = s.leaves_are;
   }
 
-  one_kept : (opened : Opened) (t : Table) → IsApartFromRow at n opened.row → IsHeld spelling settings opened t f → IsHeld spelling settings opened t g
+  one_kept : (opened : Opened) (t : Table) → IsApartFromRow at n opened.row → TableAgrees spelling settings opened t f → TableAgrees spelling settings opened t g
   one_kept opened t apart held = record { blocks = held.blocks; stands = stands_kept opened held.blocks apart held.stands; table_is = held.table_is }
 
-  pub held_kept : (opened : List Opened) (tables : List Table) → AllByRecursion (IsApartFromRow at n) (rows_of opened) → AreHeld spelling settings opened tables f → AreHeld spelling settings opened tables g
+  pub held_kept : (opened : List Opened) (tables : List Table) → AllByRecursion (IsApartFromRow at n) (rows_of opened) → TablesAgree spelling settings opened tables f → TablesAgree spelling settings opened tables g
   held_kept [] [] apart held = tt
   held_kept [] (t ∷ tables) apart held = elim held [ ]
   held_kept (o ∷ opened) [] apart held = elim held [ ]
@@ -59,8 +59,8 @@ module _ (spelling : Spelling) (settings : Settings) (at n : ℕ) (f g : Image) 
 -- ---- the merge that runs
 
 -- what is written apart from what it has made changes nothing of it, as long as its tables stand
-pub runs_kept : OtherImageIsFollowed → (spelling : Spelling) (s : State) (at n : ℕ) (f g : Image) → Torn at n f g → (opened : List Opened) → AreHeld spelling s.settings opened s.tables f
-    → AreHeld spelling s.settings opened s.tables g → (running : Option Merging) (job : Option Job) → AllByRecursion (IsApartFromExtent at n) (map extent_of (written_by job ++ s.kept))
+pub runs_kept : OtherImageIsFollowed → (spelling : Spelling) (s : State) (at n : ℕ) (f g : Image) → Torn at n f g → (opened : List Opened) → TablesAgree spelling s.settings opened s.tables f
+    → TablesAgree spelling s.settings opened s.tables g → (running : Option JobValue) (job : Option Job) → AllByRecursion (IsApartFromExtent at n) (map extent_of (written_by job ++ s.kept))
     → RunsAs spelling opened running s job f → RunsAs spelling opened running s job g
 runs_kept law spelling s at n f g torn opened here there None None apart runs = tt
 runs_kept law spelling s at n f g torn opened here there None (Some job) apart runs = absurd runs
@@ -73,9 +73,9 @@ runs_kept law spelling s at n f g torn opened here there (Some m) (Some job) apa
 
 -- ---- all that is under a store
 
-module _ (spelling : Spelling) (m : Manifest) (opened : List Opened) (running : Option Merging) (few : m.slot ≤ 1) (rows : rows_of opened ≡ m.version.rows) where
-  pub under_kept : OtherImageIsFollowed → (s : State) (at n : ℕ) (f g : Image) → IsApartFromReady m.version s at n → Torn at n f g → IsUnder spelling m opened running s f
-      → IsUnder spelling m opened running s g
+module _ (spelling : Spelling) (m : Manifest) (opened : List Opened) (running : Option JobValue) (few : m.slot ≤ 1) (rows : rows_of opened ≡ m.version.rows) where
+  pub under_kept : OtherImageIsFollowed → (s : State) (at n : ℕ) (f g : Image) → IsApartFromReady m.version s at n → Torn at n f g → RepresentsOn spelling m opened running s f
+      → RepresentsOn spelling m opened running s g
   under_kept law s at n f g apart torn under =
       let tables = held_kept spelling s.settings at n f g torn opened s.tables (subst (AllByRecursion (IsApartFromRow at n)) (sym rows) apart.named.rows) under.tables in
       record {
@@ -87,7 +87,7 @@ module _ (spelling : Spelling) (m : Manifest) (opened : List Opened) (running : 
   -- with another log in the area in use
   pub under_logged : OtherImageIsFollowed → (s : State) (log : List Entry) (area at n : ℕ) (f g : Image) → AllByRecursion (IsOnDevice s.pages) (taken s) → m.version.log_page ≡ log_page_of area
       → start_of area ≤ at → at + n ≤ start_of area + 262144 → area ≤ 1 → Torn at n f g → LogIs area log g
-      → IsUnder spelling m opened running s f → IsUnder spelling m opened running (record s { log = log }) g
+      → RepresentsOn spelling m opened running s f → RepresentsOn spelling m opened running (record s { log = log }) g
   under_logged law s log area at n f g on page_is from to small torn spelled under =
       let tables = held_kept spelling s.settings at n f g torn opened s.tables
       (subst (AllByRecursion (IsApartFromRow at n)) (sym rows) (behind_logs m.version at n under.ready.current.here.sound (omega (arith, to, small)))) under.tables in
@@ -99,12 +99,12 @@ module _ (spelling : Spelling) (m : Manifest) (opened : List Opened) (running : 
       }
 
   -- the map of the state is that of the image
-  pub under_stands : (s : State) (image : Image) → IsUnder spelling m opened running s image → StandsForMap spelling (state_map s) image
+  pub under_stands : (s : State) (image : Image) → RepresentsOn spelling m opened running s image → StandsForMap spelling (state_map s) image
   under_stands s image under =
       (s, (m.version, ready_is_state spelling (place_of m.slot) (other_place m.slot) m.other_open m.version s image (are_slots m.slot few) under.ready), refl)
 
   -- the log stands in the area in use
-  pub under_log : (s : State) (area : ℕ) (image : Image) → m.version.log_page ≡ log_page_of area → IsUnder spelling m opened running s image → LogIs area s.log image
+  pub under_log : (s : State) (area : ℕ) (image : Image) → m.version.log_page ≡ log_page_of area → RepresentsOn spelling m opened running s image → LogIs area s.log image
   under_log s area image page_is under =
       let named = under.ready.named in
       let same : named.area ≡ area = omega (arith, named.area_is, page_is) in

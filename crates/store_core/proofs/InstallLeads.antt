@@ -14,7 +14,7 @@ use Rattle.image_model.proofs.Placed.{behind_logs}
 use Rattle.image_model.specs.Stands.{IsNamedBy, IsReady, StandsForMap, as_shown}
 use Rattle.image_model.specs.Tables.{AreTablesOf}
 use Rattle.key_base.specs.Limits.{last_epoch}
-use Rattle.level_merge.specs.Held.{AreHeld}
+use Rattle.level_merge.specs.TablesAgree.{TablesAgree}
 use Rattle.log_model.proofs.Logs.{log_kept}
 use Rattle.log_model.specs.Area.{LogIs}
 use Rattle.manifest.proofs.Steps.{may_install, raised_is}
@@ -27,11 +27,11 @@ use Rattle.state_model.specs.State.{State}
 use Rattle.state_model.specs.View.{state_map}
 use Rattle.table_file.specs.Opened.{Opened}
 use Rattle.table_model.specs.Tables.{Table}
-use Rattle.store_core.specs.Kept.{rows_of}
+use Rattle.store_core.specs.StoreValue.{rows_of}
 use Rattle.store_core.proofs.Frames.{held_kept}
 
 -- tables that are held are those of their rows
-pub held_are_tables : (spelling : Spelling) (settings : Settings) (image : Image) (opened : List Opened) (tables : List Table) → AreHeld spelling settings opened tables image
+pub held_are_tables : (spelling : Spelling) (settings : Settings) (image : Image) (opened : List Opened) (tables : List Table) → TablesAgree spelling settings opened tables image
     → AreTablesOf spelling settings (rows_of opened) tables image
 held_are_tables spelling settings image [] [] held = tt
 held_are_tables spelling settings image [] (t ∷ tables) held = absurd held
@@ -51,21 +51,21 @@ module _ (spelling : Spelling) (m : Manifest) (slot_few : m.slot ≤ 1) (is : Is
   i = install_of (record m { version = record m.version { log_page = log_page_of area; rows = rows_of opened } }) m.version
 
   abbrev pub Held : Image → Type 0
-  Held = AreHeld spelling s.settings opened tables
+  Held = TablesAgree spelling s.settings opened tables
 
   -- what an image shows before it, and behind it
   abbrev pub Before : Image → Type 0
-  Before image = IsReady spelling (place_of m.slot) (other_place m.slot) m.other_open m.version s image × (AreHeld spelling s.settings opened tables image × LogIs area log image)
+  Before image = IsReady spelling (place_of m.slot) (other_place m.slot) m.other_open m.version s image × (TablesAgree spelling s.settings opened tables image × LogIs area log image)
 
   abbrev pub After : Image → Type 0
   After image = IsReady spelling (other_place m.slot) (place_of m.slot) true (raised (record m.version { log_page = log_page_of area; rows = rows_of opened }))
-      (record s { epoch = s.epoch + 1; log = log; tables = tables; job = None }) image × AreHeld spelling s.settings opened tables image
+      (record s { epoch = s.epoch + 1; log = log; tables = tables; job = None }) image × TablesAgree spelling s.settings opened tables image
 
   module _ (new_is : IsVersion (record m.version { log_page = log_page_of area; rows = rows_of opened })) (epoch : m.version.epoch < last_epoch) (none_kept : s.kept ≡ [])
       (order : AllPairs StandsBefore tables) (same_map : state_map (record s { epoch = s.epoch + 1; log = log; tables = tables; job = None }) ≡ state_map s) where
     -- all that lies behind the slots
     abbrev Behind : Image → Type 0
-    Behind image = IsNamedBy spelling m.version (as_shown s) image × (AreHeld spelling s.settings opened tables image × LogIs area log image)
+    Behind image = IsNamedBy spelling m.version (as_shown s) image × (TablesAgree spelling s.settings opened tables image × LogIs area log image)
 
     slots_keep : (f g : Image) → Behind f → Torn (other_place m.slot) 131072 f g → Behind g
     slots_keep f g here torn =

@@ -14,9 +14,9 @@ use Rattle.image_model.proofs.Frames.{ready_is_state}
 use Rattle.image_model.specs.Stands.{IsReady, StandsForMap}
 use Rattle.key_base.specs.Limits.{last_epoch}
 use Rattle.level_merge.specs.Follows.{Follows}
-use Rattle.level_merge.specs.Held.{AreHeld}
+use Rattle.level_merge.specs.TablesAgree.{TablesAgree}
 use Rattle.level_merge.specs.Laws.{StandingAgrees}
-use Rattle.level_merge.specs.Merging.{Merging}
+use Rattle.level_merge.specs.JobValue.{JobValue}
 use Rattle.log_model.specs.Area.{LogIs}
 use Rattle.manifest.specs.Causes.{HasInstallCause}
 use Rattle.manifest.specs.declared.fault.ManifestFault.{ManifestFault}
@@ -39,10 +39,10 @@ use Rattle.store_core.specs.Answers.{stops}
 use Rattle.store_core.specs.Faults.{of_manifest_fault}
 use Rattle.store_core.specs.Flushing.{installed_manifest}
 use Rattle.store_core.specs.Installing.{Installs}
-use Rattle.store_core.specs.Kept.{Kept, rows_of}
+use Rattle.store_core.specs.StoreValue.{StoreValue, rows_of}
 use Rattle.store_core.specs.Replacing.{merged_manifest, tables_behind}
 use Rattle.store_core.specs.Running.{IsRun, RunsAs}
-use Rattle.store_core.specs.Tied.{IsUnder, Tied}
+use Rattle.store_core.specs.Represents.{Represents, RepresentsOn}
 use Rattle.store_core.specs.declared.error.StoreError.{StoreError}
 use Rattle.store_core.specs.declared.error.StoreError.TheVariants as error
 use Rattle.store_core.specs.Caching.{AreNumbered, renumbered}
@@ -72,9 +72,9 @@ module _ (bytes : FilterBytes) (s : State) (job : Job) (sound : IsSound bytes s)
 
 -- ---- the images
 
-module _ (agree : StandingAgrees) (spelling : Spelling) (bytes : FilterBytes) (store : Kept) (run : Merging) (s : State) (job : Job) (a : World) (slot : store.manifest.slot ≤ 1)
+module _ (agree : StandingAgrees) (spelling : Spelling) (bytes : FilterBytes) (store : StoreValue) (run : JobValue) (s : State) (job : Job) (a : World) (slot : store.manifest.slot ≤ 1)
     (area : store.manifest.version.log_page ≡ log_page_of store.log.area) (is : IsVersion store.manifest.version) (run_is : IsRun store.manifest.version store.tables run) (runs : s.job ≡ Some job)
-    (done : IsDone s.tables job) (tied : Tied spelling bytes (record store { job = Some run }) s a) where
+    (done : IsDone s.tables job) (tied : Represents spelling bytes (record store { job = Some run }) s a) where
   abbrev m : Manifest
   m = store.manifest
 
@@ -82,7 +82,7 @@ module _ (agree : StandingAgrees) (spelling : Spelling) (bytes : FilterBytes) (s
   behind = tables_behind store.tables run
 
   abbrev Under : Image → Type 0
-  Under = IsUnder spelling store.manifest store.tables (Some run) s
+  Under = RepresentsOn spelling store.manifest store.tables (Some run) s
 
   follows : (image : Image) → Under image → Follows spelling s store.tables image run job
   follows image under = subst (λ (j : Option Job). RunsAs spelling store.tables (Some run) s j image) runs under.job
@@ -92,7 +92,7 @@ module _ (agree : StandingAgrees) (spelling : Spelling) (bytes : FilterBytes) (s
       let f = follows image under in
       let many = many_held spelling s.settings image store.tables s.tables under.tables in
       let there = subst (λ (n : ℕ). AllByRecursion (λ (k : ℕ). k < n) (numbers run.merge.walks)) many run_is.numbers in
-      let made = subst (λ (set : Settings). AreHeld spelling set run.made job.written image) f.settings f.makes.made_are in
+      let made = subst (λ (set : Settings). TablesAgree spelling set run.made job.written image) f.settings f.makes.made_are in
       let same : under.ready.named.area ≡ store.log.area = omega (arith, under.ready.named.area_is, area) in (
         under.ready,
         (
@@ -108,7 +108,7 @@ module _ (agree : StandingAgrees) (spelling : Spelling) (bytes : FilterBytes) (s
   still_here = started (StandsForMap spelling (state_map s)) a (λ image left. under_map image (tied.images image left))
 
   -- nothing was done
-  pub not_begun : {T : Type 0} (x : StoreError) (after : Kept) (b : World) → ReadMoves 0 a b → Meanwhile (StandsForMap spelling (state_map s)) a b
+  pub not_begun : {T : Type 0} (x : StoreError) (after : StoreValue) (b : World) → ReadMoves 0 a b → Meanwhile (StandsForMap spelling (state_map s)) a b
       → after.manifest ≡ store.manifest → after.tables ≡ store.tables → after.job ≡ None → after.log ≡ store.log → after.memory ≡ store.memory → after.blocks ≡ store.blocks
       → Installs {T = T} spelling bytes s job (Err x) after a b
   not_begun x after b reads meanwhile manifest_is tables_are job_is log_is memory_is blocks_is = record {
@@ -127,7 +127,7 @@ module _ (agree : StandingAgrees) (spelling : Spelling) (bytes : FilterBytes) (s
   }
 
   -- want of memory, as it is passed on
-  pub wanted : {T : Type 0} (result : Result T StoreError) (after : Kept) → IsErrAnd result (λ (e : StoreError). e ≡ error.Memory)
+  pub wanted : {T : Type 0} (result : Result T StoreError) (after : StoreValue) → IsErrAnd result (λ (e : StoreError). e ≡ error.Memory)
       → after.manifest ≡ store.manifest → after.tables ≡ store.tables → after.job ≡ None → after.log ≡ store.log → after.memory ≡ store.memory → after.blocks ≡ store.blocks
       → Installs {T = T} spelling bytes s job result after a a
   wanted {T = T} result after is manifest_is tables_are job_is log_is memory_is blocks_is =
@@ -156,7 +156,7 @@ module _ (agree : StandingAgrees) (spelling : Spelling) (bytes : FilterBytes) (s
     befores : Now (Before spelling m slot is behind store.log.area s (installed_tables s.tables job) s.log) a
     befores image here = to_before image (tied.images image here)
 
-    pub install_failed : {T U E : Type 0} (first : Result T E) (x : StoreError) (after : Kept) → m.version.epoch < last_epoch
+    pub install_failed : {T U E : Type 0} (first : Result T E) (x : StoreError) (after : StoreValue) → m.version.epoch < last_epoch
         → Leads (StandsInSlot m.slot m.other_open m.version) (IsOldOrNew (install_of (merged_manifest m (rows_of behind)) m.version)) (IsInstalled (install_of (merged_manifest m (rows_of behind)) m.version)) first a b
         → after.stopped ≡ true → Installs {T = U} spelling bytes s job (Err x) after a b
     install_failed first x after below leads stopped = record {
@@ -171,7 +171,7 @@ module _ (agree : StandingAgrees) (spelling : Spelling) (bytes : FilterBytes) (s
         → Meanwhile (StandsForMap spelling (state_map s)) a b
     install_meanwhile first below leads = (all_leads first below leads).meanwhile befores
 
-    pub install_done : {T U E : Type 0} (x : T) (y : U) (after : Kept) → m.version.epoch < last_epoch
+    pub install_done : {T U E : Type 0} (x : T) (y : U) (after : StoreValue) → m.version.epoch < last_epoch
         → Leads {E = E} (StandsInSlot m.slot m.other_open m.version) (IsOldOrNew (install_of (merged_manifest m (rows_of behind)) m.version)) (IsInstalled (install_of (merged_manifest m (rows_of behind)) m.version)) (Ok x) a b
         → after.manifest ≡ installed_manifest (merged_manifest m (rows_of behind)) → after.tables ≡ behind → after.job ≡ None → after.log ≡ store.log → after.memory ≡ store.memory → AreNumbered store.blocks (length store.tables)
         → after.blocks ≡ renumbered store.blocks (length store.tables)
@@ -208,7 +208,7 @@ module _ (agree : StandingAgrees) (spelling : Spelling) (bytes : FilterBytes) (s
     unread reads = in_call (StandsForMap spelling (state_map s)) Same a b (λ image left. under_map image (tied.images image left)) reads.time (λ was image left same. subst (StandsForMap spelling (state_map s)) (sym same) (under_map was (tied.images was left)))
 
     -- it fails: in a call of the device, or before any
-    pub install_refused : {T U : Type 0} (f : ManifestFault) (x : StoreError) (after : Kept) → x ≡ of_manifest_fault f → HasInstallCause (other_place m.slot) a b f → (f ≡ fault.Epoch → ReadMoves 0 a b)
+    pub install_refused : {T U : Type 0} (f : ManifestFault) (x : StoreError) (after : StoreValue) → x ≡ of_manifest_fault f → HasInstallCause (other_place m.slot) a b f → (f ≡ fault.Epoch → ReadMoves 0 a b)
         → (f ≢ fault.Epoch → m.version.epoch < last_epoch)
         → Leads {T = T} (StandsInSlot m.slot m.other_open m.version) (IsOldOrNew (install_of (merged_manifest m (rows_of behind)) m.version)) (IsInstalled (install_of (merged_manifest m (rows_of behind)) m.version)) (Err f) a b
         → after.manifest ≡ store.manifest → after.tables ≡ store.tables → after.job ≡ None → after.log ≡ store.log → after.memory ≡ store.memory → after.blocks ≡ store.blocks

@@ -14,9 +14,9 @@ use Rattle.map_model.specs.SortedMap.{Bytes}
 use Rattle.state_model.specs.State.{State}
 use Rattle.state_model.specs.View.{state_map}
 use Rattle.table_model.specs.Tables.{FilterBytes}
-use Rattle.store_core.specs.Answers.{Answered, IsLimitOf, IsWriteRefusal, told, told_limit}
-use Rattle.store_core.specs.Kept.{Kept}
-use Rattle.store_core.specs.Tied.{Tied}
+use Rattle.store_core.specs.Answers.{AnswersRequest, IsLimitOf, IsWriteRefusal, told, told_limit}
+use Rattle.store_core.specs.StoreValue.{StoreValue}
+use Rattle.store_core.specs.Represents.{Represents}
 use Rattle.store_core.specs.declared.error.Limit.TheVariants as limit
 use Rattle.store_core.specs.declared.error.StoreError.{StoreError}
 use Rattle.store_core.specs.declared.error.StoreError.TheVariants as error
@@ -95,8 +95,8 @@ limit_refuses broken error.NotAStore a b stopped runs of is = absurd is
 limit_refuses broken error.AlreadyAStore a b stopped runs of is = absurd is
 limit_refuses broken (error.BadSettings field) a b stopped runs of is = absurd is
 
-pub limit_answers : (spelling : Spelling) (bytes : FilterBytes) (s : State) (request : Request) (x : StoreError) (store : Kept) (a b : World) → IsLimitOf (limit_of request) x
-    → Meanwhile (StandsForMap spelling (state_map s)) a b → Tied spelling bytes store s b → Answered spelling bytes s request (told x) store a b
+pub limit_answers : (spelling : Spelling) (bytes : FilterBytes) (s : State) (request : Request) (x : StoreError) (store : StoreValue) (a b : World) → IsLimitOf (limit_of request) x
+    → Meanwhile (StandsForMap spelling (state_map s)) a b → Represents spelling bytes store s b → AnswersRequest spelling bytes s request (told x) store a b
 limit_answers spelling bytes s request (error.Limit l) store a b is meanwhile tied = limited spelling bytes s request a b (told_limit l) is (Some (told_limit l)) refl store meanwhile tied
 limit_answers spelling bytes s request error.Memory store a b is meanwhile tied = absurd is
 limit_answers spelling bytes s request (error.Device cause) store a b is meanwhile tied = absurd is

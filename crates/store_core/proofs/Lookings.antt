@@ -14,9 +14,9 @@ use Rattle.filter_api.specs.declared.settings.Settings.{Settings}
 use Rattle.map_model.specs.SortedMap.{Bytes}
 use Rattle.state_model.specs.Bounds.{searched, unless_found}
 use Rattle.state_model.specs.View.{first_found}
-use Rattle.store_core.specs.Caching.{AreNumbered, AreSame, AreTrue, Cached, IsTrueOf, SaysOf, cache_number, past_cache, reads_for, said_by, unkept}
+use Rattle.store_core.specs.Caching.{AreNumbered, AreSame, BlockAgrees, CacheAgrees, Cached, SaysOf, cache_number, past_cache, reads_for, said_by, unkept}
 use Rattle.store_core.specs.Getting.{IsBlockIn, IsFoundAt, IsReadIn, IsSpotIn, MayKeepRead, entries_by_table, said_in}
-use Rattle.level_merge.specs.Held.{AreHeld, IsHeld}
+use Rattle.level_merge.specs.TablesAgree.{TableAgrees, TablesAgree}
 use Rattle.store_core.specs.declared.getting.BlockRead.{BlockRead}
 use Rattle.store_core.specs.declared.getting.Spot.{Spot}
 use Rattle.store_core.specs.declared.getting.Spot.TheVariants as spot
@@ -31,28 +31,28 @@ use Rattle.table_model.specs.Tables.{Table}
 -- ---- the first of some tables, and the others
 
 module _ (spelling : Spelling) (settings : Settings) (first : Opened) (more : List Opened) (image : Image) (P : List Opened → List Table → Type 0)
-    (cells : (t : Table) (older : List Table) → IsHeld spelling settings first t image → AreHeld spelling settings more older image → P (first ∷ more) (t ∷ older)) where
-  of_cells : (states : List Table) → AreHeld spelling settings (first ∷ more) states image → P (first ∷ more) states
+    (cells : (t : Table) (older : List Table) → TableAgrees spelling settings first t image → TablesAgree spelling settings more older image → P (first ∷ more) (t ∷ older)) where
+  of_cells : (states : List Table) → TablesAgree spelling settings (first ∷ more) states image → P (first ∷ more) states
   of_cells [] held = elim held [ ]
   of_cells (t ∷ older) held = cells t older held.0 held.1
 
-  pub by_first : (opened : List Opened) (states : List Table) → opened ≡ first ∷ more → AreHeld spelling settings opened states image → P opened states
+  pub by_first : (opened : List Opened) (states : List Table) → opened ≡ first ∷ more → TablesAgree spelling settings opened states image → P opened states
   by_first opened states split held =
-      subst (λ (ts : List Opened). P ts states) (sym split) (of_cells states (subst (λ (ts : List Opened). AreHeld spelling settings ts states image) split held))
+      subst (λ (ts : List Opened). P ts states) (sym split) (of_cells states (subst (λ (ts : List Opened). TablesAgree spelling settings ts states image) split held))
 
 -- ---- what is said
 
 -- kept blocks of the first table say what its blocks say
-pub first_says : (spelling : Spelling) (settings : Settings) (first : Opened) (more : List Opened) (t : Table) (older : List Table) (image : Image) (blocks : Cached) (held : IsHeld spelling settings first t image)
-    → AreTrue blocks (first ∷ more) (t ∷ older) → (n : ℕ) (bytes : Bytes) → kept_of (cache_number blocks.first (length more), n) blocks.kept ≡ Some bytes → SaysOf n bytes first (joined held.blocks)
+pub first_says : (spelling : Spelling) (settings : Settings) (first : Opened) (more : List Opened) (t : Table) (older : List Table) (image : Image) (blocks : Cached) (held : TableAgrees spelling settings first t image)
+    → CacheAgrees blocks (first ∷ more) (t ∷ older) → (n : ℕ) (bytes : Bytes) → kept_of (cache_number blocks.first (length more), n) blocks.kept ≡ Some bytes → SaysOf n bytes first (joined held.blocks)
 first_says spelling settings first more t older image blocks held are n bytes is key named =
     (are (cache_number blocks.first (length more), n) bytes is).0 refl key named ∙ ap (λ (es : List Entry). lookup es key) (held_entries spelling settings first t image held)
 
-pub older_true : (blocks : Cached) (first : Opened) (more : List Opened) (t : Table) (older : List Table) → AreTrue blocks (first ∷ more) (t ∷ older) → AreTrue blocks more older
+pub older_true : (blocks : Cached) (first : Opened) (more : List Opened) (t : Table) (older : List Table) → CacheAgrees blocks (first ∷ more) (t ∷ older) → CacheAgrees blocks more older
 older_true blocks first more t older are place bytes is = (are place bytes is).1
 
 -- the first has no entry of the key
-module _ (spelling : Spelling) (settings : Settings) (first : Opened) (t : Table) (image : Image) (held : IsHeld spelling settings first t image) (key : Bytes)
+module _ (spelling : Spelling) (settings : Settings) (first : Opened) (t : Table) (image : Image) (held : TableAgrees spelling settings first t image) (key : Bytes)
     (none : None ≡ lookup (joined held.blocks) key) where
   pub no_entry : lookup t.entries key ≡ None
   no_entry = ap (λ (es : List Entry). lookup es key) (held_entries spelling settings first t image held) ∙ sym none
@@ -93,27 +93,27 @@ unkept_next blocks key first more t older none =
 
 -- one of the first table
 pub first_true : (first : ℕ) (o : Opened) (more : List Opened) (t : Table) (older : List Table) (number block : ℕ) (bytes : Bytes) → number ≡ cache_number first (length more) → number < past_cache
-    → SaysOf block bytes o t.entries → IsTrueOf first (number, block) bytes (o ∷ more) (t ∷ older)
+    → SaysOf block bytes o t.entries → BlockAgrees first (number, block) bytes (o ∷ more) (t ∷ older)
 first_true first o more t older number block bytes is given says = ((λ _. says), true_past first (number, block) bytes more older (omega (arith, is, given)))
 
 -- one of an older table
 pub next_true : (first : ℕ) (o : Opened) (more : List Opened) (t : Table) (older : List Table) (number block : ℕ) (bytes : Bytes) → number < cache_number first (length more)
-    → IsTrueOf first (number, block) bytes more older → IsTrueOf first (number, block) bytes (o ∷ more) (t ∷ older)
+    → BlockAgrees first (number, block) bytes more older → BlockAgrees first (number, block) bytes (o ∷ more) (t ∷ older)
 next_true first o more t older number block bytes less is = ((λ same. absurd (omega (arith, same, less))), is)
 
 module _ (read : Option BlockRead) (buffer : Bytes) (old mid new : Cached) (same : AreSame old mid) (keeps : MayKeepRead read buffer mid new) where
   pub kept_true : (opened : List Opened) (tables : List Table)
-      → IfSome read (λ r. r.number < past_cache → IsTrueOf old.first (r.number, r.block) (take r.size buffer) opened tables) → AreTrue old opened tables → AreTrue new opened tables
+      → IfSome read (λ r. r.number < past_cache → BlockAgrees old.first (r.number, r.block) (take r.size buffer) opened tables) → CacheAgrees old opened tables → CacheAgrees new opened tables
   kept_true opened tables is are = by_read read keeps is
     where
-      now : AreTrue mid opened tables
+      now : CacheAgrees mid opened tables
       now = true_same old mid opened tables same are
 
-      by_read : (o : Option BlockRead) → MayKeepRead o buffer mid new → IfSome o (λ r. r.number < past_cache → IsTrueOf old.first (r.number, r.block) (take r.size buffer) opened tables) → AreTrue new opened tables
-      by_read None stays _ = subst (λ (c : Cached). AreTrue c opened tables) (sym stays) now
+      by_read : (o : Option BlockRead) → MayKeepRead o buffer mid new → IfSome o (λ r. r.number < past_cache → BlockAgrees old.first (r.number, r.block) (take r.size buffer) opened tables) → CacheAgrees new opened tables
+      by_read None stays _ = subst (λ (c : Cached). CacheAgrees c opened tables) (sym stays) now
       by_read (Some r) more of =
           true_kept (r.number, r.block) (take r.size buffer) mid new opened tables more
-          (λ given. subst (λ (n : ℕ). IsTrueOf n (r.number, r.block) (take r.size buffer) opened tables) (sym same.first) (of given)) now
+          (λ given. subst (λ (n : ℕ). BlockAgrees n (r.number, r.block) (take r.size buffer) opened tables) (sym same.first) (of given)) now
 
   pub kept_numbered : (tables : ℕ) → IfSome read (λ r. IsReadIn r buffer mid tables) → AreNumbered old tables → AreNumbered new tables
   kept_numbered tables is numbered = by_read read keeps is
@@ -195,17 +195,17 @@ read_first (Some r) buffer blocks number behind is here = record {
   new = subst (λ (n : ℕ). kept_of (n, r.block) blocks.kept ≡ None) (sym here.0) here.2;
 }
 
-module _ (spelling : Spelling) (settings : Settings) (first : Opened) (more : List Opened) (t : Table) (older : List Table) (image : Image) (held : IsHeld spelling settings first t image)
+module _ (spelling : Spelling) (settings : Settings) (first : Opened) (more : List Opened) (t : Table) (older : List Table) (image : Image) (held : TableAgrees spelling settings first t image)
     (blocks : Cached) (number : ℕ) (is : number ≡ cache_number blocks.first (length more)) where
   -- it says what its table says
   pub read_true : (read : Option BlockRead) (buffer : Bytes) (after : Cached) → IfSome read (λ r. IsReadHere r number buffer after) → IfSome read (λ r. SaysOf r.block (take r.size buffer) first (joined held.blocks))
-      → IfSome read (λ r. r.number < past_cache → IsTrueOf blocks.first (r.number, r.block) (take r.size buffer) (first ∷ more) (t ∷ older))
+      → IfSome read (λ r. r.number < past_cache → BlockAgrees blocks.first (r.number, r.block) (take r.size buffer) (first ∷ more) (t ∷ older))
   read_true None buffer after here says = tt
   read_true (Some r) buffer after here says = λ given.
       first_true blocks.first first more t older r.number r.block (take r.size buffer) (here.0 ∙ is) given
       (λ key named. says key named ∙ ap (λ (es : List Entry). lookup es key) (sym (held_entries spelling settings first t image held)))
 
-  pub says_of_number : AreTrue blocks (first ∷ more) (t ∷ older) → (n : ℕ) (bytes : Bytes) → kept_of (number, n) blocks.kept ≡ Some bytes → SaysOf n bytes first (joined held.blocks)
+  pub says_of_number : CacheAgrees blocks (first ∷ more) (t ∷ older) → (n : ℕ) (bytes : Bytes) → kept_of (number, n) blocks.kept ≡ Some bytes → SaysOf n bytes first (joined held.blocks)
   says_of_number are n bytes at =
       first_says spelling settings first more t older image blocks held are n bytes (subst (λ (k : ℕ). kept_of (k, n) blocks.kept ≡ Some bytes) is at)
 
@@ -233,15 +233,15 @@ module _ (old mid new : Cached) (same : AreSame old mid) (later_same : AreSame m
 
 module _ (old : Cached) (o : Opened) (more : List Opened) (t : Table) (older : List Table) (before after : Bytes) where
   abbrev Says : Option BlockRead → Bytes → List Opened → List Table → Type 0
-  Says read buffer ts us = IfSome read (λ r. r.number < past_cache → IsTrueOf old.first (r.number, r.block) (take r.size buffer) ts us)
+  Says read buffer ts us = IfSome read (λ r. r.number < past_cache → BlockAgrees old.first (r.number, r.block) (take r.size buffer) ts us)
 
   pub true_later : (mid new : Cached) (later here : Option BlockRead) → AreSame old mid → AreSame mid new → IfSome later (λ r. IsReadIn r after new (length more))
-      → IfSome later (λ r. r.number < past_cache → IsTrueOf mid.first (r.number, r.block) (take r.size after) more older) → (later ≡ None → after ≡ before)
+      → IfSome later (λ r. r.number < past_cache → BlockAgrees mid.first (r.number, r.block) (take r.size after) more older) → (later ≡ None → after ≡ before)
       → Says here before (o ∷ more) (t ∷ older) → Says (option_or later here) after (o ∷ more) (t ∷ older)
   true_later mid new (Some r) here same later_same there says stays of = λ given.
       let first_is : new.first ≡ old.first = later_same.first ∙ same.first in
       next_true old.first o more t older r.number r.block (take r.size after) (subst (λ (n : ℕ). r.number < cache_number n (length more)) first_is (there.given given))
-      (subst (λ (n : ℕ). IsTrueOf n (r.number, r.block) (take r.size after) more older) same.first (says given))
+      (subst (λ (n : ℕ). BlockAgrees n (r.number, r.block) (take r.size after) more older) same.first (says given))
   true_later mid new None None same later_same there says stays of = tt
   true_later mid new None (Some r) same later_same there says stays of =
       subst (λ (b : Bytes). Says (Some r) b (o ∷ more) (t ∷ older)) (sym (stays refl)) of
@@ -260,7 +260,7 @@ one_more kept number (Some n) None more later le = omega (arith, le, at_most_one
 one_more kept number (Some n) (Some value) more later le = omega (arith, at_most_one kept number (Some n))
 
 pub unkept_within : (laws : StandingKeys) (spelling : Spelling) (settings : Settings) (blocks : Cached) (key : Bytes) (image : Image) (opened : List Opened) (states : List Table)
-    → AreHeld spelling settings opened states image → unkept blocks key opened states ≤ searched settings key states
+    → TablesAgree spelling settings opened states image → unkept blocks key opened states ≤ searched settings key states
 unkept_within laws spelling settings blocks key image [] [] held = omega arith
 unkept_within laws spelling settings blocks key image [] (t ∷ older) held = elim held [ ]
 unkept_within laws spelling settings blocks key image (o ∷ more) [] held = elim held [ ]

@@ -5,14 +5,14 @@ use Rattle.std.proofs.lemmas.List.{length-map}
 use Rattle.byte_fields.specs.declared.parts.Row.{Row}
 use Rattle.extent_model.proofs.Lists.{Mutual, Pairs, all_pairs, pairs_of}
 use Rattle.extent_model.specs.Extents.{AreApart, AreLaid, Extent, IsOnDevice}
-use Rattle.level_merge.specs.Merging.{Merging}
+use Rattle.level_merge.specs.JobValue.{JobValue}
 use Rattle.manifest.specs.Manifest.{Manifest}
 use Rattle.manifest_model.proofs.Rows.{rows_keep}
 use Rattle.manifest_model.specs.Laws.{IsVersion, RowFits}
 use Rattle.manifest_model.specs.Rows.{AreTableRows, IsNoDeeper, IsTableRow, extent_of}
 use Rattle.merge_rows.specs.Steps.{numbers}
 use Rattle.table_file.specs.Opened.{Opened}
-use Rattle.store_core.specs.Kept.{rows_of}
+use Rattle.store_core.specs.StoreValue.{rows_of}
 use Rattle.store_core.specs.Replacing.{merged_manifest, others_in, tables_behind}
 use Rattle.store_core.specs.Running.{IsRun, extents_with}
 use Rattle.store_core.proofs.InstallLists.{IsUpTo, all_first, all_of_seen, all_second, all_seen, fold_all, fold_length, fold_levels, fold_pairs, others_all, others_few, others_pairs, pairs_between, pairs_first, pairs_of_seen, pairs_second, pairs_seen}
@@ -40,7 +40,7 @@ extents_seen : (tables : List Opened) → map extent_of (rows_of tables) ≡ map
 extents_seen [] = refl
 extents_seen (t ∷ tables) = ap (λ (es : List Extent). extent_of t.row ∷ es) (extents_seen tables)
 
-module _ (m : Manifest) (tables : List Opened) (run : Merging) (is : IsVersion m.version) (rows : rows_of tables ≡ m.version.rows) (runs : IsRun m.version tables run) where
+module _ (m : Manifest) (tables : List Opened) (run : JobValue) (is : IsVersion m.version) (rows : rows_of tables ≡ m.version.rows) (runs : IsRun m.version tables run) where
   abbrev behind : List Opened
   behind = tables_behind tables run
 

@@ -40,12 +40,12 @@ use Rattle.table_file.specs.Faults.{filter_fault_of}
 use Rattle.table_file.specs.Opened.{Opened}
 use Rattle.table_model.specs.Tables.{FilterBytes, Table}
 use Rattle.store_core.specs.Faults.{of_log_fault, of_manifest_fault}
-use Rattle.store_core.specs.Kept.{Kept, rows_of}
+use Rattle.store_core.specs.StoreValue.{StoreValue, rows_of}
 use Rattle.store_core.specs.Answers.{IsFailure}
 use Rattle.store_core.specs.Opening.{AreOpened, IsOpenAnswer, IsOpenRefusal, IsOpenedAs, IsRangesDamage, IsTablesAnswer, IsVersionOpened, opened_range}
-use Rattle.level_merge.specs.Held.{AreHeld}
-use Rattle.store_core.specs.Tied.{IsUnder, Tied}
-use Rattle.store_core.specs.Caching.{AreTrue, Cached, none_cached}
+use Rattle.level_merge.specs.TablesAgree.{TablesAgree}
+use Rattle.store_core.specs.Represents.{Represents, RepresentsOn}
+use Rattle.store_core.specs.Caching.{CacheAgrees, Cached, none_cached}
 use Rattle.store_core.specs.declared.error.StoreError.{StoreError}
 use Rattle.store_core.specs.declared.error.StoreError.TheVariants as error
 use Rattle.store_core.proofs.Caches.{none_true}
@@ -114,14 +114,14 @@ module _ (spelling : Spelling) (first : Bytes → Fault) (image : Image) where
         }
 
         -- and its log is replayed: the store of all these
-        pub opened_as : (store : Kept) (p : Position) (entries : List Entry) → store ≡ record { stopped = false; manifest = m; tables = ts; job = None; log = p; memory = store.memory; buffer = store.buffer; blocks = none_cached }
+        pub opened_as : (store : StoreValue) (p : Position) (entries : List Entry) → store ≡ record { stopped = false; manifest = m; tables = ts; job = None; log = p; memory = store.memory; buffer = store.buffer; blocks = none_cached }
             → LogIs area entries image → p.filled ≡ filled entries → store.memory.entries ≡ newest_entries entries → IsOpenedAs spelling image store
         opened_as store p entries same spelled filled_is memory_is =
             subst (IsOpenedAs spelling image) (sym same)
             (record { loaded = loaded; entries = entries; opens = opens_with entries spelled; rows = rows; tables = opened; job = refl; log = filled_is; memory = memory_is; none_kept = refl })
 
 -- what is made of these parts: the store, or there is no memory
-pub parts_answer : (spelling : Spelling) (first : Bytes → Fault) (image : Image) (m : Manifest) (ts : List Opened) (p : Position) (entries : List Entry) (area : ℕ) (r : Result Kept StoreError)
+pub parts_answer : (spelling : Spelling) (first : Bytes → Fault) (image : Image) (m : Manifest) (ts : List Opened) (p : Position) (entries : List Entry) (area : ℕ) (r : Result StoreValue StoreError)
     → IsVersionOpened spelling image m ts → m.version.log_page ≡ log_page_of area → LogIs area entries image → p.filled ≡ filled entries
     → IfOk r (λ store. store ≡ record { stopped = false; manifest = m; tables = ts; job = None; log = p; memory = store.memory; buffer = store.buffer; blocks = none_cached })
     → IfOk r (λ store. store.memory.entries ≡ newest_entries entries) → IfErr r (λ why. why ≡ error.Memory)
@@ -182,7 +182,7 @@ none_unnamed : (spelling : Spelling) (s : State) (image : Image) → s.job ≡ N
 none_unnamed spelling s image no_job none_kept = subst (λ (t : State). UnnamedStand spelling t image) (sym (shown s no_job none_kept)) tt
 
 -- the store that was opened is that of the state
-module _ (spelling : Spelling) (filter_bytes : FilterBytes) (one : SpellsOne spelling) (s : State) (store : Kept) (image : Image) (is : IsStateOf spelling s image)
+module _ (spelling : Spelling) (filter_bytes : FilterBytes) (one : SpellsOne spelling) (s : State) (store : StoreValue) (image : Image) (is : IsStateOf spelling s image)
     (opened : IsOpenedAs spelling image store) where
   abbrev v : Version
   v = store.manifest.version
@@ -195,7 +195,7 @@ module _ (spelling : Spelling) (filter_bytes : FilterBytes) (one : SpellsOne spe
       let area : named_so.area ≡ opened.opens.area = omega (arith, named_so.area_is, opened.opens.area_is) in
       one_list opened.entries s.log (area_in opened.opens.area image) opened.opens.log (subst (λ (n : ℕ). LogIs n s.log image) area named_so.log)
 
-  under : IsUnder spelling store.manifest store.tables store.job s image
+  under : RepresentsOn spelling store.manifest store.tables store.job s image
   under = record {
     ready = record {
       current = opened.loaded.stands.current;
@@ -208,25 +208,25 @@ module _ (spelling : Spelling) (filter_bytes : FilterBytes) (one : SpellsOne spe
     job = none_run spelling s store.tables image store.job s.job opened.job named_so.no_job;
   }
 
-  pub tied_of : (n : ℕ) (a b : World) → a.seen.held ≡ image → IsDurable a → ReadMoves n a b → Tied spelling filter_bytes store s b
+  pub tied_of : (n : ℕ) (a b : World) → a.seen.held ≡ image → IsDurable a → ReadMoves n a b → Represents spelling filter_bytes store s b
   tied_of n a b held_is durable reads = record {
     sound = state_sound spelling filter_bytes s image is;
     none_kept = named_so.none_kept;
-    images = reads_keep (IsUnder spelling store.manifest store.tables store.job s) n a b reads
-        (λ left_image left. subst (IsUnder spelling store.manifest store.tables store.job s) (sym (durable left_image left ∙ held_is)) under);
+    images = reads_keep (RepresentsOn spelling store.manifest store.tables store.job s) n a b reads
+        (λ left_image left. subst (RepresentsOn spelling store.manifest store.tables store.job s) (sym (durable left_image left ∙ held_is)) under);
     log = opened.log ∙ ap filled same_log;
     memory = opened.memory ∙ ap newest_entries same_log;
-    blocks = subst (λ (b : Cached). AreTrue b store.tables s.tables) (sym opened.none_kept) (none_true store.tables s.tables);
+    blocks = subst (λ (b : Cached). CacheAgrees b store.tables s.tables) (sym opened.none_kept) (none_true store.tables s.tables);
   }
 
 -- an answer of an image that stands for a state
-pub opened_tied : (spelling : Spelling) (first : Bytes → Fault) (filter_bytes : FilterBytes) (one : SpellsOne spelling) (s : State) (image : Image) (n : ℕ) (a b : World) (r : Result Kept StoreError)
+pub opened_tied : (spelling : Spelling) (first : Bytes → Fault) (filter_bytes : FilterBytes) (one : SpellsOne spelling) (s : State) (image : Image) (n : ℕ) (a b : World) (r : Result StoreValue StoreError)
     → IsStateOf spelling s image → a.seen.held ≡ image → IsDurable a → ReadMoves n a b → MatchResult r (IsOpenedAs spelling image) (IsOpenAnswer spelling first image)
-    → MatchResult r (λ store. Tied spelling filter_bytes store s b) IsFailure
+    → MatchResult r (λ store. Represents spelling filter_bytes store s b) IsFailure
 opened_tied spelling first filter_bytes one s image n a b (Ok store) is held_is durable reads opened = tied_of spelling filter_bytes one s store image is opened n a b held_is durable reads
 opened_tied spelling first filter_bytes one s image n a b (Err why) is held_is durable reads answer = free_of spelling one s image is first why answer
 
 -- behind a sync
-pub synced_refusal : (a b c : World) (r : Result Kept StoreError) → SyncMoves a b → IfErr r (IsOpenRefusal b c) → IfErr r (IsOpenRefusal a c)
+pub synced_refusal : (a b c : World) (r : Result StoreValue StoreError) → SyncMoves a b → IfErr r (IsOpenRefusal b c) → IfErr r (IsOpenRefusal a c)
 synced_refusal a b c (Ok store) sync is = tt
 synced_refusal a b c (Err why) sync is = refusal_behind a b c (omega (arith, sync.read_faults)) sync.write_faults why is

@@ -30,9 +30,9 @@ use Rattle.image_model.specs.Opening.{IsOpened, TablesBreak, greatest_in, key_ra
 use Rattle.image_model.specs.Tables.{AreTablesOf}
 use Rattle.manifest_model.specs.Tables.{KeyRange}
 use Rattle.store_core.specs.Faults.{of_table_fault}
-use Rattle.store_core.specs.Kept.{rows_of}
+use Rattle.store_core.specs.StoreValue.{rows_of}
 use Rattle.store_core.specs.Opening.{AreOpened, IsTableAnswer, IsTablesAnswer, IsWide, opened_range}
-use Rattle.level_merge.specs.Held.{AreHeld}
+use Rattle.level_merge.specs.TablesAgree.{TablesAgree}
 use Rattle.store_core.specs.declared.error.StoreError.{StoreError}
 use Rattle.store_core.specs.declared.error.StoreError.TheVariants as error
 
@@ -136,7 +136,7 @@ ranges_are spelling settings image (t ∷ ts) are =
 
 -- where the rows' pages spell tables, these are the open ones
 pub held_of : (spelling : Spelling) (settings others : Settings) (image : Image) → SpellsOne spelling → (ts : List Opened) (tables : List Table)
-    → AreOpened spelling others ts image → AreTablesOf spelling settings (rows_of ts) tables image → AreHeld spelling settings ts tables image
+    → AreOpened spelling others ts image → AreTablesOf spelling settings (rows_of ts) tables image → TablesAgree spelling settings ts tables image
 held_of spelling settings others image one [] [] opened are = tt
 held_of spelling settings others image one [] (t ∷ tables) opened are = elim are [ ]
 held_of spelling settings others image one (o ∷ ts) [] opened are = elim are [ ]

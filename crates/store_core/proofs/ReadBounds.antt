@@ -20,7 +20,7 @@ use Rattle.table_file.specs.Opened.{Opened}
 use Rattle.table_file.specs.Search.{StandsThere, block_for, blocks_of_get}
 use Rattle.table_model.specs.Tables.{Table}
 use Rattle.store_core.proofs.Founds.{held_entries}
-use Rattle.level_merge.specs.Held.{AreHeld, IsHeld}
+use Rattle.level_merge.specs.TablesAgree.{TableAgrees, TablesAgree}
 
 blocks_counted : (o : Option ℕ) → blocks_of_get o ≡ cond (is_some o) 1 0
 blocks_counted None = refl
@@ -30,7 +30,7 @@ blocks_counted (Some n) = refl
 pub some_read : (o : Option ℕ) (n : ℕ) → o ≡ Some n → 1 ≤ blocks_of_get o
 some_read o n is = subst (λ (p : Option ℕ). 1 ≤ blocks_of_get p) (sym is) (omega arith)
 
-module _ (laws : StandingKeys) (spelling : Spelling) (settings : Settings) (opened : Opened) (t : Table) (image : Image) (held : IsHeld spelling settings opened t image) (key : Bytes) where
+module _ (laws : StandingKeys) (spelling : Spelling) (settings : Settings) (opened : Opened) (t : Table) (image : Image) (held : TableAgrees spelling settings opened t image) (key : Bytes) where
   -- a block is read exactly where the state's table is searched
   pub read_where_searched : is_some (block_for opened key) ≡ is_searched settings key t
   read_where_searched =
@@ -61,18 +61,18 @@ module _ (laws : StandingKeys) (spelling : Spelling) (settings : Settings) (open
 -- ---- of some open tables, the first one
 
 module _ (laws : StandingKeys) (spelling : Spelling) (settings : Settings) (first : Opened) (more : List Opened) (image : Image) (key : Bytes) where
-  first_of_cells : (states : List Table) → AreHeld spelling settings (first ∷ more) states image → blocks_of_get (block_for first key) ≤ searched settings key states
+  first_of_cells : (states : List Table) → TablesAgree spelling settings (first ∷ more) states image → blocks_of_get (block_for first key) ≤ searched settings key states
   first_of_cells [] held = elim held [ ]
   first_of_cells (t ∷ older) held = first_bound laws spelling settings first t image held.0 key older
 
   -- what is read of it is no more than what the state says
-  pub searched_first : (opened : List Opened) (states : List Table) → opened ≡ first ∷ more → AreHeld spelling settings opened states image
+  pub searched_first : (opened : List Opened) (states : List Table) → opened ≡ first ∷ more → TablesAgree spelling settings opened states image
       → blocks_of_get (block_for first key) ≤ searched settings key states
-  searched_first opened states split held = first_of_cells states (subst (λ (ts : List Opened). AreHeld spelling settings ts states image) split held)
+  searched_first opened states split held = first_of_cells states (subst (λ (ts : List Opened). TablesAgree spelling settings ts states image) split held)
 
   module _ (said : Option (Option Bytes)) (none : said ≡ None) (says : (blocks : List (List Entry)) → StandsThere spelling settings first blocks image → said ≡ lookup (joined blocks) key)
-      (reads : ℕ) (later : (older : List Table) → AreHeld spelling settings more older image → reads ≤ searched settings key older) where
-    next_of_cells : (states : List Table) → AreHeld spelling settings (first ∷ more) states image → blocks_of_get (block_for first key) + reads ≤ searched settings key states
+      (reads : ℕ) (later : (older : List Table) → TablesAgree spelling settings more older image → reads ≤ searched settings key older) where
+    next_of_cells : (states : List Table) → TablesAgree spelling settings (first ∷ more) states image → blocks_of_get (block_for first key) + reads ≤ searched settings key states
     next_of_cells [] held = elim held [ ]
     next_of_cells (t ∷ older) held =
         let missing : lookup t.entries key ≡ None =
@@ -80,9 +80,9 @@ module _ (laws : StandingKeys) (spelling : Spelling) (settings : Settings) (firs
         omega (arith, later older held.1, next_bound laws spelling settings first t image held.0 key older missing)
 
     -- where it has no entry of the key, nor is what is read of all
-    pub searched_on : (opened : List Opened) (states : List Table) → opened ≡ first ∷ more → AreHeld spelling settings opened states image
+    pub searched_on : (opened : List Opened) (states : List Table) → opened ≡ first ∷ more → TablesAgree spelling settings opened states image
         → blocks_of_get (block_for first key) + reads ≤ searched settings key states
-    searched_on opened states split held = next_of_cells states (subst (λ (ts : List Opened). AreHeld spelling settings ts states image) split held)
+    searched_on opened states split held = next_of_cells states (subst (λ (ts : List Opened). TablesAgree spelling settings ts states image) split held)
 
 -- where the memory has no entry of the key, as many as of the tables
 pub bound_is : (s : State) (key : Bytes) → lookup (memory s) key ≡ None → get_bound s key ≡ searched s.settings key s.tables

@@ -10,9 +10,9 @@ use Rattle.image_model.specs.Frames.{IsApartFromExtent}
 use Rattle.image_model.specs.Stands.{unnamed}
 use Rattle.level_merge.specs.FollowLaws.{FlushedIsFollowed}
 use Rattle.level_merge.specs.Follows.{Follows}
-use Rattle.level_merge.specs.Held.{AreHeld}
-use Rattle.level_merge.specs.Making.{Makes}
-use Rattle.level_merge.specs.Merging.{Merging}
+use Rattle.level_merge.specs.TablesAgree.{TablesAgree}
+use Rattle.level_merge.specs.Making.{OutputsLeft}
+use Rattle.level_merge.specs.JobValue.{JobValue}
 use Rattle.level_merge.specs.Plans.{numbered}
 use Rattle.manifest_model.specs.Version.{Version}
 use Rattle.merge_rows.specs.Steps.{numbers}
@@ -22,22 +22,22 @@ use Rattle.state_model.specs.Tends.{outstanding}
 use Rattle.table_file.specs.Opened.{Opened}
 use Rattle.table_model.specs.Laws.{IsApartFromRow}
 use Rattle.table_model.specs.Tables.{Table}
-use Rattle.store_core.specs.Kept.{rows_of}
+use Rattle.store_core.specs.StoreValue.{rows_of}
 use Rattle.store_core.specs.Running.{MayRunIn, RunsAs}
 
 -- ---- of a state of the same settings and tables
 
-pub follows_as : (spelling : Spelling) (s t : State) (opened : List Opened) (image : Image) (m : Merging) (job : Job) → t.settings ≡ s.settings → t.tables ≡ s.tables
+pub follows_as : (spelling : Spelling) (s t : State) (opened : List Opened) (image : Image) (m : JobValue) (job : Job) → t.settings ≡ s.settings → t.tables ≡ s.tables
     → Follows spelling s opened image m job → Follows spelling t opened image m job
 follows_as spelling s t opened image m job settings tables f = record {
   settings = f.settings ∙ sym settings;
   inputs = subst (λ (ts : List Table). map (numbered ts) (numbers m.merge.walks) ≡ map (λ (u : Table). Some u) job.inputs) (sym tables) f.inputs;
   output = f.output;
   to_read = f.to_read;
-  makes = subst (λ (ts : List Table). Makes spelling opened image m (outstanding ts job) job.written) (sym tables) f.makes;
+  makes = subst (λ (ts : List Table). OutputsLeft spelling opened image m (outstanding ts job) job.written) (sym tables) f.makes;
 }
 
-pub runs_as : (spelling : Spelling) (s t : State) (opened : List Opened) (image : Image) (running : Option Merging) (job : Option Job) → t.settings ≡ s.settings → t.tables ≡ s.tables
+pub runs_as : (spelling : Spelling) (s t : State) (opened : List Opened) (image : Image) (running : Option JobValue) (job : Option Job) → t.settings ≡ s.settings → t.tables ≡ s.tables
     → RunsAs spelling opened running s job image → RunsAs spelling opened running t job image
 runs_as spelling s t opened image None None settings tables runs = tt
 runs_as spelling s t opened image None (Some job) settings tables runs = absurd runs
@@ -49,14 +49,14 @@ pub none_runs : (spelling : Spelling) (s : State) (opened : List Opened) (image 
 none_runs spelling s opened image None runs = refl
 none_runs spelling s opened image (Some job) runs = absurd runs
 
-pub none_run : (spelling : Spelling) (s : State) (opened : List Opened) (image : Image) (running : Option Merging) (job : Option Job) → running ≡ None → job ≡ None
+pub none_run : (spelling : Spelling) (s : State) (opened : List Opened) (image : Image) (running : Option JobValue) (job : Option Job) → running ≡ None → job ≡ None
     → RunsAs spelling opened running s job image
 none_run spelling s opened image running job none no_job =
-    subst (λ (r : Option Merging). RunsAs spelling opened r s job image) (sym none) (subst (λ (j : Option Job). RunsAs spelling opened None s j image) (sym no_job) tt)
+    subst (λ (r : Option JobValue). RunsAs spelling opened r s job image) (sym none) (subst (λ (j : Option Job). RunsAs spelling opened None s j image) (sym no_job) tt)
 
 -- ---- with a table of level 0 before all others
 
-pub runs_behind : FlushedIsFollowed → (spelling : Spelling) (v : Version) (s after : State) (opened : List Opened) (new : Opened) (t : Table) (image : Image) (running : Option Merging)
+pub runs_behind : FlushedIsFollowed → (spelling : Spelling) (v : Version) (s after : State) (opened : List Opened) (new : Opened) (t : Table) (image : Image) (running : Option JobValue)
     (job : Option Job) → t.level ≡ 0 → MayRunIn v opened running → length opened ≡ length s.tables → after.settings ≡ s.settings → after.tables ≡ t ∷ s.tables
     → RunsAs spelling opened running s job image → RunsAs spelling (new ∷ opened) running after job image
 runs_behind law spelling v s after opened new t image None None level may many settings tables runs = tt
@@ -68,12 +68,12 @@ runs_behind law spelling v s after opened new t image (Some m) (Some job) level 
 -- ---- on another image
 
 -- what it has made stands
-pub made_held : (spelling : Spelling) (s : State) (opened : List Opened) (image : Image) (m : Merging) (job : Job) → Follows spelling s opened image m job
-    → AreHeld spelling s.settings m.made job.written image
-made_held spelling s opened image m job f = subst (λ (set : Settings). AreHeld spelling set m.made job.written image) f.settings f.makes.made_are
+pub made_held : (spelling : Spelling) (s : State) (opened : List Opened) (image : Image) (m : JobValue) (job : Job) → Follows spelling s opened image m job
+    → TablesAgree spelling s.settings m.made job.written image
+made_held spelling s opened image m job f = subst (λ (set : Settings). TablesAgree spelling set m.made job.written image) f.settings f.makes.made_are
 
 -- what is apart from tables is apart from their rows
-pub rows_apart : (spelling : Spelling) (settings : Settings) (at n : ℕ) (image : Image) (opened : List Opened) (tables : List Table) → AreHeld spelling settings opened tables image
+pub rows_apart : (spelling : Spelling) (settings : Settings) (at n : ℕ) (image : Image) (opened : List Opened) (tables : List Table) → TablesAgree spelling settings opened tables image
     → AllByRecursion (IsApartFromExtent at n) (map extent_of tables) → AllByRecursion (IsApartFromRow at n) (rows_of opened)
 rows_apart spelling settings at n image [] [] held apart = tt
 rows_apart spelling settings at n image [] (t ∷ tables) held apart = absurd held

@@ -22,7 +22,7 @@ use Rattle.store_core.proofs.Founds.{held_entries}
 use Rattle.store_core.proofs.ScanStates.{numbered_at}
 use Rattle.store_core.proofs.Tellings.{as_many, ranges_same}
 use Rattle.store_core.specs.Scans.{MayRead, admits_keys, numbers_admitting, owed}
-use Rattle.level_merge.specs.Held.{AreHeld, IsHeld}
+use Rattle.level_merge.specs.TablesAgree.{TableAgrees, TablesAgree}
 use Rattle.table_file.specs.Laws.{StandingBlocks, StandingWalks}
 use Rattle.table_file.specs.Opened.{Opened}
 use Rattle.table_file.specs.Walks.{blocks_on, to_come, walk_from}
@@ -83,14 +83,14 @@ module _ (blocks : StandingBlocks) (walks : StandingWalks) (spelling : Spelling)
 
   -- ---- one table
 
-  left_of : (all : List Opened) (number : ℕ) (o : Opened) (t : Table) → numbered all number ≡ Some o → IsHeld spelling settings o t image → walk_left all image (start all number) ≡ entries_from t.entries low
+  left_of : (all : List Opened) (number : ℕ) (o : Opened) (t : Table) → numbered all number ≡ Some o → TableAgrees spelling settings o t image → walk_left all image (start all number) ≡ entries_from t.entries low
   left_of all number o t is held =
       ap (λ (found : Option Opened). with_hand (walk_at found low).now (to_come (walk_at found low) (blocks_in found image))) is
       ∙ ap (to_come (walk_from o low)) (blocks spelling settings o held.blocks image held.stands).on_device
       ∙ (walks spelling settings o held.blocks image held.stands).all low
       ∙ ap (λ (es : List Entry). entries_from es low) (sym (held_entries spelling settings o t image held))
 
-  owed_one : (all : List Opened) (number : ℕ) (high : Option Bytes) (answer : Option (Bytes × Bytes)) (o : Opened) (t : Table) → numbered all number ≡ Some o → IsHeld spelling settings o t image
+  owed_one : (all : List Opened) (number : ℕ) (high : Option Bytes) (answer : Option (Bytes × Bytes)) (o : Opened) (t : Table) → numbered all number ≡ Some o → TableAgrees spelling settings o t image
       → owed (λ (key : Bytes). is_up_to high key && is_passed answer key) floor all image (start all number) ≤ suc (count_by (λ (e : Entry). is_stepped low high answer e.key) t.entries)
   owed_one all number high answer o t is held =
       let left = ap (count_by (λ (e : Entry). is_on_way low high answer e.key)) (left_of all number o t is held) in
@@ -99,7 +99,7 @@ module _ (blocks : StandingBlocks) (walks : StandingWalks) (spelling : Spelling)
   -- ---- all that are opened between two bounds that are not crossed
 
   module _ (high : Bytes) (order : is_before high low ≡ false) where
-    admits_it : (o : Opened) (t : Table) → IsHeld spelling settings o t image → admits_keys low (Some high) o ≡ admits_range settings low high t
+    admits_it : (o : Opened) (t : Table) → TableAgrees spelling settings o t image → admits_keys low (Some high) o ≡ admits_range settings low high t
     admits_it o t held = ap (λ (b : Bool). not b && ranged o.filter.real_bits o.filter.leaves low high) order ∙ ranges_same spelling settings image o t held low high
 
     module _ (answer : Option (Bytes × Bytes)) where
@@ -109,7 +109,7 @@ module _ (blocks : StandingBlocks) (walks : StandingWalks) (spelling : Spelling)
       abbrev owed_in : List Opened → ℕ → ℕ
       owed_in all number = owed (λ (key : Bytes). is_up_to (Some high) key && is_passed answer key) floor all image (start all number)
 
-      owed_behind : (front opened : List Opened) (tables : List Table) → AreHeld spelling settings opened tables image
+      owed_behind : (front opened : List Opened) (tables : List Table) → TablesAgree spelling settings opened tables image
           → sum_by (owed_in (front ++ opened)) (numbers_admitting low (Some high) opened) ≤ sum_by bound_of (filter (admits_range settings low high) tables)
       owed_behind front [] [] held = omega arith
       owed_behind front [] (t ∷ tables) held = elim held [ ]
@@ -138,7 +138,7 @@ module _ (blocks : StandingBlocks) (walks : StandingWalks) (spelling : Spelling)
               omega (arith, rest, ap (sum_by (owed_in (front ++ o ∷ opened))) numbers)
 
       -- one is read of each at least
-      some_behind : (opened : List Opened) (tables : List Table) → AreHeld spelling settings opened tables image
+      some_behind : (opened : List Opened) (tables : List Table) → TablesAgree spelling settings opened tables image
           → length (numbers_admitting low (Some high) opened) ≤ sum_by bound_of (filter (admits_range settings low high) tables)
       some_behind [] [] held = omega arith
       some_behind [] (t ∷ tables) held = elim held [ ]
@@ -175,7 +175,7 @@ sum_mapped : {A B : Type 0} (f : B → ℕ) (g : A → B) (xs : List A) → sum_
 sum_mapped f g [] = refl
 sum_mapped f g (x ∷ xs) = omega (arith, sum_by-cons f (g x) (map g xs), sum_by-cons (λ x. f (g x)) x xs, sum_mapped f g xs)
 
-module _ (blocks : StandingBlocks) (walks : StandingWalks) (spelling : Spelling) (s : State) (image : Image) (low : Bytes) (opened : List Opened) (held : AreHeld spelling s.settings opened s.tables image) where
+module _ (blocks : StandingBlocks) (walks : StandingWalks) (spelling : Spelling) (s : State) (image : Image) (low : Bytes) (opened : List Opened) (held : TablesAgree spelling s.settings opened s.tables image) where
   abbrev starts : Option Bytes → List TableWalk
   starts high = map (start blocks walks spelling s.settings image low opened) (numbers_admitting low high opened)
 

@@ -18,7 +18,7 @@ use Rattle.map_model.specs.SortedMap.{Bytes, Map}
 use Rattle.store_core.specs.Faults.{of_table_fault}
 use Rattle.store_core.specs.Getting.{IsLookFault, IsUndamaged}
 use Rattle.store_core.specs.Scans.{IsScanShown, IsStepFault, IsWalkShown, ScanWalk, StillComes, is_ended, pair_at, pair_in, pair_of}
-use Rattle.level_merge.specs.Held.{AreHeld}
+use Rattle.level_merge.specs.TablesAgree.{TablesAgree}
 use Rattle.store_core.specs.declared.error.StoreError.{StoreError}
 use Rattle.std.specs.Result.{IsErrAnd}
 use Rattle.table_file.specs.Faults.{HasReadCause, IsNoDamage, IsNoWant}
@@ -103,7 +103,7 @@ told_as P (Ok v) why told is = tt
 told_as P (Err e) why told is = subst P (sym told) is
 
 -- a block of a table that stands there is not damaged
-held_at : (spelling : Spelling) (settings : Settings) (image : Image) (opened : List Opened) (states : List Table) → AreHeld spelling settings opened states image → (place : ℕ) (t : Opened) → slice_get opened place ≡ Some t
+held_at : (spelling : Spelling) (settings : Settings) (image : Image) (opened : List Opened) (states : List Table) → TablesAgree spelling settings opened states image → (place : ℕ) (t : Opened) → slice_get opened place ≡ Some t
     → (blocks : List (List Entry)) × StandsThere spelling settings t blocks image
 held_at spelling settings image [] [] held place t is = absurd cc
 held_at spelling settings image [] (s ∷ states) held place t is = elim held [ ]

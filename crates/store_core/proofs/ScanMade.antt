@@ -23,10 +23,10 @@ use Rattle.state_model.specs.State.{State}
 use Rattle.state_model.specs.View.{memory, state_map}
 use Rattle.store_core.proofs.ScanBounds.{may_read, owed_bound}
 use Rattle.store_core.proofs.ScanStates.{blocks_joined, blocks_opened, numbers_there, opened_stand, state_pairs}
-use Rattle.store_core.specs.Kept.{IsOfEntries, Kept}
+use Rattle.store_core.specs.StoreValue.{IsOfEntries, StoreValue}
 use Rattle.store_core.specs.Scans.{MayRead, ScanWalk, StillComes, at_most, blocks_of_step, blocks_on_way, numbers_admitting, owed, pairs_up_to, opened_tables, step_bound}
 use Rattle.store_core.specs.Telling.{IsHighOfBytes}
-use Rattle.store_core.specs.Tied.{IsSeenAs}
+use Rattle.store_core.specs.Represents.{ReadsAs}
 use Rattle.table_file.specs.Laws.{StandingBlocks, StandingWalks}
 use Rattle.table_file.specs.Opened.{Opened}
 use Rattle.table_model.specs.Tables.{FilterBytes}
@@ -58,16 +58,16 @@ abbrev pub made_scan : Bytes → Option Bytes → List Opened → List Entry →
 made_scan low high tables entries most = record { tables = tables; merge = made_merge low high tables entries; high = high; left = most; now = None }
 
 -- by the parts that it is made of
-pub scan_is : (low : Bytes) (high : Option Bytes) (store inside : Kept) (which : List ℕ) (merge : Merge) (copy : Option Bytes) (most : Option ℕ) → inside ≡ store → which ≡ numbers_admitting low high inside.tables
+pub scan_is : (low : Bytes) (high : Option Bytes) (store inside : StoreValue) (which : List ℕ) (merge : Merge) (copy : Option Bytes) (most : Option ℕ) → inside ≡ store → which ≡ numbers_admitting low high inside.tables
     → merge ≡ merge_from which inside.tables (Some inside.memory.entries) low false → copy ≡ high
     → record { tables = inside.tables; merge = merge; high = copy; left = most; now = None } ≡ made_scan low high store.tables store.memory.entries most
 scan_is low high store inside which merge copy most same which_is merge_is copy_is =
     let made : merge ≡ made_merge low high inside.tables inside.memory.entries = merge_is ∙ ap (λ (w : List ℕ). merge_from w inside.tables (Some inside.memory.entries) low false) which_is in
     (λ i. record { tables = inside.tables; merge = made i; high = copy_is i; left = most; now = None })
-    ∙ ap (λ (k : Kept). made_scan low high k.tables k.memory.entries most) same
+    ∙ ap (λ (k : StoreValue). made_scan low high k.tables k.memory.entries most) same
 
-module _ (laws : MergedLaws) (standing : StandingMerges) (blocks : StandingBlocks) (walks : StandingWalks) (spelling : Spelling) (filter_bytes : FilterBytes) (store : Kept) (s : State) (image : Image)
-    (seen : IsSeenAs spelling filter_bytes store s image) (low : Bytes) (low_bytes : IsBytes low) (high : Option Bytes) (high_bytes : IsHighOfBytes high) where
+module _ (laws : MergedLaws) (standing : StandingMerges) (blocks : StandingBlocks) (walks : StandingWalks) (spelling : Spelling) (filter_bytes : FilterBytes) (store : StoreValue) (s : State) (image : Image)
+    (seen : ReadsAs spelling filter_bytes store s image) (low : Bytes) (low_bytes : IsBytes low) (high : Option Bytes) (high_bytes : IsHighOfBytes high) where
   abbrev merge : Merge
   merge = made_merge low high store.tables store.memory.entries
 
@@ -106,7 +106,7 @@ no_more (Some zero) n = omega arith
 no_more (Some (suc m)) n = omega arith
 
 -- between two bounds
-pub made_bounded : MergedLaws → StandingMerges → StandingBlocks → StandingWalks → (spelling : Spelling) (filter_bytes : FilterBytes) (store : Kept) (s : State) (image : Image) → IsSeenAs spelling filter_bytes store s image
+pub made_bounded : MergedLaws → StandingMerges → StandingBlocks → StandingWalks → (spelling : Spelling) (filter_bytes : FilterBytes) (store : StoreValue) (s : State) (image : Image) → ReadsAs spelling filter_bytes store s image
     → (low : Bytes) → IsBytes low → (high : Bytes) → IsBytes high → (scan : ScanWalk) (most : Option ℕ) → scan ≡ made_scan low (Some high) store.tables store.memory.entries most → step_bound scan image ≤ seek_bound s low high
 made_bounded laws standing blocks walks spelling filter_bytes store s image seen low low_bytes high high_bytes scan most is =
     let merge = made_merge low (Some high) store.tables store.memory.entries in

@@ -32,7 +32,7 @@ use Rattle.store_core.proofs.ScanPairs.{from_then_after, pairs_between}
 use Rattle.store_core.proofs.Tellings.{ranges_same}
 use Rattle.store_core.specs.Scans.{admits_keys, numbers_admitting, pairs_up_to}
 use Rattle.store_core.specs.Telling.{IsHighOfBytes}
-use Rattle.level_merge.specs.Held.{AreHeld, IsHeld}
+use Rattle.level_merge.specs.TablesAgree.{TableAgrees, TablesAgree}
 use Rattle.table_file.specs.Opened.{Opened}
 use Rattle.table_file.specs.Search.{StandsThere}
 use Rattle.table_model.specs.Tables.{FilterBytes, Table}
@@ -74,7 +74,7 @@ module _ (spelling : Spelling) (settings : Settings) (image : Image) (low : Byte
     not_crossed high key inside true is = absurd (crossed_key low high key is inside)
     not_crossed high key inside false is = refl
 
-    denied : (high : Option Bytes) → IsHighOfBytes high → (key : Bytes) → is_between low high key ≡ true → (o : Opened) (t : Table) → IsHeld spelling settings o t image → IsSoundTable t
+    denied : (high : Option Bytes) → IsHighOfBytes high → (key : Bytes) → is_between low high key ≡ true → (o : Opened) (t : Table) → TableAgrees spelling settings o t image → IsSoundTable t
         → admits_keys low high o ≡ false → (said : Option (Option Bytes)) → lookup t.entries key ≡ said → said ≡ None
     denied None high_bytes key inside o t held sound closed said is = absurd (false≢true (sym closed))
     denied (Some high) high_bytes key inside o t held sound closed None is = refl
@@ -85,7 +85,7 @@ module _ (spelling : Spelling) (settings : Settings) (image : Image) (low : Byte
 
     -- so those that are opened say of such a key what all say
     pub opened_say : (high : Option Bytes) → IsHighOfBytes high → (key : Bytes) → is_between low high key ≡ true → (opened : List Opened) (tables : List Table)
-        → AreHeld spelling settings opened tables image → AllByRecursion IsSoundTable tables → first_found (entries_opened low high opened tables) key ≡ first_found (lists_of tables) key
+        → TablesAgree spelling settings opened tables image → AllByRecursion IsSoundTable tables → first_found (entries_opened low high opened tables) key ≡ first_found (lists_of tables) key
     opened_say high high_bytes key inside [] [] held sound = refl
     opened_say high high_bytes key inside [] (t ∷ tables) held sound = elim held [ ]
     opened_say high high_bytes key inside (o ∷ opened) [] held sound = elim held [ ]
@@ -108,13 +108,13 @@ module _ (spelling : Spelling) (settings : Settings) (image : Image) (low : Byte
     | false ↦ opened_rise high opened tables sound.1
   ]
 
-  abbrev pub blocks_opened : (high : Option Bytes) (opened : List Opened) (tables : List Table) → AreHeld spelling settings opened tables image → List (List (List Entry))
+  abbrev pub blocks_opened : (high : Option Bytes) (opened : List Opened) (tables : List Table) → TablesAgree spelling settings opened tables image → List (List (List Entry))
   blocks_opened high [] [] held = []
   blocks_opened high [] (t ∷ tables) held = []
   blocks_opened high (o ∷ opened) [] held = []
   blocks_opened high (o ∷ opened) (t ∷ tables) held = cond (admits_keys low high o) (held.0.blocks ∷ blocks_opened high opened tables held.1) (blocks_opened high opened tables held.1)
 
-  pub blocks_joined : (high : Option Bytes) (opened : List Opened) (tables : List Table) (held : AreHeld spelling settings opened tables image)
+  pub blocks_joined : (high : Option Bytes) (opened : List Opened) (tables : List Table) (held : TablesAgree spelling settings opened tables image)
       → map (λ (b : List (List Entry)). joined b) (blocks_opened high opened tables held) ≡ entries_opened low high opened tables
   blocks_joined high [] [] held = refl
   blocks_joined high [] (t ∷ tables) held = elim held [ ]
@@ -127,7 +127,7 @@ module _ (spelling : Spelling) (settings : Settings) (image : Image) (low : Byte
       ]
 
   -- by their numbers, with those before them
-  stand_behind : (high : Option Bytes) (front opened : List Opened) (tables : List Table) (held : AreHeld spelling settings opened tables image)
+  stand_behind : (high : Option Bytes) (front opened : List Opened) (tables : List Table) (held : TablesAgree spelling settings opened tables image)
       → NumberedStand spelling settings (front ++ opened) image (numbers_admitting low high opened) (blocks_opened high opened tables held)
   stand_behind high front [] [] held = tt
   stand_behind high front [] (t ∷ tables) held = elim held [ ]
@@ -141,7 +141,7 @@ module _ (spelling : Spelling) (settings : Settings) (image : Image) (low : Byte
         | false ↦ rest
       ]
 
-  pub opened_stand : (high : Option Bytes) (opened : List Opened) (tables : List Table) (held : AreHeld spelling settings opened tables image)
+  pub opened_stand : (high : Option Bytes) (opened : List Opened) (tables : List Table) (held : TablesAgree spelling settings opened tables image)
       → NumberedStand spelling settings opened image (numbers_admitting low high opened) (blocks_opened high opened tables held)
   opened_stand high opened tables held = stand_behind high [] opened tables held
 
@@ -167,7 +167,7 @@ merged_say laws (entries ∷ older) key rise =
     ∙ ap (option_or (lookup entries key)) (merged_say laws older key rise.1)
 
 module _ (laws : MergedLaws) (spelling : Spelling) (filter_bytes : FilterBytes) (s : State) (image : Image) (low : Bytes) (low_bytes : IsBytes low) (high : Option Bytes) (high_bytes : IsHighOfBytes high)
-    (sound : IsSound filter_bytes s) (opened : List Opened) (held : AreHeld spelling s.settings opened s.tables image) where
+    (sound : IsSound filter_bytes s) (opened : List Opened) (held : TablesAgree spelling s.settings opened s.tables image) where
   abbrev pub all_sources : List (List Entry)
   all_sources = memory s ∷ entries_opened low high opened s.tables
 

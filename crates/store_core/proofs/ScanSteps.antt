@@ -18,7 +18,7 @@ use Rattle.merge_rows.specs.Steps.{HandsOutRow, IsFaultStep, IsPaced, IsRowStep,
 use Rattle.state_model.specs.Bounds.{is_passed}
 use Rattle.store_core.proofs.ScanPairs.{ArePairsAbove, pairs_above}
 use Rattle.store_core.proofs.ScanReads.{paid, wanted_owed}
-use Rattle.level_merge.specs.Held.{AreHeld}
+use Rattle.level_merge.specs.TablesAgree.{TablesAgree}
 use Rattle.store_core.specs.Scans.{ScanWalk, StillComes, all_owed, at_most, blocks_of_step, blocks_on_way, given, is_ended, is_on_the_way, left_behind, pair_at, pair_in, pair_of, pairs_up_to, step_bound, with_first, before_pairs}
 use Rattle.table_file.specs.Opened.{Opened}
 

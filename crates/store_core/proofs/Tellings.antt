@@ -14,10 +14,10 @@ use Rattle.map_model.specs.SortedMap.{Bytes}
 use Rattle.state_model.specs.Bounds.{admits, admits_range, admitted, blocks_read, estimate, is_searched, table_leaves}
 use Rattle.state_model.specs.State.{State}
 use Rattle.state_model.specs.View.{memory}
-use Rattle.store_core.specs.Kept.{Kept}
+use Rattle.store_core.specs.StoreValue.{StoreValue}
 use Rattle.store_core.specs.Telling.{is_admitting, is_read_for, tally_of}
-use Rattle.level_merge.specs.Held.{AreHeld, IsHeld}
-use Rattle.store_core.specs.Tied.{IsSeenAs, Tied}
+use Rattle.level_merge.specs.TablesAgree.{TableAgrees, TablesAgree}
+use Rattle.store_core.specs.Represents.{ReadsAs, Represents}
 use Rattle.store_core.proofs.Founds.{held_entries}
 use Rattle.store_core.proofs.ReadBounds.{read_where_searched}
 use Rattle.table_file.specs.Laws.{StandingKeys}
@@ -25,7 +25,7 @@ use Rattle.table_file.specs.Opened.{Opened}
 use Rattle.table_model.specs.Tables.{FilterBytes, Table}
 
 module _ (spelling : Spelling) (settings : Settings) (image : Image) where
-  module _ (opened : Opened) (t : Table) (held : IsHeld spelling settings opened t image) where
+  module _ (opened : Opened) (t : Table) (held : TableAgrees spelling settings opened t image) where
     leaves_are : opened.filter.leaves ≡ table_leaves settings t
     leaves_are = held.stands.leaves_are ∙ ap (λ (es : List Entry). leaves_of settings.hash_bits settings.real_bits (keys_of es)) (sym (held_entries spelling settings opened t image held))
 
@@ -45,30 +45,30 @@ module _ (spelling : Spelling) (settings : Settings) (image : Image) where
 
   -- ---- of all of them
 
-  pub as_many : (opened : List Opened) (tables : List Table) → AreHeld spelling settings opened tables image → length opened ≡ length tables
+  pub as_many : (opened : List Opened) (tables : List Table) → TablesAgree spelling settings opened tables image → length opened ≡ length tables
   as_many [] [] held = refl
   as_many [] (t ∷ tables) held = elim held [ ]
   as_many (o ∷ opened) [] held = elim held [ ]
   as_many (o ∷ opened) (t ∷ tables) held = omega (arith, as_many opened tables held.1)
 
   -- a number of each open table that is the number of the state's
-  sums_same : (f : Opened → ℕ) (g : Table → ℕ) → ((o : Opened) (t : Table) → IsHeld spelling settings o t image → f o ≡ g t)
-      → (opened : List Opened) (tables : List Table) → AreHeld spelling settings opened tables image → sum_by f opened ≡ sum_by g tables
+  sums_same : (f : Opened → ℕ) (g : Table → ℕ) → ((o : Opened) (t : Table) → TableAgrees spelling settings o t image → f o ≡ g t)
+      → (opened : List Opened) (tables : List Table) → TablesAgree spelling settings opened tables image → sum_by f opened ≡ sum_by g tables
   sums_same f g same [] [] held = refl
   sums_same f g same [] (t ∷ tables) held = elim held [ ]
   sums_same f g same (o ∷ opened) [] held = elim held [ ]
   sums_same f g same (o ∷ opened) (t ∷ tables) held =
       omega (arith, sum_by-cons f o opened, sum_by-cons g t tables, same o t held.0, sums_same f g same opened tables held.1)
 
-  pub admitted_same : (key : Bytes) (opened : List Opened) (tables : List Table) → AreHeld spelling settings opened tables image → count_by (is_admitting key) opened ≡ count_by (admits settings key) tables
+  pub admitted_same : (key : Bytes) (opened : List Opened) (tables : List Table) → TablesAgree spelling settings opened tables image → count_by (is_admitting key) opened ≡ count_by (admits settings key) tables
   admitted_same key = sums_same (λ (o : Opened). cond (is_admitting key o) 1 0) (λ (t : Table). cond (admits settings key t) 1 0)
       (λ o t held. ap (λ (b : Bool). cond b 1 0) (admits_same o t held key))
 
-  pub all_tallies_same : (low high : Bytes) (opened : List Opened) (tables : List Table) → AreHeld spelling settings opened tables image
+  pub all_tallies_same : (low high : Bytes) (opened : List Opened) (tables : List Table) → TablesAgree spelling settings opened tables image
       → sum_by (tally_of low high) opened ≡ sum_by (λ (t : Table). tally settings.real_bits (table_leaves settings t) low high) tables
   all_tallies_same low high = sums_same (tally_of low high) (λ (t : Table). tally settings.real_bits (table_leaves settings t) low high) (λ o t held. tallies_same o t held low high)
 
-  pub read_same : StandingKeys → (key : Bytes) (opened : List Opened) (tables : List Table) → AreHeld spelling settings opened tables image
+  pub read_same : StandingKeys → (key : Bytes) (opened : List Opened) (tables : List Table) → TablesAgree spelling settings opened tables image
       → count_by (is_read_for key) opened ≡ count_by (is_searched settings key) tables
   read_same laws key = sums_same (λ (o : Opened). cond (is_read_for key o) 1 0) (λ (t : Table). cond (is_searched settings key t) 1 0)
       (λ o t held. ap (λ (b : Bool). cond b 1 0) (read_where_searched laws spelling settings o t image held key))
@@ -76,11 +76,11 @@ module _ (spelling : Spelling) (settings : Settings) (image : Image) where
 -- ---- of a store that is seen as a state
 
 -- as the device reads
-pub seen_as : (spelling : Spelling) (filter_bytes : FilterBytes) (store : Kept) (s : State) (w : World) → w.leaves w.moment w.seen.held → Tied spelling filter_bytes store s w
-    → IsSeenAs spelling filter_bytes store s w.seen.held
+pub seen_as : (spelling : Spelling) (filter_bytes : FilterBytes) (store : StoreValue) (s : State) (w : World) → w.leaves w.moment w.seen.held → Represents spelling filter_bytes store s w
+    → ReadsAs spelling filter_bytes store s w.seen.held
 seen_as spelling filter_bytes store s w current tied = record { sound = tied.sound; under = tied.images w.seen.held current; memory = tied.memory }
 
-module _ (spelling : Spelling) (filter_bytes : FilterBytes) (store : Kept) (s : State) (image : Image) (seen : IsSeenAs spelling filter_bytes store s image) where
+module _ (spelling : Spelling) (filter_bytes : FilterBytes) (store : StoreValue) (s : State) (image : Image) (seen : ReadsAs spelling filter_bytes store s image) where
   pub seen_many : length store.tables ≡ length s.tables
   seen_many = as_many spelling s.settings image store.tables s.tables seen.under.tables
 

@@ -14,7 +14,7 @@ use Rattle.filter_api.specs.declared.settings.Settings.{Settings}
 use Rattle.image_model.specs.Stands.{StandsForMap}
 use Rattle.key_base.specs.Limits.{last_epoch}
 use Rattle.level_merge.specs.Follows.{IsJobRefusal}
-use Rattle.level_merge.specs.Merging.{Merging}
+use Rattle.level_merge.specs.JobValue.{JobValue}
 use Rattle.level_merge.specs.declared.fault.JobFault.{JobFault}
 use Rattle.level_merge.specs.declared.fault.JobFault.TheVariants as fault
 use Rattle.level_merge.specs.declared.fault.Sliced.TheVariants as sliced
@@ -31,9 +31,9 @@ use Rattle.state_model.specs.View.{state_map}
 use Rattle.table_model.specs.Tables.{FilterBytes, Table, table_of, table_pages}
 use Rattle.store_core.specs.Answers.{HasCause, is_write, stopped_by, told, told_limit}
 use Rattle.store_core.specs.Installing.{Installs, IsInstallRefusal}
-use Rattle.store_core.specs.Kept.{IsWhole, Kept, rows_of}
+use Rattle.store_core.specs.StoreValue.{IsConsistent, StoreValue, rows_of}
 use Rattle.store_core.specs.Tending.{GoesOn, IsNext, SlicesJob, Tends, answer_to, told_slice}
-use Rattle.store_core.specs.Tied.{IsUnder, Tied}
+use Rattle.store_core.specs.Represents.{Represents, RepresentsOn}
 use Rattle.store_core.specs.declared.error.StoreError.{StoreError}
 use Rattle.store_core.specs.declared.error.StoreError.TheVariants as error
 use Rattle.store_core.specs.declared.tending.Tended.{Tended}
@@ -51,14 +51,14 @@ rose_since : (a b c : ℕ) → a ≤ b → Rose b c → Rose a c
 rose_since a b c later rose = omega (arith, later, rose)
 
 -- whether it is stopped is no part of what it is tied to
-pub tied_stopped : (spelling : Spelling) (bytes : FilterBytes) (store : Kept) (s : State) (w : World) (stopped : Bool) → Tied spelling bytes store s w → Tied spelling bytes (record store { stopped = stopped }) s w
+pub tied_stopped : (spelling : Spelling) (bytes : FilterBytes) (store : StoreValue) (s : State) (w : World) (stopped : Bool) → Represents spelling bytes store s w → Represents spelling bytes (record store { stopped = stopped }) s w
 tied_stopped spelling bytes store s w stopped tied = record { sound = tied.sound; none_kept = tied.none_kept; images = tied.images; log = tied.log; memory = tied.memory; blocks = tied.blocks }
 
 -- a store without a merge, stopped or not
-pub tied_none : (spelling : Spelling) (bytes : FilterBytes) (store : Kept) (s : State) (w : World) (stopped : Bool) → store.job ≡ None → Tied spelling bytes (record store { job = None }) s w
-    → Tied spelling bytes (record store { stopped = stopped }) s w
+pub tied_none : (spelling : Spelling) (bytes : FilterBytes) (store : StoreValue) (s : State) (w : World) (stopped : Bool) → store.job ≡ None → Represents spelling bytes (record store { job = None }) s w
+    → Represents spelling bytes (record store { stopped = stopped }) s w
 tied_none spelling bytes store s w stopped none tied =
-    subst (λ (running : Option Merging). Tied spelling bytes (record store { stopped = stopped; job = running }) s w) (sym none)
+    subst (λ (running : Option JobValue). Represents spelling bytes (record store { stopped = stopped; job = running }) s w) (sym none)
     (tied_stopped spelling bytes (record store { job = None }) s w stopped tied)
 
 -- ---- where something may be written
@@ -116,7 +116,7 @@ module _ (spelling : Spelling) (bytes : FilterBytes) (s : State) where
   Map = StandsForMap spelling (state_map s)
 
   -- nothing was written, and the job is dropped
-  module _ (store : Kept) (a b : World) (crash : Meanwhile Map a b) (tied : store.stopped ≡ false → Tied spelling bytes store (without_job s) b) where
+  module _ (store : StoreValue) (a b : World) (crash : Meanwhile Map a b) (tied : store.stopped ≡ false → Represents spelling bytes store (without_job s) b) where
     pub wants_memory : Tends spelling bytes s (told_slice (Err error.Memory)) store a b
     wants_memory = record { tended = model.Refused reply.Memory; told_is = refl; after = without_job s; slice = model.no_memory tt; crash = crash; tied = tied }
 
@@ -166,7 +166,7 @@ module _ (spelling : Spelling) (bytes : FilterBytes) (s : State) where
 
   -- ---- the job went on
 
-  module _ (job : Job) (runs : Runs s job) (store : Kept) (m : Merging) (a b : World) where
+  module _ (job : Job) (runs : Runs s job) (store : StoreValue) (m : JobValue) (a b : World) where
     -- something is left of it
     pub works_on : SlicesJob spelling bytes store (with_job s job) job m (Ok sliced.Working) a b → Tends spelling bytes s (told_slice (Ok tended.Worked)) (record store { job = Some m }) a b
     works_on slices = record {
@@ -179,7 +179,7 @@ module _ (spelling : Spelling) (bytes : FilterBytes) (s : State) where
     }
 
     -- nothing is left of it
-    module _ (slices : SlicesJob spelling bytes store (with_job s job) job m (Ok sliced.Ready) a b) (after : Kept) (c : World) where
+    module _ (slices : SlicesJob spelling bytes store (with_job s job) job m (Ok sliced.Ready) a b) (after : StoreValue) (c : World) where
       abbrev last : Job
       last = slices.done.later
 
@@ -216,27 +216,27 @@ module _ (spelling : Spelling) (bytes : FilterBytes) (s : State) where
 
   -- ---- before a slice
 
-  module _ (store : Kept) (w : World) (tied : Tied spelling bytes store s w) where
+  module _ (store : StoreValue) (w : World) (tied : Represents spelling bytes store s w) where
     crash_now : (few : store.manifest.slot ≤ 1) → rows_of store.tables ≡ store.manifest.version.rows → Meanwhile Map w w
     crash_now few rows = begun_at Map w (λ image left. under_stands spelling store.manifest store.tables store.job few rows s image (tied.images image left))
 
     -- no merge could be begun
-    pub none_begun : IsWhole store → Tends spelling bytes s (told_slice (Err error.Memory)) (record store { job = None }) w w
+    pub none_begun : IsConsistent store → Tends spelling bytes s (told_slice (Err error.Memory)) (record store { job = None }) w w
     none_begun whole = wants_memory (record store { job = None }) w w (crash_now whole.slot whole.rows) (λ _. tied_dropped spelling bytes store s w tied)
 
     -- nothing is to be merged
-    pub idles : IsWhole store → store.job ≡ None → IsNext spelling store s None → Tends spelling bytes s (told_slice (Ok tended.Idle)) (record store { job = None }) w w
+    pub idles : IsConsistent store → store.job ≡ None → IsNext spelling store s None → Tends spelling bytes s (told_slice (Ok tended.Idle)) (record store { job = None }) w w
     idles whole none next = record {
       tended = model.Idle;
       told_is = refl;
       after = s;
       slice = model.idle next.0 next.1;
       crash = crash_now whole.slot whole.rows;
-      tied = λ _. subst (λ (running : Option Merging). Tied spelling bytes (record store { job = running }) s w) none tied;
+      tied = λ _. subst (λ (running : Option JobValue). Represents spelling bytes (record store { job = running }) s w) none tied;
     }
 
     -- a merge is taken up
-    pub taken_up : (m : Merging) (next : IsNext spelling store s (Some m)) → Tied spelling bytes (record store { job = Some m }) (with_job s next.0) w
+    pub taken_up : (m : JobValue) (next : IsNext spelling store s (Some m)) → Represents spelling bytes (record store { job = Some m }) (with_job s next.0) w
     taken_up m next = record {
       sound = runs_sound bytes s next.0 tied.sound next.1;
       none_kept = tied.none_kept;

@@ -12,9 +12,9 @@ use Rattle.filter_api.specs.declared.settings.Settings.{Settings}
 use Rattle.image_model.specs.Stands.{IsReady, settings_of}
 use Rattle.level_merge.specs.FollowLaws.{BegunFollows}
 use Rattle.level_merge.specs.Follows.{Follows}
-use Rattle.level_merge.specs.Held.{AreHeld}
+use Rattle.level_merge.specs.TablesAgree.{TablesAgree}
 use Rattle.level_merge.specs.Laws.{StandingAgrees}
-use Rattle.level_merge.specs.Merging.{Merging, begun}
+use Rattle.level_merge.specs.JobValue.{JobValue, begun}
 use Rattle.level_merge.specs.Plans.{Agree, Agrees, IsPlanOf, MayStart, PlanByNumbers, numbered}
 use Rattle.manifest_model.proofs.Rows.{rows_keep}
 use Rattle.manifest_model.specs.Laws.{IsVersion}
@@ -29,10 +29,10 @@ use Rattle.state_model.specs.Tends.{Runs, started, with_job}
 use Rattle.table_file.specs.Opened.{Opened}
 use Rattle.table_model.specs.Images.{StandsInExtent}
 use Rattle.table_model.specs.Tables.{Table}
-use Rattle.store_core.specs.Kept.{Kept}
+use Rattle.store_core.specs.StoreValue.{StoreValue}
 use Rattle.store_core.specs.Running.{HasMoreToMake, IsRun, MayRunIn, RunsAs, extents_with}
 use Rattle.store_core.specs.Tending.{IsBegunAmong, IsNext}
-use Rattle.store_core.specs.Tied.{IsUnder}
+use Rattle.store_core.specs.Represents.{RepresentsOn}
 use Rattle.store_core.proofs.Runs.{follows_as, none_runs}
 
 -- the state with the job that it has
@@ -46,30 +46,30 @@ ready_with spelling slot other said v s job image stand ready = record { current
 
 -- ---- the one that runs
 
-module _ (spelling : Spelling) (store : Kept) (s : State) where
+module _ (spelling : Spelling) (store : StoreValue) (s : State) where
   abbrev Under : Image → Type 0
-  Under = IsUnder spelling store.manifest store.tables store.job s
+  Under = RepresentsOn spelling store.manifest store.tables store.job s
 
-  runs_with : (m : Merging) (job : Option Job) (image : Image) → store.job ≡ Some m → s.job ≡ job → Under image → RunsAs spelling store.tables (Some m) s job image
+  runs_with : (m : JobValue) (job : Option Job) (image : Image) → store.job ≡ Some m → s.job ≡ job → Under image → RunsAs spelling store.tables (Some m) s job image
   runs_with m job image is here under =
       subst (λ (j : Option Job). RunsAs spelling store.tables (Some m) s j image) here
-      (subst (λ (running : Option Merging). RunsAs spelling store.tables running s s.job image) is under.job)
+      (subst (λ (running : Option JobValue). RunsAs spelling store.tables running s s.job image) is under.job)
 
-  next_runs : (m : Merging) (image : Image) → store.job ≡ Some m → Under image → IsNext spelling store s (Some m)
+  next_runs : (m : JobValue) (image : Image) → store.job ≡ Some m → Under image → IsNext spelling store s (Some m)
   next_runs m image is under = elim s.job as (λ j. s.job ≡ j → IsNext spelling store s (Some m)) [
     | Some job ↦ λ here. (
       job,
       inl here,
       λ other there.
-          subst (λ (t : State). IsUnder spelling store.manifest store.tables (Some m) t other) (with_same s job here)
-          (subst (λ (running : Option Merging). IsUnder spelling store.manifest store.tables running s other) is there),
+          subst (λ (t : State). RepresentsOn spelling store.manifest store.tables (Some m) t other) (with_same s job here)
+          (subst (λ (running : Option JobValue). RepresentsOn spelling store.manifest store.tables running s other) is there),
     )
     | None ↦ λ none. absurd (runs_with m None image is none under)
   ] refl
 
   none_in : store.job ≡ None → (image : Image) → Under image → s.job ≡ None
   none_in none image under =
-      none_runs spelling s store.tables image s.job (subst (λ (running : Option Merging). RunsAs spelling store.tables running s s.job image) none under.job)
+      none_runs spelling s store.tables image s.job (subst (λ (running : Option JobValue). RunsAs spelling store.tables running s s.job image) none under.job)
 
   -- ---- none
 
@@ -77,7 +77,7 @@ module _ (spelling : Spelling) (store : Kept) (s : State) where
   next_none image none under is = (none_in none image under, is)
 
   -- the one that runs, if one does
-  pub next_taken : (running : Option Merging) (image : Image) → running ≡ store.job → is_some running ≡ true → Under image → IsNext spelling store s running
+  pub next_taken : (running : Option JobValue) (image : Image) → running ≡ store.job → is_some running ≡ true → Under image → IsNext spelling store s running
   next_taken None image is some under = absurd (false≢true some)
   next_taken (Some m) image is some under = next_runs m image (sym is) under
 
@@ -87,7 +87,7 @@ module _ (spelling : Spelling) (store : Kept) (s : State) where
   stands_with plan image none under = subst (λ (j : Option Job). AllByRecursion (StandsInExtent spelling s.settings image) (written_by j ++ s.kept)) none under.ready.unnamed
 
   begins_on : BegunFollows → (p : PlanByNumbers) (plan : Plan) (set : Settings) (image : Image) → s.job ≡ None → Under image → MayStart store.tables p → IsPlanOf s.tables (Some p) (Some plan)
-      → set ≡ settings_of store.manifest.version → IsUnder spelling store.manifest store.tables (Some (begun p set store.tables)) (with_job s (started plan)) image
+      → set ≡ settings_of store.manifest.version → RepresentsOn spelling store.manifest store.tables (Some (begun p set store.tables)) (with_job s (started plan)) image
   begins_on begins p plan set image none under may is same =
       let follows = begins spelling s store.tables image p plan under.tables may is in
       let here = subst (λ (t : Settings). Follows spelling s store.tables image (begun p t store.tables) (started plan)) (under.ready.named.settings ∙ sym same) follows in
@@ -112,7 +112,7 @@ not_chosen tables None is = refl
 not_chosen tables (Some plan) is = absurd is
 
 -- tables that stand agree with those of the state
-pub all_agree : StandingAgrees → (spelling : Spelling) (settings : Settings) (image : Image) (opened : List Opened) (tables : List Table) → AreHeld spelling settings opened tables image → Agree opened tables
+pub all_agree : StandingAgrees → (spelling : Spelling) (settings : Settings) (image : Image) (opened : List Opened) (tables : List Table) → TablesAgree spelling settings opened tables image → Agree opened tables
 all_agree law spelling settings image [] [] held = tt
 all_agree law spelling settings image [] (t ∷ tables) held = absurd held
 all_agree law spelling settings image (o ∷ opened) [] held = absurd held
@@ -146,18 +146,18 @@ begun_has_more tables p set may =
     let many = sym (length-map (begun p set tables).merge.walks number_of_walk) ∙ ap length (numbers_from tables [] p.inputs) in
     omega (arith, may.some, many)
 
-pub begun_may_run : (v : Version) (tables : List Opened) (set : Settings) (found : Option Merging) → IsVersion v → IsBegunAmong tables set found → MayRunIn v tables found
+pub begun_may_run : (v : Version) (tables : List Opened) (set : Settings) (found : Option JobValue) → IsVersion v → IsBegunAmong tables set found → MayRunIn v tables found
 begun_may_run v tables set None version is = tt
 begun_may_run v tables set (Some m) version is =
-    subst (λ (x : Merging). IsRun v tables x × HasMoreToMake x) (sym is.2) (begun_runs v tables is.0 set version is.1, begun_has_more tables is.0 set is.1)
+    subst (λ (x : JobValue). IsRun v tables x × HasMoreToMake x) (sym is.2) (begun_runs v tables is.0 set version is.1, begun_has_more tables is.0 set is.1)
 
 -- ---- with its device
 
-module _ (spelling : Spelling) (store : Kept) (s : State) (agrees : StandingAgrees) (begins : BegunFollows) (set : Settings) (same : set ≡ settings_of store.manifest.version)
-    (none : store.job ≡ None) (image : Image) (under : IsUnder spelling store.manifest store.tables store.job s image) where
+module _ (spelling : Spelling) (store : StoreValue) (s : State) (agrees : StandingAgrees) (begins : BegunFollows) (set : Settings) (same : set ≡ settings_of store.manifest.version)
+    (none : store.job ≡ None) (image : Image) (under : RepresentsOn spelling store.manifest store.tables store.job s image) where
   -- the one that begins
-  pub next_of_begun : (found : Option Merging) → IsBegunAmong store.tables set found → IsNext spelling store s found
+  pub next_of_begun : (found : Option JobValue) → IsBegunAmong store.tables set found → IsNext spelling store s found
   next_of_begun None is = next_none spelling store s image none under (is s.tables (all_agree agrees spelling s.settings image store.tables s.tables under.tables))
   next_of_begun (Some m) is =
-      subst (λ (x : Merging). IsNext spelling store s (Some x)) (sym is.2)
+      subst (λ (x : JobValue). IsNext spelling store s (Some x)) (sym is.2)
       (next_begins spelling store s begins is.0 set image none under is.1 (is.3 s.tables (all_agree agrees spelling s.settings image store.tables s.tables under.tables)) same)

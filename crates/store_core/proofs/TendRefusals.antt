@@ -7,7 +7,7 @@ use Rattle.disk_trait.specs.declared.fault.DiskFault.{DiskFault}
 use Rattle.disk_trait.specs.declared.fault.Op.{Op}
 use Rattle.disk_trait.specs.declared.fault.Op.TheVariants as op
 use Rattle.disk_trait.proofs.Calls.{moves_joined, moves_of_write}
-use Rattle.level_merge.specs.Slices.{IsMetUnwritten, IsSliceFault}
+use Rattle.level_merge.specs.SliceSteps.{FailsBeforeWrite, IsSliceFault}
 use Rattle.level_merge.specs.declared.fault.JobFault.{JobFault}
 use Rattle.level_merge.specs.declared.fault.JobFault.TheVariants as fault
 use Rattle.manifest_model.specs.Version.{Version}
@@ -15,7 +15,7 @@ use Rattle.table_file.specs.Opened.{Opened}
 use Rattle.table_file.specs.declared.fault.TableFault.TheVariants as table
 use Rattle.store_core.specs.Answers.{is_write}
 use Rattle.store_core.specs.Installing.{IsInstallRefusal}
-use Rattle.store_core.specs.Kept.{Kept}
+use Rattle.store_core.specs.StoreValue.{StoreValue}
 use Rattle.store_core.specs.Opening.{FaultRose}
 use Rattle.store_core.specs.Scans.{IsScanShown}
 use Rattle.store_core.specs.Tending.{IsTended, IsTendRefusal, SomeMoves, answer_to}
@@ -31,7 +31,7 @@ not_read_writes op.Sync other = refl
 
 module _ (tells : Bool) (tables : List Opened) (which : List ℕ) (a b : World) where
   -- a slice of the merge was refused
-  pub slice_refusal : (before after : Kept) (epoch : ℕ) (why : JobFault) → after.job ≡ None → IsSliceFault tells tables which a b why
+  pub slice_refusal : (before after : StoreValue) (epoch : ℕ) (why : JobFault) → after.job ≡ None → IsSliceFault tells tables which a b why
       → MatchResult (answer_to why) (IsTended before after a b) (IsTendRefusal false epoch a b)
   slice_refusal before after epoch fault.Memory gone is = refl
   slice_refusal before after epoch (fault.Device cause) gone (inl read) = (refl, inl read)
@@ -39,7 +39,7 @@ module _ (tells : Bool) (tables : List Opened) (which : List ℕ) (a b : World) 
   slice_refusal before after epoch (fault.Damaged damage) gone is = refl
   slice_refusal before after epoch (fault.Full need gap) gone is = (gone, is)
 
-  pub slice_shown : (why : JobFault) → IsTrue tells → IsSliceFault tells tables which a b why → IsMetUnwritten a b why → IfErr (answer_to why) (IsScanShown tables b.seen.held)
+  pub slice_shown : (why : JobFault) → IsTrue tells → IsSliceFault tells tables which a b why → FailsBeforeWrite a b why → IfErr (answer_to why) (IsScanShown tables b.seen.held)
   slice_shown fault.Memory t is same = tt
   slice_shown (fault.Device cause) t is same = tt
   slice_shown (fault.Damaged damage) t is same =

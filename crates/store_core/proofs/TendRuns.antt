@@ -18,9 +18,9 @@ use Rattle.extent_model.proofs.Lists.{Pairs, all_pairs, pairs_of}
 use Rattle.extent_model.specs.Extents.{AreApart, AreLaid, Extent, IsOnDevice}
 use Rattle.filter_api.specs.Spellings.{Spelling}
 use Rattle.filter_model.specs.Leaves.{Leaf}
-use Rattle.level_merge.specs.Merging.{AreAllWritten, Merging}
+use Rattle.level_merge.specs.JobValue.{AreAllWritten, JobValue}
 use Rattle.level_merge.specs.Outputs.{extent_at}
-use Rattle.level_merge.specs.Slices.{AddsOutput, IsRowOf, MayMakeAsMany, SliceMoves}
+use Rattle.level_merge.specs.SliceSteps.{AddsOutput, IsRowOf, MayMakeAsMany, SliceMoves}
 use Rattle.level_merge.specs.declared.fault.JobFault.{JobFault}
 use Rattle.level_merge.specs.declared.fault.Sliced.{Sliced}
 use Rattle.level_merge.specs.declared.fault.Sliced.TheVariants as sliced
@@ -69,7 +69,7 @@ row_of_table level first entries filter_bytes small table = record {
   entries = table.some;
 }
 
-module _ (spelling : Spelling) (cutoff : ℕ → List Leaf → ℕ) (v : Version) (tables : List Opened) (old new : Merging) (free after : Taken) (run : IsRun v tables old) where
+module _ (spelling : Spelling) (cutoff : ℕ → List Leaf → ℕ) (v : Version) (tables : List Opened) (old new : JobValue) (free after : Taken) (run : IsRun v tables old) where
   row_is_table : (row : Row) → old.output ≤ 6 → IsRowOf spelling cutoff old row → IsTableRow row
   row_is_table row small of =
       subst IsTableRow (sym of.row_is)

@@ -19,11 +19,11 @@ use Rattle.filter_model.specs.Leaves.{Leaf}
 use Rattle.image_model.proofs.Frames.{free_apart}
 use Rattle.image_model.specs.Stands.{StandsForMap}
 use Rattle.level_merge.specs.FollowLaws.{OtherImageIsFollowed}
-use Rattle.level_merge.specs.Follows.{AreTaken, Follows, IsJobRefusal, SliceFollows, Slices, SlicesTo}
-use Rattle.level_merge.specs.Held.{AreHeld}
-use Rattle.level_merge.specs.Merging.{Merging}
+use Rattle.level_merge.specs.Follows.{AreTaken, Follows, FollowsAnyJob, IsJobRefusal, JobProgress, ProgressOrRefusal}
+use Rattle.level_merge.specs.TablesAgree.{TablesAgree}
+use Rattle.level_merge.specs.JobValue.{JobValue}
 use Rattle.level_merge.specs.Outputs.{extent_at}
-use Rattle.level_merge.specs.Slices.{AddsOutput, SliceMoves}
+use Rattle.level_merge.specs.SliceSteps.{AddsOutput, SliceMoves}
 use Rattle.level_merge.specs.declared.fault.JobFault.{JobFault}
 use Rattle.level_merge.specs.declared.fault.JobFault.TheVariants as fault
 use Rattle.level_merge.specs.declared.fault.Sliced.{Sliced}
@@ -36,10 +36,10 @@ use Rattle.state_model.specs.View.{state_map}
 use Rattle.table_file.specs.Opened.{Opened}
 use Rattle.table_model.specs.Images.{StandsInExtent}
 use Rattle.table_model.specs.Tables.{FilterBytes, Table, filter_bytes_of}
-use Rattle.store_core.specs.Kept.{Kept, rows_of}
+use Rattle.store_core.specs.StoreValue.{StoreValue, rows_of}
 use Rattle.store_core.specs.Running.{RunsAs, extents_with}
 use Rattle.store_core.specs.Tending.{GoesOn, SlicesJob}
-use Rattle.store_core.specs.Tied.{IsUnder, Tied}
+use Rattle.store_core.specs.Represents.{Represents, RepresentsOn}
 use Rattle.store_core.proofs.Agreed.{Agree, tied_agree}
 use Rattle.store_core.proofs.Dropped.{tied_dropped}
 use Rattle.store_core.proofs.Frames.{under_kept, under_stands}
@@ -50,7 +50,7 @@ pub all_in_order : (P : Extent → Type 0) (xs ys : List Extent) → IsPermutati
 all_in_order P xs ys same all = recursion_from_All P ys (All-permutation P xs ys same (All-from_recursion P xs all))
 
 -- open tables that stand on an image are tables that stand in their extents
-pub held_stand : (spelling : Spelling) (settings : Settings) (image : Image) (opened : List Opened) (tables : List Table) → AreHeld spelling settings opened tables image
+pub held_stand : (spelling : Spelling) (settings : Settings) (image : Image) (opened : List Opened) (tables : List Table) → TablesAgree spelling settings opened tables image
     → AllByRecursion (StandsInExtent spelling settings image) tables
 held_stand spelling settings image [] [] held = tt
 held_stand spelling settings image [] (t ∷ tables) held = absurd held
@@ -63,14 +63,14 @@ stand_with : (spelling : Spelling) (settings : Settings) (image : Image) (writte
 stand_with spelling settings image [] kept none all = subst (AllByRecursion (StandsInExtent spelling settings image)) (sym none) tt
 stand_with spelling settings image (t ∷ written) kept none all = (all.0, stand_with spelling settings image written kept none all.1)
 
-module _ (law : OtherImageIsFollowed) (spelling : Spelling) (cutoff : ℕ → List Leaf → ℕ) (store : Kept) (s : State) (job : Job) (old : Merging) (a : World)
+module _ (law : OtherImageIsFollowed) (spelling : Spelling) (cutoff : ℕ → List Leaf → ℕ) (store : StoreValue) (s : State) (job : Job) (old : JobValue) (a : World)
     (few : store.manifest.slot ≤ 1) (rows : rows_of store.tables ≡ store.manifest.version.rows) (current : a.leaves a.moment a.seen.held) (here : s.job ≡ Some job)
-    (tied : Tied spelling (filter_bytes_of spelling cutoff) (record store { job = Some old }) s a) where
+    (tied : Represents spelling (filter_bytes_of spelling cutoff) (record store { job = Some old }) s a) where
   abbrev bytes : FilterBytes
   bytes = filter_bytes_of spelling cutoff
 
   abbrev Under : Image → Type 0
-  Under = IsUnder spelling store.manifest store.tables (Some old) s
+  Under = RepresentsOn spelling store.manifest store.tables (Some old) s
 
   abbrev Map : Image → Type 0
   Map = StandsForMap spelling (state_map s)
@@ -84,7 +84,7 @@ module _ (law : OtherImageIsFollowed) (spelling : Spelling) (cutoff : ℕ → Li
   pub now_follows : Follows spelling s store.tables a.seen.held old job
   now_follows = follows_on a.seen.held (tied.images a.seen.held current)
 
-  made_now : Now (AreHeld spelling s.settings old.made job.written) a
+  made_now : Now (TablesAgree spelling s.settings old.made job.written) a
   made_now image left = made_held spelling s store.tables image old job (follows_on image (tied.images image left))
 
   -- ---- nothing is done
@@ -112,7 +112,7 @@ module _ (law : OtherImageIsFollowed) (spelling : Spelling) (cutoff : ℕ → Li
 
     -- ---- what is kept
 
-    module _ (new : Merging) (after : Taken) (b : World) (moves : SliceMoves spelling cutoff old new free after a b) where
+    module _ (new : JobValue) (after : Taken) (b : World) (moves : SliceMoves spelling cutoff old new free after a b) where
       keeps : (row : Row) → AddsOutput spelling cutoff old new free after row → (f g : Image) → Under f → Torn (byte_of_page row.first_page) (page_bytes * pages_of row) f g → Under g
       keeps row adds f g under torn =
           under_kept spelling store.manifest store.tables (Some old) few rows law s (byte_of_page row.first_page) (page_bytes * pages_of row) f g
@@ -129,19 +129,19 @@ module _ (law : OtherImageIsFollowed) (spelling : Spelling) (cutoff : ℕ → Li
       pub slice_meanwhile : Meanwhile Map a b
       slice_meanwhile = meanwhile_weaker Under Map a b (kept_by moves) (under_stands spelling store.manifest store.tables (Some old) few rows s)
 
-      still_tied : Tied spelling (filter_bytes_of spelling cutoff) (record store { job = Some old }) s b
+      still_tied : Represents spelling (filter_bytes_of spelling cutoff) (record store { job = Some old }) s b
       still_tied = record { sound = tied.sound; none_kept = tied.none_kept; images = still_under; log = tied.log; memory = tied.memory; blocks = tied.blocks }
 
-      pub slice_dropped : Tied spelling (filter_bytes_of spelling cutoff) (record store { job = None }) (without_job s) b
+      pub slice_dropped : Represents spelling (filter_bytes_of spelling cutoff) (record store { job = None }) (without_job s) b
       slice_dropped = tied_dropped spelling (filter_bytes_of spelling cutoff) (record store { job = Some old }) s b still_tied
 
       -- ---- the job goes on
 
-      module _ (said : Sliced) (to : SlicesTo spelling (filter_bytes_of spelling cutoff) s job store.tables old new after a b said) where
-        later_made : Now (AreHeld spelling s.settings new.made to.later.written) b
+      module _ (said : Sliced) (to : JobProgress spelling (filter_bytes_of spelling cutoff) s job store.tables old new after a b said) where
+        later_made : Now (TablesAgree spelling s.settings new.made to.later.written) b
         later_made = to.lasting made_now
 
-        later_under : (image : Image) → b.leaves b.moment image → IsUnder spelling store.manifest store.tables (Some new) (with_job s to.later) image
+        later_under : (image : Image) → b.leaves b.moment image → RepresentsOn spelling store.manifest store.tables (Some new) (with_job s to.later) image
         later_under image left =
             let under = still_under image left in
             let made = later_made image left in
@@ -168,13 +168,13 @@ module _ (law : OtherImageIsFollowed) (spelling : Spelling) (cutoff : ℕ → Li
           };
         }
 
-      done_by : (result : Result Sliced JobFault) → Slices spelling (filter_bytes_of spelling cutoff) s job store.tables old new after result a b
+      done_by : (result : Result Sliced JobFault) → ProgressOrRefusal spelling (filter_bytes_of spelling cutoff) s job store.tables old new after result a b
           → MatchResult result (GoesOn spelling (filter_bytes_of spelling cutoff) store s job new b) (IsJobRefusal (filter_bytes_of spelling cutoff) s job a b)
       done_by (Ok said) to = goes said to
       done_by (Err why) refusal = refusal
 
       -- all of it
-      pub slices_job : (result : Result Sliced JobFault) → SliceFollows spelling (filter_bytes_of spelling cutoff) store.tables old new free after result a b
+      pub slices_job : (result : Result Sliced JobFault) → FollowsAnyJob spelling (filter_bytes_of spelling cutoff) store.tables old new free after result a b
           → SlicesJob spelling (filter_bytes_of spelling cutoff) store s job new result a b
       slices_job result follow = record {
         meanwhile = slice_meanwhile;

@@ -12,7 +12,7 @@ use Rattle.entry_model.specs.Newest.{newest_entries}
 use Rattle.filter_api.specs.Spellings.{Spelling}
 use Rattle.image_model.specs.Stands.{StandsForMap}
 use Rattle.level_merge.specs.FollowLaws.{OtherImageIsFollowed}
-use Rattle.level_merge.specs.Merging.{Merging}
+use Rattle.level_merge.specs.JobValue.{JobValue}
 use Rattle.log_model.specs.Area.{LogIs, WithOrWithout, start_of}
 use Rattle.log_model.proofs.Logs.{filled_more}
 use Rattle.manifest.specs.Manifest.{Manifest}
@@ -25,20 +25,20 @@ use Rattle.state_model.specs.State.{State}
 use Rattle.state_model.specs.View.{state_map}
 use Rattle.table_file.specs.Opened.{Opened}
 use Rattle.table_model.specs.Tables.{FilterBytes}
-use Rattle.store_core.specs.Answers.{Turns}
-use Rattle.store_core.specs.Caching.{AreTrue, Cached}
-use Rattle.store_core.specs.Kept.{IsWhole, Kept}
-use Rattle.store_core.specs.Tied.{IsUnder, Tied}
+use Rattle.store_core.specs.Answers.{MovesTo}
+use Rattle.store_core.specs.Caching.{CacheAgrees, Cached}
+use Rattle.store_core.specs.StoreValue.{IsConsistent, StoreValue}
+use Rattle.store_core.specs.Represents.{Represents, RepresentsOn}
 use Rattle.store_core.specs.declared.error.StoreError.{StoreError}
 use Rattle.store_core.proofs.Frames.{under_log, under_logged, under_stands}
 
-module _ (spelling : Spelling) (filter_bytes : FilterBytes) (store : Kept) (s : State) (a b : World) where
+module _ (spelling : Spelling) (filter_bytes : FilterBytes) (store : StoreValue) (s : State) (a b : World) where
   -- reads change nothing
-  pub tied_read : (n : ℕ) → ReadMoves n a b → Tied spelling filter_bytes store s a → Tied spelling filter_bytes store s b
+  pub tied_read : (n : ℕ) → ReadMoves n a b → Represents spelling filter_bytes store s a → Represents spelling filter_bytes store s b
   tied_read n moves tied = record {
     sound = tied.sound;
     none_kept = tied.none_kept;
-    images = reads_keep (IsUnder spelling store.manifest store.tables store.job s) n a b moves tied.images;
+    images = reads_keep (RepresentsOn spelling store.manifest store.tables store.job s) n a b moves tied.images;
     log = tied.log;
     memory = tied.memory;
     blocks = tied.blocks;
@@ -59,13 +59,13 @@ logged_sound filter_bytes s e sound is fits = written_sound filter_bytes s (logg
 pub filled_logged : (entries : List Entry) (e : Entry) (before after : ℕ) → before ≡ filled entries → after + 1 ≡ before + need e → after ≡ filled (entries ++ e ∷ [])
 filled_logged entries e before after is more = omega (arith, is, more, filled_more entries e)
 
-module _ (law : OtherImageIsFollowed) (spelling : Spelling) (filter_bytes : FilterBytes) (store : Kept) (s : State) (e : Entry) (a b : World) (tied : Tied spelling filter_bytes store s a) (whole : IsWhole store)
+module _ (law : OtherImageIsFollowed) (spelling : Spelling) (filter_bytes : FilterBytes) (store : StoreValue) (s : State) (e : Entry) (a b : World) (tied : Represents spelling filter_bytes store s a) (whole : IsConsistent store)
     (fits : store.log.filled + need e ≤ 262144) (moves : WriteMoves (start_of store.log.area + store.log.filled) (need e) a b) where
   abbrev area : ℕ
   area = store.log.area
 
   abbrev Under : State → Image → Type 0
-  Under t = IsUnder spelling store.manifest store.tables store.job t
+  Under t = RepresentsOn spelling store.manifest store.tables store.job t
 
   small : store.log.area ≤ 1
   small = elim whole.version.log_page [ inl first ↦ omega (arith, first, whole.area) | inr second ↦ omega (arith, second, whole.area) ]
@@ -89,10 +89,10 @@ module _ (law : OtherImageIsFollowed) (spelling : Spelling) (filter_bytes : Filt
   logged_meanwhile result leads = framed (Under s) (WithOrWithout area s.log e) _ _ _ a b tied.images moves.time (leads.meanwhile logs_now) to_maps
 
   -- at Ok the state has the entry
-  pub logged_tied : {T E : Type 0} (x : T) (after : Kept) → after.manifest ≡ store.manifest → after.tables ≡ store.tables → after.job ≡ store.job → after.blocks ≡ store.blocks → after.log.filled + 1 ≡ store.log.filled + need e
+  pub logged_tied : {T E : Type 0} (x : T) (after : StoreValue) → after.manifest ≡ store.manifest → after.tables ≡ store.tables → after.job ≡ store.job → after.blocks ≡ store.blocks → after.log.filled + 1 ≡ store.log.filled + need e
       → after.memory.entries ≡ newest_entries (s.log ++ e ∷ []) → IsEntry e
       → Leads {T = T} {E = E} (LogIs store.log.area s.log) (WithOrWithout store.log.area s.log e) (LogIs store.log.area (s.log ++ e ∷ [])) (Ok x) a b
-      → Tied spelling filter_bytes after (logged s e) b
+      → Represents spelling filter_bytes after (logged s e) b
   logged_tied x after same_manifest same_tables same_job same_blocks filled_now memory_now is leads =
       let here : Now (Under (logged s e)) b =
       framed_now (Under s) (LogIs area (s.log ++ e ∷ [])) (Under (logged s e)) _ _ a b tied.images moves.time (leads.after logs_now)
@@ -101,17 +101,17 @@ module _ (law : OtherImageIsFollowed) (spelling : Spelling) (filter_bytes : Filt
         sound = logged_sound filter_bytes s e tied.sound is (omega (arith, fits, tied.log));
         none_kept = tied.none_kept;
         images = λ image left.
-            subst (λ (ts : List Opened). IsUnder spelling after.manifest ts after.job (logged s e) image) (sym same_tables)
-            (subst (λ (m : Manifest). IsUnder spelling m store.tables after.job (logged s e) image) (sym same_manifest)
-            (subst (λ (running : Option Merging). IsUnder spelling store.manifest store.tables running (logged s e) image) (sym same_job) (here image left)));
+            subst (λ (ts : List Opened). RepresentsOn spelling after.manifest ts after.job (logged s e) image) (sym same_tables)
+            (subst (λ (m : Manifest). RepresentsOn spelling m store.tables after.job (logged s e) image) (sym same_manifest)
+            (subst (λ (running : Option JobValue). RepresentsOn spelling store.manifest store.tables running (logged s e) image) (sym same_job) (here image left)));
         log = filled_logged s.log e store.log.filled after.log.filled tied.log filled_now;
         memory = memory_now;
-        blocks = subst (λ (b : Cached). AreTrue b after.tables s.tables) (sym same_blocks) (subst (λ (ts : List Opened). AreTrue store.blocks ts s.tables) (sym same_tables) tied.blocks);
+        blocks = subst (λ (b : Cached). CacheAgrees b after.tables s.tables) (sym same_blocks) (subst (λ (ts : List Opened). CacheAgrees store.blocks ts s.tables) (sym same_tables) tied.blocks);
       }
 
 -- ---- what an append answers, of an entry that was handed in by its key and its value
 
-module _ (law : OtherImageIsFollowed) (spelling : Spelling) (filter_bytes : FilterBytes) (store : Kept) (s : State) (e x : Entry) (a b : World) (same : x ≡ e) (tied : Tied spelling filter_bytes store s a) (whole : IsWhole store)
+module _ (law : OtherImageIsFollowed) (spelling : Spelling) (filter_bytes : FilterBytes) (store : StoreValue) (s : State) (e x : Entry) (a b : World) (same : x ≡ e) (tied : Represents spelling filter_bytes store s a) (whole : IsConsistent store)
     (fits : store.log.filled + need e ≤ 262144) (moves : WriteMoves (start_of store.log.area + store.log.filled) (need x) a b) where
   own_moves : WriteMoves (start_of store.log.area + store.log.filled) (need e) a b
   own_moves = subst (λ (y : Entry). WriteMoves (start_of store.log.area + store.log.filled) (need y) a b) same moves
@@ -122,8 +122,8 @@ module _ (law : OtherImageIsFollowed) (spelling : Spelling) (filter_bytes : Filt
   own_leads : {T E : Type 0} (result : Result T E) → Appends x result → Appends e result
   own_leads result leads = subst (λ (y : Entry). Appends y result) same leads
 
-  pub append_done : {T E U : Type 0} (u : T) (y : U) (after : Kept) → Appends {T = T} {E = E} x (Ok u) → after.manifest ≡ store.manifest → after.tables ≡ store.tables → after.job ≡ store.job → after.blocks ≡ store.blocks
-      → after.log.filled + 1 ≡ store.log.filled + need x → after.memory.entries ≡ newest_entries (s.log ++ e ∷ []) → IsEntry e → Turns spelling filter_bytes s (logged s e) (Ok y) after a b
+  pub append_done : {T E U : Type 0} (u : T) (y : U) (after : StoreValue) → Appends {T = T} {E = E} x (Ok u) → after.manifest ≡ store.manifest → after.tables ≡ store.tables → after.job ≡ store.job → after.blocks ≡ store.blocks
+      → after.log.filled + 1 ≡ store.log.filled + need x → after.memory.entries ≡ newest_entries (s.log ++ e ∷ []) → IsEntry e → MovesTo spelling filter_bytes s (logged s e) (Ok y) after a b
   append_done u y after leads same_manifest same_tables same_job same_blocks filled_now memory_now is =
       let own = own_leads (Ok u) leads in
       record {
@@ -132,7 +132,7 @@ module _ (law : OtherImageIsFollowed) (spelling : Spelling) (filter_bytes : Filt
         refused = tt;
       }
 
-  pub append_fails : {T E U : Type 0} (f : E) (why : StoreError) (after : Kept) → Appends {T = T} {E = E} x (Err f) → after.stopped ≡ true → Turns {T = U} spelling filter_bytes s (logged s e) (Err why) after a b
+  pub append_fails : {T E U : Type 0} (f : E) (why : StoreError) (after : StoreValue) → Appends {T = T} {E = E} x (Err f) → after.stopped ≡ true → MovesTo {T = U} spelling filter_bytes s (logged s e) (Err why) after a b
   append_fails f why after leads stopped =
       let own = own_leads (Err f) leads in
       record {

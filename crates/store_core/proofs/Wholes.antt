@@ -9,7 +9,7 @@ use Rattle.entry_model.specs.Entries.{Entry, filled}
 use Rattle.extent_model.proofs.Lists.{all_pairs, pairs_of}
 use Rattle.extent_model.specs.Extents.{AreApart, AreLaid, IsOnDevice}
 use Rattle.key_base.specs.Limits.{last_epoch}
-use Rattle.level_merge.specs.Merging.{Merging}
+use Rattle.level_merge.specs.JobValue.{JobValue}
 use Rattle.log_model.proofs.Logs.{none_filled}
 use Rattle.manifest.proofs.Steps.{raised_is}
 use Rattle.manifest.specs.Manifest.{Manifest}
@@ -22,12 +22,12 @@ use Rattle.state_model.proofs.SoundLogs.{memory_is_table, newest_none}
 use Rattle.table_file.specs.Opened.{Opened}
 use Rattle.store_core.specs.Caching.{AreNumbered, Cached}
 use Rattle.store_core.specs.Flushing.{installed_manifest, next_manifest}
-use Rattle.store_core.specs.Kept.{IsOfEntries, IsWhole, Kept, rows_of}
+use Rattle.store_core.specs.StoreValue.{IsConsistent, IsOfEntries, StoreValue, rows_of}
 use Rattle.store_core.specs.Running.{MayRunIn, extents_with, outputs_in}
 use Rattle.store_core.proofs.Caches.{numbered_more}
 
 -- a log with no record, and no entry
-none_of : (store : Kept) → store.log.filled ≡ 0 → store.memory.entries ≡ [] → IsOfEntries store.log store.memory.entries
+none_of : (store : StoreValue) → store.log.filled ≡ 0 → store.memory.entries ≡ [] → IsOfEntries store.log store.memory.entries
 none_of store begun cleared = record {
   entries = [];
   sound = tt;
@@ -42,7 +42,7 @@ numbers_then opened tables [] there = tt
 numbers_then opened tables (n ∷ more) there = (omega (arith, there.0), numbers_then opened tables more there.1)
 
 -- a merge runs on where a row comes before all others, the pages of which were free
-runs_with : (row : Row) (opened : Opened) (m : Manifest) (tables : List Opened) (running : Option Merging)
+runs_with : (row : Row) (opened : Opened) (m : Manifest) (tables : List Opened) (running : Option JobValue)
     → IsOnDevice m.version.pages (extent_of row) × AllByRecursion (AreApart (extent_of row)) (extents_with m.version (outputs_in running)) → MayRunIn m.version tables running
     → MayRunIn (installed_manifest (next_manifest m row)).version (opened ∷ tables) running
 runs_with row opened m tables None free may = tt
@@ -62,14 +62,14 @@ runs_with row opened m tables (Some run) free may = (
 )
 
 -- the extents of a store's version are laid apart with the outputs of its merge
-pub laid_with : (store : Kept) → IsWhole store → AreLaid store.manifest.version.pages (extents_with store.manifest.version (outputs_in store.job))
+pub laid_with : (store : StoreValue) → IsConsistent store → AreLaid store.manifest.version.pages (extents_with store.manifest.version (outputs_in store.job))
 laid_with store whole = by_job store.manifest.version store.tables store.job whole.version whole.job
   where
-    by_job : (v : Version) (tables : List Opened) (running : Option Merging) → IsVersion v → MayRunIn v tables running → AreLaid v.pages (extents_with v (outputs_in running))
+    by_job : (v : Version) (tables : List Opened) (running : Option JobValue) → IsVersion v → MayRunIn v tables running → AreLaid v.pages (extents_with v (outputs_in running))
     by_job v tables None is may = subst (λ (rs : List Row). AreLaid v.pages (map extent_of rs)) (sym (append-nil v.rows)) (rows_keep.kept v is.placed).laid
     by_job v tables (Some run) is may = may.0.laid
 
-module _ (store after : Kept) (opened : Opened) (row : Row) (next : Manifest) (whole : IsWhole store) (is : IsVersion next.version) (epoch : next.version.epoch < last_epoch)
+module _ (store after : StoreValue) (opened : Opened) (row : Row) (next : Manifest) (whole : IsConsistent store) (is : IsVersion next.version) (epoch : next.version.epoch < last_epoch)
     (next_is : next ≡ next_manifest store.manifest row) (manifest_is : after.manifest ≡ installed_manifest next) (tables_are : after.tables ≡ opened ∷ store.tables) (row_is : opened.row ≡ row)
     (blocks_are : after.blocks ≡ store.blocks) (same_job : after.job ≡ store.job) (free : IsOnDevice store.manifest.version.pages (extent_of row) × AllByRecursion (AreApart (extent_of row)) (extents_with store.manifest.version (outputs_in store.job))) where
   rows_behind : rows_of after.tables ≡ (installed_manifest next).version.rows
@@ -83,7 +83,7 @@ module _ (store after : Kept) (opened : Opened) (row : Row) (next : Manifest) (w
       (subst (λ (ts : List Opened). MayRunIn ((installed_manifest (next_manifest store.manifest row)).version) ts after.job) (sym tables_are)
       (subst (MayRunIn ((installed_manifest (next_manifest store.manifest row)).version) (opened ∷ store.tables)) (sym same_job) (runs_with row opened store.manifest store.tables store.job free whole.job)))
 
-  pub flushed_whole : next.version.log_page ≡ log_page_of after.log.area → after.log.filled ≡ 0 → after.memory.entries ≡ [] → IsWhole after
+  pub flushed_whole : next.version.log_page ≡ log_page_of after.log.area → after.log.filled ≡ 0 → after.memory.entries ≡ [] → IsConsistent after
   flushed_whole area begun cleared = record {
     version = subst (λ (m : Manifest). IsVersion m.version) (sym manifest_is) (raised_is next.version is (λ last. absurd (omega (arith, last, epoch))));
     slot = subst (λ (m : Manifest). m.slot ≤ 1) (sym manifest_is) (omega arith);
@@ -96,7 +96,7 @@ module _ (store after : Kept) (opened : Opened) (row : Row) (next : Manifest) (w
   }
 
 -- with nothing in memory the log has no record
-pub begun_where_none : (store : Kept) → IsWhole store → store.memory.entries ≡ [] → store.log.filled ≡ 0
+pub begun_where_none : (store : StoreValue) → IsConsistent store → store.memory.entries ≡ [] → store.log.filled ≡ 0
 begun_where_none store whole none =
     let of = whole.entries in
     let no_entries = newest_none of.entries (sym of.memory_is ∙ none) in
@@ -107,13 +107,13 @@ some_of [] some = absurd (some refl)
 some_of (e ∷ more) some = omega arith
 
 -- with something in memory that is a table
-pub memory_table : (store : Kept) → IsWhole store → store.memory.entries ≢ [] → IsTable store.memory.entries
+pub memory_table : (store : StoreValue) → IsConsistent store → store.memory.entries ≢ [] → IsTable store.memory.entries
 memory_table store whole some =
     let of = whole.entries in
     subst IsTable (sym of.memory_is) (memory_is_table of.entries of.sound of.fits (subst (λ (es : List Entry). 1 ≤ length es) of.memory_is (some_of store.memory.entries some)))
 
 -- whether it is stopped is no part of it
-pub whole_stopped : (store : Kept) (stopped : Bool) (tables : List Opened) → tables ≡ store.tables → IsWhole store → IsWhole (record store { stopped = stopped; tables = tables })
+pub whole_stopped : (store : StoreValue) (stopped : Bool) (tables : List Opened) → tables ≡ store.tables → IsConsistent store → IsConsistent (record store { stopped = stopped; tables = tables })
 whole_stopped store stopped tables same whole = record {
   version = whole.version;
   slot = whole.slot;

@@ -15,9 +15,9 @@ use Rattle.state_model.specs.Changes.{flushed, logged, logged_then, written}
 use Rattle.state_model.specs.State.{State}
 use Rattle.state_model.specs.View.{state_map}
 use Rattle.table_model.specs.Tables.{FilterBytes}
-use Rattle.store_core.specs.Answers.{IsFailure, IsWriteFailure, Turns, Wrote, refused, stopped_by, turns}
-use Rattle.store_core.specs.Kept.{IsWhole, Kept}
-use Rattle.store_core.specs.Tied.{Tied}
+use Rattle.store_core.specs.Answers.{IsFailure, IsWriteFailure, MovesTo, WroteEntry, refused, stopped_by, turns}
+use Rattle.store_core.specs.StoreValue.{IsConsistent, StoreValue}
+use Rattle.store_core.specs.Represents.{Represents}
 use Rattle.store_core.specs.declared.error.StoreError.{StoreError}
 use Rattle.store_core.specs.declared.error.StoreError.TheVariants as error
 use Rattle.store_core.proofs.Ties.{gap_is, written_fits}
@@ -69,8 +69,8 @@ need_over filled_now size log is few wide = over size (gap log) (omega (arith, i
 
 -- ---- room that is taken for an entry
 
-pub tied_with : (spelling : Spelling) (bytes : FilterBytes) (store : Kept) (s : State) (w : World) (m : MemoryTable) → m.entries ≡ store.memory.entries → Tied spelling bytes store s w
-    → Tied spelling bytes (record store { memory = m }) s w
+pub tied_with : (spelling : Spelling) (bytes : FilterBytes) (store : StoreValue) (s : State) (w : World) (m : MemoryTable) → m.entries ≡ store.memory.entries → Represents spelling bytes store s w
+    → Represents spelling bytes (record store { memory = m }) s w
 tied_with spelling bytes store s w m kept tied = record {
   sound = tied.sound;
   none_kept = tied.none_kept;
@@ -80,7 +80,7 @@ tied_with spelling bytes store s w m kept tied = record {
   blocks = tied.blocks;
 }
 
-pub whole_with : (store : Kept) (m : MemoryTable) → m.entries ≡ store.memory.entries → IsWhole store → IsWhole (record store { memory = m })
+pub whole_with : (store : StoreValue) (m : MemoryTable) → m.entries ≡ store.memory.entries → IsConsistent store → IsConsistent (record store { memory = m })
 whole_with store m kept whole = record {
   version = whole.version;
   slot = whole.slot;
@@ -99,16 +99,16 @@ whole_with store m kept whole = record {
 
 module _ (spelling : Spelling) (bytes : FilterBytes) (s : State) (e : Entry) where
   -- the same of an entry that was prepared
-  pub wrote_as : {T : Type 0} (x : Entry) (result : Result T StoreError) (store : Kept) (a b : World) → e ≡ x → Wrote spelling bytes s (written bytes s e) result store a b
-      → Wrote spelling bytes s (written bytes s x) result store a b
-  wrote_as x result store a b same wrote = subst (λ (y : Entry). Wrote spelling bytes s (written bytes s y) result store a b) same wrote
+  pub wrote_as : {T : Type 0} (x : Entry) (result : Result T StoreError) (store : StoreValue) (a b : World) → e ≡ x → WroteEntry spelling bytes s (written bytes s e) result store a b
+      → WroteEntry spelling bytes s (written bytes s x) result store a b
+  wrote_as x result store a b same wrote = subst (λ (y : Entry). WroteEntry spelling bytes s (written bytes s y) result store a b) same wrote
 
   abbrev Maps : State → State → Image → Type 0
   Maps from to image = StandsForMap spelling (state_map from) image ⊎ StandsForMap spelling (state_map to) image
 
   -- the record fits
-  pub wrote_logged : {T : Type 0} (result : Result T StoreError) (store : Kept) (a b : World) → nat_le (need e) (gap s.log) ≡ true → IfErr result (IsWriteFailure a b)
-      → Turns spelling bytes s (logged s e) result store a b → Wrote spelling bytes s (written bytes s e) result store a b
+  pub wrote_logged : {T : Type 0} (result : Result T StoreError) (store : StoreValue) (a b : World) → nat_le (need e) (gap s.log) ≡ true → IfErr result (IsWriteFailure a b)
+      → MovesTo spelling bytes s (logged s e) result store a b → WroteEntry spelling bytes s (written bytes s e) result store a b
   wrote_logged result store a b fits why t = turns (logged s e) (written_fits bytes s e fits) (is_failure result a b why) t
 
   -- it does not fit, and the memory is flushed
@@ -121,8 +121,8 @@ module _ (spelling : Spelling) (bytes : FilterBytes) (s : State) (e : Entry) whe
     same_map to made image (inl map) = map
     same_map to made image (inr map) = subst (λ (m : Map). StandsForMap spelling m image) (flushed_keeps bytes s to made) map
 
-    pub flush_failed : {T U : Type 0} (x : StoreError) (store : Kept) (a b : World) → Wrote {T = T} spelling bytes s (flushed bytes s) (Err x) store a b
-        → Wrote {T = U} spelling bytes s (written bytes s e) (Err x) store a b
+    pub flush_failed : {T U : Type 0} (x : StoreError) (store : StoreValue) (a b : World) → WroteEntry {T = T} spelling bytes s (flushed bytes s) (Err x) store a b
+        → WroteEntry {T = U} spelling bytes s (written bytes s e) (Err x) store a b
     flush_failed x store a b (turns to made fails t) = turns (logged to e) (flushed_first ∙ ap (logged_then e) made) fails (record {
       meanwhile = meanwhile_weaker (Maps s to) (Maps s (logged to e)) a b t.meanwhile (λ image map. inl (same_map to made image map));
       done = tt;
@@ -131,9 +131,9 @@ module _ (spelling : Spelling) (bytes : FilterBytes) (s : State) (e : Entry) whe
     flush_failed x store a b (refused why made failed told_is tied meanwhile) = refused why (flushed_first ∙ ap (logged_then e) made) failed told_is tied meanwhile
 
     -- the flush is done, and the record fits behind it
-    module _ {T U : Type 0} (x : T) (result : Result U StoreError) (between store : Kept) (a b c : World) (why : IfErr result (IsWriteFailure b c)) (stopped : store.stopped ≡ stopped_by result) where
-      then_turns : (to : State) → flushed bytes s ≡ Ok to → Turns {T = T} spelling bytes s to (Ok x) between a b → Turns spelling bytes to (logged to e) result store b c
-          → Turns spelling bytes s (logged to e) result store a c
+    module _ {T U : Type 0} (x : T) (result : Result U StoreError) (between store : StoreValue) (a b c : World) (why : IfErr result (IsWriteFailure b c)) (stopped : store.stopped ≡ stopped_by result) where
+      then_turns : (to : State) → flushed bytes s ≡ Ok to → MovesTo {T = T} spelling bytes s to (Ok x) between a b → MovesTo spelling bytes to (logged to e) result store b c
+          → MovesTo spelling bytes s (logged to e) result store a c
       then_turns to made first second = record {
         meanwhile = meanwhile_then (Maps s (logged to e)) a b c
             (meanwhile_weaker (Maps s to) (Maps s (logged to e)) a b first.meanwhile (λ image map. inl (same_map to made image map)))
@@ -142,9 +142,9 @@ module _ (spelling : Spelling) (bytes : FilterBytes) (s : State) (e : Entry) whe
         refused = not_stopped result store.stopped _ (stops_it result b c why) stopped;
       }
 
-      pub flush_then : Wrote {T = T} spelling bytes s (flushed bytes s) (Ok x) between a b
-          → ((to : State) → Tied spelling bytes between to b → Turns spelling bytes to (logged to e) result store b c)
-          → Wrote spelling bytes s (written bytes s e) result store a c
+      pub flush_then : WroteEntry {T = T} spelling bytes s (flushed bytes s) (Ok x) between a b
+          → ((to : State) → Represents spelling bytes between to b → MovesTo spelling bytes to (logged to e) result store b c)
+          → WroteEntry spelling bytes s (written bytes s e) result store a c
       flush_then (turns to made fails t) goes =
           turns (logged to e) (flushed_first ∙ ap (logged_then e) made) (is_failure result b c why) (then_turns to made t (goes to t.done))
       flush_then (refused reply made failed told_is tied meanwhile) goes = absurd cc

@@ -12,8 +12,8 @@ use Rattle.state_model.specs.Causes.{Why, NoMemory, ReadFailed, WriteFailed, Dam
 use Rattle.state_model.specs.State.{State}
 use Rattle.state_model.specs.Steps.{Step, answer}
 use Rattle.state_model.specs.View.{state_map}
-use Rattle.store_core.specs.Kept.{Kept}
-use Rattle.store_core.specs.Tied.{Tied}
+use Rattle.store_core.specs.StoreValue.{StoreValue}
+use Rattle.store_core.specs.Represents.{Represents}
 use Rattle.store_core.specs.declared.error.Limit.{Limit}
 use Rattle.store_core.specs.declared.error.Limit.TheVariants as limit
 use Rattle.store_core.specs.declared.error.StoreError.{StoreError}
@@ -129,20 +129,20 @@ IsWriteFailure old new (error.BadSettings field) = ⊥
 
 -- From a state a request is answered so, by one step of it. At each moment meanwhile a crash leaves the map before it or the
 -- one behind it. The store is then that of the state behind the step, unless it is stopped.
-pub record Answered (spelling : Spelling) (filter_bytes : FilterBytes) (s : State) (request : Request) (told_as : Option Reply) (store : Kept) (old new : World) : Type 0 where
+pub record AnswersRequest (spelling : Spelling) (filter_bytes : FilterBytes) (s : State) (request : Request) (told_as : Option Reply) (store : StoreValue) (old new : World) : Type 0 where
   pub reply : Reply
   pub told_is : told_as ≡ Some reply
   pub after : State
   pub step : Step (HasCause old new) filter_bytes s request reply after
   pub crash : Meanwhile (λ image. StandsForMap spelling (state_map s) image ⊎ StandsForMap spelling (state_map (answer filter_bytes s request).1) image) old new
-  pub tied : store.stopped ≡ false → Tied spelling filter_bytes store after new
+  pub tied : store.stopped ≡ false → Represents spelling filter_bytes store after new
 
 -- What a call makes of the state: at each moment a crash leaves the map of the one or of the other, at Ok the store is that of
 -- the second, and where it does not stop the store, that of the first.
-pub record Turns {T : Type 0} (spelling : Spelling) (filter_bytes : FilterBytes) (from to : State) (result : Result T StoreError) (store : Kept) (old new : World) : Type 0 where
+pub record MovesTo {T : Type 0} (spelling : Spelling) (filter_bytes : FilterBytes) (from to : State) (result : Result T StoreError) (store : StoreValue) (old new : World) : Type 0 where
   pub meanwhile : Meanwhile (λ image. StandsForMap spelling (state_map from) image ⊎ StandsForMap spelling (state_map to) image) old new
-  pub done : OnOk result (Tied spelling filter_bytes store to new)
-  pub refused : OnErr result (store.stopped ≡ false → Tied spelling filter_bytes store from new)
+  pub done : OnOk result (Represents spelling filter_bytes store to new)
+  pub refused : OnErr result (store.stopped ≡ false → Represents spelling filter_bytes store from new)
 
 -- memory or the device, and not what the state is
 abbrev pub IsFailure : StoreError → Type 0
@@ -158,7 +158,7 @@ IsFailure (error.BadSettings field) = ⊥
 
 -- What a change makes of the state, or the reply by which the state refuses it. Done or failed in the device it is the change;
 -- where it is refused, by this reply or for want of memory, the store stays that of the state, and what a crash leaves its map.
-pub data Wrote {T : Type 0} (spelling : Spelling) (filter_bytes : FilterBytes) (s : State) (change : Result State Reply) (result : Result T StoreError) (store : Kept) (old new : World) : Type 0 where
-  turns : (to : State) → change ≡ Ok to → IfErr result IsFailure → Turns spelling filter_bytes s to result store old new → Wrote spelling filter_bytes s change result store old new
-  refused : (why : Reply) → change ≡ Err why → IsErr result → (told_change result ≡ Some why) ⊎ (told_change result ≡ Some reply.Memory) → Tied spelling filter_bytes store s new
-      → Meanwhile (StandsForMap spelling (state_map s)) old new → Wrote spelling filter_bytes s change result store old new
+pub data WroteEntry {T : Type 0} (spelling : Spelling) (filter_bytes : FilterBytes) (s : State) (change : Result State Reply) (result : Result T StoreError) (store : StoreValue) (old new : World) : Type 0 where
+  turns : (to : State) → change ≡ Ok to → IfErr result IsFailure → MovesTo spelling filter_bytes s to result store old new → WroteEntry spelling filter_bytes s change result store old new
+  refused : (why : Reply) → change ≡ Err why → IsErr result → (told_change result ≡ Some why) ⊎ (told_change result ≡ Some reply.Memory) → Represents spelling filter_bytes store s new
+      → Meanwhile (StandsForMap spelling (state_map s)) old new → WroteEntry spelling filter_bytes s change result store old new

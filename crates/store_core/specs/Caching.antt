@@ -55,15 +55,15 @@ abbrev pub SaysOf : ℕ → Bytes → Opened → List Entry → Type 0
 SaysOf n bytes opened entries = (key : Bytes) → block_for opened key ≡ Some n → lookup (block_in bytes) key ≡ lookup entries key
 
 -- they say so of the table with that number
-abbrev pub IsTrueOf : ℕ → BlockPlace → Bytes → List Opened → List Table → Type 0
-IsTrueOf first place bytes [] tables = Unit {0}
-IsTrueOf first place bytes (opened ∷ more) [] = Unit {0}
-IsTrueOf first place bytes (opened ∷ more) (t ∷ tables) =
-    (cache_number first (length more) ≡ place.0 → SaysOf place.1 bytes opened t.entries) × IsTrueOf first place bytes more tables
+abbrev pub BlockAgrees : ℕ → BlockPlace → Bytes → List Opened → List Table → Type 0
+BlockAgrees first place bytes [] tables = Unit {0}
+BlockAgrees first place bytes (opened ∷ more) [] = Unit {0}
+BlockAgrees first place bytes (opened ∷ more) (t ∷ tables) =
+    (cache_number first (length more) ≡ place.0 → SaysOf place.1 bytes opened t.entries) × BlockAgrees first place bytes more tables
 
 -- each kept block says what its table says
-abbrev pub AreTrue : Cached → List Opened → List Table → Type 0
-AreTrue blocks opened tables = (place : BlockPlace) (bytes : Bytes) → kept_of place blocks.kept ≡ Some bytes → IsTrueOf blocks.first place bytes opened tables
+abbrev pub CacheAgrees : Cached → List Opened → List Table → Type 0
+CacheAgrees blocks opened tables = (place : BlockPlace) (bytes : Bytes) → kept_of place blocks.kept ≡ Some bytes → BlockAgrees blocks.first place bytes opened tables
 
 -- ---- what is said, and read
 

@@ -8,7 +8,7 @@ use Rattle.entry_model.specs.Entries.{Entry}
 use Rattle.extent_model.specs.Extents.{AreLaid}
 use Rattle.filter_api.specs.Spellings.{Spelling}
 use Rattle.key_base.specs.Limits.{last_epoch, max_level, max_tables}
-use Rattle.level_merge.specs.Held.{AreHeld}
+use Rattle.level_merge.specs.TablesAgree.{TablesAgree}
 use Rattle.level_merge.specs.declared.fault.JobFault.{JobFault}
 use Rattle.level_merge.specs.declared.fault.JobFault.TheVariants as job
 use Rattle.line_model.specs.Replies.{LastEpoch}
@@ -26,9 +26,9 @@ use Rattle.state_model.specs.View.{memory}
 use Rattle.store_core.specs.Answers.{is_write, stops, told_limit}
 use Rattle.store_core.specs.Flushing.{other_log_page}
 use Rattle.store_core.specs.Getting.{ReadRose}
-use Rattle.store_core.specs.Kept.{rows_of}
+use Rattle.store_core.specs.StoreValue.{rows_of}
 use Rattle.store_core.specs.Opening.{FaultRose}
-use Rattle.store_core.specs.Tied.{IsUnder}
+use Rattle.store_core.specs.Represents.{RepresentsOn}
 use Rattle.store_core.specs.declared.error.StoreError.{StoreError}
 use Rattle.store_core.specs.declared.error.StoreError.TheVariants as error
 use Rattle.table_file.specs.Opened.{Opened}
@@ -94,7 +94,7 @@ pub record IsHeldBy (spelling : Spelling) (filter_bytes : FilterBytes) (m : Mani
   pub sound : IsSound filter_bytes s
   pub no_job : s.job ≡ None
   pub none_kept : s.kept ≡ []
-  pub images : Now (IsUnder spelling m opened None s) w
+  pub images : Now (RepresentsOn spelling m opened None s) w
   pub memory : entries ≡ memory s
 
 -- what its live pairs become, and the first of these tables
@@ -135,15 +135,15 @@ IsCompactCause filter_bytes s old new (error.BadSettings field) = ⊥
 pub record AreAllMade (spelling : Spelling) (filter_bytes : FilterBytes) (s : State) (made : List Opened) (w : World) : Type 0 where
   pub tables : List Table
   pub placed_so : compact_tables filter_bytes s ≡ Ok tables
-  pub held : Now (AreHeld spelling s.settings made tables) w
+  pub held : Now (TablesAgree spelling s.settings made tables) w
 
 -- they stand alone, under this version
 pub record StandAlone (spelling : Spelling) (filter_bytes : FilterBytes) (s : State) (m : Manifest) (opened : List Opened) (w : World) : Type 0 where
   pub tables : List Table
   pub placed_so : compact_tables filter_bytes s ≡ Ok tables
-  pub images : Now (IsUnder spelling m opened None (compacted_into tables s)) w
+  pub images : Now (RepresentsOn spelling m opened None (compacted_into tables s)) w
 
 -- why it fails; where the store is not stopped by it, all is as it was
 pub record FailsSo (spelling : Spelling) (filter_bytes : FilterBytes) (m : Manifest) (opened : List Opened) (s : State) (old new : World) (why : StoreError) : Type 0 where
   pub cause : IsCompactCause filter_bytes s old new why
-  pub stays : stops why ≡ false → Now (IsUnder spelling m opened None s) new
+  pub stays : stops why ≡ false → Now (RepresentsOn spelling m opened None s) new

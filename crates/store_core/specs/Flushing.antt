@@ -15,9 +15,9 @@ use Rattle.manifest_model.specs.Version.{Version, log_page_of}
 use Rattle.state_model.specs.State.{State}
 use Rattle.state_model.specs.View.{memory, state_map}
 use Rattle.store_core.specs.Answers.{is_write}
-use Rattle.store_core.specs.Kept.{Kept}
+use Rattle.store_core.specs.StoreValue.{StoreValue}
 use Rattle.store_core.specs.Running.{extents_with}
-use Rattle.store_core.specs.Tied.{IsUnder}
+use Rattle.store_core.specs.Represents.{RepresentsOn}
 use Rattle.store_core.specs.declared.error.Limit.{Limit}
 use Rattle.store_core.specs.declared.error.Limit.TheVariants as limit
 use Rattle.store_core.specs.declared.error.StoreError.{StoreError}
@@ -107,9 +107,9 @@ IsFlushFault old new (fault.Damaged damage) = ⊥
 
 -- What is planned is written: meanwhile a crash leaves the map of the state; at Ok the state behind the flush stands under the
 -- new manifest with the new table; and where memory was wanted all stands as it stood.
-pub record Replaces {T : Type 0} (spelling : Spelling) (built_cutoff : ℕ → List Leaf → ℕ) (store : Kept) (s : State) (parts : Built) (row : Row) (next : Manifest)
+pub record FlushedTo {T : Type 0} (spelling : Spelling) (built_cutoff : ℕ → List Leaf → ℕ) (store : StoreValue) (s : State) (parts : Built) (row : Row) (next : Manifest)
     (result : Result T ManifestFault) (old new : World) : Type 0 where
   pub meanwhile : Meanwhile (StandsForMap spelling (state_map s)) old new
-  pub done : OnOk result (Now (IsUnder spelling (installed_manifest next) (opened_of built_cutoff parts row ∷ store.tables) store.job
+  pub done : OnOk result (Now (RepresentsOn spelling (installed_manifest next) (opened_of built_cutoff parts row ∷ store.tables) store.job
       (flushed_at (filter_bytes_of spelling built_cutoff) row.first_page s)) new)
-  pub wanted : IfErr result (λ (why : ManifestFault). why ≡ fault.Memory → Now (IsUnder spelling store.manifest store.tables store.job s) new)
+  pub wanted : IfErr result (λ (why : ManifestFault). why ≡ fault.Memory → Now (RepresentsOn spelling store.manifest store.tables store.job s) new)

@@ -16,8 +16,8 @@ use Rattle.state_model.specs.State.{State}
 use Rattle.state_model.specs.View.{memory}
 use Rattle.store_core.specs.Answers.{told_limit}
 use Rattle.store_core.specs.Caching.{Cached, IsFirst, MayKeep, cache_number, past_cache, said_by, unkept}
-use Rattle.store_core.specs.Kept.{Kept}
-use Rattle.store_core.specs.Tied.{Tied}
+use Rattle.store_core.specs.StoreValue.{StoreValue}
+use Rattle.store_core.specs.Represents.{Represents}
 use Rattle.store_core.specs.declared.getting.BlockRead.{BlockRead}
 use Rattle.store_core.specs.declared.error.StoreError.{StoreError}
 use Rattle.store_core.specs.declared.error.StoreError.TheVariants as error
@@ -69,7 +69,7 @@ IsPlaceIn place.InMemory buffer = Unit {0}
 IsPlaceIn (place.InTable spot) buffer = IsSpotIn spot buffer
 
 -- what is said of the key by the store there
-abbrev pub said_at : Place → Kept → Bytes → Option (Option Bytes)
+abbrev pub said_at : Place → StoreValue → Bytes → Option (Option Bytes)
 said_at place.Nowhere store key = None
 said_at place.InMemory store key = lookup store.memory.entries key
 said_at (place.InTable spot) store key = said_in (Some spot) store.buffer store.blocks.kept key
@@ -86,14 +86,14 @@ MayKeepRead None buffer old new = new ≡ old
 MayKeepRead (Some read) buffer old new = MayKeep (read.number, read.block) (take read.size buffer) old new
 
 -- the blocks that a get reads of a store: those that are searched and not kept
-abbrev pub unkept_bound : Kept → State → Bytes → ℕ
+abbrev pub unkept_bound : StoreValue → State → Bytes → ℕ
 unkept_bound store s key = unless_found (lookup (memory s) key) (unkept store.blocks key store.tables s.tables)
 
 -- A get leaves the store as it is, but for what was read last and the blocks that are kept, and tied to each state that it was
 -- tied to.
-pub record Asked (spelling : Spelling) (filter_bytes : FilterBytes) (tells : Bool) (before after : Kept) (old new : World) : Type 0 where
+pub record Asked (spelling : Spelling) (filter_bytes : FilterBytes) (tells : Bool) (before after : StoreValue) (old new : World) : Type 0 where
   pub same : after ≡ record before { buffer = after.buffer; blocks = after.blocks }
-  pub tied : (s : State) → IsTrue tells → Tied spelling filter_bytes before s old → Tied spelling filter_bytes after s new
+  pub tied : (s : State) → IsTrue tells → Represents spelling filter_bytes before s old → Represents spelling filter_bytes after s new
 
 -- a read failed, and only where the count of such failures rose
 abbrev pub ReadRose : World → World → DiskFault → Type 0
@@ -167,14 +167,14 @@ IsUndamaged error.AlreadyAStore = Unit {0}
 IsUndamaged (error.BadSettings field) = Unit {0}
 
 -- A get of a key read only what may have the key, and was refused with its cause, or not at all.
-pub record GetsKey {T : Type 0} (spelling : Spelling) (filter_bytes : FilterBytes) (tells : Bool) (store : Kept) (key : Bytes) (result : Result T StoreError) (before after : World) : Type 0 where
-  pub undamaged : (s : State) → IsTrue tells → Tied spelling filter_bytes store s before → IfErr result IsUndamaged
+pub record GetsKey {T : Type 0} (spelling : Spelling) (filter_bytes : FilterBytes) (tells : Bool) (store : StoreValue) (key : Bytes) (result : Result T StoreError) (before after : World) : Type 0 where
+  pub undamaged : (s : State) → IsTrue tells → Represents spelling filter_bytes store s before → IfErr result IsUndamaged
   pub shown : IsTrue tells → IfErr result (IsShown store.tables key before.seen.held)
-  pub met : (s : State) → IsTrue tells → Tied spelling filter_bytes store s before → IfErr result (IsMet (get_bound s key))
+  pub only_if_read : (s : State) → IsTrue tells → Represents spelling filter_bytes store s before → IfErr result (IsMet (get_bound s key))
   pub refused : MatchResult result (λ _. (store.stopped ≡ false) × (key_limit key ≡ None)) (IsGetRefusal store.stopped key before after)
-  pub bounded : (s : State) → IsTrue tells → Tied spelling filter_bytes store s before → after.seen.reads ≤ before.seen.reads + get_bound s key
+  pub bounded : (s : State) → IsTrue tells → Represents spelling filter_bytes store s before → after.seen.reads ≤ before.seen.reads + get_bound s key
   -- of those blocks, only the ones that were not kept
-  pub unkept : (s : State) → IsTrue tells → Tied spelling filter_bytes store s before → after.seen.reads ≤ before.seen.reads + unkept_bound store s key
+  pub unkept : (s : State) → IsTrue tells → Represents spelling filter_bytes store s before → after.seen.reads ≤ before.seen.reads + unkept_bound store s key
   -- a stopped store reads nothing
-  pub still : store.stopped ≡ true → ReadMoves 0 before after
+  pub no_call : store.stopped ≡ true → ReadMoves 0 before after
   pub moves : ReadMoves (length store.tables) before after

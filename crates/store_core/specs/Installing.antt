@@ -10,19 +10,19 @@ use Rattle.state_model.specs.State.{Job, State, without_job}
 use Rattle.state_model.specs.Tends.{installed}
 use Rattle.state_model.specs.View.{state_map}
 use Rattle.store_core.specs.Answers.{is_write, told_limit}
-use Rattle.store_core.specs.Kept.{Kept}
-use Rattle.store_core.specs.Tied.{Tied}
+use Rattle.store_core.specs.StoreValue.{StoreValue}
+use Rattle.store_core.specs.Represents.{Represents}
 use Rattle.store_core.specs.declared.error.StoreError.{StoreError}
 use Rattle.store_core.specs.declared.error.StoreError.TheVariants as error
 use Rattle.table_model.specs.Tables.{FilterBytes}
 
 -- The version of a merge that is done is installed: meanwhile a crash leaves the map of the state. At Ok the store is that of the
 -- state behind the install, for which an epoch was left; where it is refused and not stopped, that of the state without its job.
-pub record Installs {T : Type 0} (spelling : Spelling) (filter_bytes : FilterBytes) (s : State) (job : Job) (result : Result T StoreError) (store : Kept) (old new : World) : Type 0 where
+pub record Installs {T : Type 0} (spelling : Spelling) (filter_bytes : FilterBytes) (s : State) (job : Job) (result : Result T StoreError) (store : StoreValue) (old new : World) : Type 0 where
   pub meanwhile : Meanwhile (StandsForMap spelling (state_map s)) old new
   pub epoch : OnOk result (s.epoch ≢ last_epoch)
-  pub done : OnOk result (Tied spelling filter_bytes store (installed s job) new)
-  pub refused : OnErr result (store.stopped ≡ false → Tied spelling filter_bytes store (without_job s) new)
+  pub done : OnOk result (Represents spelling filter_bytes store (installed s job) new)
+  pub refused : OnErr result (store.stopped ≡ false → Represents spelling filter_bytes store (without_job s) new)
 
 -- memory; a write or a sync that failed, where an epoch is left, and only where the count of such failures rose; or none is left
 abbrev pub IsInstallRefusal : Version → World → World → StoreError → Type 0

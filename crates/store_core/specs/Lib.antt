@@ -5,8 +5,8 @@ pub use Rattle.entry_model.specs.Entries
 pub use Rattle.image_model.specs.Stands
 pub use Rattle.key_base.specs.Limits
 pub use Rattle.level_merge.specs.Follows
-pub use Rattle.level_merge.specs.Held
-pub use Rattle.level_merge.specs.Merging
+pub use Rattle.level_merge.specs.TablesAgree
+pub use Rattle.level_merge.specs.JobValue
 pub use Rattle.line_model.specs.Limits as LineLimits
 pub use Rattle.line_model.specs.Requests
 pub use Rattle.log_model.specs.Area
@@ -24,12 +24,12 @@ pub use Rattle.state_model.specs.View
 pub use Rattle.table_model.specs.Tables
 pub mod Faults
 pub mod Running
-pub mod Kept
-pub mod Tied
+pub mod StoreValue
+pub mod Represents
 pub mod Answers
 pub mod Caching
 pub mod Getting
-pub mod Ends
+pub mod Lends
 pub mod Opening
 pub mod Formatting
 pub mod Flushing

@@ -23,7 +23,7 @@ use Rattle.map_model.specs.SortedMap.{Bytes}
 use Rattle.store_core.specs.Answers.{is_write}
 use Rattle.store_core.specs.Caching.{none_cached}
 use Rattle.store_core.specs.Getting.{ReadRose}
-use Rattle.store_core.specs.Kept.{Kept, rows_of}
+use Rattle.store_core.specs.StoreValue.{StoreValue, rows_of}
 use Rattle.store_core.specs.declared.error.StoreError.{StoreError}
 use Rattle.store_core.specs.declared.error.StoreError.TheVariants as error
 use Rattle.table_file.specs.Faults.{filter_fault_of}
@@ -78,7 +78,7 @@ pub record IsVersionOpened (spelling : Spelling) (image : Image) (m : Manifest) 
 -- The image opens with the version of the store, which stands in its slot, and with some log: the one in memory ends behind its
 -- entries, the newest of them are in the memory table, the open tables are those of the version's rows, no merge runs, and no
 -- block is kept.
-pub record IsOpenedAs (spelling : Spelling) (image : Image) (store : Kept) : Type 0 where
+pub record IsOpenedAs (spelling : Spelling) (image : Image) (store : StoreValue) : Type 0 where
   pub loaded : IsLoaded image store.manifest
   pub entries : List Entry
   pub opens : OpensWith spelling store.manifest.version entries image

@@ -3,7 +3,7 @@ use Rattle.std.specs.Prelude.{◌==◌, ◌&&◌, ◌||◌, ℕ, nat_lt, Bool, i
 use Rattle.std.specs.List.{list_any}
 use Rattle.byte_fields.specs.declared.parts.Row.{Row}
 use Rattle.key_base.specs.ByteOrder.{is_before}
-use Rattle.level_merge.specs.Merging.{Merging}
+use Rattle.level_merge.specs.JobValue.{JobValue}
 use Rattle.manifest.specs.Manifest.{Manifest}
 use Rattle.merge_rows.specs.Steps.{numbers}
 use Rattle.table_file.specs.Opened.{Opened}
@@ -25,7 +25,7 @@ others_in which [] = []
 others_in which (t ∷ later) = if list_any (λ (n : ℕ). n == length later) which then others_in which later else t ∷ others_in which later
 
 -- those of a merge in the place of those that it read
-abbrev pub tables_behind : List Opened → Merging → List Opened
+abbrev pub tables_behind : List Opened → JobValue → List Opened
 tables_behind tables m = fold put_in (others_in (numbers m.merge.walks) tables) m.made
 
 -- the version with other rows

@@ -18,7 +18,7 @@ use Rattle.state_model.specs.Bounds.{is_passed, seek_bound}
 use Rattle.state_model.specs.State.{State}
 use Rattle.store_core.specs.Answers.{IsTried, told_limit}
 use Rattle.store_core.specs.Getting.{ReadRose}
-use Rattle.level_merge.specs.Held.{AreHeld}
+use Rattle.level_merge.specs.TablesAgree.{TablesAgree}
 use Rattle.store_core.specs.declared.error.StoreError.{StoreError}
 use Rattle.store_core.specs.declared.error.StoreError.TheVariants as error
 use Rattle.table_file.specs.Opened.{Opened}
@@ -85,7 +85,7 @@ pairs_left scan image = at_most scan.left (pairs_up_to scan.high (rows_left scan
 pub record StillComes (spelling : Spelling) (scan : ScanWalk) (pairs : Map) (image : Image) : Type 0 where
   pub settings : Settings
   pub states : List Table
-  pub held : AreHeld spelling settings scan.tables states image
+  pub held : TablesAgree spelling settings scan.tables states image
   pub sound : IsSoundMerge scan.merge scan.tables image
   pub pairs_are : pairs_left scan image ≡ pairs
 

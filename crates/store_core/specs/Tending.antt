@@ -8,7 +8,7 @@ use Rattle.filter_api.specs.declared.settings.Settings.{Settings}
 use Rattle.image_model.specs.Stands.{StandsForMap}
 use Rattle.key_base.specs.Limits.{last_epoch}
 use Rattle.level_merge.specs.Follows.{IsJobRefusal, IsSliced}
-use Rattle.level_merge.specs.Merging.{Merging, begun}
+use Rattle.level_merge.specs.JobValue.{JobValue, begun}
 use Rattle.level_merge.specs.Plans.{Agree, IsPlanOf, MayStart, PlanByNumbers}
 use Rattle.level_merge.specs.declared.fault.JobFault.{JobFault}
 use Rattle.level_merge.specs.declared.fault.JobFault.TheVariants as job
@@ -20,9 +20,9 @@ use Rattle.state_model.specs.Tends as model
 use Rattle.state_model.specs.Tends.{Progresses, Runs, Tend, with_job}
 use Rattle.state_model.specs.View.{state_map}
 use Rattle.store_core.specs.Answers.{HasCause, told, told_limit}
-use Rattle.store_core.specs.Kept.{Kept}
+use Rattle.store_core.specs.StoreValue.{StoreValue}
 use Rattle.store_core.specs.Opening.{FaultRose}
-use Rattle.store_core.specs.Tied.{IsUnder, Tied}
+use Rattle.store_core.specs.Represents.{Represents, RepresentsOn}
 use Rattle.store_core.specs.declared.error.StoreError.{StoreError}
 use Rattle.store_core.specs.declared.error.StoreError.TheVariants as error
 use Rattle.store_core.specs.declared.tending.Tended.{Tended}
@@ -41,13 +41,13 @@ told_slice (Err why) = option_map (λ (r : reply.Reply). model.Refused r) (told 
 
 -- From a state a merge slice is answered so: by a merge slice of that state. At each moment meanwhile a crash leaves its map.
 -- The store is then that of the state behind the merge slice, unless it is stopped.
-pub record Tends (spelling : Spelling) (filter_bytes : FilterBytes) (s : State) (told_as : Option model.Tended) (store : Kept) (old new : World) : Type 0 where
+pub record Tends (spelling : Spelling) (filter_bytes : FilterBytes) (s : State) (told_as : Option model.Tended) (store : StoreValue) (old new : World) : Type 0 where
   pub tended : model.Tended
   pub told_is : told_as ≡ Some tended
   pub after : State
   pub slice : Tend (HasCause old new) filter_bytes s tended after
   pub crash : Meanwhile (StandsForMap spelling (state_map s)) old new
-  pub tied : store.stopped ≡ false → Tied spelling filter_bytes store after new
+  pub tied : store.stopped ≡ false → Represents spelling filter_bytes store after new
 
 -- ---- whatever the device is
 
@@ -56,7 +56,7 @@ abbrev pub NoneIsChosen : List Opened → Type 0
 NoneIsChosen tables = (of_state : List Table) → Agree tables of_state → choose of_state ≡ None
 
 -- where no merge runs and none is to be begun no call is made and nothing changes; an output that has no room drops its merge
-abbrev pub IsTended : Kept → Kept → World → World → Tended → Type 0
+abbrev pub IsTended : StoreValue → StoreValue → World → World → Tended → Type 0
 IsTended before after old new tended.Worked = Unit {0}
 IsTended before after old new tended.Idle = (before.job ≡ None) × NoneIsChosen before.tables × (after ≡ before) × ReadMoves 0 old new
 IsTended before after old new (tended.Full need gap) = (after.job ≡ None) × (gap < need)
@@ -81,32 +81,32 @@ SomeMoves bytes old new = (most : ℕ) × Moves 0 bytes most old new
 
 -- A merge that begins among some tables is that of a plan, which each state that has these tables chooses. Where there is none
 -- no such state chooses one.
-abbrev pub IsBegunAmong : List Opened → Settings → Option Merging → Type 0
+abbrev pub IsBegunAmong : List Opened → Settings → Option JobValue → Type 0
 IsBegunAmong tables settings None = NoneIsChosen tables
 IsBegunAmong tables settings (Some m) =
     (p : PlanByNumbers) × MayStart tables p × (m ≡ begun p settings tables) × ((of_state : List Table) → Agree tables of_state → IsPlanOf of_state (Some p) (choose of_state))
 
 -- The merge that runs, or one that begins where none does, is that of a job of the state, as each image on which the store stands
 -- shows it. Where there is none nothing is to be merged.
-abbrev pub IsNext : Spelling → Kept → State → Option Merging → Type 0
+abbrev pub IsNext : Spelling → StoreValue → State → Option JobValue → Type 0
 IsNext spelling store s None = (s.job ≡ None) × (choose s.tables ≡ None)
 IsNext spelling store s (Some m) =
-    (job : Job) × Runs s job × ((image : Image) → IsUnder spelling store.manifest store.tables store.job s image
-    → IsUnder spelling store.manifest store.tables (Some m) (with_job s job) image)
+    (job : Job) × Runs s job × ((image : Image) → RepresentsOn spelling store.manifest store.tables store.job s image
+    → RepresentsOn spelling store.manifest store.tables (Some m) (with_job s job) image)
 
 -- the job goes on, and the store stands with its merge as it is then
-pub record GoesOn (spelling : Spelling) (filter_bytes : FilterBytes) (store : Kept) (s : State) (job : Job) (m : Merging) (w : World) (sliced : Sliced) : Type 0 where
+pub record GoesOn (spelling : Spelling) (filter_bytes : FilterBytes) (store : StoreValue) (s : State) (job : Job) (m : JobValue) (w : World) (sliced : Sliced) : Type 0 where
   pub later : Job
   pub progresses : Progresses filter_bytes s job later
   pub said : IsSliced s job later sliced
-  pub tied : Tied spelling filter_bytes (record store { job = Some m }) (with_job s later) w
+  pub tied : Represents spelling filter_bytes (record store { job = Some m }) (with_job s later) w
 
 -- A merge slice of the merge that follows a job of a state: meanwhile a crash leaves the map of the state. The job goes on, or
 -- it is refused with its cause and the store stands without it.
-pub record SlicesJob (spelling : Spelling) (filter_bytes : FilterBytes) (store : Kept) (s : State) (job : Job) (m : Merging) (result : Result Sliced JobFault) (old new : World) : Type 0 where
+pub record SlicesJob (spelling : Spelling) (filter_bytes : FilterBytes) (store : StoreValue) (s : State) (job : Job) (m : JobValue) (result : Result Sliced JobFault) (old new : World) : Type 0 where
   pub meanwhile : Meanwhile (StandsForMap spelling (state_map s)) old new
   pub done : MatchResult result (GoesOn spelling filter_bytes store s job m new) (IsJobRefusal filter_bytes s job old new)
-  pub dropped : IsErr result → Tied spelling filter_bytes (record store { job = None }) (without_job s) new
+  pub dropped : IsErr result → Represents spelling filter_bytes (record store { job = None }) (without_job s) new
 
 -- what a merge slice that is refused is answered
 abbrev pub answer_to : JobFault → Result Tended StoreError

@@ -10,13 +10,13 @@ ghost use Rattle.line_model.specs.Requests.{Compact as compact_line};
 ghost use Rattle.manifest_model.specs.Laws.{IsVersion, RowFits};
 ghost use Rattle.state_model.specs.State.{State, without_job};
 ghost use Rattle.state_model.specs.View.{state_map};
-ghost use Rattle.store_core.specs.Answers.{Answered, IsTried, stopped_by, stops, told_change};
+ghost use Rattle.store_core.specs.Answers.{AnswersRequest, IsTried, stopped_by, stops, told_change};
 ghost use Rattle.store_core.specs.Compacting.{AreAllMade, AreCompact, FailsSo, IsCompactFault, IsCompactRefusal, IsHeldBy, IsInstalledWhole, IsWritingCause, IsWritingFault, StandAlone, compacted_manifest};
 ghost use Rattle.store_core.specs.Faults.{of_job_fault};
-ghost use Rattle.store_core.specs.Kept.{rows_of};
+ghost use Rattle.store_core.specs.StoreValue.{rows_of};
 ghost use Rattle.store_core.specs.Scans.{IsScanShown};
 ghost use Rattle.store_core.specs.Tending.{SomeMoves};
-ghost use Rattle.store_core.specs.Tied.{IsUnder, Tied};
+ghost use Rattle.store_core.specs.Represents.{Represents, RepresentsOn};
 ghost use Rattle.table_model.specs.Tables.{filter_bytes_of};
 
 use crate::error::{Limit, StoreError};
@@ -58,7 +58,7 @@ fn write_all<F: RangeFilter, D: Disk>(
     requires rows { rows_of tables.now.tables ≡ version.now.version.rows }
     requires entries { AllByRecursion IsEntry memory.now.entries }
     ensures stays { (s : State) → IsTrue D.tells → IsHeldBy F.spelling (filter_bytes_of F.spelling F.built_cutoff) version.now tables.now.tables memory.now.entries s (D.world disk.old)
-        → Meanwhile (IsUnder F.spelling version.now tables.now.tables None s) (D.world disk.old) (D.world disk.new) }
+        → Meanwhile (RepresentsOn F.spelling version.now tables.now.tables None s) (D.world disk.old) (D.world disk.new) }
     ensures made { (s : State) → IsTrue D.tells → IsHeldBy F.spelling (filter_bytes_of F.spelling F.built_cutoff) version.now tables.now.tables memory.now.entries s (D.world disk.old)
         → MatchResult result (λ made. AreAllMade F.spelling (filter_bytes_of F.spelling F.built_cutoff) s made.items (D.world disk.new))
         (IsWritingCause (filter_bytes_of F.spelling F.built_cutoff) s (D.world disk.old) (D.world disk.new)) }
@@ -161,7 +161,7 @@ fn replace_all<F: RangeFilter, D: Disk>(
 }
 
 // Whether a refusal stops the store: a write or a sync failed.
-pub(crate) fn is_stop(why: &StoreError) -> bool
+pub(crate) fn stops_store(why: &StoreError) -> bool
     ensures { result ≡ stops why.now }
 {
     match why {
@@ -178,13 +178,13 @@ impl<F: RangeFilter> Store<F> {
     /// memory is cleared. Until the pages of the old tables are given up, the new ones need as many beside them. Behind it a
     /// get reads at most one block.
     pub fn compact<D: Disk>(&mut self, disk: &mut D) -> Result<(), StoreError>
-        ensures answered { (s : State) → IsTrue D.tells → self.old.stopped ≡ false → Tied F.spelling (filter_bytes_of F.spelling F.built_cutoff) self.old s (D.world disk.old)
-            → Answered F.spelling (filter_bytes_of F.spelling F.built_cutoff) s compact_line (told_change result) self.new (D.world disk.old) (D.world disk.new) }
+        ensures answered { (s : State) → IsTrue D.tells → self.old.stopped ≡ false → Represents F.spelling (filter_bytes_of F.spelling F.built_cutoff) self.old s (D.world disk.old)
+            → AnswersRequest F.spelling (filter_bytes_of F.spelling F.built_cutoff) s compact_line (told_change result) self.new (D.world disk.old) (D.world disk.new) }
         ensures refused { MatchResult result (λ _. IsTried self.old.stopped None) (IsCompactRefusal self.old.stopped self.old.manifest.version.epoch (D.world disk.old) (D.world disk.new)) }
         ensures shown { IsTrue D.tells → IfErr result (IsScanShown self.old.tables (D.world disk.new).seen.held) }
         ensures dropped { self.old.stopped ≡ false → self.new.job ≡ None }
         ensures stopped { self.new.stopped ≡ (self.old.stopped || stopped_by result) }
-        ensures still { self.old.stopped ≡ true → ReadMoves 0 (D.world disk.old) (D.world disk.new) }
+        ensures no_call { self.old.stopped ≡ true → ReadMoves 0 (D.world disk.old) (D.world disk.new) }
         ensures moves { SomeMoves (page_bytes * self.old.manifest.version.pages) (D.world disk.old) (D.world disk.new) }
     {
         if self.stopped {
@@ -221,8 +221,8 @@ impl<F: RangeFilter> Store<F> {
         requires none_runs { self.old.job ≡ None }
         requires some { (self.old.memory.entries ≢ []) ⊎ (self.old.tables ≢ []) }
         requires epoch { self.old.manifest.version.epoch < last_epoch }
-        ensures answered { (s : State) → IsTrue D.tells → Tied F.spelling (filter_bytes_of F.spelling F.built_cutoff) self.old (without_job s) (D.world disk.old)
-            → Answered F.spelling (filter_bytes_of F.spelling F.built_cutoff) s compact_line (told_change result) self.new (D.world disk.old) (D.world disk.new) }
+        ensures answered { (s : State) → IsTrue D.tells → Represents F.spelling (filter_bytes_of F.spelling F.built_cutoff) self.old (without_job s) (D.world disk.old)
+            → AnswersRequest F.spelling (filter_bytes_of F.spelling F.built_cutoff) s compact_line (told_change result) self.new (D.world disk.old) (D.world disk.new) }
         ensures fault { IfErr result (IsCompactFault (D.world disk.old) (D.world disk.new)) }
         ensures shown { IsTrue D.tells → IfErr result (IsScanShown self.old.tables (D.world disk.new).seen.held) }
         ensures none_left { self.new.job ≡ None }
@@ -245,7 +245,7 @@ impl<F: RangeFilter> Store<F> {
                 Ok(())
             }
             Err(why) => {
-                self.stopped = is_stop(&why);
+                self.stopped = stops_store(&why);
                 Err(why)
             }
         }

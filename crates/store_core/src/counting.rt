@@ -12,7 +12,7 @@ ghost use Rattle.store_core.specs.Answers.{IsTried};
 ghost use Rattle.store_core.specs.Getting.{IsMet, IsUndamaged};
 ghost use Rattle.store_core.specs.Counts.{IsCountRefusal};
 ghost use Rattle.store_core.specs.Scans.{IsScanShown};
-ghost use Rattle.store_core.specs.Tied.{Tied};
+ghost use Rattle.store_core.specs.Represents.{Represents};
 ghost use Rattle.table_model.specs.Tables.{filter_bytes_of};
 
 use crate::error::StoreError;
@@ -27,14 +27,14 @@ impl<F: RangeFilter> Store<F> {
     /// It walks them, and reads what a [`range`](Store::range) of them all would read: nothing where the bounds are crossed or too
     /// long.
     pub fn count<D: Disk>(&self, disk: &mut D, low: &[u8], high: &[u8]) -> Result<u64, StoreError>
-        ensures answer { (s : State) → IsTrue D.tells → Tied F.spelling (filter_bytes_of F.spelling F.built_cutoff) self.now s (D.world disk.old)
+        ensures answer { (s : State) → IsTrue D.tells → Represents F.spelling (filter_bytes_of F.spelling F.built_cutoff) self.now s (D.world disk.old)
             → IfOk result (λ n. n ≡ count (state_map s) low.now (Some high.now)) }
-        ensures tied { (s : State) → Tied F.spelling (filter_bytes_of F.spelling F.built_cutoff) self.now s (D.world disk.old) → Tied F.spelling (filter_bytes_of F.spelling F.built_cutoff) self.now s (D.world disk.new) }
-        ensures undamaged { (s : State) → IsTrue D.tells → Tied F.spelling (filter_bytes_of F.spelling F.built_cutoff) self.now s (D.world disk.old) → IfErr result IsUndamaged }
+        ensures tied { (s : State) → Represents F.spelling (filter_bytes_of F.spelling F.built_cutoff) self.now s (D.world disk.old) → Represents F.spelling (filter_bytes_of F.spelling F.built_cutoff) self.now s (D.world disk.new) }
+        ensures undamaged { (s : State) → IsTrue D.tells → Represents F.spelling (filter_bytes_of F.spelling F.built_cutoff) self.now s (D.world disk.old) → IfErr result IsUndamaged }
         ensures shown { IsTrue D.tells → IfErr result (IsScanShown self.now.tables (D.world disk.old).seen.held) }
-        ensures met { (s : State) → IsTrue D.tells → Tied F.spelling (filter_bytes_of F.spelling F.built_cutoff) self.now s (D.world disk.old) → IfErr result (IsMet (seek_bound s low.now high.now)) }
+        ensures only_if_read { (s : State) → IsTrue D.tells → Represents F.spelling (filter_bytes_of F.spelling F.built_cutoff) self.now s (D.world disk.old) → IfErr result (IsMet (seek_bound s low.now high.now)) }
         ensures refused { MatchResult result (λ _. IsTried self.now.stopped (limit_of (Count low.now high.now))) (IsCountRefusal self.now.stopped (limit_of (Count low.now high.now)) (D.world disk.old) (D.world disk.new)) }
-        ensures still { self.now.stopped ≡ true → ReadMoves 0 (D.world disk.old) (D.world disk.new) }
+        ensures no_call { self.now.stopped ≡ true → ReadMoves 0 (D.world disk.old) (D.world disk.new) }
         ensures crossed { is_before high.now low.now ≡ true → ReadMoves 0 (D.world disk.old) (D.world disk.new) }
         ensures limited { limit_of (Count low.now high.now) ≢ None → ReadMoves 0 (D.world disk.old) (D.world disk.new) }
         ensures moves { OnlyReads (D.world disk.old) (D.world disk.new) }

@@ -10,7 +10,7 @@ ghost use Rattle.state_model.specs.Bounds.{admitted, blocks_read, estimate};
 ghost use Rattle.state_model.specs.State.{State};
 ghost use Rattle.store_core.specs.Answers.{IsTried};
 ghost use Rattle.store_core.specs.Telling.{IsAskRefusal, is_admitting, is_read_for, tally_of};
-ghost use Rattle.store_core.specs.Tied.{IsSeenAs};
+ghost use Rattle.store_core.specs.Represents.{ReadsAs};
 ghost use Rattle.table_model.specs.Tables.{filter_bytes_of};
 
 use crate::error::StoreError;
@@ -93,7 +93,7 @@ impl<F: RangeFilter> Store<F> {
     ///
     /// No read and no memory.
     pub fn estimate(&self, low: &[u8], high: &[u8]) -> Result<u64, StoreError>
-        ensures answer { (s : State) (image : Image) → IsSeenAs F.spelling (filter_bytes_of F.spelling F.built_cutoff) self.now s image
+        ensures answer { (s : State) (image : Image) → ReadsAs F.spelling (filter_bytes_of F.spelling F.built_cutoff) self.now s image
             → IfOk result (λ n. n ≡ estimate s low.now high.now) }
         ensures refused { MatchResult result (λ _. IsTried self.now.stopped (limit_of (Estimate low.now high.now))) (IsAskRefusal self.now.stopped (limit_of (Estimate low.now high.now))) }
     {
@@ -112,7 +112,7 @@ impl<F: RangeFilter> Store<F> {
     ///
     /// No read and no memory.
     pub fn explain(&self, key: &[u8]) -> Result<Explained, StoreError>
-        ensures answer { (s : State) (image : Image) → IsSeenAs F.spelling (filter_bytes_of F.spelling F.built_cutoff) self.now s image
+        ensures answer { (s : State) (image : Image) → ReadsAs F.spelling (filter_bytes_of F.spelling F.built_cutoff) self.now s image
             → IfOk result (λ e. (e.tables ≡ length s.tables) × (e.admitted ≡ admitted s key.now) × (e.blocks ≡ blocks_read s key.now)) }
         ensures refused { MatchResult result (λ _. IsTried self.now.stopped (limit_of (Explain key.now))) (IsAskRefusal self.now.stopped (limit_of (Explain key.now))) }
     {

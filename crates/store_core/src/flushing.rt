@@ -16,14 +16,14 @@ ghost use Rattle.manifest_model.specs.Version.{log_page_of};
 ghost use Rattle.state_model.specs.Changes.{flushed};
 ghost use Rattle.state_model.specs.State.{State};
 ghost use Rattle.state_model.specs.View.{memory};
-ghost use Rattle.store_core.specs.Answers.{Answered, IsTried, IsWriteRefusal, Wrote, stopped_by, told_change};
-ghost use Rattle.store_core.specs.Flushing.{IsFlushFault, IsNoPlace, IsPlan, IsPlanRefusal, Replaces, next_manifest};
-ghost use Rattle.store_core.specs.Kept.{IsWhole, Kept};
+ghost use Rattle.store_core.specs.Answers.{AnswersRequest, IsTried, IsWriteRefusal, WroteEntry, stopped_by, told_change};
+ghost use Rattle.store_core.specs.Flushing.{FlushedTo, IsFlushFault, IsNoPlace, IsPlan, IsPlanRefusal, next_manifest};
+ghost use Rattle.store_core.specs.StoreValue.{IsConsistent, StoreValue};
 ghost use Rattle.store_core.specs.Running.{extents_with, outputs_in};
-ghost use Rattle.store_core.specs.Tied.{Tied};
+ghost use Rattle.store_core.specs.Represents.{Represents};
 ghost use Rattle.table_model.specs.Tables.{filter_bytes_of, table_pages};
 
-use crate::compacting::is_stop;
+use crate::compacting::stops_store;
 use crate::error::{Limit, StoreError};
 use crate::store::Store;
 use byte_fields::Row;
@@ -197,9 +197,9 @@ fn write_plan<F: RangeFilter, D: Disk>(
     requires slot { plan.now.next.slot ≤ 1 }
     requires sound { IsVersion plan.now.next.version }
     requires epoch { plan.now.next.version.epoch < last_epoch }
-    ensures replaces { (store : Kept) (s : State) → IsTrue D.tells → IsWhole store → Tied F.spelling (filter_bytes_of F.spelling F.built_cutoff) store s (D.world disk.old)
+    ensures replaces { (store : StoreValue) (s : State) → IsTrue D.tells → IsConsistent store → Represents F.spelling (filter_bytes_of F.spelling F.built_cutoff) store s (D.world disk.old)
         → IsPlan F.spelling F.built_cutoff store.manifest (outputs_in store.job) (memory s) plan.now.parts plan.now.row plan.now.next
-        → Replaces F.spelling F.built_cutoff store s plan.now.parts plan.now.row plan.now.next result (D.world disk.old) (D.world disk.new) }
+        → FlushedTo F.spelling F.built_cutoff store s plan.now.parts plan.now.row plan.now.next result (D.world disk.old) (D.world disk.new) }
     ensures log { IfOk result (λ log. (log.filled ≡ 0) × (plan.now.next.version.log_page ≡ log_page_of log.area)) }
     ensures cause { IfErr result (IsFlushFault (D.world disk.old) (D.world disk.new)) }
     ensures moves { WriteMoves 0 (page_bytes * plan.now.next.version.pages) (D.world disk.old) (D.world disk.new) }
@@ -219,11 +219,11 @@ impl<F: RangeFilter> Store<F> {
     /// The table is written and made to last, then the other log area is begun, then the version is installed, then the
     /// memory is cleared. No read.
     pub fn flush<D: Disk>(&mut self, disk: &mut D) -> Result<(), StoreError>
-        ensures answered { (s : State) → IsTrue D.tells → self.old.stopped ≡ false → Tied F.spelling (filter_bytes_of F.spelling F.built_cutoff) self.old s (D.world disk.old)
-            → Answered F.spelling (filter_bytes_of F.spelling F.built_cutoff) s flush_line (told_change result) self.new (D.world disk.old) (D.world disk.new) }
+        ensures answered { (s : State) → IsTrue D.tells → self.old.stopped ≡ false → Represents F.spelling (filter_bytes_of F.spelling F.built_cutoff) self.old s (D.world disk.old)
+            → AnswersRequest F.spelling (filter_bytes_of F.spelling F.built_cutoff) s flush_line (told_change result) self.new (D.world disk.old) (D.world disk.new) }
         ensures refused { MatchResult result (λ _. IsTried self.old.stopped None) (IsWriteRefusal self.old.stopped None (D.world disk.old) (D.world disk.new)) }
         ensures stopped { self.new.stopped ≡ (self.old.stopped || stopped_by result) }
-        ensures still { self.old.stopped ≡ true → ReadMoves 0 (D.world disk.old) (D.world disk.new) }
+        ensures no_call { self.old.stopped ≡ true → ReadMoves 0 (D.world disk.old) (D.world disk.new) }
         ensures moves { WriteMoves 0 (page_bytes * self.old.manifest.version.pages) (D.world disk.old) (D.world disk.new) }
     {
         if self.stopped {
@@ -235,8 +235,8 @@ impl<F: RangeFilter> Store<F> {
     // The flush of a store that is not stopped.
     pub(crate) fn flush_memory<D: Disk>(&mut self, disk: &mut D) -> Result<(), StoreError>
         requires running { self.old.stopped ≡ false }
-        ensures wrote { (s : State) → IsTrue D.tells → Tied F.spelling (filter_bytes_of F.spelling F.built_cutoff) self.old s (D.world disk.old)
-            → Wrote F.spelling (filter_bytes_of F.spelling F.built_cutoff) s (flushed (filter_bytes_of F.spelling F.built_cutoff) s) result self.new (D.world disk.old) (D.world disk.new) }
+        ensures wrote { (s : State) → IsTrue D.tells → Represents F.spelling (filter_bytes_of F.spelling F.built_cutoff) self.old s (D.world disk.old)
+            → WroteEntry F.spelling (filter_bytes_of F.spelling F.built_cutoff) s (flushed (filter_bytes_of F.spelling F.built_cutoff) s) result self.new (D.world disk.old) (D.world disk.new) }
         ensures refused { IfErr result (IsWriteRefusal false None (D.world disk.old) (D.world disk.new)) }
         ensures stopped { self.new.stopped ≡ stopped_by result }
         ensures some { OnErr result (self.old.memory.entries ≡ [] → ⊥) }
@@ -263,7 +263,7 @@ impl<F: RangeFilter> Store<F> {
             }
             Err(fault) => {
                 let why = StoreError::from(fault);
-                self.stopped = is_stop(&why);
+                self.stopped = stops_store(&why);
                 Err(why)
             }
         }

@@ -13,11 +13,11 @@ ghost use Rattle.map_model.specs.SortedMap.{Bytes, get};
 ghost use Rattle.state_model.specs.Bounds.{searched};
 ghost use Rattle.state_model.specs.State.{State};
 ghost use Rattle.state_model.specs.View.{first_found, state_map, view};
-ghost use Rattle.store_core.specs.Caching.{AreNumbered, AreSame, AreTrue, IsFirst, IsTrueOf, SaysOf, cache_number, past_cache, reads_for, said_by, unkept};
+ghost use Rattle.store_core.specs.Caching.{AreNumbered, AreSame, BlockAgrees, CacheAgrees, IsFirst, SaysOf, cache_number, past_cache, reads_for, said_by, unkept};
 ghost use Rattle.store_core.specs.Getting.{IsBlockFault, IsBlockIn, IsFaultIn, IsFoundAt, IsLookFault, IsPlaceIn, IsReadIn, IsSpotIn, MayKeepRead, entries_by_table, said_at, said_in};
-ghost use Rattle.store_core.specs.Kept.{Kept};
-ghost use Rattle.level_merge.specs.Held.{AreHeld};
-ghost use Rattle.store_core.specs.Tied.{Tied};
+ghost use Rattle.store_core.specs.StoreValue.{StoreValue};
+ghost use Rattle.level_merge.specs.TablesAgree.{TablesAgree};
+ghost use Rattle.store_core.specs.Represents.{Represents};
 ghost use Rattle.table_model.specs.Tables.{filter_bytes_of};
 ghost use Rattle.table_file.specs.Faults.{IsNoDamage};
 ghost use Rattle.table_file.specs.Search.{StandsThere, block_for, blocks_of_get, bytes_at, largest_block};
@@ -123,7 +123,7 @@ fn look_in<F: RangeFilter, D: Disk>(
         → IfOk result (λ l. IfSome l.read (λ r. SaysOf r.block (take r.size buffer.new) table.now (joined parts))) }
     ensures undamaged { (settings : Settings) (parts : List (List Entry)) → IsTrue D.tells → StandsThere F.spelling settings table.now parts (D.world disk.old).seen.held → IfErr result IsNoDamage }
     ensures shown { IsTrue D.tells → IfErr result (IsBlockFault table.now key.now (D.world disk.old).seen.held) }
-    ensures met { OnErr result (1 ≤ blocks_of_get (block_for table.now key.now)) }
+    ensures only_if_read { OnErr result (1 ≤ blocks_of_get (block_for table.now key.now)) }
     ensures moves { ReadMoves (reads_for blocks.old.kept number (block_for table.now key.now)) (D.world disk.old) (D.world disk.new) }
     ensures cause { IfErr result (IsLookFault (D.world disk.old) (D.world disk.new)) }
 {
@@ -162,15 +162,15 @@ fn look_in_all<F: RangeFilter, D: Disk>(
     ensures unread { IfOk result (λ l. l.read ≡ None → buffer.new ≡ buffer.old) }
     ensures length { length buffer.new ≡ length buffer.old }
     ensures same { AreSame blocks.old blocks.new }
-    ensures answer { (settings : Settings) (states : List model.Table) → IsTrue D.tells → AreHeld F.spelling settings tables.now states (D.world disk.old).seen.held → AreTrue blocks.old tables.now states
+    ensures answer { (settings : Settings) (states : List model.Table) → IsTrue D.tells → TablesAgree F.spelling settings tables.now states (D.world disk.old).seen.held → CacheAgrees blocks.old tables.now states
         → IfOk result (λ l. said_in l.found buffer.new blocks.new.kept key.now ≡ first_found (entries_by_table states) key.now) }
-    ensures says { (settings : Settings) (states : List model.Table) → IsTrue D.tells → AreHeld F.spelling settings tables.now states (D.world disk.old).seen.held
-        → IfOk result (λ l. IfSome l.read (λ r. r.number < past_cache → IsTrueOf blocks.old.first (r.number, r.block) (take r.size buffer.new) tables.now states)) }
-    ensures undamaged { (settings : Settings) (states : List model.Table) → IsTrue D.tells → AreHeld F.spelling settings tables.now states (D.world disk.old).seen.held → IfErr result IsNoDamage }
+    ensures says { (settings : Settings) (states : List model.Table) → IsTrue D.tells → TablesAgree F.spelling settings tables.now states (D.world disk.old).seen.held
+        → IfOk result (λ l. IfSome l.read (λ r. r.number < past_cache → BlockAgrees blocks.old.first (r.number, r.block) (take r.size buffer.new) tables.now states)) }
+    ensures undamaged { (settings : Settings) (states : List model.Table) → IsTrue D.tells → TablesAgree F.spelling settings tables.now states (D.world disk.old).seen.held → IfErr result IsNoDamage }
     ensures shown { IsTrue D.tells → IfErr result (IsFaultIn tables.now key.now (D.world disk.old).seen.held) }
-    ensures bounded { (settings : Settings) (states : List model.Table) → IsTrue D.tells → AreHeld F.spelling settings tables.now states (D.world disk.old).seen.held → AreTrue blocks.old tables.now states
+    ensures bounded { (settings : Settings) (states : List model.Table) → IsTrue D.tells → TablesAgree F.spelling settings tables.now states (D.world disk.old).seen.held → CacheAgrees blocks.old tables.now states
         → (D.world disk.new).seen.reads ≤ (D.world disk.old).seen.reads + unkept blocks.old key.now tables.now states }
-    ensures met { (settings : Settings) (states : List model.Table) → IsTrue D.tells → AreHeld F.spelling settings tables.now states (D.world disk.old).seen.held → AreTrue blocks.old tables.now states
+    ensures only_if_read { (settings : Settings) (states : List model.Table) → IsTrue D.tells → TablesAgree F.spelling settings tables.now states (D.world disk.old).seen.held → CacheAgrees blocks.old tables.now states
         → OnErr result (1 ≤ searched settings key.now states) }
     ensures moves { ReadMoves (length tables.now) (D.world disk.old) (D.world disk.new) }
     ensures cause { IfErr result (IsLookFault (D.world disk.old) (D.world disk.new)) }
@@ -220,17 +220,17 @@ fn look_and_keep<F: RangeFilter, D: Disk>(
     ensures place { IfOk result (λ found. IfSome found (λ spot. IsSpotIn spot buffer.new)) }
     ensures length { length buffer.new ≡ length buffer.old }
     ensures numbered { AreNumbered blocks.old (length tables.now) → AreNumbered blocks.new (length tables.now) }
-    ensures keeps { (settings : Settings) (states : List model.Table) → IsTrue D.tells → AreHeld F.spelling settings tables.now states (D.world disk.old).seen.held → AreTrue blocks.old tables.now states
-        → AreTrue blocks.new tables.now states }
-    ensures answer { (settings : Settings) (states : List model.Table) → IsTrue D.tells → AreHeld F.spelling settings tables.now states (D.world disk.old).seen.held → AreTrue blocks.old tables.now states
+    ensures keeps { (settings : Settings) (states : List model.Table) → IsTrue D.tells → TablesAgree F.spelling settings tables.now states (D.world disk.old).seen.held → CacheAgrees blocks.old tables.now states
+        → CacheAgrees blocks.new tables.now states }
+    ensures answer { (settings : Settings) (states : List model.Table) → IsTrue D.tells → TablesAgree F.spelling settings tables.now states (D.world disk.old).seen.held → CacheAgrees blocks.old tables.now states
         → IfOk result (λ found. said_in found buffer.new blocks.new.kept key.now ≡ first_found (entries_by_table states) key.now) }
-    ensures undamaged { (settings : Settings) (states : List model.Table) → IsTrue D.tells → AreHeld F.spelling settings tables.now states (D.world disk.old).seen.held → IfErr result IsNoDamage }
+    ensures undamaged { (settings : Settings) (states : List model.Table) → IsTrue D.tells → TablesAgree F.spelling settings tables.now states (D.world disk.old).seen.held → IfErr result IsNoDamage }
     ensures shown { IsTrue D.tells → IfErr result (IsFaultIn tables.now key.now (D.world disk.old).seen.held) }
-    ensures bounded { (settings : Settings) (states : List model.Table) → IsTrue D.tells → AreHeld F.spelling settings tables.now states (D.world disk.old).seen.held → AreTrue blocks.old tables.now states
+    ensures bounded { (settings : Settings) (states : List model.Table) → IsTrue D.tells → TablesAgree F.spelling settings tables.now states (D.world disk.old).seen.held → CacheAgrees blocks.old tables.now states
         → (D.world disk.new).seen.reads ≤ (D.world disk.old).seen.reads + unkept blocks.old key.now tables.now states }
-    ensures within { (settings : Settings) (states : List model.Table) → IsTrue D.tells → AreHeld F.spelling settings tables.now states (D.world disk.old).seen.held → AreTrue blocks.old tables.now states
+    ensures within { (settings : Settings) (states : List model.Table) → IsTrue D.tells → TablesAgree F.spelling settings tables.now states (D.world disk.old).seen.held → CacheAgrees blocks.old tables.now states
         → (D.world disk.new).seen.reads ≤ (D.world disk.old).seen.reads + searched settings key.now states }
-    ensures met { (settings : Settings) (states : List model.Table) → IsTrue D.tells → AreHeld F.spelling settings tables.now states (D.world disk.old).seen.held → AreTrue blocks.old tables.now states
+    ensures only_if_read { (settings : Settings) (states : List model.Table) → IsTrue D.tells → TablesAgree F.spelling settings tables.now states (D.world disk.old).seen.held → CacheAgrees blocks.old tables.now states
         → OnErr result (1 ≤ searched settings key.now states) }
     ensures moves { ReadMoves (length tables.now) (D.world disk.old) (D.world disk.new) }
     ensures cause { IfErr result (IsLookFault (D.world disk.old) (D.world disk.new)) }
@@ -245,7 +245,7 @@ fn look_and_keep<F: RangeFilter, D: Disk>(
 // The place of what was found in tables.
 fn place_of(found: Option<Spot>) -> Place
     ensures place { (buffer : Bytes) → IfSome found (λ spot. IsSpotIn spot buffer) → IsPlaceIn result buffer }
-    ensures said { (store : Kept) (key : Bytes) → said_at result store key ≡ said_in found store.buffer store.blocks.kept key }
+    ensures said { (store : StoreValue) (key : Bytes) → said_at result store key ≡ said_in found store.buffer store.blocks.kept key }
 {
     match found {
         Some(spot) => Place::InTable(spot),
@@ -254,7 +254,7 @@ fn place_of(found: Option<Spot>) -> Place
 }
 
 impl<F: RangeFilter> Store<F> {
-    ghost use Rattle.store_core.specs.Ends.{store_ends};
+    ghost use Rattle.store_core.specs.Lends.{store_ends};
     ghost use Rattle.store_core.specs.Getting.{Asked, GetsKey};
 
     /// The value of a key, or `None` where it was never put or was deleted last.
@@ -264,7 +264,7 @@ impl<F: RangeFilter> Store<F> {
     /// for last, where there is memory; else nothing is lost. No memory that could be refused, no write.
     pub fn get<D: Disk>(&mut self, disk: &mut D, key: &[u8]) -> Result<Option<&[u8]>, StoreError>
         ensures* after { sem 𝓛 (store_ends F.row F.RangeFilter self.entry (λ s. Asked F.spelling (filter_bytes_of F.spelling F.built_cutoff) D.tells self.old s (D.world disk.old) (D.world disk.new))) }
-        ensures answer { (s : State) → IsTrue D.tells → Tied F.spelling (filter_bytes_of F.spelling F.built_cutoff) self.old s (D.world disk.old)
+        ensures answer { (s : State) → IsTrue D.tells → Represents F.spelling (filter_bytes_of F.spelling F.built_cutoff) self.old s (D.world disk.old)
             → IfOk result (λ found. option_map (λ v. v.now) found ≡ get (state_map s) key.now) }
         ensures gets { GetsKey F.spelling (filter_bytes_of F.spelling F.built_cutoff) D.tells self.old key.now result (D.world disk.old) (D.world disk.new) }
     {
@@ -276,7 +276,7 @@ impl<F: RangeFilter> Store<F> {
     fn look_for<D: Disk>(&mut self, disk: &mut D, key: &[u8]) -> Result<Place, StoreError>
         ensures asked { Asked F.spelling (filter_bytes_of F.spelling F.built_cutoff) D.tells self.old self.new (D.world disk.old) (D.world disk.new) }
         ensures place { IfOk result (λ place. IsPlaceIn place self.new.buffer) }
-        ensures answer { (s : State) → IsTrue D.tells → Tied F.spelling (filter_bytes_of F.spelling F.built_cutoff) self.old s (D.world disk.old)
+        ensures answer { (s : State) → IsTrue D.tells → Represents F.spelling (filter_bytes_of F.spelling F.built_cutoff) self.old s (D.world disk.old)
             → IfOk result (λ place. said_at place self.new key.now ≡ view s key.now) }
         ensures gets { GetsKey F.spelling (filter_bytes_of F.spelling F.built_cutoff) D.tells self.old key.now result (D.world disk.old) (D.world disk.new) }
     {

@@ -7,10 +7,10 @@ ghost use Rattle.state_model.specs.Tends.{IsDone};
 ghost use Rattle.store_core.specs.Answers.{stopped_by};
 ghost use Rattle.store_core.specs.Installing.{Installs, IsInstallRefusal};
 ghost use Rattle.store_core.specs.Running.{IsRun};
-ghost use Rattle.store_core.specs.Tied.{Tied};
+ghost use Rattle.store_core.specs.Represents.{Represents};
 ghost use Rattle.table_model.specs.Tables.{filter_bytes_of};
 
-use crate::compacting::is_stop;
+use crate::compacting::stops_store;
 use crate::error::StoreError;
 use crate::replacing::{merged_version, replace_tables};
 use crate::store::Store;
@@ -32,7 +32,7 @@ impl<F: RangeFilter> Store<F> {
         requires taken_out { self.old.job ≡ None }
         requires run { IsRun self.old.manifest.version self.old.tables job }
         ensures installs { (s : model.State) (done : model.Job) → IsTrue D.tells → s.job ≡ Some done → IsDone s.tables done
-            → Tied F.spelling (filter_bytes_of F.spelling F.built_cutoff) (record self.old { job = Some job.entry }) s (D.world disk.old)
+            → Represents F.spelling (filter_bytes_of F.spelling F.built_cutoff) (record self.old { job = Some job.entry }) s (D.world disk.old)
             → Installs F.spelling (filter_bytes_of F.spelling F.built_cutoff) s done result self.new (D.world disk.old) (D.world disk.new) }
         ensures refused { IfErr result (IsInstallRefusal self.old.manifest.version (D.world disk.old) (D.world disk.new)) }
         ensures stopped { self.new.stopped ≡ stopped_by result }
@@ -53,7 +53,7 @@ impl<F: RangeFilter> Store<F> {
             }
             Err(fault) => {
                 let why = StoreError::from(fault);
-                self.stopped = is_stop(&why);
+                self.stopped = stops_store(&why);
                 Err(why)
             }
         }

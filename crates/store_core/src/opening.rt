@@ -12,10 +12,10 @@ ghost use Rattle.manifest_model.specs.Tables.{follows, ranges_fault};
 ghost use Rattle.manifest_model.specs.Version.{log_page_of};
 ghost use Rattle.state_model.specs.State.{State};
 ghost use Rattle.store_core.specs.Caching.{none_cached};
-ghost use Rattle.store_core.specs.Kept.{rows_of};
+ghost use Rattle.store_core.specs.StoreValue.{rows_of};
 ghost use Rattle.store_core.specs.Answers.{IsFailure};
 ghost use Rattle.store_core.specs.Opening.{AreOpened, IsOpenFault, IsOpenRefusal, IsOpenAnswer, IsOpenedAs, IsRangesDamage, IsTableAnswer, IsTablesAnswer, IsVersionOpened, IsWide, opened_range};
-ghost use Rattle.store_core.specs.Tied.{Tied};
+ghost use Rattle.store_core.specs.Represents.{Represents};
 ghost use Rattle.table_model.specs.Tables.{filter_bytes_of};
 
 use crate::caching::CachedBlocks;
@@ -145,7 +145,7 @@ impl<F: RangeFilter> Store<F> {
     /// Seven reads at most and two for each table. Nothing is written.
     pub fn open_store<D: Disk>(alloc: Global, disk: &mut D) -> Result<Store<F>, StoreError>
         ensures opens { (s : State) → IsTrue D.tells → IsStateOf F.spelling s (D.world disk.old).seen.held
-            → MatchResult result (λ store. Tied F.spelling (filter_bytes_of F.spelling F.built_cutoff) store s (D.world disk.new)) IsFailure }
+            → MatchResult result (λ store. Represents F.spelling (filter_bytes_of F.spelling F.built_cutoff) store s (D.world disk.new)) IsFailure }
         ensures answer { IsTrue D.tells → MatchResult result (IsOpenedAs F.spelling (D.world disk.old).seen.held) (IsOpenAnswer F.spelling F.first_fault (D.world disk.old).seen.held) }
         ensures cause { IfErr result (IsOpenRefusal (D.world disk.old) (D.world disk.new)) }
         ensures running { IfOk result (λ store. store.stopped ≡ false) }

@@ -9,8 +9,8 @@ ghost use Rattle.line_model.specs.Limits.{limit_of};
 ghost use Rattle.line_model.specs.Requests.{Del, Put};
 ghost use Rattle.state_model.specs.Changes.{logged, written};
 ghost use Rattle.state_model.specs.State.{State};
-ghost use Rattle.store_core.specs.Answers.{Answered, IsTried, IsWriteFailure, IsWriteRefusal, Turns, Wrote, stopped_by, told_change};
-ghost use Rattle.store_core.specs.Tied.{Tied};
+ghost use Rattle.store_core.specs.Answers.{AnswersRequest, IsTried, IsWriteFailure, IsWriteRefusal, MovesTo, WroteEntry, stopped_by, told_change};
+ghost use Rattle.store_core.specs.Represents.{Represents};
 ghost use Rattle.table_model.specs.Tables.{filter_bytes_of};
 
 use crate::error::StoreError;
@@ -28,11 +28,11 @@ impl<F: RangeFilter> Store<F> {
     /// The memory of the entry is taken first; then, where its record does not fit the log area, the memory table is
     /// flushed; then the record is written and made to last. At `Ok` no crash takes it back. No read.
     pub fn put<D: Disk>(&mut self, disk: &mut D, key: &[u8], value: &[u8]) -> Result<(), StoreError>
-        ensures answered { (s : State) → IsTrue D.tells → self.old.stopped ≡ false → Tied F.spelling (filter_bytes_of F.spelling F.built_cutoff) self.old s (D.world disk.old)
-            → Answered F.spelling (filter_bytes_of F.spelling F.built_cutoff) s (Put key.now value.now) (told_change result) self.new (D.world disk.old) (D.world disk.new) }
+        ensures answered { (s : State) → IsTrue D.tells → self.old.stopped ≡ false → Represents F.spelling (filter_bytes_of F.spelling F.built_cutoff) self.old s (D.world disk.old)
+            → AnswersRequest F.spelling (filter_bytes_of F.spelling F.built_cutoff) s (Put key.now value.now) (told_change result) self.new (D.world disk.old) (D.world disk.new) }
         ensures refused { MatchResult result (λ _. IsTried self.old.stopped (limit_of (Put key.now value.now))) (IsWriteRefusal self.old.stopped (limit_of (Put key.now value.now)) (D.world disk.old) (D.world disk.new)) }
         ensures stopped { self.new.stopped ≡ (self.old.stopped || stopped_by result) }
-        ensures still { self.old.stopped ≡ true → ReadMoves 0 (D.world disk.old) (D.world disk.new) }
+        ensures no_call { self.old.stopped ≡ true → ReadMoves 0 (D.world disk.old) (D.world disk.new) }
         ensures moves { WriteMoves 0 (page_bytes * self.old.manifest.version.pages) (D.world disk.old) (D.world disk.new) }
     {
         if self.stopped {
@@ -45,11 +45,11 @@ impl<F: RangeFilter> Store<F> {
 
     /// Takes the value of a key away: a tombstone is written, in the way of [`Store::put`].
     pub fn delete<D: Disk>(&mut self, disk: &mut D, key: &[u8]) -> Result<(), StoreError>
-        ensures answered { (s : State) → IsTrue D.tells → self.old.stopped ≡ false → Tied F.spelling (filter_bytes_of F.spelling F.built_cutoff) self.old s (D.world disk.old)
-            → Answered F.spelling (filter_bytes_of F.spelling F.built_cutoff) s (Del key.now) (told_change result) self.new (D.world disk.old) (D.world disk.new) }
+        ensures answered { (s : State) → IsTrue D.tells → self.old.stopped ≡ false → Represents F.spelling (filter_bytes_of F.spelling F.built_cutoff) self.old s (D.world disk.old)
+            → AnswersRequest F.spelling (filter_bytes_of F.spelling F.built_cutoff) s (Del key.now) (told_change result) self.new (D.world disk.old) (D.world disk.new) }
         ensures refused { MatchResult result (λ _. IsTried self.old.stopped (limit_of (Del key.now))) (IsWriteRefusal self.old.stopped (limit_of (Del key.now)) (D.world disk.old) (D.world disk.new)) }
         ensures stopped { self.new.stopped ≡ (self.old.stopped || stopped_by result) }
-        ensures still { self.old.stopped ≡ true → ReadMoves 0 (D.world disk.old) (D.world disk.new) }
+        ensures no_call { self.old.stopped ≡ true → ReadMoves 0 (D.world disk.old) (D.world disk.new) }
         ensures moves { WriteMoves 0 (page_bytes * self.old.manifest.version.pages) (D.world disk.old) (D.world disk.new) }
     {
         if self.stopped {
@@ -68,8 +68,8 @@ impl<F: RangeFilter> Store<F> {
     ) -> Result<(), StoreError>
         requires sound { IsEntry (entry_of key.now (value_of value)) }
         requires running { self.old.stopped ≡ false }
-        ensures wrote { (s : State) → IsTrue D.tells → Tied F.spelling (filter_bytes_of F.spelling F.built_cutoff) self.old s (D.world disk.old)
-            → Wrote F.spelling (filter_bytes_of F.spelling F.built_cutoff) s (written (filter_bytes_of F.spelling F.built_cutoff) s (entry_of key.now (value_of value.entry))) result self.new (D.world disk.old) (D.world disk.new) }
+        ensures wrote { (s : State) → IsTrue D.tells → Represents F.spelling (filter_bytes_of F.spelling F.built_cutoff) self.old s (D.world disk.old)
+            → WroteEntry F.spelling (filter_bytes_of F.spelling F.built_cutoff) s (written (filter_bytes_of F.spelling F.built_cutoff) s (entry_of key.now (value_of value.entry))) result self.new (D.world disk.old) (D.world disk.new) }
         ensures refused { IfErr result (IsWriteRefusal false None (D.world disk.old) (D.world disk.new)) }
         ensures stopped { self.new.stopped ≡ stopped_by result }
         ensures moves { WriteMoves 0 (page_bytes * self.old.manifest.version.pages) (D.world disk.old) (D.world disk.new) }
@@ -88,8 +88,8 @@ impl<F: RangeFilter> Store<F> {
         requires running { self.old.stopped ≡ false }
         requires fits { self.old.log.filled + need entry ≤ log_bytes }
         requires spare { 1 ≤ self.old.memory.spare }
-        ensures turns { (s : State) → IsTrue D.tells → Tied F.spelling (filter_bytes_of F.spelling F.built_cutoff) self.old s (D.world disk.old)
-            → Turns F.spelling (filter_bytes_of F.spelling F.built_cutoff) s (logged s entry) result self.new (D.world disk.old) (D.world disk.new) }
+        ensures turns { (s : State) → IsTrue D.tells → Represents F.spelling (filter_bytes_of F.spelling F.built_cutoff) self.old s (D.world disk.old)
+            → MovesTo F.spelling (filter_bytes_of F.spelling F.built_cutoff) s (logged s entry) result self.new (D.world disk.old) (D.world disk.new) }
         ensures stopped { self.new.stopped ≡ stopped_by result }
         ensures failure { IfErr result (IsWriteFailure (D.world disk.old) (D.world disk.new)) }
         ensures moves { WriteMoves 0 (page_bytes * self.old.manifest.version.pages) (D.world disk.old) (D.world disk.new) }

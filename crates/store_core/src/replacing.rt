@@ -6,7 +6,7 @@ ghost use Rattle.manifest_model.specs.Laws.{RowFits};
 ghost use Rattle.merge_rows.specs.Steps.{numbers};
 ghost use Rattle.store_core.specs.Caching.{renumbered};
 ghost use Rattle.store_core.specs.Replacing.{goes_before, merged_manifest, others_in, put_in, tables_behind};
-ghost use Rattle.store_core.specs.Kept.{rows_of};
+ghost use Rattle.store_core.specs.StoreValue.{rows_of};
 
 use crate::caching::CachedBlocks;
 use byte_fields::Row;

@@ -18,7 +18,7 @@ ghost use Rattle.state_model.specs.View.{state_map};
 ghost use Rattle.store_core.specs.Answers.{IsTried};
 ghost use Rattle.store_core.specs.Getting.{IsLookFault, IsUndamaged};
 ghost use Rattle.store_core.specs.Scans.{IsScanRefusal, IsScanShown, IsStepFault, IsWalkShown, MayRead, StillComes, admits_keys, at_most, blocks_on_way, given, is_ended, left_behind, numbers_admitting, pair_in, pairs_up_to, opened_tables, step_bound};
-ghost use Rattle.store_core.specs.Tied.{IsSeenAs};
+ghost use Rattle.store_core.specs.Represents.{ReadsAs};
 ghost use Rattle.table_file.specs.Search.{IsGetFault};
 ghost use Rattle.table_model.specs.Tables.{filter_bytes_of};
 
@@ -148,7 +148,7 @@ fn next_pair<F: RangeFilter, D: Disk>(
         ≡ pairs_up_to (option_map (λ v. v.items) high.now) (rows_left rows.old tables.now.tables (D.world disk.old).seen.held)) }
     ensures bounded { IsTrue D.tells → IsSoundMerge rows.old tables.now.tables (D.world disk.old).seen.held
         → (D.world disk.new).seen.reads ≤ (D.world disk.old).seen.reads + blocks_on_way (option_map (λ v. v.items) high.now) rows.old tables.now.tables (D.world disk.old).seen.held }
-    ensures met { OnErr result (1 ≤ length rows.old.walks) }
+    ensures only_if_read { OnErr result (1 ≤ length rows.old.walks) }
     ensures cause { IfErr result (IsLookFault (D.world disk.old) (D.world disk.new)) }
     ensures fault { IsTrue D.tells → IfErr result (λ why. SomeBlock tables.now.tables (numbers rows.old.walks) (λ t n. IsGetFault t n (D.world disk.old).seen.held why)) }
     ensures moves { OnlyReads (D.world disk.old) (D.world disk.new) }
@@ -188,11 +188,11 @@ impl<F: RangeFilter> Store<F> {
     /// admits the bounds: the first step reads one block of each at most, and one more for each entry of a deleted key that it
     /// passes over.
     pub fn seek(&self, low: &[u8], high: Option<&[u8]>) -> Result<Scan<'_, F>, StoreError>
-        ensures shows { (s : State) (image : Image) → IsSeenAs F.spelling (filter_bytes_of F.spelling F.built_cutoff) self.now s image
+        ensures shows { (s : State) (image : Image) → ReadsAs F.spelling (filter_bytes_of F.spelling F.built_cutoff) self.now s image
             → IfOk result (λ scan. StillComes F.spelling scan (between (state_map s) low.now (option_map (λ h. h.now) high.entry)) image) }
-        ensures bounded { (s : State) (image : Image) (hi : Bytes) → IsSeenAs F.spelling (filter_bytes_of F.spelling F.built_cutoff) self.now s image
+        ensures bounded { (s : State) (image : Image) (hi : Bytes) → ReadsAs F.spelling (filter_bytes_of F.spelling F.built_cutoff) self.now s image
             → option_map (λ h. h.now) high.entry ≡ Some hi → IfOk result (λ scan. step_bound scan image ≤ seek_bound s low.now hi) }
-        ensures met { (s : State) (image : Image) → IsSeenAs F.spelling (filter_bytes_of F.spelling F.built_cutoff) self.now s image
+        ensures only_if_read { (s : State) (image : Image) → ReadsAs F.spelling (filter_bytes_of F.spelling F.built_cutoff) self.now s image
             → IfOk result (λ scan. 1 ≤ opened_tables scan → MayRead s low.now (option_map (λ h. h.now) high.entry)) }
         ensures made { IfOk result (λ scan. (scan.tables ≡ self.now.tables) × (scan.left ≡ None)) }
         ensures refused { MatchResult result (λ _. IsTried self.now.stopped (limit_of (Seek low.now (option_map (λ h. h.now) high.entry)))) (IsScanRefusal self.now.stopped (limit_of (Seek low.now (option_map (λ h. h.now) high.entry)))) }
@@ -204,11 +204,11 @@ impl<F: RangeFilter> Store<F> {
     ///
     /// It takes all the memory of the scan, and reads nothing. Once so many pairs were given nothing more is read.
     pub fn range(&self, low: &[u8], high: &[u8], most: u64) -> Result<Scan<'_, F>, StoreError>
-        ensures shows { (s : State) (image : Image) → IsSeenAs F.spelling (filter_bytes_of F.spelling F.built_cutoff) self.now s image
+        ensures shows { (s : State) (image : Image) → ReadsAs F.spelling (filter_bytes_of F.spelling F.built_cutoff) self.now s image
             → IfOk result (λ scan. StillComes F.spelling scan (slice (state_map s) low.now (Some high.now) most) image) }
-        ensures bounded { (s : State) (image : Image) → IsSeenAs F.spelling (filter_bytes_of F.spelling F.built_cutoff) self.now s image
+        ensures bounded { (s : State) (image : Image) → ReadsAs F.spelling (filter_bytes_of F.spelling F.built_cutoff) self.now s image
             → IfOk result (λ scan. step_bound scan image ≤ seek_bound s low.now high.now) }
-        ensures met { (s : State) (image : Image) → IsSeenAs F.spelling (filter_bytes_of F.spelling F.built_cutoff) self.now s image
+        ensures only_if_read { (s : State) (image : Image) → ReadsAs F.spelling (filter_bytes_of F.spelling F.built_cutoff) self.now s image
             → IfOk result (λ scan. 1 ≤ opened_tables scan → MayRead s low.now (Some high.now)) }
         ensures made { IfOk result (λ scan. (scan.tables ≡ self.now.tables) × (scan.left ≡ Some most)) }
         ensures refused { MatchResult result (λ _. IsTried self.now.stopped (limit_of (Range low.now high.now most))) (IsScanRefusal self.now.stopped (limit_of (Range low.now high.now most))) }
@@ -223,11 +223,11 @@ impl<F: RangeFilter> Store<F> {
         high: Option<&[u8]>,
         most: Option<u64>,
     ) -> Result<Scan<'_, F>, StoreError>
-        ensures shows { (s : State) (image : Image) → IsSeenAs F.spelling (filter_bytes_of F.spelling F.built_cutoff) self.now s image
+        ensures shows { (s : State) (image : Image) → ReadsAs F.spelling (filter_bytes_of F.spelling F.built_cutoff) self.now s image
             → IfOk result (λ scan. StillComes F.spelling scan (at_most most (between (state_map s) low.now (option_map (λ h. h.now) high.entry))) image) }
-        ensures bounded { (s : State) (image : Image) (hi : Bytes) → IsSeenAs F.spelling (filter_bytes_of F.spelling F.built_cutoff) self.now s image
+        ensures bounded { (s : State) (image : Image) (hi : Bytes) → ReadsAs F.spelling (filter_bytes_of F.spelling F.built_cutoff) self.now s image
             → option_map (λ h. h.now) high.entry ≡ Some hi → IfOk result (λ scan. step_bound scan image ≤ seek_bound s low.now hi) }
-        ensures met { (s : State) (image : Image) → IsSeenAs F.spelling (filter_bytes_of F.spelling F.built_cutoff) self.now s image
+        ensures only_if_read { (s : State) (image : Image) → ReadsAs F.spelling (filter_bytes_of F.spelling F.built_cutoff) self.now s image
             → IfOk result (λ scan. 1 ≤ opened_tables scan → MayRead s low.now (option_map (λ h. h.now) high.entry)) }
         ensures made { IfOk result (λ scan. (scan.tables ≡ self.now.tables) × (scan.left ≡ most)) }
         ensures refused { MatchResult result (λ _. IsTried self.now.stopped (limit_of (Seek low.now (option_map (λ h. h.now) high.entry)))) (IsScanRefusal self.now.stopped (limit_of (Seek low.now (option_map (λ h. h.now) high.entry)))) }
@@ -256,7 +256,7 @@ impl<F: RangeFilter> Store<F> {
 
 impl<'s, F: RangeFilter> Scan<'s, F> {
     ghost use Rattle.std.specs.Borrow.{sem};
-    ghost use Rattle.store_core.specs.Ends.{scan_ends};
+    ghost use Rattle.store_core.specs.Lends.{scan_ends};
 
     /// The key and the value of the pair at hand, or `None` where none is. They lie where they were read.
     pub fn pair(&self) -> Option<(&[u8], &[u8])>
@@ -290,7 +290,7 @@ impl<'s, F: RangeFilter> Scan<'s, F> {
         ensures walked { IsTrue D.tells → IfErr result (IsWalkShown self.old.tables (numbers self.old.merge.walks) (D.world disk.old).seen.held) }
         ensures bounded { (m : Map) → IsTrue D.tells → StillComes F.spelling self.old m (D.world disk.old).seen.held
             → (D.world disk.new).seen.reads ≤ (D.world disk.old).seen.reads + step_bound self.old (D.world disk.old).seen.held }
-        ensures met { OnErr result ((1 ≤ opened_tables self.old) × (self.old.left ≢ Some 0)) }
+        ensures only_if_read { OnErr result ((1 ≤ opened_tables self.old) × (self.old.left ≢ Some 0)) }
         ensures more { IfOk result (λ some. some ≡ true → self.old.left ≢ Some 0) }
         ensures ended { self.old.left ≡ Some 0 → IsOk result × ReadMoves 0 (D.world disk.old) (D.world disk.new) }
         ensures counts { IfOk result (λ some. self.new.left ≡ left_behind some self.old.left) }

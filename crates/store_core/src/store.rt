@@ -29,23 +29,23 @@ pub struct Store<F: RangeFilter> {
 
 impl<F: RangeFilter> Model for Store<F> {
     ghost use Rattle.std.specs.Prelude.{◌≡◌, vec_len};
-    ghost use Rattle.store_core.specs.Kept.{IsWhole, Kept};
+    ghost use Rattle.store_core.specs.StoreValue.{IsConsistent, StoreValue};
     ghost use Rattle.table_file.specs.Search.{largest_block};
 
-    ghost Value = { Kept };
+    ghost Value = { StoreValue };
 
     ghost view = { λ s. record { stopped = s.stopped; manifest = s.version; tables = s.tables.tables; job = s.job; log = s.log; memory = s.memory; buffer = s.buffer.items; blocks = s.blocks } };
 
-    ghost invariant = { λ s. IsWhole (record { stopped = s.stopped; manifest = s.version; tables = s.tables.tables; job = s.job; log = s.log; memory = s.memory; buffer = s.buffer.items; blocks = s.blocks })
+    ghost invariant = { λ s. IsConsistent (record { stopped = s.stopped; manifest = s.version; tables = s.tables.tables; job = s.job; log = s.log; memory = s.memory; buffer = s.buffer.items; blocks = s.blocks })
         × (vec_len s.buffer ≡ largest_block) };
 }
 
 impl<F: RangeFilter> Store<F> {
-    ghost use Rattle.store_core.specs.Kept.{IsWhole};
+    ghost use Rattle.store_core.specs.StoreValue.{IsConsistent};
 
     /// Law: what is so of each store, whatever its device holds. It does nothing.
-    pub fn whole_law(&self)
-        ensures { IsWhole self.now }
+    pub fn consistency_law(&self)
+        ensures { IsConsistent self.now }
     {
         // so that the struct's invariant is known
         let _ = &self.stopped;

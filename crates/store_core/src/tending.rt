@@ -5,17 +5,17 @@ ghost use Rattle.disk_trait.specs.Image.{Image};
 ghost use Rattle.disk_trait.specs.World.{ReadMoves};
 ghost use Rattle.image_model.specs.Stands.{settings_of};
 ghost use Rattle.key_base.specs.Limits.{max_tables};
-ghost use Rattle.level_merge.specs.Slices.{IsMetUnwritten, IsSliceFault};
+ghost use Rattle.level_merge.specs.SliceSteps.{FailsBeforeWrite, IsSliceFault};
 ghost use Rattle.manifest_model.specs.Laws.{IsVersion};
 ghost use Rattle.merge_rows.specs.Steps.{numbers};
 ghost use Rattle.state_model.specs.State as model;
 ghost use Rattle.state_model.specs.Tends.{Runs, with_job};
 ghost use Rattle.store_core.specs.Answers.{stopped_by};
-ghost use Rattle.store_core.specs.Kept.{IsWhole};
+ghost use Rattle.store_core.specs.StoreValue.{IsConsistent};
 ghost use Rattle.store_core.specs.Running.{HasMoreToMake, IsRun, MayRunIn};
 ghost use Rattle.store_core.specs.Scans.{IsScanShown};
 ghost use Rattle.store_core.specs.Tending.{IsBegunAmong, IsNext, IsTended, IsTendRefusal, NoneIsChosen, SlicesJob, SomeMoves, Tends, answer_to, told_slice};
-ghost use Rattle.store_core.specs.Tied.{IsUnder, Tied};
+ghost use Rattle.store_core.specs.Represents.{Represents, RepresentsOn};
 ghost use Rattle.table_model.specs.Tables.{filter_bytes_of};
 
 use crate::error::StoreError;
@@ -65,16 +65,16 @@ impl<F: RangeFilter> Store<F> {
     /// The map stays as it is. At `Full` and at each error the merge is dropped, and its outputs give their pages back.
     pub fn tend<D: Disk>(&mut self, disk: &mut D, blocks: u32) -> Result<Tended, StoreError>
         requires some { 1 ≤ blocks }
-        ensures answered { (s : model.State) → IsTrue D.tells → self.old.stopped ≡ false → Tied F.spelling (filter_bytes_of F.spelling F.built_cutoff) self.old s (D.world disk.old)
+        ensures answered { (s : model.State) → IsTrue D.tells → self.old.stopped ≡ false → Represents F.spelling (filter_bytes_of F.spelling F.built_cutoff) self.old s (D.world disk.old)
             → Tends F.spelling (filter_bytes_of F.spelling F.built_cutoff) s (told_slice result) self.new (D.world disk.old) (D.world disk.new) }
-        ensures reads { (s : model.State) → IsTrue D.tells → Tied F.spelling (filter_bytes_of F.spelling F.built_cutoff) self.old s (D.world disk.old)
+        ensures reads { (s : model.State) → IsTrue D.tells → Represents F.spelling (filter_bytes_of F.spelling F.built_cutoff) self.old s (D.world disk.old)
             → (D.world disk.new).seen.reads ≤ (D.world disk.old).seen.reads + blocks }
         ensures running { IfOk result (λ _. self.old.stopped ≡ false) }
         ensures refused { MatchResult result (IsTended self.old self.new (D.world disk.old) (D.world disk.new)) (IsTendRefusal self.old.stopped self.old.manifest.version.epoch (D.world disk.old) (D.world disk.new)) }
         ensures shown { IsTrue D.tells → IfErr result (IsScanShown self.new.tables (D.world disk.new).seen.held) }
         ensures dropped { self.old.stopped ≡ false → OnErr result (self.new.job ≡ None) }
         ensures stopped { self.new.stopped ≡ (self.old.stopped || stopped_by result) }
-        ensures still { self.old.stopped ≡ true → ReadMoves 0 (D.world disk.old) (D.world disk.new) }
+        ensures no_call { self.old.stopped ≡ true → ReadMoves 0 (D.world disk.old) (D.world disk.new) }
         ensures moves { SomeMoves (page_bytes * self.old.manifest.version.pages) (D.world disk.old) (D.world disk.new) }
     {
         if self.stopped {
@@ -90,7 +90,7 @@ impl<F: RangeFilter> Store<F> {
     fn take_job(&mut self) -> Result<Option<Job<'static, F>>, StoreError>
         ensures rest { self.new ≡ record self.old { job = None } }
         ensures whole { IfOk result (MayRunIn self.old.manifest.version self.old.tables) }
-        ensures next { (s : model.State) (image : Image) → IsUnder F.spelling self.old.manifest self.old.tables self.old.job s image → IfOk result (IsNext F.spelling self.old s) }
+        ensures next { (s : model.State) (image : Image) → RepresentsOn F.spelling self.old.manifest self.old.tables self.old.job s image → IfOk result (IsNext F.spelling self.old s) }
         ensures none { IfOk result (λ found. found ≡ None → (self.old.job ≡ None) × NoneIsChosen self.old.tables) }
         ensures memory { IfErr result (λ why. why ≡ StoreError.Memory) }
     {
@@ -126,10 +126,10 @@ impl<F: RangeFilter> Store<F> {
         requires run { IsRun self.old.manifest.version self.old.tables job }
         requires more { HasMoreToMake job }
         ensures works { (s : model.State) (running : model.Job) → IsTrue D.tells → Runs s running
-            → Tied F.spelling (filter_bytes_of F.spelling F.built_cutoff) (record self.old { job = Some job.entry }) (with_job s running) (D.world disk.old)
+            → Represents F.spelling (filter_bytes_of F.spelling F.built_cutoff) (record self.old { job = Some job.entry }) (with_job s running) (D.world disk.old)
             → Tends F.spelling (filter_bytes_of F.spelling F.built_cutoff) s (told_slice result) self.new (D.world disk.old) (D.world disk.new) }
         ensures reads { (s : model.State) (running : model.Job) → IsTrue D.tells → s.job ≡ Some running
-            → Tied F.spelling (filter_bytes_of F.spelling F.built_cutoff) (record self.old { job = Some job.entry }) s (D.world disk.old)
+            → Represents F.spelling (filter_bytes_of F.spelling F.built_cutoff) (record self.old { job = Some job.entry }) s (D.world disk.old)
             → (D.world disk.new).seen.reads ≤ (D.world disk.old).seen.reads + blocks }
         ensures refused { MatchResult result (IsTended (record self.old { job = Some job.entry }) self.new (D.world disk.old) (D.world disk.new)) (IsTendRefusal false self.old.manifest.version.epoch (D.world disk.old) (D.world disk.new)) }
         ensures shown { IsTrue D.tells → IfErr result (IsScanShown self.new.tables (D.world disk.new).seen.held) }
@@ -163,13 +163,13 @@ impl<F: RangeFilter> Store<F> {
         ensures run { OnOk result (IsRun self.now.manifest.version self.now.tables job.new) }
         ensures more { IfOk result (λ sliced. sliced ≡ Sliced.Working → HasMoreToMake job.new) }
         ensures slices { (s : model.State) (running : model.Job) → IsTrue D.tells → s.job ≡ Some running
-            → Tied F.spelling (filter_bytes_of F.spelling F.built_cutoff) (record self.now { job = Some job.old }) s (D.world disk.old)
+            → Represents F.spelling (filter_bytes_of F.spelling F.built_cutoff) (record self.now { job = Some job.old }) s (D.world disk.old)
             → SlicesJob F.spelling (filter_bytes_of F.spelling F.built_cutoff) self.now s running job.new result (D.world disk.old) (D.world disk.new) }
         ensures reads { (s : model.State) (running : model.Job) → IsTrue D.tells → s.job ≡ Some running
-            → Tied F.spelling (filter_bytes_of F.spelling F.built_cutoff) (record self.now { job = Some job.old }) s (D.world disk.old)
+            → Represents F.spelling (filter_bytes_of F.spelling F.built_cutoff) (record self.now { job = Some job.old }) s (D.world disk.old)
             → (D.world disk.new).seen.reads ≤ (D.world disk.old).seen.reads + blocks }
         ensures fault { IfErr result (IsSliceFault D.tells self.now.tables (numbers job.old.merge.walks) (D.world disk.old) (D.world disk.new)) }
-        ensures unwritten { IfErr result (IsMetUnwritten (D.world disk.old) (D.world disk.new)) }
+        ensures unwritten { IfErr result (FailsBeforeWrite (D.world disk.old) (D.world disk.new)) }
         ensures moves { SomeMoves (page_bytes * self.now.manifest.version.pages) (D.world disk.old) (D.world disk.new) }
     {
         // the law of merges: what stands of the one that runs stands on each image

@@ -19,21 +19,21 @@ use Rattle.state_model.specs.Steps.{Answer, Step, answer, answer_within, answers
 use Rattle.state_model.specs.View.{state_map}
 use Rattle.store_core.specs.Answers.{HasCause, told}
 use Rattle.store_core.specs.Getting.{IsGetRefusal, IsMet, IsUndamaged}
-use Rattle.store_core.specs.Kept.{Kept}
+use Rattle.store_core.specs.StoreValue.{StoreValue}
 use Rattle.store_core.specs.Telling.{IsAskRefusal}
-use Rattle.store_core.specs.Tied.{Tied}
+use Rattle.store_core.specs.Represents.{Represents}
 use Rattle.store_core.specs.declared.error.Limit.TheVariants as limit
 use Rattle.store_core.specs.declared.error.StoreError.{StoreError}
 use Rattle.store_core.specs.declared.error.StoreError.TheVariants as error
 use Rattle.surf_run.specs.Answering.{AnswersLine, EndsLine, LineAnswer, RunsOn}
 use Rattle.surf_run.specs.Causes.{EndCause, IsMetBy, LineShows, NoFall, SayFailed, SaysDamage, WritesWithin}
-use Rattle.surf_run.specs.Crash.{HasMap, Stands}
+use Rattle.surf_run.specs.Crash.{EachImageStandsFor, HasMap}
 use Rattle.surf_run.specs.Dialogue.{IsBounded, reply_bound}
 use Rattle.surf_run.specs.Kind.{Kind}
 use Rattle.surf_run.specs.Refusals.{end_of_refusal}
 use Rattle.surf_run.specs.Saying.{Says, SaysBehind, end_by}
-use Rattle.surf_run.specs.declared.end.LineEnd.{LineEnd}
-use Rattle.surf_run.specs.declared.end.LineEnd.TheVariants.{End, Next, Quit}
+use Rattle.surf_run.specs.declared.line_end.LineEnd.{LineEnd}
+use Rattle.surf_run.specs.declared.line_end.LineEnd.TheVariants.{End, Next, Quit}
 use Rattle.surf_run.proofs.EndCauses.{line_read, line_say, lines_on, no_fall_none, rose_since, rose_then}
 use Rattle.surf_run.proofs.Footprint.{within_none}
 use Rattle.surf_run.proofs.Moments.{ends_device, ends_next, ends_quit, line_answer, map_of_state, stands_still, tied_stands, tied_still}
@@ -42,8 +42,8 @@ use Rattle.table_model.specs.Tables.{FilterBytes}
 
 -- ---- where nothing is written
 
-module _ (kind : Kind) (s : State) (request : Request) (store : Kept) (a mid b : World) (same : mid.beside ≡ a.beside) (time : Passes Same a mid)
-    (tied : Tied kind.spelling kind.filter_bytes store s mid) (stand : Stands kind s a) (reads : IsBounded request → mid.seen.reads ≤ a.seen.reads + reply_bound s request)
+module _ (kind : Kind) (s : State) (request : Request) (store : StoreValue) (a mid b : World) (same : mid.beside ≡ a.beside) (time : Passes Same a mid)
+    (tied : Represents kind.spelling kind.filter_bytes store s mid) (stand : EachImageStandsFor kind s a) (reads : IsBounded request → mid.seen.reads ≤ a.seen.reads + reply_bound s request)
     (writes : WritesWithin (page_bytes * s.pages) a mid) (now_a : SaidByNow a) (now_mid : SaidByNow mid) (say : SayMoves mid b) where
   meanwhile : Meanwhile (HasMap kind s) a mid
   meanwhile = in_call (HasMap kind s) Same a mid (λ image left. map_of_state kind s image (stand image left)) time
@@ -54,10 +54,10 @@ module _ (kind : Kind) (s : State) (request : Request) (store : Kept) (a mid b :
       line_answer kind s request reply s (HasMap kind s) a mid b meanwhile same now_a now_mid say step says.0
       (λ image map. inl map) (λ image left. inl (now_at (HasMap kind s) a mid meanwhile image left)) reads writes
 
-  stand_now : Stands kind s b
+  stand_now : EachImageStandsFor kind s b
   stand_now = stands_still kind s mid b say.time (stands_still kind s a mid time stand)
 
-  tied_now : Tied kind.spelling kind.filter_bytes store s b
+  tied_now : Represents kind.spelling kind.filter_bytes store s b
   tied_now = tied_still kind.spelling kind.filter_bytes store s mid b say.time tied
 
   pub still_next : (reply : Reply) (result : LineEnd) → Step (HasCause a mid) kind.filter_bytes s request reply s → turn_of reply ≡ Onward → Says Next reply result mid b
@@ -184,9 +184,9 @@ runs_any Quit stopped is = is
 runs_any (End status) stopped is = tt
 
 -- a get stops no store
-module _ (kind : Kind) (tells tells_output : Bool) (request : Request) (before after : Kept) (same : after.stopped ≡ before.stopped) (runs : before.stopped ≡ false) (result : LineEnd)
+module _ (kind : Kind) (tells tells_output : Bool) (request : Request) (before after : StoreValue) (same : after.stopped ≡ before.stopped) (runs : before.stopped ≡ false) (result : LineEnd)
     (a mid b : World) (moves : ReadMoves (length before.tables) a mid) (say : SayMoves mid b) where
-  pub read_answers : ((s : State) → IsTrue tells → IsTrue tells_output → Tied kind.spelling kind.filter_bytes before s a → EndsLine kind result s request after a b)
+  pub read_answers : ((s : State) → IsTrue tells → IsTrue tells_output → Represents kind.spelling kind.filter_bytes before s a → EndsLine kind result s request after a b)
       → EndCause (LineShows (IsTrue tells × IsTrue tells_output) before.tables request) result a b → AnswersLine kind tells tells_output request result before after a b
   read_answers answered cause = record {
     answered = answered;
@@ -197,10 +197,10 @@ module _ (kind : Kind) (tells tells_output : Bool) (request : Request) (before a
 
 -- ---- a line that calls no device
 
-module _ (kind : Kind) (tells tells_output : Bool) (request : Request) (store : Kept) (result : LineEnd) (a b : World) (runs : store.stopped ≡ false) (few : store.manifest.slot ≤ 1) (now_a : SaidByNow a) (say : SayMoves a b)
+module _ (kind : Kind) (tells tells_output : Bool) (request : Request) (store : StoreValue) (result : LineEnd) (a b : World) (runs : store.stopped ≡ false) (few : store.manifest.slot ≤ 1) (now_a : SaidByNow a) (say : SayMoves a b)
     (ends : (result ≡ Next) ⊎ ((result ≡ End 6) × SayFailed a b)) where
   -- one that goes on, with a reply that is a step of the state
-  pub asks_answers : ((s : State) → IsTrue tells → IsTrue tells_output → Tied kind.spelling kind.filter_bytes store s a
+  pub asks_answers : ((s : State) → IsTrue tells → IsTrue tells_output → Represents kind.spelling kind.filter_bytes store s a
       → (reply : Reply) × Step (HasCause a a) kind.filter_bytes s request reply s × (turn_of reply ≡ Onward) × Says Next reply result a b)
       → AnswersLine kind tells tells_output request result store store a b
   asks_answers answered = record {
@@ -233,7 +233,7 @@ pub is_ask_told : (broken : Option Reply) (why : StoreError) → AskTold broken 
 is_ask_told broken why is none = absurd (let same = sym is.1 ∙ none in cc)
 
 -- a refused line goes on
-module _ (kind : Kind) (tells tells_output : Bool) (request : Request) (why : StoreError) (is : AskTold (limit_of request) why) (store : Kept) (result : LineEnd) (a b : World) (runs : store.stopped ≡ false)
+module _ (kind : Kind) (tells tells_output : Bool) (request : Request) (why : StoreError) (is : AskTold (limit_of request) why) (store : StoreValue) (result : LineEnd) (a b : World) (runs : store.stopped ≡ false)
     (few : store.manifest.slot ≤ 1) (now_a : SaidByNow a) (say : SayMoves a b) (ends : (result ≡ end_of_refusal why) ⊎ ((result ≡ End 6) × SayFailed a b))
     (says : (reply : Reply) → IsTrue tells_output → told why ≡ Some reply → Says (end_by reply) reply result a b) where
   pub refused_asks : AnswersLine kind tells tells_output request result store store a b
@@ -242,8 +242,8 @@ module _ (kind : Kind) (tells tells_output : Bool) (request : Request) (why : St
 
 -- ---- what a refused get leads to
 
-module _ (kind : Kind) (s : State) (key : Bytes) (why : StoreError) (store : Kept) (result : LineEnd) (a mid b : World) (is : GetTold key a mid why) (met : IsMet (get_bound s key) why) (undamaged : IsUndamaged why)
-    (same : mid.beside ≡ a.beside) (time : Passes Same a mid) (tied : Tied kind.spelling kind.filter_bytes store s mid) (stand : Stands kind s a)
+module _ (kind : Kind) (s : State) (key : Bytes) (why : StoreError) (store : StoreValue) (result : LineEnd) (a mid b : World) (is : GetTold key a mid why) (met : IsMet (get_bound s key) why) (undamaged : IsUndamaged why)
+    (same : mid.beside ≡ a.beside) (time : Passes Same a mid) (tied : Represents kind.spelling kind.filter_bytes store s mid) (stand : EachImageStandsFor kind s a)
     (reads : mid.seen.reads ≤ a.seen.reads + get_bound s key) (writes : WritesWithin (page_bytes * s.pages) a mid) (now_a : SaidByNow a) (now_mid : SaidByNow mid) (say : SayMoves mid b)
     (says : (reply : Reply) → told why ≡ Some reply → Says (end_by reply) reply result mid b) where
   pub refused_ends : EndsLine kind result s (Get key) store a b

@@ -13,20 +13,20 @@ use Rattle.state_model.specs.State.{State}
 use Rattle.state_model.specs.Steps.{Step}
 use Rattle.store_core.specs.Answers as core
 use Rattle.store_core.specs.Answers.{HasCause, IsTried, IsWriteRefusal, stopped_by, told_change}
-use Rattle.store_core.specs.Kept.{Kept}
-use Rattle.store_core.specs.Tied.{Tied}
+use Rattle.store_core.specs.StoreValue.{StoreValue}
+use Rattle.store_core.specs.Represents.{Represents}
 use Rattle.store_core.specs.declared.error.Limit.TheVariants as limit
 use Rattle.store_core.specs.declared.error.StoreError.{StoreError}
 use Rattle.store_core.specs.declared.error.StoreError.TheVariants as error
 use Rattle.surf_run.specs.Answering.{AnswersLine, EndsLine, RunsOn, SaysOnward, Whole}
 use Rattle.surf_run.specs.Causes.{DiskFailed, EndCause, LineShows, NoFall, SayFailed, WritesWithin}
-use Rattle.surf_run.specs.Crash.{HasEither}
+use Rattle.surf_run.specs.Crash.{HasOldOrNewMap}
 use Rattle.surf_run.specs.Dialogue.{IsBounded, reply_bound}
 use Rattle.surf_run.specs.Kind.{Kind}
 use Rattle.surf_run.specs.Refusals.{end_of_change}
 use Rattle.surf_run.specs.Saying.{Says, end_by}
-use Rattle.surf_run.specs.declared.end.LineEnd.{LineEnd}
-use Rattle.surf_run.specs.declared.end.LineEnd.TheVariants.{End, Next}
+use Rattle.surf_run.specs.declared.line_end.LineEnd.{LineEnd}
+use Rattle.surf_run.specs.declared.line_end.LineEnd.TheVariants.{End, Next}
 use Rattle.surf_run.proofs.EndCauses.{disk_then, line_say, line_write, lines_on, no_fall_say, rose_since}
 use Rattle.surf_run.proofs.Footprint.{within_write}
 use Rattle.surf_run.proofs.Moments.{ends_device, ends_next, line_answer, map_of_state, tied_pages, tied_stands, tied_still}
@@ -105,13 +105,13 @@ module _ {T : Type 0} (changed : Result T StoreError) (result : LineEnd) (a mid 
 
 -- ---- what the line leads to
 
-module _ {T : Type 0} (kind : Kind) (s : State) (request : Request) (changed : Result T StoreError) (before store : Kept) (result : LineEnd) (a mid b : World)
-    (tied : Tied kind.spelling kind.filter_bytes before s a) (answered : core.Answered kind.spelling kind.filter_bytes s request (told_change changed) store a mid)
+module _ {T : Type 0} (kind : Kind) (s : State) (request : Request) (changed : Result T StoreError) (before store : StoreValue) (result : LineEnd) (a mid b : World)
+    (tied : Represents kind.spelling kind.filter_bytes before s a) (answered : core.AnswersRequest kind.spelling kind.filter_bytes s request (told_change changed) store a mid)
     (told : ChangeTold changed a mid) (unharmed : (damage : Damage) → changed ≡ Err (error.Damaged damage) → ⊥) (runs : store.stopped ≡ stopped_by changed) (few : store.manifest.slot ≤ 1)
     (same : mid.beside ≡ a.beside) (reads : IsBounded request → mid.seen.reads ≤ a.seen.reads + reply_bound s request) (writes : WritesWithin (page_bytes * before.manifest.version.pages) a mid)
     (now_a : SaidByNow a) (now_mid : SaidByNow mid) (say : SayMoves mid b) (says : (reply : Reply) → told_change changed ≡ Some reply → Says (end_by reply) reply result mid b) where
   abbrev Both : Image → Type 0
-  Both image = HasEither kind s request image
+  Both image = HasOldOrNewMap kind s request image
 
   said_so : IsTold changed a mid answered.reply
   said_so = subst (IsTold changed a mid) (some_same (told_change changed) told.0 answered.reply told.1 answered.told_is) told.2
@@ -145,11 +145,11 @@ module _ {T : Type 0} (kind : Kind) (s : State) (request : Request) (changed : R
 
 -- ---- all that is promised of it
 
-module _ {T : Type 0} (kind : Kind) (tells tells_output : Bool) (request : Request) (changed : Result T StoreError) (before store : Kept) (result : LineEnd) (a mid b : World)
+module _ {T : Type 0} (kind : Kind) (tells tells_output : Bool) (request : Request) (changed : Result T StoreError) (before store : StoreValue) (result : LineEnd) (a mid b : World)
     (told : ChangeTold changed a mid) (runs : store.stopped ≡ stopped_by changed) (few : store.manifest.slot ≤ 1)
     (now_a : SaidByNow a) (now_mid : SaidByNow mid) (say : SayMoves mid b) (ends : (result ≡ end_of_change changed) ⊎ ((result ≡ End 6) × SayFailed mid b)) where
   -- of a change that only writes
-  pub change_answers : ((s : State) → IsTrue tells → Tied kind.spelling kind.filter_bytes before s a → core.Answered kind.spelling kind.filter_bytes s request (told_change changed) store a mid)
+  pub change_answers : ((s : State) → IsTrue tells → Represents kind.spelling kind.filter_bytes before s a → core.AnswersRequest kind.spelling kind.filter_bytes s request (told_change changed) store a mid)
       → ((reply : Reply) → IsTrue tells_output → told_change changed ≡ Some reply → Says (end_by reply) reply result mid b) → (IsTrue tells → a.leaves a.moment a.seen.held)
       → ((damage : Damage) → changed ≡ Err (error.Damaged damage) → ⊥) → WriteMoves 0 (page_bytes * before.manifest.version.pages) a mid
       → AnswersLine kind tells tells_output request result before store a b

@@ -12,9 +12,9 @@ use Rattle.state_model.specs.State.{State}
 use Rattle.state_model.specs.Steps.{Step, answer, answers, damage_met, no_memory, read_failed, write_failed}
 use Rattle.store_core.specs.Answers as core
 use Rattle.store_core.specs.Answers.{HasCause, IsTried, stopped_by, told_change}
-use Rattle.store_core.specs.Kept.{Kept}
+use Rattle.store_core.specs.StoreValue.{StoreValue}
 use Rattle.store_core.specs.Scans.{IsScanShown}
-use Rattle.store_core.specs.Tied.{Tied}
+use Rattle.store_core.specs.Represents.{Represents}
 use Rattle.store_core.specs.declared.error.Limit.TheVariants as limit
 use Rattle.store_core.specs.declared.error.StoreError.{StoreError}
 use Rattle.store_core.specs.declared.error.StoreError.TheVariants as error
@@ -25,8 +25,8 @@ use Rattle.surf_run.specs.Refusals.{end_of_change}
 use Rattle.surf_run.specs.Saying.{Says, end_by}
 use Rattle.store_core.specs.Compacting.{IsCompactRefusal}
 use Rattle.store_core.specs.Tending.{SomeMoves}
-use Rattle.surf_run.specs.declared.end.LineEnd.{LineEnd}
-use Rattle.surf_run.specs.declared.end.LineEnd.TheVariants.{End}
+use Rattle.surf_run.specs.declared.line_end.LineEnd.{LineEnd}
+use Rattle.surf_run.specs.declared.line_end.LineEnd.TheVariants.{End}
 use Rattle.surf_run.proofs.Calms.{says_damage}
 use Rattle.surf_run.proofs.Changes.{ChangeTold, change_cause, change_ends, change_runs, some_same}
 use Rattle.surf_run.proofs.EndCauses.{line_say, lines_on, no_fall_say}
@@ -96,7 +96,7 @@ module _ {T : Type 0} (tables : List Opened) (changed : Result T StoreError) (da
 
 -- ---- all that is promised of it
 
-module _ {T : Type 0} (kind : Kind) (tells tells_output : Bool) (changed : Result T StoreError) (before store : Kept) (result : LineEnd) (a mid b : World)
+module _ {T : Type 0} (kind : Kind) (tells tells_output : Bool) (changed : Result T StoreError) (before store : StoreValue) (result : LineEnd) (a mid b : World)
     (told : ChangeTold changed a mid) (runs : store.stopped ≡ stopped_by changed) (few : store.manifest.slot ≤ 1) (moves : SomeMoves (page_bytes * before.manifest.version.pages) a mid)
     (now_a : SaidByNow a) (now_mid : SaidByNow mid) (say : SayMoves mid b) (ends : (result ≡ end_of_change changed) ⊎ ((result ≡ End 6) × SayFailed mid b)) where
   moved : LineMoves a mid
@@ -105,7 +105,7 @@ module _ {T : Type 0} (kind : Kind) (tells tells_output : Bool) (changed : Resul
   within : WritesWithin (page_bytes * before.manifest.version.pages) a mid
   within = record { held = moves.1.torn; time = moves.1.time }
 
-  pub compact_answers : ((s : State) → IsTrue tells → Tied kind.spelling kind.filter_bytes before s a → core.Answered kind.spelling kind.filter_bytes s Compact (told_change changed) store a mid)
+  pub compact_answers : ((s : State) → IsTrue tells → Represents kind.spelling kind.filter_bytes before s a → core.AnswersRequest kind.spelling kind.filter_bytes s Compact (told_change changed) store a mid)
       → ((reply : Reply) → IsTrue tells_output → told_change changed ≡ Some reply → Says (end_by reply) reply result mid b) → (IsTrue tells → a.leaves a.moment a.seen.held)
       → (IsTrue tells → IfErr changed (IsScanShown before.tables mid.seen.held))
       → AnswersLine kind tells tells_output Compact result before store a b

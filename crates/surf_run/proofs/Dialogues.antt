@@ -11,7 +11,7 @@ use Rattle.state_model.specs.State.{State}
 use Rattle.state_model.specs.Steps.{Step, answers, damage_met, no_memory, read_failed, write_failed}
 use Rattle.state_model.specs.Tends.{Tend, Tended}
 use Rattle.state_model.specs.Tends as tends
-use Rattle.surf_run.specs.Dialogue.{SoFar, line_bound}
+use Rattle.surf_run.specs.Dialogue.{AnsweredLines, line_bound}
 use Rattle.table_model.specs.Tables.{FilterBytes}
 
 -- by the reply or by the merge slice behind it this is the end, and so much stands as the reply has been said
@@ -97,7 +97,7 @@ between_none C filter_bytes (Bad code) s none = (refl, refl)
 
 -- what went on so, went on with what follows from its causes and its states
 pub so_far_as : (C D : Why → Type 0) (filter_bytes : FilterBytes) (R Q : ℕ → State → Type 0) → ((why : Why) → C why → D why) → ((n : ℕ) (s : State) → R n s → Q n s)
-    → (said : ℕ) (a : State) (lines : List Bytes) (text : Bytes) (most : ℕ) (b : State) → SoFar C filter_bytes R said a lines text most b → SoFar D filter_bytes Q said a lines text most b
+    → (said : ℕ) (a : State) (lines : List Bytes) (text : Bytes) (most : ℕ) (b : State) → AnsweredLines C filter_bytes R said a lines text most b → AnsweredLines D filter_bytes Q said a lines text most b
 so_far_as C D filter_bytes R Q causes weaker said a [] text most b went = went
 so_far_as C D filter_bytes R Q causes weaker said a (line ∷ lines) text most b went = (
   went.0,
@@ -136,8 +136,8 @@ ends_there C filter_bytes line reply after ending Holds last = ends_so (turn_of 
 
 module _ (C : Why → Type 0) (filter_bytes : FilterBytes) (R : ℕ → State → Type 0) where
   -- of any states, whatever had been said
-  pub so_far_any : (said other : ℕ) (a : State) (lines : List Bytes) (text : Bytes) (most : ℕ) (b : State) → SoFar C filter_bytes R said a lines text most b
-      → SoFar C filter_bytes AnyState other a lines text most b
+  pub so_far_any : (said other : ℕ) (a : State) (lines : List Bytes) (text : Bytes) (most : ℕ) (b : State) → AnsweredLines C filter_bytes R said a lines text most b
+      → AnsweredLines C filter_bytes AnyState other a lines text most b
   so_far_any said other a [] text most b went = went
   so_far_any said other a (line ∷ lines) text most b went = (
     went.0,
@@ -156,9 +156,9 @@ module _ (C : Why → Type 0) (filter_bytes : FilterBytes) (R : ℕ → State �
 
   -- one line more
   pub so_far_on : (said : ℕ) (a : State) (lines : List Bytes) (text : Bytes) (most : ℕ) (b : State) (line : Bytes) (reply : Reply) (c d : State)
-      → SoFar C filter_bytes R said a lines text most b → Step C filter_bytes b (request_of line) reply c → turn_of reply ≡ Onward → Between C filter_bytes (request_of line) c Onward d
+      → AnsweredLines C filter_bytes R said a lines text most b → Step C filter_bytes b (request_of line) reply c → turn_of reply ≡ Onward → Between C filter_bytes (request_of line) c Onward d
       → (at : ℕ) → at ≡ said + length text + length (text_of reply) → R at c
-      → SoFar C filter_bytes R said a (lines ++ line ∷ []) (text ++ text_of reply) (most + line_bound b (request_of line)) d
+      → AnsweredLines C filter_bytes R said a (lines ++ line ∷ []) (text ++ text_of reply) (most + line_bound b (request_of line)) d
   so_far_on said a [] text most b line reply c d went step onward between at is reached =
       let here : at ≡ said + length (text_of reply) = omega (arith, is, ap length went.0) in (
         reply,
@@ -190,7 +190,7 @@ module _ (C : Why → Type 0) (filter_bytes : FilterBytes) (R : ℕ → State �
         (omega (arith, is, ap length went.5, length-append (text_of went.0) went.1)) reached,
   )
 
-  pub script_of : (said : ℕ) (a : State) (lines : List Bytes) (text : Bytes) (most : ℕ) (b : State) → SoFar C filter_bytes R said a lines text most b
+  pub script_of : (said : ℕ) (a : State) (lines : List Bytes) (text : Bytes) (most : ℕ) (b : State) → AnsweredLines C filter_bytes R said a lines text most b
       → Script C filter_bytes R said a lines text ToLast
   script_of said a [] text most b went = (went.0, refl)
   script_of said a (first ∷ lines) text most b went = (
@@ -204,7 +204,7 @@ module _ (C : Why → Type 0) (filter_bytes : FilterBytes) (R : ℕ → State �
   )
 
   pub script_ends : (said : ℕ) (a : State) (lines : List Bytes) (text : Bytes) (most : ℕ) (b : State) (line : Bytes) (reply : Reply) (c : State) (more : List Bytes) (ending : Ending)
-      → SoFar C filter_bytes R said a lines text most b → Step C filter_bytes b (request_of line) reply c
+      → AnsweredLines C filter_bytes R said a lines text most b → Step C filter_bytes b (request_of line) reply c
       → (at : ℕ) → at ≡ said + length text + length (text_of reply) → IsLast C filter_bytes (request_of line) reply c ending (R at c)
       → Script C filter_bytes R said a (lines ++ line ∷ more) (text ++ text_of reply) ending
   script_ends said a [] text most b line reply c more ending went step at is last =

@@ -6,8 +6,8 @@ use Rattle.outside.specs.Streams.{SayMoves, TakeMoves}
 use Rattle.state_model.specs.Causes.{DamageMet, NoMemory, ReadFailed, Why, WriteFailed}
 use Rattle.store_core.specs.Answers.{HasCause}
 use Rattle.surf_run.specs.Causes.{DiskFailed, EndCause, LineMoves, NoFall, RunShows, ServedShows, ShowsSomeDamage, StatusCause}
-use Rattle.surf_run.specs.declared.end.LineEnd.{LineEnd}
-use Rattle.surf_run.specs.declared.end.LineEnd.TheVariants.{End, Next, Quit}
+use Rattle.surf_run.specs.declared.line_end.LineEnd.{LineEnd}
+use Rattle.surf_run.specs.declared.line_end.LineEnd.TheVariants.{End, Next, Quit}
 use Rattle.table_file.specs.Opened.{Opened}
 
 pub rose_since : (a b c : ℕ) → a ≤ b → Rose b c → Rose a c

@@ -13,23 +13,23 @@ use Rattle.state_model.specs.PlayLaws.{AnyState}
 use Rattle.state_model.specs.State.{State}
 use Rattle.state_model.specs.Steps.{Step}
 use Rattle.surf_run.specs.Answering.{InLine}
-use Rattle.surf_run.specs.Crash.{Acknowledged, HasMap, IsBehind, Reached, Stands}
-use Rattle.surf_run.specs.Dialogue.{SoFar}
+use Rattle.surf_run.specs.Crash.{EachImageStandsFor, HasMap, IsAfterPrefix, KeepsAcknowledged, WasStateAt}
+use Rattle.surf_run.specs.Dialogue.{AnsweredLines}
 use Rattle.surf_run.specs.Kind.{Kind}
 use Rattle.surf_run.proofs.Dialogues.{so_far_as, step_as}
 
 -- what was reached stays so
-pub reached_on : (kind : Kind) (Q : ℕ → Image → Type 0) (a b : World) → During Q a b → (n : ℕ) (s : State) → Reached kind a n s → Reached kind b n s
+pub reached_on : (kind : Kind) (Q : ℕ → Image → Type 0) (a b : World) → During Q a b → (n : ℕ) (s : State) → WasStateAt kind a n s → WasStateAt kind b n s
 reached_on kind Q a b run n s reached =
     (reached.0, omega (arith, reached.1, run.later), run.told_kept reached.0 reached.1 ∙ reached.2, λ image left. reached.3 image (run.kept reached.0 image reached.1 left))
 
-pub reached_here : (kind : Kind) (w : World) (s : State) (n : ℕ) → SaidByNow w → length w.beside.said ≡ n → Stands kind s w → Reached kind w n s
+pub reached_here : (kind : Kind) (w : World) (s : State) (n : ℕ) → SaidByNow w → length w.beside.said ≡ n → EachImageStandsFor kind s w → WasStateAt kind w n s
 reached_here kind w s n now is stand = (w.moment, omega arith, now w.moment (omega arith) ∙ is, stand)
 
 -- more lines, more is said, and more may be a cause
 module _ (C D : Why → Type 0) (causes : (why : Why) → C why → D why) (kind : Kind) where
-  behind_more : (now : State) (later more : List Bytes) (answered told told' : Bytes) → told' ≡ told → (image : Image) → IsBehind C kind now later answered told image
-      → IsBehind D kind now (later ++ more) answered told' image
+  behind_more : (now : State) (later more : List Bytes) (answered told told' : Bytes) → told' ≡ told → (image : Image) → IsAfterPrefix C kind now later answered told image
+      → IsAfterPrefix D kind now (later ++ more) answered told' image
   behind_more now later more answered told told' same image behind = elim behind [
     | inl before ↦ inl (
       same ∙ before.0,
@@ -54,7 +54,7 @@ module _ (C D : Why → Type 0) (causes : (why : Why) → C why → D why) (kind
   ]
 
   pub ack_more : (start : State) (lines more : List Bytes) (before told told' done : Bytes) → told' ≡ told ++ done → (n : ℕ) (image : Image)
-      → Acknowledged C kind start lines before told n image → Acknowledged D kind start (lines ++ more) before told' n image
+      → KeepsAcknowledged C kind start lines before told n image → KeepsAcknowledged D kind start (lines ++ more) before told' n image
   ack_more start lines more before told told' done on n image ack =
       let same : take n told' ≡ take n told = ap (take n) on ∙ take-append-le n told done ack.within in
       record {
@@ -76,8 +76,8 @@ take_all_of n told prefix more is size = ap (take n) is ∙ take-append-le n pre
 module _ (C : Why → Type 0) (kind : Kind) (start : State) where
   -- after these lines, with their replies said whole and nothing else
   ack_whole : (lines later : List Bytes) (text : Bytes) (most : ℕ) (now : State) (before told more : Bytes) (n : ℕ) (image : Image)
-      → SoFar C kind.filter_bytes AnyState 0 start lines text most now → told ≡ (before ++ text) ++ more → n ≡ length (before ++ text)
-      → IsBehind C kind now later (before ++ text) (before ++ text) image → Acknowledged C kind start (lines ++ later) before told n image
+      → AnsweredLines C kind.filter_bytes AnyState 0 start lines text most now → told ≡ (before ++ text) ++ more → n ≡ length (before ++ text)
+      → IsAfterPrefix C kind now later (before ++ text) (before ++ text) image → KeepsAcknowledged C kind start (lines ++ later) before told n image
   ack_whole lines later text most now before told more n image went is size behind =
       let all = take_all_of n told (before ++ text) more is size in
       record {
@@ -89,22 +89,22 @@ module _ (C : Why → Type 0) (kind : Kind) (start : State) where
         now = now;
         answered = went;
         within = omega (arith, size, ap length is, length-append (before ++ text) more);
-        behind = subst (λ (t : Bytes). IsBehind C kind now later (before ++ text) t image) (sym all) behind;
+        behind = subst (λ (t : Bytes). IsAfterPrefix C kind now later (before ++ text) t image) (sym all) behind;
       }
 
   -- between two lines
   pub ack_here : (lines : List Bytes) (text : Bytes) (most : ℕ) (now : State) (before told : Bytes) → told ≡ before ++ text → (n : ℕ) (image : Image)
-      → SoFar C kind.filter_bytes AnyState 0 start lines text most now → n ≡ length told → HasMap kind now image → Acknowledged C kind start lines before told n image
+      → AnsweredLines C kind.filter_bytes AnyState 0 start lines text most now → n ≡ length told → HasMap kind now image → KeepsAcknowledged C kind start lines before told n image
   ack_here lines text most now before told is n image went size map =
-      subst (λ (ls : List Bytes). Acknowledged C kind start ls before told n image) (append-nil lines)
+      subst (λ (ls : List Bytes). KeepsAcknowledged C kind start ls before told n image) (append-nil lines)
       (ack_whole lines [] text most now before told [] n image went (is ∙ sym (append-nil (before ++ text))) (size ∙ ap length is) (inl (refl, inl map)))
 
   -- before the first line
-  pub ack_none : (before told : Bytes) → told ≡ before → (n : ℕ) (image : Image) → n ≡ length told → HasMap kind start image → Acknowledged C kind start [] before told n image
+  pub ack_none : (before told : Bytes) → told ≡ before → (n : ℕ) (image : Image) → n ≡ length told → HasMap kind start image → KeepsAcknowledged C kind start [] before told n image
   ack_none before told is n image size map = ack_here [] [] 0 start before told (is ∙ sym (append-nil before)) n image (refl, refl, refl) size map
 
   module _ (B : Why → Type 0) (causes : (why : Why) → B why → C why) (lines : List Bytes) (line text : Bytes) (most : ℕ) (now : State) (reply : Reply) (next : State) (first w w' : World)
-      (went : SoFar C kind.filter_bytes AnyState 0 start lines text most now) (told : w.beside.said ≡ first.beside.said ++ text) (prefix : SaysPrefix (text_of reply) w.beside.said w'.beside.said)
+      (went : AnsweredLines C kind.filter_bytes AnyState 0 start lines text most now) (told : w.beside.said ≡ first.beside.said ++ text) (prefix : SaysPrefix (text_of reply) w.beside.said w'.beside.said)
       (step : Step B kind.filter_bytes now (request_of line) reply next) where
     -- what had been said within the reply
     part : (n : ℕ) → length w.beside.said ≤ n → take n w'.beside.said ≡ w.beside.said ++ take (n - length w.beside.said) prefix.done
@@ -114,7 +114,7 @@ module _ (C : Why → Type 0) (kind : Kind) (start : State) where
 
     -- in a line
     pub line_ack : (n : ℕ) (image : Image) → InLine kind now (request_of line) reply next (length w.beside.said) (length w'.beside.said) n image
-        → Acknowledged C kind start (lines ++ line ∷ []) first.beside.said w'.beside.said n image
+        → KeepsAcknowledged C kind start (lines ++ line ∷ []) first.beside.said w'.beside.said n image
     line_ack n image at =
         let before = first.beside.said in
         elim at [

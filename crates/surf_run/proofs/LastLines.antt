@@ -7,7 +7,7 @@ use Rattle.outside.specs.Streams.{SaidByNow, SayMoves, SaysPrefix}
 use Rattle.outside.proofs.Crossing.{during_disk, during_say, during_then, during_weaker}
 use Rattle.state_model.specs.State.{State}
 use Rattle.surf_run.specs.Causes.{IsServing, SayFailed, StatusCause}
-use Rattle.surf_run.specs.Ends.{Completed, SomeFailed}
+use Rattle.surf_run.specs.ServedOrNot.{Completed, SomeFailed}
 use Rattle.surf_run.specs.Kind.{Kind}
 use Rattle.surf_run.specs.Open.{IsFreeText, OpenMoves}
 use Rattle.surf_run.specs.Outcome.{Outcome}

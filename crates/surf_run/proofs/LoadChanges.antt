@@ -21,20 +21,20 @@ use Rattle.state_model.specs.Steps.{Step, answer}
 use Rattle.state_model.specs.View.{state_map}
 use Rattle.store_core.specs.Answers as core
 use Rattle.store_core.specs.Answers.{HasCause, IsTried, IsWriteRefusal, stopped_by, stops, told, told_change}
-use Rattle.store_core.specs.Kept.{Kept}
-use Rattle.store_core.specs.Tied.{Tied}
+use Rattle.store_core.specs.StoreValue.{StoreValue}
+use Rattle.store_core.specs.Represents.{Represents}
 use Rattle.store_core.specs.declared.error.Limit.TheVariants as limit
 use Rattle.store_core.specs.declared.error.StoreError.{StoreError}
 use Rattle.store_core.specs.declared.error.StoreError.TheVariants as error
 use Rattle.surf_run.specs.Causes.{DiskFailed, LineMoves, MeetsUnsaid, SayFailed, SliceShows, WritesWithin}
-use Rattle.surf_run.specs.Crash.{HasMap, Stands}
+use Rattle.surf_run.specs.Crash.{EachImageStandsFor, HasMap}
 use Rattle.surf_run.specs.Kind.{Kind}
 use Rattle.surf_run.specs.Loading.{HasStep, IsAnswer, IsChanged, IsStepText, IsStepped, MakesStep, StepCause, StepEnds, is_passed_over, stepped_map}
 use Rattle.surf_run.specs.Loads.{FailsAt, IsPassedOver, change_of, in_change, in_slice}
 use Rattle.surf_run.specs.Open.{IsOpening, opening_status, opening_text}
 use Rattle.surf_run.specs.Slices.{EndsSlice, MakesSlice, SliceMade}
-use Rattle.surf_run.specs.declared.end.LineEnd.{LineEnd}
-use Rattle.surf_run.specs.declared.end.LineEnd.TheVariants.{End, Next, Quit}
+use Rattle.surf_run.specs.declared.line_end.LineEnd.{LineEnd}
+use Rattle.surf_run.specs.declared.line_end.LineEnd.TheVariants.{End, Next, Quit}
 use Rattle.surf_run.proofs.Changes.{some_same}
 use Rattle.surf_run.proofs.Dialogues.{between_made, step_as, tend_as}
 use Rattle.surf_run.proofs.EndCauses.{cause_as, cause_since, causes_later, causes_since, disk_then, line_say, line_write, lines_on, no_fall_say, rose_since}
@@ -81,18 +81,18 @@ other_opens a b why is = elim is [ inl memory ↦ subst IsOpening (sym memory) t
 
 -- ---- the change of a step
 
-module _ (kind : Kind) (tells tells_output : Bool) (step : Entry) {T : Type 0} (written : Result T StoreError) (before store : Kept) (a mid : World)
+module _ (kind : Kind) (tells tells_output : Bool) (step : Entry) {T : Type 0} (written : Result T StoreError) (before store : StoreValue) (a mid : World)
     (stopped : store.stopped ≡ stopped_by written) (few : store.manifest.slot ≤ 1) (moves : WriteMoves 0 (page_bytes * before.manifest.version.pages) a mid) (now_a : SaidByNow a)
     (current : IsTrue tells → a.leaves a.moment a.seen.held)
-    (answered : (s : State) → IsTrue tells → Tied kind.spelling kind.filter_bytes before s a → core.Answered kind.spelling kind.filter_bytes s (change_of step) (told_change written) store a mid) where
+    (answered : (s : State) → IsTrue tells → Represents kind.spelling kind.filter_bytes before s a → core.AnswersRequest kind.spelling kind.filter_bytes s (change_of step) (told_change written) store a mid) where
   abbrev Both : State → Image → Type 0
   Both s image = StandsForMap kind.spelling (state_map s) image ⊎ StandsForMap kind.spelling (state_map (answer kind.filter_bytes s (change_of step)).1) image
 
-  crashed : (s : State) → IsTrue tells → Tied kind.spelling kind.filter_bytes before s a → During (λ said image. HasStep kind s step image) a mid
+  crashed : (s : State) → IsTrue tells → Represents kind.spelling kind.filter_bytes before s a → During (λ said image. HasStep kind s step image) a mid
   crashed s tell tied =
       during_weaker _ (λ said image. HasStep kind s step image) a mid (during_disk (Both s) a mid (answered s tell tied).crash moves.beside now_a) (λ k image at. has_step kind s step image at.1)
 
-  within : (s : State) → IsTrue tells → Tied kind.spelling kind.filter_bytes before s a → WritesWithin (page_bytes * s.pages) a mid
+  within : (s : State) → IsTrue tells → Represents kind.spelling kind.filter_bytes before s a → WritesWithin (page_bytes * s.pages) a mid
   within s tell tied =
       subst (λ (n : ℕ). WritesWithin (page_bytes * n) a mid) (sym (tied_pages kind.spelling kind.filter_bytes before s a a.seen.held (current tell) tied))
       (within_write (page_bytes * before.manifest.version.pages) a mid moves)
@@ -116,7 +116,7 @@ module _ (kind : Kind) (tells tells_output : Bool) (step : Entry) {T : Type 0} (
 
   module _ (why : StoreError) (is : written ≡ Err why) (other : IsOther a mid why) (b : World) (status : ℕ) (now_mid : SaidByNow mid) (say : SayMoves mid b)
       (ends : (status ≡ opening_status why) ⊎ ((status ≡ 6) × SayFailed mid b)) where
-    stays_tied : (s : State) → IsTrue tells → Tied kind.spelling kind.filter_bytes before s a → why ≡ error.Memory → Stands kind s b
+    stays_tied : (s : State) → IsTrue tells → Represents kind.spelling kind.filter_bytes before s a → why ≡ error.Memory → EachImageStandsFor kind s b
     stays_tied s tell tied memory =
         let by = answered s tell tied in
         let same : written ≡ Err error.Memory = is ∙ ap (λ (w : StoreError). Err w) memory in
@@ -124,9 +124,9 @@ module _ (kind : Kind) (tells tells_output : Bool) (step : Entry) {T : Type 0} (
         let after : by.after ≡ s = refused_stays (HasCause a mid) kind.filter_bytes s step by.reply by.after by.step
         (λ done. absurd (let e : Memory ≡ Done = sym reply ∙ done in cc)) (λ device. absurd (let e : Memory ≡ Device = sym reply ∙ device in cc)) in
         let runs : stopped_by written ≡ false = ap (λ (w : Result T StoreError). stopped_by w) same in
-        stands_still kind s mid b say.time (tied_stands kind store s mid few (subst (λ (t : State). Tied kind.spelling kind.filter_bytes store t mid) after (by.tied (stopped ∙ runs))))
+        stands_still kind s mid b say.time (tied_stands kind store s mid few (subst (λ (t : State). Represents kind.spelling kind.filter_bytes store t mid) after (by.tied (stopped ∙ runs))))
 
-    failed_step : (s : State) → IsTrue tells → Tied kind.spelling kind.filter_bytes before s a → told why ≡ Some Device → FailsAt (HasCause a b) kind.filter_bytes step s (text_of Device)
+    failed_step : (s : State) → IsTrue tells → Represents kind.spelling kind.filter_bytes before s a → told why ≡ Some Device → FailsAt (HasCause a b) kind.filter_bytes step s (text_of Device)
     failed_step s tell tied device =
         let by = answered s tell tied in
         let reply : by.reply ≡ Device = some_same (told_change written) by.reply Device by.told_is (ap (λ (w : Result T StoreError). told_change w) is ∙ device) in
@@ -134,7 +134,7 @@ module _ (kind : Kind) (tells tells_output : Bool) (step : Entry) {T : Type 0} (
         (subst (λ (r : Reply). Step (HasCause a b) kind.filter_bytes s (change_of step) r by.after) reply
         (step_as (HasCause a mid) (HasCause a b) kind.filter_bytes (causes_later a mid b (no_fall_say mid b say)) s (change_of step) by.reply by.after by.step))
 
-    step_text : (s : State) → IsTrue tells → Tied kind.spelling kind.filter_bytes before s a → IsStepText kind step s a b (opening_status why) (opening_text why)
+    step_text : (s : State) → IsTrue tells → Represents kind.spelling kind.filter_bytes before s a → IsStepText kind step s a b (opening_status why) (opening_text why)
     step_text s tell tied = elim other [
       | inl memory ↦ inl (ap opening_status memory, ap opening_text memory, stays_tied s tell tied memory)
       | inr device ↦ inr (device.0, subst (λ (t : Bytes). FailsAt (HasCause a b) kind.filter_bytes step s t) (sym device.1) (failed_step s tell tied device.4))
@@ -171,7 +171,7 @@ module _ (kind : Kind) (tells tells_output : Bool) (step : Entry) {T : Type 0} (
 -- ---- with its merge slice
 
 -- the run has ended before the slice
-pub step_ended : (IsMade IsOther : State → Bool → Type 0) (kind : Kind) (tells tells_output : Bool) (step : Entry) (status : ℕ) (before store : Kept) (a b : World)
+pub step_ended : (IsMade IsOther : State → Bool → Type 0) (kind : Kind) (tells tells_output : Bool) (step : Entry) (status : ℕ) (before store : StoreValue) (a b : World)
     → MakesStep IsMade kind tells tells_output step (Err status) before store a b → MakesStep IsOther kind tells tells_output step (Err status) before store a b
 step_ended IsMade IsOther kind tells tells_output step status before store a b ended = record {
   made = λ s tell output tied.
@@ -183,9 +183,9 @@ step_ended IsMade IsOther kind tells tells_output step status before store a b e
   moves = ended.moves;
 }
 
-module _ (kind : Kind) (tells tells_output : Bool) (step : Entry) (done : Bool) (before between : Kept) (a mid : World) (now_mid : SaidByNow mid)
-    (changes : MakesStep (λ s is. IsChanged kind step s between a mid is) kind tells tells_output step (Ok done) before between a mid) (new : Kept) (b : World) where
-  module _ (end : LineEnd) (slice : MakesSlice kind tells end between new mid b) (s : State) (tell : IsTrue tells) (output : IsTrue tells_output) (tied : Tied kind.spelling kind.filter_bytes before s a) where
+module _ (kind : Kind) (tells tells_output : Bool) (step : Entry) (done : Bool) (before between : StoreValue) (a mid : World) (now_mid : SaidByNow mid)
+    (changes : MakesStep (λ s is. IsChanged kind step s between a mid is) kind tells tells_output step (Ok done) before between a mid) (new : StoreValue) (b : World) where
+  module _ (end : LineEnd) (slice : MakesSlice kind tells end between new mid b) (s : State) (tell : IsTrue tells) (output : IsTrue tells_output) (tied : Represents kind.spelling kind.filter_bytes before s a) where
     abbrev by : StepEnds (λ is. IsChanged kind step s between a mid is) kind step (Ok done) s a mid
     by = changes.made s tell output tied
 

@@ -23,17 +23,17 @@ use Rattle.state_model.specs.View.{state_map}
 use Rattle.store_core.specs.Answers.{HasCause}
 use Rattle.store_core.specs.Counts.{IsCountRefusal}
 use Rattle.store_core.specs.Getting.{IsUndamaged}
-use Rattle.store_core.specs.Kept.{Kept}
+use Rattle.store_core.specs.StoreValue.{StoreValue}
 use Rattle.store_core.specs.Scans.{IsScanShown}
-use Rattle.store_core.specs.Tied.{Tied}
+use Rattle.store_core.specs.Represents.{Represents}
 use Rattle.store_core.specs.declared.error.StoreError.{StoreError}
 use Rattle.store_core.specs.declared.error.StoreError.TheVariants as error
 use Rattle.surf_run.specs.Causes.{DiskFailed, IsServing, MeetsUnsaid, NoFall, RunMeetsDamage, SayFailed, ShowsSomeDamage, StatusCause, WritesWithin}
-use Rattle.surf_run.specs.Crash.{HasMap, Stands}
-use Rattle.surf_run.specs.Ends.{SomeFailed}
+use Rattle.surf_run.specs.Crash.{EachImageStandsFor, HasMap}
+use Rattle.surf_run.specs.ServedOrNot.{SomeFailed}
 use Rattle.surf_run.specs.Kind.{Kind}
-use Rattle.surf_run.specs.Loading.{HasStep, IsStepped, LoadedSoFar, StepCause, StepEnds}
-use Rattle.surf_run.specs.Loads.{FailsAt, IsLoadText, LeavesLoaded, LoadEnds, Loaded, PartLoaded, StepMade, change_of, step_behind, IsLoading}
+use Rattle.surf_run.specs.Loading.{HasStep, IsStepped, LoadInvariant, StepCause, StepEnds}
+use Rattle.surf_run.specs.Loads.{FailsAt, IsLoadText, EndOfSteps, LoadEnds, Loaded, CrashOfLoad, StepMade, change_of, step_behind, IsLoading}
 use Rattle.surf_run.specs.Loads as loads
 use Rattle.surf_run.specs.Open.{IsFreeText, IsOpening, OpenMoves, opening_status, opening_text}
 use Rattle.surf_run.specs.Unserved.{Unserved}
@@ -47,16 +47,16 @@ use Rattle.surf_run.proofs.Slices.{between_pages}
 use Rattle.table_file.specs.Opened.{Opened}
 
 abbrev Part : Kind → State → ℕ → ℕ → World → World → ℕ → Image → Type 0
-Part kind start seed count first b said image = PartLoaded (HasCause first b) kind start seed count image
+Part kind start seed count first b said image = CrashOfLoad (HasCause first b) kind start seed count image
 
 -- ---- before the first step
 
-module _ (kind : Kind) (start : State) (seed : ℕ) (store : Kept) (mid : World) (tied : Tied kind.spelling kind.filter_bytes store start mid) (stand : Stands kind start mid) where
-  none_made : (first : World) → (image : Image) → HasMap kind start image → PartLoaded (HasCause first mid) kind start seed 0 image
+module _ (kind : Kind) (start : State) (seed : ℕ) (store : StoreValue) (mid : World) (tied : Represents kind.spelling kind.filter_bytes store start mid) (stand : EachImageStandsFor kind start mid) where
+  none_made : (first : World) → (image : Image) → HasMap kind start image → CrashOfLoad (HasCause first mid) kind start seed 0 image
   none_made first image has = part_here (HasCause first mid) kind start seed 0 0 0 [] start loads.none refl (omega arith) image has
 
   none_so_far : (first : World) → mid.beside ≡ first.beside → During (Part kind start seed 0 first mid) first mid → NoFall first mid → WritesWithin (page_bytes * start.pages) first mid
-      → LoadedSoFar kind start seed 0 0 store first mid
+      → LoadInvariant kind start seed 0 0 store first mid
   none_so_far first silent history counts writes = record {
     kept = [];
     now = start;
@@ -73,7 +73,7 @@ module _ (kind : Kind) (start : State) (seed : ℕ) (store : Kept) (mid : World)
   }
 
   -- since before the opening, where each image of then stands for the state
-  pub loaded_open : (old : World) → OpenMoves old mid → SaidByNow old → Now (IsStateOf kind.spelling start) old → LoadedSoFar kind start seed 0 0 store old mid
+  pub loaded_open : (old : World) → OpenMoves old mid → SaidByNow old → Now (IsStateOf kind.spelling start) old → LoadInvariant kind start seed 0 0 store old mid
   loaded_open old opened now_old here =
       none_so_far old opened.beside
       (during_weaker (λ k image. (k ≡ length old.beside.said) × HasMap kind start image) (Part kind start seed 0 old mid) old mid
@@ -84,7 +84,7 @@ module _ (kind : Kind) (start : State) (seed : ℕ) (store : Kept) (mid : World)
       opened.counts (within_still (page_bytes * start.pages) old mid opened.held opened.time)
 
   -- from the opening on
-  pub loaded_now : SaidByNow mid → LoadedSoFar kind start seed 0 0 store mid mid
+  pub loaded_now : SaidByNow mid → LoadInvariant kind start seed 0 0 store mid mid
   loaded_now now_mid =
       none_so_far mid refl
       (during_weaker (λ k image. (k ≡ length mid.beside.said) × HasMap kind start image) (Part kind start seed 0 mid mid) mid mid
@@ -94,12 +94,12 @@ module _ (kind : Kind) (start : State) (seed : ℕ) (store : Kept) (mid : World)
 
 -- ---- so far
 
-module _ (kind : Kind) (start : State) (seed n refused : ℕ) (store : Kept) (first w : World) (far : LoadedSoFar kind start seed n refused store first w) where
+module _ (kind : Kind) (start : State) (seed n refused : ℕ) (store : StoreValue) (first w : World) (far : LoadInvariant kind start seed n refused store first w) where
   module _ (b : World) (falls : NoFall w b) where
     loaded_to : Loaded (HasCause first b) kind.filter_bytes start seed n far.kept refused far.now
     loaded_to = loaded_as (HasCause first w) (HasCause first b) kind.filter_bytes (causes_later first w b falls) start seed n far.kept refused far.now far.loaded
 
-    leaves : Stands kind far.now b → LeavesLoaded kind start seed n refused far.now first b
+    leaves : EachImageStandsFor kind far.now b → EndOfSteps kind start seed n refused far.now first b
     leaves stand = record { kept = far.kept; loaded = loaded_to; map = far.map; number = far.number; stands = stand }
 
     history_to : (count : ℕ) → n ≤ count → During (Part kind start seed count first b) first w
@@ -107,17 +107,17 @@ module _ (kind : Kind) (start : State) (seed n refused : ℕ) (store : Kept) (fi
         during_weaker (Part kind start seed n first w) (Part kind start seed count first b) first w far.history
         (λ k image part. part_as (HasCause first w) (HasCause first b) kind (causes_later first w b falls) start seed n count fewer image part)
 
-    here_to : (count : ℕ) → n ≤ count → (image : Image) → HasMap kind far.now image → PartLoaded (HasCause first b) kind start seed count image
+    here_to : (count : ℕ) → n ≤ count → (image : Image) → HasMap kind far.now image → CrashOfLoad (HasCause first b) kind start seed count image
     here_to count fewer image has = part_here (HasCause first b) kind start seed n refused count far.kept far.now loaded_to far.map fewer image has
 
-    step_to : (count : ℕ) → n < count → (image : Image) → HasStep kind far.now (step_behind seed n) image → PartLoaded (HasCause first b) kind start seed count image
+    step_to : (count : ℕ) → n < count → (image : Image) → HasStep kind far.now (step_behind seed n) image → CrashOfLoad (HasCause first b) kind start seed count image
     step_to count fewer image has = part_step (HasCause first b) kind start seed n refused count far.kept far.now loaded_to far.map fewer image has
 
   said_same : w.beside.said ≡ first.beside.said
   said_same = ap (λ (s : Streams). s.said) far.silent
 
   -- blocks were read
-  pub so_far_read : (mid : World) → OnlyReads w mid → SaidByNow w → LoadedSoFar kind start seed n refused store first mid
+  pub so_far_read : (mid : World) → OnlyReads w mid → SaidByNow w → LoadInvariant kind start seed n refused store first mid
   so_far_read mid moves now_w =
       let falls = (line_read moves.0 w mid moves.1).counts in
       record {
@@ -143,7 +143,7 @@ module _ (kind : Kind) (start : State) (seed n refused : ℕ) (store : Kept) (fi
 
   -- a last line was said, or not
   module _ (count : ℕ) (fewer : n ≤ count) (b : World) (say : SayMoves w b) (now_w : SaidByNow w) where
-    pub leaves_said : LeavesLoaded kind start seed n refused far.now first b
+    pub leaves_said : EndOfSteps kind start seed n refused far.now first b
     leaves_said = leaves b (no_fall_say w b say) (stands_still kind far.now w b say.time far.stand)
 
     pub load_says : (status meant : ℕ) (text : Bytes) → IsLoadText kind start seed count first b meant text → (status ≡ meant → b.beside.said ≡ w.beside.said ++ text)
@@ -202,7 +202,7 @@ module _ (kind : Kind) (start : State) (seed n refused : ℕ) (store : Kept) (fi
       writes = writes_to ends.writes;
     }
 
-    module _ (new : Kept) (silent : b.beside ≡ w.beside) (done : Bool) (ends : StepEnds (λ is. IsStepped kind step far.now new w b is) kind step (Ok done) far.now w b) where
+    module _ (new : StoreValue) (silent : b.beside ≡ w.beside) (done : Bool) (ends : StepEnds (λ is. IsStepped kind step far.now new w b is) kind step (Ok done) far.now w b) where
       abbrev after : State
       after = ends.ends.1
 
@@ -220,7 +220,7 @@ module _ (kind : Kind) (start : State) (seed n refused : ℕ) (store : Kept) (fi
           ∙ far.pages
 
       more_so_far : (kept : List Entry) (others : ℕ) → Loaded (HasCause first b) kind.filter_bytes start seed (n + 1) kept others after → state_map after ≡ fold changed (state_map start) kept
-          → length kept + others ≡ n + 1 → LoadedSoFar kind start seed (n + 1) others new first b
+          → length kept + others ≡ n + 1 → LoadInvariant kind start seed (n + 1) others new first b
       more_so_far kept others loaded map number = record {
         kept = kept;
         now = after;
@@ -236,15 +236,15 @@ module _ (kind : Kind) (start : State) (seed n refused : ℕ) (store : Kept) (fi
         writes = writes_to ends.writes;
       }
 
-  module _ (step : Entry) (is : step ≡ step_behind seed n) (b : World) (falls : NoFall w b) (new : Kept) (silent : b.beside ≡ w.beside) where
-    one_more_done : StepEnds (λ is. IsStepped kind step far.now new w b is) kind step (Ok true) far.now w b → LoadedSoFar kind start seed (n + 1) refused new first b
+  module _ (step : Entry) (is : step ≡ step_behind seed n) (b : World) (falls : NoFall w b) (new : StoreValue) (silent : b.beside ≡ w.beside) where
+    one_more_done : StepEnds (λ is. IsStepped kind step far.now new w b is) kind step (Ok true) far.now w b → LoadInvariant kind start seed (n + 1) refused new first b
     one_more_done ends =
         more_so_far step is b falls new silent true ends (far.kept ++ (step_behind seed n ∷ [])) refused
         (loads.done n far.kept refused far.now ends.ends.1 (loaded_to b falls) (made_to step is b falls new silent true ends Done ends.ends.3))
         (ends.ends.6 ∙ ap (λ (m : Map). changed m step) far.map ∙ ap (λ (e : Entry). changed (fold changed (state_map start) far.kept) e) is ∙ sym (kept_more (state_map start) far.kept (step_behind seed n)))
         (omega (arith, length-append far.kept (step_behind seed n ∷ []), far.number))
 
-    one_more_refused : StepEnds (λ is. IsStepped kind step far.now new w b is) kind step (Ok false) far.now w b → LoadedSoFar kind start seed (n + 1) (refused + 1) new first b
+    one_more_refused : StepEnds (λ is. IsStepped kind step far.now new w b is) kind step (Ok false) far.now w b → LoadInvariant kind start seed (n + 1) (refused + 1) new first b
     one_more_refused ends =
         more_so_far step is b falls new silent false ends far.kept (refused + 1)
         (loads.passed_over n far.kept refused far.now ends.ends.1 ends.ends.0 (loaded_to b falls) (made_to step is b falls new silent false ends ends.ends.0 refl) ends.ends.3)
@@ -253,24 +253,24 @@ module _ (kind : Kind) (start : State) (seed n refused : ℕ) (store : Kept) (fi
 
     -- counted as refused where it was passed over
     pub one_more : (done : Bool) (others : ℕ) → StepEnds (λ is. IsStepped kind step far.now new w b is) kind step (Ok done) far.now w b
-        → ((done ≡ false) × (others ≡ refused + 1)) ⊎ ((done ≡ true) × (others ≡ refused)) → LoadedSoFar kind start seed (n + 1) others new first b
+        → ((done ≡ false) × (others ≡ refused + 1)) ⊎ ((done ≡ true) × (others ≡ refused)) → LoadInvariant kind start seed (n + 1) others new first b
     one_more done others ends counted = elim counted [
       | inl over ↦
-          subst (λ (k : ℕ). LoadedSoFar kind start seed (n + 1) k new first b) (sym over.1)
+          subst (λ (k : ℕ). LoadInvariant kind start seed (n + 1) k new first b) (sym over.1)
           (one_more_refused (subst (λ (d : Bool). StepEnds (λ is. IsStepped kind step far.now new w b is) kind step (Ok d) far.now w b) over.0 ends))
       | inr all ↦
-          subst (λ (k : ℕ). LoadedSoFar kind start seed (n + 1) k new first b) (sym all.1)
+          subst (λ (k : ℕ). LoadInvariant kind start seed (n + 1) k new first b) (sym all.1)
           (one_more_done (subst (λ (d : Bool). StepEnds (λ is. IsStepped kind step far.now new w b is) kind step (Ok d) far.now w b) all.0 ends))
     ]
 
 -- ---- the summary
 
-module _ (kind : Kind) (start : State) (seed count refused : ℕ) (store : Kept) (first w mid b : World) (far : LoadedSoFar kind start seed count refused store first w) (reads : OnlyReads w mid)
+module _ (kind : Kind) (start : State) (seed count refused : ℕ) (store : StoreValue) (first w mid b : World) (far : LoadInvariant kind start seed count refused store first w) (reads : OnlyReads w mid)
     (now_w : SaidByNow w) (now_mid : SaidByNow mid) (say : SayMoves mid b) (status : ℕ) where
-  read_so_far : LoadedSoFar kind start seed count refused store first mid
+  read_so_far : LoadInvariant kind start seed count refused store first mid
   read_so_far = so_far_read kind start seed count refused store first w far mid reads now_w
 
-  all_left : LeavesLoaded kind start seed count refused far.now first b
+  all_left : EndOfSteps kind start seed count refused far.now first b
   unfolding read_so_far so_far_read
   all_left = leaves_said kind start seed count refused store first mid read_so_far count (omega arith) b say now_mid
 

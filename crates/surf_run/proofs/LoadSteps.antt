@@ -20,7 +20,7 @@ use Rattle.state_model.specs.Steps.{Step, answer, answers, damage_met, done_or_r
 use Rattle.state_model.specs.View.{state_map}
 use Rattle.surf_run.specs.Kind.{Kind}
 use Rattle.surf_run.specs.Loading.{HasStep, IsAnswer, stepped_map}
-use Rattle.surf_run.specs.Loads.{FailsAt, IsPassedOver, Loaded, PartLoaded, StepMade, change_of, change_to, step_behind}
+use Rattle.surf_run.specs.Loads.{CrashOfLoad, FailsAt, IsPassedOver, Loaded, StepMade, change_of, change_to, step_behind}
 use Rattle.surf_run.specs.Loads as loads
 use Rattle.surf_run.proofs.Dialogues.{between_as, step_as}
 use Rattle.table_model.specs.Tables.{FilterBytes}
@@ -139,7 +139,7 @@ module _ (C D : Why → Type 0) (filter_bytes : FilterBytes) (weaker : (why : Wh
 
 module _ (C D : Why → Type 0) (kind : Kind) (weaker : (why : Why) → C why → D why) (start : State) (seed n m : ℕ) (fewer : n ≤ m) (image : Image) where
   -- some first steps of n are some of more
-  pub part_as : PartLoaded C kind start seed n image → PartLoaded D kind start seed m image
+  pub part_as : CrashOfLoad C kind start seed n image → CrashOfLoad D kind start seed m image
   part_as part = record {
     made = part.made;
     kept = part.kept;
@@ -158,7 +158,7 @@ kept_more map kept step = fold-append changed map kept (step ∷ [])
 -- before the next step, or behind it
 module _ (C : Why → Type 0) (kind : Kind) (start : State) (seed n refused count : ℕ) (kept : List Entry) (now : State) (loaded : Loaded C kind.filter_bytes start seed n kept refused now)
     (map : state_map now ≡ fold changed (state_map start) kept) where
-  pub part_here : n ≤ count → (image : Image) → StandsForMap kind.spelling (state_map now) image → PartLoaded C kind start seed count image
+  pub part_here : n ≤ count → (image : Image) → StandsForMap kind.spelling (state_map now) image → CrashOfLoad C kind start seed count image
   part_here within image has = record {
     made = n;
     kept = kept;
@@ -169,7 +169,7 @@ module _ (C : Why → Type 0) (kind : Kind) (start : State) (seed n refused coun
     stands = inl (subst (λ (m : Map). StandsForMap kind.spelling m image) map has);
   }
 
-  pub part_step : n < count → (image : Image) → HasStep kind now (step_behind seed n) image → PartLoaded C kind start seed count image
+  pub part_step : n < count → (image : Image) → HasStep kind now (step_behind seed n) image → CrashOfLoad C kind start seed count image
   part_step less image has = elim has [
     | inl before ↦ part_here (omega (arith, less)) image before
     | inr behind ↦ record {

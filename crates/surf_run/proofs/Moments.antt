@@ -18,16 +18,16 @@ use Rattle.state_model.specs.State.{State}
 use Rattle.state_model.specs.Steps.{Step}
 use Rattle.store_core.proofs.Frames.{are_slots}
 use Rattle.store_core.specs.Answers.{HasCause}
-use Rattle.store_core.specs.Kept.{Kept}
-use Rattle.store_core.specs.Tied.{IsUnder, Tied}
+use Rattle.store_core.specs.StoreValue.{StoreValue}
+use Rattle.store_core.specs.Represents.{Represents, RepresentsOn}
 use Rattle.surf_run.specs.Answering.{EndsLine, InLine, LineAnswer}
 use Rattle.surf_run.specs.Causes.{WritesWithin}
-use Rattle.surf_run.specs.Crash.{HasBehind, HasEither, HasMap, HasState, Stands}
+use Rattle.surf_run.specs.Crash.{EachImageStandsFor, HasMap, HasMapAfter, HasOldOrNewMap, HasState}
 use Rattle.surf_run.specs.Dialogue.{IsBounded, reply_bound}
 use Rattle.surf_run.specs.Kind.{Kind}
 use Rattle.surf_run.specs.Saying.{Says}
-use Rattle.surf_run.specs.declared.end.LineEnd.{LineEnd}
-use Rattle.surf_run.specs.declared.end.LineEnd.TheVariants.{End, Next, Quit}
+use Rattle.surf_run.specs.declared.line_end.LineEnd.{LineEnd}
+use Rattle.surf_run.specs.declared.line_end.LineEnd.TheVariants.{End, Next, Quit}
 use Rattle.surf_run.proofs.Dialogues.{step_as}
 use Rattle.surf_run.proofs.EndCauses.{causes_later, no_fall_say}
 use Rattle.surf_run.proofs.Footprint.{within_on, within_say}
@@ -43,14 +43,14 @@ torn_none f g torn = λ i place. torn.after place (omega arith) i
 pub now_still : (P : Image → Type 0) (a b : World) → Passes Same a b → Now P a → Now P b
 now_still P a b time here = now_at P a b (in_call P Same a b here time (λ was image left same. subst P (sym same) (here was left)))
 
-pub stands_still : (kind : Kind) (s : State) (a b : World) → Passes Same a b → Stands kind s a → Stands kind s b
+pub stands_still : (kind : Kind) (s : State) (a b : World) → Passes Same a b → EachImageStandsFor kind s a → EachImageStandsFor kind s b
 stands_still kind s a b time here = now_still (HasState kind s) a b time here
 
-pub tied_still : (spelling : Spelling) (filter_bytes : FilterBytes) (store : Kept) (s : State) (a b : World) → Passes Same a b → Tied spelling filter_bytes store s a → Tied spelling filter_bytes store s b
+pub tied_still : (spelling : Spelling) (filter_bytes : FilterBytes) (store : StoreValue) (s : State) (a b : World) → Passes Same a b → Represents spelling filter_bytes store s a → Represents spelling filter_bytes store s b
 tied_still spelling filter_bytes store s a b time tied = record {
   sound = tied.sound;
   none_kept = tied.none_kept;
-  images = now_still (IsUnder spelling store.manifest store.tables store.job s) a b time tied.images;
+  images = now_still (RepresentsOn spelling store.manifest store.tables store.job s) a b time tied.images;
   log = tied.log;
   memory = tied.memory;
   blocks = tied.blocks;
@@ -61,7 +61,7 @@ shown : (s : State) → s.job ≡ None → s.kept ≡ [] → s ≡ as_shown s
 shown s no_job none_kept = λ i. record { settings = s.settings; pages = s.pages; epoch = s.epoch; log = s.log; tables = s.tables; job = no_job i; kept = none_kept i }
 
 -- what a store is tied to stands on its device
-pub tied_stands : (kind : Kind) (store : Kept) (s : State) (w : World) → store.manifest.slot ≤ 1 → Tied kind.spelling kind.filter_bytes store s w → Stands kind s w
+pub tied_stands : (kind : Kind) (store : StoreValue) (s : State) (w : World) → store.manifest.slot ≤ 1 → Represents kind.spelling kind.filter_bytes store s w → EachImageStandsFor kind s w
 tied_stands kind store s w few tied image left =
     let m = store.manifest in
     let ready = (tied.images image left).ready in
@@ -74,7 +74,7 @@ pub map_of_image : (kind : Kind) (s : State) (image : Image) → IsStateOf kind.
 map_of_image kind s image is = (s, subst (λ (t : State). IsStateOf kind.spelling t image) (shown s is.1.named.no_job is.1.named.none_kept) is, refl)
 
 -- its device has the pages of its state
-pub tied_pages : (spelling : Spelling) (filter_bytes : FilterBytes) (store : Kept) (s : State) (w : World) (image : Image) → w.leaves w.moment image → Tied spelling filter_bytes store s w
+pub tied_pages : (spelling : Spelling) (filter_bytes : FilterBytes) (store : StoreValue) (s : State) (w : World) (image : Image) → w.leaves w.moment image → Represents spelling filter_bytes store s w
     → s.pages ≡ store.manifest.version.pages
 tied_pages spelling filter_bytes store s w image left tied = (tied.images image left).ready.named.pages
 
@@ -86,7 +86,7 @@ module _ (kind : Kind) (old : State) (request : Request) (reply : Reply) (new : 
   said_same = ap (λ (s : Streams). s.said) same
 
   module _ (step : Step (HasCause a mid) kind.filter_bytes old request reply new) (prefix : SaysPrefix (text_of reply) mid.beside.said b.beside.said)
-      (first : (image : Image) → P image → HasEither kind old request image) (then : (image : Image) → mid.leaves mid.moment image → HasBehind kind old request reply new image)
+      (first : (image : Image) → P image → HasOldOrNewMap kind old request image) (then : (image : Image) → mid.leaves mid.moment image → HasMapAfter kind old request reply new image)
       (reads : IsBounded request → mid.seen.reads ≤ a.seen.reads + reply_bound old request) (writes : WritesWithin (page_bytes * old.pages) a mid) where
     acting : (k : ℕ) (image : Image) → (k ≡ length a.beside.said) × P image → InLine kind old request reply new (length a.beside.said) (length b.beside.said) k image
     acting k image at = inl (at.0, first image at.1)
@@ -108,13 +108,13 @@ module _ (kind : Kind) (old : State) (request : Request) (reply : Reply) (new : 
           writes = within_on (page_bytes * old.pages) a mid b writes (within_say (page_bytes * old.pages) mid b moves);
         }
 
-module _ (kind : Kind) (old : State) (request : Request) (new : State) (store : Kept) (a mid b : World) (same : mid.beside ≡ a.beside) where
+module _ (kind : Kind) (old : State) (request : Request) (new : State) (store : StoreValue) (a mid b : World) (same : mid.beside ≡ a.beside) where
   whole : (text : Bytes) → b.beside.said ≡ mid.beside.said ++ text → b.beside.said ≡ a.beside.said ++ text
   whole text is = is ∙ ap (λ (s : Streams). s.said ++ text) same
 
   -- a reply that is not the last
   pub ends_next : (reply : Reply) (result : LineEnd) → LineAnswer kind old request reply new (reply_bound old request) a b → Says Next reply result mid b → turn_of reply ≡ Onward
-      → Tied kind.spelling kind.filter_bytes store new b → Stands kind new b → EndsLine kind result old request store a b
+      → Represents kind.spelling kind.filter_bytes store new b → EachImageStandsFor kind new b → EndsLine kind result old request store a b
   ends_next reply Next answer says goes tied stand = elim says.1 [
     | inl all ↦ (reply, new, answer, goes, whole (text_of reply) all.1, tied, stand)
     | inr six ↦ absurd cc
@@ -126,7 +126,7 @@ module _ (kind : Kind) (old : State) (request : Request) (new : State) (store : 
   ]
 
   -- `device`
-  pub ends_device : (result : LineEnd) → LineAnswer kind old request Device new (reply_bound old request) a b → Says (End 4) Device result mid b → (store.stopped ≡ false → Tied kind.spelling kind.filter_bytes store new b)
+  pub ends_device : (result : LineEnd) → LineAnswer kind old request Device new (reply_bound old request) a b → Says (End 4) Device result mid b → (store.stopped ≡ false → Represents kind.spelling kind.filter_bytes store new b)
       → EndsLine kind result old request store a b
   ends_device Next answer says tied = elim says.1 [ inl all ↦ absurd (let is = all.0 in cc) | inr six ↦ absurd cc ]
   ends_device Quit answer says tied = elim says.1 [ inl all ↦ absurd (let is = all.0 in cc) | inr six ↦ absurd cc ]
@@ -136,7 +136,7 @@ module _ (kind : Kind) (old : State) (request : Request) (new : State) (store : 
   ]
 
   -- `bye`
-  pub ends_quit : (result : LineEnd) → LineAnswer kind old request Bye new (reply_bound old request) a b → Says Quit Bye result mid b → Tied kind.spelling kind.filter_bytes store new b → Stands kind new b
+  pub ends_quit : (result : LineEnd) → LineAnswer kind old request Bye new (reply_bound old request) a b → Says Quit Bye result mid b → Represents kind.spelling kind.filter_bytes store new b → EachImageStandsFor kind new b
       → EndsLine kind result old request store a b
   ends_quit Next answer says tied stand = elim says.1 [ inl all ↦ absurd (let is = all.0 in cc) | inr six ↦ absurd cc ]
   ends_quit Quit answer says tied stand = elim says.1 [

@@ -27,7 +27,7 @@ use Rattle.state_model.specs.Steps.{Answer, Step, answer, answer_within, answers
 use Rattle.state_model.specs.Taken.{taken}
 use Rattle.state_model.specs.Tends.{Tend, Tended}
 use Rattle.state_model.specs.View.{entries_of, memory, state_map}
-use Rattle.surf_run.specs.Dialogue.{SoFar}
+use Rattle.surf_run.specs.Dialogue.{AnsweredLines}
 use Rattle.surf_run.specs.OneMap.{IsMapReply, IsRefusal, MapDialogue}
 use Rattle.table_model.specs.Tables.{FilterBytes, Table}
 
@@ -207,7 +207,7 @@ between_goes C filter_bytes (Bad code) s after sound none = (subst (IsSound filt
 -- ---- lines, one after the other
 
 pub one_map : (C : Why → Type 0) (filter_bytes : FilterBytes) (R : ℕ → State → Type 0) (said : ℕ) (s now : State) (lines : List Bytes) (text : Bytes) (most : ℕ)
-    → IsSound filter_bytes s → SoFar C filter_bytes R said s lines text most now → MapDialogue (state_map s) lines text (state_map now)
+    → IsSound filter_bytes s → AnsweredLines C filter_bytes R said s lines text most now → MapDialogue (state_map s) lines text (state_map now)
 one_map C filter_bytes R said s now [] text most sound went = (went.0, ap state_map went.2)
 one_map C filter_bytes R said s now (line ∷ more) text most sound (reply, rest, later, mid, next, is, bound, step, on, holds, behind, goes) =
     let ever = ever_steps C filter_bytes s mid (request_of line) reply step in

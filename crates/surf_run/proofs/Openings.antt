@@ -18,17 +18,17 @@ use Rattle.outside.specs.Streams.{SaidByNow, SayMoves}
 use Rattle.outside.proofs.Crossing.{during_disk, during_none, during_weaker}
 use Rattle.state_model.specs.State.{State}
 use Rattle.store_core.specs.Answers.{HasCause, IsFailure}
-use Rattle.store_core.specs.Kept.{Kept}
+use Rattle.store_core.specs.StoreValue.{StoreValue}
 use Rattle.store_core.specs.Opening.{IsOpenAnswer, IsOpenRefusal}
-use Rattle.store_core.specs.Tied.{Tied}
+use Rattle.store_core.specs.Represents.{Represents}
 use Rattle.store_core.specs.declared.error.StoreError.{StoreError}
 use Rattle.store_core.specs.declared.error.StoreError.TheVariants as error
 use Rattle.surf_run.specs.Causes.{DiskFailed, SayFailed, StatusCause}
-use Rattle.surf_run.specs.Crash.{HasMap, Stands}
-use Rattle.surf_run.specs.Ends.{TellsDamage}
+use Rattle.surf_run.specs.Crash.{EachImageStandsFor, HasMap}
+use Rattle.surf_run.specs.ServedOrNot.{TellsDamage}
 use Rattle.surf_run.specs.Kind.{Kind}
 use Rattle.surf_run.specs.Open.{IsFreeText, IsOpening, IsOpeningText, OpenMoves, opening_status, opening_text}
-use Rattle.surf_run.specs.Serving.{Served}
+use Rattle.surf_run.specs.Serving.{ServeInvariant}
 use Rattle.surf_run.proofs.EndCauses.{disk_then, no_fall_none, no_fall_say, rose_since}
 use Rattle.surf_run.proofs.Footprint.{within_none, within_still}
 use Rattle.surf_run.proofs.History.{ack_none}
@@ -52,9 +52,9 @@ open_moves most a b moves = record {
 
 -- ---- an opened store has served nothing
 
-module _ (kind : Kind) (start : State) (base : ℕ) (store : Kept) (old mid : World) (tied : Tied kind.spelling kind.filter_bytes store start mid) (stand : Stands kind start mid) (reads : mid.seen.reads ≤ base) where
+module _ (kind : Kind) (start : State) (base : ℕ) (store : StoreValue) (old mid : World) (tied : Represents kind.spelling kind.filter_bytes store start mid) (stand : EachImageStandsFor kind start mid) (reads : mid.seen.reads ≤ base) where
   -- since before the opening, where each image of then stands for the state
-  pub served_open : OpenMoves old mid → SaidByNow old → Now (IsStateOf kind.spelling start) old → Served kind start base [] [] store old mid
+  pub served_open : OpenMoves old mid → SaidByNow old → Now (IsStateOf kind.spelling start) old → ServeInvariant kind start base [] [] store old mid
   served_open opened now_old here =
       let said_same : mid.beside.said ≡ old.beside.said = ap (λ (s : Streams). s.said) opened.beside in
       served_none kind start base store old mid said_same
@@ -66,7 +66,7 @@ module _ (kind : Kind) (start : State) (base : ℕ) (store : Kept) (old mid : Wo
       tied stand opened.counts reads (within_still (page_bytes * start.pages) old mid opened.held opened.time)
 
   -- from the opening on
-  pub served_now : SaidByNow mid → Served kind start base [] [] store mid mid
+  pub served_now : SaidByNow mid → ServeInvariant kind start base [] [] store mid mid
   served_now now_mid =
       served_none kind start base store mid mid refl
       (during_weaker (λ k image. (k ≡ length mid.beside.said) × HasMap kind start image) _ mid mid

@@ -18,19 +18,19 @@ use Rattle.state_model.specs.State.{State}
 use Rattle.state_model.specs.View.{state_map}
 use Rattle.store_commands.specs.Cutting.{NoNewline}
 use Rattle.store_core.specs.Answers.{HasCause}
-use Rattle.store_core.specs.Kept.{Kept}
-use Rattle.store_core.specs.Tied.{Tied}
+use Rattle.store_core.specs.StoreValue.{StoreValue}
+use Rattle.store_core.specs.Represents.{Represents}
 use Rattle.surf_run.specs.Answering.{LineAnswer, Whole}
 use Rattle.surf_run.specs.Causes.{NoFall, WritesWithin}
-use Rattle.surf_run.specs.Crash.{Acknowledged, HasMap, Reached, Stands}
-use Rattle.surf_run.specs.Dialogue.{AreBounded, SoFar, line_bound}
+use Rattle.surf_run.specs.Crash.{EachImageStandsFor, HasMap, KeepsAcknowledged, WasStateAt}
+use Rattle.surf_run.specs.Dialogue.{AnsweredLines, AreBounded, line_bound}
 use Rattle.surf_run.specs.Holding.{with_newline}
 use Rattle.surf_run.specs.Kind.{Kind}
 use Rattle.surf_run.specs.OneMap.{MapDialogue}
-use Rattle.surf_run.specs.Outcome.{EndsTo, LeavesState, Said, SaidInPart, Settled, TakenAll}
-use Rattle.surf_run.specs.Serving.{Closed, EndedBy, EndsPast, Served}
+use Rattle.surf_run.specs.Outcome.{EndOfServe, LastReplyTo, LeavesState, OutputFailed, SaidWholeScript, TakenAll}
+use Rattle.surf_run.specs.Serving.{EndStatusOfServe, EndedByReply, LastReplyPast, ServeInvariant}
 use Rattle.surf_run.specs.Slices.{EndsServed}
-use Rattle.surf_run.specs.declared.end.LineEnd.TheVariants.{End, Next, Quit}
+use Rattle.surf_run.specs.declared.line_end.LineEnd.TheVariants.{End, Next, Quit}
 use Rattle.surf_run.proofs.Dialogues.{script_ends, script_of, so_far_any, so_far_as}
 use Rattle.surf_run.proofs.EndCauses.{causes_later, no_fall_on, no_fall_take}
 use Rattle.surf_run.proofs.Footprint.{within_on, within_take}
@@ -43,9 +43,9 @@ use Rattle.surf_run.proofs.Texts.{held_none, held_same, held_some, last_line, li
 -- ---- before a line was answered
 
 -- before anything was taken, since a first world
-pub served_none : (kind : Kind) (start : State) (base : ℕ) (store : Kept) (first w : World) → w.beside.said ≡ first.beside.said
-    → During (Acknowledged (HasCause first w) kind start [] first.beside.said w.beside.said) first w → Tied kind.spelling kind.filter_bytes store start w → Stands kind start w
-    → NoFall first w → w.seen.reads ≤ base → WritesWithin (page_bytes * start.pages) first w → Served kind start base [] [] store first w
+pub served_none : (kind : Kind) (start : State) (base : ℕ) (store : StoreValue) (first w : World) → w.beside.said ≡ first.beside.said
+    → During (KeepsAcknowledged (HasCause first w) kind start [] first.beside.said w.beside.said) first w → Represents kind.spelling kind.filter_bytes store start w → EachImageStandsFor kind start w
+    → NoFall first w → w.seen.reads ≤ base → WritesWithin (page_bytes * start.pages) first w → ServeInvariant kind start base [] [] store first w
 served_none kind start base store first w same history tied stand counts reads writes = record {
   lines = [];
   rest = [];
@@ -69,29 +69,29 @@ served_none kind start base store first w same history tied stand counts reads w
 }
 
 -- a take, done or failed
-module _ (kind : Kind) (start : State) (base : ℕ) (bytes kept : Bytes) (store : Kept) (first w w' : World) (moves : TakeMoves w w') (now : SaidByNow w) (served : Served kind start base bytes kept store first w) where
+module _ (kind : Kind) (start : State) (base : ℕ) (bytes kept : Bytes) (store : StoreValue) (first w w' : World) (moves : TakeMoves w w') (now : SaidByNow w) (served : ServeInvariant kind start base bytes kept store first w) where
   taking : During (λ k image. (k ≡ length w.beside.said) × HasMap kind served.now image) w w'
   taking = during_take (HasMap kind served.now) w w' (λ image left. map_of_state kind served.now image (served.stand image left)) moves now
 
-  ran : SoFar (HasCause first w') kind.filter_bytes (Reached kind w') (length first.beside.said) start served.lines served.text served.most served.now
-  ran = so_far_as (HasCause first w) (HasCause first w') kind.filter_bytes (Reached kind w) (Reached kind w') (causes_later first w w' (no_fall_take w w' moves)) (reached_on kind _ w w' taking)
+  ran : AnsweredLines (HasCause first w') kind.filter_bytes (WasStateAt kind w') (length first.beside.said) start served.lines served.text served.most served.now
+  ran = so_far_as (HasCause first w) (HasCause first w') kind.filter_bytes (WasStateAt kind w) (WasStateAt kind w') (causes_later first w w' (no_fall_take w w' moves)) (reached_on kind _ w w' taking)
       (length first.beside.said) start served.lines served.text served.most served.now served.ran
 
   told : w'.beside.said ≡ first.beside.said ++ served.text
   told = moves.said ∙ served.told
 
-  history : During (Acknowledged (HasCause first w') kind start served.lines first.beside.said w'.beside.said) first w'
+  history : During (KeepsAcknowledged (HasCause first w') kind start served.lines first.beside.said w'.beside.said) first w'
   history =
-      let went = so_far_any (HasCause first w') kind.filter_bytes (Reached kind w') (length first.beside.said) 0 start served.lines served.text served.most served.now ran in
+      let went = so_far_any (HasCause first w') kind.filter_bytes (WasStateAt kind w') (length first.beside.said) 0 start served.lines served.text served.most served.now ran in
       during_then _ first w w'
       (during_weaker _ _ first w served.history (λ n image ack.
-      subst (λ (ls : List Bytes). Acknowledged (HasCause first w') kind start ls first.beside.said w'.beside.said n image) (append-nil served.lines)
+      subst (λ (ls : List Bytes). KeepsAcknowledged (HasCause first w') kind start ls first.beside.said w'.beside.said n image) (append-nil served.lines)
       (ack_more (HasCause first w) (HasCause first w') (causes_later first w w' (no_fall_take w w' moves)) kind start served.lines [] first.beside.said w.beside.said w'.beside.said []
       (moves.said ∙ sym (append-nil w.beside.said)) n image ack)))
       (during_weaker (λ k image. (k ≡ length w.beside.said) × HasMap kind served.now image) _ w w' taking
       (λ k image at. ack_here (HasCause first w') kind start served.lines served.text served.most served.now first.beside.said w'.beside.said told k image went (at.0 ∙ ap length (sym moves.said)) at.1))
 
-  pub served_take : Served kind start base bytes kept store first w'
+  pub served_take : ServeInvariant kind start base bytes kept store first w'
   served_take = record {
     lines = served.lines;
     rest = served.rest;
@@ -119,27 +119,27 @@ module _ (kind : Kind) (start : State) (base : ℕ) (bytes kept : Bytes) (store 
 lines_now : (taken : Bytes) (lines : List Bytes) (more : List Bytes) → lines_of (taken ++ []) ≡ lines ++ more → lines_of taken ≡ lines ++ more
 lines_now taken lines more is = ap lines_of (sym (append-nil taken)) ∙ is
 
-pub said_closed : (kind : Kind) (ending : Ending) (start : State) (taken : Bytes) (first w : World) → Closed kind ending start taken first w → Said kind ending start taken first w
+pub said_closed : (kind : Kind) (ending : Ending) (start : State) (taken : Bytes) (first w : World) → EndedByReply kind ending start taken first w → SaidWholeScript kind ending start taken first w
 said_closed kind ending start taken first w closed = record {
   text = closed.text;
   output = closed.told;
-  script = subst (λ (l : Bytes). Script (HasCause first w) kind.filter_bytes (Reached kind w) (length first.beside.said) start (lines_of l) closed.text ending) (append-nil taken) (closed.script []);
+  script = subst (λ (l : Bytes). Script (HasCause first w) kind.filter_bytes (WasStateAt kind w) (length first.beside.said) start (lines_of l) closed.text ending) (append-nil taken) (closed.script []);
   settled = inr closed.script;
 }
 
 more_lines : (kind : Kind) (start : State) (taken : Bytes) (lines later : List Bytes) (first w : World) → lines_of taken ≡ lines ++ later
-    → During (Acknowledged (HasCause first w) kind start lines first.beside.said w.beside.said) first w → During (Acknowledged (HasCause first w) kind start (lines_of taken) first.beside.said w.beside.said) first w
+    → During (KeepsAcknowledged (HasCause first w) kind start lines first.beside.said w.beside.said) first w → During (KeepsAcknowledged (HasCause first w) kind start (lines_of taken) first.beside.said w.beside.said) first w
 more_lines kind start taken lines later first w is history =
-    subst (λ (ls : List Bytes). During (Acknowledged (HasCause first w) kind start ls first.beside.said w.beside.said) first w) (sym is)
+    subst (λ (ls : List Bytes). During (KeepsAcknowledged (HasCause first w) kind start ls first.beside.said w.beside.said) first w) (sym is)
     (during_weaker _ _ first w history
     (ack_more (HasCause first w) (HasCause first w) (λ why cause. cause) kind start lines later first.beside.said w.beside.said w.beside.said [] (sym (append-nil w.beside.said))))
 
-ends_to : (kind : Kind) (most : ℕ) (ending : Ending) (reply : Reply) (start : State) (base : ℕ) (taken : Bytes) (first w : World) → most ≤ piece_bytes → EndsPast kind most ending reply start base taken first w
-    → EndsTo kind piece_bytes ending reply start base taken first w
+ends_to : (kind : Kind) (most : ℕ) (ending : Ending) (reply : Reply) (start : State) (base : ℕ) (taken : Bytes) (first w : World) → most ≤ piece_bytes → LastReplyPast kind most ending reply start base taken first w
+    → LastReplyTo kind piece_bytes ending reply start base taken first w
 ends_to kind most ending reply start base taken first w fits ends = (ends.0, ends.1, inl (past_wider most piece_bytes taken (ends.0 ++ ends.1 ∷ []) fits ends.2), ends.3)
 
-pub settled_quit : (kind : Kind) (most : ℕ) (start : State) (base : ℕ) (taken : Bytes) (first w : World) → most ≤ piece_bytes → Closed kind AtQuit start taken first w → EndsPast kind most AtQuit Bye start base taken first w
-    → Settled kind 0 start base taken first w
+pub settled_quit : (kind : Kind) (most : ℕ) (start : State) (base : ℕ) (taken : Bytes) (first w : World) → most ≤ piece_bytes → EndedByReply kind AtQuit start taken first w → LastReplyPast kind most AtQuit Bye start base taken first w
+    → EndOfServe kind 0 start base taken first w
 settled_quit kind most start base taken first w fits closed ends =
     let first_lines = closed.first_lines [] in
     record {
@@ -153,8 +153,8 @@ settled_quit kind most start base taken first w fits closed ends =
       writes = closed.writes;
     }
 
-pub settled_end : (kind : Kind) (most status : ℕ) (start : State) (base : ℕ) (taken : Bytes) (first w : World) → most ≤ piece_bytes → EndedBy kind most status start base taken first w
-    → Settled kind status start base taken first w
+pub settled_end : (kind : Kind) (most status : ℕ) (start : State) (base : ℕ) (taken : Bytes) (first w : World) → most ≤ piece_bytes → EndStatusOfServe kind most status start base taken first w
+    → EndOfServe kind status start base taken first w
 settled_end kind most status start base taken first w fits ended = elim ended [
   | inl four ↦
       let first_lines = four.1.first_lines [] in
@@ -195,30 +195,30 @@ settled_end kind most status start base taken first w fits ended = elim ended [
 
 -- ---- what was served so far
 
-module _ (kind : Kind) (start : State) (base : ℕ) (taken kept : Bytes) (store : Kept) (first w : World) (served : Served kind start base taken kept store first w) where
+module _ (kind : Kind) (start : State) (base : ℕ) (taken kept : Bytes) (store : StoreValue) (first w : World) (served : ServeInvariant kind start base taken kept store first w) where
   leaves_now : (lines : List Bytes) → lines ≡ served.lines → LeavesState kind start base lines first w
   leaves_now lines is = record {
     text = served.text;
     output = served.told;
     most = served.most;
     last = served.now;
-    so_far = subst (λ (ls : List Bytes). SoFar (HasCause first w) kind.filter_bytes (Reached kind w) (length first.beside.said) start ls served.text served.most served.now) (sym is) served.ran;
+    so_far = subst (λ (ls : List Bytes). AnsweredLines (HasCause first w) kind.filter_bytes (WasStateAt kind w) (length first.beside.said) start ls served.text served.most served.now) (sym is) served.ran;
     one_map = subst (λ (ls : List Bytes). MapDialogue (state_map start) ls served.text (state_map served.now)) (sym is)
-        (one_map (HasCause first w) kind.filter_bytes (Reached kind w) (length first.beside.said) start served.now served.lines served.text served.most served.sound served.ran);
+        (one_map (HasCause first w) kind.filter_bytes (WasStateAt kind w) (length first.beside.said) start served.now served.lines served.text served.most served.sound served.ran);
     reads = λ all. served.reads (subst AreBounded is all);
     stands = served.stand;
   }
 
-  script_now : (lines : List Bytes) → lines ≡ served.lines → Script (HasCause first w) kind.filter_bytes (Reached kind w) (length first.beside.said) start lines served.text ToLast
+  script_now : (lines : List Bytes) → lines ≡ served.lines → Script (HasCause first w) kind.filter_bytes (WasStateAt kind w) (length first.beside.said) start lines served.text ToLast
   script_now lines is =
-      subst (λ (ls : List Bytes). Script (HasCause first w) kind.filter_bytes (Reached kind w) (length first.beside.said) start ls served.text ToLast) (sym is)
-      (script_of (HasCause first w) kind.filter_bytes (Reached kind w) (length first.beside.said) start served.lines served.text served.most served.now served.ran)
+      subst (λ (ls : List Bytes). Script (HasCause first w) kind.filter_bytes (WasStateAt kind w) (length first.beside.said) start ls served.text ToLast) (sym is)
+      (script_of (HasCause first w) kind.filter_bytes (WasStateAt kind w) (length first.beside.said) start served.lines served.text served.most served.now served.ran)
 
-  crash_now : (lines : List Bytes) → lines ≡ served.lines → During (Acknowledged (HasCause first w) kind start lines first.beside.said w.beside.said) first w
-  crash_now lines is = subst (λ (ls : List Bytes). During (Acknowledged (HasCause first w) kind start ls first.beside.said w.beside.said) first w) (sym is) served.history
+  crash_now : (lines : List Bytes) → lines ≡ served.lines → During (KeepsAcknowledged (HasCause first w) kind start lines first.beside.said w.beside.said) first w
+  crash_now lines is = subst (λ (ls : List Bytes). During (KeepsAcknowledged (HasCause first w) kind start ls first.beside.said w.beside.said) first w) (sym is) served.history
 
   -- the input is cut off
-  pub settled_cut : (status : ℕ) → (status ≡ 3) ⊎ (status ≡ 9) → Settled kind status start base taken first w
+  pub settled_cut : (status : ℕ) → (status ≡ 3) ⊎ (status ≡ 9) → EndOfServe kind status start base taken first w
   settled_cut status is =
       let lines : whole_lines taken ≡ served.lines = ap whole_lines served.split ∙ whole_first served.lines served.rest served.whole served.open_end in
       record {
@@ -239,7 +239,7 @@ module _ (kind : Kind) (start : State) (base : ℕ) (taken kept : Bytes) (store 
       }
 
   -- the end of the input, with no line begun
-  pub settled_empty : w.beside.to_take ≡ [] → length kept ≡ 0 → Settled kind 0 start base taken first w
+  pub settled_empty : w.beside.to_take ≡ [] → length kept ≡ 0 → EndOfServe kind 0 start base taken first w
   settled_empty none nothing_kept =
       let empty = held_none served.rest kept served.held nothing_kept in
       let lines : lines_of taken ≡ served.lines =
@@ -260,7 +260,7 @@ module _ (kind : Kind) (start : State) (base : ℕ) (taken kept : Bytes) (store 
 
 -- ---- a last line without its newline
 
-module _ (kind : Kind) (start : State) (base : ℕ) (taken kept : Bytes) (store : Kept) (first w w' : World) (served : Served kind start base taken kept store first w)
+module _ (kind : Kind) (start : State) (base : ℕ) (taken kept : Bytes) (store : StoreValue) (first w w' : World) (served : ServeInvariant kind start base taken kept store first w)
     (some : zero < length kept) (none : w'.beside.to_take ≡ []) (counts : NoFall w w') where
   last : lines_of taken ≡ served.lines ++ served.rest ∷ []
   last = ap lines_of served.split ∙ lines_first served.lines served.rest served.whole
@@ -273,14 +273,14 @@ module _ (kind : Kind) (start : State) (base : ℕ) (taken kept : Bytes) (store 
     grown : (text : Bytes) × (w'.beside.said ≡ first.beside.said ++ text)
     grown = (served.text ++ answer.prefix.done, answer.prefix.said ∙ ap (λ (l : Bytes). l ++ answer.prefix.done) served.told ∙ append_assoc first.beside.said served.text answer.prefix.done)
 
-    crash : During (Acknowledged (HasCause first w') kind start (lines_of taken) first.beside.said w'.beside.said) first w'
-    crash = subst (λ (ls : List Bytes). During (Acknowledged (HasCause first w') kind start ls first.beside.said w'.beside.said) first w') (sym last)
+    crash : During (KeepsAcknowledged (HasCause first w') kind start (lines_of taken) first.beside.said w'.beside.said) first w'
+    crash = subst (λ (ls : List Bytes). During (KeepsAcknowledged (HasCause first w') kind start ls first.beside.said w'.beside.said) first w') (sym last)
         (history_then kind start base taken kept store first w served served.rest w' counts reply new answer)
 
     writes : WritesWithin (page_bytes * start.pages) first w'
     writes = writes_then kind start base taken kept store first w served served.rest w' counts reply new answer
 
-    said_in_part : (reply ≢ Device → Stands kind new w') → SaidInPart kind start base taken first w'
+    said_in_part : (reply ≢ Device → EachImageStandsFor kind new w') → OutputFailed kind start base taken first w'
     said_in_part stands = record {
       lines = served.lines;
       line = served.rest;
@@ -298,49 +298,49 @@ module _ (kind : Kind) (start : State) (base : ℕ) (taken kept : Bytes) (store 
       abbrev then_said : ℕ
       then_said = said_then kind start base taken kept store first w served served.rest w' counts reply new answer all
 
-      module _ (after : State) (goes : turn_of reply ≡ Onward) (between : Between (HasCause w w') kind.filter_bytes (request_of served.rest) new Onward after) (reached : Reached kind w' (length w'.beside.said) new) where
-        went_on : SoFar (HasCause first w') kind.filter_bytes (Reached kind w') (length first.beside.said) start (served.lines ++ served.rest ∷ []) (served.text ++ text_of reply) (served.most + line_bound served.now (request_of served.rest)) after
+      module _ (after : State) (goes : turn_of reply ≡ Onward) (between : Between (HasCause w w') kind.filter_bytes (request_of served.rest) new Onward after) (reached : WasStateAt kind w' (length w'.beside.said) new) where
+        went_on : AnsweredLines (HasCause first w') kind.filter_bytes (WasStateAt kind w') (length first.beside.said) start (served.lines ++ served.rest ∷ []) (served.text ++ text_of reply) (served.most + line_bound served.now (request_of served.rest)) after
         went_on = ran_on kind start base taken kept store first w served served.rest w' counts reply new answer all after goes between
             (reached_as kind start base taken kept store first w served served.rest w' counts reply new answer all reached)
 
-        said_next : Said kind ToLast start taken first w'
+        said_next : SaidWholeScript kind ToLast start taken first w'
         said_next = record {
           text = served.text ++ text_of reply;
           output = told_all;
-          script = subst (λ (ls : List Bytes). Script (HasCause first w') kind.filter_bytes (Reached kind w') (length first.beside.said) start ls (served.text ++ text_of reply) ToLast) (sym last)
-              (script_of (HasCause first w') kind.filter_bytes (Reached kind w') (length first.beside.said) start (served.lines ++ served.rest ∷ []) (served.text ++ text_of reply) _ after went_on);
+          script = subst (λ (ls : List Bytes). Script (HasCause first w') kind.filter_bytes (WasStateAt kind w') (length first.beside.said) start ls (served.text ++ text_of reply) ToLast) (sym last)
+              (script_of (HasCause first w') kind.filter_bytes (WasStateAt kind w') (length first.beside.said) start (served.lines ++ served.rest ∷ []) (served.text ++ text_of reply) _ after went_on);
           settled = inl none;
         }
 
-        leaves_next : Stands kind after w' → LeavesState kind start base (lines_of taken) first w'
+        leaves_next : EachImageStandsFor kind after w' → LeavesState kind start base (lines_of taken) first w'
         leaves_next stand = record {
           text = served.text ++ text_of reply;
           output = told_all;
           most = served.most + line_bound served.now (request_of served.rest);
           last = after;
-          so_far = subst (λ (ls : List Bytes). SoFar (HasCause first w') kind.filter_bytes (Reached kind w') (length first.beside.said) start ls (served.text ++ text_of reply) (served.most + line_bound served.now (request_of served.rest)) after)
+          so_far = subst (λ (ls : List Bytes). AnsweredLines (HasCause first w') kind.filter_bytes (WasStateAt kind w') (length first.beside.said) start ls (served.text ++ text_of reply) (served.most + line_bound served.now (request_of served.rest)) after)
               (sym last) went_on;
           one_map = subst (λ (ls : List Bytes). MapDialogue (state_map start) ls (served.text ++ text_of reply) (state_map after)) (sym last)
-              (one_map (HasCause first w') kind.filter_bytes (Reached kind w') (length first.beside.said) start after (served.lines ++ served.rest ∷ []) (served.text ++ text_of reply)
+              (one_map (HasCause first w') kind.filter_bytes (WasStateAt kind w') (length first.beside.said) start after (served.lines ++ served.rest ∷ []) (served.text ++ text_of reply)
               (served.most + line_bound served.now (request_of served.rest)) served.sound went_on);
           reads = λ all. omega (arith, reads_then kind start base taken kept store first w served served.rest w' counts reply new answer (subst AreBounded last all));
           stands = stand;
         }
 
-      said_last : (ending : Ending) → LastLine kind start base taken kept store first w served served.rest w' counts reply new answer all ending → Said kind ending start taken first w'
+      said_last : (ending : Ending) → LastLine kind start base taken kept store first w served served.rest w' counts reply new answer all ending → SaidWholeScript kind ending start taken first w'
       said_last ending is_last = record {
         text = served.text ++ text_of reply;
         output = told_all;
-        script = subst (λ (ls : List Bytes). Script (HasCause first w') kind.filter_bytes (Reached kind w') (length first.beside.said) start ls (served.text ++ text_of reply) ending) (sym last)
-            (script_ends (HasCause first w') kind.filter_bytes (Reached kind w') (length first.beside.said) start served.lines served.text served.most served.now served.rest reply new [] ending
+        script = subst (λ (ls : List Bytes). Script (HasCause first w') kind.filter_bytes (WasStateAt kind w') (length first.beside.said) start ls (served.text ++ text_of reply) ending) (sym last)
+            (script_ends (HasCause first w') kind.filter_bytes (WasStateAt kind w') (length first.beside.said) start served.lines served.text served.most served.now served.rest reply new [] ending
             (ran_then kind start base taken kept store first w served served.rest w' counts reply new answer) (step_whole kind start base taken kept store first w served served.rest w' counts reply new answer) then_said refl is_last);
         settled = inl none;
       }
 
-      ends_all : (ending : Ending) → LastLine kind start base taken kept store first w served served.rest w' counts reply new answer all ending → (turn_of reply ≢ Onward → reply ≢ Device → Stands kind new w') → EndsTo kind piece_bytes ending reply start base taken first w'
+      ends_all : (ending : Ending) → LastLine kind start base taken kept store first w served served.rest w' counts reply new answer all ending → (turn_of reply ≢ Onward → reply ≢ Device → EachImageStandsFor kind new w') → LastReplyTo kind piece_bytes ending reply start base taken first w'
       ends_all ending is_last stands = (served.lines, served.rest, inr taken_all, ends_with kind start base taken kept store first w served served.rest w' counts reply new answer all ending is_last stands)
 
-  pub settled_next : (store' : Kept) → EndsServed kind Next served.now (request_of served.rest) store' w w' → Settled kind 0 start base taken first w'
+  pub settled_next : (store' : StoreValue) → EndsServed kind Next served.now (request_of served.rest) store' w w' → EndOfServe kind 0 start base taken first w'
   settled_next store' a = record {
     serving = inl refl;
     ended = λ _. inl (said_next a.0 a.1 a.3 a.5 a.2 a.4 a.7 a.6, leaves_next a.0 a.1 a.3 a.5 a.2 a.4 a.7 a.6 a.9);
@@ -352,7 +352,7 @@ module _ (kind : Kind) (start : State) (base : ℕ) (taken kept : Bytes) (store 
     writes = writes a.0 a.1 a.3;
   }
 
-  pub settled_bye : (store' : Kept) → SaidByNow w' → EndsServed kind Quit served.now (request_of served.rest) store' w w' → Settled kind 0 start base taken first w'
+  pub settled_bye : (store' : StoreValue) → SaidByNow w' → EndsServed kind Quit served.now (request_of served.rest) store' w w' → EndOfServe kind 0 start base taken first w'
   settled_bye store' now a =
       let is_last : LastLine kind start base taken kept store first w served served.rest w' counts Bye a.0 a.1 a.2 AtQuit =
       (reached_then kind start base taken kept store first w served served.rest w' counts Bye a.0 a.1 a.2 now a.3, (refl, refl)) in
@@ -369,8 +369,8 @@ module _ (kind : Kind) (start : State) (base : ℕ) (taken kept : Bytes) (store 
 
   -- the device failed, by the reply or by the merge slice behind it
   settled_four : (status : ℕ) → status ≡ 4 → (reply : Reply) (new : State) (answer : LineAnswer kind served.now (request_of served.rest) reply new (line_bound served.now (request_of served.rest)) w w') (all : Whole reply w w')
-      → LastLine kind start base taken kept store first w served served.rest w' counts reply new answer all AtDevice → (turn_of reply ≢ Onward → reply ≢ Device → Stands kind new w')
-      → Settled kind status start base taken first w'
+      → LastLine kind start base taken kept store first w served served.rest w' counts reply new answer all AtDevice → (turn_of reply ≢ Onward → reply ≢ Device → EachImageStandsFor kind new w')
+      → EndOfServe kind status start base taken first w'
   settled_four status four reply new answer all is_last stands = record {
     serving = inr (inr (inl four));
     ended = λ e. absurd (omega (arith, four, e));
@@ -382,7 +382,7 @@ module _ (kind : Kind) (start : State) (base : ℕ) (taken kept : Bytes) (store 
     writes = writes reply new answer;
   }
 
-  pub settled_status : (status : ℕ) (store' : Kept) → EndsServed kind (End status) served.now (request_of served.rest) store' w w' → Settled kind status start base taken first w'
+  pub settled_status : (status : ℕ) (store' : StoreValue) → EndsServed kind (End status) served.now (request_of served.rest) store' w w' → EndOfServe kind status start base taken first w'
   settled_status status store' a = elim a.3 [
     | inl four ↦ settled_four status four.0 a.0 a.1 a.2 four.2 (ends_by_device kind start base taken kept store first w served served.rest w' counts a.0 a.1 a.2 four.2 four.1) (λ over other. four.3 other)
     | inr more ↦ elim more [

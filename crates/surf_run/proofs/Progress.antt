@@ -20,19 +20,19 @@ use Rattle.state_model.specs.State.{State}
 use Rattle.state_model.specs.Steps.{Step}
 use Rattle.store_commands.specs.Cutting.{NoNewline}
 use Rattle.store_core.specs.Answers.{HasCause}
-use Rattle.store_core.specs.Kept.{Kept}
-use Rattle.store_core.specs.Tied.{Tied}
+use Rattle.store_core.specs.StoreValue.{StoreValue}
+use Rattle.store_core.specs.Represents.{Represents}
 use Rattle.surf_run.specs.Answering.{LineAnswer, Whole}
 use Rattle.surf_run.specs.Causes.{NoFall, WritesWithin}
-use Rattle.surf_run.specs.Crash.{Acknowledged, Reached, Stands}
-use Rattle.surf_run.specs.Dialogue.{AreBounded, IsBounded, SoFar, line_bound}
-use Rattle.surf_run.specs.Holding.{Held, with_newline}
+use Rattle.surf_run.specs.Crash.{EachImageStandsFor, KeepsAcknowledged, WasStateAt}
+use Rattle.surf_run.specs.Dialogue.{AnsweredLines, AreBounded, IsBounded, line_bound}
+use Rattle.surf_run.specs.Holding.{PendingLine, with_newline}
 use Rattle.surf_run.specs.Kind.{Kind}
-use Rattle.surf_run.specs.Outcome.{BreaksOff, EndsWith, TakenPast}
-use Rattle.surf_run.specs.Serving.{After, AreFirst, Broken, Closed, EndsPast, Served}
+use Rattle.surf_run.specs.Outcome.{LastReply, ReplyCutOffAt, TakenPast}
+use Rattle.surf_run.specs.Serving.{AfterLine, AreFirst, EndedByReply, LastReplyPast, ReplyCutOff, ServeInvariant}
 use Rattle.surf_run.specs.Slices.{EndsServed}
-use Rattle.surf_run.specs.declared.end.LineEnd.{LineEnd}
-use Rattle.surf_run.specs.declared.end.LineEnd.TheVariants.{End, Next, Quit}
+use Rattle.surf_run.specs.declared.line_end.LineEnd.{LineEnd}
+use Rattle.surf_run.specs.declared.line_end.LineEnd.TheVariants.{End, Next, Quit}
 use Rattle.surf_run.proofs.Dialogues.{IsLast, between_as, device_last, ends_there, script_ends, slice_last, so_far_any, so_far_as, so_far_on, step_as}
 use Rattle.surf_run.proofs.EndCauses.{causes_later, causes_since, no_fall_on}
 use Rattle.surf_run.proofs.Footprint.{within_on}
@@ -43,23 +43,23 @@ use Rattle.surf_run.proofs.Texts.{held_same, lines_first, whole_on}
 
 -- ---- what a line more makes of a run, whether it had its newline or not
 
-module _ (kind : Kind) (start : State) (base : ℕ) (bytes kept : Bytes) (store : Kept) (first w : World) (served : Served kind start base bytes kept store first w) (line : Bytes)
+module _ (kind : Kind) (start : State) (base : ℕ) (bytes kept : Bytes) (store : StoreValue) (first w : World) (served : ServeInvariant kind start base bytes kept store first w) (line : Bytes)
     (w' : World) (counts : NoFall w w') (reply : Reply) (new : State) (answer : LineAnswer kind served.now (request_of line) reply new (line_bound served.now (request_of line)) w w') where
   pub step_whole : Step (HasCause first w') kind.filter_bytes served.now (request_of line) reply new
   step_whole = step_as (HasCause w w') (HasCause first w') kind.filter_bytes (causes_since first w w' served.counts) served.now (request_of line) reply new answer.step
 
-  pub history_then : During (Acknowledged (HasCause first w') kind start (served.lines ++ line ∷ []) first.beside.said w'.beside.said) first w'
+  pub history_then : During (KeepsAcknowledged (HasCause first w') kind start (served.lines ++ line ∷ []) first.beside.said w'.beside.said) first w'
   history_then =
-      let went = so_far_any (HasCause first w') kind.filter_bytes (Reached kind w) (length first.beside.said) 0 start served.lines served.text served.most served.now
-      (so_far_as (HasCause first w) (HasCause first w') kind.filter_bytes (Reached kind w) (Reached kind w) (causes_later first w w' counts) (λ n s r. r) (length first.beside.said) start served.lines served.text served.most served.now served.ran) in
+      let went = so_far_any (HasCause first w') kind.filter_bytes (WasStateAt kind w) (length first.beside.said) 0 start served.lines served.text served.most served.now
+      (so_far_as (HasCause first w) (HasCause first w') kind.filter_bytes (WasStateAt kind w) (WasStateAt kind w) (causes_later first w w' counts) (λ n s r. r) (length first.beside.said) start served.lines served.text served.most served.now served.ran) in
       during_then _ first w w'
       (during_weaker _ _ first w served.history
       (ack_more (HasCause first w) (HasCause first w') (causes_later first w w' counts) kind start served.lines (line ∷ []) first.beside.said w.beside.said w'.beside.said answer.prefix.done answer.prefix.said))
       (during_weaker _ _ w w' answer.each
       (line_ack (HasCause first w') kind start (HasCause w w') (causes_since first w w' served.counts) served.lines line served.text served.most served.now reply new first w w' went served.told answer.prefix answer.step))
 
-  pub ran_then : SoFar (HasCause first w') kind.filter_bytes (Reached kind w') (length first.beside.said) start served.lines served.text served.most served.now
-  ran_then = so_far_as (HasCause first w) (HasCause first w') kind.filter_bytes (Reached kind w) (Reached kind w') (causes_later first w w' counts) (reached_on kind _ w w' answer.each)
+  pub ran_then : AnsweredLines (HasCause first w') kind.filter_bytes (WasStateAt kind w') (length first.beside.said) start served.lines served.text served.most served.now
+  ran_then = so_far_as (HasCause first w) (HasCause first w') kind.filter_bytes (WasStateAt kind w) (WasStateAt kind w') (causes_later first w w' counts) (reached_on kind _ w w' answer.each)
       (length first.beside.said) start served.lines served.text served.most served.now served.ran
 
   pub reads_then : AreBounded (served.lines ++ line ∷ []) → w'.seen.reads ≤ base + served.most + line_bound served.now (request_of line)
@@ -73,13 +73,13 @@ module _ (kind : Kind) (start : State) (base : ℕ) (bytes kept : Bytes) (store 
   pub writes_then : WritesWithin (page_bytes * start.pages) first w'
   writes_then = within_on (page_bytes * start.pages) first w w' served.writes (subst (λ (n : ℕ). WritesWithin (page_bytes * n) w w') served.pages answer.writes)
 
-  pub breaks_off : (reply ≢ Device → Stands kind new w') → BreaksOff kind start base served.lines line first w'
+  pub breaks_off : (reply ≢ Device → EachImageStandsFor kind new w') → ReplyCutOffAt kind start base served.lines line first w'
   breaks_off stands = record {
     text = served.text;
     most = served.most;
     now = served.now;
     so_far = ran_then;
-    one_map = one_map (HasCause first w') kind.filter_bytes (Reached kind w') (length first.beside.said) start served.now served.lines served.text served.most served.sound ran_then;
+    one_map = one_map (HasCause first w') kind.filter_bytes (WasStateAt kind w') (length first.beside.said) start served.now served.lines served.text served.most served.sound ran_then;
     reply = reply;
     last = new;
     step = step_whole;
@@ -99,41 +99,41 @@ module _ (kind : Kind) (start : State) (base : ℕ) (bytes kept : Bytes) (store 
     said_is : length w'.beside.said ≡ said_then
     said_is = omega (arith, ap length told_then, length-append first.beside.said (served.text ++ text_of reply), length-append served.text (text_of reply))
 
-    pub reached_then : SaidByNow w' → Stands kind new w' → Reached kind w' said_then new
+    pub reached_then : SaidByNow w' → EachImageStandsFor kind new w' → WasStateAt kind w' said_then new
     reached_then said_now stand = reached_here kind w' new said_then said_now said_is stand
 
-    pub reached_as : Reached kind w' (length w'.beside.said) new → Reached kind w' said_then new
-    reached_as reached = subst (λ (n : ℕ). Reached kind w' n new) said_is reached
+    pub reached_as : WasStateAt kind w' (length w'.beside.said) new → WasStateAt kind w' said_then new
+    reached_as reached = subst (λ (n : ℕ). WasStateAt kind w' n new) said_is reached
 
     -- the merge slice behind the line, as one of the whole run
     pub between_whole : (turn : Turn) (after : State) → Between (HasCause w w') kind.filter_bytes (request_of line) new turn after → Between (HasCause first w') kind.filter_bytes (request_of line) new turn after
     between_whole turn after between =
         between_as (HasCause w w') (HasCause first w') kind.filter_bytes (causes_since first w w' served.counts) new turn after (request_of line) between
 
-    pub ran_on : (after : State) → turn_of reply ≡ Onward → Between (HasCause w w') kind.filter_bytes (request_of line) new Onward after → Reached kind w' said_then new
-        → SoFar (HasCause first w') kind.filter_bytes (Reached kind w') (length first.beside.said) start (served.lines ++ line ∷ []) (served.text ++ text_of reply) (served.most + line_bound served.now (request_of line)) after
+    pub ran_on : (after : State) → turn_of reply ≡ Onward → Between (HasCause w w') kind.filter_bytes (request_of line) new Onward after → WasStateAt kind w' said_then new
+        → AnsweredLines (HasCause first w') kind.filter_bytes (WasStateAt kind w') (length first.beside.said) start (served.lines ++ line ∷ []) (served.text ++ text_of reply) (served.most + line_bound served.now (request_of line)) after
     ran_on after goes between reached =
-        so_far_on (HasCause first w') kind.filter_bytes (Reached kind w') (length first.beside.said) start served.lines served.text served.most served.now line reply new after ran_then step_whole goes
+        so_far_on (HasCause first w') kind.filter_bytes (WasStateAt kind w') (length first.beside.said) start served.lines served.text served.most served.now line reply new after ran_then step_whole goes
         (between_whole Onward after between) said_then refl reached
 
     -- this was the last line
     abbrev pub LastLine : Ending → Type 0
-    LastLine ending = IsLast (HasCause first w') kind.filter_bytes (request_of line) reply new ending (Reached kind w' said_then new)
+    LastLine ending = IsLast (HasCause first w') kind.filter_bytes (request_of line) reply new ending (WasStateAt kind w' said_then new)
 
     pub ends_by_device : turn_of reply ≡ Over AtDevice → LastLine AtDevice
     ends_by_device is = device_last (HasCause first w') kind.filter_bytes (request_of line) reply new _ is
 
-    pub ends_by_slice : turn_of reply ≡ Onward → Reached kind w' (length w'.beside.said) new → (after : State) → Between (HasCause w w') kind.filter_bytes (request_of line) new (Over AtDevice) after → LastLine AtDevice
+    pub ends_by_slice : turn_of reply ≡ Onward → WasStateAt kind w' (length w'.beside.said) new → (after : State) → Between (HasCause w w') kind.filter_bytes (request_of line) new (Over AtDevice) after → LastLine AtDevice
     ends_by_slice goes reached after between =
         slice_last (HasCause first w') kind.filter_bytes (request_of line) reply new _ goes (reached_as reached) after (between_whole (Over AtDevice) after between)
 
-    pub ends_with : (ending : Ending) → LastLine ending → (turn_of reply ≢ Onward → reply ≢ Device → Stands kind new w') → EndsWith kind ending reply start base served.lines line first w'
+    pub ends_with : (ending : Ending) → LastLine ending → (turn_of reply ≢ Onward → reply ≢ Device → EachImageStandsFor kind new w') → LastReply kind ending reply start base served.lines line first w'
     ends_with ending last stands = record {
       text = served.text;
       most = served.most;
       now = served.now;
       so_far = ran_then;
-      one_map = one_map (HasCause first w') kind.filter_bytes (Reached kind w') (length first.beside.said) start served.now served.lines served.text served.most served.sound ran_then;
+      one_map = one_map (HasCause first w') kind.filter_bytes (WasStateAt kind w') (length first.beside.said) start served.now served.lines served.text served.most served.sound ran_then;
       last = new;
       step = step_whole;
       there = ends_there (HasCause first w') kind.filter_bytes line reply new ending _ last;
@@ -145,12 +145,12 @@ module _ (kind : Kind) (start : State) (base : ℕ) (bytes kept : Bytes) (store 
 
 -- ---- a line with its newline
 
-module _ (kind : Kind) (start : State) (base : ℕ) (bytes kept : Bytes) (store : Kept) (first w : World) (served : Served kind start base bytes kept store first w) (part : Bytes) (no_newline : NoNewline part) where
+module _ (kind : Kind) (start : State) (base : ℕ) (bytes kept : Bytes) (store : StoreValue) (first w : World) (served : ServeInvariant kind start base bytes kept store first w) (part : Bytes) (no_newline : NoNewline part) where
   open_end : NoNewline (served.rest ++ part)
   open_end = All-append (λ (b : ℕ). (b == 10) ≡ false) served.rest part served.open_end no_newline
 
   -- a part that ends no line
-  pub part_more : (kept' : Bytes) → Held (served.rest ++ part) kept' → Served kind start base (bytes ++ part) kept' store first w
+  pub part_more : (kept' : Bytes) → PendingLine (served.rest ++ part) kept' → ServeInvariant kind start base (bytes ++ part) kept' store first w
   part_more kept' held = record {
     lines = served.lines;
     rest = served.rest ++ part;
@@ -195,9 +195,9 @@ module _ (kind : Kind) (start : State) (base : ℕ) (bytes kept : Bytes) (store 
 
   module _ (w' : World) (counts : NoFall w w') (reply : Reply) (new : State) (answer : LineAnswer kind served.now (request_of (served.rest ++ part)) reply new (line_bound served.now (request_of (served.rest ++ part))) w w') where
     module _ (all : Whole reply w w') where
-      pub next_line : (after : State) (kept' : Bytes) (store' : Kept) → turn_of reply ≡ Onward → Reached kind w' (length w'.beside.said) new
-          → Between (HasCause w w') kind.filter_bytes (request_of (served.rest ++ part)) new Onward after → Tied kind.spelling kind.filter_bytes store' after w' → Stands kind after w' → kept' ≡ []
-          → Served kind start base (bytes ++ part ++ 10 ∷ []) kept' store' first w'
+      pub next_line : (after : State) (kept' : Bytes) (store' : StoreValue) → turn_of reply ≡ Onward → WasStateAt kind w' (length w'.beside.said) new
+          → Between (HasCause w w') kind.filter_bytes (request_of (served.rest ++ part)) new Onward after → Represents kind.spelling kind.filter_bytes store' after w' → EachImageStandsFor kind after w' → kept' ≡ []
+          → ServeInvariant kind start base (bytes ++ part ++ 10 ∷ []) kept' store' first w'
       next_line after kept' store' goes reached between tied stand cleared = record {
         lines = served.lines ++ (served.rest ++ part) ∷ [];
         rest = [];
@@ -222,15 +222,15 @@ module _ (kind : Kind) (start : State) (base : ℕ) (bytes kept : Bytes) (store 
       }
 
       pub last_line : (ending : Ending) → LastLine kind start base bytes kept store first w served (served.rest ++ part) w' counts reply new answer all ending
-          → Closed kind ending start (bytes ++ part ++ 10 ∷ []) first w'
+          → EndedByReply kind ending start (bytes ++ part ++ 10 ∷ []) first w'
       last_line ending last = record {
         lines = served.lines ++ (served.rest ++ part) ∷ [];
         first_lines = first_lines;
         text = served.text ++ text_of reply;
         told = told_then kind start base bytes kept store first w served (served.rest ++ part) w' counts reply new answer all;
-        script = λ more. subst (λ (ls : List Bytes). Script (HasCause first w') kind.filter_bytes (Reached kind w') (length first.beside.said) start ls (served.text ++ text_of reply) ending)
+        script = λ more. subst (λ (ls : List Bytes). Script (HasCause first w') kind.filter_bytes (WasStateAt kind w') (length first.beside.said) start ls (served.text ++ text_of reply) ending)
             (sym (cut more ∙ append_assoc served.lines ((served.rest ++ part) ∷ []) (lines_of more)))
-            (script_ends (HasCause first w') kind.filter_bytes (Reached kind w') (length first.beside.said) start served.lines served.text served.most served.now (served.rest ++ part) reply new (lines_of more) ending
+            (script_ends (HasCause first w') kind.filter_bytes (WasStateAt kind w') (length first.beside.said) start served.lines served.text served.most served.now (served.rest ++ part) reply new (lines_of more) ending
             (ran_then kind start base bytes kept store first w served (served.rest ++ part) w' counts reply new answer)
             (step_whole kind start base bytes kept store first w served (served.rest ++ part) w' counts reply new answer)
             (said_then kind start base bytes kept store first w served (served.rest ++ part) w' counts reply new answer all) refl last);
@@ -238,12 +238,12 @@ module _ (kind : Kind) (start : State) (base : ℕ) (bytes kept : Bytes) (store 
         writes = writes_then kind start base bytes kept store first w served (served.rest ++ part) w' counts reply new answer;
       }
 
-      pub ends_past : (ending : Ending) → LastLine kind start base bytes kept store first w served (served.rest ++ part) w' counts reply new answer all ending → (turn_of reply ≢ Onward → reply ≢ Device → Stands kind new w')
-          → EndsPast kind 1 ending reply start base (bytes ++ part ++ 10 ∷ []) first w'
+      pub ends_past : (ending : Ending) → LastLine kind start base bytes kept store first w served (served.rest ++ part) w' counts reply new answer all ending → (turn_of reply ≢ Onward → reply ≢ Device → EachImageStandsFor kind new w')
+          → LastReplyPast kind 1 ending reply start base (bytes ++ part ++ 10 ∷ []) first w'
       ends_past ending last stands =
           (served.lines, served.rest ++ part, taken_past, ends_with kind start base bytes kept store first w served (served.rest ++ part) w' counts reply new answer all ending last stands)
 
-    pub broken_line : (reply ≢ Device → Stands kind new w') → Broken kind 1 start base (bytes ++ part ++ 10 ∷ []) first w'
+    pub broken_line : (reply ≢ Device → EachImageStandsFor kind new w') → ReplyCutOff kind 1 start base (bytes ++ part ++ 10 ∷ []) first w'
     broken_line stands = record {
       lines = served.lines;
       line = served.rest ++ part;
@@ -253,8 +253,8 @@ module _ (kind : Kind) (start : State) (base : ℕ) (bytes kept : Bytes) (store 
       writes = writes_then kind start base bytes kept store first w served (served.rest ++ part) w' counts reply new answer;
     }
 
-  pub line_end : (w' : World) (end : LineEnd) (store' : Kept) (kept' : Bytes) → SaidByNow w' → NoFall w w' → EndsServed kind end served.now (request_of (served.rest ++ part)) store' w w' → kept' ≡ []
-      → After kind 1 end start base (bytes ++ part ++ 10 ∷ []) kept' store' first w'
+  pub line_end : (w' : World) (end : LineEnd) (store' : StoreValue) (kept' : Bytes) → SaidByNow w' → NoFall w w' → EndsServed kind end served.now (request_of (served.rest ++ part)) store' w w' → kept' ≡ []
+      → AfterLine kind 1 end start base (bytes ++ part ++ 10 ∷ []) kept' store' first w'
   line_end w' Next store' kept' said_now counts a cleared = next_line w' counts a.0 a.1 a.3 a.5 a.2 kept' store' a.4 a.6 a.7 a.8 a.9 cleared
   line_end w' Quit store' kept' said_now counts a cleared =
       let last : LastLine kind start base bytes kept store first w served (served.rest ++ part) w' counts Bye a.0 a.1 a.2 AtQuit =
@@ -278,13 +278,13 @@ first_more : (bytes more : Bytes) (lines : List Bytes) → AreFirst bytes lines 
 first_more bytes more lines are rest =
     let later = are (more ++ rest) in (later.0, later.1, ap lines_of (append_assoc bytes more rest) ∙ later.2, ap whole_lines (append_assoc bytes more rest) ∙ later.3)
 
-closed_more : (kind : Kind) (ending : Ending) (start : State) (bytes more : Bytes) (first w : World) → Closed kind ending start bytes first w → Closed kind ending start (bytes ++ more) first w
+closed_more : (kind : Kind) (ending : Ending) (start : State) (bytes more : Bytes) (first w : World) → EndedByReply kind ending start bytes first w → EndedByReply kind ending start (bytes ++ more) first w
 closed_more kind ending start bytes more first w closed = record {
   lines = closed.lines;
   first_lines = first_more bytes more closed.lines closed.first_lines;
   text = closed.text;
   told = closed.told;
-  script = λ rest. subst (λ (l : Bytes). Script (HasCause first w) kind.filter_bytes (Reached kind w) (length first.beside.said) start (lines_of l) closed.text ending) (sym (append_assoc bytes more rest)) (closed.script (more ++ rest));
+  script = λ rest. subst (λ (l : Bytes). Script (HasCause first w) kind.filter_bytes (WasStateAt kind w) (length first.beside.said) start (lines_of l) closed.text ending) (sym (append_assoc bytes more rest)) (closed.script (more ++ rest));
   history = closed.history;
   writes = closed.writes;
 }
@@ -300,12 +300,12 @@ past_more least most bytes more lines fits past = record {
 pub past_wider : (least most : ℕ) (bytes : Bytes) (lines : List Bytes) → least ≤ most → TakenPast least bytes lines → TakenPast most bytes lines
 past_wider least most bytes lines fits past = record { whole = past.whole; behind = past.behind; split = past.split; less = omega (arith, past.less, fits) }
 
-ends_more : (kind : Kind) (least most : ℕ) (ending : Ending) (reply : Reply) (start : State) (base : ℕ) (bytes more : Bytes) (first w : World) → least + length more ≤ most → EndsPast kind least ending reply start base bytes first w
-    → EndsPast kind most ending reply start base (bytes ++ more) first w
+ends_more : (kind : Kind) (least most : ℕ) (ending : Ending) (reply : Reply) (start : State) (base : ℕ) (bytes more : Bytes) (first w : World) → least + length more ≤ most → LastReplyPast kind least ending reply start base bytes first w
+    → LastReplyPast kind most ending reply start base (bytes ++ more) first w
 ends_more kind least most ending reply start base bytes more first w fits ends = (ends.0, ends.1, past_more least most bytes more (ends.0 ++ ends.1 ∷ []) fits ends.2, ends.3)
 
-broken_more : (kind : Kind) (least most : ℕ) (start : State) (base : ℕ) (bytes more : Bytes) (first w : World) → least + length more ≤ most → Broken kind least start base bytes first w
-    → Broken kind most start base (bytes ++ more) first w
+broken_more : (kind : Kind) (least most : ℕ) (start : State) (base : ℕ) (bytes more : Bytes) (first w : World) → least + length more ≤ most → ReplyCutOff kind least start base bytes first w
+    → ReplyCutOff kind most start base (bytes ++ more) first w
 broken_more kind least most start base bytes more first w fits broken = record {
   lines = broken.lines;
   line = broken.line;
@@ -315,8 +315,8 @@ broken_more kind least most start base bytes more first w fits broken = record {
   writes = broken.writes;
 }
 
-pub after_more : (kind : Kind) (least most : ℕ) (end : LineEnd) (start : State) (base : ℕ) (bytes more kept : Bytes) (store : Kept) (first w : World) → least + length more ≤ most → (end ≡ Next → ⊥)
-    → After kind least end start base bytes kept store first w → After kind most end start base (bytes ++ more) kept store first w
+pub after_more : (kind : Kind) (least most : ℕ) (end : LineEnd) (start : State) (base : ℕ) (bytes more kept : Bytes) (store : StoreValue) (first w : World) → least + length more ≤ most → (end ≡ Next → ⊥)
+    → AfterLine kind least end start base bytes kept store first w → AfterLine kind most end start base (bytes ++ more) kept store first w
 after_more kind least most Next start base bytes more kept store first w fits not_next after = absurd (not_next refl)
 after_more kind least most Quit start base bytes more kept store first w fits not_next after =
     (closed_more kind AtQuit start bytes more first w after.0, ends_more kind least most AtQuit Bye start base bytes more first w fits after.1)

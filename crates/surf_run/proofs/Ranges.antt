@@ -25,19 +25,19 @@ use Rattle.line_model.specs.Limits.{limit_of}
 use Rattle.store_core.proofs.ScanCounts.{none_behind}
 use Rattle.store_core.specs.Answers.{HasCause, told}
 use Rattle.store_core.specs.Getting.{IsUndamaged}
-use Rattle.store_core.specs.Kept.{Kept}
+use Rattle.store_core.specs.StoreValue.{StoreValue}
 use Rattle.store_core.specs.Scans.{IsStepFault}
-use Rattle.store_core.specs.Tied.{Tied}
+use Rattle.store_core.specs.Represents.{Represents}
 use Rattle.store_core.specs.declared.error.StoreError.{StoreError}
 use Rattle.store_core.specs.declared.error.StoreError.TheVariants as error
 use Rattle.surf_run.specs.Answering.{EndsLine, LineAnswer}
 use Rattle.surf_run.specs.Causes.{LineMoves}
-use Rattle.surf_run.specs.Crash.{Stands}
+use Rattle.surf_run.specs.Crash.{EachImageStandsFor}
 use Rattle.surf_run.specs.Dialogue.{IsBounded, reply_bound}
 use Rattle.surf_run.specs.Kind.{Kind}
 use Rattle.surf_run.specs.Saying.{SaysBehind, end_by}
-use Rattle.surf_run.specs.declared.end.LineEnd.{LineEnd}
-use Rattle.surf_run.specs.declared.end.LineEnd.TheVariants.{End, Next}
+use Rattle.surf_run.specs.declared.line_end.LineEnd.{LineEnd}
+use Rattle.surf_run.specs.declared.line_end.LineEnd.TheVariants.{End, Next}
 use Rattle.surf_run.proofs.Calms.{asked_step}
 use Rattle.surf_run.proofs.EndCauses.{line_read, line_say, lines_none, lines_on, no_fall_say, rose_since, rose_then}
 use Rattle.surf_run.proofs.Footprint.{within_still}
@@ -158,16 +158,16 @@ below_most left most n is few more = by_test (nat_lt n most) refl
 
 -- ---- what such a line leads to
 
-module _ (kind : Kind) (s : State) (request : Request) (store : Kept) (a b : World) (few : store.manifest.slot ≤ 1) (tied : Tied kind.spelling kind.filter_bytes store s a) (walked : Walked a b)
+module _ (kind : Kind) (s : State) (request : Request) (store : StoreValue) (a b : World) (few : store.manifest.slot ≤ 1) (tied : Represents kind.spelling kind.filter_bytes store s a) (walked : Walked a b)
     (never : IsBounded request → ⊥) (reply : Reply) (step : Step (HasCause a b) kind.filter_bytes s request reply s) (done rest : Bytes) (split : text_of reply ≡ done ++ rest)
     (said : b.beside.said ≡ a.beside.said ++ done) where
-  stand : Stands kind s a
+  stand : EachImageStandsFor kind s a
   stand = tied_stands kind store s a few tied
 
-  stand_now : Stands kind s b
+  stand_now : EachImageStandsFor kind s b
   stand_now = stands_still kind s a b walked.time stand
 
-  tied_now : Tied kind.spelling kind.filter_bytes store s b
+  tied_now : Represents kind.spelling kind.filter_bytes store s b
   tied_now = tied_still kind.spelling kind.filter_bytes store s a b walked.time tied
 
   answer : LineAnswer kind s request reply s (reply_bound s request) a b
@@ -203,7 +203,7 @@ one_waits n m pair is first so_far now waits same said =
     ap (λ (l : Bytes). l ++ (waits ++ pair_text pair)) same ∙ sym (append_assoc so_far waits (pair_text pair)) ∙ ap (λ (l : Bytes). l ++ pair_text pair) said
     ∙ append_assoc first (pairs_text (take n m)) (pair_text pair) ∙ ap (λ (l : Bytes). first ++ l) (sym (one_said n m pair is))
 
-module _ (kind : Kind) (s : State) (lo hi : Bytes) (most : ℕ) (store : Kept) (result : LineEnd) (a w mid b : World) (few : store.manifest.slot ≤ 1) (tied : Tied kind.spelling kind.filter_bytes store s a)
+module _ (kind : Kind) (s : State) (lo hi : Bytes) (most : ℕ) (store : StoreValue) (result : LineEnd) (a w mid b : World) (few : store.manifest.slot ≤ 1) (tied : Represents kind.spelling kind.filter_bytes store s a)
     (walked : Walked a w) (moves : OnlyReads w mid) (now_w : SaidByNow w) (now_mid : SaidByNow mid) (say : SayMoves mid b) (within : limit_of (Range lo hi most) ≡ None) where
   abbrev all : Map
   all = slice (state_map s) lo (Some hi) most

@@ -17,10 +17,10 @@ use Rattle.state_model.specs.State.{State}
 use Rattle.state_model.specs.Steps.{Reads, Step, TakesMemory, left_by, no_memory, read_failed, said_before}
 use Rattle.store_core.specs.Answers.{HasCause, told}
 use Rattle.store_core.specs.Getting.{IsMet, IsUndamaged}
-use Rattle.store_core.specs.Kept.{Kept}
+use Rattle.store_core.specs.StoreValue.{StoreValue}
 use Rattle.store_core.specs.Counts.{IsCountRefusal}
 use Rattle.store_core.specs.Scans.{IsScanRefusal, MayRead}
-use Rattle.store_core.specs.Tied.{Tied}
+use Rattle.store_core.specs.Represents.{Represents}
 use Rattle.store_core.specs.declared.error.Limit.TheVariants as limit
 use Rattle.store_core.specs.declared.error.StoreError.{StoreError}
 use Rattle.store_core.specs.declared.error.StoreError.TheVariants as error
@@ -30,8 +30,8 @@ use Rattle.surf_run.specs.Dialogue.{IsBounded, reply_bound}
 use Rattle.surf_run.specs.Kind.{Kind}
 use Rattle.surf_run.specs.Refusals.{end_of_refusal}
 use Rattle.surf_run.specs.Saying.{Says, end_by}
-use Rattle.surf_run.specs.declared.end.LineEnd.{LineEnd}
-use Rattle.surf_run.specs.declared.end.LineEnd.TheVariants.{End, Next}
+use Rattle.surf_run.specs.declared.line_end.LineEnd.{LineEnd}
+use Rattle.surf_run.specs.declared.line_end.LineEnd.TheVariants.{End, Next}
 use Rattle.surf_run.proofs.Calms.{limited_step, runs_any, status_of, still_device, still_next}
 use Rattle.surf_run.proofs.EndCauses.{line_read, line_say, lines_on, rose_since, rose_then}
 use Rattle.surf_run.proofs.Footprint.{within_still}
@@ -109,9 +109,9 @@ module _ (Shows : World → Type 0) (broken : Option Reply) (why : StoreError) (
 
 -- ---- what such a line leads to: blocks are read, and then the reply is said
 
-module _ (kind : Kind) (request : Request) (store : Kept) (result : LineEnd) (a mid b : World) (moves : OnlyReads a mid) (now_a : SaidByNow a) (now_mid : SaidByNow mid) (say : SayMoves mid b) where
+module _ (kind : Kind) (request : Request) (store : StoreValue) (result : LineEnd) (a mid b : World) (moves : OnlyReads a mid) (now_a : SaidByNow a) (now_mid : SaidByNow mid) (say : SayMoves mid b) where
   module _ (tells tells_output : Bool) (runs : store.stopped ≡ false) where
-    pub scan_answers : ((s : State) → IsTrue tells → IsTrue tells_output → Tied kind.spelling kind.filter_bytes store s a → EndsLine kind result s request store a b)
+    pub scan_answers : ((s : State) → IsTrue tells → IsTrue tells_output → Represents kind.spelling kind.filter_bytes store s a → EndsLine kind result s request store a b)
         → EndCause (LineShows (IsTrue tells × IsTrue tells_output) store.tables request) result a b → AnswersLine kind tells tells_output request result store store a b
     scan_answers answered cause = record {
       answered = answered;
@@ -120,8 +120,8 @@ module _ (kind : Kind) (request : Request) (store : Kept) (result : LineEnd) (a 
       moves = lines_on a mid b (line_read moves.0 a mid moves.1) (line_say mid b say);
     }
 
-  module _ (s : State) (few : store.manifest.slot ≤ 1) (tied : Tied kind.spelling kind.filter_bytes store s a) (reads : IsBounded request → mid.seen.reads ≤ a.seen.reads + reply_bound s request) where
-    held : Tied kind.spelling kind.filter_bytes store s mid
+  module _ (s : State) (few : store.manifest.slot ≤ 1) (tied : Represents kind.spelling kind.filter_bytes store s a) (reads : IsBounded request → mid.seen.reads ≤ a.seen.reads + reply_bound s request) where
+    held : Represents kind.spelling kind.filter_bytes store s mid
     held = tied_still kind.spelling kind.filter_bytes store s a mid moves.1.time tied
 
     pub scan_next : (reply : Reply) → Step (HasCause a mid) kind.filter_bytes s request reply s → turn_of reply ≡ Onward → Says Next reply result mid b → EndsLine kind result s request store a b

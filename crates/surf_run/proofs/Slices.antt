@@ -15,15 +15,15 @@ use Rattle.state_model.specs.PlayLaws.{has_slice}
 use Rattle.state_model.specs.Script.{AtDevice, Between, Onward, Over, Turn, turn_of}
 use Rattle.state_model.specs.State.{State}
 use Rattle.store_core.specs.Answers.{HasCause}
-use Rattle.store_core.specs.Kept.{Kept}
+use Rattle.store_core.specs.StoreValue.{StoreValue}
 use Rattle.surf_run.specs.Answering.{AnswersLine, EndsLine, InLine, LineAnswer, RunsOn, SaysOnward, Whole}
 use Rattle.surf_run.specs.Causes.{EndCause, EndsOnward, LineMoves, LineShows, NoFall, ServedShows, SliceShows, WritesWithin}
-use Rattle.surf_run.specs.Crash.{HasMap, Reached}
+use Rattle.surf_run.specs.Crash.{HasMap, WasStateAt}
 use Rattle.surf_run.specs.Dialogue.{IsBounded, line_bound, reply_bound, slice_blocks, slice_bound}
 use Rattle.surf_run.specs.Kind.{Kind}
 use Rattle.surf_run.specs.Slices.{EndsServed, EndsSlice, MakesSlice, ServesLine, SliceMade}
-use Rattle.surf_run.specs.declared.end.LineEnd.{LineEnd}
-use Rattle.surf_run.specs.declared.end.LineEnd.TheVariants.{End, Next, Quit}
+use Rattle.surf_run.specs.declared.line_end.LineEnd.{LineEnd}
+use Rattle.surf_run.specs.declared.line_end.LineEnd.TheVariants.{End, Next, Quit}
 use Rattle.surf_run.proofs.Dialogues.{between_made, between_none, step_as, tend_as}
 use Rattle.surf_run.proofs.EndCauses.{cause_as, cause_since, causes_later, causes_since, lines_on}
 use Rattle.surf_run.proofs.Footprint.{within_on}
@@ -72,7 +72,7 @@ module _ (kind : Kind) (old : State) (request : Request) (reply : Reply) (new : 
     writes = answer.writes;
   }
 
-module _ (kind : Kind) (old : State) (request : Request) (store : Kept) (a b : World) (now : SaidByNow b) where
+module _ (kind : Kind) (old : State) (request : Request) (store : StoreValue) (a b : World) (now : SaidByNow b) where
   -- with the last reply, or behind a request that has no slice
   pub served_end : (status : ℕ) → EndsLine kind (End status) old request store a b → EndsServed kind (End status) old request store a b
   served_end status ends = (
@@ -107,7 +107,7 @@ module _ (kind : Kind) (old : State) (request : Request) (store : Kept) (a b : W
   served_alone Quit none ends = served_quit ends
   served_alone (End status) none ends = served_end status ends
 
-module _ (kind : Kind) (tells tells_output : Bool) (request : Request) (end : LineEnd) (store new : Kept) (a b : World) (now : SaidByNow b) where
+module _ (kind : Kind) (tells tells_output : Bool) (request : Request) (end : LineEnd) (store new : StoreValue) (a b : World) (now : SaidByNow b) where
   pub serves_alone : (end ≡ Next → has_slice request ≡ false) → AnswersLine kind tells tells_output request end store new a b → ServesLine kind tells tells_output request end store new a b
   serves_alone none answers = record {
     served = λ s tell output tied. served_alone kind s request new a b now end none (answers.answered s tell output tied);
@@ -155,13 +155,13 @@ module _ (kind : Kind) (old : State) (request : Request) (has : has_slice reques
   whole_with_slice = said_same ∙ whole
 
   -- as the reply had been said its state stood
-  pub reached_with_slice : Reached kind mid (length mid.beside.said) new → Reached kind b (length b.beside.said) new
+  pub reached_with_slice : WasStateAt kind mid (length mid.beside.said) new → WasStateAt kind b (length b.beside.said) new
   reached_with_slice reached =
-      subst (λ (s : List ℕ). Reached kind b (length s) new) (sym said_same) (reached_on kind _ mid b slicing (length mid.beside.said) new reached)
+      subst (λ (s : List ℕ). WasStateAt kind b (length s) new) (sym said_same) (reached_on kind _ mid b slicing (length mid.beside.said) new reached)
 
 -- ---- how the line ends then
 
-module _ (kind : Kind) (old : State) (request : Request) (has : has_slice request ≡ true) (between store : Kept) (a mid b : World) (now_mid : SaidByNow mid) (since : NoFall a mid) (falls : NoFall mid b)
+module _ (kind : Kind) (old : State) (request : Request) (has : has_slice request ≡ true) (between store : StoreValue) (a mid b : World) (now_mid : SaidByNow mid) (since : NoFall a mid) (falls : NoFall mid b)
     (silent : b.beside ≡ mid.beside) (ends : EndsLine kind Next old request between a mid) where
   module _ (crash : Meanwhile (HasMap kind ends.1) mid b) (reads : b.seen.reads ≤ mid.seen.reads + slice_blocks) (writes : WritesWithin (page_bytes * ends.1.pages) mid b) where
     answer : LineAnswer kind old request ends.0 ends.1 (line_bound old request) a b
@@ -170,7 +170,7 @@ module _ (kind : Kind) (old : State) (request : Request) (has : has_slice reques
     whole : Whole ends.0 a b
     whole = whole_with_slice kind old request has ends.0 ends.1 a mid b ends.2 ends.4 now_mid silent falls crash reads writes
 
-    reached : Reached kind b (length b.beside.said) ends.1
+    reached : WasStateAt kind b (length b.beside.said) ends.1
     reached = reached_with_slice kind old request has ends.0 ends.1 a mid b ends.2 ends.4 now_mid silent falls crash reads writes
         (reached_here kind mid ends.1 (length mid.beside.said) now_mid refl ends.6)
 
@@ -208,7 +208,7 @@ module _ (kind : Kind) (old : State) (request : Request) (has : has_slice reques
   pub served_made : (end : LineEnd) → SliceMade kind end ends.1 store mid b → EndsServed kind end old request store a b
   served_made end made = served_by made.crash made.reads made.writes end made.ends
 
-module _ (kind : Kind) (tells tells_output : Bool) (request : Request) (has : has_slice request ≡ true) (end : LineEnd) (store between new : Kept) (a mid b : World) (now_mid : SaidByNow mid)
+module _ (kind : Kind) (tells tells_output : Bool) (request : Request) (has : has_slice request ≡ true) (end : LineEnd) (store between new : StoreValue) (a mid b : World) (now_mid : SaidByNow mid)
     (answers : AnswersLine kind tells tells_output request Next store between a mid) (onward : IsTrue tells_output → SaysOnward a mid) (slice : MakesSlice kind tells end between new mid b) where
   slice_moves : LineMoves mid b
   slice_moves = record { input = ap (λ (s : Streams). s.to_take) slice.silent; counts = slice.counts }

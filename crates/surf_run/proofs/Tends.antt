@@ -10,9 +10,9 @@ use Rattle.state_model.specs.State.{State}
 use Rattle.state_model.specs.Tends.{Idle, Refused, Tend, Tended, Worked}
 use Rattle.state_model.specs.Tends as model
 use Rattle.store_core.specs.Answers.{HasCause, stopped_by}
-use Rattle.store_core.specs.Kept.{Kept}
+use Rattle.store_core.specs.StoreValue.{StoreValue}
 use Rattle.store_core.specs.Scans.{IsScanShown}
-use Rattle.store_core.specs.Tied.{Tied}
+use Rattle.store_core.specs.Represents.{Represents}
 use Rattle.store_core.specs.declared.error.Limit.TheVariants as limit
 use Rattle.store_core.specs.declared.error.StoreError.{StoreError}
 use Rattle.store_core.specs.declared.error.StoreError.TheVariants as error
@@ -24,8 +24,8 @@ use Rattle.surf_run.specs.Slices.{EndsSlice, MakesSlice, SliceMade}
 use Rattle.store_core.specs.Tending.{IsTended, IsTendRefusal, SomeMoves, Tends, told_slice}
 use Rattle.store_core.specs.declared.tending.Tended.{Tended as Told}
 use Rattle.store_core.specs.declared.tending.Tended.TheVariants as told_as
-use Rattle.surf_run.specs.declared.end.LineEnd.{LineEnd}
-use Rattle.surf_run.specs.declared.end.LineEnd.TheVariants.{End, Next}
+use Rattle.surf_run.specs.declared.line_end.LineEnd.{LineEnd}
+use Rattle.surf_run.specs.declared.line_end.LineEnd.TheVariants.{End, Next}
 use Rattle.surf_run.proofs.Changes.{stopped_is}
 use Rattle.surf_run.proofs.Moments.{tied_pages, tied_stands}
 use Rattle.table_model.specs.Tables.{FilterBytes}
@@ -61,7 +61,7 @@ IsSliceTold made a b told =
 abbrev pub SliceTold : Result Told StoreError → World → World → Type 0
 SliceTold made a b = (told : Tended) × (told_slice made ≡ Some told) × IsSliceTold made a b told
 
-pub slice_told : (made : Result Told StoreError) (before after : Kept) (stopped : Bool) (epoch : ℕ) (a b : World) → stopped ≡ false
+pub slice_told : (made : Result Told StoreError) (before after : StoreValue) (stopped : Bool) (epoch : ℕ) (a b : World) → stopped ≡ false
     → MatchResult made (IsTended before after a b) (IsTendRefusal stopped epoch a b) → SliceTold made a b
 slice_told (Ok told_as.Worked) before after stopped epoch a b runs refused = (Worked, refl, inl (refl, refl, refl))
 slice_told (Ok told_as.Idle) before after stopped epoch a b runs refused = (Idle, refl, inl (refl, refl, refl))
@@ -93,7 +93,7 @@ some_moves n a b moves = record {
 
 -- ---- the end of the line
 
-module _ (kind : Kind) (made : Result Told StoreError) (end : LineEnd) (is : end ≡ end_of_change made) (before store : Kept) (a b : World) (told : SliceTold made a b)
+module _ (kind : Kind) (made : Result Told StoreError) (end : LineEnd) (is : end ≡ end_of_change made) (before store : StoreValue) (a b : World) (told : SliceTold made a b)
     (runs : store.stopped ≡ stopped_by made) where
   slice_runs : RunsOn end store.stopped
   slice_runs = elim told.2 [
@@ -138,11 +138,11 @@ module _ (kind : Kind) (made : Result Told StoreError) (end : LineEnd) (is : end
 
 -- ---- all that is promised of it
 
-module _ (kind : Kind) (tells : Bool) (made : Result Told StoreError) (end : LineEnd) (is : end ≡ end_of_change made) (before store : Kept) (a b : World) (told : SliceTold made a b)
+module _ (kind : Kind) (tells : Bool) (made : Result Told StoreError) (end : LineEnd) (is : end ≡ end_of_change made) (before store : StoreValue) (a b : World) (told : SliceTold made a b)
     (runs : store.stopped ≡ stopped_by made) (few : store.manifest.slot ≤ 1) (moves : SomeMoves (page_bytes * before.manifest.version.pages) a b)
     (shown : IsTrue tells → IfErr made (IsScanShown store.tables b.seen.held)) (current : IsTrue tells → a.leaves a.moment a.seen.held) where
-  pub slice_made : ((s : State) → IsTrue tells → Tied kind.spelling kind.filter_bytes before s a → Tends kind.spelling kind.filter_bytes s (told_slice made) store a b)
-      → ((s : State) → IsTrue tells → Tied kind.spelling kind.filter_bytes before s a → b.seen.reads ≤ a.seen.reads + 8) → MakesSlice kind tells end before store a b
+  pub slice_made : ((s : State) → IsTrue tells → Represents kind.spelling kind.filter_bytes before s a → Tends kind.spelling kind.filter_bytes s (told_slice made) store a b)
+      → ((s : State) → IsTrue tells → Represents kind.spelling kind.filter_bytes before s a → b.seen.reads ≤ a.seen.reads + 8) → MakesSlice kind tells end before store a b
   slice_made answered reads = record {
     made = λ s tell tied.
         let by = answered s tell tied in

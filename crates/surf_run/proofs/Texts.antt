@@ -10,7 +10,7 @@ use Rattle.store_commands.specs.Cutting.{NoNewline}
 use Rattle.map_model.specs.SortedMap.{Bytes}
 use Rattle.line_model.specs.Requests.{Bad, asked_by, request_of}
 use Rattle.line_model.specs.Lines.{counted, lines_of, but_last, whole_lines}
-use Rattle.surf_run.specs.Holding.{Held, with_newline}
+use Rattle.surf_run.specs.Holding.{PendingLine, with_newline}
 
 counted-cons : (line : Bytes) (parts : List Bytes) → zero < length parts → counted (line ∷ parts) ≡ line ∷ counted parts
 counted-cons line [] some = absurd (omega arith)
@@ -57,7 +57,7 @@ too_long line long =
     ap (λ (t : Bool). cond t (asked_by (slice_split (λ b. b == 32) line)) (Bad 1)) (lt-leb (length line) 140000 long)
 
 -- too long a line says the same however long it is
-pub request_held : (rest kept : Bytes) → Held rest kept → request_of kept ≡ request_of rest
+pub request_held : (rest kept : Bytes) → PendingLine rest kept → request_of kept ≡ request_of rest
 request_held rest kept held = elim (cases_lt 140000 (length rest)) [
   | inl long ↦ too_long kept (held.long long) ∙ sym (too_long rest long)
   | inr short ↦ ap request_of (held.short short)
@@ -68,20 +68,20 @@ nothing [] is = refl
 nothing (b ∷ l) is = absurd (omega arith)
 
 -- where nothing is kept, nothing is there
-pub held_none : (rest kept : Bytes) → Held rest kept → length kept ≡ 0 → rest ≡ []
+pub held_none : (rest kept : Bytes) → PendingLine rest kept → length kept ≡ 0 → rest ≡ []
 held_none rest kept held none = elim (cases_lt 140000 (length rest)) [
   | inl long ↦ absurd (let h = held.long long in omega arith)
   | inr short ↦ nothing rest (let h = ap length (held.short short) in omega arith)
 ]
 
 -- where something is kept, something is there
-pub held_some : (rest kept : Bytes) → Held rest kept → zero < length kept → zero < length rest
+pub held_some : (rest kept : Bytes) → PendingLine rest kept → zero < length kept → zero < length rest
 held_some rest kept held some = elim (cases_lt 140000 (length rest)) [
   | inl long ↦ omega arith
   | inr short ↦ let h = ap length (held.short short) in omega arith
 ]
 
-pub held_same : (rest kept : Bytes) → kept ≡ rest → length rest ≤ 140000 → Held rest kept
+pub held_same : (rest kept : Bytes) → kept ≡ rest → length rest ≤ 140000 → PendingLine rest kept
 held_same rest kept same short = record { short = λ _. same; long = λ long. absurd (omega arith) }
 
 pub none_here : {X : Type 0} (r : Option X) (P : Type 0) → ((x : X) → r ≡ Some x → ⊥) → IfNone r P → P

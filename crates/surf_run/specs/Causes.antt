@@ -11,8 +11,8 @@ use Rattle.state_model.specs.Script.{Onward, turn_of}
 use Rattle.store_core.specs.Getting.{IsFaultIn}
 use Rattle.store_core.specs.Scans.{IsScanShown}
 use Rattle.store_core.specs.declared.error.StoreError.TheVariants as error
-use Rattle.surf_run.specs.declared.end.LineEnd.{LineEnd}
-use Rattle.surf_run.specs.declared.end.LineEnd.TheVariants.{Next, Quit, End}
+use Rattle.surf_run.specs.declared.line_end.LineEnd.{LineEnd}
+use Rattle.surf_run.specs.declared.line_end.LineEnd.TheVariants.{Next, Quit, End}
 use Rattle.table_file.specs.Opened.{Opened}
 use Rattle.table_file.specs.declared.fault.TableFault.TheVariants.{Damaged}
 

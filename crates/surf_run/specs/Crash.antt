@@ -10,7 +10,7 @@ use Rattle.state_model.specs.PlayLaws.{AnyState}
 use Rattle.state_model.specs.State.{State}
 use Rattle.state_model.specs.Steps.{Step, answer}
 use Rattle.state_model.specs.View.{state_map}
-use Rattle.surf_run.specs.Dialogue.{SoFar}
+use Rattle.surf_run.specs.Dialogue.{AnsweredLines}
 use Rattle.surf_run.specs.Kind.{Kind}
 
 -- the image stands for this state, its job apart, and what the job has written stands in its extents
@@ -18,45 +18,45 @@ abbrev pub HasState : Kind → State → Image → Type 0
 HasState kind s image = StandsFor kind.spelling s image × UnnamedStand kind.spelling s image
 
 -- each image that a crash may leave now stands for it
-abbrev pub Stands : Kind → State → World → Type 0
-Stands kind s w = Now (HasState kind s) w
+abbrev pub EachImageStandsFor : Kind → State → World → Type 0
+EachImageStandsFor kind s w = Now (HasState kind s) w
 
 -- at some moment up to now so many bytes had been said, and each image that a crash may then leave stands for this state
-abbrev pub Reached : Kind → World → ℕ → State → Type 0
-Reached kind w n s = (m : ℕ) × (m ≤ w.moment) × (w.beside.said_by m ≡ n) × ((image : Image) → w.leaves m image → HasState kind s image)
+abbrev pub WasStateAt : Kind → World → ℕ → State → Type 0
+WasStateAt kind w n s = (m : ℕ) × (m ≤ w.moment) × (w.beside.said_by m ≡ n) × ((image : Image) → w.leaves m image → HasState kind s image)
 
 -- the image stands for the map of this state
 abbrev pub HasMap : Kind → State → Image → Type 0
 HasMap kind s image = StandsForMap kind.spelling (state_map s) image
 
 -- or the map that the answer to a request leaves
-abbrev pub HasEither : Kind → State → Request → Image → Type 0
-HasEither kind s request image = HasMap kind s image ⊎ HasMap kind (answer kind.filter_bytes s request).1 image
+abbrev pub HasOldOrNewMap : Kind → State → Request → Image → Type 0
+HasOldOrNewMap kind s request image = HasMap kind s image ⊎ HasMap kind (answer kind.filter_bytes s request).1 image
 
 -- the map behind this reply to the request; behind `device` the map before the request or that of its answer
-abbrev pub HasBehind : Kind → State → Request → Reply → State → Image → Type 0
-HasBehind kind s request reply next image = HasMap kind next image ⊎ ((reply ≡ Device) × HasEither kind s request image)
+abbrev pub HasMapAfter : Kind → State → Request → Reply → State → Image → Type 0
+HasMapAfter kind s request reply next image = HasMap kind next image ⊎ ((reply ≡ Device) × HasOldOrNewMap kind s request image)
 
 -- Behind some lines, with this state and this text: nothing more had been said, and the image has the state's map, or, where
 -- a line follows, that of its answer; or a part of the reply to that line had been said, and the image has the map behind it.
-abbrev pub IsBehind : (Why → Type 0) → Kind → State → List Bytes → Bytes → Bytes → Image → Type 0
-IsBehind Cause kind now later answered told image =
-    ((told ≡ answered) × (HasMap kind now image ⊎ ((line : Bytes) × (more : List Bytes) × (later ≡ line ∷ more) × HasEither kind now (request_of line) image)))
+abbrev pub IsAfterPrefix : (Why → Type 0) → Kind → State → List Bytes → Bytes → Bytes → Image → Type 0
+IsAfterPrefix Cause kind now later answered told image =
+    ((told ≡ answered) × (HasMap kind now image ⊎ ((line : Bytes) × (more : List Bytes) × (later ≡ line ∷ more) × HasOldOrNewMap kind now (request_of line) image)))
     ⊎ ((line : Bytes) × (more : List Bytes) × (reply : Reply) × (next : State) × (part : Bytes) × (rest : Bytes) × (later ≡ line ∷ more)
     × Step Cause kind.filter_bytes now (request_of line) reply next × (text_of reply ≡ part ++ rest) × (told ≡ answered ++ part)
-    × HasBehind kind now (request_of line) reply next image)
+    × HasMapAfter kind now (request_of line) reply next image)
 
 -- Of all that was said at the end, `told`, n bytes had been said; `before` was said before the run. They are the replies to
 -- some first lines, all of them whole, and maybe a part of the next line's reply; and the image has the map after those
 -- lines, or after that one more. So the lines whose change it has are at least those whose whole reply had been said by
 -- then, and one more at most.
-pub record Acknowledged (Cause : Why → Type 0) (kind : Kind) (start : State) (lines : List Bytes) (before told : Bytes) (n : ℕ) (image : Image) : Type 0 where
+pub record KeepsAcknowledged (Cause : Why → Type 0) (kind : Kind) (start : State) (lines : List Bytes) (before told : Bytes) (n : ℕ) (image : Image) : Type 0 where
   pub so_far : List Bytes
   pub later : List Bytes
   pub split : lines ≡ so_far ++ later
   pub text : Bytes
   pub most : ℕ
   pub now : State
-  pub answered : SoFar Cause kind.filter_bytes AnyState 0 start so_far text most now
+  pub answered : AnsweredLines Cause kind.filter_bytes AnyState 0 start so_far text most now
   pub within : n ≤ length told
-  pub behind : IsBehind Cause kind now later (before ++ text) (take n told) image
+  pub behind : IsAfterPrefix Cause kind now later (before ++ text) (take n told) image

@@ -43,10 +43,10 @@ AreBounded lines = All (λ line. IsBounded (request_of line)) lines
 -- The lines are answered in order with this text, no reply and no merge slice ends them, and behind the last of them, and its
 -- merge slice, stands this state. As each reply has been said, with so many bytes said by then, the state has R. So many blocks
 -- at most are read for the lines and their merge slices.
-abbrev pub SoFar : (Why → Type 0) → FilterBytes → (ℕ → State → Type 0) → ℕ → State → List Bytes → Bytes → ℕ → State → Type 0
-SoFar Cause filter_bytes R said s [] text most now = (text ≡ []) × (most ≡ 0) × (now ≡ s)
-SoFar Cause filter_bytes R said s (line ∷ more) text most now =
+abbrev pub AnsweredLines : (Why → Type 0) → FilterBytes → (ℕ → State → Type 0) → ℕ → State → List Bytes → Bytes → ℕ → State → Type 0
+AnsweredLines Cause filter_bytes R said s [] text most now = (text ≡ []) × (most ≡ 0) × (now ≡ s)
+AnsweredLines Cause filter_bytes R said s (line ∷ more) text most now =
     (reply : Reply) × (rest : Bytes) × (later : ℕ) × (mid : State) × (next : State) × (text ≡ text_of reply ++ rest) × (most ≡ line_bound s (request_of line) + later)
     × Step Cause filter_bytes s (request_of line) reply mid × (turn_of reply ≡ Onward) × R (said + length (text_of reply)) mid
     × Between Cause filter_bytes (request_of line) mid Onward next
-    × SoFar Cause filter_bytes R (said + length (text_of reply)) next more rest later now
+    × AnsweredLines Cause filter_bytes R (said + length (text_of reply)) next more rest later now

@@ -7,7 +7,7 @@ pub mod Answering
 pub mod Causes
 pub mod Crash
 pub mod Dialogue
-pub mod Ends
+pub mod ServedOrNot
 pub mod FormatRefusals
 pub mod Formats
 pub mod Holding
@@ -19,7 +19,7 @@ pub mod OneMap
 pub mod Open
 pub mod Outcome
 pub mod Refusals
-pub mod Ran
+pub mod RunContract
 pub mod Run
 pub mod Saying
 pub mod Serving

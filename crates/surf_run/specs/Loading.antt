@@ -11,16 +11,16 @@ use Rattle.state_model.specs.State.{State}
 use Rattle.state_model.specs.Steps.{Step}
 use Rattle.state_model.specs.View.{state_map}
 use Rattle.store_core.specs.Answers.{HasCause}
-use Rattle.store_core.specs.Kept.{Kept}
-use Rattle.store_core.specs.Tied.{Tied}
+use Rattle.store_core.specs.StoreValue.{StoreValue}
+use Rattle.store_core.specs.Represents.{Represents}
 use Rattle.store_core.specs.declared.error.StoreError.{StoreError}
 use Rattle.store_core.specs.declared.error.StoreError.TheVariants as error
 use Rattle.surf_run.specs.Causes.{EndCause, LineMoves, MeetsUnsaid, NoFall, WritesWithin}
-use Rattle.surf_run.specs.Crash.{HasMap, Stands}
+use Rattle.surf_run.specs.Crash.{EachImageStandsFor, HasMap}
 use Rattle.surf_run.specs.Kind.{Kind}
-use Rattle.surf_run.specs.Loads.{FailsAt, IsPassedOver, Loaded, PartLoaded, StepMade, change_of}
+use Rattle.surf_run.specs.Loads.{CrashOfLoad, FailsAt, IsPassedOver, Loaded, StepMade, change_of}
 use Rattle.surf_run.specs.Unserved.{LastLine}
-use Rattle.surf_run.specs.declared.end.LineEnd.TheVariants.{End}
+use Rattle.surf_run.specs.declared.line_end.LineEnd.TheVariants.{End}
 
 -- ---- one step
 
@@ -52,18 +52,18 @@ stepped_map false map step = map
 
 -- the last line of a run that ends in a step: `memory`, with the state as it was, or that of a device that failed
 abbrev pub IsStepText : Kind → Entry → State → World → World → ℕ → Bytes → Type 0
-IsStepText kind step s a b status text = ((status ≡ 7) × (text ≡ text_of Memory) × Stands kind s b) ⊎ ((status ≡ 4) × FailsAt (HasCause a b) kind.filter_bytes step s text)
+IsStepText kind step s a b status text = ((status ≡ 7) × (text ≡ text_of Memory) × EachImageStandsFor kind s b) ⊎ ((status ≡ 4) × FailsAt (HasCause a b) kind.filter_bytes step s text)
 
 -- The change of a step was made: the store is that of the state behind it.
-abbrev pub IsChanged : Kind → Entry → State → Kept → World → World → Bool → Type 0
+abbrev pub IsChanged : Kind → Entry → State → StoreValue → World → World → Bool → Type 0
 IsChanged kind step s store a b done =
-    (reply : Reply) × (mid : State) × Step (HasCause a b) kind.filter_bytes s (change_of step) reply mid × IsAnswer done reply × Tied kind.spelling kind.filter_bytes store mid b
+    (reply : Reply) × (mid : State) × Step (HasCause a b) kind.filter_bytes s (change_of step) reply mid × IsAnswer done reply × Represents kind.spelling kind.filter_bytes store mid b
 
 -- And so with its merge slice.
-abbrev pub IsStepped : Kind → Entry → State → Kept → World → World → Bool → Type 0
+abbrev pub IsStepped : Kind → Entry → State → StoreValue → World → World → Bool → Type 0
 IsStepped kind step s store a b done =
-    (reply : Reply) × (after : State) × StepMade (HasCause a b) kind.filter_bytes step reply s after × IsAnswer done reply × Tied kind.spelling kind.filter_bytes store after b
-    × Stands kind after b × (state_map after ≡ stepped_map done (state_map s) step)
+    (reply : Reply) × (after : State) × StepMade (HasCause a b) kind.filter_bytes step reply s after × IsAnswer done reply × Represents kind.spelling kind.filter_bytes store after b
+    × EachImageStandsFor kind after b × (state_map after ≡ stepped_map done (state_map s) step)
 
 -- It was made so, or the run ends and says its last line; at each moment a crash leaves the map before the step or behind it.
 pub record StepEnds (IsMade : Bool → Type 0) (kind : Kind) (step : Entry) (result : Result Bool ℕ) (s : State) (a b : World) : Type 0 where
@@ -76,8 +76,8 @@ abbrev pub StepCause : Type 0 → ℕ → World → World → Type 0
 StepCause Told status a b = (status ≡ 7) ⊎ EndCause (λ w. Told → MeetsUnsaid a w) (End status) a b
 
 -- What it promises over a running store: where it was made nothing is said, and the store runs.
-pub record MakesStep (IsMade : State → Bool → Type 0) (kind : Kind) (tells tells_output : Bool) (step : Entry) (result : Result Bool ℕ) (store new : Kept) (a b : World) : Type 0 where
-  pub made : (s : State) → IsTrue tells → IsTrue tells_output → Tied kind.spelling kind.filter_bytes store s a → StepEnds (IsMade s) kind step result s a b
+pub record MakesStep (IsMade : State → Bool → Type 0) (kind : Kind) (tells tells_output : Bool) (step : Entry) (result : Result Bool ℕ) (store new : StoreValue) (a b : World) : Type 0 where
+  pub made : (s : State) → IsTrue tells → IsTrue tells_output → Represents kind.spelling kind.filter_bytes store s a → StepEnds (IsMade s) kind step result s a b
   pub running : IfOk result (λ done. new.stopped ≡ false)
   pub silent : IfOk result (λ done. b.beside ≡ a.beside)
   pub cause : IfErr result (λ status. StepCause (IsTrue tells) status a b)
@@ -86,16 +86,16 @@ pub record MakesStep (IsMade : State → Bool → Type 0) (kind : Kind) (tells t
 -- ---- all of them
 
 -- Since a first world the first n steps of a seed were made of a state, so many of them refused, and nothing was said or taken.
-pub record LoadedSoFar (kind : Kind) (start : State) (seed n refused : ℕ) (store : Kept) (first w : World) : Type 0 where
+pub record LoadInvariant (kind : Kind) (start : State) (seed n refused : ℕ) (store : StoreValue) (first w : World) : Type 0 where
   pub kept : List Entry
   pub now : State
   pub loaded : Loaded (HasCause first w) kind.filter_bytes start seed n kept refused now
   pub map : state_map now ≡ fold changed (state_map start) kept
   pub number : length kept + refused ≡ n
   pub silent : w.beside ≡ first.beside
-  pub history : During (λ said image. PartLoaded (HasCause first w) kind start seed n image) first w
-  pub tied : Tied kind.spelling kind.filter_bytes store now w
-  pub stand : Stands kind now w
+  pub history : During (λ said image. CrashOfLoad (HasCause first w) kind start seed n image) first w
+  pub tied : Represents kind.spelling kind.filter_bytes store now w
+  pub stand : EachImageStandsFor kind now w
   pub counts : NoFall first w
   pub pages : now.pages ≡ start.pages
   pub writes : WritesWithin (page_bytes * start.pages) first w

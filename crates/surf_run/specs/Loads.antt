@@ -17,7 +17,7 @@ use Rattle.state_model.specs.Steps.{Step}
 use Rattle.state_model.specs.View.{state_map}
 use Rattle.store_core.specs.Answers.{HasCause}
 use Rattle.surf_run.specs.Causes.{WritesWithin}
-use Rattle.surf_run.specs.Crash.{Stands}
+use Rattle.surf_run.specs.Crash.{EachImageStandsFor}
 use Rattle.surf_run.specs.Kind.{Kind}
 use Rattle.surf_run.specs.Open.{OpenMoves}
 use Rattle.surf_run.specs.Unserved.{LastLine}
@@ -66,28 +66,28 @@ pub data Loaded (Cause : Why → Type 0) (filter_bytes : FilterBytes) (start : S
       → Loaded Cause filter_bytes start seed (n + 1) kept (refused + 1) after
 
 -- the image stands for the map that some entries make of that of a state
-abbrev pub HasLoaded : Kind → State → List Entry → Image → Type 0
-HasLoaded kind start kept image = StandsForMap kind.spelling (fold changed (state_map start) kept) image
+abbrev pub MapAfterSteps : Kind → State → List Entry → Image → Type 0
+MapAfterSteps kind start kept image = StandsForMap kind.spelling (fold changed (state_map start) kept) image
 
 -- Of so many steps some first ones were made, and the image stands for the map that they make, those that were refused left out;
 -- or for the map with the next step too.
-pub record PartLoaded (Cause : Why → Type 0) (kind : Kind) (start : State) (seed count : ℕ) (image : Image) : Type 0 where
+pub record CrashOfLoad (Cause : Why → Type 0) (kind : Kind) (start : State) (seed count : ℕ) (image : Image) : Type 0 where
   pub made : ℕ
   pub kept : List Entry
   pub refused : ℕ
   pub now : State
   pub loaded : Loaded Cause kind.filter_bytes start seed made kept refused now
   pub within : made ≤ count
-  pub stands : HasLoaded kind start kept image ⊎ ((made < count) × HasLoaded kind start (kept ++ (step_behind seed made ∷ [])) image)
+  pub stands : MapAfterSteps kind start kept image ⊎ ((made < count) × MapAfterSteps kind start (kept ++ (step_behind seed made ∷ [])) image)
 
 -- The first n steps were made, so many of them refused. The map of the state behind them is the one that the others make, and each
 -- image that a crash may leave now stands for that state: so the next run begins with it.
-pub record LeavesLoaded (kind : Kind) (start : State) (seed n refused : ℕ) (now : State) (old new : World) : Type 0 where
+pub record EndOfSteps (kind : Kind) (start : State) (seed n refused : ℕ) (now : State) (old new : World) : Type 0 where
   pub kept : List Entry
   pub loaded : Loaded (HasCause old new) kind.filter_bytes start seed n kept refused now
   pub map : state_map now ≡ fold changed (state_map start) kept
   pub number : length kept + refused ≡ n
-  pub stands : Stands kind now new
+  pub stands : EachImageStandsFor kind now new
 
 -- ---- where the device fails
 
@@ -112,8 +112,8 @@ pub record FailsBehind (kind : Kind) (start : State) (seed count : ℕ) (old new
 -- the device failed in a merge slice.
 abbrev pub IsLoadText : Kind → State → ℕ → ℕ → World → World → ℕ → Bytes → Type 0
 IsLoadText kind start seed count old new status text =
-    ((status ≡ 0) × (refused : ℕ) × (now : State) × LeavesLoaded kind start seed count refused now old new × (text ≡ summary_text count refused (summary_of (state_map now))))
-    ⊎ ((status ≡ 7) × (n : ℕ) × (refused : ℕ) × (now : State) × (n ≤ count) × LeavesLoaded kind start seed n refused now old new × (text ≡ text_of Memory))
+    ((status ≡ 0) × (refused : ℕ) × (now : State) × EndOfSteps kind start seed count refused now old new × (text ≡ summary_text count refused (summary_of (state_map now))))
+    ⊎ ((status ≡ 7) × (n : ℕ) × (refused : ℕ) × (now : State) × (n ≤ count) × EndOfSteps kind start seed n refused now old new × (text ≡ text_of Memory))
     ⊎ ((status ≡ 4) × FailsBehind kind start seed count old new text)
 
 -- A load of so many steps from a state: its last line, and that nothing is taken; at each moment a crash leaves the map after some
@@ -121,7 +121,7 @@ IsLoadText kind start seed count old new status text =
 pub record LoadEnds (kind : Kind) (status : ℕ) (start : State) (seed count : ℕ) (old new : World) : Type 0 where
   pub line : LastLine (IsLoadText kind start seed count old new) status old new
   pub input : new.beside.to_take ≡ old.beside.to_take
-  pub crash : During (λ said image. PartLoaded (HasCause old new) kind start seed count image) old new
+  pub crash : During (λ said image. CrashOfLoad (HasCause old new) kind start seed count image) old new
   pub writes : WritesWithin (page_bytes * start.pages) old new
 
 -- the statuses of a run of it that was begun

@@ -16,8 +16,8 @@ use Rattle.state_model.specs.View.{state_map}
 use Rattle.store_commands.specs.Cutting.{NoNewline}
 use Rattle.store_core.specs.Answers.{HasCause}
 use Rattle.surf_run.specs.Causes.{IsServing, WritesWithin}
-use Rattle.surf_run.specs.Crash.{Acknowledged, Reached, Stands}
-use Rattle.surf_run.specs.Dialogue.{AreBounded, SoFar, line_bound}
+use Rattle.surf_run.specs.Crash.{EachImageStandsFor, KeepsAcknowledged, WasStateAt}
+use Rattle.surf_run.specs.Dialogue.{AnsweredLines, AreBounded, line_bound}
 use Rattle.surf_run.specs.Holding.{with_newline}
 use Rattle.surf_run.specs.Kind.{Kind}
 use Rattle.surf_run.specs.OneMap.{MapDialogue}
@@ -25,13 +25,13 @@ use Rattle.surf_run.specs.OneMap.{MapDialogue}
 -- All of the script's text was said, for the lines of what was taken; and the input was at its end, or whatever follows
 -- changes nothing. As each reply had been said that is not `device`, each image that a crash may then leave stood for the
 -- state then.
-pub record Said (kind : Kind) (ending : Ending) (start : State) (taken : Bytes) (old new : World) : Type 0 where
+pub record SaidWholeScript (kind : Kind) (ending : Ending) (start : State) (taken : Bytes) (old new : World) : Type 0 where
   pub text : Bytes
   pub output : new.beside.said ≡ old.beside.said ++ text
-  pub script : Script (HasCause old new) kind.filter_bytes (Reached kind new) (length old.beside.said) start (lines_of taken) text ending
+  pub script : Script (HasCause old new) kind.filter_bytes (WasStateAt kind new) (length old.beside.said) start (lines_of taken) text ending
   pub settled :
       (new.beside.to_take ≡ [])
-      ⊎ ((more : Bytes) → Script (HasCause old new) kind.filter_bytes (Reached kind new) (length old.beside.said) start (lines_of (taken ++ more)) text ending)
+      ⊎ ((more : Bytes) → Script (HasCause old new) kind.filter_bytes (WasStateAt kind new) (length old.beside.said) start (lines_of (taken ++ more)) text ending)
 
 -- Each image that a crash may leave now stands for the state that these lines and their merge slices leave, its job apart: so the
 -- next run begins with it. The replies were said. Since there had been `base` reads, no more blocks were read than the lines'
@@ -41,10 +41,10 @@ pub record LeavesState (kind : Kind) (start : State) (base : ℕ) (lines : List 
   pub output : new.beside.said ≡ old.beside.said ++ text
   pub most : ℕ
   pub last : State
-  pub so_far : SoFar (HasCause old new) kind.filter_bytes (Reached kind new) (length old.beside.said) start lines text most last
+  pub so_far : AnsweredLines (HasCause old new) kind.filter_bytes (WasStateAt kind new) (length old.beside.said) start lines text most last
   pub one_map : MapDialogue (state_map start) lines text (state_map last)
   pub reads : AreBounded lines → new.seen.reads ≤ base + most
-  pub stands : Stands kind last new
+  pub stands : EachImageStandsFor kind last new
 
 -- What was taken begins with these lines, each with its newline, and behind them stand less bytes than these.
 pub record TakenPast (most : ℕ) (taken : Bytes) (lines : List Bytes) : Type 0 where
@@ -66,82 +66,82 @@ TakenTo most taken lines line = TakenPast most taken (lines ++ line ∷ []) ⊎ 
 -- the reply, or by the merge slice behind it. What a crash may leave at each moment is told over these lines alone. Where the
 -- reply is the last, but for `device`, each image that a crash may leave now stands for the state after it, its job apart: so the
 -- next run begins with it.
-pub record EndsWith (kind : Kind) (ending : Ending) (reply : Reply) (start : State) (base : ℕ) (lines : List Bytes) (line : Bytes) (old new : World) : Type 0 where
+pub record LastReply (kind : Kind) (ending : Ending) (reply : Reply) (start : State) (base : ℕ) (lines : List Bytes) (line : Bytes) (old new : World) : Type 0 where
   pub text : Bytes
   pub most : ℕ
   pub now : State
-  pub so_far : SoFar (HasCause old new) kind.filter_bytes (Reached kind new) (length old.beside.said) start lines text most now
+  pub so_far : AnsweredLines (HasCause old new) kind.filter_bytes (WasStateAt kind new) (length old.beside.said) start lines text most now
   pub one_map : MapDialogue (state_map start) lines text (state_map now)
   pub last : State
   pub step : Step (HasCause old new) kind.filter_bytes now (request_of line) reply last
   pub there : EndsThere (HasCause old new) kind.filter_bytes line reply last ending
   pub reads : AreBounded (lines ++ line ∷ []) → new.seen.reads ≤ base + most + line_bound now (request_of line)
   pub output : new.beside.said ≡ old.beside.said ++ (text ++ text_of reply)
-  pub crash : During (Acknowledged (HasCause old new) kind start (lines ++ line ∷ []) old.beside.said new.beside.said) old new
-  pub stands : turn_of reply ≢ Onward → reply ≢ Device → Stands kind last new
+  pub crash : During (KeepsAcknowledged (HasCause old new) kind start (lines ++ line ∷ []) old.beside.said new.beside.said) old new
+  pub stands : turn_of reply ≢ Onward → reply ≢ Device → EachImageStandsFor kind last new
 
 -- this was the last reply, to a line behind which less than so many bytes were taken
-abbrev pub EndsTo : Kind → ℕ → Ending → Reply → State → ℕ → Bytes → World → World → Type 0
-EndsTo kind most ending reply start base taken old new =
-    (lines : List Bytes) × (line : Bytes) × TakenTo most taken lines line × EndsWith kind ending reply start base lines line old new
+abbrev pub LastReplyTo : Kind → ℕ → Ending → Reply → State → ℕ → Bytes → World → World → Type 0
+LastReplyTo kind most ending reply start base taken old new =
+    (lines : List Bytes) × (line : Bytes) × TakenTo most taken lines line × LastReply kind ending reply start base lines line old new
 
 -- the same where the device failed: by `device`, be it behind the first pairs of a range, or by a merge slice behind the reply
 abbrev pub EndsAtDevice : Kind → ℕ → State → ℕ → Bytes → World → World → Type 0
-EndsAtDevice kind most start base taken old new = (reply : Reply) × EndsTo kind most AtDevice reply start base taken old new
+EndsAtDevice kind most start base taken old new = (reply : Reply) × LastReplyTo kind most AtDevice reply start base taken old new
 
 -- The input was cut off: all its whole lines were answered, and a rest without a newline is no line.
-pub record CutOff (kind : Kind) (start : State) (base : ℕ) (taken : Bytes) (old new : World) : Type 0 where
+pub record InputCutOff (kind : Kind) (start : State) (base : ℕ) (taken : Bytes) (old new : World) : Type 0 where
   pub text : Bytes
   pub output : new.beside.said ≡ old.beside.said ++ text
-  pub script : Script (HasCause old new) kind.filter_bytes (Reached kind new) (length old.beside.said) start (whole_lines taken) text ToLast
-  pub crash : During (Acknowledged (HasCause old new) kind start (whole_lines taken) old.beside.said new.beside.said) old new
+  pub script : Script (HasCause old new) kind.filter_bytes (WasStateAt kind new) (length old.beside.said) start (whole_lines taken) text ToLast
+  pub crash : During (KeepsAcknowledged (HasCause old new) kind start (whole_lines taken) old.beside.said new.beside.said) old new
   pub leaves : LeavesState kind start base (whole_lines taken) old new
 
 -- These lines were answered whole, none of them with a last reply, and of the reply to this one a prefix was said. What a crash
 -- may leave at each moment is told over these lines alone. The state now is that after the line, but for `device`.
-pub record BreaksOff (kind : Kind) (start : State) (base : ℕ) (lines : List Bytes) (line : Bytes) (old new : World) : Type 0 where
+pub record ReplyCutOffAt (kind : Kind) (start : State) (base : ℕ) (lines : List Bytes) (line : Bytes) (old new : World) : Type 0 where
   pub text : Bytes
   pub most : ℕ
   pub now : State
-  pub so_far : SoFar (HasCause old new) kind.filter_bytes (Reached kind new) (length old.beside.said) start lines text most now
+  pub so_far : AnsweredLines (HasCause old new) kind.filter_bytes (WasStateAt kind new) (length old.beside.said) start lines text most now
   pub one_map : MapDialogue (state_map start) lines text (state_map now)
   pub reply : Reply
   pub last : State
   pub step : Step (HasCause old new) kind.filter_bytes now (request_of line) reply last
   pub reads : AreBounded (lines ++ line ∷ []) → new.seen.reads ≤ base + most + line_bound now (request_of line)
   pub prefix : SaysPrefix (text_of reply) (old.beside.said ++ text) new.beside.said
-  pub crash : During (Acknowledged (HasCause old new) kind start (lines ++ line ∷ []) old.beside.said new.beside.said) old new
-  pub stands : reply ≢ Device → Stands kind last new
+  pub crash : During (KeepsAcknowledged (HasCause old new) kind start (lines ++ line ∷ []) old.beside.said new.beside.said) old new
+  pub stands : reply ≢ Device → EachImageStandsFor kind last new
 
 -- The output failed: some first lines were answered whole, and of the next line's reply a prefix was said. That line has its
 -- newline, or the input is at its end; less than one piece was taken behind it.
-pub record SaidInPart (kind : Kind) (start : State) (base : ℕ) (taken : Bytes) (old new : World) : Type 0 where
+pub record OutputFailed (kind : Kind) (start : State) (base : ℕ) (taken : Bytes) (old new : World) : Type 0 where
   pub lines : List Bytes
   pub line : Bytes
   pub later : List Bytes
   pub split : lines_of taken ≡ lines ++ line ∷ later
   pub ended : ((whole : List Bytes) × (whole_lines taken ≡ lines ++ line ∷ whole)) ⊎ (new.beside.to_take ≡ [])
   pub taken_to : TakenTo piece_bytes taken lines line
-  pub breaks : BreaksOff kind start base lines line old new
+  pub breaks : ReplyCutOffAt kind start base lines line old new
 
 -- what was said by the status, and what each image that a crash may leave at each moment stands for
-pub record Settled (kind : Kind) (status : ℕ) (start : State) (base : ℕ) (taken : Bytes) (old new : World) : Type 0 where
+pub record EndOfServe (kind : Kind) (status : ℕ) (start : State) (base : ℕ) (taken : Bytes) (old new : World) : Type 0 where
   pub serving : IsServing status
   pub ended :
       status ≡ 0
-      → (Said kind ToLast start taken old new × LeavesState kind start base (lines_of taken) old new)
-      ⊎ (Said kind AtQuit start taken old new × EndsTo kind piece_bytes AtQuit Bye start base taken old new)
-  pub device : status ≡ 4 → Said kind AtDevice start taken old new × EndsAtDevice kind piece_bytes start base taken old new
-  pub cut : (status ≡ 3) ⊎ (status ≡ 9) → CutOff kind start base taken old new
-  pub output : status ≡ 6 → SaidInPart kind start base taken old new
+      → (SaidWholeScript kind ToLast start taken old new × LeavesState kind start base (lines_of taken) old new)
+      ⊎ (SaidWholeScript kind AtQuit start taken old new × LastReplyTo kind piece_bytes AtQuit Bye start base taken old new)
+  pub device : status ≡ 4 → SaidWholeScript kind AtDevice start taken old new × EndsAtDevice kind piece_bytes start base taken old new
+  pub cut : (status ≡ 3) ⊎ (status ≡ 9) → InputCutOff kind start base taken old new
+  pub output : status ≡ 6 → OutputFailed kind start base taken old new
   pub said : (text : Bytes) × (new.beside.said ≡ old.beside.said ++ text)
-  pub crash : During (Acknowledged (HasCause old new) kind start (lines_of taken) old.beside.said new.beside.said) old new
+  pub crash : During (KeepsAcknowledged (HasCause old new) kind start (lines_of taken) old.beside.said new.beside.said) old new
   pub writes : WritesWithin (page_bytes * start.pages) old new
 
 -- with what was taken
 pub record Outcome (kind : Kind) (status : ℕ) (start : State) (base : ℕ) (old new : World) : Type 0 where
   pub taken : Bytes
   pub input : old.beside.to_take ≡ taken ++ new.beside.to_take
-  pub settled : Settled kind status start base taken old new
+  pub settled : EndOfServe kind status start base taken old new
   pub limit : status ≡ 9 → length taken ≡ max_input_bytes
   pub most : length taken ≤ max_input_bytes

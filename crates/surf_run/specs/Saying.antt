@@ -9,8 +9,8 @@ use Rattle.map_model.specs.SortedMap.{Bytes}
 use Rattle.outside.specs.Streams.{SaysPrefix}
 use Rattle.store_commands.specs.declared.reply.Reply.{Reply as Spoken}
 use Rattle.store_commands.specs.declared.reply.Reply.TheVariants as spoken
-use Rattle.surf_run.specs.declared.end.LineEnd.{LineEnd}
-use Rattle.surf_run.specs.declared.end.LineEnd.TheVariants.{End, Next, Quit}
+use Rattle.surf_run.specs.declared.line_end.LineEnd.{LineEnd}
+use Rattle.surf_run.specs.declared.line_end.LineEnd.TheVariants.{End, Next, Quit}
 
 -- a reply that the program says: with keys and values that keep their limits, and with numbers below 2^64
 abbrev pub IsShort : Spoken → Type 0

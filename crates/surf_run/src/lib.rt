@@ -19,21 +19,21 @@
 //! ```
 #![tactic(auto)]
 
-mod end;
+mod answers;
 mod format_lines;
 mod formatting;
 mod laws;
-mod line;
+mod line_end;
+mod lines;
 mod loading;
+mod opened;
 mod opening;
 mod pending;
 mod saying;
-mod serve;
-mod serving;
-mod slicing;
+mod serve_line;
 mod top;
 
-pub use end::LineEnd;
 pub use laws::replies_are_of_the_map;
-pub use slicing::serve_line;
+pub use line_end::LineEnd;
+pub use serve_line::serve_line;
 pub use top::run;

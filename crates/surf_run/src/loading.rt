@@ -13,25 +13,25 @@ ghost use Rattle.merge_rows.specs.Reads.{OnlyReads};
 ghost use Rattle.outside.specs.Streams.{SayMoves, SaysPrefix};
 ghost use Rattle.state_model.specs.State.{State};
 ghost use Rattle.state_model.specs.View.{state_map};
-ghost use Rattle.store_core.specs.Answers.{Answered, IsTried, IsWriteRefusal, stopped_by, told_change};
+ghost use Rattle.store_core.specs.Answers.{AnswersRequest, IsTried, IsWriteRefusal, stopped_by, told_change};
 ghost use Rattle.store_core.specs.Counts.{IsCountRefusal};
 ghost use Rattle.store_core.specs.Getting.{IsUndamaged};
 ghost use Rattle.store_core.specs.Scans.{IsScanShown};
-ghost use Rattle.store_core.specs.Tied.{Tied};
+ghost use Rattle.store_core.specs.Represents.{Represents};
 ghost use Rattle.surf_run.specs.Causes.{LineMoves, RunMeetsDamage, SayFailed, ShowsSomeDamage, StatusCause};
-ghost use Rattle.surf_run.specs.Ends.{HasNoState, OpensNothing, SomeFailed, TellsDamage, Unanswered};
+ghost use Rattle.surf_run.specs.ServedOrNot.{HasNoState, NoLineAnswered, OpensNothing, SomeFailed, TellsDamage};
 ghost use Rattle.surf_run.specs.Kind.{filter_kind};
-ghost use Rattle.surf_run.specs.Loading.{IsChanged, IsStepped, LoadedSoFar, MakesStep, StepCause, is_passed_over};
+ghost use Rattle.surf_run.specs.Loading.{IsChanged, IsStepped, LoadInvariant, MakesStep, StepCause, is_passed_over};
 ghost use Rattle.surf_run.specs.Loads.{IsLoading, LoadEnds, Loads, change_of};
 ghost use Rattle.surf_run.specs.Open.{IsOpeningText};
 ghost use Rattle.surf_run.specs.Unserved.{Unserved};
 ghost use Rattle.table_file.specs.Faults.{filter_fault_of};
 ghost use Rattle.table_model.specs.Tables.{filter_bytes_of};
 
-use crate::end::LineEnd;
+use crate::line_end::LineEnd;
 use crate::opening::{open_or_say, say_why};
 use crate::saying::say_last;
-use crate::slicing::merge_slice;
+use crate::serve_line::merge_slice;
 use filter_api::RangeFilter;
 use load_gen::{LINE_BYTES, LoadGen, LoadStep, Summary, spell_summary};
 use outside::Outside;
@@ -53,8 +53,8 @@ fn write_step<F: RangeFilter, W: Outside>(
     step: LoadStep,
 ) -> Result<(), StoreError>
     requires running { store.old.stopped ≡ false }
-    ensures answered { (s : State) → IsTrue W.tells → Tied F.spelling (filter_bytes_of F.spelling F.built_cutoff) store.old s (W.world out.old)
-        → Answered F.spelling (filter_bytes_of F.spelling F.built_cutoff) s (change_of (entry_of step.key step.value)) (told_change result) store.new (W.world out.old) (W.world out.new) }
+    ensures answered { (s : State) → IsTrue W.tells → Represents F.spelling (filter_bytes_of F.spelling F.built_cutoff) store.old s (W.world out.old)
+        → AnswersRequest F.spelling (filter_bytes_of F.spelling F.built_cutoff) s (change_of (entry_of step.key step.value)) (told_change result) store.new (W.world out.old) (W.world out.new) }
     ensures refused { MatchResult result (λ _. IsTried store.old.stopped (limit_of (change_of (entry_of step.key step.value)))) (IsWriteRefusal store.old.stopped (limit_of (change_of (entry_of step.key step.value))) (W.world out.old) (W.world out.new)) }
     ensures stopped { store.new.stopped ≡ stopped_by result }
     ensures moves { WriteMoves 0 (page_bytes * store.old.manifest.version.pages) (W.world out.old) (W.world out.new) }
@@ -76,7 +76,7 @@ fn make_change<F: RangeFilter, W: Outside>(
         W.tells W.tells_output (entry_of step.key step.value) result store.old store.new (W.world out.old) (W.world out.new) }
 {
     let written = write_step(store, out, step);
-    store.whole_law();
+    store.consistency_law();
     match written {
         Ok(()) => Ok(true),
         Err(why) => {
@@ -112,8 +112,8 @@ fn make_steps<F: RangeFilter, W: Outside>(
     load: Load,
 ) -> Result<u64, u8>
     requires running { store.old.stopped ≡ false }
-    ensures made { (start : State) (first : _) → IsTrue W.tells → IsTrue W.tells_output → LoadedSoFar (filter_kind F.spelling F.built_cutoff) start load.seed 0 0 store.old (W.world first) (W.world out.old)
-        → MatchResult result (λ refused. LoadedSoFar (filter_kind F.spelling F.built_cutoff) start load.seed load.count refused store.new (W.world first) (W.world out.new))
+    ensures made { (start : State) (first : _) → IsTrue W.tells → IsTrue W.tells_output → LoadInvariant (filter_kind F.spelling F.built_cutoff) start load.seed 0 0 store.old (W.world first) (W.world out.old)
+        → MatchResult result (λ refused. LoadInvariant (filter_kind F.spelling F.built_cutoff) start load.seed load.count refused store.new (W.world first) (W.world out.new))
         (λ status. LoadEnds (filter_kind F.spelling F.built_cutoff) status start load.seed load.count (W.world first) (W.world out.new)) }
     ensures running { IfOk result (λ _. store.new.stopped ≡ false) }
     ensures cause { IfErr result (λ status. StepCause (IsTrue W.tells) status (W.world out.old) (W.world out.new)) }
@@ -135,9 +135,9 @@ fn summarise<F: RangeFilter, W: Outside>(
     out: &mut W,
 ) -> Result<Summary, StoreError>
     requires running { store.now.stopped ≡ false }
-    ensures answer { (s : State) → IsTrue W.tells → Tied F.spelling (filter_bytes_of F.spelling F.built_cutoff) store.now s (W.world out.old)
+    ensures answer { (s : State) → IsTrue W.tells → Represents F.spelling (filter_bytes_of F.spelling F.built_cutoff) store.now s (W.world out.old)
         → IfOk result (λ summary. summary ≡ summary_of (state_map s)) }
-    ensures undamaged { (s : State) → IsTrue W.tells → Tied F.spelling (filter_bytes_of F.spelling F.built_cutoff) store.now s (W.world out.old) → IfErr result IsUndamaged }
+    ensures undamaged { (s : State) → IsTrue W.tells → Represents F.spelling (filter_bytes_of F.spelling F.built_cutoff) store.now s (W.world out.old) → IfErr result IsUndamaged }
     ensures shown { IsTrue W.tells → IfErr result (IsScanShown store.now.tables (W.world out.old).seen.held) }
     ensures refused { IfErr result (IsCountRefusal false None (W.world out.old) (W.world out.new)) }
     ensures moves { OnlyReads (W.world out.old) (W.world out.new) }
@@ -176,7 +176,7 @@ fn end_load<F: RangeFilter, W: Outside>(
     refused: u64,
 ) -> u8
     requires running { store.now.stopped ≡ false }
-    ensures ends { (start : State) (seed : ℕ) (first : _) → IsTrue W.tells → IsTrue W.tells_output → LoadedSoFar (filter_kind F.spelling F.built_cutoff) start seed count refused store.now (W.world first) (W.world out.old)
+    ensures ends { (start : State) (seed : ℕ) (first : _) → IsTrue W.tells → IsTrue W.tells_output → LoadInvariant (filter_kind F.spelling F.built_cutoff) start seed count refused store.now (W.world first) (W.world out.old)
         → LoadEnds (filter_kind F.spelling F.built_cutoff) result start seed count (W.world first) (W.world out.new) }
     ensures shown { IsTrue W.tells → IsTrue W.tells_output → result ≡ 5 → ShowsSomeDamage (W.world out.new) }
     ensures causes { StatusCause result (W.world out.old) (W.world out.new) }
@@ -192,7 +192,7 @@ fn end_load<F: RangeFilter, W: Outside>(
 // Makes the steps of a load over an opened store, and ends it.
 fn load_store<F: RangeFilter, W: Outside>(store: Store<F>, out: &mut W, load: Load) -> u8
     requires { store.stopped ≡ false }
-    ensures ends { (start : State) (first : _) → IsTrue W.tells → IsTrue W.tells_output → LoadedSoFar (filter_kind F.spelling F.built_cutoff) start load.seed 0 0 store (W.world first) (W.world out.old)
+    ensures ends { (start : State) (first : _) → IsTrue W.tells → IsTrue W.tells_output → LoadInvariant (filter_kind F.spelling F.built_cutoff) start load.seed 0 0 store (W.world first) (W.world out.old)
         → LoadEnds (filter_kind F.spelling F.built_cutoff) result start load.seed load.count (W.world first) (W.world out.new) }
     ensures shown { IsTrue W.tells → IsTrue W.tells_output → result ≡ 5 → RunMeetsDamage (Unit {0}) (W.world out.old) (W.world out.new) }
     ensures causes { StatusCause result (W.world out.old) (W.world out.new) }
@@ -216,10 +216,10 @@ pub(crate) fn open_and_load<F: RangeFilter, W: Outside>(
     // Where each image that a crash might have left stands for this state: at 0 all steps were made, and the line tells the map
     // that those make which were not refused; at each moment a crash leaves the map after some first steps.
     ensures outcome { (s : State) → IsTrue W.tells → IsTrue W.tells_output → Now (IsStateOf F.spelling s) (W.world out.old)
-        → LoadEnds (filter_kind F.spelling F.built_cutoff) result s load.seed load.count (W.world out.old) (W.world out.new) ⊎ Unanswered result s (W.world out.old) (W.world out.new) }
+        → LoadEnds (filter_kind F.spelling F.built_cutoff) result s load.seed load.count (W.world out.old) (W.world out.new) ⊎ NoLineAnswered result s (W.world out.old) (W.world out.new) }
     // Where what the device reads as stands for this state: the same from the opening on.
     ensures answers { (s : State) → IsTrue W.tells → IsTrue W.tells_output → IsStateOf F.spelling s (W.world out.old).seen.held
-        → ((opened : _) × Loads (filter_kind F.spelling F.built_cutoff) result s load.seed load.count (W.world out.old) (W.world opened) (W.world out.new)) ⊎ Unanswered result s (W.world out.old) (W.world out.new) }
+        → ((opened : _) × Loads (filter_kind F.spelling F.built_cutoff) result s load.seed load.count (W.world out.old) (W.world opened) (W.world out.new)) ⊎ NoLineAnswered result s (W.world out.old) (W.world out.new) }
     // Where no call fails all steps are made, but for want of memory.
     ensures complete { (s : State) → IsTrue W.tells → IsTrue W.tells_output → IsStateOf F.spelling s (W.world out.old).seen.held
         → (SomeFailed (W.world out.old) (W.world out.new) → ⊥) → (result ≡ 0) ⊎ (result ≡ 7) }

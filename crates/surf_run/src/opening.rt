@@ -6,9 +6,9 @@ ghost use Rattle.image_model.specs.Stands.{IsStateOf};
 ghost use Rattle.manifest_model.specs.Slots.{IsNoStore};
 ghost use Rattle.outside.specs.Streams.{SayMoves, SaysPrefix};
 ghost use Rattle.state_model.specs.State.{State};
-ghost use Rattle.store_core.specs.Tied.{Tied};
+ghost use Rattle.store_core.specs.Represents.{Represents};
 ghost use Rattle.surf_run.specs.Causes.{LineMoves, SayFailed, StatusCause};
-ghost use Rattle.surf_run.specs.Ends.{OpensNothing, TellsDamage, Unanswered, opening_bound};
+ghost use Rattle.surf_run.specs.ServedOrNot.{NoLineAnswered, OpensNothing, TellsDamage, opening_bound};
 ghost use Rattle.surf_run.specs.Open.{IsOpening, IsOpeningText, OpenMoves, opening_status, opening_text};
 ghost use Rattle.surf_run.specs.Unserved.{Unserved};
 ghost use Rattle.table_file.specs.Faults.{filter_fault_of};
@@ -47,10 +47,10 @@ pub(crate) fn open_or_say<F: RangeFilter, W: Outside>(
 ) -> Result<Store<F>, u8>
     // Where what the device reads as stands for a state, the store is that of the state, or nothing was answered.
     ensures opens { (s : State) → IsTrue W.tells → IsStateOf F.spelling s (W.world out.old).seen.held
-        → IfOk result (λ store. Tied F.spelling (filter_bytes_of F.spelling F.built_cutoff) store s (W.world out.new)) }
+        → IfOk result (λ store. Represents F.spelling (filter_bytes_of F.spelling F.built_cutoff) store s (W.world out.new)) }
     ensures reads { (s : State) → IsTrue W.tells → IsStateOf F.spelling s (W.world out.old).seen.held → (W.world out.new).seen.reads ≤ (W.world out.old).seen.reads + opening_bound s }
     ensures unanswered { (s : State) → IsTrue W.tells → IsTrue W.tells_output → IsStateOf F.spelling s (W.world out.old).seen.held
-        → IfErr result (λ status. Unanswered status s (W.world out.old) (W.world out.new)) }
+        → IfErr result (λ status. NoLineAnswered status s (W.world out.old) (W.world out.new)) }
     ensures running { IfOk result (λ store. store.stopped ≡ false) }
     ensures slot { IfOk result (λ store. store.manifest.slot ≤ 1) }
     ensures still { IfOk result (λ _. OpenMoves (W.world out.old) (W.world out.new)) }
@@ -68,7 +68,7 @@ pub(crate) fn open_or_say<F: RangeFilter, W: Outside>(
 {
     match Store::<F>::open_store(alloc, out) {
         Ok(store) => {
-            store.whole_law();
+            store.consistency_law();
             Ok(store)
         }
         Err(why) => Err(say_why(out, why)),

@@ -1,6 +1,6 @@
 //! The prefix of a line that has not ended.
 ghost use Rattle.std.specs.Prelude.{◌≡◌, ◌==◌, ◌++◌, ℕ, List, [], IfOk, length};
-ghost use Rattle.surf_run.specs.Holding.{Held};
+ghost use Rattle.surf_run.specs.Holding.{PendingLine};
 
 use key_base::MAX_LINE_BYTES;
 use std::alloc::{AllocError, Global};
@@ -56,7 +56,7 @@ impl Pending {
 
     /// Keeps a part that goes on behind what is kept.
     pub fn keep(&mut self, part: &[u8])
-        ensures { (rest : List ℕ) → Held rest self.old → Held (rest ++ part.now) self.new }
+        ensures { (rest : List ℕ) → PendingLine rest self.old → PendingLine (rest ++ part.now) self.new }
     {
         let room = MAX_LINE_BYTES + 1 - self.bytes.len();
         let kept = room.min(part.len());

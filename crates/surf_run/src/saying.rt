@@ -4,11 +4,11 @@ ghost use Rattle.disk_trait.specs.World.{Rose};
 ghost use Rattle.outside.specs.Streams.{SayMoves, SaysPrefix};
 ghost use Rattle.line_model.specs.Replies.{text_of};
 ghost use Rattle.store_commands.specs.Spoken.{spoken};
-ghost use Rattle.surf_run.specs.declared.end.LineEnd.TheVariants.{End};
+ghost use Rattle.surf_run.specs.declared.line_end.LineEnd.TheVariants.{End};
 ghost use Rattle.surf_run.specs.Causes.{SayFailed, LineMoves};
 ghost use Rattle.surf_run.specs.Saying.{IsShort, Says, SaysBehind};
 
-use crate::end::LineEnd;
+use crate::line_end::LineEnd;
 use outside::{Outside, SayFault, say_all};
 use store_commands::{Reply, piece};
 

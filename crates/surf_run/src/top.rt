@@ -8,19 +8,19 @@ ghost use Rattle.manifest_model.specs.Slots.{IsNoStore};
 ghost use Rattle.outside.specs.Streams.{SayMoves};
 ghost use Rattle.state_model.specs.State.{State};
 ghost use Rattle.surf_run.specs.Causes.{IsServing, NoFall, RunMeetsDamage, SayFailed, StatusCause};
-ghost use Rattle.surf_run.specs.Ends.{Completed, Ends, HasNoState, OpensNothing, Serves, SomeFailed, TellsDamage, Unanswered};
+ghost use Rattle.surf_run.specs.ServedOrNot.{Completed, HasNoState, NoLineAnswered, OpenedThenServed, OpensNothing, ServedOrNot, SomeFailed, TellsDamage};
 ghost use Rattle.surf_run.specs.Kind.{filter_kind};
 ghost use Rattle.surf_run.specs.Loads.{IsLoading, LoadEnds, Loads};
 ghost use Rattle.surf_run.specs.Open.{IsOpeningText};
-ghost use Rattle.surf_run.specs.Ran.{Ran};
+ghost use Rattle.surf_run.specs.RunContract.{RunContract};
 ghost use Rattle.surf_run.specs.Run.{FormatEnds, IfBadSettings, IfFormat, IfHelp, IfLoad, IfOpens, IfRefused, IfServe, IfUnserved, IsBadSettingsText, IsHelpText, IsLoadAsk, IsMemoryText, IsRefusedAsk, IsUsageText};
 ghost use Rattle.surf_run.specs.Unserved.{Unserved};
 ghost use Rattle.table_file.specs.Faults.{filter_fault_of};
 
 use crate::formatting::{run_format, say_bad_settings};
 use crate::loading::open_and_load;
+use crate::opened::open_and_serve;
 use crate::saying::{last_line, say_last};
-use crate::serving::open_and_serve;
 use filter_api::RangeFilter;
 use outside::Outside;
 use program_words::{Asked, read_words};
@@ -29,19 +29,19 @@ use store_commands::Reply;
 
 const USAGE: &[u8] = b"usage: surfstore PATH format|serve|load\n";
 
-// Does what was asked for: the clauses are those of `Ran`, each where this was asked for.
+// Does what was asked for: the clauses are those of `RunContract`, each where this was asked for.
 fn run_asked<F: RangeFilter, W: Outside>(alloc: Global, asked: Asked, out: &mut W) -> u8
-    ensures outcome { (s : State) → IsTrue W.tells → IsTrue W.tells_input → IsTrue W.tells_output → Now (IsStateOf F.spelling s) (W.world out.old) → IfServe asked (Ends (filter_kind F.spelling F.built_cutoff) result s (W.world out.old) (W.world out.new)) }
+    ensures outcome { (s : State) → IsTrue W.tells → IsTrue W.tells_input → IsTrue W.tells_output → Now (IsStateOf F.spelling s) (W.world out.old) → IfServe asked (ServedOrNot (filter_kind F.spelling F.built_cutoff) result s (W.world out.old) (W.world out.new)) }
     ensures answers { (s : State) → IsTrue W.tells → IsTrue W.tells_input → IsTrue W.tells_output → IsStateOf F.spelling s (W.world out.old).seen.held
-        → IfServe asked (((opened : _) × Serves (filter_kind F.spelling F.built_cutoff) result s (W.world out.old) (W.world opened) (W.world out.new)) ⊎ Unanswered result s (W.world out.old) (W.world out.new)) }
+        → IfServe asked (((opened : _) × OpenedThenServed (filter_kind F.spelling F.built_cutoff) result s (W.world out.old) (W.world opened) (W.world out.new)) ⊎ NoLineAnswered result s (W.world out.old) (W.world out.new)) }
     ensures complete { (s : State) → IsTrue W.tells → IsTrue W.tells_input → IsTrue W.tells_output → IsStateOf F.spelling s (W.world out.old).seen.held → (SomeFailed (W.world out.old) (W.world out.new) → ⊥)
         → IfServe asked (Completed result (W.world out.old) (W.world out.new)) }
     ensures loaded { (s : State) → IsTrue W.tells → IsTrue W.tells_output → Now (IsStateOf F.spelling s) (W.world out.old)
-        → IfLoad asked (λ load. LoadEnds (filter_kind F.spelling F.built_cutoff) result s load.seed load.count (W.world out.old) (W.world out.new) ⊎ Unanswered result s (W.world out.old) (W.world out.new))
-        (Unanswered result s (W.world out.old) (W.world out.new)) }
+        → IfLoad asked (λ load. LoadEnds (filter_kind F.spelling F.built_cutoff) result s load.seed load.count (W.world out.old) (W.world out.new) ⊎ NoLineAnswered result s (W.world out.old) (W.world out.new))
+        (NoLineAnswered result s (W.world out.old) (W.world out.new)) }
     ensures loads { (s : State) → IsTrue W.tells → IsTrue W.tells_output → IsStateOf F.spelling s (W.world out.old).seen.held
-        → IfLoad asked (λ load. ((opened : _) × Loads (filter_kind F.spelling F.built_cutoff) result s load.seed load.count (W.world out.old) (W.world opened) (W.world out.new)) ⊎ Unanswered result s (W.world out.old) (W.world out.new))
-        (Unanswered result s (W.world out.old) (W.world out.new)) }
+        → IfLoad asked (λ load. ((opened : _) × Loads (filter_kind F.spelling F.built_cutoff) result s load.seed load.count (W.world out.old) (W.world opened) (W.world out.new)) ⊎ NoLineAnswered result s (W.world out.old) (W.world out.new))
+        (NoLineAnswered result s (W.world out.old) (W.world out.new)) }
     ensures load_complete { (s : State) → IsTrue W.tells → IsTrue W.tells_output → IsStateOf F.spelling s (W.world out.old).seen.held → (SomeFailed (W.world out.old) (W.world out.new) → ⊥)
         → IfLoad asked (λ _. (result ≡ 0) ⊎ (result ≡ 7)) ((result ≡ 0) ⊎ (result ≡ 7)) }
     ensures load_statuses { IfLoad asked (λ _. IsLoading result ⊎ (result ≡ 8)) (IsLoading result ⊎ (result ≡ 8)) }
@@ -90,7 +90,7 @@ fn run_asked<F: RangeFilter, W: Outside>(alloc: Global, asked: Asked, out: &mut 
 /// | 8 | not a store, already a store, a number out of range |
 /// | 9 | 2^40 bytes were taken |
 pub fn run<F: RangeFilter, W: Outside>(alloc: Global, words: &[String], out: &mut W) -> u8
-    ensures { Ran W.world W.tells W.tells_input W.tells_output (filter_kind F.spelling F.built_cutoff) F.first_fault (map string_bytes words.now) result out.old out.new }
+    ensures { RunContract W.world W.tells W.tells_input W.tells_output (filter_kind F.spelling F.built_cutoff) F.first_fault (map string_bytes words.now) result out.old out.new }
 {
     let asked = read_words(alloc, words);
     run_asked::<F, W>(alloc, asked, out)

@@ -1,5 +1,5 @@
 use Rattle.std.proofs.Common.{◌≡◌, ◌++◌, ◌+◌, ◌≤◌, length}
-use Rattle.level_merge.specs.Merging.{all_numbers}
+use Rattle.level_merge.specs.JobValue.{all_numbers}
 use Rattle.level_merge.proofs.bounds.numbers_of_all.Given as goal
 
 -- those so far, and those of what is left

@@ -59,8 +59,8 @@ returns-in-Ok-false-clause-some g c less =
     let fell = c.loop-left.invariant.some less in
     omega (arith, same, fell)
 
-pub returns-in-Ok-false-clause-ready : goal.returns-in-Ok-false-clause-ready
-returns-in-Ok-false-clause-ready g c t s less =
+pub returns-in-Ok-false-clause-none_wanted : goal.returns-in-Ok-false-clause-none_wanted
+returns-in-Ok-false-clause-none_wanted g c t s less =
     let tables = c.args.tables.now.tables in
     let old = c.loop-left.rows in
     let new = c.fill.new.self in
@@ -69,12 +69,12 @@ returns-in-Ok-false-clause-ready g c t s less =
     let once = subst (λ (h : Image). IsSoundMerge old tables h → IsFewer c.fill.result (wanted old tables) (wanted new tables)) from.moves.1.held (λ u. (c.fill.ensures.once t u).1) (from.kept.sources.sound t s) in
     none_wanted c.fill.result (wanted old tables) (wanted new tables) is once
 
-pub returns-in-Ok-false-clause-clear : goal.returns-in-Ok-false-clause-clear
-returns-in-Ok-false-clause-clear g c less =
+pub returns-in-Ok-false-clause-heads_pass : goal.returns-in-Ok-false-clause-heads_pass
+returns-in-Ok-false-clause-heads_pass g c less =
     subst (λ (f : KeyFloor). AreHeadsClear f c.fill.new.self.walks) (sym c.fill.ensures.stays.floor_is) (c.in-Ok-false.ensures.clear c.in-Ok-false.field-0-test)
 
-pub returns-in-Ok-false-clause-caught : goal.returns-in-Ok-false-clause-caught
-returns-in-Ok-false-clause-caught g c t less =
+pub returns-in-Ok-false-clause-caught_up : goal.returns-in-Ok-false-clause-caught_up
+returns-in-Ok-false-clause-caught_up g c t less =
     let tables = c.args.tables.now.tables in
     let walks = c.fill.new.self.walks in
     let caught = subst (λ (h : Image). AreCaughtUp c.loop-left.rows.floor tables h walks) c.loop-left.invariant.moves.1.held (c.in-Ok-false.ensures.ready t c.in-Ok-false.field-0-test) in
@@ -114,7 +114,7 @@ returns-in-Err-clause-fault g c =
     let now = numbers c.loop-left.rows.walks in
     let which = numbers c.args.rows.now.walks in
     let is = read_fault tells tables now mid after c.in-Err.why c.in-Err.ensures.taken c.in-Err.ensures.cause c.in-Err.ensures.fault in
-    subst (λ why. Rattle.level_merge.specs.Slices.IsTakeFault tells tables which before after why) (sym c.from.ensures)
+    subst (λ why. Rattle.level_merge.specs.SliceSteps.IsTakeFault tells tables which before after why) (sym c.from.ensures)
     (later_fault tells tables now which before mid after _ c.loop-left.invariant.kept.sources.numbers_are c.loop-left.invariant.moves is)
 
 pub returns-in-Err-clause-met : goal.returns-in-Err-clause-met

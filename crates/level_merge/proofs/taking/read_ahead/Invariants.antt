@@ -1,7 +1,7 @@
 use Rattle.std.proofs.Common.{◌<◌, ◌≤◌, ◌-◌}
 use Rattle.std.specs.Prelude.{IsTrue}
 use Rattle.disk_trait.specs.World.{ReadMoves}
-use Rattle.level_merge.specs.Slices.{KeepsRows}
+use Rattle.level_merge.specs.SliceSteps.{KeepsRows}
 use Rattle.merge_rows.specs.Reads.{OnlyReads, blocks_left}
 use Rattle.merge_rows.specs.Steps.{IsSoundMerge}
 use Rattle.level_merge.proofs.taking.read_ahead.Given as goal

@@ -10,8 +10,8 @@ use Rattle.merge_rows.specs.Steps.{AreCaughtUp, IsRowStep, IsSoundMerge, RowPass
 use Rattle.merge_rows.proofs.Rank.{falls, key_of_entry}
 use Rattle.merge_rows.proofs.RowSteps.{rises_on}
 use Rattle.merge_rows.proofs.Stays.{only_both}
-use Rattle.level_merge.specs.Merging.{IsBuilding, at_hand}
-use Rattle.level_merge.specs.Slices.{FillsOutput, KeepsRows}
+use Rattle.level_merge.specs.JobValue.{IsBuilding, at_hand}
+use Rattle.level_merge.specs.SliceSteps.{FillsOutput, KeepsRows}
 use Rattle.level_merge.proofs.Reading.{both_within, later_fault, some_then}
 use Rattle.level_merge.proofs.RowsTaken.{building_more, building_rises, fills_last, fills_one, none_left, row_follows, stays_on}
 use Rattle.state_model.specs.Merges.{lasting}
@@ -41,7 +41,7 @@ add_row-requires-clause-above g c =
     let new = c.advance_filled.new.self in
     let built = c.loop-rows.built.entries in
     let less : 0 < c.in_ok-left.left = omega (arith, c.if-left-eq0.false) in
-    let step = c.advance_filled.ensures.row g.D.Disk.tells c.args.tables.now.tables (g.D.Disk.world c.loop-rows.disk).seen.held (λ t. c.in_ok-left.ensures.caught t less) in
+    let step = c.advance_filled.ensures.row g.D.Disk.tells c.args.tables.now.tables (g.D.Disk.world c.loop-rows.disk).seen.held (λ t. c.in_ok-left.ensures.caught_up t less) in
     let building = subst (λ (f : KeyFloor). IsBuilding f built) (sym c.read_ahead.ensures.kept.floor_is) c.loop-rows.invariant.building in
     row_follows new.now mid.floor new.floor built step.1.passes building
 
@@ -50,7 +50,7 @@ loop-rows-smaller g c =
     let mid = c.read_ahead.new.rows in
     let new = c.advance_filled.new.self in
     let less : 0 < c.in_ok-left.left = omega (arith, c.if-left-eq0.false) in
-    let step = c.advance_filled.ensures.row g.D.Disk.tells c.args.tables.now.tables (g.D.Disk.world c.loop-rows.disk).seen.held (λ t. c.in_ok-left.ensures.caught t less) in
+    let step = c.advance_filled.ensures.row g.D.Disk.tells c.args.tables.now.tables (g.D.Disk.world c.loop-rows.disk).seen.held (λ t. c.in_ok-left.ensures.caught_up t less) in
     let some : is_some new.now ≡ true = sym c.advance_filled.ensures.said ∙ c.if-not-advance_filled.false in
     let passes = subst (λ (f : KeyFloor). RowPasses new.now f new.floor) c.read_ahead.ensures.kept.floor_is step.1.passes in
     falls max_key_bytes new.now c.loop-rows.rows.floor new.floor some passes (key_of_entry new.now c.advance_filled.ensures.sound)
@@ -74,7 +74,7 @@ loop-rows-preserved g c =
     let held = from.moves.1.held in
     let less : 0 < c.in_ok-left.left = omega (arith, c.if-left-eq0.false) in
     let kept : KeepsRows tells tables image old mid = subst (λ (h : Image). KeepsRows tells tables h old mid) held c.read_ahead.ensures.kept in
-    let step = step_of tells tables image start.seen.held mid new held c.advance_filled.ensures.row (λ t. read.caught t less) in
+    let step = step_of tells tables image start.seen.held mid new held c.advance_filled.ensures.row (λ t. read.caught_up t less) in
     let left = same_blocks tables mid new c.advance_filled.ensures.walks in
     let some : is_some new.now ≡ true = sym c.advance_filled.ensures.said ∙ c.if-not-advance_filled.false in
     let added : c.add_row.new.built.entries ≡ built ++ lasting c.args.drops (at_hand new.now) = ap (λ (b : Built). b.entries) c.in_ok-add_row.ensures.added in
@@ -128,7 +128,7 @@ returns-then-not-advance_filled-clause-sources g c =
     let held = from.moves.1.held in
     let less : 0 < c.in_ok-left.left = omega (arith, c.if-left-eq0.false) in
     let kept : KeepsRows tells tables image old mid = subst (λ (h : Image). KeepsRows tells tables h old mid) held c.read_ahead.ensures.kept in
-    let step = step_of tells tables image (g.D.Disk.world c.loop-rows.disk).seen.held mid new held c.advance_filled.ensures.row (λ t. read.caught t less) in
+    let step = step_of tells tables image (g.D.Disk.world c.loop-rows.disk).seen.held mid new held c.advance_filled.ensures.row (λ t. read.caught_up t less) in
     let left = same_blocks tables mid new c.advance_filled.ensures.walks in
     stays_on tells tables image c.args.beside c.args.drops first old mid begun built from.stay from.fills kept read.fewer new step.0 step.1 left
 
@@ -138,7 +138,7 @@ returns-then-not-advance_filled-clause-building g c =
     let new = c.advance_filled.new.self in
     let built = c.loop-rows.built.entries in
     let less : 0 < c.in_ok-left.left = omega (arith, c.if-left-eq0.false) in
-    let step = c.advance_filled.ensures.row g.D.Disk.tells c.args.tables.now.tables (g.D.Disk.world c.loop-rows.disk).seen.held (λ t. c.in_ok-left.ensures.caught t less) in
+    let step = c.advance_filled.ensures.row g.D.Disk.tells c.args.tables.now.tables (g.D.Disk.world c.loop-rows.disk).seen.held (λ t. c.in_ok-left.ensures.caught_up t less) in
     let building = subst (λ (f : KeyFloor). IsBuilding f built) (sym c.read_ahead.ensures.kept.floor_is) c.loop-rows.invariant.building in
     building_rises mid.floor new.floor built (rises_on new.now mid.floor new.floor step.1.passes) building
 
@@ -158,7 +158,7 @@ returns-then-not-advance_filled-clause-taken g c =
     let held = from.moves.1.held in
     let less : 0 < c.in_ok-left.left = omega (arith, c.if-left-eq0.false) in
     let kept : KeepsRows tells tables image old mid = subst (λ (h : Image). KeepsRows tells tables h old mid) held c.read_ahead.ensures.kept in
-    let step = step_of tells tables image (g.D.Disk.world c.loop-rows.disk).seen.held mid new held c.advance_filled.ensures.row (λ t. read.caught t less) in
+    let step = step_of tells tables image (g.D.Disk.world c.loop-rows.disk).seen.held mid new held c.advance_filled.ensures.row (λ t. read.caught_up t less) in
     let left = same_blocks tables mid new c.advance_filled.ensures.walks in
     let none : is_some new.now ≡ false = sym c.advance_filled.ensures.said ∙ c.if-not-advance_filled.true in
     fills_last tells tables image c.args.beside c.args.drops first old mid begun built from.stay from.fills kept read.fewer new step.0 step.1 left none
@@ -179,7 +179,7 @@ returns-then-not-advance_filled-clause-stop g c =
     let held = from.moves.1.held in
     let less : 0 < c.in_ok-left.left = omega (arith, c.if-left-eq0.false) in
     let kept : KeepsRows tells tables image old mid = subst (λ (h : Image). KeepsRows tells tables h old mid) held c.read_ahead.ensures.kept in
-    let step = step_of tells tables image (g.D.Disk.world c.loop-rows.disk).seen.held mid new held c.advance_filled.ensures.row (λ t. read.caught t less) in
+    let step = step_of tells tables image (g.D.Disk.world c.loop-rows.disk).seen.held mid new held c.advance_filled.ensures.row (λ t. read.caught_up t less) in
     let left = same_blocks tables mid new c.advance_filled.ensures.walks in
     let none : is_some new.now ≡ false = sym c.advance_filled.ensures.said ∙ c.if-not-advance_filled.true in
     none_left tells tables image c.args.beside c.args.drops first old mid begun built from.stay from.fills kept read.fewer new step.0 step.1 left none
@@ -204,7 +204,7 @@ returns-in_err-add_row-clause-sources g c =
     let held = from.moves.1.held in
     let less : 0 < c.in_ok-left.left = omega (arith, c.if-left-eq0.false) in
     let kept : KeepsRows tells tables image old mid = subst (λ (h : Image). KeepsRows tells tables h old mid) held c.read_ahead.ensures.kept in
-    let step = step_of tells tables image (g.D.Disk.world c.loop-rows.disk).seen.held mid new held c.advance_filled.ensures.row (λ t. read.caught t less) in
+    let step = step_of tells tables image (g.D.Disk.world c.loop-rows.disk).seen.held mid new held c.advance_filled.ensures.row (λ t. read.caught_up t less) in
     let left = same_blocks tables mid new c.advance_filled.ensures.walks in
     stays_on tells tables image c.args.beside c.args.drops first old mid begun built from.stay from.fills kept read.fewer new step.0 step.1 left
 
@@ -214,7 +214,7 @@ returns-in_err-add_row-clause-building g c =
     let new = c.advance_filled.new.self in
     let built = c.loop-rows.built.entries in
     let less : 0 < c.in_ok-left.left = omega (arith, c.if-left-eq0.false) in
-    let step = c.advance_filled.ensures.row g.D.Disk.tells c.args.tables.now.tables (g.D.Disk.world c.loop-rows.disk).seen.held (λ t. c.in_ok-left.ensures.caught t less) in
+    let step = c.advance_filled.ensures.row g.D.Disk.tells c.args.tables.now.tables (g.D.Disk.world c.loop-rows.disk).seen.held (λ t. c.in_ok-left.ensures.caught_up t less) in
     let building = subst (λ (f : KeyFloor). IsBuilding f built) (sym c.read_ahead.ensures.kept.floor_is) c.loop-rows.invariant.building in
     subst (IsBuilding new.floor) (sym (ap (λ (b : Built). b.entries) c.in_err-add_row.ensures.unchanged))
     (building_rises mid.floor new.floor built (rises_on new.now mid.floor new.floor step.1.passes) building)

@@ -2,8 +2,8 @@ use Rattle.std.proofs.Common.{◌≡◌, ◌<◌, ◌≤◌, ◌+◌, ◌-◌}
 use Rattle.std.specs.Prelude.{IsTrue}
 use Rattle.disk_trait.specs.World.{ReadMoves}
 use Rattle.key_base.specs.Limits.{max_key_bytes}
-use Rattle.level_merge.specs.Merging.{IsBuilding}
-use Rattle.level_merge.specs.Slices.{FillsOutput}
+use Rattle.level_merge.specs.JobValue.{IsBuilding}
+use Rattle.level_merge.specs.SliceSteps.{FillsOutput}
 use Rattle.merge_rows.specs.Reads.{OnlyReads, blocks_left}
 use Rattle.merge_rows.specs.Steps.{IsSoundMerge, SourcesStay}
 use Rattle.merge_rows.proofs.Rank.{height, strings}

@@ -12,7 +12,7 @@ use Rattle.table_file.specs.Opened.{Opened}
 use Rattle.table_model.specs.Tables.{filter_bytes_of}
 use Rattle.store_core.specs.Compacting.{AreAllMade, AreCompact, StandAlone}
 use Rattle.store_core.specs.Flushing.{installed_manifest, other_log_page}
-use Rattle.store_core.specs.Kept.{rows_of}
+use Rattle.store_core.specs.StoreValue.{rows_of}
 use Rattle.store_core.proofs.CompactDone.{fails_by, fails_wanting, install_done, install_fails_so, install_meanwhile, installed_whole, log_failed, log_fails_so, moved_write, other_area_of, passed_so, stays_map}
 use Rattle.store_core.proofs.CompactSlices.{later_rose}
 use Rattle.store_core.proofs.CompactVersions.{compacted_is_version}

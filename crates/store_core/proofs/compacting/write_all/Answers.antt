@@ -6,9 +6,9 @@ use Rattle.disk_trait.proofs.Moments.{now_at, started}
 use Rattle.extent_model.specs.Extents.{AreLaid}
 use Rattle.filter_api.specs.declared.settings.Settings.{Settings}
 use Rattle.image_model.specs.Stands.{settings_of}
-use Rattle.level_merge.specs.Making.{SliceMakes}
-use Rattle.level_merge.specs.Merging.{Merging, compaction}
-use Rattle.level_merge.specs.Slices.{MayMakeAsMany}
+use Rattle.level_merge.specs.Making.{MakesAnyOutputs}
+use Rattle.level_merge.specs.JobValue.{JobValue, compaction}
+use Rattle.level_merge.specs.SliceSteps.{MayMakeAsMany}
 use Rattle.level_merge.specs.declared.fault.Sliced.{Sliced}
 use Rattle.level_merge.specs.declared.fault.Sliced.TheVariants as sliced
 use Rattle.manifest.specs.Manifest.{Manifest}
@@ -18,7 +18,7 @@ use Rattle.table_file.specs.Opened.{Opened}
 use Rattle.table_model.specs.Tables.{filter_bytes_of}
 use Rattle.store_core.specs.Compacting.{AreAllMade, AreCompact, IsWritingCause, IsWritingFault}
 use Rattle.store_core.specs.Faults.{of_job_fault}
-use Rattle.store_core.specs.Kept.{rows_of}
+use Rattle.store_core.specs.StoreValue.{rows_of}
 use Rattle.store_core.specs.Scans.{IsScanShown}
 use Rattle.store_core.proofs.CompactFaults.{fails_so, none_moved, refused_so, slice_moved, writing_fault, writing_shown}
 use Rattle.store_core.proofs.CompactRuns.{IsCompacting, compacted_rows, compacting_begun, compacting_more}
@@ -44,7 +44,7 @@ loop-job-init g c =
     let free = c.in_ok-extents.extents in
     let settings : c.version.inside.settings ≡ settings_of m.version = ap (λ (n : Manifest). settings_of n.version) c.version.view_is in
     record {
-      on = subst (λ (x : Merging). IsCompacting m.version opened x free) (sym c.in_ok-job.ensures.begun)
+      on = subst (λ (x : JobValue). IsCompacting m.version opened x free) (sym c.in_ok-job.ensures.begun)
           (compacting_begun m.version opened entries c.version.inside.settings free c.requires.sound c.requires.rows c.in_ok-extents.ensures.pages c.in_ok-extents.ensures.extents);
       going = λ s tells held.
           let under = held.images a.seen.held (g.met.D.Disk.current c.args.disk.now tells) in
@@ -52,7 +52,7 @@ loop-job-init g c =
           let same = free_begun spelling bytes m opened c.requires.slot c.requires.rows s held.no_job held.none_kept free.extents c.in_ok-extents.ensures.extents is in
           let begun = going_begun spelling bytes m opened c.requires.slot c.requires.rows s held.no_job held.none_kept c.merges_begin.ensures.compaction a entries free held.memory held.images under.tables
           (c.in_ok-extents.ensures.pages ∙ sym under.ready.named.pages) same is in
-          subst (λ (x : Merging). IsGoing spelling bytes m opened s a a x free) (sym c.in_ok-job.ensures.begun)
+          subst (λ (x : JobValue). IsGoing spelling bytes m opened s a a x free) (sym c.in_ok-job.ensures.begun)
           (subst (λ (set : Settings). IsGoing spelling bytes m opened s a a (compaction entries set opened) free) (under.ready.named.settings ∙ sym settings) begun);
       moves = none_moved _ a;
     }
@@ -159,7 +159,7 @@ returns-in-Ready-clause-made g c s tells held =
     let x = g.D.Disk.world c.slice.new.disk in
     let going = c.loop-job.invariant.going s tells held in
     let under = now_at _ a w going.meanwhile w.seen.held (g.met.D.Disk.current c.loop-job.disk tells) in
-    let makes = subst (λ (said : Sliced). SliceMakes spelling bytes opened c.loop-job.job c.slice.new.self c.loop-job.extents c.slice.new.extents (Ok said) w x) c.in-Ready.is (c.in_ok-slice.ensures.slices.makes tells) in
+    let makes = subst (λ (said : Sliced). MakesAnyOutputs spelling bytes opened c.loop-job.job c.slice.new.self c.loop-job.extents c.slice.new.extents (Ok said) w x) c.in-Ready.is (c.in_ok-slice.ensures.slices.makes tells) in
     let on = makes_on spelling bytes m opened c.requires.slot c.requires.rows s held.no_job held.none_kept cutoff a w x c.loop-job.job c.slice.new.self c.loop-job.extents c.slice.new.extents going under.tables sliced.Ready makes in
     let all = all_are_made spelling bytes m opened c.requires.slot c.requires.rows s held.no_job held.none_kept cutoff a w x c.loop-job.job c.slice.new.self c.loop-job.extents c.slice.new.extents going under.tables sliced.Ready on
     c.slice.ensures.slices.moves on.said.1 in

@@ -1,7 +1,7 @@
 use Rattle.std.proofs.Common.{◌*◌}
 use Rattle.std.specs.Prelude.{IsTrue}
 use Rattle.block_model.specs.Pages.{page_bytes}
-use Rattle.level_merge.specs.Merging.{work_left}
+use Rattle.level_merge.specs.JobValue.{work_left}
 use Rattle.state_model.specs.State.{State}
 use Rattle.store_core.specs.Compacting.{IsHeldBy}
 use Rattle.store_core.specs.Tending.{SomeMoves}

@@ -10,9 +10,9 @@ use Rattle.entry_model.specs.Newest.{lookup}
 use Rattle.map_model.specs.SortedMap.{Bytes}
 use Rattle.state_model.specs.Bounds.{searched}
 use Rattle.state_model.specs.View.{first_found}
-use Rattle.store_core.specs.Caching.{AreTrue, IsTrueOf, cache_number, past_cache, reads_for, unkept}
+use Rattle.store_core.specs.Caching.{BlockAgrees, CacheAgrees, cache_number, past_cache, reads_for, unkept}
 use Rattle.store_core.specs.Getting.{IsReadIn, entries_by_table, said_in}
-use Rattle.level_merge.specs.Held.{AreHeld}
+use Rattle.level_merge.specs.TablesAgree.{TablesAgree}
 use Rattle.store_core.specs.declared.getting.BlockRead.{BlockRead}
 use Rattle.store_core.proofs.Caches.{same_then, true_same}
 use Rattle.store_core.proofs.Founds.{said_first}
@@ -39,10 +39,10 @@ returns-in_err-here-clause-bounded g t c settings states tells held are =
     by_first g.F.RangeFilter.spelling settings first more old.seen.held (λ ts us. new.seen.reads ≤ old.seen.reads + unkept blocks key ts us)
     (λ one older h rest. let most = unkept_first blocks key first more one older in omega (arith, reads, most)) c.args.tables.now states c.in-Some.ensures.cases.0 held
 
-pub returns-in_err-here-clause-met : goal.returns-in_err-here-clause-met
-returns-in_err-here-clause-met g t c settings states tells held are =
+pub returns-in_err-here-clause-only_if_read : goal.returns-in_err-here-clause-only_if_read
+returns-in_err-here-clause-only_if_read g t c settings states tells held are =
     let most = searched_first c.standing_tables_are_read.ensures.keys g.F.RangeFilter.spelling settings c.in-Some.table.now c.in-Some.older.now _ c.args.key.now c.args.tables.now states c.in-Some.ensures.cases.0 held in
-    let here : 1 ≤ searched settings c.args.key.now states = omega (arith, c.in_err-here.ensures.met, most) in
+    let here : 1 ≤ searched settings c.args.key.now states = omega (arith, c.in_err-here.ensures.only_if_read, most) in
     search rules
 
 pub returns-in_err-here-clause-shown : goal.returns-in_err-here-clause-shown
@@ -70,7 +70,7 @@ returns-then-is_some-clause-answer g t c settings states tells held are =
     let more = c.in-Some.older.now in
     let num : c.number-number.result ≡ cache_number blocks.first (length more) = c.number-number.ensures in
     let said = said_in c.in_ok-here.here.found c.look_in.new.buffer c.look_in.new.blocks.kept key in
-    by_first spelling settings first more image (λ ts us. AreTrue blocks ts us → said ≡ first_found (entries_by_table us) key)
+    by_first spelling settings first more image (λ ts us. CacheAgrees blocks ts us → said ≡ first_found (entries_by_table us) key)
     (λ one older h rest ours. said_first spelling settings first one older image h key said
     (c.in_ok-here.ensures.answer settings h.blocks tells h.stands (says_of_number spelling settings first more one older image h blocks c.number-number.result num ours))
     (found_said c.in_ok-here.here.found c.look_in.new.buffer c.look_in.new.blocks.kept key (sym c.is_some.ensures ∙ c.if-is_some.true) c.in_ok-here.ensures.found))
@@ -85,7 +85,7 @@ returns-then-is_some-clause-says g t c settings states tells held =
     let more = c.in-Some.older.now in
     let num : c.number-number.result ≡ cache_number blocks.first (length more) = c.number-number.ensures in
     by_first spelling settings first more image
-    (λ ts us. IfSome c.in_ok-here.here.read (λ r. r.number < past_cache → IsTrueOf blocks.first (r.number, r.block) (take r.size c.look_in.new.buffer) ts us))
+    (λ ts us. IfSome c.in_ok-here.here.read (λ r. r.number < past_cache → BlockAgrees blocks.first (r.number, r.block) (take r.size c.look_in.new.buffer) ts us))
     (λ one older h rest. read_true spelling settings first more one older image h blocks c.number-number.result num c.in_ok-here.here.read c.look_in.new.buffer c.look_in.new.blocks c.in_ok-here.ensures.read
     (c.in_ok-here.ensures.says settings h.blocks tells h.stands))
     c.args.tables.now states c.in-Some.ensures.cases.0 held
@@ -137,11 +137,11 @@ returns-clause-answer g t c settings states tells held are =
     let num : c.number-number.result ≡ cache_number blocks.first (length more) = c.number-number.ensures in
     let said = said_in c.in_ok-later.later.found c.look_in_all.new.buffer c.look_in_all.new.blocks.kept key in
     let nothing = nothing_said c.in_ok-here.here.found c.look_in.new.buffer c.look_in.new.blocks.kept key (sym c.is_some.ensures ∙ c.if-is_some.false) in
-    by_first spelling settings first more image (λ ts us. AreTrue blocks ts us → said ≡ first_found (entries_by_table us) key)
+    by_first spelling settings first more image (λ ts us. CacheAgrees blocks ts us → said ≡ first_found (entries_by_table us) key)
     (λ one older h rest ours.
     let says = c.in_ok-here.ensures.answer settings h.blocks tells h.stands (says_of_number spelling settings first more one older image h blocks c.number-number.result num ours) in
     said_next spelling settings first one image h key (sym nothing ∙ says) older said
-    (c.in_ok-later.ensures.answer settings older tells (subst (AreHeld spelling settings more older) (sym c.look_in.ensures.moves.held) rest)
+    (c.in_ok-later.ensures.answer settings older tells (subst (TablesAgree spelling settings more older) (sym c.look_in.ensures.moves.held) rest)
     (true_same blocks c.look_in.new.blocks more older c.look_in.ensures.same (older_true blocks first more one older ours))))
     c.args.tables.now states c.in-Some.ensures.cases.0 held are
 
@@ -153,12 +153,12 @@ returns-clause-says g t c settings states tells held =
     let first = c.in-Some.table.now in
     let more = c.in-Some.older.now in
     let num : c.number-number.result ≡ cache_number blocks.first (length more) = c.number-number.ensures in
-    subst (λ (o : Option BlockRead). IfSome o (λ r. r.number < past_cache → IsTrueOf blocks.first (r.number, r.block) (take r.size c.look_in_all.new.buffer) c.args.tables.now states)) (sym c.or.ensures)
+    subst (λ (o : Option BlockRead). IfSome o (λ r. r.number < past_cache → BlockAgrees blocks.first (r.number, r.block) (take r.size c.look_in_all.new.buffer) c.args.tables.now states)) (sym c.or.ensures)
     (by_first spelling settings first more image
-    (λ ts us. IfSome (option_or c.in_ok-later.later.read c.in_ok-here.here.read) (λ r. r.number < past_cache → IsTrueOf blocks.first (r.number, r.block) (take r.size c.look_in_all.new.buffer) ts us))
+    (λ ts us. IfSome (option_or c.in_ok-later.later.read c.in_ok-here.here.read) (λ r. r.number < past_cache → BlockAgrees blocks.first (r.number, r.block) (take r.size c.look_in_all.new.buffer) ts us))
     (λ one older h rest. true_later blocks first more one older c.look_in.new.buffer c.look_in_all.new.buffer c.look_in.new.blocks c.look_in_all.new.blocks c.in_ok-later.later.read c.in_ok-here.here.read
     c.look_in.ensures.same c.look_in_all.ensures.same c.in_ok-later.ensures.read
-    (c.in_ok-later.ensures.says settings older tells (subst (AreHeld spelling settings more older) (sym c.look_in.ensures.moves.held) rest))
+    (c.in_ok-later.ensures.says settings older tells (subst (TablesAgree spelling settings more older) (sym c.look_in.ensures.moves.held) rest))
     c.in_ok-later.ensures.unread
     (read_true spelling settings first more one older image h blocks c.number-number.result num c.in_ok-here.here.read c.look_in.new.buffer c.look_in.new.blocks c.in_ok-here.ensures.read
     (c.in_ok-here.ensures.says settings h.blocks tells h.stands)))
@@ -177,11 +177,11 @@ returns-in_err-later-clause-bounded g t c settings states tells held are =
     let num : c.number-number.result ≡ cache_number blocks.first (length more) = c.number-number.ensures in
     let reads = subst (λ (k : ℕ). mid.seen.reads ≤ old.seen.reads + reads_for blocks.kept k (block_for first key)) num c.look_in.ensures.moves.reads in
     let nothing = nothing_said c.in_ok-here.here.found c.look_in.new.buffer c.look_in.new.blocks.kept key (sym c.is_some.ensures ∙ c.if-is_some.false) in
-    by_first spelling settings first more old.seen.held (λ ts us. AreTrue blocks ts us → new.seen.reads ≤ old.seen.reads + unkept blocks key ts us)
+    by_first spelling settings first more old.seen.held (λ ts us. CacheAgrees blocks ts us → new.seen.reads ≤ old.seen.reads + unkept blocks key ts us)
     (λ one older h rest ours.
     let says = c.in_ok-here.ensures.answer settings h.blocks tells h.stands (says_of_number spelling settings first more one older old.seen.held h blocks c.number-number.result num ours) in
     let none = no_entry spelling settings first one old.seen.held h key (sym nothing ∙ says) in
-    let later = c.look_in_all.ensures.bounded settings older tells (subst (AreHeld spelling settings more older) (sym c.look_in.ensures.moves.held) rest)
+    let later = c.look_in_all.ensures.bounded settings older tells (subst (TablesAgree spelling settings more older) (sym c.look_in.ensures.moves.held) rest)
     (true_same blocks c.look_in.new.blocks more older c.look_in.ensures.same (older_true blocks first more one older ours)) in
     omega (arith, reads, later, unkept_same blocks c.look_in.new.blocks key more older c.look_in.ensures.same, unkept_next blocks key first more one older none))
     c.args.tables.now states c.in-Some.ensures.cases.0 held are
@@ -199,17 +199,17 @@ returns-clause-bounded g t c settings states tells held are =
     let num : c.number-number.result ≡ cache_number blocks.first (length more) = c.number-number.ensures in
     let reads = subst (λ (k : ℕ). mid.seen.reads ≤ old.seen.reads + reads_for blocks.kept k (block_for first key)) num c.look_in.ensures.moves.reads in
     let nothing = nothing_said c.in_ok-here.here.found c.look_in.new.buffer c.look_in.new.blocks.kept key (sym c.is_some.ensures ∙ c.if-is_some.false) in
-    by_first spelling settings first more old.seen.held (λ ts us. AreTrue blocks ts us → new.seen.reads ≤ old.seen.reads + unkept blocks key ts us)
+    by_first spelling settings first more old.seen.held (λ ts us. CacheAgrees blocks ts us → new.seen.reads ≤ old.seen.reads + unkept blocks key ts us)
     (λ one older h rest ours.
     let says = c.in_ok-here.ensures.answer settings h.blocks tells h.stands (says_of_number spelling settings first more one older old.seen.held h blocks c.number-number.result num ours) in
     let none = no_entry spelling settings first one old.seen.held h key (sym nothing ∙ says) in
-    let later = c.look_in_all.ensures.bounded settings older tells (subst (AreHeld spelling settings more older) (sym c.look_in.ensures.moves.held) rest)
+    let later = c.look_in_all.ensures.bounded settings older tells (subst (TablesAgree spelling settings more older) (sym c.look_in.ensures.moves.held) rest)
     (true_same blocks c.look_in.new.blocks more older c.look_in.ensures.same (older_true blocks first more one older ours)) in
     omega (arith, reads, later, unkept_same blocks c.look_in.new.blocks key more older c.look_in.ensures.same, unkept_next blocks key first more one older none))
     c.args.tables.now states c.in-Some.ensures.cases.0 held are
 
-pub returns-in_err-later-clause-met : goal.returns-in_err-later-clause-met
-returns-in_err-later-clause-met g t c settings states tells held are =
+pub returns-in_err-later-clause-only_if_read : goal.returns-in_err-later-clause-only_if_read
+returns-in_err-later-clause-only_if_read g t c settings states tells held are =
     let spelling = g.F.RangeFilter.spelling in
     let old = g.D.Disk.world c.args.disk.now in
     let key = c.args.key.now in
@@ -219,11 +219,11 @@ returns-in_err-later-clause-met g t c settings states tells held are =
     let num : c.number-number.result ≡ cache_number blocks.first (length more) = c.number-number.ensures in
     let nothing = nothing_said c.in_ok-here.here.found c.look_in.new.buffer c.look_in.new.blocks.kept key (sym c.is_some.ensures ∙ c.if-is_some.false) in
     let here : 1 ≤ searched settings key states =
-    by_first spelling settings first more old.seen.held (λ ts us. AreTrue blocks ts us → 1 ≤ searched settings key us)
+    by_first spelling settings first more old.seen.held (λ ts us. CacheAgrees blocks ts us → 1 ≤ searched settings key us)
     (λ one older h rest ours.
     let says = c.in_ok-here.ensures.answer settings h.blocks tells h.stands (says_of_number spelling settings first more one older old.seen.held h blocks c.number-number.result num ours) in
     let none = no_entry spelling settings first one old.seen.held h key (sym nothing ∙ says) in
-    let later = c.in_err-later.ensures.met settings older tells (subst (AreHeld spelling settings more older) (sym c.look_in.ensures.moves.held) rest)
+    let later = c.in_err-later.ensures.only_if_read settings older tells (subst (TablesAgree spelling settings more older) (sym c.look_in.ensures.moves.held) rest)
     (true_same blocks c.look_in.new.blocks more older c.look_in.ensures.same (older_true blocks first more one older ours)) in
     omega (arith, later, next_bound c.standing_tables_are_read.ensures.keys spelling settings first one old.seen.held h key older none))
     c.args.tables.now states c.in-Some.ensures.cases.0 held are in

@@ -59,8 +59,8 @@ read_in-requires-clause-named g c = sym c.block_for.ensures ∙ c.in-Some.is
 pub returns-in_err-size-clause-same : goal.returns-in_err-size-clause-same
 returns-in_err-size-clause-same g c = subst (AreSame c.args.blocks.now) (sym c.has.ensures.brought) (brought_same (c.args.number, c.in-Some.block) c.args.blocks.now)
 
-pub returns-in_err-size-clause-met : goal.returns-in_err-size-clause-met
-returns-in_err-size-clause-met g c =
+pub returns-in_err-size-clause-only_if_read : goal.returns-in_err-size-clause-only_if_read
+returns-in_err-size-clause-only_if_read g c =
     let here = some_read (block_for c.args.table.now c.args.key.now) c.in-Some.block (sym c.block_for.ensures ∙ c.in-Some.is) in
     search rules
 

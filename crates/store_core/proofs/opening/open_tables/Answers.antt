@@ -8,7 +8,7 @@ use Rattle.disk_trait.specs.Image.{Image}
 use Rattle.image_model.specs.Opening.{IsOpened}
 use Rattle.store_core.proofs.Moved.{two_more}
 use Rattle.store_core.proofs.OpeningTables.{all_opened, answer_behind, opened_more}
-use Rattle.store_core.specs.Kept.{rows_of}
+use Rattle.store_core.specs.StoreValue.{rows_of}
 use Rattle.store_core.specs.Opening.{AreOpened, IsTableAnswer, IsTablesAnswer, IsWide}
 use Rattle.table_file.specs.Opened.{Opened}
 use Rattle.store_core.proofs.opening.open_tables.Goals as goal

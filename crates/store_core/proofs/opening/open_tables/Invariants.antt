@@ -1,6 +1,6 @@
 use Rattle.std.proofs.Common.{◌≡◌, ◌≤◌, ◌*◌, IsTrue, take, length}
 use Rattle.disk_trait.specs.World.{ReadMoves}
-use Rattle.store_core.specs.Kept.{rows_of}
+use Rattle.store_core.specs.StoreValue.{rows_of}
 use Rattle.store_core.specs.Opening.{AreOpened}
 use Rattle.store_core.proofs.opening.open_tables.Given as goal
 

@@ -56,8 +56,8 @@ returns-in_err-advance-clause-bounded g c so sound =
     (g.D.Disk.world c.loop-rows.disk).seen.reads c.loop-rows.invariant.way c.advance.new.self (g.D.Disk.world c.advance.new.disk).seen.reads
     (λ so keeps sound. (c.advance.ensures.bounded so keeps (subst (λ (f : Image). IsSoundMerge c.loop-rows.rows tables f) (sym c.loop-rows.invariant.moves.1.held) sound)).reads) so sound
 
-pub returns-in_err-advance-clause-met : goal.returns-in_err-advance-clause-met
-returns-in_err-advance-clause-met g c =
+pub returns-in_err-advance-clause-only_if_read : goal.returns-in_err-advance-clause-only_if_read
+returns-in_err-advance-clause-only_if_read g c =
     let many = as_many_walks c.loop-rows.rows.walks c.args.rows.now.walks c.loop-rows.invariant.way.kept.numbers_are in
     let here : 1 ≤ length c.args.rows.now.walks = omega (arith, many, c.in_err-advance.ensures.met) in
     search rules

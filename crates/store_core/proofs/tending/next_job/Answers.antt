@@ -1,7 +1,7 @@
 use Rattle.std.proofs.Common.{◌≡◌, ◌∙◌, ap, subst}
 use Rattle.std.specs.Prelude.{IfSome, Option, Some, None}
 use Rattle.image_model.specs.Stands.{settings_of}
-use Rattle.level_merge.specs.Merging.{begun}
+use Rattle.level_merge.specs.JobValue.{begun}
 use Rattle.level_merge.specs.Plans.{IsPlanOf, MayStart, PlanByNumbers}
 use Rattle.manifest.specs.Manifest.{Manifest}
 use Rattle.state_model.specs.Merges.{choose}

@@ -2,7 +2,7 @@ use Rattle.std.proofs.Common.{◌≡◌, ◌≤◌, ◌+◌, ◌*◌, ◌∙◌,
 use Rattle.disk_trait.specs.World.{Streams}
 use Rattle.image_model.proofs.Opened.{opened_has_none}
 use Rattle.key_base.specs.Limits.{max_tables}
-use Rattle.surf_run.specs.Ends.{opening_bound}
+use Rattle.surf_run.specs.ServedOrNot.{opening_bound}
 use Rattle.surf_run.specs.Open.{IsFreeText, IsOpeningText, opening_status, opening_text}
 use Rattle.surf_run.proofs.EndCauses.{no_fall_on, no_fall_say}
 use Rattle.surf_run.proofs.LastLines.{read_since, said_reads, unserved, unserved_since}
@@ -19,7 +19,7 @@ pub returns-in-Ok-clause-reads : goal.returns-in-Ok-clause-reads
 returns-in-Ok-clause-reads g c s tells here = few_reads _ _ _ (c.open_store.ensures.reads s tells here)
 
 pub returns-in-Ok-clause-slot : goal.returns-in-Ok-clause-slot
-returns-in-Ok-clause-slot g c = c.whole_law.ensures.slot
+returns-in-Ok-clause-slot g c = c.consistency_law.ensures.slot
 
 pub returns-in-Ok-clause-still : goal.returns-in-Ok-clause-still
 returns-in-Ok-clause-still g c = open_moves (7 + 2 * max_tables) (g.W.Disk.world c.args.out.now) (g.W.Disk.world c.open_store.new.disk) c.open_store.ensures.moves

@@ -3,7 +3,7 @@ use Rattle.filter_api.specs.declared.settings.Field.{Field}
 use Rattle.line_model.specs.Replies.{Memory, text_of}
 use Rattle.program_words.specs.declared.load.Load.{Load}
 use Rattle.program_words.specs.declared.new_store.NewStore.{NewStore}
-use Rattle.surf_run.specs.Ends.{Unanswered, opening_bound}
+use Rattle.surf_run.specs.ServedOrNot.{NoLineAnswered, opening_bound}
 use Rattle.surf_run.specs.Formats.{bad_settings_text}
 use Rattle.surf_run.specs.Kind.{filter_kind}
 use Rattle.surf_run.specs.Loads.{IsLoading, LoadEnds, Loads}
@@ -35,7 +35,7 @@ returns-in-Load-clause-loaded g c s tells output now =
     let kind = filter_kind g.F.RangeFilter.spelling g.F.RangeFilter.built_cutoff in
     let old = g.W.Disk.world c.args.out.now in
     let new = g.W.Disk.world c.open_and_load.new.out in
-    at_load c.args.asked c.in-Load.load (λ (load : Load). LoadEnds kind c.open_and_load.result s load.seed load.count old new ⊎ Unanswered c.open_and_load.result s old new) _ c.in-Load.is
+    at_load c.args.asked c.in-Load.load (λ (load : Load). LoadEnds kind c.open_and_load.result s load.seed load.count old new ⊎ NoLineAnswered c.open_and_load.result s old new) _ c.in-Load.is
     (c.open_and_load.ensures.outcome s tells output now)
 
 pub returns-in-Load-clause-loads : goal.returns-in-Load-clause-loads
@@ -44,7 +44,7 @@ returns-in-Load-clause-loads g c s tells output here =
     let old = g.W.Disk.world c.args.out.now in
     let new = g.W.Disk.world c.open_and_load.new.out in
     at_load c.args.asked c.in-Load.load
-    (λ (load : Load). ((opened : _) × Loads kind c.open_and_load.result s load.seed load.count old (g.W.Disk.world opened) new) ⊎ Unanswered c.open_and_load.result s old new) _ c.in-Load.is
+    (λ (load : Load). ((opened : _) × Loads kind c.open_and_load.result s load.seed load.count old (g.W.Disk.world opened) new) ⊎ NoLineAnswered c.open_and_load.result s old new) _ c.in-Load.is
     (c.open_and_load.ensures.answers s tells output here)
 
 pub returns-in-Load-clause-load_complete : goal.returns-in-Load-clause-load_complete

@@ -1,10 +1,10 @@
 use Rattle.std.proofs.Common.{◌≡◌, ◌∙◌, ap, subst}
 use Rattle.std.specs.Prelude.{OnOk}
 use Rattle.disk_trait.specs.World.{Now}
-use Rattle.level_merge.specs.Held.{IsHeld}
-use Rattle.level_merge.specs.Merging.{Merging}
+use Rattle.level_merge.specs.TablesAgree.{TableAgrees}
+use Rattle.level_merge.specs.JobValue.{JobValue}
 use Rattle.level_merge.specs.Outputs.{built_table, last_row}
-use Rattle.level_merge.specs.Slices.{built_of}
+use Rattle.level_merge.specs.SliceSteps.{built_of}
 use Rattle.table_file.specs.Building.{Built}
 use Rattle.table_file.specs.Writing.{opened_of}
 use Rattle.level_merge.proofs.job.Job.close.Goals as goal
@@ -20,6 +20,6 @@ returns-clause-stands g c t =
     let own : c.replace-built.result ≡ record { settings = inside.settings; entries = inside.built.entries } =
     c.replace-built.ensures.value ∙ ap (λ set. record { settings = set; entries = inside.built.entries }) c.self.invariant.same in
     let whole : c.replace-built.result ≡ built_of c.args.self.now = own ∙ ap built_of c.self.view_is in
-    let level : inside.output ≡ c.args.self.now.output = ap (λ (m : Merging). m.output) c.self.view_is in
-    subst (λ n. OnOk c.write_output.result (Now (IsHeld spelling c.args.self.now.settings (opened_of cutoff (built_of c.args.self.now) last) (built_table spelling cutoff (built_of c.args.self.now) n last.first_page)) after)) level
-    (subst (λ (b : Built). OnOk c.write_output.result (Now (IsHeld spelling b.settings (opened_of cutoff b last) (built_table spelling cutoff b inside.output last.first_page)) after)) whole (c.write_output.ensures.stands t))
+    let level : inside.output ≡ c.args.self.now.output = ap (λ (m : JobValue). m.output) c.self.view_is in
+    subst (λ n. OnOk c.write_output.result (Now (TableAgrees spelling c.args.self.now.settings (opened_of cutoff (built_of c.args.self.now) last) (built_table spelling cutoff (built_of c.args.self.now) n last.first_page)) after)) level
+    (subst (λ (b : Built). OnOk c.write_output.result (Now (TableAgrees spelling b.settings (opened_of cutoff b last) (built_table spelling cutoff b inside.output last.first_page)) after)) whole (c.write_output.ensures.stands t))

@@ -1,6 +1,6 @@
 use Rattle.std.proofs.Common.{◌<◌, ◌∙◌, List, ℕ, length, ap, subst, sym, arith}
 use Rattle.std.specs.List.{AllByRecursion}
-use Rattle.level_merge.specs.Merging.{all_numbers}
+use Rattle.level_merge.specs.JobValue.{all_numbers}
 use Rattle.level_merge.proofs.Begun.{numbers_below}
 use Rattle.level_merge.proofs.job.Job.compact.Goals as goal
 

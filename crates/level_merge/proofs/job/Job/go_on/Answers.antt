@@ -1,7 +1,7 @@
 use Rattle.std.proofs.Common.{◌≡◌, ◌∙◌, ◌<◌, ◌-◌, ℕ, inl, true, false, [], length, refl, sym, ap, subst}
-use Rattle.level_merge.specs.Merging.{Merging, is_full}
+use Rattle.level_merge.specs.JobValue.{JobValue, is_full}
 use Rattle.level_merge.specs.Outputs.{last_row}
-use Rattle.level_merge.specs.Slices.{IsStop, need_of}
+use Rattle.level_merge.specs.SliceSteps.{IsStop, need_of}
 use Rattle.level_merge.specs.declared.fault.Sliced.TheVariants as sliced
 use Rattle.level_merge.specs.declared.taking.Stop.{Stop}
 use Rattle.level_merge.proofs.OutputLists.{full_has}
@@ -84,7 +84,7 @@ returns-in-Ok g c =
     let new = c.close.new.self in
     let extents = c.close.new.extents in
     let after = g.D.Disk.world c.close.new.disk in
-    let full : is_full mid.beside mid.built ≡ true = subst (λ (n : ℕ). is_full n mid.built ≡ true) (sym (ap (λ (m : Merging). m.beside) c.take_rows.ensures.rest)) why in
+    let full : is_full mid.beside mid.built ≡ true = subst (λ (n : ℕ). is_full n mid.built ≡ true) (sym (ap (λ (m : JobValue). m.beside) c.take_rows.ensures.rest)) why in
     let later = outputs_of (mid.beside - 1) (lasting mid.drops (rows_left mid.merge opened before.seen.held)) in
     let closes = c.in-Ok.ensures.closed in
     closed_one spelling cutoff tells c.args.blocks opened old mid free before here c.take_rows.ensures.rest reads c.take_rows.ensures.level c.take_rows.ensures.numbers c.take_rows.ensures.bounded new extents after c.close.ensures.merge c.close.ensures.same c.close.ensures.writes
@@ -112,7 +112,7 @@ returns-in-Err-close g c =
     let new = c.close.new.self in
     let extents = c.close.new.extents in
     let after = g.D.Disk.world c.close.new.disk in
-    let full : is_full mid.beside mid.built ≡ true = subst (λ (n : ℕ). is_full n mid.built ≡ true) (sym (ap (λ (m : Merging). m.beside) c.take_rows.ensures.rest)) why in
+    let full : is_full mid.beside mid.built ≡ true = subst (λ (n : ℕ). is_full n mid.built ≡ true) (sym (ap (λ (m : JobValue). m.beside) c.take_rows.ensures.rest)) why in
     let later = outputs_of (mid.beside - 1) (lasting mid.drops (rows_left mid.merge opened before.seen.held)) in
     closed_none spelling cutoff tells c.args.blocks opened old mid free before here c.take_rows.ensures.rest reads c.take_rows.ensures.level c.take_rows.ensures.numbers c.take_rows.ensures.bounded new extents after c.close.ensures.merge c.close.ensures.same c.close.ensures.writes
     (need_of spelling cutoff mid) c.in-Err-close.why c.in-Err-close.ensures.fault
@@ -137,8 +137,8 @@ returns-then-is_empty g c =
     let reads = c.take_rows.ensures.moves in
     let takes = c.in-Ok-End.ensures.taken in
     let why = subst (λ (s : Stop). IsStop tells c.args.blocks opened before.seen.held old.beside old.merge mid.merge mid.built s) c.in-Ok-End.field-0-is c.in-Ok-End.ensures.stop in
-    let whole = sym takes.sources.drops_are ∙ subst (λ (m : Merging). m.merge.drops ≡ false) c.self.view_is c.self.invariant.whole in
-    let empty = subst (λ (m : Merging). length m.built ≡ 0) c.self.view_is (no_length c.self.inside.built.entries (sym c.is_empty.ensures ∙ c.if-is_empty.true)) in
+    let whole = sym takes.sources.drops_are ∙ subst (λ (m : JobValue). m.merge.drops ≡ false) c.self.view_is c.self.invariant.whole in
+    let empty = subst (λ (m : JobValue). length m.built ≡ 0) c.self.view_is (no_length c.self.inside.built.entries (sym c.is_empty.ensures ∙ c.if-is_empty.true)) in
     had_nothing spelling cutoff tells c.args.blocks opened old mid free before here c.take_rows.ensures.rest reads c.take_rows.ensures.level c.take_rows.ensures.numbers c.take_rows.ensures.bounded
     takes.fewer
     (λ t tables left made others held makes taken.
@@ -163,8 +163,8 @@ returns-in-Ok-close g c =
     let new = c.close-in-Ok-End.new.self in
     let extents = c.close-in-Ok-End.new.extents in
     let after = g.D.Disk.world c.close-in-Ok-End.new.disk in
-    let whole = sym takes.sources.drops_are ∙ subst (λ (m : Merging). m.merge.drops ≡ false) c.self.view_is c.self.invariant.whole in
-    let some = subst (λ (m : Merging). 0 < length m.built) c.self.view_is (some_length c.self.inside.built.entries (sym c.is_empty.ensures ∙ c.if-is_empty.false)) in
+    let whole = sym takes.sources.drops_are ∙ subst (λ (m : JobValue). m.merge.drops ≡ false) c.self.view_is c.self.invariant.whole in
+    let some = subst (λ (m : JobValue). 0 < length m.built) c.self.view_is (some_length c.self.inside.built.entries (sym c.is_empty.ensures ∙ c.if-is_empty.false)) in
     let closes = c.in-Ok-close.ensures.closed in
     closed_last spelling cutoff tells c.args.blocks opened old mid free before here c.take_rows.ensures.rest reads c.take_rows.ensures.level c.take_rows.ensures.numbers c.take_rows.ensures.bounded new extents after c.close-in-Ok-End.ensures.merge c.close-in-Ok-End.ensures.same c.close-in-Ok-End.ensures.writes
     (last_row new.outputs) closes takes.fewer
@@ -193,8 +193,8 @@ returns-in-Err-close-2 g c =
     let new = c.close-in-Ok-End.new.self in
     let extents = c.close-in-Ok-End.new.extents in
     let after = g.D.Disk.world c.close-in-Ok-End.new.disk in
-    let whole = sym takes.sources.drops_are ∙ subst (λ (m : Merging). m.merge.drops ≡ false) c.self.view_is c.self.invariant.whole in
-    let some = subst (λ (m : Merging). 0 < length m.built) c.self.view_is (some_length c.self.inside.built.entries (sym c.is_empty.ensures ∙ c.if-is_empty.false)) in
+    let whole = sym takes.sources.drops_are ∙ subst (λ (m : JobValue). m.merge.drops ≡ false) c.self.view_is c.self.invariant.whole in
+    let some = subst (λ (m : JobValue). 0 < length m.built) c.self.view_is (some_length c.self.inside.built.entries (sym c.is_empty.ensures ∙ c.if-is_empty.false)) in
     closed_none spelling cutoff tells c.args.blocks opened old mid free before here c.take_rows.ensures.rest reads c.take_rows.ensures.level c.take_rows.ensures.numbers c.take_rows.ensures.bounded new extents after c.close-in-Ok-End.ensures.merge c.close-in-Ok-End.ensures.same c.close-in-Ok-End.ensures.writes
     (need_of spelling cutoff mid) c.in-Err-close-2.why c.in-Err-close-2.ensures.fault
     (λ t tables left made others held makes taken.

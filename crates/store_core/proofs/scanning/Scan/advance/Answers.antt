@@ -57,9 +57,9 @@ returns-in_err-found-clause-bounded g c m so shows =
     subst (λ (w : ScanWalk). new.seen.reads ≤ old.seen.reads + step_bound w old.seen.held) c.self.view_is
     (shows_bounded g.D.Disk.tells so g.F.RangeFilter.spelling old.seen.held _ m inside old.seen.reads new.seen.reads (sym c.has_ended.ensures ∙ c.if-has_ended.false) (c.next_pair.ensures.bounded so inside.sound))
 
-pub returns-in_err-found-clause-met : goal.returns-in_err-found-clause-met
-returns-in_err-found-clause-met g c =
-    let some : 1 ≤ opened_tables c.args.self.now = omega (arith, ap opened_tables c.self.view_is, c.in_err-found.ensures.met) in
+pub returns-in_err-found-clause-only_if_read : goal.returns-in_err-found-clause-only_if_read
+returns-in_err-found-clause-only_if_read g c =
+    let some : 1 ≤ opened_tables c.args.self.now = omega (arith, ap opened_tables c.self.view_is, c.in_err-found.ensures.only_if_read) in
     let going : c.args.self.now.left ≡ Some 0 → ⊥ = λ is. not_ended c.self.inside.left (sym c.has_ended.ensures ∙ c.if-has_ended.false) (ap (λ (w : ScanWalk). w.left) c.self.view_is ∙ is) in
     let here : (1 ≤ opened_tables c.args.self.now) × (c.args.self.now.left ≡ Some 0 → ⊥) = (some, going) in
     search rules

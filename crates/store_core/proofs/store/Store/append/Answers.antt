@@ -5,8 +5,8 @@ use Rattle.entry_model.specs.Entries.{Entry, IsEntry, entry_of, need}
 use Rattle.log_model.proofs.Logs.{all_push}
 use Rattle.map_model.specs.SortedMap.{Bytes}
 use Rattle.table_model.specs.Tables.{filter_bytes_of}
-use Rattle.store_core.specs.Kept.{Kept}
-use Rattle.store_core.specs.Tied.{Tied}
+use Rattle.store_core.specs.StoreValue.{StoreValue}
+use Rattle.store_core.specs.Represents.{Represents}
 use Rattle.store_core.proofs.Ties.{append_done, append_fails, append_moves, filled_logged}
 use Rattle.store_core.proofs.store.Store.append.Goals as goal
 use Rattle.store_core.proofs.store.Store.append.Goals.{in-Some-1, in-None-1}
@@ -21,7 +21,7 @@ invariant_of-self g c =
     let before = whole.entries in
     let e = c.args.entry in
     let same = same_entry e _ _ c.key.ensures c.value.ensures in
-    let fits = subst (λ (k : Kept). k.log.filled + need e ≤ 262144) (sym c.self.view_is) c.requires.fits in
+    let fits = subst (λ (k : StoreValue). k.log.filled + need e ≤ 262144) (sym c.self.view_is) c.requires.fits in
     let more = subst (λ (x : Entry). c.append.new.self.filled + 1 ≡ c.self.inside.log.filled + need x) same c.in-Ok.ensures.filled in
     let filled_is = filled_logged before.entries e c.self.inside.log.filled c.append.new.self.filled before.filled_is more in (
       record {
@@ -47,8 +47,8 @@ returns-in-Ok-clause-turns g c s tells is =
     let spelling = g.F.RangeFilter.spelling in
     let bytes = filter_bytes_of g.F.RangeFilter.spelling g.F.RangeFilter.built_cutoff in
     let e = c.args.entry in
-    let tied = subst (λ (k : Kept). Tied spelling bytes k s (g.D.Disk.world c.args.disk.now)) (sym c.self.view_is) is in
-    let fits = subst (λ (k : Kept). k.log.filled + need e ≤ 262144) (sym c.self.view_is) c.requires.fits in
+    let tied = subst (λ (k : StoreValue). Represents spelling bytes k s (g.D.Disk.world c.args.disk.now)) (sym c.self.view_is) is in
+    let fits = subst (λ (k : StoreValue). k.log.filled + need e ≤ 262144) (sym c.self.view_is) c.requires.fits in
     append_done c.jobs_are_followed.ensures.image spelling bytes _ s e _ _ _ (same_entry e _ _ c.key.ensures c.value.ensures) tied c.self.invariant.0 fits c.append.ensures.moves _ _ _
     (c.in-Ok.ensures.crash s.log tells tied.log) refl refl refl refl c.in-Ok.ensures.filled (c.set.ensures.newest s.log tied.memory) c.requires.sound
 
@@ -56,18 +56,18 @@ pub returns-in-Ok-clause-moves : goal.returns-in-Ok-clause-moves
 returns-in-Ok-clause-moves g c =
     let e = c.args.entry in
     let whole = c.self.invariant.0 in
-    subst (λ (k : Kept). WriteMoves 0 (4096 * k.manifest.version.pages) (g.D.Disk.world c.args.disk.now) (g.D.Disk.world c.append.new.disk)) c.self.view_is
+    subst (λ (k : StoreValue). WriteMoves 0 (4096 * k.manifest.version.pages) (g.D.Disk.world c.args.disk.now) (g.D.Disk.world c.append.new.disk)) c.self.view_is
     (append_moves _ c.self.inside.log.area c.self.inside.log.filled e _ _ _ whole.version whole.area (same_entry e _ _ c.key.ensures c.value.ensures)
-    (subst (λ (k : Kept). k.log.filled + need e ≤ 262144) (sym c.self.view_is) c.requires.fits) c.append.ensures.moves)
+    (subst (λ (k : StoreValue). k.log.filled + need e ≤ 262144) (sym c.self.view_is) c.requires.fits) c.append.ensures.moves)
 
 pub returns-in-Err-clause-turns : goal.returns-in-Err-clause-turns
 returns-in-Err-clause-turns g c s tells is =
     let spelling = g.F.RangeFilter.spelling in
     let bytes = filter_bytes_of g.F.RangeFilter.spelling g.F.RangeFilter.built_cutoff in
     let e = c.args.entry in
-    let tied = subst (λ (k : Kept). Tied spelling bytes k s (g.D.Disk.world c.args.disk.now)) (sym c.self.view_is) is in
-    let fits = subst (λ (k : Kept). k.log.filled + need e ≤ 262144) (sym c.self.view_is) c.requires.fits in
-    let stopped : c.match-entry.self.stopped ≡ true = elim c.match-entry.branch [ in-Some-1 w ↦ ap (λ (k : Kept). k.stopped) w.self-is | in-None-1 w ↦ ap (λ (k : Kept). k.stopped) w.self-is ] in
+    let tied = subst (λ (k : StoreValue). Represents spelling bytes k s (g.D.Disk.world c.args.disk.now)) (sym c.self.view_is) is in
+    let fits = subst (λ (k : StoreValue). k.log.filled + need e ≤ 262144) (sym c.self.view_is) c.requires.fits in
+    let stopped : c.match-entry.self.stopped ≡ true = elim c.match-entry.branch [ in-Some-1 w ↦ ap (λ (k : StoreValue). k.stopped) w.self-is | in-None-1 w ↦ ap (λ (k : StoreValue). k.stopped) w.self-is ] in
     append_fails c.jobs_are_followed.ensures.image spelling bytes _ s e _ _ _ (same_entry e _ _ c.key.ensures c.value.ensures) tied c.self.invariant.0 fits c.append.ensures.moves _ _ _
     (c.in-Err.ensures.crash s.log tells tied.log) stopped
 
@@ -75,6 +75,6 @@ pub returns-in-Err-clause-moves : goal.returns-in-Err-clause-moves
 returns-in-Err-clause-moves g c =
     let e = c.args.entry in
     let whole = c.self.invariant.0 in
-    subst (λ (k : Kept). WriteMoves 0 (4096 * k.manifest.version.pages) (g.D.Disk.world c.args.disk.now) (g.D.Disk.world c.append.new.disk)) c.self.view_is
+    subst (λ (k : StoreValue). WriteMoves 0 (4096 * k.manifest.version.pages) (g.D.Disk.world c.args.disk.now) (g.D.Disk.world c.append.new.disk)) c.self.view_is
     (append_moves _ c.self.inside.log.area c.self.inside.log.filled e _ _ _ whole.version whole.area (same_entry e _ _ c.key.ensures c.value.ensures)
-    (subst (λ (k : Kept). k.log.filled + need e ≤ 262144) (sym c.self.view_is) c.requires.fits) c.append.ensures.moves)
+    (subst (λ (k : StoreValue). k.log.filled + need e ≤ 262144) (sym c.self.view_is) c.requires.fits) c.append.ensures.moves)

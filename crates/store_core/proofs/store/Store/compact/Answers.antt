@@ -1,6 +1,6 @@
 use Rattle.std.proofs.Common.{◌∙◌, refl, sym, ap, subst}
 use Rattle.table_model.specs.Tables.{filter_bytes_of}
-use Rattle.store_core.specs.Kept.{IsWhole, Kept}
+use Rattle.store_core.specs.StoreValue.{IsConsistent, StoreValue}
 use Rattle.store_core.specs.declared.store.Store.TheInside.{Inside}
 use Rattle.store_core.proofs.CompactBegins.{answered_empty, answered_last, is_at_last, is_below_last, tied_without}
 use Rattle.store_core.proofs.store.Store.compact.Goals as goal
@@ -9,26 +9,26 @@ pub returns-then-holds_nothing-clause-answered : goal.returns-then-holds_nothing
 returns-then-holds_nothing-clause-answered g c s tells running tied =
     let none = c.holds_nothing.ensures.nothing c.if-holds_nothing.true in
     answered_empty c.args.self.now c.drop_job.new.self c.drop_job.ensures g.F.RangeFilter.spelling (filter_bytes_of g.F.RangeFilter.spelling g.F.RangeFilter.built_cutoff) s (g.D.Disk.world c.args.disk.now)
-    (subst IsWhole c.self.view_is c.self.invariant.0) tied (g.met.D.Disk.current c.args.disk.now tells) none.0 none.1
+    (subst IsConsistent c.self.view_is c.self.invariant.0) tied (g.met.D.Disk.current c.args.disk.now tells) none.0 none.1
 
 pub returns-then-self-2-clause-answered : goal.returns-then-self-2-clause-answered
 returns-then-self-2-clause-answered g c s tells running tied =
     answered_last c.args.self.now c.drop_job.new.self c.drop_job.ensures g.F.RangeFilter.spelling (filter_bytes_of g.F.RangeFilter.spelling g.F.RangeFilter.built_cutoff) s (g.D.Disk.world c.args.disk.now)
-    (subst IsWhole c.self.view_is c.self.invariant.0) tied (g.met.D.Disk.current c.args.disk.now tells) (c.holds_nothing.ensures.some c.if-holds_nothing.false)
-    (sym (ap (λ (k : Kept). k.manifest.version.epoch) c.self-2.view_is) ∙ (sym (ap (λ (i : Inside _). i.version.version.epoch) c.self-inside.view_is) ∙ c.if-self-2.true))
+    (subst IsConsistent c.self.view_is c.self.invariant.0) tied (g.met.D.Disk.current c.args.disk.now tells) (c.holds_nothing.ensures.some c.if-holds_nothing.false)
+    (sym (ap (λ (k : StoreValue). k.manifest.version.epoch) c.self-2.view_is) ∙ (sym (ap (λ (i : Inside _). i.version.version.epoch) c.self-inside.view_is) ∙ c.if-self-2.true))
 
 pub returns-then-self-2-clause-refused : goal.returns-then-self-2-clause-refused
 returns-then-self-2-clause-refused g c = (
-  sym (ap (λ (k : Kept). k.stopped) c.self.view_is) ∙ c.if-self.false,
+  sym (ap (λ (k : StoreValue). k.stopped) c.self.view_is) ∙ c.if-self.false,
   refl,
-  is_at_last c.args.self.now c.drop_job.new.self c.drop_job.ensures (sym (ap (λ (k : Kept). k.manifest.version.epoch) c.self-2.view_is) ∙ (sym (ap (λ (i : Inside _). i.version.version.epoch) c.self-inside.view_is) ∙ c.if-self-2.true)),
+  is_at_last c.args.self.now c.drop_job.new.self c.drop_job.ensures (sym (ap (λ (k : StoreValue). k.manifest.version.epoch) c.self-2.view_is) ∙ (sym (ap (λ (i : Inside _). i.version.version.epoch) c.self-inside.view_is) ∙ c.if-self-2.true)),
 )
 
 pub compact_all-requires-clause-epoch : goal.compact_all-requires-clause-epoch
-compact_all-requires-clause-epoch g c = is_below_last c.args.self.now c.drop_job.new.self c.drop_job.ensures (subst IsWhole c.self.view_is c.self.invariant.0)
-    (λ last. c.if-self-2.false (ap (λ (i : Inside _). i.version.version.epoch) c.self-inside.view_is ∙ (ap (λ (k : Kept). k.manifest.version.epoch) c.self-2.view_is ∙ last)))
+compact_all-requires-clause-epoch g c = is_below_last c.args.self.now c.drop_job.new.self c.drop_job.ensures (subst IsConsistent c.self.view_is c.self.invariant.0)
+    (λ last. c.if-self-2.false (ap (λ (i : Inside _). i.version.version.epoch) c.self-inside.view_is ∙ (ap (λ (k : StoreValue). k.manifest.version.epoch) c.self-2.view_is ∙ last)))
 
 pub returns-clause-answered : goal.returns-clause-answered
 returns-clause-answered g c s tells running tied = c.compact_all.ensures.answered s tells
     (tied_without c.args.self.now c.drop_job.new.self c.drop_job.ensures g.F.RangeFilter.spelling (filter_bytes_of g.F.RangeFilter.spelling g.F.RangeFilter.built_cutoff) s (g.D.Disk.world c.args.disk.now)
-    (subst IsWhole c.self.view_is c.self.invariant.0) tied)
+    (subst IsConsistent c.self.view_is c.self.invariant.0) tied)

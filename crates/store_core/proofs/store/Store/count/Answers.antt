@@ -31,8 +31,8 @@ returns-in_err-scan-clause-shown g c so =
     let here = scan_shown c.args.self.now.stopped (limit_of (Count c.args.low.now c.args.high.now)) c.args.self.now.tables (g.D.Disk.world c.args.disk.now).seen.held c.in_err-scan.field-0.0 c.in_err-scan.ensures.refused in
     search rules
 
-pub returns-in_err-scan-clause-met : goal.returns-in_err-scan-clause-met
-returns-in_err-scan-clause-met g c s so tied =
+pub returns-in_err-scan-clause-only_if_read : goal.returns-in_err-scan-clause-only_if_read
+returns-in_err-scan-clause-only_if_read g c s so tied =
     let here = scan_met c.args.self.now.stopped (limit_of (Count c.args.low.now c.args.high.now)) (seek_bound s c.args.low.now c.args.high.now) c.in_err-scan.field-0.0 c.in_err-scan.ensures.refused in
     search rules
 
@@ -95,12 +95,12 @@ returns-in_err-advance-clause-shown g c so =
     let here = subst (λ (ts : List Opened). IsScanShown ts (g.D.Disk.world c.args.disk.now).seen.held why) (c.loop-scan.invariant.tables ∙ c.in_ok-scan.ensures.made.0) there in
     search rules
 
-pub returns-in_err-advance-clause-met : goal.returns-in_err-advance-clause-met
-returns-in_err-advance-clause-met g c s so tied =
+pub returns-in_err-advance-clause-only_if_read : goal.returns-in_err-advance-clause-only_if_read
+returns-in_err-advance-clause-only_if_read g c s so tied =
     let before = g.D.Disk.world c.args.disk.now in
     let seen = seen_as g.F.RangeFilter.spelling (filter_bytes_of g.F.RangeFilter.spelling g.F.RangeFilter.built_cutoff) c.args.self.now s before (g.met.D.Disk.current c.args.disk.now so) tied in
-    let some : 1 ≤ opened_tables c.in_ok-scan.scan = omega (arith, c.loop-scan.invariant.sources, c.in_err-advance.ensures.met.0) in
-    let here = met_any (seek_bound s c.args.low.now c.args.high.now) c.in_err-advance.field-0.0 (c.in_ok-scan.ensures.met s before.seen.held seen some) in
+    let some : 1 ≤ opened_tables c.in_ok-scan.scan = omega (arith, c.loop-scan.invariant.sources, c.in_err-advance.ensures.only_if_read.0) in
+    let here = met_any (seek_bound s c.args.low.now c.args.high.now) c.in_err-advance.field-0.0 (c.in_ok-scan.ensures.only_if_read s before.seen.held seen some) in
     search rules
 
 pub returns-in_err-advance-clause-refused : goal.returns-in_err-advance-clause-refused
@@ -109,8 +109,8 @@ returns-in_err-advance-clause-refused g c =
     c.in_err-advance.field-0.0 c.loop-scan.invariant.moves.1.read_faults c.in_ok-scan.ensures.refused c.in_err-advance.ensures.refused in
     search rules
 
-pub returns-in_err-advance-clause-still : goal.returns-in_err-advance-clause-still
-returns-in_err-advance-clause-still g c stopped = absurd (false≢true (sym c.in_ok-scan.ensures.refused.0 ∙ stopped))
+pub returns-in_err-advance-clause-no_call : goal.returns-in_err-advance-clause-no_call
+returns-in_err-advance-clause-no_call g c stopped = absurd (false≢true (sym c.in_ok-scan.ensures.refused.0 ∙ stopped))
 
 pub returns-in_err-advance-clause-moves : goal.returns-in_err-advance-clause-moves
 returns-in_err-advance-clause-moves g c =
@@ -179,8 +179,8 @@ returns-clause-tied g c s tied =
     let moves = reads_on (g.D.Disk.world c.args.disk.now) (g.D.Disk.world c.loop-scan.disk) (g.D.Disk.world c.advance.new.disk) c.loop-scan.invariant.moves c.advance.ensures.moves in
     tied_read g.F.RangeFilter.spelling (filter_bytes_of g.F.RangeFilter.spelling g.F.RangeFilter.built_cutoff) c.args.self.now s _ _ moves.0 moves.1 tied
 
-pub returns-clause-still : goal.returns-clause-still
-returns-clause-still g c stopped = absurd (false≢true (sym c.in_ok-scan.ensures.refused.0 ∙ stopped))
+pub returns-clause-no_call : goal.returns-clause-no_call
+returns-clause-no_call g c stopped = absurd (false≢true (sym c.in_ok-scan.ensures.refused.0 ∙ stopped))
 
 pub returns-clause-moves : goal.returns-clause-moves
 returns-clause-moves g c =

@@ -4,8 +4,8 @@ use Rattle.entry_model.specs.Entries.{del_entry}
 use Rattle.line_model.specs.Requests.{Del}
 use Rattle.state_model.specs.Changes.{written}
 use Rattle.table_model.specs.Tables.{filter_bytes_of}
-use Rattle.store_core.specs.Answers.{Answered, told_change}
-use Rattle.store_core.specs.Kept.{IsWhole}
+use Rattle.store_core.specs.Answers.{AnswersRequest, told_change}
+use Rattle.store_core.specs.StoreValue.{IsConsistent}
 use Rattle.store_core.specs.declared.error.StoreError.{StoreError}
 use Rattle.store_core.proofs.Answering.{is_left, is_made, wrote_answers}
 use Rattle.store_core.proofs.FlushAnswers.{passed_on, stands_now}
@@ -19,9 +19,9 @@ returns-in_err-check_key-clause-answered g c s tells runs tied =
     let w = g.D.Disk.world c.args.disk.now in
     let request = Del c.args.key.now in
     let x = c.in_err-check_key.field-0.0 in
-    subst (λ (r : Result (Unit {0}) StoreError). Answered spelling bytes s request (told_change r) c.args.self.now w w) (passed_on c.from_residual.result x c.from_residual.ensures.1)
+    subst (λ (r : Result (Unit {0}) StoreError). AnswersRequest spelling bytes s request (told_change r) c.args.self.now w w) (passed_on c.from_residual.result x c.from_residual.ensures.1)
     (limit_answers spelling bytes s request x c.args.self.now w w c.in_err-check_key.ensures
-    (stands_now spelling bytes c.args.self.now s (subst IsWhole c.self.view_is c.self.invariant.0) w tied) tied)
+    (stands_now spelling bytes c.args.self.now s (subst IsConsistent c.self.view_is c.self.invariant.0) w tied) tied)
 
 pub returns-clause-answered : goal.returns-clause-answered
 returns-clause-answered g c s tells runs tied =

@@ -6,11 +6,11 @@ use Rattle.state_model.specs.Changes.{flushed}
 use Rattle.table_file.specs.Opened.{Opened}
 use Rattle.table_file.specs.Writing.{opened_of}
 use Rattle.table_model.specs.Tables.{filter_bytes_of}
-use Rattle.store_core.specs.Answers.{Wrote}
+use Rattle.store_core.specs.Answers.{WroteEntry}
 use Rattle.store_core.specs.Flushing.{IsPlan, IsPlanRefusal}
-use Rattle.store_core.specs.Kept.{IsWhole, Kept}
+use Rattle.store_core.specs.StoreValue.{IsConsistent, StoreValue}
 use Rattle.store_core.specs.Running.{extents_with, outputs_in}
-use Rattle.store_core.specs.Tied.{Tied}
+use Rattle.store_core.specs.Represents.{Represents}
 use Rattle.store_core.specs.declared.error.StoreError.{StoreError}
 use Rattle.store_core.proofs.FlushAnswers.{flush_done, flush_failed, nothing_to_flush, passed_on, plan_of_memory, plan_refused, row_again, row_within, wanted_with}
 use Rattle.store_core.proofs.Plans.{row_free}
@@ -21,11 +21,11 @@ use Rattle.store_core.proofs.store.Store.flush_memory.Goals as goal
 pub returns-then-is_empty-clause-wrote : goal.returns-then-is_empty-clause-wrote
 returns-then-is_empty-clause-wrote g c s tells tied =
     nothing_to_flush g.F.RangeFilter.spelling (filter_bytes_of g.F.RangeFilter.spelling g.F.RangeFilter.built_cutoff) c.args.self.now s _ _
-    (subst IsWhole c.self.view_is c.self.invariant.0) tied (subst (λ (k : Kept). k.memory.entries ≡ []) c.self.view_is (c.is_empty.ensures.0 c.if-is_empty.true))
+    (subst IsConsistent c.self.view_is c.self.invariant.0) tied (subst (λ (k : StoreValue). k.memory.entries ≡ []) c.self.view_is (c.is_empty.ensures.0 c.if-is_empty.true))
 
 pub returns-then-is_empty-clause-begun : goal.returns-then-is_empty-clause-begun
 returns-then-is_empty-clause-begun g c =
-    begun_where_none c.args.self.now (subst IsWhole c.self.view_is c.self.invariant.0) (subst (λ (k : Kept). k.memory.entries ≡ []) c.self.view_is (c.is_empty.ensures.0 c.if-is_empty.true))
+    begun_where_none c.args.self.now (subst IsConsistent c.self.view_is c.self.invariant.0) (subst (λ (k : StoreValue). k.memory.entries ≡ []) c.self.view_is (c.is_empty.ensures.0 c.if-is_empty.true))
 
 pub plan_flush-requires-clause-table : goal.plan_flush-requires-clause-table
 plan_flush-requires-clause-table g c = memory_table _ c.self.invariant.0 (λ none. never c.is_empty.result (c.is_empty.ensures.1 none) c.if-is_empty.false)
@@ -42,12 +42,12 @@ returns-in_err-plan-clause-wrote g c s tells tied =
     let x = c.in_err-plan.field-0.0 in
     let v = c.self.inside.version.version in
     let here = subst (λ (rs : List Row). IsPlanRefusal bytes v rs c.self.inside.memory.entries x) c.outputs_of.ensures c.in_err-plan.ensures.refused in
-    let why = subst (λ (k : Kept). IsPlanRefusal bytes k.manifest.version (outputs_in k.job) k.memory.entries x) c.self.view_is here in
-    subst (λ (r : Result (Unit {0}) StoreError). Wrote spelling bytes s (flushed bytes s) r c.args.self.now (g.D.Disk.world c.args.disk.now) (g.D.Disk.world c.args.disk.now))
+    let why = subst (λ (k : StoreValue). IsPlanRefusal bytes k.manifest.version (outputs_in k.job) k.memory.entries x) c.self.view_is here in
+    subst (λ (r : Result (Unit {0}) StoreError). WroteEntry spelling bytes s (flushed bytes s) r c.args.self.now (g.D.Disk.world c.args.disk.now) (g.D.Disk.world c.args.disk.now))
     (passed_on c.from_residual.result x c.from_residual.ensures.1)
     (plan_refused spelling bytes c.args.self.now s (g.D.Disk.world c.args.disk.now) (g.met.D.Disk.current c.args.disk.now tells) tied
-    (subst (λ (k : Kept). k.memory.entries ≢ []) c.self.view_is (λ none. never c.is_empty.result (c.is_empty.ensures.1 none) c.if-is_empty.false))
-    (subst IsWhole c.self.view_is c.self.invariant.0) x why)
+    (subst (λ (k : StoreValue). k.memory.entries ≢ []) c.self.view_is (λ none. never c.is_empty.result (c.is_empty.ensures.1 none) c.if-is_empty.false))
+    (subst IsConsistent c.self.view_is c.self.invariant.0) x why)
 
 pub returns-in_err-reserve-clause-wrote : goal.returns-in_err-reserve-clause-wrote
 returns-in_err-reserve-clause-wrote g c s tells tied =
@@ -55,7 +55,7 @@ returns-in_err-reserve-clause-wrote g c s tells tied =
     let bytes = filter_bytes_of g.F.RangeFilter.spelling g.F.RangeFilter.built_cutoff in
     let w = g.D.Disk.world c.args.disk.now in
     wanted_with spelling bytes _ s (flushed bytes s) c.from_residual-in_err-reserve.result c.reserve.new.self.tables w c.from_residual-in_err-reserve.ensures.1 c.reserve.ensures.tables c.self.invariant.0
-    (subst (λ (k : Kept). Tied spelling bytes k s w) (sym c.self.view_is) tied)
+    (subst (λ (k : StoreValue). Represents spelling bytes k s w) (sym c.self.view_is) tied)
 
 pub into_table-requires-clause-row : goal.into_table-requires-clause-row
 into_table-requires-clause-row g c = row_again g.F.RangeFilter.spelling g.F.RangeFilter.built_cutoff _ _ _ c.in_ok-plan.plan.parts c.in_ok-plan.plan.row _ c.in_ok-plan.ensures.plan
@@ -97,14 +97,14 @@ returns-in-Ok-clause-wrote g c s tells tied =
     let old = g.D.Disk.world c.args.disk.now in
     let new = g.D.Disk.world c.write_plan.new.disk in
     let current = g.met.D.Disk.current c.args.disk.now tells in
-    let some = subst (λ (k : Kept). k.memory.entries ≢ []) c.self.view_is (λ none. never c.is_empty.result (c.is_empty.ensures.1 none) c.if-is_empty.false) in
+    let some = subst (λ (k : StoreValue). k.memory.entries ≢ []) c.self.view_is (λ none. never c.is_empty.result (c.is_empty.ensures.1 none) c.if-is_empty.false) in
     let here = subst (λ (rs : List Row). IsPlan spelling cutoff c.self.inside.version rs c.self.inside.memory.entries parts row next) c.outputs_of.ensures c.in_ok-plan.ensures.plan in
-    let plan = subst (λ (k : Kept). IsPlan spelling cutoff k.manifest (outputs_in k.job) k.memory.entries parts row next) c.self.view_is here in
-    let replaces = c.in-Ok.ensures.replaces store s tells (subst IsWhole c.self.view_is c.self.invariant.0) tied (plan_of_memory spelling cutoff store s old new current tied some parts row next plan) in
+    let plan = subst (λ (k : StoreValue). IsPlan spelling cutoff k.manifest (outputs_in k.job) k.memory.entries parts row next) c.self.view_is here in
+    let replaces = c.in-Ok.ensures.replaces store s tells (subst IsConsistent c.self.view_is c.self.invariant.0) tied (plan_of_memory spelling cutoff store s old new current tied some parts row next plan) in
     flush_done spelling cutoff store s old new current tied some parts row next plan c.in-Ok.log _ _ replaces c.installed.ensures
     (c.insert.ensures.tables ∙ ap (λ (t : Opened). t ∷ c.reserve.new.self.tables) c.into_table.ensures.table
-    ∙ ap (λ (ts : List Opened). opened_of cutoff parts row ∷ ts) (c.reserve.ensures.tables ∙ ap (λ (k : Kept). k.tables) c.self.view_is))
-    (ap (λ (k : Kept). k.job) c.self.view_is) (ap (λ (k : Kept). k.blocks) c.self.view_is) (subst IsWhole c.self.view_is c.self.invariant.0) c.in-Ok.ensures.log.0 c.clear.ensures.empty
+    ∙ ap (λ (ts : List Opened). opened_of cutoff parts row ∷ ts) (c.reserve.ensures.tables ∙ ap (λ (k : StoreValue). k.tables) c.self.view_is))
+    (ap (λ (k : StoreValue). k.job) c.self.view_is) (ap (λ (k : StoreValue). k.blocks) c.self.view_is) (subst IsConsistent c.self.view_is c.self.invariant.0) c.in-Ok.ensures.log.0 c.clear.ensures.empty
 
 pub returns-in-Err-clause-wrote : goal.returns-in-Err-clause-wrote
 returns-in-Err-clause-wrote g c s tells tied =
@@ -117,10 +117,10 @@ returns-in-Err-clause-wrote g c s tells tied =
     let old = g.D.Disk.world c.args.disk.now in
     let new = g.D.Disk.world c.write_plan.new.disk in
     let current = g.met.D.Disk.current c.args.disk.now tells in
-    let some = subst (λ (k : Kept). k.memory.entries ≢ []) c.self.view_is (λ none. never c.is_empty.result (c.is_empty.ensures.1 none) c.if-is_empty.false) in
+    let some = subst (λ (k : StoreValue). k.memory.entries ≢ []) c.self.view_is (λ none. never c.is_empty.result (c.is_empty.ensures.1 none) c.if-is_empty.false) in
     let here = subst (λ (rs : List Row). IsPlan spelling cutoff c.self.inside.version rs c.self.inside.memory.entries parts row next) c.outputs_of.ensures c.in_ok-plan.ensures.plan in
-    let plan = subst (λ (k : Kept). IsPlan spelling cutoff k.manifest (outputs_in k.job) k.memory.entries parts row next) c.self.view_is here in
-    let replaces = c.in-Err.ensures.replaces store s tells (subst IsWhole c.self.view_is c.self.invariant.0) tied (plan_of_memory spelling cutoff store s old new current tied some parts row next plan) in
-    flush_failed spelling cutoff store s old new current tied some parts row next plan _ (ap (λ (k : Kept). k.manifest) c.self.view_is) (c.reserve.ensures.tables ∙ ap (λ (k : Kept). k.tables) c.self.view_is)
-    (ap (λ (k : Kept). k.job) c.self.view_is) (ap (λ (k : Kept). k.log) c.self.view_is) (ap (λ (k : Kept). k.memory) c.self.view_is) (ap (λ (k : Kept). k.blocks) c.self.view_is)
-    c.in-Err.fault c.from-why.result c.from-why.ensures replaces c.in-Err.ensures.cause c.is_stop-self-inside.ensures
+    let plan = subst (λ (k : StoreValue). IsPlan spelling cutoff k.manifest (outputs_in k.job) k.memory.entries parts row next) c.self.view_is here in
+    let replaces = c.in-Err.ensures.replaces store s tells (subst IsConsistent c.self.view_is c.self.invariant.0) tied (plan_of_memory spelling cutoff store s old new current tied some parts row next plan) in
+    flush_failed spelling cutoff store s old new current tied some parts row next plan _ (ap (λ (k : StoreValue). k.manifest) c.self.view_is) (c.reserve.ensures.tables ∙ ap (λ (k : StoreValue). k.tables) c.self.view_is)
+    (ap (λ (k : StoreValue). k.job) c.self.view_is) (ap (λ (k : StoreValue). k.log) c.self.view_is) (ap (λ (k : StoreValue). k.memory) c.self.view_is) (ap (λ (k : StoreValue). k.blocks) c.self.view_is)
+    c.in-Err.fault c.from-why.result c.from-why.ensures replaces c.in-Err.ensures.cause c.stops_store-self-inside.ensures

@@ -13,11 +13,11 @@ returns-in_err-place g c = (
     gets = record {
       undamaged = λ s tells tied. let here = c.in_err-place.ensures.gets.undamaged s tells tied in search rules;
       shown = λ tells. let here = c.in_err-place.ensures.gets.shown tells in search rules;
-      met = λ s tells tied. let here = c.in_err-place.ensures.gets.met s tells tied in search rules;
+      only_if_read = λ s tells tied. let here = c.in_err-place.ensures.gets.only_if_read s tells tied in search rules;
       refused = let here = c.in_err-place.ensures.gets.refused in search rules;
       bounded = c.look_for.ensures.gets.bounded;
       unkept = c.look_for.ensures.gets.unkept;
-      still = c.look_for.ensures.gets.still;
+      no_call = c.look_for.ensures.gets.no_call;
       moves = c.look_for.ensures.gets.moves;
     };
   },
@@ -32,11 +32,11 @@ returns g c = (
     gets = record {
       undamaged = λ s tells tied. tt;
       shown = λ tells. tt;
-      met = λ s tells tied. tt;
+      only_if_read = λ s tells tied. tt;
       refused = c.in_ok-place.ensures.gets.refused;
       bounded = c.look_for.ensures.gets.bounded;
       unkept = c.look_for.ensures.gets.unkept;
-      still = c.look_for.ensures.gets.still;
+      no_call = c.look_for.ensures.gets.no_call;
       moves = c.look_for.ensures.gets.moves;
     };
   },

@@ -4,7 +4,7 @@ use Rattle.std.specs.List.{AllByRecursion}
 use Rattle.disk_trait.specs.World.{Leads, WriteMoves}
 use Rattle.extent_model.proofs.Lists.{pairs_of}
 use Rattle.key_base.specs.Limits.{last_epoch}
-use Rattle.level_merge.specs.Merging.{Merging}
+use Rattle.level_merge.specs.JobValue.{JobValue}
 use Rattle.manifest.proofs.Steps.{raised_is}
 use Rattle.manifest.specs.Causes.{HasInstallCause}
 use Rattle.manifest.specs.Manifest.{Manifest, StandsInSlot, install_of, other_place}
@@ -17,7 +17,7 @@ use Rattle.table_file.specs.Opened.{Opened}
 use Rattle.table_model.specs.Tables.{filter_bytes_of}
 use Rattle.store_core.specs.Caching.{AreNumbered, Cached, renumbered}
 use Rattle.store_core.specs.Flushing.{installed_manifest}
-use Rattle.store_core.specs.Kept.{IsWhole, Kept, rows_of}
+use Rattle.store_core.specs.StoreValue.{IsConsistent, StoreValue, rows_of}
 use Rattle.store_core.specs.Replacing.{merged_manifest, tables_behind}
 use Rattle.store_core.specs.Running.{IsRun, MayRunIn}
 use Rattle.store_core.proofs.Agreed.{tied_agree}
@@ -31,7 +31,7 @@ use Rattle.store_core.proofs.store.Store.install_merge.Goals as goal
 
 pub merged_version-requires-clause-few_made : goal.merged_version-requires-clause-few_made
 merged_version-requires-clause-few_made g c =
-    let run = subst (λ (k : Kept). IsRun k.manifest.version k.tables c.args.job) (sym c.self.view_is) c.requires.run in
+    let run = subst (λ (k : StoreValue). IsRun k.manifest.version k.tables c.args.job) (sym c.self.view_is) c.requires.run in
     let few = made_few c.self.inside.version c.self.inside.tables.tables c.args.job c.self.invariant.0.version c.self.invariant.0.rows run in
     omega (arith, few)
 
@@ -39,7 +39,7 @@ pub returns-in_err-next-clause-installs : goal.returns-in_err-next-clause-instal
 returns-in_err-next-clause-installs g c s done tells runs is_done tied =
     let spelling = g.F.RangeFilter.spelling in
     let bytes = filter_bytes_of spelling g.F.RangeFilter.built_cutoff in
-    let whole = subst IsWhole c.self.view_is c.self.invariant.0 in
+    let whole = subst IsConsistent c.self.view_is c.self.invariant.0 in
     wanted c.standing_tables_agree.ensures spelling bytes c.args.self.now c.args.job s done (g.D.Disk.world c.args.disk.now) whole.slot whole.area whole.version c.requires.run runs is_done tied
     c.from_residual.result c.args.self.now c.from_residual.ensures.1 refl refl c.requires.taken_out refl refl refl
 
@@ -47,14 +47,14 @@ pub returns-in_err-reserve-clause-installs : goal.returns-in_err-reserve-clause-
 returns-in_err-reserve-clause-installs g c s done tells runs is_done tied =
     let spelling = g.F.RangeFilter.spelling in
     let bytes = filter_bytes_of spelling g.F.RangeFilter.built_cutoff in
-    let whole = subst IsWhole c.self.view_is c.self.invariant.0 in
+    let whole = subst IsConsistent c.self.view_is c.self.invariant.0 in
     wanted c.standing_tables_agree.ensures spelling bytes c.args.self.now c.args.job s done (g.D.Disk.world c.args.disk.now) whole.slot whole.area whole.version c.requires.run runs is_done tied
-    c.from_residual-in_err-reserve.result _ c.from_residual-in_err-reserve.ensures.1 (ap (λ (k : Kept). k.manifest) c.self.view_is) (c.reserve.ensures.tables ∙ ap (λ (k : Kept). k.tables) c.self.view_is)
-    (ap (λ (k : Kept). k.job) c.self.view_is ∙ c.requires.taken_out) (ap (λ (k : Kept). k.log) c.self.view_is) (ap (λ (k : Kept). k.memory) c.self.view_is) (ap (λ (k : Kept). k.blocks) c.self.view_is)
+    c.from_residual-in_err-reserve.result _ c.from_residual-in_err-reserve.ensures.1 (ap (λ (k : StoreValue). k.manifest) c.self.view_is) (c.reserve.ensures.tables ∙ ap (λ (k : StoreValue). k.tables) c.self.view_is)
+    (ap (λ (k : StoreValue). k.job) c.self.view_is ∙ c.requires.taken_out) (ap (λ (k : StoreValue). k.log) c.self.view_is) (ap (λ (k : StoreValue). k.memory) c.self.view_is) (ap (λ (k : StoreValue). k.blocks) c.self.view_is)
 
 pub install-requires-clause-sound : goal.install-requires-clause-sound
 install-requires-clause-sound g c =
-    let run = subst (λ (k : Kept). IsRun k.manifest.version k.tables c.args.job) (sym c.self.view_is) c.requires.run in
+    let run = subst (λ (k : StoreValue). IsRun k.manifest.version k.tables c.args.job) (sym c.self.view_is) c.requires.run in
     subst (λ (m : Manifest). IsVersion m.version) (sym c.in_ok-next.ensures.next)
     (merged_is_version c.self.inside.version c.self.inside.tables.tables c.args.job c.self.invariant.0.version c.self.invariant.0.rows run
     (subst (λ (m : Manifest). AllByRecursion RowFits m.version.rows) c.in_ok-next.ensures.next c.in_ok-next.ensures.fits))
@@ -63,12 +63,12 @@ pub replace_tables-requires-clause-room : goal.replace_tables-requires-clause-ro
 replace_tables-requires-clause-room g c =
     let which = numbers c.args.job.merge.walks in
     let tables = c.self.inside.tables.tables in
-    let run = subst (λ (k : Kept). IsRun k.manifest.version k.tables c.args.job) (sym c.self.view_is) c.requires.run in
+    let run = subst (λ (k : StoreValue). IsRun k.manifest.version k.tables c.args.job) (sym c.self.view_is) c.requires.run in
     room_for which tables c.reserve.new.self.tables (length c.args.job.made) (length c.tables.result.now) c.reserve.new.self.room c.reserve.ensures.tables (others_few which tables (pairs_of _ which run.apart) run.numbers) (ap length c.tables.ensures) c.in_ok-reserve.ensures.room
 
 pub installed-requires-clause-epoch : goal.installed-requires-clause-epoch
 installed-requires-clause-epoch g c =
-    let run_in = subst (λ (k : Kept). IsRun k.manifest.version k.tables c.args.job) (sym c.self.view_is) c.requires.run in
+    let run_in = subst (λ (k : StoreValue). IsRun k.manifest.version k.tables c.args.job) (sym c.self.view_is) c.requires.run in
     let sound : IsVersion c.in_ok-next.next.version = subst (λ (m : Manifest). IsVersion m.version) (sym c.in_ok-next.ensures.next)
     (merged_is_version c.self.inside.version c.self.inside.tables.tables c.args.job c.self.invariant.0.version c.self.invariant.0.rows run_in
     (subst (λ (m : Manifest). AllByRecursion RowFits m.version.rows) c.in_ok-next.ensures.next c.in_ok-next.ensures.fits)) in
@@ -79,21 +79,21 @@ invariant_of-self-in-Err-1 g c = (whole_stopped _ _ _ c.reserve.ensures.tables c
 
 pub invariant_of-self-in-Ok : goal.invariant_of-self-in-Ok
 invariant_of-self-in-Ok g c =
-    let run_in = subst (λ (k : Kept). IsRun k.manifest.version k.tables c.args.job) (sym c.self.view_is) c.requires.run in
+    let run_in = subst (λ (k : StoreValue). IsRun k.manifest.version k.tables c.args.job) (sym c.self.view_is) c.requires.run in
     let sound : IsVersion c.in_ok-next.next.version = subst (λ (m : Manifest). IsVersion m.version) (sym c.in_ok-next.ensures.next)
     (merged_is_version c.self.inside.version c.self.inside.tables.tables c.args.job c.self.invariant.0.version c.self.invariant.0.rows run_in
     (subst (λ (m : Manifest). AllByRecursion RowFits m.version.rows) c.in_ok-next.ensures.next c.in_ok-next.ensures.fits)) in
     let left : c.in_ok-next.next.version.epoch < last_epoch = below_last c.in_ok-next.next.version.epoch sound.epoch (λ last. no_fault _ _ (c.in-Ok.ensures.limit.1 last)) in
     let whole = c.self.invariant.0 in
     let tables_are = c.replace_tables.ensures.tables ∙ ap (λ (ts : List Opened). tables_behind ts c.args.job) c.reserve.ensures.tables in
-    let none = ap (λ (k : Kept). k.job) c.self.view_is ∙ c.requires.taken_out in (
+    let none = ap (λ (k : StoreValue). k.job) c.self.view_is ∙ c.requires.taken_out in (
       record {
         version = subst (λ (m : Manifest). IsVersion m.version) (sym c.installed.ensures) (raised_is c.in_ok-next.next.version sound (λ last. absurd (omega (arith, last, left))));
         slot = subst (λ (m : Manifest). m.slot ≤ 1) (sym c.installed.ensures) (omega arith);
         rows = ap rows_of tables_are ∙ sym (ap (λ (m : Manifest). m.version.rows) c.installed.ensures ∙ ap (λ (m : Manifest). m.version.rows) c.in_ok-next.ensures.next);
         area = ap (λ (m : Manifest). m.version.log_page) c.installed.ensures ∙ ap (λ (m : Manifest). m.version.log_page) c.in_ok-next.ensures.next ∙ whole.area;
         entries = whole.entries;
-        job = subst (λ (running : Option Merging). MayRunIn c.installed.result.version c.replace_tables.new.tables.tables running) (sym none) tt;
+        job = subst (λ (running : Option JobValue). MayRunIn c.installed.result.version c.replace_tables.new.tables.tables running) (sym none) tt;
         numbered = subst (λ (b : Cached). AreNumbered b (length c.replace_tables.new.tables.tables)) (sym (c.replace_tables.ensures.blocks ∙ ap (λ (ts : List Opened). renumbered c.self.inside.blocks (length ts)) c.reserve.ensures.tables))
             (numbered_anew c.self.inside.blocks (length c.self.inside.tables.tables) (length c.replace_tables.new.tables.tables) whole.numbered);
       },
@@ -102,7 +102,7 @@ invariant_of-self-in-Ok g c =
 
 pub returns-in-Ok-clause-installs : goal.returns-in-Ok-clause-installs
 returns-in-Ok-clause-installs g c s done tells runs is_done tied =
-    let run_in = subst (λ (k : Kept). IsRun k.manifest.version k.tables c.args.job) (sym c.self.view_is) c.requires.run in
+    let run_in = subst (λ (k : StoreValue). IsRun k.manifest.version k.tables c.args.job) (sym c.self.view_is) c.requires.run in
     let sound : IsVersion c.in_ok-next.next.version = subst (λ (m : Manifest). IsVersion m.version) (sym c.in_ok-next.ensures.next)
     (merged_is_version c.self.inside.version c.self.inside.tables.tables c.args.job c.self.invariant.0.version c.self.invariant.0.rows run_in
     (subst (λ (m : Manifest). AllByRecursion RowFits m.version.rows) c.in_ok-next.ensures.next c.in_ok-next.ensures.fits)) in
@@ -114,8 +114,8 @@ returns-in-Ok-clause-installs g c s done tells runs is_done tied =
     let job = c.args.job in
     let a = g.D.Disk.world c.args.disk.now in
     let b = g.D.Disk.world c.install.new.disk in
-    let whole = subst IsWhole c.self.view_is c.self.invariant.0 in
-    let next_is = c.in_ok-next.ensures.next ∙ ap (λ (k : Kept). merged_manifest k.manifest (rows_of (tables_behind k.tables job))) c.self.view_is in
+    let whole = subst IsConsistent c.self.view_is c.self.invariant.0 in
+    let next_is = c.in_ok-next.ensures.next ∙ ap (λ (k : StoreValue). merged_manifest k.manifest (rows_of (tables_behind k.tables job))) c.self.view_is in
     let agrees = tied_agree spelling bytes (record store { job = Some job }) s a (g.met.D.Disk.current c.args.disk.now tells) tied in
     let tables_are = c.replace_tables.ensures.tables ∙ ap (λ (ts : List Opened). tables_behind ts job) c.reserve.ensures.tables in
     install_done c.standing_tables_agree.ensures spelling bytes store job s done a whole.slot whole.area whole.version c.requires.run runs is_done tied b
@@ -123,35 +123,35 @@ returns-in-Ok-clause-installs g c s done tells runs is_done tied =
     c.in-Ok.field-0 _ _ (subst (λ (m : Manifest). m.version.epoch < last_epoch) next_is left)
     (subst (λ (m : Manifest). Leads {T = Unit {0}} {E = ManifestFault} (StandsInSlot m.slot m.other_open v) (IsOldOrNew (install_of m v)) (IsInstalled (install_of m v)) (Ok c.in-Ok.field-0) a b) next_is
     (c.in-Ok.ensures.crash v tells (sym (ap (λ (m : Manifest). m.version.epoch) next_is))))
-    (c.installed.ensures ∙ ap installed_manifest next_is) (tables_are ∙ ap (λ (k : Kept). tables_behind k.tables job) c.self.view_is) (ap (λ (k : Kept). k.job) c.self.view_is ∙ c.requires.taken_out)
-    (ap (λ (k : Kept). k.log) c.self.view_is) (ap (λ (k : Kept). k.memory) c.self.view_is) whole.numbered
-    (c.replace_tables.ensures.blocks ∙ ap (λ (ts : List Opened). renumbered c.self.inside.blocks (length ts)) c.reserve.ensures.tables ∙ ap (λ (k : Kept). renumbered k.blocks (length k.tables)) c.self.view_is)
+    (c.installed.ensures ∙ ap installed_manifest next_is) (tables_are ∙ ap (λ (k : StoreValue). tables_behind k.tables job) c.self.view_is) (ap (λ (k : StoreValue). k.job) c.self.view_is ∙ c.requires.taken_out)
+    (ap (λ (k : StoreValue). k.log) c.self.view_is) (ap (λ (k : StoreValue). k.memory) c.self.view_is) whole.numbered
+    (c.replace_tables.ensures.blocks ∙ ap (λ (ts : List Opened). renumbered c.self.inside.blocks (length ts)) c.reserve.ensures.tables ∙ ap (λ (k : StoreValue). renumbered k.blocks (length k.tables)) c.self.view_is)
 
 pub returns-in-Ok-clause-moves : goal.returns-in-Ok-clause-moves
 returns-in-Ok-clause-moves g c =
-    let whole = subst IsWhole c.self.view_is c.self.invariant.0 in
-    let next_is = c.in_ok-next.ensures.next ∙ ap (λ (k : Kept). merged_manifest k.manifest (rows_of (tables_behind k.tables c.args.job))) c.self.view_is in
+    let whole = subst IsConsistent c.self.view_is c.self.invariant.0 in
+    let next_is = c.in_ok-next.ensures.next ∙ ap (λ (k : StoreValue). merged_manifest k.manifest (rows_of (tables_behind k.tables c.args.job))) c.self.view_is in
     let a = g.D.Disk.world c.args.disk.now in
     let b = g.D.Disk.world c.install.new.disk in
     moves_within c.args.self.now.manifest a b whole.slot whole.version (subst (λ (m : Manifest). WriteMoves (other_place m.slot) 131072 a b) next_is c.install.ensures.moves)
 
 pub returns-in-Err-clause-moves : goal.returns-in-Err-clause-moves
 returns-in-Err-clause-moves g c =
-    let whole = subst IsWhole c.self.view_is c.self.invariant.0 in
-    let next_is = c.in_ok-next.ensures.next ∙ ap (λ (k : Kept). merged_manifest k.manifest (rows_of (tables_behind k.tables c.args.job))) c.self.view_is in
+    let whole = subst IsConsistent c.self.view_is c.self.invariant.0 in
+    let next_is = c.in_ok-next.ensures.next ∙ ap (λ (k : StoreValue). merged_manifest k.manifest (rows_of (tables_behind k.tables c.args.job))) c.self.view_is in
     let a = g.D.Disk.world c.args.disk.now in
     let b = g.D.Disk.world c.install.new.disk in
     moves_within c.args.self.now.manifest a b whole.slot whole.version (subst (λ (m : Manifest). WriteMoves (other_place m.slot) 131072 a b) next_is c.install.ensures.moves)
 
 pub returns-in-Err-clause-refused : goal.returns-in-Err-clause-refused
 returns-in-Err-clause-refused g c =
-    let run_in = subst (λ (k : Kept). IsRun k.manifest.version k.tables c.args.job) (sym c.self.view_is) c.requires.run in
+    let run_in = subst (λ (k : StoreValue). IsRun k.manifest.version k.tables c.args.job) (sym c.self.view_is) c.requires.run in
     let sound : IsVersion c.in_ok-next.next.version = subst (λ (m : Manifest). IsVersion m.version) (sym c.in_ok-next.ensures.next)
     (merged_is_version c.self.inside.version c.self.inside.tables.tables c.args.job c.self.invariant.0.version c.self.invariant.0.rows run_in
     (subst (λ (m : Manifest). AllByRecursion RowFits m.version.rows) c.in_ok-next.ensures.next c.in_ok-next.ensures.fits)) in
     let a = g.D.Disk.world c.args.disk.now in
     let b = g.D.Disk.world c.install.new.disk in
-    let next_is = c.in_ok-next.ensures.next ∙ ap (λ (k : Kept). merged_manifest k.manifest (rows_of (tables_behind k.tables c.args.job))) c.self.view_is in
+    let next_is = c.in_ok-next.ensures.next ∙ ap (λ (k : StoreValue). merged_manifest k.manifest (rows_of (tables_behind k.tables c.args.job))) c.self.view_is in
     let same = ap (λ (m : Manifest). m.version.epoch) next_is in
     install_is_refused c.args.self.now.manifest.version (other_place c.in_ok-next.next.slot) a b c.in-Err.fault c.from-why.result c.from-why.ensures c.in-Err.ensures.cause
     (λ is. sym same ∙ c.in-Err.ensures.limit.0 (ap Err is))
@@ -160,7 +160,7 @@ returns-in-Err-clause-refused g c =
 
 pub returns-in-Err-clause-installs : goal.returns-in-Err-clause-installs
 returns-in-Err-clause-installs g c s done tells runs is_done tied =
-    let run_in = subst (λ (k : Kept). IsRun k.manifest.version k.tables c.args.job) (sym c.self.view_is) c.requires.run in
+    let run_in = subst (λ (k : StoreValue). IsRun k.manifest.version k.tables c.args.job) (sym c.self.view_is) c.requires.run in
     let sound : IsVersion c.in_ok-next.next.version = subst (λ (m : Manifest). IsVersion m.version) (sym c.in_ok-next.ensures.next)
     (merged_is_version c.self.inside.version c.self.inside.tables.tables c.args.job c.self.invariant.0.version c.self.invariant.0.rows run_in
     (subst (λ (m : Manifest). AllByRecursion RowFits m.version.rows) c.in_ok-next.ensures.next c.in_ok-next.ensures.fits)) in
@@ -171,8 +171,8 @@ returns-in-Err-clause-installs g c s done tells runs is_done tied =
     let job = c.args.job in
     let a = g.D.Disk.world c.args.disk.now in
     let b = g.D.Disk.world c.install.new.disk in
-    let whole = subst IsWhole c.self.view_is c.self.invariant.0 in
-    let next_is = c.in_ok-next.ensures.next ∙ ap (λ (k : Kept). merged_manifest k.manifest (rows_of (tables_behind k.tables job))) c.self.view_is in
+    let whole = subst IsConsistent c.self.view_is c.self.invariant.0 in
+    let next_is = c.in_ok-next.ensures.next ∙ ap (λ (k : StoreValue). merged_manifest k.manifest (rows_of (tables_behind k.tables job))) c.self.view_is in
     let agrees = tied_agree spelling bytes (record store { job = Some job }) s a (g.met.D.Disk.current c.args.disk.now tells) tied in
     install_refused c.standing_tables_agree.ensures spelling bytes store job s done a whole.slot whole.area whole.version c.requires.run runs is_done tied b
     (subst (λ (m : Manifest). IsVersion m.version) next_is sound) agrees.epoch (subst (λ (m : Manifest). WriteMoves (other_place m.slot) 131072 a b) next_is c.install.ensures.moves)
@@ -182,5 +182,5 @@ returns-in-Err-clause-installs g c s done tells runs is_done tied =
     (below_last c.in_ok-next.next.version.epoch sound.epoch (λ last. other (one_fault _ c.in-Err.fault fault.Epoch refl (c.in-Err.ensures.limit.1 last)))))
     (subst (λ (m : Manifest). Leads {T = Unit {0}} {E = ManifestFault} (StandsInSlot m.slot m.other_open v) (IsOldOrNew (install_of m v)) (IsInstalled (install_of m v)) (Err c.in-Err.fault) a b) next_is
     (c.in-Err.ensures.crash v tells (sym (ap (λ (m : Manifest). m.version.epoch) next_is))))
-    (ap (λ (k : Kept). k.manifest) c.self.view_is) (c.reserve.ensures.tables ∙ ap (λ (k : Kept). k.tables) c.self.view_is) (ap (λ (k : Kept). k.job) c.self.view_is ∙ c.requires.taken_out)
-    (ap (λ (k : Kept). k.log) c.self.view_is) (ap (λ (k : Kept). k.memory) c.self.view_is) (ap (λ (k : Kept). k.blocks) c.self.view_is) c.is_stop-self-inside.ensures
+    (ap (λ (k : StoreValue). k.manifest) c.self.view_is) (c.reserve.ensures.tables ∙ ap (λ (k : StoreValue). k.tables) c.self.view_is) (ap (λ (k : StoreValue). k.job) c.self.view_is ∙ c.requires.taken_out)
+    (ap (λ (k : StoreValue). k.log) c.self.view_is) (ap (λ (k : StoreValue). k.memory) c.self.view_is) (ap (λ (k : StoreValue). k.blocks) c.self.view_is) c.stops_store-self-inside.ensures

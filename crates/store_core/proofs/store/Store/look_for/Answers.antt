@@ -1,7 +1,7 @@
 use Rattle.std.proofs.Common.{rules, List, length, refl, sym, ◌∙◌, ap, subst}
-use Rattle.store_core.specs.Caching.{AreNumbered, AreTrue}
-use Rattle.store_core.specs.Kept.{Kept}
-use Rattle.store_core.specs.Tied.{Tied}
+use Rattle.store_core.specs.Caching.{AreNumbered, CacheAgrees}
+use Rattle.store_core.specs.StoreValue.{StoreValue}
+use Rattle.store_core.specs.Represents.{Represents}
 use Rattle.table_file.specs.Opened.{Opened}
 use Rattle.table_model.specs.Tables.{filter_bytes_of}
 use Rattle.store_core.proofs.Asked.{found_view, gets_found, gets_refused, held_of, no_memory, tied_asked, true_of, whole_asked, written_whole}
@@ -23,17 +23,17 @@ returns-in_err-found-clause-asked g c =
     let later = g.D.Disk.world c.look_and_keep.new.disk in
     let key = c.args.key.now in
     let opened = c.as_slice-tables.result.now in
-    let tables = c.as_slice-tables.ensures ∙ ap (λ (k : Kept). k.tables) c.self.view_is in
-    let blocks = ap (λ (k : Kept). k.blocks) c.self.view_is in
+    let tables = c.as_slice-tables.ensures ∙ ap (λ (k : StoreValue). k.tables) c.self.view_is in
+    let blocks = ap (λ (k : StoreValue). k.blocks) c.self.view_is in
     let current = g.met.D.Disk.current c.args.disk.now in
     record {
       same = search rules;
       tied = λ s tells tied.
-          let ours = subst (λ (k : Kept). Tied spelling bytes k s w) (sym c.self.view_is) tied in
+          let ours = subst (λ (k : StoreValue). Represents spelling bytes k s w) (sym c.self.view_is) tied in
           let held = held_of spelling bytes g.D.Disk.tells c.args.self.now key opened c.self.inside.blocks w later tables blocks current s tells tied in
           let are = true_of spelling bytes g.D.Disk.tells c.args.self.now key opened c.self.inside.blocks w later tables blocks current s tied in
           tied_asked spelling bytes _ _ s _ w later refl c.look_and_keep.ensures.moves
-          (subst (λ (ts : List Opened). AreTrue c.look_and_keep.new.blocks ts s.tables) c.as_slice-tables.ensures (c.look_and_keep.ensures.keeps s.settings s.tables tells held are)) ours;
+          (subst (λ (ts : List Opened). CacheAgrees c.look_and_keep.new.blocks ts s.tables) c.as_slice-tables.ensures (c.look_and_keep.ensures.keeps s.settings s.tables tells held are)) ours;
     }
 
 pub returns-in_err-found-clause-gets : goal.returns-in_err-found-clause-gets
@@ -44,13 +44,13 @@ returns-in_err-found-clause-gets g c =
     let later = g.D.Disk.world c.look_and_keep.new.disk in
     let key = c.args.key.now in
     let opened = c.as_slice-tables.result.now in
-    let tables = c.as_slice-tables.ensures ∙ ap (λ (k : Kept). k.tables) c.self.view_is in
-    let blocks = ap (λ (k : Kept). k.blocks) c.self.view_is in
+    let tables = c.as_slice-tables.ensures ∙ ap (λ (k : StoreValue). k.tables) c.self.view_is in
+    let blocks = ap (λ (k : StoreValue). k.blocks) c.self.view_is in
     let current = g.met.D.Disk.current c.args.disk.now in
     gets_refused spelling bytes g.D.Disk.tells c.args.self.now key opened c.self.inside.blocks w later tables blocks current (search rules) (search rules)
-    (λ s same. no_memory _ c.get.result c.is_some.result c.self.inside.memory.entries s key c.get.ensures c.is_some.ensures c.if-is_some.false (ap (λ (k : Kept). k.memory.entries) c.self.view_is ∙ same))
+    (λ s same. no_memory _ c.get.result c.is_some.result c.self.inside.memory.entries s key c.get.ensures c.is_some.ensures c.if-is_some.false (ap (λ (k : StoreValue). k.memory.entries) c.self.view_is ∙ same))
     c.look_and_keep.ensures.moves c.look_and_keep.ensures.within c.look_and_keep.ensures.bounded c.from_residual-in_err-found.result c.in_err-found.field-0.0 c.from_residual-in_err-found.ensures.1
-    c.in_err-found.ensures.undamaged c.in_err-found.ensures.shown c.in_err-found.ensures.met c.in_err-found.ensures.cause
+    c.in_err-found.ensures.undamaged c.in_err-found.ensures.shown c.in_err-found.ensures.only_if_read c.in_err-found.ensures.cause
 
 pub returns-clause-asked : goal.returns-clause-asked
 returns-clause-asked g c =
@@ -60,17 +60,17 @@ returns-clause-asked g c =
     let later = g.D.Disk.world c.look_and_keep.new.disk in
     let key = c.args.key.now in
     let opened = c.as_slice-tables.result.now in
-    let tables = c.as_slice-tables.ensures ∙ ap (λ (k : Kept). k.tables) c.self.view_is in
-    let blocks = ap (λ (k : Kept). k.blocks) c.self.view_is in
+    let tables = c.as_slice-tables.ensures ∙ ap (λ (k : StoreValue). k.tables) c.self.view_is in
+    let blocks = ap (λ (k : StoreValue). k.blocks) c.self.view_is in
     let current = g.met.D.Disk.current c.args.disk.now in
     record {
       same = search rules;
       tied = λ s tells tied.
-          let ours = subst (λ (k : Kept). Tied spelling bytes k s w) (sym c.self.view_is) tied in
+          let ours = subst (λ (k : StoreValue). Represents spelling bytes k s w) (sym c.self.view_is) tied in
           let held = held_of spelling bytes g.D.Disk.tells c.args.self.now key opened c.self.inside.blocks w later tables blocks current s tells tied in
           let are = true_of spelling bytes g.D.Disk.tells c.args.self.now key opened c.self.inside.blocks w later tables blocks current s tied in
           tied_asked spelling bytes _ _ s _ w later refl c.look_and_keep.ensures.moves
-          (subst (λ (ts : List Opened). AreTrue c.look_and_keep.new.blocks ts s.tables) c.as_slice-tables.ensures (c.look_and_keep.ensures.keeps s.settings s.tables tells held are)) ours;
+          (subst (λ (ts : List Opened). CacheAgrees c.look_and_keep.new.blocks ts s.tables) c.as_slice-tables.ensures (c.look_and_keep.ensures.keeps s.settings s.tables tells held are)) ours;
     }
 
 pub returns-clause-gets : goal.returns-clause-gets
@@ -81,11 +81,11 @@ returns-clause-gets g c =
     let later = g.D.Disk.world c.look_and_keep.new.disk in
     let key = c.args.key.now in
     let opened = c.as_slice-tables.result.now in
-    let tables = c.as_slice-tables.ensures ∙ ap (λ (k : Kept). k.tables) c.self.view_is in
-    let blocks = ap (λ (k : Kept). k.blocks) c.self.view_is in
+    let tables = c.as_slice-tables.ensures ∙ ap (λ (k : StoreValue). k.tables) c.self.view_is in
+    let blocks = ap (λ (k : StoreValue). k.blocks) c.self.view_is in
     let current = g.met.D.Disk.current c.args.disk.now in
     gets_found spelling bytes g.D.Disk.tells c.args.self.now key opened c.self.inside.blocks w later tables blocks current (search rules) (search rules)
-    (λ s same. no_memory _ c.get.result c.is_some.result c.self.inside.memory.entries s key c.get.ensures c.is_some.ensures c.if-is_some.false (ap (λ (k : Kept). k.memory.entries) c.self.view_is ∙ same))
+    (λ s same. no_memory _ c.get.result c.is_some.result c.self.inside.memory.entries s key c.get.ensures c.is_some.ensures c.if-is_some.false (ap (λ (k : StoreValue). k.memory.entries) c.self.view_is ∙ same))
     c.look_and_keep.ensures.moves c.look_and_keep.ensures.within c.look_and_keep.ensures.bounded c.place_of.result
 
 pub returns-clause-answer : goal.returns-clause-answer
@@ -96,12 +96,12 @@ returns-clause-answer g c s tells tied =
     let later = g.D.Disk.world c.look_and_keep.new.disk in
     let key = c.args.key.now in
     let opened = c.as_slice-tables.result.now in
-    let tables = c.as_slice-tables.ensures ∙ ap (λ (k : Kept). k.tables) c.self.view_is in
-    let blocks = ap (λ (k : Kept). k.blocks) c.self.view_is in
+    let tables = c.as_slice-tables.ensures ∙ ap (λ (k : StoreValue). k.tables) c.self.view_is in
+    let blocks = ap (λ (k : StoreValue). k.blocks) c.self.view_is in
     let current = g.met.D.Disk.current c.args.disk.now in
     let held = held_of spelling bytes g.D.Disk.tells c.args.self.now key opened c.self.inside.blocks w later tables blocks current s tells tied in
     let are = true_of spelling bytes g.D.Disk.tells c.args.self.now key opened c.self.inside.blocks w later tables blocks current s tied in
-    let none = no_memory _ c.get.result c.is_some.result c.self.inside.memory.entries s key c.get.ensures c.is_some.ensures c.if-is_some.false (ap (λ (k : Kept). k.memory.entries) c.self.view_is ∙ tied.memory) in
+    let none = no_memory _ c.get.result c.is_some.result c.self.inside.memory.entries s key c.get.ensures c.is_some.ensures c.if-is_some.false (ap (λ (k : StoreValue). k.memory.entries) c.self.view_is ∙ tied.memory) in
     found_view c.place_of.result _ s key c.in_ok-found.found c.look_and_keep.new.buffer c.look_and_keep.new.blocks.kept c.place_of.ensures.said
     (written_whole c.self.inside.buffer.len c.look_and_keep.new.buffer _ (search rules)) refl none
     (c.in_ok-found.ensures.answer s.settings s.tables tells held are)

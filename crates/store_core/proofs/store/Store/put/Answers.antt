@@ -5,8 +5,8 @@ use Rattle.line_model.specs.Limits.{key_limit, value_limit}
 use Rattle.line_model.specs.Requests.{Put}
 use Rattle.state_model.specs.Changes.{written}
 use Rattle.table_model.specs.Tables.{filter_bytes_of}
-use Rattle.store_core.specs.Answers.{Answered, told_change}
-use Rattle.store_core.specs.Kept.{IsWhole}
+use Rattle.store_core.specs.Answers.{AnswersRequest, told_change}
+use Rattle.store_core.specs.StoreValue.{IsConsistent}
 use Rattle.store_core.specs.declared.error.StoreError.{StoreError}
 use Rattle.store_core.proofs.Answering.{is_left, is_made, wrote_answers}
 use Rattle.store_core.proofs.FlushAnswers.{passed_on, stands_now}
@@ -20,9 +20,9 @@ returns-in_err-check_key-clause-answered g c s tells runs tied =
     let w = g.D.Disk.world c.args.disk.now in
     let request = Put c.args.key.now c.args.value.now in
     let x = c.in_err-check_key.field-0.0 in
-    subst (λ (r : Result (Unit {0}) StoreError). Answered spelling bytes s request (told_change r) c.args.self.now w w) (passed_on c.from_residual.result x c.from_residual.ensures.1)
+    subst (λ (r : Result (Unit {0}) StoreError). AnswersRequest spelling bytes s request (told_change r) c.args.self.now w w) (passed_on c.from_residual.result x c.from_residual.ensures.1)
     (limit_answers spelling bytes s request x c.args.self.now w w (first_broken (key_limit c.args.key.now) (value_limit c.args.value.now) x c.in_err-check_key.ensures)
-    (stands_now spelling bytes c.args.self.now s (subst IsWhole c.self.view_is c.self.invariant.0) w tied) tied)
+    (stands_now spelling bytes c.args.self.now s (subst IsConsistent c.self.view_is c.self.invariant.0) w tied) tied)
 
 pub returns-in_err-check_value-clause-answered : goal.returns-in_err-check_value-clause-answered
 returns-in_err-check_value-clause-answered g c s tells runs tied =
@@ -31,11 +31,11 @@ returns-in_err-check_value-clause-answered g c s tells runs tied =
     let w = g.D.Disk.world c.args.disk.now in
     let request = Put c.args.key.now c.args.value.now in
     let x = c.in_err-check_value.field-0.0 in
-    subst (λ (r : Result (Unit {0}) StoreError). Answered spelling bytes s request (told_change r) c.args.self.now w w)
+    subst (λ (r : Result (Unit {0}) StoreError). AnswersRequest spelling bytes s request (told_change r) c.args.self.now w w)
     (passed_on c.from_residual-in_err-check_value.result x c.from_residual-in_err-check_value.ensures.1)
     (limit_answers spelling bytes s request x c.args.self.now w w
     (second_broken (key_limit c.args.key.now) (value_limit c.args.value.now) x c.in_ok-check_key.ensures c.in_err-check_value.ensures)
-    (stands_now spelling bytes c.args.self.now s (subst IsWhole c.self.view_is c.self.invariant.0) w tied) tied)
+    (stands_now spelling bytes c.args.self.now s (subst IsConsistent c.self.view_is c.self.invariant.0) w tied) tied)
 
 pub returns-clause-answered : goal.returns-clause-answered
 returns-clause-answered g c s tells runs tied =

@@ -45,8 +45,8 @@ returns-clause-bounded g c s image hi seen closed =
     made_bounded c.merged_laws.ensures c.standing_tables_are_merged.ensures c.standing_tables_are_read.ensures.blocks c.standing_tables_are_read.ensures.walks g.F.RangeFilter.spelling
     (filter_bytes_of g.F.RangeFilter.spelling g.F.RangeFilter.built_cutoff) c.args.self.now s image seen low c.in_ok-check_bounds.ensures.bytes.0 hi (subst IsHighOfBytes closed c.in_ok-check_bounds.ensures.bytes.1) _ c.args.most is
 
-pub returns-clause-met : goal.returns-clause-met
-returns-clause-met g c s image seen some =
+pub returns-clause-only_if_read : goal.returns-clause-only_if_read
+returns-clause-only_if_read g c s image seen some =
     let low = c.args.low.now in
     let high = option_map (λ h. h.now) c.args.high in
     let is = scan_is low high c.args.self.now _ c.in_ok-which.which.items c.in_ok-rows.rows (option_map (λ v. v.items) c.in_ok-copy.copy) c.args.most c.self.view_is

@@ -1,11 +1,11 @@
 use Rattle.std.proofs.Common.{◌≡◌, ◌∙◌, ◌≤◌, List, sym, ap, subst, arith}
 use Rattle.std.specs.List.Sorted.{IsPermutation}
 use Rattle.byte_fields.specs.declared.parts.Row.{Row}
-use Rattle.level_merge.specs.Follows.{SliceFollows}
+use Rattle.level_merge.specs.Follows.{FollowsAnyJob}
 use Rattle.merge_rows.specs.Steps.{IsSoundMerge}
 use Rattle.table_file.specs.Opened.{Opened}
 use Rattle.table_model.specs.Tables.{filter_bytes_of}
-use Rattle.store_core.specs.Kept.{IsWhole, Kept}
+use Rattle.store_core.specs.StoreValue.{IsConsistent, StoreValue}
 use Rattle.store_core.specs.Running.{extents_with}
 use Rattle.store_core.proofs.TendRuns.{slice_moved, slices_more, slices_run}
 use Rattle.store_core.proofs.TendSlices.{now_follows, slices_job, wants_memory}
@@ -13,7 +13,7 @@ use Rattle.store_core.proofs.store.Store.slice_job.Goals as goal
 
 pub returns-in_err-extents-clause-slices : goal.returns-in_err-extents-clause-slices
 returns-in_err-extents-clause-slices g c s running tells here tied =
-    let whole = subst IsWhole c.self.view_is c.self.invariant.0 in
+    let whole = subst IsConsistent c.self.view_is c.self.invariant.0 in
     wants_memory c.jobs_are_followed.ensures.image g.F.RangeFilter.spelling g.F.RangeFilter.built_cutoff c.args.self.now s running c.args.job.now (g.D.Disk.world c.args.disk.now) whole.slot whole.rows
     (g.met.D.Disk.current c.args.disk.now tells) here tied c.from_residual.result c.from_residual.ensures.1
 
@@ -22,8 +22,8 @@ returns-clause-run g c =
     let old = c.args.job.now in
     let free = c.in_ok-extents.extents in
     let v = c.args.self.now.manifest.version in
-    let pages = c.in_ok-extents.ensures.pages ∙ ap (λ (k : Kept). k.manifest.version.pages) c.self.view_is in
-    let extents = subst (λ (k : Kept). IsPermutation (extents_with k.manifest.version old.outputs) free.extents) c.self.view_is
+    let pages = c.in_ok-extents.ensures.pages ∙ ap (λ (k : StoreValue). k.manifest.version.pages) c.self.view_is in
+    let extents = subst (λ (k : StoreValue). IsPermutation (extents_with k.manifest.version old.outputs) free.extents) c.self.view_is
     (subst (λ (rows : List Row). IsPermutation (extents_with c.self.inside.version.version rows) free.extents) c.outputs.ensures c.in_ok-extents.ensures.extents) in
     let level = c.slice.ensures.slices.level.1 in
     let same = c.slice.ensures.slices.same.0 in
@@ -36,8 +36,8 @@ returns-clause-more g c =
     let old = c.args.job.now in
     let free = c.in_ok-extents.extents in
     let v = c.args.self.now.manifest.version in
-    let pages = c.in_ok-extents.ensures.pages ∙ ap (λ (k : Kept). k.manifest.version.pages) c.self.view_is in
-    let extents = subst (λ (k : Kept). IsPermutation (extents_with k.manifest.version old.outputs) free.extents) c.self.view_is
+    let pages = c.in_ok-extents.ensures.pages ∙ ap (λ (k : StoreValue). k.manifest.version.pages) c.self.view_is in
+    let extents = subst (λ (k : StoreValue). IsPermutation (extents_with k.manifest.version old.outputs) free.extents) c.self.view_is
     (subst (λ (rows : List Row). IsPermutation (extents_with c.self.inside.version.version rows) free.extents) c.outputs.ensures c.in_ok-extents.ensures.extents) in
     slices_more g.F.RangeFilter.spelling g.F.RangeFilter.built_cutoff v c.args.self.now.tables old c.slice.new.self free c.slice.new.extents c.requires.run pages extents
     (g.D.Disk.world c.args.disk.now) (g.D.Disk.world c.slice.new.disk) c.slice.ensures.slices.moves c.slice.result c.requires.more c.slice.ensures.slices.numbers_are c.slice.ensures.slices.few
@@ -50,30 +50,30 @@ returns-clause-slices g c s running tells here tied =
     let free = c.in_ok-extents.extents in
     let before = g.D.Disk.world c.args.disk.now in
     let after = g.D.Disk.world c.slice.new.disk in
-    let whole = subst IsWhole c.self.view_is c.self.invariant.0 in
-    let pages = c.in_ok-extents.ensures.pages ∙ ap (λ (k : Kept). k.manifest.version.pages) c.self.view_is in
-    let extents = subst (λ (k : Kept). IsPermutation (extents_with k.manifest.version old.outputs) free.extents) c.self.view_is
+    let whole = subst IsConsistent c.self.view_is c.self.invariant.0 in
+    let pages = c.in_ok-extents.ensures.pages ∙ ap (λ (k : StoreValue). k.manifest.version.pages) c.self.view_is in
+    let extents = subst (λ (k : StoreValue). IsPermutation (extents_with k.manifest.version old.outputs) free.extents) c.self.view_is
     (subst (λ (rows : List Row). IsPermutation (extents_with c.self.inside.version.version rows) free.extents) c.outputs.ensures c.in_ok-extents.ensures.extents) in
-    let follow = subst (λ (k : Kept). SliceFollows spelling (filter_bytes_of spelling cutoff) k.tables old c.slice.new.self free c.slice.new.extents c.slice.result before after) c.self.view_is (c.slice.ensures.follows tells) in
+    let follow = subst (λ (k : StoreValue). FollowsAnyJob spelling (filter_bytes_of spelling cutoff) k.tables old c.slice.new.self free c.slice.new.extents c.slice.result before after) c.self.view_is (c.slice.ensures.follows tells) in
     slices_job c.jobs_are_followed.ensures.image spelling cutoff c.args.self.now s running old before whole.slot whole.rows (g.met.D.Disk.current c.args.disk.now tells) here tied free pages extents
     c.slice.new.self c.slice.new.extents after c.slice.ensures.slices.moves c.slice.result follow
 
 pub returns-clause-reads : goal.returns-clause-reads
 returns-clause-reads g c s running tells here tied =
     let before = g.D.Disk.world c.args.disk.now in
-    let whole = subst IsWhole c.self.view_is c.self.invariant.0 in
+    let whole = subst IsConsistent c.self.view_is c.self.invariant.0 in
     let follows = now_follows c.jobs_are_followed.ensures.image g.F.RangeFilter.spelling g.F.RangeFilter.built_cutoff c.args.self.now s running c.args.job.now before whole.slot whole.rows
     (g.met.D.Disk.current c.args.disk.now tells) here tied in
     c.slice.ensures.slices.bounded tells
-    (subst (λ (tables : List Opened). IsSoundMerge c.args.job.now.merge tables before.seen.held) (sym (ap (λ (k : Kept). k.tables) c.self.view_is)) follows.makes.sound)
+    (subst (λ (tables : List Opened). IsSoundMerge c.args.job.now.merge tables before.seen.held) (sym (ap (λ (k : StoreValue). k.tables) c.self.view_is)) follows.makes.sound)
 
 pub returns-clause-moves : goal.returns-clause-moves
 returns-clause-moves g c =
     let old = c.args.job.now in
     let free = c.in_ok-extents.extents in
     let v = c.args.self.now.manifest.version in
-    let pages = c.in_ok-extents.ensures.pages ∙ ap (λ (k : Kept). k.manifest.version.pages) c.self.view_is in
-    let extents = subst (λ (k : Kept). IsPermutation (extents_with k.manifest.version old.outputs) free.extents) c.self.view_is
+    let pages = c.in_ok-extents.ensures.pages ∙ ap (λ (k : StoreValue). k.manifest.version.pages) c.self.view_is in
+    let extents = subst (λ (k : StoreValue). IsPermutation (extents_with k.manifest.version old.outputs) free.extents) c.self.view_is
     (subst (λ (rows : List Row). IsPermutation (extents_with c.self.inside.version.version rows) free.extents) c.outputs.ensures c.in_ok-extents.ensures.extents) in
     slice_moved g.F.RangeFilter.spelling g.F.RangeFilter.built_cutoff v c.args.self.now.tables old c.slice.new.self free c.slice.new.extents c.requires.run pages extents
     (g.D.Disk.world c.args.disk.now) (g.D.Disk.world c.slice.new.disk) c.slice.ensures.slices.moves

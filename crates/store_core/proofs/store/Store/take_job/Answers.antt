@@ -2,8 +2,8 @@ use Rattle.std.proofs.Common.{◌≡◌, ◌∙◌, false, refl, sym, ap, subst}
 use Rattle.std.specs.Prelude.{IfOk, Option, Some, None, Result, Ok, Err, is_some}
 use Rattle.std.proofs.lemmas.Bool.{false≢true}
 use Rattle.image_model.specs.Stands.{settings_of}
-use Rattle.level_merge.specs.Merging.{Merging}
-use Rattle.store_core.specs.Kept.{Kept}
+use Rattle.level_merge.specs.JobValue.{JobValue}
+use Rattle.store_core.specs.StoreValue.{StoreValue}
 use Rattle.store_core.specs.Running.{MayRunIn}
 use Rattle.store_core.specs.Tending.{IsBegunAmong, IsNext, NoneIsChosen}
 use Rattle.store_core.proofs.TendNext.{begun_may_run, next_of_begun, next_taken}
@@ -25,7 +25,7 @@ pub returns-clause-whole : goal.returns-clause-whole
 returns-clause-whole g c =
     let v = c.self.inside.version.version in
     let tables = c.self.inside.tables.tables in
-    subst (λ (k : Kept). IfOk c.next_job.result (MayRunIn k.manifest.version k.tables)) (c.self.view_is ∙ c.take_running-running.ensures.rest)
+    subst (λ (k : StoreValue). IfOk c.next_job.result (MayRunIn k.manifest.version k.tables)) (c.self.view_is ∙ c.take_running-running.ensures.rest)
     (if_ok (IsBegunAmong tables (settings_of v)) (MayRunIn v tables) c.next_job.result (λ found is. begun_may_run v tables (settings_of v) found c.self.invariant.0.version is) c.next_job.ensures.begun)
 
 pub returns-clause-next : goal.returns-clause-next
@@ -33,7 +33,7 @@ returns-clause-next g c s image under =
     let spelling = g.F.RangeFilter.spelling in
     let store = c.args.self.now in
     let set = settings_of store.manifest.version in
-    let begun = subst (λ (k : Kept). IfOk c.next_job.result (IsBegunAmong k.tables (settings_of k.manifest.version))) (c.self.view_is ∙ c.take_running-running.ensures.rest) c.next_job.ensures.begun in
+    let begun = subst (λ (k : StoreValue). IfOk c.next_job.result (IsBegunAmong k.tables (settings_of k.manifest.version))) (c.self.view_is ∙ c.take_running-running.ensures.rest) c.next_job.ensures.begun in
     if_ok (IsBegunAmong store.tables set) (IsNext spelling store s) c.next_job.result
     (next_of_begun spelling store s c.standing_tables_agree.ensures c.merges_begin.ensures.follows set refl (sym c.take_running-running.ensures.taken ∙ none_of c.take_running-running.result (sym c.is_some.ensures ∙ c.if-is_some.false)) image under) begun
 
@@ -44,7 +44,7 @@ pub returns-clause-none : goal.returns-clause-none
 returns-clause-none g c =
     let store = c.args.self.now in
     let set = settings_of store.manifest.version in
-    let begun = subst (λ (k : Kept). IfOk c.next_job.result (IsBegunAmong k.tables (settings_of k.manifest.version))) (c.self.view_is ∙ c.take_running-running.ensures.rest) c.next_job.ensures.begun in
+    let begun = subst (λ (k : StoreValue). IfOk c.next_job.result (IsBegunAmong k.tables (settings_of k.manifest.version))) (c.self.view_is ∙ c.take_running-running.ensures.rest) c.next_job.ensures.begun in
     let no_job = sym c.take_running-running.ensures.taken ∙ none_of c.take_running-running.result (sym c.is_some.ensures ∙ c.if-is_some.false) in
-    if_ok (IsBegunAmong store.tables set) (λ (found : Option Merging). found ≡ None → (store.job ≡ None) × NoneIsChosen store.tables) c.next_job.result
+    if_ok (IsBegunAmong store.tables set) (λ (found : Option JobValue). found ≡ None → (store.job ≡ None) × NoneIsChosen store.tables) c.next_job.result
     (λ found is none. (no_job, subst (IsBegunAmong store.tables set) none is)) begun

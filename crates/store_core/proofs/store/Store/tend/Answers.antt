@@ -1,11 +1,11 @@
 use Rattle.std.proofs.Common.{◌≡◌, ◌∙◌, refl, sym, ap, subst}
 use Rattle.std.specs.Prelude.{Option, Some, None, Result, Ok, Err}
-use Rattle.level_merge.specs.Merging.{Merging}
+use Rattle.level_merge.specs.JobValue.{JobValue}
 use Rattle.state_model.specs.Tends.{with_job}
 use Rattle.table_model.specs.Tables.{filter_bytes_of}
-use Rattle.store_core.specs.Kept.{IsWhole, Kept}
+use Rattle.store_core.specs.StoreValue.{IsConsistent, StoreValue}
 use Rattle.store_core.specs.Tending.{IsNext, Tends, told_slice}
-use Rattle.store_core.specs.Tied.{Tied}
+use Rattle.store_core.specs.Represents.{Represents}
 use Rattle.store_core.specs.declared.error.StoreError.{StoreError}
 use Rattle.store_core.specs.declared.error.StoreError.TheVariants as error
 use Rattle.store_core.specs.declared.tending.Tended.{Tended}
@@ -21,9 +21,9 @@ returns-in_err-job-clause-answered g c s tells going tied =
     let w = g.D.Disk.world c.args.disk.now in
     let result = c.from_residual.result in
     let is = subst (λ (why : StoreError). Err why ≡ result) c.in_err-job.ensures.memory (passed_on result c.in_err-job.field-0.0 c.from_residual.ensures.1) in
-    subst (λ (k : Kept). Tends spelling bytes s (told_slice result) k w w) (sym c.take_job.ensures.rest)
+    subst (λ (k : StoreValue). Tends spelling bytes s (told_slice result) k w w) (sym c.take_job.ensures.rest)
     (subst (λ (r : Result Tended StoreError). Tends spelling bytes s (told_slice r) (record c.args.self.now { job = None }) w w) is
-    (none_begun spelling bytes s c.args.self.now w tied (subst IsWhole c.self.view_is c.self.invariant.0)))
+    (none_begun spelling bytes s c.args.self.now w tied (subst IsConsistent c.self.view_is c.self.invariant.0)))
 
 pub returns-in-None-clause-answered : goal.returns-in-None-clause-answered
 returns-in-None-clause-answered g c s tells going tied =
@@ -32,8 +32,8 @@ returns-in-None-clause-answered g c s tells going tied =
     let w = g.D.Disk.world c.args.disk.now in
     let next = subst (IsNext spelling c.args.self.now s) c.in-None.is
     (c.in_ok-job.ensures.next s w.seen.held (tied.images w.seen.held (g.met.D.Disk.current c.args.disk.now tells))) in
-    subst (λ (k : Kept). Tends spelling bytes s (told_slice (Ok tended.Idle)) k w w) (sym c.take_job.ensures.rest)
-    (idles spelling bytes s c.args.self.now w tied (subst IsWhole c.self.view_is c.self.invariant.0) (c.in_ok-job.ensures.none c.in-None.is).0 next)
+    subst (λ (k : StoreValue). Tends spelling bytes s (told_slice (Ok tended.Idle)) k w w) (sym c.take_job.ensures.rest)
+    (idles spelling bytes s c.args.self.now w tied (subst IsConsistent c.self.view_is c.self.invariant.0) (c.in_ok-job.ensures.none c.in-None.is).0 next)
 
 pub returns-in-Some-clause-answered : goal.returns-in-Some-clause-answered
 returns-in-Some-clause-answered g c s tells going tied =
@@ -44,7 +44,7 @@ returns-in-Some-clause-answered g c s tells going tied =
     let next = subst (IsNext spelling c.args.self.now s) c.in-Some.is
     (c.in_ok-job.ensures.next s w.seen.held (tied.images w.seen.held (g.met.D.Disk.current c.args.disk.now tells))) in
     c.work.ensures.works s next.0 tells next.1
-    (subst (λ (k : Kept). Tied spelling bytes (record k { job = Some m }) (with_job s next.0) w) (sym c.take_job.ensures.rest) (taken_up spelling bytes s c.args.self.now w tied m next))
+    (subst (λ (k : StoreValue). Represents spelling bytes (record k { job = Some m }) (with_job s next.0) w) (sym c.take_job.ensures.rest) (taken_up spelling bytes s c.args.self.now w tied m next))
 
 pub returns-in-Some-clause-reads : goal.returns-in-Some-clause-reads
 returns-in-Some-clause-reads g c s tells tied =
@@ -55,4 +55,4 @@ returns-in-Some-clause-reads g c s tells tied =
     let next = subst (IsNext spelling c.args.self.now s) c.in-Some.is
     (c.in_ok-job.ensures.next s w.seen.held (tied.images w.seen.held (g.met.D.Disk.current c.args.disk.now tells))) in
     c.work.ensures.reads (with_job s next.0) next.0 tells refl
-    (subst (λ (k : Kept). Tied spelling bytes (record k { job = Some m }) (with_job s next.0) w) (sym c.take_job.ensures.rest) (taken_up spelling bytes s c.args.self.now w tied m next))
+    (subst (λ (k : StoreValue). Represents spelling bytes (record k { job = Some m }) (with_job s next.0) w) (sym c.take_job.ensures.rest) (taken_up spelling bytes s c.args.self.now w tied m next))

@@ -7,7 +7,7 @@ use Rattle.state_model.specs.Tends.{with_job}
 use Rattle.table_file.specs.Opened.{Opened}
 use Rattle.table_model.specs.Tables.{filter_bytes_of}
 use Rattle.store_core.specs.Answers.{stopped_by}
-use Rattle.store_core.specs.Kept.{Kept}
+use Rattle.store_core.specs.StoreValue.{StoreValue}
 use Rattle.store_core.specs.Scans.{IsScanShown}
 use Rattle.store_core.specs.Tending.{SlicesJob, Tends, told_slice}
 use Rattle.store_core.specs.declared.error.StoreError.{StoreError}
@@ -31,7 +31,7 @@ returns-in-Ok-Working-clause-works g c s running tells runs tied =
     let m = c.slice_job.new.job in
     let slices = subst (λ (x : Sliced). SlicesJob spelling bytes store (with_job s running) running m (Ok x) a b) c.in-Ok-Working.field-0-is
     (c.in-Ok-Working.ensures.slices (with_job s running) running tells refl tied) in
-    subst (λ (k : Kept). Tends spelling bytes s (told_slice (Ok tended.Worked)) (record k { job = Some m }) a b) (sym c.self.view_is) (works_on spelling bytes s running runs store m a b slices)
+    subst (λ (k : StoreValue). Tends spelling bytes s (told_slice (Ok tended.Worked)) (record k { job = Some m }) a b) (sym c.self.view_is) (works_on spelling bytes s running runs store m a b slices)
 
 -- ---- nothing is left
 
@@ -99,7 +99,7 @@ returns-in-Err-clause-works g c s running tells runs tied =
     let b = g.D.Disk.world c.slice_job.new.disk in
     let slices = c.in-Err.ensures.slices (with_job s running) running tells refl tied in
     let stopped = stopped_by c.refuse.result in
-    subst (λ (k : Kept). Tends spelling bytes s (told_slice c.refuse.result) k a b) (sym c.refuse.ensures.rest)
+    subst (λ (k : StoreValue). Tends spelling bytes s (told_slice c.refuse.result) k a b) (sym c.refuse.ensures.rest)
     (subst (λ (r : Result Tended StoreError). Tends spelling bytes s (told_slice r) (record store { stopped = stopped }) a b) (sym c.refuse.ensures.answer)
     (slice_refused spelling bytes s (record store { stopped = stopped }) a b slices.meanwhile (λ _. tied_none spelling bytes store (without_job s) b stopped c.requires.taken_out (slices.dropped refl)) running runs
     c.in-Err.why (drop_sound bytes (with_job s running) tied.sound) slices.done))
@@ -107,6 +107,6 @@ returns-in-Err-clause-works g c s running tells runs tied =
 pub returns-in-Err-clause-shown : goal.returns-in-Err-clause-shown
 returns-in-Err-clause-shown g c tells =
     let b = g.D.Disk.world c.slice_job.new.disk in
-    subst (λ (tables : List Opened). IfErr c.refuse.result (IsScanShown tables b.seen.held)) (sym (ap (λ (k : Kept). k.tables) c.refuse.ensures.rest))
+    subst (λ (tables : List Opened). IfErr c.refuse.result (IsScanShown tables b.seen.held)) (sym (ap (λ (k : StoreValue). k.tables) c.refuse.ensures.rest))
     (subst (λ (r : Result Tended StoreError). IfErr r (IsScanShown c.args.self.now.tables b.seen.held)) (sym c.refuse.ensures.answer)
     (slice_shown g.D.Disk.tells c.args.self.now.tables _ (g.D.Disk.world c.args.disk.now) b c.in-Err.why tells c.in-Err.ensures.fault c.in-Err.ensures.unwritten))

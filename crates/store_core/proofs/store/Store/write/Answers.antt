@@ -7,9 +7,9 @@ use Rattle.entry_model.specs.Entries.{Entry, entry_of, need}
 use Rattle.gate_log.specs.Values.{value_of}
 use Rattle.state_model.specs.Changes.{written}
 use Rattle.table_model.specs.Tables.{filter_bytes_of}
-use Rattle.store_core.specs.Answers.{Wrote}
-use Rattle.store_core.specs.Kept.{IsWhole, Kept}
-use Rattle.store_core.specs.Tied.{Tied}
+use Rattle.store_core.specs.Answers.{WroteEntry}
+use Rattle.store_core.specs.StoreValue.{IsConsistent, StoreValue}
+use Rattle.store_core.specs.Represents.{Represents}
 use Rattle.store_core.specs.declared.error.StoreError.{StoreError}
 use Rattle.store_core.proofs.FlushAnswers.{passed_on, wanted_room}
 use Rattle.store_core.proofs.Writing.{flush_failed, flush_then, need_fits, need_over, never, tied_with, whole_with, wrote_as, wrote_logged}
@@ -21,7 +21,7 @@ returns-in_err-entry-clause-wrote g c s tells tied =
     let bytes = filter_bytes_of g.F.RangeFilter.spelling g.F.RangeFilter.built_cutoff in
     let w = g.D.Disk.world c.args.disk.now in
     wanted_room spelling bytes _ s (written bytes s (entry_of c.args.key.now (value_of c.args.value))) c.from_residual.result c.reserve_for.new.self w c.from_residual.ensures.1 c.reserve_for.ensures.kept c.self.invariant.0
-    (subst (λ (k : Kept). Tied spelling bytes k s w) (sym c.self.view_is) tied)
+    (subst (λ (k : StoreValue). Represents spelling bytes k s w) (sym c.self.view_is) tied)
 
 -- a test that fails
 not_within : (size : ℕ) (test : Bool) → (size ≤ 262144 → IsTrue test) → test ≡ false → 262144 < size
@@ -38,7 +38,7 @@ returns-then-fits-clause-wrote g c s tells tied =
     let new = g.D.Disk.world c.append.new.disk in
     let e : Entry = c.in_ok-entry.entry in
     let same = c.in_ok-entry.ensures.prepared in
-    let inside = subst (λ (k : Kept). Tied spelling bytes k s old) (sym c.self.view_is) tied in
+    let inside = subst (λ (k : StoreValue). Represents spelling bytes k s old) (sym c.self.view_is) tied in
     let within = subst (λ (n : ℕ). c.self.inside.log.filled + n ≤ 262144) (c.record_need.ensures ∙ sym (ap need same)) (c.fits.ensures.0 c.if-fits.true) in
     wrote_as spelling bytes s e (entry_of c.args.key.now (value_of c.args.value)) c.append.result c.append.new.self old new same
     (wrote_logged spelling bytes s e c.append.result c.append.new.self old new (need_fits c.self.inside.log.filled (need e) s.log inside.log within) c.append.ensures.failure
@@ -51,9 +51,9 @@ returns-in_err-flush_memory-clause-wrote g c s tells tied =
     let old = g.D.Disk.world c.args.disk.now in
     let new = g.D.Disk.world c.flush_memory.new.disk in
     let x = entry_of c.args.key.now (value_of c.args.value) in
-    let inside = subst (λ (k : Kept). Tied spelling bytes k s old) (sym c.self.view_is) tied in
+    let inside = subst (λ (k : StoreValue). Represents spelling bytes k s old) (sym c.self.view_is) tied in
     let wide = subst (λ (n : ℕ). 262144 < c.self.inside.log.filled + n) c.record_need.ensures (not_within (c.self.inside.log.filled + c.record_need.result) c.fits.result c.fits.ensures.1 c.if-fits.false) in
-    subst (λ (r : Result (Unit {0}) StoreError). Wrote spelling bytes s (written bytes s x) r c.flush_memory.new.self old new)
+    subst (λ (r : Result (Unit {0}) StoreError). WroteEntry spelling bytes s (written bytes s x) r c.flush_memory.new.self old new)
     (passed_on c.from_residual-in_err-flush_memory.result c.in_err-flush_memory.field-0.0 c.from_residual-in_err-flush_memory.ensures.1)
     (flush_failed spelling bytes s x (need_over c.self.inside.log.filled (need x) s.log inside.log inside.sound.log_fits wide) c.in_err-flush_memory.field-0.0 c.flush_memory.new.self old new
     (c.in_err-flush_memory.ensures.wrote s tells (tied_with spelling bytes _ s old c.reserve_for.new.self c.reserve_for.ensures.kept inside)))
@@ -67,7 +67,7 @@ returns-clause-wrote g c s tells tied =
     let new = g.D.Disk.world c.append-2.new.disk in
     let e : Entry = c.in_ok-entry.entry in
     let same = c.in_ok-entry.ensures.prepared in
-    let inside = subst (λ (k : Kept). Tied spelling bytes k s old) (sym c.self.view_is) tied in
+    let inside = subst (λ (k : StoreValue). Represents spelling bytes k s old) (sym c.self.view_is) tied in
     let wide = subst (λ (n : ℕ). 262144 < c.self.inside.log.filled + n) (c.record_need.ensures ∙ sym (ap need same))
     (not_within (c.self.inside.log.filled + c.record_need.result) c.fits.result c.fits.ensures.1 c.if-fits.false) in
     wrote_as spelling bytes s e (entry_of c.args.key.now (value_of c.args.value)) c.append-2.result c.append-2.new.self old new same
@@ -81,6 +81,6 @@ returns-clause-moves g c =
     let old = g.D.Disk.world c.args.disk.now in
     let flushed_at = g.D.Disk.world c.flush_memory.new.disk in
     let new = g.D.Disk.world c.append-2.new.disk in
-    subst (λ (k : Kept). WriteMoves 0 (4096 * k.manifest.version.pages) old new) c.self.view_is
+    subst (λ (k : StoreValue). WriteMoves 0 (4096 * k.manifest.version.pages) old new) c.self.view_is
     (moves_then 0 (4096 * c.self.inside.version.version.pages) old flushed_at new c.flush_memory.ensures.moves
     (subst (λ (n : ℕ). WriteMoves 0 (4096 * n) flushed_at new) c.flush_memory.ensures.pages c.append-2.ensures.moves))

@@ -1,0 +1,142 @@
+-- What a merge slice does of its merge.
+use Rattle.std.specs.Prelude.{◌≡◌, ◌≢◌, ◌⊎◌, ◌<◌, ◌≤◌, ◌+◌, ◌-◌, ◌*◌, ℕ, Bool, true, List, [], ◌∷◌, ◌++◌, length, IsTrue}
+use Rattle.std.specs.List.{AllByRecursion}
+use Rattle.std.specs.List.Sorted.{IsPermutation}
+use Rattle.block_model.specs.Block.{IsTable}
+use Rattle.block_model.specs.Places.{byte_of_page, pages_of}
+use Rattle.block_model.specs.Pages.{page_bytes}
+use Rattle.byte_fields.specs.declared.parts.Row.{Row}
+use Rattle.disk_trait.specs.Image.{Image}
+use Rattle.disk_trait.specs.World.{Moves, Rose, World}
+use Rattle.disk_trait.specs.declared.fault.Op.TheVariants.{Read}
+use Rattle.entry_model.specs.Entries.{Entry}
+use Rattle.extent_map.specs.Taken.{Taken}
+use Rattle.extent_model.specs.Extents.{AreApart, IsOnDevice}
+use Rattle.filter_api.specs.Spellings.{Spelling}
+use Rattle.filter_model.specs.Leaves.{Leaf}
+use Rattle.level_merge.specs.Outputs.{PlacesOutput, WritesPlaced, built_table, extent_at}
+use Rattle.level_merge.specs.JobValue.{JobValue, is_full, outputs_left, outputs_with}
+use Rattle.level_merge.specs.declared.fault.JobFault.{JobFault}
+use Rattle.level_merge.specs.declared.fault.JobFault.TheVariants as fault
+use Rattle.level_merge.specs.declared.fault.Sliced.{Sliced}
+use Rattle.level_merge.specs.declared.fault.Sliced.TheVariants as sliced
+use Rattle.level_merge.specs.declared.taking.Stop.{Stop}
+use Rattle.level_merge.specs.declared.taking.Stop.TheVariants as stop
+use Rattle.merge_rows.specs.Merges.{Merge, merged_left, rows_left}
+use Rattle.merge_rows.specs.Reads.{OnlyReads, SomeBlock, blocks_left}
+use Rattle.merge_rows.specs.Steps.{IsSoundMerge, SourcesStay}
+use Rattle.state_model.specs.Merges.{lasting}
+use Rattle.table_file.specs.Building.{Built}
+use Rattle.table_file.specs.Opened.{Opened}
+use Rattle.table_file.specs.Search.{IsGetFault}
+use Rattle.table_file.specs.Writing.{made_row, opened_of}
+use Rattle.table_file.specs.declared.fault.TableFault.TheVariants as table
+use Rattle.table_model.specs.Tables.{Table, filter_bytes_of, table_pages}
+
+-- ---- rows
+
+-- blocks were read at most, and no row was passed
+pub record KeepsRows (tells : Bool) (tables : List Opened) (image : Image) (old new : Merge) : Type 0 where
+  pub sources : SourcesStay tells tables image old new
+  pub floor_is : new.floor ≡ old.floor
+  pub left : IsTrue tells → merged_left new tables image ≡ merged_left old tables image
+
+-- Why rows were taken no further: some blocks were read, the output is full, or no row is left.
+abbrev pub IsStop : Bool → ℕ → List Opened → Image → ℕ → Merge → Merge → List Entry → Stop → Type 0
+IsStop tells blocks tables image beside old new built stop.Blocks = 0 < blocks → blocks_left tables new.walks < blocks_left tables old.walks
+IsStop tells blocks tables image beside old new built stop.Full = is_full beside built ≡ true
+IsStop tells blocks tables image beside old new built stop.End = IsTrue tells → IsSoundMerge old tables image → rows_left new tables image ≡ []
+
+-- Rows went from a merge into an output, and the same outputs are still made, where so many may come beside it.
+pub record FillsOutput (tells : Bool) (tables : List Opened) (image : Image) (beside : ℕ) (drops : Bool) (old new : Merge) (before after : List Entry) : Type 0 where
+  pub left : IsTrue tells → IsSoundMerge old tables image
+      → outputs_with beside after (lasting drops (rows_left new tables image)) ≡ outputs_with beside before (lasting drops (rows_left old tables image))
+  pub fewer : blocks_left tables new.walks ≤ blocks_left tables old.walks
+
+-- Rows were taken: of the same tables, into the same output, and the same outputs are still made.
+pub record TakesRows (tells : Bool) (tables : List Opened) (image : Image) (old new : JobValue) : Type 0 where
+  pub sources : SourcesStay tells tables image old.merge new.merge
+  pub rest : new ≡ record old { merge = new.merge; built = new.built }
+  pub left : IsTrue tells → IsSoundMerge old.merge tables image → outputs_left new tables image ≡ outputs_left old tables image
+  pub fewer : blocks_left tables new.merge.walks ≤ blocks_left tables old.merge.walks
+
+-- memory, a read that failed, or damage of a block of a table of these numbers
+abbrev pub IsTakeFault : Bool → List Opened → List ℕ → World → World → JobFault → Type 0
+IsTakeFault tells tables which old new fault.Memory = Unit {0}
+IsTakeFault tells tables which old new (fault.Device cause) = (cause.op ≡ Read) × Rose old.seen.read_faults new.seen.read_faults
+IsTakeFault tells tables which old new (fault.Damaged d) = IsTrue tells → SomeBlock tables which (λ t n. IsGetFault t n old.seen.held (table.Damaged d))
+IsTakeFault tells tables which old new (fault.Full need gap) = ⊥
+
+-- ---- outputs
+
+-- what is built, with its settings
+abbrev pub built_of : JobValue → Built
+built_of m = record { settings = m.settings; entries = m.built }
+
+-- the pages that it needs
+abbrev pub need_of : Spelling → (ℕ → List Leaf → ℕ) → JobValue → ℕ
+need_of spelling built_cutoff m = table_pages (filter_bytes_of spelling built_cutoff) m.settings m.built
+
+-- the table that it is then, at a page, and as it is open
+abbrev pub made_table : Spelling → (ℕ → List Leaf → ℕ) → JobValue → ℕ → Table
+made_table spelling built_cutoff m page = built_table spelling built_cutoff (built_of m) m.output page
+
+abbrev pub made_opened : (ℕ → List Leaf → ℕ) → JobValue → Row → Opened
+made_opened built_cutoff m row = opened_of built_cutoff (built_of m) row
+
+-- the output that is built has a place, and its row is the last of the outputs
+abbrev pub Places : Spelling → (ℕ → List Leaf → ℕ) → JobValue → JobValue → Taken → Taken → Row → Type 0
+Places spelling built_cutoff old new free taken row = PlacesOutput spelling built_cutoff (built_of old) old.output old.outputs new.outputs free taken row
+
+-- it is written, too, and the next output is begun
+pub record Closes (spelling : Spelling) (built_cutoff : ℕ → List Leaf → ℕ) (old new : JobValue) (free taken : Taken) (row : Row) : Type 0 where
+  pub placed : Places spelling built_cutoff old new free taken row
+  pub new_is : new ≡ record old { beside = old.beside - 1; built = []; outputs = old.outputs ++ row ∷ []; made = old.made ++ made_opened built_cutoff old row ∷ [] }
+
+-- nothing is written and no extent is added, or the output has its place and the device was written there alone
+abbrev pub WritesOutput : Spelling → (ℕ → List Leaf → ℕ) → JobValue → JobValue → Taken → Taken → World → World → Type 0
+WritesOutput spelling built_cutoff old new free taken before after =
+    WritesPlaced spelling built_cutoff (built_of old) old.output old.outputs new.outputs free taken before after
+
+-- ---- a merge slice
+
+-- the row of a table of some entries, with the merge's settings and on its level
+pub record IsRowOf (spelling : Spelling) (built_cutoff : ℕ → List Leaf → ℕ) (m : JobValue) (row : Row) : Type 0 where
+  pub entries : List Entry
+  pub table : IsTable entries
+  pub row_is : row ≡ made_row spelling built_cutoff (record { settings = m.settings; entries = entries }) m.output row.first_page
+
+-- one more output has a place that was free
+pub record AddsOutput (spelling : Spelling) (built_cutoff : ℕ → List Leaf → ℕ) (old new : JobValue) (free taken : Taken) (row : Row) : Type 0 where
+  pub outputs : new.outputs ≡ old.outputs ++ row ∷ []
+  pub row_of : IsRowOf spelling built_cutoff old row
+  pub on_device : IsOnDevice free.pages (extent_at row)
+  pub apart : AllByRecursion (AreApart (extent_at row)) free.extents
+  pub extents : IsPermutation (extent_at row ∷ free.extents) taken.extents
+  pub pages : taken.pages ≡ free.pages
+
+-- There is no output more, and blocks alone were read; or there is one, and behind the reads its pages alone were written.
+abbrev pub SliceMoves : Spelling → (ℕ → List Leaf → ℕ) → JobValue → JobValue → Taken → Taken → World → World → Type 0
+SliceMoves spelling built_cutoff old new free taken before after =
+    ((new.outputs ≡ old.outputs) × (taken ≡ free) × OnlyReads before after)
+    ⊎ ((row : Row) × (most : ℕ) × AddsOutput spelling built_cutoff old new free taken row × Moves (byte_of_page row.first_page) (page_bytes * pages_of row) most before after)
+
+-- as many outputs may be made in all as before, or one more where nothing is left
+abbrev pub MayMakeAsMany : JobValue → JobValue → Sliced → Type 0
+MayMakeAsMany old new sliced.Working = length new.outputs + new.beside ≡ length old.outputs + old.beside
+MayMakeAsMany old new sliced.Ready = length new.outputs ≤ length old.outputs + old.beside + 1
+
+-- a fault of the reads or of the writes
+abbrev pub IsSliceFault : Bool → List Opened → List ℕ → World → World → JobFault → Type 0
+IsSliceFault tells tables which old new fault.Memory = Unit {0}
+IsSliceFault tells tables which old new (fault.Device cause) =
+    ((cause.op ≡ Read) × Rose old.seen.read_faults new.seen.read_faults) ⊎ ((cause.op ≢ Read) × Rose old.seen.write_faults new.seen.write_faults)
+IsSliceFault tells tables which old new (fault.Damaged d) = IsTrue tells → SomeBlock tables which (λ t n. IsGetFault t n old.seen.held (table.Damaged d))
+IsSliceFault tells tables which old new (fault.Full need gap) = gap < need
+
+-- damage is met before anything is written
+abbrev pub FailsBeforeWrite : World → World → JobFault → Type 0
+FailsBeforeWrite old new fault.Memory = Unit {0}
+FailsBeforeWrite old new (fault.Device cause) = Unit {0}
+FailsBeforeWrite old new (fault.Damaged d) = new.seen.held ≡ old.seen.held
+FailsBeforeWrite old new (fault.Full need gap) = Unit {0}

@@ -1,0 +1,94 @@
+-- What a run promises, clause by clause.
+use Rattle.std.specs.Prelude.{◌≡◌, ◌⊎◌, ℕ, Bool, List, IsTrue, None}
+use Rattle.byte_fields.specs.Faults.{Fault}
+use Rattle.byte_fields.specs.declared.parts.Damage.{Damage}
+use Rattle.clap.specs.Walk.{Text}
+use Rattle.disk_trait.specs.World.{Now, World}
+use Rattle.filter_api.specs.declared.settings.Field.{Field}
+use Rattle.image_model.specs.Opening.{FirstDamage}
+use Rattle.image_model.specs.Stands.{IsStateOf}
+use Rattle.manifest_model.specs.Slots.{IsNoStore}
+use Rattle.map_model.specs.SortedMap.{Bytes}
+use Rattle.outside.specs.Streams.{SayMoves}
+use Rattle.program_words.specs.Asked.{AreRefusedWords, HasBadNumber, IsFormat, IsHelp, IsLoadInRange, IsServe, OpensStore}
+use Rattle.program_words.specs.NewStores.{IsStoreOf, first_bad_word}
+use Rattle.program_words.specs.declared.load.Load.{Load}
+use Rattle.program_words.specs.declared.new_store.NewStore.{NewStore}
+use Rattle.program_words.specs.declared.new_store.Wanted.{Wanted}
+use Rattle.state_model.specs.State.{State}
+use Rattle.surf_run.specs.Causes.{IsServing, NoFall, RunMeetsDamage, SayFailed, StatusCause}
+use Rattle.surf_run.specs.ServedOrNot.{Completed, HasNoState, NoLineAnswered, OpenedThenServed, OpensNothing, ServedOrNot, SomeFailed, TellsDamage}
+use Rattle.surf_run.specs.Kind.{Kind}
+use Rattle.surf_run.specs.Loads.{IsLoading, LoadEnds, Loads}
+use Rattle.surf_run.specs.Open.{IsOpeningText}
+use Rattle.surf_run.specs.Run.{AskNothing, FormatEnds, IsBadSettingsText, IsHelpText, IsUsageText}
+use Rattle.table_file.specs.Faults.{filter_fault_of}
+use Rattle.surf_run.specs.Unserved.{Unserved}
+
+-- A run by these words over a device and streams, with filters of this kind, of which bytes that are no filter break this rule
+-- first. Whether device, input and output tell their bytes is `tells`, `tells_input` and `tells_output`, and `world` is what
+-- they are in.
+pub record RunContract {X : Type 0} (world : X → World) (tells tells_input tells_output : Bool) (kind : Kind) (first_fault : Bytes → Fault) (words : List Text) (status : ℕ) (old new : X) : Type 0 where
+  -- Of `serve`, where each image that a crash might have left at the start stands for this state: the lines that were taken got
+  -- the replies of its map, what a crash may leave at each moment has every line that was acknowledged by then, and no more
+  -- blocks were read than the opening, the gets, the closed seeks and the merge slices may read, where no other line reads.
+  pub outcome :
+      (s : State) → IsTrue tells → IsTrue tells_input → IsTrue tells_output → Now (IsStateOf kind.spelling s) (world old) → IsServe words
+      → ServedOrNot kind status s (world old) (world new)
+  -- Where what the device reads as stands for this state: the same from the opening on.
+  pub answers :
+      (s : State) → IsTrue tells → IsTrue tells_input → IsTrue tells_output → IsStateOf kind.spelling s (world old).seen.held → IsServe words
+      → ((opened : X) × OpenedThenServed kind status s (world old) (world opened) (world new)) ⊎ NoLineAnswered status s (world old) (world new)
+  -- Where no call fails each line is answered, to the end of the input, to `quit` or to 2^40 bytes.
+  pub complete :
+      (s : State) → IsTrue tells → IsTrue tells_input → IsTrue tells_output → IsStateOf kind.spelling s (world old).seen.held
+      → (SomeFailed (world old) (world new) → ⊥) → IsServe words → Completed status (world old) (world new)
+  -- A new store is made or refused, and says so; a number out of range is named, and nothing is touched.
+  pub formatted :
+      (wanted : Wanted) (store : NewStore) → IsTrue tells → IsTrue tells_output → IsFormat words wanted → first_bad_word wanted ≡ None → IsStoreOf wanted store
+      → FormatEnds kind.spelling store status (world old) (world new)
+  pub bad_settings : (field : Field) → IsTrue tells_output → HasBadNumber words field → Unserved (IsBadSettingsText field) status (world old) (world new)
+  -- Of `load`, where each image that a crash might have left at the start stands for this state: at status 0 all steps were made, and
+  -- the line tells the map of those that were not refused; what a crash may leave at each moment is the map after some first steps.
+  pub loaded :
+      (s : State) (load : Load) → IsTrue tells → IsTrue tells_output → Now (IsStateOf kind.spelling s) (world old) → IsLoadInRange words load
+      → LoadEnds kind status s load.seed load.count (world old) (world new) ⊎ NoLineAnswered status s (world old) (world new)
+  -- Where what the device reads as stands for this state: the same from the opening on.
+  pub loads :
+      (s : State) (load : Load) → IsTrue tells → IsTrue tells_output → IsStateOf kind.spelling s (world old).seen.held → IsLoadInRange words load
+      → ((opened : X) × Loads kind status s load.seed load.count (world old) (world opened) (world new)) ⊎ NoLineAnswered status s (world old) (world new)
+  -- Where no call fails all steps are made, but for want of memory.
+  pub load_complete :
+      (s : State) (load : Load) → IsTrue tells → IsTrue tells_output → IsStateOf kind.spelling s (world old).seen.held
+      → (SomeFailed (world old) (world new) → ⊥) → IsLoadInRange words load → (status ≡ 0) ⊎ (status ≡ 7)
+  -- And whatever stands there, no other comes than these.
+  pub load_statuses : (load : Load) → IsLoadInRange words load → IsLoading status ⊎ (status ≡ 8)
+  -- Help is said with 0, and wrong words get the usage line with 2; nothing is touched.
+  pub helped : IsTrue tells_output → IsHelp words → Unserved IsHelpText status (world old) (world new)
+  pub refused : IsTrue tells_output → AreRefusedWords words → Unserved IsUsageText status (world old) (world new)
+  -- Statuses 3, 4 and 6 come only where the count of such faults rose in this call.
+  pub causes : StatusCause status (world old) (world new)
+  pub counts : NoFall (world old) (world new)
+  -- Status 2 comes exactly where clap refuses the words, but for memory and a last line that cannot be said.
+  pub only_at_wrong_words : status ≡ 2 → AreRefusedWords words
+  pub told_of_wrong_words : AreRefusedWords words → (status ≡ 2) ⊎ (status ≡ 7) ⊎ ((status ≡ 6) × SayFailed (world old) (world new))
+  -- Words that are refused or answered, and numbers out of range: nothing is called but the output.
+  pub untouched : AskNothing words → SayMoves (world old) (world new)
+  -- Status 5 comes only where opening finds damage, and says the first, or where no state stands and a block that was read shows
+  -- the damage that was said, or that a merge slice met, of which nothing is said.
+  pub only_at_damage :
+      IsTrue tells → IsTrue tells_input → IsTrue tells_output → status ≡ 5
+      → TellsDamage kind.spelling first_fault (world old).seen.held (world old) (world new) ⊎ (HasNoState kind.spelling (world old).seen.held × RunMeetsDamage ((load : Load) × IsLoadInRange words load) (world old) (world new))
+  -- Of `serve` and `load`, where no store stands or opening finds damage, no line is served and no step made: nothing is taken or
+  -- written, and the one last line says so, or `device` or `memory`.
+  pub unopened :
+      IsTrue tells → IsTrue tells_output → OpensNothing kind.spelling first_fault (world old).seen.held → OpensStore words
+      → Unserved (IsOpeningText kind.spelling first_fault (world old).seen.held) status (world old) (world new)
+  -- Where opening finds damage, the status says so, but for the device, memory and a last line that cannot be said.
+  pub told_of_damage :
+      (d : Damage) → IsTrue tells → FirstDamage kind.spelling (filter_fault_of first_fault) (world old).seen.held d → OpensStore words
+      → (status ≡ 5) ⊎ (status ≡ 4) ⊎ (status ≡ 6) ⊎ (status ≡ 7)
+  -- Of them, status 8 comes exactly where both slot gates are closed, but for memory, the device and the last line.
+  pub only_at_no_store : IsTrue tells → status ≡ 8 → OpensStore words → IsNoStore (world old).seen.held
+  pub told_of_no_store : IsTrue tells → IsNoStore (world old).seen.held → OpensStore words → (status ≡ 8) ⊎ (status ≡ 4) ⊎ (status ≡ 6) ⊎ (status ≡ 7)
+  pub statuses : IsServing status ⊎ (status ≡ 2) ⊎ (status ≡ 5) ⊎ (status ≡ 7) ⊎ (status ≡ 8)

@@ -1,0 +1,56 @@
+-- What a run that serves a store promises.
+use Rattle.std.specs.Prelude.{◌≡◌, ◌⊎◌, ◌≤◌, ◌+◌, ◌*◌, ◌++◌, ℕ, length}
+use Rattle.byte_fields.specs.Faults.{Fault}
+use Rattle.byte_fields.specs.declared.parts.Damage.{Damage}
+use Rattle.disk_trait.specs.World.{Image, World}
+use Rattle.filter_api.specs.Spellings.{Spelling}
+use Rattle.image_model.specs.Opening.{FirstDamage}
+use Rattle.image_model.specs.Stands.{IsStateOf}
+use Rattle.line_model.specs.Replies.{Damaged, text_of}
+use Rattle.manifest_model.specs.Slots.{IsNoStore}
+use Rattle.map_model.specs.SortedMap.{Bytes}
+use Rattle.state_model.specs.State.{State}
+use Rattle.surf_run.specs.Causes.{DiskFailed, SayFailed, TakeFailed}
+use Rattle.surf_run.specs.Kind.{Kind}
+use Rattle.surf_run.specs.Open.{IsFreeText, OpenMoves}
+use Rattle.surf_run.specs.Outcome.{Outcome}
+use Rattle.table_file.specs.Faults.{filter_fault_of}
+use Rattle.surf_run.specs.Unserved.{Unserved}
+
+-- the reads before the first line: seven at most, and two for each table
+abbrev pub opening_bound : State → ℕ
+opening_bound s = 7 + 2 * length s.tables
+
+-- no line was answered, since the device failed or there was no memory, and no more was read than before a first line
+abbrev pub NoLineAnswered : ℕ → State → World → World → Type 0
+NoLineAnswered status start old new = Unserved IsFreeText status old new × (new.seen.reads ≤ old.seen.reads + opening_bound start)
+
+-- the lines were answered from this state on, or none was
+abbrev pub ServedOrNot : Kind → ℕ → State → World → World → Type 0
+ServedOrNot kind status start old new = Outcome kind status start (old.seen.reads + opening_bound start) old new ⊎ NoLineAnswered status start old new
+
+-- The store was opened, with nothing written, taken or said by then; and lines were answered from this state on.
+pub record OpenedThenServed (kind : Kind) (status : ℕ) (start : State) (old opened new : World) : Type 0 where
+  pub opens : OpenMoves old opened
+  pub outcome : Outcome kind status start (old.seen.reads + opening_bound start) opened new
+
+-- some call failed
+abbrev pub SomeFailed : World → World → Type 0
+SomeFailed old new = TakeFailed old new ⊎ DiskFailed old new ⊎ SayFailed old new
+
+-- the input was read to its end or to `quit`, or 2^40 bytes of it were; or nothing was taken, since there was no memory
+abbrev pub Completed : ℕ → World → World → Type 0
+Completed status old new = (status ≡ 0) ⊎ (status ≡ 9) ⊎ ((status ≡ 7) × (new.beside.to_take ≡ old.beside.to_take))
+
+-- the image is damaged, and the last line says where and how
+abbrev pub TellsDamage : Spelling → (Bytes → Fault) → Image → World → World → Type 0
+TellsDamage spelling first image old new =
+    (d : Damage) × FirstDamage spelling (filter_fault_of first) image d × (new.beside.said ≡ old.beside.said ++ text_of (Damaged d))
+
+-- nothing opens there: no store stands, or opening finds damage
+abbrev pub OpensNothing : Spelling → (Bytes → Fault) → Image → Type 0
+OpensNothing spelling first image = IsNoStore image ⊎ ((d : Damage) × FirstDamage spelling (filter_fault_of first) image d)
+
+-- no state stands there: what opens has damage in a block
+abbrev pub HasNoState : Spelling → Image → Type 0
+HasNoState spelling image = (s : State) → IsStateOf spelling s image → ⊥

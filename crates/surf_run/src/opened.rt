@@ -1,0 +1,124 @@
+//! A store that stands on a device, opened and served.
+ghost use Rattle.std.specs.Prelude.{◌≡◌, ◌≤◌, ◌≢◌, ◌⊎◌, ◌++◌, ℕ, [], false, IfOk, IsTrue, vec_len};
+ghost use Rattle.byte_fields.specs.declared.parts.Damage.{Damage};
+ghost use Rattle.disk_trait.specs.World.{Now};
+ghost use Rattle.image_model.specs.Opening.{FirstDamage};
+ghost use Rattle.image_model.specs.Stands.{IsStateOf};
+ghost use Rattle.key_base.specs.Limits.{piece_bytes};
+ghost use Rattle.manifest_model.specs.Slots.{IsNoStore};
+ghost use Rattle.state_model.specs.State.{State};
+ghost use Rattle.surf_run.specs.Causes.{IsServing, NoFall, ShowsSomeDamage, StatusCause};
+ghost use Rattle.surf_run.specs.ServedOrNot.{Completed, HasNoState, NoLineAnswered, OpenedThenServed, OpensNothing, ServedOrNot, SomeFailed, TellsDamage};
+ghost use Rattle.surf_run.specs.Kind.{filter_kind};
+ghost use Rattle.surf_run.specs.Open.{IsFreeText, IsOpeningText};
+ghost use Rattle.surf_run.specs.Outcome.{Outcome};
+ghost use Rattle.surf_run.specs.Serving.{ServeInvariant};
+ghost use Rattle.surf_run.specs.Unserved.{Unserved};
+ghost use Rattle.table_file.specs.Faults.{filter_fault_of};
+
+use crate::lines::serve;
+use crate::opening::open_or_say;
+use crate::pending::Pending;
+use crate::saying::last_line;
+use filter_api::RangeFilter;
+use key_base::PIECE_BYTES;
+use outside::Outside;
+use std::alloc::{AllocError, Global};
+use store_commands::{Reply, Scratch};
+use store_core::Store;
+
+// What serving keeps in memory beside the store.
+#[derive(Drop)]
+struct Buffers {
+    pending: Pending,
+    scratch: Scratch,
+    reply: Vec<u8>,
+    piece: Vec<u8>,
+}
+
+fn new_buffers(alloc: Global) -> Result<Buffers, AllocError>
+    ensures pending { IfOk result (λ b. b.pending ≡ []) }
+    ensures reply { IfOk result (λ b. vec_len b.reply ≡ piece_bytes) }
+    ensures piece { IfOk result (λ b. vec_len b.piece ≡ piece_bytes) }
+{
+    let pending = Pending::new(alloc)?;
+    let scratch = Scratch::new(alloc)?;
+    let reply = vec![in alloc; 0; PIECE_BYTES]?;
+    let piece = vec![in alloc; 0; PIECE_BYTES]?;
+    Ok(Buffers {
+        pending,
+        scratch,
+        reply,
+        piece,
+    })
+}
+
+// Serves an opened store, with all memory that is not a line's taken first.
+fn serve_store<F: RangeFilter, W: Outside>(alloc: Global, store: Store<F>, out: &mut W) -> u8
+    requires { store.stopped ≡ false }
+    ensures ends { (start : State) (base : ℕ) (first : _) → IsTrue W.tells → IsTrue W.tells_input → IsTrue W.tells_output
+        → (W.world first).beside.to_take ≡ (W.world out.old).beside.to_take
+        → ServeInvariant (filter_kind F.spelling F.built_cutoff) start base [] [] store (W.world first) (W.world out.old)
+        → Outcome (filter_kind F.spelling F.built_cutoff) result start base (W.world first) (W.world out.new) ⊎ Unserved IsFreeText result (W.world out.old) (W.world out.new) × ((W.world out.new).seen.reads ≤ (W.world out.old).seen.reads) }
+    ensures shown { IsTrue W.tells → IsTrue W.tells_output → result ≡ 5 → ShowsSomeDamage (W.world out.new) }
+    ensures statuses { IsServing result ⊎ (result ≡ 5) ⊎ (result ≡ 7) }
+    ensures early { result ≡ 7 → (W.world out.new).beside.to_take ≡ (W.world out.old).beside.to_take }
+    ensures causes { StatusCause result (W.world out.old) (W.world out.new) }
+    ensures counts { NoFall (W.world out.old) (W.world out.new) }
+{
+    match new_buffers(alloc) {
+        Ok(buffers) => {
+            let mut store = store;
+            let mut buffers = buffers;
+            serve(
+                &mut store,
+                &mut buffers.pending,
+                &mut buffers.scratch,
+                &mut buffers.reply,
+                &mut buffers.piece,
+                out,
+            )
+        }
+        Err(_) => last_line(out, &Reply::Memory, 7),
+    }
+}
+
+/// Opens the store and serves it: the lines of the input are answered, each reply said before the next line is begun.
+pub(crate) fn open_and_serve<F: RangeFilter, W: Outside>(alloc: Global, out: &mut W) -> u8
+    // Where each image that a crash might have left stands for this state: the lines that were taken got the replies of its
+    // map, what a crash may leave at each moment has every line that was acknowledged by then, and no more blocks were read
+    // than the opening, the gets and the closed seeks may read, where no other line reads.
+    ensures outcome { (s : State) → IsTrue W.tells → IsTrue W.tells_input → IsTrue W.tells_output → Now (IsStateOf F.spelling s) (W.world out.old)
+        → ServedOrNot (filter_kind F.spelling F.built_cutoff) result s (W.world out.old) (W.world out.new) }
+    // Where what the device reads as stands for this state: the same from the opening on.
+    ensures answers { (s : State) → IsTrue W.tells → IsTrue W.tells_input → IsTrue W.tells_output → IsStateOf F.spelling s (W.world out.old).seen.held
+        → ((opened : _) × OpenedThenServed (filter_kind F.spelling F.built_cutoff) result s (W.world out.old) (W.world opened) (W.world out.new)) ⊎ NoLineAnswered result s (W.world out.old) (W.world out.new) }
+    // Where no call fails each line is answered, to the end of the input, to `quit` or to 2^40 bytes.
+    ensures complete { (s : State) → IsTrue W.tells → IsTrue W.tells_input → IsTrue W.tells_output → IsStateOf F.spelling s (W.world out.old).seen.held
+        → (SomeFailed (W.world out.old) (W.world out.new) → ⊥) → Completed result (W.world out.old) (W.world out.new) }
+    // Statuses 3, 4 and 6 come only where the count of such faults rose in this call.
+    ensures causes { StatusCause result (W.world out.old) (W.world out.new) }
+    ensures counts { NoFall (W.world out.old) (W.world out.new) }
+    // For want of memory, and where no store stands, nothing was taken.
+    ensures early { (result ≡ 7) ⊎ (result ≡ 8) → (W.world out.new).beside.to_take ≡ (W.world out.old).beside.to_take }
+    // Status 5 comes only where opening finds damage, and says the first, or where no state stands and a block that was read
+    // shows the damage that was said.
+    ensures only_at_damage { IsTrue W.tells → IsTrue W.tells_input → IsTrue W.tells_output → result ≡ 5
+        → TellsDamage F.spelling F.first_fault (W.world out.old).seen.held (W.world out.old) (W.world out.new) ⊎ (HasNoState F.spelling (W.world out.old).seen.held × ShowsSomeDamage (W.world out.new)) }
+    // Where no store stands or opening finds damage, no line is served: nothing is taken or written, and the one last line says so,
+    // or `device` or `memory`.
+    ensures unopened { IsTrue W.tells → IsTrue W.tells_output → OpensNothing F.spelling F.first_fault (W.world out.old).seen.held
+        → Unserved (IsOpeningText F.spelling F.first_fault (W.world out.old).seen.held) result (W.world out.old) (W.world out.new) }
+    // Where opening finds damage, the status says so, but for the device, memory and a last line that cannot be said.
+    ensures told_of_damage { (d : Damage) → IsTrue W.tells → FirstDamage F.spelling (filter_fault_of F.first_fault) (W.world out.old).seen.held d
+        → (result ≡ 5) ⊎ (result ≡ 4) ⊎ (result ≡ 6) ⊎ (result ≡ 7) }
+    // Status 8 comes exactly where both slot gates are closed, but for memory, the device and a last line that cannot be said.
+    ensures only_at_no_store { IsTrue W.tells → result ≡ 8 → IsNoStore (W.world out.old).seen.held }
+    ensures told_of_no_store { IsTrue W.tells → IsNoStore (W.world out.old).seen.held → (result ≡ 8) ⊎ (result ≡ 4) ⊎ (result ≡ 6) ⊎ (result ≡ 7) }
+    ensures statuses { IsServing result ⊎ (result ≡ 5) ⊎ (result ≡ 7) ⊎ (result ≡ 8) }
+{
+    match open_or_say::<F, W>(alloc, out) {
+        Ok(store) => serve_store(alloc, store, out),
+        Err(status) => status,
+    }
+}
