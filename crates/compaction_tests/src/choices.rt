@@ -87,3 +87,15 @@ fn the_first_table_of_a_level_over_its_limit_is_merged(rt: HostRuntime) -> Resul
     assert!(rt; chooses(alloc, &over, None)?);
     Ok(())
 }
+
+#[test]
+fn a_level_of_exactly_256_pages_is_left(rt: HostRuntime) -> Result<(), Fail> {
+    let alloc = rt.alloc();
+    // 248 pages, and one table more: of 6 pages of blocks, one of index and one of filter; and then of one page more
+    let mut all = FULL;
+    all[13] = (1, b"n", b"n", 20_480);
+    assert!(rt; chooses(alloc, &all, None)?);
+    all[13] = (1, b"n", b"n", 24_576);
+    assert!(rt; chooses(alloc, &all, Some((&[15, 1], 2)))?);
+    Ok(())
+}
