@@ -1,59 +1,54 @@
 //! Measures the bit kernels, each beside a plain scalar loop in the same run.
 //!
 //! ```text
-//! bits_bench rank 16777216 1000000 7
-//! bits_bench select 1048576 1000000 7 16
-//! bits_bench find_in_section 12 1000000 7
+//! bits_bench rank --count 16777216 --calls 1000000 --seed 7
+//! bits_bench select --count 1048576 --one-in 16 --calls 1000000 --seed 7
+//! bits_bench find_in_section --count 12 --calls 1000000 --seed 7
 //! ```
 #![tactic(auto)]
 
-mod boxes;
 mod inputs;
 mod measures;
 mod plain;
-mod report;
 mod rounds;
 mod searches;
 
-use anyhow::Result;
+use anyhow::{Result, bail};
+use bench_kit::{Options, read_options};
 use std::alloc::Global;
 use std::env;
 use std::time::CpuClock;
 
-const USAGE: &str = "usage: bits_bench KERNEL SIZE CALLS SEED [ONE_IN]
-  rank, ones                     SIZE random bits
-  select, node_range             SIZE bits, one in ONE_IN of them set, or in 2
-  find_label, find_in_section    nodes of SIZE labels (1 to 256), as slices or in one section
-each called CALLS times, at random places";
+const ABOUT: &str = "\
+Measures a bit kernel and a plain loop that does the same, at random places, in nanoseconds a call:
+  rank, ones                     of --count random bits
+  select, node_range             of --count bits, one in --one-in of them set
+  find_label, find_in_section    in nodes of --count labels (1 to 256), as slices or in one section";
 
 fn main(rt: HostRuntime) -> Result<()> {
     let words: Vec<String> = env::args(&rt)?.skip(1).collect(rt.alloc())?;
-    measure(&rt, rt.alloc(), &words)
+    match read_options(&rt, rt.alloc(), "bits_bench", ABOUT, &words)? {
+        Some(options) => measure(&rt, rt.alloc(), options),
+        None => Ok(()),
+    }
 }
 
-// Measures what the words ask for.
-fn measure(rt: &(impl Print + CpuClock), alloc: Global, words: &[String]) -> Result<()> {
-    if words.len() != 4 && words.len() != 5 {
-        println!(rt; "{USAGE}")?;
-        return Ok(());
-    }
-    let size = words[1].as_str().parse::<u64>()?;
-    let calls = words[2].as_str().parse::<u64>()?;
-    let seed = words[3].as_str().parse::<u64>()?;
-    let one_in = match words.get(4) {
-        Some(word) => word.as_str().parse::<u64>()?,
-        None => 2,
-    };
-    match words[0].as_str() {
-        "rank" => measures::rank(rt, alloc, size, calls, seed),
-        "select" => measures::select(rt, alloc, size, calls, seed, one_in),
-        "ones" => measures::ones(rt, alloc, size, calls, seed),
-        "node_range" => searches::node_range(rt, alloc, size, calls, seed, one_in),
-        "find_label" => searches::find_label(rt, alloc, size, calls, seed, false),
-        "find_in_section" => searches::find_label(rt, alloc, size, calls, seed, true),
-        _ => {
-            println!(rt; "{USAGE}")?;
-            Ok(())
-        }
+// Measures what the options ask for.
+fn measure(rt: &(impl Print + CpuClock), alloc: Global, options: Options<'_>) -> Result<()> {
+    let Options {
+        count,
+        calls,
+        seed,
+        one_in,
+        ..
+    } = options;
+    match options.measure {
+        "rank" => measures::rank(rt, alloc, count, calls, seed),
+        "select" => measures::select(rt, alloc, count, calls, seed, one_in),
+        "ones" => measures::ones(rt, alloc, count, calls, seed),
+        "node_range" => searches::node_range(rt, alloc, count, calls, seed, one_in),
+        "find_label" => searches::find_label(rt, alloc, count, calls, seed, false),
+        "find_in_section" => searches::find_label(rt, alloc, count, calls, seed, true),
+        _ => bail!("no such measure: see --help"),
     }
 }

@@ -1,15 +1,16 @@
 //! Counts and places of set bits.
 ghost use Rattle.std.specs.Prelude.{◌≤◌, ◌<◌, ◌^◌, length};
 
-use crate::boxes::boxed;
-use crate::inputs::{Numbers, random_bytes, random_numbers};
+use crate::inputs::{random_bytes, random_numbers};
 use crate::plain;
-use crate::rounds::{Kernel, measure, rounds};
+use crate::rounds::{Kernel, measure, print, rounds};
 use anyhow::Result;
+use bench_kit::{Figure, Numbers, boxed};
 use bit_rank::Ranked;
 use bit_select::Selected;
 use bit_words::Bits;
 use std::alloc::{AllocError, Global};
+use std::num::nearest_u64_to_f64;
 use std::time::CpuClock;
 
 // How many calls of a kernel stand against one of a plain loop that begins at the first bit.
@@ -258,9 +259,7 @@ pub fn ones(
 
 fn measure_ones(rt: &(impl Print + CpuClock), ones: &AllOnes<'_>) -> Result<()> {
     let (race, sum) = rounds(rt, ones)?;
-    race.print(rt, "ones")?;
-    let bytes = 8usize.saturating_mul(ones.bits.words().len());
-    println!(rt; "{:.2} bytes a nanosecond", race.bytes(bytes))?;
-    println!(rt; "sum {sum}")?;
-    Ok(())
+    let bytes = nearest_u64_to_f64(ones.bits.words().len() as u64) * 8.0;
+    let rate = ("bytes_a_ns", Figure::Real(bytes / race.call.nanoseconds));
+    print(rt, "ones", &race, sum, Some(rate))
 }

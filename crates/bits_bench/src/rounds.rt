@@ -1,10 +1,7 @@
 //! A kernel and the plain loop beside it, in rounds that take turns.
-use crate::report::{Race, Watch};
 use anyhow::{Result, bail};
+use bench_kit::{Figure, Measured, ROUNDS, Watch, print_measure};
 use std::time::CpuClock;
-
-// How many rounds kernel and plain loop run in turn.
-const ROUNDS: u32 = 5;
 
 /// A kernel with the calls that are made of it, and the plain loop with its own.
 ///
@@ -23,14 +20,32 @@ pub trait Kernel {
 /// Measures a kernel, and prints its times and the sum of its answers.
 pub fn measure<K: Kernel>(rt: &(impl Print + CpuClock), name: &str, kernel: &K) -> Result<()> {
     let (race, sum) = rounds(rt, kernel)?;
-    race.print(rt, name)?;
-    println!(rt; "sum {sum}")?;
+    print(rt, name, &race, sum, None)
+}
+
+/// Prints the nanoseconds of a call of a kernel and of the plain loop, the sum of the answers, and one figure more where
+/// there is one.
+pub fn print(
+    rt: &impl Print,
+    name: &str,
+    race: &Measured,
+    sum: u64,
+    more: Option<(&str, Figure<'_>)>,
+) -> Result<()> {
+    let figures = [
+        ("ns", Figure::Real(race.call.nanoseconds)),
+        ("plain_ns", Figure::Real(race.floor.nanoseconds)),
+        ("ratio", Figure::Real(race.floor.over(race.call))),
+        ("sum", Figure::Count(sum)),
+        more.unwrap_or(("rounds", Figure::Count(u64::from(ROUNDS)))),
+    ];
+    print_measure(rt, "bits_bench", name, &figures)?;
     Ok(())
 }
 
 /// Measures a kernel: its least times, and the sum of its answers over all rounds.
-pub fn rounds<K: Kernel>(rt: &impl CpuClock, kernel: &K) -> Result<(Race, u64)> {
-    let mut race = Race::new();
+pub fn rounds<K: Kernel>(rt: &impl CpuClock, kernel: &K) -> Result<(Measured, u64)> {
+    let mut race = Measured::new();
     let mut sum = 0u64;
     for _ in 0..ROUNDS {
         sum = sum.wrapping_add(round(rt, kernel, &mut race)?);
@@ -39,14 +54,15 @@ pub fn rounds<K: Kernel>(rt: &impl CpuClock, kernel: &K) -> Result<(Race, u64)> 
 }
 
 // Both once: the sum of the kernel's answers.
-fn round<K: Kernel>(rt: &impl CpuClock, kernel: &K, race: &mut Race) -> Result<u64> {
+fn round<K: Kernel>(rt: &impl CpuClock, kernel: &K, race: &mut Measured) -> Result<u64> {
     let (kernel_calls, plain_calls) = kernel.calls();
     let watch = Watch::start(rt)?;
     let kernel_sum = kernel.kernel();
-    let kernel_time = watch.stop(rt, kernel_calls)?;
+    let kernel_time = watch.stop_each(rt, kernel_calls)?;
     let watch = Watch::start(rt)?;
     let plain_sum = kernel.plain();
-    race.keep(kernel_time, watch.stop(rt, plain_calls)?);
+    race.call.keep(kernel_time);
+    race.floor.keep(watch.stop_each(rt, plain_calls)?);
     if !kernel.agree(kernel_sum, plain_sum) {
         bail!("the two do not agree");
     }

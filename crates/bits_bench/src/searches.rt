@@ -1,12 +1,12 @@
 //! Searches for a label and for the set bits beside a place.
 ghost use Rattle.std.specs.Prelude.{◌≤◌, ◌<◌, length};
 
-use crate::boxes::boxed;
-use crate::inputs::{Numbers, random_numbers};
+use crate::inputs::random_numbers;
 use crate::measures::sparse_bits;
 use crate::plain;
 use crate::rounds::{Kernel, measure};
 use anyhow::{Result, bail};
+use bench_kit::{Numbers, boxed};
 use bit_words::Bits;
 use std::alloc::{AllocError, Global};
 use std::time::CpuClock;

@@ -1,5 +1,5 @@
 //! A Bloom filter.
-use crate::boxes::boxed;
+use bench_kit::boxed;
 use key_base::KeyList;
 use std::alloc::{AllocError, Global};
 

@@ -1,9 +1,8 @@
 //! The trie of keys, and how long its making takes.
 ghost use Rattle.filter_model.specs.Keys.{IsKeyList};
 
-use crate::boxes::boxed;
-use crate::report::{Least, ROUNDS, Watch};
 use anyhow::{Result, bail};
+use bench_kit::{Least, ROUNDS, Watch, boxed};
 use filter_trie::{Trie, build};
 use key_base::KeyList;
 use key_truncate::truncate;
@@ -67,7 +66,7 @@ fn build_timed(
     }
     let last = Watch::start(rt)?;
     let trie = boxed(alloc, build(alloc, keys, spans, &levels, 0, 0, dense)?)?;
-    planned.keep(last.stop(rt, count)?);
-    whole.keep(first.stop(rt, count)?);
+    planned.keep(last.stop_each(rt, count)?);
+    whole.keep(first.stop_each(rt, count)?);
     Ok(trie)
 }

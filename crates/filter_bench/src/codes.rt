@@ -1,7 +1,6 @@
 //! A trie's image, written and read.
-use crate::boxes::boxed;
-use crate::report::{Least, ROUNDS, Watch};
 use anyhow::{Result, bail};
+use bench_kit::{Least, ROUNDS, Watch, boxed};
 use filter_codec::{decode, encode};
 use filter_trie::Trie;
 use std::alloc::Global;
@@ -44,7 +43,7 @@ fn print_codes(rt: &impl Print, bytes: usize, written: Least, read: Least) -> io
 fn encode_timed(rt: &impl CpuClock, trie: &Trie<Global>, image: &mut Vec<u8>) -> Result<f64> {
     let watch = Watch::start(rt)?;
     encode(trie, image)?;
-    Ok(watch.stop(rt, image.len() as u64)?)
+    Ok(watch.stop_each(rt, image.len() as u64)?)
 }
 
 // Reads the image once: nanoseconds a byte.
@@ -56,7 +55,7 @@ fn decode_timed(
 ) -> Result<f64> {
     let watch = Watch::start(rt)?;
     let again = read(alloc, image)?;
-    let taken = watch.stop(rt, image.len() as u64)?;
+    let taken = watch.stop_each(rt, image.len() as u64)?;
     if again.leaves() != trie.leaves() {
         bail!("a trie of other leaves is read");
     }

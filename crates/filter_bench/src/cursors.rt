@@ -1,6 +1,6 @@
 //! A cursor that goes from leaf to leaf.
-use crate::report::{Least, ROUNDS, Watch};
 use anyhow::{Result, bail};
+use bench_kit::{Least, ROUNDS, Watch};
 use filter_iter::FilterCursor;
 use filter_trie::Trie;
 use std::alloc::Global;
@@ -37,7 +37,7 @@ fn next_timed(
 ) -> Result<f64> {
     let watch = Watch::start(rt)?;
     let count = count_leaves(cursor, leaves);
-    let taken = watch.stop(rt, leaves)?;
+    let taken = watch.stop_each(rt, leaves)?;
     if count != leaves {
         bail!("a cursor leaves out a leaf");
     }

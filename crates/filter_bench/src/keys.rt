@@ -1,9 +1,8 @@
 //! Keys that are drawn, and others that are not among them.
-use crate::boxes::boxed;
-use crate::draws::Numbers;
 use crate::stubs::StubSearch;
 use crate::texts::Texts;
 use anyhow::Result;
+use bench_kit::{Numbers, boxed};
 use key_base::{KeyList, compare};
 use std::alloc::{AllocError, Global};
 

@@ -2,9 +2,9 @@
 //! ranges.
 //!
 //! ```text
-//! filter_bench random 1000000 1
-//! filter_bench words 1000000 1
-//! filter_bench random 100000 1 16
+//! filter_bench all --count 1000000
+//! filter_bench all --keys words --count 1000000
+//! filter_bench all --count 100000 --ratio 16
 //! ```
 //!
 //! All three are asked the same keys in the same order, five rounds in turn: each key that was drawn, and as many that the
@@ -17,27 +17,24 @@
 ghost use Rattle.filter_model.specs.Keys.{IsKeyList};
 
 mod bloom;
-mod boxes;
 mod building;
 mod codes;
 mod cursors;
-mod draws;
 mod finder;
 mod keys;
 mod levels;
 mod plain;
 mod race;
 mod ranges;
-mod report;
 mod sizes;
 mod stubs;
 mod texts;
 mod variants;
 
 use anyhow::{Result, bail};
+use bench_kit::{Numbers, Options, read_options};
 use codes::code_rounds;
 use cursors::cursor_rounds;
-use draws::Numbers;
 use filter_model::are_keys;
 use filter_trie::Trie;
 use key_base::KeyList;
@@ -51,11 +48,13 @@ use std::time::CpuClock;
 use texts::Texts;
 use variants::{Queries, variant_rounds};
 
-const USAGE: &str = "usage: filter_bench KIND COUNT SEED [RATIO]
-  COUNT keys of a KIND: random (8 bytes) or words (10 to 20 letters, which begin as others do)
-  the trie's upper levels are dense by RATIO, or by 64";
+const ABOUT: &str = "\
+Measures filters of --count keys of a kind, --keys: random (8 bytes) or words (10 to 20 letters, which begin as others do)
+by --seed. The upper levels of a trie are dense by --ratio:
+  all     a trie beside a Bloom filter and a binary search, its image, cursor and ranges, filters with and without suffix
+          bits beside their walks, and a plain filter";
 
-// What the words of the command line ask for.
+// What the options ask for.
 #[derive(Clone, Copy)]
 struct Asked {
     kind: Kind,
@@ -66,35 +65,25 @@ struct Asked {
 
 fn main(rt: HostRuntime) -> Result<()> {
     let words: Vec<String> = env::args(&rt)?.skip(1).collect(rt.alloc())?;
-    match read_words(words.as_slice())? {
-        Some(asked) => measure(&rt, rt.alloc(), asked),
-        None => {
-            println!(rt; "{USAGE}")?;
-            Ok(())
-        }
+    match read_options(&rt, rt.alloc(), "filter_bench", ABOUT, &words)? {
+        Some(options) => measure(&rt, rt.alloc(), asked_by(options)?),
+        None => Ok(()),
     }
 }
 
-// What is asked for, or `None` where the words do not say it.
-fn read_words(words: &[String]) -> Result<Option<Asked>> {
-    if words.len() != 3 && words.len() != 4 {
-        return Ok(None);
+fn asked_by(options: Options<'_>) -> Result<Asked> {
+    if options.measure != "all" {
+        bail!("no such measure: see --help");
     }
-    let Some(kind) = Kind::named(words[0].as_str()) else {
-        return Ok(None);
+    let Some(kind) = Kind::named(options.keys) else {
+        bail!("keys are random or words");
     };
-    let count = words[1].as_str().parse::<u32>()?;
-    let seed = words[2].as_str().parse::<u64>()?;
-    let ratio = match words.get(3) {
-        Some(word) => word.as_str().parse::<u16>()?,
-        None => 64,
-    };
-    Ok(Some(Asked {
+    Ok(Asked {
         kind,
-        count,
-        seed,
-        ratio,
-    }))
+        count: u32::try_from(options.count)?,
+        seed: options.seed,
+        ratio: u16::try_from(options.ratio)?,
+    })
 }
 
 // Draws keys, and measures what is built of them.

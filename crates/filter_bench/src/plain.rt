@@ -1,10 +1,9 @@
 //! A plain filter of the same keys, which looks at all its leaves for each answer; so it is asked for few keys.
 ghost use Rattle.filter_model.specs.Keys.{IsKeyList};
 
-use crate::boxes::boxed;
-use crate::report::{Watch, share};
 use crate::texts::Texts;
 use anyhow::{Result, bail};
+use bench_kit::{Watch, boxed, share};
 use filter_api::{RangeFilter, Settings};
 use key_base::KeyList;
 use plain_filter::PlainFilter;
@@ -35,7 +34,7 @@ pub fn plain_round(
     }
     let watch = Watch::start(rt)?;
     let filter = boxed(alloc, PlainFilter::build(alloc, keys, SETTINGS)?)?;
-    let taken = watch.stop(rt, keys.len() as u64)?;
+    let taken = watch.stop_each(rt, keys.len() as u64)?;
     println!(rt; "plain: build {:.2} million keys a second", 1e3 / taken)?;
     print_size(rt, alloc, &filter)?;
     ask_plain(rt, &filter, queries)
@@ -55,10 +54,10 @@ fn print_size(rt: &impl Print, alloc: Global, filter: &PlainFilter) -> Result<()
 fn ask_plain(rt: &(impl Print + CpuClock), filter: &PlainFilter, queries: &Texts) -> Result<()> {
     let watch = Watch::start(rt)?;
     let held = points(filter, queries);
-    let point = watch.stop(rt, ASKED as u64)?;
+    let point = watch.stop_each(rt, ASKED as u64)?;
     let watch = Watch::start(rt)?;
     let sum = seeks(filter, queries);
-    let seek = watch.stop(rt, ASKED as u64)?;
+    let seek = watch.stop_each(rt, ASKED as u64)?;
     println!(rt; "plain: point {point:.0} ns, seek {seek:.0} ns, {held} held, sum {sum}")?;
     Ok(())
 }

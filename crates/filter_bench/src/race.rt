@@ -2,15 +2,14 @@
 ghost use Rattle.filter_model.specs.Keys.{IsKeyList};
 
 use crate::bloom::Bloom;
-use crate::boxes::boxed;
 use crate::building::build_rounds;
 use crate::finder::{Found, ask};
 use crate::levels::levels;
-use crate::report::{Least, ROUNDS, Watch, share};
 use crate::sizes::Sizes;
 use crate::stubs::StubSearch;
 use crate::texts::Texts;
 use anyhow::{Result, bail};
+use bench_kit::{Least, ROUNDS, Watch, boxed, share};
 use filter_trie::Trie;
 use key_base::KeyList;
 use std::alloc::Global;
@@ -79,13 +78,13 @@ fn round(
     let count = queries.len() as u64;
     let watch = Watch::start(rt)?;
     let walked = ask(&*finders.trie, queries);
-    times.walk.keep(watch.stop(rt, count)?);
+    times.walk.keep(watch.stop_each(rt, count)?);
     let watch = Watch::start(rt)?;
     let passed = ask(&*finders.bloom, queries);
-    times.bloom.keep(watch.stop(rt, count)?);
+    times.bloom.keep(watch.stop_each(rt, count)?);
     let watch = Watch::start(rt)?;
     let searched = ask(&*finders.search, queries);
-    times.search.keep(watch.stop(rt, count)?);
+    times.search.keep(watch.stop_each(rt, count)?);
     if walked.count != searched.count {
         bail!("walks and searches do not agree");
     }

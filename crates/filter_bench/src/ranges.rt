@@ -1,9 +1,9 @@
 //! Ranges, asked beside walks.
 use crate::finder::ask;
 use crate::keys::Kind;
-use crate::report::{Least, ROUNDS, Watch, share};
 use crate::texts::Texts;
 use anyhow::{Result, bail};
+use bench_kit::{Least, ROUNDS, Watch, share};
 use filter_iter::{range, seek, tally};
 use filter_trie::Trie;
 use std::alloc::Global;
@@ -145,7 +145,7 @@ fn walks_timed(
 ) -> Result<f64> {
     let watch = Watch::start(rt)?;
     let found = ask(trie, lows);
-    let taken = watch.stop(rt, lows.len() as u64)?;
+    let taken = watch.stop_each(rt, lows.len() as u64)?;
     *sum = sum.wrapping_add(found.sum);
     Ok(taken)
 }
@@ -159,7 +159,7 @@ fn seeks_timed(
 ) -> Result<f64> {
     let watch = Watch::start(rt)?;
     let found = seek_all(trie, lows);
-    let taken = watch.stop(rt, lows.len() as u64)?;
+    let taken = watch.stop_each(rt, lows.len() as u64)?;
     *sum = sum.wrapping_add(found);
     Ok(taken)
 }
@@ -174,7 +174,7 @@ fn ranges_timed(
 ) -> Result<f64> {
     let watch = Watch::start(rt)?;
     *held = range_all(trie, lows, highs);
-    Ok(watch.stop(rt, lows.len() as u64)?)
+    Ok(watch.stop_each(rt, lows.len() as u64)?)
 }
 
 // Asks for tallies once: nanoseconds a tally. Fails where not as many as `held` are above zero.
@@ -187,7 +187,7 @@ fn tallies_timed(
 ) -> Result<f64> {
     let watch = Watch::start(rt)?;
     let counted = tally_all(trie, lows, highs);
-    let taken = watch.stop(rt, lows.len() as u64)?;
+    let taken = watch.stop_each(rt, lows.len() as u64)?;
     if counted != held {
         bail!("ranges and tallies do not agree");
     }

@@ -1,9 +1,9 @@
 //! A binary search over stubs.
 ghost use Rattle.filter_model.specs.Keys.{IsKeyList};
 
-use crate::boxes::boxed;
 use crate::texts::Texts;
 use anyhow::Result;
+use bench_kit::boxed;
 use key_base::KeyList;
 use key_truncate::{Stub, truncate};
 use std::alloc::{AllocError, Global};

@@ -1,6 +1,6 @@
 //! Byte strings in one array.
-use crate::boxes::boxed;
 use anyhow::Result;
+use bench_kit::boxed;
 use key_base::compare;
 use std::alloc::{AllocError, Global};
 

@@ -4,13 +4,12 @@
 ghost use Rattle.filter_model.specs.Keys.{IsKeyList};
 ghost use Rattle.filter_api.specs.Ranges.{InRange};
 
-use crate::boxes::boxed;
 use crate::finder::{Finder, ask};
 use crate::ranges::range_rounds;
-use crate::report::{Least, ROUNDS, Watch, share};
 use crate::sizes::Sizes;
 use crate::texts::Texts;
 use anyhow::{Result, bail};
+use bench_kit::{Least, ROUNDS, Watch, boxed, share};
 use filter_api::{RangeFilter, Settings};
 use key_base::KeyList;
 use std::alloc::Global;
@@ -119,7 +118,7 @@ fn build_timed(
 {
     let watch = Watch::start(rt)?;
     let filter = boxed(alloc, SurfFilter::build(alloc, keys, settings)?)?;
-    least.keep(watch.stop(rt, keys.len() as u64)?);
+    least.keep(watch.stop_each(rt, keys.len() as u64)?);
     Ok(filter)
 }
 
@@ -198,6 +197,6 @@ fn asked_once(
 ) -> Result<(u64, u64)> {
     let watch = Watch::start(rt)?;
     let found = ask(finder, queries);
-    least.keep(watch.stop(rt, queries.len() as u64)?);
+    least.keep(watch.stop_each(rt, queries.len() as u64)?);
     Ok((found.count, found.sum))
 }

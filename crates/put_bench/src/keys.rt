@@ -1,5 +1,6 @@
 //! Different keys in an order.
 use anyhow::{Result, bail};
+use bench_kit::Numbers;
 use std::alloc::{AllocError, Global};
 
 /// The numbers below `count`, in an order.
@@ -18,14 +19,11 @@ pub fn numbers(alloc: Global, order: &str, count: usize, seed: u64) -> Result<Ve
     Ok(numbers)
 }
 
-// Each number changes places with one before it or stays, by a linear congruence whose high bits are taken.
+// Each number changes places with one before it or stays.
 fn shuffle(numbers: &mut Vec<u64>, seed: u64) {
-    let mut state = seed;
+    let mut draws = Numbers::new(seed);
     for i in 0..numbers.len() {
-        state = state
-            .wrapping_mul(6364136223846793005)
-            .wrapping_add(1442695040888963407);
-        let other = (state >> 33) as usize % (i + 1);
+        let other = draws.draw_below(i as u64 + 1).min(i);
         numbers.swap(i, other);
     }
 }

@@ -3,12 +3,12 @@ use crate::keys::{numbers, write_key};
 use crate::records::Records;
 use crate::tables::{Keeper, Ours, Theirs};
 use anyhow::{Result, bail};
+use bench_kit::{Figure, Least, Options, print_measure};
 use gate_log::Log;
 use real_outside::FileOutside;
 use std::alloc::Global;
 use std::io;
-use std::num::nearest_u64_to_f64;
-use std::time::{CpuClock, Duration};
+use std::time::CpuClock;
 
 // The least time of so many counts.
 const ROUNDS: u32 = 6;
@@ -22,40 +22,33 @@ pub struct Load {
 }
 
 impl Load {
-    /// So many different keys of so many bytes, in an order, each with a value of so many bytes.
-    pub fn new(
-        alloc: Global,
-        order: &str,
-        width: usize,
-        value: usize,
-        count: usize,
-        seed: u64,
-    ) -> Result<Load> {
+    /// So many different keys, in an order, each with a value.
+    pub fn new(alloc: Global, options: Options<'_>) -> Result<Load> {
+        let count = options.count as usize;
         Ok(Load {
-            numbers: numbers(alloc, order, count, seed)?,
-            width,
-            value: vec![in alloc; 7; value]?,
+            numbers: numbers(alloc, options.keys, count, options.seed)?,
+            width: options.key_bytes as usize,
+            value: vec![in alloc; 7; options.value_bytes as usize]?,
         })
     }
 }
 
-// The least times of all rounds.
+// The least times of all rounds with one table.
 #[derive(Clone, Copy)]
-struct Least {
-    put: Duration,
-    start: Duration,
-    set: Duration,
-    get: Duration,
+struct Times {
+    put: Least,
+    start: Least,
+    set: Least,
+    get: Least,
 }
 
-impl Least {
-    fn new() -> Least {
-        let long = Duration::from_secs(1_000_000);
-        Least {
-            put: long,
-            start: long,
-            set: long,
-            get: long,
+impl Times {
+    fn new() -> Times {
+        Times {
+            put: Least::new(),
+            start: Least::new(),
+            set: Least::new(),
+            get: Least::new(),
         }
     }
 }
@@ -67,13 +60,13 @@ pub fn race(
     disk: &mut FileOutside,
     load: &Load,
 ) -> Result<()> {
-    let mut ours = Least::new();
-    let mut theirs = Least::new();
+    let mut ours = Times::new();
+    let mut theirs = Times::new();
     for _ in 0..ROUNDS {
         round::<Ours>(rt, alloc, disk, load, &mut ours)?;
         round::<Theirs>(rt, alloc, disk, load, &mut theirs)?;
     }
-    let count = load.numbers.len() as u64;
+    let count = load.numbers.len();
     print(rt, "put", count, ours.put, theirs.put)?;
     print(rt, "start", count, ours.start, theirs.start)?;
     print(rt, "set", count, ours.set, theirs.set)?;
@@ -81,20 +74,14 @@ pub fn race(
     Ok(())
 }
 
-fn print(
-    rt: &impl Print,
-    name: &str,
-    count: u64,
-    ours: Duration,
-    theirs: Duration,
-) -> io::Result<()> {
-    let count = nearest_u64_to_f64(count);
-    let ours = ours.as_secs_f64() * 1e9 / count;
-    let theirs = theirs.as_secs_f64() * 1e9 / count;
-    println!(rt;
-        "{name}: {ours:.0} ns a key, map of std {theirs:.0} ns, ratio {:.2}",
-        ours / theirs
-    )
+fn print(rt: &impl Print, name: &str, count: usize, ours: Least, theirs: Least) -> io::Result<()> {
+    let figures = [
+        ("keys", Figure::Count(count as u64)),
+        ("ns", Figure::Real(ours.of_one(count))),
+        ("std_map_ns", Figure::Real(theirs.of_one(count))),
+        ("ratio", Figure::Real(ours.over(theirs))),
+    ];
+    print_measure(rt, "put_bench", name, &figures)
 }
 
 // All four with one table.
@@ -103,7 +90,7 @@ fn round<T: Keeper>(
     alloc: Global,
     disk: &mut FileOutside,
     load: &Load,
-    least: &mut Least,
+    least: &mut Times,
 ) -> Result<()> {
     let begin = rt.thread_cpu_time()?;
     puts::<T>(alloc, disk, load)?;
@@ -119,10 +106,10 @@ fn round<T: Keeper>(
     {
         bail!("a key was lost");
     }
-    least.put = least.put.min(put.saturating_sub(begin));
-    least.start = least.start.min(start.saturating_sub(put));
-    least.set = least.set.min(set.saturating_sub(start));
-    least.get = least.get.min(get.saturating_sub(set));
+    least.put.keep_time(put.saturating_sub(begin));
+    least.start.keep_time(start.saturating_sub(put));
+    least.set.keep_time(set.saturating_sub(start));
+    least.get.keep_time(get.saturating_sub(set));
     Ok(())
 }
 

@@ -1,6 +1,6 @@
 //! A log that records are added to.
-use crate::boxes::boxed;
 use anyhow::{Result, bail};
+use bench_kit::boxed;
 use gate_log::{BUFFER_BYTES, Log, record_need};
 use key_base::{MAX_KEY_BYTES, MAX_LOGGED_VALUE_BYTES};
 use real_outside::FileOutside;

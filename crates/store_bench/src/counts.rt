@@ -7,6 +7,7 @@ use crate::keys::{Query, denied, queries_elsewhere, queries_there};
 use crate::load::Load;
 use crate::made::Made;
 use anyhow::Result;
+use bench_kit::{Figure, print_measure};
 use filter_api::RangeFilter;
 use std::alloc::Global;
 use std::time::CpuClock;
@@ -21,15 +22,20 @@ pub fn counts<F: RangeFilter>(
     keys: &[u64],
     made: &mut Made<F>,
 ) -> Result<()> {
-    println!(rt; "{} tables, {} blocks", load.tables, made.pages.len())?;
+    let size = [
+        ("tables", Figure::Count(load.tables as u64)),
+        ("blocks", Figure::Count(made.pages.len() as u64)),
+    ];
+    print_measure(rt, "store_bench", "store", &size)?;
     let there = queries_there(alloc, load, keys)?;
-    print(rt, "keys that are there", disk, made, &there)?;
+    print(rt, "present", disk, made, &there)?;
     let others = queries_elsewhere(alloc, load, keys)?;
-    print(rt, "others", disk, made, &others)?;
+    print(rt, "absent", disk, made, &others)?;
     let none = denied(alloc, &made.filters, &others)?;
-    print(rt, "others whose range no filter admits", disk, made, &none)?;
+    print(rt, "denied", disk, made, &none)?;
     let walked = walk(disk, &made.store, load.pairs)?;
-    println!(rt; "walked {walked}")?;
+    let pairs = [("pairs", Figure::Count(walked as u64))];
+    print_measure(rt, "store_bench", "walk", &pairs)?;
     fill_and_print::<F>(rt, alloc, disk, load, keys)
 }
 
@@ -44,9 +50,13 @@ fn print<F: RangeFilter>(
     let sought = ask(Call::Seek, disk, &mut made.store, queries)?;
     let for_gets = bounds(Call::Get, &made.filters, queries);
     let for_seeks = bounds(Call::Seek, &made.filters, queries);
-    println!(rt;
-        "{} {name}: gets find {got} and may read {for_gets}, seeks find {sought} and may read {for_seeks}",
-        queries.len()
-    )?;
+    let figures = [
+        ("keys", Figure::Count(queries.len() as u64)),
+        ("gets_find", Figure::Count(got as u64)),
+        ("gets_may_read", Figure::Count(for_gets as u64)),
+        ("seeks_find", Figure::Count(sought as u64)),
+        ("seeks_may_read", Figure::Count(for_seeks as u64)),
+    ];
+    print_measure(rt, "store_bench", name, &figures)?;
     Ok(())
 }

@@ -3,12 +3,11 @@ use crate::counted::{Device, Traffic};
 use crate::keys::{draw_in_turn, queries_elsewhere};
 use crate::load::{Load, Wanted};
 use crate::missing::print_missing;
-use crate::report::{Watch, print_slices};
 use crate::stores::{new_store, put, tables_of, tend, value_of};
 use anyhow::Result;
+use bench_kit::{Figure, Watch, print_measure, share};
 use filter_api::RangeFilter;
 use std::alloc::Global;
-use std::num::nearest_u64_to_f64;
 use std::time::{CpuClock, Duration};
 use store_core::Store;
 
@@ -103,20 +102,40 @@ fn slice<F: RangeFilter>(
 
 // Prints how many bytes were written for each byte that was put.
 fn print_written(rt: &impl Print, load: &Load, tables: u64, traffic: &Traffic) -> Result<()> {
-    println!(rt;
-        "{tables} tables behind {} puts; written for each byte that was put: {:.2} (log {:.2}, tables {:.2}, manifest {:.2})",
-        load.pairs,
-        for_each(load, traffic.written()),
-        for_each(load, traffic.log_bytes),
-        for_each(load, traffic.table_bytes),
-        for_each(load, traffic.manifest_bytes)
-    )?;
+    let figures = [
+        ("puts", Figure::Count(load.pairs as u64)),
+        ("tables", Figure::Count(tables)),
+        ("written", Figure::Real(for_each(load, traffic.written()))),
+        ("log", Figure::Real(for_each(load, traffic.log_bytes))),
+        ("table", Figure::Real(for_each(load, traffic.table_bytes))),
+        (
+            "manifest",
+            Figure::Real(for_each(load, traffic.manifest_bytes)),
+        ),
+    ];
+    print_measure(rt, "store_bench", "written_a_byte_put", &figures)?;
     Ok(())
 }
 
 // How many bytes that is for each byte of keys and values.
 fn for_each(load: &Load, written: u64) -> f64 {
     let pair = KEY_BYTES.saturating_add(load.value_bytes);
-    let put = pair.saturating_mul(load.pairs).max(1);
-    nearest_u64_to_f64(written) / nearest_u64_to_f64(put as u64)
+    share(written, pair.saturating_mul(load.pairs) as u64)
+}
+
+// Prints what the merge slices behind all puts came to, and their times where they are wanted.
+fn print_slices(rt: &impl Print, timed: bool, slices: &Slices) -> Result<()> {
+    let figures = [
+        ("slices", Figure::Count(slices.count)),
+        ("most_blocks_read", Figure::Count(slices.most_read)),
+        ("most_bytes_written", Figure::Count(slices.most_written)),
+        ("all_ms", Figure::Real(slices.all.as_secs_f64() * 1e3)),
+        (
+            "longest_ms",
+            Figure::Real(slices.longest.as_secs_f64() * 1e3),
+        ),
+    ];
+    let told = if timed { 5 } else { 3 };
+    print_measure(rt, "store_bench", "slices", &figures[..told])?;
+    Ok(())
 }

@@ -1,7 +1,7 @@
 //! The filters of the tables that a merge has left, built apart.
 use crate::outputs::Output;
-use crate::report::Watch;
 use anyhow::{Result, bail};
+use bench_kit::Watch;
 use filter_api::{RangeFilter, Settings};
 use filter_model::are_keys;
 use key_base::KeyList;

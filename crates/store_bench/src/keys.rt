@@ -1,6 +1,7 @@
 //! The keys of a store, and those that it is asked for. A key is the eight bytes of a number, highest first.
 use crate::floors::admitting;
 use crate::load::Load;
+use bench_kit::Numbers;
 use filter_api::RangeFilter;
 use std::alloc::{AllocError, Global};
 
@@ -15,26 +16,9 @@ pub struct Query {
     pub place: Option<usize>,
 }
 
-// A sequence of random numbers, a linear congruence whose high bits are folded down: none comes twice before each has come
-// once.
-#[derive(Drop)]
-struct Numbers {
-    state: u64,
-}
-
-impl Numbers {
-    fn draw(&mut self) -> u64 {
-        self.state = self
-            .state
-            .wrapping_mul(6364136223846793005)
-            .wrapping_add(1442695040888963407);
-        self.state ^ (self.state >> 29)
-    }
-}
-
 /// The keys of a load, in the order in which they are drawn.
 pub fn draw_in_turn(alloc: Global, load: &Load) -> Result<Vec<u64>, AllocError> {
-    let mut numbers = Numbers { state: load.seed };
+    let mut numbers = Numbers::new(load.seed);
     let mut keys = Vec::with_capacity(alloc, load.pairs)?;
     for _ in 0..load.pairs {
         keys.push(numbers.draw())?;
@@ -51,9 +35,7 @@ pub fn draw_keys(alloc: Global, load: &Load) -> Result<Vec<u64>, AllocError> {
 
 /// So many random keys that are there, each with a range from it on.
 pub fn queries_there(alloc: Global, load: &Load, keys: &[u64]) -> Result<Vec<Query>, AllocError> {
-    let mut numbers = Numbers {
-        state: load.seed ^ 1,
-    };
+    let mut numbers = Numbers::new(load.seed ^ 1);
     let mut queries = Vec::with_capacity(alloc, load.calls)?;
     for _ in 0..load.calls {
         let i = (numbers.draw() >> 32) as usize % keys.len().max(1);
@@ -73,9 +55,7 @@ pub fn queries_elsewhere(
     load: &Load,
     keys: &[u64],
 ) -> Result<Vec<Query>, AllocError> {
-    let mut numbers = Numbers {
-        state: load.seed ^ 2,
-    };
+    let mut numbers = Numbers::new(load.seed ^ 2);
     let mut queries = Vec::with_capacity(alloc, load.calls)?;
     for _ in 0..load.calls {
         let low = numbers.draw();

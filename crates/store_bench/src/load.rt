@@ -1,5 +1,6 @@
 //! What a store has, and what is asked of it.
 use anyhow::{Result, bail};
+use bench_kit::Options;
 use filter_api::Settings;
 
 /// What is wanted.
@@ -32,27 +33,20 @@ pub struct Load {
 }
 
 impl Load {
-    /// The load that these words say: pairs, tables, hash and real bits, calls, seed, and bytes of a value, 8 where they are
-    /// left out.
-    pub fn parse(wanted: &str, words: &[String]) -> Result<Load> {
-        let [pairs, tables, hash, real, calls, seed, rest @ ..] = words else {
-            bail!("six numbers are wanted, or seven");
-        };
+    /// The load that the options of the bench ask for.
+    pub fn new(options: Options<'_>) -> Result<Load> {
         Ok(Load {
-            wanted: parse_wanted(wanted)?,
-            pairs: number(pairs)? as usize,
-            tables: number(tables)? as usize,
+            wanted: parse_wanted(options.measure)?,
+            pairs: options.count as usize,
+            tables: options.tables as usize,
             settings: Settings {
-                hash_bits: u8::try_from(number(hash)?)?,
-                real_bits: u8::try_from(number(real)?)?,
-                ratio: 64,
+                hash_bits: u8::try_from(options.hash_bits)?,
+                real_bits: u8::try_from(options.real_bits)?,
+                ratio: u16::try_from(options.ratio)?,
             },
-            value_bytes: match rest {
-                [bytes] => number(bytes)? as usize,
-                _ => 8,
-            },
-            calls: number(calls)? as usize,
-            seed: number(seed)?,
+            value_bytes: options.value_bytes as usize,
+            calls: options.calls as usize,
+            seed: options.seed,
         })
     }
 }
@@ -63,11 +57,6 @@ fn parse_wanted(word: &str) -> Result<Wanted> {
         "counts" => Ok(Wanted::Counts),
         "merge" => Ok(Wanted::Merge),
         "puts" => Ok(Wanted::Puts),
-        _ => bail!("none of times, counts, merge and puts"),
+        _ => bail!("no such measure: see --help"),
     }
-}
-
-// The number that a word says.
-fn number(word: &String) -> Result<u64> {
-    Ok(word.as_str().parse::<u64>()?)
 }

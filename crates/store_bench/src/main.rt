@@ -2,10 +2,10 @@
 //! summed as the bound of reads allows.
 //!
 //! ```text
-//! store_bench times surf /dev/shm/furqeldi.bench 10000 4 0 0 2000 1
-//! store_bench counts plain /dev/shm/furqeldi.bench 10000 4 0 0 2000 1
-//! store_bench merge surf /dev/shm/furqeldi.bench 40000 4 8 8 9 1 100
-//! store_bench puts surf /dev/shm/furqeldi.bench 1000000 1 8 8 100000 1
+//! store_bench times --device /dev/shm/furqeldi.bench --count 10000 --calls 2000
+//! store_bench counts --device /dev/shm/furqeldi.bench --filter plain --count 10000 --calls 2000
+//! store_bench merge --device /dev/shm/furqeldi.bench --count 40000 --value-bytes 100 --hash-bits 8 --real-bits 8 --calls 9
+//! store_bench puts --device /dev/shm/furqeldi.bench --count 1000000 --hash-bits 8 --real-bits 8 --calls 100000
 //! ```
 //!
 //! The file at the path becomes a new store, whatever stood there. Random keys of 8 bytes with values of 8 bytes are put and
@@ -25,11 +25,11 @@ mod made;
 mod merging;
 mod missing;
 mod outputs;
-mod report;
 mod rounds;
 mod stores;
 
 use anyhow::{Result, bail};
+use bench_kit::{Options, read_options};
 use counted::{Counted, Device};
 use filter_api::RangeFilter;
 use load::{Load, Wanted};
@@ -41,29 +41,33 @@ use std::env;
 use std::time::CpuClock;
 use surf_filter::SurfFilter;
 
-const USAGE: &str =
-    "usage: store_bench times|counts|merge|puts surf|plain PATH PAIRS TABLES HASH REAL CALLS SEED [VALUE]
-  a new store in the device file at PATH: PAIRS random pairs of 8 bytes and VALUE bytes, 8 where it is left out, with
-  succinct or plain filters of HASH hash bits and REAL real bits
-  times: what a closed seek, a get and a step of a walk take over TABLES tables, in CALLS calls for random keys, each beside
-  its floor
-  counts: the same calls once, and what they found; then what puts in random order write, and what a compacted store reads
-  merge: what it takes to merge TABLES tables of level 0, beside its floor, the least of CALLS merges
-  puts: what puts in random order write, the longest slice of a merge, and what a compacted store reads in CALLS calls";
+const ABOUT: &str = "\
+Measures a new store in the device file at --device: --count random pairs of 8 bytes and --value-bytes, with filters of the
+kind --filter, of --hash-bits, --real-bits and --ratio:
+  times     what a closed seek, a get and a step of a walk take over --tables tables, in --calls calls for keys that are
+            random by --seed, each beside its floor
+  counts    the same calls once, and what they found; then what puts in random order write, and what a compacted store
+            reads
+  merge     what it takes to merge --tables tables of level 0, beside its floor, the least of --calls merges
+  puts      what puts in random order write, the longest slice of a merge, and what a compacted store reads in --calls calls";
 
 fn main(rt: HostRuntime) -> Result<()> {
     let words: Vec<String> = env::args(&rt)?.skip(1).collect(rt.alloc())?;
-    let [wanted, kind, path, numbers @ ..] = words.as_slice() else {
-        println!(rt; "{USAGE}")?;
-        return Ok(());
-    };
-    let load = Load::parse(wanted.as_str(), numbers)?;
-    let copy = String::from_str(rt.alloc(), path.as_str())?;
+    match read_options(&rt, rt.alloc(), "store_bench", ABOUT, &words)? {
+        Some(options) => measure_asked(rt, options),
+        None => Ok(()),
+    }
+}
+
+// Measures what the options ask for.
+fn measure_asked(rt: HostRuntime, options: Options<'_>) -> Result<()> {
+    let load = Load::new(options)?;
+    let copy = String::from_str(rt.alloc(), options.device)?;
     let mut disk = Counted::new(FileOutside::at(rt, copy));
-    match kind.as_str() {
+    match options.filter {
         "surf" => measure::<SurfFilter<Global>>(&rt, rt.alloc(), &mut disk, &load),
         "plain" => measure::<PlainFilter>(&rt, rt.alloc(), &mut disk, &load),
-        _ => bail!("neither surf nor plain"),
+        _ => bail!("a filter is surf or plain"),
     }
 }
 

@@ -5,12 +5,14 @@ use crate::floors::read_all;
 use crate::load::Load;
 use crate::made::{block_pages, filled, rows_of};
 use crate::outputs::{Output, outputs_of, write_all};
-use crate::report::{Least, Watch, print_merge};
 use crate::stores::tend;
 use anyhow::{Result, bail};
+use bench_kit::{Figure, Least, Watch, print_measure};
 use filter_api::RangeFilter;
 use key_base::PAGE_BYTES;
 use std::alloc::Global;
+use std::io;
+use std::num::nearest_u64_to_f64;
 use std::time::CpuClock;
 use store_core::Store;
 
@@ -50,6 +52,29 @@ pub fn measure_merges<F: RangeFilter>(
     Ok(())
 }
 
+// Prints what was merged, and the nanoseconds that a pair takes: in all, in filters alone, and at the floor. Million bytes a
+// second are those of the inputs.
+fn print_merge(rt: &impl Print, pairs: usize, merged: &Merged) -> io::Result<()> {
+    let merge = merged.merge.of_one(pairs.max(1));
+    let filters = merged.filters.of_one(pairs.max(1));
+    let floor = merged.floor.of_one(pairs.max(1));
+    let bytes = nearest_u64_to_f64(merged.input_bytes) * 1e3;
+    let figures = [
+        ("input_bytes", Figure::Count(merged.input_bytes)),
+        ("output_bytes", Figure::Count(merged.output_bytes)),
+        ("slices", Figure::Count(merged.slices)),
+        ("ns_a_pair", Figure::Real(merge)),
+        ("filters_ns_a_pair", Figure::Real(filters)),
+        ("floor_ns_a_pair", Figure::Real(floor)),
+        (
+            "mb_a_second",
+            Figure::Real(bytes / merged.merge.nanoseconds),
+        ),
+        ("ratio", Figure::Real((merge - filters) / floor)),
+    ];
+    print_measure(rt, "store_bench", "merge", &figures)
+}
+
 // A round: a new store is merged until nothing is to be done, and then what that cannot do without is done alone.
 fn merge_once<F: RangeFilter>(
     rt: &impl CpuClock,
@@ -64,7 +89,7 @@ fn merge_once<F: RangeFilter>(
     let before = disk.traffic();
     let watch = Watch::start(rt)?;
     merged.slices = merge(disk, &mut store, load.pairs)?;
-    merged.merge.keep(watch.stop(rt)?);
+    merged.merge.keep_time(watch.stop(rt)?);
     let traffic = disk.traffic().since(&before);
     merged.input_bytes = (PAGE_BYTES as u64).saturating_mul(inputs.len() as u64);
     merged.output_bytes = traffic.table_bytes;
@@ -74,8 +99,8 @@ fn merge_once<F: RangeFilter>(
     let outputs = outputs_of(alloc, disk)?;
     let watch = Watch::start(rt)?;
     floor(disk, &inputs, &outputs)?;
-    merged.floor.keep(watch.stop(rt)?);
-    merged.filters.keep(filter_times::<F>(rt, alloc, load.settings, &outputs, keys)?);
+    merged.floor.keep_time(watch.stop(rt)?);
+    merged.filters.keep_time(filter_times::<F>(rt, alloc, load.settings, &outputs, keys)?);
     Ok(())
 }
 

@@ -4,8 +4,8 @@ use crate::counted::Device;
 use crate::keys::Query;
 use crate::stores::{compact, tables_of};
 use anyhow::{Result, bail};
+use bench_kit::{Figure, print_measure, share};
 use filter_api::RangeFilter;
-use std::num::nearest_u64_to_f64;
 use store_core::Store;
 
 /// Compacts a store, and prints how many blocks it reads for queries whose range has no key.
@@ -18,13 +18,14 @@ pub fn print_missing<F: RangeFilter>(
     compact(disk, store)?;
     let sought = reads(Call::Seek, disk, store, queries)?;
     let got = reads(Call::Get, disk, store, queries)?;
-    println!(rt;
-        "{} tables behind a compact; blocks for each of {} empty seeks {:.6}, for each absent get {:.6}",
-        tables_of(store)?,
-        queries.len(),
-        for_each(sought, queries),
-        for_each(got, queries)
-    )?;
+    let count = queries.len() as u64;
+    let figures = [
+        ("tables", Figure::Count(tables_of(store)?)),
+        ("keys", Figure::Count(count)),
+        ("blocks_an_empty_seek", Figure::Real(share(sought, count))),
+        ("blocks_an_absent_get", Figure::Real(share(got, count))),
+    ];
+    print_measure(rt, "store_bench", "compacted", &figures)?;
     Ok(())
 }
 
@@ -40,8 +41,4 @@ fn reads<F: RangeFilter>(
         bail!("a key was found that is not there");
     }
     Ok(disk.traffic().since(&before).reads)
-}
-
-fn for_each(reads: u64, queries: &[Query]) -> f64 {
-    nearest_u64_to_f64(reads) / nearest_u64_to_f64(queries.len().max(1) as u64)
 }

@@ -5,10 +5,11 @@ use crate::floors::{floor, read_all};
 use crate::keys::{Query, denied, queries_elsewhere, queries_there};
 use crate::load::Load;
 use crate::made::Made;
-use crate::report::{Measured, Watch, print};
 use anyhow::{Result, bail};
+use bench_kit::{Figure, Measured, Watch, print_measure};
 use filter_api::RangeFilter;
 use std::alloc::Global;
+use std::io;
 use std::time::CpuClock;
 
 // The least time of so many counts.
@@ -26,26 +27,24 @@ pub fn times<F: RangeFilter>(
     let there = queries_there(alloc, load, keys)?;
     let others = queries_elsewhere(alloc, load, keys)?;
     let none = denied(alloc, &made.filters, &others)?;
-    measure(
-        rt,
-        "an empty seek that no filter admits",
-        Call::Seek,
-        disk,
-        made,
-        &none,
-    )?;
-    measure(rt, "an empty seek", Call::Seek, disk, made, &others)?;
-    measure(rt, "a seek that finds", Call::Seek, disk, made, &there)?;
-    measure(
-        rt,
-        "a get of a key that is there",
-        Call::Get,
-        disk,
-        made,
-        &there,
-    )?;
-    measure(rt, "a get of another", Call::Get, disk, made, &others)?;
+    measure(rt, "seek_denied", Call::Seek, disk, made, &none)?;
+    measure(rt, "seek_empty", Call::Seek, disk, made, &others)?;
+    measure(rt, "seek_present", Call::Seek, disk, made, &there)?;
+    measure(rt, "get_present", Call::Get, disk, made, &there)?;
+    measure(rt, "get_absent", Call::Get, disk, made, &others)?;
     measure_walks(rt, disk, load, made)
+}
+
+// Prints the least nanoseconds of one of so many calls, and of its floor.
+fn print(rt: &impl Print, name: &str, measured: &Measured, count: usize) -> io::Result<()> {
+    let (call, floor) = measured.of_one(count.max(1));
+    let figures = [
+        ("calls", Figure::Count(count as u64)),
+        ("ns", Figure::Real(call)),
+        ("floor_ns", Figure::Real(floor)),
+        ("ratio", Figure::Real(call / floor)),
+    ];
+    print_measure(rt, "store_bench", name, &figures)
 }
 
 // Prints the least time of a query, and of its floor.
@@ -61,15 +60,15 @@ fn measure<F: RangeFilter>(
     for _ in 0..ROUNDS {
         let watch = Watch::start(rt)?;
         let found = ask(call, disk, &mut made.store, queries)?;
-        measured.call.keep(watch.stop(rt)?);
+        measured.call.keep_time(watch.stop(rt)?);
         let watch = Watch::start(rt)?;
         let blocks = floor(call, disk, made, queries)?;
-        measured.floor.keep(watch.stop(rt)?);
+        measured.floor.keep_time(watch.stop(rt)?);
         if found > blocks {
             bail!("more was found than may be read");
         }
     }
-    print(rt, name, measured.of_one(queries.len().max(1)))?;
+    print(rt, name, &measured, queries.len())?;
     Ok(())
 }
 
@@ -84,14 +83,14 @@ fn measure_walks<F: RangeFilter>(
     for _ in 0..ROUNDS {
         let watch = Watch::start(rt)?;
         let walked = walk(disk, &made.store, load.pairs)?;
-        measured.call.keep(watch.stop(rt)?);
+        measured.call.keep_time(watch.stop(rt)?);
         let watch = Watch::start(rt)?;
         let blocks = read_all(disk, &made.pages)?;
-        measured.floor.keep(watch.stop(rt)?);
+        measured.floor.keep_time(watch.stop(rt)?);
         if walked != load.pairs || blocks == 0 {
             bail!("a pair was lost");
         }
     }
-    print(rt, "a step of a walk", measured.of_one(load.pairs.max(1)))?;
+    print(rt, "walk_step", &measured, load.pairs)?;
     Ok(())
 }

@@ -3,6 +3,7 @@ use crate::calls::{Query, filtered, gets, queries, walk};
 use crate::keys::{Load, random_keys};
 use crate::made::Made;
 use anyhow::Result;
+use bench_kit::{Figure, print_measure};
 use byte_fields::Row;
 use real_outside::FileOutside;
 use std::alloc::Global;
@@ -21,26 +22,38 @@ pub fn counts(
     let mut buf = vec![in alloc; 0; LARGEST_BLOCK_BYTES]?;
     let there = queries(alloc, made, random_keys(alloc, load, 0)?)?;
     let found = gets(disk, made, &there, &mut buf)?;
-    println!(rt; "found {found} of {} keys that are there", there.len())?;
+    print_found(rt, "get_present", made, &there, found)?;
     let others = queries(alloc, made, random_keys(alloc, load, 1)?)?;
     let found = gets(disk, made, &others, &mut buf)?;
-    print_others(rt, made, &others, found)?;
+    print_found(rt, "get_absent", made, &others, found)?;
     let walked = walk(alloc, disk, made, load.pairs)?;
-    println!(rt; "walked {walked}")?;
+    let pairs = [("pairs", Figure::Count(walked as u64))];
+    print_measure(rt, "table_bench", "walk", &pairs)?;
     Ok(())
 }
 
 fn print_size(rt: &impl Print, pairs: u32, row: &Row) -> io::Result<()> {
-    println!(rt;
-        "{pairs} pairs, {} blocks, {} pages of index, {} of filter",
-        row.data_pages, row.index_pages, row.filter_pages
-    )
+    let figures = [
+        ("pairs", Figure::Count(u64::from(pairs))),
+        ("data_pages", Figure::Count(u64::from(row.data_pages))),
+        ("index_pages", Figure::Count(u64::from(row.index_pages))),
+        ("filter_pages", Figure::Count(u64::from(row.filter_pages))),
+    ];
+    print_measure(rt, "table_bench", "table", &figures)
 }
 
-fn print_others(rt: &impl Print, made: &Made, others: &[Query], found: usize) -> io::Result<()> {
-    println!(rt;
-        "found {found} of {} others, {} admitted by the filter",
-        others.len(),
-        filtered(made, others)
-    )
+fn print_found(
+    rt: &impl Print,
+    name: &str,
+    made: &Made,
+    queries: &[Query],
+    found: usize,
+) -> io::Result<()> {
+    let admitted = filtered(made, queries);
+    let figures = [
+        ("keys", Figure::Count(queries.len() as u64)),
+        ("found", Figure::Count(found as u64)),
+        ("admitted", Figure::Count(admitted as u64)),
+    ];
+    print_measure(rt, "table_bench", name, &figures)
 }

@@ -1,5 +1,6 @@
 //! The pairs of a table, and the keys that it is asked for.
 use anyhow::{Result, bail};
+use bench_kit::{Numbers, Options};
 use key_base::MAX_KEY_BYTES;
 use std::alloc::{AllocError, Global};
 
@@ -18,17 +19,14 @@ pub struct Load {
 }
 
 impl Load {
-    /// The load that these words say: pairs, bytes of a key and of a value, calls, seed.
-    pub fn parse(words: &[String]) -> Result<Load> {
-        let [pairs, key, value, calls, seed] = words else {
-            bail!("five numbers are wanted");
-        };
+    /// The load that the options of the bench ask for.
+    pub fn new(options: Options<'_>) -> Result<Load> {
         Ok(Load {
-            pairs: u32::try_from(number(pairs)?)?,
-            key: number(key)? as usize,
-            value: number(value)? as usize,
-            calls: number(calls)? as usize,
-            seed: number(seed)?,
+            pairs: u32::try_from(options.count)?,
+            key: options.key_bytes as usize,
+            value: options.value_bytes as usize,
+            calls: options.calls as usize,
+            seed: options.seed,
         })
     }
 
@@ -44,11 +42,6 @@ impl Load {
     }
 }
 
-// The number that a word says.
-fn number(word: &String) -> Result<u64> {
-    Ok(word.as_str().parse::<u64>()?)
-}
-
 /// Makes `key` the last `width` bytes of a number, highest first. The pairs have the even numbers from 0 on.
 pub fn write_key(number: u64, key: &mut Vec<u8>, width: usize) -> Result<(), AllocError> {
     let bytes = number.to_be_bytes();
@@ -61,13 +54,10 @@ pub fn write_key(number: u64, key: &mut Vec<u8>, width: usize) -> Result<(), All
 
 /// Keys of random pairs, each with so much added to its number: 0 for keys that are there, 1 for others between them.
 pub fn random_keys(alloc: Global, load: &Load, added: u64) -> Result<Vec<Vec<u8>>, AllocError> {
-    let mut state = load.seed;
+    let mut numbers = Numbers::new(load.seed);
     let mut keys = Vec::with_capacity(alloc, load.calls)?;
     for _ in 0..load.calls {
-        state = state
-            .wrapping_mul(6364136223846793005)
-            .wrapping_add(1442695040888963407);
-        let place = (state >> 33) % u64::from(load.pairs.max(1));
+        let place = numbers.draw_to(u64::from(load.pairs.max(1) - 1));
         let mut key = Vec::with_capacity(alloc, load.key)?;
         write_key(2 * place + added.min(1), &mut key, load.key)?;
         keys.push(key)?;

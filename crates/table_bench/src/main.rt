@@ -1,8 +1,8 @@
 //! Measures what tables on a device file cost, each call beside its floor: the same pages read and summed.
 //!
 //! ```text
-//! table_bench times /dev/shm/furqeldi.bench 4080 8 0 20000 1
-//! table_bench counts /dev/shm/furqeldi.bench 4080 8 0 20000 1
+//! table_bench times --device /dev/shm/furqeldi.bench --count 4080 --value-bytes 0 --calls 20000
+//! table_bench counts --device /dev/shm/furqeldi.bench --count 4080 --value-bytes 0 --calls 20000
 //! ```
 //!
 //! It writes to the file at the path from page 192 on. Calls and floors take turns, in processor time of the thread, the
@@ -14,34 +14,40 @@ mod calls;
 mod counts;
 mod keys;
 mod made;
-mod report;
 mod rounds;
 
 use anyhow::{Result, bail};
+use bench_kit::{Options, read_options};
 use keys::Load;
 use made::Made;
 use real_outside::FileOutside;
 use std::env;
 
-const USAGE: &str = "usage: table_bench times|counts PATH PAIRS KEY VALUE CALLS SEED
-  a table of PAIRS pairs, of keys of KEY bytes and values of VALUE bytes, in the device file at PATH
-  times: what a get of a key that is there takes, a get of one that is not, a step of a walk, and an entry of a build, in
-  CALLS calls for random keys, each beside the same pages read and summed
-  counts: the same calls once, and what they found";
+const ABOUT: &str = "\
+Measures a table of --count pairs, of keys of --key-bytes (at least 8) and values of --value-bytes, in the device file at
+--device:
+  times     what a get of a key that is there takes, the index and the filter for one that is not, a step of a walk, and
+            an entry of a build, in --calls calls for keys that are random by --seed, each beside the same pages read and
+            summed
+  counts    the same calls once, and what they found";
 
 fn main(rt: HostRuntime) -> Result<()> {
     let words: Vec<String> = env::args(&rt)?.skip(1).collect(rt.alloc())?;
-    let [what, path, numbers @ ..] = words.as_slice() else {
-        println!(rt; "{USAGE}")?;
-        return Ok(());
-    };
-    let load = Load::parse(numbers)?;
-    let copy = String::from_str(rt.alloc(), path.as_str())?;
+    match read_options(&rt, rt.alloc(), "table_bench", ABOUT, &words)? {
+        Some(options) => measure(rt, options),
+        None => Ok(()),
+    }
+}
+
+// Measures what the options ask for.
+fn measure(rt: HostRuntime, options: Options<'_>) -> Result<()> {
+    let load = Load::new(options)?;
+    let copy = String::from_str(rt.alloc(), options.device)?;
     let mut disk = FileOutside::at(rt, copy);
     let made = Made::new(rt.alloc(), &mut disk, &load)?;
-    match what.as_str() {
+    match options.measure {
         "times" => rounds::times(&rt, rt.alloc(), &mut disk, &load, &made),
         "counts" => counts::counts(&rt, rt.alloc(), &mut disk, &load, &made),
-        _ => bail!("neither times nor counts"),
+        _ => bail!("no such measure: see --help"),
     }
 }

@@ -4,10 +4,11 @@ use crate::calls::{
 };
 use crate::keys::{Load, random_keys};
 use crate::made::{Made, build};
-use crate::report::{Least, Measured, Watch, print};
 use anyhow::{Result, bail};
+use bench_kit::{Figure, Least, Measured, Watch, print_measure};
 use real_outside::FileOutside;
 use std::alloc::Global;
+use std::io;
 use std::time::{CpuClock, Duration};
 use table_file::{LARGEST_BLOCK_BYTES, pages_of};
 
@@ -26,9 +27,9 @@ pub fn times(
     times_of_denials(rt, alloc, load, made)?;
     let pairs = load.pairs as usize;
     let walks = measure_walks(rt, alloc, disk, made, load.pairs)?;
-    print(rt, "a step of a walk", walks.of_one(pairs))?;
+    print(rt, "walk_step", walks.of_one(pairs))?;
     let builds = measure_builds(rt, alloc, disk, load)?;
-    print(rt, "an entry of a build", builds.of_one(pairs))?;
+    print(rt, "build_entry", builds.of_one(pairs))?;
     Ok(())
 }
 
@@ -42,13 +43,9 @@ fn times_of_gets(
 ) -> Result<()> {
     let there = queries(alloc, made, random_keys(alloc, load, 0)?)?;
     let (index, filter) = measure_look_ups(rt, made, &there)?;
-    println!(rt; "of a key that is there: index {index:.0} ns, filter {filter:.0} ns")?;
+    print_look_up(rt, "look_up_present", index, filter)?;
     let (search, floor) = measure_searches(rt, alloc, disk, made, &there)?.of_one(there.len());
-    print(
-        rt,
-        "a get of it, without the filter",
-        (index + search, floor),
-    )?;
+    print(rt, "get_without_filter", (index + search, floor))?;
     Ok(())
 }
 
@@ -61,8 +58,30 @@ fn times_of_denials(
 ) -> Result<()> {
     let others = queries(alloc, made, random_keys(alloc, load, 1)?)?;
     let (index, filter) = measure_look_ups(rt, made, &others)?;
-    println!(rt; "of another key: index {index:.0} ns, filter {filter:.0} ns")?;
+    print_look_up(rt, "look_up_absent", index, filter)?;
     Ok(())
+}
+
+// ---- prints
+
+// Nanoseconds of a call, and of its floor.
+fn print(rt: &impl Print, name: &str, times: (f64, f64)) -> io::Result<()> {
+    let (call, floor) = times;
+    let figures = [
+        ("ns", Figure::Real(call)),
+        ("floor_ns", Figure::Real(floor)),
+        ("ratio", Figure::Real(call / floor)),
+    ];
+    print_measure(rt, "table_bench", name, &figures)
+}
+
+// Nanoseconds that a key takes in the index and in the filter.
+fn print_look_up(rt: &impl Print, name: &str, index: f64, filter: f64) -> io::Result<()> {
+    let figures = [
+        ("index_ns", Figure::Real(index)),
+        ("filter_ns", Figure::Real(filter)),
+    ];
+    print_measure(rt, "table_bench", name, &figures)
 }
 
 // ---- least times
@@ -79,8 +98,10 @@ fn measure_searches(
     for _ in 0..ROUNDS {
         measured
             .call
-            .keep(time_searches(rt, disk, made, there, &mut buf)?);
-        measured.floor.keep(time_sums(rt, disk, there, &mut buf)?);
+            .keep_time(time_searches(rt, disk, made, there, &mut buf)?);
+        measured
+            .floor
+            .keep_time(time_sums(rt, disk, there, &mut buf)?);
     }
     Ok(measured)
 }
@@ -91,8 +112,8 @@ fn measure_look_ups(rt: &impl CpuClock, made: &Made, queries: &[Query]) -> Resul
     let mut filter = Least::new();
     for _ in 0..ROUNDS {
         let (all, admitted) = time_look_ups(rt, made, queries)?;
-        both.keep(all);
-        filter.keep(admitted);
+        both.keep_time(all);
+        filter.keep_time(admitted);
     }
     let filter = filter.of_one(queries.len());
     Ok((both.of_one(queries.len()) - filter, filter))
@@ -108,10 +129,12 @@ fn measure_walks(
     let mut buf = vec![in alloc; 0; LARGEST_BLOCK_BYTES]?;
     let mut measured = Measured::new();
     for _ in 0..ROUNDS {
-        measured.call.keep(time_walk(rt, alloc, disk, made, pairs)?);
+        measured
+            .call
+            .keep_time(time_walk(rt, alloc, disk, made, pairs)?);
         measured
             .floor
-            .keep(time_pages(rt, disk, made.row.data_pages, &mut buf)?);
+            .keep_time(time_pages(rt, disk, made.row.data_pages, &mut buf)?);
     }
     Ok(measured)
 }
@@ -127,8 +150,10 @@ fn measure_builds(
     let mut measured = Measured::new();
     for _ in 0..ROUNDS {
         let (time, pages) = time_build(rt, alloc, load)?;
-        measured.call.keep(time);
-        measured.floor.keep(time_pages(rt, disk, pages, &mut buf)?);
+        measured.call.keep_time(time);
+        measured
+            .floor
+            .keep_time(time_pages(rt, disk, pages, &mut buf)?);
     }
     Ok(measured)
 }
