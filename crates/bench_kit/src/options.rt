@@ -105,25 +105,33 @@ fn bench_command<'a>(
     Ok(command)
 }
 
+// The word of an option.
+fn word<'a>(matches: &ArgMatches<'a>, name: &str) -> &'a str {
+    matches.get_str(name).unwrap_or("")
+}
+
+// The number of an option.
+fn number(matches: &ArgMatches<'_>, name: &str) -> u64 {
+    matches.get_one::<u64>(name).unwrap_or(0)
+}
+
 // The options that matches have. Each has a default, but for the measure, which is required.
 fn options_of<'a>(matches: &ArgMatches<'a>) -> Options<'a> {
-    let word = |name: &str| matches.get_str(name).unwrap_or("");
-    let number = |name: &str| matches.get_one::<u64>(name).unwrap_or(0);
     Options {
-        measure: word("MEASURE"),
-        device: word("device"),
-        filter: word("filter"),
-        keys: word("keys"),
-        count: number("count"),
-        key_bytes: number("key-bytes"),
-        value_bytes: number("value-bytes"),
-        tables: number("tables"),
-        hash_bits: number("hash-bits"),
-        real_bits: number("real-bits"),
-        ratio: number("ratio"),
-        one_in: number("one-in"),
-        calls: number("calls"),
-        seed: number("seed"),
+        measure: word(matches, "MEASURE"),
+        device: word(matches, "device"),
+        filter: word(matches, "filter"),
+        keys: word(matches, "keys"),
+        count: number(matches, "count"),
+        key_bytes: number(matches, "key-bytes"),
+        value_bytes: number(matches, "value-bytes"),
+        tables: number(matches, "tables"),
+        hash_bits: number(matches, "hash-bits"),
+        real_bits: number(matches, "real-bits"),
+        ratio: number(matches, "ratio"),
+        one_in: number(matches, "one-in"),
+        calls: number(matches, "calls"),
+        seed: number(matches, "seed"),
     }
 }
 
