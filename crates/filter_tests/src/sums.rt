@@ -1,7 +1,6 @@
 //! What a trie takes with the sums that it keeps, and of which level they are.
 use super::codec::image_of;
 use super::tries::base_trie;
-use bit_words::Bits;
 use filter_trie::Trie;
 use key_base::KeyList;
 use std::alloc::{AllocError, Global};
@@ -54,52 +53,31 @@ fn many_below(alloc: Global, count: u8) -> Result<KeyList, AllocError> {
     Ok(keys)
 }
 
-// The bits of whole words.
-fn word_bits(bits: &Bits<Global>) -> u64 {
-    (bits.words().len() as u64).saturating_mul(64)
-}
-
-// With a count of four bytes before each 128 bits and behind the last ones.
-fn counted(bits: &Bits<Global>) -> u64 {
-    let counts = (bits.len() as u64 / 128).saturating_add(1);
-    word_bits(bits).saturating_add(counts.saturating_mul(32))
-}
-
-// With a place of four bytes for each 64 set bits.
-fn selected(bits: &Bits<Global>) -> u64 {
-    let mut ones: u64 = 0;
-    for word in bits.words() {
-        ones = ones.saturating_add(u64::from(word.count_ones()));
+// Whether the sums of some level are kept.
+fn keeps_sums(trie: &Trie<Global>) -> bool {
+    let mut node = 0;
+    for level in 0..usize::from(trie.height()) {
+        if trie.kept_sum(level, node).is_some() {
+            return true;
+        }
+        node = trie.before_node(node).1;
     }
-    word_bits(bits).saturating_add(ones.div_ceil(64).saturating_mul(32))
-}
-
-// The bits that a trie without suffixes has in memory.
-fn memory_of(trie: &Trie<Global>) -> u64 {
-    let dense = trie.dense();
-    let sparse = trie.sparse();
-    let labels = sparse.place_count().saturating_mul(8);
-    labels
-        .saturating_add(counted(dense.label_bits()))
-        .saturating_add(counted(dense.child_bits()))
-        .saturating_add(counted(dense.end_bits()))
-        .saturating_add(counted(sparse.child_bits()))
-        .saturating_add(selected(sparse.louds_bits()))
-        .saturating_add(trie.sum_bits().map_or(0, |bits| selected(bits)))
+    false
 }
 
 // The memory is within 1.10 of the image.
 fn check_memory(rt: &impl Abort, alloc: Global, trie: &Trie<Global>) -> Result<(), AllocError> {
     let image = image_of(alloc, trie)?;
+    assert!(rt; trie.image_bytes() == image.len() as u64);
     let bits = (image.len() as u64).saturating_mul(8);
-    assert!(rt; memory_of(trie).saturating_mul(10) <= bits.saturating_mul(11));
+    assert!(rt; trie.memory_bits().saturating_mul(10) <= bits.saturating_mul(11));
     Ok(())
 }
 
 fn check_pairs(rt: &impl Abort, alloc: Global, shared: usize) -> Result<(), Fail> {
     let keys = pairs(alloc, shared)?;
     let trie = base_trie(alloc, &keys, CUTOFF)?;
-    assert!(rt; trie.sum_bits().is_some() == (shared > 12));
+    assert!(rt; keeps_sums(&trie) == (shared > 12));
     check_memory(rt, alloc, &trie)?;
     Ok(())
 }

@@ -22,3 +22,4 @@ pub mod Finding
 pub mod KeyOrder
 pub mod LevelStarts
 pub mod LevelSums
+pub mod ImageSizes

@@ -20,10 +20,3 @@ pub record AreSums (i : Filter) (level first base : ℕ) (places : List Bool) : 
   pub room : base + length places < 2 ^ 64
   pub each : (p : ℕ) → is_set_at places p ≡ true
       → p + base ≡ rank_of places p + slots_down (whole (trie_of i.leaves)) (height i.leaves - level) (first + rank_of places p)
-
--- bits that are the sums of some level
-pub record KeepsSums (i : Filter) (places : List Bool) : Type 0 where
-  pub level : ℕ
-  pub first : ℕ
-  pub base : ℕ
-  pub are : AreSums i level first base places

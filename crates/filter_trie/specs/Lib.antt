@@ -18,4 +18,5 @@ pub mod Pending
 pub mod Gathered
 pub mod Places
 pub mod LevelStarts
+pub mod Sections
 pub mod Laws

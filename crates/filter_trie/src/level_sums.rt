@@ -7,12 +7,12 @@
 ghost use Rattle.std.specs.Prelude.{◌≡◌, ◌≤◌, ◌<◌, ◌+◌, ◌-◌, ◌^◌, ℕ, true, length, IfOk, IfSome};
 ghost use Rattle.bit_words.specs.Counts.{is_set_at, rank_of};
 ghost use Rattle.filter_model.specs.Trie.{height as height_of, nodes};
-ghost use Rattle.filter_trie.specs.LevelStarts.{AreSums, KeepsSums, slots_down};
+ghost use Rattle.filter_trie.specs.LevelStarts.{AreSums, slots_down};
 ghost use Rattle.filter_trie.specs.Places.{trie};
 
 use super::trie::Trie;
 use bit_select::Selected;
-use bit_words::{Bits, BitsBuilder};
+use bit_words::BitsBuilder;
 use std::alloc::{AllocError, Allocator};
 
 // How many places the sparse half has at least for each bit that the sums take.
@@ -49,7 +49,7 @@ impl<A: Allocator> Trie<A> {
     /// less. Where a node of it has more than 256 leaves below, a level more than twice as deep is tried, and so on; there may
     /// be none. Of eleven levels at most each node, and each node behind them, is looked at twice at most; one block of memory
     /// is taken for each level that is tried, and one in the end. The trie stands for the same list, and what is counted is the
-    /// same; without the sums it is counted level by level.
+    /// same; without the sums it is counted level by level. That any are kept is told here and by tests alone, not by a clause.
     pub fn keep_sums(&mut self, alloc: A) -> Result<(), AllocError>
     where
         A: Clone,
@@ -61,7 +61,8 @@ impl<A: Allocator> Trie<A> {
     }
 
     /// How many leaves stand before a node of a level, before the first node below its first branch or a later one, and so on
-    /// to the last level: what `before_node` says level by level. `None` where it is not kept for this level.
+    /// to the last level: what `before_node` says level by level. `None` where it is not kept for this level. Its clause is met
+    /// by `None` too.
     pub fn kept_sum(&self, level: usize, node: u64) -> Option<u64>
         ensures { IfSome result (λ sum. sum ≡ slots_down (trie self.now) (height_of self.now.leaves - level) node) }
     {
@@ -75,16 +76,6 @@ impl<A: Allocator> Trie<A> {
                 let place = sums.places.select(number as usize)?;
                 Some(place as u64 - number + sums.base)
             }
-        }
-    }
-
-    /// The bits in which sums are kept, where they are, for whoever reckons what a trie takes: they are no section of an image.
-    pub fn sum_bits(&self) -> Option<&Bits<A>>
-        ensures { IfSome result (λ bits. KeepsSums self.now bits.now) }
-    {
-        match &self.sums {
-            None => None,
-            Some(sums) => Some(sums.places.bits()),
         }
     }
 

@@ -4,7 +4,8 @@ ghost use Rattle.std.specs.Prelude.{◌≡◌, ◌+◌, ◌<◌};
 use std::marker::Model;
 use std::sync::ledger::{Blank, Book, Ledger, Share};
 
-/// How many steps were taken. It takes no bytes, and only a step changes it.
+/// How many steps were taken. It takes no bytes, and only a step changes it. It counts steps and not looks at a node, and no
+/// program can read it: it is there for the clauses.
 #[derive(Drop)]
 pub struct Steps<L: Ledger> {
     book: Book<L>,

@@ -171,6 +171,9 @@ impl<A: Allocator> Trie<A> {
     }
 
     /// The slot alone, with a step for each node that the walk visits: those that are prefixes of the key.
+    ///
+    /// What is counted is steps, each of which looks at its node once. That it looks once is read in the code and said by no
+    /// clause; and no program can read the count, which only the clauses speak of.
     pub fn walk_counted<L: Ledger>(&self, key: &[u8], steps: &mut Steps<L>) -> Walk
         ensures slot { slot_in result ≡ slot_of_key self.now.leaves key.now }
         ensures steps { steps.new ≡ steps.old + steps_of self.now.leaves key.now }
