@@ -7,8 +7,8 @@
 //     ./surf_kernels select 1048576 1000000 7 16
 //     ./surf_kernels find_label 12 2000000 7
 //
-// The arguments are those of `bits_bench`: the kernel, its size, calls, seed, and one in how many bits is set (2 where
-// it is left out). Prints the least processor time of a call over the rounds, in nanoseconds.
+// The arguments are the kernel, and what `bits_bench` takes as `--count`, `--calls`, `--seed` and `--one-in` (2 where it
+// is left out). Prints the least processor time of a call over the rounds, in nanoseconds.
 #include <cstdint>
 #include <cstdio>
 #include <cstdlib>
