@@ -26,14 +26,14 @@ mod laws;
 mod line_end;
 mod lines;
 mod loading;
+mod one_line;
 mod opened;
 mod opening;
 mod pending;
 mod saying;
-mod serve_line;
 mod top;
 
 pub use laws::replies_are_of_the_map;
 pub use line_end::LineEnd;
-pub use serve_line::serve_line;
+pub use one_line::serve_line;
 pub use top::run;

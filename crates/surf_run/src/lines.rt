@@ -9,8 +9,8 @@ ghost use Rattle.surf_run.specs.Outcome.{EndOfServe, Outcome};
 ghost use Rattle.surf_run.specs.Serving.{AnswersPart, ServeInvariant};
 
 use crate::line_end::LineEnd;
+use crate::one_line::answer;
 use crate::pending::Pending;
-use crate::serve_line::answer;
 use filter_api::RangeFilter;
 use key_base::MAX_INPUT_BYTES;
 use outside::Outside;

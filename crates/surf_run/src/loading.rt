@@ -29,9 +29,9 @@ ghost use Rattle.table_file.specs.Faults.{filter_fault_of};
 ghost use Rattle.table_model.specs.Tables.{filter_bytes_of};
 
 use crate::line_end::LineEnd;
+use crate::one_line::merge_slice;
 use crate::opening::{open_or_say, say_why};
 use crate::saying::say_last;
-use crate::serve_line::merge_slice;
 use filter_api::RangeFilter;
 use load_gen::{LINE_BYTES, LoadGen, LoadStep, Summary, spell_summary};
 use outside::Outside;

@@ -70,7 +70,7 @@ returns-in-Err g c =
     let stand = tied_stands kind c.args.store.now s a c.consistency_law.ensures.slot tied in
     let writes = within_still (page_bytes * s.pages) a mid moves.held moves.time in
     refused_ends kind s c.args.key.now c.in-Err.why after c.say_refusal.result a mid b (get_told c.in-Err.why c.args.store.now.stopped c.args.key.now a mid c.requires.running c.in-Err.ensures.gets.refused)
-    (c.in-Err.ensures.gets.met s tells tied) (c.in-Err.ensures.gets.undamaged s tells tied) moves.beside moves.time held stand (c.get.ensures.gets.bounded s tells tied) writes (g.met.W.Outside.said_now c.args.out.now) (g.met.W.Outside.said_now c.get.new.disk) c.say_refusal.ensures.moves
+    (c.in-Err.ensures.gets.only_if_read s tells tied) (c.in-Err.ensures.gets.undamaged s tells tied) moves.beside moves.time held stand (c.get.ensures.gets.bounded s tells tied) writes (g.met.W.Outside.said_now c.args.out.now) (g.met.W.Outside.said_now c.get.new.disk) c.say_refusal.ensures.moves
     (λ reply is. c.say_refusal.ensures.says reply output is))
     (get_cause _ c.args.key.now c.in-Err.why c.say_refusal.result a mid b (get_told c.in-Err.why c.args.store.now.stopped c.args.key.now a mid c.requires.running c.in-Err.ensures.gets.refused) c.say_refusal.ensures.ends
     (line_read (length c.args.store.now.tables) a mid c.get.ensures.gets.moves).counts (no_fall_say mid b c.say_refusal.ensures.moves)

@@ -2,7 +2,7 @@ use Rattle.store_core.specs.Answers.{stopped_by}
 use Rattle.surf_run.specs.Kind.{filter_kind}
 use Rattle.surf_run.proofs.Changes.{stopped_is}
 use Rattle.surf_run.proofs.Tends.{slice_made, slice_told}
-use Rattle.surf_run.proofs.serve_line.merge_slice.Goals as goal
+use Rattle.surf_run.proofs.one_line.merge_slice.Goals as goal
 
 pub returns : goal.returns
 returns g c =

@@ -3,7 +3,7 @@ use Rattle.line_model.specs.Requests.{Bad, Request}
 use Rattle.surf_run.specs.Kind.{filter_kind}
 use Rattle.surf_run.specs.Slices.{ServesLine}
 use Rattle.surf_run.proofs.Slices.{serves_alone}
-use Rattle.surf_run.proofs.serve_line.answer.Goals as goal
+use Rattle.surf_run.proofs.one_line.answer.Goals as goal
 
 pub returns-in-Err : goal.returns-in-Err
 returns-in-Err g c =

@@ -1,7 +1,7 @@
 use Rattle.std.proofs.Common.{refl}
 use Rattle.surf_run.specs.Kind.{filter_kind}
 use Rattle.surf_run.proofs.Slices.{serves_alone, serves_with_slice}
-use Rattle.surf_run.proofs.serve_line.serve_change.Goals as goal
+use Rattle.surf_run.proofs.one_line.serve_change.Goals as goal
 
 pub returns-in-Next : goal.returns-in-Next
 returns-in-Next g c =

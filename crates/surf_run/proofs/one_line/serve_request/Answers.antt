@@ -1,7 +1,7 @@
 use Rattle.std.proofs.Common.{sym}
 use Rattle.surf_run.specs.Kind.{filter_kind}
 use Rattle.surf_run.proofs.Slices.{serves_alone}
-use Rattle.surf_run.proofs.serve_line.serve_request.Goals as goal
+use Rattle.surf_run.proofs.one_line.serve_request.Goals as goal
 
 pub returns : goal.returns
 returns g c =
