@@ -53,14 +53,26 @@ fn many_below(alloc: Global, count: u8) -> Result<KeyList, AllocError> {
     Ok(keys)
 }
 
-// Whether the sums of some level are kept.
+// The first node of a level of the pairs' trie: the root, eight nodes below it, and from there on one for each pair.
+fn first_node(level: u16) -> u64 {
+    match level {
+        0 => 0,
+        1 => 1,
+        _ => u64::from(level.saturating_sub(2))
+            .saturating_mul(u64::from(PAIRS))
+            .saturating_add(9),
+    }
+}
+
+// Whether the sums of some level of the pairs' trie are kept.
 fn keeps_sums(trie: &Trie<Global>) -> bool {
-    let mut node = 0;
-    for level in 0..usize::from(trie.height()) {
-        if trie.kept_sum(level, node).is_some() {
+    for level in 0..trie.height() {
+        if trie
+            .kept_sum(usize::from(level), first_node(level))
+            .is_some()
+        {
             return true;
         }
-        node = trie.before_node(node).1;
     }
     false
 }
