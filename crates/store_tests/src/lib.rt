@@ -13,8 +13,6 @@ mod changes;
 #[cfg(test)]
 mod limits;
 #[cfg(test)]
-mod refused;
-#[cfg(test)]
 mod scans;
 #[cfg(test)]
 mod scripts;
