@@ -13,6 +13,8 @@ mod changes;
 #[cfg(test)]
 mod limits;
 #[cfg(test)]
+mod refused;
+#[cfg(test)]
 mod scans;
 #[cfg(test)]
 mod scripts;
