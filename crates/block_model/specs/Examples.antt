@@ -57,4 +57,7 @@ ten_pages = record {
   filter_len = 12288;
   index_sum = 7;
   filter_sum = 9;
+  hash_bits = 0;
+  real_bits = 0;
+  ratio = 64;
 }

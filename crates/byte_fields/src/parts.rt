@@ -51,4 +51,10 @@ pub struct Row {
     pub index_sum: u64,
     /// The sum that is kept of its filter.
     pub filter_sum: u64,
+    /// The bits of a key's hash that its filter keeps.
+    pub hash_bits: u8,
+    /// The bits of a key that its filter keeps after the stub.
+    pub real_bits: u8,
+    /// The ratio by which its filter's cutoff was chosen. No byte of the filter shows it.
+    pub ratio: u16,
 }

@@ -1,6 +1,7 @@
 //! The settings of a filter.
 ghost use Rattle.std.specs.Prelude.{◌≡◌, ◌<◌, ◌≤◌, ◌↔◌, IsOk};
 
+use byte_fields::Row;
 use key_base::{MAX_HASH_BITS, MAX_REAL_BITS};
 
 /// How many suffix bits each leaf has, and how many sparse bits a dense bit may cost.
@@ -30,7 +31,7 @@ pub enum Field {
 pub struct BadSettings(pub Field);
 
 impl Settings {
-    ghost use Rattle.filter_api.specs.Ranges.{InRange};
+    ghost use Rattle.filter_api.specs.Ranges.{InRange, row_settings};
     ghost use Rattle.key_base.specs.Limits.{max_hash_bits, max_real_bits};
 
     /// Whether the settings are in range; else the first field that is not, in the order of the fields.
@@ -46,5 +47,16 @@ impl Settings {
             return Err(BadSettings(Field::RealBits));
         }
         Ok(())
+    }
+
+    /// The settings with which the filter of a table was built.
+    pub fn of_row(row: &Row) -> Settings
+        ensures { result ≡ row_settings row.now }
+    {
+        Settings {
+            hash_bits: row.hash_bits,
+            real_bits: row.real_bits,
+            ratio: row.ratio,
+        }
     }
 }
