@@ -6,50 +6,57 @@ use Rattle.disk_trait.specs.Image.{Image, Shows, window}
 use Rattle.disk_trait.proofs.Images.{window_size, window_split}
 use Rattle.map_model.specs.SortedMap.{Bytes}
 use Rattle.manifest_model.specs.Laws.{IsVersion}
-use Rattle.manifest_model.specs.Reading.{body_damage, table_count_in, prefix_length_in, version_in}
-use Rattle.manifest_model.specs.SlotLaws.{HeldIsRead, ReadIsHeld}
+use Rattle.manifest_model.specs.Reading.{body_damage, body_format, table_count_in, prefix_length_in, version_in}
+use Rattle.manifest_model.specs.SlotLaws.{HeldHasItsFormat, HeldIsRead, ReadIsHeld}
 use Rattle.manifest_model.specs.Slots.{HoldsVersion, body_in, body_room}
 use Rattle.manifest_model.specs.Version.{Version, body_bytes, body_place, prefix_bytes, head_bytes, row_bytes}
 use Rattle.manifest_model.proofs.VersionsRead.{body_again, rows_long}
 use Rattle.manifest_model.proofs.VersionsWritten.{body_few, body_written}
 
-head_long : (v : Version) → length (head_bytes v) ≡ 64
+head_long : (format : ℕ) (v : Version) → length (head_bytes format v) ≡ 64
 unfolding head_bytes
-head_long v = refl
+head_long format v = refl
 
-front_long : (v : Version) → length (prefix_bytes v) ≡ 64 + 64 * length v.rows
+front_long : (format : ℕ) (v : Version) → length (prefix_bytes format v) ≡ 64 + 64 * length v.rows
 unfolding prefix_bytes
-front_long v = omega (arith, length-append (head_bytes v) (flat_map row_bytes v.rows), head_long v, rows_long v.rows)
+front_long format v = omega (arith, length-append (head_bytes format v) (flat_map (row_bytes format) v.rows), head_long format v, rows_long format v.rows)
 
-pub body_long : (v : Version) → length (body_bytes v) ≡ 72 + 64 * length v.rows
+pub body_long : (format : ℕ) (v : Version) → length (body_bytes format v) ≡ 72 + 64 * length v.rows
 unfolding body_bytes
-body_long v = let parts : length (body_bytes v) ≡ length (prefix_bytes v) + 8 = length-append (prefix_bytes v) _ in omega (arith, parts, front_long v)
+body_long format v = let parts : length (body_bytes format v) ≡ length (prefix_bytes format v) + 8 = length-append (prefix_bytes format v) _ in omega (arith, parts, front_long format v)
 
 pub room_is : body_room ≡ 131064
 unfolding body_room
 room_is = refl
 
 -- a version's body has room in a slot
-pub body_fits : (v : Version) → IsVersion v → length (body_bytes v) ≤ 131064
-body_fits v is = omega (arith, body_long v, is.few_tables)
+pub body_fits : (format : ℕ) (v : Version) → IsVersion v → length (body_bytes format v) ≤ 131064
+body_fits format v is = omega (arith, body_long format v, is.few_tables)
 
 -- the first of some bytes that stand there
 front_window : (image : Image) (at n room : ℕ) → n ≤ room → window image at room ≡ window image at n ++ window image (at + n) (room - n)
 front_window image at n room fits = ap (window image at) (omega (arith, fits)) ∙ window_split image at n (room - n)
 
 -- the body, with whatever follows it
-body_there : (slot : ℕ) (v : Version) (image : Image) → HoldsVersion slot v image
-    → body_in slot image ≡ body_bytes v ++ window image (body_place slot + length (body_bytes v)) (body_room - length (body_bytes v))
+body_there : (slot : ℕ) (v : Version) (image : Image) (holds : HoldsVersion slot v image)
+    → body_in slot image ≡ body_bytes holds.format v ++ window image (body_place slot + length (body_bytes holds.format v)) (body_room - length (body_bytes holds.format v))
 body_there slot v image holds =
-    let n = length (body_bytes v) in
-    front_window image (body_place slot) n body_room (omega (arith, room_is, body_fits v holds.sound))
+    let n = length (body_bytes holds.format v) in
+    front_window image (body_place slot) n body_room (omega (arith, room_is, body_fits holds.format v holds.sound))
     ∙ ap (λ (l : Bytes). l ++ window image (body_place slot + n) (body_room - n)) holds.body
 
 pub held_is_read : HeldIsRead
 held_is_read slot v image holds =
+    let n = length (body_bytes holds.format v) in
     let there = body_there slot v image holds in
-    let again = body_again slot v (window image (body_place slot + length (body_bytes v)) (body_room - length (body_bytes v))) holds.sound in
-    (ap (body_damage slot) there ∙ again.0, ap version_in there ∙ again.1)
+    let again = body_again slot holds.format v (window image (body_place slot + n) (body_room - n)) holds.sound holds.may in
+    (ap (body_damage slot) there ∙ again.0, ap version_in there ∙ again.2)
+
+pub held_format : HeldHasItsFormat
+held_format slot v image holds =
+    let n = length (body_bytes holds.format v) in
+    let again = body_again slot holds.format v (window image (body_place slot + n) (body_room - n)) holds.sound holds.may in
+    ap body_format (body_there slot v image holds) ∙ again.1
 
 -- a slot holds one version
 pub one_held : (slot : ℕ) (v w : Version) (image : Image) → HoldsVersion slot v image → HoldsVersion slot w image → v ≡ w
@@ -72,9 +79,12 @@ front_fits bytes few = omega (arith, few)
 pub read_is_held : ReadIsHeld
 read_is_held slot image opened bytes none =
     let fits = front_fits (body_in slot image) (body_few slot (body_in slot image) none) in
-    let so = body_written slot (body_in slot image) bytes (omega (arith, fits, window_size image (body_place slot) body_room, room_is)) none in
+    let body = body_in slot image in
+    let so = body_written slot body bytes (omega (arith, fits, window_size image (body_place slot) body_room, room_is)) none in
     record {
       is_open = opened;
       sound = so.0;
-      body = first_shown image (body_place slot) (prefix_length_in (body_in slot image) + 8) body_room (body_bytes (version_in (body_in slot image))) (omega (arith, fits, room_is)) so.1;
+      format = body_format body;
+      may = so.1;
+      body = first_shown image (body_place slot) (prefix_length_in (body_in slot image) + 8) body_room (body_bytes (body_format body) (version_in body)) (omega (arith, fits, room_is)) so.2;
     }

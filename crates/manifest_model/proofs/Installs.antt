@@ -1,16 +1,16 @@
 -- The three writes of an install, cut short or done.
-use Rattle.std.proofs.Common.{◌≡◌, inl, inr, ℕ, [], ◌∷◌, length, sym, ap, ◌∙◌, subst, arith}
+use Rattle.std.proofs.Common.{◌≡◌, inl, inr, ℕ, [], ◌∷◌, length, refl, sym, ap, ◌∙◌, subst, arith}
 use Rattle.std.proofs.lemmas.Bool.{cases_eq}
 use Rattle.std.specs.Prelude.{List, Result, Ok, OnOk}
 use Rattle.disk_trait.specs.Image.{Image, Shows, Torn, overwritten}
 use Rattle.disk_trait.specs.World.{IsDurable, Leads, World, WriteMoves}
 use Rattle.disk_trait.proofs.Calls.{leads_then, through}
 use Rattle.disk_trait.proofs.Images.{overwritten_at, whole, window_kept, window_overwritten}
-use Rattle.manifest_model.specs.Installs.{BeginsClosed, BeginsOpen, ClosesTheGate, Install, InstalledIsInUse, IsClosed, IsInstalled, IsOldOrNew, IsOpenStill, IsWritten, MayInstall, OpensTheGate, WriteTurns, WritesTheBody}
+use Rattle.manifest_model.specs.Installs.{BeginsClosed, BeginsOpen, ClosesTheGate, Install, InstalledIsInFormat2, InstalledIsInUse, IsClosed, IsInstalled, IsOldOrNew, IsOpenStill, IsWritten, MayInstall, OpensTheGate, WriteTurns, WritesTheBody}
 use Rattle.manifest_model.specs.SlotLaws.{IsInSlot}
 use Rattle.manifest_model.specs.Slots.{HoldsVersion, HoldsOlder, IsVersionOf}
 use Rattle.manifest_model.specs.Version.{Version, body_bytes, body_place}
-use Rattle.manifest_model.proofs.Held.{body_fits}
+use Rattle.manifest_model.proofs.Held.{body_fits, held_format}
 use Rattle.manifest_model.proofs.SlotFrames.{slot_kept, slots_apart, turned}
 use Rattle.manifest_model.proofs.Versions.{in_use}
 
@@ -18,15 +18,15 @@ written_byte : (place b : ℕ) (f g : Image) → g ≡ overwritten f place (b �
 written_byte place b f g is = ap (λ (h : Image). h place) is ∙ overwritten_at f place (b ∷ []) place 0 (omega arith) (omega arith)
 
 -- a write of the gate leaves the body
-behind_gate : (slot : ℕ) (v : Version) (f g : Image) → Torn slot 1 f g → Shows (body_place slot) (body_bytes v) f → Shows (body_place slot) (body_bytes v) g
-behind_gate slot v f g torn body = window_kept slot 1 f g (body_place slot) (length (body_bytes v)) (inr (omega arith)) torn ∙ body
+behind_gate : (slot format : ℕ) (v : Version) (f g : Image) → Torn slot 1 f g → Shows (body_place slot) (body_bytes format v) f → Shows (body_place slot) (body_bytes format v) g
+behind_gate slot format v f g torn body = window_kept slot 1 f g (body_place slot) (length (body_bytes format v)) (inr (omega arith)) torn ∙ body
 
 module _ (i : Install) (may : MayInstall i) where
   gate_inside : IsInSlot i.other i.other 1
   gate_inside = (omega arith, omega arith)
 
-  body_inside : IsInSlot i.other (body_place i.other) (length (body_bytes i.to))
-  body_inside = (omega arith, omega (arith, body_fits i.to may.sound))
+  body_inside : IsInSlot i.other (body_place i.other) (length (body_bytes 2 i.to))
+  body_inside = (omega arith, omega (arith, body_fits 2 i.to may.sound))
 
   here_kept : (at n : ℕ) (f g : Image) → IsInSlot i.other at n → Torn at n f g → HoldsVersion i.slot i.from f → HoldsVersion i.slot i.from g
   here_kept at n f g inside torn here = slot_kept i.slot at n i.from f g (slots_apart i.slot i.other at n may.slots inside) torn here
@@ -41,7 +41,7 @@ module _ (i : Install) (may : MayInstall i) where
 
   gate_torn : (f g : Image) → IsOpenStill i f → Torn i.other 1 f g → HoldsOlder i.other i.from.epoch g
   gate_torn f g p torn = elim (cases_eq (g i.other) 1) [
-    | inl open_still ↦ inr (p.older, record { is_open = open_still; sound = p.there.sound; body = behind_gate i.other p.older f g torn p.there.body }, p.lesser)
+    | inl open_still ↦ inr (p.older, record { is_open = open_still; sound = p.there.sound; format = p.there.format; may = p.there.may; body = behind_gate i.other p.there.format p.older f g torn p.there.body }, p.lesser)
     | inr closed ↦ inl closed
   ]
 
@@ -62,26 +62,27 @@ module _ (i : Install) (may : MayInstall i) where
   closed_is_old : (f : Image) → IsClosed i f → IsVersionOf i.from f
   closed_is_old f p = old_with f p.here (inl p.closed)
 
-  still_closed : (f g : Image) → IsClosed i f → Torn (body_place i.other) (length (body_bytes i.to)) f g → IsClosed i g
+  still_closed : (f g : Image) → IsClosed i f → Torn (body_place i.other) (length (body_bytes 2 i.to)) f g → IsClosed i g
   still_closed f g p torn = record {
-    here = here_kept (body_place i.other) (length (body_bytes i.to)) f g body_inside torn p.here;
+    here = here_kept (body_place i.other) (length (body_bytes 2 i.to)) f g body_inside torn p.here;
     closed = λ now. p.closed (sym (torn.before i.other (omega arith)) ∙ now);
   }
 
-  written : (f g : Image) → IsClosed i f → g ≡ overwritten f (body_place i.other) (body_bytes i.to) → IsWritten i g
+  written : (f g : Image) → IsClosed i f → g ≡ overwritten f (body_place i.other) (body_bytes 2 i.to) → IsWritten i g
   written f g p is = record {
-    before = still_closed f g p (whole f g (body_place i.other) (body_bytes i.to) is);
-    body = subst (λ (h : Image). Shows (body_place i.other) (body_bytes i.to) h) (sym is) (window_overwritten f (body_place i.other) (body_bytes i.to));
+    before = still_closed f g p (whole f g (body_place i.other) (body_bytes 2 i.to) is);
+    body = subst (λ (h : Image). Shows (body_place i.other) (body_bytes 2 i.to) h) (sym is) (window_overwritten f (body_place i.other) (body_bytes 2 i.to));
   }
 
-  pub writes_body : WriteTurns (IsClosed i) (IsVersionOf i.from) (IsWritten i) (body_place i.other) (body_bytes i.to)
+  pub writes_body : WriteTurns (IsClosed i) (IsVersionOf i.from) (IsWritten i) (body_place i.other) (body_bytes 2 i.to)
   writes_body = record { first = closed_is_old; torn = λ f g p torn. closed_is_old g (still_closed f g p torn); done = written }
 
   -- ---- opening the gate
 
   installed : (f g : Image) → IsWritten i f → Torn i.other 1 f g → g i.other ≡ 1 → IsInstalled i g
   installed f g p torn gate = record {
-    here = record { is_open = gate; sound = may.sound; body = behind_gate i.other i.to f g torn p.body };
+    here = record { is_open = gate; sound = may.sound; format = 2; may = inl refl; body = behind_gate i.other 2 i.to f g torn p.body };
+    format = refl;
     there = here_kept i.other 1 f g gate_inside torn p.before.here;
   }
 
@@ -137,3 +138,6 @@ pub install_leads : {T U V E F G : Type 0} (i : Install) (x : T) (y : U) (result
     → Leads (IsOpenStill i) (IsOldOrNew i) (IsInstalled i) result a d
 install_leads i x y result a b c d first second third =
     leads_then _ _ _ _ _ x result a b d (λ f old. inl old) first (leads_then _ _ _ _ _ y result b c d (λ f old. inl old) second third)
+
+pub installed_format : InstalledIsInFormat2
+installed_format i image is = held_format i.other i.to image is.here ∙ is.format

@@ -16,5 +16,6 @@ new_is_one settings pages range ratio some few = record {
   ratio = omega (arith, ratio);
   log_page = inl refl;
   rows = tt;
+  settings = tt;
   placed = refl;
 }

@@ -22,7 +22,11 @@ pub slot_kept : SlotIsKept
 slot_kept slot at n v f g apart torn holds = record {
   is_open = gate_kept slot at n f g apart torn ∙ holds.is_open;
   sound = holds.sound;
-  body = window_kept at n f g (body_place slot) (length (body_bytes v)) (body_apart slot (length (body_bytes v)) at n (body_fits v holds.sound) apart) torn ∙ holds.body;
+  format = holds.format;
+  may = holds.may;
+  body =
+      window_kept at n f g (body_place slot) (length (body_bytes holds.format v)) (body_apart slot (length (body_bytes holds.format v)) at n (body_fits holds.format v holds.sound) apart) torn
+      ∙ holds.body;
 }
 
 pub older_kept : OlderIsKept

@@ -3,7 +3,8 @@ use Rattle.std.specs.Prelude.{◌≢◌, ◌≡◌, ◌⊎◌, ◌<◌, ℕ, [],
 use Rattle.disk_trait.specs.Image.{Image, Shows, Torn, overwritten}
 use Rattle.map_model.specs.SortedMap.{Bytes}
 use Rattle.manifest_model.specs.Laws.{IsVersion}
-use Rattle.manifest_model.specs.Slots.{AreSlots, HoldsVersion, IsCurrent, IsOpenSlot, IsVersionOf}
+use Rattle.manifest_model.specs.Reading.{body_format}
+use Rattle.manifest_model.specs.Slots.{AreSlots, HoldsVersion, IsCurrent, IsOpenSlot, IsVersionOf, body_in}
 use Rattle.manifest_model.specs.Version.{Version, body_bytes, body_place}
 
 -- the slot in use and the other one, the version in use and the one to come
@@ -32,14 +33,15 @@ pub record IsClosed (i : Install) (image : Image) : Type 0 where
   pub here : HoldsVersion i.slot i.from image
   pub closed : image i.other ≢ 1
 
--- the body of the version to come stands behind its closed gate
+-- the body of the version to come stands behind its closed gate, in format 2
 pub record IsWritten (i : Install) (image : Image) : Type 0 where
   pub before : IsClosed i image
-  pub body : Shows (body_place i.other) (body_bytes i.to) image
+  pub body : Shows (body_place i.other) (body_bytes 2 i.to) image
 
--- the version to come stands in the other slot, and the one before it where it was
+-- the version to come stands in the other slot, in format 2, and the one before it where it was
 pub record IsInstalled (i : Install) (image : Image) : Type 0 where
   pub here : HoldsVersion i.other i.to image
+  pub format : here.format ≡ 2
   pub there : HoldsVersion i.slot i.from image
 
 -- the version of the image is one of the two
@@ -66,7 +68,7 @@ abbrev pub ClosesTheGate : Type 0
 ClosesTheGate = (i : Install) → MayInstall i → WriteTurns (IsOpenStill i) (IsVersionOf i.from) (IsClosed i) i.other (0 ∷ [])
 
 abbrev pub WritesTheBody : Type 0
-WritesTheBody = (i : Install) → MayInstall i → WriteTurns (IsClosed i) (IsVersionOf i.from) (IsWritten i) (body_place i.other) (body_bytes i.to)
+WritesTheBody = (i : Install) → MayInstall i → WriteTurns (IsClosed i) (IsVersionOf i.from) (IsWritten i) (body_place i.other) (body_bytes 2 i.to)
 
 abbrev pub OpensTheGate : Type 0
 OpensTheGate = (i : Install) → MayInstall i → WriteTurns (IsWritten i) (IsOldOrNew i) (IsInstalled i) i.other (1 ∷ [])
@@ -75,3 +77,7 @@ OpensTheGate = (i : Install) → MayInstall i → WriteTurns (IsWritten i) (IsOl
 
 abbrev pub InstalledIsInUse : Type 0
 InstalledIsInUse = (i : Install) (image : Image) → MayInstall i → IsInstalled i image → IsCurrent i.other i.slot i.to image
+
+-- and its body is in format 2, whatever the format of the one before
+abbrev pub InstalledIsInFormat2 : Type 0
+InstalledIsInFormat2 = (i : Install) (image : Image) → IsInstalled i image → body_format (body_in i.other image) ≡ 2

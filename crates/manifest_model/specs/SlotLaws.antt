@@ -3,7 +3,7 @@ use Rattle.std.specs.Prelude.{◌≡◌, ◌⊎◌, ◌<◌, ◌≤◌, ◌+◌,
 use Rattle.byte_fields.specs.Spelling.{IsBytes}
 use Rattle.disk_trait.specs.Image.{Image, IsApart, Torn}
 use Rattle.key_base.specs.Limits.{slot_bytes}
-use Rattle.manifest_model.specs.Reading.{body_damage, version_in}
+use Rattle.manifest_model.specs.Reading.{body_damage, body_format, version_in}
 use Rattle.manifest_model.specs.Slots.{AreSlots, HoldsVersion, HoldsOlder, IsCurrent, IsNoStore, IsOpenSlot, IsVersionOf, body_in, slots_damage}
 use Rattle.manifest_model.specs.Version.{Version, slot_a, slot_b}
 
@@ -14,6 +14,10 @@ abbrev pub HeldIsRead : Type 0
 HeldIsRead =
     (slot : ℕ) (v : Version) (image : Image) → HoldsVersion slot v image
     → (body_damage slot (body_in slot image) ≡ None) × (version_in (body_in slot image) ≡ v)
+
+-- and its format is the one that its bytes name
+abbrev pub HeldHasItsFormat : Type 0
+HeldHasItsFormat = (slot : ℕ) (v : Version) (image : Image) (held : HoldsVersion slot v image) → body_format (body_in slot image) ≡ held.format
 
 -- what is read from an open slot and breaks no rule is held
 abbrev pub ReadIsHeld : Type 0

@@ -9,7 +9,7 @@ use Rattle.map_model.specs.SortedMap.{Bytes}
 use Rattle.manifest_model.specs.Laws.{IsVersion}
 use Rattle.manifest_model.specs.Reading.{body_damage, shape_at, version_in}
 use Rattle.manifest_model.specs.Tables.{epochs_fault}
-use Rattle.manifest_model.specs.Version.{Version, body_bytes, body_place, slot_a, slot_b}
+use Rattle.manifest_model.specs.Version.{MaySpell, Version, body_bytes, body_place, slot_a, slot_b}
 
 -- ---- a slot
 
@@ -21,11 +21,13 @@ IsGate false byte = byte ≢ 1
 abbrev pub IsOpenSlot : ℕ → Image → Type 0
 IsOpenSlot slot image = image slot ≡ 1
 
--- the slot is open, and the body of a version that keeps the rules stands in it
+-- the slot is open, and the body of a version that keeps the rules stands in it, in a format that can spell it
 pub record HoldsVersion (slot : ℕ) (v : Version) (image : Image) : Type 0 where
   pub is_open : IsOpenSlot slot image
   pub sound : IsVersion v
-  pub body : Shows (body_place slot) (body_bytes v) image
+  pub format : ℕ
+  pub may : MaySpell format v
+  pub body : Shows (body_place slot) (body_bytes format v) image
 
 -- the slot is closed, or holds a version of a lesser epoch
 abbrev pub HoldsOlder : ℕ → ℕ → Image → Type 0

@@ -1,9 +1,9 @@
 //! Laws of the manifest. They are proved and never called.
-ghost use Rattle.manifest_model.specs.Installs.{BeginsClosed, BeginsOpen, ClosesTheGate, InstalledIsInUse, OpensTheGate, WritesTheBody};
+ghost use Rattle.manifest_model.specs.Installs.{BeginsClosed, BeginsOpen, ClosesTheGate, InstalledIsInFormat2, InstalledIsInUse, OpensTheGate, WritesTheBody};
 ghost use Rattle.manifest_model.specs.Laws.{RowFits, VersionIsReadAgain, VersionWasWrittenSo};
 ghost use Rattle.manifest_model.specs.NewVersion.{NewVersionIsOne};
 ghost use Rattle.manifest_model.specs.Rows.{RowsKeepTheRules, TablesFitDevice};
-ghost use Rattle.manifest_model.specs.SlotLaws.{CurrentIsKept, GreaterEpochIsInUse, HeldIsRead, InUseIsKept, NoStoreHasNoVersion, OlderIsKept, OneVersion, ReadIsHeld, SlotIsKept, VersionHasNoDamage, VersionIsFound, VersionIsKept};
+ghost use Rattle.manifest_model.specs.SlotLaws.{CurrentIsKept, GreaterEpochIsInUse, HeldHasItsFormat, HeldIsRead, InUseIsKept, NoStoreHasNoVersion, OlderIsKept, OneVersion, ReadIsHeld, SlotIsKept, VersionHasNoDamage, VersionIsFound, VersionIsKept};
 
 use byte_fields::Row;
 
@@ -27,10 +27,12 @@ pub fn a_row_fits(_row: Row)
     ensures { RowFits _row }
 {}
 
-/// What a slot holds is what is read from it. An image has one version at most: of two that are held that of the greater
-/// epoch. It has one exactly where a slot is open, no open slot breaks a rule, and two open ones differ in their epochs.
+/// What a slot holds is what is read from it, in the format that its bytes name. An image has one version at most: of two
+/// that are held that of the greater epoch. It has one exactly where a slot is open, no open slot breaks a rule, and two open
+/// ones differ in their epochs.
 pub fn an_image_has_one_version()
     ensures read { HeldIsRead }
+    ensures format { HeldHasItsFormat }
     ensures held { ReadIsHeld }
     ensures one { OneVersion }
     ensures greater { GreaterEpochIsInUse }
@@ -50,7 +52,8 @@ pub fn slots_are_kept()
 {}
 
 /// A version is installed by three writes into the slot that is not in use: its gate is closed, its body is written, and
-/// its gate is opened. Cut short, the first two leave the old version, and the last leaves the old one or the new one.
+/// its gate is opened. Cut short, the first two leave the old version, and the last leaves the old one or the new one. The
+/// new one is in format 2, whatever the format of the one before.
 pub fn a_version_is_installed()
     ensures begins_open { BeginsOpen }
     ensures begins_closed { BeginsClosed }
@@ -58,4 +61,5 @@ pub fn a_version_is_installed()
     ensures writes { WritesTheBody }
     ensures opens { OpensTheGate }
     ensures in_use { InstalledIsInUse }
+    ensures format { InstalledIsInFormat2 }
 {}

@@ -2,9 +2,10 @@
 //! and laws, and a plain program that writes a body.
 //!
 //! `specs/Version` says what a version is and how it is spelled, `specs/Reading` what is read from a body and which rule it
-//! breaks first, and where; the sum is looked at behind the first three rules. `specs/Tables` has the rules that need more
-//! than one body: two slots of one epoch, and the key ranges of tables. `specs/Rows` says what the rules of rows come to, for
-//! whoever makes a version, and `specs/NewVersion` which version a new store has.
+//! breaks first, and where; the sum is looked at after the first three rules. A body has one of two formats, which its head
+//! names: in format 1 every table has the settings of the head, in format 2 each has its own. `specs/Tables` has the rules
+//! that need more than one body: two slots of one epoch, and the key ranges of tables. `specs/Rows` says what the rules of
+//! rows come to, for whoever makes a version, and `specs/NewVersion` which version a new store has.
 //!
 //! `specs/Slots` says which version an image holds, that of the open slot, or of two open ones that of the greater epoch, and
 //! what is wrong with the slots. `specs/Installs` has the change of versions: three writes into the slot that is not in use,
@@ -16,7 +17,7 @@
 //!
 //! ```text
 //! a body        64 bytes of numbers, 64 bytes for each table, 8 bytes of their sum
-//! after a format on 512 pages      53 52 46 4D 01 00 00 00  01 00 00 00 00 00 00 00  00 02 00 00 00 00 40 00 ..
+//! after a format on 512 pages      53 52 46 4D 02 00 00 00  01 00 00 00 00 00 00 00  00 02 00 00 00 00 40 00 ..
 //! ```
 #![tactic(auto)]
 

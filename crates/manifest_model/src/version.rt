@@ -1,6 +1,6 @@
 //! A version as a plain value, and the bytes of its body.
 ghost use Rattle.std.specs.Prelude.{◌≡◌, ◌++◌, OnOk, IfOk};
-ghost use Rattle.manifest_model.specs.Version.{body_bytes, prefix_bytes, head_bytes, row_bytes};
+ghost use Rattle.manifest_model.specs.Version.{body_bytes, by_format, prefix_bytes, head_bytes, row_bytes};
 
 use byte_fields::{Row, fnv1a, push_fields, push_number};
 use key_base::LOG_PAGES;
@@ -10,11 +10,11 @@ use std::marker::Model;
 /// What a manifest says of a store.
 #[derive(Drop)]
 pub struct Version {
-    /// The bits of a key's hash that each filter keeps.
+    /// The bits of a key's hash that the filter of a new table keeps.
     pub hash_bits: u8,
-    /// The bits of a key that each filter keeps behind its stub.
+    /// The bits of a key that it keeps after the stub.
     pub real_bits: u8,
-    /// How many times smaller the dense levels of a filter are than the others.
+    /// The ratio by which its cutoff is chosen.
     pub ratio: u16,
     /// The pages of the device.
     pub pages: u32,
@@ -44,22 +44,22 @@ impl Model for Version {
 
 const HEAD_WIDTHS: [usize; 14] = [4, 2, 2, 8, 4, 1, 1, 2, 4, 4, 8, 8, 8, 8];
 
-const ROW_WIDTHS: [usize; 12] = [1, 3, 4, 4, 4, 4, 4, 8, 8, 8, 8, 8];
+const ROW_WIDTHS: [usize; 15] = [1, 3, 4, 4, 4, 4, 4, 8, 8, 8, 8, 1, 1, 2, 4];
 
 // `SRFM`.
 const MAGIC: u64 = 0x4D465253;
 
-const FORMAT: u64 = 1;
-
-/// The bytes of a version's body: its head, a row for each table, and the sum of these.
+/// The bytes of a version's body in one of its two formats, 1 or 2: the head, a row for each table, and the sum of these.
+///
+/// In format 1 a row names no settings, so a version is read again from it only where its tables have those of new ones.
 #[tactic(auto, unfolding(crate::specs::Version::prefix_bytes, crate::specs::Version::body_bytes))]
-pub fn body_bytes(alloc: Global, version: &Version) -> Result<Vec<u8>, AllocError>
-    ensures { IfOk result (λ bytes. bytes.items ≡ body_bytes version.now) }
+pub fn body_bytes(alloc: Global, format: u16, version: &Version) -> Result<Vec<u8>, AllocError>
+    ensures { IfOk result (λ bytes. bytes.items ≡ body_bytes format version.now) }
 {
     let mut out = Vec::new(alloc);
-    push_head(version, &mut out)?;
+    push_head(format, version, &mut out)?;
     for row in version.rows.as_slice() {
-        push_row(row, &mut out)?;
+        push_row(format, row, &mut out)?;
     }
     let sum = fnv1a(out.as_slice());
     push_number(sum, 8, &mut out)?;
@@ -67,12 +67,12 @@ pub fn body_bytes(alloc: Global, version: &Version) -> Result<Vec<u8>, AllocErro
 }
 
 #[tactic(auto, unfolding(crate::specs::Version::head_bytes))]
-fn push_head(version: &Version, out: &mut Vec<u8>) -> Result<(), AllocError>
-    ensures { OnOk result (out.new.items ≡ out.old.items ++ head_bytes version.now) }
+fn push_head(format: u16, version: &Version, out: &mut Vec<u8>) -> Result<(), AllocError>
+    ensures { OnOk result (out.new.items ≡ out.old.items ++ head_bytes format version.now) }
 {
     let numbers = [
         MAGIC,
-        FORMAT,
+        u64::from(format),
         version.rows.len() as u64,
         version.epoch,
         u64::from(version.pages),
@@ -89,10 +89,17 @@ fn push_head(version: &Version, out: &mut Vec<u8>) -> Result<(), AllocError>
     push_fields(&HEAD_WIDTHS, &numbers, out)
 }
 
-/// Appends the bytes of a row.
+// A number of a row's settings as it is spelled: 0 in format 1.
+fn spelled(format: u16, number: u16) -> u64
+    ensures { result ≡ by_format format 0 number }
+{
+    if format == 1 { 0 } else { u64::from(number) }
+}
+
+/// Appends the bytes of a row in a format, 1 or 2.
 #[tactic(auto, unfolding(crate::specs::Version::row_bytes))]
-pub fn push_row(row: &Row, out: &mut Vec<u8>) -> Result<(), AllocError>
-    ensures { OnOk result (out.new.items ≡ out.old.items ++ row_bytes row.now) }
+pub fn push_row(format: u16, row: &Row, out: &mut Vec<u8>) -> Result<(), AllocError>
+    ensures { OnOk result (out.new.items ≡ out.old.items ++ row_bytes format row.now) }
 {
     let numbers = [
         u64::from(row.level),
@@ -106,6 +113,9 @@ pub fn push_row(row: &Row, out: &mut Vec<u8>) -> Result<(), AllocError>
         row.filter_len,
         row.index_sum,
         row.filter_sum,
+        spelled(format, u16::from(row.hash_bits)),
+        spelled(format, u16::from(row.real_bits)),
+        spelled(format, row.ratio),
         0,
     ];
     push_fields(&ROW_WIDTHS, &numbers, out)

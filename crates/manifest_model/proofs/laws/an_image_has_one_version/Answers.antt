@@ -1,9 +1,12 @@
-use Rattle.manifest_model.proofs.Held.{held_is_read, read_is_held}
+use Rattle.manifest_model.proofs.Held.{held_format, held_is_read, read_is_held}
 use Rattle.manifest_model.proofs.Versions.{found, greater_in_use, no_damage, no_store, one_version}
 use Rattle.manifest_model.proofs.laws.an_image_has_one_version.Goals as goal
 
 pub returns-clause-read : goal.returns-clause-read
 returns-clause-read c = held_is_read
+
+pub returns-clause-format : goal.returns-clause-format
+returns-clause-format c = held_format
 
 pub returns-clause-held : goal.returns-clause-held
 returns-clause-held c = read_is_held
