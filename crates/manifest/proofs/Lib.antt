@@ -2,6 +2,7 @@ pub mod Steps
 pub mod News
 pub mod Extents
 pub mod Rows
+pub mod Settings
 pub mod Judged
 pub mod Fronts
 pub mod Bodies

@@ -14,18 +14,17 @@ use Rattle.disk_trait.specs.Image.{Image, window}
 use Rattle.disk_trait.specs.World.{World}
 use Rattle.disk_trait.proofs.Images.{window_size, window_split}
 use Rattle.map_model.specs.SortedMap.{Bytes}
-use Rattle.manifest_model.specs.Laws.{IsVersion}
-use Rattle.manifest_model.specs.Reading.{body_damage, table_count_in, early_fault, prefix_length_in, shape_at, version_in}
+use Rattle.manifest_model.specs.Reading.{body_damage, body_format, table_count_in, early_fault, prefix_length_in, shape_at, version_in}
 use Rattle.manifest_model.specs.Slots.{HoldsVersion, IsGate, IsNoStore, IsVersionOf, body_in, body_room, epochs_damage, slot_damage, slots_damage}
 use Rattle.manifest_model.specs.Tables.{epochs_fault}
-use Rattle.manifest_model.specs.Version.{Version, body_bytes, body_place, slot_a, slot_b}
+use Rattle.manifest_model.specs.Version.{Version, body_place, slot_a, slot_b}
 use Rattle.manifest_model.proofs.Held.{held_is_read, room_is}
 use Rattle.manifest_model.proofs.Versions.{in_use, no_damage, no_store, none_open, one_version}
 use Rattle.manifest_model.proofs.VersionsWritten.{body_written}
 use Rattle.manifest.specs.Causes.{HasSlotCause}
 use Rattle.manifest.specs.Loading.{AreGates, IsAlone, IsFree, IsVersionAt, IsLoadAnswer, IsLoaded, IsNoStoreAnswer, one_epoch}
 use Rattle.manifest.specs.Manifest.{Manifest, StandsInSlot, other_place, place_of}
-use Rattle.manifest.specs.Reading.{IsBodyDamage, IsDamage, shape_of}
+use Rattle.manifest.specs.Reading.{IsBodyDamage, IsDamage, IsSpelled, shape_of}
 use Rattle.manifest.specs.declared.fault.ManifestFault.{ManifestFault}
 use Rattle.manifest.specs.declared.fault.ManifestFault.TheVariants as fault
 use Rattle.manifest.proofs.Bodies.{head_broken}
@@ -75,20 +74,22 @@ module _ (slot : ℕ) (image : Image) (head : Bytes) (is : head ≡ window image
     pub body_damage_is : body_damage slot body ≡ body_damage slot (body_in slot image)
     body_damage_is = ap (body_damage slot) taken ∙ damage_front (body_in slot image) n long_enough slot
 
-    pub shown : IsVersion (version_in body) → body_bytes (version_in body) ≡ body → IsVersionAt slot (version_in body) image
-    shown sound spelled = record {
-      sound = sound;
-      body = ap (window image (body_place slot)) (ap length spelled ∙ size) ∙ sym body_is ∙ sym spelled;
+    pub shown : IsSpelled body → IsVersionAt slot (version_in body) image
+    shown is_spelled = record {
+      sound = is_spelled.sound;
+      format = body_format body;
+      may = is_spelled.may;
+      body = ap (window image (body_place slot)) (ap length is_spelled.spelled ∙ size) ∙ sym body_is ∙ sym is_spelled.spelled;
     }
 
 -- what keeps the rules is a version, and is spelled so
 pub is_written : (slot : ℕ) (body : Bytes) → IsBytes body → length body ≡ 72 + 64 * table_count_in body → body_damage slot body ≡ None
-    → IsVersion (version_in body) × (body_bytes (version_in body) ≡ body)
+    → IsSpelled body
 unfolding prefix_length_in
 is_written slot body bytes size none =
     let front : 64 + 64 * table_count_in body + 8 ≡ length body = omega (arith, size) in
     let so = body_written slot body bytes (omega (arith, front)) none in
-    (so.0, so.1 ∙ ap (λ (m : ℕ). take m body) front ∙ take-length body)
+    record { sound = so.0; may = so.1; spelled = so.2 ∙ ap (λ (m : ℕ). take m body) front ∙ take-length body }
 
 pub same_count : (head body : Bytes) → take 64 body ≡ head → table_count_in body ≡ table_count_in head
 same_count head body front = sym (count_front body 64 (omega arith)) ∙ ap table_count_in front
@@ -151,7 +152,7 @@ none_is_open true b image is_a is_b gates = absurd cc
 -- ---- the slots
 
 holds : (slot : ℕ) (v : Version) (image : Image) → image slot ≡ 1 → IsVersionAt slot v image → HoldsVersion slot v image
-holds slot v image opened held = record { is_open = opened; sound = held.sound; body = held.body }
+holds slot v image opened held = record { is_open = opened; sound = held.sound; format = held.format; may = held.may; body = held.body }
 
 -- one open slot
 pub one_open : (slot : ℕ) (v : Version) (image : Image) → slot ≤ 1 → image (place_of slot) ≡ 1 → image (other_place slot) ≢ 1 → IsVersionAt (place_of slot) v image

@@ -1,5 +1,5 @@
 -- The first version of a store: its body behind a closed gate, and then the gate.
-use Rattle.std.proofs.Common.{◌≡◌, ◌≤◌, inl, inr, ℕ, [], ◌∷◌, length, sym, ap, ◌∙◌, subst, arith}
+use Rattle.std.proofs.Common.{◌≡◌, ◌≤◌, inl, inr, ℕ, [], ◌∷◌, length, refl, sym, ap, ◌∙◌, subst, arith}
 use Rattle.std.proofs.lemmas.Bool.{cases_eq}
 use Rattle.std.specs.Prelude.{Result, Ok, Err, OnOk}
 use Rattle.disk_trait.specs.Image.{Image, Shows, Torn, overwritten}
@@ -18,28 +18,29 @@ use Rattle.manifest.specs.NewManifest.{IsNew, IsNewOrNone}
 -- its body stands, and no slot is open
 pub record IsPrepared (v : Version) (image : Image) : Type 0 where
   pub closed : IsNoStore image
-  pub body : Shows (body_place slot_a) (body_bytes v) image
+  pub body : Shows (body_place slot_a) (body_bytes 2 v) image
 
 module _ (v : Version) (is : IsVersion v) where
-  fits : length (body_bytes v) ≤ 131064
-  fits = body_fits v is
+  fits : length (body_bytes 2 v) ≤ 131064
+  fits = body_fits 2 v is
 
-  still_none : (f g : Image) → IsNoStore f → Torn 8 (length (body_bytes v)) f g → IsNoStore g
+  still_none : (f g : Image) → IsNoStore f → Torn 8 (length (body_bytes 2 v)) f g → IsNoStore g
   still_none f g none torn =
       (λ now. none.0 (sym (torn.before 0 (omega arith)) ∙ now), λ now. none.1 (sym (torn.after 131072 (omega (arith, fits))) ∙ now))
 
-  prepared : (f g : Image) → IsNoStore f → g ≡ overwritten f 8 (body_bytes v) → IsPrepared v g
+  prepared : (f g : Image) → IsNoStore f → g ≡ overwritten f 8 (body_bytes 2 v) → IsPrepared v g
   prepared f g none done = record {
-    closed = still_none f g none (whole f g 8 (body_bytes v) done);
-    body = subst (λ (h : Image). Shows 8 (body_bytes v) h) (sym done) (window_overwritten f 8 (body_bytes v));
+    closed = still_none f g none (whole f g 8 (body_bytes 2 v) done);
+    body = subst (λ (h : Image). Shows 8 (body_bytes 2 v) h) (sym done) (window_overwritten f 8 (body_bytes 2 v));
   }
 
-  pub prepares : WriteTurns IsNoStore (IsNewOrNone v) (IsPrepared v) 8 (body_bytes v)
+  pub prepares : WriteTurns IsNoStore (IsNewOrNone v) (IsPrepared v) 8 (body_bytes 2 v)
   prepares = record { first = λ f none. inl none; torn = λ f g none torn. inl (still_none f g none torn); done = prepared }
 
   is_new : (f g : Image) → IsPrepared v f → Torn 0 1 f g → g 0 ≡ 1 → IsNew v g
   is_new f g p torn gate = record {
-    here = record { is_open = gate; sound = is; body = window_kept 0 1 f g 8 (length (body_bytes v)) (inr (omega arith)) torn ∙ p.body };
+    here = record { is_open = gate; sound = is; format = 2; may = inl refl; body = window_kept 0 1 f g 8 (length (body_bytes 2 v)) (inr (omega arith)) torn ∙ p.body };
+    format = refl;
     closed = λ now. p.closed.1 (sym (torn.after 131072 (omega arith)) ∙ now);
   }
 
@@ -61,7 +62,7 @@ module _ (v : Version) (is : IsVersion v) where
   -- ---- over the moments of a disk
 
   module _ {T E : Type 0} (result : Result T E) (a b : World) (current : a.leaves a.moment a.seen.held) (durable : OnOk result (IsDurable b)) where
-    pub prepares_at : (at : ℕ) → at ≡ 8 → (body : Bytes) → body ≡ body_bytes v → WriteMoves at (length body) a b → OnOk result (b.seen.held ≡ overwritten a.seen.held at body)
+    pub prepares_at : (at : ℕ) → at ≡ 8 → (body : Bytes) → body ≡ body_bytes 2 v → WriteMoves at (length body) a b → OnOk result (b.seen.held ≡ overwritten a.seen.held at body)
         → Leads IsNoStore (IsNewOrNone v) (IsPrepared v) result a b
     prepares_at at here body same moves written =
         turns_leads IsNoStore (IsNewOrNone v) (IsPrepared v) at body result a b

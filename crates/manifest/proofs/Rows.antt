@@ -8,8 +8,9 @@ use Rattle.std.proofs.lemmas.Bool.{eqb-false}
 use Rattle.byte_fields.proofs.FaultLemmas.{kept}
 use Rattle.byte_fields.specs.Faults.{Fault, refuse}
 use Rattle.byte_fields.specs.declared.parts.Row.{Row}
+use Rattle.filter_api.specs.declared.settings.Settings.{Settings}
 use Rattle.map_model.specs.SortedMap.{Bytes}
-use Rattle.manifest_model.specs.Reading.{extents_fault, leaves, levels_fault, meets_row, table_row_fault, table_row_in, row_zeros_fault, table_rows_fault, table_rows_in, zeros_fault}
+use Rattle.manifest_model.specs.Reading.{extents_fault, last_zeros_fault, leaves, levels_fault, meets_row, table_row_fault, table_row_in, row_zeros_fault, table_rows_fault, table_rows_in, zeros_fault}
 
 -- ---- the first of faults
 
@@ -21,7 +22,7 @@ pub or_assoc : (a b c : Option Fault) → option_or (option_or a b) c ≡ option
 or_assoc None b c = refl
 or_assoc (Some f) b c = refl
 
-refused_then : (bad : Bool) (place rule : ℕ) (later more : Option Fault) → option_or (refuse bad place rule later) more ≡ refuse bad place rule (option_or later more)
+pub refused_then : (bad : Bool) (place rule : ℕ) (later more : Option Fault) → option_or (refuse bad place rule later) more ≡ refuse bad place rule (option_or later more)
 refused_then true place rule later more = refl
 refused_then false place rule later more = refl
 
@@ -34,33 +35,38 @@ rest_of i rest = drop-drop (64 * i) 64 rest ∙ ap (λ (n : ℕ). drop n rest) (
 pub behind_head : (i : ℕ) (body : Bytes) → take (length body - (64 + 64 * i)) (drop (64 + 64 * i) body) ≡ drop (64 * i) (drop 64 body)
 behind_head i body = take_rest body (64 + 64 * i) ∙ sym (drop-drop (64 * i) 64 body ∙ ap (λ (n : ℕ). drop n body) (omega arith))
 
-pub many : (n : ℕ) (rest : Bytes) → length (table_rows_in n rest) ≡ n
+pub many : (format : ℕ) (head : Settings) (n : ℕ) (rest : Bytes) → length (table_rows_in format head n rest) ≡ n
 unfolding table_rows_in
-many zero rest = refl
-many (suc n) rest = ap suc (many n (drop 64 rest))
+many format head zero rest = refl
+many format head (suc n) rest = ap suc (many format head n (drop 64 rest))
 
-pub rows_more : (i : ℕ) (rest : Bytes) → table_rows_in (suc i) rest ≡ table_rows_in i rest ++ table_row_in (drop (64 * i) rest) ∷ []
+pub rows_more : (format : ℕ) (head : Settings) (i : ℕ) (rest : Bytes)
+    → table_rows_in format head (suc i) rest ≡ table_rows_in format head i rest ++ table_row_in format head (drop (64 * i) rest) ∷ []
 unfolding table_rows_in
-rows_more zero rest = refl
-rows_more (suc i) rest = ap (λ (l : List Row). table_row_in rest ∷ l) (rows_more i (drop 64 rest) ∙ ap (λ (b : Bytes). table_rows_in i (drop 64 rest) ++ table_row_in b ∷ []) (rest_of i rest))
+rows_more format head zero rest = refl
+rows_more format head (suc i) rest =
+    ap (λ (l : List Row). table_row_in format head rest ∷ l)
+    (rows_more format head i (drop 64 rest) ∙ ap (λ (b : Bytes). table_rows_in format head i (drop 64 rest) ++ table_row_in format head b ∷ []) (rest_of i rest))
 
 -- rule 7 of one row
-abbrev pub row_zeros : ℕ → Bytes → Option Fault
-row_zeros place row = option_or (zeros_fault (place + 1) (take 3 (drop 1 row))) (zeros_fault (place + 56) (take 8 (drop 56 row)))
+abbrev pub row_zeros : ℕ → ℕ → Bytes → Option Fault
+row_zeros format place row = option_or (zeros_fault (place + 1) (take 3 (drop 1 row))) (last_zeros_fault format place row)
 
-pub zeros_more : (i place : ℕ) (rest : Bytes) → row_zeros_fault (suc i) place rest ≡ option_or (row_zeros_fault i place rest) (row_zeros (place + 64 * i) (drop (64 * i) rest))
+pub zeros_more : (format i place : ℕ) (rest : Bytes)
+    → row_zeros_fault format (suc i) place rest ≡ option_or (row_zeros_fault format i place rest) (row_zeros format (place + 64 * i) (drop (64 * i) rest))
 unfolding row_zeros_fault
-zeros_more zero place rest =
+zeros_more format zero place rest =
     let e : place + 64 * 0 ≡ place = omega arith in
-    ap (option_or (zeros_fault (place + 1) (take 3 (drop 1 rest)))) (or_none (zeros_fault (place + 56) (take 8 (drop 56 rest)))) ∙ ap (λ (n : ℕ). row_zeros n rest) (sym e)
-zeros_more (suc i) place rest =
+    ap (option_or (zeros_fault (place + 1) (take 3 (drop 1 rest)))) (or_none (last_zeros_fault format place rest)) ∙ ap (λ (n : ℕ). row_zeros format n rest) (sym e)
+zeros_more format (suc i) place rest =
     let a = zeros_fault (place + 1) (take 3 (drop 1 rest)) in
-    let b = zeros_fault (place + 56) (take 8 (drop 56 rest)) in
+    let b = last_zeros_fault format place rest in
     let at : place + 64 + 64 * i ≡ place + 64 * suc i = omega arith in
-    let last : row_zeros (place + 64 + 64 * i) (drop (64 * i) (drop 64 rest)) ≡ row_zeros (place + 64 * suc i) (drop (64 * suc i) rest) = ap₂ row_zeros at (rest_of i rest) in
-    let z = row_zeros_fault i (place + 64) (drop 64 rest) in
-    let x = row_zeros (place + 64 * suc i) (drop (64 * suc i) rest) in
-    ap (λ (l : Option Fault). option_or a (option_or b l)) (zeros_more i (place + 64) (drop 64 rest) ∙ ap (option_or z) last)
+    let last : row_zeros format (place + 64 + 64 * i) (drop (64 * i) (drop 64 rest)) ≡ row_zeros format (place + 64 * suc i) (drop (64 * suc i) rest) =
+    ap₂ (row_zeros format) at (rest_of i rest) in
+    let z = row_zeros_fault format i (place + 64) (drop 64 rest) in
+    let x = row_zeros format (place + 64 * suc i) (drop (64 * suc i) rest) in
+    ap (λ (l : Option Fault). option_or a (option_or b l)) (zeros_more format i (place + 64) (drop 64 rest) ∙ ap (option_or z) last)
     ∙ ap (option_or a) (sym (or_assoc b z x)) ∙ sym (or_assoc a (option_or b z) x)
 
 pub shape_more : (place : ℕ) (rows : List Row) (row : Row) → table_rows_fault place (rows ++ row ∷ []) ≡ option_or (table_rows_fault place rows) (table_row_fault (place + 64 * length rows) row)

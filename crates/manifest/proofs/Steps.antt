@@ -41,12 +41,12 @@ module _ {T E : Type 0} (i : Install) (may : MayInstall i) (slot : ℕ) (here : 
       (turns_leads (MayClose i true) (IsVersionOf i.from) (IsClosed i) slot (0 ∷ []) result a b
       (subst (λ (n : ℕ). WriteTurns (MayClose i true) (IsVersionOf i.from) (IsClosed i) n (0 ∷ [])) here (closing i may)) current moves written durable)
 
-  pub writes_at : (body : Bytes) → body ≡ body_bytes i.to → WriteMoves (slot + 8) (length body) a b → OnOk result (b.seen.held ≡ overwritten a.seen.held (slot + 8) body)
+  pub writes_at : (body : Bytes) → body ≡ body_bytes 2 i.to → WriteMoves (slot + 8) (length body) a b → OnOk result (b.seen.held ≡ overwritten a.seen.held (slot + 8) body)
       → Leads (IsClosed i) (IsVersionOf i.from) (IsWritten i) result a b
   writes_at body is moves written =
       turns_leads (IsClosed i) (IsVersionOf i.from) (IsWritten i) (slot + 8) body result a b
       (subst (λ (bytes : Bytes). WriteTurns (IsClosed i) (IsVersionOf i.from) (IsWritten i) (slot + 8) bytes) (sym is)
-      (subst (λ (n : ℕ). WriteTurns (IsClosed i) (IsVersionOf i.from) (IsWritten i) (n + 8) (body_bytes i.to)) here (writes i may))) current moves written durable
+      (subst (λ (n : ℕ). WriteTurns (IsClosed i) (IsVersionOf i.from) (IsWritten i) (n + 8) (body_bytes 2 i.to)) here (writes i may))) current moves written durable
 
   pub opens_at : WriteMoves slot 1 a b → OnOk result (b.seen.held ≡ overwritten a.seen.held slot (1 ∷ [])) → Leads (IsWritten i) (IsOldOrNew i) (IsInstalled i) result a b
   opens_at moves written =
@@ -80,6 +80,7 @@ raised_is v is not_last = record {
   ratio = is.ratio;
   log_page = is.log_page;
   rows = is.rows;
+  settings = is.settings;
   placed = is.placed;
 }
 

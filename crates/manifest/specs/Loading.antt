@@ -5,7 +5,7 @@ use Rattle.byte_fields.specs.Faults.{fault as rule_at}
 use Rattle.disk_trait.specs.Image.{Image, Shows}
 use Rattle.manifest_model.specs.Laws.{IsVersion}
 use Rattle.manifest_model.specs.Slots.{IsGate, IsNoStore, slots_damage}
-use Rattle.manifest_model.specs.Version.{Version, body_bytes, body_place, slot_a, slot_b}
+use Rattle.manifest_model.specs.Version.{MaySpell, Version, body_bytes, body_place, slot_a, slot_b}
 use Rattle.manifest.specs.Manifest.{Manifest, StandsInSlot, other_place, place_of}
 use Rattle.manifest.specs.Reading.{shape_of}
 use Rattle.manifest.specs.declared.fault.ManifestFault.{ManifestFault}
@@ -55,10 +55,12 @@ pub record IsAlone (slot : ℕ) (image : Image) : Type 0 where
   pub opened : IsGate true (image (place_of slot))
   pub closed : IsGate false (image (other_place slot))
 
--- the body of a sound version stands in a slot
+-- the body of a sound version stands in a slot, in a format that can spell it
 pub record IsVersionAt (slot : ℕ) (v : Version) (image : Image) : Type 0 where
   pub sound : IsVersion v
-  pub body : Shows (body_place slot) (body_bytes v) image
+  pub format : ℕ
+  pub may : MaySpell format v
+  pub body : Shows (body_place slot) (body_bytes format v) image
 
 -- two slots of one epoch
 abbrev pub one_epoch : Damage

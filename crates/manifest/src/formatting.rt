@@ -34,7 +34,7 @@ pub fn is_store<D: Disk>(disk: &mut D) -> Result<bool, DiskFault>
     Ok(a_open || b_open)
 }
 
-/// Makes the device a new store of so many pages, 512 to 16,777,216, whose version is written into slot A.
+/// Makes the device a new store of so many pages, 512 to 16,777,216, whose version is written into slot A, in format 2.
 ///
 /// Where no image had an open slot at the start, each image that a crash may leave meanwhile has no version or that one, and
 /// at `Ok` that one alone. [`ManifestFault::AlreadyAStore`] exactly where a gate reads 1, and then nothing is written; nor is
@@ -65,7 +65,7 @@ pub fn format<D: Disk>(
 
 // The body of a new store's version.
 fn first_body(alloc: Global, settings: Settings, pages: u32) -> Result<Vec<u8>, AllocError>
-    ensures bytes { IfOk result (λ bytes. bytes.items ≡ body_bytes (new_version settings pages)) }
+    ensures bytes { IfOk result (λ bytes. bytes.items ≡ body_bytes 2 (new_version settings pages)) }
     ensures ratio { settings.ratio ≤ max_ratio }
 {
     let version = Version {
@@ -84,7 +84,7 @@ fn first_body(alloc: Global, settings: Settings, pages: u32) -> Result<Vec<u8>, 
 #[tactic(auto, unfolding(manifest_model::specs::Slots::body_room))]
 fn write_first<D: Disk>(disk: &mut D, body: &[u8]) -> Result<(), DiskFault>
     requires { length body.now ≤ body_room }
-    ensures crash { (v : model.Version) → IsTrue D.tells → IsVersion v → body.now ≡ body_bytes v
+    ensures crash { (v : model.Version) → IsTrue D.tells → IsVersion v → body.now ≡ body_bytes 2 v
         → Leads IsNoStore (IsNewOrNone v) (IsNew v) result (D.world disk.old) (D.world disk.new) }
     ensures moves { WriteMoves 0 slot_bytes (D.world disk.old) (D.world disk.new) }
     ensures fault { IfErr result (IsSlotFault 0) }

@@ -24,10 +24,11 @@ use std::alloc::Global;
 /// the one that stands there, and it says whether the gate of the other slot reads 1: [`Version::installed`] is what it is
 /// then.
 ///
-/// Each image that a crash may leave meanwhile has the old version or the new one, and at `Ok` the new one alone, with both
-/// gates open; outside the other slot nothing changes. Three writes, each with a sync, of which the first is left out where
-/// the other slot is closed; no read, and memory for one body, which is taken first. [`ManifestFault::Epoch`] exactly where
-/// no epoch is left, and it, as want of memory, comes before any write.
+/// It is written in format 2, whatever the format of the one before. Each image that a crash may leave meanwhile has the
+/// old version or the new one, and at `Ok` the new one alone, with both gates open; outside the other slot nothing changes.
+/// Three writes, each with a sync, of which the first is left out where the other slot is closed; no read, and memory for
+/// one body, which is taken first. [`ManifestFault::Epoch`] exactly where no epoch is left, and it, as out of memory, comes
+/// before any write.
 #[tactic(auto, unfolding(key_base::specs::Limits::last_epoch))]
 pub fn install<D: Disk>(alloc: Global, disk: &mut D, version: &Version) -> Result<(), ManifestFault>
     requires slot { version.now.slot ≤ 1 }
@@ -61,7 +62,7 @@ fn replace<D: Disk>(
 ) -> Result<(), DiskFault>
     requires place { other ≤ slot_bytes }
     requires fits { length body.now ≤ body_room }
-    ensures crash { (i : Install) → IsTrue D.tells → MayInstall i → i.other ≡ other → body.now ≡ body_bytes i.to
+    ensures crash { (i : Install) → IsTrue D.tells → MayInstall i → i.other ≡ other → body.now ≡ body_bytes 2 i.to
         → Leads (MayClose i other_open) (IsOldOrNew i) (IsInstalled i) result (D.world disk.old) (D.world disk.new) }
     ensures moves { WriteMoves other slot_bytes (D.world disk.old) (D.world disk.new) }
     ensures fault { IfErr result (IsSlotFault other) }
@@ -94,7 +95,7 @@ fn close_gate<D: Disk>(disk: &mut D, other: u64, is_open: bool) -> Result<(), Di
 pub(crate) fn put_body<D: Disk>(disk: &mut D, slot: u64, body: &[u8]) -> Result<(), DiskFault>
     requires place { slot ≤ slot_bytes }
     requires fits { length body.now ≤ body_room }
-    ensures crash { (i : Install) → IsTrue D.tells → MayInstall i → i.other ≡ slot → body.now ≡ body_bytes i.to
+    ensures crash { (i : Install) → IsTrue D.tells → MayInstall i → i.other ≡ slot → body.now ≡ body_bytes 2 i.to
         → Leads (IsClosed i) (IsVersionOf i.from) (IsWritten i) result (D.world disk.old) (D.world disk.new) }
     ensures moves { WriteMoves (body_place slot) (length body.now) (D.world disk.old) (D.world disk.new) }
     ensures fault { IfErr result (IsWriteThroughFault (body_place slot)) }

@@ -1,37 +1,68 @@
 //! What the bytes of a body say.
-ghost use Rattle.std.specs.Prelude.{◌≡◌, ◌≤◌, ◌<◌, ◌+◌, ◌*◌, ◌^◌, ◌||◌, ◌∷◌, List, map, length, drop, None, Some, ◌≢◌, ◌⊎◌, IfOk, IfErr, IfSome, IfNone, OnOk};
+ghost use Rattle.std.specs.Prelude.{◌≡◌, ◌≤◌, ◌<◌, ◌+◌, ◌*◌, ◌^◌, ◌||◌, ◌∷◌, List, map, length, drop, slice_index, None, Some, ◌≢◌, ◌⊎◌, IfOk, IfErr, IfSome, IfNone, OnOk};
 ghost use Rattle.std.specs.Option.{option_or};
 ghost use Rattle.std.specs.List.{list_any};
 ghost use Rattle.std.specs.List.Sorted.{IsPermutation};
+ghost use Rattle.byteorder.specs.Endian.{little_number};
 ghost use Rattle.byte_fields.specs.Faults.{refuse};
 ghost use Rattle.byte_fields.specs.declared.parts.Row as rows;
 ghost use Rattle.key_base.specs.Limits.{max_device_pages, max_tables, min_device_pages};
-ghost use Rattle.manifest_model.specs.Reading.{body_damage, table_count_in, early_fault, prefix_length_in, kept_sum, leaves, meets_row, numbers_fault, table_row_in, table_rows_in, seen_sum, version_in};
-ghost use Rattle.manifest_model.specs.Laws.{IsVersion};
+ghost use Rattle.manifest_model.specs.Reading.{body_damage, body_format, table_count_in, early_fault, head_settings, prefix_length_in, kept_sum, leaves, log_area_fault, meets_row, table_row_in, table_rows_in, seen_sum, version_in};
 ghost use Rattle.manifest_model.specs.Rows.{extent_of};
-ghost use Rattle.manifest_model.specs.Version.{body_bytes, log_page_of};
+ghost use Rattle.manifest_model.specs.Version.{by_format, log_page_of};
 ghost use Rattle.manifest.specs.Manifest.{place_of};
-ghost use Rattle.manifest.specs.Reading.{IsBodyDamage, rows_broken, shape_of, sum_of};
+ghost use Rattle.manifest.specs.Reading.{IsBodyDamage, IsSpelled, rows_broken, shape_of, sum_of};
 
 use crate::fault::ManifestFault;
 use crate::rules::{
-    Broken, extent_rule, first_of, level_rule, number_rules, row_rule, row_zeros_rule, zeros_rule,
+    Broken, extent_rule, first_of, level_rule, log_area_rules, number_rules, row_rule,
+    row_zeros_rule, settings_rules, zeros_rule,
 };
 use crate::slots::{BODY_AT, slot_place};
 use crate::version::Version;
-use crate::writing::{HEAD_BYTES, ROW_BYTES, SUM_BYTES};
+use crate::writing::{FIRST_FORMAT, HEAD_BYTES, ROW_BYTES, SUM_BYTES};
 use byte_fields::{Damage, Part, Row, fnv1a, get_u16, get_u32, get_u64};
 use extent_map::Extents;
 use filter_api::Settings;
 use key_base::LOG_PAGES;
 use std::alloc::{AllocError, Global};
 
+// The settings in the head of a body.
+fn settings_in(body: &[u8]) -> Settings
+    requires { 64 ≤ length body.now }
+    ensures { result ≡ head_settings body.now }
+{
+    Settings {
+        hash_bits: body[20],
+        real_bits: body[21],
+        ratio: get_u16(body, 22),
+    }
+}
+
+// The settings of the row that bytes begin with: in the first format they are those of the head.
+fn row_settings_in(format: u16, head: Settings, bytes: &[u8]) -> Settings
+    requires { 64 ≤ length bytes.now }
+    ensures hash_bits { result.hash_bits ≡ by_format format head.hash_bits (slice_index bytes.now 56) }
+    ensures real_bits { result.real_bits ≡ by_format format head.real_bits (slice_index bytes.now 57) }
+    ensures ratio { result.ratio ≡ by_format format head.ratio (little_number 2 (drop 58 bytes.now)) }
+{
+    if format == FIRST_FORMAT {
+        return head;
+    }
+    Settings {
+        hash_bits: bytes[56],
+        real_bits: bytes[57],
+        ratio: get_u16(bytes, 58),
+    }
+}
+
 // The row that bytes begin with.
 #[tactic(auto, unfolding(manifest_model::specs::Reading::table_row_in))]
-fn row_of(bytes: &[u8]) -> Row
+fn row_of(format: u16, head: Settings, bytes: &[u8]) -> Row
     requires { 64 ≤ length bytes.now }
-    ensures { result ≡ table_row_in bytes.now }
+    ensures { result ≡ table_row_in format head bytes.now }
 {
+    let settings = row_settings_in(format, head, bytes);
     Row {
         level: bytes[0],
         first_page: get_u32(bytes, 4),
@@ -43,6 +74,9 @@ fn row_of(bytes: &[u8]) -> Row
         filter_len: get_u64(bytes, 32),
         index_sum: get_u64(bytes, 40),
         filter_sum: get_u64(bytes, 48),
+        hash_bits: settings.hash_bits,
+        real_bits: settings.real_bits,
+        ratio: settings.ratio,
     }
 }
 
@@ -57,9 +91,11 @@ fn judged_rows(
     requires long { 64 + 64 * count ≤ length body.now }
     requires from { min_device_pages ≤ pages }
     requires to { pages ≤ max_device_pages }
-    ensures rows { IfOk result (λ found. found.0.items ≡ table_rows_in count (drop 64 body.now)) }
-    ensures broken { IfOk result (λ found. found.1 ≡ rows_broken pages count (drop 64 body.now)) }
+    ensures rows { IfOk result (λ found. found.0.items ≡ table_rows_in (body_format body.now) (head_settings body.now) count (drop 64 body.now)) }
+    ensures broken { IfOk result (λ found. found.1 ≡ rows_broken (body_format body.now) (head_settings body.now) pages count (drop 64 body.now)) }
 {
+    let format = get_u16(body, 4);
+    let head = settings_in(body);
     let mut rows = Vec::with_capacity(alloc, count)?;
     let mut taken = Extents::new(alloc, pages);
     let mut zeros = None;
@@ -70,9 +106,9 @@ fn judged_rows(
     for i in 0..count {
         let place = HEAD_BYTES + ROW_BYTES * i;
         let bytes = &body[place..];
-        let row = row_of(bytes);
+        let row = row_of(format, head, bytes);
         let place = place as u32;
-        zeros = first_of(zeros, row_zeros_rule(place, bytes));
+        zeros = first_of(zeros, row_zeros_rule(format, place, bytes));
         shape = first_of(shape, row_rule(place, &row));
         order = first_of(order, level_rule(place, level, &row));
         meeting = met_with(place, meeting, &shape, pages, &mut taken, &row)?;
@@ -151,20 +187,16 @@ fn area_of(first_page: u32) -> u8
     if first_page == LOG_PAGES { 0 } else { 1 }
 }
 
-// The version that a body says whose numbers keep the rules.
+// The version that a body says whose log area keeps its rule.
 #[tactic(auto, unfolding(manifest_model::specs::Reading::version_in))]
 fn version_of(slot: u8, other_open: bool, body: &[u8], rows: Vec<Row>) -> Version
     requires long { 64 ≤ length body.now }
-    requires numbers { numbers_fault body.now ≡ None }
-    requires rows { rows.items ≡ table_rows_in (table_count_in body.now) (drop 64 body.now) }
+    requires log_area { log_area_fault body.now ≡ None }
+    requires rows { rows.items ≡ table_rows_in (body_format body.now) (head_settings body.now) (table_count_in body.now) (drop 64 body.now) }
     ensures { result ≡ record { version = version_in body.now; slot = slot; other_open = other_open } }
 {
     Version {
-        settings: Settings {
-            hash_bits: body[20],
-            real_bits: body[21],
-            ratio: get_u16(body, 22),
-        },
+        settings: settings_in(body),
         pages: get_u32(body, 16),
         epoch: get_u64(body, 8),
         log_area: area_of(get_u32(body, 24)),
@@ -186,18 +218,20 @@ pub(crate) fn read_body(
     requires few { table_count_in body.now ≤ max_tables }
     requires long { length body.now ≡ 72 + 64 * table_count_in body.now }
     ensures version { IfOk result (λ v. v ≡ record { version = version_in body.now; slot = slot; other_open = other_open }) }
-    ensures sound { OnOk result (IsVersion (version_in body.now) × (body_bytes (version_in body.now) ≡ body.now)) }
+    ensures sound { OnOk result (IsSpelled body.now) }
     ensures damage { IfErr result (IsBodyDamage (body_damage (place_of slot) body.now)) }
 {
     if let Some(damage) = other_sum(slot, body) {
         return Err(ManifestFault::Damaged(damage));
     }
-    if let Some(broken) = first_of(number_rules(body), zeros_rule(32, &body[32..64])) {
+    if let Some(broken) = number_rules(body) {
         return Err(shape(slot, broken));
     }
     let count = usize::from(get_u16(body, 6));
-    let (rows, broken) = judged_rows(alloc, body, count, get_u32(body, 16))?;
-    if let Some(broken) = broken {
+    let (rows, later) = judged_rows(alloc, body, count, get_u32(body, 16))?;
+    let zeros = first_of(zeros_rule(32, &body[32..64]), later);
+    let log_area = first_of(log_area_rules(body), zeros);
+    if let Some(broken) = first_of(settings_rules(&rows), log_area) {
         return Err(shape(slot, broken));
     }
     Ok(version_of(slot, other_open, body, rows))

@@ -5,11 +5,11 @@ ghost use Rattle.std.specs.List.{list_any};
 ghost use Rattle.std.specs.List.Sorted.{IsPermutation};
 ghost use Rattle.byte_fields.specs.Faults.{Fault, refuse};
 ghost use Rattle.byte_fields.specs.declared.parts.Row as rows;
-ghost use Rattle.key_base.specs.Limits.{max_device_pages};
-ghost use Rattle.manifest_model.specs.Reading.{early_fault, leaves, meets_row, numbers_fault, table_row_fault, zeros_fault};
+ghost use Rattle.key_base.specs.Limits.{max_device_pages, max_hash_bits, max_real_bits, max_tables};
+ghost use Rattle.manifest_model.specs.Reading.{early_fault, last_zeros_fault, leaves, log_area_fault, meets_row, numbers_fault, settings_fault, table_row_fault, zeros_fault};
 ghost use Rattle.manifest_model.specs.Rows.{extent_of};
 
-use crate::writing::{FORMAT, MAGIC};
+use crate::writing::{FIRST_FORMAT, FORMAT, HEAD_BYTES, MAGIC, ROW_BYTES};
 use block_model::pages_for;
 use byte_fields::{Row, get_u16, get_u32, get_u64};
 use extent_map::Extents;
@@ -45,7 +45,7 @@ pub(crate) fn first_of(first: Option<Broken>, second: Option<Broken>) -> Option<
     }
 }
 
-/// Rules 1 to 3, which are tried before the sum: the magic, the version of the format, the count of tables.
+/// Rules 1 to 3, which are tried before the sum: the magic, the format, the count of tables.
 #[tactic(auto, unfolding(manifest_model::specs::Reading::early_fault))]
 pub(crate) fn head_rules(head: &[u8]) -> Option<Broken>
     requires { 64 ≤ length head.now }
@@ -54,7 +54,8 @@ pub(crate) fn head_rules(head: &[u8]) -> Option<Broken>
     if get_u32(head, 0) != MAGIC {
         return Some(Broken { place: 0, rule: 1 });
     }
-    if get_u16(head, 4) != FORMAT {
+    let format = get_u16(head, 4);
+    if format != FIRST_FORMAT && format != FORMAT {
         return Some(Broken { place: 4, rule: 2 });
     }
     if usize::from(get_u16(head, 6)) > MAX_TABLES {
@@ -63,7 +64,7 @@ pub(crate) fn head_rules(head: &[u8]) -> Option<Broken>
     None
 }
 
-/// Rules 4 to 6: the epoch, the pages and the settings, the log area.
+/// Rules 4 and 5 of the head: the epoch, the pages, the settings of new tables.
 #[tactic(auto, unfolding(manifest_model::specs::Reading::numbers_fault))]
 pub(crate) fn number_rules(body: &[u8]) -> Option<Broken>
     requires { 64 ≤ length body.now }
@@ -82,6 +83,51 @@ pub(crate) fn number_rules(body: &[u8]) -> Option<Broken>
     if body[21] > MAX_REAL_BITS {
         return Some(Broken { place: 21, rule: 5 });
     }
+    None
+}
+
+/// Rule 5 of a row that stands at a place: the settings of its table.
+fn settings_rule(place: u32, row: &Row) -> Option<Broken>
+    requires { place ≤ 2 ^ 30 }
+    ensures { result ≡ refuse (nat_lt max_hash_bits row.now.hash_bits) (place + 56) 5 (refuse (nat_lt max_real_bits row.now.real_bits) (place + 57) 5 None) }
+{
+    if row.hash_bits > MAX_HASH_BITS {
+        return Some(Broken {
+            place: place + 56,
+            rule: 5,
+        });
+    }
+    if row.real_bits > MAX_REAL_BITS {
+        return Some(Broken {
+            place: place + 57,
+            rule: 5,
+        });
+    }
+    None
+}
+
+/// Rule 5 of rows, the first of which stands after the head.
+pub(crate) fn settings_rules(rows: &[Row]) -> Option<Broken>
+    requires { length rows.now ≤ max_tables }
+    ensures { result ≡ settings_fault 64 rows.now }
+{
+    let mut place = HEAD_BYTES as u32;
+    for row in rows {
+        let broken = settings_rule(place, row);
+        if broken.is_some() {
+            return broken;
+        }
+        place += ROW_BYTES as u32;
+    }
+    None
+}
+
+/// Rule 6: the log area.
+#[tactic(auto, unfolding(manifest_model::specs::Reading::log_area_fault))]
+pub(crate) fn log_area_rules(body: &[u8]) -> Option<Broken>
+    requires { 64 ≤ length body.now }
+    ensures { result ≡ log_area_fault body.now }
+{
     let log_page = get_u32(body, 24);
     if log_page != LOG_PAGES && log_page != 2 * LOG_PAGES {
         return Some(Broken { place: 24, rule: 6 });
@@ -115,15 +161,28 @@ fn first_other(bytes: &[u8]) -> Option<usize>
 }
 
 /// Rule 7, of a row that stands at a place.
-pub(crate) fn row_zeros_rule(place: u32, row: &[u8]) -> Option<Broken>
+pub(crate) fn row_zeros_rule(format: u16, place: u32, row: &[u8]) -> Option<Broken>
     requires place { place ≤ 2 ^ 30 }
     requires long { 64 ≤ length row.now }
-    ensures { result ≡ option_or (zeros_fault (place + 1) (take 3 (drop 1 row.now))) (zeros_fault (place + 56) (take 8 (drop 56 row.now))) }
+    ensures { result ≡ option_or (zeros_fault (place + 1) (take 3 (drop 1 row.now))) (last_zeros_fault format place row.now) }
 {
     first_of(
         zeros_rule(place + 1, &row[1..4]),
-        zeros_rule(place + 56, &row[56..64]),
+        last_zeros_rule(format, place, row),
     )
+}
+
+// Rule 7 of a row's last bytes, from the first on that names no setting.
+fn last_zeros_rule(format: u16, place: u32, row: &[u8]) -> Option<Broken>
+    requires place { place ≤ 2 ^ 30 }
+    requires long { 64 ≤ length row.now }
+    ensures { result ≡ last_zeros_fault format place row.now }
+{
+    if format == FIRST_FORMAT {
+        zeros_rule(place + 56, &row[56..64])
+    } else {
+        zeros_rule(place + 60, &row[60..64])
+    }
 }
 
 /// Rule 8, of a row that stands at a place: its level, its pages, its entries.

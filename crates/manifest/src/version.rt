@@ -10,7 +10,7 @@ use std::marker::Model;
 /// What the manifest of a store says, and in which slot.
 #[derive(Drop)]
 pub struct Version {
-    /// The settings of each filter.
+    /// The settings of new tables. Each row has those of its own table.
     pub settings: Settings,
     /// The pages of the device.
     pub pages: u32,

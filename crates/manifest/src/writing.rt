@@ -23,20 +23,23 @@ const HEAD_WIDTHS: [usize; 14] = [4, 2, 2, 8, 4, 1, 1, 2, 4, 4, 8, 8, 8, 8];
 /// `SRFM`.
 pub(crate) const MAGIC: u32 = 0x4D465253;
 
-/// The version of the format.
-pub(crate) const FORMAT: u16 = 1;
+/// The format that is written: in it each row has its own settings.
+pub(crate) const FORMAT: u16 = 2;
+
+/// The other one that is read: in it each row has the settings of the head.
+pub(crate) const FIRST_FORMAT: u16 = 1;
 
 /// The bytes of a version's body, with this epoch in the place of its own.
 #[tactic(auto, unfolding(manifest_model::specs::Version::prefix_bytes, manifest_model::specs::Version::body_bytes))]
 pub(crate) fn body_of(alloc: Global, version: &Version, epoch: u64) -> Result<Vec<u8>, AllocError>
     requires { length version.now.version.rows ≤ max_tables }
-    ensures { IfOk result (λ bytes. bytes.items ≡ body_bytes (record version.now.version { epoch = epoch })) }
+    ensures { IfOk result (λ bytes. bytes.items ≡ body_bytes 2 (record version.now.version { epoch = epoch })) }
 {
     let rows = version.rows.as_slice();
     let mut out = Vec::with_capacity(alloc, HEAD_BYTES + ROW_BYTES * rows.len() + SUM_BYTES)?;
     push_head(version, epoch, &mut out)?;
     for row in rows {
-        push_row(row, &mut out)?;
+        push_row(FORMAT, row, &mut out)?;
     }
     let sum = fnv1a(out.as_slice());
     push_number(sum, SUM_BYTES, &mut out)?;
@@ -45,7 +48,7 @@ pub(crate) fn body_of(alloc: Global, version: &Version, epoch: u64) -> Result<Ve
 
 #[tactic(auto, unfolding(manifest_model::specs::Version::head_bytes))]
 fn push_head(version: &Version, epoch: u64, out: &mut Vec<u8>) -> Result<(), AllocError>
-    ensures { OnOk result (out.new.items ≡ out.old.items ++ head_bytes (record version.now.version { epoch = epoch })) }
+    ensures { OnOk result (out.new.items ≡ out.old.items ++ head_bytes 2 (record version.now.version { epoch = epoch })) }
 {
     let numbers = [
         u64::from(MAGIC),

@@ -16,8 +16,8 @@ replace-requires-clause-fits g c =
     let m = c.args.version.now in
     let epoch : c.version.inside.epoch ≡ m.version.epoch = ap (λ (m : Manifest). m.version.epoch) c.version.view_is in
     let sound = raised_is m.version c.requires.sound (λ last. c.if-version.false (epoch ∙ last ∙ last_is)) in
-    let body : c.deref.result.now ≡ body_bytes (raised m.version) = c.deref.ensures.value ∙ c.in_ok-body.ensures ∙ ap (λ (n : ℕ). body_bytes (record m.version { epoch = n + 1 })) epoch in
-    omega (arith, ap length body, body_fits (raised m.version) sound, room_is)
+    let body : c.deref.result.now ≡ body_bytes 2 (raised m.version) = c.deref.ensures.value ∙ c.in_ok-body.ensures ∙ ap (λ (n : ℕ). body_bytes 2 (record m.version { epoch = n + 1 })) epoch in
+    omega (arith, ap length body, body_fits 2 (raised m.version) sound, room_is)
 
 pub returns-in_err-replace-clause-crash : goal.returns-in_err-replace-clause-crash
 returns-in_err-replace-clause-crash g c from tells same =
@@ -25,7 +25,7 @@ returns-in_err-replace-clause-crash g c from tells same =
     let i = install_of m from in
     let epoch : c.version.inside.epoch ≡ m.version.epoch = ap (λ (m : Manifest). m.version.epoch) c.version.view_is in
     let sound = raised_is m.version c.requires.sound (λ last. c.if-version.false (epoch ∙ last ∙ last_is)) in
-    let body : c.deref.result.now ≡ body_bytes (raised m.version) = c.deref.ensures.value ∙ c.in_ok-body.ensures ∙ ap (λ (n : ℕ). body_bytes (record m.version { epoch = n + 1 })) epoch in
+    let body : c.deref.result.now ≡ body_bytes 2 (raised m.version) = c.deref.ensures.value ∙ c.in_ok-body.ensures ∙ ap (λ (n : ℕ). body_bytes 2 (record m.version { epoch = n + 1 })) epoch in
     let slot : c.version.inside.slot ≡ m.slot = ap (λ (m : Manifest). m.slot) c.version.view_is in
     let open_is : c.version.inside.other_open ≡ m.other_open = ap (λ (m : Manifest). m.other_open) c.version.view_is in
     let here : i.other ≡ c.slot_place-other.result = sym (c.slot_place-other.ensures ∙ ap (λ (n : ℕ). 131072 * (1 - n)) slot) in
@@ -40,7 +40,7 @@ returns-clause-crash g c from tells same =
     let i = install_of m from in
     let epoch : c.version.inside.epoch ≡ m.version.epoch = ap (λ (m : Manifest). m.version.epoch) c.version.view_is in
     let sound = raised_is m.version c.requires.sound (λ last. c.if-version.false (epoch ∙ last ∙ last_is)) in
-    let body : c.deref.result.now ≡ body_bytes (raised m.version) = c.deref.ensures.value ∙ c.in_ok-body.ensures ∙ ap (λ (n : ℕ). body_bytes (record m.version { epoch = n + 1 })) epoch in
+    let body : c.deref.result.now ≡ body_bytes 2 (raised m.version) = c.deref.ensures.value ∙ c.in_ok-body.ensures ∙ ap (λ (n : ℕ). body_bytes 2 (record m.version { epoch = n + 1 })) epoch in
     let slot : c.version.inside.slot ≡ m.slot = ap (λ (m : Manifest). m.slot) c.version.view_is in
     let open_is : c.version.inside.other_open ≡ m.other_open = ap (λ (m : Manifest). m.other_open) c.version.view_is in
     let here : i.other ≡ c.slot_place-other.result = sym (c.slot_place-other.ensures ∙ ap (λ (n : ℕ). 131072 * (1 - n)) slot) in

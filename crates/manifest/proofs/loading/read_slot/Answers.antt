@@ -4,11 +4,11 @@ use Rattle.disk_trait.specs.Image.{Image, window}
 use Rattle.manifest_model.specs.Laws.{IsVersion}
 use Rattle.manifest_model.specs.Reading.{body_damage, table_count_in, early_fault, version_in}
 use Rattle.manifest_model.specs.Slots.{body_in}
-use Rattle.manifest_model.specs.Version.{Version, body_bytes, body_place}
+use Rattle.manifest_model.specs.Version.{Version, body_place}
 use Rattle.manifest_model.proofs.Held.{room_is}
 use Rattle.manifest.specs.Loading.{IsVersionAt}
 use Rattle.manifest.specs.Manifest.{place_of}
-use Rattle.manifest.specs.Reading.{IsDamage}
+use Rattle.manifest.specs.Reading.{IsDamage, IsSpelled}
 use Rattle.manifest.proofs.Bodies.{few_kept}
 use Rattle.manifest.proofs.Loads.{body_damage_is, damage_found, has_cause, head_damage, same_count, same_first, shown, version_has}
 use Rattle.manifest.proofs.loading.read_slot.Goals as goal
@@ -56,14 +56,14 @@ returns-clause-held g c tells =
     let rest : drop 64 here ≡ window held (body_place slot + 64) (length here - 64) =
     ap (drop 64) is ∙ c.in_ok-fill.ensures.rest tells ∙ ap (λ (f : Image). window f (c.slot_place-at.result + 8 + 64) (length c.deref_mut.result.now - 64)) c.in_ok-read.ensures.moves.held
     ∙ ap₂ (λ (n m : ℕ). window held (n + 8 + 64) m) c.slot_place-at.ensures long in
-    version_has (λ (v : Version). IsVersionAt slot v held) (IsVersion (version_in here) × (body_bytes (version_in here) ≡ here)) (version_in here) c.args.slot c.args.other_open c.read_body.result
-    c.read_body.ensures.version c.read_body.ensures.sound (λ so. shown slot held head at here size few front rest so.0 so.1)
+    version_has (λ (v : Version). IsVersionAt slot v held) (IsSpelled here) (version_in here) c.args.slot c.args.other_open c.read_body.result
+    c.read_body.ensures.version c.read_body.ensures.sound (λ so. shown slot held head at here size few front rest so)
 
 pub returns-clause-sound : goal.returns-clause-sound
 returns-clause-sound g c =
     let here = c.deref.result.now in
-    version_has IsVersion (IsVersion (version_in here) × (body_bytes (version_in here) ≡ here)) (version_in here) c.args.slot c.args.other_open c.read_body.result
-    c.read_body.ensures.version c.read_body.ensures.sound (λ so. so.0)
+    version_has IsVersion (IsSpelled here) (version_in here) c.args.slot c.args.other_open c.read_body.result
+    c.read_body.ensures.version c.read_body.ensures.sound (λ so. so.sound)
 
 pub returns-clause-damage : goal.returns-clause-damage
 returns-clause-damage g c tells =
