@@ -8,7 +8,6 @@ use Rattle.byte_fields.specs.declared.parts.Row.{Row}
 use Rattle.disk_trait.specs.Image.{Image, window}
 use Rattle.filter_api.specs.Spellings.{IsDecided, IsSpelling, Spelling}
 use Rattle.filter_api.specs.declared.errors.FilterFault.{FilterFault}
-use Rattle.filter_api.specs.declared.settings.Settings.{Settings}
 use Rattle.filter_model.specs.Leaves.{Leaf}
 use Rattle.map_model.specs.SortedMap.{Bytes}
 use Rattle.block_model.specs.Places.{byte_of_page, filter_page}
@@ -20,18 +19,18 @@ window_bytes image at zero bytes i = omega arith
 window_bytes image at (suc n) bytes zero = bytes at
 window_bytes image at (suc n) bytes (suc i) = window_bytes image (at + 1) n bytes i
 
-module _ (spelling : Spelling) (first_fault : Bytes → FilterFault) (settings : Settings) (row : Row) (image : Image) where
+module _ (spelling : Spelling) (first_fault : Bytes → FilterFault) (row : Row) (image : Image) where
   abbrev Ends : Type 0
-  Ends = IsSoundFilter spelling settings row image ⊎ ((d : Damage) × IsFilterDamage spelling first_fault settings row image d)
+  Ends = IsSoundFilter spelling row image ⊎ ((d : Damage) × IsFilterDamage spelling first_fault row image d)
 
   -- bytes that spell a leaf list, with these widths
   module _ (same : row.filter_sum ≡ fnv_of (filter_part row image)) (hash_bits real_bits cutoff : ℕ) (leaves : List Leaf) (is : IsSpelling spelling hash_bits real_bits cutoff leaves (filter_part row image)) where
-    sound_of : length leaves ≡ row.entries → hash_bits ≡ settings.hash_bits → real_bits ≡ settings.real_bits → IsSoundFilter spelling settings row image
+    sound_of : length leaves ≡ row.entries → hash_bits ≡ row.hash_bits → real_bits ≡ row.real_bits → IsSoundFilter spelling row image
     sound_of many hash real = record {
       sum = same;
       cutoff = cutoff;
       leaves = leaves;
-      spelled = subst (λ (r : ℕ). IsSpelling spelling settings.hash_bits r cutoff leaves (filter_part row image)) real
+      spelled = subst (λ (r : ℕ). IsSpelling spelling row.hash_bits r cutoff leaves (filter_part row image)) real
           (subst (λ (h : ℕ). IsSpelling spelling h real_bits cutoff leaves (filter_part row image)) hash is);
       many = many;
     }
@@ -39,9 +38,9 @@ module _ (spelling : Spelling) (first_fault : Bytes → FilterFault) (settings :
     spelled_ends : Ends
     spelled_ends = elim (cases_eq (length leaves) row.entries) [
       | inr other ↦ inr (_, other_leaves hash_bits real_bits cutoff leaves same is other)
-      | inl many ↦ elim (cases_eq hash_bits settings.hash_bits) [
+      | inl many ↦ elim (cases_eq hash_bits row.hash_bits) [
         | inr other ↦ inr (_, other_widths hash_bits real_bits cutoff leaves same is many (λ w. other w.hash))
-        | inl hash ↦ elim (cases_eq real_bits settings.real_bits) [
+        | inl hash ↦ elim (cases_eq real_bits row.real_bits) [
           | inr other ↦ inr (_, other_widths hash_bits real_bits cutoff leaves same is many (λ w. other w.real))
           | inl real ↦ inl (sound_of many hash real)
         ]
@@ -58,4 +57,4 @@ module _ (spelling : Spelling) (first_fault : Bytes → FilterFault) (settings :
   ]
 
 pub sound_or_damaged : FilterIsSoundOrDamaged
-sound_or_damaged spelling first_fault settings row image decided bytes = ends spelling first_fault settings row image decided bytes
+sound_or_damaged spelling first_fault row image decided bytes = ends spelling first_fault row image decided bytes

@@ -4,7 +4,6 @@ use Rattle.std.specs.Prelude.{flat_map}
 use Rattle.byte_fields.specs.declared.parts.Row.{Row}
 use Rattle.disk_trait.specs.Image.{Image, IsApart, Torn}
 use Rattle.filter_api.specs.Spellings.{Spelling}
-use Rattle.filter_api.specs.declared.settings.Settings.{Settings}
 use Rattle.map_model.specs.SortedMap.{Bytes}
 use Rattle.entry_model.specs.Entries.{Entry}
 use Rattle.block_model.specs.Block.{block_bytes}
@@ -31,9 +30,9 @@ module _ (row : Row) (at n : ℕ) (apart : IsApartFromRow at n row) where
   filter_apart : row.filter_pages ≡ pages_for row.filter_len → IsApart (byte_of_page (filter_page row)) row.filter_len at n
   filter_apart pages = inner _ _ (byte_of_page row.first_page) (4096 * pages_of row) at n (omega arith) (omega (arith, pages, in_pages row.filter_len)) apart
 
-pub at_kept : (spelling : Spelling) (settings : Settings) (row : Row) (blocks : List (List Entry)) (at n : ℕ) (f g : Image) → IsApartFromRow at n row → Torn at n f g
-    → IsTableAt spelling settings row blocks f → IsTableAt spelling settings row blocks g
-at_kept spelling settings row blocks at n f g apart torn t = record {
+pub at_kept : (spelling : Spelling) (row : Row) (blocks : List (List Entry)) (at n : ℕ) (f g : Image) → IsApartFromRow at n row → Torn at n f g
+    → IsTableAt spelling row blocks f → IsTableAt spelling row blocks g
+at_kept spelling row blocks at n f g apart torn t = record {
   each = t.each;
   table = t.table;
   blocks_shown = shown_kept (byte_of_page row.first_page) (flat_map block_bytes blocks) at n f g
@@ -50,4 +49,4 @@ at_kept spelling settings row blocks at n f g apart torn t = record {
 }
 
 pub table_kept : TableIsKept
-table_kept spelling settings row t at n f g apart torn is = (is.0, at_kept spelling settings row is.0 at n f g apart torn is.1, is.2)
+table_kept spelling row t at n f g apart torn is = (is.0, at_kept spelling row is.0 at n f g apart torn is.1, is.2)

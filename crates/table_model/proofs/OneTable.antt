@@ -8,7 +8,6 @@ use Rattle.block_model.specs.Places.{byte_of_page, index_page}
 use Rattle.byte_fields.specs.declared.parts.Row.{Row}
 use Rattle.disk_trait.specs.Image.{Image}
 use Rattle.filter_api.specs.Spellings.{Spelling}
-use Rattle.filter_api.specs.declared.settings.Settings.{Settings}
 use Rattle.table_model.specs.Images.{IsTableAt, index_of_blocks, table_with}
 use Rattle.table_model.specs.Laws.{OneTable}
 use Rattle.table_model.proofs.Blocks.{same_blocks, same_index, same_length}
@@ -18,9 +17,9 @@ pub rows_of_index : (blocks : List (List Entry)) → (index_of_blocks blocks).ro
 unfolding index_of_blocks
 rows_of_index blocks = refl
 
-one_list : (spelling : Spelling) (settings others : Settings) (row : Row) (xs ys : List (List Entry)) (image : Image) → IsTableAt spelling settings row xs image
-    → IsTableAt spelling others row ys image → xs ≡ ys
-one_list spelling settings others row xs ys image a b =
+one_list : (spelling : Spelling) (row : Row) (xs ys : List (List Entry)) (image : Image) → IsTableAt spelling row xs image
+    → IsTableAt spelling row ys image → xs ≡ ys
+one_list spelling row xs ys image a b =
     let indexes : index_of_blocks xs ≡ index_of_blocks ys =
     same_index row.data_pages row.data_pages (index_of_blocks xs) (index_of_blocks ys) a.index_sound b.index_sound
     (same_shown (byte_of_page (index_page row)) (index_bytes (index_of_blocks xs)) (index_bytes (index_of_blocks ys)) image (a.index.size ∙ sym b.index.size) a.index.shown b.index.shown) in
@@ -30,4 +29,4 @@ one_list spelling settings others row xs ys image a b =
     same_blocks xs ys a.each b.each rows bytes
 
 pub one_table : OneTable
-one_table spelling settings others row t u image a b = a.2 ∙ ap (table_with row) (one_list spelling settings others row a.0 b.0 image a.1 b.1) ∙ sym b.2
+one_table spelling row t u image a b = a.2 ∙ ap (table_with row) (one_list spelling row a.0 b.0 image a.1 b.1) ∙ sym b.2

@@ -12,7 +12,7 @@ use Rattle.byte_fields.specs.declared.parts.Part.TheVariants as part
 use Rattle.byte_fields.specs.declared.parts.Row.{Row}
 use Rattle.disk_trait.specs.Image.{Image, Shows}
 use Rattle.filter_api.specs.Spellings.{AreAlike, IsSpelling, Spelling, SpellsOne}
-use Rattle.filter_api.specs.declared.settings.Settings.{Settings}
+use Rattle.filter_api.specs.Ranges.{row_settings}
 use Rattle.filter_model.specs.Leaves.{Leaf, leaves_of}
 use Rattle.map_model.specs.SortedMap.{Bytes}
 use Rattle.entry_model.specs.Entries.{Entry, keys_of}
@@ -41,7 +41,7 @@ part_sound p at kept bytes fault same none =
 
 -- ---- the index
 
-module _ (spelling : Spelling) (settings : Settings) (row : Row) (blocks : List (List Entry)) (image : Image) (t : IsTableAt spelling settings row blocks image) where
+module _ (spelling : Spelling) (row : Row) (blocks : List (List Entry)) (image : Image) (t : IsTableAt spelling row blocks image) where
   index_there : index_part row image ≡ index_bytes (index_of_blocks blocks)
   index_there = shown_is (byte_of_page (index_page row)) row.index_len (index_bytes (index_of_blocks blocks)) image t.index.size t.index.shown
 
@@ -56,26 +56,26 @@ module _ (spelling : Spelling) (settings : Settings) (row : Row) (blocks : List 
   filter_there : filter_part row image ≡ t.filter_bytes
   filter_there = shown_is (byte_of_page (filter_page row)) row.filter_len t.filter_bytes image t.filter.size t.filter.shown
 
-  filter_spelled : IsFilterOfKeys spelling settings (keys_of (joined blocks)) (filter_part row image)
-  filter_spelled = subst (IsFilterOfKeys spelling settings (keys_of (joined blocks))) (sym filter_there) t.filter_of_keys
+  filter_spelled : IsFilterOfKeys spelling (row_settings row) (keys_of (joined blocks)) (filter_part row image)
+  filter_spelled = subst (IsFilterOfKeys spelling (row_settings row) (keys_of (joined blocks))) (sym filter_there) t.filter_of_keys
 
-  filter_sound : IsSoundFilter spelling settings row image
+  filter_sound : IsSoundFilter spelling row image
   filter_sound = record {
     sum = sym t.filter.sum ∙ ap fnv_of (sym filter_there);
     cutoff = filter_spelled.cutoff;
-    leaves = leaves_of settings.hash_bits settings.real_bits (keys_of (joined blocks));
+    leaves = leaves_of row.hash_bits row.real_bits (keys_of (joined blocks));
     spelled = filter_spelled.spelled;
     many = length-map (keys_of (joined blocks)) _ ∙ length-map (joined blocks) _ ∙ t.entries;
   }
 
 pub index_has_none : IndexHasNone
-index_has_none spelling settings row blocks image t = index_sound spelling settings row blocks image t
+index_has_none spelling row blocks image t = index_sound spelling row blocks image t
 
 pub filter_has_none : FilterHasNone
-filter_has_none spelling settings row blocks image t = filter_sound spelling settings row blocks image t
+filter_has_none spelling row blocks image t = filter_sound spelling row blocks image t
 
 pub filter_of_keys : FilterIsOfTheKeys
-filter_of_keys spelling settings row blocks image t = filter_spelled spelling settings row blocks image t
+filter_of_keys spelling row blocks image t = filter_spelled spelling row blocks image t
 
 -- ---- the blocks
 
@@ -106,9 +106,9 @@ blocks_sound page (block ∷ later) image each shown =
     )
 
 pub blocks_have_none : BlocksHaveNone
-blocks_have_none spelling settings row blocks image t =
+blocks_have_none spelling row blocks image t =
     subst (λ (rows : List IndexRow). AreSoundBlocks row.first_page rows image)
-    (sym (ap (λ (i : Index). i.rows) (index_read spelling settings row blocks image t) ∙ rows_of_index blocks))
+    (sym (ap (λ (i : Index). i.rows) (index_read spelling row blocks image t) ∙ rows_of_index blocks))
     (blocks_sound row.first_page blocks image t.each t.blocks_shown)
 
 -- ---- the filter: one damage, or none
@@ -118,37 +118,37 @@ same_many : {bytes : Bytes} {h r c h2 r2 c2 : ℕ} {ls ms : List Leaf} (spelling
 same_many spelling one a b = one _ _ _ _ _ _ _ _ _ a b
 
 pub one_filter_damage : OneFilterDamage
-one_filter_damage spelling first_fault settings row image _ _ one (other_sum a) (other_sum b) = refl
-one_filter_damage spelling first_fault settings row image _ _ one (other_sum a) (no_spelling same b) = absurd (a same)
-one_filter_damage spelling first_fault settings row image _ _ one (other_sum a) (other_leaves h r c ls same is b) = absurd (a same)
-one_filter_damage spelling first_fault settings row image _ _ one (other_sum a) (other_widths h r c ls same is many b) = absurd (a same)
-one_filter_damage spelling first_fault settings row image _ _ one (no_spelling same a) (other_sum b) = absurd (b same)
-one_filter_damage spelling first_fault settings row image _ _ one (no_spelling same a) (no_spelling again b) = refl
-one_filter_damage spelling first_fault settings row image _ _ one (no_spelling same a) (other_leaves h r c ls again is b) = absurd (a h r c ls is)
-one_filter_damage spelling first_fault settings row image _ _ one (no_spelling same a) (other_widths h r c ls again is many b) = absurd (a h r c ls is)
-one_filter_damage spelling first_fault settings row image _ _ one (other_leaves h r c ls same is a) (other_sum b) = absurd (b same)
-one_filter_damage spelling first_fault settings row image _ _ one (other_leaves h r c ls same is a) (no_spelling again b) = absurd (b h r c ls is)
-one_filter_damage spelling first_fault settings row image _ _ one (other_leaves h r c ls same is a) (other_leaves h2 r2 c2 ms again other b) = refl
-one_filter_damage spelling first_fault settings row image _ _ one (other_leaves h r c ls same is a) (other_widths h2 r2 c2 ms again other many b) =
+one_filter_damage spelling first_fault row image _ _ one (other_sum a) (other_sum b) = refl
+one_filter_damage spelling first_fault row image _ _ one (other_sum a) (no_spelling same b) = absurd (a same)
+one_filter_damage spelling first_fault row image _ _ one (other_sum a) (other_leaves h r c ls same is b) = absurd (a same)
+one_filter_damage spelling first_fault row image _ _ one (other_sum a) (other_widths h r c ls same is many b) = absurd (a same)
+one_filter_damage spelling first_fault row image _ _ one (no_spelling same a) (other_sum b) = absurd (b same)
+one_filter_damage spelling first_fault row image _ _ one (no_spelling same a) (no_spelling again b) = refl
+one_filter_damage spelling first_fault row image _ _ one (no_spelling same a) (other_leaves h r c ls again is b) = absurd (a h r c ls is)
+one_filter_damage spelling first_fault row image _ _ one (no_spelling same a) (other_widths h r c ls again is many b) = absurd (a h r c ls is)
+one_filter_damage spelling first_fault row image _ _ one (other_leaves h r c ls same is a) (other_sum b) = absurd (b same)
+one_filter_damage spelling first_fault row image _ _ one (other_leaves h r c ls same is a) (no_spelling again b) = absurd (b h r c ls is)
+one_filter_damage spelling first_fault row image _ _ one (other_leaves h r c ls same is a) (other_leaves h2 r2 c2 ms again other b) = refl
+one_filter_damage spelling first_fault row image _ _ one (other_leaves h r c ls same is a) (other_widths h2 r2 c2 ms again other many b) =
     absurd (a (ap length (same_many spelling one is other).leaves_are ∙ many))
-one_filter_damage spelling first_fault settings row image _ _ one (other_widths h r c ls same is many a) (other_sum b) = absurd (b same)
-one_filter_damage spelling first_fault settings row image _ _ one (other_widths h r c ls same is many a) (no_spelling again b) = absurd (b h r c ls is)
-one_filter_damage spelling first_fault settings row image _ _ one (other_widths h r c ls same is many a) (other_leaves h2 r2 c2 ms again other b) =
+one_filter_damage spelling first_fault row image _ _ one (other_widths h r c ls same is many a) (other_sum b) = absurd (b same)
+one_filter_damage spelling first_fault row image _ _ one (other_widths h r c ls same is many a) (no_spelling again b) = absurd (b h r c ls is)
+one_filter_damage spelling first_fault row image _ _ one (other_widths h r c ls same is many a) (other_leaves h2 r2 c2 ms again other b) =
     absurd (b (ap length (same_many spelling one other is).leaves_are ∙ many))
-one_filter_damage spelling first_fault settings row image _ _ one (other_widths h r c ls same is many a) (other_widths h2 r2 c2 ms again other more b) = refl
+one_filter_damage spelling first_fault row image _ _ one (other_widths h r c ls same is many a) (other_widths h2 r2 c2 ms again other more b) = refl
 
 pub sound_filter_has_none : SoundFilterHasNone
-sound_filter_has_none spelling first_fault settings row image _ one sound (other_sum a) = a sound.sum
-sound_filter_has_none spelling first_fault settings row image _ one sound (no_spelling same a) = a settings.hash_bits settings.real_bits sound.cutoff sound.leaves sound.spelled
-sound_filter_has_none spelling first_fault settings row image _ one sound (other_leaves h r c ls same is a) =
+sound_filter_has_none spelling first_fault row image _ one sound (other_sum a) = a sound.sum
+sound_filter_has_none spelling first_fault row image _ one sound (no_spelling same a) = a row.hash_bits row.real_bits sound.cutoff sound.leaves sound.spelled
+sound_filter_has_none spelling first_fault row image _ one sound (other_leaves h r c ls same is a) =
     a (ap length (same_many spelling one is sound.spelled).leaves_are ∙ sound.many)
-sound_filter_has_none spelling first_fault settings row image _ one sound (other_widths h r c ls same is many a) =
+sound_filter_has_none spelling first_fault row image _ one sound (other_widths h r c ls same is many a) =
     let alike = same_many spelling one is sound.spelled in
     a (record { hash = alike.hash_width; real = alike.real_width })
 
 -- the places of the rules of a filter
 pub filter_rules : FilterRules
-filter_rules spelling first_fault settings row image = record { sum = other_sum; rule = no_spelling; leaves = other_leaves; widths = other_widths }
+filter_rules spelling first_fault row image = record { sum = other_sum; rule = no_spelling; leaves = other_leaves; widths = other_widths }
 
 -- ---- the damage of an index and of a block
 

@@ -22,19 +22,19 @@ same_index : (entries : List Entry) → index_of entries ≡ index_of_blocks (bl
 unfolding index_of index_of_blocks
 same_index entries = λ i. record { least = first_key (sym (blocks_joined entries) i); rows = map index_row_of (blocks_of entries) }
 
-module _ (level first_page : ℕ) (entries : List Entry) (filter_bytes : Bytes) (image : Image) where
-  index_there : (index : Index) → index_of entries ≡ index → ArePartsShown (row_for level first_page entries filter_bytes) entries filter_bytes image
-      → IsPart (index_page (row_for level first_page entries filter_bytes)) (row_for level first_page entries filter_bytes).index_len (row_for level first_page entries filter_bytes).index_sum (index_bytes index) image
+module _ (level first_page : ℕ) (settings : Settings) (entries : List Entry) (filter_bytes : Bytes) (image : Image) where
+  index_there : (index : Index) → index_of entries ≡ index → ArePartsShown (row_for level first_page settings entries filter_bytes) entries filter_bytes image
+      → IsPart (index_page (row_for level first_page settings entries filter_bytes)) (row_for level first_page settings entries filter_bytes).index_len (row_for level first_page settings entries filter_bytes).index_sum (index_bytes index) image
   unfolding row_for
   index_there index same shown = record {
-    shown = subst (λ (x : Index). Shows (byte_of_page (index_page (row_for level first_page entries filter_bytes))) (index_bytes x) image) same shown.index;
+    shown = subst (λ (x : Index). Shows (byte_of_page (index_page (row_for level first_page settings entries filter_bytes))) (index_bytes x) image) same shown.index;
     size = ap (λ (x : Index). length (index_bytes x)) (sym same) ∙ index_long entries;
     sum = ap (λ (x : Index). fnv_of (index_bytes x)) (sym same);
   }
 
 blocks_stand : (spelling : Spelling) (settings : Settings) (level first_page : ℕ) (entries : List Entry) (filter_bytes : Bytes) (image : Image) → IsTable entries
-    → IsFilterOfKeys spelling settings (keys_of entries) filter_bytes → ArePartsShown (row_for level first_page entries filter_bytes) entries filter_bytes image
-    → IsTableAt spelling settings (row_for level first_page entries filter_bytes) (blocks_of entries) image
+    → IsFilterOfKeys spelling settings (keys_of entries) filter_bytes → ArePartsShown (row_for level first_page settings entries filter_bytes) entries filter_bytes image
+    → IsTableAt spelling (row_for level first_page settings entries filter_bytes) (blocks_of entries) image
 unfolding row_for data_bytes data_pages
 blocks_stand spelling settings level first_page entries filter_bytes image is spelled shown = record {
   each = blocks_are_sound entries is;
@@ -44,7 +44,7 @@ blocks_stand spelling settings level first_page entries filter_bytes image is sp
   index_pages = refl;
   filter_pages = refl;
   index_sound = subst (IsIndex (data_pages entries)) (same_index entries) (index_sound entries is);
-  index = index_there level first_page entries filter_bytes image (index_of_blocks (blocks_of entries)) (same_index entries) shown;
+  index = index_there level first_page settings entries filter_bytes image (index_of_blocks (blocks_of entries)) (same_index entries) shown;
   filter_bytes = filter_bytes;
   filter_of_keys = subst (λ (es : List Entry). IsFilterOfKeys spelling settings (keys_of es) filter_bytes) (sym (blocks_joined entries)) spelled;
   filter = record { shown = shown.filter; size = refl; sum = refl };
@@ -59,8 +59,9 @@ table_stands spelling filter_bytes settings level first_page entries image is sp
   λ i. record {
     level = level;
     first_page = first_page;
-    pages = pages_of (row_for level first_page entries (filter_bytes settings (keys_of entries)));
+    pages = pages_of (row_for level first_page settings entries (filter_bytes settings (keys_of entries)));
     blocks = length (blocks_of entries);
+    settings = settings;
     entries = sym (blocks_joined entries) i;
   },
 )

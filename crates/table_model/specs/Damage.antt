@@ -10,7 +10,6 @@ use Rattle.byte_fields.specs.declared.parts.Part.TheVariants as part
 use Rattle.byte_fields.specs.declared.parts.Row.{Row}
 use Rattle.filter_api.specs.Spellings.{Spelling, IsNoSpelling, IsSpelling}
 use Rattle.filter_api.specs.declared.errors.FilterFault.{FilterFault}
-use Rattle.filter_api.specs.declared.settings.Settings.{Settings}
 use Rattle.filter_model.specs.Leaves.{Leaf}
 use Rattle.map_model.specs.SortedMap.{Bytes}
 use Rattle.block_model.specs.BlockReading.{block_fault}
@@ -56,37 +55,37 @@ filter_part row image = window image (byte_of_page (filter_page row)) row.filter
 abbrev pub leaves_place : ℕ
 leaves_place = 12
 
--- 12: it has the widths of the settings
+-- 12: it has the widths of the row's settings
 abbrev pub widths_place : ℕ
 widths_place = 5
 
--- the filter has the widths of the settings
-pub record HasWidths (settings : Settings) (hash_bits real_bits : ℕ) : Type 0 where
-  pub hash : hash_bits ≡ settings.hash_bits
-  pub real : real_bits ≡ settings.real_bits
+-- the filter has the widths of the row's settings
+pub record HasWidths (row : Row) (hash_bits real_bits : ℕ) : Type 0 where
+  pub hash : hash_bits ≡ row.hash_bits
+  pub real : real_bits ≡ row.real_bits
 
 -- The first of these, in their order: another sum; bytes that spell nothing, with their first fault; rule 11; rule 12.
 -- The first fault is that of the kind of filter.
-pub data IsFilterDamage (spelling : Spelling) (first_fault : Bytes → FilterFault) (settings : Settings) (row : Row) (image : Image) : Damage → Type 0 where
+pub data IsFilterDamage (spelling : Spelling) (first_fault : Bytes → FilterFault) (row : Row) (image : Image) : Damage → Type 0 where
   other_sum : row.filter_sum ≢ fnv_of (filter_part row image)
-      → IsFilterDamage spelling first_fault settings row image (damage.Sum part.Filter (byte_of_page (filter_page row)) row.filter_sum (fnv_of (filter_part row image)))
+      → IsFilterDamage spelling first_fault row image (damage.Sum part.Filter (byte_of_page (filter_page row)) row.filter_sum (fnv_of (filter_part row image)))
   no_spelling : row.filter_sum ≡ fnv_of (filter_part row image) → IsNoSpelling spelling (filter_part row image)
-      → IsFilterDamage spelling first_fault settings row image
+      → IsFilterDamage spelling first_fault row image
       (damage.Shape part.Filter (byte_of_page (filter_page row) + (first_fault (filter_part row image)).place) (first_fault (filter_part row image)).rule)
   other_leaves : (hash_bits real_bits cutoff : ℕ) (leaves : List Leaf) → row.filter_sum ≡ fnv_of (filter_part row image)
       → IsSpelling spelling hash_bits real_bits cutoff leaves (filter_part row image) → length leaves ≢ row.entries
-      → IsFilterDamage spelling first_fault settings row image (damage.Shape part.Filter (byte_of_page (filter_page row) + leaves_place) 11)
+      → IsFilterDamage spelling first_fault row image (damage.Shape part.Filter (byte_of_page (filter_page row) + leaves_place) 11)
   other_widths : (hash_bits real_bits cutoff : ℕ) (leaves : List Leaf) → row.filter_sum ≡ fnv_of (filter_part row image)
       → IsSpelling spelling hash_bits real_bits cutoff leaves (filter_part row image) → length leaves ≡ row.entries
-      → (HasWidths settings hash_bits real_bits → ⊥)
-      → IsFilterDamage spelling first_fault settings row image (damage.Shape part.Filter (byte_of_page (filter_page row) + widths_place) 12)
+      → (HasWidths row hash_bits real_bits → ⊥)
+      → IsFilterDamage spelling first_fault row image (damage.Shape part.Filter (byte_of_page (filter_page row) + widths_place) 12)
 
 -- none of these
-pub record IsSoundFilter (spelling : Spelling) (settings : Settings) (row : Row) (image : Image) : Type 0 where
+pub record IsSoundFilter (spelling : Spelling) (row : Row) (image : Image) : Type 0 where
   pub sum : row.filter_sum ≡ fnv_of (filter_part row image)
   pub cutoff : ℕ
   pub leaves : List Leaf
-  pub spelled : IsSpelling spelling settings.hash_bits settings.real_bits cutoff leaves (filter_part row image)
+  pub spelled : IsSpelling spelling row.hash_bits row.real_bits cutoff leaves (filter_part row image)
   pub many : length leaves ≡ row.entries
 
 -- ---- what is known of any image

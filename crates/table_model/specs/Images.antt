@@ -4,6 +4,7 @@ use Rattle.std.specs.List.{AllByRecursion}
 use Rattle.disk_trait.specs.Image.{Image, Shows}
 use Rattle.byte_fields.specs.Sums.{fnv_of}
 use Rattle.byte_fields.specs.declared.parts.Row.{Row}
+use Rattle.filter_api.specs.Ranges.{row_settings}
 use Rattle.filter_api.specs.declared.settings.Settings.{Settings}
 use Rattle.filter_api.specs.Spellings.{Spelling, IsSpelling}
 use Rattle.filter_model.specs.Leaves.{leaves_of}
@@ -32,8 +33,8 @@ pub record IsFilterOfKeys (spelling : Spelling) (settings : Settings) (keys : Li
   pub spelled : IsSpelling spelling settings.hash_bits settings.real_bits cutoff (leaves_of settings.hash_bits settings.real_bits keys) bytes
 
 -- The row's pages spell a table of these blocks: sound blocks whose keys go on rising from one to the next, their index,
--- and a filter of their keys. Index and filter have the pages that their lengths want.
-pub record IsTableAt (spelling : Spelling) (settings : Settings) (row : Row) (blocks : List (List Entry)) (image : Image) : Type 0 where
+-- and a filter of their keys by the row's settings. Index and filter have the pages that their lengths want.
+pub record IsTableAt (spelling : Spelling) (row : Row) (blocks : List (List Entry)) (image : Image) : Type 0 where
   pub each : AllByRecursion IsBlock blocks
   pub table : IsTable (joined blocks)
   pub blocks_shown : Shows (byte_of_page row.first_page) (flat_map block_bytes blocks) image
@@ -43,7 +44,7 @@ pub record IsTableAt (spelling : Spelling) (settings : Settings) (row : Row) (bl
   pub index_sound : IsIndex row.data_pages (index_of_blocks blocks)
   pub index : IsPart (index_page row) row.index_len row.index_sum (index_bytes (index_of_blocks blocks)) image
   pub filter_bytes : Bytes
-  pub filter_of_keys : IsFilterOfKeys spelling settings (keys_of (joined blocks)) filter_bytes
+  pub filter_of_keys : IsFilterOfKeys spelling (row_settings row) (keys_of (joined blocks)) filter_bytes
   pub filter : IsPart (filter_page row) row.filter_len row.filter_sum filter_bytes image
   pub entries : length (joined blocks) ≡ row.entries
 
@@ -54,13 +55,14 @@ table_with row blocks = record {
   first_page = row.first_page;
   pages = pages_of row;
   blocks = length blocks;
+  settings = row_settings row;
   entries = joined blocks;
 }
 
 -- the table that a row's pages spell
-abbrev pub IsTableOf : Spelling → Settings → Row → Table → Image → Type 0
-IsTableOf spelling settings row t image = (blocks : List (List Entry)) × IsTableAt spelling settings row blocks image × (t ≡ table_with row blocks)
+abbrev pub IsTableOf : Spelling → Row → Table → Image → Type 0
+IsTableOf spelling row t image = (blocks : List (List Entry)) × IsTableAt spelling row blocks image × (t ≡ table_with row blocks)
 
 -- the table stands in its extent: some row's pages spell it
-abbrev pub StandsInExtent : Spelling → Settings → Image → Table → Type 0
-StandsInExtent spelling settings image t = (row : Row) × IsTableOf spelling settings row t image
+abbrev pub StandsInExtent : Spelling → Image → Table → Type 0
+StandsInExtent spelling image t = (row : Row) × IsTableOf spelling row t image

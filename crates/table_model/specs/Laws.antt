@@ -8,6 +8,7 @@ use Rattle.byte_fields.specs.declared.parts.Part.TheVariants as part
 use Rattle.byte_fields.specs.declared.parts.Row.{Row}
 use Rattle.filter_api.specs.Spellings.{IsDecided, IsNoSpelling, IsSpelling, Spelling, SpellsOne}
 use Rattle.filter_api.specs.declared.errors.FilterFault.{FilterFault}
+use Rattle.filter_api.specs.Ranges.{row_settings}
 use Rattle.filter_api.specs.declared.settings.Settings.{Settings}
 use Rattle.filter_model.specs.Leaves.{Leaf}
 use Rattle.map_model.specs.SortedMap.{Bytes}
@@ -25,19 +26,19 @@ use Rattle.table_model.specs.Images.{IsFilterOfKeys, IsTableAt, IsTableOf}
 use Rattle.table_model.specs.Tables.{FilterBytes, Table, table_of}
 use Rattle.table_model.specs.Written.{ArePartsShown, row_for}
 
--- the pages of a row spell one table, whatever the settings
+-- the pages of a row spell one table
 abbrev pub OneTable : Type 0
 OneTable =
-    (spelling : Spelling) (settings others : Settings) (row : Row) (t u : Table) (image : Image)
-    → IsTableOf spelling settings row t image → IsTableOf spelling others row u image → t ≡ u
+    (spelling : Spelling) (row : Row) (t u : Table) (image : Image)
+    → IsTableOf spelling row t image → IsTableOf spelling row u image → t ≡ u
 
 -- where the parts of a table of some entries stand, its row's pages spell the table that is made of them
 abbrev pub TableStands : Type 0
 TableStands =
     (spelling : Spelling) (filter_bytes : FilterBytes) (settings : Settings) (level first_page : ℕ) (entries : List Entry) (image : Image) → IsTable entries
     → IsFilterOfKeys spelling settings (keys_of entries) (filter_bytes settings (keys_of entries))
-    → ArePartsShown (row_for level first_page entries (filter_bytes settings (keys_of entries))) entries (filter_bytes settings (keys_of entries)) image
-    → IsTableOf spelling settings (row_for level first_page entries (filter_bytes settings (keys_of entries))) (table_of filter_bytes settings level first_page entries) image
+    → ArePartsShown (row_for level first_page settings entries (filter_bytes settings (keys_of entries))) entries (filter_bytes settings (keys_of entries)) image
+    → IsTableOf spelling (row_for level first_page settings entries (filter_bytes settings (keys_of entries))) (table_of filter_bytes settings level first_page entries) image
 
 -- ---- what is written apart from a row's pages, done or cut short
 
@@ -46,49 +47,49 @@ IsApartFromRow at n row = IsApart (byte_of_page row.first_page) (page_bytes * pa
 
 abbrev pub TableIsKept : Type 0
 TableIsKept =
-    (spelling : Spelling) (settings : Settings) (row : Row) (t : Table) (at n : ℕ) (old new : Image) → IsApartFromRow at n row
-    → Torn at n old new → IsTableOf spelling settings row t old → IsTableOf spelling settings row t new
+    (spelling : Spelling) (row : Row) (t : Table) (at n : ℕ) (old new : Image) → IsApartFromRow at n row
+    → Torn at n old new → IsTableOf spelling row t old → IsTableOf spelling row t new
 
 -- ---- what is wrong with one
 
 -- a table's parts have no damage
 abbrev pub IndexHasNone : Type 0
 IndexHasNone =
-    (spelling : Spelling) (settings : Settings) (row : Row) (blocks : List (List Entry)) (image : Image) → IsTableAt spelling settings row blocks image
+    (spelling : Spelling) (row : Row) (blocks : List (List Entry)) (image : Image) → IsTableAt spelling row blocks image
     → index_damage row image ≡ None
 
 abbrev pub BlocksHaveNone : Type 0
 BlocksHaveNone =
-    (spelling : Spelling) (settings : Settings) (row : Row) (blocks : List (List Entry)) (image : Image) → IsTableAt spelling settings row blocks image
+    (spelling : Spelling) (row : Row) (blocks : List (List Entry)) (image : Image) → IsTableAt spelling row blocks image
     → AreSoundBlocks row.first_page (index_in (index_part row image)).rows image
 
 abbrev pub FilterHasNone : Type 0
 FilterHasNone =
-    (spelling : Spelling) (settings : Settings) (row : Row) (blocks : List (List Entry)) (image : Image) → IsTableAt spelling settings row blocks image
-    → IsSoundFilter spelling settings row image
+    (spelling : Spelling) (row : Row) (blocks : List (List Entry)) (image : Image) → IsTableAt spelling row blocks image
+    → IsSoundFilter spelling row image
 
 -- and its filter stands for its keys
 abbrev pub FilterIsOfTheKeys : Type 0
 FilterIsOfTheKeys =
-    (spelling : Spelling) (settings : Settings) (row : Row) (blocks : List (List Entry)) (image : Image) → IsTableAt spelling settings row blocks image
-    → IsFilterOfKeys spelling settings (keys_of (joined blocks)) (filter_part row image)
+    (spelling : Spelling) (row : Row) (blocks : List (List Entry)) (image : Image) → IsTableAt spelling row blocks image
+    → IsFilterOfKeys spelling (row_settings row) (keys_of (joined blocks)) (filter_part row image)
 
 -- a filter that spells one list at most has one damage, or none
 abbrev pub OneFilterDamage : Type 0
 OneFilterDamage =
-    (spelling : Spelling) (first_fault : Bytes → FilterFault) (settings : Settings) (row : Row) (image : Image) (d e : Damage) → SpellsOne spelling
-    → IsFilterDamage spelling first_fault settings row image d → IsFilterDamage spelling first_fault settings row image e → d ≡ e
+    (spelling : Spelling) (first_fault : Bytes → FilterFault) (row : Row) (image : Image) (d e : Damage) → SpellsOne spelling
+    → IsFilterDamage spelling first_fault row image d → IsFilterDamage spelling first_fault row image e → d ≡ e
 
 abbrev pub SoundFilterHasNone : Type 0
 SoundFilterHasNone =
-    (spelling : Spelling) (first_fault : Bytes → FilterFault) (settings : Settings) (row : Row) (image : Image) (d : Damage) → SpellsOne spelling
-    → IsSoundFilter spelling settings row image → IsFilterDamage spelling first_fault settings row image d → ⊥
+    (spelling : Spelling) (first_fault : Bytes → FilterFault) (row : Row) (image : Image) (d : Damage) → SpellsOne spelling
+    → IsSoundFilter spelling row image → IsFilterDamage spelling first_fault row image d → ⊥
 
 -- a filter is sound or has a damage, where its kind can tell
 abbrev pub FilterIsSoundOrDamaged : Type 0
 FilterIsSoundOrDamaged =
-    (spelling : Spelling) (first_fault : Bytes → FilterFault) (settings : Settings) (row : Row) (image : Image) → IsDecided spelling → IsOfBytes image
-    → IsSoundFilter spelling settings row image ⊎ ((d : Damage) × IsFilterDamage spelling first_fault settings row image d)
+    (spelling : Spelling) (first_fault : Bytes → FilterFault) (row : Row) (image : Image) → IsDecided spelling → IsOfBytes image
+    → IsSoundFilter spelling row image ⊎ ((d : Damage) × IsFilterDamage spelling first_fault row image d)
 
 -- Another sum is what is wrong with an index, whatever its rules: at its first byte, the kept sum before the seen one. Where
 -- the sum is the kept one it is the first broken rule, at its place behind that byte. So it is with a block.
@@ -116,25 +117,25 @@ BlockRules = (page : ℕ) (row : IndexRow) (image : Image) → BlockDamageIsPlac
 
 -- So it is with a filter, whose first fault is that of its kind. The damage of other leaves is said at byte 12 of a filter,
 -- that of other widths at byte 5.
-pub record FilterRulesArePlaced (spelling : Spelling) (first_fault : Bytes → FilterFault) (settings : Settings) (row : Row) (image : Image) : Type 0 where
+pub record FilterRulesArePlaced (spelling : Spelling) (first_fault : Bytes → FilterFault) (row : Row) (image : Image) : Type 0 where
   pub sum :
       row.filter_sum ≢ fnv_of (filter_part row image)
-      → IsFilterDamage spelling first_fault settings row image (damage.Sum part.Filter (byte_of_page (filter_page row)) row.filter_sum (fnv_of (filter_part row image)))
+      → IsFilterDamage spelling first_fault row image (damage.Sum part.Filter (byte_of_page (filter_page row)) row.filter_sum (fnv_of (filter_part row image)))
   pub rule :
       row.filter_sum ≡ fnv_of (filter_part row image) → IsNoSpelling spelling (filter_part row image)
-      → IsFilterDamage spelling first_fault settings row image
+      → IsFilterDamage spelling first_fault row image
       (damage.Shape part.Filter (byte_of_page (filter_page row) + (first_fault (filter_part row image)).place) (first_fault (filter_part row image)).rule)
   pub leaves :
       (hash_bits real_bits cutoff : ℕ) (leaves : List Leaf) → row.filter_sum ≡ fnv_of (filter_part row image)
       → IsSpelling spelling hash_bits real_bits cutoff leaves (filter_part row image) → length leaves ≢ row.entries
-      → IsFilterDamage spelling first_fault settings row image (damage.Shape part.Filter (byte_of_page (filter_page row) + 12) 11)
+      → IsFilterDamage spelling first_fault row image (damage.Shape part.Filter (byte_of_page (filter_page row) + 12) 11)
   pub widths :
       (hash_bits real_bits cutoff : ℕ) (leaves : List Leaf) → row.filter_sum ≡ fnv_of (filter_part row image)
       → IsSpelling spelling hash_bits real_bits cutoff leaves (filter_part row image) → length leaves ≡ row.entries
-      → (HasWidths settings hash_bits real_bits → ⊥)
-      → IsFilterDamage spelling first_fault settings row image (damage.Shape part.Filter (byte_of_page (filter_page row) + 5) 12)
+      → (HasWidths row hash_bits real_bits → ⊥)
+      → IsFilterDamage spelling first_fault row image (damage.Shape part.Filter (byte_of_page (filter_page row) + 5) 12)
 
 abbrev pub FilterRules : Type 0
 FilterRules =
-    (spelling : Spelling) (first_fault : Bytes → FilterFault) (settings : Settings) (row : Row) (image : Image)
-    → FilterRulesArePlaced spelling first_fault settings row image
+    (spelling : Spelling) (first_fault : Bytes → FilterFault) (row : Row) (image : Image)
+    → FilterRulesArePlaced spelling first_fault row image

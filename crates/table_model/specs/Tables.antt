@@ -7,13 +7,14 @@ use Rattle.map_model.specs.SortedMap.{Bytes}
 use Rattle.entry_model.specs.Entries.{Entry, keys_of}
 use Rattle.block_model.specs.Pages.{pages_for, blocks_of, data_pages, index_length}
 
--- A table: its level, its first page and how many pages it takes, of how many data blocks it is made, and its entries,
--- with strictly rising keys.
+-- A table: its level, its first page and how many pages it takes, of how many data blocks it is made, the settings that its
+-- filter was built with, and its entries, with strictly rising keys.
 pub record Table : Type 0 where
   pub level : ℕ
   pub first_page : ℕ
   pub pages : ℕ
   pub blocks : ℕ
+  pub settings : Settings
   pub entries : List Entry
 
 -- the bytes of the filter that is built of some keys, by the settings: a parameter, for each kind of filter its own
@@ -38,5 +39,6 @@ table_of filter_bytes settings level first_page entries = record {
   first_page = first_page;
   pages = table_pages filter_bytes settings entries;
   blocks = length (blocks_of entries);
+  settings = settings;
   entries = entries;
 }

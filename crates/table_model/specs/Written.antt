@@ -3,6 +3,7 @@ use Rattle.std.specs.Prelude.{ℕ, List, length}
 use Rattle.disk_trait.specs.Image.{Image, Shows}
 use Rattle.byte_fields.specs.Sums.{fnv_of}
 use Rattle.byte_fields.specs.declared.parts.Row.{Row}
+use Rattle.filter_api.specs.declared.settings.Settings.{Settings}
 use Rattle.map_model.specs.SortedMap.{Bytes}
 use Rattle.entry_model.specs.Entries.{Entry}
 use Rattle.block_model.specs.Block.{data_bytes}
@@ -10,9 +11,9 @@ use Rattle.block_model.specs.Index.{index_bytes, index_of}
 use Rattle.block_model.specs.Pages.{data_pages, index_length, pages_for}
 use Rattle.block_model.specs.Places.{byte_of_page, filter_page, index_page}
 
--- where it begins, and what is kept of its parts
-unfoldable pub row_for : ℕ → ℕ → List Entry → Bytes → Row
-row_for level first_page entries filter_bytes = record {
+-- where it begins, what is kept of its parts, and the settings that its filter was built with
+unfoldable pub row_for : ℕ → ℕ → Settings → List Entry → Bytes → Row
+row_for level first_page settings entries filter_bytes = record {
   level = level;
   first_page = first_page;
   data_pages = data_pages entries;
@@ -23,6 +24,9 @@ row_for level first_page entries filter_bytes = record {
   filter_len = length filter_bytes;
   index_sum = fnv_of (index_bytes (index_of entries));
   filter_sum = fnv_of filter_bytes;
+  hash_bits = settings.hash_bits;
+  real_bits = settings.real_bits;
+  ratio = settings.ratio;
 }
 
 -- its blocks, its index and its filter, each at its page

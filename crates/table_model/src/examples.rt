@@ -5,7 +5,6 @@ ghost use Rattle.byte_fields.specs.declared.parts.Damage.TheVariants.{Sum};
 ghost use Rattle.byte_fields.specs.declared.parts.Part.TheVariants.{Filter};
 ghost use Rattle.filter_api.specs.Spellings.{Spelling};
 ghost use Rattle.filter_api.specs.declared.errors.FilterFault.{FilterFault};
-ghost use Rattle.filter_api.specs.declared.settings.Settings.{Settings};
 ghost use Rattle.map_model.specs.SortedMap.{Bytes};
 ghost use Rattle.table_model.specs.Damage.{IsFilterDamage};
 ghost use Rattle.table_model.specs.Written.{row_for};
@@ -14,6 +13,6 @@ ghost use Rattle.table_model.specs.Written.{row_for};
 /// and the damage of its filter where the device has a zero there.
 #[tactic(auto, unfolding(crate::specs::Written::row_for, block_model::specs::Pages::pages_for, block_model::specs::Pages::block_length, block_model::specs::Pages::block_pages, block_model::specs::Pages::blocks_of, block_model::specs::Pages::data_pages, block_model::specs::Pages::index_length, block_model::specs::Block::block_bytes, block_model::specs::Block::header_bytes, block_model::specs::Block::padding, block_model::specs::Index::index_of, block_model::specs::Index::index_row_of, block_model::specs::Index::index_bytes, block_model::specs::Index::index_head_bytes, block_model::specs::Index::index_row_bytes))]
 pub fn a_small_table()
-    ensures its_row { row_for 1 204 a_and_ab (7 ∷ []) ≡ record { level = 1; first_page = 204; data_pages = 1; index_pages = 1; filter_pages = 1; entries = 2; index_len = 27; filter_len = 1; index_sum = 15705594334158475928; filter_sum = 12638149817160282822 } }
-    ensures another_filter { (spelling : Spelling) (first_fault : Bytes → FilterFault) (settings : Settings) → IsFilterDamage spelling first_fault settings (row_for 1 204 a_and_ab (7 ∷ [])) (λ place. 0) (Sum Filter 843776 12638149817160282822 12638153115695167455) }
+    ensures its_row { row_for 1 204 (record { hash_bits = 4; real_bits = 3; ratio = 16 }) a_and_ab (7 ∷ []) ≡ record { level = 1; first_page = 204; data_pages = 1; index_pages = 1; filter_pages = 1; entries = 2; index_len = 27; filter_len = 1; index_sum = 15705594334158475928; filter_sum = 12638149817160282822; hash_bits = 4; real_bits = 3; ratio = 16 } }
+    ensures another_filter { (spelling : Spelling) (first_fault : Bytes → FilterFault) → IsFilterDamage spelling first_fault (row_for 1 204 (record { hash_bits = 4; real_bits = 3; ratio = 16 }) a_and_ab (7 ∷ [])) (λ place. 0) (Sum Filter 843776 12638149817160282822 12638153115695167455) }
 {}

@@ -22,7 +22,7 @@ pub fn tables_have_no_damage()
 {}
 
 /// A filter part has one damage at most, and none where it keeps its sum, spells as many leaves as the row has entries,
-/// and has the widths of the settings; it is one of the two, where the kind of filter can tell what spells nothing. Each
+/// and has the widths of the row's settings; it is one of the two, where the kind of filter can tell what spells nothing. Each
 /// rule has its place.
 pub fn a_filter_has_one_damage()
     ensures one { OneFilterDamage }

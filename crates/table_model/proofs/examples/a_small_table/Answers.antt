@@ -9,4 +9,4 @@ use Rattle.table_model.proofs.examples.a_small_table.Goals as goal
 
 pub returns-clause-another_filter : goal.returns-clause-another_filter
 unfolding row_for pages_for block_length block_pages blocks_of data_pages index_length block_bytes header_bytes padding index_of index_row_of index_bytes index_head_bytes index_row_bytes
-returns-clause-another_filter c = λ spelling first_fault settings. other_sum (eqb-false 12638149817160282822 12638153115695167455 refl)
+returns-clause-another_filter c = λ spelling first_fault. other_sum (eqb-false 12638149817160282822 12638153115695167455 refl)
