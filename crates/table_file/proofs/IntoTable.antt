@@ -4,6 +4,7 @@ use Rattle.std.proofs.lemmas.List.{length-map}
 use Rattle.byte_fields.specs.Sums.{fnv_of}
 use Rattle.byte_fields.specs.declared.parts.Row.{Row}
 use Rattle.disk_trait.specs.Image.{Image}
+use Rattle.filter_api.specs.Ranges.{InRange, row_settings}
 use Rattle.filter_api.specs.Spellings.{MayStand, Spelling, SpellsOne}
 use Rattle.filter_api.specs.declared.settings.Settings.{Settings}
 use Rattle.filter_model.specs.Leaves.{Filter, Leaf}
@@ -34,14 +35,15 @@ module _ (spelling : Spelling) (built_cutoff : ℕ → List Leaf → ℕ) (setti
   bytes = filter_bytes_of spelling built_cutoff settings (keys_of entries)
 
   abbrev row : Row
-  row = row_for level first entries (filter_bytes_of spelling built_cutoff settings (keys_of entries))
+  row = row_for level first settings entries (filter_bytes_of spelling built_cutoff settings (keys_of entries))
 
-  pub of_row : (r : Row) → r ≡ row_for level first entries (filter_bytes_of spelling built_cutoff settings (keys_of entries)) → end_page r ≤ 16777216 → IsOfRow (record { row = r; index = index; filter = filter })
+  pub of_row : (r : Row) → r ≡ row_for level first settings entries (filter_bytes_of spelling built_cutoff settings (keys_of entries)) → end_page r ≤ 16777216 → r.ratio ≤ 65535 → IsOfRow (record { row = r; index = index; filter = filter })
   unfolding row_for
-  of_row r is within =
+  of_row r is within ratio =
       let pages = subst (λ (x : Row). (x.index_pages ≡ pages_for x.index_len) × (x.filter_pages ≡ pages_for x.filter_len)) (sym is) (refl, refl) in
       record {
         fits = record { index_pages = pages.0; filter_pages = pages.1; within = within };
+        range = record { settings = subst (λ (x : Row). InRange (row_settings x)) (sym is) parts.range; ratio = ratio };
         pages = ap (λ (x : Index). row_pages x.rows) parts.index_is ∙ (index_sound entries parts.table).all_pages ∙ sym (ap (λ (x : Row). x.data_pages) is);
       }
 
@@ -66,27 +68,28 @@ module _ (spelling : Spelling) (built_cutoff : ℕ → List Leaf → ℕ) (setti
           filter_sum = ap fnv_of (sym filter_is_there);
           filter_is = record { may_stand = stand; bytes_are = filter_is_there };
           many = length-map (keys_of entries) _ ∙ length-map entries _;
+          wide = record { hash = refl; real = refl };
         }
 
-  pub table_open : (r : Row) → r ≡ row_for level first entries (filter_bytes_of spelling built_cutoff settings (keys_of entries)) → (image : Image)
+  pub table_open : (r : Row) → r ≡ row_for level first settings entries (filter_bytes_of spelling built_cutoff settings (keys_of entries)) → (image : Image)
       → ArePartsShown r entries (filter_bytes_of spelling built_cutoff settings (keys_of entries)) image
       → IsOpen spelling (record { row = r; index = index_of entries; filter = filter_of built_cutoff settings (keys_of entries) }) image
   table_open r is image =
       subst (λ (x : Row). ArePartsShown x entries bytes image → IsOpen spelling (record { row = x; index = index_of entries; filter = filter_of built_cutoff settings (keys_of entries) }) image) (sym is) (made_open image)
 
-  pub shown_table : (r : Row) → r ≡ row_for level first entries (filter_bytes_of spelling built_cutoff settings (keys_of entries)) → (image : Image)
+  pub shown_table : (r : Row) → r ≡ row_for level first settings entries (filter_bytes_of spelling built_cutoff settings (keys_of entries)) → (image : Image)
       → ArePartsShown r entries (filter_bytes_of spelling built_cutoff settings (keys_of entries)) image
-      → (made : List (List Entry)) × IsTableAt spelling settings r made image × (joined made ≡ entries)
+      → (made : List (List Entry)) × IsTableAt spelling r made image × (joined made ≡ entries)
   shown_table r is image =
-      subst (λ (x : Row). ArePartsShown x entries bytes image → (made : List (List Entry)) × IsTableAt spelling settings x made image × (joined made ≡ entries)) (sym is)
+      subst (λ (x : Row). ArePartsShown x entries bytes image → (made : List (List Entry)) × IsTableAt spelling x made image × (joined made ≡ entries)) (sym is)
       (λ shown.
       let there = stands_shown spelling built_cutoff settings entries count blocks index index_bytes_there filter filter_there parts level first (4096 * first) refl image shown in
       (there.0, there.1, sym (ap (λ (t : Table). t.entries) there.2)))
 
   -- where the parts are written, the table that is made of them stands
   pub made_stands : SpellsOne spelling → (image : Image) → AreWritten row entries bytes image
-      → StandsWith spelling settings (record { row = row; index = index_of entries; filter = filter_of built_cutoff settings (keys_of entries) }) entries image
+      → StandsWith spelling (record { row = row; index = index_of entries; filter = filter_of built_cutoff settings (keys_of entries) }) entries image
   made_stands one image are =
       let shown = written_shown row entries bytes image are in
       let there = shown_table row refl image shown in
-      (there.0, opened_stands spelling settings _ there.0 image one (table_open row refl image shown) there.1, there.2)
+      (there.0, opened_stands spelling _ there.0 image one (table_open row refl image shown) there.1, there.2)

@@ -51,8 +51,8 @@ module _ (spelling : Spelling) (built_cutoff : ℕ → List Leaf → ℕ) (setti
 
   pub row_is : (level first n p q k l sum other : ℕ) → n ≡ length blocks → p ≡ pages_for (length index_part) → q ≡ pages_for (length filter_part)
       → k ≡ length index_part → l ≡ length filter_part → sum ≡ fnv_of index_part → other ≡ fnv_of filter_part
-      → ◌≡◌ {A = Row} (record { level = level; first_page = first; data_pages = n / 4096; index_pages = p; filter_pages = q; entries = count; index_len = k; filter_len = l; index_sum = sum; filter_sum = other })
-      (row_for level first entries spelled)
+      → ◌≡◌ {A = Row} (record { level = level; first_page = first; data_pages = n / 4096; index_pages = p; filter_pages = q; entries = count; index_len = k; filter_len = l; index_sum = sum; filter_sum = other; hash_bits = settings.hash_bits; real_bits = settings.real_bits; ratio = settings.ratio })
+      (row_for level first settings entries spelled)
   unfolding row_for
   row_is level first n p q k l sum other n_is p_is q_is k_is l_is sum_is other_is =
       let blocks_pages : n / 4096 ≡ data_pages entries = omega (arith, n_is, blocks_long) in
@@ -73,6 +73,9 @@ module _ (spelling : Spelling) (built_cutoff : ℕ → List Leaf → ℕ) (setti
         filter_len = filter_long i;
         index_sum = index_sum i;
         filter_sum = filter_sum i;
+        hash_bits = settings.hash_bits;
+        real_bits = settings.real_bits;
+        ratio = settings.ratio;
       })
 
 -- ---- what a builder has when its last block is closed

@@ -44,8 +44,8 @@ use Rattle.table_file.proofs.Walks.{at_block}
 -- ---- what is written elsewhere
 
 pub standing_kept : StandingIsKept
-standing_kept spelling settings t blocks at n old new apart torn s = record {
-  at = at_kept spelling settings t.row blocks at n old new apart torn s.at;
+standing_kept spelling t blocks at n old new apart torn s = record {
+  at = at_kept spelling t.row blocks at n old new apart torn s.at;
   index_is = s.index_is;
   hash_is = s.hash_is;
   real_is = s.real_is;
@@ -74,17 +74,17 @@ no_some f None d none is = absurd cc
 no_some f (Some x) d none is = absurd cc
 
 pub standing_blocks : StandingBlocks
-standing_blocks spelling settings t blocks image s =
-    let rows = rows_are spelling settings t blocks image s in
+standing_blocks spelling t blocks image s =
+    let rows = rows_are spelling t blocks image s in
     let on : blocks_on t image ≡ blocks =
     ap (λ (rs : List IndexRow). blocks_there t.row.first_page rs image) rows ∙ stood t.row.first_page blocks image s.at.each s.at.blocks_shown in
     let many : length t.index.rows ≡ length blocks = ap length rows ∙ length-map blocks index_row_of in
     record {
       many = many;
       on_device = on;
-      sound = λ n lt. block_is_sound spelling settings t blocks image s n lt;
+      sound = λ n lt. block_is_sound spelling t blocks image s n lt;
       read = λ n lt. sym (at_block t image n (subst (λ (k : ℕ). n < k) (sym many) lt)) ∙ ap (λ (bs : List (List Entry)). get_or bs n []) on;
-      no_damage = λ n fault lt is. undamaged t n image (block_is_sound spelling settings t blocks image s n lt) fault is;
+      no_damage = λ n fault lt is. undamaged t n image (block_is_sound spelling t blocks image s n lt) fault is;
     }
   where
     undamaged : (t : Opened) (n : ℕ) (image : Image) → IsSoundBlock t n image → (f : TableFault) → IsGetFault t n image f → IsNoDamage f
@@ -150,25 +150,25 @@ some_within true n = refl
 some_within false n = refl
 
 pub standing_keys : StandingKeys
-standing_keys spelling settings t blocks image s =
-    let rows = rows_are spelling settings t blocks image s in
-    let least = least_is spelling settings t blocks image s in
+standing_keys spelling t blocks image s =
+    let rows = rows_are spelling t blocks image s in
+    let least = least_is spelling t blocks image s in
     let many : length t.index.rows ≡ length blocks = ap length rows ∙ length-map blocks index_row_of in
     let each = weaker IsBlock (λ b. 1 ≤ length b) (λ b is. is.some) blocks s.at.each in
     let some : 1 ≤ length blocks = omega (arith, some_blocks blocks s.at.table.some) in
     record {
-      there = λ key n is. there spelling settings t blocks image s key n is;
-      answer = λ key n is. answer spelling settings t blocks image s key n is (bytes_at t n image) refl;
-      no_answer = λ key none. no_answer spelling settings t blocks image s key none;
+      there = λ key n is. there spelling t blocks image s key n is;
+      answer = λ key n is. answer spelling t blocks image s key n is (bytes_at t n image) refl;
+      no_answer = λ key none. no_answer spelling t blocks image s key none;
       least = least;
       greatest =
           ap₂ (λ (rs : List IndexRow) (n : ℕ). (row_at rs (n - 1)).last) rows many
           ∙ greatest_row is_any blocks each some;
       searched = λ key.
           let point_is : point t.filter.hash_bits t.filter.real_bits t.filter.leaves key
-          ≡ point settings.hash_bits settings.real_bits (leaves_of settings.hash_bits settings.real_bits (keys_of (joined blocks))) key =
+          ≡ point t.row.hash_bits t.row.real_bits (leaves_of t.row.hash_bits t.row.real_bits (keys_of (joined blocks))) key =
           ap (λ (ls : List Leaf). point t.filter.hash_bits t.filter.real_bits ls key) s.leaves_are
-          ∙ ap₂ (λ (h r : ℕ). point h r (leaves_of settings.hash_bits settings.real_bits (keys_of (joined blocks))) key) s.hash_is s.real_is in
+          ∙ ap₂ (λ (h r : ℕ). point h r (leaves_of t.row.hash_bits t.row.real_bits (keys_of (joined blocks))) key) s.hash_is s.real_is in
           let last : is_some (first_block t.index.rows key) ≡ is_from key (last_key (joined blocks)) =
           ap (λ (rs : List IndexRow). is_some (first_block rs key)) rows
           ∙ some_within (nat_lt (place_of key blocks) (length (map index_row_of blocks))) (place_of key blocks)
@@ -234,8 +234,8 @@ whole low test ((x ∷ b) ∷ more) each f =
     ∙ sym (filter-append p (x ∷ b) (joined more))
 
 pub standing_walks : StandingWalks
-standing_walks spelling settings t blocks image s =
-    let rows = rows_are spelling settings t blocks image s in
+standing_walks spelling t blocks image s =
+    let rows = rows_are spelling t blocks image s in
     let each = weaker IsBlock (λ b. 1 ≤ length b) (λ b is. is.some) blocks s.at.each in
     record {
       all = λ low.

@@ -85,7 +85,7 @@ beyond [] n le = refl
 beyond (b ∷ more) zero le = absurd (omega (arith, le))
 beyond (b ∷ more) (suc n) le = beyond more n (omega (arith, le))
 
-module _ (spelling : Spelling) (settings : Settings) (t : Opened) (blocks : List (List Entry)) (image : Image) (s : StandsThere spelling settings t blocks image) where
+module _ (spelling : Spelling) (t : Opened) (blocks : List (List Entry)) (image : Image) (s : StandsThere spelling t blocks image) where
   pub rows_are : t.index.rows ≡ map index_row_of blocks
   rows_are = ap (λ (x : Index). x.rows) s.index_is ∙ rows_of_index blocks
 
@@ -109,9 +109,9 @@ module _ (spelling : Spelling) (settings : Settings) (t : Opened) (blocks : List
           rules = ap block_fault bytes_of_block ∙ (block_again (get_or blocks n []) (all_at IsBlock blocks n [] s.at.each there)).0;
         }
 
-module _ (spelling : Spelling) (settings : Settings) (t : Opened) (blocks : List (List Entry)) (image : Image) (s : StandsThere spelling settings t blocks image) (key : Bytes) where
+module _ (spelling : Spelling) (t : Opened) (blocks : List (List Entry)) (image : Image) (s : StandsThere spelling t blocks image) (key : Bytes) where
   rows : t.index.rows ≡ map index_row_of blocks
-  rows = rows_are spelling settings t blocks image s
+  rows = rows_are spelling t blocks image s
 
   abbrev place : ℕ
   place = position_or_len (λ (row : IndexRow). is_from key row.last) (map index_row_of blocks)
@@ -135,10 +135,10 @@ module _ (spelling : Spelling) (settings : Settings) (t : Opened) (blocks : List
     there = omega (arith, found.0, length-map blocks index_row_of)
 
     pub bytes_are : bytes_at t n image ≡ block_bytes (get_or blocks n [])
-    bytes_are = bytes_of_block spelling settings t blocks image s n there
+    bytes_are = bytes_of_block spelling t blocks image s n there
 
     sound : IsSoundBlock t n image
-    sound = block_is_sound spelling settings t blocks image s n there
+    sound = block_is_sound spelling t blocks image s n there
 
     pub not_other : (f : TableFault) → IsOtherBlock t n image f → IsNoDamage f
     not_other table.Memory other = absurd other
@@ -170,8 +170,8 @@ module _ (spelling : Spelling) (settings : Settings) (t : Opened) (blocks : List
   admitted : Contains (keys_of (joined blocks)) key → point t.filter.hash_bits t.filter.real_bits t.filter.leaves key ≡ true
   admitted has =
       ap (λ (ls : List Leaf). point t.filter.hash_bits t.filter.real_bits ls key) s.leaves_are
-      ∙ ap₂ (λ (h r : ℕ). point h r (leaves_of settings.hash_bits settings.real_bits (keys_of (joined blocks))) key) s.hash_is s.real_is
-      ∙ no_key_is_denied settings.hash_bits settings.real_bits (keys_of (joined blocks)) key has
+      ∙ ap₂ (λ (h r : ℕ). point h r (leaves_of t.row.hash_bits t.row.real_bits (keys_of (joined blocks))) key) s.hash_is s.real_is
+      ∙ no_key_is_denied t.row.hash_bits t.row.real_bits (keys_of (joined blocks)) key has
 
   -- nothing is past the last of all blocks
   none_past : first_block (map index_row_of blocks) key ≡ None → lookup (joined blocks) key ≡ None
@@ -192,19 +192,19 @@ module _ (spelling : Spelling) (settings : Settings) (t : Opened) (blocks : List
             sym (ap (λ (b : Bool). cond b (block_of_key t.index key) None) (admitted (said_is_there (joined blocks) key value is))) ∙ none in
             sym is ∙ (elim (is_from t.index.least key) as (λ b. is_from t.index.least key ≡ b → cond b (first_block t.index.rows key) None ≡ None → lookup (joined blocks) key ≡ None) [
               | true ↦ λ _ past. none_past (ap (λ (rs : List IndexRow). first_block rs key) (sym rows) ∙ past)
-              | false ↦ λ before _. nothing_before key (joined blocks) (ap (λ (k : Bytes). is_from k key) (sym (least_is spelling settings t blocks image s)) ∙ before) s.at.table.rising
+              | false ↦ λ before _. nothing_before key (joined blocks) (ap (λ (k : Bytes). is_from k key) (sym (least_is spelling t blocks image s)) ∙ before) s.at.table.rising
             ] refl denied)
       ] refl
 
 -- ---- what was opened is that table
 
 pub opened_stands : OpenedStands
-opened_stands spelling settings t blocks image one is at =
-    let keys = filter_of_keys spelling settings t.row blocks image at in
+opened_stands spelling t blocks image one is at =
+    let keys = filter_of_keys spelling t.row blocks image at in
     let alike = one _ _ _ _ _ _ _ _ _ is.filter_is keys.spelled in
     record {
       at = at;
-      index_is = is.index_is ∙ index_read spelling settings t.row blocks image at;
+      index_is = is.index_is ∙ index_read spelling t.row blocks image at;
       hash_is = alike.hash_width;
       real_is = alike.real_width;
       leaves_are = alike.leaves_are;

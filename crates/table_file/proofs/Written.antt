@@ -86,25 +86,25 @@ module _ (spelling : Spelling) (built_cutoff : ℕ → List Leaf → ℕ) (setti
   all_long = omega (arith, blocks_pages, index_pages, filter_pages)
 
   module _ (level first at : ℕ) (at_is : at ≡ 4096 * first) where
-    pub index_at : at + length blocks ≡ byte_of_page (index_page (row_for level first entries bytes))
+    pub index_at : at + length blocks ≡ byte_of_page (index_page (row_for level first settings entries bytes))
     unfolding row_for
     index_at = omega (arith, at_is, blocks_pages)
 
-    pub filter_at : at + length blocks + length (in_whole_pages index_part) ≡ byte_of_page (filter_page (row_for level first entries bytes))
+    pub filter_at : at + length blocks + length (in_whole_pages index_part) ≡ byte_of_page (filter_page (row_for level first settings entries bytes))
     unfolding row_for
     filter_at = omega (arith, at_is, blocks_pages, index_pages)
 
-    pub written : (image f : Image) → f ≡ three_written image at blocks (in_whole_pages index_part) (in_whole_pages filter_part) → AreWritten (row_for level first entries bytes) entries bytes f
+    pub written : (image f : Image) → f ≡ three_written image at blocks (in_whole_pages index_part) (in_whole_pages filter_part) → AreWritten (row_for level first settings entries bytes) entries bytes f
     unfolding row_for
     written image f is = record {
       blocks = subst (λ (g : Image). Shows (byte_of_page first) (data_bytes entries) g) (sym is)
           (subst (λ (n : ℕ). Shows n (data_bytes entries) (three_written image at blocks (in_whole_pages index_part) (in_whole_pages filter_part))) at_is
           (subst (λ (x : Bytes). Shows at x (three_written image at blocks (in_whole_pages index_part) (in_whole_pages filter_part))) parts.blocks_are (first_shown image at blocks (in_whole_pages index_part) (in_whole_pages filter_part))));
-      index = subst (λ (g : Image). Shows (byte_of_page (index_page (row_for level first entries bytes))) (in_whole_pages (index_bytes (index_of entries))) g) (sym is)
+      index = subst (λ (g : Image). Shows (byte_of_page (index_page (row_for level first settings entries bytes))) (in_whole_pages (index_bytes (index_of entries))) g) (sym is)
           (subst (λ (n : ℕ). Shows n (in_whole_pages (index_bytes (index_of entries))) (three_written image at blocks (in_whole_pages index_part) (in_whole_pages filter_part))) index_at
           (subst (λ (x : Bytes). Shows (at + length blocks) (in_whole_pages x) (three_written image at blocks (in_whole_pages index_part) (in_whole_pages filter_part)))
           (index_part_is spelling built_cutoff settings entries count blocks index index_part filter filter_part parts) (second_shown image at blocks (in_whole_pages index_part) (in_whole_pages filter_part))));
-      filter = subst (λ (g : Image). Shows (byte_of_page (filter_page (row_for level first entries bytes))) (in_whole_pages bytes) g) (sym is)
+      filter = subst (λ (g : Image). Shows (byte_of_page (filter_page (row_for level first settings entries bytes))) (in_whole_pages bytes) g) (sym is)
           (subst (λ (n : ℕ). Shows n (in_whole_pages bytes) (three_written image at blocks (in_whole_pages index_part) (in_whole_pages filter_part))) filter_at
           (subst (λ (x : Bytes). Shows (at + length blocks + length (in_whole_pages index_part)) (in_whole_pages x) (three_written image at blocks (in_whole_pages index_part) (in_whole_pages filter_part)))
           (filter_part_is spelling built_cutoff settings entries count blocks index index_part filter filter_part parts) (third_shown image at blocks (in_whole_pages index_part) (in_whole_pages filter_part))));
@@ -115,10 +115,10 @@ module _ (spelling : Spelling) (built_cutoff : ℕ → List Leaf → ℕ) (setti
         let stand = subst (λ (f : Filter). MayStand f.hash_bits f.real_bits f.cutoff f.leaves) parts.filter_is parts.may_stand in
         record { cutoff = _; spelled = record { may_stand = stand; bytes_are = refl } }
 
-    pub stands_shown : (f : Image) → ArePartsShown (row_for level first entries bytes) entries bytes f
-        → IsTableOf spelling settings (row_for level first entries bytes) (table_of (filter_bytes_of spelling built_cutoff) settings level first entries) f
+    pub stands_shown : (f : Image) → ArePartsShown (row_for level first settings entries bytes) entries bytes f
+        → IsTableOf spelling (row_for level first settings entries bytes) (table_of (filter_bytes_of spelling built_cutoff) settings level first entries) f
     stands_shown f shown = table_stands spelling (filter_bytes_of spelling built_cutoff) settings level first entries f parts.table of_keys shown
 
-    pub stands : (f : Image) → AreWritten (row_for level first entries bytes) entries bytes f
-        → IsTableOf spelling settings (row_for level first entries bytes) (table_of (filter_bytes_of spelling built_cutoff) settings level first entries) f
-    stands f shown = stands_shown f (written_shown (row_for level first entries bytes) entries bytes f shown)
+    pub stands : (f : Image) → AreWritten (row_for level first settings entries bytes) entries bytes f
+        → IsTableOf spelling (row_for level first settings entries bytes) (table_of (filter_bytes_of spelling built_cutoff) settings level first entries) f
+    stands f shown = stands_shown f (written_shown (row_for level first settings entries bytes) entries bytes f shown)

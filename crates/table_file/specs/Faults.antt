@@ -71,17 +71,17 @@ pub record IsOtherSum (part : Part) (at kept : ℕ) (bytes : Bytes) (fault : Tab
 abbrev pub filter_fault_of : (Bytes → Fault) → Bytes → FilterFault
 filter_fault_of first bytes = record { place = (first bytes).place; rule = (first bytes).rule }
 
-abbrev pub IsDamagedFilter : Spelling → (Bytes → Fault) → Settings → Row → Image → TableFault → Type 0
-IsDamagedFilter spelling first settings row image table.Memory = Unit {0}
-IsDamagedFilter spelling first settings row image (table.Device cause) = ⊥
-IsDamagedFilter spelling first settings row image (table.Damaged d) = IsFilterDamage spelling (filter_fault_of first) settings row image d
+abbrev pub IsDamagedFilter : Spelling → (Bytes → Fault) → Row → Image → TableFault → Type 0
+IsDamagedFilter spelling first row image table.Memory = Unit {0}
+IsDamagedFilter spelling first row image (table.Device cause) = ⊥
+IsDamagedFilter spelling first row image (table.Damaged d) = IsFilterDamage spelling (filter_fault_of first) row image d
 
 -- a damage is that of the index, or where it has none, that of the filter
-abbrev pub IsDamagedTable : Spelling → (Bytes → Fault) → Settings → Row → Image → TableFault → Type 0
-IsDamagedTable spelling first settings row image table.Memory = Unit {0}
-IsDamagedTable spelling first settings row image (table.Device cause) = Unit {0}
-IsDamagedTable spelling first settings row image (table.Damaged d) =
-    (index_damage row image ≡ Some d) ⊎ ((index_damage row image ≡ None) × IsFilterDamage spelling (filter_fault_of first) settings row image d)
+abbrev pub IsDamagedTable : Spelling → (Bytes → Fault) → Row → Image → TableFault → Type 0
+IsDamagedTable spelling first row image table.Memory = Unit {0}
+IsDamagedTable spelling first row image (table.Device cause) = Unit {0}
+IsDamagedTable spelling first row image (table.Damaged d) =
+    (index_damage row image ≡ Some d) ⊎ ((index_damage row image ≡ None) × IsFilterDamage spelling (filter_fault_of first) row image d)
 
 -- the device fails at this byte, and only where the count of failed reads rose
 abbrev pub HasReadCause : ℕ → World → World → TableFault → Type 0

@@ -26,8 +26,8 @@ use Rattle.table_file.specs.declared.fault.TableFault.{TableFault}
 -- what was opened from bytes that spell the table of some blocks is that table
 abbrev pub OpenedStands : Type 0
 OpenedStands =
-    (spelling : Spelling) (settings : Settings) (t : Opened) (blocks : List (List Entry)) (image : Image) → SpellsOne spelling → IsOpen spelling t image
-    → IsTableAt spelling settings t.row blocks image → StandsThere spelling settings t blocks image
+    (spelling : Spelling) (t : Opened) (blocks : List (List Entry)) (image : Image) → SpellsOne spelling → IsOpen spelling t image
+    → IsTableAt spelling t.row blocks image → StandsThere spelling t blocks image
 
 -- what is written shows the parts of its table
 abbrev pub WrittenIsShown : Type 0
@@ -45,7 +45,7 @@ pub record BlocksAreRead (t : Opened) (blocks : List (List Entry)) (image : Imag
 
 -- The block of a key says of it what the table says, and where there is none the table says nothing. There is one exactly where
 -- the filter of the keys admits the key, and it is neither below the least of them nor above the greatest.
-pub record KeysAreFound (settings : Settings) (t : Opened) (blocks : List (List Entry)) (image : Image) : Type 0 where
+pub record KeysAreFound (t : Opened) (blocks : List (List Entry)) (image : Image) : Type 0 where
   pub there : (key : Bytes) (n : ℕ) → block_for t key ≡ Some n → n < length blocks
   pub answer : (key : Bytes) (n : ℕ) → block_for t key ≡ Some n → lookup (block_in (bytes_at t n image)) key ≡ lookup (joined blocks) key
   pub no_answer : (key : Bytes) → block_for t key ≡ None → lookup (joined blocks) key ≡ None
@@ -54,7 +54,7 @@ pub record KeysAreFound (settings : Settings) (t : Opened) (blocks : List (List 
   pub searched :
       (key : Bytes)
       → is_some (block_for t key)
-      ≡ (point settings.hash_bits settings.real_bits (leaves_of settings.hash_bits settings.real_bits (keys_of (joined blocks))) key
+      ≡ (point t.row.hash_bits t.row.real_bits (leaves_of t.row.hash_bits t.row.real_bits (keys_of (joined blocks))) key
       && (not (is_before key (first_key (joined blocks))) && not (is_before (last_key (joined blocks)) key)))
 
 -- A walk from a bound on gives the entries from there on, and the block that it reads next always has one.
@@ -66,14 +66,14 @@ pub record WalksAreWhole (t : Opened) (blocks : List (List Entry)) : Type 0 wher
 -- what is written apart from its pages, done or cut short, keeps it
 abbrev pub StandingIsKept : Type 0
 StandingIsKept =
-    (spelling : Spelling) (settings : Settings) (t : Opened) (blocks : List (List Entry)) (at n : ℕ) (old new : Image) → IsApartFromRow at n t.row
-    → Torn at n old new → StandsThere spelling settings t blocks old → StandsThere spelling settings t blocks new
+    (spelling : Spelling) (t : Opened) (blocks : List (List Entry)) (at n : ℕ) (old new : Image) → IsApartFromRow at n t.row
+    → Torn at n old new → StandsThere spelling t blocks old → StandsThere spelling t blocks new
 
 abbrev pub StandingBlocks : Type 0
-StandingBlocks = (spelling : Spelling) (settings : Settings) (t : Opened) (blocks : List (List Entry)) (image : Image) → StandsThere spelling settings t blocks image → BlocksAreRead t blocks image
+StandingBlocks = (spelling : Spelling) (t : Opened) (blocks : List (List Entry)) (image : Image) → StandsThere spelling t blocks image → BlocksAreRead t blocks image
 
 abbrev pub StandingKeys : Type 0
-StandingKeys = (spelling : Spelling) (settings : Settings) (t : Opened) (blocks : List (List Entry)) (image : Image) → StandsThere spelling settings t blocks image → KeysAreFound settings t blocks image
+StandingKeys = (spelling : Spelling) (t : Opened) (blocks : List (List Entry)) (image : Image) → StandsThere spelling t blocks image → KeysAreFound t blocks image
 
 abbrev pub StandingWalks : Type 0
-StandingWalks = (spelling : Spelling) (settings : Settings) (t : Opened) (blocks : List (List Entry)) (image : Image) → StandsThere spelling settings t blocks image → WalksAreWhole t blocks
+StandingWalks = (spelling : Spelling) (t : Opened) (blocks : List (List Entry)) (image : Image) → StandsThere spelling t blocks image → WalksAreWhole t blocks

@@ -38,12 +38,12 @@ abbrev pub block_for : Opened → Bytes → Option ℕ
 block_for t key = if point t.filter.hash_bits t.filter.real_bits t.filter.leaves key then block_of_key t.index key else None
 
 -- the table of these blocks stands on the device, and this is it, opened
-pub record StandsThere (spelling : Spelling) (settings : Settings) (t : Opened) (blocks : List (List Entry)) (image : Image) : Type 0 where
-  pub at : IsTableAt spelling settings t.row blocks image
+pub record StandsThere (spelling : Spelling) (t : Opened) (blocks : List (List Entry)) (image : Image) : Type 0 where
+  pub at : IsTableAt spelling t.row blocks image
   pub index_is : t.index ≡ index_of_blocks blocks
-  pub hash_is : t.filter.hash_bits ≡ settings.hash_bits
-  pub real_is : t.filter.real_bits ≡ settings.real_bits
-  pub leaves_are : t.filter.leaves ≡ leaves_of settings.hash_bits settings.real_bits (keys_of (joined blocks))
+  pub hash_is : t.filter.hash_bits ≡ t.row.hash_bits
+  pub real_is : t.filter.real_bits ≡ t.row.real_bits
+  pub leaves_are : t.filter.leaves ≡ leaves_of t.row.hash_bits t.row.real_bits (keys_of (joined blocks))
 
 -- ---- one of the blocks, numbered from 0
 

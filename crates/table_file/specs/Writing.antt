@@ -36,15 +36,15 @@ abbrev pub made_filter : Spelling → (ℕ → List Leaf → ℕ) → Built → 
 made_filter spelling built_cutoff built = filter_bytes_of spelling built_cutoff built.settings (keys_of built.entries)
 
 abbrev pub made_row : Spelling → (ℕ → List Leaf → ℕ) → Built → ℕ → ℕ → Row
-made_row spelling built_cutoff built level first_page = row_for level first_page built.entries (made_filter spelling built_cutoff built)
+made_row spelling built_cutoff built level first_page = row_for level first_page built.settings built.entries (made_filter spelling built_cutoff built)
 
 -- the table of such a row as it is opened
 abbrev pub opened_of : (ℕ → List Leaf → ℕ) → Built → Row → Opened
 opened_of built_cutoff built row = record { row = row; index = index_of built.entries; filter = filter_of built_cutoff built.settings (keys_of built.entries) }
 
 -- an opened table stands on the device, with these entries
-abbrev pub StandsWith : Spelling → Settings → Opened → List Entry → Image → Type 0
-StandsWith spelling settings t entries image = (blocks : List (List Entry)) × StandsThere spelling settings t blocks image × (joined blocks ≡ entries)
+abbrev pub StandsWith : Spelling → Opened → List Entry → Image → Type 0
+StandsWith spelling t entries image = (blocks : List (List Entry)) × StandsThere spelling t blocks image × (joined blocks ≡ entries)
 
 -- three pieces written one behind the other
 abbrev pub three_written : Image → ℕ → Bytes → Bytes → Bytes → Image

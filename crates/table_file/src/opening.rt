@@ -4,11 +4,11 @@ ghost use Rattle.byte_fields.specs.Sums.{fnv_of};
 ghost use Rattle.disk_trait.specs.Image.{Image, window};
 ghost use Rattle.disk_trait.specs.World.{ReadMoves};
 ghost use Rattle.filter_api.specs.Spellings.{IsSpelling};
-ghost use Rattle.filter_api.specs.declared.settings.Settings.{Settings};
+ghost use Rattle.key_base.specs.Limits.{max_ratio};
 ghost use Rattle.map_model.specs.SortedMap.{Bytes};
 ghost use Rattle.block_model.specs.IndexReading.{index_fault, index_in};
 ghost use Rattle.block_model.specs.Places.{FitsDevice, byte_of_page, end_page, index_page};
-ghost use Rattle.table_model.specs.Damage.{filter_part, part_damage};
+ghost use Rattle.table_model.specs.Damage.{HasWidths, filter_part, part_damage};
 ghost use Rattle.table_file.specs.Faults.{HasOpenCause, HasReadCause, IsDamage, IsDamagedFilter, IsDamagedTable, IsNoDamage, IsNoDevice, IsOtherSum};
 ghost use Rattle.table_file.specs.Opened.{IsOpen};
 
@@ -27,11 +27,17 @@ const LEAVES_AT: u64 = 12;
 
 const OTHER_LEAVES: u8 = 11;
 
+// The same of one that has other widths than the row's settings say.
+const WIDTHS_AT: u64 = 5;
+
+const OTHER_WIDTHS: u8 = 12;
+
 /// Opens the table of a row: reads its index and its filter, and judges every byte of them. At most two reads, and
 /// memory for both. The row has to [fit the device](fits_device).
 ///
-/// `Ok` exactly where index and filter keep their sums and rules and the row's counts, but for want of memory and faults
-/// of the device; else the first damage. The widths of the filter are not compared with any settings.
+/// `Ok` exactly where index and filter keep their sums and rules and the row's counts, and the filter has the widths that the
+/// row names, but for out of memory and faults of the device; else the first damage. The row's ratio is compared with
+/// nothing: no filter shows it.
 pub fn open_table<F: RangeFilter, D: Disk>(
     alloc: Global,
     disk: &mut D,
@@ -40,7 +46,7 @@ pub fn open_table<F: RangeFilter, D: Disk>(
     requires { FitsDevice row.now }
     ensures row { IfOk result (λ t. t.row ≡ row.now) }
     ensures stands { IsTrue D.tells → IfOk result (λ t. IsOpen F.spelling t (D.world disk.old).seen.held) }
-    ensures damaged { (settings : Settings) → IsTrue D.tells → IfErr result (IsDamagedTable F.spelling F.first_fault settings row.now (D.world disk.old).seen.held) }
+    ensures damaged { IsTrue D.tells → IfErr result (IsDamagedTable F.spelling F.first_fault row.now (D.world disk.old).seen.held) }
     ensures cause { IfErr result (HasOpenCause row.now (D.world disk.old) (D.world disk.new)) }
     ensures moves { ReadMoves 2 (D.world disk.old) (D.world disk.new) }
 {
@@ -143,11 +149,13 @@ fn read_index(alloc: Global, row: &Row, bytes: &[u8]) -> Result<BlockIndex, Tabl
 fn read_filter<F: RangeFilter>(alloc: Global, row: &Row, bytes: &[u8]) -> Result<F, TableFault>
     requires fits { FitsDevice row.now }
     requires size { length bytes.now ≡ row.now.filter_len }
-    ensures damaged { (settings : Settings) (image : Image) → filter_part row.now image ≡ bytes.now → IfErr result (IsDamagedFilter F.spelling F.first_fault settings row.now image) }
+    ensures damaged { (image : Image) → filter_part row.now image ≡ bytes.now → IfErr result (IsDamagedFilter F.spelling F.first_fault row.now image) }
     ensures cause { IfErr result IsNoDevice }
     ensures sum { IfOk result (λ _. row.now.filter_sum ≡ fnv_of bytes.now) }
     ensures filter { IfOk result (λ f. IsSpelling F.spelling (F.hash_bits f) (F.real_bits f) (F.cutoff f) (F.leaf_list f) bytes.now) }
     ensures many { IfOk result (λ f. length (F.leaf_list f) ≡ row.now.entries) }
+    ensures wide { IfOk result (λ f. HasWidths row.now (F.hash_bits f) (F.real_bits f)) }
+    ensures ratio { row.now.ratio ≤ max_ratio }
 {
     let at = PAGE_BYTES as u64
         * (u64::from(row.first_page) + u64::from(row.data_pages) + u64::from(row.index_pages));
@@ -159,6 +167,9 @@ fn read_filter<F: RangeFilter>(alloc: Global, row: &Row, bytes: &[u8]) -> Result
     };
     if filter.leaves() != row.entries {
         return Err(shape(at + LEAVES_AT, OTHER_LEAVES));
+    }
+    if filter.widths() != (row.hash_bits, row.real_bits) {
+        return Err(shape(at + WIDTHS_AT, OTHER_WIDTHS));
     }
     Ok(filter)
 }

@@ -100,6 +100,9 @@ impl<F: RangeFilter> Parts<F> {
             filter_len: self.filter_part.len(),
             index_sum: self.index_part.sum(),
             filter_sum: self.filter_part.sum(),
+            hash_bits: self.settings.hash_bits,
+            real_bits: self.settings.real_bits,
+            ratio: self.settings.ratio,
         }
     }
 }
@@ -116,7 +119,7 @@ impl<F: RangeFilter> Parts<F> {
         ensures table { result ≡ opened_of F.built_cutoff self row }
         ensures opened { (image : Image) → ArePartsShown row self.entries (made_filter F.spelling F.built_cutoff self) image → IsOpen F.spelling result image }
         ensures stands { (image : Image) → ArePartsShown row self.entries (made_filter F.spelling F.built_cutoff self) image
-            → StandsWith F.spelling self.settings result self.entries image }
+            → StandsWith F.spelling result self.entries image }
     {
         let Parts { index, filter, .. } = self;
         Table::new(row, index, filter)

@@ -8,7 +8,7 @@ ghost use Rattle.disk_trait.specs.declared.fault.Op.TheVariants.{Read};
 ghost use Rattle.std.specs.List.{AllByRecursion};
 ghost use Rattle.map_model.specs.SortedMap.{Bytes};
 ghost use Rattle.block_format.specs.Spans.{StandsIn, kept_from, spanned};
-ghost use Rattle.filter_api.specs.declared.settings.Settings.{Settings};
+ghost use Rattle.filter_api.specs.Ranges.{IsRowInRange};
 ghost use Rattle.entry_model.specs.Entries.{Entry, IsEntry};
 ghost use Rattle.block_model.specs.Laws.{joined};
 ghost use Rattle.entry_model.specs.Newest.{lookup};
@@ -80,9 +80,10 @@ impl<F: RangeFilter> Table<F> {
         Table { row, index, filter }
     }
 
-    /// The row that it was made from.
+    /// The row that it was made from. Its settings are in range.
     pub fn row(&self) -> &Row
-        ensures { result.now ≡ self.now.row }
+        ensures row { result.now ≡ self.now.row }
+        ensures range { IsRowInRange self.now.row }
     {
         &self.row
     }
@@ -133,9 +134,9 @@ impl<F: RangeFilter> Table<F> {
         ensures said { (n : ℕ) → IsTrue D.tells → block_for self.now key.now ≡ Some n → IfOk result (λ found. option_map (λ f. option_map (λ v. v.now) f) found ≡ lookup (block_in (bytes_at self.now n (D.world disk.old).seen.held)) key.now) }
         ensures moves { ReadMoves (blocks_of_get (block_for self.now key.now)) (D.world disk.old) (D.world disk.new) }
         ensures counted { IsTrue D.tells → OnOk result ((D.world disk.new).seen.reads ≡ (D.world disk.old).seen.reads + blocks_of_get (block_for self.now key.now)) }
-        ensures answer { (settings : Settings) (blocks : List (List Entry)) → IsTrue D.tells → StandsThere F.spelling settings self.now blocks (D.world disk.old).seen.held
+        ensures answer { (blocks : List (List Entry)) → IsTrue D.tells → StandsThere F.spelling self.now blocks (D.world disk.old).seen.held
             → IfOk result (λ found. option_map (λ f. option_map (λ v. v.now) f) found ≡ lookup (joined blocks) key.now) }
-        ensures undamaged { (settings : Settings) (blocks : List (List Entry)) → IsTrue D.tells → StandsThere F.spelling settings self.now blocks (D.world disk.old).seen.held → IfErr result IsNoDamage }
+        ensures undamaged { (blocks : List (List Entry)) → IsTrue D.tells → StandsThere F.spelling self.now blocks (D.world disk.old).seen.held → IfErr result IsNoDamage }
     {
         let Some(n) = self.block_for(key) else {
             return Ok(None);
@@ -218,7 +219,7 @@ impl<F: RangeFilter> Table<F> {
         ensures bytes { IsTrue D.tells → IfOk result (λ r. take r.0 buf.new ≡ bytes_at self.now n (D.world disk.old).seen.held) }
         ensures sum { IsTrue D.tells → IfOk result (λ _. (row_at self.now.index.rows n).sum ≡ fnv_of (bytes_at self.now n (D.world disk.old).seen.held)) }
         ensures fault { IsTrue D.tells → IfErr result (IsGetFault self.now n (D.world disk.old).seen.held) }
-        ensures undamaged { (settings : Settings) (blocks : List (List Entry)) → IsTrue D.tells → block_for self.now key.now ≡ Some n → StandsThere F.spelling settings self.now blocks (D.world disk.old).seen.held → IfErr result IsNoDamage }
+        ensures undamaged { (blocks : List (List Entry)) → IsTrue D.tells → block_for self.now key.now ≡ Some n → StandsThere F.spelling self.now blocks (D.world disk.old).seen.held → IfErr result IsNoDamage }
         ensures length { length buf.new ≡ length buf.old }
         ensures cause { IfErr result (HasReadCause (byte_of_page (page_at self.now n)) (D.world disk.old) (D.world disk.new)) }
         ensures moves { ReadMoves 1 (D.world disk.old) (D.world disk.new) }

@@ -26,10 +26,10 @@ pub fn write_parts<F: RangeFilter, D: Disk>(
     requires { first_page + table_pages (filter_bytes_of F.spelling F.built_cutoff) parts.now.settings parts.now.entries ≤ max_device_pages }
     ensures written { (level : ℕ) → IsTrue D.tells → OnOk result (Now (AreWritten (made_row F.spelling F.built_cutoff parts.now level first_page)
         parts.now.entries (made_filter F.spelling F.built_cutoff parts.now)) (D.world disk.new)) }
-    ensures table { (level : ℕ) → IsTrue D.tells → OnOk result (Now (IsTableOf F.spelling parts.now.settings
+    ensures table { (level : ℕ) → IsTrue D.tells → OnOk result (Now (IsTableOf F.spelling
         (made_row F.spelling F.built_cutoff parts.now level first_page)
         (table_of (filter_bytes_of F.spelling F.built_cutoff) parts.now.settings level first_page parts.now.entries)) (D.world disk.new)) }
-    ensures stands { (level : ℕ) → IsTrue D.tells → OnOk result (Now (StandsWith F.spelling parts.now.settings
+    ensures stands { (level : ℕ) → IsTrue D.tells → OnOk result (Now (StandsWith F.spelling
         (opened_of F.built_cutoff parts.now (made_row F.spelling F.built_cutoff parts.now level first_page)) parts.now.entries) (D.world disk.new)) }
     ensures moves { WriteMoves (byte_of_page first_page) (page_bytes * table_pages (filter_bytes_of F.spelling F.built_cutoff) parts.now.settings parts.now.entries) (D.world disk.old) (D.world disk.new) }
     ensures fault { (level : ℕ) → IfErr result (IsWriteOf (byte_of_page first_page)

@@ -36,7 +36,7 @@ returns-clause-written g c =
     let same = (λ (h : Image). ap (λ (x : Bytes). three_written h (4096 * c.from.result) x c.whole.result.now c.whole-2.result.now) c.as_slice.ensures.value
     ∙ ap₂ (λ (x y : Bytes). three_written h (4096 * c.from.result) p.blocks.items x y) c.whole.ensures c.whole-2.ensures) in
     subst (λ (b : Built). (level : ℕ) → IsTrue g.D.Disk.tells → OnOk c.write_three.result
-    (Now (AreWritten (row_for level first b.entries (filter_bytes_of spelling cutoff b.settings (keys_of b.entries))) b.entries (filter_bytes_of spelling cutoff b.settings (keys_of b.entries))) (g.D.Disk.world c.write_three.new.disk)))
+    (Now (AreWritten (row_for level first b.settings b.entries (filter_bytes_of spelling cutoff b.settings (keys_of b.entries))) b.entries (filter_bytes_of spelling cutoff b.settings (keys_of b.entries))) (g.D.Disk.world c.write_three.new.disk)))
     c.parts.view_is
     (λ level tells. on_ok_two _ (IsDurable (g.D.Disk.world c.write_three.new.disk)) _ c.write_three.result
     (λ held durable f left. written _ _ _ _ _ _ _ _ _ _ c.parts.invariant level first (4096 * c.from.result) at _ f (durable f left ∙ held ∙ same _))
@@ -52,7 +52,7 @@ returns-clause-table g c =
     let same = (λ (h : Image). ap (λ (x : Bytes). three_written h (4096 * c.from.result) x c.whole.result.now c.whole-2.result.now) c.as_slice.ensures.value
     ∙ ap₂ (λ (x y : Bytes). three_written h (4096 * c.from.result) p.blocks.items x y) c.whole.ensures c.whole-2.ensures) in
     subst (λ (b : Built). (level : ℕ) → IsTrue g.D.Disk.tells → OnOk c.write_three.result
-    (Now (IsTableOf spelling b.settings (row_for level first b.entries (filter_bytes_of spelling cutoff b.settings (keys_of b.entries))) (table_of (filter_bytes_of spelling cutoff) b.settings level first b.entries)) (g.D.Disk.world c.write_three.new.disk)))
+    (Now (IsTableOf spelling (row_for level first b.settings b.entries (filter_bytes_of spelling cutoff b.settings (keys_of b.entries))) (table_of (filter_bytes_of spelling cutoff) b.settings level first b.entries)) (g.D.Disk.world c.write_three.new.disk)))
     c.parts.view_is
     (λ level tells. on_ok_two _ (IsDurable (g.D.Disk.world c.write_three.new.disk)) _ c.write_three.result
     (λ held durable f left. stands _ _ _ _ _ _ _ _ _ _ c.parts.invariant level first (4096 * c.from.result) at f
@@ -69,7 +69,7 @@ returns-clause-stands g c =
     let same = (λ (h : Image). ap (λ (x : Bytes). three_written h (4096 * c.from.result) x c.whole.result.now c.whole-2.result.now) c.as_slice.ensures.value
     ∙ ap₂ (λ (x y : Bytes). three_written h (4096 * c.from.result) p.blocks.items x y) c.whole.ensures c.whole-2.ensures) in
     subst (λ (b : Built). (level : ℕ) → IsTrue g.D.Disk.tells → OnOk c.write_three.result
-    (Now (StandsWith spelling b.settings (opened_of cutoff b (row_for level first b.entries (filter_bytes_of spelling cutoff b.settings (keys_of b.entries)))) b.entries) (g.D.Disk.world c.write_three.new.disk)))
+    (Now (StandsWith spelling (opened_of cutoff b (row_for level first b.settings b.entries (filter_bytes_of spelling cutoff b.settings (keys_of b.entries)))) b.entries) (g.D.Disk.world c.write_three.new.disk)))
     c.parts.view_is
     (λ level tells. on_ok_two _ (IsDurable (g.D.Disk.world c.write_three.new.disk)) _ c.write_three.result
     (λ held durable f left. made_stands _ _ _ _ _ _ _ _ _ _ c.parts.invariant level first g.met.F.RangeFilter.spells_one f
@@ -98,8 +98,8 @@ returns-clause-fault g c =
     let first = c.args.first_page in
     let at : 4096 * c.from.result ≡ 4096 * first = ap (λ (n : ℕ). 4096 * n) c.from.ensures in
     subst (λ (b : Built). (level : ℕ) → IfErr c.write_three.result (IsWriteOf (byte_of_page first)
-    (byte_of_page (index_page (row_for level first b.entries (filter_bytes_of spelling cutoff b.settings (keys_of b.entries)))))
-    (byte_of_page (filter_page (row_for level first b.entries (filter_bytes_of spelling cutoff b.settings (keys_of b.entries)))))))
+    (byte_of_page (index_page (row_for level first b.settings b.entries (filter_bytes_of spelling cutoff b.settings (keys_of b.entries)))))
+    (byte_of_page (filter_page (row_for level first b.settings b.entries (filter_bytes_of spelling cutoff b.settings (keys_of b.entries)))))))
     c.parts.view_is
     (λ level.
     let second = ap (λ (x : Bytes). 4096 * c.from.result + length x) c.as_slice.ensures.value ∙ index_at _ _ _ _ _ _ _ _ _ _ c.parts.invariant level first (4096 * c.from.result) at in

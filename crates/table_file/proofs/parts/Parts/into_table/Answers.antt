@@ -1,4 +1,4 @@
-use Rattle.std.proofs.Common.{◌≡◌, ◌∙◌, sym, ap, subst}
+use Rattle.std.proofs.Common.{rules, ◌≡◌, ◌≤◌, ◌∙◌, sym, ap, subst}
 use Rattle.entry_model.specs.Entries.{keys_of}
 use Rattle.block_model.specs.Index.{index_of}
 use Rattle.filter_api.specs.declared.settings.Settings.{Settings}
@@ -17,8 +17,9 @@ new-requires g c =
     let spelling = g.F.RangeFilter.spelling in
     let cutoff = g.F.RangeFilter.built_cutoff in
     let row = c.args.row in
-    let is = c.requires.row ∙ sym (ap (λ (b : Built). row_for row.level row.first_page b.entries (filter_bytes_of spelling cutoff b.settings (keys_of b.entries))) c.self.view_is) in
-    of_row spelling cutoff _ _ _ _ _ _ _ _ c.self.invariant row.level row.first_page row is c.requires.within
+    let is = c.requires.row ∙ sym (ap (λ (b : Built). row_for row.level row.first_page b.settings b.entries (filter_bytes_of spelling cutoff b.settings (keys_of b.entries))) c.self.view_is) in
+    let ratio : row.ratio ≤ 65535 = search rules in
+    of_row spelling cutoff _ _ _ _ _ _ _ _ c.self.invariant row.level row.first_page row is c.requires.within ratio
 
 pub returns-clause-table : goal.returns-clause-table
 returns-clause-table g c =
@@ -34,7 +35,7 @@ returns-clause-opened g c image shown =
     let spelling = g.F.RangeFilter.spelling in
     let cutoff = g.F.RangeFilter.built_cutoff in
     let row = c.args.row in
-    let is = c.requires.row ∙ sym (ap (λ (b : Built). row_for row.level row.first_page b.entries (filter_bytes_of spelling cutoff b.settings (keys_of b.entries))) c.self.view_is) in
+    let is = c.requires.row ∙ sym (ap (λ (b : Built). row_for row.level row.first_page b.settings b.entries (filter_bytes_of spelling cutoff b.settings (keys_of b.entries))) c.self.view_is) in
     subst (λ (t : Opened). IsOpen spelling t image) (sym (returns-clause-table g c))
     (subst (λ (b : Built). IsOpen spelling (record { row = row; index = index_of b.entries; filter = filter_of cutoff b.settings (keys_of b.entries) }) image) c.self.view_is
     (table_open spelling cutoff _ _ _ _ _ _ _ _ c.self.invariant row.level row.first_page row is image
@@ -46,12 +47,11 @@ returns-clause-stands g c image shown =
     let cutoff = g.F.RangeFilter.built_cutoff in
     let row = c.args.row in
     let parts = c.self.invariant in
-    let is = c.requires.row ∙ sym (ap (λ (b : Built). row_for row.level row.first_page b.entries (filter_bytes_of spelling cutoff b.settings (keys_of b.entries))) c.self.view_is) in
+    let is = c.requires.row ∙ sym (ap (λ (b : Built). row_for row.level row.first_page b.settings b.entries (filter_bytes_of spelling cutoff b.settings (keys_of b.entries))) c.self.view_is) in
     let seen = subst (λ (b : Built). ArePartsShown row b.entries (filter_bytes_of spelling cutoff b.settings (keys_of b.entries)) image) (sym c.self.view_is) shown in
     let there = shown_table spelling cutoff _ _ _ _ _ _ _ _ parts row.level row.first_page row is image seen in
-    let at = subst (λ (s : Settings). IsTableAt spelling s row there.0 image) (ap (λ (b : Built). b.settings) c.self.view_is) there.1 in
-    let here = subst (λ (t : Opened). IsTableAt spelling c.args.self.settings t.row there.0 image) (sym (returns-clause-table g c)) at in (
+    let here = subst (λ (t : Opened). IsTableAt spelling t.row there.0 image) (sym (returns-clause-table g c)) there.1 in (
       there.0,
-      opened_stands spelling c.args.self.settings c.new.result there.0 image g.met.F.RangeFilter.spells_one (returns-clause-opened g c image shown) here,
+      opened_stands spelling c.new.result there.0 image g.met.F.RangeFilter.spells_one (returns-clause-opened g c image shown) here,
       there.2 ∙ ap (λ (b : Built). b.entries) c.self.view_is,
     )

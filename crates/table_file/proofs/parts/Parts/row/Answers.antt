@@ -51,7 +51,10 @@ returns g c =
       filter_len = c.len-3.result;
       index_sum = c.sum.result;
       filter_sum = c.sum-2.result;
+      hash_bits = p.settings.hash_bits;
+      real_bits = p.settings.real_bits;
+      ratio = p.settings.ratio;
     })
-    (row_for c.args.level c.args.first_page b.entries (filter_bytes_of g.F.RangeFilter.spelling g.F.RangeFilter.built_cutoff b.settings (keys_of b.entries)))) c.self.view_is
+    (row_for c.args.level c.args.first_page b.settings b.entries (filter_bytes_of g.F.RangeFilter.spelling g.F.RangeFilter.built_cutoff b.settings (keys_of b.entries)))) c.self.view_is
     (row_is _ _ _ _ _ _ _ _ _ _ c.self.invariant c.args.level c.args.first_page c.len.result c.pages.result c.pages-2.result c.len-2.result c.len-3.result c.sum.result c.sum-2.result
     len c.pages.ensures.pages c.pages-2.ensures.pages c.len-2.ensures c.len-3.ensures c.sum.ensures c.sum-2.ensures)
