@@ -77,7 +77,7 @@ not_placed (Ok made) refusal e ok = absurd cc
 not_placed (Err other) refusal e ok = let wrong : false ≡ true = ok in cc
 
 pub crossed_bound : (s : State) (lo hi : Bytes) → is_before hi lo ≡ true → seek_bound s lo hi ≡ 0
-crossed_bound s lo hi e = ap (λ (b : Bool). cond b 0 (sum_by (λ (t : Table). suc (stepped (state_map s) lo hi t)) (filter (admits_range s.settings lo hi) s.tables))) e
+crossed_bound s lo hi e = ap (λ (b : Bool). cond b 0 (sum_by (λ (t : Table). suc (stepped (state_map s) lo hi t)) (filter (admits_range lo hi) s.tables))) e
 
 no_branch : (b : Bool) (n : ℕ) → cond b n n ≡ n
 no_branch true n = refl
@@ -85,11 +85,11 @@ no_branch false n = refl
 
 pub bare_bound : (s : State) (lo hi : Bytes) → s.tables ≡ [] → seek_bound s lo hi ≡ 0
 bare_bound s lo hi e =
-    ap (λ (ts : List Table). cond (is_before hi lo) 0 (sum_by (λ (t : Table). suc (stepped (state_map s) lo hi t)) (filter (admits_range s.settings lo hi) ts))) e
+    ap (λ (ts : List Table). cond (is_before hi lo) 0 (sum_by (λ (t : Table). suc (stepped (state_map s) lo hi t)) (filter (admits_range lo hi) ts))) e
     ∙ no_branch (is_before hi lo) 0
 
 pub found_bound : (s : State) (key : Bytes) (value : Option Bytes) → lookup (memory s) key ≡ Some value → get_bound s key ≡ 0
-found_bound s key value e = ap (λ (o : Option (Option Bytes)). unless_found o (searched s.settings key s.tables)) e
+found_bound s key value e = ap (λ (o : Option (Option Bytes)). unless_found o (searched key s.tables)) e
 
 none_more : (o : Option (Option Bytes)) → unless_found o 0 ≡ 0
 none_more None = refl
@@ -97,7 +97,7 @@ none_more (Some value) = refl
 
 pub bare_get : (s : State) (key : Bytes) → s.tables ≡ [] → get_bound s key ≡ 0
 bare_get s key e =
-    ap (λ (ts : List Table). unless_found (lookup (memory s) key) (searched s.settings key ts)) e
+    ap (λ (ts : List Table). unless_found (lookup (memory s) key) (searched key ts)) e
     ∙ none_more (lookup (memory s) key)
 
 -- ---- where there is no cause

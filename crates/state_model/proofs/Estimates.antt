@@ -5,7 +5,6 @@ use Rattle.std.specs.Prelude.{Option, Some, None, bytes_eq, fold, count_by, sum_
 use Rattle.std.specs.List.{AllByRecursion}
 use Rattle.std.proofs.lemmas.List.Sums.{sum_by-cons, sum_by-append}
 use Rattle.byte_fields.specs.Spelling.{IsBytes}
-use Rattle.filter_api.specs.declared.settings.Settings.{Settings}
 use Rattle.map_model.specs.SortedMap.{Bytes, Map, put, del, in_place}
 use Rattle.entry_model.specs.Entries.{Entry, newest, live, change_by, changed, map_of, keys_of}
 use Rattle.map_model.proofs.Maps.{by_order}
@@ -81,18 +80,18 @@ true_entries lo hi [] = refl
 true_entries lo hi (e ∷ more) =
     sum_by-cons (λ (k : Bytes). one_in lo hi k) e.key (keys_of more) ∙ ap (λ (n : ℕ). one_in lo hi e.key + n) (true_entries lo hi more) ∙ sym (entry_more lo hi e more)
 
-tallies_enough : (settings : Settings) (lo hi : Bytes) (tables : List Table) → settings.real_bits ≤ 32 → IsBytes lo → IsBytes hi → is_before hi lo ≡ false → AllByRecursion IsSoundTable tables
-    → tables_in lo hi tables ≤ sum_by (λ (t : Table). tally settings.real_bits (table_leaves settings t) lo hi) tables
+tallies_enough : (lo hi : Bytes) (tables : List Table) → IsBytes lo → IsBytes hi → is_before hi lo ≡ false → AllByRecursion IsSoundTable tables
+    → tables_in lo hi tables ≤ sum_by (λ (t : Table). tally t.settings.real_bits (table_leaves t) lo hi) tables
 unfolding tables_in
-tallies_enough settings lo hi [] bits low high order sound = omega arith
-tallies_enough settings lo hi (t ∷ more) bits low high order sound =
-    let near = (tally_is_near settings.hash_bits settings.real_bits (keys_of t.entries) lo hi bits (key_list t sound.0) (record { lo_bytes = low; hi_bytes = high; in_order = order })).0 in
+tallies_enough lo hi [] low high order sound = omega arith
+tallies_enough lo hi (t ∷ more) low high order sound =
+    let near = (tally_is_near t.settings.hash_bits t.settings.real_bits (keys_of t.entries) lo hi sound.0.settings.real_bits (key_list t sound.0) (record { lo_bytes = low; hi_bytes = high; in_order = order })).0 in
     omega (
       arith,
       near,
       true_entries lo hi t.entries,
-      tallies_enough settings lo hi more bits low high order sound.1,
-      sum_by-cons (λ (u : Table). tally settings.real_bits (table_leaves settings u) lo hi) t more,
+      tallies_enough lo hi more low high order sound.1,
+      sum_by-cons (λ (u : Table). tally u.settings.real_bits (table_leaves u) lo hi) t more,
     )
 
 -- ---- the estimate
@@ -113,8 +112,8 @@ map_few s lo hi =
 
 pub estimate_enough : (filter_bytes : FilterBytes) (s : State) (lo hi : Bytes) → IsSound filter_bytes s → IsBytes lo → IsBytes hi → count (state_map s) lo (Some hi) ≤ estimate s lo hi
 estimate_enough filter_bytes s lo hi sound low high =
-    let told = entries_in lo hi (memory s) + sum_by (λ (t : Table). tally s.settings.real_bits (table_leaves s.settings t) lo hi) s.tables in
+    let told = entries_in lo hi (memory s) + sum_by (λ (t : Table). tally t.settings.real_bits (table_leaves t) lo hi) s.tables in
     elim (is_before hi lo) as (λ b. is_before hi lo ≡ b → count (state_map s) lo (Some hi) ≤ cond b 0 told) [
       | true ↦ λ e. omega (arith, count_crossed (state_map s) lo hi e)
-      | false ↦ λ e. omega (arith, counted (state_map s) lo (Some hi), map_few s lo hi, tallies_enough s.settings lo hi s.tables sound.settings.real_bits low high e sound.tables)
+      | false ↦ λ e. omega (arith, counted (state_map s) lo (Some hi), map_few s lo hi, tallies_enough lo hi s.tables low high e sound.tables)
     ] refl

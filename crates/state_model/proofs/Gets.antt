@@ -6,7 +6,6 @@ use Rattle.std.specs.Ordering.{is_lt}
 use Rattle.std.proofs.lemmas.Bool.{and_parts}
 use Rattle.std.proofs.lemmas.List.Sums.{sum_by-cons}
 use Rattle.extent_model.proofs.Lists.{Pairs, pairs_of}
-use Rattle.filter_api.specs.declared.settings.Settings.{Settings}
 use Rattle.key_base.specs.Limits.{last_epoch}
 use Rattle.map_model.specs.SortedMap.{Bytes}
 use Rattle.entry_model.specs.Entries.{Entry}
@@ -38,24 +37,24 @@ one_more true true found rest n l = omega (arith, unless_le found rest, l)
 one_more true false found rest n l = omega (arith, l)
 one_more false encloses found rest n l = omega (arith, l)
 
-searched_few : (settings : Settings) (key : Bytes) (tables : List Table) → searched settings key tables ≤ count_by (admits settings key) tables
-searched_few settings key [] = omega arith
-searched_few settings key (t ∷ older) =
+searched_few : (key : Bytes) (tables : List Table) → searched key tables ≤ count_by (admits key) tables
+searched_few key [] = omega arith
+searched_few key (t ∷ older) =
     omega (
       arith,
-      one_more (admits settings key t) (encloses key t) (lookup t.entries key) (searched settings key older) (count_by (admits settings key) older) (searched_few settings key older),
-      sum_by-cons (λ (x : Table). cond (admits settings key x) 1 0) t older,
+      one_more (admits key t) (encloses key t) (lookup t.entries key) (searched key older) (count_by (admits key) older) (searched_few key older),
+      sum_by-cons (λ (x : Table). cond (admits key x) 1 0) t older,
     )
 
 pub get_admitted : (s : State) (key : Bytes) → get_bound s key ≤ admitted s key
-get_admitted s key = omega (arith, unless_le (lookup (memory s) key) (searched s.settings key s.tables), searched_few s.settings key s.tables)
+get_admitted s key = omega (arith, unless_le (lookup (memory s) key) (searched key s.tables), searched_few key s.tables)
 
 -- ---- at most one on a level
 
-none_searched : (settings : Settings) (key : Bytes) (tables : List Table) → AllByRecursion (λ (t : Table). is_searched settings key t ≡ false) tables → searched settings key tables ≡ 0
-none_searched settings key [] all = refl
-none_searched settings key (t ∷ older) all =
-    ap (λ (b : Bool). cond b (suc (unless_found (lookup t.entries key) (searched settings key older))) (searched settings key older)) all.0 ∙ none_searched settings key older all.1
+none_searched : (key : Bytes) (tables : List Table) → AllByRecursion (λ (t : Table). is_searched key t ≡ false) tables → searched key tables ≡ 0
+none_searched key [] all = refl
+none_searched key (t ∷ older) all =
+    ap (λ (b : Bool). cond b (suc (unless_found (lookup t.entries key) (searched key older))) (searched key older)) all.0 ∙ none_searched key older all.1
 
 and_off : (a : Bool) → (a && false) ≡ false
 and_off true = refl
@@ -66,32 +65,32 @@ not_on true e = absurd cc
 not_on false e = refl
 
 -- where a table encloses the key, those of its level that come behind it do not
-later_off : (settings : Settings) (level : ℕ) (key : Bytes) (t : Table) (more : List Table) → 1 ≤ level → t.level ≡ level → AllAt level more → is_before (greatest_key t) key ≡ false
-    → AllByRecursion (StandsBefore t) more → AllByRecursion (λ (u : Table). is_searched settings key u ≡ false) more
-later_off settings level key t [] some at all upto order = tt
-later_off settings level key t (u ∷ more) some at all upto order = (off order.0, later_off settings level key t more some at all.1 upto order.1)
+later_off : (level : ℕ) (key : Bytes) (t : Table) (more : List Table) → 1 ≤ level → t.level ≡ level → AllAt level more → is_before (greatest_key t) key ≡ false
+    → AllByRecursion (StandsBefore t) more → AllByRecursion (λ (u : Table). is_searched key u ≡ false) more
+later_off level key t [] some at all upto order = tt
+later_off level key t (u ∷ more) some at all upto order = (off order.0, later_off level key t more some at all.1 upto order.1)
   where
-    off : StandsBefore t u → is_searched settings key u ≡ false
+    off : StandsBefore t u → is_searched key u ≡ false
     off (inl less) = absurd (omega (arith, at, all.0, less))
     off (inr (same, inl zero_level)) = absurd (omega (arith, at, zero_level, some))
     off (inr (same, inr before)) =
         let first = ap is_lt (upto_before key (greatest_key t) (least_key u) (upto_of key (greatest_key t) upto) before) in
-        ap (λ (b : Bool). admits settings key u && (not b && not (is_before (greatest_key u) key))) first ∙ and_off (admits settings key u)
+        ap (λ (b : Bool). admits key u && (not b && not (is_before (greatest_key u) key))) first ∙ and_off (admits key u)
 
-searched_one : (settings : Settings) (level : ℕ) (key : Bytes) (tables : List Table) → 1 ≤ level → AllAt level tables → Pairs StandsBefore tables → searched settings key tables ≤ 1
-searched_one settings level key [] some all order = omega arith
-searched_one settings level key (t ∷ more) some all order =
-    elim (is_searched settings key t) as (λ b. is_searched settings key t ≡ b → cond b (suc (unless_found (lookup t.entries key) (searched settings key more))) (searched settings key more) ≤ 1) [
+searched_one : (level : ℕ) (key : Bytes) (tables : List Table) → 1 ≤ level → AllAt level tables → Pairs StandsBefore tables → searched key tables ≤ 1
+searched_one level key [] some all order = omega arith
+searched_one level key (t ∷ more) some all order =
+    elim (is_searched key t) as (λ b. is_searched key t ≡ b → cond b (suc (unless_found (lookup t.entries key) (searched key more))) (searched key more) ≤ 1) [
       | true ↦ λ e.
-          let inside = (and_parts (admits settings key t) (encloses key t) e).1 in
+          let inside = (and_parts (admits key t) (encloses key t) e).1 in
           let upto = not_on (is_before (greatest_key t) key) (and_parts (not (is_before key (least_key t))) (not (is_before (greatest_key t) key)) inside).1 in
-          omega (arith, unless_le (lookup t.entries key) (searched settings key more), none_searched settings key more (later_off settings level key t more some all.0 all.1 upto order.0))
-      | false ↦ λ _. searched_one settings level key more some all.1 order.1
+          omega (arith, unless_le (lookup t.entries key) (searched key more), none_searched key more (later_off level key t more some all.0 all.1 upto order.0))
+      | false ↦ λ _. searched_one level key more some all.1 order.1
     ] refl
 
 pub get_one : (filter_bytes : FilterBytes) (s : State) (level : ℕ) (key : Bytes) → IsSound filter_bytes s → 1 ≤ level → AllAt level s.tables → get_bound s key ≤ 1
 get_one filter_bytes s level key sound some all =
-    omega (arith, unless_le (lookup (memory s) key) (searched s.settings key s.tables), searched_one s.settings level key s.tables some all (pairs_of StandsBefore s.tables sound.order))
+    omega (arith, unless_le (lookup (memory s) key) (searched key s.tables), searched_one level key s.tables some all (pairs_of StandsBefore s.tables sound.order))
 
 -- ---- behind a compaction
 

@@ -7,6 +7,7 @@ use Rattle.std.proofs.lemmas.List.Concat.{flat_map-cons}
 use Rattle.std.proofs.lemmas.List.Sums.{sum_by-cons}
 use Rattle.entry_model.specs.Entries.{Entry}
 use Rattle.block_model.specs.Block.{IsTable}
+use Rattle.filter_api.specs.Ranges.{InRange}
 use Rattle.filter_api.specs.declared.settings.Settings.{Settings}
 use Rattle.block_model.specs.Laws.{joined}
 use Rattle.block_model.specs.Pages.{pages_for, block_length, block_pages, blocks_of, data_pages, has_room, max_block_entries, page_bytes}
@@ -86,10 +87,10 @@ unfolding data_pages
 blocks_have_pages filter_bytes settings entries some = (omega (arith, entries_in_blocks entries, some), omega (arith, blocks_within (blocks_of entries)))
 
 -- the table that is made of a table's entries is sound
-pub table_is_sound : (filter_bytes : FilterBytes) (settings : Settings) (level page : ℕ) (entries : List Entry) → level ≤ 6 → IsTable entries
+pub table_is_sound : (filter_bytes : FilterBytes) (settings : Settings) (level page : ℕ) (entries : List Entry) → level ≤ 6 → InRange settings → settings.ratio ≤ 65535 → IsTable entries
     → IsSoundTable (table_of filter_bytes settings level page entries)
-table_is_sound filter_bytes settings level page entries deep is =
-    record { level = deep; entries = is; blocks = blocks_have_pages filter_bytes settings entries is.some; few = entries_in_blocks entries }
+table_is_sound filter_bytes settings level page entries deep range ratio is =
+    record { level = deep; entries = is; blocks = blocks_have_pages filter_bytes settings entries is.some; few = entries_in_blocks entries; settings = range; ratio = ratio }
 
 pub has_pages : (filter_bytes : FilterBytes) (settings : Settings) (entries : List Entry) → 1 ≤ length entries → 0 < table_pages filter_bytes settings entries
 has_pages filter_bytes settings entries some = omega (arith, entries_in_pages entries)

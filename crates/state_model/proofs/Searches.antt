@@ -4,7 +4,6 @@ use Rattle.std.specs.Prelude.{Option, Some, None, bytes_eq}
 use Rattle.std.specs.List.{Contains}
 use Rattle.std.proofs.lemmas.Slice.Eq.{bytes_eq-Decides}
 use Rattle.byte_fields.specs.Spelling.{IsBytes}
-use Rattle.filter_api.specs.declared.settings.Settings.{Settings}
 use Rattle.map_model.specs.SortedMap.{Bytes}
 use Rattle.entry_model.specs.Entries.{Entry, keys_of}
 use Rattle.entry_model.specs.Newest.{lookup}
@@ -38,13 +37,13 @@ encloses_held t key value is e =
     (not_before (least_key t) key (first_upto t.entries key (rises_of t is) some))
     (not_before key (greatest_key t) (upto_last t.entries key (rises_of t is) some))
 
-pub key_searched : (settings : Settings) (t : Table) (key : Bytes) (value : Option Bytes) → IsSoundTable t → lookup t.entries key ≡ Some value → is_searched settings key t ≡ true
-key_searched settings t key value is e = ap₂ (λ (a b : Bool). a && b)
-    (no_key_is_denied settings.hash_bits settings.real_bits (keys_of t.entries) key (held t.entries key value e))
+pub key_searched : (t : Table) (key : Bytes) (value : Option Bytes) → IsSoundTable t → lookup t.entries key ≡ Some value → is_searched key t ≡ true
+key_searched t key value is e = ap₂ (λ (a b : Bool). a && b)
+    (no_key_is_denied t.settings.hash_bits t.settings.real_bits (keys_of t.entries) key (held t.entries key value e))
     (encloses_held t key value is e)
 
-pub range_admitted : (settings : Settings) (t : Table) (lo hi key : Bytes) (value : Option Bytes) → IsSoundTable t → IsBytes lo → IsBytes hi → is_before hi lo ≡ false
-    → lookup t.entries key ≡ Some value → is_between lo (Some hi) key ≡ true → admits_range settings lo hi t ≡ true
-range_admitted settings t lo hi key value is low high order e inside =
-    no_held_range_is_denied settings.hash_bits settings.real_bits (keys_of t.entries) lo hi key (key_list t is)
+pub range_admitted : (t : Table) (lo hi key : Bytes) (value : Option Bytes) → IsSoundTable t → IsBytes lo → IsBytes hi → is_before hi lo ≡ false
+    → lookup t.entries key ≡ Some value → is_between lo (Some hi) key ≡ true → admits_range lo hi t ≡ true
+range_admitted t lo hi key value is low high order e inside =
+    no_held_range_is_denied t.settings.hash_bits t.settings.real_bits (keys_of t.entries) lo hi key (key_list t is)
     (record { lo_bytes = low; hi_bytes = high; in_order = order }) (held t.entries key value e) inside

@@ -132,7 +132,7 @@ with_tables_sound filter_bytes s (t ∷ []) sound table few laid are one =
     elim (s.epoch == last_epoch) as (λ b. (s.epoch == last_epoch) ≡ b → IfSound filter_bytes (cond b (Err LastEpoch) (Ok (in_front s t)))) [
       | true ↦ λ _. tt
       | false ↦ λ e. front_sound filter_bytes s t sound (ap (λ (u : Table). u.level) are.0) (subst IsSoundTable (sym are.0)
-          (table_is_sound filter_bytes s.settings 0 t.first_page (memory s) (omega arith) table))
+          (table_is_sound filter_bytes s.settings 0 t.first_page (memory s) (omega arith) sound.settings sound.ratio table))
           (eqb-false s.epoch last_epoch e) few laid
     ] refl
 

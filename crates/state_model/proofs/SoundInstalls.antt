@@ -209,7 +209,7 @@ written_sound filter_bytes s job sound is done inputs on =
     let whole = outputs_joined (length job.inputs - 1) (lasting lasts (newest_of job.inputs)) in
     let rise = parts_rise outputs (subst KeysRise (sym whole) (lasting_rises lasts (newest_of job.inputs) (newest_entries_rise (oldest_first job.inputs)))) in
     let each = planned_all IsEntry s.tables plan (weaker IsSoundTable (λ (t : Table). AllByRecursion IsEntry t.entries) (λ t st. st.entries.sound.each) job.inputs inputs) in
-    made_sound filter_bytes s.settings job.output s.pages outputs job.written (chosen_deep (drop is.flushes s.tables) plan is.chosen) sound.device.1 is.written on each (merge_some s.tables plan) rise
+    made_sound filter_bytes s.settings job.output s.pages outputs job.written (chosen_deep (drop is.flushes s.tables) plan is.chosen) sound.settings sound.ratio sound.device.1 is.written on each (merge_some s.tables plan) rise
 
 inputs_sound : (filter_bytes : FilterBytes) (s : State) (job : Job) → IsSound filter_bytes s → IsJob filter_bytes s.settings s.tables job → AllByRecursion IsSoundTable job.inputs
 inputs_sound filter_bytes s job sound is =

@@ -2,6 +2,7 @@
 use Rattle.std.proofs.Common.{◌≡◌, inr, ℕ, ◌≤◌, ◌<◌, ◌+◌, ◌^◌, List, [], ◌∷◌, ◌++◌, length, sym, ap, ◌∙◌, subst, Bool, true, false, arith}
 use Rattle.std.specs.Prelude.{◌-◌}
 use Rattle.std.specs.List.{AllByRecursion}
+use Rattle.filter_api.specs.Ranges.{InRange}
 use Rattle.filter_api.specs.declared.settings.Settings.{Settings}
 use Rattle.map_model.specs.SortedMap.{Bytes}
 use Rattle.entry_model.specs.Entries.{Entry, IsEntry}
@@ -70,18 +71,18 @@ made_at filter_bytes settings level (output ∷ outputs) (t ∷ more) are = (ap 
 few_entries : (filter_bytes : FilterBytes) (settings : Settings) (pages page : ℕ) (entries : List Entry) → pages ≤ 16777216 → page + table_pages filter_bytes settings entries ≤ pages → length entries < 2 ^ 32
 few_entries filter_bytes settings pages page entries most to = omega (arith, entries_in_pages entries)
 
-pub made_sound : (filter_bytes : FilterBytes) (settings : Settings) (level pages : ℕ) (outputs : List (List Entry)) (made : List Table) → level ≤ 6 → pages ≤ 16777216
+pub made_sound : (filter_bytes : FilterBytes) (settings : Settings) (level pages : ℕ) (outputs : List (List Entry)) (made : List Table) → level ≤ 6 → InRange settings → settings.ratio ≤ 65535 → pages ≤ 16777216
     → AreMade filter_bytes settings level outputs made → AllByRecursion (OnDevice pages) made → AllByRecursion (λ (l : List Entry). AllByRecursion IsEntry l) outputs
     → AllByRecursion (λ (l : List Entry). 1 ≤ length l) outputs → AllByRecursion KeysRise outputs → AllByRecursion IsSoundTable made
-made_sound filter_bytes settings level pages [] [] deep most are on each some rise = tt
-made_sound filter_bytes settings level pages (output ∷ outputs) [] deep most are on each some rise = tt
-made_sound filter_bytes settings level pages [] (t ∷ more) deep most are on each some rise = absurd are
-made_sound filter_bytes settings level pages (output ∷ outputs) (t ∷ more) deep most are on each some rise =
+made_sound filter_bytes settings level pages [] [] deep range ratio most are on each some rise = tt
+made_sound filter_bytes settings level pages (output ∷ outputs) [] deep range ratio most are on each some rise = tt
+made_sound filter_bytes settings level pages [] (t ∷ more) deep range ratio most are on each some rise = absurd are
+made_sound filter_bytes settings level pages (output ∷ outputs) (t ∷ more) deep range ratio most are on each some rise =
     let within : t.first_page + t.pages ≤ pages = on.0.to in
     let size : t.pages ≡ table_pages filter_bytes settings output = ap (λ (u : Table). u.pages) are.0 in
     let few = few_entries filter_bytes settings pages t.first_page output most (subst (λ (n : ℕ). t.first_page + n ≤ pages) size within) in
-    let made : IsSoundTable (table_of filter_bytes settings level t.first_page output) = table_is_sound filter_bytes settings level t.first_page output deep (is_table output each.0 few some.0 rise.0) in
-    (subst IsSoundTable (sym are.0) made, made_sound filter_bytes settings level pages outputs more deep most are.1 on.1 each.1 some.1 rise.1)
+    let made : IsSoundTable (table_of filter_bytes settings level t.first_page output) = table_is_sound filter_bytes settings level t.first_page output deep range ratio (is_table output each.0 few some.0 rise.0) in
+    (subst IsSoundTable (sym are.0) made, made_sound filter_bytes settings level pages outputs more deep range ratio most are.1 on.1 each.1 some.1 rise.1)
 
 -- ---- their order
 

@@ -1,6 +1,5 @@
 -- How many blocks a get and a closed seek may read, and what `estimate` and `explain` tell.
 use Rattle.std.specs.Prelude.{ℕ, suc, ◌+◌, Bool, true, not, ◌&&◌, if◌then◌else◌, List, [], ◌∷◌, filter, count_by, sum_by, Option, Some, None}
-use Rattle.filter_api.specs.declared.settings.Settings.{Settings}
 use Rattle.filter_model.specs.Leaves.{Leaf, leaves_of}
 use Rattle.filter_model.specs.Answers.{point, ranged, tally}
 use Rattle.map_model.specs.SortedMap.{Bytes, Map}
@@ -12,24 +11,24 @@ use Rattle.table_model.specs.Tables.{Table}
 use Rattle.state_model.specs.View.{memory, state_map}
 use Rattle.state_model.specs.Merges.{least_key, greatest_key}
 
--- the leaves of the table's filter, by the settings
-abbrev pub table_leaves : Settings → Table → List Leaf
-table_leaves settings t = leaves_of settings.hash_bits settings.real_bits (keys_of t.entries)
+-- the leaves of the table's filter
+abbrev pub table_leaves : Table → List Leaf
+table_leaves t = leaves_of t.settings.hash_bits t.settings.real_bits (keys_of t.entries)
 
 -- the table's filter admits the key, or the keys from lo to hi
-abbrev pub admits : Settings → Bytes → Table → Bool
-admits settings key t = point settings.hash_bits settings.real_bits (table_leaves settings t) key
+abbrev pub admits : Bytes → Table → Bool
+admits key t = point t.settings.hash_bits t.settings.real_bits (table_leaves t) key
 
-abbrev pub admits_range : Settings → Bytes → Bytes → Table → Bool
-admits_range settings lo hi t = ranged settings.real_bits (table_leaves settings t) lo hi
+abbrev pub admits_range : Bytes → Bytes → Table → Bool
+admits_range lo hi t = ranged t.settings.real_bits (table_leaves t) lo hi
 
 -- the key is not below the table's least key and not above its greatest
 abbrev pub encloses : Bytes → Table → Bool
 encloses key t = not (is_before key (least_key t)) && not (is_before (greatest_key t) key)
 
 -- a block of the table is read for the key
-abbrev pub is_searched : Settings → Bytes → Table → Bool
-is_searched settings key t = admits settings key t && encloses key t
+abbrev pub is_searched : Bytes → Table → Bool
+is_searched key t = admits key t && encloses key t
 
 -- nothing more, where the key was found
 abbrev pub unless_found : Option (Option Bytes) → ℕ → ℕ
@@ -37,14 +36,14 @@ unless_found (Some value) more = 0
 unless_found None more = more
 
 -- the tables that are searched for the key, up to the first that has it
-abbrev pub searched : Settings → Bytes → List Table → ℕ
-searched settings key [] = 0
-searched settings key (t ∷ older) =
-    if is_searched settings key t then suc (unless_found (lookup t.entries key) (searched settings key older)) else searched settings key older
+abbrev pub searched : Bytes → List Table → ℕ
+searched key [] = 0
+searched key (t ∷ older) =
+    if is_searched key t then suc (unless_found (lookup t.entries key) (searched key older)) else searched key older
 
 -- the blocks that a get may read
 abbrev pub get_bound : State → Bytes → ℕ
-get_bound s key = unless_found (lookup (memory s) key) (searched s.settings key s.tables)
+get_bound s key = unless_found (lookup (memory s) key) (searched key s.tables)
 
 -- the key comes before that of the answer, where there is one
 abbrev pub is_passed : Option (Bytes × Bytes) → Bytes → Bool
@@ -57,17 +56,17 @@ stepped map lo hi t = count_by (λ (e : Entry). is_between lo (Some hi) e.key &&
 
 -- the blocks that a closed seek may read: one of each table that admits the range, and one for each entry stepped over
 abbrev pub seek_bound : State → Bytes → Bytes → ℕ
-seek_bound s lo hi = if is_before hi lo then 0 else sum_by (λ (t : Table). suc (stepped (state_map s) lo hi t)) (filter (admits_range s.settings lo hi) s.tables)
+seek_bound s lo hi = if is_before hi lo then 0 else sum_by (λ (t : Table). suc (stepped (state_map s) lo hi t)) (filter (admits_range lo hi) s.tables)
 
 -- about how many keys lie from lo to hi: the memory entries there, and for each table what its filter counts
 abbrev pub estimate : State → Bytes → Bytes → ℕ
 estimate s lo hi =
     if is_before hi lo then 0
-    else count_by (λ (e : Entry). is_between lo (Some hi) e.key) (memory s) + sum_by (λ (t : Table). tally s.settings.real_bits (table_leaves s.settings t) lo hi) s.tables
+    else count_by (λ (e : Entry). is_between lo (Some hi) e.key) (memory s) + sum_by (λ (t : Table). tally t.settings.real_bits (table_leaves t) lo hi) s.tables
 
 -- the tables whose filter admits the key, and those of them that are searched
 abbrev pub admitted : State → Bytes → ℕ
-admitted s key = count_by (admits s.settings key) s.tables
+admitted s key = count_by (admits key) s.tables
 
 abbrev pub blocks_read : State → Bytes → ℕ
-blocks_read s key = count_by (is_searched s.settings key) s.tables
+blocks_read s key = count_by (is_searched key) s.tables

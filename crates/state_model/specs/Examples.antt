@@ -59,6 +59,7 @@ table_at level first_page pages key = record {
   first_page = first_page;
   pages = pages;
   blocks = 1;
+  settings = base;
   entries = del_entry key ∷ [];
 }
 

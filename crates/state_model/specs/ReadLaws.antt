@@ -2,7 +2,6 @@
 use Rattle.std.specs.Prelude.{◌≡◌, ◌≤◌, ℕ, true, false, [], Option, Some, None, Ok}
 use Rattle.std.specs.List.{AllByRecursion}
 use Rattle.byte_fields.specs.Spelling.{IsBytes}
-use Rattle.filter_api.specs.declared.settings.Settings.{Settings}
 use Rattle.map_model.specs.SortedMap.{Bytes, get}
 use Rattle.entry_model.specs.Newest.{lookup}
 use Rattle.map_model.specs.Slices.{is_before, is_between, seek, count}
@@ -16,12 +15,12 @@ use Rattle.state_model.specs.Sound.{IsSoundTable, IsSound}
 -- A sound table that has an entry of a key is searched for it, and none that has one from lo to hi denies these bounds.
 pub record HeldIsSearched : Type 0 where
   pub key :
-      (settings : Settings) (t : Table) (key : Bytes) (value : Option Bytes) → IsSoundTable t → lookup t.entries key ≡ Some value
-      → is_searched settings key t ≡ true
+      (t : Table) (key : Bytes) (value : Option Bytes) → IsSoundTable t → lookup t.entries key ≡ Some value
+      → is_searched key t ≡ true
   pub range :
-      (settings : Settings) (t : Table) (lo hi key : Bytes) (value : Option Bytes) → IsSoundTable t → IsBytes lo → IsBytes hi
+      (t : Table) (lo hi key : Bytes) (value : Option Bytes) → IsSoundTable t → IsBytes lo → IsBytes hi
       → is_before hi lo ≡ false
-      → lookup t.entries key ≡ Some value → is_between lo (Some hi) key ≡ true → admits_range settings lo hi t ≡ true
+      → lookup t.entries key ≡ Some value → is_between lo (Some hi) key ≡ true → admits_range lo hi t ≡ true
 
 -- A get reads no more blocks than tables admit the key, and at most one where all tables stand on one level below level 0,
 -- as behind a compaction.

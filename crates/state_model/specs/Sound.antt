@@ -14,12 +14,14 @@ use Rattle.state_model.specs.Taken.{taken}
 use Rattle.state_model.specs.Merges.{Plan, choose, planned, on_level, least_key, greatest_key}
 
 -- a table has one entry or more, with strictly rising keys, and one block or more, each of a page or more and of not too
--- many entries
+-- many entries; its settings are in range
 pub record IsSoundTable (t : Table) : Type 0 where
   pub level : t.level ≤ max_level
   pub entries : IsTable t.entries
   pub blocks : (1 ≤ t.blocks) × (t.blocks ≤ t.pages)
   pub few : length t.entries ≤ max_block_entries * t.blocks
+  pub settings : InRange t.settings
+  pub ratio : t.settings.ratio ≤ max_ratio
 
 -- The one stands before the other: it is of a lesser level, or of the same one and then, below level 0, its keys come
 -- before those of the other.

@@ -12,7 +12,7 @@ pub record Job : Type 0 where
   pub to_read : ℕ
   pub written : List Table
 
--- The log's entries stand in the order of writing. Of the tables, those of level 0 come first, the newest of them first;
+-- The settings are those of new tables. The log's entries stand in the order of writing. Of the tables, those of level 0 come first, the newest of them first;
 -- then come the deeper levels, each by rising keys. Kept tables belong to no version, but their pages are taken: cursors still
 -- read them. No cursor stands between two lines today; where cursors are a part of the state, what is kept is computed from them.
 pub record State : Type 0 where
