@@ -6,7 +6,6 @@ use Rattle.std.specs.List.{AllByRecursion, AllPairs}
 use Rattle.byte_fields.specs.declared.parts.Row.{Row}
 use Rattle.disk_trait.specs.Image.{Image}
 use Rattle.filter_api.specs.Spellings.{Spelling}
-use Rattle.filter_api.specs.declared.settings.Settings.{Settings}
 use Rattle.key_base.specs.ByteOrder.{is_before}
 use Rattle.block_model.proofs.Refusals.{kept, not_false}
 use Rattle.extent_model.proofs.Lists.{Pairs, all_pairs}
@@ -27,17 +26,17 @@ abbrev pub Climb : ℕ → List Table → Type 0
 Climb before [] = Unit {0}
 Climb before (t ∷ later) = (before ≤ t.level) × Climb t.level later
 
-pub climb_of : (spelling : Spelling) (settings : Settings) (place before : ℕ) (rows : List Row) (tables : List Table) (image : Image)
-    → AreTablesOf spelling settings rows tables image → levels_fault place before rows ≡ None → Climb before tables
+pub climb_of : (spelling : Spelling) (place before : ℕ) (rows : List Row) (tables : List Table) (image : Image)
+    → AreTablesOf spelling rows tables image → levels_fault place before rows ≡ None → Climb before tables
 unfolding levels_fault
-climb_of spelling settings place before [] [] image are none = tt
-climb_of spelling settings place before [] (t ∷ ts) image are none = elim are [ ]
-climb_of spelling settings place before (row ∷ rows) [] image are none = elim are [ ]
-climb_of spelling settings place before (row ∷ rows) (t ∷ ts) image are none =
+climb_of spelling place before [] [] image are none = tt
+climb_of spelling place before [] (t ∷ ts) image are none = elim are [ ]
+climb_of spelling place before (row ∷ rows) [] image are none = elim are [ ]
+climb_of spelling place before (row ∷ rows) (t ∷ ts) image are none =
     let level : t.level ≡ row.level = ap (λ (u : Table). u.level) are.0.2 in
     let a = kept (nat_lt row.level before) place 9 _ none in
     let rest : levels_fault (place + 64) t.level rows ≡ None = ap (λ (n : ℕ). levels_fault (place + 64) n rows) level ∙ a.1 in
-    (omega (arith, level, ltb-false row.level before a.0), climb_of spelling settings (place + 64) t.level rows ts image are.1 rest)
+    (omega (arith, level, ltb-false row.level before a.0), climb_of spelling (place + 64) t.level rows ts image are.1 rest)
 
 -- ---- ranges
 

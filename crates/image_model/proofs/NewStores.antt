@@ -24,13 +24,14 @@ new_sound settings pages range ratio some few = record {
   ratio = omega (arith, ratio);
   log_page = inl refl;
   rows = tt;
+  settings = tt;
   placed = none_placed settings pages;
 }
 
 pub new_store_ready : NewStoreIsReady
 new_store_ready spelling settings pages image range ratio some few formatted = record {
   current = record {
-    here = record { is_open = formatted.gate; sound = new_sound settings pages range ratio some few; body = formatted.body };
+    here = record { is_open = formatted.gate; sound = new_sound settings pages range ratio some few; format = 2; may = inl refl; body = formatted.body };
     there = inl formatted.other_gate;
   };
   gate = formatted.other_gate;

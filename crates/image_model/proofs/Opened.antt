@@ -10,7 +10,6 @@ use Rattle.disk_trait.proofs.Images.{window_size}
 use Rattle.entry_model.specs.Entries.{Entry}
 use Rattle.filter_api.specs.Spellings.{IsDecided, Spelling, SpellsOne}
 use Rattle.filter_api.specs.declared.errors.FilterFault.{FilterFault}
-use Rattle.filter_api.specs.declared.settings.Settings.{Settings}
 use Rattle.log_model.specs.Area.{LogBreaks, LogIs, area_in, area_size, start_of}
 use Rattle.log_model.proofs.Ends.{not_both}
 use Rattle.log_model.proofs.Logs.{size_is}
@@ -26,7 +25,6 @@ use Rattle.block_model.proofs.Refusals.{neither}
 use Rattle.table_model.specs.Damage.{IsOfBytes, index_damage}
 use Rattle.table_model.proofs.Decided.{sound_or_damaged, window_bytes}
 use Rattle.image_model.specs.Opening.{AnImageOpens, FirstDamage, IsOpened, OpenedHasNoDamage, OpenedIsState, OpensWith, StateOpens, TablesBreak, VersionBreaks, at_a_table, at_the_log, at_the_ranges, at_the_slots, at_the_version, key_range_of}
-use Rattle.image_model.specs.Stands.{settings_of}
 use Rattle.image_model.proofs.InOrder.{climb_of, in_order}
 use Rattle.image_model.proofs.Opening.{all_opened, none_of_opened, not_fault, not_some, same_area}
 use Rattle.image_model.proofs.Placed.{version_levelled}
@@ -44,13 +42,13 @@ fault_or_none (Some f) = inr (f, refl)
 module _ (spelling : Spelling) (first_fault : Bytes → FilterFault) (image : Image) (decided : IsDecided spelling) (bytes : IsOfBytes image) where
   -- ---- the tables
 
-  tables_end : (settings : Settings) (rows : List Row) → AllByRecursion (IsOpened spelling settings image) rows ⊎ ((d : Damage) × TablesBreak spelling first_fault settings image d rows)
-  tables_end settings [] = inl tt
-  tables_end settings (row ∷ rows) = elim (damage_or_none (index_damage row image)) [
+  tables_end : (rows : List Row) → AllByRecursion (IsOpened spelling image) rows ⊎ ((d : Damage) × TablesBreak spelling first_fault image d rows)
+  tables_end [] = inl tt
+  tables_end (row ∷ rows) = elim (damage_or_none (index_damage row image)) [
     | inr damaged ↦ inr (damaged.0, inl damaged.1)
-    | inl index ↦ elim (sound_or_damaged spelling first_fault settings row image decided bytes) [
+    | inl index ↦ elim (sound_or_damaged spelling first_fault row image decided bytes) [
       | inr damaged ↦ inr (damaged.0, inr (index, inl damaged.1))
-      | inl filter ↦ elim (tables_end settings rows) [
+      | inl filter ↦ elim (tables_end rows) [
         | inr damaged ↦ inr (damaged.0, inr (index, inr (filter, damaged.1)))
         | inl all ↦ inl (record { index = index; filter = filter }, all)
       ]
@@ -74,7 +72,7 @@ module _ (spelling : Spelling) (first_fault : Bytes → FilterFault) (image : Im
   OfVersion slot v = ((d : Damage) × VersionBreaks spelling first_fault slot v image d) ⊎ ((log : List Entry) × OpensWith spelling v log image)
 
   version_ends : (slot : ℕ) (v : Version) → IsVersionOf v image → OfVersion slot v
-  version_ends slot v is = elim (tables_end (settings_of v) v.rows) [
+  version_ends slot v is = elim (tables_end v.rows) [
     | inr damaged ↦ inl (damaged.0, at_a_table damaged.0 damaged.1)
     | inl all ↦ elim (fault_or_none (ranges_fault (map (key_range_of image) v.rows))) [
       | inr fault ↦ inl (_, at_the_ranges fault.0 all fault.1)
@@ -118,7 +116,7 @@ image_opens spelling first_fault image decided bytes = of_image spelling first_f
 
 module _ (spelling : Spelling) (first_fault : Bytes → FilterFault) (v : Version) (log : List Entry) (image : Image) (one : SpellsOne spelling) (opens : OpensWith spelling v log image) where
   none_of_version : (slot : ℕ) (d : Damage) → VersionBreaks spelling first_fault slot v image d → ⊥
-  none_of_version slot _ (at_a_table d a) = none_of_opened spelling first_fault (settings_of v) image one d v.rows opens.tables a
+  none_of_version slot _ (at_a_table d a) = none_of_opened spelling first_fault image one d v.rows opens.tables a
   none_of_version slot _ (at_the_ranges f all a) = not_fault f _ opens.ranges a
   none_of_version slot _ (at_the_log area at rule all none is a) =
       not_both log a.0 rule (area_in area image) (subst (λ (k : ℕ). LogIs k log image) (same_area v.log_page opens.area area opens.area_is is) opens.log) a.2
@@ -140,8 +138,8 @@ state_opens spelling s image is =
       v,
       record {
         version_is = is.1.version_is;
-        tables = subst (λ (x : Settings). AllByRecursion (IsOpened spelling x image) v.rows) named.settings (all_opened spelling s.settings v.rows s.tables image named.tables);
-        ranges = ranges_keep spelling s.settings v.rows s.tables image named.tables named.order;
+        tables = all_opened spelling v.rows s.tables image named.tables;
+        ranges = ranges_keep spelling v.rows s.tables image named.tables named.order;
         area = named.area;
         area_is = named.area_is;
         log = named.log;
@@ -162,9 +160,9 @@ opened_is_state spelling v log tables image opens are =
           pages = refl;
           epoch = refl;
           tables = are;
-          order = in_order 0 tables (climb_of spelling (settings_of v) 64 0 v.rows tables image are (no_level_falls v is))
-              (sym (ap ranges_fault (ranges_are spelling (settings_of v) v.rows tables image are)) ∙ opens.ranges)
-              (tables_sound spelling (settings_of v) v.rows tables image (version_levelled v is) are);
+          order = in_order 0 tables (climb_of spelling 64 0 v.rows tables image are (no_level_falls v is))
+              (sym (ap ranges_fault (ranges_are spelling v.rows tables image are)) ∙ opens.ranges)
+              (tables_sound spelling v.rows tables image (version_levelled v is) are);
           area = opens.area;
           area_is = opens.area_is;
           log = opens.log;

@@ -9,7 +9,6 @@ use Rattle.byte_fields.specs.declared.parts.Row.{Row}
 use Rattle.disk_trait.specs.Image.{Image}
 use Rattle.filter_api.specs.Spellings.{Spelling, SpellsOne}
 use Rattle.filter_api.specs.declared.errors.FilterFault.{FilterFault}
-use Rattle.filter_api.specs.declared.settings.Settings.{Settings}
 use Rattle.log_model.specs.Area.{LogBreaks, LogIs, area_in, start_of}
 use Rattle.log_model.specs.Records.{Breaks}
 use Rattle.log_model.proofs.Ends.{not_both, one_fault}
@@ -24,7 +23,7 @@ use Rattle.table_model.specs.Tables.{Table}
 use Rattle.table_model.specs.Damage.{index_damage}
 use Rattle.table_model.proofs.Sound.{filter_has_none, index_has_none, one_filter_damage, sound_filter_has_none}
 use Rattle.image_model.specs.Opening.{IsOpened, LogIsAtItsPage, NoStoreHasNoDamage, NoStoreHasNoState, OneDamage, RangesAreAtTheBody, RowsComeFirst, StateHasNoDamage, TablesBreak, VersionBreaks, at_a_table, at_the_log, at_the_ranges, at_the_slots, at_the_version}
-use Rattle.image_model.specs.Stands.{IsNamedBy, settings_of}
+use Rattle.image_model.specs.Stands.{IsNamedBy}
 use Rattle.image_model.specs.Tables.{AreTablesOf}
 use Rattle.image_model.proofs.Ranges.{ranges_keep}
 
@@ -41,30 +40,30 @@ none_or_some d e o none some = absurd (not_some d o none some)
 
 -- ---- of the tables
 
-module _ (spelling : Spelling) (first_fault : Bytes → FilterFault) (settings : Settings) (image : Image) (one : SpellsOne spelling) where
-  one_of_tables : (d e : Damage) (rows : List Row) → TablesBreak spelling first_fault settings image d rows → TablesBreak spelling first_fault settings image e rows → d ≡ e
+module _ (spelling : Spelling) (first_fault : Bytes → FilterFault) (image : Image) (one : SpellsOne spelling) where
+  one_of_tables : (d e : Damage) (rows : List Row) → TablesBreak spelling first_fault image d rows → TablesBreak spelling first_fault image e rows → d ≡ e
   one_of_tables d e [] a b = elim a [ ]
   one_of_tables d e (row ∷ rows) (inl a) (inl b) = some_one d e (index_damage row image) a b
   one_of_tables d e (row ∷ rows) (inl a) (inr b) = none_or_some d e (index_damage row image) b.0 a
   one_of_tables d e (row ∷ rows) (inr a) (inl b) = sym (none_or_some e d (index_damage row image) a.0 b)
-  one_of_tables d e (row ∷ rows) (inr (_, inl a)) (inr (_, inl b)) = one_filter_damage spelling first_fault settings row image d e one a b
-  one_of_tables d e (row ∷ rows) (inr (_, inl a)) (inr (_, inr b)) = absurd (sound_filter_has_none spelling first_fault settings row image d one b.0 a)
-  one_of_tables d e (row ∷ rows) (inr (_, inr a)) (inr (_, inl b)) = absurd (sound_filter_has_none spelling first_fault settings row image e one a.0 b)
+  one_of_tables d e (row ∷ rows) (inr (_, inl a)) (inr (_, inl b)) = one_filter_damage spelling first_fault row image d e one a b
+  one_of_tables d e (row ∷ rows) (inr (_, inl a)) (inr (_, inr b)) = absurd (sound_filter_has_none spelling first_fault row image d one b.0 a)
+  one_of_tables d e (row ∷ rows) (inr (_, inr a)) (inr (_, inl b)) = absurd (sound_filter_has_none spelling first_fault row image e one a.0 b)
   one_of_tables d e (row ∷ rows) (inr (_, inr a)) (inr (_, inr b)) = one_of_tables d e rows a.1 b.1
 
-  pub none_of_opened : (d : Damage) (rows : List Row) → AllByRecursion (IsOpened spelling settings image) rows → TablesBreak spelling first_fault settings image d rows → ⊥
+  pub none_of_opened : (d : Damage) (rows : List Row) → AllByRecursion (IsOpened spelling image) rows → TablesBreak spelling first_fault image d rows → ⊥
   none_of_opened d [] all a = a
   none_of_opened d (row ∷ rows) all (inl a) = not_some d (index_damage row image) all.0.index a
-  none_of_opened d (row ∷ rows) all (inr (_, inl a)) = sound_filter_has_none spelling first_fault settings row image d one all.0.filter a
+  none_of_opened d (row ∷ rows) all (inr (_, inl a)) = sound_filter_has_none spelling first_fault row image d one all.0.filter a
   none_of_opened d (row ∷ rows) all (inr (_, inr a)) = none_of_opened d rows all.1 a.1
 
-pub all_opened : (spelling : Spelling) (settings : Settings) (rows : List Row) (tables : List Table) (image : Image) → AreTablesOf spelling settings rows tables image
-    → AllByRecursion (IsOpened spelling settings image) rows
-all_opened spelling settings [] tables image are = tt
-all_opened spelling settings (row ∷ rows) [] image are = elim are [ ]
-all_opened spelling settings (row ∷ rows) (t ∷ ts) image are = (
-  record { index = index_has_none spelling settings row are.0.0 image are.0.1; filter = filter_has_none spelling settings row are.0.0 image are.0.1 },
-  all_opened spelling settings rows ts image are.1,
+pub all_opened : (spelling : Spelling) (rows : List Row) (tables : List Table) (image : Image) → AreTablesOf spelling rows tables image
+    → AllByRecursion (IsOpened spelling image) rows
+all_opened spelling [] tables image are = tt
+all_opened spelling (row ∷ rows) [] image are = elim are [ ]
+all_opened spelling (row ∷ rows) (t ∷ ts) image are = (
+  record { index = index_has_none spelling row are.0.0 image are.0.1; filter = filter_has_none spelling row are.0.0 image are.0.1 },
+  all_opened spelling rows ts image are.1,
 )
 
 -- ---- of the log
@@ -93,13 +92,13 @@ same_area log_page area other a b = omega (arith, a, b)
 
 module _ (spelling : Spelling) (first_fault : Bytes → FilterFault) (slot : ℕ) (v : Version) (image : Image) (one : SpellsOne spelling) where
   one_of_version : (d e : Damage) → VersionBreaks spelling first_fault slot v image d → VersionBreaks spelling first_fault slot v image e → d ≡ e
-  one_of_version _ _ (at_a_table d a) (at_a_table e b) = one_of_tables spelling first_fault (settings_of v) image one d e v.rows a b
-  one_of_version _ _ (at_a_table d a) (at_the_ranges f all b) = absurd (none_of_opened spelling first_fault (settings_of v) image one d v.rows all a)
-  one_of_version _ _ (at_a_table d a) (at_the_log area at rule all none is b) = absurd (none_of_opened spelling first_fault (settings_of v) image one d v.rows all a)
-  one_of_version _ _ (at_the_ranges f all a) (at_a_table e b) = absurd (none_of_opened spelling first_fault (settings_of v) image one e v.rows all b)
+  one_of_version _ _ (at_a_table d a) (at_a_table e b) = one_of_tables spelling first_fault image one d e v.rows a b
+  one_of_version _ _ (at_a_table d a) (at_the_ranges f all b) = absurd (none_of_opened spelling first_fault image one d v.rows all a)
+  one_of_version _ _ (at_a_table d a) (at_the_log area at rule all none is b) = absurd (none_of_opened spelling first_fault image one d v.rows all a)
+  one_of_version _ _ (at_the_ranges f all a) (at_a_table e b) = absurd (none_of_opened spelling first_fault image one e v.rows all b)
   one_of_version _ _ (at_the_ranges f all a) (at_the_ranges g again b) = ap (range_damage slot) (fault_one f g _ a b)
   one_of_version _ _ (at_the_ranges f all a) (at_the_log area at rule again none is b) = absurd (not_fault f _ none a)
-  one_of_version _ _ (at_the_log area at rule all none is a) (at_a_table e b) = absurd (none_of_opened spelling first_fault (settings_of v) image one e v.rows all b)
+  one_of_version _ _ (at_the_log area at rule all none is a) (at_a_table e b) = absurd (none_of_opened spelling first_fault image one e v.rows all b)
   one_of_version _ _ (at_the_log area at rule all none is a) (at_the_ranges g again b) = absurd (not_fault g _ none b)
   one_of_version _ _ (at_the_log area at rule all none is a) (at_the_log other more number again nothing that b) =
       let so = log_place area at rule other more number image (same_area v.log_page area other is that) a b in
@@ -107,9 +106,9 @@ module _ (spelling : Spelling) (first_fault : Bytes → FilterFault) (slot : ℕ
 
   none_of_named : (s : State) (d : Damage) → IsNamedBy spelling v s image → VersionBreaks spelling first_fault slot v image d → ⊥
   none_of_named s _ named (at_a_table d a) =
-      none_of_opened spelling first_fault (settings_of v) image one d v.rows
-      (subst (λ (x : Settings). AllByRecursion (IsOpened spelling x image) v.rows) named.settings (all_opened spelling s.settings v.rows s.tables image named.tables)) a
-  none_of_named s _ named (at_the_ranges f all a) = not_fault f _ (ranges_keep spelling s.settings v.rows s.tables image named.tables named.order) a
+      none_of_opened spelling first_fault image one d v.rows
+      (all_opened spelling v.rows s.tables image named.tables) a
+  none_of_named s _ named (at_the_ranges f all a) = not_fault f _ (ranges_keep spelling v.rows s.tables image named.tables named.order) a
   none_of_named s _ named (at_the_log area at rule all none is a) =
       not_both s.log a.0 rule (area_in area image) (subst (λ (k : ℕ). LogIs k s.log image) (same_area v.log_page named.area area named.area_is is) named.log) a.2
 
@@ -152,20 +151,20 @@ log_at_its_page spelling first_fault slot other v image area place rule slots cu
 
 -- row by row
 
-module _ (spelling : Spelling) (first_fault : Bytes → FilterFault) (settings : Settings) (image : Image) (d : Damage) where
-  at_the_row : (before rows : List Row) → AllByRecursion (IsOpened spelling settings image) before → TablesBreak spelling first_fault settings image d rows
-      → TablesBreak spelling first_fault settings image d (before ++ rows)
+module _ (spelling : Spelling) (first_fault : Bytes → FilterFault) (image : Image) (d : Damage) where
+  at_the_row : (before rows : List Row) → AllByRecursion (IsOpened spelling image) before → TablesBreak spelling first_fault image d rows
+      → TablesBreak spelling first_fault image d (before ++ rows)
   at_the_row [] rows all breaks = breaks
   at_the_row (row ∷ before) rows all breaks = inr (all.0.index, inr (all.0.filter, at_the_row before rows all.1 breaks))
 
-  of_the_row : (all before : List Row) (rows : List Row) → all ≡ before ++ rows → AllByRecursion (IsOpened spelling settings image) before
-      → TablesBreak spelling first_fault settings image d rows → TablesBreak spelling first_fault settings image d all
-  of_the_row all before rows are opened breaks = subst (TablesBreak spelling first_fault settings image d) (sym are) (at_the_row before rows opened breaks)
+  of_the_row : (all before : List Row) (rows : List Row) → all ≡ before ++ rows → AllByRecursion (IsOpened spelling image) before
+      → TablesBreak spelling first_fault image d rows → TablesBreak spelling first_fault image d all
+  of_the_row all before rows are opened breaks = subst (TablesBreak spelling first_fault image d) (sym are) (at_the_row before rows opened breaks)
 
 pub rows_come_first : RowsComeFirst
 rows_come_first spelling first_fault image d = record {
   index = λ slot other v before later row slots current are opened damaged.
-      at_the_version slot other v slots current (at_a_table d (of_the_row spelling first_fault (settings_of v) image d v.rows before (row ∷ later) are opened (inl damaged)));
+      at_the_version slot other v slots current (at_a_table d (of_the_row spelling first_fault image d v.rows before (row ∷ later) are opened (inl damaged)));
   filter = λ slot other v before later row slots current are opened none damaged.
-      at_the_version slot other v slots current (at_a_table d (of_the_row spelling first_fault (settings_of v) image d v.rows before (row ∷ later) are opened (inr (none, inl damaged))));
+      at_the_version slot other v slots current (at_a_table d (of_the_row spelling first_fault image d v.rows before (row ∷ later) are opened (inr (none, inl damaged))));
 }

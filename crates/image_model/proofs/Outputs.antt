@@ -4,7 +4,6 @@ use Rattle.std.specs.Prelude.{Option, not, filter, fold, ◌==◌}
 use Rattle.std.specs.List.{AllByRecursion, list_any}
 use Rattle.byte_fields.specs.declared.parts.Row.{Row}
 use Rattle.disk_trait.specs.Image.{Image}
-use Rattle.filter_api.specs.declared.settings.Settings.{Settings}
 use Rattle.filter_api.specs.Spellings.{Spelling}
 use Rattle.state_model.specs.State.{Job, written_by}
 use Rattle.state_model.specs.Tends.{goes_before, inserted, installed_tables, without}
@@ -13,19 +12,19 @@ use Rattle.table_model.specs.Tables.{Table}
 use Rattle.image_model.specs.Installs.{OutputsAreTables}
 use Rattle.image_model.specs.Tables.{AreTablesOf}
 
-module _ (spelling : Spelling) (settings : Settings) (image : Image) where
+module _ (spelling : Spelling) (image : Image) where
   -- some rows have these tables
   abbrev HaveRows : List Table → Type 0
-  HaveRows tables = (rows : List Row) × AreTablesOf spelling settings rows tables image
+  HaveRows tables = (rows : List Row) × AreTablesOf spelling rows tables image
 
   abbrev Stands : Table → Type 0
-  Stands t = StandsInExtent spelling settings image t
+  Stands t = StandsInExtent spelling image t
 
   rows_of : (tables : List Table) → AllByRecursion Stands tables → HaveRows tables
   rows_of [] all = ([], tt)
   rows_of (t ∷ more) (stands, all) = let rest = rows_of more all in (stands.0 ∷ rest.0, (stands.1, rest.1))
 
-  stand : (rows : List Row) (tables : List Table) → AreTablesOf spelling settings rows tables image → AllByRecursion Stands tables
+  stand : (rows : List Row) (tables : List Table) → AreTablesOf spelling rows tables image → AllByRecursion Stands tables
   stand [] [] are = tt
   stand (row ∷ rows) (t ∷ more) are = ((row, are.0), stand rows more are.1)
   stand [] (t ∷ more) are = absurd are
@@ -53,7 +52,7 @@ module _ (spelling : Spelling) (settings : Settings) (image : Image) where
   stand_first [] kept all = tt
   stand_first (t ∷ more) kept (stands, all) = (stands, stand_first more kept all)
 
-  pub stand_installed : (rows : List Row) (tables kept : List Table) (job : Job) → AreTablesOf spelling settings rows tables image
+  pub stand_installed : (rows : List Row) (tables kept : List Table) (job : Job) → AreTablesOf spelling rows tables image
       → AllByRecursion Stands (job.written ++ kept) → HaveRows (installed_tables tables job)
   stand_installed rows tables kept job are all =
       rows_of (installed_tables tables job)
@@ -62,5 +61,5 @@ module _ (spelling : Spelling) (settings : Settings) (image : Image) where
 
 pub outputs_are_tables : OutputsAreTables
 outputs_are_tables spelling slot other said v s job image runs ready =
-    stand_installed spelling s.settings image v.rows s.tables s.kept job ready.named.tables
-    (subst (λ (running : Option Job). AllByRecursion (StandsInExtent spelling s.settings image) (written_by running ++ s.kept)) runs ready.unnamed)
+    stand_installed spelling image v.rows s.tables s.kept job ready.named.tables
+    (subst (λ (running : Option Job). AllByRecursion (StandsInExtent spelling image) (written_by running ++ s.kept)) runs ready.unnamed)

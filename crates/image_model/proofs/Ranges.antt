@@ -8,7 +8,6 @@ use Rattle.std.specs.Ordering.{is_lt}
 use Rattle.byte_fields.specs.declared.parts.Row.{Row}
 use Rattle.disk_trait.specs.Image.{Image}
 use Rattle.filter_api.specs.Spellings.{Spelling}
-use Rattle.filter_api.specs.declared.settings.Settings.{Settings}
 use Rattle.entry_model.specs.Entries.{Entry}
 use Rattle.block_model.specs.Block.{IsBlock}
 use Rattle.block_model.specs.Index.{Index, index_row_of}
@@ -61,22 +60,22 @@ least_of_index blocks = refl
 abbrev pub range_of_table : Table → KeyRange
 range_of_table t = record { level = t.level; least = least_key t; greatest = greatest_key t }
 
-range_is : (spelling : Spelling) (settings : Settings) (row : Row) (t : Table) (image : Image) → IsTableOf spelling settings row t image → key_range_of image row ≡ range_of_table t
-range_is spelling settings row t image is =
-    let read : index_in (index_part row image) ≡ index_of_blocks is.0 = index_read spelling settings row is.0 image is.1 in
+range_is : (spelling : Spelling) (row : Row) (t : Table) (image : Image) → IsTableOf spelling row t image → key_range_of image row ≡ range_of_table t
+range_is spelling row t image is =
+    let read : index_in (index_part row image) ≡ index_of_blocks is.0 = index_read spelling row is.0 image is.1 in
     let level : row.level ≡ t.level = sym (ap (λ (u : Table). u.level) is.2) in
     let least : (index_in (index_part row image)).least ≡ least_key t = ap (λ (x : Index). x.least) read ∙ least_of_index is.0 ∙ sym (ap least_key is.2) in
     let greatest : greatest_in (index_in (index_part row image)).rows ≡ greatest_key t =
     ap (λ (x : Index). greatest_in x.rows) read ∙ ap greatest_in (rows_of_index is.0) ∙ greatest_is is.0 is.1.each ∙ sym (ap greatest_key is.2) in
     λ i. record { level = level i; least = least i; greatest = greatest i }
 
-pub ranges_are : (spelling : Spelling) (settings : Settings) (rows : List Row) (tables : List Table) (image : Image) → AreTablesOf spelling settings rows tables image
+pub ranges_are : (spelling : Spelling) (rows : List Row) (tables : List Table) (image : Image) → AreTablesOf spelling rows tables image
     → map (key_range_of image) rows ≡ map range_of_table tables
-ranges_are spelling settings [] [] image are = refl
-ranges_are spelling settings [] (t ∷ ts) image are = elim are [ ]
-ranges_are spelling settings (row ∷ rows) [] image are = elim are [ ]
-ranges_are spelling settings (row ∷ rows) (t ∷ ts) image are =
-    ap₂ (λ (r : KeyRange) (rs : List KeyRange). r ∷ rs) (range_is spelling settings row t image are.0) (ranges_are spelling settings rows ts image are.1)
+ranges_are spelling [] [] image are = refl
+ranges_are spelling [] (t ∷ ts) image are = elim are [ ]
+ranges_are spelling (row ∷ rows) [] image are = elim are [ ]
+ranges_are spelling (row ∷ rows) (t ∷ ts) image are =
+    ap₂ (λ (r : KeyRange) (rs : List KeyRange). r ∷ rs) (range_is spelling row t image are.0) (ranges_are spelling rows ts image are.1)
 
 -- ---- tables in their order
 
@@ -117,6 +116,6 @@ unfolding ranges_fault
 none_of_tables [] all = refl
 none_of_tables (t ∷ later) all = after_none 128 t later all
 
-pub ranges_keep : (spelling : Spelling) (settings : Settings) (rows : List Row) (tables : List Table) (image : Image) → AreTablesOf spelling settings rows tables image
+pub ranges_keep : (spelling : Spelling) (rows : List Row) (tables : List Table) (image : Image) → AreTablesOf spelling rows tables image
     → AllPairs StandsBefore tables → ranges_fault (map (key_range_of image) rows) ≡ None
-ranges_keep spelling settings rows tables image are order = ap ranges_fault (ranges_are spelling settings rows tables image are) ∙ none_of_tables tables order
+ranges_keep spelling rows tables image are order = ap ranges_fault (ranges_are spelling rows tables image are) ∙ none_of_tables tables order

@@ -50,43 +50,45 @@ blocks_have_pages : (blocks : List (List Entry)) → length blocks ≤ sum_by bl
 blocks_have_pages [] = omega arith
 blocks_have_pages (block ∷ more) = omega (arith, sum_by-cons block_pages block more, block_has_pages block, blocks_have_pages more)
 
-some_blocks : (spelling : Spelling) (settings : Settings) (row : Row) (blocks : List (List Entry)) (image : Image) → IsTableAt spelling settings row blocks image
+some_blocks : (spelling : Spelling) (row : Row) (blocks : List (List Entry)) (image : Image) → IsTableAt spelling row blocks image
     → (1 ≤ length blocks) × (length blocks ≤ pages_of row)
-some_blocks spelling settings row blocks image t =
+some_blocks spelling row blocks image t =
     let many = ap length (rows_of_index blocks) ∙ length-map blocks index_row_of in
     (omega (arith, t.index_sound.some, many), omega (arith, blocks_have_pages blocks, t.data_pages))
 
-table_sound : (spelling : Spelling) (settings : Settings) (row : Row) (t : Table) (image : Image) → IsLevelled row → IsTableOf spelling settings row t image → IsSoundTable t
-table_sound spelling settings row t image is of_row = subst IsSoundTable (sym of_row.2) (record {
+table_sound : (spelling : Spelling) (row : Row) (t : Table) (image : Image) → IsLevelled row → IsTableOf spelling row t image → IsSoundTable t
+table_sound spelling row t image is of_row = subst IsSoundTable (sym of_row.2) (record {
   level = is.level;
   entries = of_row.1.table;
-  blocks = some_blocks spelling settings row of_row.0 image of_row.1;
+  blocks = some_blocks spelling row of_row.0 image of_row.1;
   few = blocks_joined_small of_row.0 (weaker IsBlock IsSmall (λ block is. is.few) of_row.0 of_row.1.each);
+  settings = is.range.settings;
+  ratio = is.range.ratio;
 })
 
-pub tables_sound : (spelling : Spelling) (settings : Settings) (rows : List Row) (tables : List Table) (image : Image) → AllByRecursion IsLevelled rows
-    → AreTablesOf spelling settings rows tables image → AllByRecursion IsSoundTable tables
-tables_sound spelling settings [] [] image is are = tt
-tables_sound spelling settings [] (t ∷ ts) image is are = elim are [ ]
-tables_sound spelling settings (row ∷ rows) [] image is are = elim are [ ]
-tables_sound spelling settings (row ∷ rows) (t ∷ ts) image is are =
-    (table_sound spelling settings row t image is.0 are.0, tables_sound spelling settings rows ts image is.1 are.1)
+pub tables_sound : (spelling : Spelling) (rows : List Row) (tables : List Table) (image : Image) → AllByRecursion IsLevelled rows
+    → AreTablesOf spelling rows tables image → AllByRecursion IsSoundTable tables
+tables_sound spelling [] [] image is are = tt
+tables_sound spelling [] (t ∷ ts) image is are = elim are [ ]
+tables_sound spelling (row ∷ rows) [] image is are = elim are [ ]
+tables_sound spelling (row ∷ rows) (t ∷ ts) image is are =
+    (table_sound spelling row t image is.0 are.0, tables_sound spelling rows ts image is.1 are.1)
 
-same_many : (spelling : Spelling) (settings : Settings) (rows : List Row) (tables : List Table) (image : Image) → AreTablesOf spelling settings rows tables image → length tables ≡ length rows
-same_many spelling settings [] [] image are = refl
-same_many spelling settings [] (t ∷ ts) image are = elim are [ ]
-same_many spelling settings (row ∷ rows) [] image are = elim are [ ]
-same_many spelling settings (row ∷ rows) (t ∷ ts) image are = omega (arith, same_many spelling settings rows ts image are.1)
+same_many : (spelling : Spelling) (rows : List Row) (tables : List Table) (image : Image) → AreTablesOf spelling rows tables image → length tables ≡ length rows
+same_many spelling [] [] image are = refl
+same_many spelling [] (t ∷ ts) image are = elim are [ ]
+same_many spelling (row ∷ rows) [] image are = elim are [ ]
+same_many spelling (row ∷ rows) (t ∷ ts) image are = omega (arith, same_many spelling rows ts image are.1)
 
 -- ---- their extents
 
-extents_are : (spelling : Spelling) (settings : Settings) (rows : List Row) (tables : List Table) (image : Image) → AreTablesOf spelling settings rows tables image
+extents_are : (spelling : Spelling) (rows : List Row) (tables : List Table) (image : Image) → AreTablesOf spelling rows tables image
     → map extent_of tables ≡ map extent_of_row rows
-extents_are spelling settings [] [] image are = refl
-extents_are spelling settings [] (t ∷ ts) image are = elim are [ ]
-extents_are spelling settings (row ∷ rows) [] image are = elim are [ ]
-extents_are spelling settings (row ∷ rows) (t ∷ ts) image are =
-    ap₂ (λ (e : Extent) (es : List Extent). e ∷ es) (ap extent_of are.0.2) (extents_are spelling settings rows ts image are.1)
+extents_are spelling [] [] image are = refl
+extents_are spelling [] (t ∷ ts) image are = elim are [ ]
+extents_are spelling (row ∷ rows) [] image are = elim are [ ]
+extents_are spelling (row ∷ rows) (t ∷ ts) image are =
+    ap₂ (λ (e : Extent) (es : List Extent). e ∷ es) (ap extent_of are.0.2) (extents_are spelling rows ts image are.1)
 
 on_device : (pages : ℕ) (rows : List Row) → AllByRecursion IsLevelled rows → AllByRecursion (IsPlaced pages) rows → AllByRecursion (IsOnDevice pages) (map extent_of_row rows)
 on_device pages [] is placed = tt
@@ -125,7 +127,7 @@ module _ (spelling : Spelling) (filter_bytes : FilterBytes) (v : Version) (s : S
   ratio = omega (arith, ap (λ (x : Settings). x.ratio) named.settings, is.ratio)
 
   extents : taken s ≡ map extent_of_row v.rows
-  extents = named_alone s named.no_job named.none_kept ∙ extents_are spelling s.settings v.rows s.tables image named.tables
+  extents = named_alone s named.no_job named.none_kept ∙ extents_are spelling v.rows s.tables image named.tables
 
   log_fits : filled s.log < 262144
   log_fits = omega (arith, named.log.begins.within, window_size image (start_of named.area) area_size, size_is)
@@ -138,8 +140,8 @@ module _ (spelling : Spelling) (filter_bytes : FilterBytes) (v : Version) (s : S
     epoch = (omega (arith, named.epoch, is.some_epoch), omega (arith, named.epoch, is.epoch, last_is));
     log = named.log.begins.sound;
     log_fits = log_fits;
-    few = omega (arith, same_many spelling s.settings v.rows s.tables image named.tables, is.few_tables);
-    tables = tables_sound spelling s.settings v.rows s.tables image (version_levelled v is) named.tables;
+    few = omega (arith, same_many spelling v.rows s.tables image named.tables, is.few_tables);
+    tables = tables_sound spelling v.rows s.tables image (version_levelled v is) named.tables;
     order = named.order;
     on_device = subst (λ (es : List Extent). AllByRecursion (IsOnDevice s.pages) es) (sym extents)
         (subst (λ (n : ℕ). AllByRecursion (IsOnDevice n) (map extent_of_row v.rows)) (sym named.pages) (on_device v.pages v.rows (version_levelled v is) (version_placed v is)));

@@ -12,10 +12,10 @@ use Rattle.manifest_model.specs.Version.{body_bytes, body_place, slot_a, slot_b}
 use Rattle.state_model.specs.State.{new_state}
 use Rattle.image_model.specs.Stands.{IsReady, IsStateOf}
 
--- slot A holds the version of a new store, slot B is closed, and so is the first gate of the log
+-- slot A holds the version of a new store in format 2, slot B is closed, and so is the first gate of the log
 pub record IsFormatted (settings : Settings) (pages : ℕ) (image : Image) : Type 0 where
   pub gate : IsOpenSlot slot_a image
-  pub body : Shows (body_place slot_a) (body_bytes (new_version settings pages)) image
+  pub body : Shows (body_place slot_a) (body_bytes 2 (new_version settings pages)) image
   pub other_gate : image slot_b ≢ 1
   pub log_gate : image (start_of 0) ≡ 0
 

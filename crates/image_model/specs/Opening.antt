@@ -8,7 +8,6 @@ use Rattle.byte_fields.specs.declared.parts.Part.TheVariants as part
 use Rattle.byte_fields.specs.declared.parts.Row.{Row}
 use Rattle.filter_api.specs.Spellings.{IsDecided, Spelling, SpellsOne}
 use Rattle.filter_api.specs.declared.errors.FilterFault.{FilterFault}
-use Rattle.filter_api.specs.declared.settings.Settings.{Settings}
 use Rattle.log_model.specs.Area.{LogBreaks, LogIs, area_in}
 use Rattle.log_model.specs.Records.{Breaks}
 use Rattle.map_model.specs.SortedMap.{Bytes}
@@ -28,17 +27,17 @@ use Rattle.image_model.specs.Tables.{AreTablesOf}
 
 -- ---- the tables, row by row: the index, then the filter
 
-abbrev pub TablesBreak : Spelling → (Bytes → FilterFault) → Settings → Image → Damage → List Row → Type 0
-TablesBreak spelling first_fault settings image d [] = ⊥
-TablesBreak spelling first_fault settings image d (row ∷ rows) =
+abbrev pub TablesBreak : Spelling → (Bytes → FilterFault) → Image → Damage → List Row → Type 0
+TablesBreak spelling first_fault image d [] = ⊥
+TablesBreak spelling first_fault image d (row ∷ rows) =
     (index_damage row image ≡ Some d)
     ⊎ ((index_damage row image ≡ None)
-    × (IsFilterDamage spelling first_fault settings row image d ⊎ (IsSoundFilter spelling settings row image × TablesBreak spelling first_fault settings image d rows)))
+    × (IsFilterDamage spelling first_fault row image d ⊎ (IsSoundFilter spelling row image × TablesBreak spelling first_fault image d rows)))
 
 -- index and filter have no damage
-pub record IsOpened (spelling : Spelling) (settings : Settings) (image : Image) (row : Row) : Type 0 where
+pub record IsOpened (spelling : Spelling) (image : Image) (row : Row) : Type 0 where
   pub index : index_damage row image ≡ None
-  pub filter : IsSoundFilter spelling settings row image
+  pub filter : IsSoundFilter spelling row image
 
 -- ---- rule 12 of the manifest: how the tables of a deeper level stand, by their indexes
 
@@ -54,10 +53,10 @@ key_range_of image row = record { level = row.level; least = (index_in (index_pa
 -- ---- what a version names, in this order: the tables; their ranges, where all are opened; the log, where these have no fault
 
 pub data VersionBreaks (spelling : Spelling) (first_fault : Bytes → FilterFault) (slot : ℕ) (v : Version) (image : Image) : Damage → Type 0 where
-  at_a_table : (d : Damage) → TablesBreak spelling first_fault (settings_of v) image d v.rows → VersionBreaks spelling first_fault slot v image d
-  at_the_ranges : (f : Fault) → AllByRecursion (IsOpened spelling (settings_of v) image) v.rows → ranges_fault (map (key_range_of image) v.rows) ≡ Some f
+  at_a_table : (d : Damage) → TablesBreak spelling first_fault image d v.rows → VersionBreaks spelling first_fault slot v image d
+  at_the_ranges : (f : Fault) → AllByRecursion (IsOpened spelling image) v.rows → ranges_fault (map (key_range_of image) v.rows) ≡ Some f
       → VersionBreaks spelling first_fault slot v image (damage.Shape part.Manifest (body_place slot + f.place) f.rule)
-  at_the_log : (area at rule : ℕ) → AllByRecursion (IsOpened spelling (settings_of v) image) v.rows → ranges_fault (map (key_range_of image) v.rows) ≡ None
+  at_the_log : (area at rule : ℕ) → AllByRecursion (IsOpened spelling image) v.rows → ranges_fault (map (key_range_of image) v.rows) ≡ None
       → v.log_page ≡ log_page_of area → LogBreaks area at rule image → VersionBreaks spelling first_fault slot v image (damage.Shape part.Log at rule)
 
 -- the first damage of an image: that of its slots, and then that of what its version names
@@ -72,7 +71,7 @@ pub data FirstDamage (spelling : Spelling) (first_fault : Bytes → FilterFault)
 -- spells these entries. Opening reads no block.
 pub record OpensWith (spelling : Spelling) (v : Version) (entries : List Entry) (image : Image) : Type 0 where
   pub version_is : IsVersionOf v image
-  pub tables : AllByRecursion (IsOpened spelling (settings_of v) image) v.rows
+  pub tables : AllByRecursion (IsOpened spelling image) v.rows
   pub ranges : ranges_fault (map (key_range_of image) v.rows) ≡ None
   pub area : ℕ
   pub area_is : v.log_page ≡ log_page_of area
@@ -105,7 +104,7 @@ StateOpens = (spelling : Spelling) (s : State) (image : Image) → IsStateOf spe
 abbrev pub OpenedIsState : Type 0
 OpenedIsState =
     (spelling : Spelling) (v : Version) (log : List Entry) (tables : List Table) (image : Image) → OpensWith spelling v log image
-    → AreTablesOf spelling (settings_of v) v.rows tables image → IsStateOf spelling (opened_state v log tables) image
+    → AreTablesOf spelling v.rows tables image → IsStateOf spelling (opened_state v log tables) image
 
 -- there is one damage at most
 abbrev pub OneDamage : Type 0
@@ -130,14 +129,14 @@ NoStoreHasNoState = (spelling : Spelling) (s : State) (image : Image) → IsNoSt
 abbrev pub RangesAreAtTheBody : Type 0
 RangesAreAtTheBody =
     (spelling : Spelling) (first_fault : Bytes → FilterFault) (slot other : ℕ) (v : Version) (image : Image) (f : Fault) → AreSlots slot other
-    → IsCurrent slot other v image → AllByRecursion (IsOpened spelling (settings_of v) image) v.rows → ranges_fault (map (key_range_of image) v.rows) ≡ Some f
+    → IsCurrent slot other v image → AllByRecursion (IsOpened spelling image) v.rows → ranges_fault (map (key_range_of image) v.rows) ≡ Some f
     → FirstDamage spelling first_fault image (damage.Shape part.Manifest (body_place slot + f.place) f.rule)
 
 -- A fault of the log is said of the area that the version names by its first page.
 abbrev pub LogIsAtItsPage : Type 0
 LogIsAtItsPage =
     (spelling : Spelling) (first_fault : Bytes → FilterFault) (slot other : ℕ) (v : Version) (image : Image) (area place rule : ℕ) → AreSlots slot other
-    → IsCurrent slot other v image → AllByRecursion (IsOpened spelling (settings_of v) image) v.rows → ranges_fault (map (key_range_of image) v.rows) ≡ None
+    → IsCurrent slot other v image → AllByRecursion (IsOpened spelling image) v.rows → ranges_fault (map (key_range_of image) v.rows) ≡ None
     → v.log_page ≡ log_page_of area → Breaks place rule (area_in area image)
     → FirstDamage spelling first_fault image (damage.Shape part.Log (byte_of_page v.log_page + place) rule)
 
@@ -146,12 +145,12 @@ LogIsAtItsPage =
 pub record RowsAreInOrder (spelling : Spelling) (first_fault : Bytes → FilterFault) (image : Image) (d : Damage) : Type 0 where
   pub index :
       (slot other : ℕ) (v : Version) (before later : List Row) (row : Row) → AreSlots slot other → IsCurrent slot other v image
-      → v.rows ≡ before ++ (row ∷ later) → AllByRecursion (IsOpened spelling (settings_of v) image) before
+      → v.rows ≡ before ++ (row ∷ later) → AllByRecursion (IsOpened spelling image) before
       → index_damage row image ≡ Some d → FirstDamage spelling first_fault image d
   pub filter :
       (slot other : ℕ) (v : Version) (before later : List Row) (row : Row) → AreSlots slot other → IsCurrent slot other v image
-      → v.rows ≡ before ++ (row ∷ later) → AllByRecursion (IsOpened spelling (settings_of v) image) before
-      → index_damage row image ≡ None → IsFilterDamage spelling first_fault (settings_of v) row image d
+      → v.rows ≡ before ++ (row ∷ later) → AllByRecursion (IsOpened spelling image) before
+      → index_damage row image ≡ None → IsFilterDamage spelling first_fault row image d
       → FirstDamage spelling first_fault image d
 
 abbrev pub RowsComeFirst : Type 0

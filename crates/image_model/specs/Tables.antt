@@ -2,13 +2,12 @@
 use Rattle.std.specs.Prelude.{List, [], ◌∷◌}
 use Rattle.disk_trait.specs.Image.{Image}
 use Rattle.byte_fields.specs.declared.parts.Row.{Row}
-use Rattle.filter_api.specs.declared.settings.Settings.{Settings}
 use Rattle.filter_api.specs.Spellings.{Spelling}
 use Rattle.table_model.specs.Images.{IsTableOf}
 use Rattle.table_model.specs.Tables.{Table}
 
 -- the tables of all rows, in their order
-abbrev pub AreTablesOf : Spelling → Settings → List Row → List Table → Image → Type 0
-AreTablesOf spelling settings [] [] image = Unit {0}
-AreTablesOf spelling settings (row ∷ rows) (t ∷ tables) image = IsTableOf spelling settings row t image × AreTablesOf spelling settings rows tables image
-AreTablesOf spelling settings rows tables image = ⊥
+abbrev pub AreTablesOf : Spelling → List Row → List Table → Image → Type 0
+AreTablesOf spelling [] [] image = Unit {0}
+AreTablesOf spelling (row ∷ rows) (t ∷ tables) image = IsTableOf spelling row t image × AreTablesOf spelling rows tables image
+AreTablesOf spelling rows tables image = ⊥
