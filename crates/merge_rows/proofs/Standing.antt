@@ -13,7 +13,6 @@ use Rattle.entry_model.specs.Entries.{Entry, keys_of}
 use Rattle.entry_model.specs.Newest.{ComesBehind, KeysRise, entries_from, lookup}
 use Rattle.entry_model.proofs.Newest.{above_lower, one_list}
 use Rattle.filter_api.specs.Spellings.{Spelling}
-use Rattle.filter_api.specs.declared.settings.Settings.{Settings}
 use Rattle.map_model.specs.SortedMap.{Bytes, byte_order}
 use Rattle.merge_rows.specs.Laws.{MergesAreWhole, NumberedStand, memory_entries}
 use Rattle.merge_rows.specs.Merges.{TableWalk, blocks_in, left_above, memory_from, numbered, walk_at, walk_left, with_hand}
@@ -112,25 +111,25 @@ each_some (block ∷ more) each = (each.0.some, each_some more each.1)
 abbrev floor_at : Bytes → KeyFloor
 floor_at low = record { key = low; passed = false }
 
-module _ (blocks_law : StandingBlocks) (walks_law : StandingWalks) (spelling : Spelling) (settings : Settings) (tables : List Opened) (image : Image) (low : Bytes) where
+module _ (blocks_law : StandingBlocks) (walks_law : StandingWalks) (spelling : Spelling) (tables : List Opened) (image : Image) (low : Bytes) where
   abbrev source : ℕ → TableWalk
   source number = record { number = number; walk = walk_at (numbered tables number) low }
 
   abbrev Stand : ℕ → List (List Entry) → Type 0
-  Stand number blocks = (t : Opened) × (numbered tables number ≡ Some t) × StandsThere spelling settings t blocks image
+  Stand number blocks = (t : Opened) × (numbered tables number ≡ Some t) × StandsThere spelling t blocks image
 
   left : (number : ℕ) (blocks : List (List Entry)) → Stand number blocks → walk_left tables image (source number) ≡ entries_from (joined blocks) low
   left number blocks stand =
       let t = stand.0 in
       ap (λ (o : Option Opened). with_hand (walk_at o low).now (to_come (walk_at o low) (blocks_in o image))) stand.1
-      ∙ ap (to_come (walk_from t low)) (blocks_law spelling settings t blocks image stand.2).on_device
-      ∙ (walks_law spelling settings t blocks image stand.2).all low
+      ∙ ap (to_come (walk_from t low)) (blocks_law spelling t blocks image stand.2).on_device
+      ∙ (walks_law spelling t blocks image stand.2).all low
 
   sound : (number : ℕ) (blocks : List (List Entry)) → Stand number blocks → IsSoundWalk (floor_at low) (walk_at (numbered tables number) low) (blocks_in (numbered tables number) image)
   sound number blocks stand =
       let t = stand.0 in
-      let whole = walks_law spelling settings t blocks image stand.2 in
-      let on_device = (blocks_law spelling settings t blocks image stand.2).on_device in
+      let whole = walks_law spelling t blocks image stand.2 in
+      let on_device = (blocks_law spelling t blocks image stand.2).on_device in
       let rising = follow_rises (joined blocks) stand.2.at.table.rising in
       subst (λ (o : Option Opened). IsSoundWalk (floor_at low) (walk_at o low) (blocks_in o image)) (sym stand.1)
       (subst (IsSoundWalk (floor_at low) (walk_from t low)) (sym on_device) (record {
@@ -140,13 +139,13 @@ module _ (blocks_law : StandingBlocks) (walks_law : StandingWalks) (spelling : S
         begins = whole.begins low;
       }))
 
-  all_sound : (which : List ℕ) (blocks : List (List (List Entry))) → NumberedStand spelling settings tables image which blocks → AreSoundWalks (floor_at low) tables image (map source which)
+  all_sound : (which : List ℕ) (blocks : List (List (List Entry))) → NumberedStand spelling tables image which blocks → AreSoundWalks (floor_at low) tables image (map source which)
   all_sound [] [] stand = tt
   all_sound [] (b ∷ blocks) stand = absurd stand
   all_sound (number ∷ which) [] stand = absurd stand
   all_sound (number ∷ which) (b ∷ blocks) stand = (sound number b stand.0, all_sound which blocks stand.1)
 
-  all_left : (which : List ℕ) (blocks : List (List (List Entry))) → NumberedStand spelling settings tables image which blocks
+  all_left : (which : List ℕ) (blocks : List (List (List Entry))) → NumberedStand spelling tables image which blocks
       → map (left_above (floor_at low) tables image) (map source which) ≡ cut (floor_at low) (map (λ (b : List (List Entry)). joined b) blocks)
   all_left [] [] stand = refl
   all_left [] (b ∷ blocks) stand = absurd stand
@@ -164,7 +163,7 @@ module _ (blocks_law : StandingBlocks) (walks_law : StandingWalks) (spelling : S
   memory_rises None rises = tt
   memory_rises (Some entries) rises = rises_cut (floor_at low) entries rises
 
-  pub whole : (which : List ℕ) (blocks : List (List (List Entry))) (memory : Option (List Entry)) (drops : Bool) → NumberedStand spelling settings tables image which blocks
+  pub whole : (which : List ℕ) (blocks : List (List (List Entry))) (memory : Option (List Entry)) (drops : Bool) → NumberedStand spelling tables image which blocks
       → KeysRise (memory_entries memory) → MergesAreWhole which tables memory low drops image blocks
   whole which blocks memory drops stand rises = record {
     sound = record { memory = memory_rises memory rises; walks = all_sound which blocks stand };

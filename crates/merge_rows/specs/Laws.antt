@@ -5,7 +5,6 @@ use Rattle.entry_model.specs.Entries.{Entry}
 use Rattle.entry_model.specs.Newest.{KeysRise, entries_from}
 use Rattle.block_model.specs.Laws.{joined}
 use Rattle.filter_api.specs.Spellings.{Spelling}
-use Rattle.filter_api.specs.declared.settings.Settings.{Settings}
 use Rattle.map_model.specs.SortedMap.{Bytes}
 use Rattle.merge_rows.specs.Merges.{merge_from, numbered, rows_left}
 use Rattle.merge_rows.specs.Rows.{merged_rows, rows_shown}
@@ -14,11 +13,11 @@ use Rattle.table_file.specs.Opened.{Opened}
 use Rattle.table_file.specs.Search.{StandsThere}
 
 -- the tables of these numbers stand on the device, each with its blocks
-abbrev pub NumberedStand : Spelling → Settings → List Opened → Image → List ℕ → List (List (List Entry)) → Type 0
-NumberedStand spelling settings tables image [] [] = Unit {0}
-NumberedStand spelling settings tables image (number ∷ which) (blocks ∷ more) =
-    ((t : Opened) × (numbered tables number ≡ Some t) × StandsThere spelling settings t blocks image) × NumberedStand spelling settings tables image which more
-NumberedStand spelling settings tables image which blocks = ⊥
+abbrev pub NumberedStand : Spelling → List Opened → Image → List ℕ → List (List (List Entry)) → Type 0
+NumberedStand spelling tables image [] [] = Unit {0}
+NumberedStand spelling tables image (number ∷ which) (blocks ∷ more) =
+    ((t : Opened) × (numbered tables number ≡ Some t) × StandsThere spelling t blocks image) × NumberedStand spelling tables image which more
+NumberedStand spelling tables image which blocks = ⊥
 
 abbrev pub memory_entries : Option (List Entry) → List Entry
 memory_entries None = []
@@ -34,6 +33,6 @@ pub record MergesAreWhole (which : List ℕ) (tables : List Opened) (memory : Op
 
 abbrev pub StandingMerges : Type 0
 StandingMerges =
-    (spelling : Spelling) (settings : Settings) (tables : List Opened) (image : Image) (which : List ℕ) (blocks : List (List (List Entry)))
-    (memory : Option (List Entry)) (low : Bytes) (drops : Bool) → NumberedStand spelling settings tables image which blocks
+    (spelling : Spelling) (tables : List Opened) (image : Image) (which : List ℕ) (blocks : List (List (List Entry)))
+    (memory : Option (List Entry)) (low : Bytes) (drops : Bool) → NumberedStand spelling tables image which blocks
     → KeysRise (memory_entries memory) → MergesAreWhole which tables memory low drops image blocks
