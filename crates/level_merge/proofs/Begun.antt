@@ -72,37 +72,37 @@ newest_of_newest older log =
 
 -- ---- tables by their numbers
 
-as_many : (spelling : Spelling) (settings : Settings) (opened : List Opened) (tables : List Table) (image : Image) → TablesAgree spelling settings opened tables image → length opened ≡ length tables
-as_many spelling settings [] [] image held = refl
-as_many spelling settings [] (t ∷ tables) image held = absurd held
-as_many spelling settings (o ∷ opened) [] image held = absurd held
-as_many spelling settings (o ∷ opened) (t ∷ tables) image held = ap suc (as_many spelling settings opened tables image held.1)
+as_many : (spelling : Spelling) (opened : List Opened) (tables : List Table) (image : Image) → TablesAgree spelling opened tables image → length opened ≡ length tables
+as_many spelling [] [] image held = refl
+as_many spelling [] (t ∷ tables) image held = absurd held
+as_many spelling (o ∷ opened) [] image held = absurd held
+as_many spelling (o ∷ opened) (t ∷ tables) image held = ap suc (as_many spelling opened tables image held.1)
 
 -- the open table of a state's table
-abbrev OpenOf : Spelling → Settings → Image → Option Opened → Table → Type 0
-OpenOf spelling settings image opened t = (o : Opened) × (opened ≡ Some o) × TableAgrees spelling settings o t image
+abbrev OpenOf : Spelling → Image → Option Opened → Table → Type 0
+OpenOf spelling image opened t = (o : Opened) × (opened ≡ Some o) × TableAgrees spelling o t image
 
 some_is : (t u : Table) → Some t ≡ Some u → t ≡ u
 some_is t u same = cc
 
-open_at : (spelling : Spelling) (settings : Settings) (opened : List Opened) (tables : List Table) (image : Image) (place : ℕ) (t : Table) → TablesAgree spelling settings opened tables image
-    → slice_get tables place ≡ Some t → OpenOf spelling settings image (slice_get opened place) t
-open_at spelling settings [] [] image place t held there = absurd cc
-open_at spelling settings [] (u ∷ tables) image place t held there = absurd held
-open_at spelling settings (o ∷ opened) [] image place t held there = absurd held
-open_at spelling settings (o ∷ opened) (u ∷ tables) image zero t held there = (o, refl, subst (λ (v : Table). TableAgrees spelling settings o v image) (some_is u t there) held.0)
-open_at spelling settings (o ∷ opened) (u ∷ tables) image (suc place) t held there = open_at spelling settings opened tables image place t held.1 there
+open_at : (spelling : Spelling) (opened : List Opened) (tables : List Table) (image : Image) (place : ℕ) (t : Table) → TablesAgree spelling opened tables image
+    → slice_get tables place ≡ Some t → OpenOf spelling image (slice_get opened place) t
+open_at spelling [] [] image place t held there = absurd cc
+open_at spelling [] (u ∷ tables) image place t held there = absurd held
+open_at spelling (o ∷ opened) [] image place t held there = absurd held
+open_at spelling (o ∷ opened) (u ∷ tables) image zero t held there = (o, refl, subst (λ (v : Table). TableAgrees spelling o v image) (some_is u t there) held.0)
+open_at spelling (o ∷ opened) (u ∷ tables) image (suc place) t held there = open_at spelling opened tables image place t held.1 there
 
-module _ (spelling : Spelling) (settings : Settings) (opened : List Opened) (tables : List Table) (image : Image) (held : TablesAgree spelling settings opened tables image) where
-  open_numbered : (number : ℕ) (t : Table) → numbered tables number ≡ Some t → OpenOf spelling settings image (numbered opened number) t
+module _ (spelling : Spelling) (opened : List Opened) (tables : List Table) (image : Image) (held : TablesAgree spelling opened tables image) where
+  open_numbered : (number : ℕ) (t : Table) → numbered tables number ≡ Some t → OpenOf spelling image (numbered opened number) t
   open_numbered number t there =
-      open_at spelling settings opened tables image (length opened - 1 - number) t held
-      (subst (λ (n : ℕ). slice_get tables (n - 1 - number) ≡ Some t) (sym (as_many spelling settings opened tables image held)) there)
+      open_at spelling opened tables image (length opened - 1 - number) t held
+      (subst (λ (n : ℕ). slice_get tables (n - 1 - number) ≡ Some t) (sym (as_many spelling opened tables image held)) there)
 
   -- the blocks of the tables of some numbers
   record StandWith (which : List ℕ) (inputs : List Table) : Type 0 where
     blocks : List (List (List Entry))
-    stand : NumberedStand spelling settings opened image which blocks
+    stand : NumberedStand spelling opened image which blocks
     entries : map (λ (b : List (List Entry)). joined b) blocks ≡ lists_of inputs
 
   first_named : (number : ℕ) (which : List ℕ) (t : Table) (inputs : List Table) → map (numbered tables) (number ∷ which) ≡ map (λ (t : Table). Some t) (t ∷ inputs)
@@ -125,13 +125,13 @@ module _ (spelling : Spelling) (settings : Settings) (opened : List Opened) (tab
 
   -- ---- what it makes
 
-  pub begins : StandingMerges → (inputs : List Table) (which : List ℕ) (entries : Option (List Entry)) (output : ℕ) (drops : Bool)
+  pub begins : StandingMerges → (settings : Settings) (inputs : List Table) (which : List ℕ) (entries : Option (List Entry)) (output : ℕ) (drops : Bool)
       → map (numbered tables) which ≡ map (λ (t : Table). Some t) inputs → KeysRise (memory_entries entries)
       → OutputsLeft spelling opened image (merge_of which entries output drops settings opened)
       (outputs_of (length which - 1) (lasting drops (newest_entries (oldest_first inputs ++ memory_entries entries)))) []
-  begins merges inputs which entries output drops same rise =
+  begins merges settings inputs which entries output drops same rise =
       let stand = all_stand which inputs same in
-      let whole = merges spelling settings opened image which stand.blocks entries [] false stand.stand rise in
+      let whole = merges spelling opened image which stand.blocks entries [] false stand.stand rise in
       let rows : rows_left (merge_from which opened entries [] false) opened image ≡ newest_entries (oldest_first inputs ++ memory_entries entries) =
       whole.rows ∙ entries_from_all (merged_rows (memory_entries entries ∷ map (λ (b : List (List Entry)). joined b) stand.blocks))
       ∙ ap (λ (lists : List (List Entry)). merged_rows (memory_entries entries ∷ lists)) stand.entries ∙ merged_is (memory_entries entries) inputs in
@@ -162,7 +162,7 @@ module _ (spelling : Spelling) (settings : Settings) (opened : List Opened) (tab
     one_read : (number : ℕ) (t : Table) → numbered tables number ≡ Some t → row_count (numbered opened number) - (walk_at (numbered opened number) []).block ≡ t.blocks
     one_read number t there =
         let here = open_numbered number t there in
-        let many : length here.0.index.rows ≡ length here.2.blocks = (standing spelling settings here.0 here.2.blocks image here.2.stands).many in
+        let many : length here.0.index.rows ≡ length here.2.blocks = (standing spelling here.0 here.2.blocks image here.2.stands).many in
         let blocks : t.blocks ≡ length here.2.blocks = ap (λ (u : Table). u.blocks) here.2.table_is in
         ap (λ (o : Option Opened). row_count o - (walk_at o []).block) here.1
         ∙ ap (λ (n : ℕ). length here.0.index.rows - n) (first_block here.0.index.rows)
@@ -193,32 +193,32 @@ same_length f g (x ∷ xs) (y ∷ ys) same = let rest : map f xs ≡ map g ys = 
 many_named : (tables : List Table) (which : List ℕ) (inputs : List Table) → map (numbered tables) which ≡ map (λ (t : Table). Some t) inputs → length which ≡ length inputs
 many_named tables which inputs same = same_length (λ (n : ℕ). numbered tables n) (λ (t : Table). Some t) which inputs same
 
-deepest_held : (spelling : Spelling) (settings : Settings) (opened : List Opened) (tables : List Table) (image : Image) (level : ℕ) → TablesAgree spelling settings opened tables image
+deepest_held : (spelling : Spelling) (opened : List Opened) (tables : List Table) (image : Image) (level : ℕ) → TablesAgree spelling opened tables image
     → list_any (λ (t : Opened). nat_lt level t.row.level) opened ≡ list_any (λ (t : Table). nat_lt level t.level) tables
-deepest_held spelling settings [] [] image level held = refl
-deepest_held spelling settings [] (t ∷ tables) image level held = absurd held
-deepest_held spelling settings (o ∷ opened) [] image level held = absurd held
-deepest_held spelling settings (o ∷ opened) (t ∷ tables) image level held =
-    ap₂ (λ (a b : Bool). a || b) (ap (λ (n : ℕ). nat_lt level n) (sym (ap (λ (u : Table). u.level) held.0.table_is))) (deepest_held spelling settings opened tables image level held.1)
+deepest_held spelling [] [] image level held = refl
+deepest_held spelling [] (t ∷ tables) image level held = absurd held
+deepest_held spelling (o ∷ opened) [] image level held = absurd held
+deepest_held spelling (o ∷ opened) (t ∷ tables) image level held =
+    ap₂ (λ (a b : Bool). a || b) (ap (λ (n : ℕ). nat_lt level n) (sym (ap (λ (u : Table). u.level) held.0.table_is))) (deepest_held spelling opened tables image level held.1)
 
 pub merge_begins : StandingMerges → MergeBegins
 merge_begins merges spelling settings opened tables inputs image which entries output drops held same rise =
-    begins spelling settings opened tables image held merges inputs which entries output drops same rise
+    begins spelling opened tables image held merges settings inputs which entries output drops same rise
 
 pub begun_follows : StandingMerges → StandingBlocks → BegunFollows
 begun_follows merges standing spelling s opened image p plan held may is =
     let drops = not (list_any (λ (t : Opened). nat_lt p.output t.row.level) opened) in
-    let made = begins spelling s.settings opened s.tables image held merges plan.inputs p.inputs None p.output drops is.0 tt in
+    let made = begins spelling opened s.tables image held merges s.settings plan.inputs p.inputs None p.output drops is.0 tt in
     let deepest : drops ≡ is_deepest s.tables plan.output =
-    ap not (deepest_held spelling s.settings opened s.tables image p.output held ∙ ap (λ (n : ℕ). list_any (λ (t : Table). nat_lt n t.level) s.tables) is.1) in
+    ap not (deepest_held spelling opened s.tables image p.output held ∙ ap (λ (n : ℕ). list_any (λ (t : Table). nat_lt n t.level) s.tables) is.1) in
     let left : outputs_of (length p.inputs - 1) (lasting drops (newest_entries (oldest_first plan.inputs ++ []))) ≡ outstanding s.tables (started plan) =
     ap₂ (λ (n : ℕ) (es : List Entry). outputs_of (n - 1) (lasting drops (newest_entries es))) (many_named s.tables p.inputs plan.inputs is.0) (append-nil (oldest_first plan.inputs))
     ∙ ap (λ (d : Bool). outputs_of (length plan.inputs - 1) (lasting d (newest_of plan.inputs))) deepest in
     record {
       settings = refl;
-      inputs = ap (map (numbered s.tables)) (numbers_are spelling s.settings opened s.tables image held p.inputs []) ∙ is.0;
+      inputs = ap (map (numbered s.tables)) (numbers_are spelling opened s.tables image held p.inputs []) ∙ is.0;
       output = is.1;
-      to_read = all_read spelling s.settings opened s.tables image held standing p.inputs plan.inputs is.0;
+      to_read = all_read spelling opened s.tables image held standing p.inputs plan.inputs is.0;
       makes = subst (λ (outputs : List (List Entry)). OutputsLeft spelling opened image (begun p s.settings opened) outputs []) left made;
     }
 
@@ -237,9 +237,9 @@ all_named (t ∷ tables) =
 
 pub compaction_makes : StandingMerges → CompactionMakes
 compaction_makes merges spelling s opened image held =
-    let many = as_many spelling s.settings opened s.tables image held in
+    let many = as_many spelling opened s.tables image held in
     let named = subst (λ (n : ℕ). map (numbered s.tables) (all_numbers n) ≡ map (λ (t : Table). Some t) s.tables) (sym many) (all_named s.tables) in
-    let made = begins spelling s.settings opened s.tables image held merges s.tables (all_numbers (length opened)) (Some (memory s)) 6 true named (newest_entries_rise s.log) in
+    let made = begins spelling opened s.tables image held merges s.settings s.tables (all_numbers (length opened)) (Some (memory s)) 6 true named (newest_entries_rise s.log) in
     let left : outputs_of (length (all_numbers (length opened)) - 1) (lasting true (newest_entries (oldest_first s.tables ++ memory s))) ≡ outputs_for s.tables (live_entries s) =
     ap₂ (λ (n : ℕ) (es : List Entry). outputs_of (n - 1) (lasting true es)) (many_named s.tables (all_numbers (length opened)) s.tables named) (newest_of_newest (oldest_first s.tables) s.log) in
     subst (λ (outputs : List (List Entry)). OutputsLeft spelling opened image (compaction (memory s) s.settings opened) outputs []) left made

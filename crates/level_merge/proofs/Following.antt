@@ -63,23 +63,23 @@ none_placed filter_bytes settings pages extents level output gap = rw gap refl
 
 -- ---- extents
 
-held_extents : (spelling : Spelling) (settings : Settings) (opened : List Opened) (tables : List Table) (image : Image) → TablesAgree spelling settings opened tables image
+held_extents : (spelling : Spelling) (opened : List Opened) (tables : List Table) (image : Image) → TablesAgree spelling opened tables image
     → map extent_of tables ≡ map (λ (t : Opened). extent_at t.row) opened
-held_extents spelling settings [] [] image held = refl
-held_extents spelling settings [] (t ∷ tables) image held = absurd held
-held_extents spelling settings (o ∷ opened) [] image held = absurd held
-held_extents spelling settings (o ∷ opened) (t ∷ tables) image held =
-    ap₂ (λ (e : Extent) (more : List Extent). e ∷ more) (ap extent_of held.0.table_is) (held_extents spelling settings opened tables image held.1)
+held_extents spelling [] [] image held = refl
+held_extents spelling [] (t ∷ tables) image held = absurd held
+held_extents spelling (o ∷ opened) [] image held = absurd held
+held_extents spelling (o ∷ opened) (t ∷ tables) image held =
+    ap₂ (λ (e : Extent) (more : List Extent). e ∷ more) (ap extent_of held.0.table_is) (held_extents spelling opened tables image held.1)
 
 -- those of the state and of a job are those of the open tables
-taken_with : (spelling : Spelling) (s : State) (job : Job) (opened made : List Opened) (image : Image) (settings : Settings) → TablesAgree spelling settings opened s.tables image
-    → TablesAgree spelling settings made job.written image → taken (with_job s job) ≡ merge_extents opened made (map extent_of s.kept)
-taken_with spelling s job opened made image settings held written =
+taken_with : (spelling : Spelling) (s : State) (job : Job) (opened made : List Opened) (image : Image) → TablesAgree spelling opened s.tables image
+    → TablesAgree spelling made job.written image → taken (with_job s job) ≡ merge_extents opened made (map extent_of s.kept)
+taken_with spelling s job opened made image held written =
     map-append extent_of (s.tables ++ job.written) s.kept
     ∙ ap (λ (xs : List Extent). xs ++ map extent_of s.kept) (map-append extent_of s.tables job.written)
     ∙ append_assoc (map extent_of s.tables) (map extent_of job.written) (map extent_of s.kept)
-    ∙ ap₂ (λ (xs ys : List Extent). xs ++ (ys ++ map extent_of s.kept)) (held_extents spelling settings opened s.tables image held)
-    (held_extents spelling settings made job.written image written)
+    ∙ ap₂ (λ (xs ys : List Extent). xs ++ (ys ++ map extent_of s.kept)) (held_extents spelling opened s.tables image held)
+    (held_extents spelling made job.written image written)
 
 -- ---- a slice
 
@@ -174,12 +174,6 @@ module _ (spelling : Spelling) (filter_bytes : FilterBytes) (s : State) (job : J
     settings_are : new.settings ≡ s.settings
     settings_are = on.settings ∙ follows.settings
 
-    now_held : TablesAgree spelling s.settings new.made on.now after.seen.held
-    now_held = subst (λ (set : Settings). TablesAgree spelling set new.made on.now after.seen.held) settings_are on.makes.made_are
-
-    tables_held : TablesAgree spelling s.settings opened s.tables after.seen.held
-    tables_held = subst (λ (set : Settings). TablesAgree spelling set opened s.tables after.seen.held) follows.settings on.held
-
     next_follows : Follows spelling s opened after.seen.held new next
     next_follows = record {
       settings = settings_are;
@@ -199,11 +193,11 @@ module _ (spelling : Spelling) (filter_bytes : FilterBytes) (s : State) (job : J
       later = next;
       progresses = goes_on on.one;
       follows = next_follows;
-      held = tables_held;
-      lasting = subst (λ (set : Settings). Now (TablesAgree spelling set old.made job.written) before → Now (TablesAgree spelling set new.made on.now) after) follows.settings on.lasting;
+      held = on.held;
+      lasting = on.lasting;
       taken_are = record {
         pages = pages_are on.one;
-        taken_are = subst (λ (es : List Extent). IsPermutation extents.extents es) (sym (taken_with spelling s next opened new.made after.seen.held s.settings tables_held now_held)) on.taken_are;
+        taken_are = subst (λ (es : List Extent). IsPermutation extents.extents es) (sym (taken_with spelling s next opened new.made after.seen.held on.held on.makes.made_are)) on.taken_are;
       };
       said = other_job said on.said;
     }
@@ -212,9 +206,8 @@ module _ (spelling : Spelling) (filter_bytes : FilterBytes) (s : State) (job : J
 pub makes_follow : (spelling : Spelling) (filter_bytes : FilterBytes) (opened : List Opened) (old new : JobValue) (free extents : Taken) (result : Result Sliced JobFault) (before after : World)
     → MakesAnyOutputs spelling filter_bytes opened old new free extents result before after → FollowsAnyJob spelling filter_bytes opened old new free extents result before after
 makes_follow spelling filter_bytes opened old new free extents result before after makes s job held follows taken_are =
-    let tables_held = subst (λ (set : Settings). TablesAgree spelling set opened s.tables before.seen.held) (sym follows.settings) held in
-    let others = taken_with spelling s job opened old.made before.seen.held old.settings tables_held follows.makes.made_are in
-    let here = makes s.tables (outstanding s.tables job) job.written (map extent_of s.kept) tables_held follows.makes
+    let others = taken_with spelling s job opened old.made before.seen.held held follows.makes.made_are in
+    let here = makes s.tables (outstanding s.tables job) job.written (map extent_of s.kept) held follows.makes
     (subst (λ (es : List Extent). IsPermutation free.extents es) others taken_are.taken_are) in
     by_result result here
   where

@@ -11,7 +11,6 @@ use Rattle.block_model.specs.Pages.{last_key}
 use Rattle.disk_trait.specs.Image.{Image}
 use Rattle.entry_model.specs.Entries.{Entry, keys_of}
 use Rattle.filter_api.specs.Spellings.{Spelling}
-use Rattle.filter_api.specs.declared.settings.Settings.{Settings}
 use Rattle.key_base.specs.ByteOrder.{is_before}
 use Rattle.level_merge.specs.FollowLaws.{OtherImageIsFollowed}
 use Rattle.level_merge.specs.TablesAgree.{TableAgrees, TablesAgree}
@@ -108,15 +107,15 @@ index_rows bs cs same = ap (λ (i : Index). i.rows) same
 
 -- ---- the tables of two images
 
-module _ (standing : StandingBlocks) (spelling : Spelling) (settings : Settings) (image other : Image) where
-  same_blocks : (t : Opened) (u : Table) → TableAgrees spelling settings t u image → TableAgrees spelling settings t u other → blocks_on t image ≡ blocks_on t other
+module _ (standing : StandingBlocks) (spelling : Spelling) (image other : Image) where
+  same_blocks : (t : Opened) (u : Table) → TableAgrees spelling t u image → TableAgrees spelling t u other → blocks_on t image ≡ blocks_on t other
   same_blocks t u here there =
       let entries : joined here.blocks ≡ joined there.blocks = sym (ap (λ (v : Table). v.entries) here.table_is) ∙ ap (λ (v : Table). v.entries) there.table_is in
       let rows = index_rows here.blocks there.blocks (sym here.stands.index_is ∙ there.stands.index_is) in
       let cut = same_cut is_any here.blocks there.blocks here.stands.at.each there.stands.at.each entries (rows_lasts here.blocks there.blocks rows) here.stands.at.table.rising in
-      (standing spelling settings t here.blocks image here.stands).on_device ∙ cut ∙ sym (standing spelling settings t there.blocks other there.stands).on_device
+      (standing spelling t here.blocks image here.stands).on_device ∙ cut ∙ sym (standing spelling t there.blocks other there.stands).on_device
 
-  same_at : (opened : List Opened) (tables : List Table) (place : ℕ) → TablesAgree spelling settings opened tables image → TablesAgree spelling settings opened tables other
+  same_at : (opened : List Opened) (tables : List Table) (place : ℕ) → TablesAgree spelling opened tables image → TablesAgree spelling opened tables other
       → blocks_in (slice_get opened place) image ≡ blocks_in (slice_get opened place) other
   same_at [] [] place here there = refl
   same_at [] (u ∷ tables) place here there = absurd here
@@ -124,7 +123,7 @@ module _ (standing : StandingBlocks) (spelling : Spelling) (settings : Settings)
   same_at (t ∷ more) (u ∷ tables) zero here there = same_blocks t u here.0 there.0
   same_at (t ∷ more) (u ∷ tables) (suc place) here there = same_at more tables place here.1 there.1
 
-  module _ (opened : List Opened) (tables : List Table) (here : TablesAgree spelling settings opened tables image) (there : TablesAgree spelling settings opened tables other) where
+  module _ (opened : List Opened) (tables : List Table) (here : TablesAgree spelling opened tables image) (there : TablesAgree spelling opened tables other) where
     left_same : (floor : KeyFloor) (walks : List TableWalk) → map (left_above floor opened image) walks ≡ map (left_above floor opened other) walks
     left_same floor [] = refl
     left_same floor (w ∷ more) =
@@ -154,9 +153,9 @@ image_follows standing spelling s opened image other m job here there made follo
       output = follows.output;
       to_read = follows.to_read;
       makes = record {
-        sound = sound_same standing spelling s.settings image other opened s.tables here there m.merge makes.sound;
-        left_are = sym (outputs_same standing spelling s.settings image other opened s.tables here there m) ∙ makes.left_are;
+        sound = sound_same standing spelling image other opened s.tables here there m.merge makes.sound;
+        left_are = sym (outputs_same standing spelling image other opened s.tables here there m) ∙ makes.left_are;
         rows = makes.rows;
-        made_are = subst (λ (x : Settings). TablesAgree spelling x m.made job.written other) (sym follows.settings) made;
+        made_are = made;
       };
     }

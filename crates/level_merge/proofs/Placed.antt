@@ -36,22 +36,22 @@ pub some_pages : (filter_bytes : FilterBytes) (settings : Settings) (entries : L
 unfolding index_length pages_for
 some_pages filter_bytes settings entries = omega arith
 
-row_pages : (level first : ℕ) (entries : List Entry) (filter_bytes : Bytes)
-    → pages_of (row_for level first entries filter_bytes) ≡ data_pages entries + pages_for (index_length entries) + pages_for (length filter_bytes)
+row_pages : (level first : ℕ) (settings : Settings) (entries : List Entry) (filter_bytes : Bytes)
+    → pages_of (row_for level first settings entries filter_bytes) ≡ data_pages entries + pages_for (index_length entries) + pages_for (length filter_bytes)
 unfolding row_for
-row_pages level first entries filter_bytes = refl
+row_pages level first settings entries filter_bytes = refl
 
-row_first : (level first : ℕ) (entries : List Entry) (filter_bytes : Bytes) → (row_for level first entries filter_bytes).first_page ≡ first
+row_first : (level first : ℕ) (settings : Settings) (entries : List Entry) (filter_bytes : Bytes) → (row_for level first settings entries filter_bytes).first_page ≡ first
 unfolding row_for
-row_first level first entries filter_bytes = refl
+row_first level first settings entries filter_bytes = refl
 
-row_level : (level first : ℕ) (entries : List Entry) (filter_bytes : Bytes) → (row_for level first entries filter_bytes).level ≡ level
+row_level : (level first : ℕ) (settings : Settings) (entries : List Entry) (filter_bytes : Bytes) → (row_for level first settings entries filter_bytes).level ≡ level
 unfolding row_for
-row_level level first entries filter_bytes = refl
+row_level level first settings entries filter_bytes = refl
 
-row_entries : (level first : ℕ) (entries : List Entry) (filter_bytes : Bytes) → (row_for level first entries filter_bytes).entries ≡ length entries
+row_entries : (level first : ℕ) (settings : Settings) (entries : List Entry) (filter_bytes : Bytes) → (row_for level first settings entries filter_bytes).entries ≡ length entries
 unfolding row_for
-row_entries level first entries filter_bytes = refl
+row_entries level first settings entries filter_bytes = refl
 
 -- the last row of some with one more
 pub last_is : (rows : List Row) (row : Row) → last_row (rows ++ row ∷ []) ≡ row
@@ -69,13 +69,13 @@ module _ (spelling : Spelling) (built_cutoff : ℕ → List Leaf → ℕ) (built
   need = table_pages (filter_bytes_of spelling built_cutoff) built.settings built.entries
 
   pub page_is : row.first_page ≡ page
-  page_is = ap (λ (r : Row). r.first_page) row_is ∙ row_first level page built.entries (made_filter spelling built_cutoff built)
+  page_is = ap (λ (r : Row). r.first_page) row_is ∙ row_first level page built.settings built.entries (made_filter spelling built_cutoff built)
 
   pub level_is : row.level ≡ level
-  level_is = ap (λ (r : Row). r.level) row_is ∙ row_level level page built.entries (made_filter spelling built_cutoff built)
+  level_is = ap (λ (r : Row). r.level) row_is ∙ row_level level page built.settings built.entries (made_filter spelling built_cutoff built)
 
   pub pages_are : pages_of row ≡ table_pages (filter_bytes_of spelling built_cutoff) built.settings built.entries
-  pages_are = ap pages_of row_is ∙ row_pages level page built.entries (made_filter spelling built_cutoff built)
+  pages_are = ap pages_of row_is ∙ row_pages level page built.settings built.entries (made_filter spelling built_cutoff built)
 
   pub row_again : row ≡ made_row spelling built_cutoff built level row.first_page
   row_again = row_is ∙ ap (λ (n : ℕ). made_row spelling built_cutoff built level n) (sym page_is)
@@ -86,7 +86,7 @@ module _ (spelling : Spelling) (built_cutoff : ℕ → List Leaf → ℕ) (built
 
   pub table_is : row.entries < 2 ^ 32 → 0 < length built.entries → AllByRecursion IsEntry built.entries → Follow is_any (keys_of built.entries) → IsTable built.entries
   table_is few some each rising =
-      let long = ap (λ (r : Row). r.entries) row_is ∙ row_entries level page built.entries (made_filter spelling built_cutoff built) in
+      let long = ap (λ (r : Row). r.entries) row_is ∙ row_entries level page built.settings built.entries (made_filter spelling built_cutoff built) in
       record { sound = record { each = each; few = omega (arith, few, long) }; some = omega (arith, some); rising = rising }
 
   module _ (free taken : Taken) (old new : List Row) (place : first_gap free.pages free.extents (table_pages (filter_bytes_of spelling built_cutoff) built.settings built.entries) ≡ Some page)
@@ -126,21 +126,21 @@ module _ (spelling : Spelling) (built_cutoff : ℕ → List Leaf → ℕ) (built
 
   -- ---- what stands there
 
-  held_there : (image : Image) → IsTableOf spelling built.settings (made_row spelling built_cutoff built level page) (table_of (filter_bytes_of spelling built_cutoff) built.settings level page built.entries) image
-      → StandsWith spelling built.settings (opened_of built_cutoff built (made_row spelling built_cutoff built level page)) built.entries image
-      → TableAgrees spelling built.settings (opened_of built_cutoff built row) (built_table spelling built_cutoff built level row.first_page) image
+  held_there : (image : Image) → IsTableOf spelling (made_row spelling built_cutoff built level page) (table_of (filter_bytes_of spelling built_cutoff) built.settings level page built.entries) image
+      → StandsWith spelling (opened_of built_cutoff built (made_row spelling built_cutoff built level page)) built.entries image
+      → TableAgrees spelling (opened_of built_cutoff built row) (built_table spelling built_cutoff built level row.first_page) image
   held_there image is stands =
-      let first : TableAgrees spelling built.settings (opened_of built_cutoff built (made_row spelling built_cutoff built level page)) (built_table spelling built_cutoff built level page) image =
-      record { blocks = stands.0; stands = stands.1; table_is = one_table spelling built.settings built.settings _ _ _ image is (stands.0, stands.1.at, refl) } in
-      subst (λ (n : ℕ). TableAgrees spelling built.settings (opened_of built_cutoff built row) (built_table spelling built_cutoff built level n) image) (sym page_is)
-      (subst (λ (r : Row). TableAgrees spelling built.settings (opened_of built_cutoff built r) (built_table spelling built_cutoff built level page) image) (sym row_is) first)
+      let first : TableAgrees spelling (opened_of built_cutoff built (made_row spelling built_cutoff built level page)) (built_table spelling built_cutoff built level page) image =
+      record { blocks = stands.0; stands = stands.1; table_is = one_table spelling _ _ _ image is (stands.0, stands.1.at, refl) } in
+      subst (λ (n : ℕ). TableAgrees spelling (opened_of built_cutoff built row) (built_table spelling built_cutoff built level n) image) (sym page_is)
+      (subst (λ (r : Row). TableAgrees spelling (opened_of built_cutoff built r) (built_table spelling built_cutoff built level page) image) (sym row_is) first)
 
   pub now_held : (after : World) (rows : List Row) → last_row rows ≡ row
-      → Now (IsTableOf spelling built.settings (made_row spelling built_cutoff built level page) (table_of (filter_bytes_of spelling built_cutoff) built.settings level page built.entries)) after
-      → Now (StandsWith spelling built.settings (opened_of built_cutoff built (made_row spelling built_cutoff built level page)) built.entries) after
-      → Now (TableAgrees spelling built.settings (opened_of built_cutoff built (last_row rows)) (built_table spelling built_cutoff built level (last_row rows).first_page)) after
+      → Now (IsTableOf spelling (made_row spelling built_cutoff built level page) (table_of (filter_bytes_of spelling built_cutoff) built.settings level page built.entries)) after
+      → Now (StandsWith spelling (opened_of built_cutoff built (made_row spelling built_cutoff built level page)) built.entries) after
+      → Now (TableAgrees spelling (opened_of built_cutoff built (last_row rows)) (built_table spelling built_cutoff built level (last_row rows).first_page)) after
   now_held after rows last is stands = λ image leaves.
-      subst (λ (r : Row). TableAgrees spelling built.settings (opened_of built_cutoff built r) (built_table spelling built_cutoff built level r.first_page) image) (sym last)
+      subst (λ (r : Row). TableAgrees spelling (opened_of built_cutoff built r) (built_table spelling built_cutoff built level r.first_page) image) (sym last)
       (held_there image (is image leaves) (stands image leaves))
 
 -- ---- a write that failed

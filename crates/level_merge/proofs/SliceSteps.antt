@@ -47,12 +47,12 @@ use Rattle.table_model.specs.Tables.{FilterBytes, Table, filter_bytes_of, table_
 
 -- ---- tables that stand apart from what is written
 
-module _ (spelling : Spelling) (settings : Settings) (at n : ℕ) (f g : Image) (torn : Torn at n f g) where
-  one_kept : (opened : Opened) (t : Table) → IsApartFromRow at n opened.row → TableAgrees spelling settings opened t f → TableAgrees spelling settings opened t g
+module _ (spelling : Spelling) (at n : ℕ) (f g : Image) (torn : Torn at n f g) where
+  one_kept : (opened : Opened) (t : Table) → IsApartFromRow at n opened.row → TableAgrees spelling opened t f → TableAgrees spelling opened t g
   one_kept opened t apart held = record {
     blocks = held.blocks;
     stands = record {
-      at = at_kept spelling settings opened.row held.blocks at n f g apart torn held.stands.at;
+      at = at_kept spelling opened.row held.blocks at n f g apart torn held.stands.at;
       index_is = held.stands.index_is;
       hash_is = held.stands.hash_is;
       real_is = held.stands.real_is;
@@ -61,19 +61,19 @@ module _ (spelling : Spelling) (settings : Settings) (at n : ℕ) (f g : Image) 
     table_is = held.table_is;
   }
 
-  held_kept : (opened : List Opened) (tables : List Table) → AllByRecursion (λ (t : Opened). IsApartFromRow at n t.row) opened → TablesAgree spelling settings opened tables f
-      → TablesAgree spelling settings opened tables g
+  held_kept : (opened : List Opened) (tables : List Table) → AllByRecursion (λ (t : Opened). IsApartFromRow at n t.row) opened → TablesAgree spelling opened tables f
+      → TablesAgree spelling opened tables g
   held_kept [] [] apart held = tt
   held_kept [] (t ∷ tables) apart held = absurd held
   held_kept (o ∷ opened) [] apart held = absurd held
   held_kept (o ∷ opened) (t ∷ tables) apart held = (one_kept o t apart.0 held.0, held_kept opened tables apart.1 held.1)
 
-held_more : (spelling : Spelling) (settings : Settings) (opened : List Opened) (tables : List Table) (o : Opened) (t : Table) (image : Image) → TablesAgree spelling settings opened tables image
-    → TableAgrees spelling settings o t image → TablesAgree spelling settings (opened ++ o ∷ []) (tables ++ t ∷ []) image
-held_more spelling settings [] [] o t image held here = (here, tt)
-held_more spelling settings [] (u ∷ tables) o t image held here = absurd held
-held_more spelling settings (x ∷ opened) [] o t image held here = absurd held
-held_more spelling settings (x ∷ opened) (u ∷ tables) o t image held here = (held.0, held_more spelling settings opened tables o t image held.1 here)
+held_more : (spelling : Spelling) (opened : List Opened) (tables : List Table) (o : Opened) (t : Table) (image : Image) → TablesAgree spelling opened tables image
+    → TableAgrees spelling o t image → TablesAgree spelling (opened ++ o ∷ []) (tables ++ t ∷ []) image
+held_more spelling [] [] o t image held here = (here, tt)
+held_more spelling [] (u ∷ tables) o t image held here = absurd held
+held_more spelling (x ∷ opened) [] o t image held here = absurd held
+held_more spelling (x ∷ opened) (u ∷ tables) o t image held here = (held.0, held_more spelling opened tables o t image held.1 here)
 
 -- ---- extents
 
@@ -145,17 +145,17 @@ some_length (e ∷ built) some = omega arith
 -- ---- damage
 
 -- no block of a table that stands is damaged
-standing_at : (spelling : Spelling) (settings : Settings) (opened : List Opened) (tables : List Table) (image : Image) (place : ℕ) (t : Opened) → TablesAgree spelling settings opened tables image
-    → slice_get opened place ≡ Some t → (u : Table) × TableAgrees spelling settings t u image
-standing_at spelling settings [] tables image place t held there = absurd cc
-standing_at spelling settings (o ∷ opened) [] image place t held there = absurd held
-standing_at spelling settings (o ∷ opened) (u ∷ tables) image zero t held there = let same : o ≡ t = cc in (u, subst (λ (x : Opened). TableAgrees spelling settings x u image) same held.0)
-standing_at spelling settings (o ∷ opened) (u ∷ tables) image (suc place) t held there = standing_at spelling settings opened tables image place t held.1 there
+standing_at : (spelling : Spelling) (opened : List Opened) (tables : List Table) (image : Image) (place : ℕ) (t : Opened) → TablesAgree spelling opened tables image
+    → slice_get opened place ≡ Some t → (u : Table) × TableAgrees spelling t u image
+standing_at spelling [] tables image place t held there = absurd cc
+standing_at spelling (o ∷ opened) [] image place t held there = absurd held
+standing_at spelling (o ∷ opened) (u ∷ tables) image zero t held there = let same : o ≡ t = cc in (u, subst (λ (x : Opened). TableAgrees spelling x u image) same held.0)
+standing_at spelling (o ∷ opened) (u ∷ tables) image (suc place) t held there = standing_at spelling opened tables image place t held.1 there
 
 -- ---- rows were taken
 
 module _ (standing : StandingBlocks) (spelling : Spelling) (built_cutoff : ℕ → List Leaf → ℕ) (opened : List Opened) (tables : List Table) (old mid : JobValue) (left : List (List Entry)) (made : List Table)
-    (others : List Extent) (free : Taken) (before here : World) (tells : Bool) (is : IsTrue tells) (held : TablesAgree spelling old.settings opened tables before.seen.held)
+    (others : List Extent) (free : Taken) (before here : World) (tells : Bool) (is : IsTrue tells) (held : TablesAgree spelling opened tables before.seen.held)
     (makes : OutputsLeft spelling opened before.seen.held old left made) (taken : AreTakenBy opened old.made others free) (takes : TakesRows tells opened before.seen.held old mid)
     (reads : OnlyReads before here) where
   abbrev filter_bytes : FilterBytes
@@ -190,10 +190,10 @@ module _ (standing : StandingBlocks) (spelling : Spelling) (built_cutoff : ℕ �
       sound = sound;
       left_are = left_is;
       rows = written;
-      made_are = subst (λ (m : JobValue). TablesAgree spelling m.settings m.made made before.seen.held) (sym takes.rest) makes.made_are;
+      made_are = subst (λ (m : JobValue). TablesAgree spelling m.made made before.seen.held) (sym takes.rest) makes.made_are;
     });
-    held = subst (TablesAgree spelling old.settings opened tables) (sym reads.1.held) held;
-    lasting = λ now. subst (λ (m : List Opened). Now (TablesAgree spelling old.settings m made) here) (sym made_is) (reads_keep (TablesAgree spelling old.settings old.made made) reads.0 before here reads.1 now);
+    held = subst (TablesAgree spelling opened tables) (sym reads.1.held) held;
+    lasting = λ now. subst (λ (m : List Opened). Now (TablesAgree spelling m made) here) (sym made_is) (reads_keep (TablesAgree spelling old.made made) reads.0 before here reads.1 now);
     taken_are = subst (λ (m : List Opened). AreTakenBy opened m others free) (sym made_is) taken;
     said = says;
   }
@@ -254,7 +254,7 @@ module _ (standing : StandingBlocks) (spelling : Spelling) (built_cutoff : ℕ �
 
     module _ (new : JobValue) (extents : Taken) (row : Row) (after : World) (closes : Closes spelling built_cutoff mid new free extents row)
         (moves : WriteMoves (byte_of_page row.first_page) (page_bytes * pages_of row) here after)
-        (stands : Now (TableAgrees spelling mid.settings (made_opened built_cutoff mid row) (made_table spelling built_cutoff mid row.first_page)) after)
+        (stands : Now (TableAgrees spelling (made_opened built_cutoff mid row) (made_table spelling built_cutoff mid row.first_page)) after)
         (current : after.leaves after.moment after.seen.held) (next : later ≡ outputs_of (mid.beside - 1) (lasting mid.drops (rows_left mid.merge opened before.seen.held))) where
       abbrev new_table : Table
       new_table = table_of filter_bytes old.settings old.output row.first_page mid.built
@@ -265,10 +265,10 @@ module _ (standing : StandingBlocks) (spelling : Spelling) (built_cutoff : ℕ �
       output_is : mid.output ≡ old.output
       output_is = ap (λ (m : JobValue). m.output) takes.rest
 
-      new_stands : Now (TableAgrees spelling old.settings new_opened new_table) after
+      new_stands : Now (TableAgrees spelling new_opened new_table) after
       new_stands =
-          subst (λ (level : ℕ). Now (TableAgrees spelling old.settings new_opened (table_of filter_bytes old.settings level row.first_page mid.built)) after) output_is
-          (subst (λ (set : Settings). Now (TableAgrees spelling set new_opened (table_of filter_bytes set mid.output row.first_page mid.built)) after) settings_are stands)
+          subst (λ (level : ℕ). Now (TableAgrees spelling new_opened (table_of filter_bytes old.settings level row.first_page mid.built)) after) output_is
+          (subst (λ (set : Settings). Now (TableAgrees spelling new_opened (table_of filter_bytes set mid.output row.first_page mid.built)) after) settings_are stands)
 
       new_made : new.made ≡ old.made ++ new_opened ∷ []
       new_made = ap (λ (m : JobValue). m.made) closes.new_is ∙ ap (λ (m : List Opened). m ++ new_opened ∷ []) made_is
@@ -279,32 +279,32 @@ module _ (standing : StandingBlocks) (spelling : Spelling) (built_cutoff : ℕ �
       torn : Torn (byte_of_page row.first_page) (page_bytes * pages_of row) before.seen.held after.seen.held
       torn = subst (λ (h : Image). Torn (byte_of_page row.first_page) (page_bytes * pages_of row) h after.seen.held) reads.1.held moves.torn
 
-      tables_after : TablesAgree spelling old.settings opened tables after.seen.held
+      tables_after : TablesAgree spelling opened tables after.seen.held
       tables_after =
-          held_kept spelling old.settings (byte_of_page row.first_page) (page_bytes * pages_of row) before.seen.held after.seen.held torn opened tables
+          held_kept spelling (byte_of_page row.first_page) (page_bytes * pages_of row) before.seen.held after.seen.held torn opened tables
           (opened_apart (extent_at row) opened old.made others free taken closes.placed.apart) held
 
-      made_after : TablesAgree spelling old.settings old.made made after.seen.held
+      made_after : TablesAgree spelling old.made made after.seen.held
       made_after =
-          held_kept spelling old.settings (byte_of_page row.first_page) (page_bytes * pages_of row) before.seen.held after.seen.held torn old.made made
+          held_kept spelling (byte_of_page row.first_page) (page_bytes * pages_of row) before.seen.held after.seen.held torn old.made made
           (made_apart (extent_at row) opened old.made others free taken closes.placed.apart) makes.made_are
 
-      all_after : TablesAgree spelling old.settings new.made (made ++ new_table ∷ []) after.seen.held
+      all_after : TablesAgree spelling new.made (made ++ new_table ∷ []) after.seen.held
       all_after =
-          subst (λ (m : List Opened). TablesAgree spelling old.settings m (made ++ new_table ∷ []) after.seen.held) (sym new_made)
-          (held_more spelling old.settings old.made made new_opened new_table after.seen.held made_after (new_stands after.seen.held current))
+          subst (λ (m : List Opened). TablesAgree spelling m (made ++ new_table ∷ []) after.seen.held) (sym new_made)
+          (held_more spelling old.made made new_opened new_table after.seen.held made_after (new_stands after.seen.held current))
 
-      on_each : Now (TablesAgree spelling old.settings old.made made) before → Now (TablesAgree spelling old.settings new.made (made ++ new_table ∷ [])) after
+      on_each : Now (TablesAgree spelling old.made made) before → Now (TablesAgree spelling new.made (made ++ new_table ∷ [])) after
       on_each now =
           let at = byte_of_page row.first_page in
           let n = page_bytes * pages_of row in
-          let F = TablesAgree spelling old.settings old.made made in
-          let R = TableAgrees spelling old.settings new_opened new_table in
+          let F = TablesAgree spelling old.made made in
+          let R = TableAgrees spelling new_opened new_table in
           let keeps = λ (f g : Image) (there : F f) (cut : Torn at n f g).
-          held_kept spelling old.settings at n f g cut old.made made (made_apart (extent_at row) opened old.made others free taken closes.placed.apart) there in
+          held_kept spelling at n f g cut old.made made (made_apart (extent_at row) opened old.made others free taken closes.placed.apart) there in
           let both = (leads_around {T = ℕ} {E = ℕ} F R at n (Ok 0) here after keeps moves.time new_stands).after (reads_keep F reads.0 before here reads.1 now) in
-          λ image leaves. subst (λ (m : List Opened). TablesAgree spelling old.settings m (made ++ new_table ∷ []) image) (sym new_made)
-          (held_more spelling old.settings old.made made new_opened new_table image (both image leaves).0 (both image leaves).1)
+          λ image leaves. subst (λ (m : List Opened). TablesAgree spelling m (made ++ new_table ∷ []) image) (sym new_made)
+          (held_more spelling old.made made new_opened new_table image (both image leaves).0 (both image leaves).1)
 
       later_is : outputs_left new opened before.seen.held ≡ later
       later_is =
@@ -314,7 +314,7 @@ module _ (standing : StandingBlocks) (spelling : Spelling) (built_cutoff : ℕ �
       new_sound : IsSoundMerge new.merge opened after.seen.held
       new_sound =
           subst (λ (m : JobValue). IsSoundMerge m.merge opened after.seen.held) (sym closes.new_is)
-          (sound_same standing spelling old.settings before.seen.held after.seen.held opened tables held tables_after mid.merge sound)
+          (sound_same standing spelling before.seen.held after.seen.held opened tables held tables_after mid.merge sound)
 
       rows_are : AreAllWritten new
       rows_are =
@@ -347,9 +347,9 @@ module _ (standing : StandingBlocks) (spelling : Spelling) (built_cutoff : ℕ �
         output = ap (λ (m : JobValue). m.output) closes.new_is ∙ output_is;
         makes = record {
           sound = new_sound;
-          left_are = sym (outputs_same standing spelling old.settings before.seen.held after.seen.held opened tables held tables_after new) ∙ later_is;
+          left_are = sym (outputs_same standing spelling before.seen.held after.seen.held opened tables held tables_after new) ∙ later_is;
           rows = rows_are;
-          made_are = subst (λ (set : Settings). TablesAgree spelling set new.made (made ++ new_table ∷ []) after.seen.held) (sym new_settings) all_after;
+          made_are = all_after;
         };
         held = tables_after;
         lasting = on_each;
@@ -369,11 +369,11 @@ module _ (standing : StandingBlocks) (spelling : Spelling) (built_cutoff : ℕ �
 -- ---- rows could not be taken
 
 module _ (standing : StandingBlocks) (spelling : Spelling) (filter_bytes : FilterBytes) (opened : List Opened) (tables : List Table) (old : JobValue) (left : List (List Entry)) (free : Taken) (before after : World)
-    (tells : Bool) (is : IsTrue tells) (held : TablesAgree spelling old.settings opened tables before.seen.held) where
+    (tells : Bool) (is : IsTrue tells) (held : TablesAgree spelling opened tables before.seen.held) where
   never_damaged : (d : Rattle.byte_fields.specs.declared.parts.Damage.Damage) → (which : List ℕ) → SomeBlock opened which (λ t n. IsGetFault t n before.seen.held (table.Damaged d)) → ⊥
   never_damaged d which some =
-      let here = standing_at spelling old.settings opened tables before.seen.held (length opened - 1 - some.0) some.2.0 held some.2.2 in
-      let read = standing spelling old.settings some.2.0 here.1.blocks before.seen.held here.1.stands in
+      let here = standing_at spelling opened tables before.seen.held (length opened - 1 - some.0) some.2.0 held some.2.2 in
+      let read = standing spelling some.2.0 here.1.blocks before.seen.held here.1.stands in
       read.no_damage some.2.1 (table.Damaged d) (let less = some.2.3 in let many = read.many in omega (arith, less, many)) some.2.4
 
   pub take_refused : (which : List ℕ) (why : JobFault) → IsTakeFault tells opened which before after why → (why ≢ fault.Memory → 1 ≤ blocks_left opened old.merge.walks) → IsMakeRefusal filter_bytes opened old left free before after why

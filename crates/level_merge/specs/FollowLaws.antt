@@ -25,20 +25,20 @@ use Rattle.table_model.specs.Tables.{Table}
 abbrev pub MergeBegins : Type 0
 MergeBegins =
     (spelling : Spelling) (settings : Settings) (opened : List Opened) (tables inputs : List Table) (image : Image) (which : List ℕ) (entries : Option (List Entry)) (output : ℕ)
-    (drops : Bool) → TablesAgree spelling settings opened tables image → map (numbered tables) which ≡ map (λ (t : Table). Some t) inputs → KeysRise (memory_entries entries)
+    (drops : Bool) → TablesAgree spelling opened tables image → map (numbered tables) which ≡ map (λ (t : Table). Some t) inputs → KeysRise (memory_entries entries)
     → OutputsLeft spelling opened image (merge_of which entries output drops settings opened)
     (outputs_of (length which - 1) (lasting drops (newest_entries (oldest_first inputs ++ memory_entries entries)))) []
 
 -- a merge that begins follows the job that begins
 abbrev pub BegunFollows : Type 0
 BegunFollows =
-    (spelling : Spelling) (s : State) (opened : List Opened) (image : Image) (p : PlanByNumbers) (plan : Plan) → TablesAgree spelling s.settings opened s.tables image
+    (spelling : Spelling) (s : State) (opened : List Opened) (image : Image) (p : PlanByNumbers) (plan : Plan) → TablesAgree spelling opened s.tables image
     → MayStart opened p → IsPlanOf s.tables (Some p) (Some plan) → Follows spelling s opened image (begun p s.settings opened) (started plan)
 
 -- the merge of the memory and of all tables makes the outputs of a compaction
 abbrev pub CompactionMakes : Type 0
 CompactionMakes =
-    (spelling : Spelling) (s : State) (opened : List Opened) (image : Image) → TablesAgree spelling s.settings opened s.tables image
+    (spelling : Spelling) (s : State) (opened : List Opened) (image : Image) → TablesAgree spelling opened s.tables image
     → OutputsLeft spelling opened image (compaction (memory s) s.settings opened) (outputs_for s.tables (live_entries s)) []
 
 -- a table of level 0 that is put before all others changes nothing for it
@@ -52,6 +52,6 @@ FlushedIsFollowed =
 -- nor does another image that shows the same tables
 abbrev pub OtherImageIsFollowed : Type 0
 OtherImageIsFollowed =
-    (spelling : Spelling) (s : State) (opened : List Opened) (image other : Image) (m : JobValue) (job : Job) → TablesAgree spelling s.settings opened s.tables image
-    → TablesAgree spelling s.settings opened s.tables other → TablesAgree spelling s.settings m.made job.written other
+    (spelling : Spelling) (s : State) (opened : List Opened) (image other : Image) (m : JobValue) (job : Job) → TablesAgree spelling opened s.tables image
+    → TablesAgree spelling opened s.tables other → TablesAgree spelling m.made job.written other
     → Follows spelling s opened image m job → Follows spelling s opened other m job

@@ -59,8 +59,8 @@ pub record JobProgress (spelling : Spelling) (filter_bytes : FilterBytes) (s : S
   pub later : Job
   pub progresses : Progresses filter_bytes s job later
   pub follows : Follows spelling s opened after.seen.held new later
-  pub held : TablesAgree spelling s.settings opened s.tables after.seen.held
-  pub lasting : Now (TablesAgree spelling s.settings old.made job.written) before → Now (TablesAgree spelling s.settings new.made later.written) after
+  pub held : TablesAgree spelling opened s.tables after.seen.held
+  pub lasting : Now (TablesAgree spelling old.made job.written) before → Now (TablesAgree spelling new.made later.written) after
   pub taken_are : AreTaken s later extents
   pub said : IsSliced s job later sliced
 
@@ -73,5 +73,5 @@ ProgressOrRefusal spelling filter_bytes s job opened old new extents result befo
 -- the same, of each job of a state that the merge follows
 abbrev pub FollowsAnyJob : Spelling → FilterBytes → List Opened → JobValue → JobValue → Taken → Taken → Result Sliced JobFault → World → World → Type 0
 FollowsAnyJob spelling filter_bytes opened old new free extents result before after =
-    (s : State) (job : Job) → TablesAgree spelling s.settings opened s.tables before.seen.held → Follows spelling s opened before.seen.held old job → AreTaken s job free
+    (s : State) (job : Job) → TablesAgree spelling opened s.tables before.seen.held → Follows spelling s opened before.seen.held old job → AreTaken s job free
     → ProgressOrRefusal spelling filter_bytes s job opened old new extents result before after

@@ -3,7 +3,6 @@ use Rattle.std.specs.Prelude.{◌≡◌, ℕ, List, []}
 use Rattle.disk_trait.specs.Image.{Image}
 use Rattle.entry_model.specs.Entries.{Entry}
 use Rattle.filter_api.specs.Spellings.{Spelling}
-use Rattle.filter_api.specs.declared.settings.Settings.{Settings}
 use Rattle.level_merge.specs.JobValue.{outputs_with}
 use Rattle.level_merge.specs.Plans.{Agrees}
 use Rattle.state_model.specs.Merges.{outputs_of}
@@ -14,7 +13,7 @@ use Rattle.table_model.specs.Images.{table_with}
 -- an open table that stands on a device agrees with the table of its row and its blocks
 abbrev pub StandingAgrees : Type 0
 StandingAgrees =
-    (spelling : Spelling) (settings : Settings) (t : Opened) (blocks : List (List Entry)) (image : Image) → StandsThere spelling settings t blocks image
+    (spelling : Spelling) (t : Opened) (blocks : List (List Entry)) (image : Image) → StandsThere spelling t blocks image
     → Agrees t (table_with t.row blocks)
 
 -- where nothing is built yet, the outputs that are left are those of the rows

@@ -27,7 +27,7 @@ pub record OutputsLeft (spelling : Spelling) (opened : List Opened) (image : Ima
   pub sound : IsSoundMerge m.merge opened image
   pub left_are : outputs_left m opened image ≡ left
   pub rows : AreAllWritten m
-  pub made_are : TablesAgree spelling m.settings m.made made image
+  pub made_are : TablesAgree spelling m.made made image
 
 -- the extents of the tables that it reads, of those that it has made and of some others are taken, in any order
 abbrev pub merge_extents : List Opened → List Opened → List Extent → List Extent
@@ -72,8 +72,8 @@ pub record SliceOf (spelling : Spelling) (filter_bytes : FilterBytes) (opened : 
   pub settings : new.settings ≡ old.settings
   pub output : new.output ≡ old.output
   pub makes : OutputsLeft spelling opened after.seen.held new later now
-  pub held : TablesAgree spelling old.settings opened tables after.seen.held
-  pub lasting : Now (TablesAgree spelling old.settings old.made made) before → Now (TablesAgree spelling old.settings new.made now) after
+  pub held : TablesAgree spelling opened tables after.seen.held
+  pub lasting : Now (TablesAgree spelling old.made made) before → Now (TablesAgree spelling new.made now) after
   pub taken_are : AreTakenBy opened new.made others taken
   pub said : AnswersProgress opened old new later made now sliced
 
@@ -98,6 +98,6 @@ OutputOrNone spelling filter_bytes opened tables old new left made others free t
 -- the same, of each device on which the merge makes these outputs
 abbrev pub MakesAnyOutputs : Spelling → FilterBytes → List Opened → JobValue → JobValue → Taken → Taken → Result Sliced JobFault → World → World → Type 0
 MakesAnyOutputs spelling filter_bytes opened old new free taken result before after =
-    (tables : List Table) (left : List (List Entry)) (made : List Table) (others : List Extent) → TablesAgree spelling old.settings opened tables before.seen.held
+    (tables : List Table) (left : List (List Entry)) (made : List Table) (others : List Extent) → TablesAgree spelling opened tables before.seen.held
     → OutputsLeft spelling opened before.seen.held old left made → AreTakenBy opened old.made others free
     → OutputOrNone spelling filter_bytes opened tables old new left made others free taken result before after

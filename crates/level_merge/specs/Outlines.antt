@@ -3,6 +3,7 @@ use Rattle.std.specs.Prelude.{ℕ, ◌-◌, ◌+◌, List, [], ◌∷◌, length
 use Rattle.std.specs.Option.{option_map}
 use Rattle.block_model.specs.Places.{pages_of}
 use Rattle.entry_model.specs.Entries.{entry_of}
+use Rattle.filter_api.specs.Ranges.{row_settings}
 use Rattle.level_merge.specs.Plans.{PlanByNumbers}
 use Rattle.state_model.specs.Merges.{Plan, on_level, plan_of}
 use Rattle.table_file.specs.Opened.{Opened}
@@ -16,6 +17,7 @@ outline number t = record {
   first_page = number;
   pages = pages_of t.row;
   blocks = length t.index.rows;
+  settings = row_settings t.row;
   entries = entry_of t.index.least None ∷ entry_of (row_at t.index.rows (length t.index.rows - 1)).last None ∷ [];
 }
 
@@ -28,7 +30,7 @@ table_number t = t.first_page
 
 -- those of some numbers
 abbrev pub nothing : Table
-nothing = record { level = 0; first_page = 0; pages = 0; blocks = 0; entries = [] }
+nothing = record { level = 0; first_page = 0; pages = 0; blocks = 0; settings = record { hash_bits = 0; real_bits = 0; ratio = 64 }; entries = [] }
 
 abbrev pub outline_of : List Opened → ℕ → Table
 outline_of tables number = slice_index_or (outlines tables) (length tables - 1 - number) nothing

@@ -56,7 +56,7 @@ IsCloseFault need free old new (fault.Full wanted gap) = (wanted ≡ need) × (g
 
 -- the last of some rows
 abbrev pub no_row : Row
-no_row = record { level = 0; first_page = 0; data_pages = 0; index_pages = 0; filter_pages = 0; entries = 0; index_len = 0; filter_len = 0; index_sum = 0; filter_sum = 0 }
+no_row = record { level = 0; first_page = 0; data_pages = 0; index_pages = 0; filter_pages = 0; entries = 0; index_len = 0; filter_len = 0; index_sum = 0; filter_sum = 0; hash_bits = 0; real_bits = 0; ratio = 64 }
 
 abbrev pub last_row : List Row → Row
 last_row rows = slice_index_or rows (length rows - 1) no_row

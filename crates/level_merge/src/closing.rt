@@ -32,7 +32,7 @@ pub(crate) fn write_output<F: RangeFilter, D: Disk>(
     requires rising { Follow is_any (keys_of built.entries) }
     ensures placed { OnOk result (PlacesOutput F.spelling F.built_cutoff built level outputs.old.items outputs.new.items extents.old extents.new (last_row outputs.new.items)) }
     ensures made { OnOk result (made.new.items ≡ made.old.items ++ opened_of F.built_cutoff built (last_row outputs.new.items) ∷ []) }
-    ensures stands { IsTrue D.tells → OnOk result (Now (TableAgrees F.spelling built.settings (opened_of F.built_cutoff built (last_row outputs.new.items)) (built_table F.spelling F.built_cutoff built level (last_row outputs.new.items).first_page)) (D.world disk.new)) }
+    ensures stands { IsTrue D.tells → OnOk result (Now (TableAgrees F.spelling (opened_of F.built_cutoff built (last_row outputs.new.items)) (built_table F.spelling F.built_cutoff built level (last_row outputs.new.items).first_page)) (D.world disk.new)) }
     ensures writes { WritesPlaced F.spelling F.built_cutoff built level outputs.old.items outputs.new.items extents.old extents.new (D.world disk.old) (D.world disk.new) }
     ensures fault { IfErr result (IsCloseFault (table_pages (filter_bytes_of F.spelling F.built_cutoff) built.settings built.entries) extents.old (D.world disk.old) (D.world disk.new)) }
 {

@@ -265,7 +265,7 @@ impl<'m, F: RangeFilter> Job<'m, F> {
         ensures merge { self.new.merge ≡ self.old.merge }
         ensures same { (self.new.output ≡ self.old.output) × (self.new.settings ≡ self.old.settings) }
         ensures closed { OnOk result (Closes F.spelling F.built_cutoff self.old self.new extents.old extents.new (last_row self.new.outputs)) }
-        ensures stands { IsTrue D.tells → OnOk result (Now (TableAgrees F.spelling self.old.settings (made_opened F.built_cutoff self.old (last_row self.new.outputs)) (made_table F.spelling F.built_cutoff self.old (last_row self.new.outputs).first_page)) (D.world disk.new)) }
+        ensures stands { IsTrue D.tells → OnOk result (Now (TableAgrees F.spelling (made_opened F.built_cutoff self.old (last_row self.new.outputs)) (made_table F.spelling F.built_cutoff self.old (last_row self.new.outputs).first_page)) (D.world disk.new)) }
         ensures writes { WritesOutput F.spelling F.built_cutoff self.old self.new extents.old extents.new (D.world disk.old) (D.world disk.new) }
         ensures fault { IfErr result (IsCloseFault (need_of F.spelling F.built_cutoff self.old) extents.old (D.world disk.old) (D.world disk.new)) }
     {

@@ -27,7 +27,7 @@ loop-place-preserved g c =
           ∙ kept_more (on_level level) tables place t which c.loop-place-test.true c.index-tables-place.is (level_kept level number t same)
           ∙ c.loop-place.invariant
       | else-row-level w ↦
-          let other : t.row.level ≡ level → ⊥ = λ e. w.if-row-level.false (ap (λ r. r.level) c.row.ensures ∙ e) in
+          let other : t.row.level ≡ level → ⊥ = λ e. w.if-row-level.false (ap (λ r. r.level) c.row.ensures.row ∙ e) in
           ap (λ v. with_rest level tables (place + 1) v.items) w.which-is
           ∙ ap (λ l. which ++ map table_number l) (passed_more (on_level level) tables place t c.loop-place-test.true c.index-tables-place.is (level_passed level number t other))
           ∙ c.loop-place.invariant

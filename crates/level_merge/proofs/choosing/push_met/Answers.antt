@@ -54,7 +54,7 @@ loop-place-preserved g c =
             | else-row-level-via-then-row-level+else-overlaps v ↦
                 let same : t.row.level ≡ level = cc in
                 met_passed level lo hi number t same (sym v.overlaps.ensures ∙ v.if-overlaps.false)
-            | else-row-level-via-else-row-level v ↦ met_other level lo hi number t (λ e. v.if-row-level.false (ap (λ r. r.level) c.row.ensures ∙ e))
+            | else-row-level-via-else-row-level v ↦ met_other level lo hi number t (λ e. v.if-row-level.false (ap (λ r. r.level) c.row.ensures.row ∙ e))
           ] in
           ap (λ v. with_rest level lo hi tables (place + 1) v.items) w.which-is
           ∙ ap (λ l. which ++ map table_number l) (passed_more (met level lo hi) tables place t c.loop-place-test.true c.index-tables-place.is step)

@@ -193,8 +193,8 @@ returns-in-Ok-write_parts-clause-stands g c t =
     let level = c.args.level in
     let after = g.D.Disk.world c.write_parts.new.disk in
     let outputs : new ≡ old ++ row ∷ [] = c.push_reserved.ensures.items ∙ ap (λ (rows : List Row). rows ++ row ∷ []) c.reserve.ensures.items in
-    let is = subst (λ (b : Built). Now (IsTableOf spelling b.settings (made_row spelling cutoff b level page) (table_of (filter_bytes_of spelling cutoff) b.settings level page b.entries)) after) c.in-Ok.ensures
+    let is = subst (λ (b : Built). Now (IsTableOf spelling (made_row spelling cutoff b level page) (table_of (filter_bytes_of spelling cutoff) b.settings level page b.entries)) after) c.in-Ok.ensures
     (c.in-Ok-write_parts.ensures.table level t) in
-    let stands = subst (λ (b : Built). Now (StandsWith spelling b.settings (opened_of cutoff b (made_row spelling cutoff b level page)) b.entries) after) c.in-Ok.ensures
+    let stands = subst (λ (b : Built). Now (StandsWith spelling (opened_of cutoff b (made_row spelling cutoff b level page)) b.entries) after) c.in-Ok.ensures
     (c.in-Ok-write_parts.ensures.stands level t) in
     now_held spelling cutoff built level page row row_is after new (ap last_row outputs ∙ last_is old row) is stands

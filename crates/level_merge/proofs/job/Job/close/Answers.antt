@@ -21,5 +21,5 @@ returns-clause-stands g c t =
     c.replace-built.ensures.value ∙ ap (λ set. record { settings = set; entries = inside.built.entries }) c.self.invariant.same in
     let whole : c.replace-built.result ≡ built_of c.args.self.now = own ∙ ap built_of c.self.view_is in
     let level : inside.output ≡ c.args.self.now.output = ap (λ (m : JobValue). m.output) c.self.view_is in
-    subst (λ n. OnOk c.write_output.result (Now (TableAgrees spelling c.args.self.now.settings (opened_of cutoff (built_of c.args.self.now) last) (built_table spelling cutoff (built_of c.args.self.now) n last.first_page)) after)) level
-    (subst (λ (b : Built). OnOk c.write_output.result (Now (TableAgrees spelling b.settings (opened_of cutoff b last) (built_table spelling cutoff b inside.output last.first_page)) after)) whole (c.write_output.ensures.stands t))
+    subst (λ n. OnOk c.write_output.result (Now (TableAgrees spelling (opened_of cutoff (built_of c.args.self.now) last) (built_table spelling cutoff (built_of c.args.self.now) n last.first_page)) after)) level
+    (subst (λ (b : Built). OnOk c.write_output.result (Now (TableAgrees spelling (opened_of cutoff b last) (built_table spelling cutoff b inside.output last.first_page)) after)) whole (c.write_output.ensures.stands t))
