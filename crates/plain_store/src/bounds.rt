@@ -20,43 +20,40 @@ use std::alloc::{AllocError, Global};
 // Whether the table's filter admits the key.
 fn admits<F: RangeFilter>(
     alloc: Global,
-    state: &State,
     key: &[u8],
     table: &Table,
 ) -> Result<bool, AllocError>
-    ensures { IfOk result (λ yes. yes ≡ model.admits state.now.settings key.now table.now) }
+    ensures { IfOk result (λ yes. yes ≡ model.admits key.now table.now) }
 {
-    let filter: F = filter_of(alloc, state.settings, table.entries.as_slice())?;
+    let filter: F = filter_of(alloc, table.settings, table.entries.as_slice())?;
     Ok(filter.may_hold(key))
 }
 
 // Whether it admits the keys from `lo` to `hi`.
 fn admits_range<F: RangeFilter>(
     alloc: Global,
-    state: &State,
     lo: &[u8],
     hi: &[u8],
     table: &Table,
 ) -> Result<bool, AllocError>
     requires { is_before hi.now lo.now ≡ false }
-    ensures { IfOk result (λ yes. yes ≡ model.admits_range state.now.settings lo.now hi.now table.now) }
+    ensures { IfOk result (λ yes. yes ≡ model.admits_range lo.now hi.now table.now) }
 {
-    let filter: F = filter_of(alloc, state.settings, table.entries.as_slice())?;
+    let filter: F = filter_of(alloc, table.settings, table.entries.as_slice())?;
     Ok(filter.may_hold_range(lo, hi))
 }
 
 // How many keys from `lo` to `hi` it counts.
 fn tally_of<F: RangeFilter>(
     alloc: Global,
-    state: &State,
     lo: &[u8],
     hi: &[u8],
     table: &Table,
 ) -> Result<u64, AllocError>
     requires { is_before hi.now lo.now ≡ false }
-    ensures { IfOk result (λ n. n ≡ tally state.now.settings.real_bits (model.table_leaves state.now.settings table.now) lo.now hi.now) }
+    ensures { IfOk result (λ n. n ≡ tally table.now.settings.real_bits (model.table_leaves table.now) lo.now hi.now) }
 {
-    let filter: F = filter_of(alloc, state.settings, table.entries.as_slice())?;
+    let filter: F = filter_of(alloc, table.settings, table.entries.as_slice())?;
     Ok(u64::from(filter.tally(lo, hi)))
 }
 
@@ -70,13 +67,12 @@ fn encloses(key: &[u8], table: &Table) -> bool
 // Whether a block of the table is read for the key.
 fn is_searched<F: RangeFilter>(
     alloc: Global,
-    state: &State,
     key: &[u8],
     table: &Table,
 ) -> Result<bool, AllocError>
-    ensures { IfOk result (λ yes. yes ≡ model.is_searched state.now.settings key.now table.now) }
+    ensures { IfOk result (λ yes. yes ≡ model.is_searched key.now table.now) }
 {
-    Ok(admits::<F>(alloc, state, key, table)? && encloses(key, table))
+    Ok(admits::<F>(alloc, key, table)? && encloses(key, table))
 }
 
 // Nothing more, where some entry has the key.
@@ -92,17 +88,16 @@ fn unless_found(entries: &[Entry], key: &[u8], more: u64) -> u64
 // The tables that are searched for the key, up to the first that has it.
 fn searched<F: RangeFilter>(
     alloc: Global,
-    state: &State,
     key: &[u8],
     tables: &[Table],
 ) -> Result<u64, AllocError>
-    ensures { IfOk result (λ n. n ≡ model.searched state.now.settings key.now tables.now) }
+    ensures { IfOk result (λ n. n ≡ model.searched key.now tables.now) }
 {
     let Some((table, older)) = tables.split_first() else {
         return Ok(0);
     };
-    let more = searched::<F>(alloc, state, key, older)?;
-    if !is_searched::<F>(alloc, state, key, table)? {
+    let more = searched::<F>(alloc, key, older)?;
+    if !is_searched::<F>(alloc, key, table)? {
         return Ok(more);
     }
     unless_found(table.entries.as_slice(), key, more)
@@ -119,7 +114,7 @@ pub fn get_bound<F: RangeFilter>(
     ensures { IfOk result (λ n. n ≡ model.get_bound state.now key.now) }
 {
     let memory = state.memory(alloc)?;
-    let more = searched::<F>(alloc, state, key, state.tables.as_slice())?;
+    let more = searched::<F>(alloc, key, state.tables.as_slice())?;
     Ok(unless_found(memory.as_slice(), key, more))
 }
 
@@ -193,13 +188,13 @@ fn seek_blocks<F: RangeFilter>(
 ) -> Result<u64, AllocError>
     requires order { is_before hi.now lo.now ≡ false }
     requires answer { option_map (λ pair. pair.now) answer ≡ seek (state_map state.now) lo.now (Some hi.now) }
-    ensures { IfOk result (λ n. n ≡ sum_by (λ t. suc (model.stepped (state_map state.now) lo.now hi.now t)) (filter (model.admits_range state.now.settings lo.now hi.now) tables.now)) }
+    ensures { IfOk result (λ n. n ≡ sum_by (λ t. suc (model.stepped (state_map state.now) lo.now hi.now t)) (filter (model.admits_range lo.now hi.now) tables.now)) }
 {
     let Some((table, older)) = tables.split_first() else {
         return Ok(0);
     };
     let more = seek_blocks::<F>(alloc, state, lo, hi, answer, older)?;
-    if !admits_range::<F>(alloc, state, lo, hi, table)? {
+    if !admits_range::<F>(alloc, lo, hi, table)? {
         return Ok(more);
     }
     let stepped = stepped_in(state, lo, hi, answer, table)?;
@@ -236,7 +231,7 @@ pub fn estimate<F: RangeFilter>(
     let mut about = within(lo, hi, memory.as_slice())?;
     for table in state.tables.as_slice() {
         about = about
-            .checked_add(tally_of::<F>(alloc, state, lo, hi, table)?)
+            .checked_add(tally_of::<F>(alloc, lo, hi, table)?)
             .ok_or(AllocError)?;
     }
     Ok(about)
@@ -248,7 +243,7 @@ pub fn admitted<F: RangeFilter>(alloc: Global, state: &State, key: &[u8]) -> Res
 {
     let mut count = 0u64;
     for table in state.tables.as_slice() {
-        if admits::<F>(alloc, state, key, table)? {
+        if admits::<F>(alloc, key, table)? {
             count = count.checked_add(1).ok_or(AllocError)?;
         }
     }
@@ -265,7 +260,7 @@ pub fn blocks_read<F: RangeFilter>(
 {
     let mut count = 0u64;
     for table in state.tables.as_slice() {
-        if is_searched::<F>(alloc, state, key, table)? {
+        if is_searched::<F>(alloc, key, table)? {
             count = count.checked_add(1).ok_or(AllocError)?;
         }
     }

@@ -78,6 +78,7 @@ pub(crate) fn table_of<F: RangeFilter>(
         first_page,
         pages,
         blocks,
+        settings,
         entries,
     })
 }

@@ -5,17 +5,20 @@ ghost use Rattle.state_model.specs.Merges as model;
 
 use crate::gaps::Extent;
 use entry_list::{Entry, copied};
+use filter_api::Settings;
 use plain_blocks::{first_key, last_key};
 use std::alloc::{AllocError, Global};
 use std::marker::Model;
 
-/// A table: its level, its first page, how many pages it takes, of how many data blocks it is made, and its entries.
+/// A table: its level, its first page, how many pages it takes, of how many data blocks it is made, the settings that its
+/// filter was built with, and its entries.
 #[derive(Drop)]
 pub struct Table {
     pub level: u8,
     pub first_page: u64,
     pub pages: u64,
     pub blocks: u64,
+    pub settings: Settings,
     pub entries: Vec<Entry>,
 }
 
@@ -24,7 +27,7 @@ impl Model for Table {
 
     ghost Value = { model.Table };
 
-    ghost view = { λ t. record { level = t.level; first_page = t.first_page; pages = t.pages; blocks = t.blocks; entries = t.entries.items } };
+    ghost view = { λ t. record { level = t.level; first_page = t.first_page; pages = t.pages; blocks = t.blocks; settings = t.settings; entries = t.entries.items } };
 }
 
 impl Table {
@@ -38,6 +41,7 @@ impl Table {
             first_page: self.first_page,
             pages: self.pages,
             blocks: self.blocks,
+            settings: self.settings,
             entries,
         })
     }
