@@ -7,7 +7,6 @@ use Rattle.disk_trait.specs.Image.{Image}
 use Rattle.disk_trait.specs.World.{World}
 use Rattle.extent_model.specs.Extents.{Extent}
 use Rattle.filter_api.specs.Spellings.{Spelling}
-use Rattle.filter_api.specs.declared.settings.Settings.{Settings}
 use Rattle.image_model.specs.Stands.{settings_of}
 use Rattle.level_merge.specs.TablesAgree.{TablesAgree}
 use Rattle.level_merge.specs.JobValue.{JobValue}
@@ -31,13 +30,13 @@ pub record Agree (v : Version) (outputs : List Row) (s : State) : Type 0 where
   pub many : length s.tables ≡ length v.rows
 
 -- the extents of tables are those of the rows of the open tables
-pub held_extents : (spelling : Spelling) (settings : Settings) (image : Image) (opened : List Opened) (tables : List Table) → TablesAgree spelling settings opened tables image
+pub held_extents : (spelling : Spelling) (image : Image) (opened : List Opened) (tables : List Table) → TablesAgree spelling opened tables image
     → map extent_of tables ≡ map rows.extent_of (rows_of opened)
-held_extents spelling settings image [] [] held = refl
-held_extents spelling settings image [] (t ∷ tables) held = absurd held
-held_extents spelling settings image (o ∷ opened) [] held = absurd held
-held_extents spelling settings image (o ∷ opened) (t ∷ tables) held =
-    ap₂ (λ (e : Extent) (more : List Extent). e ∷ more) (ap extent_of held.0.table_is) (held_extents spelling settings image opened tables held.1)
+held_extents spelling image [] [] held = refl
+held_extents spelling image [] (t ∷ tables) held = absurd held
+held_extents spelling image (o ∷ opened) [] held = absurd held
+held_extents spelling image (o ∷ opened) (t ∷ tables) held =
+    ap₂ (λ (e : Extent) (more : List Extent). e ∷ more) (ap extent_of held.0.table_is) (held_extents spelling image opened tables held.1)
 
 -- and those of what a job has written are those of the outputs
 pub written_extents : (spelling : Spelling) (s : State) (image : Image) (opened : List Opened) (running : Option JobValue) (job : Option Job) → RunsAs spelling opened running s job image
@@ -46,7 +45,7 @@ written_extents spelling s image opened None None runs = refl
 written_extents spelling s image opened None (Some job) runs = absurd runs
 written_extents spelling s image opened (Some m) None runs = absurd runs
 written_extents spelling s image opened (Some m) (Some job) runs =
-    held_extents spelling m.settings image m.made job.written runs.makes.made_are ∙ ap (map rows.extent_of) (sym runs.makes.rows)
+    held_extents spelling image m.made job.written runs.makes.made_are ∙ ap (map rows.extent_of) (sym runs.makes.rows)
 
 -- with nothing kept, the tables and what is written of the job are taken
 taken_parts : (s : State) → s.kept ≡ [] → taken s ≡ map extent_of s.tables ++ map extent_of (written_by s.job)
@@ -59,7 +58,7 @@ pub agree : (spelling : Spelling) (m : Manifest) (opened : List Opened) (running
     → Agree m.version (outputs_in running) s
 agree spelling m opened running s image none_kept under =
     let named = under.ready.named in
-    let extents = rows_extents spelling s.settings image m.version.rows s.tables named.tables in
+    let extents = rows_extents spelling image m.version.rows s.tables named.tables in
     record {
       settings = named.settings;
       pages = named.pages;

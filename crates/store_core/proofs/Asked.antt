@@ -9,7 +9,6 @@ use Rattle.disk_trait.specs.World.{ReadMoves, World}
 use Rattle.entry_model.specs.Entries.{Entry}
 use Rattle.entry_model.specs.Newest.{lookup}
 use Rattle.filter_api.specs.Spellings.{Spelling}
-use Rattle.filter_api.specs.declared.settings.Settings.{Settings}
 use Rattle.line_model.specs.Limits.{key_limit}
 use Rattle.map_model.specs.SortedMap.{Bytes}
 use Rattle.state_model.specs.Bounds.{get_bound, searched, unless_found}
@@ -104,23 +103,23 @@ refused_fault (table.Damaged d) stopped key a b runs limit is = (runs, limit)
 
 module _ (spelling : Spelling) (filter_bytes : FilterBytes) (tells : Bool) (store : StoreValue) (key : Bytes) (opened : List Opened) (blocks : Cached) (a b : World)
     (same_tables : opened ≡ store.tables) (same_blocks : blocks ≡ store.blocks) (current : IsTrue tells → a.leaves a.moment a.seen.held) where
-  pub held_of : (s : State) → IsTrue tells → Represents spelling filter_bytes store s a → TablesAgree spelling s.settings opened s.tables a.seen.held
-  held_of s t tied = subst (λ (ts : List Opened). TablesAgree spelling s.settings ts s.tables a.seen.held) (sym same_tables) (tied.images a.seen.held (current t)).tables
+  pub held_of : (s : State) → IsTrue tells → Represents spelling filter_bytes store s a → TablesAgree spelling opened s.tables a.seen.held
+  held_of s t tied = subst (λ (ts : List Opened). TablesAgree spelling ts s.tables a.seen.held) (sym same_tables) (tied.images a.seen.held (current t)).tables
 
   pub true_of : (s : State) → Represents spelling filter_bytes store s a → CacheAgrees blocks opened s.tables
   true_of s tied = subst (λ (c : Cached). CacheAgrees c opened s.tables) (sym same_blocks) (subst (λ (ts : List Opened). CacheAgrees store.blocks ts s.tables) (sym same_tables) tied.blocks)
 
   module _ (runs : store.stopped ≡ false) (limit : key_limit key ≡ None) (none : (s : State) → store.memory.entries ≡ memory s → lookup (memory s) key ≡ None) (moves : ReadMoves (length opened) a b)
-      (within : (settings : Settings) (states : List Table) → IsTrue tells → TablesAgree spelling settings opened states a.seen.held → CacheAgrees blocks opened states
-      → b.seen.reads ≤ a.seen.reads + searched settings key states)
-      (bounded : (settings : Settings) (states : List Table) → IsTrue tells → TablesAgree spelling settings opened states a.seen.held → CacheAgrees blocks opened states
+      (within : (states : List Table) → IsTrue tells → TablesAgree spelling opened states a.seen.held → CacheAgrees blocks opened states
+      → b.seen.reads ≤ a.seen.reads + searched key states)
+      (bounded : (states : List Table) → IsTrue tells → TablesAgree spelling opened states a.seen.held → CacheAgrees blocks opened states
       → b.seen.reads ≤ a.seen.reads + unkept blocks key opened states) where
     bounded_of : (s : State) → IsTrue tells → Represents spelling filter_bytes store s a → b.seen.reads ≤ a.seen.reads + get_bound s key
-    bounded_of s t tied = omega (arith, within s.settings s.tables t (held_of s t tied) (true_of s tied), bound_is s key (none s tied.memory))
+    bounded_of s t tied = omega (arith, within s.tables t (held_of s t tied) (true_of s tied), bound_is s key (none s tied.memory))
 
     unkept_of : (s : State) → IsTrue tells → Represents spelling filter_bytes store s a → b.seen.reads ≤ a.seen.reads + unkept_bound store s key
     unkept_of s t tied =
-        unkept_read store s key blocks opened a.seen.reads b.seen.reads (sym same_blocks) (sym same_tables) (none s tied.memory) (bounded s.settings s.tables t (held_of s t tied) (true_of s tied))
+        unkept_read store s key blocks opened a.seen.reads b.seen.reads (sym same_blocks) (sym same_tables) (none s tied.memory) (bounded s.tables t (held_of s t tied) (true_of s tied))
 
     still_of : store.stopped ≡ true → ReadMoves 0 a b
     still_of stopped = absurd (let is : false ≡ true = sym runs ∙ stopped in cc)
@@ -142,16 +141,16 @@ module _ (spelling : Spelling) (filter_bytes : FilterBytes) (tells : Bool) (stor
 
     -- and a table could not be looked through
     pub gets_refused : {T : Type 0} (r : Result T StoreError) (f : TableFault) → IsErrAnd r (λ why. why ≡ of_table_fault f)
-        → ((settings : Settings) (states : List Table) → IsTrue tells → TablesAgree spelling settings opened states a.seen.held → IsNoDamage f)
+        → ((states : List Table) → IsTrue tells → TablesAgree spelling opened states a.seen.held → IsNoDamage f)
         → (IsTrue tells → IsFaultIn opened key a.seen.held f)
-        → ((settings : Settings) (states : List Table) → IsTrue tells → TablesAgree spelling settings opened states a.seen.held → CacheAgrees blocks opened states → 1 ≤ searched settings key states)
+        → ((states : List Table) → IsTrue tells → TablesAgree spelling opened states a.seen.held → CacheAgrees blocks opened states → 1 ≤ searched key states)
         → IsLookFault a b f → GetsKey spelling filter_bytes tells store key r a b
     gets_refused (Ok v) f told undamaged shown met cause = absurd told
     gets_refused (Err e) f told undamaged shown met cause = record {
-      undamaged = λ s t tied. subst IsUndamaged (sym told) (undamaged_fault f (undamaged s.settings s.tables t (held_of s t tied)));
+      undamaged = λ s t tied. subst IsUndamaged (sym told) (undamaged_fault f (undamaged s.tables t (held_of s t tied)));
       shown = λ t. subst (IsShown store.tables key a.seen.held) (sym told) (told_fault store.tables key a.seen.held f (subst (λ (ts : List Opened). IsFaultIn ts key a.seen.held f) same_tables (shown t)));
       only_if_read = λ s t tied.
-          let some = met s.settings s.tables t (held_of s t tied) (true_of s tied) in
+          let some = met s.tables t (held_of s t tied) (true_of s tied) in
           subst (IsMet (get_bound s key)) (sym told) (met_fault f (get_bound s key) (omega (arith, some, bound_is s key (none s tied.memory))));
       refused = subst (IsGetRefusal store.stopped key a b) (sym told) (refused_fault f store.stopped key a b runs limit cause);
       bounded = bounded_of;

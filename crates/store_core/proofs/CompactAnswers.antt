@@ -169,7 +169,7 @@ module _ (spelling : Spelling) (bytes : FilterBytes) (store : StoreValue) (s : S
 
   -- on an empty store
   module _ (current : w.leaves w.moment w.seen.held) (no_memory : store.memory.entries ≡ []) (no_tables : store.tables ≡ []) where
-    no_tables_held : (opened : List Opened) (tables : List Table) → opened ≡ [] → TablesAgree spelling s.settings opened tables w.seen.held → tables ≡ []
+    no_tables_held : (opened : List Opened) (tables : List Table) → opened ≡ [] → TablesAgree spelling opened tables w.seen.held → tables ≡ []
     no_tables_held [] [] none held = refl
     no_tables_held [] (t ∷ tables) none held = absurd held
     no_tables_held (o ∷ opened) tables none held = absurd cc
@@ -244,7 +244,7 @@ module _ (spelling : Spelling) (bytes : FilterBytes) (store after : StoreValue) 
   some_are : entries_of s ≢ []
   some_are = some_entries bytes (without_job s) tied.sound (elim premise [
     | inl entry ↦ inl (λ empty. entry (tied.memory ∙ empty))
-    | inr table ↦ inr (λ empty. table (none_open spelling s.settings a.seen.held store.tables s.tables under.tables empty))
+    | inr table ↦ inr (λ empty. table (none_open spelling a.seen.held store.tables s.tables under.tables empty))
   ])
 
   is_left : s.epoch ≢ last_epoch

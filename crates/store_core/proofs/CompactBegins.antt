@@ -46,7 +46,7 @@ module _ (store after : StoreValue) (same : after ≡ record store { job = None 
       some_are : (after.memory.entries ≢ []) ⊎ (after.tables ≢ []) → entries_of s ≢ []
       some_are some = some_entries bytes s tied.sound (elim some [
         | inl entry ↦ inl (λ empty. entry (ap (λ (k : StoreValue). k.memory.entries) same ∙ (tied.memory ∙ empty)))
-        | inr table ↦ inr (λ empty. table (ap (λ (k : StoreValue). k.tables) same ∙ none_open spelling s.settings w.seen.held store.tables s.tables (tied.images w.seen.held current).tables empty))
+        | inr table ↦ inr (λ empty. table (ap (λ (k : StoreValue). k.tables) same ∙ none_open spelling w.seen.held store.tables s.tables (tied.images w.seen.held current).tables empty))
       ])
 
       pub answered_last : (after.memory.entries ≢ []) ⊎ (after.tables ≢ []) → after.manifest.version.epoch ≡ 18446744073709551615

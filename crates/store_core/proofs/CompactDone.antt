@@ -9,6 +9,7 @@ use Rattle.disk_trait.proofs.Calls.{moves_joined, moves_of_write, moves_wider}
 use Rattle.disk_trait.proofs.Moments.{meanwhile_then, meanwhile_weaker, now_at}
 use Rattle.disk_trait.specs.declared.fault.DiskFault.{DiskFault}
 use Rattle.entry_model.specs.Entries.{Entry}
+use Rattle.filter_api.specs.Ranges.{IsRowInRange}
 use Rattle.filter_api.specs.Spellings.{Spelling}
 use Rattle.image_model.specs.Stands.{StandsForMap}
 use Rattle.key_base.specs.Limits.{last_epoch}
@@ -85,7 +86,7 @@ module _ (spelling : Spelling) (bytes : FilterBytes) (m : Manifest) (opened : Li
   some : entries_of s ≢ []
   some = leads.some_entries bytes s held.sound (elim premise [
     | inl entry ↦ inl (λ none. entry (held.memory ∙ none))
-    | inr table ↦ inr (λ none. table (none_open spelling s.settings a.seen.held opened s.tables here.tables none))
+    | inr table ↦ inr (λ none. table (none_open spelling a.seen.held opened s.tables here.tables none))
   ])
 
   nows : Now Under b
@@ -101,10 +102,10 @@ module _ (spelling : Spelling) (bytes : FilterBytes) (m : Manifest) (opened : Li
   pub fails_wanting : FailsSo spelling bytes m opened s a b error.Memory
   fails_wanting = record { cause = tt; stays = λ _. nows }
 
-  module _ (made : List Opened) (all : AreAllMade spelling bytes s made b) (compact : AreCompact m.version (rows_of made)) (fits : AllByRecursion RowFits (rows_of made)) (area : ℕ)
-      (area_is : other_log_page m.version ≡ log_page_of area) where
+  module _ (made : List Opened) (all : AreAllMade spelling bytes s made b) (compact : AreCompact m.version (rows_of made)) (fits : AllByRecursion RowFits (rows_of made))
+      (range : AllByRecursion IsRowInRange (rows_of made)) (area : ℕ) (area_is : other_log_page m.version ≡ log_page_of area) where
     new_is : IsVersion (compacted_manifest m (rows_of made)).version
-    new_is = compacted_is_version m (rows_of made) is compact fits
+    new_is = compacted_is_version m (rows_of made) is compact fits range
 
     first : IsOk (first_compact_table bytes s)
     first = all_then_first bytes s.settings s.pages 6 (Rattle.state_model.specs.Taken.taken s) (Rattle.state_model.specs.Merges.outputs_for s.tables (Rattle.state_model.specs.Changes.live_entries s)) all.tables all.placed_so
@@ -153,11 +154,12 @@ module _ (spelling : Spelling) (bytes : FilterBytes) (m : Manifest) (opened : Li
 
 -- ---- whatever the device is
 
-pub installed_whole : (m new : Manifest) (made : List Opened) (log : Position) → IsVersion m.version → AreCompact m.version (rows_of made) → AllByRecursion RowFits (rows_of made) → m.version.epoch < last_epoch
+pub installed_whole : (m new : Manifest) (made : List Opened) (log : Position) → IsVersion m.version → AreCompact m.version (rows_of made) → AllByRecursion RowFits (rows_of made)
+    → AllByRecursion IsRowInRange (rows_of made) → m.version.epoch < last_epoch
     → new ≡ installed_manifest (compacted_manifest m (rows_of made)) → other_log_page m.version ≡ log_page_of log.area → log.filled ≡ 0 → IsInstalledWhole m new made log
-installed_whole m new made log is compact fits epoch new_is area begun =
+installed_whole m new made log is compact fits range epoch new_is area begun =
     subst (λ (n : Manifest). IsInstalledWhole m n made log) (sym new_is) (record {
-      version = raised_is (compacted_manifest m (rows_of made)).version (compacted_is_version m (rows_of made) is compact fits) (λ last. absurd (omega (arith, last, epoch)));
+      version = raised_is (compacted_manifest m (rows_of made)).version (compacted_is_version m (rows_of made) is compact fits range) (λ last. absurd (omega (arith, last, epoch)));
       slot = omega arith;
       rows = refl;
       area = area;

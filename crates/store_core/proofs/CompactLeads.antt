@@ -104,7 +104,7 @@ module _ (spelling : Spelling) (bytes : FilterBytes) (m : Manifest) (opened : Li
   Now_under = RepresentsOn spelling m opened None s
 
   abbrev Stand : Image → Type 0
-  Stand = TablesAgree spelling s.settings made tables
+  Stand = TablesAgree spelling made tables
 
   pub to_map : (image : Image) → Now_under image → StandsForMap spelling (state_map s) image
   to_map image under = (s, (m.version, ready_is_state spelling (place_of m.slot) (other_place m.slot) m.other_open m.version s image (are_slots m.slot slot) under.ready), refl)
@@ -114,7 +114,7 @@ module _ (spelling : Spelling) (bytes : FilterBytes) (m : Manifest) (opened : Li
     under_kept spelling bytes m opened slot rows s no_job none_kept (start_of area) 1 f g
         (other_log_apart spelling (place_of m.slot) (other_place m.slot) m.other_open m.version s here area (start_of area) 1 f sound.on_device here_is other small
         (omega arith) (omega arith) both.0.ready) torn both.0,
-    held_kept spelling s.settings (start_of area) 1 f g torn made tables (behind_logs (compacted_manifest m (rows_of made)).version (start_of area) 1 new_is (omega (arith, small))) both.1,
+    held_kept spelling (start_of area) 1 f g torn made tables (behind_logs (compacted_manifest m (rows_of made)).version (start_of area) 1 new_is (omega (arith, small))) both.1,
   )
 
   module _ (b c : World) (nows : Now Now_under b) (stand : Now Stand b) (log_moves : WriteMoves (start_of area) 1 b c) where

@@ -47,9 +47,9 @@ pub record IsCompacting (v : Version) (tables : List Opened) (m : JobValue) (fre
 
 -- ---- a row
 
-row_of_table : (level first : ℕ) (entries : List Entry) (filter_bytes : Bytes) → level ≤ 6 → IsTable entries → IsTableRow (row_for level first entries filter_bytes)
+row_of_table : (level first : ℕ) (settings : Settings) (entries : List Entry) (filter_bytes : Bytes) → level ≤ 6 → IsTable entries → IsTableRow (row_for level first settings entries filter_bytes)
 unfolding row_for
-row_of_table level first entries filter_bytes small table = record {
+row_of_table level first settings entries filter_bytes small table = record {
   level = small;
   data_pages = omega (arith, table.some, entries_in_pages entries);
   index_pages = refl;
@@ -57,9 +57,9 @@ row_of_table level first entries filter_bytes small table = record {
   entries = table.some;
 }
 
-level_of_row : (level first : ℕ) (entries : List Entry) (filter_bytes : Bytes) → (row_for level first entries filter_bytes).level ≡ level
+level_of_row : (level first : ℕ) (settings : Settings) (entries : List Entry) (filter_bytes : Bytes) → (row_for level first settings entries filter_bytes).level ≡ level
 unfolding row_for
-level_of_row level first entries filter_bytes = refl
+level_of_row level first settings entries filter_bytes = refl
 
 -- ---- it begins
 
@@ -127,7 +127,7 @@ module _ (spelling : Spelling) (built_cutoff : ℕ → List Leaf → ℕ) (v : V
   added row adds =
       let apart = all_permuted (AreApart (extent_of row)) free.extents (map extent_of (v.rows ++ old.outputs)) on.extents adds.apart in
       let level_is : row.level ≡ 6 = ap (λ (r : Row). r.level) adds.row_of.row_is ∙ level_of_row old.output row.first_page adds.row_of.entries _ ∙ on.output in
-      let one : IsTableRow row = subst IsTableRow (sym adds.row_of.row_is) (row_of_table old.output row.first_page adds.row_of.entries _ (omega (arith, on.output)) adds.row_of.table) in
+      let one : IsTableRow row = subst IsTableRow (sym adds.row_of.row_is) (row_of_table old.output row.first_page old.settings adds.row_of.entries _ (omega (arith, on.output)) adds.row_of.table) in
       let all = map extent_of (v.rows ++ old.outputs) in
       record {
         each = subst (AllByRecursion IsTableRow) (sym adds.outputs) (all_push IsTableRow old.outputs row on.each one);

@@ -56,12 +56,12 @@ use Rattle.store_core.proofs.Frames.{are_slots, held_kept}
 
 -- ---- extents of open tables
 
-held_extents : (spelling : Spelling) (settings : Settings) (image : Image) (opened : List Opened) (tables : List Table) → TablesAgree spelling settings opened tables image
+held_extents : (spelling : Spelling) (image : Image) (opened : List Opened) (tables : List Table) → TablesAgree spelling opened tables image
     → map extent_of tables ≡ map (λ (t : Opened). extent_at t.row) opened
-held_extents spelling settings image [] [] held = refl
-held_extents spelling settings image [] (t ∷ tables) held = absurd held
-held_extents spelling settings image (o ∷ opened) [] held = absurd held
-held_extents spelling settings image (o ∷ opened) (t ∷ tables) held = ap₂ (λ (e : Extent) (more : List Extent). e ∷ more) (ap extent_of held.0.table_is) (held_extents spelling settings image opened tables held.1)
+held_extents spelling image [] [] held = refl
+held_extents spelling image [] (t ∷ tables) held = absurd held
+held_extents spelling image (o ∷ opened) [] held = absurd held
+held_extents spelling image (o ∷ opened) (t ∷ tables) held = ap₂ (λ (e : Extent) (more : List Extent). e ∷ more) (ap extent_of held.0.table_is) (held_extents spelling image opened tables held.1)
 
 extents_shown : (opened : List Opened) → map model.extent_of (rows_of opened) ≡ map (λ (t : Opened). extent_at t.row) opened
 extents_shown [] = refl
@@ -82,10 +82,10 @@ none_left : (walks : List TableWalk) → blocks_left [] walks ≡ 0
 none_left [] = refl
 none_left (w ∷ walks) = let here : blocks_left_in [] w ≡ 0 = omega arith in sum_by-cons (blocks_left_in []) w walks ∙ ap₂ (λ (a b : ℕ). a + b) here (none_left walks)
 
-pub none_open : (spelling : Spelling) (settings : Settings) (image : Image) (opened : List Opened) (tables : List Table) → TablesAgree spelling settings opened tables image → tables ≡ [] → opened ≡ []
-none_open spelling settings image [] tables held none = refl
-none_open spelling settings image (o ∷ opened) [] held none = absurd held
-none_open spelling settings image (o ∷ opened) (t ∷ tables) held none = absurd cc
+pub none_open : (spelling : Spelling) (image : Image) (opened : List Opened) (tables : List Table) → TablesAgree spelling opened tables image → tables ≡ [] → opened ≡ []
+none_open spelling image [] tables held none = refl
+none_open spelling image (o ∷ opened) [] held none = absurd held
+none_open spelling image (o ∷ opened) (t ∷ tables) held none = absurd cc
 
 pub later_rose : (first mid now : ℕ) → first ≤ mid → Rose mid now → Rose first now
 later_rose first mid now le rose = omega (arith, le, rose)
@@ -107,7 +107,7 @@ pub record IsGoing (spelling : Spelling) (bytes : FilterBytes) (mf : Manifest) (
   pub taken_are : AreTakenBy opened m.made [] free
   pub placed_so : compact_tables bytes s ≡ behind_made made (placed bytes s.settings s.pages free.extents 6 left)
   pub first : ((left ≡ outputs_for s.tables (live_entries s)) × IsPermutation free.extents (taken s)) ⊎ IsOk (first_compact_table bytes s)
-  pub lasting : Now (TablesAgree spelling s.settings m.made made) w
+  pub lasting : Now (TablesAgree spelling m.made made) w
   pub reads : a.seen.read_faults ≤ w.seen.read_faults
   pub writes : a.seen.write_faults ≤ w.seen.write_faults
 
@@ -128,16 +128,16 @@ module _ (spelling : Spelling) (bytes : FilterBytes) (m : Manifest) (opened : Li
   pub under_kept : (at n : ℕ) (f g : Image) → IsApartFromReady m.version s at n → Torn at n f g → Under f → Under g
   under_kept at n f g apart torn under = record {
     ready = ready_kept spelling (place_of m.slot) (other_place m.slot) m.other_open m.version s at n f g (are_slots m.slot slot) apart torn under.ready;
-    tables = held_kept spelling s.settings at n f g torn opened s.tables (subst (AllByRecursion (IsApartFromRow at n)) (sym rows) apart.named.rows) under.tables;
+    tables = held_kept spelling at n f g torn opened s.tables (subst (AllByRecursion (IsApartFromRow at n)) (sym rows) apart.named.rows) under.tables;
     job = none_runs g;
   }
 
   -- what is taken are the extents of the open tables
   pub taken_is : (image : Image) → Under image → taken s ≡ map (λ (t : Opened). extent_at t.row) opened
-  taken_is image under = taken_alone s no_job none_kept ∙ held_extents spelling s.settings image opened s.tables under.tables
+  taken_is image under = taken_alone s no_job none_kept ∙ held_extents spelling image opened s.tables under.tables
 
   -- the moves of a slice keep what was under the store
-  module _ (built_cutoff : ℕ → List Leaf → ℕ) (a w x : World) (old new : JobValue) (free now : Taken) (going : IsGoing spelling bytes m opened s a w old free) (held : TablesAgree spelling s.settings opened s.tables w.seen.held) where
+  module _ (built_cutoff : ℕ → List Leaf → ℕ) (a w x : World) (old new : JobValue) (free now : Taken) (going : IsGoing spelling bytes m opened s a w old free) (held : TablesAgree spelling opened s.tables w.seen.held) where
     apart_of : (row : Row) → AllByRecursion (AreApart (extent_at row)) free.extents → (image : Image) → Under image → AllByRecursion (AreApart (extent_at row)) (taken s)
     apart_of row apart image under =
         subst (AllByRecursion (AreApart (extent_at row))) (sym (taken_is image under))
@@ -173,14 +173,11 @@ module _ (spelling : Spelling) (bytes : FilterBytes) (m : Manifest) (opened : Li
       | inr is ↦ is
     ]
 
-    held_so : TablesAgree spelling old.settings opened s.tables w.seen.held
-    held_so = subst (λ (set : Settings). TablesAgree spelling set opened s.tables w.seen.held) (sym going.settings) held
-
     pub makes_on : (said : Sliced) → MakesAnyOutputs spelling bytes opened old new free now (Ok said) w x → SliceOf spelling bytes opened s.tables old new going.left going.made [] free now w x said
-    makes_on said makes = makes s.tables going.left going.made [] held_so going.makes going.taken_are
+    makes_on said makes = makes s.tables going.left going.made [] held going.makes going.taken_are
 
     pub makes_not : (why : JobFault) → MakesAnyOutputs spelling bytes opened old new free now (Err why) w x → IsMakeRefusal bytes opened old going.left free w x why
-    makes_not why makes = makes s.tables going.left going.made [] held_so going.makes going.taken_are
+    makes_not why makes = makes s.tables going.left going.made [] held going.makes going.taken_are
 
     -- ---- it is refused
 
@@ -192,7 +189,7 @@ module _ (spelling : Spelling) (bytes : FilterBytes) (m : Manifest) (opened : Li
     device_cause : (cause : DiskFault) → SliceMoves spelling built_cutoff old new free now w x → IsMakeRefusal bytes opened old going.left free w x (job.Device cause) → IsFailedCall bytes s a x cause
     device_cause cause moves (inl read) = inl (
       (read.0, later_rose a.seen.read_faults w.seen.read_faults x.seen.read_faults going.reads read.2),
-      λ none. no_blocks read.1 (none_open spelling s.settings w.seen.held opened s.tables held none),
+      λ none. no_blocks read.1 (none_open spelling w.seen.held opened s.tables held none),
     )
     device_cause cause moves (inr write) = inr (is_write_op cause.op write.0, later_rose a.seen.write_faults w.seen.write_faults x.seen.write_faults going.writes write.2, first_has_place write.1.0 write.1.1)
 
@@ -260,7 +257,7 @@ module _ (spelling : Spelling) (bytes : FilterBytes) (m : Manifest) (opened : Li
         taken_are = on.taken_are;
         placed_so = placed_on on.one;
         first = first_on on.one;
-        lasting = subst (λ (set : Settings). Now (TablesAgree spelling set old.made going.made) w → Now (TablesAgree spelling set new.made on.now) x) going.settings on.lasting going.lasting;
+        lasting = on.lasting going.lasting;
         reads = let later = (faults_later moves).0 in omega (arith, going.reads, later);
         writes = let later = (faults_later moves).1 in omega (arith, going.writes, later);
       }
@@ -282,7 +279,7 @@ module _ (spelling : Spelling) (bytes : FilterBytes) (m : Manifest) (opened : Li
       ap (λ (rs : List Row). map model.extent_of rs) (append-nil m.version.rows ∙ sym rows) ∙ extents_shown opened ∙ sym is in
       IsPermutation-sym (taken s) xs (subst (λ (es : List Extent). IsPermutation es xs) all same)
 
-  pub going_begun : CompactionMakes → (a : World) (entries : List Entry) (free : Taken) → entries ≡ memory s → Now Under a → TablesAgree spelling s.settings opened s.tables a.seen.held → free.pages ≡ s.pages
+  pub going_begun : CompactionMakes → (a : World) (entries : List Entry) (free : Taken) → entries ≡ memory s → Now Under a → TablesAgree spelling opened s.tables a.seen.held → free.pages ≡ s.pages
       → IsPermutation free.extents (taken s) → taken s ≡ map (λ (t : Opened). extent_at t.row) opened → IsGoing spelling bytes m opened s a a (compaction entries s.settings opened) free
   going_begun begins a entries free memory_is here held pages same is = record {
     meanwhile = started Under a here;

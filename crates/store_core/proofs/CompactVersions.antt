@@ -5,6 +5,7 @@ use Rattle.std.proofs.lemmas.List.{map-append}
 use Rattle.byte_fields.specs.declared.parts.Row.{Row}
 use Rattle.extent_model.proofs.Lists.{Pairs, all_pairs, pairs_of}
 use Rattle.extent_model.specs.Extents.{AreApart, IsOnDevice}
+use Rattle.filter_api.specs.Ranges.{IsRowInRange}
 use Rattle.manifest.specs.Manifest.{Manifest}
 use Rattle.manifest_model.proofs.Rows.{rows_keep}
 use Rattle.manifest_model.specs.Laws.{IsVersion, RowFits}
@@ -22,7 +23,8 @@ one_level : (rows : List Row) → AllByRecursion (λ (r : Row). r.level ≡ 6) r
 one_level [] all = tt
 one_level (row ∷ rows) all = (level_rows row rows all.0 all.1, one_level rows all.1)
 
-module _ (m : Manifest) (rows : List Row) (is : IsVersion m.version) (compact : AreCompact m.version rows) (fits : AllByRecursion RowFits rows) where
+module _ (m : Manifest) (rows : List Row) (is : IsVersion m.version) (compact : AreCompact m.version rows) (fits : AllByRecursion RowFits rows)
+    (range : AllByRecursion IsRowInRange rows) where
   parts : map extent_of (m.version.rows ++ rows) ≡ map extent_of m.version.rows ++ map extent_of rows
   parts = map-append extent_of m.version.rows rows
 
@@ -52,5 +54,6 @@ module _ (m : Manifest) (rows : List Row) (is : IsVersion m.version) (compact : 
     ratio = is.ratio;
     log_page = other_area;
     rows = fits;
+    settings = range;
     placed = rows_keep.unbroken (compacted_manifest m rows).version rows_are;
   }

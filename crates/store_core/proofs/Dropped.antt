@@ -23,7 +23,7 @@ under_dropped spelling m opened running s image none_kept under = record {
     current = under.ready.current;
     gate = under.ready.gate;
     named = under.ready.named;
-    unnamed = subst (AllByRecursion (StandsInExtent spelling s.settings image)) (sym none_kept) tt;
+    unnamed = subst (AllByRecursion (StandsInExtent spelling image)) (sym none_kept) tt;
   };
   tables = under.tables;
   job = tt;

@@ -161,7 +161,7 @@ module _ (spelling : Spelling) (built_cutoff : ℕ → List Leaf → ℕ) (m : M
     (plan : IsPlan spelling built_cutoff m outputs entries parts row next) where
   pub row_again : row ≡ made_row spelling built_cutoff parts row.level row.first_page
   row_again =
-      let level_is : row.level ≡ 0 = ap (λ (r : Row). r.level) plan.row_is ∙ row_level row.first_page parts.entries (made_filter spelling built_cutoff parts) in
+      let level_is : row.level ≡ 0 = ap (λ (r : Row). r.level) plan.row_is ∙ row_level row.first_page parts.settings parts.entries (made_filter spelling built_cutoff parts) in
       plan.row_is ∙ ap (λ (n : ℕ). made_row spelling built_cutoff parts n row.first_page) (sym level_is)
 
   pub row_within : IsVersion m.version → AreLaid m.version.pages (extents_with m.version outputs) → IsVersion next.version → row.first_page + table_pages (filter_bytes_of spelling built_cutoff) parts.settings parts.entries ≤ next.version.pages

@@ -133,15 +133,15 @@ module _ (image_law : OtherImageIsFollowed) (flush_law : FlushedIsFollowed) (spe
   Under = RepresentsOn spelling store.manifest store.tables store.job s
 
   abbrev Held : Image → Type 0
-  Held = TableAgrees spelling s.settings (opened_of built_cutoff parts row) made
+  Held = TableAgrees spelling (opened_of built_cutoff parts row) made
 
   -- the table as the call that writes it says it
   abbrev IsThere : Image → Type 0
-  IsThere = IsTableOf spelling parts.settings (made_row spelling built_cutoff parts 0 row.first_page)
+  IsThere = IsTableOf spelling (made_row spelling built_cutoff parts 0 row.first_page)
       (table_of (filter_bytes_of spelling built_cutoff) parts.settings 0 row.first_page parts.entries)
 
   abbrev IsOpenThere : Image → Type 0
-  IsOpenThere = StandsWith spelling parts.settings (opened_of built_cutoff parts (made_row spelling built_cutoff parts 0 row.first_page)) parts.entries
+  IsOpenThere = StandsWith spelling (opened_of built_cutoff parts (made_row spelling built_cutoff parts 0 row.first_page)) parts.entries
 
   module _ (a : World) (tied : Represents spelling (filter_bytes_of spelling built_cutoff) store s a) (current : a.leaves a.moment a.seen.held) where
     agrees : Agree v (outputs_in store.job) s
@@ -178,20 +178,20 @@ module _ (image_law : OtherImageIsFollowed) (flush_law : FlushedIsFollowed) (spe
 
     held_there : (image : Image) → IsThere image → IsOpenThere image → Held image
     held_there image is stands =
-        let first : TableAgrees spelling parts.settings (opened_of built_cutoff parts (made_row spelling built_cutoff parts 0 row.first_page))
+        let first : TableAgrees spelling (opened_of built_cutoff parts (made_row spelling built_cutoff parts 0 row.first_page))
         (table_of filter_bytes parts.settings 0 row.first_page parts.entries) image =
         record {
           blocks = stands.0;
           stands = stands.1;
-          table_is = one_table spelling parts.settings parts.settings _ _ _ image is (stands.0, stands.1.at, refl);
+          table_is = one_table spelling _ _ _ image is (stands.0, stands.1.at, refl);
         } in
-        subst (λ (es : List Entry). TableAgrees spelling s.settings (opened_of built_cutoff parts row) (table_of filter_bytes s.settings 0 row.first_page es) image) entries_are
-        (subst (λ (set : Settings). TableAgrees spelling set (opened_of built_cutoff parts row) (table_of filter_bytes set 0 row.first_page parts.entries) image) settings_are
-        (subst (λ (r : Row). TableAgrees spelling parts.settings (opened_of built_cutoff parts r) (table_of filter_bytes parts.settings 0 row.first_page parts.entries) image) (sym plan.row_is) first))
+        subst (λ (es : List Entry). TableAgrees spelling (opened_of built_cutoff parts row) (table_of filter_bytes s.settings 0 row.first_page es) image) entries_are
+        (subst (λ (set : Settings). TableAgrees spelling (opened_of built_cutoff parts row) (table_of filter_bytes set 0 row.first_page parts.entries) image) settings_are
+        (subst (λ (r : Row). TableAgrees spelling (opened_of built_cutoff parts r) (table_of filter_bytes parts.settings 0 row.first_page parts.entries) image) (sym plan.row_is) first))
 
     held_apart : (at n : ℕ) (f g : Image) → at + n ≤ 4096 * row.first_page → Torn at n f g → Held f → Held g
     held_apart at n f g before torn held =
-        (held_kept spelling s.settings at n f g torn (opened_of built_cutoff parts row ∷ []) (made ∷ []) (inr (omega (arith, before)), tt) (held, tt)).0
+        (held_kept spelling at n f g torn (opened_of built_cutoff parts row ∷ []) (made ∷ []) (inr (omega (arith, before)), tt) (held, tt)).0
 
     table_keeps : (f g : Image) → Under f → Torn (4096 * row.first_page) (4096 * need) f g → Under g
     table_keeps f g u torn =
@@ -240,13 +240,13 @@ module _ (image_law : OtherImageIsFollowed) (flush_law : FlushedIsFollowed) (spe
 
       -- all that lies behind the slots
       abbrev Behind : Image → Type 0
-      Behind image = IsNamedBy spelling v (as_shown s) image × TablesAgree spelling s.settings store.tables s.tables image × Held image × LogIs area [] image × UnnamedStand spelling s image
+      Behind image = IsNamedBy spelling v (as_shown s) image × TablesAgree spelling store.tables s.tables image × Held image × LogIs area [] image × UnnamedStand spelling s image
           × RunsAs spelling store.tables store.job s s.job image
 
       slots_keep : (f g : Image) → Behind f → Torn (other_place m.slot) 131072 f g → Behind g
       slots_keep f g here torn =
           let before : other_place m.slot + 131072 ≤ 262144 = omega arith in
-          let tables = held_kept spelling s.settings (other_place m.slot) 131072 f g torn store.tables s.tables
+          let tables = held_kept spelling (other_place m.slot) 131072 f g torn store.tables s.tables
           (subst (AllByRecursion (IsApartFromRow (other_place m.slot) 131072)) (sym whole.rows) (behind_logs v (other_place m.slot) 131072 whole.version (omega (arith, before)))) here.1 in (
             named_behind_slots spelling v (as_shown s) (other_place m.slot) 131072 f g whole.version before torn here.0,
             tables,

@@ -5,7 +5,6 @@ use Rattle.std.specs.List.{AllByRecursion}
 use Rattle.disk_trait.specs.Image.{Image, Torn}
 use Rattle.entry_model.specs.Entries.{Entry}
 use Rattle.filter_api.specs.Spellings.{Spelling}
-use Rattle.filter_api.specs.declared.settings.Settings.{Settings}
 use Rattle.image_model.proofs.Frames.{log_replaced, ready_is_state, ready_kept}
 use Rattle.image_model.proofs.Placed.{behind_logs}
 use Rattle.image_model.specs.Frames.{IsApartFromExtent, IsApartFromReady}
@@ -37,20 +36,20 @@ are_slots (suc n) few = inr (omega (arith, few), omega (arith, few))
 
 -- ---- open tables
 
-module _ (spelling : Spelling) (settings : Settings) (at n : ℕ) (f g : Image) (torn : Torn at n f g) where
-  stands_kept : (t : Opened) (blocks : List (List Entry)) → IsApartFromRow at n t.row → StandsThere spelling settings t blocks f → StandsThere spelling settings t blocks g
+module _ (spelling : Spelling) (at n : ℕ) (f g : Image) (torn : Torn at n f g) where
+  stands_kept : (t : Opened) (blocks : List (List Entry)) → IsApartFromRow at n t.row → StandsThere spelling t blocks f → StandsThere spelling t blocks g
   stands_kept t blocks apart s = record {
-    at = at_kept spelling settings t.row blocks at n f g apart torn s.at;
+    at = at_kept spelling t.row blocks at n f g apart torn s.at;
     index_is = s.index_is;
     hash_is = s.hash_is;
     real_is = s.real_is;
     leaves_are = s.leaves_are;
   }
 
-  one_kept : (opened : Opened) (t : Table) → IsApartFromRow at n opened.row → TableAgrees spelling settings opened t f → TableAgrees spelling settings opened t g
+  one_kept : (opened : Opened) (t : Table) → IsApartFromRow at n opened.row → TableAgrees spelling opened t f → TableAgrees spelling opened t g
   one_kept opened t apart held = record { blocks = held.blocks; stands = stands_kept opened held.blocks apart held.stands; table_is = held.table_is }
 
-  pub held_kept : (opened : List Opened) (tables : List Table) → AllByRecursion (IsApartFromRow at n) (rows_of opened) → TablesAgree spelling settings opened tables f → TablesAgree spelling settings opened tables g
+  pub held_kept : (opened : List Opened) (tables : List Table) → AllByRecursion (IsApartFromRow at n) (rows_of opened) → TablesAgree spelling opened tables f → TablesAgree spelling opened tables g
   held_kept [] [] apart held = tt
   held_kept [] (t ∷ tables) apart held = elim held [ ]
   held_kept (o ∷ opened) [] apart held = elim held [ ]
@@ -59,8 +58,8 @@ module _ (spelling : Spelling) (settings : Settings) (at n : ℕ) (f g : Image) 
 -- ---- the merge that runs
 
 -- what is written apart from what it has made changes nothing of it, as long as its tables stand
-pub runs_kept : OtherImageIsFollowed → (spelling : Spelling) (s : State) (at n : ℕ) (f g : Image) → Torn at n f g → (opened : List Opened) → TablesAgree spelling s.settings opened s.tables f
-    → TablesAgree spelling s.settings opened s.tables g → (running : Option JobValue) (job : Option Job) → AllByRecursion (IsApartFromExtent at n) (map extent_of (written_by job ++ s.kept))
+pub runs_kept : OtherImageIsFollowed → (spelling : Spelling) (s : State) (at n : ℕ) (f g : Image) → Torn at n f g → (opened : List Opened) → TablesAgree spelling opened s.tables f
+    → TablesAgree spelling opened s.tables g → (running : Option JobValue) (job : Option Job) → AllByRecursion (IsApartFromExtent at n) (map extent_of (written_by job ++ s.kept))
     → RunsAs spelling opened running s job f → RunsAs spelling opened running s job g
 runs_kept law spelling s at n f g torn opened here there None None apart runs = tt
 runs_kept law spelling s at n f g torn opened here there None (Some job) apart runs = absurd runs
@@ -68,8 +67,8 @@ runs_kept law spelling s at n f g torn opened here there (Some m) None apart run
 runs_kept law spelling s at n f g torn opened here there (Some m) (Some job) apart runs =
     let made = made_held spelling s opened f m job runs in
     law spelling s opened f g m job here there
-    (held_kept spelling s.settings at n f g torn m.made job.written
-    (rows_apart spelling s.settings at n f m.made job.written made (front_of (IsApartFromExtent at n) job.written s.kept apart)) made) runs
+    (held_kept spelling at n f g torn m.made job.written
+    (rows_apart spelling at n f m.made job.written made (front_of (IsApartFromExtent at n) job.written s.kept apart)) made) runs
 
 -- ---- all that is under a store
 
@@ -77,7 +76,7 @@ module _ (spelling : Spelling) (m : Manifest) (opened : List Opened) (running : 
   pub under_kept : OtherImageIsFollowed → (s : State) (at n : ℕ) (f g : Image) → IsApartFromReady m.version s at n → Torn at n f g → RepresentsOn spelling m opened running s f
       → RepresentsOn spelling m opened running s g
   under_kept law s at n f g apart torn under =
-      let tables = held_kept spelling s.settings at n f g torn opened s.tables (subst (AllByRecursion (IsApartFromRow at n)) (sym rows) apart.named.rows) under.tables in
+      let tables = held_kept spelling at n f g torn opened s.tables (subst (AllByRecursion (IsApartFromRow at n)) (sym rows) apart.named.rows) under.tables in
       record {
         ready = ready_kept spelling (place_of m.slot) (other_place m.slot) m.other_open m.version s at n f g (are_slots m.slot few) apart torn under.ready;
         tables = tables;
@@ -89,7 +88,7 @@ module _ (spelling : Spelling) (m : Manifest) (opened : List Opened) (running : 
       → start_of area ≤ at → at + n ≤ start_of area + 262144 → area ≤ 1 → Torn at n f g → LogIs area log g
       → RepresentsOn spelling m opened running s f → RepresentsOn spelling m opened running (record s { log = log }) g
   under_logged law s log area at n f g on page_is from to small torn spelled under =
-      let tables = held_kept spelling s.settings at n f g torn opened s.tables
+      let tables = held_kept spelling at n f g torn opened s.tables
       (subst (AllByRecursion (IsApartFromRow at n)) (sym rows) (behind_logs m.version at n under.ready.current.here.sound (omega (arith, to, small)))) under.tables in
       record {
         ready = log_replaced spelling (place_of m.slot) (other_place m.slot) m.other_open m.version s log area at n f g (are_slots m.slot few) on page_is from to torn spelled under.ready;

@@ -4,7 +4,6 @@ use Rattle.std.specs.Prelude.{◌==◌, ◌&&◌, ◌||◌, nat_lt}
 use Rattle.std.specs.List.{list_any}
 use Rattle.disk_trait.specs.Image.{Image}
 use Rattle.filter_api.specs.Spellings.{Spelling}
-use Rattle.filter_api.specs.declared.settings.Settings.{Settings}
 use Rattle.key_base.specs.ByteOrder.{is_before}
 use Rattle.level_merge.specs.TablesAgree.{TableAgrees, TablesAgree}
 use Rattle.level_merge.specs.Laws.{StandingAgrees}
@@ -18,9 +17,9 @@ use Rattle.store_core.specs.Replacing.{goes_before, others_in, put_in}
 
 -- ---- tables that are held are alike
 
-module _ (agree : StandingAgrees) (spelling : Spelling) (settings : Settings) (image : Image) where
-  held_agrees : (o : Opened) (t : Table) → TableAgrees spelling settings o t image → Agrees o t
-  held_agrees o t held = subst (Agrees o) (sym held.table_is) (agree spelling settings o held.blocks image held.stands)
+module _ (agree : StandingAgrees) (spelling : Spelling) (image : Image) where
+  held_agrees : (o : Opened) (t : Table) → TableAgrees spelling o t image → Agrees o t
+  held_agrees o t held = subst (Agrees o) (sym held.table_is) (agree spelling o held.blocks image held.stands)
 
   abbrev ahead : ℕ → ℕ → Bytes → Bytes → Bool
   ahead level other least other_least = nat_lt level other || ((level == other) && is_before least other_least)
@@ -32,42 +31,42 @@ module _ (agree : StandingAgrees) (spelling : Spelling) (settings : Settings) (i
       ∙ ap (λ (k : Bytes). ahead t.level u.level k p.index.least) first.least
       ∙ ap (λ (k : Bytes). ahead t.level u.level (least_key t) k) second.least
 
-  put_held : (o : Opened) (t : Table) (opened : List Opened) (tables : List Table) → TableAgrees spelling settings o t image → TablesAgree spelling settings opened tables image
-      → TablesAgree spelling settings (put_in opened o) (model.inserted tables t) image
+  put_held : (o : Opened) (t : Table) (opened : List Opened) (tables : List Table) → TableAgrees spelling o t image → TablesAgree spelling opened tables image
+      → TablesAgree spelling (put_in opened o) (model.inserted tables t) image
   put_held o t [] [] one held = (one, tt)
   put_held o t [] (u ∷ tables) one held = absurd held
   put_held o t (p ∷ opened) [] one held = absurd held
   put_held o t (p ∷ opened) (u ∷ tables) one held =
       let same = alike o p t u (held_agrees o t one) (held_agrees p u held.0) in
-      subst (λ (b : Bool). TablesAgree spelling settings (put_in (p ∷ opened) o) (cond b (t ∷ u ∷ tables) (u ∷ model.inserted tables t)) image) same
-      (elim (goes_before o p) as (λ b. TablesAgree spelling settings (cond b (o ∷ p ∷ opened) (p ∷ put_in opened o)) (cond b (t ∷ u ∷ tables) (u ∷ model.inserted tables t)) image) [
+      subst (λ (b : Bool). TablesAgree spelling (put_in (p ∷ opened) o) (cond b (t ∷ u ∷ tables) (u ∷ model.inserted tables t)) image) same
+      (elim (goes_before o p) as (λ b. TablesAgree spelling (cond b (o ∷ p ∷ opened) (p ∷ put_in opened o)) (cond b (t ∷ u ∷ tables) (u ∷ model.inserted tables t)) image) [
         | true ↦ (one, held)
         | false ↦ (held.0, put_held o t opened tables one held.1)
       ])
 
-  pub fold_held : (made opened : List Opened) (written tables : List Table) → TablesAgree spelling settings made written image → TablesAgree spelling settings opened tables image
-      → TablesAgree spelling settings (fold put_in opened made) (fold model.inserted tables written) image
+  pub fold_held : (made opened : List Opened) (written tables : List Table) → TablesAgree spelling made written image → TablesAgree spelling opened tables image
+      → TablesAgree spelling (fold put_in opened made) (fold model.inserted tables written) image
   fold_held [] opened [] tables new held = held
   fold_held [] opened (u ∷ written) tables new held = absurd new
   fold_held (o ∷ made) opened [] tables new held = absurd new
   fold_held (o ∷ made) opened (t ∷ written) tables new held = fold_held made (put_in opened o) written (model.inserted tables t) new.1 (put_held o t opened tables new.0 held)
 
-pub many_held : (spelling : Spelling) (settings : Settings) (image : Image) (opened : List Opened) (tables : List Table) → TablesAgree spelling settings opened tables image → length opened ≡ length tables
-many_held spelling settings image [] [] held = refl
-many_held spelling settings image [] (t ∷ tables) held = absurd held
-many_held spelling settings image (o ∷ opened) [] held = absurd held
-many_held spelling settings image (o ∷ opened) (t ∷ tables) held = ap suc (many_held spelling settings image opened tables held.1)
+pub many_held : (spelling : Spelling) (image : Image) (opened : List Opened) (tables : List Table) → TablesAgree spelling opened tables image → length opened ≡ length tables
+many_held spelling image [] [] held = refl
+many_held spelling image [] (t ∷ tables) held = absurd held
+many_held spelling image (o ∷ opened) [] held = absurd held
+many_held spelling image (o ∷ opened) (t ∷ tables) held = ap suc (many_held spelling image opened tables held.1)
 
-pub others_held : (spelling : Spelling) (settings : Settings) (image : Image) (which : List ℕ) (opened : List Opened) (tables : List Table) → TablesAgree spelling settings opened tables image
-    → TablesAgree spelling settings (others_in which opened) (others_in which tables) image
-others_held spelling settings image which [] [] held = tt
-others_held spelling settings image which [] (t ∷ tables) held = absurd held
-others_held spelling settings image which (o ∷ opened) [] held = absurd held
-others_held spelling settings image which (o ∷ opened) (t ∷ tables) held =
-    let rest = others_held spelling settings image which opened tables held.1 in
-    let same = many_held spelling settings image opened tables held.1 in
-    subst (λ (n : ℕ). TablesAgree spelling settings (others_in which (o ∷ opened)) (cond (list_any (λ (k : ℕ). k == n) which) (others_in which tables) (t ∷ others_in which tables)) image) same
-    (elim (list_any (λ (k : ℕ). k == length opened) which) as (λ b. TablesAgree spelling settings (cond b (others_in which opened) (o ∷ others_in which opened)) (cond b (others_in which tables) (t ∷ others_in which tables)) image) [
+pub others_held : (spelling : Spelling) (image : Image) (which : List ℕ) (opened : List Opened) (tables : List Table) → TablesAgree spelling opened tables image
+    → TablesAgree spelling (others_in which opened) (others_in which tables) image
+others_held spelling image which [] [] held = tt
+others_held spelling image which [] (t ∷ tables) held = absurd held
+others_held spelling image which (o ∷ opened) [] held = absurd held
+others_held spelling image which (o ∷ opened) (t ∷ tables) held =
+    let rest = others_held spelling image which opened tables held.1 in
+    let same = many_held spelling image opened tables held.1 in
+    subst (λ (n : ℕ). TablesAgree spelling (others_in which (o ∷ opened)) (cond (list_any (λ (k : ℕ). k == n) which) (others_in which tables) (t ∷ others_in which tables)) image) same
+    (elim (list_any (λ (k : ℕ). k == length opened) which) as (λ b. TablesAgree spelling (cond b (others_in which opened) (o ∷ others_in which opened)) (cond b (others_in which tables) (t ∷ others_in which tables)) image) [
       | true ↦ rest
       | false ↦ (held.0, rest)
     ])

@@ -7,7 +7,6 @@ use Rattle.disk_trait.specs.World.{Leads, World, WriteMoves}
 use Rattle.disk_trait.proofs.Calls.{leads_framed, leads_weaker}
 use Rattle.entry_model.specs.Entries.{Entry}
 use Rattle.filter_api.specs.Spellings.{Spelling}
-use Rattle.filter_api.specs.declared.settings.Settings.{Settings}
 use Rattle.image_model.proofs.Frames.{named_behind_slots}
 use Rattle.image_model.proofs.Installs.{installed_ready}
 use Rattle.image_model.proofs.Placed.{behind_logs}
@@ -31,12 +30,12 @@ use Rattle.store_core.specs.StoreValue.{rows_of}
 use Rattle.store_core.proofs.Frames.{held_kept}
 
 -- tables that are held are those of their rows
-pub held_are_tables : (spelling : Spelling) (settings : Settings) (image : Image) (opened : List Opened) (tables : List Table) → TablesAgree spelling settings opened tables image
-    → AreTablesOf spelling settings (rows_of opened) tables image
-held_are_tables spelling settings image [] [] held = tt
-held_are_tables spelling settings image [] (t ∷ tables) held = absurd held
-held_are_tables spelling settings image (o ∷ opened) [] held = absurd held
-held_are_tables spelling settings image (o ∷ opened) (t ∷ tables) held = ((held.0.blocks, held.0.stands.at, held.0.table_is), held_are_tables spelling settings image opened tables held.1)
+pub held_are_tables : (spelling : Spelling) (image : Image) (opened : List Opened) (tables : List Table) → TablesAgree spelling opened tables image
+    → AreTablesOf spelling (rows_of opened) tables image
+held_are_tables spelling image [] [] held = tt
+held_are_tables spelling image [] (t ∷ tables) held = absurd held
+held_are_tables spelling image (o ∷ opened) [] held = absurd held
+held_are_tables spelling image (o ∷ opened) (t ∷ tables) held = ((held.0.blocks, held.0.stands.at, held.0.table_is), held_are_tables spelling image opened tables held.1)
 
 -- a version of a store, the tables, the log and the area of the one to come, and the state under the one
 module _ (spelling : Spelling) (m : Manifest) (slot_few : m.slot ≤ 1) (is : IsVersion m.version) (opened : List Opened) (area : ℕ) (s : State) (tables : List Table) (log : List Entry) where
@@ -51,28 +50,28 @@ module _ (spelling : Spelling) (m : Manifest) (slot_few : m.slot ≤ 1) (is : Is
   i = install_of (record m { version = record m.version { log_page = log_page_of area; rows = rows_of opened } }) m.version
 
   abbrev pub Held : Image → Type 0
-  Held = TablesAgree spelling s.settings opened tables
+  Held = TablesAgree spelling opened tables
 
   -- what an image shows before it, and behind it
   abbrev pub Before : Image → Type 0
-  Before image = IsReady spelling (place_of m.slot) (other_place m.slot) m.other_open m.version s image × (TablesAgree spelling s.settings opened tables image × LogIs area log image)
+  Before image = IsReady spelling (place_of m.slot) (other_place m.slot) m.other_open m.version s image × (TablesAgree spelling opened tables image × LogIs area log image)
 
   abbrev pub After : Image → Type 0
   After image = IsReady spelling (other_place m.slot) (place_of m.slot) true (raised (record m.version { log_page = log_page_of area; rows = rows_of opened }))
-      (record s { epoch = s.epoch + 1; log = log; tables = tables; job = None }) image × TablesAgree spelling s.settings opened tables image
+      (record s { epoch = s.epoch + 1; log = log; tables = tables; job = None }) image × TablesAgree spelling opened tables image
 
   module _ (new_is : IsVersion (record m.version { log_page = log_page_of area; rows = rows_of opened })) (epoch : m.version.epoch < last_epoch) (none_kept : s.kept ≡ [])
       (order : AllPairs StandsBefore tables) (same_map : state_map (record s { epoch = s.epoch + 1; log = log; tables = tables; job = None }) ≡ state_map s) where
     -- all that lies behind the slots
     abbrev Behind : Image → Type 0
-    Behind image = IsNamedBy spelling m.version (as_shown s) image × (TablesAgree spelling s.settings opened tables image × LogIs area log image)
+    Behind image = IsNamedBy spelling m.version (as_shown s) image × (TablesAgree spelling opened tables image × LogIs area log image)
 
     slots_keep : (f g : Image) → Behind f → Torn (other_place m.slot) 131072 f g → Behind g
     slots_keep f g here torn =
         let before : other_place m.slot + 131072 ≤ 262144 = omega arith in (
           named_behind_slots spelling m.version (as_shown s) (other_place m.slot) 131072 f g is before torn here.0,
           (
-            held_kept spelling s.settings (other_place m.slot) 131072 f g torn opened tables
+            held_kept spelling (other_place m.slot) 131072 f g torn opened tables
                 (behind_logs (next_of).version (other_place m.slot) 131072 new_is (omega (arith, before))) here.1.0,
             log_kept area log (other_place m.slot) 131072 f g (inr (omega (arith, before))) torn here.1.1,
           ),
@@ -83,7 +82,7 @@ module _ (spelling : Spelling) (m : Manifest) (slot_few : m.slot ≤ 1) (is : Is
       settings = here.0.settings;
       pages = here.0.pages;
       epoch = ap (λ (n : ℕ). n + 1) here.0.epoch;
-      tables = held_are_tables spelling s.settings image opened tables here.1.0;
+      tables = held_are_tables spelling image opened tables here.1.0;
       order = order;
       area = area;
       area_is = refl;
@@ -101,7 +100,7 @@ module _ (spelling : Spelling) (m : Manifest) (slot_few : m.slot ≤ 1) (is : Is
 
     ends : (image : Image) → Behind image × IsInstalled i image → After image
     ends image (here, there) = (
-      installed_ready spelling i to image may there (new_named image here) (subst (λ (kept : List Table). Rattle.std.specs.List.AllByRecursion (Rattle.table_model.specs.Images.StandsInExtent spelling s.settings image) kept) (sym none_kept) tt),
+      installed_ready spelling i to image may there (new_named image here) (subst (λ (kept : List Table). Rattle.std.specs.List.AllByRecursion (Rattle.table_model.specs.Images.StandsInExtent spelling image) kept) (sym none_kept) tt),
       here.1.0,
     )
 

@@ -9,12 +9,10 @@ use Rattle.disk_trait.specs.World.{Leads, Meanwhile, Now, ReadMoves, World, Writ
 use Rattle.disk_trait.proofs.Calls.{reads_keep, reads_none}
 use Rattle.disk_trait.proofs.Moments.{in_call, started}
 use Rattle.filter_api.specs.Spellings.{Spelling}
-use Rattle.filter_api.specs.declared.settings.Settings.{Settings}
 use Rattle.image_model.proofs.Frames.{ready_is_state}
 use Rattle.image_model.specs.Stands.{IsReady, StandsForMap}
 use Rattle.key_base.specs.Limits.{last_epoch}
 use Rattle.level_merge.specs.Follows.{Follows}
-use Rattle.level_merge.specs.TablesAgree.{TablesAgree}
 use Rattle.level_merge.specs.Laws.{StandingAgrees}
 use Rattle.level_merge.specs.JobValue.{JobValue}
 use Rattle.log_model.specs.Area.{LogIs}
@@ -90,13 +88,13 @@ module _ (agree : StandingAgrees) (spelling : Spelling) (bytes : FilterBytes) (s
   to_before : (image : Image) → Under image → Before spelling store.manifest slot is behind store.log.area s (installed_tables s.tables job) s.log image
   to_before image under =
       let f = follows image under in
-      let many = many_held spelling s.settings image store.tables s.tables under.tables in
+      let many = many_held spelling image store.tables s.tables under.tables in
       let there = subst (λ (n : ℕ). AllByRecursion (λ (k : ℕ). k < n) (numbers run.merge.walks)) many run_is.numbers in
-      let made = subst (λ (set : Settings). TablesAgree spelling set run.made job.written image) f.settings f.makes.made_are in
+      let made = f.makes.made_are in
       let same : under.ready.named.area ≡ store.log.area = omega (arith, under.ready.named.area_is, area) in (
         under.ready,
         (
-          behind_held agree spelling s.settings image store.tables s.tables run job (state_apart bytes s tied.sound) there f.inputs under.tables made,
+          behind_held agree spelling image store.tables s.tables run job (state_apart bytes s tied.sound) there f.inputs under.tables made,
           subst (λ (n : ℕ). LogIs n s.log image) same under.ready.named.log,
         ),
       )

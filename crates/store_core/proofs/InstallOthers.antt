@@ -6,7 +6,6 @@ use Rattle.std.proofs.lemmas.Bool.{ne_eqb}
 use Rattle.disk_trait.specs.Image.{Image}
 use Rattle.extent_model.proofs.Lists.{Pairs}
 use Rattle.filter_api.specs.Spellings.{Spelling}
-use Rattle.filter_api.specs.declared.settings.Settings.{Settings}
 use Rattle.level_merge.specs.TablesAgree.{TablesAgree}
 use Rattle.level_merge.specs.Laws.{StandingAgrees}
 use Rattle.level_merge.specs.JobValue.{JobValue}
@@ -110,12 +109,12 @@ module _ (all : List Table) (apart : Pairs Apart all) where
 
 -- ---- all tables behind the install of a merge
 
-pub behind_held : StandingAgrees → (spelling : Spelling) (settings : Settings) (image : Image) (opened : List Opened) (tables : List Table) (m : JobValue) (job : Job) → Pairs Apart tables
+pub behind_held : StandingAgrees → (spelling : Spelling) (image : Image) (opened : List Opened) (tables : List Table) (m : JobValue) (job : Job) → Pairs Apart tables
     → AllByRecursion (λ (n : ℕ). n < length tables) (numbers m.merge.walks) → map (numbered tables) (numbers m.merge.walks) ≡ map (λ (t : Table). Some t) job.inputs
-    → TablesAgree spelling settings opened tables image → TablesAgree spelling settings m.made job.written image
-    → TablesAgree spelling settings (tables_behind opened m) (installed_tables tables job) image
-behind_held agree spelling settings image opened tables m job apart there inputs held made =
+    → TablesAgree spelling opened tables image → TablesAgree spelling m.made job.written image
+    → TablesAgree spelling (tables_behind opened m) (installed_tables tables job) image
+behind_held agree spelling image opened tables m job apart there inputs held made =
     let which = numbers m.merge.walks in
-    fold_held agree spelling settings image m.made (others_in which opened) job.written (without job.inputs tables) made
-    (subst (λ (l : List Table). TablesAgree spelling settings (others_in which opened) l image) (sym (without_others tables apart which job.inputs there inputs))
-    (others_held spelling settings image which opened tables held))
+    fold_held agree spelling image m.made (others_in which opened) job.written (without job.inputs tables) made
+    (subst (λ (l : List Table). TablesAgree spelling (others_in which opened) l image) (sym (without_others tables apart which job.inputs there inputs))
+    (others_held spelling image which opened tables held))

@@ -10,7 +10,6 @@ use Rattle.disk_trait.specs.Image.{Image}
 use Rattle.entry_model.specs.Entries.{Entry}
 use Rattle.entry_model.specs.Newest.{lookup}
 use Rattle.filter_api.specs.Spellings.{Spelling}
-use Rattle.filter_api.specs.declared.settings.Settings.{Settings}
 use Rattle.map_model.specs.SortedMap.{Bytes}
 use Rattle.state_model.specs.Bounds.{searched, unless_found}
 use Rattle.state_model.specs.View.{first_found}
@@ -30,32 +29,32 @@ use Rattle.table_model.specs.Tables.{Table}
 
 -- ---- the first of some tables, and the others
 
-module _ (spelling : Spelling) (settings : Settings) (first : Opened) (more : List Opened) (image : Image) (P : List Opened → List Table → Type 0)
-    (cells : (t : Table) (older : List Table) → TableAgrees spelling settings first t image → TablesAgree spelling settings more older image → P (first ∷ more) (t ∷ older)) where
-  of_cells : (states : List Table) → TablesAgree spelling settings (first ∷ more) states image → P (first ∷ more) states
+module _ (spelling : Spelling) (first : Opened) (more : List Opened) (image : Image) (P : List Opened → List Table → Type 0)
+    (cells : (t : Table) (older : List Table) → TableAgrees spelling first t image → TablesAgree spelling more older image → P (first ∷ more) (t ∷ older)) where
+  of_cells : (states : List Table) → TablesAgree spelling (first ∷ more) states image → P (first ∷ more) states
   of_cells [] held = elim held [ ]
   of_cells (t ∷ older) held = cells t older held.0 held.1
 
-  pub by_first : (opened : List Opened) (states : List Table) → opened ≡ first ∷ more → TablesAgree spelling settings opened states image → P opened states
+  pub by_first : (opened : List Opened) (states : List Table) → opened ≡ first ∷ more → TablesAgree spelling opened states image → P opened states
   by_first opened states split held =
-      subst (λ (ts : List Opened). P ts states) (sym split) (of_cells states (subst (λ (ts : List Opened). TablesAgree spelling settings ts states image) split held))
+      subst (λ (ts : List Opened). P ts states) (sym split) (of_cells states (subst (λ (ts : List Opened). TablesAgree spelling ts states image) split held))
 
 -- ---- what is said
 
 -- kept blocks of the first table say what its blocks say
-pub first_says : (spelling : Spelling) (settings : Settings) (first : Opened) (more : List Opened) (t : Table) (older : List Table) (image : Image) (blocks : Cached) (held : TableAgrees spelling settings first t image)
+pub first_says : (spelling : Spelling) (first : Opened) (more : List Opened) (t : Table) (older : List Table) (image : Image) (blocks : Cached) (held : TableAgrees spelling first t image)
     → CacheAgrees blocks (first ∷ more) (t ∷ older) → (n : ℕ) (bytes : Bytes) → kept_of (cache_number blocks.first (length more), n) blocks.kept ≡ Some bytes → SaysOf n bytes first (joined held.blocks)
-first_says spelling settings first more t older image blocks held are n bytes is key named =
-    (are (cache_number blocks.first (length more), n) bytes is).0 refl key named ∙ ap (λ (es : List Entry). lookup es key) (held_entries spelling settings first t image held)
+first_says spelling first more t older image blocks held are n bytes is key named =
+    (are (cache_number blocks.first (length more), n) bytes is).0 refl key named ∙ ap (λ (es : List Entry). lookup es key) (held_entries spelling first t image held)
 
 pub older_true : (blocks : Cached) (first : Opened) (more : List Opened) (t : Table) (older : List Table) → CacheAgrees blocks (first ∷ more) (t ∷ older) → CacheAgrees blocks more older
 older_true blocks first more t older are place bytes is = (are place bytes is).1
 
 -- the first has no entry of the key
-module _ (spelling : Spelling) (settings : Settings) (first : Opened) (t : Table) (image : Image) (held : TableAgrees spelling settings first t image) (key : Bytes)
+module _ (spelling : Spelling) (first : Opened) (t : Table) (image : Image) (held : TableAgrees spelling first t image) (key : Bytes)
     (none : None ≡ lookup (joined held.blocks) key) where
   pub no_entry : lookup t.entries key ≡ None
-  no_entry = ap (λ (es : List Entry). lookup es key) (held_entries spelling settings first t image held) ∙ sym none
+  no_entry = ap (λ (es : List Entry). lookup es key) (held_entries spelling first t image held) ∙ sym none
 
   pub said_next : (older : List Table) (said : Option (Option Bytes)) → said ≡ first_found (entries_by_table older) key → said ≡ first_found (entries_by_table (t ∷ older)) key
   said_next older said is = is ∙ ap (λ (o : Option (Option Bytes)). option_or o (first_found (entries_by_table older) key)) (sym no_entry)
@@ -195,7 +194,7 @@ read_first (Some r) buffer blocks number behind is here = record {
   new = subst (λ (n : ℕ). kept_of (n, r.block) blocks.kept ≡ None) (sym here.0) here.2;
 }
 
-module _ (spelling : Spelling) (settings : Settings) (first : Opened) (more : List Opened) (t : Table) (older : List Table) (image : Image) (held : TableAgrees spelling settings first t image)
+module _ (spelling : Spelling) (first : Opened) (more : List Opened) (t : Table) (older : List Table) (image : Image) (held : TableAgrees spelling first t image)
     (blocks : Cached) (number : ℕ) (is : number ≡ cache_number blocks.first (length more)) where
   -- it says what its table says
   pub read_true : (read : Option BlockRead) (buffer : Bytes) (after : Cached) → IfSome read (λ r. IsReadHere r number buffer after) → IfSome read (λ r. SaysOf r.block (take r.size buffer) first (joined held.blocks))
@@ -203,11 +202,11 @@ module _ (spelling : Spelling) (settings : Settings) (first : Opened) (more : Li
   read_true None buffer after here says = tt
   read_true (Some r) buffer after here says = λ given.
       first_true blocks.first first more t older r.number r.block (take r.size buffer) (here.0 ∙ is) given
-      (λ key named. says key named ∙ ap (λ (es : List Entry). lookup es key) (sym (held_entries spelling settings first t image held)))
+      (λ key named. says key named ∙ ap (λ (es : List Entry). lookup es key) (sym (held_entries spelling first t image held)))
 
   pub says_of_number : CacheAgrees blocks (first ∷ more) (t ∷ older) → (n : ℕ) (bytes : Bytes) → kept_of (number, n) blocks.kept ≡ Some bytes → SaysOf n bytes first (joined held.blocks)
   says_of_number are n bytes at =
-      first_says spelling settings first more t older image blocks held are n bytes (subst (λ (k : ℕ). kept_of (k, n) blocks.kept ≡ Some bytes) is at)
+      first_says spelling first more t older image blocks held are n bytes (subst (λ (k : ℕ). kept_of (k, n) blocks.kept ≡ Some bytes) is at)
 
 -- ---- and then the older ones
 
@@ -259,13 +258,13 @@ one_more kept number None (Some value) more later le = omega arith
 one_more kept number (Some n) None more later le = omega (arith, le, at_most_one kept number (Some n))
 one_more kept number (Some n) (Some value) more later le = omega (arith, at_most_one kept number (Some n))
 
-pub unkept_within : (laws : StandingKeys) (spelling : Spelling) (settings : Settings) (blocks : Cached) (key : Bytes) (image : Image) (opened : List Opened) (states : List Table)
-    → TablesAgree spelling settings opened states image → unkept blocks key opened states ≤ searched settings key states
-unkept_within laws spelling settings blocks key image [] [] held = omega arith
-unkept_within laws spelling settings blocks key image [] (t ∷ older) held = elim held [ ]
-unkept_within laws spelling settings blocks key image (o ∷ more) [] held = elim held [ ]
-unkept_within laws spelling settings blocks key image (o ∷ more) (t ∷ older) held =
-    subst (λ (b : Bool). unkept blocks key (o ∷ more) (t ∷ older) ≤ cond b (suc (unless_found (lookup t.entries key) (searched settings key older))) (searched settings key older))
-    (read_where_searched laws spelling settings o t image held.0 key)
-    (one_more blocks.kept (cache_number blocks.first (length more)) (block_for o key) (lookup t.entries key) (unkept blocks key more older) (searched settings key older)
-    (unkept_within laws spelling settings blocks key image more older held.1))
+pub unkept_within : (laws : StandingKeys) (spelling : Spelling) (blocks : Cached) (key : Bytes) (image : Image) (opened : List Opened) (states : List Table)
+    → TablesAgree spelling opened states image → unkept blocks key opened states ≤ searched key states
+unkept_within laws spelling blocks key image [] [] held = omega arith
+unkept_within laws spelling blocks key image [] (t ∷ older) held = elim held [ ]
+unkept_within laws spelling blocks key image (o ∷ more) [] held = elim held [ ]
+unkept_within laws spelling blocks key image (o ∷ more) (t ∷ older) held =
+    subst (λ (b : Bool). unkept blocks key (o ∷ more) (t ∷ older) ≤ cond b (suc (unless_found (lookup t.entries key) (searched key older))) (searched key older))
+    (read_where_searched laws spelling o t image held.0 key)
+    (one_more blocks.kept (cache_number blocks.first (length more)) (block_for o key) (lookup t.entries key) (unkept blocks key more older) (searched key older)
+    (unkept_within laws spelling blocks key image more older held.1))

@@ -5,6 +5,7 @@ use Rattle.std.proofs.lemmas.List.{length-map}
 use Rattle.byte_fields.specs.declared.parts.Row.{Row}
 use Rattle.extent_model.proofs.Lists.{Mutual, Pairs, all_pairs, pairs_of}
 use Rattle.extent_model.specs.Extents.{AreApart, AreLaid, Extent, IsOnDevice}
+use Rattle.filter_api.specs.Ranges.{IsRowInRange}
 use Rattle.level_merge.specs.JobValue.{JobValue}
 use Rattle.manifest.specs.Manifest.{Manifest}
 use Rattle.manifest_model.proofs.Rows.{rows_keep}
@@ -92,8 +93,8 @@ module _ (m : Manifest) (tables : List Opened) (run : JobValue) (is : IsVersion 
       let all : length tables ≡ length m.version.rows = sym (length-map tables row_of) ∙ ap (λ (rs : List Row). length rs) rows in
       omega (arith, fewer, many, wrote, all, runs.few, is.few_tables)
 
-  pub merged_is_version : AllByRecursion RowFits (rows_of behind) → IsVersion (merged_manifest m (rows_of behind)).version
-  merged_is_version fits = record {
+  pub merged_is_version : AllByRecursion RowFits (rows_of behind) → AllByRecursion IsRowInRange (rows_of behind) → IsVersion (merged_manifest m (rows_of behind)).version
+  merged_is_version fits range = record {
     few_tables = omega (arith, length-map behind row_of, fold_length run.made others, made_few);
     some_epoch = is.some_epoch;
     epoch = is.epoch;
@@ -104,5 +105,6 @@ module _ (m : Manifest) (tables : List Opened) (run : JobValue) (is : IsVersion 
     ratio = is.ratio;
     log_page = is.log_page;
     rows = fits;
+    settings = range;
     placed = rows_keep.unbroken (merged_manifest m (rows_of behind)).version rows_behind;
   }

@@ -3,6 +3,7 @@ use Rattle.std.proofs.Common.{◌≡◌, ◌⊎◌, inl, inr, ◌<◌, List, [],
 use Rattle.std.specs.List.{AllByRecursion}
 use Rattle.byte_fields.specs.declared.parts.Row.{Row}
 use Rattle.extent_model.specs.Extents.{AreApart, IsOnDevice}
+use Rattle.filter_api.specs.Ranges.{IsRowInRange}
 use Rattle.manifest.specs.Manifest.{Manifest}
 use Rattle.extent_model.proofs.Lists.{all_pairs, pairs_of}
 use Rattle.manifest_model.proofs.Rows.{rows_keep}
@@ -12,7 +13,7 @@ use Rattle.manifest_model.specs.Version.{log_page_of}
 use Rattle.store_core.specs.Flushing.{next_manifest, other_log_page}
 
 -- a version with a row of level 0 before all others, where its pages are free and its numbers fit
-module _ (m : Manifest) (row : Row) (is : IsVersion m.version) (few : length m.version.rows < 1024) (top : row.level ≡ 0) (one : IsTableRow row) (fits : RowFits row)
+module _ (m : Manifest) (row : Row) (is : IsVersion m.version) (few : length m.version.rows < 1024) (top : row.level ≡ 0) (one : IsTableRow row) (fits : RowFits row) (range : IsRowInRange row)
     (on_device : IsOnDevice m.version.pages (extent_of row)) (free : AllByRecursion (AreApart (extent_of row)) (map extent_of m.version.rows)) where
   not_deeper : (rows : List Row) → AllByRecursion (IsNoDeeper row) rows
   not_deeper [] = tt
@@ -46,5 +47,6 @@ module _ (m : Manifest) (row : Row) (is : IsVersion m.version) (few : length m.v
     ratio = is.ratio;
     log_page = other_area;
     rows = (fits, is.rows);
+    settings = (range, is.settings);
     placed = rows_keep.unbroken (next_manifest m row).version rows_are;
   }

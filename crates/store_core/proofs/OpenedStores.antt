@@ -14,14 +14,13 @@ use Rattle.disk_trait.proofs.Calls.{reads_keep}
 use Rattle.entry_model.specs.Entries.{Entry, filled}
 use Rattle.entry_model.specs.Newest.{newest_entries}
 use Rattle.filter_api.specs.Spellings.{Spelling, SpellsOne}
-use Rattle.filter_api.specs.declared.settings.Settings.{Settings}
 use Rattle.gate_log.specs.Faults.{IsShapeIn}
 use Rattle.gate_log.specs.declared.fault.LogFault.{LogFault}
 use Rattle.gate_log.specs.declared.fault.LogFault.TheVariants as log
 use Rattle.image_model.proofs.Opening.{no_store_has_no_state, state_has_none}
 use Rattle.image_model.proofs.Sound.{state_sound}
 use Rattle.image_model.specs.Opening.{FirstDamage, IsOpened, OpensWith, at_a_table, at_the_log, at_the_ranges, at_the_slots, at_the_version, key_range_of}
-use Rattle.image_model.specs.Stands.{IsNamedBy, IsReady, IsStateOf, UnnamedStand, as_shown, settings_of, unnamed}
+use Rattle.image_model.specs.Stands.{IsNamedBy, IsReady, IsStateOf, UnnamedStand, as_shown, unnamed}
 use Rattle.image_model.specs.Tables.{AreTablesOf}
 use Rattle.log_model.proofs.Ends.{one_list}
 use Rattle.log_model.specs.Area.{LogIs, Position, area_in}
@@ -69,7 +68,7 @@ module _ (spelling : Spelling) (first : Bytes → Fault) (image : Image) where
     pub in_use_is : IsVersionOf m.version image
     in_use_is = in_use (place_of m.slot) (other_place m.slot) m.version image (are_slots m.slot loaded.slot) loaded.stands.current
 
-    pub tables_answer : (why : StoreError) → IsTablesAnswer spelling first (settings_of m.version) m.version.rows image why → IsOpenAnswer spelling first image why
+    pub tables_answer : (why : StoreError) → IsTablesAnswer spelling first m.version.rows image why → IsOpenAnswer spelling first image why
     tables_answer error.Memory is = tt
     tables_answer (error.Device cause) is = tt
     tables_answer error.Stopped is = is
@@ -81,12 +80,12 @@ module _ (spelling : Spelling) (first : Bytes → Fault) (image : Image) where
     tables_answer (error.BadSettings field) is = is
 
     -- its tables are open
-    module _ (ts : List Opened) (rows : rows_of ts ≡ m.version.rows) (opened : AreOpened spelling (settings_of m.version) ts image) where
-      all_of_rows : AllByRecursion (IsOpened spelling (settings_of m.version) image) m.version.rows
-      all_of_rows = subst (AllByRecursion (IsOpened spelling (settings_of m.version) image)) rows (all_opened spelling (settings_of m.version) image ts opened)
+    module _ (ts : List Opened) (rows : rows_of ts ≡ m.version.rows) (opened : AreOpened spelling ts image) where
+      all_of_rows : AllByRecursion (IsOpened spelling image) m.version.rows
+      all_of_rows = subst (AllByRecursion (IsOpened spelling image)) rows (all_opened spelling image ts opened)
 
       ranges_of_rows : ranges_fault (map (key_range_of image) m.version.rows) ≡ ranges_fault (map opened_range ts)
-      ranges_of_rows = ap (λ (rs : List Row). ranges_fault (map (key_range_of image) rs)) (sym rows) ∙ ap ranges_fault (ranges_are spelling (settings_of m.version) image ts opened)
+      ranges_of_rows = ap (λ (rs : List Row). ranges_fault (map (key_range_of image) rs)) (sym rows) ∙ ap ranges_fault (ranges_are spelling image ts opened)
 
       pub order_answer : (d : Damage) → IsRangesDamage m.slot (ranges_fault (map opened_range ts)) d → IsOpenAnswer spelling first image (error.Damaged d)
       order_answer d is =
@@ -132,15 +131,10 @@ parts_answer spelling first image m ts p entries area (Err why) found area_is sp
 
 -- ---- the same, of what is as it was
 
-pub same_tables_answer : (spelling : Spelling) (first : Bytes → Fault) (settings others : Settings) (rows more : List Row) (image was : Image) (why : StoreError) → settings ≡ others → rows ≡ more → was ≡ image
-    → IsTablesAnswer spelling first others more was why → IsTablesAnswer spelling first settings rows image why
-same_tables_answer spelling first settings others rows more image was why same_settings same_rows held is =
-    subst (λ (x : Settings). IsTablesAnswer spelling first x rows image why) (sym same_settings)
-    (subst (λ (rs : List Row). IsTablesAnswer spelling first others rs image why) (sym same_rows) (subst (λ (f : Image). IsTablesAnswer spelling first others more f why) held is))
-
-pub same_opened : (spelling : Spelling) (settings others : Settings) (ts : List Opened) (image was : Image) → settings ≡ others → was ≡ image → AreOpened spelling others ts was → AreOpened spelling settings ts image
-same_opened spelling settings others ts image was same_settings held is =
-    subst (λ (x : Settings). AreOpened spelling x ts image) (sym same_settings) (subst (λ (f : Image). AreOpened spelling others ts f) held is)
+pub same_tables_answer : (spelling : Spelling) (first : Bytes → Fault) (rows more : List Row) (image was : Image) (why : StoreError) → rows ≡ more → was ≡ image
+    → IsTablesAnswer spelling first more was why → IsTablesAnswer spelling first rows image why
+same_tables_answer spelling first rows more image was why same_rows held is =
+    subst (λ (rs : List Row). IsTablesAnswer spelling first rs image why) (sym same_rows) (subst (λ (f : Image). IsTablesAnswer spelling first more f why) held is)
 
 pub same_ranges : (slot other : ℕ) (ts us : List Opened) (d : Damage) → slot ≡ other → us ≡ ts → IsRangesDamage other (ranges_fault (map opened_range us)) d → IsRangesDamage slot (ranges_fault (map opened_range ts)) d
 same_ranges slot other ts us d same_slot same is =
@@ -173,7 +167,7 @@ module _ (spelling : Spelling) (one : SpellsOne spelling) (s : State) (image : I
 
     -- it has as many tables as its version has rows
     pub rows_many : length m.version.rows ≡ length s.tables
-    rows_many = as_many spelling s.settings image m.version.rows s.tables named.tables
+    rows_many = as_many spelling image m.version.rows s.tables named.tables
 
 shown : (s : State) → s.job ≡ None → s.kept ≡ [] → s ≡ as_shown s
 shown s no_job none_kept = λ i. record { settings = s.settings; pages = s.pages; epoch = s.epoch; log = s.log; tables = s.tables; job = no_job i; kept = none_kept i }
@@ -203,8 +197,8 @@ module _ (spelling : Spelling) (filter_bytes : FilterBytes) (one : SpellsOne spe
       named = subst (λ (t : State). IsNamedBy spelling v t image) (shown s named_so.no_job named_so.none_kept) named_so;
       unnamed = none_unnamed spelling s image named_so.no_job named_so.none_kept;
     };
-    tables = held_of spelling s.settings (settings_of v) image one store.tables s.tables opened.tables
-        (subst (λ (rs : List Row). AreTablesOf spelling s.settings rs s.tables image) (sym opened.rows) named_so.tables);
+    tables = held_of spelling image one store.tables s.tables opened.tables
+        (subst (λ (rs : List Row). AreTablesOf spelling rs s.tables image) (sym opened.rows) named_so.tables);
     job = none_run spelling s store.tables image store.job s.job opened.job named_so.no_job;
   }
 

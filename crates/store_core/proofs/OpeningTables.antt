@@ -13,12 +13,11 @@ use Rattle.byte_fields.specs.declared.parts.Row.{Row}
 use Rattle.disk_trait.specs.Image.{Image}
 use Rattle.filter_api.specs.Spellings.{IsSpelling, Spelling, SpellsOne}
 use Rattle.filter_api.specs.declared.errors.FilterFault.{FilterFault}
-use Rattle.filter_api.specs.declared.settings.Settings.{Settings}
 use Rattle.map_model.specs.SortedMap.{Bytes}
 use Rattle.block_model.specs.Index.{Index, IndexRow}
 use Rattle.block_model.specs.IndexReading.{index_fault, index_in}
-use Rattle.block_model.specs.Places.{byte_of_page, filter_page, index_page}
-use Rattle.table_model.specs.Damage.{HasWidths, filter_part, index_damage, index_part, other_widths}
+use Rattle.block_model.specs.Places.{byte_of_page, index_page}
+use Rattle.table_model.specs.Damage.{filter_part, index_damage, index_part}
 use Rattle.table_model.specs.Tables.{Table}
 use Rattle.table_file.specs.Faults.{IsDamagedTable, filter_fault_of}
 use Rattle.table_file.specs.Opened.{IsOpen, Opened}
@@ -31,7 +30,7 @@ use Rattle.image_model.specs.Tables.{AreTablesOf}
 use Rattle.manifest_model.specs.Tables.{KeyRange}
 use Rattle.store_core.specs.Faults.{of_table_fault}
 use Rattle.store_core.specs.StoreValue.{rows_of}
-use Rattle.store_core.specs.Opening.{AreOpened, IsTableAnswer, IsTablesAnswer, IsWide, opened_range}
+use Rattle.store_core.specs.Opening.{AreOpened, IsTableAnswer, IsTablesAnswer, opened_range}
 use Rattle.level_merge.specs.TablesAgree.{TablesAgree}
 use Rattle.store_core.specs.declared.error.StoreError.{StoreError}
 use Rattle.store_core.specs.declared.error.StoreError.TheVariants as error
@@ -46,61 +45,52 @@ none_of_index spelling image t is =
     cond-true (t.row.index_sum == fnv_of bytes) (found (index_fault t.row.data_pages bytes)) (Some (damage.Sum part.Index at t.row.index_sum (fnv_of bytes))) (eq-eqb t.row.index_sum (fnv_of bytes) is.index_sum)
     ∙ ap found is.index_kept
 
-module _ (spelling : Spelling) (settings : Settings) (image : Image) where
-  wide_is_opened : (t : Opened) → IsWide spelling settings t image → IsOpened spelling settings image t.row
-  wide_is_opened t wide = record {
-    index = none_of_index spelling image t wide.is_open;
+module _ (spelling : Spelling) (image : Image) where
+  open_is_opened : (t : Opened) → IsOpen spelling t image → IsOpened spelling image t.row
+  open_is_opened t is = record {
+    index = none_of_index spelling image t is;
     filter = record {
-      sum = wide.is_open.filter_sum;
+      sum = is.filter_sum;
       cutoff = t.filter.cutoff;
       leaves = t.filter.leaves;
       spelled =
-          subst (λ (real : ℕ). IsSpelling spelling settings.hash_bits real t.filter.cutoff t.filter.leaves (filter_part t.row image)) wide.real_is
-          (subst (λ (hash : ℕ). IsSpelling spelling hash t.filter.real_bits t.filter.cutoff t.filter.leaves (filter_part t.row image)) wide.hash_is wide.is_open.filter_is);
-      many = wide.is_open.many;
+          subst (λ (real : ℕ). IsSpelling spelling t.row.hash_bits real t.filter.cutoff t.filter.leaves (filter_part t.row image)) is.wide.real
+          (subst (λ (hash : ℕ). IsSpelling spelling hash t.filter.real_bits t.filter.cutoff t.filter.leaves (filter_part t.row image)) is.wide.hash is.filter_is);
+      many = is.many;
     };
   }
 
-  pub all_opened : (ts : List Opened) → AreOpened spelling settings ts image → AllByRecursion (IsOpened spelling settings image) (rows_of ts)
+  pub all_opened : (ts : List Opened) → AreOpened spelling ts image → AllByRecursion (IsOpened spelling image) (rows_of ts)
   all_opened [] are = tt
-  all_opened (t ∷ ts) are = (wide_is_opened t are.0, all_opened ts are.1)
+  all_opened (t ∷ ts) are = (open_is_opened t are.0, all_opened ts are.1)
 
-  pub opened_more : (ts : List Opened) (t : Opened) → AreOpened spelling settings ts image → IsWide spelling settings t image → AreOpened spelling settings (ts ++ t ∷ []) image
-  opened_more [] t are wide = (wide, tt)
-  opened_more (x ∷ ts) t are wide = (are.0, opened_more ts t are.1 wide)
+  pub opened_more : (ts : List Opened) (t : Opened) → AreOpened spelling ts image → IsOpen spelling t image → AreOpened spelling (ts ++ t ∷ []) image
+  opened_more [] t are is = (is, tt)
+  opened_more (x ∷ ts) t are is = (are.0, opened_more ts t are.1 is)
 
 -- ---- why a row's table is not opened
 
-module _ (spelling : Spelling) (first : Bytes → Fault) (settings : Settings) (image : Image) where
-  pub table_answer : (row : Row) (fault : TableFault) → IsDamagedTable spelling first settings row image fault → IsTableAnswer spelling first settings row image (of_table_fault fault)
+module _ (spelling : Spelling) (first : Bytes → Fault) (image : Image) where
+  pub table_answer : (row : Row) (fault : TableFault) → IsDamagedTable spelling first row image fault → IsTableAnswer spelling first row image (of_table_fault fault)
   table_answer row table.Memory is = tt
   table_answer row (table.Device cause) is = tt
   table_answer row (table.Damaged d) (inl index) = inl index
   table_answer row (table.Damaged d) (inr filter) = inr (filter.0, inl filter.1)
 
-  -- rule 12 of a filter part
-  pub widths_answer : (t : Opened) (row : Row) (at : ℕ) → t.row ≡ row → IsOpen spelling t image → (HasWidths settings t.filter.hash_bits t.filter.real_bits → ⊥)
-      → at ≡ byte_of_page (filter_page row) + 5 → IsTableAnswer spelling first settings row image (error.Damaged (damage.Shape part.Filter at 12))
-  widths_answer t row at row_is is other at_is =
-      let here : IsTableAnswer spelling first settings t.row image (error.Damaged (damage.Shape part.Filter (byte_of_page (filter_page t.row) + 5) 12)) =
-      inr (none_of_index spelling image t is, inl (other_widths t.filter.hash_bits t.filter.real_bits t.filter.cutoff t.filter.leaves is.filter_sum is.filter_is is.many other)) in
-      subst (λ (n : ℕ). IsTableAnswer spelling first settings row image (error.Damaged (damage.Shape part.Filter n 12))) (sym at_is)
-      (subst (λ (r : Row). IsTableAnswer spelling first settings r image (error.Damaged (damage.Shape part.Filter (byte_of_page (filter_page r) + 5) 12))) row_is here)
-
   -- ---- behind rows that are opened, the damage of one is that of all
 
-  breaks_first : (d : Damage) (row : Row) (later : List Row) → TablesBreak spelling (filter_fault_of first) settings image d (row ∷ [])
-      → TablesBreak spelling (filter_fault_of first) settings image d (row ∷ later)
+  breaks_first : (d : Damage) (row : Row) (later : List Row) → TablesBreak spelling (filter_fault_of first) image d (row ∷ [])
+      → TablesBreak spelling (filter_fault_of first) image d (row ∷ later)
   breaks_first d row later (inl index) = inl index
   breaks_first d row later (inr filter) = inr (filter.0, elim filter.1 [ inl here ↦ inl here | inr never ↦ absurd never.1 ])
 
-  breaks_behind : (d : Damage) (before later : List Row) → AllByRecursion (IsOpened spelling settings image) before
-      → TablesBreak spelling (filter_fault_of first) settings image d later → TablesBreak spelling (filter_fault_of first) settings image d (before ++ later)
+  breaks_behind : (d : Damage) (before later : List Row) → AllByRecursion (IsOpened spelling image) before
+      → TablesBreak spelling (filter_fault_of first) image d later → TablesBreak spelling (filter_fault_of first) image d (before ++ later)
   breaks_behind d [] later are breaks = breaks
   breaks_behind d (row ∷ before) later are breaks = inr (are.0.index, inr (are.0.filter, breaks_behind d before later are.1 breaks))
 
-  pub answer_behind : (before later : List Row) (row : Row) (why : StoreError) → AllByRecursion (IsOpened spelling settings image) before
-      → IsTableAnswer spelling first settings row image why → IsTablesAnswer spelling first settings (before ++ (row ∷ later)) image why
+  pub answer_behind : (before later : List Row) (row : Row) (why : StoreError) → AllByRecursion (IsOpened spelling image) before
+      → IsTableAnswer spelling first row image why → IsTablesAnswer spelling first (before ++ (row ∷ later)) image why
   answer_behind before later row error.Memory are is = tt
   answer_behind before later row (error.Device cause) are is = tt
   answer_behind before later row error.Stopped are is = is
@@ -125,28 +115,28 @@ range_is spelling image t is =
     ap (λ (x : Index). record { level = t.row.level; least = x.least; greatest = greatest_in x.rows }) (sym is.index_is)
     ∙ ap (λ (key : Bytes). record { level = t.row.level; least = t.index.least; greatest = key }) (greatest_row t.index.rows)
 
-pub ranges_are : (spelling : Spelling) (settings : Settings) (image : Image) (ts : List Opened) → AreOpened spelling settings ts image
+pub ranges_are : (spelling : Spelling) (image : Image) (ts : List Opened) → AreOpened spelling ts image
     → map (key_range_of image) (rows_of ts) ≡ map opened_range ts
-ranges_are spelling settings image [] are = refl
-ranges_are spelling settings image (t ∷ ts) are =
-    ap (λ (r : KeyRange). r ∷ map (key_range_of image) (rows_of ts)) (range_is spelling image t are.0.is_open)
-    ∙ ap (λ (rs : List KeyRange). opened_range t ∷ rs) (ranges_are spelling settings image ts are.1)
+ranges_are spelling image [] are = refl
+ranges_are spelling image (t ∷ ts) are =
+    ap (λ (r : KeyRange). r ∷ map (key_range_of image) (rows_of ts)) (range_is spelling image t are.0)
+    ∙ ap (λ (rs : List KeyRange). opened_range t ∷ rs) (ranges_are spelling image ts are.1)
 
 -- ---- the tables of a state
 
 -- where the rows' pages spell tables, these are the open ones
-pub held_of : (spelling : Spelling) (settings others : Settings) (image : Image) → SpellsOne spelling → (ts : List Opened) (tables : List Table)
-    → AreOpened spelling others ts image → AreTablesOf spelling settings (rows_of ts) tables image → TablesAgree spelling settings ts tables image
-held_of spelling settings others image one [] [] opened are = tt
-held_of spelling settings others image one [] (t ∷ tables) opened are = elim are [ ]
-held_of spelling settings others image one (o ∷ ts) [] opened are = elim are [ ]
-held_of spelling settings others image one (o ∷ ts) (t ∷ tables) opened are = (
-  record { blocks = are.0.0; stands = opened_stands spelling settings o are.0.0 image one opened.0.is_open are.0.1; table_is = are.0.2 },
-  held_of spelling settings others image one ts tables opened.1 are.1,
+pub held_of : (spelling : Spelling) (image : Image) → SpellsOne spelling → (ts : List Opened) (tables : List Table)
+    → AreOpened spelling ts image → AreTablesOf spelling (rows_of ts) tables image → TablesAgree spelling ts tables image
+held_of spelling image one [] [] opened are = tt
+held_of spelling image one [] (t ∷ tables) opened are = elim are [ ]
+held_of spelling image one (o ∷ ts) [] opened are = elim are [ ]
+held_of spelling image one (o ∷ ts) (t ∷ tables) opened are = (
+  record { blocks = are.0.0; stands = opened_stands spelling o are.0.0 image one opened.0 are.0.1; table_is = are.0.2 },
+  held_of spelling image one ts tables opened.1 are.1,
 )
 
-pub as_many : (spelling : Spelling) (settings : Settings) (image : Image) (rows : List Row) (tables : List Table) → AreTablesOf spelling settings rows tables image → length rows ≡ length tables
-as_many spelling settings image [] [] are = refl
-as_many spelling settings image [] (t ∷ tables) are = elim are [ ]
-as_many spelling settings image (row ∷ rows) [] are = elim are [ ]
-as_many spelling settings image (row ∷ rows) (t ∷ tables) are = ap suc (as_many spelling settings image rows tables are.1)
+pub as_many : (spelling : Spelling) (image : Image) (rows : List Row) (tables : List Table) → AreTablesOf spelling rows tables image → length rows ≡ length tables
+as_many spelling image [] [] are = refl
+as_many spelling image [] (t ∷ tables) are = elim are [ ]
+as_many spelling image (row ∷ rows) [] are = elim are [ ]
+as_many spelling image (row ∷ rows) (t ∷ tables) are = ap suc (as_many spelling image rows tables are.1)

@@ -11,8 +11,12 @@ use Rattle.entry_model.specs.Entries.{Entry, keys_of}
 use Rattle.extent_model.proofs.Free.{gap_is_free}
 use Rattle.extent_model.specs.Extents.{AreApart, AreLaid, IsOnDevice}
 use Rattle.extent_model.specs.Gaps.{first_gap}
+use Rattle.filter_api.specs.Ranges.{InRange, IsRowInRange}
 use Rattle.filter_api.specs.Spellings.{Spelling}
+use Rattle.filter_api.specs.declared.settings.Settings.{Settings}
 use Rattle.filter_model.specs.Leaves.{Leaf}
+use Rattle.image_model.specs.Stands.{settings_of}
+use Rattle.key_base.specs.Limits.{max_ratio}
 use Rattle.manifest.specs.Manifest.{Manifest}
 use Rattle.manifest_model.specs.Laws.{IsVersion, RowFits}
 use Rattle.manifest_model.specs.Rows.{IsTableRow, extent_of}
@@ -29,9 +33,9 @@ use Rattle.store_core.proofs.PlannedRows.{first_of_both}
 
 -- ---- the row of a table of level 0
 
-row_of_table : (first : ℕ) (entries : List Entry) (filter_bytes : Bytes) → IsTable entries → IsTableRow (row_for 0 first entries filter_bytes)
+row_of_table : (first : ℕ) (settings : Settings) (entries : List Entry) (filter_bytes : Bytes) → IsTable entries → IsTableRow (row_for 0 first settings entries filter_bytes)
 unfolding row_for
-row_of_table first entries filter_bytes table = record {
+row_of_table first settings entries filter_bytes table = record {
   level = omega arith;
   data_pages = omega (arith, table.some, entries_in_pages entries);
   index_pages = refl;
@@ -39,19 +43,24 @@ row_of_table first entries filter_bytes table = record {
   entries = table.some;
 }
 
-row_pages : (first : ℕ) (entries : List Entry) (filter_bytes : Bytes)
-    → pages_of (row_for 0 first entries filter_bytes) ≡ data_pages entries + pages_for (index_length entries) + pages_for (length filter_bytes)
+row_pages : (first : ℕ) (settings : Settings) (entries : List Entry) (filter_bytes : Bytes)
+    → pages_of (row_for 0 first settings entries filter_bytes) ≡ data_pages entries + pages_for (index_length entries) + pages_for (length filter_bytes)
 unfolding row_for
-row_pages first entries filter_bytes = refl
+row_pages first settings entries filter_bytes = refl
 
-pub row_level : (first : ℕ) (entries : List Entry) (filter_bytes : Bytes) → (row_for 0 first entries filter_bytes).level ≡ 0
+pub row_level : (first : ℕ) (settings : Settings) (entries : List Entry) (filter_bytes : Bytes) → (row_for 0 first settings entries filter_bytes).level ≡ 0
 unfolding row_for
-row_level first entries filter_bytes = refl
+row_level first settings entries filter_bytes = refl
+
+-- it has the settings that its table was built with
+row_range : (first : ℕ) (settings : Settings) (entries : List Entry) (filter_bytes : Bytes) → InRange settings → settings.ratio ≤ max_ratio → IsRowInRange (row_for 0 first settings entries filter_bytes)
+unfolding row_for
+row_range first settings entries filter_bytes in_range ratio = record { settings = in_range; ratio = ratio }
 
 -- a row whose numbers have the widths of its fields
 pub row_fits : (row : Row) → row.level < 2 ^ 8 → row.first_page < 2 ^ 32 → row.data_pages < 2 ^ 32 → row.index_pages < 2 ^ 32 → row.filter_pages < 2 ^ 32 → row.entries < 2 ^ 32
-    → row.index_len < 2 ^ 64 → row.filter_len < 2 ^ 64 → row.index_sum < 2 ^ 64 → row.filter_sum < 2 ^ 64 → RowFits row
-row_fits row level first blocks index filter entries index_len filter_len index_sum filter_sum = (
+    → row.index_len < 2 ^ 64 → row.filter_len < 2 ^ 64 → row.index_sum < 2 ^ 64 → row.filter_sum < 2 ^ 64 → row.hash_bits < 2 ^ 8 → row.real_bits < 2 ^ 8 → row.ratio < 2 ^ 16 → RowFits row
+row_fits row level first blocks index filter entries index_len filter_len index_sum filter_sum hash real ratio = (
   omega (arith, level),
   (
     omega arith,
@@ -65,7 +74,13 @@ row_fits row level first blocks index filter entries index_len filter_len index_
             omega (arith, filter),
             (
               omega (arith, entries),
-              (omega (arith, index_len), (omega (arith, filter_len), (omega (arith, index_sum), (omega (arith, filter_sum), (omega arith, tt))))),
+              (
+                omega (arith, index_len),
+                (
+                  omega (arith, filter_len),
+                  (omega (arith, index_sum), (omega (arith, filter_sum), (omega (arith, hash), (omega (arith, real), (omega (arith, ratio), (omega arith, tt)))))),
+                ),
+              ),
             ),
           ),
         ),
@@ -84,14 +99,14 @@ module _ (spelling : Spelling) (built_cutoff : ℕ → List Leaf → ℕ) (m : M
   abbrev bytes : Bytes
   bytes = filter_bytes_of spelling built_cutoff parts.settings (keys_of parts.entries)
 
-  row_is : row ≡ row_for 0 row.first_page parts.entries (filter_bytes_of spelling built_cutoff parts.settings (keys_of parts.entries))
+  row_is : row ≡ row_for 0 row.first_page parts.settings parts.entries (filter_bytes_of spelling built_cutoff parts.settings (keys_of parts.entries))
   row_is = plan.row_is
 
   need_is : need_under (filter_bytes_of spelling built_cutoff) m.version entries ≡ table_pages (filter_bytes_of spelling built_cutoff) parts.settings parts.entries
   need_is = sym (ap (λ (b : Built). table_pages filter_bytes b.settings b.entries) plan.parts_are)
 
   pub pages_are : pages_of row ≡ table_pages (filter_bytes_of spelling built_cutoff) parts.settings parts.entries
-  pages_are = ap pages_of row_is ∙ row_pages row.first_page parts.entries bytes
+  pages_are = ap pages_of row_is ∙ row_pages row.first_page parts.settings parts.entries bytes
 
   pub plan_is_free : IsOnDevice m.version.pages (row.first_page, table_pages (filter_bytes_of spelling built_cutoff) parts.settings parts.entries)
       × AllByRecursion (AreApart (row.first_page, table_pages (filter_bytes_of spelling built_cutoff) parts.settings parts.entries)) (extents_with m.version outputs)
@@ -108,11 +123,15 @@ module _ (spelling : Spelling) (built_cutoff : ℕ → List Leaf → ℕ) (m : M
   pub plan_is_version : IsTable entries → RowFits row → IsVersion next.version
   plan_is_version table fits =
       let table_of_parts : IsTable parts.entries = subst IsTable (sym (ap (λ (b : Built). b.entries) plan.parts_are)) table in
+      let set : parts.settings ≡ settings_of m.version = ap (λ (b : Built). b.settings) plan.parts_are in
+      let in_range : InRange (settings_of m.version) = record { hash_bits = is.hash_bits; real_bits = is.real_bits } in
+      let range : IsRowInRange row = subst IsRowInRange (sym row_is)
+      (row_range row.first_page parts.settings parts.entries bytes (subst InRange (sym set) in_range) (subst (λ (s : Settings). s.ratio ≤ max_ratio) (sym set) (omega (arith, is.ratio)))) in
       let free_rows = first_of_both (AreApart (extent_of row)) (map extent_of m.version.rows) (map extent_of outputs)
       (subst (AllByRecursion (AreApart (extent_of row))) (map-append extent_of m.version.rows outputs) row_free.1) in
       subst (λ (n : Manifest). IsVersion n.version) (sym plan.next_is)
-      (next_is_version m row is plan.few (ap (λ (r : Row). r.level) row_is ∙ row_level row.first_page parts.entries bytes)
-      (subst IsTableRow (sym row_is) (row_of_table row.first_page parts.entries bytes table_of_parts)) fits row_free.0 free_rows)
+      (next_is_version m row is plan.few (ap (λ (r : Row). r.level) row_is ∙ row_level row.first_page parts.settings parts.entries bytes)
+      (subst IsTableRow (sym row_is) (row_of_table row.first_page parts.settings parts.entries bytes table_of_parts)) fits range row_free.0 free_rows)
 
   -- and its table ends on its device
   pub plan_fits : row.first_page + table_pages (filter_bytes_of spelling built_cutoff) parts.settings parts.entries ≤ next.version.pages

@@ -11,6 +11,7 @@ use Rattle.extent_model.proofs.Rooms.{gap_small}
 use Rattle.extent_model.specs.Extents.{AreLaid, Extent}
 use Rattle.extent_model.specs.Gaps.{first_gap, largest_gap}
 use Rattle.filter_api.specs.Spellings.{Spelling}
+use Rattle.filter_api.specs.declared.settings.Settings.{Settings}
 use Rattle.filter_model.specs.Leaves.{Leaf}
 use Rattle.image_model.specs.Stands.{settings_of}
 use Rattle.key_base.specs.Limits.{last_epoch}
@@ -40,9 +41,9 @@ pub parts_of : (seen m : Manifest) (view : seen ≡ m) (entries : List Entry) (p
     → parts ≡ record { settings = settings_of m.version; entries = entries }
 parts_of seen m view entries parts are = subst (λ (x : Manifest). parts ≡ record { settings = settings_of x.version; entries = entries }) view are
 
-page_of_row : (first : ℕ) (entries : List Entry) (filter_bytes : Bytes) → (row_for 0 first entries filter_bytes).first_page ≡ first
+page_of_row : (first : ℕ) (settings : Settings) (entries : List Entry) (filter_bytes : Bytes) → (row_for 0 first settings entries filter_bytes).first_page ≡ first
 unfolding row_for
-page_of_row first entries filter_bytes = refl
+page_of_row first settings entries filter_bytes = refl
 
 module _ (spelling : Spelling) (built_cutoff : ℕ → List Leaf → ℕ) (m : Manifest) (outputs : List Row) (entries : List Entry) (parts : Built) (page need : ℕ) (is : IsVersion m.version)
     (laid : AreLaid m.version.pages (extents_with m.version outputs)) (few : length m.version.rows < 1024) (parts_are : parts ≡ record { settings = settings_of m.version; entries = entries })
@@ -72,7 +73,7 @@ module _ (spelling : Spelling) (built_cutoff : ℕ → List Leaf → ℕ) (m : M
   pub plan_is : (row : Row) (next : Manifest) → row ≡ made_row spelling built_cutoff parts 0 page → next ≡ next_manifest m row → m.version.epoch < last_epoch
       → IsPlan spelling built_cutoff m outputs entries parts row next
   plan_is row next row_is next_is epoch =
-      let at : row.first_page ≡ page = ap (λ (r : Row). r.first_page) row_is ∙ page_of_row page parts.entries (filter_bytes parts.settings (keys_of parts.entries)) in
+      let at : row.first_page ≡ page = ap (λ (r : Row). r.first_page) row_is ∙ page_of_row page parts.settings parts.entries (filter_bytes parts.settings (keys_of parts.entries)) in
       record {
         few = few;
         parts_are = parts_are;

@@ -5,7 +5,6 @@ use Rattle.std.specs.List.{AllByRecursion}
 use Rattle.disk_trait.specs.Image.{Image}
 use Rattle.extent_model.specs.Extents.{Extent, IsOnDevice}
 use Rattle.filter_api.specs.Spellings.{Spelling}
-use Rattle.filter_api.specs.declared.settings.Settings.{Settings}
 use Rattle.image_model.specs.Frames.{IsApartFromExtent}
 use Rattle.image_model.specs.Stands.{unnamed}
 use Rattle.level_merge.specs.FollowLaws.{FlushedIsFollowed}
@@ -69,18 +68,18 @@ runs_behind law spelling v s after opened new t image (Some m) (Some job) level 
 
 -- what it has made stands
 pub made_held : (spelling : Spelling) (s : State) (opened : List Opened) (image : Image) (m : JobValue) (job : Job) → Follows spelling s opened image m job
-    → TablesAgree spelling s.settings m.made job.written image
-made_held spelling s opened image m job f = subst (λ (set : Settings). TablesAgree spelling set m.made job.written image) f.settings f.makes.made_are
+    → TablesAgree spelling m.made job.written image
+made_held spelling s opened image m job f = f.makes.made_are
 
 -- what is apart from tables is apart from their rows
-pub rows_apart : (spelling : Spelling) (settings : Settings) (at n : ℕ) (image : Image) (opened : List Opened) (tables : List Table) → TablesAgree spelling settings opened tables image
+pub rows_apart : (spelling : Spelling) (at n : ℕ) (image : Image) (opened : List Opened) (tables : List Table) → TablesAgree spelling opened tables image
     → AllByRecursion (IsApartFromExtent at n) (map extent_of tables) → AllByRecursion (IsApartFromRow at n) (rows_of opened)
-rows_apart spelling settings at n image [] [] held apart = tt
-rows_apart spelling settings at n image [] (t ∷ tables) held apart = absurd held
-rows_apart spelling settings at n image (o ∷ opened) [] held apart = absurd held
-rows_apart spelling settings at n image (o ∷ opened) (t ∷ tables) held apart = (
+rows_apart spelling at n image [] [] held apart = tt
+rows_apart spelling at n image [] (t ∷ tables) held apart = absurd held
+rows_apart spelling at n image (o ∷ opened) [] held apart = absurd held
+rows_apart spelling at n image (o ∷ opened) (t ∷ tables) held apart = (
   subst (IsApartFromExtent at n) (ap extent_of held.0.table_is) apart.0,
-  rows_apart spelling settings at n image opened tables held.1 apart.1,
+  rows_apart spelling at n image opened tables held.1 apart.1,
 )
 
 pub front_of : (P : Extent → Type 0) (some others : List Table) → AllByRecursion P (map extent_of (some ++ others)) → AllByRecursion P (map extent_of some)

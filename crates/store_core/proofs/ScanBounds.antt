@@ -8,7 +8,6 @@ use Rattle.disk_trait.specs.Image.{Image}
 use Rattle.entry_model.specs.Entries.{Entry}
 use Rattle.entry_model.specs.Newest.{entries_from}
 use Rattle.filter_api.specs.Spellings.{Spelling}
-use Rattle.filter_api.specs.declared.settings.Settings.{Settings}
 use Rattle.filter_model.specs.Answers.{ranged}
 use Rattle.map_model.specs.Slices.{is_before, is_between, is_up_to, seek}
 use Rattle.map_model.specs.SortedMap.{Bytes, Map}
@@ -74,7 +73,7 @@ ones_few : (b : Bool) → ones b ≤ 1
 ones_few true = omega arith
 ones_few false = omega arith
 
-module _ (blocks : StandingBlocks) (walks : StandingWalks) (spelling : Spelling) (settings : Settings) (image : Image) (low : Bytes) where
+module _ (blocks : StandingBlocks) (walks : StandingWalks) (spelling : Spelling) (image : Image) (low : Bytes) where
   abbrev floor : KeyFloor
   floor = record { key = low; passed = false }
 
@@ -83,14 +82,14 @@ module _ (blocks : StandingBlocks) (walks : StandingWalks) (spelling : Spelling)
 
   -- ---- one table
 
-  left_of : (all : List Opened) (number : ℕ) (o : Opened) (t : Table) → numbered all number ≡ Some o → TableAgrees spelling settings o t image → walk_left all image (start all number) ≡ entries_from t.entries low
+  left_of : (all : List Opened) (number : ℕ) (o : Opened) (t : Table) → numbered all number ≡ Some o → TableAgrees spelling o t image → walk_left all image (start all number) ≡ entries_from t.entries low
   left_of all number o t is held =
       ap (λ (found : Option Opened). with_hand (walk_at found low).now (to_come (walk_at found low) (blocks_in found image))) is
-      ∙ ap (to_come (walk_from o low)) (blocks spelling settings o held.blocks image held.stands).on_device
-      ∙ (walks spelling settings o held.blocks image held.stands).all low
-      ∙ ap (λ (es : List Entry). entries_from es low) (sym (held_entries spelling settings o t image held))
+      ∙ ap (to_come (walk_from o low)) (blocks spelling o held.blocks image held.stands).on_device
+      ∙ (walks spelling o held.blocks image held.stands).all low
+      ∙ ap (λ (es : List Entry). entries_from es low) (sym (held_entries spelling o t image held))
 
-  owed_one : (all : List Opened) (number : ℕ) (high : Option Bytes) (answer : Option (Bytes × Bytes)) (o : Opened) (t : Table) → numbered all number ≡ Some o → TableAgrees spelling settings o t image
+  owed_one : (all : List Opened) (number : ℕ) (high : Option Bytes) (answer : Option (Bytes × Bytes)) (o : Opened) (t : Table) → numbered all number ≡ Some o → TableAgrees spelling o t image
       → owed (λ (key : Bytes). is_up_to high key && is_passed answer key) floor all image (start all number) ≤ suc (count_by (λ (e : Entry). is_stepped low high answer e.key) t.entries)
   owed_one all number high answer o t is held =
       let left = ap (count_by (λ (e : Entry). is_on_way low high answer e.key)) (left_of all number o t is held) in
@@ -99,8 +98,8 @@ module _ (blocks : StandingBlocks) (walks : StandingWalks) (spelling : Spelling)
   -- ---- all that are opened between two bounds that are not crossed
 
   module _ (high : Bytes) (order : is_before high low ≡ false) where
-    admits_it : (o : Opened) (t : Table) → TableAgrees spelling settings o t image → admits_keys low (Some high) o ≡ admits_range settings low high t
-    admits_it o t held = ap (λ (b : Bool). not b && ranged o.filter.real_bits o.filter.leaves low high) order ∙ ranges_same spelling settings image o t held low high
+    admits_it : (o : Opened) (t : Table) → TableAgrees spelling o t image → admits_keys low (Some high) o ≡ admits_range low high t
+    admits_it o t held = ap (λ (b : Bool). not b && ranged o.filter.real_bits o.filter.leaves low high) order ∙ ranges_same spelling image o t held low high
 
     module _ (answer : Option (Bytes × Bytes)) where
       abbrev bound_of : Table → ℕ
@@ -109,18 +108,18 @@ module _ (blocks : StandingBlocks) (walks : StandingWalks) (spelling : Spelling)
       abbrev owed_in : List Opened → ℕ → ℕ
       owed_in all number = owed (λ (key : Bytes). is_up_to (Some high) key && is_passed answer key) floor all image (start all number)
 
-      owed_behind : (front opened : List Opened) (tables : List Table) → TablesAgree spelling settings opened tables image
-          → sum_by (owed_in (front ++ opened)) (numbers_admitting low (Some high) opened) ≤ sum_by bound_of (filter (admits_range settings low high) tables)
+      owed_behind : (front opened : List Opened) (tables : List Table) → TablesAgree spelling opened tables image
+          → sum_by (owed_in (front ++ opened)) (numbers_admitting low (Some high) opened) ≤ sum_by bound_of (filter (admits_range low high) tables)
       owed_behind front [] [] held = omega arith
       owed_behind front [] (t ∷ tables) held = elim held [ ]
       owed_behind front (o ∷ opened) [] held = elim held [ ]
       owed_behind front (o ∷ opened) (t ∷ tables) held =
-          by_test (subst (λ (all : List Opened). sum_by (owed_in all) (numbers_admitting low (Some high) opened) ≤ sum_by bound_of (filter (admits_range settings low high) tables))
+          by_test (subst (λ (all : List Opened). sum_by (owed_in all) (numbers_admitting low (Some high) opened) ≤ sum_by bound_of (filter (admits_range low high) tables))
           (append_assoc front (o ∷ []) opened) (owed_behind (front ++ o ∷ []) opened tables held.1))
-          (admits_range settings low high t) refl
+          (admits_range low high t) refl
         where
-          by_test : sum_by (owed_in (front ++ o ∷ opened)) (numbers_admitting low (Some high) opened) ≤ sum_by bound_of (filter (admits_range settings low high) tables) → (yes : Bool) → admits_range settings low high t ≡ yes
-              → sum_by (owed_in (front ++ o ∷ opened)) (numbers_admitting low (Some high) (o ∷ opened)) ≤ sum_by bound_of (cond yes (t ∷ filter (admits_range settings low high) tables) (filter (admits_range settings low high) tables))
+          by_test : sum_by (owed_in (front ++ o ∷ opened)) (numbers_admitting low (Some high) opened) ≤ sum_by bound_of (filter (admits_range low high) tables) → (yes : Bool) → admits_range low high t ≡ yes
+              → sum_by (owed_in (front ++ o ∷ opened)) (numbers_admitting low (Some high) (o ∷ opened)) ≤ sum_by bound_of (cond yes (t ∷ filter (admits_range low high) tables) (filter (admits_range low high) tables))
           by_test rest true is =
               let numbers : numbers_admitting low (Some high) (o ∷ opened) ≡ length opened ∷ numbers_admitting low (Some high) opened =
               ap (λ (b : Bool). cond b (length opened ∷ numbers_admitting low (Some high) opened) (numbers_admitting low (Some high) opened)) (admits_it o t held.0 ∙ is) in
@@ -129,7 +128,7 @@ module _ (blocks : StandingBlocks) (walks : StandingWalks) (spelling : Spelling)
                 rest,
                 ap (sum_by (owed_in (front ++ o ∷ opened))) numbers,
                 sum_by-cons (owed_in (front ++ o ∷ opened)) (length opened) (numbers_admitting low (Some high) opened),
-                sum_by-cons bound_of t (filter (admits_range settings low high) tables),
+                sum_by-cons bound_of t (filter (admits_range low high) tables),
                 owed_one (front ++ o ∷ opened) (length opened) (Some high) answer o t (numbered_at front o opened) held.0,
               )
           by_test rest false is =
@@ -138,19 +137,19 @@ module _ (blocks : StandingBlocks) (walks : StandingWalks) (spelling : Spelling)
               omega (arith, rest, ap (sum_by (owed_in (front ++ o ∷ opened))) numbers)
 
       -- one is read of each at least
-      some_behind : (opened : List Opened) (tables : List Table) → TablesAgree spelling settings opened tables image
-          → length (numbers_admitting low (Some high) opened) ≤ sum_by bound_of (filter (admits_range settings low high) tables)
+      some_behind : (opened : List Opened) (tables : List Table) → TablesAgree spelling opened tables image
+          → length (numbers_admitting low (Some high) opened) ≤ sum_by bound_of (filter (admits_range low high) tables)
       some_behind [] [] held = omega arith
       some_behind [] (t ∷ tables) held = elim held [ ]
       some_behind (o ∷ opened) [] held = elim held [ ]
-      some_behind (o ∷ opened) (t ∷ tables) held = by_test (some_behind opened tables held.1) (admits_range settings low high t) refl
+      some_behind (o ∷ opened) (t ∷ tables) held = by_test (some_behind opened tables held.1) (admits_range low high t) refl
         where
-          by_test : length (numbers_admitting low (Some high) opened) ≤ sum_by bound_of (filter (admits_range settings low high) tables) → (yes : Bool) → admits_range settings low high t ≡ yes
-              → length (numbers_admitting low (Some high) (o ∷ opened)) ≤ sum_by bound_of (cond yes (t ∷ filter (admits_range settings low high) tables) (filter (admits_range settings low high) tables))
+          by_test : length (numbers_admitting low (Some high) opened) ≤ sum_by bound_of (filter (admits_range low high) tables) → (yes : Bool) → admits_range low high t ≡ yes
+              → length (numbers_admitting low (Some high) (o ∷ opened)) ≤ sum_by bound_of (cond yes (t ∷ filter (admits_range low high) tables) (filter (admits_range low high) tables))
           by_test rest true is =
               let numbers : numbers_admitting low (Some high) (o ∷ opened) ≡ length opened ∷ numbers_admitting low (Some high) opened =
               ap (λ (b : Bool). cond b (length opened ∷ numbers_admitting low (Some high) opened) (numbers_admitting low (Some high) opened)) (admits_it o t held.0 ∙ is) in
-              omega (arith, rest, ap (λ (l : List ℕ). length l) numbers, sum_by-cons bound_of t (filter (admits_range settings low high) tables))
+              omega (arith, rest, ap (λ (l : List ℕ). length l) numbers, sum_by-cons bound_of t (filter (admits_range low high) tables))
           by_test rest false is =
               let numbers : numbers_admitting low (Some high) (o ∷ opened) ≡ numbers_admitting low (Some high) opened =
               ap (λ (b : Bool). cond b (length opened ∷ numbers_admitting low (Some high) opened) (numbers_admitting low (Some high) opened)) (admits_it o t held.0 ∙ is) in
@@ -175,9 +174,9 @@ sum_mapped : {A B : Type 0} (f : B → ℕ) (g : A → B) (xs : List A) → sum_
 sum_mapped f g [] = refl
 sum_mapped f g (x ∷ xs) = omega (arith, sum_by-cons f (g x) (map g xs), sum_by-cons (λ x. f (g x)) x xs, sum_mapped f g xs)
 
-module _ (blocks : StandingBlocks) (walks : StandingWalks) (spelling : Spelling) (s : State) (image : Image) (low : Bytes) (opened : List Opened) (held : TablesAgree spelling s.settings opened s.tables image) where
+module _ (blocks : StandingBlocks) (walks : StandingWalks) (spelling : Spelling) (s : State) (image : Image) (low : Bytes) (opened : List Opened) (held : TablesAgree spelling opened s.tables image) where
   abbrev starts : Option Bytes → List TableWalk
-  starts high = map (start blocks walks spelling s.settings image low opened) (numbers_admitting low high opened)
+  starts high = map (start blocks walks spelling image low opened) (numbers_admitting low high opened)
 
   abbrev owed_on_way : Bytes → TableWalk → ℕ
   owed_on_way high = owed (λ (key : Bytes). is_up_to (Some high) key && is_passed (seek (state_map s) low (Some high)) key) (record { key = low; passed = false }) opened image
@@ -187,22 +186,22 @@ module _ (blocks : StandingBlocks) (walks : StandingWalks) (spelling : Spelling)
   owed_bound high = by_order (is_before high low) refl
     where
       by_order : (crossed : Bool) → is_before high low ≡ crossed
-          → sum_by (owed_on_way high) (starts (Some high)) ≤ cond crossed 0 (sum_by (λ (t : Table). suc (stepped (state_map s) low high t)) (filter (admits_range s.settings low high) s.tables))
-      by_order true is = omega (arith, ap (λ (l : List ℕ). sum_by (owed_on_way high) (map (start blocks walks spelling s.settings image low opened) l)) (none_crossed low high is opened))
+          → sum_by (owed_on_way high) (starts (Some high)) ≤ cond crossed 0 (sum_by (λ (t : Table). suc (stepped (state_map s) low high t)) (filter (admits_range low high) s.tables))
+      by_order true is = omega (arith, ap (λ (l : List ℕ). sum_by (owed_on_way high) (map (start blocks walks spelling image low opened) l)) (none_crossed low high is opened))
       by_order false is =
           omega (
             arith,
-            sum_mapped (owed_on_way high) (start blocks walks spelling s.settings image low opened) (numbers_admitting low (Some high) opened),
-            owed_behind blocks walks spelling s.settings image low high is (seek (state_map s) low (Some high)) [] opened s.tables held,
+            sum_mapped (owed_on_way high) (start blocks walks spelling image low opened) (numbers_admitting low (Some high) opened),
+            owed_behind blocks walks spelling image low high is (seek (state_map s) low (Some high)) [] opened s.tables held,
           )
 
   pub may_read : (high : Option Bytes) → 1 ≤ length (numbers_admitting low high opened) → MayRead s low high
   may_read None some = λ none.
-      omega (arith, some, few_numbers low None opened, as_many spelling s.settings image opened s.tables held, ap (λ (ts : List Table). length ts) none)
+      omega (arith, some, few_numbers low None opened, as_many spelling image opened s.tables held, ap (λ (ts : List Table). length ts) none)
   may_read (Some high) some = by_order (is_before high low) refl
     where
       by_order : (crossed : Bool) → is_before high low ≡ crossed
-          → 0 < cond crossed 0 (sum_by (λ (t : Table). suc (stepped (state_map s) low high t)) (filter (admits_range s.settings low high) s.tables))
+          → 0 < cond crossed 0 (sum_by (λ (t : Table). suc (stepped (state_map s) low high t)) (filter (admits_range low high) s.tables))
       by_order true is = absurd (omega (arith, some, ap (λ (l : List ℕ). length l) (none_crossed low high is opened)))
       by_order false is =
-          omega (arith, some, some_behind blocks walks spelling s.settings image low high is (seek (state_map s) low (Some high)) opened s.tables held)
+          omega (arith, some, some_behind blocks walks spelling image low high is (seek (state_map s) low (Some high)) opened s.tables held)

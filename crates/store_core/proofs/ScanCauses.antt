@@ -13,7 +13,6 @@ use Rattle.block_model.specs.Places.{byte_of_page}
 use Rattle.disk_trait.specs.declared.fault.DiskFault.{DiskFault}
 use Rattle.entry_model.specs.Entries.{Entry}
 use Rattle.filter_api.specs.Spellings.{Spelling}
-use Rattle.filter_api.specs.declared.settings.Settings.{Settings}
 use Rattle.map_model.specs.SortedMap.{Bytes, Map}
 use Rattle.store_core.specs.Faults.{of_table_fault}
 use Rattle.store_core.specs.Getting.{IsLookFault, IsUndamaged}
@@ -103,15 +102,15 @@ told_as P (Ok v) why told is = tt
 told_as P (Err e) why told is = subst P (sym told) is
 
 -- a block of a table that stands there is not damaged
-held_at : (spelling : Spelling) (settings : Settings) (image : Image) (opened : List Opened) (states : List Table) → TablesAgree spelling settings opened states image → (place : ℕ) (t : Opened) → slice_get opened place ≡ Some t
-    → (blocks : List (List Entry)) × StandsThere spelling settings t blocks image
-held_at spelling settings image [] [] held place t is = absurd cc
-held_at spelling settings image [] (s ∷ states) held place t is = elim held [ ]
-held_at spelling settings image (o ∷ opened) [] held place t is = elim held [ ]
-held_at spelling settings image (o ∷ opened) (s ∷ states) held zero t is =
+held_at : (spelling : Spelling) (image : Image) (opened : List Opened) (states : List Table) → TablesAgree spelling opened states image → (place : ℕ) (t : Opened) → slice_get opened place ≡ Some t
+    → (blocks : List (List Entry)) × StandsThere spelling t blocks image
+held_at spelling image [] [] held place t is = absurd cc
+held_at spelling image [] (s ∷ states) held place t is = elim held [ ]
+held_at spelling image (o ∷ opened) [] held place t is = elim held [ ]
+held_at spelling image (o ∷ opened) (s ∷ states) held zero t is =
     let same : o ≡ t = cc in
-    (held.0.blocks, subst (λ (x : Opened). StandsThere spelling settings x held.0.blocks image) same held.0.stands)
-held_at spelling settings image (o ∷ opened) (s ∷ states) held (suc place) t is = held_at spelling settings image opened states held.1 place t is
+    (held.0.blocks, subst (λ (x : Opened). StandsThere spelling x held.0.blocks image) same held.0.stands)
+held_at spelling image (o ∷ opened) (s ∷ states) held (suc place) t is = held_at spelling image opened states held.1 place t is
 
 undamaged_of : (why : TableFault) → IsNoDamage why → IsUndamaged (of_table_fault why)
 undamaged_of table.Memory is = tt
@@ -121,8 +120,8 @@ undamaged_of (table.Damaged d) is = absurd is
 pub no_damage : StandingBlocks → (spelling : Spelling) (scan : ScanWalk) (m : Map) (image : Image) → StillComes spelling scan m image → (which : List ℕ) (why : TableFault)
     → SomeBlock scan.tables which (λ t n. IsGetFault t n image why) → IsUndamaged (of_table_fault why)
 no_damage laws spelling scan m image shows which why is =
-    let there = held_at spelling shows.settings image scan.tables shows.states shows.held (length scan.tables - 1 - is.0) is.2.0 is.2.2 in
-    let read = laws spelling shows.settings is.2.0 there.0 image there.1 in
+    let there = held_at spelling image scan.tables shows.states shows.held (length scan.tables - 1 - is.0) is.2.0 is.2.2 in
+    let read = laws spelling is.2.0 there.0 image there.1 in
     undamaged_of why (read.no_damage is.2.1 why (omega (arith, is.2.3, read.many)) is.2.4)
 
 pub not_ended : (left : Option ℕ) → is_ended left ≡ false → left ≡ Some 0 → ⊥

@@ -72,23 +72,22 @@ module _ (laws : MergedLaws) (standing : StandingMerges) (blocks : StandingBlock
   merge = made_merge low high store.tables store.memory.entries
 
   abbrev opened : List (List (List Entry))
-  opened = blocks_opened spelling s.settings image low high store.tables s.tables seen.under.tables
+  opened = blocks_opened spelling image low high store.tables s.tables seen.under.tables
 
   whole : MergesAreWhole (numbers_admitting low high store.tables) store.tables (Some store.memory.entries) low false image opened
-  whole = standing spelling s.settings store.tables image (numbers_admitting low high store.tables) opened (Some store.memory.entries) low false
-      (opened_stand spelling s.settings image low high store.tables s.tables seen.under.tables)
+  whole = standing spelling store.tables image (numbers_admitting low high store.tables) opened (Some store.memory.entries) low false
+      (opened_stand spelling image low high store.tables s.tables seen.under.tables)
       (subst KeysRise (sym seen.memory) (newest_entries_rise s.log))
 
   made_pairs : pairs_up_to high (rows_left merge store.tables image) ≡ between (state_map s) low high
   made_pairs =
       ap (pairs_up_to high) (whole.rows
       ∙ ap (λ (entries : List Entry). entries_from (merged_rows (entries ∷ map (λ (b : List (List Entry)). joined b) opened)) low) seen.memory
-      ∙ ap (λ (lists : List (List Entry)). entries_from (merged_rows (memory s ∷ lists)) low) (blocks_joined spelling s.settings image low high store.tables s.tables seen.under.tables))
+      ∙ ap (λ (lists : List (List Entry)). entries_from (merged_rows (memory s ∷ lists)) low) (blocks_joined spelling image low high store.tables s.tables seen.under.tables))
       ∙ state_pairs laws spelling filter_bytes s image low low_bytes high high_bytes seen.sound store.tables seen.under.tables
 
   pub made_shows : (scan : ScanWalk) (most : Option ℕ) → scan ≡ made_scan low high store.tables store.memory.entries most → StillComes spelling scan (at_most most (between (state_map s) low high)) image
   made_shows scan most is = subst (λ (w : ScanWalk). StillComes spelling w (at_most most (between (state_map s) low high)) image) (sym is) (record {
-    settings = s.settings;
     states = s.tables;
     held = seen.under.tables;
     sound = whole.sound;

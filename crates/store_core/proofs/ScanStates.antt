@@ -12,7 +12,6 @@ use Rattle.entry_model.proofs.Maps.{entries_rise}
 use Rattle.entry_model.specs.Entries.{Entry, live}
 use Rattle.entry_model.specs.Newest.{KeysRise, entries_from, lookup}
 use Rattle.filter_api.specs.Spellings.{Spelling}
-use Rattle.filter_api.specs.declared.settings.Settings.{Settings}
 use Rattle.filter_model.specs.Answers.{ranged}
 use Rattle.map_model.specs.Slices.{between, is_before, is_between, is_up_to}
 use Rattle.map_model.specs.SortedMap.{Bytes, Map, get}
@@ -66,7 +65,7 @@ numbered_at front o older =
     get_behind [] o older = refl
     get_behind (x ∷ front) o older = get_behind front o older
 
-module _ (spelling : Spelling) (settings : Settings) (image : Image) (low : Bytes) where
+module _ (spelling : Spelling) (image : Image) (low : Bytes) where
   -- ---- a table that is not opened has no key between the bounds
 
   module _ (low_bytes : IsBytes low) where
@@ -74,18 +73,18 @@ module _ (spelling : Spelling) (settings : Settings) (image : Image) (low : Byte
     not_crossed high key inside true is = absurd (crossed_key low high key is inside)
     not_crossed high key inside false is = refl
 
-    denied : (high : Option Bytes) → IsHighOfBytes high → (key : Bytes) → is_between low high key ≡ true → (o : Opened) (t : Table) → TableAgrees spelling settings o t image → IsSoundTable t
+    denied : (high : Option Bytes) → IsHighOfBytes high → (key : Bytes) → is_between low high key ≡ true → (o : Opened) (t : Table) → TableAgrees spelling o t image → IsSoundTable t
         → admits_keys low high o ≡ false → (said : Option (Option Bytes)) → lookup t.entries key ≡ said → said ≡ None
     denied None high_bytes key inside o t held sound closed said is = absurd (false≢true (sym closed))
     denied (Some high) high_bytes key inside o t held sound closed None is = refl
     denied (Some high) high_bytes key inside o t held sound closed (Some value) is =
         let order = not_crossed high key inside (is_before high low) refl in
-        let admitted = ranges_same spelling settings image o t held low high ∙ range_admitted settings t low high key value sound low_bytes high_bytes order is inside in
+        let admitted = ranges_same spelling image o t held low high ∙ range_admitted t low high key value sound low_bytes high_bytes order is inside in
         absurd (false≢true (sym closed ∙ ap (λ (b : Bool). not b && ranged o.filter.real_bits o.filter.leaves low high) order ∙ admitted))
 
     -- so those that are opened say of such a key what all say
     pub opened_say : (high : Option Bytes) → IsHighOfBytes high → (key : Bytes) → is_between low high key ≡ true → (opened : List Opened) (tables : List Table)
-        → TablesAgree spelling settings opened tables image → AllByRecursion IsSoundTable tables → first_found (entries_opened low high opened tables) key ≡ first_found (lists_of tables) key
+        → TablesAgree spelling opened tables image → AllByRecursion IsSoundTable tables → first_found (entries_opened low high opened tables) key ≡ first_found (lists_of tables) key
     opened_say high high_bytes key inside [] [] held sound = refl
     opened_say high high_bytes key inside [] (t ∷ tables) held sound = elim held [ ]
     opened_say high high_bytes key inside (o ∷ opened) [] held sound = elim held [ ]
@@ -108,13 +107,13 @@ module _ (spelling : Spelling) (settings : Settings) (image : Image) (low : Byte
     | false ↦ opened_rise high opened tables sound.1
   ]
 
-  abbrev pub blocks_opened : (high : Option Bytes) (opened : List Opened) (tables : List Table) → TablesAgree spelling settings opened tables image → List (List (List Entry))
+  abbrev pub blocks_opened : (high : Option Bytes) (opened : List Opened) (tables : List Table) → TablesAgree spelling opened tables image → List (List (List Entry))
   blocks_opened high [] [] held = []
   blocks_opened high [] (t ∷ tables) held = []
   blocks_opened high (o ∷ opened) [] held = []
   blocks_opened high (o ∷ opened) (t ∷ tables) held = cond (admits_keys low high o) (held.0.blocks ∷ blocks_opened high opened tables held.1) (blocks_opened high opened tables held.1)
 
-  pub blocks_joined : (high : Option Bytes) (opened : List Opened) (tables : List Table) (held : TablesAgree spelling settings opened tables image)
+  pub blocks_joined : (high : Option Bytes) (opened : List Opened) (tables : List Table) (held : TablesAgree spelling opened tables image)
       → map (λ (b : List (List Entry)). joined b) (blocks_opened high opened tables held) ≡ entries_opened low high opened tables
   blocks_joined high [] [] held = refl
   blocks_joined high [] (t ∷ tables) held = elim held [ ]
@@ -122,27 +121,27 @@ module _ (spelling : Spelling) (settings : Settings) (image : Image) (low : Byte
   blocks_joined high (o ∷ opened) (t ∷ tables) held = elim (admits_keys low high o) as (λ b.
       map (λ (b : List (List Entry)). joined b) (cond b (held.0.blocks ∷ blocks_opened high opened tables held.1) (blocks_opened high opened tables held.1))
       ≡ cond b (t.entries ∷ entries_opened low high opened tables) (entries_opened low high opened tables)) [
-        | true ↦ λ i. sym (held_entries spelling settings o t image held.0) i ∷ blocks_joined high opened tables held.1 i
+        | true ↦ λ i. sym (held_entries spelling o t image held.0) i ∷ blocks_joined high opened tables held.1 i
         | false ↦ blocks_joined high opened tables held.1
       ]
 
   -- by their numbers, with those before them
-  stand_behind : (high : Option Bytes) (front opened : List Opened) (tables : List Table) (held : TablesAgree spelling settings opened tables image)
-      → NumberedStand spelling settings (front ++ opened) image (numbers_admitting low high opened) (blocks_opened high opened tables held)
+  stand_behind : (high : Option Bytes) (front opened : List Opened) (tables : List Table) (held : TablesAgree spelling opened tables image)
+      → NumberedStand spelling (front ++ opened) image (numbers_admitting low high opened) (blocks_opened high opened tables held)
   stand_behind high front [] [] held = tt
   stand_behind high front [] (t ∷ tables) held = elim held [ ]
   stand_behind high front (o ∷ opened) [] held = elim held [ ]
   stand_behind high front (o ∷ opened) (t ∷ tables) held =
-      let rest = subst (λ (all : List Opened). NumberedStand spelling settings all image (numbers_admitting low high opened) (blocks_opened high opened tables held.1))
+      let rest = subst (λ (all : List Opened). NumberedStand spelling all image (numbers_admitting low high opened) (blocks_opened high opened tables held.1))
       (append_assoc front (o ∷ []) opened) (stand_behind high (front ++ o ∷ []) opened tables held.1) in
-      elim (admits_keys low high o) as (λ b. NumberedStand spelling settings (front ++ o ∷ opened) image (cond b (length opened ∷ numbers_admitting low high opened) (numbers_admitting low high opened))
+      elim (admits_keys low high o) as (λ b. NumberedStand spelling (front ++ o ∷ opened) image (cond b (length opened ∷ numbers_admitting low high opened) (numbers_admitting low high opened))
       (cond b (held.0.blocks ∷ blocks_opened high opened tables held.1) (blocks_opened high opened tables held.1))) [
         | true ↦ ((o, numbered_at front o opened, held.0.stands), rest)
         | false ↦ rest
       ]
 
-  pub opened_stand : (high : Option Bytes) (opened : List Opened) (tables : List Table) (held : TablesAgree spelling settings opened tables image)
-      → NumberedStand spelling settings opened image (numbers_admitting low high opened) (blocks_opened high opened tables held)
+  pub opened_stand : (high : Option Bytes) (opened : List Opened) (tables : List Table) (held : TablesAgree spelling opened tables image)
+      → NumberedStand spelling opened image (numbers_admitting low high opened) (blocks_opened high opened tables held)
   opened_stand high opened tables held = stand_behind high [] opened tables held
 
 -- ---- the numbers are those of tables
@@ -167,17 +166,17 @@ merged_say laws (entries ∷ older) key rise =
     ∙ ap (option_or (lookup entries key)) (merged_say laws older key rise.1)
 
 module _ (laws : MergedLaws) (spelling : Spelling) (filter_bytes : FilterBytes) (s : State) (image : Image) (low : Bytes) (low_bytes : IsBytes low) (high : Option Bytes) (high_bytes : IsHighOfBytes high)
-    (sound : IsSound filter_bytes s) (opened : List Opened) (held : TablesAgree spelling s.settings opened s.tables image) where
+    (sound : IsSound filter_bytes s) (opened : List Opened) (held : TablesAgree spelling opened s.tables image) where
   abbrev pub all_sources : List (List Entry)
   all_sources = memory s ∷ entries_opened low high opened s.tables
 
   all_rise : AllRise all_sources
-  all_rise = (newest_entries_rise s.log, opened_rise spelling s.settings image low high opened s.tables sound.tables)
+  all_rise = (newest_entries_rise s.log, opened_rise spelling image low high opened s.tables sound.tables)
 
   rows_say : (key : Bytes) → is_between low high key ≡ true → live (lookup (merged_rows all_sources) key) ≡ get (state_map s) key
   rows_say key inside =
       ap live (merged_say laws all_sources key all_rise
-      ∙ ap (option_or (lookup (memory s) key)) (opened_say spelling s.settings image low low_bytes high high_bytes key inside opened s.tables held sound.tables))
+      ∙ ap (option_or (lookup (memory s) key)) (opened_say spelling image low low_bytes high high_bytes key inside opened s.tables held sound.tables))
       ∙ sym (view_says filter_bytes s key sound)
 
   -- the pairs of the rows between the bounds are those of the state's map

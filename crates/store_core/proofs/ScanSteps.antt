@@ -154,7 +154,7 @@ module _ (tells : Bool) (so : IsTrue tells) (spelling : Spelling) (image : Image
   shows_ended now is ended =
       let none = sym shows.pairs_are ∙ none_of old.left ended (pairs_in old.merge) in
       subst (λ (w : ScanWalk). (w.now ≡ first_pair m) × StillComes spelling w (drop 1 m) image) (sym is)
-      (sym (ap first_pair none), record { settings = shows.settings; states = shows.states; held = shows.held; sound = shows.sound; pairs_are = none_of old.left ended (pairs_in old.merge) ∙ sym (ap (drop 1) none) })
+      (sym (ap first_pair none), record { states = shows.states; held = shows.held; sound = shows.sound; pairs_are = none_of old.left ended (pairs_in old.merge) ∙ sym (ap (drop 1) none) })
     where
       none_of : (left : Option ℕ) → is_ended left ≡ true → (pairs : Map) → at_most left pairs ≡ []
       none_of None ended pairs = absurd (false≢true ended)
@@ -164,7 +164,6 @@ module _ (tells : Bool) (so : IsTrue tells) (spelling : Spelling) (image : Image
   -- at a fault they are still to come
   pub shows_still : (next : Merge) (now : ScanWalk) → SourcesStay tells old.tables image old.merge next → pairs_in next ≡ pairs_in old.merge → now ≡ record old { merge = next; now = None } → StillComes spelling now m image
   shows_still next now kept same is = subst (λ (w : ScanWalk). StillComes spelling w m image) (sym is) (record {
-    settings = shows.settings;
     states = shows.states;
     held = shows.held;
     sound = kept.sound so shows.sound;
@@ -178,7 +177,6 @@ module _ (tells : Bool) (so : IsTrue tells) (spelling : Spelling) (image : Image
   shows_on next now found left left_is kept going some same is = subst (λ (w : ScanWalk). (w.now ≡ first_pair m) × StillComes spelling w (drop 1 m) image) (sym is) (
     first_of old.left going found (pair_in next.now) refl (pairs_in next) some ∙ ap first_pair whole,
     record {
-      settings = shows.settings;
       states = shows.states;
       held = shows.held;
       sound = kept.sound so shows.sound;

@@ -41,7 +41,7 @@ with_same s job here = ap (λ (j : Option Job). record s { job = j }) here
 
 -- an image is ready for another job, where what that has written stands
 pub ready_with : (spelling : Spelling) (slot other : ℕ) (said : Bool) (v : Version) (s : State) (job : Job) (image : Image)
-    → AllByRecursion (StandsInExtent spelling s.settings image) (job.written ++ s.kept) → IsReady spelling slot other said v s image → IsReady spelling slot other said v (with_job s job) image
+    → AllByRecursion (StandsInExtent spelling image) (job.written ++ s.kept) → IsReady spelling slot other said v s image → IsReady spelling slot other said v (with_job s job) image
 ready_with spelling slot other said v s job image stand ready = record { current = ready.current; gate = ready.gate; named = ready.named; unnamed = stand }
 
 -- ---- the one that runs
@@ -83,8 +83,8 @@ module _ (spelling : Spelling) (store : StoreValue) (s : State) where
 
   -- ---- one that begins
 
-  stands_with : (plan : Plan) (image : Image) → s.job ≡ None → Under image → AllByRecursion (StandsInExtent spelling s.settings image) ((started plan).written ++ s.kept)
-  stands_with plan image none under = subst (λ (j : Option Job). AllByRecursion (StandsInExtent spelling s.settings image) (written_by j ++ s.kept)) none under.ready.unnamed
+  stands_with : (plan : Plan) (image : Image) → s.job ≡ None → Under image → AllByRecursion (StandsInExtent spelling image) ((started plan).written ++ s.kept)
+  stands_with plan image none under = subst (λ (j : Option Job). AllByRecursion (StandsInExtent spelling image) (written_by j ++ s.kept)) none under.ready.unnamed
 
   begins_on : BegunFollows → (p : PlanByNumbers) (plan : Plan) (set : Settings) (image : Image) → s.job ≡ None → Under image → MayStart store.tables p → IsPlanOf s.tables (Some p) (Some plan)
       → set ≡ settings_of store.manifest.version → RepresentsOn spelling store.manifest store.tables (Some (begun p set store.tables)) (with_job s (started plan)) image
@@ -112,13 +112,13 @@ not_chosen tables None is = refl
 not_chosen tables (Some plan) is = absurd is
 
 -- tables that stand agree with those of the state
-pub all_agree : StandingAgrees → (spelling : Spelling) (settings : Settings) (image : Image) (opened : List Opened) (tables : List Table) → TablesAgree spelling settings opened tables image → Agree opened tables
-all_agree law spelling settings image [] [] held = tt
-all_agree law spelling settings image [] (t ∷ tables) held = absurd held
-all_agree law spelling settings image (o ∷ opened) [] held = absurd held
-all_agree law spelling settings image (o ∷ opened) (t ∷ tables) held = (
-  subst (Agrees o) (sym held.0.table_is) (law spelling settings o held.0.blocks image held.0.stands),
-  all_agree law spelling settings image opened tables held.1,
+pub all_agree : StandingAgrees → (spelling : Spelling) (image : Image) (opened : List Opened) (tables : List Table) → TablesAgree spelling opened tables image → Agree opened tables
+all_agree law spelling image [] [] held = tt
+all_agree law spelling image [] (t ∷ tables) held = absurd held
+all_agree law spelling image (o ∷ opened) [] held = absurd held
+all_agree law spelling image (o ∷ opened) (t ∷ tables) held = (
+  subst (Agrees o) (sym held.0.table_is) (law spelling o held.0.blocks image held.0.stands),
+  all_agree law spelling image opened tables held.1,
 )
 
 -- ---- whatever the device holds
@@ -157,7 +157,7 @@ module _ (spelling : Spelling) (store : StoreValue) (s : State) (agrees : Standi
     (none : store.job ≡ None) (image : Image) (under : RepresentsOn spelling store.manifest store.tables store.job s image) where
   -- the one that begins
   pub next_of_begun : (found : Option JobValue) → IsBegunAmong store.tables set found → IsNext spelling store s found
-  next_of_begun None is = next_none spelling store s image none under (is s.tables (all_agree agrees spelling s.settings image store.tables s.tables under.tables))
+  next_of_begun None is = next_none spelling store s image none under (is s.tables (all_agree agrees spelling image store.tables s.tables under.tables))
   next_of_begun (Some m) is =
       subst (λ (x : JobValue). IsNext spelling store s (Some x)) (sym is.2)
-      (next_begins spelling store s begins is.0 set image none under is.1 (is.3 s.tables (all_agree agrees spelling s.settings image store.tables s.tables under.tables)) same)
+      (next_begins spelling store s begins is.0 set image none under is.1 (is.3 s.tables (all_agree agrees spelling image store.tables s.tables under.tables)) same)

@@ -17,6 +17,7 @@ use Rattle.extent_model.proofs.Free.{apart_mutual}
 use Rattle.extent_model.proofs.Lists.{Pairs, all_pairs, pairs_of}
 use Rattle.extent_model.specs.Extents.{AreApart, AreLaid, Extent, IsOnDevice}
 use Rattle.filter_api.specs.Spellings.{Spelling}
+use Rattle.filter_api.specs.declared.settings.Settings.{Settings}
 use Rattle.filter_model.specs.Leaves.{Leaf}
 use Rattle.level_merge.specs.JobValue.{AreAllWritten, JobValue}
 use Rattle.level_merge.specs.Outputs.{extent_at}
@@ -59,9 +60,9 @@ laid_push pages es e laid on apart = record {
 
 -- ---- the row of an output
 
-row_of_table : (level first : ℕ) (entries : List Entry) (filter_bytes : Bytes) → level ≤ 6 → IsTable entries → IsTableRow (row_for level first entries filter_bytes)
+row_of_table : (level first : ℕ) (settings : Settings) (entries : List Entry) (filter_bytes : Bytes) → level ≤ 6 → IsTable entries → IsTableRow (row_for level first settings entries filter_bytes)
 unfolding row_for
-row_of_table level first entries filter_bytes small table = record {
+row_of_table level first settings entries filter_bytes small table = record {
   level = small;
   data_pages = omega (arith, table.some, entries_in_pages entries);
   index_pages = refl;
@@ -73,7 +74,7 @@ module _ (spelling : Spelling) (cutoff : ℕ → List Leaf → ℕ) (v : Version
   row_is_table : (row : Row) → old.output ≤ 6 → IsRowOf spelling cutoff old row → IsTableRow row
   row_is_table row small of =
       subst IsTableRow (sym of.row_is)
-      (row_of_table old.output row.first_page of.entries (made_filter spelling cutoff (record { settings = old.settings; entries = of.entries })) small of.table)
+      (row_of_table old.output row.first_page old.settings of.entries (made_filter spelling cutoff (record { settings = old.settings; entries = of.entries })) small of.table)
 
   module _ (pages : free.pages ≡ v.pages) (extents : IsPermutation (extents_with v old.outputs) free.extents) where
     laid_with : (row : Row) → AddsOutput spelling cutoff old new free after row → AreLaid v.pages (extents_with v new.outputs)

@@ -14,7 +14,6 @@ use Rattle.disk_trait.proofs.Moments.{carried, in_call, meanwhile_weaker, now_at
 use Rattle.extent_map.specs.Taken.{Taken}
 use Rattle.extent_model.specs.Extents.{AreApart, Extent}
 use Rattle.filter_api.specs.Spellings.{Spelling}
-use Rattle.filter_api.specs.declared.settings.Settings.{Settings}
 use Rattle.filter_model.specs.Leaves.{Leaf}
 use Rattle.image_model.proofs.Frames.{free_apart}
 use Rattle.image_model.specs.Stands.{StandsForMap}
@@ -50,18 +49,18 @@ pub all_in_order : (P : Extent → Type 0) (xs ys : List Extent) → IsPermutati
 all_in_order P xs ys same all = recursion_from_All P ys (All-permutation P xs ys same (All-from_recursion P xs all))
 
 -- open tables that stand on an image are tables that stand in their extents
-pub held_stand : (spelling : Spelling) (settings : Settings) (image : Image) (opened : List Opened) (tables : List Table) → TablesAgree spelling settings opened tables image
-    → AllByRecursion (StandsInExtent spelling settings image) tables
-held_stand spelling settings image [] [] held = tt
-held_stand spelling settings image [] (t ∷ tables) held = absurd held
-held_stand spelling settings image (o ∷ opened) [] held = absurd held
-held_stand spelling settings image (o ∷ opened) (t ∷ tables) held =
-    ((o.row, (held.0.blocks, held.0.stands.at, held.0.table_is)), held_stand spelling settings image opened tables held.1)
+pub held_stand : (spelling : Spelling) (image : Image) (opened : List Opened) (tables : List Table) → TablesAgree spelling opened tables image
+    → AllByRecursion (StandsInExtent spelling image) tables
+held_stand spelling image [] [] held = tt
+held_stand spelling image [] (t ∷ tables) held = absurd held
+held_stand spelling image (o ∷ opened) [] held = absurd held
+held_stand spelling image (o ∷ opened) (t ∷ tables) held =
+    ((o.row, (held.0.blocks, held.0.stands.at, held.0.table_is)), held_stand spelling image opened tables held.1)
 
-stand_with : (spelling : Spelling) (settings : Settings) (image : Image) (written kept : List Table) → kept ≡ [] → AllByRecursion (StandsInExtent spelling settings image) written
-    → AllByRecursion (StandsInExtent spelling settings image) (written ++ kept)
-stand_with spelling settings image [] kept none all = subst (AllByRecursion (StandsInExtent spelling settings image)) (sym none) tt
-stand_with spelling settings image (t ∷ written) kept none all = (all.0, stand_with spelling settings image written kept none all.1)
+stand_with : (spelling : Spelling) (image : Image) (written kept : List Table) → kept ≡ [] → AllByRecursion (StandsInExtent spelling image) written
+    → AllByRecursion (StandsInExtent spelling image) (written ++ kept)
+stand_with spelling image [] kept none all = subst (AllByRecursion (StandsInExtent spelling image)) (sym none) tt
+stand_with spelling image (t ∷ written) kept none all = (all.0, stand_with spelling image written kept none all.1)
 
 module _ (law : OtherImageIsFollowed) (spelling : Spelling) (cutoff : ℕ → List Leaf → ℕ) (store : StoreValue) (s : State) (job : Job) (old : JobValue) (a : World)
     (few : store.manifest.slot ≤ 1) (rows : rows_of store.tables ≡ store.manifest.version.rows) (current : a.leaves a.moment a.seen.held) (here : s.job ≡ Some job)
@@ -84,7 +83,7 @@ module _ (law : OtherImageIsFollowed) (spelling : Spelling) (cutoff : ℕ → Li
   pub now_follows : Follows spelling s store.tables a.seen.held old job
   now_follows = follows_on a.seen.held (tied.images a.seen.held current)
 
-  made_now : Now (TablesAgree spelling s.settings old.made job.written) a
+  made_now : Now (TablesAgree spelling old.made job.written) a
   made_now image left = made_held spelling s store.tables image old job (follows_on image (tied.images image left))
 
   -- ---- nothing is done
@@ -138,7 +137,7 @@ module _ (law : OtherImageIsFollowed) (spelling : Spelling) (cutoff : ℕ → Li
       -- ---- the job goes on
 
       module _ (said : Sliced) (to : JobProgress spelling (filter_bytes_of spelling cutoff) s job store.tables old new after a b said) where
-        later_made : Now (TablesAgree spelling s.settings new.made to.later.written) b
+        later_made : Now (TablesAgree spelling new.made to.later.written) b
         later_made = to.lasting made_now
 
         later_under : (image : Image) → b.leaves b.moment image → RepresentsOn spelling store.manifest store.tables (Some new) (with_job s to.later) image
@@ -147,7 +146,7 @@ module _ (law : OtherImageIsFollowed) (spelling : Spelling) (cutoff : ℕ → Li
             let made = later_made image left in
             record {
               ready = ready_with spelling (place_of store.manifest.slot) (other_place store.manifest.slot) store.manifest.other_open store.manifest.version s to.later image
-                  (stand_with spelling s.settings image to.later.written s.kept tied.none_kept (held_stand spelling s.settings image new.made to.later.written made)) under.ready;
+                  (stand_with spelling image to.later.written s.kept tied.none_kept (held_stand spelling image new.made to.later.written made)) under.ready;
               tables = under.tables;
               job = follows_as spelling s (with_job s to.later) store.tables image new to.later refl refl
                   (law spelling s store.tables b.seen.held image new to.later to.held under.tables made to.follows);

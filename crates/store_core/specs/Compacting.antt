@@ -135,7 +135,7 @@ IsCompactCause filter_bytes s old new (error.BadSettings field) = ⊥
 pub record AreAllMade (spelling : Spelling) (filter_bytes : FilterBytes) (s : State) (made : List Opened) (w : World) : Type 0 where
   pub tables : List Table
   pub placed_so : compact_tables filter_bytes s ≡ Ok tables
-  pub held : Now (TablesAgree spelling s.settings made tables) w
+  pub held : Now (TablesAgree spelling made tables) w
 
 -- they stand alone, under this version
 pub record StandAlone (spelling : Spelling) (filter_bytes : FilterBytes) (s : State) (m : Manifest) (opened : List Opened) (w : World) : Type 0 where

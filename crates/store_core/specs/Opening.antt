@@ -11,9 +11,7 @@ use Rattle.disk_trait.specs.declared.fault.DiskFault.{DiskFault}
 use Rattle.entry_model.specs.Entries.{Entry, filled}
 use Rattle.entry_model.specs.Newest.{newest_entries}
 use Rattle.filter_api.specs.Spellings.{Spelling}
-use Rattle.filter_api.specs.declared.settings.Settings.{Settings}
 use Rattle.image_model.specs.Opening.{FirstDamage, OpensWith, TablesBreak}
-use Rattle.image_model.specs.Stands.{settings_of}
 use Rattle.manifest.specs.Loading.{IsLoaded}
 use Rattle.manifest.specs.Manifest.{Manifest, place_of}
 use Rattle.manifest_model.specs.Slots.{IsNoStore}
@@ -32,35 +30,30 @@ use Rattle.table_file.specs.Search.{row_at}
 
 -- ---- tables
 
--- it is open, and its filter has the widths of the settings
-pub record IsWide (spelling : Spelling) (settings : Settings) (opened : Opened) (image : Image) : Type 0 where
-  pub is_open : IsOpen spelling opened image
-  pub hash_is : opened.filter.hash_bits ≡ settings.hash_bits
-  pub real_is : opened.filter.real_bits ≡ settings.real_bits
-
-abbrev pub AreOpened : Spelling → Settings → List Opened → Image → Type 0
-AreOpened spelling settings [] image = Unit {0}
-AreOpened spelling settings (opened ∷ more) image = IsWide spelling settings opened image × AreOpened spelling settings more image
+-- they are open, one after the other
+abbrev pub AreOpened : Spelling → List Opened → Image → Type 0
+AreOpened spelling [] image = Unit {0}
+AreOpened spelling (opened ∷ more) image = IsOpen spelling opened image × AreOpened spelling more image
 
 -- the level of an open table, and its least and its greatest key
 abbrev pub opened_range : Opened → KeyRange
 opened_range t = record { level = t.row.level; least = t.index.least; greatest = (row_at t.index.rows (length t.index.rows - 1)).last }
 
 -- the damage of the tables of some rows is the first of them
-abbrev pub IsTablesAnswer : Spelling → (Bytes → Fault) → Settings → List Row → Image → StoreError → Type 0
-IsTablesAnswer spelling first settings rows image error.Memory = Unit {0}
-IsTablesAnswer spelling first settings rows image (error.Device cause) = Unit {0}
-IsTablesAnswer spelling first settings rows image error.Stopped = ⊥
-IsTablesAnswer spelling first settings rows image (error.Limit limit) = ⊥
-IsTablesAnswer spelling first settings rows image (error.Full need gap) = ⊥
-IsTablesAnswer spelling first settings rows image (error.Damaged d) = TablesBreak spelling (filter_fault_of first) settings image d rows
-IsTablesAnswer spelling first settings rows image error.NotAStore = ⊥
-IsTablesAnswer spelling first settings rows image error.AlreadyAStore = ⊥
-IsTablesAnswer spelling first settings rows image (error.BadSettings field) = ⊥
+abbrev pub IsTablesAnswer : Spelling → (Bytes → Fault) → List Row → Image → StoreError → Type 0
+IsTablesAnswer spelling first rows image error.Memory = Unit {0}
+IsTablesAnswer spelling first rows image (error.Device cause) = Unit {0}
+IsTablesAnswer spelling first rows image error.Stopped = ⊥
+IsTablesAnswer spelling first rows image (error.Limit limit) = ⊥
+IsTablesAnswer spelling first rows image (error.Full need gap) = ⊥
+IsTablesAnswer spelling first rows image (error.Damaged d) = TablesBreak spelling (filter_fault_of first) image d rows
+IsTablesAnswer spelling first rows image error.NotAStore = ⊥
+IsTablesAnswer spelling first rows image error.AlreadyAStore = ⊥
+IsTablesAnswer spelling first rows image (error.BadSettings field) = ⊥
 
 -- of one row
-abbrev pub IsTableAnswer : Spelling → (Bytes → Fault) → Settings → Row → Image → StoreError → Type 0
-IsTableAnswer spelling first settings row image why = IsTablesAnswer spelling first settings (row ∷ []) image why
+abbrev pub IsTableAnswer : Spelling → (Bytes → Fault) → Row → Image → StoreError → Type 0
+IsTableAnswer spelling first row image why = IsTablesAnswer spelling first (row ∷ []) image why
 
 -- the fault of the ranges, by its place on the device in the slot in use
 abbrev pub IsRangesDamage : ℕ → Option Fault → Damage → Type 0
@@ -72,7 +65,7 @@ IsRangesDamage slot found d = (f : Fault) × (found ≡ Some f) × (d ≡ damage
 pub record IsVersionOpened (spelling : Spelling) (image : Image) (m : Manifest) (ts : List Opened) : Type 0 where
   pub loaded : IsLoaded image m
   pub rows : rows_of ts ≡ m.version.rows
-  pub tables : AreOpened spelling (settings_of m.version) ts image
+  pub tables : AreOpened spelling ts image
   pub ranges : ranges_fault (map opened_range ts) ≡ None
 
 -- The image opens with the version of the store, which stands in its slot, and with some log: the one in memory ends behind its
@@ -83,7 +76,7 @@ pub record IsOpenedAs (spelling : Spelling) (image : Image) (store : StoreValue)
   pub entries : List Entry
   pub opens : OpensWith spelling store.manifest.version entries image
   pub rows : rows_of store.tables ≡ store.manifest.version.rows
-  pub tables : AreOpened spelling (settings_of store.manifest.version) store.tables image
+  pub tables : AreOpened spelling store.tables image
   pub job : store.job ≡ None
   pub log : store.log.filled ≡ filled entries
   pub memory : store.memory.entries ≡ newest_entries entries

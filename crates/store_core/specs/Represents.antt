@@ -21,7 +21,7 @@ use Rattle.table_model.specs.Tables.{FilterBytes}
 -- merge that runs among them.
 pub record RepresentsOn (spelling : Spelling) (m : Manifest) (opened : List Opened) (running : Option JobValue) (s : State) (image : Image) : Type 0 where
   pub ready : IsReady spelling (place_of m.slot) (other_place m.slot) m.other_open m.version s image
-  pub tables : TablesAgree spelling s.settings opened s.tables image
+  pub tables : TablesAgree spelling opened s.tables image
   pub job : RunsAs spelling opened running s s.job image
 
 -- The state is sound; each image that a crash may leave now stands for it, as the store has it, with the merge that runs; the log

@@ -5,7 +5,6 @@ use Rattle.disk_trait.specs.Image.{Image}
 use Rattle.disk_trait.specs.World.{World}
 use Rattle.entry_model.specs.Entries.{Entry}
 use Rattle.filter_api.specs.Spellings.{Spelling}
-use Rattle.filter_api.specs.declared.settings.Settings.{Settings}
 use Rattle.filter_model.specs.Answers.{ranged}
 use Rattle.line_model.specs.Replies.{Reply}
 use Rattle.map_model.specs.Slices.{first_pair, is_before, is_up_to}
@@ -83,9 +82,8 @@ pairs_left scan image = at_most scan.left (pairs_up_to scan.high (rows_left scan
 
 -- On an image that has the tables, these pairs are still to come.
 pub record StillComes (spelling : Spelling) (scan : ScanWalk) (pairs : Map) (image : Image) : Type 0 where
-  pub settings : Settings
   pub states : List Table
-  pub held : TablesAgree spelling settings scan.tables states image
+  pub held : TablesAgree spelling scan.tables states image
   pub sound : IsSoundMerge scan.merge scan.tables image
   pub pairs_are : pairs_left scan image ≡ pairs
 

@@ -7,6 +7,7 @@ ghost use Rattle.entry_model.specs.Entries.{IsEntry};
 ghost use Rattle.image_model.specs.Stands.{StandsForMap};
 ghost use Rattle.key_base.specs.Limits.{last_epoch, max_tables};
 ghost use Rattle.line_model.specs.Requests.{Compact as compact_line};
+ghost use Rattle.filter_api.specs.Ranges.{IsRowInRange};
 ghost use Rattle.manifest_model.specs.Laws.{IsVersion, RowFits};
 ghost use Rattle.state_model.specs.State.{State, without_job};
 ghost use Rattle.state_model.specs.View.{state_map};
@@ -95,6 +96,7 @@ fn in_order<F: RangeFilter>(alloc: Global, made: Vec<Table<F>>) -> Result<Tables
 fn all_rows<F: RangeFilter>(alloc: Global, tables: &[Table<F>]) -> Result<Vec<Row>, AllocError>
     ensures rows { IfOk result (λ rows. rows.items ≡ rows_of tables.now) }
     ensures fits { IfOk result (λ rows. AllByRecursion RowFits rows.items) }
+    ensures range { IfOk result (λ rows. AllByRecursion IsRowInRange rows.items) }
 {
     let mut rows = Vec::with_capacity(alloc, tables.len())?;
     for table in tables {
@@ -112,6 +114,7 @@ fn compacted_version<F: RangeFilter>(
     requires sound { IsVersion version.now.version }
     ensures next { IfOk result (λ next. next ≡ compacted_manifest version.now (rows_of tables.now.tables)) }
     ensures fits { IfOk result (λ _. AllByRecursion RowFits (rows_of tables.now.tables)) }
+    ensures range { IfOk result (λ _. AllByRecursion IsRowInRange (rows_of tables.now.tables)) }
 {
     Ok(Version {
         settings: version.settings,

@@ -8,7 +8,6 @@ ghost use Rattle.block_model.specs.Laws.{joined};
 ghost use Rattle.disk_trait.specs.World.{ReadMoves};
 ghost use Rattle.entry_model.specs.Entries.{Entry, live};
 ghost use Rattle.entry_model.specs.Newest.{lookup};
-ghost use Rattle.filter_api.specs.declared.settings.Settings.{Settings};
 ghost use Rattle.map_model.specs.SortedMap.{Bytes, get};
 ghost use Rattle.state_model.specs.Bounds.{searched};
 ghost use Rattle.state_model.specs.State.{State};
@@ -78,7 +77,7 @@ fn read_in<F: RangeFilter, D: Disk>(
     ensures has { IfOk result (λ r. r.1 ≡ is_some (lookup (block_in (take r.0 buffer.new)) key.now)) }
     ensures length { length buffer.new ≡ length buffer.old }
     ensures bytes { IsTrue D.tells → IfOk result (λ r. take r.0 buffer.new ≡ bytes_at table.now block (D.world disk.old).seen.held) }
-    ensures undamaged { (settings : Settings) (blocks : List (List Entry)) → IsTrue D.tells → StandsThere F.spelling settings table.now blocks (D.world disk.old).seen.held → IfErr result IsNoDamage }
+    ensures undamaged { (blocks : List (List Entry)) → IsTrue D.tells → StandsThere F.spelling table.now blocks (D.world disk.old).seen.held → IfErr result IsNoDamage }
     ensures shown { IsTrue D.tells → IfErr result (IsBlockFault table.now key.now (D.world disk.old).seen.held) }
     ensures moves { ReadMoves 1 (D.world disk.old) (D.world disk.new) }
     ensures cause { IfErr result (IsLookFault (D.world disk.old) (D.world disk.new)) }
@@ -116,12 +115,12 @@ fn look_in<F: RangeFilter, D: Disk>(
     ensures unread { IfOk result (λ l. l.read ≡ None → buffer.new ≡ buffer.old) }
     ensures length { length buffer.new ≡ length buffer.old }
     ensures same { AreSame blocks.old blocks.new }
-    ensures answer { (settings : Settings) (parts : List (List Entry)) → IsTrue D.tells → StandsThere F.spelling settings table.now parts (D.world disk.old).seen.held
+    ensures answer { (parts : List (List Entry)) → IsTrue D.tells → StandsThere F.spelling table.now parts (D.world disk.old).seen.held
         → ((n : ℕ) (bytes : Bytes) → kept_of (number, n) blocks.old.kept ≡ Some bytes → SaysOf n bytes table.now (joined parts))
         → IfOk result (λ l. said_in l.found buffer.new blocks.new.kept key.now ≡ lookup (joined parts) key.now) }
-    ensures says { (settings : Settings) (parts : List (List Entry)) → IsTrue D.tells → StandsThere F.spelling settings table.now parts (D.world disk.old).seen.held
+    ensures says { (parts : List (List Entry)) → IsTrue D.tells → StandsThere F.spelling table.now parts (D.world disk.old).seen.held
         → IfOk result (λ l. IfSome l.read (λ r. SaysOf r.block (take r.size buffer.new) table.now (joined parts))) }
-    ensures undamaged { (settings : Settings) (parts : List (List Entry)) → IsTrue D.tells → StandsThere F.spelling settings table.now parts (D.world disk.old).seen.held → IfErr result IsNoDamage }
+    ensures undamaged { (parts : List (List Entry)) → IsTrue D.tells → StandsThere F.spelling table.now parts (D.world disk.old).seen.held → IfErr result IsNoDamage }
     ensures shown { IsTrue D.tells → IfErr result (IsBlockFault table.now key.now (D.world disk.old).seen.held) }
     ensures only_if_read { OnErr result (1 ≤ blocks_of_get (block_for table.now key.now)) }
     ensures moves { ReadMoves (reads_for blocks.old.kept number (block_for table.now key.now)) (D.world disk.old) (D.world disk.new) }
@@ -162,16 +161,16 @@ fn look_in_all<F: RangeFilter, D: Disk>(
     ensures unread { IfOk result (λ l. l.read ≡ None → buffer.new ≡ buffer.old) }
     ensures length { length buffer.new ≡ length buffer.old }
     ensures same { AreSame blocks.old blocks.new }
-    ensures answer { (settings : Settings) (states : List model.Table) → IsTrue D.tells → TablesAgree F.spelling settings tables.now states (D.world disk.old).seen.held → CacheAgrees blocks.old tables.now states
+    ensures answer { (states : List model.Table) → IsTrue D.tells → TablesAgree F.spelling tables.now states (D.world disk.old).seen.held → CacheAgrees blocks.old tables.now states
         → IfOk result (λ l. said_in l.found buffer.new blocks.new.kept key.now ≡ first_found (entries_by_table states) key.now) }
-    ensures says { (settings : Settings) (states : List model.Table) → IsTrue D.tells → TablesAgree F.spelling settings tables.now states (D.world disk.old).seen.held
+    ensures says { (states : List model.Table) → IsTrue D.tells → TablesAgree F.spelling tables.now states (D.world disk.old).seen.held
         → IfOk result (λ l. IfSome l.read (λ r. r.number < past_cache → BlockAgrees blocks.old.first (r.number, r.block) (take r.size buffer.new) tables.now states)) }
-    ensures undamaged { (settings : Settings) (states : List model.Table) → IsTrue D.tells → TablesAgree F.spelling settings tables.now states (D.world disk.old).seen.held → IfErr result IsNoDamage }
+    ensures undamaged { (states : List model.Table) → IsTrue D.tells → TablesAgree F.spelling tables.now states (D.world disk.old).seen.held → IfErr result IsNoDamage }
     ensures shown { IsTrue D.tells → IfErr result (IsFaultIn tables.now key.now (D.world disk.old).seen.held) }
-    ensures bounded { (settings : Settings) (states : List model.Table) → IsTrue D.tells → TablesAgree F.spelling settings tables.now states (D.world disk.old).seen.held → CacheAgrees blocks.old tables.now states
+    ensures bounded { (states : List model.Table) → IsTrue D.tells → TablesAgree F.spelling tables.now states (D.world disk.old).seen.held → CacheAgrees blocks.old tables.now states
         → (D.world disk.new).seen.reads ≤ (D.world disk.old).seen.reads + unkept blocks.old key.now tables.now states }
-    ensures only_if_read { (settings : Settings) (states : List model.Table) → IsTrue D.tells → TablesAgree F.spelling settings tables.now states (D.world disk.old).seen.held → CacheAgrees blocks.old tables.now states
-        → OnErr result (1 ≤ searched settings key.now states) }
+    ensures only_if_read { (states : List model.Table) → IsTrue D.tells → TablesAgree F.spelling tables.now states (D.world disk.old).seen.held → CacheAgrees blocks.old tables.now states
+        → OnErr result (1 ≤ searched key.now states) }
     ensures moves { ReadMoves (length tables.now) (D.world disk.old) (D.world disk.new) }
     ensures cause { IfErr result (IsLookFault (D.world disk.old) (D.world disk.new)) }
 {
@@ -220,18 +219,18 @@ fn look_and_keep<F: RangeFilter, D: Disk>(
     ensures place { IfOk result (λ found. IfSome found (λ spot. IsSpotIn spot buffer.new)) }
     ensures length { length buffer.new ≡ length buffer.old }
     ensures numbered { AreNumbered blocks.old (length tables.now) → AreNumbered blocks.new (length tables.now) }
-    ensures keeps { (settings : Settings) (states : List model.Table) → IsTrue D.tells → TablesAgree F.spelling settings tables.now states (D.world disk.old).seen.held → CacheAgrees blocks.old tables.now states
+    ensures keeps { (states : List model.Table) → IsTrue D.tells → TablesAgree F.spelling tables.now states (D.world disk.old).seen.held → CacheAgrees blocks.old tables.now states
         → CacheAgrees blocks.new tables.now states }
-    ensures answer { (settings : Settings) (states : List model.Table) → IsTrue D.tells → TablesAgree F.spelling settings tables.now states (D.world disk.old).seen.held → CacheAgrees blocks.old tables.now states
+    ensures answer { (states : List model.Table) → IsTrue D.tells → TablesAgree F.spelling tables.now states (D.world disk.old).seen.held → CacheAgrees blocks.old tables.now states
         → IfOk result (λ found. said_in found buffer.new blocks.new.kept key.now ≡ first_found (entries_by_table states) key.now) }
-    ensures undamaged { (settings : Settings) (states : List model.Table) → IsTrue D.tells → TablesAgree F.spelling settings tables.now states (D.world disk.old).seen.held → IfErr result IsNoDamage }
+    ensures undamaged { (states : List model.Table) → IsTrue D.tells → TablesAgree F.spelling tables.now states (D.world disk.old).seen.held → IfErr result IsNoDamage }
     ensures shown { IsTrue D.tells → IfErr result (IsFaultIn tables.now key.now (D.world disk.old).seen.held) }
-    ensures bounded { (settings : Settings) (states : List model.Table) → IsTrue D.tells → TablesAgree F.spelling settings tables.now states (D.world disk.old).seen.held → CacheAgrees blocks.old tables.now states
+    ensures bounded { (states : List model.Table) → IsTrue D.tells → TablesAgree F.spelling tables.now states (D.world disk.old).seen.held → CacheAgrees blocks.old tables.now states
         → (D.world disk.new).seen.reads ≤ (D.world disk.old).seen.reads + unkept blocks.old key.now tables.now states }
-    ensures within { (settings : Settings) (states : List model.Table) → IsTrue D.tells → TablesAgree F.spelling settings tables.now states (D.world disk.old).seen.held → CacheAgrees blocks.old tables.now states
-        → (D.world disk.new).seen.reads ≤ (D.world disk.old).seen.reads + searched settings key.now states }
-    ensures only_if_read { (settings : Settings) (states : List model.Table) → IsTrue D.tells → TablesAgree F.spelling settings tables.now states (D.world disk.old).seen.held → CacheAgrees blocks.old tables.now states
-        → OnErr result (1 ≤ searched settings key.now states) }
+    ensures within { (states : List model.Table) → IsTrue D.tells → TablesAgree F.spelling tables.now states (D.world disk.old).seen.held → CacheAgrees blocks.old tables.now states
+        → (D.world disk.new).seen.reads ≤ (D.world disk.old).seen.reads + searched key.now states }
+    ensures only_if_read { (states : List model.Table) → IsTrue D.tells → TablesAgree F.spelling tables.now states (D.world disk.old).seen.held → CacheAgrees blocks.old tables.now states
+        → OnErr result (1 ≤ searched key.now states) }
     ensures moves { ReadMoves (length tables.now) (D.world disk.old) (D.world disk.new) }
     ensures cause { IfErr result (IsLookFault (D.world disk.old) (D.world disk.new)) }
 {

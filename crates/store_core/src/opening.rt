@@ -14,7 +14,7 @@ ghost use Rattle.state_model.specs.State.{State};
 ghost use Rattle.store_core.specs.Caching.{none_cached};
 ghost use Rattle.store_core.specs.StoreValue.{rows_of};
 ghost use Rattle.store_core.specs.Answers.{IsFailure};
-ghost use Rattle.store_core.specs.Opening.{AreOpened, IsOpenFault, IsOpenRefusal, IsOpenAnswer, IsOpenedAs, IsRangesDamage, IsTableAnswer, IsTablesAnswer, IsVersionOpened, IsWide, opened_range};
+ghost use Rattle.store_core.specs.Opening.{AreOpened, IsOpenFault, IsOpenRefusal, IsOpenAnswer, IsOpenedAs, IsRangesDamage, IsTablesAnswer, IsVersionOpened, opened_range};
 ghost use Rattle.store_core.specs.Represents.{Represents};
 ghost use Rattle.table_model.specs.Tables.{filter_bytes_of};
 
@@ -24,67 +24,34 @@ use crate::store::Store;
 use byte_fields::{Damage, Part, Row};
 use disk_trait::Disk;
 use entry_list::Entry;
-use filter_api::{RangeFilter, Settings};
+use filter_api::RangeFilter;
 use gate_log::Log;
-use key_base::{PAGE_BYTES, SLOT_BYTES, compare};
+use key_base::{SLOT_BYTES, compare};
 use manifest::{BODY_AT, HEAD_BYTES, ROW_BYTES, Version, load};
 use mem_table::MemTable;
 use std::alloc::Global;
 use std::cmp::Ordering;
 use table_file::{LARGEST_BLOCK_BYTES, Table, Tables, open_table};
 
-// The place in a filter that is named where it has other widths than the settings say, and that rule.
-const WIDTHS_AT: u64 = 5;
-
-const OTHER_WIDTHS: u8 = 12;
-
 // The rule of tables that do not rise.
 const NOT_RISING: u8 = 12;
-
-// The table of a row, with a filter of the widths that the settings say.
-fn open_one<F: RangeFilter, D: Disk>(
-    alloc: Global,
-    disk: &mut D,
-    settings: Settings,
-    row: &Row,
-) -> Result<Table<F>, StoreError>
-    requires { FitsDevice row.now }
-    ensures row { IfOk result (λ t. t.row ≡ row.now) }
-    ensures answer { IsTrue D.tells → MatchResult result (λ t. IsWide F.spelling settings t (D.world disk.old).seen.held) (IsTableAnswer F.spelling F.first_fault settings row.now (D.world disk.old).seen.held) }
-    ensures cause { IfErr result (IsOpenFault (D.world disk.old) (D.world disk.new)) }
-    ensures moves { ReadMoves 2 (D.world disk.old) (D.world disk.new) }
-{
-    let table: Table<F> = open_table(alloc, disk, row)?;
-    if table.filter().widths() != (settings.hash_bits, settings.real_bits) {
-        let page = u64::from(row.first_page)
-            + u64::from(row.data_pages)
-            + u64::from(row.index_pages);
-        return Err(StoreError::Damaged(Damage::Shape {
-            part: Part::Filter,
-            at: PAGE_BYTES as u64 * page + WIDTHS_AT,
-            rule: OTHER_WIDTHS,
-        }));
-    }
-    Ok(table)
-}
 
 // The tables of some rows, in their order.
 fn open_tables<F: RangeFilter, D: Disk>(
     alloc: Global,
     disk: &mut D,
-    settings: Settings,
     rows: &[Row],
 ) -> Result<Tables<F>, StoreError>
     requires { AllByRecursion FitsDevice rows.now }
     ensures rows { IfOk result (λ opened. rows_of opened.tables ≡ rows.now) }
-    ensures answer { IsTrue D.tells → MatchResult result (λ opened. AreOpened F.spelling settings opened.tables (D.world disk.old).seen.held) (IsTablesAnswer F.spelling F.first_fault settings rows.now (D.world disk.old).seen.held) }
+    ensures answer { IsTrue D.tells → MatchResult result (λ opened. AreOpened F.spelling opened.tables (D.world disk.old).seen.held) (IsTablesAnswer F.spelling F.first_fault rows.now (D.world disk.old).seen.held) }
     ensures cause { IfErr result (IsOpenFault (D.world disk.old) (D.world disk.new)) }
     ensures moves { ReadMoves (2 * length rows.now) (D.world disk.old) (D.world disk.new) }
 {
     let mut tables = Tables::new(alloc);
     tables.reserve(rows.len())?;
     for row in rows {
-        let table = open_one(alloc, disk, settings, row)?;
+        let table = open_table(alloc, disk, row)?;
         tables.insert(tables.len(), table);
     }
     Ok(tables)
@@ -131,7 +98,7 @@ fn open_version<F: RangeFilter, D: Disk>(
     ensures moves { ReadMoves (6 + 2 * max_tables) (D.world disk.old) (D.world disk.new) }
 {
     let version = load(alloc, disk)?;
-    let tables: Tables<F> = open_tables(alloc, disk, version.settings, &version.rows)?;
+    let tables: Tables<F> = open_tables(alloc, disk, &version.rows)?;
     match check_order(tables.as_slice(), version.slot) {
         Ok(()) => Ok((version, tables)),
         Err(damage) => Err(StoreError::Damaged(damage)),

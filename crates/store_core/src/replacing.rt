@@ -2,6 +2,7 @@
 ghost use Rattle.std.specs.Prelude.{◌≡◌, ◌≤◌, ◌<◌, ◌+◌, length, fold, map, vec_capacity, vec_len, IfOk};
 ghost use Rattle.std.specs.List.{AllByRecursion, insert as list_with};
 ghost use Rattle.key_base.specs.Limits.{max_tables};
+ghost use Rattle.filter_api.specs.Ranges.{IsRowInRange};
 ghost use Rattle.manifest_model.specs.Laws.{RowFits};
 ghost use Rattle.merge_rows.specs.Steps.{numbers};
 ghost use Rattle.store_core.specs.Caching.{renumbered};
@@ -98,6 +99,7 @@ fn fitting(row: Row) -> Row
 pub(crate) fn row_of<F: RangeFilter>(table: &Table<F>) -> Row
     ensures row { result ≡ table.now.row }
     ensures fits { RowFits result }
+    ensures range { IsRowInRange result }
 {
     fitting(*table.row())
 }
@@ -106,6 +108,7 @@ pub(crate) fn row_of<F: RangeFilter>(table: &Table<F>) -> Row
 fn rows_in<F: RangeFilter>(alloc: Global, tables: &[&Table<F>]) -> Result<Vec<Row>, AllocError>
     ensures rows { IfOk result (λ rows. rows.items ≡ rows_of (map (λ t. t.now) tables.now)) }
     ensures fits { IfOk result (λ rows. AllByRecursion RowFits rows.items) }
+    ensures range { IfOk result (λ rows. AllByRecursion IsRowInRange rows.items) }
 {
     let mut rows = Vec::with_capacity(alloc, tables.len())?;
     for table in tables {
@@ -125,6 +128,7 @@ pub(crate) fn merged_version<'m, F: RangeFilter>(
     requires few_made { length job.now.made ≤ max_tables }
     ensures next { IfOk result (λ next. next ≡ merged_manifest version.now (rows_of (tables_behind tables.now.tables job.now))) }
     ensures fits { IfOk result (λ next. AllByRecursion RowFits next.version.rows) }
+    ensures range { IfOk result (λ next. AllByRecursion IsRowInRange next.version.rows) }
 {
     let mut all = others_of(alloc, tables, job)?;
     put_among(&mut all, job.tables());

@@ -61,7 +61,7 @@ returns-in_err-log-clause-meanwhile g c s tells held some =
     let compact = subst (λ (ts : List Opened). AreCompact m.version (rows_of ts)) (sym c.in_ok-all.ensures) c.in_ok-made.ensures.compact in
     let area_is : other_log_page m.version ≡ log_page_of c.next.inside.log_area = sym (ap (λ (n : Manifest). n.version.log_page) (c.next.view_is ∙ c.in_ok-next.ensures.next)) in
     log_failed g.F.RangeFilter.spelling bytes m c.args.tables.now.tables c.args.memory.now.entries s _ _ c.requires.slot c.requires.rows c.requires.sound c.requires.epoch held (g.met.D.Disk.current c.args.disk.now tells) some
-    (c.in_ok-made.ensures.stays s tells held) made all compact c.in_ok-next.ensures.fits c.next.inside.log_area area_is _ c.start.ensures.moves c.start.result (c.start.ensures.stands tells)
+    (c.in_ok-made.ensures.stays s tells held) made all compact c.in_ok-next.ensures.fits c.in_ok-next.ensures.range c.next.inside.log_area area_is _ c.start.ensures.moves c.start.result (c.start.ensures.stands tells)
 
 pub returns-in_err-log-clause-done : goal.returns-in_err-log-clause-done
 returns-in_err-log-clause-done g c s tells held some =
@@ -77,7 +77,7 @@ returns-in_err-log-clause-done g c s tells held some =
     let rose = later_rose a.seen.write_faults b.seen.write_faults d.seen.write_faults c.write_all.ensures.moves.1.write_faults c.in_err-log.ensures.cause in
     passed_so c.from_residual-in_err-log.result _ _ _ c.from_residual-in_err-log.ensures.1
     (log_fails_so g.F.RangeFilter.spelling bytes m c.args.tables.now.tables c.args.memory.now.entries s a b c.requires.slot c.requires.rows c.requires.sound c.requires.epoch held (g.met.D.Disk.current c.args.disk.now tells) some
-    (c.in_ok-made.ensures.stays s tells held) made all compact c.in_ok-next.ensures.fits c.next.inside.log_area area_is d c.start.ensures.moves c.in_err-log.field-0.0 (through_writes _ c.in_err-log.field-0.0 c.in_err-log.ensures.fault) rose)
+    (c.in_ok-made.ensures.stays s tells held) made all compact c.in_ok-next.ensures.fits c.in_ok-next.ensures.range c.next.inside.log_area area_is d c.start.ensures.moves c.in_err-log.field-0.0 (through_writes _ c.in_err-log.field-0.0 c.in_err-log.ensures.fault) rose)
 
 pub returns-in_err-log-clause-moves : goal.returns-in_err-log-clause-moves
 returns-in_err-log-clause-moves g c =
@@ -91,7 +91,7 @@ pub install-requires-clause-sound : goal.install-requires-clause-sound
 install-requires-clause-sound g c =
     let m = c.args.version.now in
     let compact = subst (λ (ts : List Opened). AreCompact m.version (rows_of ts)) (sym c.in_ok-all.ensures) c.in_ok-made.ensures.compact in
-    subst (λ (n : Manifest). IsVersion n.version) (sym c.in_ok-next.ensures.next) (compacted_is_version m (rows_of c.in_ok-all.all.tables) c.requires.sound compact c.in_ok-next.ensures.fits)
+    subst (λ (n : Manifest). IsVersion n.version) (sym c.in_ok-next.ensures.next) (compacted_is_version m (rows_of c.in_ok-all.all.tables) c.requires.sound compact c.in_ok-next.ensures.fits c.in_ok-next.ensures.range)
 
 pub returns-in_err-install-clause-meanwhile : goal.returns-in_err-install-clause-meanwhile
 returns-in_err-install-clause-meanwhile g c s tells held some =
@@ -111,7 +111,7 @@ returns-in_err-install-clause-meanwhile g c s tells held some =
     (c.install.ensures.crash v tells (sym (ap (λ (n : Manifest). n.version.epoch) next_is))) in
     let moves = subst (λ (n : Manifest). WriteMoves (other_place n.slot) 131072 d e) next_is c.install.ensures.moves in
     install_meanwhile g.F.RangeFilter.spelling bytes m c.args.tables.now.tables c.args.memory.now.entries s a b c.requires.slot c.requires.rows c.requires.sound c.requires.epoch held (g.met.D.Disk.current c.args.disk.now tells) some
-    (c.in_ok-made.ensures.stays s tells held) made all compact c.in_ok-next.ensures.fits c.next.inside.log_area area_is d c.start.ensures.moves (c.in_ok-log.ensures.stands tells) e moves c.install.result led
+    (c.in_ok-made.ensures.stays s tells held) made all compact c.in_ok-next.ensures.fits c.in_ok-next.ensures.range c.next.inside.log_area area_is d c.start.ensures.moves (c.in_ok-log.ensures.stands tells) e moves c.install.result led
 
 pub returns-in_err-install-clause-done : goal.returns-in_err-install-clause-done
 returns-in_err-install-clause-done g c s tells held some =
@@ -136,7 +136,7 @@ returns-in_err-install-clause-done g c s tells held some =
     let wrote = c.write_all.ensures.moves.1.write_faults in
     passed_so c.from_residual-in_err-install.result _ _ _ c.from_residual-in_err-install.ensures.1
     (install_fails_so g.F.RangeFilter.spelling bytes m c.args.tables.now.tables c.args.memory.now.entries s a b c.requires.slot c.requires.rows c.requires.sound c.requires.epoch held (g.met.D.Disk.current c.args.disk.now tells) some
-    (c.in_ok-made.ensures.stays s tells held) made all compact c.in_ok-next.ensures.fits c.next.inside.log_area area_is d c.start.ensures.moves (c.in_ok-log.ensures.stands tells) e moves f cause
+    (c.in_ok-made.ensures.stays s tells held) made all compact c.in_ok-next.ensures.fits c.in_ok-next.ensures.range c.next.inside.log_area area_is d c.start.ensures.moves (c.in_ok-log.ensures.stands tells) e moves f cause
     (λ is. let last = c.in_err-install.ensures.limit.0 (ap (λ (x : ManifestFault). Err x) is) in absurd (omega (arith, last, same, below)))
     (later_rose a.seen.write_faults d.seen.write_faults e.seen.write_faults (omega (arith, started, wrote))))
 
@@ -166,7 +166,7 @@ returns-clause-meanwhile g c s tells held some =
     (c.install.ensures.crash v tells (sym (ap (λ (n : Manifest). n.version.epoch) next_is))) in
     let moves = subst (λ (n : Manifest). WriteMoves (other_place n.slot) 131072 d e) next_is c.install.ensures.moves in
     install_meanwhile g.F.RangeFilter.spelling bytes m c.args.tables.now.tables c.args.memory.now.entries s a b c.requires.slot c.requires.rows c.requires.sound c.requires.epoch held (g.met.D.Disk.current c.args.disk.now tells) some
-    (c.in_ok-made.ensures.stays s tells held) made all compact c.in_ok-next.ensures.fits c.next.inside.log_area area_is d c.start.ensures.moves (c.in_ok-log.ensures.stands tells) e moves c.install.result led
+    (c.in_ok-made.ensures.stays s tells held) made all compact c.in_ok-next.ensures.fits c.in_ok-next.ensures.range c.next.inside.log_area area_is d c.start.ensures.moves (c.in_ok-log.ensures.stands tells) e moves c.install.result led
 
 pub returns-clause-done : goal.returns-clause-done
 returns-clause-done g c s tells held some =
@@ -188,7 +188,7 @@ returns-clause-done g c s tells held some =
     let moves = subst (λ (n : Manifest). WriteMoves (other_place n.slot) 131072 d e) next_is c.install.ensures.moves in
     subst (λ (n : Manifest). StandAlone spelling bytes s n made e) (sym (c.installed.ensures ∙ ap installed_manifest next_is))
     (install_done spelling bytes m c.args.tables.now.tables c.args.memory.now.entries s a b c.requires.slot c.requires.rows c.requires.sound c.requires.epoch held (g.met.D.Disk.current c.args.disk.now tells) some
-    (c.in_ok-made.ensures.stays s tells held) made all compact c.in_ok-next.ensures.fits c.next.inside.log_area area_is d c.start.ensures.moves (c.in_ok-log.ensures.stands tells) e moves c.in_ok-install.field-0 led)
+    (c.in_ok-made.ensures.stays s tells held) made all compact c.in_ok-next.ensures.fits c.in_ok-next.ensures.range c.next.inside.log_area area_is d c.start.ensures.moves (c.in_ok-log.ensures.stands tells) e moves c.in_ok-install.field-0 led)
 
 pub returns-clause-whole : goal.returns-clause-whole
 returns-clause-whole g c =
@@ -196,7 +196,7 @@ returns-clause-whole g c =
     let compact = subst (λ (ts : List Opened). AreCompact m.version (rows_of ts)) (sym c.in_ok-all.ensures) c.in_ok-made.ensures.compact in
     let area_is : other_log_page m.version ≡ log_page_of c.next.inside.log_area = sym (ap (λ (n : Manifest). n.version.log_page) (c.next.view_is ∙ c.in_ok-next.ensures.next)) in
     let log_is = c.in_ok-log.ensures.log in
-    installed_whole m c.installed.result c.in_ok-all.all.tables c.in_ok-log.log c.requires.sound compact c.in_ok-next.ensures.fits c.requires.epoch (c.installed.ensures ∙ ap installed_manifest c.in_ok-next.ensures.next)
+    installed_whole m c.installed.result c.in_ok-all.all.tables c.in_ok-log.log c.requires.sound compact c.in_ok-next.ensures.fits c.in_ok-next.ensures.range c.requires.epoch (c.installed.ensures ∙ ap installed_manifest c.in_ok-next.ensures.next)
     (area_is ∙ ap (λ (p : Position). log_page_of p.area) (sym log_is)) (ap (λ (p : Position). p.filled) log_is)
 
 pub returns-clause-moves : goal.returns-clause-moves

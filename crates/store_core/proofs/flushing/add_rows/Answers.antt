@@ -17,6 +17,9 @@ no_row = record {
   filter_len = 0;
   index_sum = 0;
   filter_sum = 0;
+  hash_bits = 0;
+  real_bits = 0;
+  ratio = 0;
 }
 
 pub overflow_add-row : goal.overflow_add-row

@@ -27,7 +27,7 @@ use Rattle.store_core.proofs.getting.+look_in_all.Goals as goal
 -- ---- a fault in the first table
 
 pub returns-in_err-here-clause-bounded : goal.returns-in_err-here-clause-bounded
-returns-in_err-here-clause-bounded g t c settings states tells held are =
+returns-in_err-here-clause-bounded g t c states tells held are =
     let old = g.D.Disk.world c.args.disk.now in
     let new = g.D.Disk.world c.look_in.new.disk in
     let key = c.args.key.now in
@@ -36,13 +36,13 @@ returns-in_err-here-clause-bounded g t c settings states tells held are =
     let more = c.in-Some.older.now in
     let num : c.number-number.result ≡ cache_number blocks.first (length more) = c.number-number.ensures in
     let reads = subst (λ (k : ℕ). new.seen.reads ≤ old.seen.reads + reads_for blocks.kept k (block_for first key)) num c.look_in.ensures.moves.reads in
-    by_first g.F.RangeFilter.spelling settings first more old.seen.held (λ ts us. new.seen.reads ≤ old.seen.reads + unkept blocks key ts us)
+    by_first g.F.RangeFilter.spelling first more old.seen.held (λ ts us. new.seen.reads ≤ old.seen.reads + unkept blocks key ts us)
     (λ one older h rest. let most = unkept_first blocks key first more one older in omega (arith, reads, most)) c.args.tables.now states c.in-Some.ensures.cases.0 held
 
 pub returns-in_err-here-clause-only_if_read : goal.returns-in_err-here-clause-only_if_read
-returns-in_err-here-clause-only_if_read g t c settings states tells held are =
-    let most = searched_first c.standing_tables_are_read.ensures.keys g.F.RangeFilter.spelling settings c.in-Some.table.now c.in-Some.older.now _ c.args.key.now c.args.tables.now states c.in-Some.ensures.cases.0 held in
-    let here : 1 ≤ searched settings c.args.key.now states = omega (arith, c.in_err-here.ensures.only_if_read, most) in
+returns-in_err-here-clause-only_if_read g t c states tells held are =
+    let most = searched_first c.standing_tables_are_read.ensures.keys g.F.RangeFilter.spelling c.in-Some.table.now c.in-Some.older.now _ c.args.key.now c.args.tables.now states c.in-Some.ensures.cases.0 held in
+    let here : 1 ≤ searched c.args.key.now states = omega (arith, c.in_err-here.ensures.only_if_read, most) in
     search rules
 
 pub returns-in_err-here-clause-shown : goal.returns-in_err-here-clause-shown
@@ -61,7 +61,7 @@ returns-then-is_some-clause-read g t c =
     (read_first c.in_ok-here.here.read c.look_in.new.buffer c.look_in.new.blocks c.number-number.result (length more) (num ∙ ap (λ (n : ℕ). cache_number n (length more)) (sym c.look_in.ensures.same.first)) c.in_ok-here.ensures.read)
 
 pub returns-then-is_some-clause-answer : goal.returns-then-is_some-clause-answer
-returns-then-is_some-clause-answer g t c settings states tells held are =
+returns-then-is_some-clause-answer g t c states tells held are =
     let spelling = g.F.RangeFilter.spelling in
     let image = (g.D.Disk.world c.args.disk.now).seen.held in
     let key = c.args.key.now in
@@ -70,28 +70,28 @@ returns-then-is_some-clause-answer g t c settings states tells held are =
     let more = c.in-Some.older.now in
     let num : c.number-number.result ≡ cache_number blocks.first (length more) = c.number-number.ensures in
     let said = said_in c.in_ok-here.here.found c.look_in.new.buffer c.look_in.new.blocks.kept key in
-    by_first spelling settings first more image (λ ts us. CacheAgrees blocks ts us → said ≡ first_found (entries_by_table us) key)
-    (λ one older h rest ours. said_first spelling settings first one older image h key said
-    (c.in_ok-here.ensures.answer settings h.blocks tells h.stands (says_of_number spelling settings first more one older image h blocks c.number-number.result num ours))
+    by_first spelling first more image (λ ts us. CacheAgrees blocks ts us → said ≡ first_found (entries_by_table us) key)
+    (λ one older h rest ours. said_first spelling first one older image h key said
+    (c.in_ok-here.ensures.answer h.blocks tells h.stands (says_of_number spelling first more one older image h blocks c.number-number.result num ours))
     (found_said c.in_ok-here.here.found c.look_in.new.buffer c.look_in.new.blocks.kept key (sym c.is_some.ensures ∙ c.if-is_some.true) c.in_ok-here.ensures.found))
     c.args.tables.now states c.in-Some.ensures.cases.0 held are
 
 pub returns-then-is_some-clause-says : goal.returns-then-is_some-clause-says
-returns-then-is_some-clause-says g t c settings states tells held =
+returns-then-is_some-clause-says g t c states tells held =
     let spelling = g.F.RangeFilter.spelling in
     let image = (g.D.Disk.world c.args.disk.now).seen.held in
     let blocks = c.args.blocks.now in
     let first = c.in-Some.table.now in
     let more = c.in-Some.older.now in
     let num : c.number-number.result ≡ cache_number blocks.first (length more) = c.number-number.ensures in
-    by_first spelling settings first more image
+    by_first spelling first more image
     (λ ts us. IfSome c.in_ok-here.here.read (λ r. r.number < past_cache → BlockAgrees blocks.first (r.number, r.block) (take r.size c.look_in.new.buffer) ts us))
-    (λ one older h rest. read_true spelling settings first more one older image h blocks c.number-number.result num c.in_ok-here.here.read c.look_in.new.buffer c.look_in.new.blocks c.in_ok-here.ensures.read
-    (c.in_ok-here.ensures.says settings h.blocks tells h.stands))
+    (λ one older h rest. read_true spelling first more one older image h blocks c.number-number.result num c.in_ok-here.here.read c.look_in.new.buffer c.look_in.new.blocks c.in_ok-here.ensures.read
+    (c.in_ok-here.ensures.says h.blocks tells h.stands))
     c.args.tables.now states c.in-Some.ensures.cases.0 held
 
 pub returns-then-is_some-clause-bounded : goal.returns-then-is_some-clause-bounded
-returns-then-is_some-clause-bounded g t c settings states tells held are =
+returns-then-is_some-clause-bounded g t c states tells held are =
     let old = g.D.Disk.world c.args.disk.now in
     let new = g.D.Disk.world c.look_in.new.disk in
     let key = c.args.key.now in
@@ -100,7 +100,7 @@ returns-then-is_some-clause-bounded g t c settings states tells held are =
     let more = c.in-Some.older.now in
     let num : c.number-number.result ≡ cache_number blocks.first (length more) = c.number-number.ensures in
     let reads = subst (λ (k : ℕ). new.seen.reads ≤ old.seen.reads + reads_for blocks.kept k (block_for first key)) num c.look_in.ensures.moves.reads in
-    by_first g.F.RangeFilter.spelling settings first more old.seen.held (λ ts us. new.seen.reads ≤ old.seen.reads + unkept blocks key ts us)
+    by_first g.F.RangeFilter.spelling first more old.seen.held (λ ts us. new.seen.reads ≤ old.seen.reads + unkept blocks key ts us)
     (λ one older h rest. let most = unkept_first blocks key first more one older in omega (arith, reads, most)) c.args.tables.now states c.in-Some.ensures.cases.0 held
 
 -- ---- the older tables
@@ -127,7 +127,7 @@ returns-clause-unread g t c none =
     c.in_ok-later.later.read c.in_ok-here.here.read c.args.buffer.now c.in_ok-later.ensures.unread c.in_ok-here.ensures.unread (sym c.or.ensures ∙ none)
 
 pub returns-clause-answer : goal.returns-clause-answer
-returns-clause-answer g t c settings states tells held are =
+returns-clause-answer g t c states tells held are =
     let spelling = g.F.RangeFilter.spelling in
     let image = (g.D.Disk.world c.args.disk.now).seen.held in
     let key = c.args.key.now in
@@ -137,16 +137,16 @@ returns-clause-answer g t c settings states tells held are =
     let num : c.number-number.result ≡ cache_number blocks.first (length more) = c.number-number.ensures in
     let said = said_in c.in_ok-later.later.found c.look_in_all.new.buffer c.look_in_all.new.blocks.kept key in
     let nothing = nothing_said c.in_ok-here.here.found c.look_in.new.buffer c.look_in.new.blocks.kept key (sym c.is_some.ensures ∙ c.if-is_some.false) in
-    by_first spelling settings first more image (λ ts us. CacheAgrees blocks ts us → said ≡ first_found (entries_by_table us) key)
+    by_first spelling first more image (λ ts us. CacheAgrees blocks ts us → said ≡ first_found (entries_by_table us) key)
     (λ one older h rest ours.
-    let says = c.in_ok-here.ensures.answer settings h.blocks tells h.stands (says_of_number spelling settings first more one older image h blocks c.number-number.result num ours) in
-    said_next spelling settings first one image h key (sym nothing ∙ says) older said
-    (c.in_ok-later.ensures.answer settings older tells (subst (TablesAgree spelling settings more older) (sym c.look_in.ensures.moves.held) rest)
+    let says = c.in_ok-here.ensures.answer h.blocks tells h.stands (says_of_number spelling first more one older image h blocks c.number-number.result num ours) in
+    said_next spelling first one image h key (sym nothing ∙ says) older said
+    (c.in_ok-later.ensures.answer older tells (subst (TablesAgree spelling more older) (sym c.look_in.ensures.moves.held) rest)
     (true_same blocks c.look_in.new.blocks more older c.look_in.ensures.same (older_true blocks first more one older ours))))
     c.args.tables.now states c.in-Some.ensures.cases.0 held are
 
 pub returns-clause-says : goal.returns-clause-says
-returns-clause-says g t c settings states tells held =
+returns-clause-says g t c states tells held =
     let spelling = g.F.RangeFilter.spelling in
     let image = (g.D.Disk.world c.args.disk.now).seen.held in
     let blocks = c.args.blocks.now in
@@ -154,18 +154,18 @@ returns-clause-says g t c settings states tells held =
     let more = c.in-Some.older.now in
     let num : c.number-number.result ≡ cache_number blocks.first (length more) = c.number-number.ensures in
     subst (λ (o : Option BlockRead). IfSome o (λ r. r.number < past_cache → BlockAgrees blocks.first (r.number, r.block) (take r.size c.look_in_all.new.buffer) c.args.tables.now states)) (sym c.or.ensures)
-    (by_first spelling settings first more image
+    (by_first spelling first more image
     (λ ts us. IfSome (option_or c.in_ok-later.later.read c.in_ok-here.here.read) (λ r. r.number < past_cache → BlockAgrees blocks.first (r.number, r.block) (take r.size c.look_in_all.new.buffer) ts us))
     (λ one older h rest. true_later blocks first more one older c.look_in.new.buffer c.look_in_all.new.buffer c.look_in.new.blocks c.look_in_all.new.blocks c.in_ok-later.later.read c.in_ok-here.here.read
     c.look_in.ensures.same c.look_in_all.ensures.same c.in_ok-later.ensures.read
-    (c.in_ok-later.ensures.says settings older tells (subst (TablesAgree spelling settings more older) (sym c.look_in.ensures.moves.held) rest))
+    (c.in_ok-later.ensures.says older tells (subst (TablesAgree spelling more older) (sym c.look_in.ensures.moves.held) rest))
     c.in_ok-later.ensures.unread
-    (read_true spelling settings first more one older image h blocks c.number-number.result num c.in_ok-here.here.read c.look_in.new.buffer c.look_in.new.blocks c.in_ok-here.ensures.read
-    (c.in_ok-here.ensures.says settings h.blocks tells h.stands)))
+    (read_true spelling first more one older image h blocks c.number-number.result num c.in_ok-here.here.read c.look_in.new.buffer c.look_in.new.blocks c.in_ok-here.ensures.read
+    (c.in_ok-here.ensures.says h.blocks tells h.stands)))
     c.args.tables.now states c.in-Some.ensures.cases.0 held)
 
 pub returns-in_err-later-clause-bounded : goal.returns-in_err-later-clause-bounded
-returns-in_err-later-clause-bounded g t c settings states tells held are =
+returns-in_err-later-clause-bounded g t c states tells held are =
     let spelling = g.F.RangeFilter.spelling in
     let old = g.D.Disk.world c.args.disk.now in
     let mid = g.D.Disk.world c.look_in.new.disk in
@@ -177,17 +177,17 @@ returns-in_err-later-clause-bounded g t c settings states tells held are =
     let num : c.number-number.result ≡ cache_number blocks.first (length more) = c.number-number.ensures in
     let reads = subst (λ (k : ℕ). mid.seen.reads ≤ old.seen.reads + reads_for blocks.kept k (block_for first key)) num c.look_in.ensures.moves.reads in
     let nothing = nothing_said c.in_ok-here.here.found c.look_in.new.buffer c.look_in.new.blocks.kept key (sym c.is_some.ensures ∙ c.if-is_some.false) in
-    by_first spelling settings first more old.seen.held (λ ts us. CacheAgrees blocks ts us → new.seen.reads ≤ old.seen.reads + unkept blocks key ts us)
+    by_first spelling first more old.seen.held (λ ts us. CacheAgrees blocks ts us → new.seen.reads ≤ old.seen.reads + unkept blocks key ts us)
     (λ one older h rest ours.
-    let says = c.in_ok-here.ensures.answer settings h.blocks tells h.stands (says_of_number spelling settings first more one older old.seen.held h blocks c.number-number.result num ours) in
-    let none = no_entry spelling settings first one old.seen.held h key (sym nothing ∙ says) in
-    let later = c.look_in_all.ensures.bounded settings older tells (subst (TablesAgree spelling settings more older) (sym c.look_in.ensures.moves.held) rest)
+    let says = c.in_ok-here.ensures.answer h.blocks tells h.stands (says_of_number spelling first more one older old.seen.held h blocks c.number-number.result num ours) in
+    let none = no_entry spelling first one old.seen.held h key (sym nothing ∙ says) in
+    let later = c.look_in_all.ensures.bounded older tells (subst (TablesAgree spelling more older) (sym c.look_in.ensures.moves.held) rest)
     (true_same blocks c.look_in.new.blocks more older c.look_in.ensures.same (older_true blocks first more one older ours)) in
     omega (arith, reads, later, unkept_same blocks c.look_in.new.blocks key more older c.look_in.ensures.same, unkept_next blocks key first more one older none))
     c.args.tables.now states c.in-Some.ensures.cases.0 held are
 
 pub returns-clause-bounded : goal.returns-clause-bounded
-returns-clause-bounded g t c settings states tells held are =
+returns-clause-bounded g t c states tells held are =
     let spelling = g.F.RangeFilter.spelling in
     let old = g.D.Disk.world c.args.disk.now in
     let mid = g.D.Disk.world c.look_in.new.disk in
@@ -199,17 +199,17 @@ returns-clause-bounded g t c settings states tells held are =
     let num : c.number-number.result ≡ cache_number blocks.first (length more) = c.number-number.ensures in
     let reads = subst (λ (k : ℕ). mid.seen.reads ≤ old.seen.reads + reads_for blocks.kept k (block_for first key)) num c.look_in.ensures.moves.reads in
     let nothing = nothing_said c.in_ok-here.here.found c.look_in.new.buffer c.look_in.new.blocks.kept key (sym c.is_some.ensures ∙ c.if-is_some.false) in
-    by_first spelling settings first more old.seen.held (λ ts us. CacheAgrees blocks ts us → new.seen.reads ≤ old.seen.reads + unkept blocks key ts us)
+    by_first spelling first more old.seen.held (λ ts us. CacheAgrees blocks ts us → new.seen.reads ≤ old.seen.reads + unkept blocks key ts us)
     (λ one older h rest ours.
-    let says = c.in_ok-here.ensures.answer settings h.blocks tells h.stands (says_of_number spelling settings first more one older old.seen.held h blocks c.number-number.result num ours) in
-    let none = no_entry spelling settings first one old.seen.held h key (sym nothing ∙ says) in
-    let later = c.look_in_all.ensures.bounded settings older tells (subst (TablesAgree spelling settings more older) (sym c.look_in.ensures.moves.held) rest)
+    let says = c.in_ok-here.ensures.answer h.blocks tells h.stands (says_of_number spelling first more one older old.seen.held h blocks c.number-number.result num ours) in
+    let none = no_entry spelling first one old.seen.held h key (sym nothing ∙ says) in
+    let later = c.look_in_all.ensures.bounded older tells (subst (TablesAgree spelling more older) (sym c.look_in.ensures.moves.held) rest)
     (true_same blocks c.look_in.new.blocks more older c.look_in.ensures.same (older_true blocks first more one older ours)) in
     omega (arith, reads, later, unkept_same blocks c.look_in.new.blocks key more older c.look_in.ensures.same, unkept_next blocks key first more one older none))
     c.args.tables.now states c.in-Some.ensures.cases.0 held are
 
 pub returns-in_err-later-clause-only_if_read : goal.returns-in_err-later-clause-only_if_read
-returns-in_err-later-clause-only_if_read g t c settings states tells held are =
+returns-in_err-later-clause-only_if_read g t c states tells held are =
     let spelling = g.F.RangeFilter.spelling in
     let old = g.D.Disk.world c.args.disk.now in
     let key = c.args.key.now in
@@ -218,14 +218,14 @@ returns-in_err-later-clause-only_if_read g t c settings states tells held are =
     let more = c.in-Some.older.now in
     let num : c.number-number.result ≡ cache_number blocks.first (length more) = c.number-number.ensures in
     let nothing = nothing_said c.in_ok-here.here.found c.look_in.new.buffer c.look_in.new.blocks.kept key (sym c.is_some.ensures ∙ c.if-is_some.false) in
-    let here : 1 ≤ searched settings key states =
-    by_first spelling settings first more old.seen.held (λ ts us. CacheAgrees blocks ts us → 1 ≤ searched settings key us)
+    let here : 1 ≤ searched key states =
+    by_first spelling first more old.seen.held (λ ts us. CacheAgrees blocks ts us → 1 ≤ searched key us)
     (λ one older h rest ours.
-    let says = c.in_ok-here.ensures.answer settings h.blocks tells h.stands (says_of_number spelling settings first more one older old.seen.held h blocks c.number-number.result num ours) in
-    let none = no_entry spelling settings first one old.seen.held h key (sym nothing ∙ says) in
-    let later = c.in_err-later.ensures.only_if_read settings older tells (subst (TablesAgree spelling settings more older) (sym c.look_in.ensures.moves.held) rest)
+    let says = c.in_ok-here.ensures.answer h.blocks tells h.stands (says_of_number spelling first more one older old.seen.held h blocks c.number-number.result num ours) in
+    let none = no_entry spelling first one old.seen.held h key (sym nothing ∙ says) in
+    let later = c.in_err-later.ensures.only_if_read older tells (subst (TablesAgree spelling more older) (sym c.look_in.ensures.moves.held) rest)
     (true_same blocks c.look_in.new.blocks more older c.look_in.ensures.same (older_true blocks first more one older ours)) in
-    omega (arith, later, next_bound c.standing_tables_are_read.ensures.keys spelling settings first one old.seen.held h key older none))
+    omega (arith, later, next_bound c.standing_tables_are_read.ensures.keys spelling first one old.seen.held h key older none))
     c.args.tables.now states c.in-Some.ensures.cases.0 held are in
     search rules
 

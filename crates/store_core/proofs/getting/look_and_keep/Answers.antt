@@ -14,7 +14,7 @@ pub returns-in_err-looked-clause-numbered : goal.returns-in_err-looked-clause-nu
 returns-in_err-looked-clause-numbered g c numbered = numbered_same c.args.blocks.now c.look_in_all.new.blocks (length c.args.tables.now) c.look_in_all.ensures.same numbered
 
 pub returns-in_err-looked-clause-keeps : goal.returns-in_err-looked-clause-keeps
-returns-in_err-looked-clause-keeps g c settings states tells held are = true_same c.args.blocks.now c.look_in_all.new.blocks c.args.tables.now states c.look_in_all.ensures.same are
+returns-in_err-looked-clause-keeps g c states tells held are = true_same c.args.blocks.now c.look_in_all.new.blocks c.args.tables.now states c.look_in_all.ensures.same are
 
 pub returns-clause-place : goal.returns-clause-place
 returns-clause-place g c = IfSome_then c.in_ok-looked.looked.found c.in_ok-looked.ensures.found (λ at is. place_found at c.look_in_all.new.buffer c.look_in_all.new.blocks.kept c.args.key.now is)
@@ -25,22 +25,22 @@ returns-clause-numbered g c numbered =
     (length c.args.tables.now) c.in_ok-looked.ensures.read numbered
 
 pub returns-clause-keeps : goal.returns-clause-keeps
-returns-clause-keeps g c settings states tells held are =
+returns-clause-keeps g c states tells held are =
     kept_true c.in_ok-looked.looked.read c.look_in_all.new.buffer c.args.blocks.now c.look_in_all.new.blocks c.keep_read.new.blocks c.look_in_all.ensures.same c.keep_read.ensures
-    c.args.tables.now states (c.in_ok-looked.ensures.says settings states tells held) are
+    c.args.tables.now states (c.in_ok-looked.ensures.says states tells held) are
 
 pub returns-clause-answer : goal.returns-clause-answer
-returns-clause-answer g c settings states tells held are =
+returns-clause-answer g c states tells held are =
     said_stays c.in_ok-looked.looked.found c.in_ok-looked.looked.read c.look_in_all.new.buffer c.args.key.now c.look_in_all.new.blocks c.keep_read.new.blocks (length c.args.tables.now)
     c.in_ok-looked.ensures.found c.in_ok-looked.ensures.read c.keep_read.ensures
-    ∙ c.in_ok-looked.ensures.answer settings states tells held are
+    ∙ c.in_ok-looked.ensures.answer states tells held are
 
 pub returns-in_err-looked-clause-within : goal.returns-in_err-looked-clause-within
-returns-in_err-looked-clause-within g c settings states tells held are =
-    let some = c.look_in_all.ensures.bounded settings states tells held are in
-    omega (arith, some, unkept_within c.standing_tables_are_read.ensures.keys g.F.RangeFilter.spelling settings c.args.blocks.now c.args.key.now _ c.args.tables.now states held)
+returns-in_err-looked-clause-within g c states tells held are =
+    let some = c.look_in_all.ensures.bounded states tells held are in
+    omega (arith, some, unkept_within c.standing_tables_are_read.ensures.keys g.F.RangeFilter.spelling c.args.blocks.now c.args.key.now _ c.args.tables.now states held)
 
 pub returns-clause-within : goal.returns-clause-within
-returns-clause-within g c settings states tells held are =
-    let some = c.look_in_all.ensures.bounded settings states tells held are in
-    omega (arith, some, unkept_within c.standing_tables_are_read.ensures.keys g.F.RangeFilter.spelling settings c.args.blocks.now c.args.key.now _ c.args.tables.now states held)
+returns-clause-within g c states tells held are =
+    let some = c.look_in_all.ensures.bounded states tells held are in
+    omega (arith, some, unkept_within c.standing_tables_are_read.ensures.keys g.F.RangeFilter.spelling c.args.blocks.now c.args.key.now _ c.args.tables.now states held)

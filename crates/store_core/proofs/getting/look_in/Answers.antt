@@ -20,8 +20,8 @@ pub returns-in_default-clause-same : goal.returns-in_default-clause-same
 returns-in_default-clause-same g c = same_itself c.args.blocks.now
 
 pub returns-in_default-clause-answer : goal.returns-in_default-clause-answer
-returns-in_default-clause-answer g c settings parts tells s are =
-    sym (no_answer g.F.RangeFilter.spelling settings c.args.table.now parts _ s c.args.key.now (sym c.in_default.ensures))
+returns-in_default-clause-answer g c parts tells s are =
+    sym (no_answer g.F.RangeFilter.spelling c.args.table.now parts _ s c.args.key.now (sym c.in_default.ensures))
 
 pub returns-in_default-clause-moves : goal.returns-in_default-clause-moves
 returns-in_default-clause-moves g c = reads_none _ _
@@ -41,7 +41,7 @@ pub returns-then-has-clause-same : goal.returns-then-has-clause-same
 returns-then-has-clause-same g c = subst (AreSame c.args.blocks.now) (sym c.has.ensures.brought) (brought_same (c.args.number, c.in-Some.block) c.args.blocks.now)
 
 pub returns-then-has-clause-answer : goal.returns-then-has-clause-answer
-returns-then-has-clause-answer g c settings parts tells s are =
+returns-then-has-clause-answer g c parts tells s are =
     let place : BlockPlace = (c.args.number, c.in-Some.block) in
     let key = c.args.key.now in
     let kept = ap (λ (x : Cached). kept_of place x.kept) c.has.ensures.brought ∙ get_same place place c.args.blocks.now.kept in
@@ -89,12 +89,12 @@ returns-clause-read g c =
     (refl, c.in_ok-size.ensures.block, kept ∙ not_kept c.args.blocks.now place c.has.result c.has.ensures.is_kept c.if-has.false)
 
 pub returns-clause-answer : goal.returns-clause-answer
-returns-clause-answer g c settings parts tells s are =
+returns-clause-answer g c parts tells s are =
     let key = c.args.key.now in
     ap (λ (o : Option Spot). said_in o c.read_in.new.buffer c.has.new.self.kept key) c.then_some.ensures
     ∙ said_read c.in_ok-size.size c.read_in.new.buffer key c.has.new.self.kept c.in_ok-size.has c.in_ok-size.ensures.has
-    ∙ answer g.F.RangeFilter.spelling settings c.args.table.now parts _ s key c.in-Some.block (sym c.block_for.ensures ∙ c.in-Some.is) _ (c.in_ok-size.ensures.bytes tells)
+    ∙ answer g.F.RangeFilter.spelling c.args.table.now parts _ s key c.in-Some.block (sym c.block_for.ensures ∙ c.in-Some.is) _ (c.in_ok-size.ensures.bytes tells)
 
 pub returns-clause-says : goal.returns-clause-says
-returns-clause-says g c settings parts tells s =
-    λ key named. answer g.F.RangeFilter.spelling settings c.args.table.now parts _ s key c.in-Some.block named _ (c.in_ok-size.ensures.bytes tells)
+returns-clause-says g c parts tells s =
+    λ key named. answer g.F.RangeFilter.spelling c.args.table.now parts _ s key c.in-Some.block named _ (c.in_ok-size.ensures.bytes tells)

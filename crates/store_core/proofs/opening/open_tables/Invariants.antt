@@ -9,6 +9,6 @@ abbrev pub invariant-loop-row : goal.invariant-loop-row
 invariant-loop-row g l = record {
   rows : rows_of l.tables.tables ≡ take l.row-index l.rows;
   room : length l.rows ≤ l.tables.room;
-  opened : IsTrue g.D.Disk.tells → AreOpened g.F.RangeFilter.spelling l.settings l.tables.tables (g.D.Disk.world l.fn.disk).seen.held;
+  opened : IsTrue g.D.Disk.tells → AreOpened g.F.RangeFilter.spelling l.tables.tables (g.D.Disk.world l.fn.disk).seen.held;
   moves : ReadMoves (2 * l.row-index) (g.D.Disk.world l.fn.disk) (g.D.Disk.world l.disk);
 }

@@ -3,15 +3,15 @@ use Rattle.std.specs.Prelude.{map}
 use Rattle.std.specs.List.{AllByRecursion}
 use Rattle.block_model.specs.Places.{FitsDevice}
 use Rattle.disk_trait.proofs.Calls.{reads_more}
-use Rattle.image_model.specs.Stands.{settings_of}
+use Rattle.disk_trait.specs.Image.{Image}
 use Rattle.manifest.specs.Manifest.{Manifest}
 use Rattle.manifest_model.proofs.Rows.{tables_fit}
 use Rattle.manifest_model.specs.Tables.{ranges_fault}
 use Rattle.table_file.specs.Opened.{Opened}
-use Rattle.store_core.specs.Opening.{opened_range}
+use Rattle.store_core.specs.Opening.{AreOpened, opened_range}
 use Rattle.store_core.proofs.Causes.{load_cause, refusal_behind, tables_cause}
 use Rattle.store_core.proofs.Moved.{loaded_then_opened}
-use Rattle.store_core.proofs.OpenedStores.{as_few, load_answer, order_answer, rows_many, same_opened, same_ranges, same_tables_answer, tables_answer}
+use Rattle.store_core.proofs.OpenedStores.{as_few, load_answer, order_answer, rows_many, same_ranges, same_tables_answer, tables_answer}
 use Rattle.store_core.proofs.opening.open_version.Goals as goal
 
 pub returns-in_err-version-clause-answer : goal.returns-in_err-version-clause-answer
@@ -44,8 +44,8 @@ returns-in_err-tables-clause-answer g c tells =
     let image = (g.D.Disk.world c.args.disk.now).seen.held in
     let rows : m.version.rows ≡ c.deref.result.now = ap (λ (x : Manifest). x.version.rows) (sym c.version.view_is) ∙ sym c.deref.ensures.value in
     let here = tables_answer spelling first image m (c.in_ok-version.ensures.answer tells) why
-    (same_tables_answer spelling first (settings_of m.version) c.version.inside.settings m.version.rows c.deref.result.now image (g.D.Disk.world c.load.new.disk).seen.held why
-    (ap (λ (x : Manifest). settings_of x.version) (sym c.version.view_is)) rows c.load.ensures.moves.held (c.in_err-tables.ensures.answer tells)) in
+    (same_tables_answer spelling first m.version.rows c.deref.result.now image (g.D.Disk.world c.load.new.disk).seen.held why
+    rows c.load.ensures.moves.held (c.in_err-tables.ensures.answer tells)) in
     search rules
 
 pub returns-in_err-tables-clause-cause : goal.returns-in_err-tables-clause-cause
@@ -87,8 +87,7 @@ returns-in-Ok-clause-answer g c tells =
     record {
       loaded = c.in_ok-version.ensures.answer tells;
       rows = c.in_ok-tables.ensures.rows ∙ sym rows;
-      tables = same_opened g.F.RangeFilter.spelling (settings_of m.version) c.version.inside.settings c.in_ok-tables.tables.tables (g.D.Disk.world c.args.disk.now).seen.held (g.D.Disk.world c.load.new.disk).seen.held
-          (ap (λ (x : Manifest). settings_of x.version) (sym c.version.view_is)) c.load.ensures.moves.held (c.in_ok-tables.ensures.answer tells);
+      tables = subst (λ (f : Image). AreOpened g.F.RangeFilter.spelling c.in_ok-tables.tables.tables f) c.load.ensures.moves.held (c.in_ok-tables.ensures.answer tells);
       ranges = ap (λ (ts : List Opened). ranges_fault (map opened_range ts)) (sym c.as_slice.ensures) ∙ c.in-Ok.ensures;
     }
 
@@ -118,8 +117,7 @@ returns-in-Err-clause-answer g c tells =
     let image = (g.D.Disk.world c.args.disk.now).seen.held in
     let rows : m.version.rows ≡ c.deref.result.now = ap (λ (x : Manifest). x.version.rows) (sym c.version.view_is) ∙ sym c.deref.ensures.value in
     order_answer g.F.RangeFilter.spelling g.F.RangeFilter.first_fault image m (c.in_ok-version.ensures.answer tells) ts (c.in_ok-tables.ensures.rows ∙ sym rows)
-    (same_opened g.F.RangeFilter.spelling (settings_of m.version) c.version.inside.settings ts image (g.D.Disk.world c.load.new.disk).seen.held
-    (ap (λ (x : Manifest). settings_of x.version) (sym c.version.view_is)) c.load.ensures.moves.held (c.in_ok-tables.ensures.answer tells))
+    (subst (λ (f : Image). AreOpened g.F.RangeFilter.spelling ts f) c.load.ensures.moves.held (c.in_ok-tables.ensures.answer tells))
     c.in-Err.damage (same_ranges m.slot c.version.inside.slot ts c.as_slice.result.now c.in-Err.damage (ap (λ (x : Manifest). x.slot) (sym c.version.view_is)) c.as_slice.ensures c.in-Err.ensures)
 
 pub returns-in-Err-clause-reads : goal.returns-in-Err-clause-reads

@@ -7,6 +7,7 @@ use Rattle.key_base.specs.Limits.{last_epoch}
 use Rattle.level_merge.specs.JobValue.{JobValue}
 use Rattle.manifest.proofs.Steps.{raised_is}
 use Rattle.manifest.specs.Causes.{HasInstallCause}
+use Rattle.filter_api.specs.Ranges.{IsRowInRange}
 use Rattle.manifest.specs.Manifest.{Manifest, StandsInSlot, install_of, other_place}
 use Rattle.manifest.specs.declared.fault.ManifestFault.{ManifestFault}
 use Rattle.manifest.specs.declared.fault.ManifestFault.TheVariants as fault
@@ -57,7 +58,8 @@ install-requires-clause-sound g c =
     let run = subst (λ (k : StoreValue). IsRun k.manifest.version k.tables c.args.job) (sym c.self.view_is) c.requires.run in
     subst (λ (m : Manifest). IsVersion m.version) (sym c.in_ok-next.ensures.next)
     (merged_is_version c.self.inside.version c.self.inside.tables.tables c.args.job c.self.invariant.0.version c.self.invariant.0.rows run
-    (subst (λ (m : Manifest). AllByRecursion RowFits m.version.rows) c.in_ok-next.ensures.next c.in_ok-next.ensures.fits))
+    (subst (λ (m : Manifest). AllByRecursion RowFits m.version.rows) c.in_ok-next.ensures.next c.in_ok-next.ensures.fits)
+    (subst (λ (m : Manifest). AllByRecursion IsRowInRange m.version.rows) c.in_ok-next.ensures.next c.in_ok-next.ensures.range))
 
 pub replace_tables-requires-clause-room : goal.replace_tables-requires-clause-room
 replace_tables-requires-clause-room g c =
@@ -71,7 +73,8 @@ installed-requires-clause-epoch g c =
     let run_in = subst (λ (k : StoreValue). IsRun k.manifest.version k.tables c.args.job) (sym c.self.view_is) c.requires.run in
     let sound : IsVersion c.in_ok-next.next.version = subst (λ (m : Manifest). IsVersion m.version) (sym c.in_ok-next.ensures.next)
     (merged_is_version c.self.inside.version c.self.inside.tables.tables c.args.job c.self.invariant.0.version c.self.invariant.0.rows run_in
-    (subst (λ (m : Manifest). AllByRecursion RowFits m.version.rows) c.in_ok-next.ensures.next c.in_ok-next.ensures.fits)) in
+    (subst (λ (m : Manifest). AllByRecursion RowFits m.version.rows) c.in_ok-next.ensures.next c.in_ok-next.ensures.fits)
+    (subst (λ (m : Manifest). AllByRecursion IsRowInRange m.version.rows) c.in_ok-next.ensures.next c.in_ok-next.ensures.range)) in
     below_last c.in_ok-next.next.version.epoch sound.epoch (λ last. no_fault _ _ (c.in-Ok.ensures.limit.1 last))
 
 pub invariant_of-self-in-Err-1 : goal.invariant_of-self-in-Err-1
@@ -82,7 +85,8 @@ invariant_of-self-in-Ok g c =
     let run_in = subst (λ (k : StoreValue). IsRun k.manifest.version k.tables c.args.job) (sym c.self.view_is) c.requires.run in
     let sound : IsVersion c.in_ok-next.next.version = subst (λ (m : Manifest). IsVersion m.version) (sym c.in_ok-next.ensures.next)
     (merged_is_version c.self.inside.version c.self.inside.tables.tables c.args.job c.self.invariant.0.version c.self.invariant.0.rows run_in
-    (subst (λ (m : Manifest). AllByRecursion RowFits m.version.rows) c.in_ok-next.ensures.next c.in_ok-next.ensures.fits)) in
+    (subst (λ (m : Manifest). AllByRecursion RowFits m.version.rows) c.in_ok-next.ensures.next c.in_ok-next.ensures.fits)
+    (subst (λ (m : Manifest). AllByRecursion IsRowInRange m.version.rows) c.in_ok-next.ensures.next c.in_ok-next.ensures.range)) in
     let left : c.in_ok-next.next.version.epoch < last_epoch = below_last c.in_ok-next.next.version.epoch sound.epoch (λ last. no_fault _ _ (c.in-Ok.ensures.limit.1 last)) in
     let whole = c.self.invariant.0 in
     let tables_are = c.replace_tables.ensures.tables ∙ ap (λ (ts : List Opened). tables_behind ts c.args.job) c.reserve.ensures.tables in
@@ -105,7 +109,8 @@ returns-in-Ok-clause-installs g c s done tells runs is_done tied =
     let run_in = subst (λ (k : StoreValue). IsRun k.manifest.version k.tables c.args.job) (sym c.self.view_is) c.requires.run in
     let sound : IsVersion c.in_ok-next.next.version = subst (λ (m : Manifest). IsVersion m.version) (sym c.in_ok-next.ensures.next)
     (merged_is_version c.self.inside.version c.self.inside.tables.tables c.args.job c.self.invariant.0.version c.self.invariant.0.rows run_in
-    (subst (λ (m : Manifest). AllByRecursion RowFits m.version.rows) c.in_ok-next.ensures.next c.in_ok-next.ensures.fits)) in
+    (subst (λ (m : Manifest). AllByRecursion RowFits m.version.rows) c.in_ok-next.ensures.next c.in_ok-next.ensures.fits)
+    (subst (λ (m : Manifest). AllByRecursion IsRowInRange m.version.rows) c.in_ok-next.ensures.next c.in_ok-next.ensures.range)) in
     let left : c.in_ok-next.next.version.epoch < last_epoch = below_last c.in_ok-next.next.version.epoch sound.epoch (λ last. no_fault _ _ (c.in-Ok.ensures.limit.1 last)) in
     let spelling = g.F.RangeFilter.spelling in
     let bytes = filter_bytes_of spelling g.F.RangeFilter.built_cutoff in
@@ -148,7 +153,8 @@ returns-in-Err-clause-refused g c =
     let run_in = subst (λ (k : StoreValue). IsRun k.manifest.version k.tables c.args.job) (sym c.self.view_is) c.requires.run in
     let sound : IsVersion c.in_ok-next.next.version = subst (λ (m : Manifest). IsVersion m.version) (sym c.in_ok-next.ensures.next)
     (merged_is_version c.self.inside.version c.self.inside.tables.tables c.args.job c.self.invariant.0.version c.self.invariant.0.rows run_in
-    (subst (λ (m : Manifest). AllByRecursion RowFits m.version.rows) c.in_ok-next.ensures.next c.in_ok-next.ensures.fits)) in
+    (subst (λ (m : Manifest). AllByRecursion RowFits m.version.rows) c.in_ok-next.ensures.next c.in_ok-next.ensures.fits)
+    (subst (λ (m : Manifest). AllByRecursion IsRowInRange m.version.rows) c.in_ok-next.ensures.next c.in_ok-next.ensures.range)) in
     let a = g.D.Disk.world c.args.disk.now in
     let b = g.D.Disk.world c.install.new.disk in
     let next_is = c.in_ok-next.ensures.next ∙ ap (λ (k : StoreValue). merged_manifest k.manifest (rows_of (tables_behind k.tables c.args.job))) c.self.view_is in
@@ -163,7 +169,8 @@ returns-in-Err-clause-installs g c s done tells runs is_done tied =
     let run_in = subst (λ (k : StoreValue). IsRun k.manifest.version k.tables c.args.job) (sym c.self.view_is) c.requires.run in
     let sound : IsVersion c.in_ok-next.next.version = subst (λ (m : Manifest). IsVersion m.version) (sym c.in_ok-next.ensures.next)
     (merged_is_version c.self.inside.version c.self.inside.tables.tables c.args.job c.self.invariant.0.version c.self.invariant.0.rows run_in
-    (subst (λ (m : Manifest). AllByRecursion RowFits m.version.rows) c.in_ok-next.ensures.next c.in_ok-next.ensures.fits)) in
+    (subst (λ (m : Manifest). AllByRecursion RowFits m.version.rows) c.in_ok-next.ensures.next c.in_ok-next.ensures.fits)
+    (subst (λ (m : Manifest). AllByRecursion IsRowInRange m.version.rows) c.in_ok-next.ensures.next c.in_ok-next.ensures.range)) in
     let spelling = g.F.RangeFilter.spelling in
     let bytes = filter_bytes_of spelling g.F.RangeFilter.built_cutoff in
     let store = c.args.self.now in

@@ -33,7 +33,7 @@ returns-in_err-found-clause-asked g c =
           let held = held_of spelling bytes g.D.Disk.tells c.args.self.now key opened c.self.inside.blocks w later tables blocks current s tells tied in
           let are = true_of spelling bytes g.D.Disk.tells c.args.self.now key opened c.self.inside.blocks w later tables blocks current s tied in
           tied_asked spelling bytes _ _ s _ w later refl c.look_and_keep.ensures.moves
-          (subst (λ (ts : List Opened). CacheAgrees c.look_and_keep.new.blocks ts s.tables) c.as_slice-tables.ensures (c.look_and_keep.ensures.keeps s.settings s.tables tells held are)) ours;
+          (subst (λ (ts : List Opened). CacheAgrees c.look_and_keep.new.blocks ts s.tables) c.as_slice-tables.ensures (c.look_and_keep.ensures.keeps s.tables tells held are)) ours;
     }
 
 pub returns-in_err-found-clause-gets : goal.returns-in_err-found-clause-gets
@@ -70,7 +70,7 @@ returns-clause-asked g c =
           let held = held_of spelling bytes g.D.Disk.tells c.args.self.now key opened c.self.inside.blocks w later tables blocks current s tells tied in
           let are = true_of spelling bytes g.D.Disk.tells c.args.self.now key opened c.self.inside.blocks w later tables blocks current s tied in
           tied_asked spelling bytes _ _ s _ w later refl c.look_and_keep.ensures.moves
-          (subst (λ (ts : List Opened). CacheAgrees c.look_and_keep.new.blocks ts s.tables) c.as_slice-tables.ensures (c.look_and_keep.ensures.keeps s.settings s.tables tells held are)) ours;
+          (subst (λ (ts : List Opened). CacheAgrees c.look_and_keep.new.blocks ts s.tables) c.as_slice-tables.ensures (c.look_and_keep.ensures.keeps s.tables tells held are)) ours;
     }
 
 pub returns-clause-gets : goal.returns-clause-gets
@@ -104,4 +104,4 @@ returns-clause-answer g c s tells tied =
     let none = no_memory _ c.get.result c.is_some.result c.self.inside.memory.entries s key c.get.ensures c.is_some.ensures c.if-is_some.false (ap (λ (k : StoreValue). k.memory.entries) c.self.view_is ∙ tied.memory) in
     found_view c.place_of.result _ s key c.in_ok-found.found c.look_and_keep.new.buffer c.look_and_keep.new.blocks.kept c.place_of.ensures.said
     (written_whole c.self.inside.buffer.len c.look_and_keep.new.buffer _ (search rules)) refl none
-    (c.in_ok-found.ensures.answer s.settings s.tables tells held are)
+    (c.in_ok-found.ensures.answer s.tables tells held are)
