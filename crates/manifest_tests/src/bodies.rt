@@ -18,15 +18,15 @@ fn formatted(alloc: Global) -> Version {
 
 #[test]
 fn the_body_after_a_format(rt: HostRuntime) -> Result<(), Fail> {
-    let bytes = body_bytes(rt.alloc(), &formatted(rt.alloc()))?;
+    let bytes = body_bytes(rt.alloc(), 2, &formatted(rt.alloc()))?;
     let front = [
-        0x53, 0x52, 0x46, 0x4D, 1, 0, 0, 0, 1, 0, 0, 0, 0, 0, 0, 0, 0, 2, 0, 0, 0, 0, 0x40, 0,
+        0x53, 0x52, 0x46, 0x4D, 2, 0, 0, 0, 1, 0, 0, 0, 0, 0, 0, 0, 0, 2, 0, 0, 0, 0, 0x40, 0,
         0x40, 0, 0, 0, 0x40, 0, 0, 0,
     ];
     assert_eq!(rt; bytes.len(), 72);
     assert!(rt; bytes.as_slice().starts_with(front.as_slice()));
     assert!(rt;
-        bytes.as_slice().ends_with([0xE7, 0x13, 0x68, 0xDB, 0x17, 0xF5, 0x93, 0xE4].as_slice())
+        bytes.as_slice().ends_with([0xF8, 0x2D, 0xC8, 0xE6, 0x65, 0x4F, 0xF8, 0x95].as_slice())
     );
     Ok(())
 }
@@ -46,9 +46,12 @@ fn a_row_of_a_merged_table(rt: HostRuntime) -> Result<(), Fail> {
         filter_len: 45,
         index_sum: 7,
         filter_sum: 9,
+        hash_bits: 0,
+        real_bits: 0,
+        ratio: 64,
     })?;
-    let bytes = body_bytes(rt.alloc(), &version)?;
-    let front = [0x53, 0x52, 0x46, 0x4D, 1, 0, 1, 0, 6, 0, 0, 0, 0, 0, 0, 0];
+    let bytes = body_bytes(rt.alloc(), 2, &version)?;
+    let front = [0x53, 0x52, 0x46, 0x4D, 2, 0, 1, 0, 6, 0, 0, 0, 0, 0, 0, 0];
     assert_eq!(rt; bytes.len(), 136);
     assert!(rt; bytes.as_slice().starts_with(front.as_slice()));
     assert_eq!(rt; bytes.as_slice().get(68), Some(&204));

@@ -48,8 +48,8 @@ fn each_rule_of_a_head_at_its_place(rt: HostRuntime) -> Result<(), Fail> {
     let alloc = rt.alloc();
     let rows: [(usize, &[u8], bool, u64, u8); 12] = [
         (0, &[0x54], false, 8, 1),
-        (4, &[2], false, 12, 2),
-        (4, &[2], true, 12, 2),
+        (4, &[3], false, 12, 2),
+        (4, &[3], true, 12, 2),
         (6, &[1, 4], false, 14, 3),
         (6, &[1, 4], true, 14, 3),
         (8, &[0], true, 16, 4),
@@ -70,13 +70,13 @@ fn each_rule_of_a_head_at_its_place(rt: HostRuntime) -> Result<(), Fail> {
 fn another_sum_comes_before_the_later_rules(rt: HostRuntime) -> Result<(), Fail> {
     let alloc = rt.alloc();
     let rows: [(usize, &[u8], u64); 4] = [
-        (8, &[0], 0xB1A5EF45E2D38472),
-        (16, &[0xFF, 1], 0xBCB146C442DE5C9D),
-        (24, &[0x41], 0x45F7EC4D68957946),
-        (32, &[1], 0xDF3B42313871D366),
+        (8, &[0], 0xF7A349085B184045),
+        (16, &[0xFF, 1], 0xE9C5F63B22404696),
+        (24, &[0x41], 0xA4A6D94592784019),
+        (32, &[1], 0x9B51024C89BE6E79),
     ];
     for (place, bytes, seen) in rows {
-        let kept = 0xE493F517DB6813E7;
+        let kept = 0x95F84F65E6C82DF8;
         let (part, at) = (Part::Manifest, 8);
         let sums = Damage::Sum {
             part,
@@ -99,8 +99,8 @@ fn with_tables(alloc: Global, rows: &[Row]) -> Result<Option<ManifestFault>, Fai
     Ok(fault_of(alloc, &mut disk))
 }
 
-// The fault of a store with one table whose row has 1 at a place of the body, with the sum of that.
-fn changed_row(alloc: Global, place: usize) -> Result<Option<ManifestFault>, Fail> {
+// The fault of a store with one table whose body has other bytes at some places, with the sum of that.
+fn changed_body(alloc: Global, changes: &[(usize, u8)]) -> Result<Option<ManifestFault>, Fail> {
     let mut disk = new_disk(alloc)?;
     store(
         alloc,
@@ -110,8 +110,10 @@ fn changed_row(alloc: Global, place: usize) -> Result<Option<ManifestFault>, Fai
     )?;
     let mut front = [0; 128];
     let mut done = disk.read(8, &mut front).is_ok();
-    for byte in front.iter_mut().skip(place).take(1) {
-        *byte = 1;
+    for (place, other) in changes {
+        for byte in front.iter_mut().skip(*place).take(1) {
+            *byte = *other;
+        }
     }
     done = done && disk.write(8, &front).is_ok();
     done = done && disk.write(136, &fnv1a(&front).to_le_bytes()).is_ok();
@@ -124,10 +126,40 @@ fn changed_row(alloc: Global, place: usize) -> Result<Option<ManifestFault>, Fai
 #[test]
 fn bytes_of_a_row_that_must_be_0(rt: HostRuntime) -> Result<(), Fail> {
     let alloc = rt.alloc();
-    for (place, at) in [(65, 73), (66, 74), (67, 75), (120, 128), (127, 135)] {
-        assert_eq!(rt; changed_row(alloc, place)?, shape(at, 7));
+    for (place, at) in [(65, 73), (66, 74), (67, 75), (124, 132), (127, 135)] {
+        assert_eq!(rt; changed_body(alloc, &[(place, 1)])?, shape(at, 7));
     }
-    assert_eq!(rt; changed_row(alloc, 64)?, None);
+    assert_eq!(rt; changed_body(alloc, &[(65, 1), (124, 1)])?, shape(73, 7));
+    assert_eq!(rt; changed_body(alloc, &[(64, 1)])?, None);
+    Ok(())
+}
+
+#[test]
+fn the_settings_of_a_row(rt: HostRuntime) -> Result<(), Fail> {
+    let alloc = rt.alloc();
+    let rows: [(&[(usize, u8)], u64); 6] = [
+        (&[(120, 33)], 128),
+        (&[(121, 33)], 129),
+        (&[(120, 33), (121, 33)], 128),
+        (&[(121, 33), (21, 33)], 29),
+        (&[(120, 33), (24, 0x41)], 128),
+        (&[(120, 33), (65, 1)], 128),
+    ];
+    for (changes, at) in rows {
+        assert_eq!(rt; changed_body(alloc, changes)?, shape(at, 5));
+    }
+    assert_eq!(rt; changed_body(alloc, &[(122, 0xFF)])?, None);
+    Ok(())
+}
+
+#[test]
+fn a_body_has_one_of_two_formats(rt: HostRuntime) -> Result<(), Fail> {
+    let alloc = rt.alloc();
+    for change in [(4, 3), (4, 0), (5, 1)] {
+        assert_eq!(rt; changed_body(alloc, &[change])?, shape(12, 2));
+    }
+    assert_eq!(rt; changed_body(alloc, &[(4, 1)])?, shape(130, 7));
+    assert_eq!(rt; changed_body(alloc, &[(4, 1), (122, 0)])?, None);
     Ok(())
 }
 

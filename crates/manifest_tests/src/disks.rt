@@ -52,6 +52,9 @@ pub fn table(level: u8, first_page: u32) -> Row {
         filter_len: 45,
         index_sum: 7,
         filter_sum: 9,
+        hash_bits: 0,
+        real_bits: 0,
+        ratio: 64,
     }
 }
 
@@ -72,11 +75,24 @@ pub fn version_of(alloc: Global, pages: u32, epoch: u64, rows: &[Row]) -> Result
     Ok(version)
 }
 
-/// Writes a body and an open gate before it.
+/// Writes a body in format 2, and an open gate before it.
 pub fn store(alloc: Global, disk: &mut MemDisk, slot: u64, version: &Version) -> Result<(), Fail>
     requires { slot ≤ 131072 }
 {
-    let body = body_bytes(alloc, version)?;
+    store_in(alloc, disk, slot, 2, version)
+}
+
+/// The same of a body in any format.
+pub fn store_in(
+    alloc: Global,
+    disk: &mut MemDisk,
+    slot: u64,
+    format: u16,
+    version: &Version,
+) -> Result<(), Fail>
+    requires { slot ≤ 131072 }
+{
+    let body = body_bytes(alloc, format, version)?;
     if body.len() > 1 << 20 {
         return Err(Fail::from("a long body"));
     }

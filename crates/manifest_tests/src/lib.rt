@@ -13,6 +13,8 @@ mod damage;
 #[cfg(test)]
 mod disks;
 #[cfg(test)]
+mod formats;
+#[cfg(test)]
 mod pages;
 #[cfg(test)]
 mod versions;

@@ -30,7 +30,7 @@ fn a_new_store_is_in_slot_a(rt: HostRuntime) -> Result<(), Fail> {
     assert_eq!(rt; found(alloc, &mut empty), Err(ManifestFault::NotAStore));
     let mut disk = formatted(alloc)?;
     let front = [
-        1, 0, 0, 0, 0, 0, 0, 0, 0x53, 0x52, 0x46, 0x4D, 1, 0, 0, 0, 1, 0, 0, 0, 0, 0, 0, 0, 0, 2,
+        1, 0, 0, 0, 0, 0, 0, 0, 0x53, 0x52, 0x46, 0x4D, 2, 0, 0, 0, 1, 0, 0, 0, 0, 0, 0, 0, 0, 2,
         0, 0, 0, 0, 0x40, 0, 0x40, 0, 0, 0, 0x40, 0, 0, 0,
     ];
     let mut slot = [9; 80];
@@ -38,7 +38,7 @@ fn a_new_store_is_in_slot_a(rt: HostRuntime) -> Result<(), Fail> {
     assert!(rt; slot.as_slice().starts_with(front.as_slice()));
     assert!(rt; slot.iter().skip(40).take(32).all(|byte| *byte == 0));
     assert!(rt;
-        slot.as_slice().ends_with([0xE7, 0x13, 0x68, 0xDB, 0x17, 0xF5, 0x93, 0xE4].as_slice())
+        slot.as_slice().ends_with([0xF8, 0x2D, 0xC8, 0xE6, 0x65, 0x4F, 0xF8, 0x95].as_slice())
     );
     assert_eq!(rt; is_store(&mut *disk), Ok(true));
     assert_eq!(rt; found(alloc, &mut disk), Ok((1, 0, false, 0)));
