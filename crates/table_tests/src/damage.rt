@@ -136,6 +136,30 @@ fn a_filter_of_other_leaves(rt: HostRuntime) -> Result<(), Fail> {
     Ok(())
 }
 
+// Other leaves are told before other widths; and no filter shows the ratio that it was built with.
+#[test]
+fn a_filter_of_other_widths(rt: HostRuntime) -> Result<(), Fail> {
+    let alloc = rt.alloc();
+    for (hash_bits, real_bits) in [(8, 0), (0, 3), (4, 4)] {
+        let (mut disk, mut row) = one_entry(alloc)?;
+        row.hash_bits = hash_bits;
+        row.real_bits = real_bits;
+        assert_eq!(rt;
+            fault_of(alloc, &mut disk, &row)?,
+            shape(Part::Filter, FILTER + 5, 12)
+        );
+        row.entries = 2;
+        assert_eq!(rt;
+            fault_of(alloc, &mut disk, &row)?,
+            shape(Part::Filter, FILTER + 12, 11)
+        );
+    }
+    let (mut disk, mut row) = one_entry(alloc)?;
+    row.ratio = 65_535;
+    assert_eq!(rt; fault_of(alloc, &mut disk, &row)?, None);
+    Ok(())
+}
+
 // What a get of a says, and how many blocks were read for it.
 fn get_a(alloc: Global, disk: &mut MemDisk, row: &Row) -> Result<(Option<TableFault>, u64), Fail> {
     let mut buf = vec![in alloc; 0; LARGEST_BLOCK_BYTES]?;
