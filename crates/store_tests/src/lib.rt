@@ -11,6 +11,8 @@ mod caching;
 #[cfg(test)]
 mod changes;
 #[cfg(test)]
+mod formats;
+#[cfg(test)]
 mod limits;
 #[cfg(test)]
 mod refused;

@@ -3,7 +3,7 @@ use entry_list::Entry;
 use plain_store::{Played, Reply, Request, State, Table};
 use std::alloc::{AllocError, Global};
 use std::test::Fail;
-use test_stores::{new_state, played};
+use test_stores::{BASE, new_state, played};
 
 fn zeros(alloc: Global, count: usize) -> Result<Vec<u8>, AllocError> {
     vec![in alloc; 0; count]
@@ -69,6 +69,7 @@ fn small_table(alloc: Global, n: u16) -> Result<Table, AllocError> {
         first_page: 192 + 3 * u64::from(n),
         pages: 3,
         blocks: 1,
+        settings: BASE,
         entries,
     })
 }

@@ -80,7 +80,7 @@ fn a_merge_that_meets_damage_changes_nothing(rt: HostRuntime) -> Result<(), Fail
 }
 
 // The sum of slot A's body behind a format, with the last epoch.
-const LAST_EPOCH_SUM: [u8; 8] = [0x6a, 0x42, 0x79, 0xfb, 0xdb, 0x1d, 0x01, 0xbb];
+const LAST_EPOCH_SUM: [u8; 8] = [0x3d, 0xc3, 0x25, 0x2c, 0x11, 0xb4, 0xbf, 0x37];
 
 // A new store at the last epoch.
 fn last_epoch(alloc: Global, disk: &mut MemDisk) -> Result<Box<PlainStore>, Fail> {
