@@ -31,7 +31,7 @@ fn stands(disk: &MemDisk, place: usize, bytes: &[u8]) -> bool {
 fn is_body(disk: &MemDisk, body: usize, epoch: u8, rows: &[[u8; 24]]) -> bool {
     let many = rows.len().min(9) as u8;
     let head = [
-        0x53, 0x52, 0x46, 0x4d, 1, 0, many, 0, epoch, 0, 0, 0, 0, 0, 0, 0,
+        0x53, 0x52, 0x46, 0x4d, 2, 0, many, 0, epoch, 0, 0, 0, 0, 0, 0, 0,
     ];
     if !stands(disk, body, &head) {
         return false;
@@ -116,6 +116,6 @@ fn a_put_that_fills_the_log_between_two_slices(rt: HostRuntime) -> Result<(), Fa
     for key in 1..5u8 {
         assert_eq!(rt; store.get(&mut *disk, &[key]), Ok(Some(value.as_slice())));
     }
-    assert!(rt; stands(&disk, BODY_A, b"SRFM\x01\x00\x02\x00\x07"));
+    assert!(rt; stands(&disk, BODY_A, b"SRFM\x02\x00\x02\x00\x07"));
     Ok(())
 }
