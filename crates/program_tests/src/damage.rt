@@ -42,13 +42,13 @@ type Example = (
     &'static [u8],
 );
 
-// A filter of no suffix bits, under settings of eight hash bits in slot B: its widths are at byte 5 of its page, the third of
-// the table. And two tables with one key, named as tables of level 1 in slot A: the second row is told.
+// A filter of no suffix bits, whose row in slot B has eight hash bits: its widths are at byte 5 of its page, the third of the
+// table. And two tables with one key, named as tables of level 1 in slot A: the second row is told.
 const EXAMPLES: [Example; 2] = [
     (
         b"put 61 62\nflush\n",
         131_080,
-        &[(20, 8)],
+        &[(120, 8)],
         128,
         b"damaged filter 794629 rule 12\n",
     ),
