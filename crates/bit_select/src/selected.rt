@@ -99,7 +99,8 @@ impl<A: Allocator> Selected<A> {
     /// many bits of `along` are set before that place and not before the start's word. `None` where the bit is not so near, or
     /// fewer than four words are left: [`select`](Selected::select) finds it then.
     ///
-    /// Counts the four words at once and tests none of them, so that the processor foresees nothing wrong.
+    /// Counts the four words at once and tests none of them, so that the processor foresees nothing wrong. That it answers
+    /// where the bit is so near is said here alone: its clauses are met by `None` too.
     pub fn near(&self, start: Start, along: &[u64]) -> Option<(usize, u64)>
         requires there { 64 * start.word < length self.now }
         requires along { length along.now ≡ length (packed 64 self.now) }

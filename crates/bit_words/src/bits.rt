@@ -140,7 +140,7 @@ impl<A: Allocator> Bits<A> {
 
     /// Appends the bits to `out`, eight a byte: bit `i` is bit `i mod 8` of byte `i / 8`, and the rest of the last
     /// byte is 0. After an `Err` `out` is as it was.
-    pub fn to_bytes(&self, out: &mut Vec<u8>) -> Result<(), AllocError>
+    pub fn to_bytes<B: Allocator>(&self, out: &mut Vec<u8, B>) -> Result<(), AllocError>
         ensures written { OnOk result (out.new.items ≡ out.old.items ++ packed 8 self.now) }
         ensures unchanged { OnErr result (out.new.items ≡ out.old.items) }
     {

@@ -26,13 +26,13 @@ use std::marker::Model;
 pub(crate) const HEADER_BYTES: usize = 8;
 
 // The length that is used, or the number of pages, is out of its limits.
-const NO_LENGTH: u8 = 1;
+pub(crate) const NO_LENGTH: u8 = 1;
 
 // The count is none, or a byte that must be 0 is not.
-const NO_HEADER: u8 = 2;
+pub(crate) const NO_HEADER: u8 = 2;
 
 // Bytes are left behind the last entry.
-const BYTES_LEFT: u8 = 7;
+pub(crate) const BYTES_LEFT: u8 = 7;
 
 // A byte behind the length that is used is not 0.
 const NO_PADDING: u8 = 8;
@@ -258,7 +258,7 @@ fn header(bytes: &[u8]) -> Result<(usize, u8), BlockFault>
 }
 
 // Whether the byte of the header at a place is 0, as it must be.
-fn zero_at(bytes: &[u8], place: usize) -> Result<(), BlockFault>
+pub(crate) fn zero_at(bytes: &[u8], place: usize) -> Result<(), BlockFault>
     requires { place < length bytes.now }
     ensures broken { IfErr result (λ found. ((slice_index bytes.now place == 0) ≡ false) × (seen found ≡ fault place 2)) }
     ensures place { IfErr result (λ found. found.place ≡ place) }
@@ -324,7 +324,7 @@ fn search<'a>(
 }
 
 // Goes on with a sum, where it is wanted.
-fn feed(summer: &mut Summer, bytes: &[u8], summed: bool)
+pub(crate) fn feed(summer: &mut Summer, bytes: &[u8], summed: bool)
     ensures { (fed : Bytes) → summer.old ≡ sum_where summed fed → summer.new ≡ sum_where summed (fed ++ bytes.now) }
 {
     if summed {
@@ -333,7 +333,7 @@ fn feed(summer: &mut Summer, bytes: &[u8], summed: bool)
 }
 
 // The sum of some bytes, where it is wanted.
-fn sum_of(bytes: &[u8], summed: bool) -> u64
+pub(crate) fn sum_of(bytes: &[u8], summed: bool) -> u64
     ensures { result ≡ sum_where summed bytes.now }
 {
     let mut summer = Summer::new();
@@ -372,7 +372,7 @@ fn is_same(one: &[u8], other: &[u8]) -> bool
 
 // Whether all bytes behind the length that is used are 0.
 #[tactic(auto, unfolding(block_model::specs::BlockReading::tail_fault))]
-fn check_padding(bytes: &[u8], used: usize) -> Result<(), BlockFault>
+pub(crate) fn check_padding(bytes: &[u8], used: usize) -> Result<(), BlockFault>
     requires used { used ≡ used_in bytes.now }
     requires within { used ≤ length bytes.now }
     ensures broken { IfErr result (λ found. tail_fault bytes.now ≡ Some (seen found)) }

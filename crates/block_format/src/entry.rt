@@ -18,16 +18,16 @@ use std::cmp::Ordering;
 pub(crate) const WORD_BYTES: usize = 8;
 
 // An entry runs past the length.
-const PAST_THE_LENGTH: u8 = 3;
+pub(crate) const PAST_THE_LENGTH: u8 = 3;
 
 // Neither a value nor a tombstone, or a tombstone with a value.
-const NO_KIND: u8 = 4;
+pub(crate) const NO_KIND: u8 = 4;
 
 // A length is out of its limits.
-const OUT_OF_LIMITS: u8 = 5;
+pub(crate) const OUT_OF_LIMITS: u8 = 5;
 
 // The key is not above the one before.
-const NOT_ABOVE: u8 = 6;
+pub(crate) const NOT_ABOVE: u8 = 6;
 
 /// The kind of an entry with a value.
 pub(crate) const VALUE: u8 = 1;

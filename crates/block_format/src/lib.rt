@@ -19,15 +19,23 @@
 //! ```
 #![tactic(auto)]
 
+mod any_block;
+mod any_header;
 mod block;
 mod builder;
 mod cursor;
 mod entry;
 mod fault;
+mod format;
+mod head;
+mod judging;
 mod span;
+mod walk;
 
 pub use block::{Block, read_sum_and_span};
 pub use builder::BlockBuilder;
 pub use cursor::BlockCursor;
 pub use fault::BlockFault;
+pub use format::BlockFormat;
 pub use span::EntrySpan;
+pub use walk::{EntryWalk, ValuePlace, value_of};

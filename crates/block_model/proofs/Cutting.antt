@@ -110,7 +110,7 @@ follow_back : (test : Bytes → Bool) (a b : List Entry) → Follow test (keys_o
 follow_back test [] b f = any_follow test (keys_of b) f
 follow_back test (e ∷ a) b f = follow_back (is_before e.key) a b f.1
 
-each_rises : (blocks : List (List Entry)) → Follow is_any (keys_of (joined blocks)) → AllByRecursion (λ b. Follow is_any (keys_of b)) blocks
+pub each_rises : (blocks : List (List Entry)) → Follow is_any (keys_of (joined blocks)) → AllByRecursion (λ b. Follow is_any (keys_of b)) blocks
 each_rises [] f = tt
 each_rises (block ∷ more) f = (follow_front is_any block (joined more) f, each_rises more (follow_back is_any block (joined more) f))
 

@@ -18,3 +18,5 @@ pub mod PrefixedEntriesWritten
 pub mod PrefixedBlocksWritten
 pub mod OldBlocks
 pub mod ListedEntries
+pub mod PrefixedCutting
+pub mod EntriesJudged

@@ -14,14 +14,16 @@ use Rattle.entry_model.specs.Reading.{entry_in, key_in, key_length_in, value_len
 use Rattle.block_model.specs.Block.{IsBlock, block_bytes, header_bytes}
 use Rattle.block_model.specs.BlockReading.{block_fault, block_in, count_in, entries_fault, entries_in, entries_part, entry_fault, has_no_kind, header_fault, tail_fault}
 use Rattle.block_model.specs.FormatFaults.{block_fault_by, block_in_by, entries_fault_by, entries_part_by, entry_fault_by, header_fault_by}
-use Rattle.block_model.specs.FormatLaws.{OldIsReadAsBefore, EitherIsReadAgain, EitherWasWrittenSo}
+use Rattle.block_model.specs.FormatLaws.{OldIsReadAsBefore, EitherFillsItsPages, EitherIsReadAgain, EitherWasWrittenSo}
 use Rattle.block_model.specs.Formats.{Format, Old, Prefixed, entries_by, format_in, key_by, value_by, width_by}
 use Rattle.block_model.specs.Order.{is_any}
+use Rattle.block_model.specs.Pages.{block_pages}
 use Rattle.block_model.specs.Prefixed.{IsBlockBy, IsEntryBy, spelled_by}
 use Rattle.block_model.proofs.BlocksRead.{block_again}
 use Rattle.block_model.proofs.BlocksWritten.{block_written}
 use Rattle.block_model.proofs.EntriesWritten.{key_length_sound}
-use Rattle.block_model.proofs.PrefixedBlocksRead.{prefixed_again}
+use Rattle.block_model.proofs.Lengths.{block_fills}
+use Rattle.block_model.proofs.PrefixedBlocksRead.{above_none, prefixed_again, prefixed_fills}
 use Rattle.block_model.proofs.PrefixedBlocksWritten.{prefixed_written}
 
 -- ---- entries
@@ -41,11 +43,6 @@ unfolding entries_fault_by entries_fault key_by key_in width_by width_in
 entries_old bytes i zero place before rest = refl
 entries_old bytes i (suc n) place before rest =
     ap₂ (λ (a b : Option Fault). option_or a b) (entry_old i place before rest) (entries_old bytes (suc i) n (place + width_in rest) (key_in rest) (drop (width_in rest) rest))
-
--- the first key is above no key, where it has a byte
-above_none : (key : Bytes) → 1 ≤ length key → is_before [] key ≡ true
-above_none [] some = absurd (omega (arith, some))
-above_none (b ∷ key) some = refl
 
 last_of_five : (a b c d : Bool) (place : ℕ) (one other : Option Fault) → (c ≡ false → d ≡ false → one ≡ other)
     → refuse a place 3 (refuse b place 4 (refuse c place 5 (refuse d place 3 one))) ≡ refuse a place 3 (refuse b place 4 (refuse c place 5 (refuse d place 3 other)))
@@ -123,6 +120,11 @@ either_again Old block is =
     let both = block_again block (is_block block is) in
     (same.0 ∙ both.0, same.1 ∙ both.1)
 either_again Prefixed block is = prefixed_again block is
+
+pub either_fills : EitherFillsItsPages
+unfolding block_pages
+either_fills Old block = block_fills block
+either_fills Prefixed block = prefixed_fills block
 
 abbrev was_written : Format → Bytes → Type 0
 was_written f bytes = IsBlockBy f (block_in_by f bytes) × (spelled_by f (block_in_by f bytes) ≡ bytes)

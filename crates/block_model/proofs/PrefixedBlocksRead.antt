@@ -68,7 +68,7 @@ body_most n e is = omega (arith, prefixed_size n e, is.short_key, is.short_value
 body_least : (e : Entry) → IsEntryBy Prefixed e → 10 ≤ length (prefixed_body 0 e)
 body_least e is = omega (arith, prefixed_size 0 e, is.some_key)
 
-length_most : (block : List Entry) → IsBlockBy Prefixed block → prefixed_block_length block ≤ 1049619
+pub length_most : (block : List Entry) → IsBlockBy Prefixed block → prefixed_block_length block ≤ 1049619
 unfolding prefixed_block_length prefixed_entries_bytes
 length_most [] is = absurd (omega (arith, is.some))
 length_most (e ∷ []) is =
@@ -76,7 +76,7 @@ length_most (e ∷ []) is =
     omega (arith, length-append (prefixed_body n e) [], body_most n e is.each.0)
 length_most (e ∷ next ∷ more) is = omega (arith, is.small (omega arith))
 
-long_enough : (block : List Entry) → IsBlockBy Prefixed block → 20 ≤ prefixed_block_length block
+pub long_enough : (block : List Entry) → IsBlockBy Prefixed block → 20 ≤ prefixed_block_length block
 unfolding prefixed_block_length prefixed_entries_bytes
 long_enough [] is = absurd (omega (arith, is.some))
 long_enough (e ∷ more) is =
@@ -165,14 +165,15 @@ header_kept block is =
     (passed _ _ _ _ (not_true _ (eq-eqb _ _ marks.2))
     (passed _ _ _ _ (le-ltb (used_in bytes) (8 + places_length (count_in bytes)) (omega (arith, used, list, list_within block))) refl)))))
 
--- the first key is above no key
+-- a key of one byte or more is above no key
+pub above_none : (key : Bytes) → 1 ≤ length key → is_before [] key ≡ true
+above_none [] some = absurd (omega (arith, some))
+above_none (b ∷ key) some = refl
+
+-- so is the first key
 first_above : (block : List Entry) → IsBlockBy Prefixed block → Follow (is_before []) (keys_of block)
 first_above [] is = tt
-first_above (e ∷ more) is = (above e.key is.each.0.some_key, is.rising.1)
-  where
-    above : (key : Bytes) → 1 ≤ length key → is_before [] key ≡ true
-    above [] some = absurd (omega (arith, some))
-    above (b ∷ key) some = refl
+first_above (e ∷ more) is = (above_none e.key is.each.0.some_key, is.rising.1)
 
 pub prefixed_block_again : (block : List Entry) → IsBlockBy Prefixed block
     → (block_fault_by Prefixed (prefixed_block_bytes block) ≡ None) × (block_in_by Prefixed (prefixed_block_bytes block) ≡ block)

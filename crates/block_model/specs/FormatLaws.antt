@@ -1,15 +1,16 @@
 -- Laws of both formats of a block: what was written is read again, what breaks no rule was written so, and what the list of a
 -- block says.
-use Rattle.std.specs.Prelude.{◌≡◌, ◌<◌, ℕ, ◌-◌, ◌*◌, List, [], drop, take, None}
+use Rattle.std.specs.Prelude.{◌≡◌, ◌<◌, ℕ, ◌-◌, ◌*◌, List, [], length, drop, take, None}
 use Rattle.byte_fields.specs.Spelling.{IsBytes}
 use Rattle.key_base.specs.ByteOrder.{IsBefore}
 use Rattle.key_base.specs.Limits.{restart_entries}
 use Rattle.map_model.specs.SortedMap.{Bytes}
 use Rattle.entry_model.specs.Entries.{Entry}
 use Rattle.block_model.specs.BlockReading.{block_fault, block_in, count_in, used_in}
-use Rattle.block_model.specs.FormatFaults.{any_block_fault, any_block_in}
+use Rattle.block_model.specs.FormatFaults.{any_block_fault, any_block_in, entries_fault_by}
 use Rattle.block_model.specs.Formats.{Format, Old, Prefixed, entries_by, format_in, key_by, listed_in}
-use Rattle.block_model.specs.Prefixed.{IsBlockBy, spelled_by}
+use Rattle.block_model.specs.Pages.{page_bytes, pages_for}
+use Rattle.block_model.specs.Prefixed.{IsBlockBy, length_by, spelled_by}
 
 -- what was written is read again
 abbrev pub EitherIsReadAgain : Type 0
@@ -22,6 +23,10 @@ EitherWasWrittenSo =
     (bytes : Bytes) → IsBytes bytes → any_block_fault bytes ≡ None
     → IsBlockBy (format_in bytes) (any_block_in bytes) × (spelled_by (format_in bytes) (any_block_in bytes) ≡ bytes)
 
+-- a block takes the pages that its length takes
+abbrev pub EitherFillsItsPages : Type 0
+EitherFillsItsPages = (f : Format) (block : List Entry) → length (spelled_by f block) ≡ page_bytes * pages_for (length_by f block)
+
 -- bytes that name the old format are judged and read as before
 abbrev pub OldIsReadAsBefore : Type 0
 OldIsReadAsBefore = (bytes : Bytes) → format_in bytes ≡ Old → (any_block_fault bytes ≡ block_fault bytes) × (any_block_in bytes ≡ block_in bytes)
@@ -33,6 +38,13 @@ ListedEntriesAreTheLater =
     → (j : ℕ) → restart_entries * j < count_in bytes → (other : Bytes)
     → entries_by Prefixed (count_in bytes - restart_entries * j) other (drop (listed_in bytes j) (take (used_in bytes) bytes))
     ≡ drop (restart_entries * j) (any_block_in bytes)
+
+-- and with no key before them they break no rule: whatever a walk from a listed place reads lies in the bytes
+abbrev pub ListedEntriesBreakNoRule : Type 0
+ListedEntriesBreakNoRule =
+    (bytes : Bytes) → format_in bytes ≡ Prefixed → any_block_fault bytes ≡ None
+    → (j : ℕ) → restart_entries * j < count_in bytes
+    → entries_fault_by Prefixed bytes (restart_entries * j) (count_in bytes - restart_entries * j) (listed_in bytes j) [] (drop (listed_in bytes j) (take (used_in bytes) bytes)) ≡ None
 
 -- the key of a listed entry, which shares nothing
 abbrev pub listed_key : Bytes → ℕ → Bytes

@@ -13,5 +13,6 @@ pub mod FormatFaults
 pub mod Prefixed
 pub mod Laws
 pub mod FormatLaws
+pub mod PrefixedLaws
 pub mod Examples
 pub mod PrefixedExamples

@@ -28,3 +28,7 @@ after_k000 shared rest =
 unfoldable pub tombstones : ℕ → ℕ → List Entry
 tombstones from zero = []
 tombstones from (suc more) = del_entry (codes "k0" ++ ((48 + from / 10) ∷ (48 + from % 10) ∷ [])) ∷ tombstones (suc from) more
+
+-- the block of seventeen of them, k000 to k016, with another byte at a place
+unfoldable pub changed_seventeen : ℕ → ℕ → Bytes
+changed_seventeen place byte = set (prefixed_block_bytes (tombstones 0 17)) place byte

@@ -26,5 +26,6 @@ pub mod prefixed_examples;
 pub use laws::{
     blocks_are_the_entries, blocks_have_one_spelling, either_format_has_one_spelling,
     indexes_have_one_spelling, lengths_are_counted, listed_entries_are_found_by_halves,
+    prefixed_blocks_are_the_entries, prefixed_pages_are_counted,
 };
 pub use pages::pages_for;

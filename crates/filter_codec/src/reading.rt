@@ -29,8 +29,8 @@ use suffix_bits::Suffixes;
 /// Fails exactly where the bytes are no image, with the first rule that they break and the place where they do, or for want
 /// of memory, which says nothing of the bytes. An image of 2^32 labels, or of 2^24 dense nodes, is want of memory too: the
 /// counts over its bits are not made. Takes what the sections and these counts need, each block once and none before the
-/// bytes of its section are there, and in the end what the sums of one level need (`Trie::keep_sums`). Looks at each section
-/// a few times, at each level twice at most, and for those sums at each node 22 times at most.
+/// bytes of its section are there, and in the end what the sums of one level need. Looks at each section a few times and at
+/// each level twice at most; `Trie::keep_sums` says what those sums cost.
 pub fn decode<A: Allocator + Clone>(alloc: A, bytes: &[u8]) -> Result<Trie<A>, DecodeError>
     ensures read { IfOk result (λ trie. IsImage trie bytes.now) }
     ensures refused { IfErr result (IsCause bytes.now) }

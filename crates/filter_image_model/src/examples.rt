@@ -68,6 +68,7 @@ pub fn section_faults()
     ensures padding_of_openings_in_a_second_byte { image_fault (with_bytes ((52, 2) ∷ []) far_to_toy_sparse) ≡ Some (fault 52 6) }
     ensures padding_of_ends { image_fault (with_bytes ((116, 6) ∷ (168, 0x82) ∷ []) a_ab_dense) ≡ Some (fault 168 6) }
     ensures stray { image_fault (with_bytes ((116, 6) ∷ (12, 3) ∷ []) a_ab_dense) ≡ Some (fault 116 7) }
+    ensures first_of_two_strays { image_fault (with_bytes ((116, 6) ∷ (148, 8) ∷ []) a_ab_dense) ≡ Some (fault 116 7) }
     ensures stray_in_the_second_node { image_fault (with_bytes ((148, 8) ∷ []) a_ab_dense) ≡ Some (fault 148 7) }
     ensures stray_before_openings { image_fault (with_bytes ((84, 6) ∷ (108, 2) ∷ []) a_ab_root_dense) ≡ Some (fault 84 7) }
 {}

@@ -1,6 +1,6 @@
 //! The definitions, shown by examples. Each computes.
 ghost use Rattle.std.specs.Prelude.{◌≡◌, ◌==◌, [], ◌∷◌, ◌++◌, true, false, map, length, codes, Some, None};
-ghost use Rattle.filter_model.specs.Answers.{begins, first, point, ranged, tally, true_count};
+ghost use Rattle.filter_model.specs.Answers.{begins, first, keys_below, point, ranged, tally, true_count};
 ghost use Rattle.filter_model.specs.Image.{image};
 ghost use Rattle.filter_model.specs.Leaves.{base_leaves, leaves_of, hash_bits_of};
 ghost use Rattle.filter_model.specs.Examples.{a_ab, a_ab_dense, a_ab_root_dense, a_ab_sparse, a_and_a_ff, aa1_ab1, far_to_toy, far_to_toy_sparse, real_leaves};
@@ -21,6 +21,9 @@ pub fn far_to_toy_answers()
     ensures some_from_fat_to_s { ranged 0 (base_leaves far_to_toy) (codes "fat") (codes "s") ≡ true }
     ensures seek_fat { first 0 (base_leaves far_to_toy) (codes "fat") ≡ Some 2 }
     ensures seek_u { first 0 (base_leaves far_to_toy) (codes "u") ≡ None }
+    ensures seek_fasten { first 0 (base_leaves far_to_toy) (codes "fasten") ≡ Some 1 }
+    ensures two_keys_are_below_fasten { keys_below far_to_toy (codes "fasten") ≡ 2 }
+    ensures fast_is_not_below_itself { keys_below far_to_toy (codes "fast") ≡ 1 }
     ensures least_without_real_bits { map (begins 0) (base_leaves far_to_toy) ≡ codes "far" ∷ codes "fas" ∷ codes "s" ∷ codes "top" ∷ codes "toy" ∷ [] }
     ensures least_with_real_bits { map (begins 8) (real_leaves far_to_toy) ≡ codes "far" ∷ codes "fast" ∷ codes "s" ∷ codes "top" ∷ codes "toy" ∷ [] }
     ensures real_bits_keep_out { ranged 8 (real_leaves far_to_toy) (codes "fasa") (codes "fass") ≡ false }

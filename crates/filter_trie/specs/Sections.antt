@@ -4,7 +4,8 @@ use Rattle.filter_model.specs.Leaves.{Filter}
 use Rattle.filter_model.specs.Nodes.{all}
 use Rattle.filter_trie.specs.Parts.{lower, upper}
 
--- for each dense node two for each byte and one for END, for each branch of a sparse one its label and two, and the suffixes
-abbrev pub section_bits : Filter → ℕ
-section_bits i =
+-- of each dense node 256 for its branches, 256 for its children and one for END; of each branch of a sparse node eight for
+-- its label and two more; of each leaf its hash bits and real bits
+abbrev pub bits_of_sections : Filter → ℕ
+bits_of_sections i =
     513 * length (upper i.cutoff i.leaves) + 10 * length (all (lower i.cutoff i.leaves)) + length i.leaves * (i.hash_bits + i.real_bits)

@@ -24,9 +24,8 @@ use trie_levels::{Levels, Span};
 /// `spans` are those of the keys and `levels` their plan, by which all room is made at once; each width is at most 32 and
 /// the cutoff at most the height. Goes over the leaves that are left once a level, so that the work is at most in the
 /// letters of all paths; no leaf is made, and beside the sections it takes the spans and one open node of 512 bytes. In the
-/// end the sums of one level are kept (`keep_sums`), for which each node is looked at 22 times at most. The only error is want of
-/// memory: a sparse half with 2^32 labels or more is one, and a dense half with 2^24 nodes or more, as sections do not grow
-/// past that.
+/// end the sums of one level are kept; `keep_sums` says what that costs. The only error is that memory runs out: a sparse half
+/// with 2^32 labels or more is that too, and a dense half with 2^24 nodes or more, as sections do not grow past that.
 pub fn build(
     alloc: Global,
     keys: &KeyList,

@@ -49,7 +49,7 @@ impl<A: Allocator> Trie<A> {
     /// less. Where a node of it has more than 256 leaves below, a level more than twice as deep is tried, and so on; there may
     /// be none. Of eleven levels at most each node, and each node behind them, is looked at twice at most; one block of memory
     /// is taken for each level that is tried, and one in the end. The trie stands for the same list, and what is counted is the
-    /// same; without the sums it is counted level by level. That any are kept is told here and by tests alone, not by a clause.
+    /// same; without the sums it is counted level by level. That any are kept is said here and shown by tests, by no clause.
     pub fn keep_sums(&mut self, alloc: A) -> Result<(), AllocError>
     where
         A: Clone,

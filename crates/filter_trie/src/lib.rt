@@ -14,9 +14,10 @@
 //!
 //! A walk looks at one node for each level: in the dense half at two bits and one count, in the sparse half at where the
 //! node begins, its labels and one count. It takes no memory. `walk_counted` counts the nodes, by a [`Steps`] that takes no
-//! bytes and no time; steps are what its clauses count, not looks. `build` reads each letter of each stub once, and makes its room at the start from the plan. `kept_sum`
-//! says at once, of a node of one level, what `before_node` counts from there on level by level; `build` keeps these sums,
-//! and whoever makes a trie of sections may (`keep_sums`). `image_bytes` and `memory_bits` say what an image and a trie take.
+//! bytes and no time; steps are what its clauses count, not looks. `build` reads each letter of each stub once, and makes
+//! its room at the start from the plan. `kept_sum` says at once, of a node of one level, what `before_node` counts from there
+//! on level by level; `build` keeps these sums, and whoever makes a trie of sections may (`keep_sums`). `image_bytes` and
+//! `memory_bits` say what an image and a trie take.
 //!
 //! Do not use it for keys that come and go: it is built once of all of them. Nor where the leaves of a few keys do: a plain
 //! list of leaves is asked by one loop (`plain_filter`).

@@ -4,7 +4,7 @@ ghost use Rattle.filter_api.specs.Spellings.{MayStand};
 ghost use Rattle.filter_model.specs.Image.{image};
 ghost use Rattle.filter_model.specs.Nodes.{all};
 ghost use Rattle.filter_trie.specs.Parts.{lower, upper};
-ghost use Rattle.filter_trie.specs.Sections.{section_bits};
+ghost use Rattle.filter_trie.specs.Sections.{bits_of_sections};
 
 use super::trie::Trie;
 use bit_words::Bits;
@@ -19,10 +19,10 @@ const ROW_BYTES: u64 = 64;
 // How many bits a count or a place takes that is kept beside bits.
 const KEPT_BITS: u64 = 32;
 
-// A count is kept before so many bits, and one behind the last.
+// A count is kept before so many bits, and one after the last (`bit_rank`).
 const BLOCK: u64 = 128;
 
-// A place is kept for so many set bits.
+// A place is kept for so many set bits (`bit_select`).
 const STEP: u64 = 64;
 
 // How many dense nodes a trie has, how many branches of sparse ones, and how many bits of suffixes.
@@ -48,12 +48,13 @@ impl<A: Allocator> Trie<A> {
     }
 
     /// The bits of memory that the trie takes: its sections in whole words, a count of four bytes before each 128 bits of
-    /// those that are counted and behind the last, a place of four bytes for each 64 nodes of the sparse half, and the sums
+    /// those that are counted and after the last, a place of four bytes for each 64 nodes of the sparse half, and the sums
     /// that it keeps (`keep_sums`) with such places. What an allocator adds to a block, or takes for room, is left out.
     ///
-    /// The clause says that the sections are part of it; the rest is told here alone. Looks at each word of the sums.
+    /// The clause says that the sections are part of it, which any greater number meets; the rest is said here and shown by
+    /// tests. Looks at each word of the sums.
     pub fn memory_bits(&self) -> u64
-        ensures { section_bits self.now ≤ result }
+        ensures { bits_of_sections self.now ≤ result }
     {
         let sums = match &self.sums {
             None => 0,
@@ -84,7 +85,7 @@ impl<A: Allocator> Trie<A> {
 
     // The bits of the words that hold the sections, and of the labels. A row of a dense node is four words.
     fn section_words(&self) -> u64
-        ensures { section_bits self.now ≤ result }
+        ensures { bits_of_sections self.now ≤ result }
     {
         let counts = self.section_counts();
         512 * counts.dense
@@ -115,7 +116,7 @@ fn word_bits(bits: u64) -> u64
     64 * bits.div_ceil(64)
 }
 
-// The bits of the counts before each block of these and behind the last.
+// The bits of the counts before each block of these and after the last.
 fn counts_for<A: Allocator>(bits: &Bits<A>) -> u64 {
     KEPT_BITS.saturating_mul((bits.len() as u64 / BLOCK).saturating_add(1))
 }

@@ -27,8 +27,8 @@ use std::alloc::Global;
 /// It is written in format 2, whatever the format of the one before. Each image that a crash may leave meanwhile has the
 /// old version or the new one, and at `Ok` the new one alone, with both gates open; outside the other slot nothing changes.
 /// Three writes, each with a sync, of which the first is left out where the other slot is closed; no read, and memory for
-/// one body, which is taken first. [`ManifestFault::Epoch`] exactly where no epoch is left, and it, as out of memory, comes
-/// before any write.
+/// one body, which is taken first. [`ManifestFault::Epoch`] exactly where no epoch is left; no write comes before this
+/// answer or before out of memory.
 #[tactic(auto, unfolding(key_base::specs::Limits::last_epoch))]
 pub fn install<D: Disk>(alloc: Global, disk: &mut D, version: &Version) -> Result<(), ManifestFault>
     requires slot { version.now.slot ≤ 1 }

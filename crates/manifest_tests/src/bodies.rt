@@ -31,11 +31,27 @@ fn the_body_after_a_format(rt: HostRuntime) -> Result<(), Fail> {
     Ok(())
 }
 
+// Settings of new tables: four hash bits, three real bits and the ratio 16.
 #[test]
-fn a_row_of_a_merged_table(rt: HostRuntime) -> Result<(), Fail> {
+fn the_head_of_another_variant(rt: HostRuntime) -> Result<(), Fail> {
     let mut version = formatted(rt.alloc());
-    version.epoch = 6;
-    version.rows.push(Row {
+    version.hash_bits = 4;
+    version.real_bits = 3;
+    version.ratio = 16;
+    let bytes = body_bytes(rt.alloc(), 2, &version)?;
+    assert_eq!(rt;
+        bytes.as_slice().get(20..24),
+        Some([4, 3, 0x10, 0].as_slice())
+    );
+    assert!(rt;
+        bytes.as_slice().ends_with([0x8D, 0x46, 0x42, 0xEF, 0x05, 0xFD, 0x8D, 0x77].as_slice())
+    );
+    Ok(())
+}
+
+// A table of level 1 with eight hash bits, three real bits and the ratio 7.
+fn merged() -> Row {
+    Row {
         level: 1,
         first_page: 204,
         data_pages: 1,
@@ -44,16 +60,30 @@ fn a_row_of_a_merged_table(rt: HostRuntime) -> Result<(), Fail> {
         entries: 4,
         index_len: 27,
         filter_len: 45,
-        index_sum: 7,
+        index_sum: 0x0102_0304_0506_0708,
         filter_sum: 9,
-        hash_bits: 0,
-        real_bits: 0,
-        ratio: 64,
-    })?;
+        hash_bits: 8,
+        real_bits: 3,
+        ratio: 7,
+    }
+}
+
+#[test]
+fn a_row_of_a_merged_table(rt: HostRuntime) -> Result<(), Fail> {
+    let mut version = formatted(rt.alloc());
+    version.epoch = 6;
+    version.log_page = 128;
+    version.rows.push(merged())?;
     let bytes = body_bytes(rt.alloc(), 2, &version)?;
     let front = [0x53, 0x52, 0x46, 0x4D, 2, 0, 1, 0, 6, 0, 0, 0, 0, 0, 0, 0];
     assert_eq!(rt; bytes.len(), 136);
     assert!(rt; bytes.as_slice().starts_with(front.as_slice()));
     assert_eq!(rt; bytes.as_slice().get(68), Some(&204));
+    assert!(rt;
+        bytes.as_slice().ends_with([
+            8, 3, 7, 0, 0, 0, 0, 0, 0xFF, 0x5B, 0x42, 0xD1, 0x63, 0x8F, 0x7D, 0x6E
+        ]
+        .as_slice())
+    );
     Ok(())
 }

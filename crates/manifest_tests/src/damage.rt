@@ -2,7 +2,7 @@
 use crate::disks::{formatted, new_disk, store, table, version_of};
 use byte_fields::{Damage, Part, Row, fnv1a};
 use disk_mem::MemDisk;
-use disk_trait::Disk;
+use disk_trait::{Disk, DiskFault};
 use manifest::{ManifestFault, load};
 use std::alloc::Global;
 use std::test::Fail;
@@ -99,28 +99,43 @@ fn with_tables(alloc: Global, rows: &[Row]) -> Result<Option<ManifestFault>, Fai
     Ok(fault_of(alloc, &mut disk))
 }
 
-// The fault of a store with one table whose body has other bytes at some places, with the sum of that.
-fn changed_body(alloc: Global, changes: &[(usize, u8)]) -> Result<Option<ManifestFault>, Fail> {
-    let mut disk = new_disk(alloc)?;
-    store(
-        alloc,
-        &mut disk,
-        0,
-        &version_of(alloc, 512, 6, &[table(1, 192)])?,
-    )?;
-    let mut front = [0; 128];
-    let mut done = disk.read(8, &mut front).is_ok();
+// Changes bytes of a body that has so many before its sum, and mends that.
+fn change_body(
+    disk: &mut MemDisk,
+    length: usize,
+    changes: &[(usize, u8)],
+) -> Result<(), DiskFault> {
+    let mut bytes = [0; 192];
+    let front = &mut bytes[..length.min(192)];
+    disk.read(8, front)?;
     for (place, other) in changes {
         for byte in front.iter_mut().skip(*place).take(1) {
             *byte = *other;
         }
     }
-    done = done && disk.write(8, &front).is_ok();
-    done = done && disk.write(136, &fnv1a(&front).to_le_bytes()).is_ok();
-    if !done {
-        return Err(Fail::from("the disk failed"));
+    let sum = fnv1a(front).to_le_bytes();
+    disk.write(8, front)?;
+    disk.write(8 + front.len() as u64, &sum)
+}
+
+// The fault of a store with one table or two whose body has other bytes at some places, with the sum of that.
+fn changed_rows(
+    alloc: Global,
+    rows: &[Row],
+    changes: &[(usize, u8)],
+) -> Result<Option<ManifestFault>, Fail> {
+    let mut disk = new_disk(alloc)?;
+    store(alloc, &mut disk, 0, &version_of(alloc, 512, 6, rows)?)?;
+    let length = if rows.len() == 1 { 128 } else { 192 };
+    match change_body(&mut disk, length, changes) {
+        Ok(()) => Ok(fault_of(alloc, &mut disk)),
+        Err(_) => Err(Fail::from("the disk failed")),
     }
-    Ok(fault_of(alloc, &mut disk))
+}
+
+// The same of a store with one table.
+fn changed_body(alloc: Global, changes: &[(usize, u8)]) -> Result<Option<ManifestFault>, Fail> {
+    changed_rows(alloc, &[table(1, 192)], changes)
 }
 
 #[test]
@@ -149,6 +164,17 @@ fn the_settings_of_a_row(rt: HostRuntime) -> Result<(), Fail> {
         assert_eq!(rt; changed_body(alloc, changes)?, shape(at, 5));
     }
     assert_eq!(rt; changed_body(alloc, &[(122, 0xFF)])?, None);
+    Ok(())
+}
+
+// The second row's hash bits are told before the first row's byte that must be 0.
+#[test]
+fn the_settings_of_each_row_come_first(rt: HostRuntime) -> Result<(), Fail> {
+    let alloc = rt.alloc();
+    let rows = [table(0, 195), table(0, 192)];
+    let told = changed_rows(alloc, &rows, &[(184, 33), (65, 1)])?;
+    assert_eq!(rt; told, shape(192, 5));
+    assert_eq!(rt; changed_rows(alloc, &rows, &[(65, 1)])?, shape(73, 7));
     Ok(())
 }
 

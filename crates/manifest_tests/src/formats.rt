@@ -60,9 +60,10 @@ fn epoch_of(alloc: Global, disk: &mut MemDisk) -> Result<u64, Fail> {
     }
 }
 
-// Whether these bytes stand at a place.
-fn stands(disk: &MemDisk, place: usize, bytes: &[u8]) -> bool {
-    disk.bytes().get(place..).unwrap_or(b"").starts_with(bytes)
+// Whether these bytes are at a place of a slot.
+fn stands(disk: &MemDisk, slot: usize, place: usize, bytes: &[u8]) -> bool {
+    let slot = disk.bytes().get(slot..).unwrap_or(b"");
+    slot.get(place..).unwrap_or(b"").starts_with(bytes)
 }
 
 // Whether a slot has the same bytes on both disks.
@@ -79,9 +80,9 @@ fn an_install_stands_in_format_2(rt: HostRuntime) -> Result<(), Fail> {
         let mut disk = two_slots(alloc, a, b, newer)?;
         assert_eq!(rt; epoch_of(alloc, &mut disk)?, 6);
         assert_eq!(rt; install_again(alloc, &mut disk), Ok(()));
-        assert!(rt; stands(&disk, other + 8, b"SRFM\x02\x00\x01\x00\x07"));
-        assert!(rt; stands(&disk, other + 8 + 20, &MIXED[..4]));
-        assert!(rt; stands(&disk, other + 8 + 120, &MIXED));
+        assert!(rt; stands(&disk, other, 8, b"SRFM\x02\x00\x01\x00\x07"));
+        assert!(rt; stands(&disk, other, 28, &MIXED[..4]));
+        assert!(rt; stands(&disk, other, 128, &MIXED));
         assert!(rt; same_slot(&disk, &first, newer));
         assert_eq!(rt; epoch_of(alloc, &mut disk)?, 7);
     }

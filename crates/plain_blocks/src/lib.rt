@@ -11,8 +11,8 @@
 //! index_length        27: a head of 11 bytes and a row of 16
 //! ```
 //!
-//! [`prefixed_block_bytes`] spells a block of the second format, whose entries share prefixes: 31 bytes for these two. No
-//! store writes it yet.
+//! [`prefixed_block_bytes`] spells a block of the second format, whose entries share prefixes: 31 bytes for these two.
+//! [`are_prefixed_entries`] tests what it asks. No store writes it yet.
 #![tactic(auto)]
 
 mod bytes;
@@ -23,4 +23,4 @@ mod prefixed;
 pub use bytes::{block_bytes, data_bytes, first_key, index_bytes, last_key, push_body};
 pub use counts::{data_pages, index_length};
 pub use pages::{are_entries, block_length, cut, entry_length};
-pub use prefixed::{prefixed_block_bytes, prefixed_block_length};
+pub use prefixed::{are_prefixed_entries, prefixed_block_bytes, prefixed_block_length};

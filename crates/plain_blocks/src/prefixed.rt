@@ -1,14 +1,15 @@
 //! The bytes of blocks whose entries share prefixes.
-ghost use Rattle.std.specs.Prelude.{◌≡◌, ◌≤◌, ◌<◌, ◌+◌, ◌^◌, ◌++◌, [], IfOk, OnOk, length, if◌then◌else◌};
+ghost use Rattle.std.specs.Prelude.{◌≡◌, ◌≤◌, ◌<◌, ◌+◌, ◌^◌, ◌++◌, ◌↔◌, [], Some, IsTrue, IfOk, OnOk, length, if◌then◌else◌};
 ghost use Rattle.std.specs.List.{AllByRecursion};
 ghost use Rattle.byte_fields.specs.Endian.{little_bytes};
+ghost use Rattle.entry_model.specs.Entries.{bytes_of, entry_of};
 ghost use Rattle.block_model.specs.Formats.{Prefixed, begins_anew, places_length, wants_shared};
 ghost use Rattle.block_model.specs.Prefixed.{IsEntryBy, list_bytes, prefixed_block_bytes, prefixed_block_length, prefixed_body, prefixed_entries_bytes};
 
 use crate::bytes::{left_in_page, push_zeros};
 use byte_fields::{push_fields, push_number};
 use entry_list::Entry;
-use key_base::{RESTART_ENTRIES, shared};
+use key_base::{MAX_KEY_BYTES, RESTART_ENTRIES, shared};
 use std::alloc::{AllocError, Global};
 
 const HEADER_WIDTHS: [usize; 3] = [4, 1, 3];
@@ -17,6 +18,9 @@ const ENTRY_WIDTHS: [usize; 4] = [1, 2, 2, 4];
 
 // The bytes of an entry before its key: its kind, how much it shares, and the lengths of its rest and of its value.
 const HEAD_BYTES: u64 = 9;
+
+// The bytes of the longest value.
+const MAX_VALUE_BYTES: usize = 1_048_576;
 
 // The number of the format.
 const FORMAT: u64 = 2;
@@ -57,6 +61,35 @@ pub fn prefixed_block_length(block: &[Entry]) -> u64
         before = key;
     }
     bytes
+}
+
+/// Whether the other two calls can spell these entries: fewer than 2^16, each with a key and a value within the limits.
+pub fn are_prefixed_entries(entries: &[Entry]) -> bool
+    ensures { IsTrue result ↔ (AllByRecursion (IsEntryBy Prefixed) entries.now × (length entries.now < 2 ^ 16)) }
+{
+    for entry in entries {
+        if !keeps_limits(entry.key(), value_bytes(entry)) {
+            return false;
+        }
+    }
+    entries.len() < 1 << 16
+}
+
+// Whether a key and a value keep the limits of an entry.
+fn keeps_limits(key: &[u8], value: &[u8]) -> bool
+    ensures { IsTrue result ↔ IsEntryBy Prefixed (entry_of key.now (Some value.now)) }
+{
+    !key.is_empty() && key.len() <= MAX_KEY_BYTES && value.len() <= MAX_VALUE_BYTES
+}
+
+// The bytes of an entry's value, none of a tombstone.
+fn value_bytes(entry: &Entry) -> &[u8]
+    ensures { result.now ≡ bytes_of entry.now.value }
+{
+    match entry.value() {
+        Some(bytes) => bytes,
+        None => b"",
+    }
 }
 
 // Where the first entry stands: after the header and the list.

@@ -5,7 +5,7 @@ use Rattle.std.specs.List.{list_any, position_from}
 use Rattle.std.specs.Option.{option_and_then, option_map}
 use Rattle.std.proofs.lemmas.Bool.{cond-true, cond-false}
 use Rattle.filter_model.specs.Leaves.{Leaf}
-use Rattle.plain_filter.specs.Reading.{after_leaf, leaf_in, leaf_list_in}
+use Rattle.plain_filter_model.specs.Reading.{after_leaf, leaf_in, leaf_list_in}
 use Rattle.std.proofs.lemmas.List.{append-nil, take_more}
 use Rattle.std.proofs.lemmas.List.Concat.{flat_map-append}
 use Rattle.std.proofs.lemmas.List.Sums.{sum_by-cons}

@@ -5,9 +5,5 @@ pub use Rattle.filter_model.specs.Leaves
 pub use Rattle.filter_model.specs.Strings
 pub use Rattle.filter_model.specs.Valid
 pub use Rattle.key_base.specs.Limits
-pub mod Spelling
-pub mod Reading
-pub mod Neighbours
-pub mod ExactLaws
-pub mod ValidLaws
-pub mod DecidedLaws
+pub use Rattle.plain_filter_model.specs.Spelling
+pub mod SpellingLaws

@@ -2,7 +2,7 @@
 ghost use Rattle.std.specs.Prelude.{◌≡◌, ◌+◌, ◌≤◌, length, drop, slice_index, IfOk};
 ghost use Rattle.std.specs.Option.{option_map};
 ghost use Rattle.filter_api.specs.Seen.{seen};
-ghost use Rattle.plain_filter.specs.Reading.{after_leaf, leaf_in, leaf_list_in};
+ghost use Rattle.plain_filter_model.specs.Reading.{after_leaf, leaf_in, leaf_list_in};
 
 use byte_fields::{get_u16, get_u32};
 use filter_api::{Leaf, LeafList};

@@ -4,7 +4,7 @@ ghost use Rattle.key_base.specs.Limits.{max_key_bytes};
 ghost use Rattle.std.specs.List.{All};
 ghost use Rattle.filter_model.specs.Valid.{IsLeaf};
 ghost use Rattle.filter_api.specs.Seen.{seen};
-ghost use Rattle.plain_filter.specs.Spelling.{leaf_bytes, plain_spelling};
+ghost use Rattle.plain_filter_model.specs.Spelling.{leaf_bytes, plain_spelling};
 
 use filter_api::{Leaf, LeafList};
 use std::alloc::{AllocError, Global};

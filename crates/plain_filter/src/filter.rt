@@ -10,7 +10,7 @@ ghost use Rattle.filter_model.specs.Valid.{IsLeaf};
 ghost use Rattle.filter_api.specs.Ranges.{InRange};
 ghost use Rattle.filter_api.specs.Seen.{seen};
 ghost use Rattle.filter_api.specs.Spellings.{IsNoSpelling, IsSpelling};
-ghost use Rattle.plain_filter.specs.Spelling.{plain_spelling};
+ghost use Rattle.plain_filter_model.specs.Spelling.{plain_spelling};
 
 use crate::answers::{any_fits, any_meets, count_meeting, first_from};
 use crate::decode::read_leaves;
@@ -37,9 +37,8 @@ pub struct PlainFilter {
 }
 
 impl RangeFilter for PlainFilter {
-    ghost use Rattle.plain_filter.specs.Spelling.{plain_spelling};
-    ghost use Rattle.plain_filter.specs.ExactLaws.{plain_spells_one};
-    ghost use Rattle.plain_filter.specs.DecidedLaws.{plain_decided};
+    ghost use Rattle.plain_filter_model.specs.Spelling.{plain_spelling};
+    ghost use Rattle.plain_filter.specs.SpellingLaws.{one_list, told_of_any};
 
     ghost hash_bits = { λ f. f.hash_bits };
 
@@ -114,9 +113,9 @@ impl RangeFilter for PlainFilter {
         }
     }
 
-    ghost spells_one = { plain_spells_one };
+    ghost spells_one = { one_list };
 
-    ghost decided = { plain_decided };
+    ghost decided = { told_of_any };
 }
 
 // The leaves of a list of keys.

@@ -5,7 +5,7 @@ ghost use Rattle.filter_model.specs.Trie.{parent};
 ghost use Rattle.filter_model.specs.Valid.{IsLeaf, IsValid, joins};
 ghost use Rattle.filter_model.specs.Strings.{extends};
 ghost use Rattle.filter_api.specs.Seen.{seen};
-ghost use Rattle.plain_filter.specs.Neighbours.{StandsRightly, has_company, joins_before, joins_next, next_extends, rises_at};
+ghost use Rattle.plain_filter_model.specs.Neighbours.{StandsRightly, has_company, joins_before, joins_next, next_extends, rises_at};
 
 use crate::leaf::{are_same, begins_with};
 use filter_api::{Leaf, LeafList};

@@ -18,11 +18,7 @@ use plain_map::Pair;
 use std::alloc::{AllocError, Global};
 
 // Whether the table's filter admits the key.
-fn admits<F: RangeFilter>(
-    alloc: Global,
-    key: &[u8],
-    table: &Table,
-) -> Result<bool, AllocError>
+fn admits<F: RangeFilter>(alloc: Global, key: &[u8], table: &Table) -> Result<bool, AllocError>
     ensures { IfOk result (λ yes. yes ≡ model.admits key.now table.now) }
 {
     let filter: F = filter_of(alloc, table.settings, table.entries.as_slice())?;
@@ -65,11 +61,7 @@ fn encloses(key: &[u8], table: &Table) -> bool
 }
 
 // Whether a block of the table is read for the key.
-fn is_searched<F: RangeFilter>(
-    alloc: Global,
-    key: &[u8],
-    table: &Table,
-) -> Result<bool, AllocError>
+fn is_searched<F: RangeFilter>(alloc: Global, key: &[u8], table: &Table) -> Result<bool, AllocError>
     ensures { IfOk result (λ yes. yes ≡ model.is_searched key.now table.now) }
 {
     Ok(admits::<F>(alloc, key, table)? && encloses(key, table))
@@ -86,11 +78,7 @@ fn unless_found(entries: &[Entry], key: &[u8], more: u64) -> u64
 }
 
 // The tables that are searched for the key, up to the first that has it.
-fn searched<F: RangeFilter>(
-    alloc: Global,
-    key: &[u8],
-    tables: &[Table],
-) -> Result<u64, AllocError>
+fn searched<F: RangeFilter>(alloc: Global, key: &[u8], tables: &[Table]) -> Result<u64, AllocError>
     ensures { IfOk result (λ n. n ≡ model.searched key.now tables.now) }
 {
     let Some((table, older)) = tables.split_first() else {

@@ -3,8 +3,8 @@
 //! A [`State`] is seen as the state of the definitions, and a kind of filter is named by the type that implements
 //! `RangeFilter`. [`play`] answers requests one after the other, with a whole merge behind each put and del, and
 //! [`play_in_slices`] with a merge slice of so many blocks; the replies and the state that they leave are the definitions'
-//! own. Beside them stand the parts: [`flushed`], [`written`], [`compacted`], [`choose`], [`merged`], [`sliced`], the gaps,
-//! the bounds and the numbers.
+//! own. Beside them stand the parts: [`flushed`], [`written`], [`compacted`], [`with_settings`], [`with_pages`],
+//! [`choose`], [`merged`], [`sliced`], the gaps, the bounds and the numbers.
 //!
 //! A line that breaks the grammar is no request, and its reply needs no store. What is played here has no pages, no
 //! cache and no device, it copies whatever it changes, and it builds a table's filter anew for each question: it is what
@@ -35,6 +35,7 @@ mod pages;
 mod placing;
 mod reads;
 mod reply;
+mod resetting;
 mod state;
 mod table;
 mod view;
@@ -50,6 +51,7 @@ pub use merges::{Plan, choose};
 pub use pages::table_pages;
 pub use placing::NoRoom;
 pub use reply::Reply;
+pub use resetting::{with_pages, with_settings};
 pub use state::State;
 pub use store_commands::Request;
 pub use table::Table;

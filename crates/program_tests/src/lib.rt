@@ -8,8 +8,6 @@ mod damage;
 #[cfg(test)]
 mod faults;
 #[cfg(test)]
-mod formats;
-#[cfg(test)]
 mod loads;
 #[cfg(test)]
 mod many_tables;

@@ -2,7 +2,7 @@
 use crate::runs::{base_disk, check, commanded, disk_of, served};
 use std::test::Fail;
 
-const USAGE: &[u8] = b"usage: surfstore PATH format|serve|load\n";
+const USAGE: &[u8] = b"usage: surfstore PATH format|serve|load|settings|grow\n";
 
 // Words over a device without a store, the status, and the line that is said.
 const EXAMPLES: [(&str, u8, &[u8]); 18] = [
@@ -81,7 +81,7 @@ fn settings_out_of_range_are_told_before_any_call(rt: HostRuntime) -> Result<(),
     Ok(())
 }
 
-const HELP_PARTS: [&str; 12] = [
+const HELP_PARTS: [&str; 15] = [
     "format",
     "serve",
     "--pages",
@@ -94,6 +94,9 @@ const HELP_PARTS: [&str; 12] = [
     "--count",
     "16,777,216",
     "formatted 1048576",
+    "settings",
+    "grow",
+    "limit epoch, of settings and grow",
 ];
 
 // The first of these parts that a text lacks.

@@ -1,3 +1,5 @@
+pub mod Alone
+mod Known
 mod Numbers
 mod Unparsed
 mod OneSort

@@ -1,5 +1,5 @@
 -- The number of an option, as it is read and as the words spell it.
-use Rattle.std.proofs.Common.{◌≡◌, ℕ, List, Option, Some, None, Bool, true, false, refl, arith}
+use Rattle.std.proofs.Common.{◌≡◌, ℕ, Option, Some, None, Bool, true, false, refl, arith}
 use Rattle.std.specs.Borrow.{Bor}
 use Rattle.std.specs.Prelude.{Result, Ok, Err, option_map, unwrap_or}
 use Rattle.std.specs.Option.{option_map_or}

@@ -1,5 +1,5 @@
 -- Answers without matches, by their kinds.
-use Rattle.std.proofs.Common.{◌≡◌, ◌≢◌, ◌⊎◌, inl, inr, ℕ, List, [], ◌∷◌, Bool, true, false, ap, subst, sym, ◌∙◌, refl}
+use Rattle.std.proofs.Common.{◌≡◌, ◌≢◌, ◌⊎◌, inl, inr, List, [], ◌∷◌, Bool, true, false, ap, sym, ◌∙◌, refl}
 use Rattle.std.specs.Prelude.{◌||◌}
 use Rattle.std.specs.List.{list_any}
 use Rattle.clap.specs.Faults.{fault_of}
@@ -33,6 +33,8 @@ asks_by_kind words kind (asked.Format store) has comes = absurd comes
 asks_by_kind words kind (asked.BadSettings field) has comes = absurd comes
 asks_by_kind words kind asked.Serve has comes = absurd comes
 asks_by_kind words kind (asked.Load load) has comes = absurd comes
+asks_by_kind words kind (asked.Settings settings) has comes = absurd comes
+asks_by_kind words kind (asked.Grow pages) has comes = absurd comes
 asks_by_kind words kind (asked.Help text) has comes = elim has [
   | inl memory ↦ absurd (let bad : false ≡ true = sym (ap is_request memory) ∙ comes in cc)
   | inr among ↦ any_among is_request kind (fault_of store_app words) among comes

@@ -11,13 +11,16 @@ use Rattle.clap.specs.declared.error.kind.ErrorKind.{ErrorKind}
 use Rattle.clap.specs.declared.error.kind.ErrorKind.TheVariants.{DisplayHelp, DisplayVersion, OutOfMemory}
 use Rattle.filter_api.specs.declared.settings.Field.{Field}
 use Rattle.filter_api.specs.declared.settings.Field.TheVariants.{Count}
+use Rattle.filter_api.specs.declared.settings.Settings.{Settings}
 use Rattle.program_words.specs.CommandLine.{store_app}
 use Rattle.program_words.specs.Loads.{is_load_count}
-use Rattle.program_words.specs.NewStores.{IsStoreOf, first_bad_word, variant_named}
+use Rattle.program_words.specs.NewStores.{IsStoreOf, first_bad_word}
+use Rattle.program_words.specs.WantedSettings.{AreSettingsOf, first_bad_setting, variant_named}
 use Rattle.program_words.specs.declared.asked.Asked.{Asked}
 use Rattle.program_words.specs.declared.asked.Asked.TheVariants as asked
 use Rattle.program_words.specs.declared.load.Load.{Load}
 use Rattle.program_words.specs.declared.new_store.Wanted.{Wanted}
+use Rattle.program_words.specs.declared.wanted_settings.WantedSettings.{WantedSettings}
 
 -- the number that a text spells; clap takes no text that spells none below 2^64
 abbrev pub number_in_text : Text → ℕ
@@ -30,14 +33,16 @@ option_number id rows = option_map_or number_in_text (one_of id rows) 0
 abbrev pub text_at : Text → List Row → Text
 text_at id rows = unwrap_or (first_of id rows) []
 
-abbrev pub wanted_of : List Row → Wanted
-wanted_of rows = record {
-  pages = option_number (codes "pages") rows;
+abbrev pub wanted_settings_of : List Row → WantedSettings
+wanted_settings_of rows = record {
   variant = variant_named (text_at (codes "variant") rows);
   hash_bits = option_number (codes "hash-bits") rows;
   real_bits = option_number (codes "real-bits") rows;
   ratio = option_number (codes "ratio") rows;
 }
+
+abbrev pub wanted_of : List Row → Wanted
+wanted_of rows = record { pages = option_number (codes "pages") rows; settings = wanted_settings_of rows }
 
 abbrev pub load_of : List Row → Load
 load_of rows = record { seed = option_number (codes "seed") rows; count = option_number (codes "count") rows }
@@ -53,7 +58,7 @@ is_request DisplayHelp = true
 is_request DisplayVersion = true
 is_request kind = false
 
--- `format` and `load` with these options, and `serve`
+-- each subcommand with these options
 abbrev pub IsFormat : List Text → Wanted → Type 0
 IsFormat words wanted = (rows : List Row) × IsSubcommand words (codes "format") rows × (wanted_of rows ≡ wanted)
 
@@ -63,18 +68,32 @@ IsServe words = (rows : List Row) × IsSubcommand words (codes "serve") rows
 abbrev pub IsLoad : List Text → Load → Type 0
 IsLoad words load = (rows : List Row) × IsSubcommand words (codes "load") rows × (load_of rows ≡ load)
 
--- a load that has not too many steps
+abbrev pub IsSettings : List Text → WantedSettings → Type 0
+IsSettings words wanted = (rows : List Row) × IsSubcommand words (codes "settings") rows × (wanted_settings_of rows ≡ wanted)
+
+abbrev pub IsGrow : List Text → ℕ → Type 0
+IsGrow words pages = (rows : List Row) × IsSubcommand words (codes "grow") rows × (option_number (codes "pages") rows ≡ pages)
+
+-- a load that has not too many steps, and settings that are in range
 abbrev pub IsLoadInRange : List Text → Load → Type 0
 IsLoadInRange words load = IsLoad words load × (is_load_count load.count ≡ true)
 
--- words with which the store is opened that stands on the device
+abbrev pub IsSettingsInRange : List Text → Settings → Type 0
+IsSettingsInRange words settings = (wanted : WantedSettings) × IsSettings words wanted × (first_bad_setting wanted ≡ None) × AreSettingsOf wanted settings
+
+-- Words with which the store is opened that stands on the device. But for the pages of a `grow`, which are looked at then, their
+-- numbers are in range.
+abbrev pub OpensWithoutGrowing : List Text → Type 0
+OpensWithoutGrowing words = IsServe words ⊎ ((load : Load) × IsLoadInRange words load) ⊎ ((settings : Settings) × IsSettingsInRange words settings)
+
 abbrev pub OpensStore : List Text → Type 0
-OpensStore words = IsServe words ⊎ ((load : Load) × IsLoadInRange words load)
+OpensStore words = OpensWithoutGrowing words ⊎ ((pages : ℕ) × IsGrow words pages)
 
 -- words that are taken, of whose numbers this is the first out of range
 abbrev pub HasBadNumber : List Text → Field → Type 0
 HasBadNumber words field =
     ((wanted : Wanted) × IsFormat words wanted × (first_bad_word wanted ≡ Some field)) ⊎ ((load : Load) × IsLoad words load × (is_load_count load.count ≡ false) × (field ≡ Count))
+    ⊎ ((wanted : WantedSettings) × IsSettings words wanted × (first_bad_setting wanted ≡ Some field))
 
 -- Clap answers the words with a text; or it refuses them, and no text is among what it may answer. So of any words exactly one
 -- is so: clap takes them, answers them or refuses them.
@@ -91,16 +110,18 @@ WordsAsk words (asked.Format store) = (wanted : Wanted) × IsFormat words wanted
 WordsAsk words (asked.BadSettings field) = HasBadNumber words field
 WordsAsk words asked.Serve = IsServe words
 WordsAsk words (asked.Load load) = IsLoadInRange words load
+WordsAsk words (asked.Settings settings) = IsSettingsInRange words settings
+WordsAsk words (asked.Grow pages) = IsGrow words pages
 WordsAsk words (asked.Help text) = IsHelp words
 WordsAsk words asked.Refused = AreRefusedWords words
 WordsAsk words asked.Memory = Unit {0}
 
 -- ---- on the way
 
--- a subcommand of the three
+-- a subcommand of the five
 abbrev pub IsKnown : Option (Text × List Row) → Type 0
 IsKnown None = ⊥
-IsKnown (Some found) = (found.0 ≡ codes "format") ⊎ (found.0 ≡ codes "serve") ⊎ (found.0 ≡ codes "load")
+IsKnown (Some found) = (found.0 ≡ codes "format") ⊎ (found.0 ≡ codes "serve") ⊎ (found.0 ≡ codes "load") ⊎ (found.0 ≡ codes "settings") ⊎ (found.0 ≡ codes "grow")
 
 -- an answer without matches, by its kind
 abbrev pub ComesOf : ErrorKind → Asked → Type 0
@@ -108,6 +129,8 @@ ComesOf kind (asked.Format store) = ⊥
 ComesOf kind (asked.BadSettings field) = ⊥
 ComesOf kind asked.Serve = ⊥
 ComesOf kind (asked.Load load) = ⊥
+ComesOf kind (asked.Settings settings) = ⊥
+ComesOf kind (asked.Grow pages) = ⊥
 ComesOf kind (asked.Help text) = is_request kind ≡ true
 ComesOf kind asked.Refused = (is_request kind ≡ false) × (kind ≢ OutOfMemory)
 ComesOf kind asked.Memory = Unit {0}

@@ -17,19 +17,28 @@ required rule = record rule { required = true }
 abbrev pub with_default : Text → Rule → Rule
 with_default text rule = record rule { defaults = text ∷ [] }
 
--- the variant may be any word
-abbrev pub variant_rule : Rule
-variant_rule = required (option_rule (codes "variant"))
-
--- `format`: what it must have, and all of it
-abbrev pub format_with_pages_app : App
-format_with_pages_app = with_rule (with_rule (new_app (codes "format")) (required (number_rule (codes "pages")))) variant_rule
-
-abbrev pub format_app : App
-format_app = with_rule (with_rule (with_rule format_with_pages_app
+-- a command with the options for filters: the variant, which may be any word, and numbers
+abbrev pub with_number_options : App → App
+with_number_options app = with_rule (with_rule (with_rule app
     (with_default (codes "8") (number_rule (codes "hash-bits"))))
     (with_default (codes "8") (number_rule (codes "real-bits"))))
     (with_default (codes "64") (number_rule (codes "ratio")))
+
+abbrev pub with_filter_options : App → App
+with_filter_options app = with_number_options (with_rule app (required (option_rule (codes "variant"))))
+
+-- a command with the option for pages
+abbrev pub with_pages_option : App → App
+with_pages_option app = with_rule app (required (number_rule (codes "pages")))
+
+abbrev pub format_app : App
+format_app = with_filter_options (with_pages_option (new_app (codes "format")))
+
+abbrev pub settings_app : App
+settings_app = with_filter_options (new_app (codes "settings"))
+
+abbrev pub grow_app : App
+grow_app = with_pages_option (new_app (codes "grow"))
 
 abbrev pub serve_app : App
 serve_app = new_app (codes "serve")
@@ -37,9 +46,9 @@ serve_app = new_app (codes "serve")
 abbrev pub load_app : App
 load_app = with_rule (with_rule (new_app (codes "load")) (required (number_rule (codes "seed")))) (required (number_rule (codes "count")))
 
--- One of the three, with no word before it. `--help` is known everywhere, `--version` before a subcommand, and `help` is no
+-- One of the five, with no word before it. `--help` is known everywhere, `--version` before a subcommand, and `help` is no
 -- subcommand.
 abbrev pub store_app : App
-store_app = with_subcommand (with_subcommand (with_subcommand
+store_app = with_subcommand (with_subcommand (with_subcommand (with_subcommand (with_subcommand
     (on_top (λ s. record s { no_binary_name = true; subcommand_required = true; disable_help_subcommand = true; has_version = true }) (new_app (codes "surfstore")))
-    format_app.top) serve_app.top) load_app.top
+    format_app.top) serve_app.top) load_app.top) settings_app.top) grow_app.top

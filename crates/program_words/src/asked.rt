@@ -6,15 +6,16 @@ ghost use Rattle.clap.specs.Matches.{found_of};
 ghost use Rattle.clap.specs.Simple.{subcommand_of, subcommand_rows_of};
 ghost use Rattle.clap.specs.Values.{kind_of};
 ghost use Rattle.clap.specs.Walk.{Text, rows_of};
-ghost use Rattle.program_words.specs.Asked.{WordsAsk, ComesOf, IsKnown, IsLoad, load_of, option_number, wanted_of};
+ghost use Rattle.program_words.specs.Asked.{WordsAsk, ComesOf, IsKnown, load_of, option_number, wanted_of, wanted_settings_of};
 ghost use Rattle.program_words.specs.CommandLine.{store_app};
 
 use crate::command_line::store_command;
 use crate::load::Load;
-use crate::new_store::{NewStore, Variant, Wanted};
+use crate::new_store::{NewStore, Wanted};
+use crate::wanted_settings::{Variant, WantedSettings};
 use clap::error::ErrorKind;
 use clap::{ArgMatches, Error};
-use filter_api::Field;
+use filter_api::{Field, Settings};
 use std::alloc::Global;
 
 /// What the words ask for.
@@ -22,12 +23,16 @@ use std::alloc::Global;
 pub enum Asked {
     /// That a store is made.
     Format(NewStore),
-    /// A store or a load whose numbers are out of range, this field first.
+    /// A store, a load or settings whose numbers are out of range, this field first.
     BadSettings(Field),
     /// That lines are answered.
     Serve,
     /// That steps are made that follow from a seed.
     Load(Load),
+    /// That new tables get filters by these settings.
+    Settings(Settings),
+    /// That the store gets so many pages, in range or not: that is seen by the pages that it has.
+    Grow(u64),
     /// A text: help, or the version.
     Help(String),
     /// Nothing: clap refuses the words.
@@ -43,16 +48,25 @@ fn number(matches: &ArgMatches<'_>, name: &str) -> u64
     matches.get_one::<u64>(name).unwrap_or(0)
 }
 
+// The options of `settings`, which are among those of `format`.
+fn wanted_settings(matches: &ArgMatches<'_>) -> WantedSettings
+    ensures { result ≡ wanted_settings_of (rows_of (found_of matches.now)) }
+{
+    WantedSettings {
+        variant: Variant::named(matches.get_str("variant").unwrap_or("")),
+        hash_bits: number(matches, "hash-bits"),
+        real_bits: number(matches, "real-bits"),
+        ratio: number(matches, "ratio"),
+    }
+}
+
 // The options of `format`.
 fn wanted(matches: &ArgMatches<'_>) -> Wanted
     ensures { result ≡ wanted_of (rows_of (found_of matches.now)) }
 {
     Wanted {
         pages: number(matches, "pages"),
-        variant: Variant::named(matches.get_str("variant").unwrap_or("")),
-        hash_bits: number(matches, "hash-bits"),
-        real_bits: number(matches, "real-bits"),
-        ratio: number(matches, "ratio"),
+        settings: wanted_settings(matches),
     }
 }
 
@@ -86,11 +100,20 @@ fn asked_by(matches: &ArgMatches<'_>) -> Asked
             Err(field) => Asked::BadSettings(field),
         };
     }
-    match matches.subcommand_matches("load") {
-        Some(options) => match wanted_load(options).checked() {
+    if let Some(options) = matches.subcommand_matches("load") {
+        return match wanted_load(options).checked() {
             Ok(load) => Asked::Load(load),
             Err(field) => Asked::BadSettings(field),
-        },
+        };
+    }
+    if let Some(options) = matches.subcommand_matches("settings") {
+        return match wanted_settings(options).checked() {
+            Ok(settings) => Asked::Settings(settings),
+            Err(field) => Asked::BadSettings(field),
+        };
+    }
+    match matches.subcommand_matches("grow") {
+        Some(options) => Asked::Grow(number(options, "pages")),
         None => Asked::Serve,
     }
 }

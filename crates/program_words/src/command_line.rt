@@ -1,9 +1,9 @@
 //! The one definition of the command line.
-ghost use Rattle.std.specs.Prelude.{◌≡◌, IfOk, false};
-ghost use Rattle.clap.specs.Simple.{app_of};
+ghost use Rattle.std.specs.Prelude.{◌≡◌, IfOk, codes, false};
+ghost use Rattle.clap.specs.Simple.{app_of, with_rule};
 ghost use Rattle.clap.specs.Walk.{rule_of};
 ghost use Rattle.clap.specs.declared.builder.command.Command.TheViews.{out-Command as fields_of};
-ghost use Rattle.program_words.specs.CommandLine.{format_app, format_with_pages_app, load_app, number_rule, required, serve_app, store_app, variant_rule};
+ghost use Rattle.program_words.specs.CommandLine.{format_app, grow_app, load_app, number_rule, option_rule, required, serve_app, settings_app, store_app, with_default, with_filter_options, with_number_options, with_pages_option};
 
 use clap::{Arg, Command, value_parser};
 use std::alloc::{AllocError, Global};
@@ -16,6 +16,10 @@ const SERVE_ABOUT: &str = "Answer the lines of standard input, one reply each";
 
 const LOAD_ABOUT: &str = "Make puts and deletes that follow from a seed, and sum what is there";
 
+const SETTINGS_ABOUT: &str = "Change the filters of new tables; old tables keep theirs";
+
+const GROW_ABOUT: &str = "Give the store more pages, for good";
+
 // What the prompt answers, behind the help of the program and of `serve`.
 const ANSWERS: &str = "\
 format: --pages N    pages of 4,096 bytes, 512 to 16,777,216
@@ -24,6 +28,8 @@ format: --pages N    pages of 4,096 bytes, 512 to 16,777,216
                      neither, hash no real bits, real no hash bits
         --ratio N    0 to 65,535, 64 where none is named
 load:   --seed S     below 2^64    --count N  steps, 1 to 1,000,000
+settings: as format, without --pages; for the tables that are made from then on
+grow:   --pages N    not fewer than there are, for good
 Example:
   $ surfstore db format --pages 1048576 --variant base
   formatted 1048576
@@ -55,8 +61,7 @@ Refusals. Nothing has changed, but for device in a put, del, flush or compact:
   limit tables    there are 1,024 tables: compact
   limit epoch     the last epoch: put what range says into a new store
   full need n gap g    n pages in one piece are needed, the largest gap has g:
-                  compact; where that is full too, put what range says into a
-                  new store of more pages
+                  compact; where that is full too, grow the store
   memory          there was none for this line: free some, and send it again
   device          a call of the file failed, and the run ends: mend the cause,
                   start again, and get what was put last
@@ -69,15 +74,33 @@ Exit statuses:
   2  wrong words                   6  the output failed
   3  the input failed              7  no memory to begin with
   4  the device failed             8  no store there, a store there already, or
-  9  2^40 bytes of input              settings out of range";
+  9  2^40 bytes of input              settings out of range
+ 10  limit epoch, of settings and grow: the store is as before";
 
 // How large a store is made, behind the help of `format`.
 const ROOM: &str = "\
 How many pages: format with far more pages than you will need, since a merge
-needs its pages in one piece, and a store that is full may stay full. The file
-is only as long as what was written: where the file system keeps sparse files,
-take the largest number, 16777216 (64 GiB). On a block device, or where pages
-are really bounded, take 192 + 5 * 67 + 3.5 * the pages of the live pairs.";
+needs its pages in one piece, and a store that is full may stay full until it
+grows. The file is only as long as what was written: where the file system keeps
+sparse files, take the largest number, 16777216 (64 GiB). On a block device, or
+where pages are really bounded, take 192 + 5 * 67 + 3.5 * the pages of the live
+pairs.";
+
+// Which tables get them, behind the help of `settings`.
+const NEW_TABLES: &str = "\
+It says the three numbers: settings HASH-BITS REAL-BITS RATIO. Tables that are
+there keep the filters that they have until they are merged; a compact in serve
+merges them all. Example:
+  $ surfstore db settings --variant hash
+  settings 8 0 64";
+
+// What more pages are, behind the help of `grow`.
+const MORE_PAGES: &str = "\
+The file is not made longer, and the pages are not reserved: on a block device,
+or where the file system is full, a later write may fail, which ends that run.
+No call takes pages back. Example:
+  $ surfstore db grow --pages 2097152
+  grown 2097152";
 
 // An option with a number of its own, which its help calls by a letter.
 fn number_option<'a>(alloc: Global, name: &'a str, letter: &'a str, help: &'a str) -> Arg<'a>
@@ -99,9 +122,17 @@ fn required_number<'a>(alloc: Global, name: &'a str, letter: &'a str, help: &'a 
     number_option(alloc, name, letter, help).required(true)
 }
 
+// One that has a number of its own where it is not named.
+fn number_with_default<'a>(alloc: Global, name: &'a str, default: &'a str, help: &'a str) -> Arg<'a>
+    ensures rule { rule_of result ≡ with_default default.now (number_rule name.now) }
+    ensures local { result.global ≡ false }
+{
+    number_option(alloc, name, "N", help).default_value(default)
+}
+
 // The option that names the variant. Any word is one for clap.
 fn variant_option<'a>(alloc: Global) -> Arg<'a>
-    ensures rule { rule_of result ≡ variant_rule }
+    ensures rule { rule_of result ≡ required (option_rule (codes "variant")) }
     ensures local { result.global ≡ false }
 {
     Arg::new(alloc, "variant")
@@ -111,54 +142,113 @@ fn variant_option<'a>(alloc: Global) -> Arg<'a>
         .help("base, hash, real or mixed: which suffix bits the leaves of a filter have")
 }
 
-// `format` with the options that it must have.
-fn format_with_pages<'a>(alloc: Global) -> Result<Command<'a>, AllocError>
-    ensures app { IfOk result (λ c. app_of c ≡ format_with_pages_app) }
+// A command with such a number.
+fn with_number<'a>(
+    alloc: Global,
+    command: Command<'a>,
+    name: &'a str,
+    default: &'a str,
+    help: &'a str,
+) -> Result<Command<'a>, AllocError>
+    requires { (fields_of command).has_globals ≡ false }
+    ensures app { IfOk result (λ c. app_of c ≡ with_rule (app_of command.entry) (with_default default.now (number_rule name.now))) }
     ensures local { IfOk result (λ c. (fields_of c).has_globals ≡ false) }
 {
-    let pages = required_number(
+    command.arg(number_with_default(alloc, name, default, help))
+}
+
+// A command with the numbers of filters.
+fn with_numbers<'a>(alloc: Global, command: Command<'a>) -> Result<Command<'a>, AllocError>
+    requires { (fields_of command).has_globals ≡ false }
+    ensures app { IfOk result (λ c. app_of c ≡ with_number_options (app_of command.entry)) }
+    ensures local { IfOk result (λ c. (fields_of c).has_globals ≡ false) }
+{
+    let with_hash_bits = with_number(
         alloc,
-        "pages",
-        "N",
-        "Pages of 4,096 bytes, 512 to 16,777,216, far more than you will need",
-    );
-    let command = Command::new(alloc, "format")
-        .about(FORMAT_ABOUT)
-        .after_help(ROOM)
-        .override_usage("surfstore PATH format --pages N --variant WORD [OPTIONS]");
-    let with_pages = command.arg(pages)?;
-    with_pages.arg(variant_option(alloc))
+        command,
+        "hash-bits",
+        "8",
+        "Hash bits of a leaf, 0 to 32; base and real do not use them",
+    )?;
+    let with_real_bits = with_number(
+        alloc,
+        with_hash_bits,
+        "real-bits",
+        "8",
+        "Real bits of a leaf, 0 to 32; base and hash do not use them",
+    )?;
+    with_number(
+        alloc,
+        with_real_bits,
+        "ratio",
+        "64",
+        "How many times smaller a filter's dense levels are than the others, 0 to 65,535",
+    )
+}
+
+// A command with all that may be said of filters.
+fn with_filters<'a>(alloc: Global, command: Command<'a>) -> Result<Command<'a>, AllocError>
+    requires { (fields_of command).has_globals ≡ false }
+    ensures app { IfOk result (λ c. app_of c ≡ with_filter_options (app_of command.entry)) }
+    ensures local { IfOk result (λ c. (fields_of c).has_globals ≡ false) }
+{
+    let with_variant = command.arg(variant_option(alloc))?;
+    with_numbers(alloc, with_variant)
+}
+
+// A command with the pages of the device, which this text tells.
+fn with_pages<'a>(
+    alloc: Global,
+    command: Command<'a>,
+    help: &'a str,
+) -> Result<Command<'a>, AllocError>
+    requires { (fields_of command).has_globals ≡ false }
+    ensures app { IfOk result (λ c. app_of c ≡ with_pages_option (app_of command.entry)) }
+    ensures local { IfOk result (λ c. (fields_of c).has_globals ≡ false) }
+{
+    command.arg(required_number(alloc, "pages", "N", help))
 }
 
 fn format_command<'a>(alloc: Global) -> Result<Command<'a>, AllocError>
     ensures app { IfOk result (λ c. app_of c ≡ format_app) }
     ensures local { IfOk result (λ c. (fields_of c).has_globals ≡ false) }
 {
-    let hash_bits = number_option(
+    let command = Command::new(alloc, "format")
+        .about(FORMAT_ABOUT)
+        .after_help(ROOM)
+        .override_usage("surfstore PATH format --pages N --variant WORD [OPTIONS]");
+    let with_pages = with_pages(
         alloc,
-        "hash-bits",
-        "N",
-        "Hash bits of a leaf, 0 to 32; base and real do not use them",
-    )
-    .default_value("8");
-    let real_bits = number_option(
+        command,
+        "Pages of 4,096 bytes, 512 to 16,777,216, far more than you will need",
+    )?;
+    with_filters(alloc, with_pages)
+}
+
+fn settings_command<'a>(alloc: Global) -> Result<Command<'a>, AllocError>
+    ensures app { IfOk result (λ c. app_of c ≡ settings_app) }
+    ensures local { IfOk result (λ c. (fields_of c).has_globals ≡ false) }
+{
+    let command = Command::new(alloc, "settings")
+        .about(SETTINGS_ABOUT)
+        .after_help(NEW_TABLES)
+        .override_usage("surfstore PATH settings --variant WORD [OPTIONS]");
+    with_filters(alloc, command)
+}
+
+fn grow_command<'a>(alloc: Global) -> Result<Command<'a>, AllocError>
+    ensures app { IfOk result (λ c. app_of c ≡ grow_app) }
+    ensures local { IfOk result (λ c. (fields_of c).has_globals ≡ false) }
+{
+    let command = Command::new(alloc, "grow")
+        .about(GROW_ABOUT)
+        .after_help(MORE_PAGES)
+        .override_usage("surfstore PATH grow --pages N");
+    with_pages(
         alloc,
-        "real-bits",
-        "N",
-        "Real bits of a leaf, 0 to 32; base and hash do not use them",
+        command,
+        "Pages of 4,096 bytes, not fewer than the store has, at most 16,777,216",
     )
-    .default_value("8");
-    let ratio = number_option(
-        alloc,
-        "ratio",
-        "N",
-        "How many times smaller a filter's dense levels are than the others, 0 to 65,535",
-    )
-    .default_value("64");
-    let with_pages = format_with_pages(alloc)?;
-    let with_hash_bits = with_pages.arg(hash_bits)?;
-    let with_real_bits = with_hash_bits.arg(real_bits)?;
-    with_real_bits.arg(ratio)
 }
 
 fn serve_command<'a>(alloc: Global) -> Command<'a>
@@ -203,7 +293,11 @@ pub fn store_command<'a>(alloc: Global) -> Result<Command<'a>, AllocError>
         .disable_help_subcommand(true);
     let format = format_command(alloc)?;
     let load = load_command(alloc)?;
+    let settings = settings_command(alloc)?;
+    let grow = grow_command(alloc)?;
     let with_format = command.subcommand(format)?;
     let with_serve = with_format.subcommand(serve_command(alloc))?;
-    with_serve.subcommand(load)
+    let with_load = with_serve.subcommand(load)?;
+    let with_settings = with_load.subcommand(settings)?;
+    with_settings.subcommand(grow)
 }

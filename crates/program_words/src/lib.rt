@@ -1,7 +1,7 @@
 //! The words of the program, parsed by clap.
 //!
 //! [`read_words`] answers what the words behind the device's path ask for: a new store with its settings, lines to be served,
-//! a load of steps, a text to be shown, or nothing, where clap refuses them. The one command line is defined in `command_line`, and
+//! a load of steps, other settings or more pages, a text to be shown, or nothing, where clap refuses them. The one command line is defined in `command_line`, and
 //! `specs/CommandLine` is that definition as clap's specification reads it, so which words it takes, and with which numbers, is
 //! a function of the words. Ranges are checked here and not by clap: a number that is out of range is no mistake in the words.
 //!
@@ -19,7 +19,9 @@ mod command_line;
 pub mod examples;
 mod load;
 mod new_store;
+mod wanted_settings;
 
 pub use asked::{Asked, read_words};
 pub use load::{Load, MAX_LOAD_STEPS};
-pub use new_store::{NewStore, Variant};
+pub use new_store::NewStore;
+pub use wanted_settings::Variant;

@@ -1,32 +1,16 @@
 //! What a new store is asked to be, and the first of its numbers that is out of range.
 ghost use Rattle.std.specs.Prelude.{◌≡◌, None, Some, IfOk, MatchResult};
-ghost use Rattle.program_words.specs.NewStores.{IsStoreOf, first_bad_word, named_hash_bits, named_real_bits, variant_named};
+ghost use Rattle.program_words.specs.NewStores.{IsStoreOf, first_bad_word};
 
+use crate::wanted_settings::WantedSettings;
 use filter_api::{Field, Settings};
-use key_base::{MAX_DEVICE_PAGES, MAX_HASH_BITS, MAX_RATIO, MAX_REAL_BITS, MIN_DEVICE_PAGES};
-
-/// Which suffix bits the leaves of a filter have.
-#[derive(Clone, Copy, Debug, PartialEq, Eq)]
-pub enum Variant {
-    /// None.
-    Base,
-    /// Bits of the key's hash.
-    Hash,
-    /// Bits of the key behind its stub.
-    Real,
-    /// Both.
-    Mixed,
-}
+use key_base::{MAX_DEVICE_PAGES, MIN_DEVICE_PAGES};
 
 /// What the words of a `format` name, in range or not.
 #[derive(Clone, Copy, Debug, PartialEq, Eq)]
 pub struct Wanted {
     pub pages: u64,
-    /// None where the word is none of the four.
-    pub variant: Option<Variant>,
-    pub hash_bits: u64,
-    pub real_bits: u64,
-    pub ratio: u64,
+    pub settings: WantedSettings,
 }
 
 /// A store that is to be made: its pages of 4,096 bytes and the settings of its filters, all in range.
@@ -36,42 +20,8 @@ pub struct NewStore {
     pub settings: Settings,
 }
 
-impl Variant {
-    /// The variant of this name.
-    pub fn named(name: &str) -> Option<Variant>
-        ensures { result ≡ variant_named name.now }
-    {
-        match name {
-            "base" => Some(Variant::Base),
-            "hash" => Some(Variant::Hash),
-            "real" => Some(Variant::Real),
-            "mixed" => Some(Variant::Mixed),
-            _ => None,
-        }
-    }
-
-    // The hash bits that it has of so many, and the real bits. What a variant does not have is not looked at.
-    fn hash_bits(self, named: u64) -> u64
-        ensures { result ≡ named_hash_bits self named }
-    {
-        match self {
-            Variant::Base | Variant::Real => 0,
-            Variant::Hash | Variant::Mixed => named,
-        }
-    }
-
-    fn real_bits(self, named: u64) -> u64
-        ensures { result ≡ named_real_bits self named }
-    {
-        match self {
-            Variant::Base | Variant::Hash => 0,
-            Variant::Real | Variant::Mixed => named,
-        }
-    }
-}
-
 impl Wanted {
-    /// The store that is wanted, or the first field that is out of range: pages, variant, hash bits, real bits, ratio.
+    /// The store that is wanted, or the first field that is out of range: pages, then the settings.
     pub fn checked(&self) -> Result<NewStore, Field>
         ensures range { MatchResult result (λ _. first_bad_word self.now ≡ None) (λ field. first_bad_word self.now ≡ Some field) }
         ensures store { IfOk result (IsStoreOf self.now) }
@@ -79,25 +29,7 @@ impl Wanted {
         if self.pages < u64::from(MIN_DEVICE_PAGES) || self.pages > u64::from(MAX_DEVICE_PAGES) {
             return Err(Field::Pages);
         }
-        let Some(variant) = self.variant else {
-            return Err(Field::Variant);
-        };
-        let hash_bits = variant.hash_bits(self.hash_bits);
-        if hash_bits > u64::from(MAX_HASH_BITS) {
-            return Err(Field::HashBits);
-        }
-        let real_bits = variant.real_bits(self.real_bits);
-        if real_bits > u64::from(MAX_REAL_BITS) {
-            return Err(Field::RealBits);
-        }
-        if self.ratio > u64::from(MAX_RATIO) {
-            return Err(Field::Ratio);
-        }
-        let settings = Settings {
-            hash_bits: hash_bits as u8,
-            real_bits: real_bits as u8,
-            ratio: self.ratio as u16,
-        };
+        let settings = self.settings.checked()?;
         Ok(NewStore {
             pages: self.pages,
             settings,

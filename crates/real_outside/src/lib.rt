@@ -13,6 +13,7 @@
 //! ```
 #![tactic(auto)]
 
+pub mod examples;
 mod file;
 mod process;
 

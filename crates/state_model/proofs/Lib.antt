@@ -21,6 +21,7 @@ pub mod Places
 pub mod SoundLogs
 pub mod SoundChanges
 pub mod SoundJobs
+pub mod SoundResets
 pub mod Steps
 pub mod SoundOutputs
 pub mod SoundCompaction

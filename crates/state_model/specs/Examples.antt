@@ -7,11 +7,17 @@ use Rattle.state_model.specs.State.{State, Job, new_state}
 use Rattle.table_model.specs.Tables.{FilterBytes, Table}
 use Rattle.state_model.specs.Merges.{Plan}
 use Rattle.state_model.specs.Play.{played}
+use Rattle.state_model.specs.Resets.{with_settings, with_pages}
+use Rattle.state_model.specs.Steps.{done_or_refused}
 use Rattle.line_model.specs.Requests.{Request, Put, Del, Flush, Compact}
 
 -- no suffix bits, and the ratio of a store that names none
 abbrev pub base : Settings
 base = record { hash_bits = 0; real_bits = 0; ratio = 64 }
+
+-- eight hash bits
+abbrev pub hashed : Settings
+hashed = record { hash_bits = 8; real_bits = 0; ratio = 64 }
 
 -- a new store of 512 pages
 abbrev pub small_store : State
@@ -86,3 +92,10 @@ cramped = record (played one_byte small_store four_tables).1 { pages = 206 }
 -- where a table stands: level, first page, pages, data blocks, entries
 abbrev pub place_and_size : Table → List ℕ
 place_and_size t = t.level ∷ t.first_page ∷ t.pages ∷ t.blocks ∷ length t.entries ∷ []
+
+-- the state with other settings, or with so many pages; the same, where that is refused
+abbrev pub set_to : Settings → State → State
+set_to settings s = (done_or_refused s (with_settings settings s)).1
+
+abbrev pub grown_to : ℕ → State → State
+grown_to pages s = (done_or_refused s (with_pages pages s)).1

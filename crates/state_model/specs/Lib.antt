@@ -9,6 +9,7 @@ pub mod Taken
 pub mod Merges
 pub mod Causes
 pub mod Changes
+pub mod Resets
 pub mod Bounds
 pub mod Sound
 pub mod Tends

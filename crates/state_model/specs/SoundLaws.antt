@@ -15,6 +15,7 @@ use Rattle.extent_model.specs.Extents.{Extent, AreLaid}
 use Rattle.state_model.specs.Taken.{extent_of}
 use Rattle.state_model.specs.Merges.{Plan, choose, placed, planned}
 use Rattle.state_model.specs.Changes.{flushed, written, compacted}
+use Rattle.state_model.specs.Resets.{with_settings, with_pages}
 use Rattle.state_model.specs.Causes.{Why}
 use Rattle.line_model.specs.Requests.{Request, request_of, Put, Del, Get, Seek, Range, Count, Estimate, Explain}
 use Rattle.line_model.specs.Replies.{Reply, ManyTables}
@@ -63,6 +64,30 @@ WorkKeepsSound =
 
 abbrev pub DropKeepsSound : Type 0
 DropKeepsSound = (filter_bytes : FilterBytes) (s : State) → IsSound filter_bytes s → IsSound filter_bytes (without_job s)
+
+-- Other settings that are in range keep soundness, whatever settings the tables have, and so do more pages up to the most.
+abbrev pub SettingsKeepSound : Type 0
+SettingsKeepSound =
+    (filter_bytes : FilterBytes) (settings : Settings) (s t : State) → InRange settings → settings.ratio ≤ max_ratio
+    → IsSound filter_bytes s → with_settings settings s ≡ Ok t → IsSound filter_bytes t
+
+abbrev pub PagesKeepSound : Type 0
+PagesKeepSound =
+    (filter_bytes : FilterBytes) (pages : ℕ) (s t : State) → s.pages ≤ pages → pages ≤ max_device_pages
+    → IsSound filter_bytes s → with_pages pages s ≡ Ok t → IsSound filter_bytes t
+
+-- the one state holds what the other does: the same map, log and tables, and what is kept
+pub record HoldsTheSame (s t : State) : Type 0 where
+  pub map : state_map t ≡ state_map s
+  pub log : t.log ≡ s.log
+  pub tables : t.tables ≡ s.tables
+  pub kept : t.kept ≡ s.kept
+
+-- Neither changes what the store holds.
+abbrev pub ResetsHoldTheSame : Type 0
+ResetsHoldTheSame =
+    ((settings : Settings) (s t : State) → with_settings settings s ≡ Ok t → HoldsTheSame s t)
+    × ((pages : ℕ) (s t : State) → with_pages pages s ≡ Ok t → HoldsTheSame s t)
 
 -- any cause may be
 abbrev pub Ever : Why → Type 0

@@ -1,10 +1,11 @@
 //! The definitions, shown by examples. Each computes.
-ghost use Rattle.std.specs.Prelude.{◌≡◌, true, false, ⊤, [], ◌∷◌, ◌++◌, map, replicate, Some, None, codes};
+ghost use Rattle.std.specs.Prelude.{◌≡◌, true, false, ⊤, [], ◌∷◌, ◌++◌, map, replicate, Some, None, Err, codes};
 ghost use Rattle.byte_fields.specs.declared.parts.Part.TheVariants.{Block};
 ghost use Rattle.byte_fields.specs.declared.parts.Damage.TheVariants.{Shape, Sum};
 ghost use Rattle.entry_model.specs.Entries.{put_entry};
 ghost use Rattle.map_model.specs.SortedMap.{get};
 ghost use Rattle.state_model.specs.PlayLaws.{played_text};
+ghost use Rattle.state_model.specs.Resets.{with_pages, with_settings};
 ghost use Rattle.state_model.specs.Script.{Answers, AtDamage, AtDevice, AtQuit, Onward, Over, Script, WentOn, turn_of, turn_of_slice};
 ghost use Rattle.state_model.specs.Sound.{IsLeft};
 ghost use Rattle.state_model.specs.SoundLaws.{SpeaksBytes};
@@ -13,11 +14,11 @@ ghost use Rattle.state_model.specs.Tends.{Idle, MayWrite, Refused, Tend, started
 ghost use Rattle.state_model.specs.View.{state_map};
 ghost use Rattle.line_model.specs.Limits.{key_limit, bound_limit};
 ghost use Rattle.state_model.specs.Merges.{choose, is_deepest, level_limit};
-ghost use Rattle.state_model.specs.Bounds.{get_bound, seek_bound};
+ghost use Rattle.state_model.specs.Bounds.{admitted, get_bound, seek_bound};
 ghost use Rattle.state_model.specs.Play.{played, played_in_slices};
 ghost use Rattle.line_model.specs.Replies.{Done, Value, Missing, At, Pairs, End, Counted, About, Explained, Bye, Full, LongKey, ManyTables, LastEpoch, Memory, Device, Damaged, at_words, sum_word, text_of};
 ghost use Rattle.line_model.specs.Requests.{Put, Del, Get, Seek, Range, Count, Estimate, Explain, Flush, Compact, Quit, Bad, request_of};
-ghost use Rattle.state_model.specs.Examples.{all_read, all_written, cramped, small_store, one_byte, key, put_one, four_tables, three_tables, aa1_and_ab1, tombstone_over_a_value, two_values, table_at, store_with, pages_of_plan, place_and_size};
+ghost use Rattle.state_model.specs.Examples.{all_read, all_written, base, cramped, grown_to, hashed, set_to, small_store, one_byte, key, put_one, four_tables, three_tables, aa1_and_ab1, tombstone_over_a_value, two_values, table_at, store_with, pages_of_plan, place_and_size};
 
 /// Tables that are flushed, merged and compacted.
 #[tactic(auto, unfolding(block_model::specs::Pages::pages_for, block_model::specs::Pages::block_length, block_model::specs::Pages::block_pages, block_model::specs::Pages::blocks_of, block_model::specs::Pages::data_pages, block_model::specs::Pages::index_length, entry_model::specs::Entries::filled, entry_model::specs::Entries::gap, key_base::specs::Limits::last_epoch))]
@@ -99,6 +100,20 @@ pub fn where_filters_admit()
     ensures a_count_that_it_admits { Reads (played one_byte small_store aa1_and_ab1).1 (Count (codes "aa5") (codes "ab0")) }
     ensures not_a_count_that_it_denies { Reads (played one_byte small_store aa1_and_ab1).1 (Count (codes "ac0") (codes "ad0")) → ⊥ }
     ensures a_compaction_of_a_table { Reads (played one_byte small_store aa1_and_ab1).1 Compact }
+{}
+
+/// Tables keep the settings that they were made with; new ones get those of the state. More pages are more room.
+#[tactic(auto, unfolding(block_model::specs::Pages::pages_for, block_model::specs::Pages::block_length, block_model::specs::Pages::block_pages, block_model::specs::Pages::blocks_of, block_model::specs::Pages::data_pages, block_model::specs::Pages::index_length, entry_model::specs::Entries::filled, entry_model::specs::Entries::gap, key_base::specs::Limits::last_epoch))]
+pub fn settings_and_pages_that_change()
+    ensures a_table_of_no_hash_where_new_ones_have_it { admitted (set_to hashed (played one_byte small_store aa1_and_ab1).1) (codes "aa9") ≡ 1 }
+    ensures a_table_of_hash_where_new_ones_have_none { admitted (set_to base (played one_byte (set_to hashed small_store) aa1_and_ab1).1) (codes "aa9") ≡ 0 }
+    ensures a_compaction_makes_it_anew { admitted (played one_byte (set_to hashed (played one_byte small_store aa1_and_ab1).1) (Compact ∷ [])).1 (codes "aa9") ≡ 0 }
+    ensures the_epoch_is_raised { map (λ s. s.epoch) (set_to hashed small_store ∷ grown_to 600 small_store ∷ set_to base small_store ∷ grown_to 512 small_store ∷ []) ≡ 2 ∷ 2 ∷ 2 ∷ 2 ∷ [] }
+    ensures no_job_runs { map (λ s. s.job) (set_to hashed (with_job small_store (all_read small_store)) ∷ grown_to 600 (with_job small_store (all_read small_store)) ∷ []) ≡ None ∷ None ∷ [] }
+    ensures no_settings_at_the_last_epoch { with_settings hashed (record small_store { epoch = 18446744073709551615 }) ≡ Err LastEpoch }
+    ensures nor_pages { with_pages 600 (record small_store { epoch = 18446744073709551615 }) ≡ Err LastEpoch }
+    ensures a_flush_finds_no_room { (played one_byte cramped (put_one 0x65 ∷ Flush ∷ [])).0 ≡ Done ∷ Full 3 2 ∷ [] }
+    ensures one_page_more_is_enough_for_the_merge { map place_and_size (played one_byte (grown_to 207 cramped) (put_one 0x65 ∷ Flush ∷ [])).1.tables ≡ (0 ∷ 192 ∷ 3 ∷ 1 ∷ 1 ∷ []) ∷ (1 ∷ 204 ∷ 3 ∷ 1 ∷ 4 ∷ []) ∷ [] }
 {}
 
 /// Which lines write, and which take memory.

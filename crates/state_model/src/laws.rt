@@ -5,7 +5,7 @@ ghost use Rattle.state_model.specs.Laws.{ViewLaws, ChangeLaws, InstallLaws, Merg
 ghost use Rattle.state_model.specs.PlayLaws.{AnswersGoOn, OthersHaveNoSlice, PlayLaws, SlicesAreAllowed, ScriptsGoOn, ScriptsThatEnd, ScriptsToLast};
 ghost use Rattle.state_model.specs.ReadLaws.{HeldIsSearched, GetsAreBounded, NothingIsRead, SteppedAreDeleted, EstimateIsEnough};
 ghost use Rattle.state_model.specs.Refusals.{RefusalLaws};
-ghost use Rattle.state_model.specs.SoundLaws.{PlacedAreLaid, NewIsSound, FlushKeepsSound, WriteKeepsSound, CompactionKeepsSound, WorkKeepsSound, DropKeepsSound, SliceKeepsSound, SliceKeepsMap, NeverTends, NeverSteps, PlayedIsSound, LinesAreOfBytes, SpeakingAsks, LineKeepsSound, StepsAtFirst, WorkedLowersSteps, LinesRaiseNoSteps, JobEnds, ScriptsKeepSound, LimitsAreKept, KeysAreAList};
+ghost use Rattle.state_model.specs.SoundLaws.{PlacedAreLaid, SettingsKeepSound, PagesKeepSound, ResetsHoldTheSame, NewIsSound, FlushKeepsSound, WriteKeepsSound, CompactionKeepsSound, WorkKeepsSound, DropKeepsSound, SliceKeepsSound, SliceKeepsMap, NeverTends, NeverSteps, PlayedIsSound, LinesAreOfBytes, SpeakingAsks, LineKeepsSound, StepsAtFirst, WorkedLowersSteps, LinesRaiseNoSteps, JobEnds, ScriptsKeepSound, LimitsAreKept, KeysAreAList};
 
 /// Law: the map of a sound state has at each key what its view says: the memory first, then the tables in their order.
 pub fn view_laws()
@@ -129,6 +129,14 @@ pub fn compaction_keeps_sound()
 pub fn jobs_keep_sound()
     ensures work { WorkKeepsSound }
     ensures drop { DropKeepsSound }
+{}
+
+/// Law: settings in range keep soundness, and so do more pages up to the most. Neither changes the map, the log, the
+/// tables or what is kept.
+pub fn resets_keep_sound()
+    ensures settings { SettingsKeepSound }
+    ensures pages { PagesKeepSound }
+    ensures same { ResetsHoldTheSame }
 {}
 
 /// Law: whatever a merge slice is answered leaves a sound state, which is the same map.

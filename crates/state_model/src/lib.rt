@@ -13,6 +13,7 @@
 //! ```
 #![tactic(auto)]
 
+pub mod counted;
 pub mod examples;
 mod laws;
 
@@ -22,7 +23,8 @@ pub use laws::{
     gets_are_bounded, held_is_searched, install_laws, jobs_end, jobs_keep_sound, keys_are_a_list,
     limits_are_kept, lines_keep_sound, merge_laws, new_is_sound, no_job_is_left, nothing_is_read,
     others_have_no_slice, output_laws, places_are_free, play_laws, refusal_laws,
-    replies_have_causes, scripts_go_on, scripts_keep_sound, scripts_that_end, scripts_to_last,
-    slices_are_allowed, slices_have_reasons, slices_have_replies, slices_keep_sound,
-    slices_read_blocks, slices_write, stepped_are_deleted, steps_are_answers, view_laws,
+    replies_have_causes, resets_keep_sound, scripts_go_on, scripts_keep_sound, scripts_that_end,
+    scripts_to_last, slices_are_allowed, slices_have_reasons, slices_have_replies,
+    slices_keep_sound, slices_read_blocks, slices_write, stepped_are_deleted, steps_are_answers,
+    view_laws,
 };

@@ -126,7 +126,7 @@ module _ (spelling : Spelling) (built_cutoff : ℕ → List Leaf → ℕ) (v : V
   added : (row : Row) → AddsOutput spelling built_cutoff old new free taken row → GoesOnSo
   added row adds =
       let apart = all_permuted (AreApart (extent_of row)) free.extents (map extent_of (v.rows ++ old.outputs)) on.extents adds.apart in
-      let level_is : row.level ≡ 6 = ap (λ (r : Row). r.level) adds.row_of.row_is ∙ level_of_row old.output row.first_page adds.row_of.entries _ ∙ on.output in
+      let level_is : row.level ≡ 6 = ap (λ (r : Row). r.level) adds.row_of.row_is ∙ level_of_row old.output row.first_page old.settings adds.row_of.entries _ ∙ on.output in
       let one : IsTableRow row = subst IsTableRow (sym adds.row_of.row_is) (row_of_table old.output row.first_page old.settings adds.row_of.entries _ (omega (arith, on.output)) adds.row_of.table) in
       let all = map extent_of (v.rows ++ old.outputs) in
       record {

@@ -16,13 +16,16 @@ use Rattle.store_core.specs.Opening.{FaultRose}
 use Rattle.store_core.specs.declared.error.StoreError.{StoreError}
 use Rattle.store_core.specs.declared.error.StoreError.TheVariants as error
 
--- the first number of a new store that is out of range; the ratio's range is that of its type
-abbrev pub first_bad : Settings → ℕ → Option Field
-first_bad settings pages =
-    if nat_lt pages min_device_pages || nat_lt max_device_pages pages then Some field.Pages
-    else if nat_lt max_hash_bits settings.hash_bits then Some field.HashBits
+-- the first of the settings that is out of range; the ratio's range is that of its type
+abbrev pub first_bad_setting : Settings → Option Field
+first_bad_setting settings =
+    if nat_lt max_hash_bits settings.hash_bits then Some field.HashBits
     else if nat_lt max_real_bits settings.real_bits then Some field.RealBits
     else None
+
+-- the first number of a new store that is
+abbrev pub first_bad : Settings → ℕ → Option Field
+first_bad settings pages = if nat_lt pages min_device_pages || nat_lt max_device_pages pages then Some field.Pages else first_bad_setting settings
 
 -- no store, or the new one
 abbrev pub IsNoneOrNew : Spelling → Settings → ℕ → Image → Type 0

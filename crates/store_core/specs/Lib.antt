@@ -40,3 +40,4 @@ pub mod Scans
 pub mod Counts
 pub mod Replacing
 pub mod Compacting
+pub mod Resetting

@@ -45,7 +45,7 @@ pub enum StoreError {
     NotAStore,
     /// The device holds a store already.
     AlreadyAStore,
-    /// A new store is asked for with this number out of range.
+    /// This number is out of range: of a new store, of other settings, or of more pages.
     BadSettings(Field),
 }
 

@@ -9,7 +9,7 @@ ghost use Rattle.log_model.specs.Area.{start_of};
 ghost use Rattle.manifest.specs.NewManifest.{has_open};
 ghost use Rattle.manifest_model.specs.Slots.{IsNoStore};
 ghost use Rattle.state_model.specs.State.{new_state};
-ghost use Rattle.store_core.specs.Formatting.{IsFormatRefusal, IsMakeFault, IsNoneOrNew, IsNotThere, IsThereAnswer, first_bad};
+ghost use Rattle.store_core.specs.Formatting.{IsFormatRefusal, IsMakeFault, IsNoneOrNew, IsNotThere, IsThereAnswer, first_bad, first_bad_setting};
 
 use crate::error::StoreError;
 use crate::store::Store;
@@ -19,6 +19,14 @@ use gate_log::Log;
 use key_base::{MAX_DEVICE_PAGES, MIN_DEVICE_PAGES};
 use manifest::{ManifestFault, is_store};
 use std::alloc::Global;
+
+// Whether settings are in range.
+pub(crate) fn check_settings(settings: Settings) -> Result<(), BadSettings>
+    ensures first { MatchResult result (λ _. first_bad_setting settings ≡ None) (λ bad. first_bad_setting settings ≡ Some bad.0) }
+    ensures in_range { MatchResult result (λ _. InRange settings) (λ _. Unit {0}) }
+{
+    settings.check()
+}
 
 // Whether pages and settings are in range.
 fn check_numbers(settings: Settings, pages: u64) -> Result<(), BadSettings>
@@ -30,7 +38,7 @@ fn check_numbers(settings: Settings, pages: u64) -> Result<(), BadSettings>
     if pages < u64::from(MIN_DEVICE_PAGES) || pages > u64::from(MAX_DEVICE_PAGES) {
         return Err(BadSettings(Field::Pages));
     }
-    settings.check()
+    check_settings(settings)
 }
 
 impl<F: RangeFilter> Store<F> {

@@ -6,7 +6,8 @@
 //! table of level 0. [`Store::get`] looks for a key in memory and then in the tables, newest first, and reads at most one
 //! block of each, and none that it keeps. [`Store::seek`] and [`Store::range`] give the pairs between two bounds, by rising
 //! keys: they open those tables alone whose filter admits the bounds. [`Store::tend`] merges tables, a merge slice at each call;
-//! [`Store::compact`] merges all that the store holds, in one call.
+//! [`Store::compact`] merges all that the store holds, in one call. [`Store::set_settings`] changes the settings of new tables,
+//! [`Store::grow`] gives the store more pages.
 //!
 //! `specs/Tied` has what a caller may rest on: a store value, the device under it and a state of `state_model` are one,
 //! where each image that a crash may leave stands for that state, the tables in memory are those of its pages, and the
@@ -37,6 +38,7 @@ mod limits;
 mod opening;
 mod putting;
 mod replacing;
+mod resetting;
 mod scanning;
 mod store;
 mod tending;

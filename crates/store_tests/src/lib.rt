@@ -11,8 +11,6 @@ mod caching;
 #[cfg(test)]
 mod changes;
 #[cfg(test)]
-mod formats;
-#[cfg(test)]
 mod limits;
 #[cfg(test)]
 mod refused;

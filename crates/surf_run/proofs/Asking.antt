@@ -1,135 +1,104 @@
 -- What words ask for, one thing alone.
-use Rattle.std.proofs.Common.{◌≡◌, ◌∙◌, inl, inr, sym, ap, subst, arith, ℕ, Bool, true, false, List, [], length, String, Global}
-use Rattle.std.specs.Prelude.{Option, Some, None, codes, unwrap_or}
+use Rattle.std.proofs.Common.{◌≡◌, inl, inr, refl, sym, subst, ℕ, List, String, Global}
+use Rattle.std.specs.Prelude.{None, codes}
 use Rattle.std.specs.List.{list_any}
-use Rattle.std.specs.Option.{option_map_or}
 use Rattle.clap.specs.Faults.{fault_of}
-use Rattle.clap.specs.Walk.{Row, Text}
-use Rattle.clap.specs.declared.error.kind.ErrorKind.{ErrorKind}
+use Rattle.clap.specs.Walk.{Text}
+use Rattle.filter_api.specs.Ranges.{InRange}
 use Rattle.filter_api.specs.declared.settings.Field.{Field}
-use Rattle.program_words.specs.Asked.{AreRefusedWords, HasBadNumber, IsFormat, IsHelp, IsLoad, IsLoadInRange, IsServe, IsSubcommand, OpensStore, WordsAsk, is_request, load_of, wanted_of}
+use Rattle.filter_api.specs.declared.settings.Settings.{Settings}
+use Rattle.program_words.proofs.Alone.{apart, asks_nothing, format_not_bad, grow_not_bad, load_not_bad, not_both_ways, not_grow, not_help, number_taken, opens_not_bad, opens_not_format, opens_taken, same_field, same_load, same_pages, same_settings, same_store, same_wanted, serve_not_bad, settings_in_range, settings_not_bad}
+use Rattle.program_words.specs.Asked.{AreRefusedWords, HasBadNumber, IsFormat, IsGrow, IsHelp, IsLoadInRange, IsServe, IsSettingsInRange, OpensStore, OpensWithoutGrowing, WordsAsk, is_request}
 use Rattle.program_words.specs.CommandLine.{store_app}
-use Rattle.program_words.specs.Loads.{is_load_count}
-use Rattle.program_words.specs.NewStores.{IsStoreOf, first_bad_word, new_store_of}
+use Rattle.program_words.specs.NewStores.{IsStoreOf, first_bad_word}
 use Rattle.program_words.specs.declared.asked.Asked.{Asked}
 use Rattle.program_words.specs.declared.asked.Asked.TheVariants as asked
 use Rattle.program_words.specs.declared.load.Load.{Load}
 use Rattle.program_words.specs.declared.new_store.NewStore.{NewStore}
-use Rattle.program_words.specs.declared.new_store.Variant.{Variant}
 use Rattle.program_words.specs.declared.new_store.Wanted.{Wanted}
-use Rattle.surf_run.specs.Run.{AskNothing, IfBadSettings, IfFormat, IfHelp, IfLoad, IfOpens, IfRefused, IfServe, IfUnserved, IsLoadAsk, IsRefusedAsk}
-
--- words that are taken are no request for help
-not_any : (test : ErrorKind → Bool) (kinds : List ErrorKind) → kinds ≡ [] → list_any test kinds ≡ true → ⊥
-not_any test kinds none any = let never : false ≡ true = sym (ap (list_any test) none) ∙ any in cc
-
-not_both_ways : (b : Bool) → b ≡ true → b ≡ false → ⊥
-not_both_ways b holds fails = let never : false ≡ true = sym fails ∙ holds in cc
-
-some_other : {X : Type 0} (x : X) → None ≡ Some x → ⊥
-some_other x is = absurd cc
-
-five_is_not_six : ◌≡◌ {A = ℕ} 5 6 → ⊥
-five_is_not_six is = omega (arith, is)
-
-five_is_not_four : ◌≡◌ {A = ℕ} 5 4 → ⊥
-five_is_not_four is = omega (arith, is)
-
-six_is_not_four : ◌≡◌ {A = ℕ} 6 4 → ⊥
-six_is_not_four is = omega (arith, is)
-
--- two subcommands of the same words have names of one length
-one_length : (words : List Text) (x y : Text) (rows others : List Row) → IsSubcommand words x rows → IsSubcommand words y others → length x ≡ length y
-one_length words x y rows others a b = ap (λ (o : Option (Text × List Row)). option_map_or (λ (p : Text × List Row). length p.0) o 0) (sym a.subcommand ∙ b.subcommand)
-
-not_both : (words : List Text) (wanted : Wanted) → IsServe words → IsFormat words wanted → ⊥
-not_both words wanted serve format = five_is_not_six (one_length words (codes "serve") (codes "format") serve.0 format.0 serve.1 format.1)
-
-no_served_load : (words : List Text) (load : Load) → IsServe words → IsLoad words load → ⊥
-no_served_load words load serve asks = five_is_not_four (one_length words (codes "serve") (codes "load") serve.0 asks.0 serve.1 asks.1)
-
-no_format_load : (words : List Text) (wanted : Wanted) (load : Load) → IsFormat words wanted → IsLoad words load → ⊥
-no_format_load words wanted load format asks = six_is_not_four (one_length words (codes "format") (codes "load") format.0 asks.0 format.1 asks.1)
-
-no_served_number : (words : List Text) (field : Field) → IsServe words → HasBadNumber words field → ⊥
-no_served_number words field serve bad = elim bad [ inl format ↦ not_both words format.0 serve format.1 | inr load ↦ no_served_load words load.0 serve load.1 ]
-
--- words with a number out of range are taken
-number_taken : (words : List Text) (field : Field) → HasBadNumber words field → fault_of store_app words ≡ []
-number_taken words field bad = elim bad [ inl format ↦ format.1.1.taken | inr load ↦ load.1.1.taken ]
-
-same_wanted : (words : List Text) (x y : Wanted) → IsFormat words x → IsFormat words y → x ≡ y
-same_wanted words x y a b =
-    let rows : a.0 ≡ b.0 = ap (λ (o : Option (Text × List Row)). option_map_or (λ (p : Text × List Row). p.1) o []) (sym a.1.subcommand ∙ b.1.subcommand) in
-    sym a.2 ∙ ap wanted_of rows ∙ b.2
-
-same_load : (words : List Text) (x y : Load) → IsLoad words x → IsLoad words y → x ≡ y
-same_load words x y a b =
-    let rows : a.0 ≡ b.0 = ap (λ (o : Option (Text × List Row)). option_map_or (λ (p : Text × List Row). p.1) o []) (sym a.1.subcommand ∙ b.1.subcommand) in
-    sym a.2 ∙ ap load_of rows ∙ b.2
-
--- a load that is in range is not out of it
-in_range_alone : (words : List Text) (x y : Load) → IsLoadInRange words x → IsLoad words y → is_load_count y.count ≡ false → ⊥
-in_range_alone words x y a b out = not_both_ways (is_load_count y.count) (ap (λ (l : Load). is_load_count l.count) (sym (same_load words x y a.0 b)) ∙ a.1) out
-
-same_store : (wanted : Wanted) (x y : NewStore) → IsStoreOf wanted x → IsStoreOf wanted y → x ≡ y
-same_store wanted x y a b =
-    let variant : a.0 ≡ b.0 = ap (λ (o : Option Variant). unwrap_or o a.0) (sym a.1 ∙ b.1) in
-    a.2 ∙ ap (λ (v : Variant). new_store_of v wanted) variant ∙ sym b.2
-
--- of two numbers out of range, the first of one store or of one load
-same_field : (words : List Text) (x y : Field) → HasBadNumber words x → HasBadNumber words y → x ≡ y
-same_field words x y a b = elim a [
-  | inl format ↦ elim b [
-    | inl other ↦ ap (λ (o : Option Field). unwrap_or o x) (sym format.2 ∙ ap first_bad_word (same_wanted words format.0 other.0 format.1 other.1) ∙ other.2)
-    | inr load ↦ absurd (no_format_load words format.0 load.0 format.1 load.1)
-  ]
-  | inr load ↦ elim b [
-    | inl format ↦ absurd (no_format_load words format.0 load.0 format.1 load.1)
-    | inr other ↦ load.3 ∙ sym other.3
-  ]
-]
+use Rattle.surf_run.specs.Resetting.{AskFor}
+use Rattle.surf_run.specs.Run.{AskNothing, HasSettingsInRange, IfBadSettings, IfFormat, IfHelp, IfLoad, IfOpens, IfOpensWithoutGrowing, IfRefused, IfReset, IfServe, IfUnserved, IsLoadAsk, IsResetAsk, IsRefusedAsk}
+use Rattle.surf_run.specs.declared.new_numbers.NewNumbers.{NewNumbers}
+use Rattle.surf_run.specs.declared.new_numbers.NewNumbers.TheVariants as new
 
 module _ (words : List Text) where
+  -- ---- where one thing is asked for
+
   pub if_serve : (a : Asked) (P : Type 0) → IsServe words → WordsAsk words a → IfServe a P → P
   if_serve asked.Serve P is asks holds = holds
-  if_serve (asked.Load load) P is asks holds = absurd (no_served_load words load is asks.0)
+  if_serve (asked.Load load) P is asks holds = absurd (apart words (codes "serve") (codes "load") refl refl is (asks.0.0, asks.0.1))
+  if_serve (asked.Settings settings) P is asks holds = absurd (apart words (codes "serve") (codes "settings") refl refl is (asks.1.0, asks.1.1))
+  if_serve (asked.Grow pages) P is asks holds = absurd (apart words (codes "serve") (codes "grow") refl refl is (asks.0, asks.1))
   if_serve asked.Memory P is asks holds = holds
-  if_serve (asked.Format store) P is asks holds = absurd (not_both words asks.0 is asks.1)
-  if_serve (asked.BadSettings field) P is asks holds = absurd (no_served_number words field is asks)
-  if_serve (asked.Help text) P is asks holds = absurd (not_any is_request (fault_of store_app words) is.1.taken asks)
+  if_serve (asked.Format store) P is asks holds = absurd (apart words (codes "serve") (codes "format") refl refl is (asks.1.0, asks.1.1))
+  if_serve (asked.BadSettings field) P is asks holds = absurd (serve_not_bad words field is asks)
+  if_serve (asked.Help text) P is asks holds = absurd (not_help words is.1.taken asks)
   if_serve asked.Refused P is asks holds = absurd (asks.fails is.1.taken)
 
   pub if_load : (a : Asked) (load : Load) (P : Load → Type 0) (Q : Type 0) → IsLoadInRange words load → WordsAsk words a → IfLoad a P Q → (Q → P load) → P load
-  if_load asked.Serve load P Q is asks holds starved = absurd (no_served_load words load asks is.0)
+  if_load asked.Serve load P Q is asks holds starved = absurd (apart words (codes "load") (codes "serve") refl refl (is.0.0, is.0.1) asks)
   if_load (asked.Load made) load P Q is asks holds starved = subst P (same_load words made load asks.0 is.0) holds
+  if_load (asked.Settings settings) load P Q is asks holds starved = absurd (apart words (codes "load") (codes "settings") refl refl (is.0.0, is.0.1) (asks.1.0, asks.1.1))
+  if_load (asked.Grow pages) load P Q is asks holds starved = absurd (apart words (codes "load") (codes "grow") refl refl (is.0.0, is.0.1) (asks.0, asks.1))
   if_load asked.Memory load P Q is asks holds starved = starved holds
-  if_load (asked.Format store) load P Q is asks holds starved = absurd (no_format_load words asks.0 load asks.1 is.0)
-  if_load (asked.BadSettings field) load P Q is asks holds starved = absurd (elim asks [
-    | inl format ↦ no_format_load words format.0 load format.1 is.0
-    | inr bad ↦ in_range_alone words load bad.0 is bad.1 bad.2
-  ])
-  if_load (asked.Help text) load P Q is asks holds starved = absurd (not_any is_request (fault_of store_app words) is.0.1.taken asks)
+  if_load (asked.Format store) load P Q is asks holds starved = absurd (apart words (codes "load") (codes "format") refl refl (is.0.0, is.0.1) (asks.1.0, asks.1.1))
+  if_load (asked.BadSettings field) load P Q is asks holds starved = absurd (load_not_bad words load field is asks)
+  if_load (asked.Help text) load P Q is asks holds starved = absurd (not_help words is.0.1.taken asks)
   if_load asked.Refused load P Q is asks holds starved = absurd (asks.fails is.0.1.taken)
+
+  if_settings : (a : Asked) (settings : Settings) (P : NewNumbers → Type 0) (Q : Type 0) → IsSettingsInRange words settings → WordsAsk words a → IfReset a P Q → (Q → P (new.Settings settings)) → P (new.Settings settings)
+  if_settings asked.Serve settings P Q is asks holds starved = absurd (apart words (codes "settings") (codes "serve") refl refl (is.1.0, is.1.1) asks)
+  if_settings (asked.Load load) settings P Q is asks holds starved = absurd (apart words (codes "settings") (codes "load") refl refl (is.1.0, is.1.1) (asks.0.0, asks.0.1))
+  if_settings (asked.Settings made) settings P Q is asks holds starved = subst (λ (t : Settings). P (new.Settings t)) (same_settings words made settings asks is) holds
+  if_settings (asked.Grow pages) settings P Q is asks holds starved = absurd (apart words (codes "settings") (codes "grow") refl refl (is.1.0, is.1.1) (asks.0, asks.1))
+  if_settings asked.Memory settings P Q is asks holds starved = starved holds
+  if_settings (asked.Format store) settings P Q is asks holds starved = absurd (apart words (codes "settings") (codes "format") refl refl (is.1.0, is.1.1) (asks.1.0, asks.1.1))
+  if_settings (asked.BadSettings field) settings P Q is asks holds starved = absurd (settings_not_bad words settings field is asks)
+  if_settings (asked.Help text) settings P Q is asks holds starved = absurd (not_help words is.1.1.taken asks)
+  if_settings asked.Refused settings P Q is asks holds starved = absurd (asks.fails is.1.1.taken)
+
+  if_grow : (a : Asked) (pages : ℕ) (P : NewNumbers → Type 0) (Q : Type 0) → IsGrow words pages → WordsAsk words a → IfReset a P Q → (Q → P (new.Pages pages)) → P (new.Pages pages)
+  if_grow asked.Serve pages P Q is asks holds starved = absurd (apart words (codes "grow") (codes "serve") refl refl (is.0, is.1) asks)
+  if_grow (asked.Load load) pages P Q is asks holds starved = absurd (apart words (codes "grow") (codes "load") refl refl (is.0, is.1) (asks.0.0, asks.0.1))
+  if_grow (asked.Settings settings) pages P Q is asks holds starved = absurd (apart words (codes "grow") (codes "settings") refl refl (is.0, is.1) (asks.1.0, asks.1.1))
+  if_grow (asked.Grow made) pages P Q is asks holds starved = subst (λ (n : ℕ). P (new.Pages n)) (same_pages words made pages asks is) holds
+  if_grow asked.Memory pages P Q is asks holds starved = starved holds
+  if_grow (asked.Format store) pages P Q is asks holds starved = absurd (apart words (codes "grow") (codes "format") refl refl (is.0, is.1) (asks.1.0, asks.1.1))
+  if_grow (asked.BadSettings field) pages P Q is asks holds starved = absurd (grow_not_bad words pages field is asks)
+  if_grow (asked.Help text) pages P Q is asks holds starved = absurd (not_help words is.1.taken asks)
+  if_grow asked.Refused pages P Q is asks holds starved = absurd (asks.fails is.1.taken)
+
+  pub if_reset : (a : Asked) (numbers : NewNumbers) (P : NewNumbers → Type 0) (Q : Type 0) → AskFor words numbers → WordsAsk words a → IfReset a P Q → (Q → P numbers) → P numbers
+  if_reset a (new.Settings settings) P Q is asks holds starved = if_settings a settings P Q is asks holds starved
+  if_reset a (new.Pages pages) P Q is asks holds starved = if_grow a pages P Q is asks holds starved
 
   pub if_opens : (a : Asked) (P : Type 0) → OpensStore words → WordsAsk words a → IfOpens a P → P
   if_opens asked.Serve P is asks holds = holds
   if_opens (asked.Load load) P is asks holds = holds
+  if_opens (asked.Settings settings) P is asks holds = holds
+  if_opens (asked.Grow pages) P is asks holds = holds
   if_opens asked.Memory P is asks holds = holds
-  if_opens (asked.Format store) P is asks holds = absurd (elim is [ inl serve ↦ not_both words asks.0 serve asks.1 | inr load ↦ no_format_load words asks.0 load.0 asks.1 load.1.0 ])
-  if_opens (asked.BadSettings field) P is asks holds = absurd (elim is [
-    | inl serve ↦ no_served_number words field serve asks
-    | inr load ↦ elim asks [ inl format ↦ no_format_load words format.0 load.0 format.1 load.1.0 | inr bad ↦ in_range_alone words load.0 bad.0 load.1 bad.1 bad.2 ]
-  ])
-  if_opens (asked.Help text) P is asks holds = absurd (elim is [
-    | inl serve ↦ not_any is_request (fault_of store_app words) serve.1.taken asks
-    | inr load ↦ not_any is_request (fault_of store_app words) load.1.0.1.taken asks
-  ])
-  if_opens asked.Refused P is asks holds = absurd (elim is [ inl serve ↦ asks.fails serve.1.taken | inr load ↦ asks.fails load.1.0.1.taken ])
+  if_opens (asked.Format store) P is asks holds = absurd (opens_not_format words asks.0 is asks.1)
+  if_opens (asked.BadSettings field) P is asks holds = absurd (opens_not_bad words field is asks)
+  if_opens (asked.Help text) P is asks holds = absurd (not_help words (opens_taken words is) asks)
+  if_opens asked.Refused P is asks holds = absurd (asks.fails (opens_taken words is))
+
+  pub if_opens_without_growing : (a : Asked) (P : Type 0) → OpensWithoutGrowing words → WordsAsk words a → IfOpensWithoutGrowing a P → P
+  if_opens_without_growing asked.Serve P is asks holds = holds
+  if_opens_without_growing (asked.Load load) P is asks holds = holds
+  if_opens_without_growing (asked.Settings settings) P is asks holds = holds
+  if_opens_without_growing (asked.Grow pages) P is asks holds = absurd (not_grow words pages is asks)
+  if_opens_without_growing asked.Memory P is asks holds = holds
+  if_opens_without_growing (asked.Format store) P is asks holds = absurd (opens_not_format words asks.0 (inl is) asks.1)
+  if_opens_without_growing (asked.BadSettings field) P is asks holds = absurd (opens_not_bad words field (inl is) asks)
+  if_opens_without_growing (asked.Help text) P is asks holds = absurd (not_help words (opens_taken words (inl is)) asks)
+  if_opens_without_growing asked.Refused P is asks holds = absurd (asks.fails (opens_taken words (inl is)))
 
   pub if_refused : (a : Asked) (P : Type 0) → AreRefusedWords words → WordsAsk words a → IfRefused a P → P
   if_refused asked.Serve P is asks holds = absurd (is.fails asks.1.taken)
   if_refused (asked.Load load) P is asks holds = absurd (is.fails asks.0.1.taken)
+  if_refused (asked.Settings settings) P is asks holds = absurd (is.fails asks.1.1.taken)
+  if_refused (asked.Grow pages) P is asks holds = absurd (is.fails asks.1.taken)
   if_refused asked.Memory P is asks holds = holds
   if_refused (asked.Format store) P is asks holds = absurd (is.fails asks.1.1.taken)
   if_refused (asked.BadSettings field) P is asks holds = absurd (is.fails (number_taken words field asks))
@@ -137,67 +106,48 @@ module _ (words : List Text) where
   if_refused asked.Refused P is asks holds = holds
 
   pub if_help : (a : Asked) (P : Type 0) → IsHelp words → WordsAsk words a → IfHelp a P → P
-  if_help asked.Serve P is asks holds = absurd (not_any is_request (fault_of store_app words) asks.1.taken is)
-  if_help (asked.Load load) P is asks holds = absurd (not_any is_request (fault_of store_app words) asks.0.1.taken is)
+  if_help asked.Serve P is asks holds = absurd (not_help words asks.1.taken is)
+  if_help (asked.Load load) P is asks holds = absurd (not_help words asks.0.1.taken is)
+  if_help (asked.Settings settings) P is asks holds = absurd (not_help words asks.1.1.taken is)
+  if_help (asked.Grow pages) P is asks holds = absurd (not_help words asks.1.taken is)
   if_help asked.Memory P is asks holds = holds
-  if_help (asked.Format store) P is asks holds = absurd (not_any is_request (fault_of store_app words) asks.1.1.taken is)
-  if_help (asked.BadSettings field) P is asks holds = absurd (not_any is_request (fault_of store_app words) (number_taken words field asks) is)
+  if_help (asked.Format store) P is asks holds = absurd (not_help words asks.1.1.taken is)
+  if_help (asked.BadSettings field) P is asks holds = absurd (not_help words (number_taken words field asks) is)
   if_help (asked.Help text) P is asks holds = holds
   if_help asked.Refused P is asks holds = absurd (not_both_ways (list_any is_request (fault_of store_app words)) is asks.no_text)
 
   pub if_format : (a : Asked) (wanted : Wanted) (store : NewStore) (P : NewStore → Type 0) (Q : Type 0) → IsFormat words wanted → first_bad_word wanted ≡ None → IsStoreOf wanted store → WordsAsk words a
       → IfFormat a P Q → (Q → P store) → P store
-  if_format asked.Serve wanted store P Q is good of asks holds starved = absurd (not_both words wanted asks is)
-  if_format (asked.Load load) wanted store P Q is good of asks holds starved = absurd (no_format_load words wanted load is asks.0)
+  if_format asked.Serve wanted store P Q is good of asks holds starved = absurd (opens_not_format words wanted (inl (inl asks)) is)
+  if_format (asked.Load load) wanted store P Q is good of asks holds starved = absurd (opens_not_format words wanted (inl (inr (inl (load, asks)))) is)
+  if_format (asked.Settings settings) wanted store P Q is good of asks holds starved = absurd (opens_not_format words wanted (inl (inr (inr (settings, asks)))) is)
+  if_format (asked.Grow pages) wanted store P Q is good of asks holds starved = absurd (opens_not_format words wanted (inr (pages, asks)) is)
   if_format asked.Memory wanted store P Q is good of asks holds starved = starved holds
   if_format (asked.Format made) wanted store P Q is good of asks holds starved =
       let same = same_wanted words asks.0 wanted asks.1 is in
       subst P (same_store wanted made store (subst (λ (w : Wanted). IsStoreOf w made) same asks.3) of) holds
-  if_format (asked.BadSettings field) wanted store P Q is good of asks holds starved = absurd (elim asks [
-    | inl format ↦ some_other field (sym good ∙ sym (ap first_bad_word (same_wanted words format.0 wanted format.1 is)) ∙ format.2)
-    | inr load ↦ no_format_load words wanted load.0 is load.1
-  ])
-  if_format (asked.Help text) wanted store P Q is good of asks holds starved = absurd (not_any is_request (fault_of store_app words) is.1.taken asks)
+  if_format (asked.BadSettings field) wanted store P Q is good of asks holds starved = absurd (format_not_bad words wanted field is good asks)
+  if_format (asked.Help text) wanted store P Q is good of asks holds starved = absurd (not_help words is.1.taken asks)
   if_format asked.Refused wanted store P Q is good of asks holds starved = absurd (asks.fails is.1.taken)
 
   pub if_bad : (a : Asked) (field : Field) (P : Field → Type 0) (Q : Type 0) → HasBadNumber words field → WordsAsk words a → IfBadSettings a P Q → (Q → P field) → P field
-  if_bad asked.Serve field P Q bad asks holds starved = absurd (no_served_number words field asks bad)
-  if_bad (asked.Load load) field P Q bad asks holds starved = absurd (elim bad [
-    | inl format ↦ no_format_load words format.0 load format.1 asks.0
-    | inr other ↦ in_range_alone words load other.0 asks other.1 other.2
-  ])
+  if_bad asked.Serve field P Q bad asks holds starved = absurd (serve_not_bad words field asks bad)
+  if_bad (asked.Load load) field P Q bad asks holds starved = absurd (load_not_bad words load field asks bad)
+  if_bad (asked.Settings settings) field P Q bad asks holds starved = absurd (settings_not_bad words settings field asks bad)
+  if_bad (asked.Grow pages) field P Q bad asks holds starved = absurd (grow_not_bad words pages field asks bad)
   if_bad asked.Memory field P Q bad asks holds starved = starved holds
-  if_bad (asked.Format made) field P Q bad asks holds starved = absurd (elim bad [
-    | inl format ↦ some_other field (sym asks.2 ∙ ap first_bad_word (same_wanted words asks.0 format.0 asks.1 format.1) ∙ format.2)
-    | inr load ↦ no_format_load words asks.0 load.0 asks.1 load.1
-  ])
+  if_bad (asked.Format made) field P Q bad asks holds starved = absurd (format_not_bad words asks.0 field asks.1 asks.2 bad)
   if_bad (asked.BadSettings other) field P Q bad asks holds starved = subst P (same_field words other field asks bad) holds
-  if_bad (asked.Help text) field P Q bad asks holds starved = absurd (not_any is_request (fault_of store_app words) (number_taken words field bad) asks)
+  if_bad (asked.Help text) field P Q bad asks holds starved = absurd (not_help words (number_taken words field bad) asks)
   if_bad asked.Refused field P Q bad asks holds starved = absurd (asks.fails (number_taken words field bad))
 
   pub if_nothing : (a : Asked) (P : Type 0) → AskNothing words → WordsAsk words a → IfUnserved a P → P
-  if_nothing asked.Serve P is asks holds = absurd (elim is [
-    | inl refused ↦ refused.fails asks.1.taken
-    | inr more ↦ elim more [ inl help ↦ not_any is_request (fault_of store_app words) asks.1.taken help | inr bad ↦ no_served_number words bad.0 asks bad.1 ]
-  ])
-  if_nothing (asked.Load load) P is asks holds = absurd (elim is [
-    | inl refused ↦ refused.fails asks.0.1.taken
-    | inr more ↦ elim more [
-      | inl help ↦ not_any is_request (fault_of store_app words) asks.0.1.taken help
-      | inr bad ↦ elim bad.1 [ inl format ↦ no_format_load words format.0 load format.1 asks.0 | inr other ↦ in_range_alone words load other.0 asks other.1 other.2 ]
-    ]
-  ])
+  if_nothing asked.Serve P is asks holds = absurd (asks_nothing words asks.1.taken (λ field bad. serve_not_bad words field asks bad) is)
+  if_nothing (asked.Load load) P is asks holds = absurd (asks_nothing words asks.0.1.taken (λ field bad. load_not_bad words load field asks bad) is)
+  if_nothing (asked.Settings settings) P is asks holds = absurd (asks_nothing words asks.1.1.taken (λ field bad. settings_not_bad words settings field asks bad) is)
+  if_nothing (asked.Grow pages) P is asks holds = absurd (asks_nothing words asks.1.taken (λ field bad. grow_not_bad words pages field asks bad) is)
   if_nothing asked.Memory P is asks holds = holds
-  if_nothing (asked.Format made) P is asks holds = absurd (elim is [
-    | inl refused ↦ refused.fails asks.1.1.taken
-    | inr more ↦ elim more [
-      | inl help ↦ not_any is_request (fault_of store_app words) asks.1.1.taken help
-      | inr bad ↦ elim bad.1 [
-        | inl format ↦ some_other bad.0 (sym asks.2 ∙ ap first_bad_word (same_wanted words asks.0 format.0 asks.1 format.1) ∙ format.2)
-        | inr load ↦ no_format_load words asks.0 load.0 asks.1 load.1
-      ]
-    ]
-  ])
+  if_nothing (asked.Format made) P is asks holds = absurd (asks_nothing words asks.1.1.taken (λ field bad. format_not_bad words asks.0 field asks.1 asks.2 bad) is)
   if_nothing (asked.BadSettings field) P is asks holds = holds
   if_nothing (asked.Help text) P is asks holds = holds
   if_nothing asked.Refused P is asks holds = holds
@@ -205,6 +155,8 @@ module _ (words : List Text) where
   pub is_refused : (a : Asked) → WordsAsk words a → IsRefusedAsk a → AreRefusedWords words
   is_refused asked.Serve asks is = absurd is
   is_refused (asked.Load load) asks is = absurd is
+  is_refused (asked.Settings settings) asks is = absurd is
+  is_refused (asked.Grow pages) asks is = absurd is
   is_refused asked.Memory asks is = absurd is
   is_refused (asked.Format store) asks is = absurd is
   is_refused (asked.BadSettings field) asks is = absurd is
@@ -214,11 +166,35 @@ module _ (words : List Text) where
   pub is_load : (a : Asked) → WordsAsk words a → IsLoadAsk a → (load : Load) × IsLoadInRange words load
   is_load asked.Serve asks is = absurd is
   is_load (asked.Load load) asks is = (load, asks)
+  is_load (asked.Settings settings) asks is = absurd is
+  is_load (asked.Grow pages) asks is = absurd is
   is_load asked.Memory asks is = absurd is
   is_load (asked.Format store) asks is = absurd is
   is_load (asked.BadSettings field) asks is = absurd is
   is_load (asked.Help text) asks is = absurd is
   is_load asked.Refused asks is = absurd is
+
+  pub is_reset : (a : Asked) → WordsAsk words a → IsResetAsk a → (numbers : NewNumbers) × AskFor words numbers
+  is_reset asked.Serve asks is = absurd is
+  is_reset (asked.Load load) asks is = absurd is
+  is_reset (asked.Settings settings) asks is = (new.Settings settings, asks)
+  is_reset (asked.Grow pages) asks is = (new.Pages pages, asks)
+  is_reset asked.Memory asks is = absurd is
+  is_reset (asked.Format store) asks is = absurd is
+  is_reset (asked.BadSettings field) asks is = absurd is
+  is_reset (asked.Help text) asks is = absurd is
+  is_reset asked.Refused asks is = absurd is
+
+  pub has_settings_in_range : (a : Asked) → WordsAsk words a → HasSettingsInRange a
+  has_settings_in_range asked.Serve asks = tt
+  has_settings_in_range (asked.Load load) asks = tt
+  has_settings_in_range (asked.Settings settings) asks = settings_in_range asks.0 settings asks.2 asks.3
+  has_settings_in_range (asked.Grow pages) asks = tt
+  has_settings_in_range asked.Memory asks = tt
+  has_settings_in_range (asked.Format store) asks = tt
+  has_settings_in_range (asked.BadSettings field) asks = tt
+  has_settings_in_range (asked.Help text) asks = tt
+  has_settings_in_range asked.Refused asks = tt
 
 -- ---- as one thing is asked for
 
@@ -263,3 +239,36 @@ memory_opens a P is p = subst (λ (b : Asked). IfOpens b P) (sym is) p
 
 pub load_is_asked : (a : Asked) (load : Load) → a ≡ asked.Load load → IsLoadAsk a
 load_is_asked a load is = subst IsLoadAsk (sym is) tt
+
+pub settings_reset : (a : Asked) (settings : Settings) (P : NewNumbers → Type 0) (Q : Type 0) → a ≡ asked.Settings settings → P (new.Settings settings) → IfReset a P Q
+settings_reset a settings P Q is p = subst (λ (b : Asked). IfReset b P Q) (sym is) p
+
+pub grow_reset : (a : Asked) (pages : ℕ) (P : NewNumbers → Type 0) (Q : Type 0) → a ≡ asked.Grow pages → P (new.Pages pages) → IfReset a P Q
+grow_reset a pages P Q is p = subst (λ (b : Asked). IfReset b P Q) (sym is) p
+
+pub memory_reset : (a : Asked) (P : NewNumbers → Type 0) (Q : Type 0) → a ≡ asked.Memory → Q → IfReset a P Q
+memory_reset a P Q is q = subst (λ (b : Asked). IfReset b P Q) (sym is) q
+
+pub settings_is_reset : (a : Asked) (settings : Settings) → a ≡ asked.Settings settings → IsResetAsk a
+settings_is_reset a settings is = subst IsResetAsk (sym is) tt
+
+pub grow_is_reset : (a : Asked) (pages : ℕ) → a ≡ asked.Grow pages → IsResetAsk a
+grow_is_reset a pages is = subst IsResetAsk (sym is) tt
+
+pub settings_opens : (a : Asked) (settings : Settings) (P : Type 0) → a ≡ asked.Settings settings → P → IfOpens a P
+settings_opens a settings P is p = subst (λ (b : Asked). IfOpens b P) (sym is) p
+
+pub grow_opens : (a : Asked) (pages : ℕ) (P : Type 0) → a ≡ asked.Grow pages → P → IfOpens a P
+grow_opens a pages P is p = subst (λ (b : Asked). IfOpens b P) (sym is) p
+
+pub settings_in_its_range : (a : Asked) (settings : Settings) → a ≡ asked.Settings settings → HasSettingsInRange a → InRange settings
+settings_in_its_range a settings is range = subst HasSettingsInRange is range
+
+pub load_opens_so : (a : Asked) (load : Load) (P : Type 0) → a ≡ asked.Load load → P → IfOpensWithoutGrowing a P
+load_opens_so a load P is p = subst (λ (b : Asked). IfOpensWithoutGrowing b P) (sym is) p
+
+pub settings_opens_so : (a : Asked) (settings : Settings) (P : Type 0) → a ≡ asked.Settings settings → P → IfOpensWithoutGrowing a P
+settings_opens_so a settings P is p = subst (λ (b : Asked). IfOpensWithoutGrowing b P) (sym is) p
+
+pub grow_opens_so : (a : Asked) (pages : ℕ) (P : Type 0) → a ≡ asked.Grow pages → IfOpensWithoutGrowing a P
+grow_opens_so a pages P is = subst (λ (b : Asked). IfOpensWithoutGrowing b P) (sym is) tt

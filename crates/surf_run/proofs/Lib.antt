@@ -20,6 +20,7 @@ pub mod Outcomes
 pub mod Pieces
 pub mod Progress
 pub mod Ranges
+pub mod NewNumbersSet
 pub mod Scans
 pub mod Slices
 pub mod Tends

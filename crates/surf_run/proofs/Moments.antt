@@ -6,7 +6,7 @@ use Rattle.disk_trait.specs.World.{Image, Meanwhile, Now, Passes, Same, Seen, St
 use Rattle.disk_trait.proofs.Moments.{in_call, now_at}
 use Rattle.filter_api.specs.Spellings.{Spelling}
 use Rattle.image_model.proofs.Frames.{ready_is_state}
-use Rattle.image_model.specs.Stands.{IsStateOf, as_shown}
+use Rattle.image_model.specs.Stands.{IsStateOf, StandsFor, as_shown}
 use Rattle.line_model.specs.Replies.{Bye, Device, Reply, text_of}
 use Rattle.line_model.specs.Requests.{Request}
 use Rattle.manifest.specs.Manifest.{other_place, place_of}
@@ -70,8 +70,11 @@ tied_stands kind store s w few tied image left =
 pub map_of_state : (kind : Kind) (s : State) (image : Image) → HasState kind s image → HasMap kind s image
 map_of_state kind s image has = (s, has.0, refl)
 
+pub image_stands : (spelling : Spelling) (s : State) (image : Image) → IsStateOf spelling s image → StandsFor spelling s image
+image_stands spelling s image is = subst (λ (t : State). IsStateOf spelling t image) (shown s is.1.named.no_job is.1.named.none_kept) is
+
 pub map_of_image : (kind : Kind) (s : State) (image : Image) → IsStateOf kind.spelling s image → HasMap kind s image
-map_of_image kind s image is = (s, subst (λ (t : State). IsStateOf kind.spelling t image) (shown s is.1.named.no_job is.1.named.none_kept) is, refl)
+map_of_image kind s image is = (s, image_stands kind.spelling s image is, refl)
 
 -- its device has the pages of its state
 pub tied_pages : (spelling : Spelling) (filter_bytes : FilterBytes) (store : StoreValue) (s : State) (w : World) (image : Image) → w.leaves w.moment image → Represents spelling filter_bytes store s w

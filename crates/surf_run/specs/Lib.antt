@@ -19,6 +19,7 @@ pub mod OneMap
 pub mod Open
 pub mod Outcome
 pub mod Refusals
+pub mod Resetting
 pub mod RunContract
 pub mod Run
 pub mod Saying

@@ -10,7 +10,7 @@ use Rattle.image_model.specs.Stands.{IsStateOf}
 use Rattle.manifest_model.specs.Slots.{IsNoStore}
 use Rattle.map_model.specs.SortedMap.{Bytes}
 use Rattle.outside.specs.Streams.{SayMoves}
-use Rattle.program_words.specs.Asked.{AreRefusedWords, HasBadNumber, IsFormat, IsHelp, IsLoadInRange, IsServe, OpensStore}
+use Rattle.program_words.specs.Asked.{AreRefusedWords, HasBadNumber, IsFormat, IsGrow, IsHelp, IsLoadInRange, IsServe, OpensStore, OpensWithoutGrowing}
 use Rattle.program_words.specs.NewStores.{IsStoreOf, first_bad_word}
 use Rattle.program_words.specs.declared.load.Load.{Load}
 use Rattle.program_words.specs.declared.new_store.NewStore.{NewStore}
@@ -21,9 +21,12 @@ use Rattle.surf_run.specs.ServedOrNot.{Completed, HasNoState, NoLineAnswered, Op
 use Rattle.surf_run.specs.Kind.{Kind}
 use Rattle.surf_run.specs.Loads.{IsLoading, LoadEnds, Loads}
 use Rattle.surf_run.specs.Open.{IsOpeningText}
+use Rattle.surf_run.specs.Resetting.{AskFor, IsInLastEpoch, IsResetEnd, IsResetting, OpenedThenReset, ResetEnds, TellsWhich}
 use Rattle.surf_run.specs.Run.{AskNothing, FormatEnds, IsBadSettingsText, IsHelpText, IsUsageText}
 use Rattle.table_file.specs.Faults.{filter_fault_of}
 use Rattle.surf_run.specs.Unserved.{Unserved}
+use Rattle.surf_run.specs.declared.new_numbers.NewNumbers.{NewNumbers}
+use Rattle.surf_run.specs.declared.new_numbers.NewNumbers.TheVariants as new_numbers
 
 -- A run by these words over a device and streams, with filters of this kind, of which bytes that are no filter break this rule
 -- first. Whether device, input and output tell their bytes is `tells`, `tells_input` and `tells_output`, and `world` is what
@@ -63,6 +66,29 @@ pub record RunContract {X : Type 0} (world : X → World) (tells tells_input tel
       → (SomeFailed (world old) (world new) → ⊥) → IsLoadInRange words load → (status ≡ 0) ⊎ (status ≡ 7)
   -- And whatever stands there, no other comes than these.
   pub load_statuses : (load : Load) → IsLoadInRange words load → IsLoading status ⊎ (status ≡ 8)
+  -- Of `settings` and `grow`, where each image that a crash might have left at the start stands for this state: at status 0 each one
+  -- stands for the state with the new numbers, 10 comes at its last epoch, and what a crash may leave at each moment is the state
+  -- before or that one.
+  pub reset :
+      (s : State) (numbers : NewNumbers) → IsTrue tells → IsTrue tells_output → Now (IsStateOf kind.spelling s) (world old) → AskFor words numbers
+      → ResetEnds kind numbers status s (world old) (world new) ⊎ NoLineAnswered status s (world old) (world new)
+  -- Where what the device reads as stands for this state: the same from the opening on.
+  pub resets :
+      (s : State) (numbers : NewNumbers) → IsTrue tells → IsTrue tells_output → IsStateOf kind.spelling s (world old).seen.held → AskFor words numbers
+      → ((opened : X) × OpenedThenReset kind numbers status s (world old) (world opened) (world new)) ⊎ NoLineAnswered status s (world old) (world new)
+  -- Where no call fails the numbers are set or refused, but for want of memory.
+  pub reset_complete :
+      (s : State) (numbers : NewNumbers) → IsTrue tells → IsTrue tells_output → IsStateOf kind.spelling s (world old).seen.held
+      → (SomeFailed (world old) (world new) → ⊥) → AskFor words numbers → IsResetEnd status
+  -- And whatever stands there, no other comes than these.
+  pub reset_statuses : (numbers : NewNumbers) → AskFor words numbers → IsResetting status
+  -- Status 5 comes of them only where opening finds damage, and says the first.
+  pub reset_at_damage :
+      (numbers : NewNumbers) → IsTrue tells → IsTrue tells_output → AskFor words numbers → status ≡ 5
+      → TellsDamage kind.spelling first_fault (world old).seen.held (world old) (world new)
+  -- Status 10 comes of nothing else, and only of a store in its last epoch.
+  pub only_at_new_numbers : status ≡ 10 → (numbers : NewNumbers) × AskFor words numbers
+  pub only_at_last_epoch : IsTrue tells → status ≡ 10 → IsInLastEpoch (world old).seen.held
   -- Help is said with 0, and wrong words get the usage line with 2; nothing is touched.
   pub helped : IsTrue tells_output → IsHelp words → Unserved IsHelpText status (world old) (world new)
   pub refused : IsTrue tells_output → AreRefusedWords words → Unserved IsUsageText status (world old) (world new)
@@ -79,8 +105,8 @@ pub record RunContract {X : Type 0} (world : X → World) (tells tells_input tel
   pub only_at_damage :
       IsTrue tells → IsTrue tells_input → IsTrue tells_output → status ≡ 5
       → TellsDamage kind.spelling first_fault (world old).seen.held (world old) (world new) ⊎ (HasNoState kind.spelling (world old).seen.held × RunMeetsDamage ((load : Load) × IsLoadInRange words load) (world old) (world new))
-  -- Of `serve` and `load`, where no store stands or opening finds damage, no line is served and no step made: nothing is taken or
-  -- written, and the one last line says so, or `device` or `memory`.
+  -- Of all but `format`, where no store stands or opening finds damage, no line is served, no step made and no number set: nothing is
+  -- taken or written, and the one last line says so, or `device` or `memory`.
   pub unopened :
       IsTrue tells → IsTrue tells_output → OpensNothing kind.spelling first_fault (world old).seen.held → OpensStore words
       → Unserved (IsOpeningText kind.spelling first_fault (world old).seen.held) status (world old) (world new)
@@ -88,7 +114,9 @@ pub record RunContract {X : Type 0} (world : X → World) (tells tells_input tel
   pub told_of_damage :
       (d : Damage) → IsTrue tells → FirstDamage kind.spelling (filter_fault_of first_fault) (world old).seen.held d → OpensStore words
       → (status ≡ 5) ⊎ (status ≡ 4) ⊎ (status ≡ 6) ⊎ (status ≡ 7)
-  -- Of them, status 8 comes exactly where both slot gates are closed, but for memory, the device and the last line.
-  pub only_at_no_store : IsTrue tells → status ≡ 8 → OpensStore words → IsNoStore (world old).seen.held
+  -- Of them, status 8 comes exactly where both slot gates are closed, but for memory, the device and the last line. Of `grow` it comes
+  -- too where the pages are fewer than the store has, or too many, and the line says which.
+  pub only_at_no_store : IsTrue tells → status ≡ 8 → OpensWithoutGrowing words → IsNoStore (world old).seen.held
+  pub only_at_bad_pages : (pages : ℕ) → IsTrue tells → status ≡ 8 → IsGrow words pages → TellsWhich (IsTrue tells_output) (new_numbers.Pages pages) (world old).seen.held (world old) (world new)
   pub told_of_no_store : IsTrue tells → IsNoStore (world old).seen.held → OpensStore words → (status ≡ 8) ⊎ (status ≡ 4) ⊎ (status ≡ 6) ⊎ (status ≡ 7)
-  pub statuses : IsServing status ⊎ (status ≡ 2) ⊎ (status ≡ 5) ⊎ (status ≡ 7) ⊎ (status ≡ 8)
+  pub statuses : IsServing status ⊎ (status ≡ 2) ⊎ (status ≡ 5) ⊎ (status ≡ 7) ⊎ (status ≡ 8) ⊎ (status ≡ 10)

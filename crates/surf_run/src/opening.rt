@@ -3,7 +3,7 @@ ghost use Rattle.std.specs.Prelude.{◌≡◌, ◌≤◌, ◌≢◌, ◌⊎◌, 
 ghost use Rattle.byte_fields.specs.declared.parts.Damage.{Damage};
 ghost use Rattle.image_model.specs.Opening.{FirstDamage};
 ghost use Rattle.image_model.specs.Stands.{IsStateOf};
-ghost use Rattle.manifest_model.specs.Slots.{IsNoStore};
+ghost use Rattle.manifest_model.specs.Slots.{IsNoStore, IsVersionOf};
 ghost use Rattle.outside.specs.Streams.{SayMoves, SaysPrefix};
 ghost use Rattle.state_model.specs.State.{State};
 ghost use Rattle.store_core.specs.Represents.{Represents};
@@ -53,6 +53,7 @@ pub(crate) fn open_or_say<F: RangeFilter, W: Outside>(
         → IfErr result (λ status. NoLineAnswered status s (W.world out.old) (W.world out.new)) }
     ensures running { IfOk result (λ store. store.stopped ≡ false) }
     ensures slot { IfOk result (λ store. store.manifest.slot ≤ 1) }
+    ensures version { IsTrue W.tells → IfOk result (λ store. IsVersionOf store.manifest.version (W.world out.old).seen.held) }
     ensures still { IfOk result (λ _. OpenMoves (W.world out.old) (W.world out.new)) }
     // Where no store stands or opening finds damage, the status says so, and so does the last line; and only there.
     ensures unopened { IsTrue W.tells → IsTrue W.tells_output → OpensNothing F.spelling F.first_fault (W.world out.old).seen.held

@@ -13,13 +13,16 @@ ghost use Rattle.surf_run.specs.Kind.{filter_kind};
 ghost use Rattle.surf_run.specs.Loads.{IsLoading, LoadEnds, Loads};
 ghost use Rattle.surf_run.specs.Open.{IsOpeningText};
 ghost use Rattle.surf_run.specs.RunContract.{RunContract};
-ghost use Rattle.surf_run.specs.Run.{FormatEnds, IfBadSettings, IfFormat, IfHelp, IfLoad, IfOpens, IfRefused, IfServe, IfUnserved, IsBadSettingsText, IsHelpText, IsLoadAsk, IsMemoryText, IsRefusedAsk, IsUsageText};
+ghost use Rattle.surf_run.specs.Resetting.{IsInLastEpoch, IsResetEnd, IsResetting, OpenedThenReset, ResetEnds, TellsWhich};
+ghost use Rattle.surf_run.specs.Run.{FormatEnds, HasSettingsInRange, IfBadSettings, IfFormat, IfHelp, IfLoad, IfOpens, IfOpensWithoutGrowing, IfRefused, IfReset, IfServe, IfUnserved, IsBadSettingsText, IsHelpText, IsLoadAsk, IsMemoryText, IsRefusedAsk, IsResetAsk, IsUsageText};
 ghost use Rattle.surf_run.specs.Unserved.{Unserved};
 ghost use Rattle.table_file.specs.Faults.{filter_fault_of};
 
 use crate::formatting::{run_format, say_bad_settings};
 use crate::loading::open_and_load;
+use crate::new_numbers::NewNumbers;
 use crate::opened::open_and_serve;
+use crate::resetting::open_and_reset;
 use crate::saying::{last_line, say_last};
 use filter_api::RangeFilter;
 use outside::Outside;
@@ -27,10 +30,11 @@ use program_words::{Asked, read_words};
 use std::alloc::Global;
 use store_commands::Reply;
 
-const USAGE: &[u8] = b"usage: surfstore PATH format|serve|load\n";
+const USAGE: &[u8] = b"usage: surfstore PATH format|serve|load|settings|grow\n";
 
 // Does what was asked for: the clauses are those of `RunContract`, each where this was asked for.
 fn run_asked<F: RangeFilter, W: Outside>(alloc: Global, asked: Asked, out: &mut W) -> u8
+    requires { HasSettingsInRange asked }
     ensures outcome { (s : State) → IsTrue W.tells → IsTrue W.tells_input → IsTrue W.tells_output → Now (IsStateOf F.spelling s) (W.world out.old) → IfServe asked (ServedOrNot (filter_kind F.spelling F.built_cutoff) result s (W.world out.old) (W.world out.new)) }
     ensures answers { (s : State) → IsTrue W.tells → IsTrue W.tells_input → IsTrue W.tells_output → IsStateOf F.spelling s (W.world out.old).seen.held
         → IfServe asked (((opened : _) × OpenedThenServed (filter_kind F.spelling F.built_cutoff) result s (W.world out.old) (W.world opened) (W.world out.new)) ⊎ NoLineAnswered result s (W.world out.old) (W.world out.new)) }
@@ -45,6 +49,15 @@ fn run_asked<F: RangeFilter, W: Outside>(alloc: Global, asked: Asked, out: &mut 
     ensures load_complete { (s : State) → IsTrue W.tells → IsTrue W.tells_output → IsStateOf F.spelling s (W.world out.old).seen.held → (SomeFailed (W.world out.old) (W.world out.new) → ⊥)
         → IfLoad asked (λ _. (result ≡ 0) ⊎ (result ≡ 7)) ((result ≡ 0) ⊎ (result ≡ 7)) }
     ensures load_statuses { IfLoad asked (λ _. IsLoading result ⊎ (result ≡ 8)) (IsLoading result ⊎ (result ≡ 8)) }
+    ensures reset { (s : State) → IsTrue W.tells → IsTrue W.tells_output → Now (IsStateOf F.spelling s) (W.world out.old)
+        → IfReset asked (λ numbers. ResetEnds (filter_kind F.spelling F.built_cutoff) numbers result s (W.world out.old) (W.world out.new) ⊎ NoLineAnswered result s (W.world out.old) (W.world out.new))
+        (NoLineAnswered result s (W.world out.old) (W.world out.new)) }
+    ensures resets { (s : State) → IsTrue W.tells → IsTrue W.tells_output → IsStateOf F.spelling s (W.world out.old).seen.held
+        → IfReset asked (λ numbers. ((opened : _) × OpenedThenReset (filter_kind F.spelling F.built_cutoff) numbers result s (W.world out.old) (W.world opened) (W.world out.new)) ⊎ NoLineAnswered result s (W.world out.old) (W.world out.new))
+        (NoLineAnswered result s (W.world out.old) (W.world out.new)) }
+    ensures reset_complete { (s : State) → IsTrue W.tells → IsTrue W.tells_output → IsStateOf F.spelling s (W.world out.old).seen.held → (SomeFailed (W.world out.old) (W.world out.new) → ⊥)
+        → IfReset asked (λ _. IsResetEnd result) (IsResetEnd result) }
+    ensures reset_statuses { IfReset asked (λ _. IsResetting result) (IsResetting result) }
     ensures formatted { IsTrue W.tells → IsTrue W.tells_output → IfFormat asked (λ store. FormatEnds F.spelling store result (W.world out.old) (W.world out.new)) (Unserved IsMemoryText result (W.world out.old) (W.world out.new)) }
     ensures bad_settings { IsTrue W.tells_output → IfBadSettings asked (λ field. Unserved (IsBadSettingsText field) result (W.world out.old) (W.world out.new)) (Unserved IsMemoryText result (W.world out.old) (W.world out.new)) }
     ensures helped { IsTrue W.tells_output → IfHelp asked (Unserved IsHelpText result (W.world out.old) (W.world out.new)) }
@@ -59,13 +72,20 @@ fn run_asked<F: RangeFilter, W: Outside>(alloc: Global, asked: Asked, out: &mut 
         → IfOpens asked (Unserved (IsOpeningText F.spelling F.first_fault (W.world out.old).seen.held) result (W.world out.old) (W.world out.new)) }
     ensures told_of_damage { (d : Damage) → IsTrue W.tells → FirstDamage F.spelling (filter_fault_of F.first_fault) (W.world out.old).seen.held d
         → IfOpens asked ((result ≡ 5) ⊎ (result ≡ 4) ⊎ (result ≡ 6) ⊎ (result ≡ 7)) }
-    ensures only_at_no_store { IsTrue W.tells → result ≡ 8 → IfOpens asked (IsNoStore (W.world out.old).seen.held) }
+    ensures only_at_no_store { IsTrue W.tells → result ≡ 8 → IfOpensWithoutGrowing asked (IsNoStore (W.world out.old).seen.held) }
+    ensures at_eight { IsTrue W.tells → result ≡ 8 → IfReset asked (λ numbers. TellsWhich (IsTrue W.tells_output) numbers (W.world out.old).seen.held (W.world out.old) (W.world out.new)) ⊥ }
+    ensures reset_at_damage { IsTrue W.tells → IsTrue W.tells_output → result ≡ 5 → IfReset asked (λ _. TellsDamage F.spelling F.first_fault (W.world out.old).seen.held (W.world out.old) (W.world out.new)) ⊥ }
+    ensures at_ten { result ≡ 10 → IsResetAsk asked × (IsTrue W.tells → IsInLastEpoch (W.world out.old).seen.held) }
     ensures told_of_no_store { IsTrue W.tells → IsNoStore (W.world out.old).seen.held → IfOpens asked ((result ≡ 8) ⊎ (result ≡ 4) ⊎ (result ≡ 6) ⊎ (result ≡ 7)) }
-    ensures statuses { IsServing result ⊎ (result ≡ 2) ⊎ (result ≡ 5) ⊎ (result ≡ 7) ⊎ (result ≡ 8) }
+    ensures statuses { IsServing result ⊎ (result ≡ 2) ⊎ (result ≡ 5) ⊎ (result ≡ 7) ⊎ (result ≡ 8) ⊎ (result ≡ 10) }
 {
     match asked {
         Asked::Serve => open_and_serve::<F, W>(alloc, out),
         Asked::Load(load) => open_and_load::<F, W>(alloc, out, load),
+        Asked::Settings(settings) => {
+            open_and_reset::<F, W>(alloc, out, NewNumbers::Settings(settings))
+        }
+        Asked::Grow(pages) => open_and_reset::<F, W>(alloc, out, NewNumbers::Pages(pages)),
         Asked::Format(store) => run_format::<F, W>(alloc, store.settings, store.pages, out),
         Asked::BadSettings(field) => say_bad_settings(out, field),
         Asked::Help(text) => say_last(out, text.as_bytes(), 0),
@@ -78,17 +98,19 @@ fn run_asked<F: RangeFilter, W: Outside>(alloc: Global, asked: Asked, out: &mut 
 ///
 /// `format` makes the device an empty store. `serve` opens the store on the device and answers the lines of the input, each
 /// reply said before the next line is begun. `load` opens it too, makes its steps, each as a line would with a merge slice behind
-/// it, and says one line of the map that is then there. Help and the version are said with status 0.
+/// it, and says one line of the map that is then there. `settings` and `grow` open it, give it new numbers and say them. Help and the
+/// version are said with status 0.
 ///
 /// | status | comes |
 /// |---|---|
-/// | 0 | the input was read to its end or to `quit`, every reply said; or the store was made, or loaded, or help was said |
+/// | 0 | the input was read to its end or to `quit`, every reply said; or the store was made, loaded or given its new numbers, or help was said |
 /// | 2 | clap refuses the words |
 /// | 3, 4, 6 | the input, the device, the output failed |
 /// | 5 | what was read of the device is damaged |
-/// | 7 | want of memory before the first line, or in a load |
+/// | 7 | out of memory before the first line, in a load, or for new numbers |
 /// | 8 | not a store, already a store, a number out of range |
 /// | 9 | 2^40 bytes were taken |
+/// | 10 | `settings` or `grow` at the last epoch |
 pub fn run<F: RangeFilter, W: Outside>(alloc: Global, words: &[String], out: &mut W) -> u8
     ensures { RunContract W.world W.tells W.tells_input W.tells_output (filter_kind F.spelling F.built_cutoff) F.first_fault (map string_bytes words.now) result out.old out.new }
 {

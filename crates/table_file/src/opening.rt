@@ -36,7 +36,7 @@ const OTHER_WIDTHS: u8 = 12;
 /// memory for both. The row has to [fit the device](fits_device).
 ///
 /// `Ok` exactly where index and filter keep their sums and rules and the row's counts, and the filter has the widths that the
-/// row names, but for out of memory and faults of the device; else the first damage. The row's ratio is compared with
+/// row names, unless memory runs out or the device fails; else the first damage. The row's ratio is compared with
 /// nothing: no filter shows it.
 pub fn open_table<F: RangeFilter, D: Disk>(
     alloc: Global,

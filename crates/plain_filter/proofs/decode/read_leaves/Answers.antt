@@ -1,7 +1,7 @@
 use Rattle.std.proofs.Common.{◌≡◌, ◌<◌, ◌++◌, ◌-◌, ◌+◌, ◌∙◌, Some, ap, arith, sym}
 use Rattle.std.specs.Option.{option_map}
 use Rattle.filter_api.specs.Seen.{seen}
-use Rattle.plain_filter.specs.Reading.{leaf_in, leaf_list_in}
+use Rattle.plain_filter_model.specs.Reading.{leaf_in, leaf_list_in}
 use Rattle.plain_filter.proofs.Loops.{read-more}
 use Rattle.plain_filter.proofs.decode.read_leaves.Goals as goal
 

@@ -1,6 +1,6 @@
 use Rattle.std.proofs.Common.{◌≡◌, ◌++◌, ◌-◌}
 use Rattle.std.specs.Option.{option_map}
-use Rattle.plain_filter.specs.Reading.{leaf_list_in}
+use Rattle.plain_filter_model.specs.Reading.{leaf_list_in}
 use Rattle.plain_filter.proofs.decode.read_leaves.Given as goal
 
 -- the leaves read so far, and those that the rest spells

@@ -2,7 +2,7 @@ use Rattle.std.proofs.Common.{◌∙◌, ◌<◌, ◌∷◌, ◌++◌, List, ℕ
 use Rattle.std.specs.Prelude.{flat_map}
 use Rattle.byteorder.specs.Endian.{little_bytes}
 use Rattle.filter_api.specs.Seen.{seen}
-use Rattle.plain_filter.specs.Spelling.{leaf_bytes}
+use Rattle.plain_filter_model.specs.Spelling.{leaf_bytes}
 use Rattle.plain_filter.proofs.Loops.{join-more}
 use Rattle.plain_filter.proofs.encode.spelled.Goals as goal
 

@@ -1,7 +1,7 @@
 use Rattle.std.proofs.Common.{◌≡◌, ◌∷◌, ◌++◌, length, take}
 use Rattle.std.specs.Prelude.{flat_map}
 use Rattle.byteorder.specs.Endian.{little_bytes}
-use Rattle.plain_filter.specs.Spelling.{leaf_bytes}
+use Rattle.plain_filter_model.specs.Spelling.{leaf_bytes}
 use Rattle.plain_filter.proofs.encode.spelled.Given as goal
 
 -- the head, and the leaves passed

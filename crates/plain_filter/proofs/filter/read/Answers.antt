@@ -5,8 +5,8 @@ use Rattle.byteorder.specs.Endian.{little_number}
 use Rattle.filter_model.specs.Strings.{is_prefix}
 use Rattle.filter_model.specs.Valid.{IsValid}
 use Rattle.plain_filter.proofs.LeafLemmas.{bytes_of}
-use Rattle.plain_filter.specs.ExactLaws.{Some-inj, plain_magic, whole_again, whole_back}
-use Rattle.plain_filter.specs.Reading.{leaf_list_in}
+use Rattle.plain_filter_model.proofs.ExactLaws.{Some-inj, plain_magic, whole_again, whole_back}
+use Rattle.plain_filter_model.specs.Reading.{leaf_list_in}
 use Rattle.plain_filter.proofs.filter.read.Goals as goal
 
 -- the slice behind the head is all that is there

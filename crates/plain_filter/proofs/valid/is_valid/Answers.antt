@@ -1,7 +1,7 @@
 use Rattle.std.proofs.Common.{◌≡◌, ◌<◌, ◌^◌, ℕ, length, refl, arith, sym, subst, inl, inr, ◌∙◌}
 use Rattle.std.proofs.lemmas.Bool.{cases_lt, eqb-false, false≢true}
-use Rattle.plain_filter.specs.Neighbours.{StandsRightly}
-use Rattle.plain_filter.specs.ValidLaws.{stands_from_valid, valid_from_stands}
+use Rattle.plain_filter_model.specs.Neighbours.{StandsRightly}
+use Rattle.plain_filter_model.proofs.ValidLaws.{stands_from_valid, valid_from_stands}
 use Rattle.plain_filter.proofs.valid.is_valid.Goals as goal
 
 pub loop-i-preserved : goal.loop-i-preserved

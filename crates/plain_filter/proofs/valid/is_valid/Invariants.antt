@@ -1,5 +1,5 @@
 use Rattle.std.proofs.Common.{◌<◌, ℕ}
-use Rattle.plain_filter.specs.Neighbours.{StandsRightly}
+use Rattle.plain_filter_model.specs.Neighbours.{StandsRightly}
 use Rattle.plain_filter.proofs.valid.is_valid.Given as goal
 
 -- the leaves passed stand rightly

@@ -1,7 +1,7 @@
-use Rattle.std.proofs.Common.{rules, ◌≡◌, ◌∙◌, ap, ap₂, codes, true}
+use Rattle.std.proofs.Common.{◌≡◌, ◌∙◌, ap, ap₂, codes, true}
 use Rattle.std.proofs.lemmas.Result.{IfOk-weaker}
 use Rattle.clap.specs.Simple.{App, app_of, new_app, on_top, with_subcommand}
-use Rattle.program_words.specs.CommandLine.{format_app, load_app, serve_app}
+use Rattle.program_words.specs.CommandLine.{format_app, load_app, serve_app, settings_app}
 use Rattle.program_words.proofs.command_line.store_command.Goals as goal
 
 abbrev bare : App
@@ -16,4 +16,8 @@ returns c =
     c.in_ok-with_format.ensures.shape c.in_ok-format.ensures.local ∙ ap₂ with_subcommand bare_is (ap (λ (a : App). a.top) c.in_ok-format.ensures.app) in
     let with_serve_is : app_of c.in_ok-with_serve.with_serve ≡ with_subcommand (with_subcommand bare format_app.top) serve_app.top =
     c.in_ok-with_serve.ensures.shape c.serve_command.ensures.local ∙ ap₂ with_subcommand with_format_is (ap (λ (a : App). a.top) c.serve_command.ensures.app) in
-    IfOk-weaker c.subcommand-3.result _ _ (λ r h. h.shape c.in_ok-load.ensures.local ∙ ap₂ with_subcommand with_serve_is (ap (λ (a : App). a.top) c.in_ok-load.ensures.app)) c.subcommand-3.ensures
+    let with_load_is : app_of c.in_ok-with_load.with_load ≡ with_subcommand (with_subcommand (with_subcommand bare format_app.top) serve_app.top) load_app.top =
+    c.in_ok-with_load.ensures.shape c.in_ok-load.ensures.local ∙ ap₂ with_subcommand with_serve_is (ap (λ (a : App). a.top) c.in_ok-load.ensures.app) in
+    let with_settings_is : app_of c.in_ok-with_settings.with_settings ≡ with_subcommand (with_subcommand (with_subcommand (with_subcommand bare format_app.top) serve_app.top) load_app.top) settings_app.top =
+    c.in_ok-with_settings.ensures.shape c.in_ok-settings.ensures.local ∙ ap₂ with_subcommand with_load_is (ap (λ (a : App). a.top) c.in_ok-settings.ensures.app) in
+    IfOk-weaker c.subcommand-5.result _ _ (λ r h. h.shape c.in_ok-grow.ensures.local ∙ ap₂ with_subcommand with_settings_is (ap (λ (a : App). a.top) c.in_ok-grow.ensures.app)) c.subcommand-5.ensures

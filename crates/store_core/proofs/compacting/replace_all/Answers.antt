@@ -19,6 +19,11 @@ use Rattle.store_core.proofs.CompactVersions.{compacted_is_version}
 use Rattle.store_core.proofs.InstallRefusals.{through_writes}
 use Rattle.store_core.proofs.compacting.replace_all.Goals as goal
 
+pub returns-in_err-made-clause-meanwhile : goal.returns-in_err-made-clause-meanwhile
+returns-in_err-made-clause-meanwhile g c s tells held some =
+    stays_map g.F.RangeFilter.spelling (filter_bytes_of g.F.RangeFilter.spelling g.F.RangeFilter.built_cutoff) c.args.version.now c.args.tables.now.tables c.args.memory.now.entries s _ _ c.requires.slot c.requires.rows c.requires.sound c.requires.epoch
+    held (g.met.D.Disk.current c.args.disk.now tells) some (c.in_err-made.ensures.stays s tells held)
+
 pub returns-in_err-made-clause-done : goal.returns-in_err-made-clause-done
 returns-in_err-made-clause-done g c s tells held some =
     let spelling = g.F.RangeFilter.spelling in

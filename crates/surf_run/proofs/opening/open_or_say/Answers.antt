@@ -21,6 +21,9 @@ returns-in-Ok-clause-reads g c s tells here = few_reads _ _ _ (c.open_store.ensu
 pub returns-in-Ok-clause-slot : goal.returns-in-Ok-clause-slot
 returns-in-Ok-clause-slot g c = c.consistency_law.ensures.slot
 
+pub returns-in-Ok-clause-version : goal.returns-in-Ok-clause-version
+returns-in-Ok-clause-version g c tells = let opened = c.in-Ok.ensures.answer tells in opened.opens.version_is
+
 pub returns-in-Ok-clause-still : goal.returns-in-Ok-clause-still
 returns-in-Ok-clause-still g c = open_moves (7 + 2 * max_tables) (g.W.Disk.world c.args.out.now) (g.W.Disk.world c.open_store.new.disk) c.open_store.ensures.moves
 

@@ -1,9 +1,13 @@
 use Rattle.std.proofs.Common.{inl, inr, map}
 use Rattle.std.specs.Prelude.{string_bytes}
 use Rattle.surf_run.specs.Run.{IsBadSettingsText, IsMemoryText}
-use Rattle.surf_run.proofs.Asking.{if_bad, if_format, if_help, if_load, if_nothing, if_opens, if_refused, if_serve, is_load, is_refused}
+use Rattle.surf_run.specs.declared.new_numbers.NewNumbers.TheVariants as new
+use Rattle.surf_run.proofs.Asking.{has_settings_in_range, if_bad, if_format, if_help, if_load, if_nothing, if_opens, if_opens_without_growing, if_refused, if_reset, if_serve, is_load, is_refused, is_reset}
 use Rattle.surf_run.proofs.LastLines.{unserved_wider}
 use Rattle.surf_run.proofs.top.run.Goals as goal
+
+pub run_asked-requires : goal.run_asked-requires
+run_asked-requires g c = has_settings_in_range (map string_bytes c.args.words.now) c.read_words-asked.result c.read_words-asked.ensures
 
 pub returns : goal.returns
 returns g c =
@@ -21,6 +25,13 @@ returns g c =
       loads = λ s load tells output here is. if_load words asked load _ _ is asks (by.loads s tells output here) (λ none. inr none);
       load_complete = λ s load tells output here none is. if_load words asked load _ _ is asks (by.load_complete s tells output here none) (λ ends. ends);
       load_statuses = λ load is. if_load words asked load _ _ is asks by.load_statuses (λ ends. ends);
+      reset = λ s numbers tells output now is. if_reset words asked numbers _ _ is asks (by.reset s tells output now) (λ none. inr none);
+      resets = λ s numbers tells output here is. if_reset words asked numbers _ _ is asks (by.resets s tells output here) (λ none. inr none);
+      reset_complete = λ s numbers tells output here none is. if_reset words asked numbers _ _ is asks (by.reset_complete s tells output here none) (λ ends. ends);
+      reset_statuses = λ numbers is. if_reset words asked numbers _ _ is asks by.reset_statuses (λ ends. ends);
+      reset_at_damage = λ numbers tells output is five. if_reset words asked numbers _ _ is asks (by.reset_at_damage tells output five) (λ never. absurd never);
+      only_at_new_numbers = λ ten. is_reset words asked asks (by.at_ten ten).0;
+      only_at_last_epoch = λ tells ten. (by.at_ten ten).1 tells;
       helped = λ output is. if_help words asked _ is asks (by.helped output);
       refused = λ output is. if_refused words asked _ is asks (by.refused output);
       causes = by.causes;
@@ -34,7 +45,8 @@ returns g c =
         | inr none ↦ inr (none.0, elim none.1 [ inl shown ↦ inl shown | inr unsaid ↦ inr (is_load words asked asks unsaid.0, unsaid.1) ])
       ];
       told_of_damage = λ d tells damaged is. if_opens words asked _ is asks (by.told_of_damage d tells damaged);
-      only_at_no_store = λ tells eight is. if_opens words asked _ is asks (by.only_at_no_store tells eight);
+      only_at_no_store = λ tells eight is. if_opens_without_growing words asked _ is asks (by.only_at_no_store tells eight);
+      only_at_bad_pages = λ pages tells eight is. if_reset words asked (new.Pages pages) _ _ is asks (by.at_eight tells eight) (λ never. absurd never);
       told_of_no_store = λ tells none is. if_opens words asked _ is asks (by.told_of_no_store tells none);
       statuses = by.statuses;
     }

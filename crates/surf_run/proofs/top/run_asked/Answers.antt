@@ -1,18 +1,23 @@
-use Rattle.std.proofs.Common.{◌≡◌, ◌⊎◌, ◌+◌, inl, inr, refl, arith}
+use Rattle.std.proofs.Common.{◌≡◌, ◌⊎◌, ◌+◌, inl, inr, refl, sym, ◌∙◌, arith}
 use Rattle.filter_api.specs.declared.settings.Field.{Field}
+use Rattle.std.specs.Prelude.{None, Some, IsTrue}
 use Rattle.line_model.specs.Replies.{Memory, text_of}
 use Rattle.program_words.specs.declared.load.Load.{Load}
 use Rattle.program_words.specs.declared.new_store.NewStore.{NewStore}
-use Rattle.surf_run.specs.ServedOrNot.{NoLineAnswered, opening_bound}
+use Rattle.surf_run.specs.ServedOrNot.{NoLineAnswered, TellsDamage, opening_bound}
 use Rattle.surf_run.specs.Formats.{bad_settings_text}
 use Rattle.surf_run.specs.Kind.{filter_kind}
 use Rattle.surf_run.specs.Loads.{IsLoading, LoadEnds, Loads}
 use Rattle.surf_run.specs.Open.{IsFreeText, IsOpeningText}
+use Rattle.surf_run.specs.Resetting.{IsResetEnd, IsResetting, OpenedThenReset, ResetEnds, TellsWhich}
 use Rattle.surf_run.specs.Run.{FormatEnds, IsBadSettingsText, IsHelpText, IsUsageText, usage_text}
 use Rattle.surf_run.specs.Unserved.{Unserved}
-use Rattle.surf_run.proofs.Asking.{at_bad, at_format, at_help, at_load, at_refused, at_serve, load_is_asked, load_opens, memory_help, memory_load, memory_opens, memory_refused, memory_serve, serve_opens}
+use Rattle.surf_run.specs.declared.new_numbers.NewNumbers.{NewNumbers}
+use Rattle.surf_run.specs.declared.new_numbers.NewNumbers.TheVariants as new
+use Rattle.surf_run.proofs.Asking.{at_bad, at_format, at_help, at_load, at_refused, at_serve, grow_opens, grow_opens_so, grow_is_reset, grow_reset, load_is_asked, load_opens, load_opens_so, memory_help, memory_load, memory_opens, memory_refused, memory_reset, memory_serve, serve_opens, settings_in_its_range, settings_is_reset, settings_opens, settings_opens_so, settings_reset}
 use Rattle.surf_run.proofs.LastLines.{read_since, said_reads, unserved}
 use Rattle.surf_run.proofs.LoadEnds.{as_statuses, never_two}
+use Rattle.surf_run.proofs.NewNumbersSet.{loading_never_ten, never_two as reset_never_two, reset_as_statuses, serving_never_ten}
 use Rattle.surf_run.proofs.top.run_asked.Goals as goal
 
 pub returns-in-Serve-clause-answers : goal.returns-in-Serve-clause-answers
@@ -26,6 +31,9 @@ returns-in-Serve-clause-unopened g c tells output nothing = serve_opens c.args.a
 
 pub returns-in-Serve-clause-told_of_damage : goal.returns-in-Serve-clause-told_of_damage
 returns-in-Serve-clause-told_of_damage g c d tells damaged = serve_opens c.args.asked _ c.in-Serve.is (c.open_and_serve.ensures.told_of_damage d tells damaged)
+
+pub returns-in-Serve-clause-at_ten : goal.returns-in-Serve-clause-at_ten
+returns-in-Serve-clause-at_ten g c ten = absurd (serving_never_ten c.open_and_serve.result c.open_and_serve.ensures.statuses ten)
 
 pub returns-in-Serve-clause-only_at_damage : goal.returns-in-Serve-clause-only_at_damage
 returns-in-Serve-clause-only_at_damage g c tells input output five = elim (c.open_and_serve.ensures.only_at_damage tells input output five) [ inl told ↦ inl told | inr none ↦ inr (none.0, inl none.1) ]
@@ -62,7 +70,7 @@ pub returns-in-Load-clause-told_of_damage : goal.returns-in-Load-clause-told_of_
 returns-in-Load-clause-told_of_damage g c d tells damaged = load_opens c.args.asked c.in-Load.load _ c.in-Load.is (c.open_and_load.ensures.told_of_damage d tells damaged)
 
 pub returns-in-Load-clause-only_at_no_store : goal.returns-in-Load-clause-only_at_no_store
-returns-in-Load-clause-only_at_no_store g c tells eight = load_opens c.args.asked c.in-Load.load _ c.in-Load.is (c.open_and_load.ensures.only_at_no_store tells eight)
+returns-in-Load-clause-only_at_no_store g c tells eight = load_opens_so c.args.asked c.in-Load.load _ c.in-Load.is (c.open_and_load.ensures.only_at_no_store tells eight)
 
 pub returns-in-Load-clause-told_of_no_store : goal.returns-in-Load-clause-told_of_no_store
 returns-in-Load-clause-told_of_no_store g c tells none = load_opens c.args.asked c.in-Load.load _ c.in-Load.is (c.open_and_load.ensures.told_of_no_store tells none)
@@ -73,11 +81,136 @@ returns-in-Load-clause-only_at_damage g c tells input output five = elim (c.open
   | inr none ↦ inr (none.0, elim none.1 [ inl shown ↦ inl shown | inr unsaid ↦ inr (load_is_asked c.args.asked c.in-Load.load c.in-Load.is, unsaid.1) ])
 ]
 
+pub returns-in-Load-clause-at_ten : goal.returns-in-Load-clause-at_ten
+returns-in-Load-clause-at_ten g c ten = absurd (loading_never_ten c.open_and_load.result c.open_and_load.ensures.statuses ten)
+
 pub returns-in-Load-clause-statuses : goal.returns-in-Load-clause-statuses
 returns-in-Load-clause-statuses g c = as_statuses c.open_and_load.result c.open_and_load.ensures.statuses
 
 pub returns-in-Load-clause-only_at_wrong_words : goal.returns-in-Load-clause-only_at_wrong_words
 returns-in-Load-clause-only_at_wrong_words g c two = absurd (never_two c.open_and_load.result c.open_and_load.ensures.statuses two)
+
+pub open_and_reset-requires : goal.open_and_reset-requires
+open_and_reset-requires g c = settings_in_its_range c.args.asked c.in-Settings.settings c.in-Settings.is c.requires
+
+pub returns-in-Settings-clause-reset : goal.returns-in-Settings-clause-reset
+returns-in-Settings-clause-reset g c s tells output now =
+    let kind = filter_kind g.F.RangeFilter.spelling g.F.RangeFilter.built_cutoff in
+    let old = g.W.Disk.world c.args.out.now in
+    let new = g.W.Disk.world c.open_and_reset.new.out in
+    settings_reset c.args.asked c.in-Settings.settings (λ (n : NewNumbers). ResetEnds kind n c.open_and_reset.result s old new ⊎ NoLineAnswered c.open_and_reset.result s old new) _ c.in-Settings.is (c.open_and_reset.ensures.outcome s tells output now)
+
+pub returns-in-Settings-clause-resets : goal.returns-in-Settings-clause-resets
+returns-in-Settings-clause-resets g c s tells output here =
+    let kind = filter_kind g.F.RangeFilter.spelling g.F.RangeFilter.built_cutoff in
+    let old = g.W.Disk.world c.args.out.now in
+    let new = g.W.Disk.world c.open_and_reset.new.out in
+    settings_reset c.args.asked c.in-Settings.settings
+    (λ (n : NewNumbers). ((opened : _) × OpenedThenReset kind n c.open_and_reset.result s old (g.W.Disk.world opened) new) ⊎ NoLineAnswered c.open_and_reset.result s old new) _ c.in-Settings.is (c.open_and_reset.ensures.answers s tells output here)
+
+pub returns-in-Settings-clause-reset_complete : goal.returns-in-Settings-clause-reset_complete
+returns-in-Settings-clause-reset_complete g c s tells output here none =
+    settings_reset c.args.asked c.in-Settings.settings (λ (n : NewNumbers). IsResetEnd c.open_and_reset.result) _ c.in-Settings.is (c.open_and_reset.ensures.complete s tells output here none)
+
+pub returns-in-Settings-clause-reset_statuses : goal.returns-in-Settings-clause-reset_statuses
+returns-in-Settings-clause-reset_statuses g c = settings_reset c.args.asked c.in-Settings.settings (λ (n : NewNumbers). IsResetting c.open_and_reset.result) _ c.in-Settings.is c.open_and_reset.ensures.statuses
+
+pub returns-in-Settings-clause-at_eight : goal.returns-in-Settings-clause-at_eight
+returns-in-Settings-clause-at_eight g c tells eight =
+    let old = g.W.Disk.world c.args.out.now in
+    settings_reset c.args.asked c.in-Settings.settings (λ (n : NewNumbers). TellsWhich (IsTrue g.W.Outside.tells_output) n old.seen.held old (g.W.Disk.world c.open_and_reset.new.out)) _ c.in-Settings.is (c.open_and_reset.ensures.at_eight tells eight)
+
+pub returns-in-Settings-clause-unopened : goal.returns-in-Settings-clause-unopened
+returns-in-Settings-clause-unopened g c tells output nothing = settings_opens c.args.asked c.in-Settings.settings _ c.in-Settings.is (c.open_and_reset.ensures.unopened tells output nothing)
+
+pub returns-in-Settings-clause-told_of_damage : goal.returns-in-Settings-clause-told_of_damage
+returns-in-Settings-clause-told_of_damage g c d tells damaged = settings_opens c.args.asked c.in-Settings.settings _ c.in-Settings.is (c.open_and_reset.ensures.told_of_damage d tells damaged)
+
+pub returns-in-Settings-clause-told_of_no_store : goal.returns-in-Settings-clause-told_of_no_store
+returns-in-Settings-clause-told_of_no_store g c tells none = settings_opens c.args.asked c.in-Settings.settings _ c.in-Settings.is (c.open_and_reset.ensures.told_of_no_store tells none)
+
+pub returns-in-Settings-clause-only_at_no_store : goal.returns-in-Settings-clause-only_at_no_store
+returns-in-Settings-clause-only_at_no_store g c tells eight =
+    settings_opens_so c.args.asked c.in-Settings.settings _ c.in-Settings.is
+    (elim (c.open_and_reset.ensures.at_eight tells eight) [ inl none ↦ none.0 | inr bad ↦ absurd (let f : None ≡ Some bad.0 = bad.1.2 in cc) ])
+
+pub returns-in-Settings-clause-reset_at_damage : goal.returns-in-Settings-clause-reset_at_damage
+returns-in-Settings-clause-reset_at_damage g c tells output five =
+    let old = g.W.Disk.world c.args.out.now in
+    settings_reset c.args.asked c.in-Settings.settings (λ (n : NewNumbers). TellsDamage g.F.RangeFilter.spelling g.F.RangeFilter.first_fault old.seen.held old (g.W.Disk.world c.open_and_reset.new.out)) _ c.in-Settings.is
+    (c.open_and_reset.ensures.only_at_damage tells output five)
+
+pub returns-in-Settings-clause-at_ten : goal.returns-in-Settings-clause-at_ten
+returns-in-Settings-clause-at_ten g c ten = (settings_is_reset c.args.asked c.in-Settings.settings c.in-Settings.is, λ tells. c.open_and_reset.ensures.at_ten tells ten)
+
+pub returns-in-Settings-clause-only_at_damage : goal.returns-in-Settings-clause-only_at_damage
+returns-in-Settings-clause-only_at_damage g c tells input output five = inl (c.open_and_reset.ensures.only_at_damage tells output five)
+
+pub returns-in-Settings-clause-statuses : goal.returns-in-Settings-clause-statuses
+returns-in-Settings-clause-statuses g c = reset_as_statuses c.open_and_reset.result c.open_and_reset.ensures.statuses
+
+pub returns-in-Settings-clause-only_at_wrong_words : goal.returns-in-Settings-clause-only_at_wrong_words
+returns-in-Settings-clause-only_at_wrong_words g c two = absurd (reset_never_two c.open_and_reset.result c.open_and_reset.ensures.statuses two)
+
+pub open_and_reset-requires-in-Grow : goal.open_and_reset-requires-in-Grow
+open_and_reset-requires-in-Grow g c = tt
+
+pub returns-in-Grow-clause-reset : goal.returns-in-Grow-clause-reset
+returns-in-Grow-clause-reset g c s tells output now =
+    let kind = filter_kind g.F.RangeFilter.spelling g.F.RangeFilter.built_cutoff in
+    let old = g.W.Disk.world c.args.out.now in
+    let new = g.W.Disk.world c.open_and_reset-in-Grow.new.out in
+    grow_reset c.args.asked c.in-Grow.pages (λ (n : NewNumbers). ResetEnds kind n c.open_and_reset-in-Grow.result s old new ⊎ NoLineAnswered c.open_and_reset-in-Grow.result s old new) _ c.in-Grow.is (c.open_and_reset-in-Grow.ensures.outcome s tells output now)
+
+pub returns-in-Grow-clause-resets : goal.returns-in-Grow-clause-resets
+returns-in-Grow-clause-resets g c s tells output here =
+    let kind = filter_kind g.F.RangeFilter.spelling g.F.RangeFilter.built_cutoff in
+    let old = g.W.Disk.world c.args.out.now in
+    let new = g.W.Disk.world c.open_and_reset-in-Grow.new.out in
+    grow_reset c.args.asked c.in-Grow.pages
+    (λ (n : NewNumbers). ((opened : _) × OpenedThenReset kind n c.open_and_reset-in-Grow.result s old (g.W.Disk.world opened) new) ⊎ NoLineAnswered c.open_and_reset-in-Grow.result s old new) _ c.in-Grow.is (c.open_and_reset-in-Grow.ensures.answers s tells output here)
+
+pub returns-in-Grow-clause-reset_complete : goal.returns-in-Grow-clause-reset_complete
+returns-in-Grow-clause-reset_complete g c s tells output here none =
+    grow_reset c.args.asked c.in-Grow.pages (λ (n : NewNumbers). IsResetEnd c.open_and_reset-in-Grow.result) _ c.in-Grow.is (c.open_and_reset-in-Grow.ensures.complete s tells output here none)
+
+pub returns-in-Grow-clause-reset_statuses : goal.returns-in-Grow-clause-reset_statuses
+returns-in-Grow-clause-reset_statuses g c = grow_reset c.args.asked c.in-Grow.pages (λ (n : NewNumbers). IsResetting c.open_and_reset-in-Grow.result) _ c.in-Grow.is c.open_and_reset-in-Grow.ensures.statuses
+
+pub returns-in-Grow-clause-at_eight : goal.returns-in-Grow-clause-at_eight
+returns-in-Grow-clause-at_eight g c tells eight =
+    let old = g.W.Disk.world c.args.out.now in
+    grow_reset c.args.asked c.in-Grow.pages (λ (n : NewNumbers). TellsWhich (IsTrue g.W.Outside.tells_output) n old.seen.held old (g.W.Disk.world c.open_and_reset-in-Grow.new.out)) _ c.in-Grow.is (c.open_and_reset-in-Grow.ensures.at_eight tells eight)
+
+pub returns-in-Grow-clause-unopened : goal.returns-in-Grow-clause-unopened
+returns-in-Grow-clause-unopened g c tells output nothing = grow_opens c.args.asked c.in-Grow.pages _ c.in-Grow.is (c.open_and_reset-in-Grow.ensures.unopened tells output nothing)
+
+pub returns-in-Grow-clause-told_of_damage : goal.returns-in-Grow-clause-told_of_damage
+returns-in-Grow-clause-told_of_damage g c d tells damaged = grow_opens c.args.asked c.in-Grow.pages _ c.in-Grow.is (c.open_and_reset-in-Grow.ensures.told_of_damage d tells damaged)
+
+pub returns-in-Grow-clause-told_of_no_store : goal.returns-in-Grow-clause-told_of_no_store
+returns-in-Grow-clause-told_of_no_store g c tells none = grow_opens c.args.asked c.in-Grow.pages _ c.in-Grow.is (c.open_and_reset-in-Grow.ensures.told_of_no_store tells none)
+
+pub returns-in-Grow-clause-only_at_no_store : goal.returns-in-Grow-clause-only_at_no_store
+returns-in-Grow-clause-only_at_no_store g c tells eight = grow_opens_so c.args.asked c.in-Grow.pages _ c.in-Grow.is
+
+pub returns-in-Grow-clause-reset_at_damage : goal.returns-in-Grow-clause-reset_at_damage
+returns-in-Grow-clause-reset_at_damage g c tells output five =
+    let old = g.W.Disk.world c.args.out.now in
+    grow_reset c.args.asked c.in-Grow.pages (λ (n : NewNumbers). TellsDamage g.F.RangeFilter.spelling g.F.RangeFilter.first_fault old.seen.held old (g.W.Disk.world c.open_and_reset-in-Grow.new.out)) _ c.in-Grow.is
+    (c.open_and_reset-in-Grow.ensures.only_at_damage tells output five)
+
+pub returns-in-Grow-clause-at_ten : goal.returns-in-Grow-clause-at_ten
+returns-in-Grow-clause-at_ten g c ten = (grow_is_reset c.args.asked c.in-Grow.pages c.in-Grow.is, λ tells. c.open_and_reset-in-Grow.ensures.at_ten tells ten)
+
+pub returns-in-Grow-clause-only_at_damage : goal.returns-in-Grow-clause-only_at_damage
+returns-in-Grow-clause-only_at_damage g c tells input output five = inl (c.open_and_reset-in-Grow.ensures.only_at_damage tells output five)
+
+pub returns-in-Grow-clause-statuses : goal.returns-in-Grow-clause-statuses
+returns-in-Grow-clause-statuses g c = reset_as_statuses c.open_and_reset-in-Grow.result c.open_and_reset-in-Grow.ensures.statuses
+
+pub returns-in-Grow-clause-only_at_wrong_words : goal.returns-in-Grow-clause-only_at_wrong_words
+returns-in-Grow-clause-only_at_wrong_words g c two = absurd (reset_never_two c.open_and_reset-in-Grow.result c.open_and_reset-in-Grow.ensures.statuses two)
 
 pub returns-in-Format-clause-formatted : goal.returns-in-Format-clause-formatted
 returns-in-Format-clause-formatted g c tells output =
@@ -163,3 +296,35 @@ returns-in-Memory-clause-load_complete g c s tells output here none =
 pub returns-in-Memory-clause-load_statuses : goal.returns-in-Memory-clause-load_statuses
 returns-in-Memory-clause-load_statuses g c =
     memory_load c.args.asked _ _ c.in-Memory.is (elim c.last_line.ensures.ends [ inl seven ↦ inl (inr (inr (inr (inr seven)))) | inr six ↦ inl (inr (inr (inr (inl six.0)))) ])
+
+pub returns-in-Memory-clause-reset : goal.returns-in-Memory-clause-reset
+returns-in-Memory-clause-reset g c s tells output now =
+    memory_reset c.args.asked _ _ c.in-Memory.is (
+      unserved IsFreeText (g.W.Disk.world c.args.out.now) (g.W.Disk.world c.last_line.new.out) (g.met.W.Outside.said_now c.args.out.now) c.last_line.ensures.moves c.last_line.result 7 (text_of Memory) (inr (refl, refl))
+          (c.last_line.ensures.prefix output) (c.last_line.ensures.said output tt) c.last_line.ensures.ends,
+      read_since (g.W.Disk.world c.last_line.new.out).seen.reads (g.W.Disk.world c.args.out.now).seen.reads ((g.W.Disk.world c.args.out.now).seen.reads + opening_bound s)
+          (said_reads (g.W.Disk.world c.args.out.now) (g.W.Disk.world c.last_line.new.out) c.last_line.ensures.moves) (omega arith),
+    )
+
+pub returns-in-Memory-clause-resets : goal.returns-in-Memory-clause-resets
+returns-in-Memory-clause-resets g c s tells output here =
+    memory_reset c.args.asked _ _ c.in-Memory.is (
+      unserved IsFreeText (g.W.Disk.world c.args.out.now) (g.W.Disk.world c.last_line.new.out) (g.met.W.Outside.said_now c.args.out.now) c.last_line.ensures.moves c.last_line.result 7 (text_of Memory) (inr (refl, refl))
+          (c.last_line.ensures.prefix output) (c.last_line.ensures.said output tt) c.last_line.ensures.ends,
+      read_since (g.W.Disk.world c.last_line.new.out).seen.reads (g.W.Disk.world c.args.out.now).seen.reads ((g.W.Disk.world c.args.out.now).seen.reads + opening_bound s)
+          (said_reads (g.W.Disk.world c.args.out.now) (g.W.Disk.world c.last_line.new.out) c.last_line.ensures.moves) (omega arith),
+    )
+
+pub returns-in-Memory-clause-reset_complete : goal.returns-in-Memory-clause-reset_complete
+returns-in-Memory-clause-reset_complete g c s tells output here none =
+    memory_reset c.args.asked _ _ c.in-Memory.is (elim c.last_line.ensures.ends [ inl seven ↦ inr (inl seven) | inr six ↦ absurd (none (inr (inr six.1))) ])
+
+pub returns-in-Memory-clause-reset_statuses : goal.returns-in-Memory-clause-reset_statuses
+returns-in-Memory-clause-reset_statuses g c =
+    memory_reset c.args.asked _ _ c.in-Memory.is (elim c.last_line.ensures.ends [ inl seven ↦ inr (inr (inr (inr (inl seven)))) | inr six ↦ inr (inr (inr (inl six.0))) ])
+
+pub returns-in-Memory-clause-reset_at_damage : goal.returns-in-Memory-clause-reset_at_damage
+returns-in-Memory-clause-reset_at_damage g c tells output five = absurd (elim c.last_line.ensures.ends [ inl seven ↦ let f : 7 ≡ 5 = sym seven ∙ five in cc | inr six ↦ let f : 6 ≡ 5 = sym six.0 ∙ five in cc ])
+
+pub returns-in-Memory-clause-at_eight : goal.returns-in-Memory-clause-at_eight
+returns-in-Memory-clause-at_eight g c tells eight = absurd (elim c.last_line.ensures.ends [ inl seven ↦ let f : 7 ≡ 8 = sym seven ∙ eight in cc | inr six ↦ let f : 6 ≡ 8 = sym six.0 ∙ eight in cc ])

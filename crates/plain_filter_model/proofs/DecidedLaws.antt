@@ -8,11 +8,11 @@ use Rattle.filter_api.specs.Spellings.{IsDecided, IsNoSpelling, IsSpelling}
 use Rattle.filter_model.specs.Leaves.{Leaf}
 use Rattle.filter_model.specs.Strings.{is_prefix}
 use Rattle.filter_model.specs.Valid.{IsLeaf, IsValid}
-use Rattle.plain_filter.specs.ExactLaws.{None-not_Some, Some-inj, plain_magic, whole_again, whole_back}
-use Rattle.plain_filter.specs.Neighbours.{StandsRightly, has_company, leaf_number, next_extends, rises_at}
-use Rattle.plain_filter.specs.Reading.{leaf_list_in}
-use Rattle.plain_filter.specs.Spelling.{plain_spelling}
-use Rattle.plain_filter.specs.ValidLaws.{stands_from_valid, valid_from_stands}
+use Rattle.plain_filter_model.proofs.ExactLaws.{None-not_Some, Some-inj, plain_magic, whole_again, whole_back}
+use Rattle.plain_filter_model.specs.Neighbours.{StandsRightly, has_company, leaf_number, next_extends, rises_at}
+use Rattle.plain_filter_model.specs.Reading.{leaf_list_in}
+use Rattle.plain_filter_model.specs.Spelling.{plain_spelling}
+use Rattle.plain_filter_model.proofs.ValidLaws.{stands_from_valid, valid_from_stands}
 
 -- it holds, or fails, and it is known which
 abbrev OrNot : Type 0 → Type 0

@@ -11,7 +11,7 @@ use Rattle.filter_model.proofs.Order.{Leq, Lt, Lt-from, Lt-to, Lt-trans, Lt-Leq,
 use Rattle.filter_model.proofs.Fronts.{same-itself}
 use Rattle.filter_model.proofs.Shared.{extends-itself, extends-prefix, is_prefix-take, is_prefix_Leq, prefixes_of_one}
 use Rattle.filter_model.proofs.Stubs.{different, same-false}
-use Rattle.plain_filter.specs.Neighbours.{StandsRightly, leaf_number, joins_before, joins_next, next_extends, none, rises_at}
+use Rattle.plain_filter_model.specs.Neighbours.{StandsRightly, leaf_number, joins_before, joins_next, next_extends, none, rises_at}
 
 bool_iff : (a b : Bool) → (a ≡ true → b ≡ true) → (b ≡ true → a ≡ true) → a ≡ b
 bool_iff true b h k = sym (h refl)

@@ -16,8 +16,8 @@ use Rattle.byte_fields.proofs.NumberLemmas.{number_again, number_back}
 use Rattle.filter_model.specs.Leaves.{Leaf}
 use Rattle.filter_model.specs.Valid.{IsLeaf}
 use Rattle.filter_api.specs.Spellings.{IsSpelling, SpellsOne}
-use Rattle.plain_filter.specs.Reading.{after_leaf, leaf_at, leaf_in, leaf_list_in, stub_len}
-use Rattle.plain_filter.specs.Spelling.{leaf_bytes, plain_spelling}
+use Rattle.plain_filter_model.specs.Reading.{after_leaf, leaf_at, leaf_in, leaf_list_in, stub_len}
+use Rattle.plain_filter_model.specs.Spelling.{leaf_bytes, plain_spelling}
 
 -- a leaf whose numbers fit their bytes
 pub record FitsFields (l : Leaf) : Type 0 where

@@ -1,0 +1,3 @@
+pub mod ExactLaws
+pub mod ValidLaws
+pub mod DecidedLaws
