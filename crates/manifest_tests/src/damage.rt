@@ -313,5 +313,6 @@ fn two_open_slots(rt: HostRuntime) -> Result<(), Fail> {
     assert_eq!(rt; both(alloc, 7, 7)?.err(), shape(131_088, 11));
     assert_eq!(rt; both(alloc, 0, 7)?.err(), shape(16, 4));
     assert_eq!(rt; both(alloc, 7, 0)?.err(), shape(131_088, 4));
+    assert_eq!(rt; both(alloc, 0, 0)?.err(), shape(16, 4));
     Ok(())
 }

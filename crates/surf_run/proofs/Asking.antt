@@ -219,6 +219,9 @@ memory_serve a P is p = subst (λ (b : Asked). IfServe b P) (sym is) p
 pub memory_help : (a : Asked) (P : Type 0) → a ≡ asked.Memory → P → IfHelp a P
 memory_help a P is p = subst (λ (b : Asked). IfHelp b P) (sym is) p
 
+pub memory_bad : (a : Asked) (P : Field → Type 0) (Q : Type 0) → a ≡ asked.Memory → Q → IfBadSettings a P Q
+memory_bad a P Q is q = subst (λ (b : Asked). IfBadSettings b P Q) (sym is) q
+
 pub memory_refused : (a : Asked) (P : Type 0) → a ≡ asked.Memory → P → IfRefused a P
 memory_refused a P is p = subst (λ (b : Asked). IfRefused b P) (sym is) p
 

@@ -14,9 +14,12 @@ use Rattle.state_model.specs.State.{new_state}
 use Rattle.store_core.specs.Formatting.{IsFormatRefusal, IsNoneOrNew, IsThereAnswer, first_bad}
 use Rattle.store_core.specs.declared.error.StoreError.{StoreError}
 use Rattle.store_core.specs.declared.error.StoreError.TheVariants as error
-use Rattle.surf_run.specs.Causes.{SayFailed}
+use Rattle.program_words.specs.declared.new_store.NewStore.{NewStore}
+use Rattle.surf_run.specs.Causes.{SayFailed, StatusCause}
 use Rattle.surf_run.specs.FormatRefusals.{IsOfFormat, refused_status, refused_text}
 use Rattle.surf_run.specs.Formats.{Formatted, IsFormatText, formatted_text}
+use Rattle.surf_run.specs.Run.{FormatEnds}
+use Rattle.surf_run.specs.ServedOrNot.{SomeFailed}
 use Rattle.surf_run.specs.Unserved.{Untouched}
 use Rattle.surf_run.proofs.LastLines.{last_line, untouched}
 use Rattle.surf_run.proofs.Moments.{now_still, torn_none}
@@ -120,3 +123,22 @@ module _ (spelling : Spelling) (settings : Settings) (pages : ℕ) (a m b : Worl
           | inl is ↦ let e : 4 ≡ 0 = sym is ∙ zero in cc
           | inr more ↦ elim more [ inl is ↦ let e : 7 ≡ 0 = sym is ∙ zero in cc | inr is ↦ let e : 8 ≡ 0 = sym is ∙ zero in cc ]
         ]
+
+-- ---- where no call failed
+
+pub format_ends : (spelling : Spelling) (store : NewStore) (status : ℕ) (old new : World) → FormatEnds spelling store status old new → StatusCause status old new → (SomeFailed old new → ⊥)
+    → (status ≡ 0) ⊎ (status ≡ 7) ⊎ (status ≡ 8)
+format_ends spelling store status old new (inr starved) causes none = elim starved.line.3 [
+  | inl whole ↦ inr (inl (whole.0 ∙ starved.line.2.0))
+  | inr six ↦ absurd (none (inr (inr (causes.saying six.0))))
+]
+format_ends spelling store status old new (inl made) causes none = elim made.0.line.3 [
+  | inr six ↦ absurd (none (inr (inr (causes.saying six.0))))
+  | inl whole ↦ elim made.0.line.2 [
+      | inl zero ↦ inl (whole.0 ∙ zero.2)
+      | inr (inl eight) ↦ inr (inr (whole.0 ∙ eight.2))
+      | inr (inr (inl seven)) ↦ inr (inl (whole.0 ∙ seven.2))
+      | inr (inr (inr (inl four))) ↦ absurd (none (inr (inl (causes.device (whole.0 ∙ four.1)))))
+      | inr (inr (inr (inr bad))) ↦ inr (inr (whole.0 ∙ bad.2))
+    ]
+]

@@ -39,6 +39,11 @@ pub record StatusCause (status : ℕ) (old new : World) : Type 0 where
   pub device : status ≡ 4 → DiskFailed old new
   pub saying : status ≡ 6 → SayFailed old new
 
+-- a run that only says a line ends with this status, or with 7 where there was no memory, or with 6 where the line could not be
+-- said whole
+abbrev pub EndsAt : ℕ → ℕ → World → World → Type 0
+EndsAt wanted status old new = (status ≡ wanted) ⊎ (status ≡ 7) ⊎ ((status ≡ 6) × SayFailed old new)
+
 -- Nothing changes behind the first so many bytes: neither what the device reads as, nor what a crash may leave at any later
 -- moment, beside what it might have left at the start.
 pub record WritesWithin (n : ℕ) (old new : World) : Type 0 where

@@ -16,7 +16,7 @@ use Rattle.program_words.specs.declared.load.Load.{Load}
 use Rattle.program_words.specs.declared.new_store.NewStore.{NewStore}
 use Rattle.program_words.specs.declared.new_store.Wanted.{Wanted}
 use Rattle.state_model.specs.State.{State}
-use Rattle.surf_run.specs.Causes.{IsServing, NoFall, RunMeetsDamage, SayFailed, StatusCause}
+use Rattle.surf_run.specs.Causes.{EndsAt, IsServing, NoFall, RunMeetsDamage, StatusCause}
 use Rattle.surf_run.specs.ServedOrNot.{Completed, HasNoState, NoLineAnswered, OpenedThenServed, OpensNothing, ServedOrNot, SomeFailed, TellsDamage}
 use Rattle.surf_run.specs.Kind.{Kind}
 use Rattle.surf_run.specs.Loads.{IsLoading, LoadEnds, Loads}
@@ -46,10 +46,16 @@ pub record RunContract {X : Type 0} (world : X → World) (tells tells_input tel
   pub complete :
       (s : State) → IsTrue tells → IsTrue tells_input → IsTrue tells_output → IsStateOf kind.spelling s (world old).seen.held
       → (SomeFailed (world old) (world new) → ⊥) → IsServe words → Completed status (world old) (world new)
+  -- For want of memory, and where no store stands, no byte of the input was taken.
+  pub early : IsServe words → (status ≡ 7) ⊎ (status ≡ 8) → (world new).beside.to_take ≡ (world old).beside.to_take
   -- A new store is made or refused, and says so; a number out of range is named, and nothing is touched.
   pub formatted :
       (wanted : Wanted) (store : NewStore) → IsTrue tells → IsTrue tells_output → IsFormat words wanted → first_bad_word wanted ≡ None → IsStoreOf wanted store
       → FormatEnds kind.spelling store status (world old) (world new)
+  -- Where no call fails it is made, or a store is there, or there was no memory.
+  pub format_complete :
+      (wanted : Wanted) (store : NewStore) → IsTrue tells → IsTrue tells_output → IsFormat words wanted → first_bad_word wanted ≡ None → IsStoreOf wanted store
+      → (SomeFailed (world old) (world new) → ⊥) → (status ≡ 0) ⊎ (status ≡ 7) ⊎ (status ≡ 8)
   pub bad_settings : (field : Field) → IsTrue tells_output → HasBadNumber words field → Unserved (IsBadSettingsText field) status (world old) (world new)
   -- Of `load`, where each image that a crash might have left at the start stands for this state: at status 0 all steps were made, and
   -- the line tells the map of those that were not refused; what a crash may leave at each moment is the map after some first steps.
@@ -97,7 +103,10 @@ pub record RunContract {X : Type 0} (world : X → World) (tells tells_input tel
   pub counts : NoFall (world old) (world new)
   -- Status 2 comes exactly where clap refuses the words, but for memory and a last line that cannot be said.
   pub only_at_wrong_words : status ≡ 2 → AreRefusedWords words
-  pub told_of_wrong_words : AreRefusedWords words → (status ≡ 2) ⊎ (status ≡ 7) ⊎ ((status ≡ 6) × SayFailed (world old) (world new))
+  pub told_of_wrong_words : AreRefusedWords words → EndsAt 2 status (world old) (world new)
+  -- Numbers out of range end with 8 and help with 0, whether or not the output tells its bytes.
+  pub told_of_bad_settings : (field : Field) → HasBadNumber words field → EndsAt 8 status (world old) (world new)
+  pub told_of_help : IsHelp words → EndsAt 0 status (world old) (world new)
   -- Words that are refused or answered, and numbers out of range: nothing is called but the output.
   pub untouched : AskNothing words → SayMoves (world old) (world new)
   -- Status 5 comes only where opening finds damage, and says the first, or where no state stands and a block that was read shows

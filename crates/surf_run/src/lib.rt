@@ -21,6 +21,7 @@
 #![tactic(auto)]
 
 mod answers;
+mod bounds;
 mod format_lines;
 mod formatting;
 mod laws;

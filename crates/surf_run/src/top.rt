@@ -7,7 +7,7 @@ ghost use Rattle.image_model.specs.Stands.{IsStateOf};
 ghost use Rattle.manifest_model.specs.Slots.{IsNoStore};
 ghost use Rattle.outside.specs.Streams.{SayMoves};
 ghost use Rattle.state_model.specs.State.{State};
-ghost use Rattle.surf_run.specs.Causes.{IsServing, NoFall, RunMeetsDamage, SayFailed, StatusCause};
+ghost use Rattle.surf_run.specs.Causes.{EndsAt, IsServing, NoFall, RunMeetsDamage, StatusCause};
 ghost use Rattle.surf_run.specs.ServedOrNot.{Completed, HasNoState, NoLineAnswered, OpenedThenServed, OpensNothing, ServedOrNot, SomeFailed, TellsDamage};
 ghost use Rattle.surf_run.specs.Kind.{filter_kind};
 ghost use Rattle.surf_run.specs.Loads.{IsLoading, LoadEnds, Loads};
@@ -40,6 +40,7 @@ fn run_asked<F: RangeFilter, W: Outside>(alloc: Global, asked: Asked, out: &mut 
         → IfServe asked (((opened : _) × OpenedThenServed (filter_kind F.spelling F.built_cutoff) result s (W.world out.old) (W.world opened) (W.world out.new)) ⊎ NoLineAnswered result s (W.world out.old) (W.world out.new)) }
     ensures complete { (s : State) → IsTrue W.tells → IsTrue W.tells_input → IsTrue W.tells_output → IsStateOf F.spelling s (W.world out.old).seen.held → (SomeFailed (W.world out.old) (W.world out.new) → ⊥)
         → IfServe asked (Completed result (W.world out.old) (W.world out.new)) }
+    ensures early { IfServe asked ((result ≡ 7) ⊎ (result ≡ 8) → (W.world out.new).beside.to_take ≡ (W.world out.old).beside.to_take) }
     ensures loaded { (s : State) → IsTrue W.tells → IsTrue W.tells_output → Now (IsStateOf F.spelling s) (W.world out.old)
         → IfLoad asked (λ load. LoadEnds (filter_kind F.spelling F.built_cutoff) result s load.seed load.count (W.world out.old) (W.world out.new) ⊎ NoLineAnswered result s (W.world out.old) (W.world out.new))
         (NoLineAnswered result s (W.world out.old) (W.world out.new)) }
@@ -65,7 +66,9 @@ fn run_asked<F: RangeFilter, W: Outside>(alloc: Global, asked: Asked, out: &mut 
     ensures causes { StatusCause result (W.world out.old) (W.world out.new) }
     ensures counts { NoFall (W.world out.old) (W.world out.new) }
     ensures only_at_wrong_words { result ≡ 2 → IsRefusedAsk asked }
-    ensures told_of_wrong_words { IfRefused asked ((result ≡ 2) ⊎ (result ≡ 7) ⊎ ((result ≡ 6) × SayFailed (W.world out.old) (W.world out.new))) }
+    ensures told_of_wrong_words { IfRefused asked (EndsAt 2 result (W.world out.old) (W.world out.new)) }
+    ensures told_of_bad_settings { IfBadSettings asked (λ _. EndsAt 8 result (W.world out.old) (W.world out.new)) (EndsAt 8 result (W.world out.old) (W.world out.new)) }
+    ensures told_of_help { IfHelp asked (EndsAt 0 result (W.world out.old) (W.world out.new)) }
     ensures untouched { IfUnserved asked (SayMoves (W.world out.old) (W.world out.new)) }
     ensures only_at_damage { IsTrue W.tells → IsTrue W.tells_input → IsTrue W.tells_output → result ≡ 5 → TellsDamage F.spelling F.first_fault (W.world out.old).seen.held (W.world out.old) (W.world out.new) ⊎ (HasNoState F.spelling (W.world out.old).seen.held × RunMeetsDamage (IsLoadAsk asked) (W.world out.old) (W.world out.new)) }
     ensures unopened { IsTrue W.tells → IsTrue W.tells_output → OpensNothing F.spelling F.first_fault (W.world out.old).seen.held

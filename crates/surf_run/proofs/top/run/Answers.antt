@@ -3,6 +3,7 @@ use Rattle.std.specs.Prelude.{string_bytes}
 use Rattle.surf_run.specs.Run.{IsBadSettingsText, IsMemoryText}
 use Rattle.surf_run.specs.declared.new_numbers.NewNumbers.TheVariants as new
 use Rattle.surf_run.proofs.Asking.{has_settings_in_range, if_bad, if_format, if_help, if_load, if_nothing, if_opens, if_opens_without_growing, if_refused, if_reset, if_serve, is_load, is_refused, is_reset}
+use Rattle.surf_run.proofs.Formats.{format_ends}
 use Rattle.surf_run.proofs.LastLines.{unserved_wider}
 use Rattle.surf_run.proofs.top.run.Goals as goal
 
@@ -20,6 +21,9 @@ returns g c =
       answers = λ s tells input output here is. if_serve words asked _ is asks (by.answers s tells input output here);
       complete = λ s tells input output here none is. if_serve words asked _ is asks (by.complete s tells input output here none);
       formatted = λ wanted store tells output is good of. if_format words asked wanted store _ _ is good of asks (by.formatted tells output) (λ none. inr none);
+      early = λ is. if_serve words asked _ is asks by.early;
+      format_complete = λ wanted store tells output is good of none.
+          format_ends _ _ _ _ _ (if_format words asked wanted store _ _ is good of asks (by.formatted tells output) (λ starved. inr starved)) by.causes none;
       bad_settings = λ field output bad. if_bad words asked field _ _ bad asks (by.bad_settings output) (λ none. unserved_wider IsMemoryText (IsBadSettingsText field) (λ status text memory. inr memory) _ _ _ none);
       loaded = λ s load tells output now is. if_load words asked load _ _ is asks (by.loaded s tells output now) (λ none. inr none);
       loads = λ s load tells output here is. if_load words asked load _ _ is asks (by.loads s tells output here) (λ none. inr none);
@@ -38,6 +42,8 @@ returns g c =
       counts = by.counts;
       only_at_wrong_words = λ two. is_refused words asked asks (by.only_at_wrong_words two);
       told_of_wrong_words = λ is. if_refused words asked _ is asks by.told_of_wrong_words;
+      told_of_bad_settings = λ field bad. if_bad words asked field _ _ bad asks by.told_of_bad_settings (λ ends. ends);
+      told_of_help = λ is. if_help words asked _ is asks by.told_of_help;
       untouched = λ is. if_nothing words asked _ is asks by.untouched;
       unopened = λ tells output nothing is. if_opens words asked _ is asks (by.unopened tells output nothing);
       only_at_damage = λ tells input output five. elim (by.only_at_damage tells input output five) [

@@ -4,6 +4,7 @@ use Rattle.std.specs.Prelude.{None, Some, IsTrue}
 use Rattle.line_model.specs.Replies.{Memory, text_of}
 use Rattle.program_words.specs.declared.load.Load.{Load}
 use Rattle.program_words.specs.declared.new_store.NewStore.{NewStore}
+use Rattle.surf_run.specs.Causes.{EndsAt}
 use Rattle.surf_run.specs.ServedOrNot.{NoLineAnswered, TellsDamage, opening_bound}
 use Rattle.surf_run.specs.Formats.{bad_settings_text}
 use Rattle.surf_run.specs.Kind.{filter_kind}
@@ -14,11 +15,19 @@ use Rattle.surf_run.specs.Run.{FormatEnds, IsBadSettingsText, IsHelpText, IsUsag
 use Rattle.surf_run.specs.Unserved.{Unserved}
 use Rattle.surf_run.specs.declared.new_numbers.NewNumbers.{NewNumbers}
 use Rattle.surf_run.specs.declared.new_numbers.NewNumbers.TheVariants as new
-use Rattle.surf_run.proofs.Asking.{at_bad, at_format, at_help, at_load, at_refused, at_serve, grow_opens, grow_opens_so, grow_is_reset, grow_reset, load_is_asked, load_opens, load_opens_so, memory_help, memory_load, memory_opens, memory_refused, memory_reset, memory_serve, serve_opens, settings_in_its_range, settings_is_reset, settings_opens, settings_opens_so, settings_reset}
+use Rattle.surf_run.proofs.Asking.{at_bad, at_format, at_help, at_load, at_refused, at_serve, grow_opens, grow_opens_so, grow_is_reset, grow_reset, load_is_asked, load_opens, load_opens_so, memory_bad, memory_help, memory_load, memory_opens, memory_refused, memory_reset, memory_serve, serve_opens, settings_in_its_range, settings_is_reset, settings_opens, settings_opens_so, settings_reset}
 use Rattle.surf_run.proofs.LastLines.{read_since, said_reads, unserved}
 use Rattle.surf_run.proofs.LoadEnds.{as_statuses, never_two}
 use Rattle.surf_run.proofs.NewNumbersSet.{loading_never_ten, never_two as reset_never_two, reset_as_statuses, serving_never_ten}
 use Rattle.surf_run.proofs.top.run_asked.Goals as goal
+
+-- a line of this status
+ends_at : {A B C : Type 0} → A ⊎ C → A ⊎ B ⊎ C
+ends_at (inl a) = inl a
+ends_at (inr c) = inr (inr c)
+
+pub returns-in-Serve-clause-early : goal.returns-in-Serve-clause-early
+returns-in-Serve-clause-early g c = at_serve c.args.asked _ c.in-Serve.is c.open_and_serve.ensures.early
 
 pub returns-in-Serve-clause-answers : goal.returns-in-Serve-clause-answers
 returns-in-Serve-clause-answers g c s tells input output here = at_serve c.args.asked _ c.in-Serve.is (c.open_and_serve.ensures.answers s tells input output here)
@@ -223,6 +232,13 @@ returns-in-BadSettings-clause-bad_settings g c output =
     (unserved (IsBadSettingsText c.in-BadSettings.field) (g.W.Disk.world c.args.out.now) (g.W.Disk.world c.say_bad_settings.new.out) (g.met.W.Outside.said_now c.args.out.now) c.say_bad_settings.ensures.moves c.say_bad_settings.result 8 (bad_settings_text c.in-BadSettings.field) (inl (refl, refl))
     (c.say_bad_settings.ensures.prefix output) (c.say_bad_settings.ensures.said output) c.say_bad_settings.ensures.ends)
 
+pub returns-in-BadSettings-clause-told_of_bad_settings : goal.returns-in-BadSettings-clause-told_of_bad_settings
+returns-in-BadSettings-clause-told_of_bad_settings g c =
+    at_bad c.args.asked c.in-BadSettings.field (λ (field : Field). EndsAt 8 c.say_bad_settings.result (g.W.Disk.world c.args.out.now) (g.W.Disk.world c.say_bad_settings.new.out)) _ c.in-BadSettings.is (ends_at c.say_bad_settings.ensures.ends)
+
+pub returns-in-Help-clause-told_of_help : goal.returns-in-Help-clause-told_of_help
+returns-in-Help-clause-told_of_help g c = at_help c.args.asked c.in-Help.text _ c.in-Help.is (ends_at c.say_last.ensures.ends)
+
 pub returns-in-Help-clause-helped : goal.returns-in-Help-clause-helped
 returns-in-Help-clause-helped g c output =
     at_help c.args.asked c.in-Help.text _ c.in-Help.is
@@ -252,6 +268,15 @@ returns-in-Memory-clause-answers g c s tells input output here =
       read_since (g.W.Disk.world c.last_line.new.out).seen.reads (g.W.Disk.world c.args.out.now).seen.reads ((g.W.Disk.world c.args.out.now).seen.reads + opening_bound s)
           (said_reads (g.W.Disk.world c.args.out.now) (g.W.Disk.world c.last_line.new.out) c.last_line.ensures.moves) (omega arith),
     ))
+
+pub returns-in-Memory-clause-early : goal.returns-in-Memory-clause-early
+returns-in-Memory-clause-early g c = memory_serve c.args.asked _ c.in-Memory.is (λ _. c.last_line.ensures.moves.to_take)
+
+pub returns-in-Memory-clause-told_of_bad_settings : goal.returns-in-Memory-clause-told_of_bad_settings
+returns-in-Memory-clause-told_of_bad_settings g c = memory_bad c.args.asked _ _ c.in-Memory.is (inr c.last_line.ensures.ends)
+
+pub returns-in-Memory-clause-told_of_help : goal.returns-in-Memory-clause-told_of_help
+returns-in-Memory-clause-told_of_help g c = memory_help c.args.asked _ c.in-Memory.is (inr c.last_line.ensures.ends)
 
 pub returns-in-Memory-clause-unopened : goal.returns-in-Memory-clause-unopened
 returns-in-Memory-clause-unopened g c tells output nothing =
