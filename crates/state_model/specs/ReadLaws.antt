@@ -1,16 +1,22 @@
 -- Laws of reads: which tables are searched, how many blocks are read, and what an estimate counts.
-use Rattle.std.specs.Prelude.{◌≡◌, ◌≤◌, ℕ, true, false, [], Option, Some, None, Ok}
+use Rattle.std.specs.Prelude.{◌≡◌, ◌≤◌, ◌&&◌, ℕ, true, false, [], count_by, Option, Some, None, Ok}
+use Rattle.std.specs.Option.{is_none}
 use Rattle.std.specs.List.{AllByRecursion}
 use Rattle.byte_fields.specs.Spelling.{IsBytes}
-use Rattle.map_model.specs.SortedMap.{Bytes, get}
+use Rattle.map_model.specs.SortedMap.{Bytes, Map, get}
+use Rattle.entry_model.specs.Entries.{Entry}
 use Rattle.entry_model.specs.Newest.{lookup}
 use Rattle.map_model.specs.Slices.{is_before, is_between, seek, count}
 use Rattle.state_model.specs.State.{State}
 use Rattle.table_model.specs.Tables.{FilterBytes, Table}
 use Rattle.state_model.specs.View.{memory, state_map}
 use Rattle.state_model.specs.Changes.{compacted}
-use Rattle.state_model.specs.Bounds.{admits_range, is_searched, get_bound, seek_bound, is_passed, estimate, admitted}
+use Rattle.state_model.specs.Bounds.{admits_range, is_searched, get_bound, seek_bound, is_passed, stepped, estimate, admitted}
 use Rattle.state_model.specs.Sound.{IsSoundTable, IsSound}
+
+-- how many of a table's entries lie from lo to hi and have a key that the map has not
+abbrev pub deleted_between : Map → Bytes → Bytes → Table → ℕ
+deleted_between map lo hi t = count_by (λ (e : Entry). is_between lo (Some hi) e.key && is_none (get map e.key)) t.entries
 
 -- A sound table that has an entry of a key is searched for it, and none that has one from lo to hi denies these bounds.
 pub record HeldIsSearched : Type 0 where
@@ -40,11 +46,13 @@ pub record NothingIsRead : Type 0 where
   pub seek_without_tables : (s : State) (lo hi : Bytes) → s.tables ≡ [] → seek_bound s lo hi ≡ 0
   pub crossed_seek : (s : State) (lo hi : Bytes) → is_before hi lo ≡ true → seek_bound s lo hi ≡ 0
 
--- A key that a closed seek steps over is not in the map: it is a deleted one.
-abbrev pub SteppedAreDeleted : Type 0
-SteppedAreDeleted =
-    (s : State) (lo hi key : Bytes) → is_between lo (Some hi) key ≡ true → is_passed (seek (state_map s) lo (Some hi)) key ≡ true
-    → get (state_map s) key ≡ None
+-- A key that a closed seek steps over is not in the map: it is a deleted one. So of a table it steps over no more entries
+-- than lie between the bounds and have keys that the map has not.
+pub record SteppedAreDeleted : Type 0 where
+  pub key :
+      (s : State) (lo hi key : Bytes) → is_between lo (Some hi) key ≡ true → is_passed (seek (state_map s) lo (Some hi)) key ≡ true
+      → get (state_map s) key ≡ None
+  pub count : (s : State) (lo hi : Bytes) (t : Table) → stepped (state_map s) lo hi t ≤ deleted_between (state_map s) lo hi t
 
 -- Between two byte strings a sound state's estimate is not below the true count.
 abbrev pub EstimateIsEnough : Type 0

@@ -57,7 +57,7 @@ pub fn gets_are_bounded()
     ensures { GetsAreBounded }
 {}
 
-/// Law: what the bound of a closed seek counts beside the one a table are entries of deleted keys.
+/// Law: what the bound of a closed seek counts beside the one a table are entries of deleted keys between its bounds.
 pub fn stepped_are_deleted()
     ensures { SteppedAreDeleted }
 {}

@@ -1,5 +1,5 @@
-use Rattle.state_model.proofs.Stepped.{stepped_deleted}
+use Rattle.state_model.proofs.Stepped.{stepped_deleted, stepped_few}
 use Rattle.state_model.proofs.laws.stepped_are_deleted.Goals as goal
 
 pub returns : goal.returns
-returns c = stepped_deleted
+returns c = record { key = stepped_deleted; count = stepped_few }
