@@ -47,12 +47,12 @@ all_stand (suc n) place test rest none =
 
 -- ---- orders
 
-less_of : (o : Ordering) → is_lt o ≡ true → o ≡ Less
+pub less_of : (o : Ordering) → is_lt o ≡ true → o ≡ Less
 less_of Less e = refl
 less_of Equal e = absurd cc
 less_of Greater e = absurd cc
 
-above_apart : (a b : Bytes) → byte_order a b ≡ Less → bytes_eq b a ≡ false
+pub above_apart : (a b : Bytes) → byte_order a b ≡ Less → bytes_eq b a ≡ false
 above_apart a b less = texts_ties b a ∙ ap is_eq (nat_list_cmp_total.antisymm b a ∙ ap ordering_reverse less)
 
 still_from : (before key low : Bytes) → is_from low before ≡ true → byte_order before key ≡ Less → is_from low key ≡ true

@@ -1,9 +1,8 @@
 //! A block of either format: the entries that its bytes spell.
 ghost use Rattle.std.specs.Prelude.{◌≡◌, ◌≤◌, ◌<◌, ◌+◌, ◌-◌, ℕ, [], length, Some, None, IfOk, IfErr};
 ghost use Rattle.key_base.specs.Limits.{max_key_bytes, page_bytes};
-ghost use Rattle.block_model.specs.BlockReading.{count_in, used_in};
-ghost use Rattle.block_model.specs.FormatFaults.{any_block_fault, entries_fault_by, entries_place, is_listed_elsewhere};
-ghost use Rattle.block_model.specs.Formats.{format_in};
+ghost use Rattle.block_model.specs.FormatFaults.{any_block_fault, entries_fault_by, is_listed_elsewhere};
+ghost use Rattle.block_format.specs.Finding.{IsHeadOf};
 ghost use Rattle.block_format.specs.Judging.{key_after, left_from};
 ghost use Rattle.block_format.specs.Reading.{seen, sum_where};
 ghost use Rattle.block_format.specs.Walking.{format_of};
@@ -26,13 +25,7 @@ pub(crate) fn judge_any(bytes: &[u8], summed: bool) -> (u64, Result<BlockHead, B
     ensures sum { result.0 ≡ sum_where summed bytes.now }
     ensures broken { IfErr result.1 (λ found. any_block_fault bytes.now ≡ Some (seen found)) }
     ensures place { IfErr result.1 (λ found. found.place ≤ length bytes.now) }
-    ensures whole { IfOk result.1 (λ _. any_block_fault bytes.now ≡ None) }
-    ensures format { IfOk result.1 (λ h. format_of h.format ≡ format_in bytes.now) }
-    ensures used { IfOk result.1 (λ h. h.used ≡ used_in bytes.now) }
-    ensures count { IfOk result.1 (λ h. h.count ≡ count_in bytes.now) }
-    ensures from { IfOk result.1 (λ h. h.from ≡ entries_place (format_in bytes.now) bytes.now) }
-    ensures many { IfOk result.1 (λ h. 1 ≤ h.count) }
-    ensures within { IfOk result.1 (λ h. (h.from ≤ h.used) × (h.used ≤ length bytes.now)) }
+    ensures sound { IfOk result.1 (λ h. IsHeadOf h bytes.now) }
 {
     match any_header(bytes) {
         Ok(head) => {

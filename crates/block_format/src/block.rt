@@ -357,7 +357,7 @@ fn first_said<'a>(
 
 // Whether two keys are the same. The last bytes are looked at first, since neighbours in a block begin alike.
 #[tactic(auto, using(crate::proofs::Keys::other_length, crate::proofs::Keys::other_byte))]
-fn is_same(one: &[u8], other: &[u8]) -> bool
+pub(crate) fn is_same(one: &[u8], other: &[u8]) -> bool
     ensures { result ≡ bytes_eq one.now other.now }
 {
     let len = one.len();

@@ -20,6 +20,8 @@
 #![tactic(auto)]
 
 mod any_block;
+mod any_find;
+mod any_format;
 mod any_header;
 mod block;
 mod builder;
@@ -32,6 +34,7 @@ mod judging;
 mod span;
 mod walk;
 
+pub use any_format::AnyBlock;
 pub use block::{Block, read_sum_and_span};
 pub use builder::BlockBuilder;
 pub use cursor::BlockCursor;

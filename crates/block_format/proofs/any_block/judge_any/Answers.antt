@@ -25,9 +25,18 @@ returns-in-Err-check_padding-clause-broken c =
     block_ends c.args.bytes.now (format_of head.format) head.used head.count head.from h.format h.used h.count h.from h.within.0 h.kept
     (Some (seen c.in-Err-check_padding.fault)) (rw c.in-Ok-judged.is at c.judge_entries-sum.ensures.kept) c.in-Err-check_padding.ensures.broken
 
-pub returns-in-Ok-check_padding-clause-whole : goal.returns-in-Ok-check_padding-clause-whole
-returns-in-Ok-check_padding-clause-whole c =
+pub returns-in-Ok-check_padding-clause-sound : goal.returns-in-Ok-check_padding-clause-sound
+returns-in-Ok-check_padding-clause-sound c =
     let head = c.in-Ok.head in
     let h = c.in-Ok.ensures in
-    block_ends c.args.bytes.now (format_of head.format) head.used head.count head.from h.format h.used h.count h.from h.within.0 h.kept
-    None (rw c.in-Ok-judged.is at c.judge_entries-sum.ensures.kept) c.in-Ok-check_padding.ensures.whole
+    record {
+      whole = block_ends c.args.bytes.now (format_of head.format) head.used head.count head.from h.format h.used h.count h.from h.within.0 h.kept
+          None (rw c.in-Ok-judged.is at c.judge_entries-sum.ensures.kept) c.in-Ok-check_padding.ensures.whole;
+      format = h.format;
+      used = h.used;
+      count = h.count;
+      from = h.from;
+      many = h.many;
+      within = h.within.0;
+      inside = h.within.1;
+    }
