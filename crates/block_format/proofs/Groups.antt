@@ -1,5 +1,5 @@
 -- In a block with shared prefixes a key is in one group of sixteen entries, if at all.
-use Rattle.std.proofs.Common.{◌≡◌, ◌≤◌, ◌<◌, ◌+◌, ◌-◌, ◌*◌, ◌/◌, ◌%◌, ℕ, zero, suc, Bool, true, false, cond, List, [], ◌∷◌, ◌++◌, length, take, drop, refl, sym, ap, ap₂, ◌∙◌, subst, arith, length-drop, length-take-le, inl, inr}
+use Rattle.std.proofs.Common.{◌≡◌, ◌≤◌, ◌<◌, ◌+◌, ◌-◌, ◌*◌, ℕ, zero, suc, Bool, true, false, cond, List, [], ◌∷◌, ◌++◌, length, take, drop, refl, sym, ap, ap₂, ◌∙◌, subst, arith, length-drop, length-take-le, inl, inr}
 use Rattle.std.specs.Prelude.{Option, Some, None, bytes_eq, not}
 use Rattle.std.specs.Cmp.Lexicographic.{nat_list_cmp_total, texts_ties}
 use Rattle.std.specs.Ordering.{is_eq, is_lt, ordering_reverse}
@@ -10,15 +10,15 @@ use Rattle.std.proofs.lemmas.List.{drop-drop, drop-take}
 use Rattle.key_base.specs.ByteOrder.{byte_order, is_before}
 use Rattle.map_model.specs.SortedMap.{Bytes}
 use Rattle.entry_model.specs.Entries.{Entry, entry_of, keys_of}
-use Rattle.entry_model.specs.Newest.{lookup}
+use Rattle.entry_model.specs.Newest.{entries_from, lookup}
 use Rattle.block_model.specs.BlockReading.{count_in, used_in}
 use Rattle.block_model.specs.FormatFaults.{any_block_fault, any_block_in, block_fault_by, block_in_by, entries_place}
 use Rattle.block_model.specs.FormatLaws.{listed_key}
-use Rattle.block_model.specs.Formats.{Format, Prefixed, entries_by, format_in, key_by, listed_in, places_length, rest_length_in, shared_in, value_by, width_by}
+use Rattle.block_model.specs.Formats.{Format, Prefixed, entries_by, format_in, key_by, listed_in, places_length, rest_length_in, value_by, width_by}
 use Rattle.block_model.specs.Order.{Follow}
 use Rattle.block_model.specs.Pages.{first_key}
 use Rattle.block_model.proofs.ListedEntries.{block_many, block_rises, listed_are_later, listed_break_none, listed_is}
-use Rattle.block_format.specs.Finding.{IsClose, IsGroupOf, IsGroupSize, IsHeadOf, StandClose}
+use Rattle.block_format.specs.Finding.{IsGroupOf, IsGroupSize, IsHeadOf, StandClose}
 use Rattle.block_format.specs.declared.any_header.BlockHead.{BlockHead}
 use Rattle.block_format.proofs.Close.{fits, stand_close}
 use Rattle.block_format.proofs.Standing.{above_apart, less_of}
@@ -55,6 +55,16 @@ skipped low key (e ∷ es) (suc m) rise lt from =
     let next = later_above e.key es m rise.1 (omega (arith, lt)) in
     let below : byte_order e.key key ≡ Less = below_both e.key (first_key (drop m es)) key next from in
     ap (λ (t : Bool). cond t (Some e.value) (lookup es key)) (texts_ties e.key key ∙ ap is_eq below) ∙ skipped e.key key es m rise.1 (omega (arith, lt)) from
+
+-- so it is with the entries from that key on
+pub left_out : (low key : Bytes) (es : List Entry) (m : ℕ) → Follow (is_before low) (keys_of es) → m < length es → is_before key (first_key (drop m es)) ≡ false
+    → entries_from es key ≡ entries_from (drop m es) key
+left_out low key [] m rise lt from = absurd (omega (arith, lt))
+left_out low key (e ∷ es) zero rise lt from = refl
+left_out low key (e ∷ es) (suc m) rise lt from =
+    let next = later_above e.key es m rise.1 (omega (arith, lt)) in
+    let below : byte_order e.key key ≡ Less = below_both e.key (first_key (drop m es)) key next from in
+    ap (λ (o : Ordering). cond (not (is_lt o)) (e ∷ entries_from es key) (entries_from es key)) below ∙ left_out e.key key es m rise.1 (omega (arith, lt)) from
 
 -- nor those from one on whose key is above it
 pub cut : (low key : Bytes) (es : List Entry) (m : ℕ) → Follow (is_before low) (keys_of es) → (m < length es → is_before key (first_key (drop m es)) ≡ true)
@@ -115,6 +125,22 @@ module _ (bytes : Bytes) (format : format_in bytes ≡ Prefixed) (whole : any_bl
     pub listed_rest : take (rest_length_in Prefixed (part group)) (drop 9 (part group)) ≡ listed_key bytes group
     unfolding key_by
     listed_rest = sym (ap (λ (n : ℕ). take n [] ++ take (rest_length_in Prefixed (part group)) (drop 9 (part group))) alone.0.shares)
+
+  -- no entry before its group is one from a key on
+  module _ (key : Bytes) (group : ℕ) (of : IsGroupOf bytes key group) where
+    from_of : (g : ℕ) → g ≡ group → entries_from entries key ≡ entries_from (drop (16 * g) entries) key
+    from_of zero same = refl
+    from_of (suc g) same =
+        let inside : 16 * suc g < count_in bytes = omega (arith, same, of.inside) in
+        let from : is_before key (listed_key bytes (suc g)) ≡ false = subst (λ (j : ℕ). is_before key (listed_key bytes j) ≡ false) (sym same) (of.from (omega (arith, same))) in
+        left_out [] key entries (16 * suc g) (block_rises bytes fault_free) (omega (arith, inside, block_many bytes))
+        (ap (is_before key) (sym (listed_is bytes fault_free (suc g) inside)) ∙ from)
+
+    pub from_group : entries_from (any_block_in bytes) key ≡ entries_from (drop (16 * group) (any_block_in bytes)) key
+    from_group =
+        ap (λ (es : List Entry). entries_from es key) named
+        ∙ from_of group refl
+        ∙ ap (λ (es : List Entry). entries_from (drop (16 * group) es) key) (sym named)
 
   module _ (key : Bytes) (group size : ℕ) (of : IsGroupOf bytes key group) (is : IsGroupSize (count_in bytes) group size) where
     skips : (g : ℕ) → g ≡ group → lookup entries key ≡ lookup (drop (16 * g) entries) key

@@ -1,5 +1,5 @@
 -- A judge goes from entry to entry.
-use Rattle.std.proofs.Common.{◌≡◌, ◌≤◌, ◌<◌, ◌+◌, ◌-◌, ℕ, suc, Bool, true, false, [], ◌++◌, length, take, drop, refl, sym, ap, ap₂, ◌∙◌, arith, length-drop, length-take-le}
+use Rattle.std.proofs.Common.{◌≡◌, ◌≤◌, ◌<◌, ◌+◌, ◌-◌, ℕ, suc, false, [], ◌++◌, length, take, drop, sym, ap, ap₂, ◌∙◌, arith, length-drop, length-take-le}
 use Rattle.std.specs.Prelude.{Option, Some, None, Result, Ok, Err, IfOk, IfErr}
 use Rattle.std.proofs.lemmas.List.{drop-drop, drop-take, take-take}
 use Rattle.byte_fields.specs.Faults.{Fault}

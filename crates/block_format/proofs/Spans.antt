@@ -94,17 +94,17 @@ module _ (span : EntrySpan) (used : ℕ) (bytes : Bytes) (large : 8 ≤ used) (w
 
 -- ---- entries of a block that breaks no rule
 
-kept_sound : (low : Bytes) (es : List Entry) → AllByRecursion IsEntry es → AllByRecursion IsEntry (entries_from es low)
-kept_sound low [] all = tt
-kept_sound low (e ∷ es) all =
-    elim (not (is_before e.key low)) as (λ t. AllByRecursion IsEntry (cond t (e ∷ entries_from es low) (entries_from es low))) [
-      | true ↦ (all.0, kept_sound low es all.1)
-      | false ↦ kept_sound low es all.1
+pub kept_sound : (P : Entry → Type 0) (low : Bytes) (es : List Entry) → AllByRecursion P es → AllByRecursion P (entries_from es low)
+kept_sound P low [] all = tt
+kept_sound P low (e ∷ es) all =
+    elim (not (is_before e.key low)) as (λ t. AllByRecursion P (cond t (e ∷ entries_from es low) (entries_from es low))) [
+      | true ↦ (all.0, kept_sound P low es all.1)
+      | false ↦ kept_sound P low es all.1
     ]
 
 pub sound_from : (low : Option Bytes) (bytes : Bytes) → IsBytes bytes → block_fault bytes ≡ None → AllByRecursion IsEntry (kept_from low (block_in bytes))
 sound_from None bytes is none = (block_written bytes is none).0.each
-sound_from (Some low) bytes is none = kept_sound low (block_in bytes) (block_written bytes is none).0.each
+sound_from (Some low) bytes is none = kept_sound IsEntry low (block_in bytes) (block_written bytes is none).0.each
 
 pub all_kept : (low : Option Bytes) (es : List Entry) → low ≡ None → kept_from low es ≡ es
 all_kept None es none = refl

@@ -55,7 +55,7 @@ less_of Greater e = absurd cc
 pub above_apart : (a b : Bytes) → byte_order a b ≡ Less → bytes_eq b a ≡ false
 above_apart a b less = texts_ties b a ∙ ap is_eq (nat_list_cmp_total.antisymm b a ∙ ap ordering_reverse less)
 
-still_from : (before key low : Bytes) → is_from low before ≡ true → byte_order before key ≡ Less → is_from low key ≡ true
+pub still_from : (before key low : Bytes) → is_from low before ≡ true → byte_order before key ≡ Less → is_from low key ≡ true
 still_from before key low from less = elim (is_lt (byte_order key low)) as (λ t. is_lt (byte_order key low) ≡ t → not t ≡ true) [
   | true ↦ λ e. let below : byte_order before low ≡ Less = nat_list_cmp_total.trans before key low less (less_of (byte_order key low) e) in
       sym (ap (λ (o : Ordering). not (is_lt o)) below) ∙ from

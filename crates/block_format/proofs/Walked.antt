@@ -1,9 +1,9 @@
 -- A walk goes from one entry to the next, and the key of each is built in a buffer.
-use Rattle.std.proofs.Common.{◌≡◌, ◌≤◌, ◌<◌, ◌+◌, ◌-◌, ℕ, suc, zero, Bool, true, false, cond, List, [], ◌∷◌, ◌++◌, length, take, drop, refl, sym, ap, ap₂, ◌∙◌, subst, arith, length-drop, length-take-le}
+use Rattle.std.proofs.Common.{◌≡◌, ◌≤◌, ◌<◌, ◌+◌, ◌-◌, ℕ, suc, Bool, true, false, cond, [], ◌∷◌, ◌++◌, length, take, drop, refl, sym, ap, ap₂, ◌∙◌, subst, arith, length-drop, length-take-le}
 use Rattle.std.specs.Prelude.{Option, Some, None, ◌==◌, if◌then◌else◌}
 use Rattle.std.proofs.lemmas.List.{drop-drop, drop-take, take-take}
 use Rattle.map_model.specs.SortedMap.{Bytes}
-use Rattle.entry_model.specs.Entries.{Entry, entry_of}
+use Rattle.entry_model.specs.Entries.{entry_of}
 use Rattle.entry_model.specs.Reading.{kind_in}
 use Rattle.block_model.specs.Formats.{Format, entries_by, entry_head_by, key_by, rest_length_in, shared_in, value_by, value_length_by, width_by}
 use Rattle.block_format.specs.Walking.{IsHere, LiesIn, StandBy, StandsAfter, format_of, key_held, part_walked, value_at, walked}
@@ -71,6 +71,16 @@ module _ (walk : EntryWalk) (buffer bytes : Bytes) (some : 0 < walk.left) (stand
     few : s ≤ walk.key_length
     few = omega (arith, s_is, entry_here.shared, held_size)
 
+    pub held_shared : s ≤ length buffer
+    held_shared = omega (arith, few, stands.held)
+
+    pub key_parts : take s buffer ++ take r (drop h part) ≡ key_by f before part
+    unfolding key_by
+    key_parts =
+        ap (λ (l : Bytes). l ++ take r (drop h part)) (sym (take-take s walk.key_length buffer few))
+        ∙ ap (λ (m : ℕ). take m before ++ take r (drop h part)) s_is
+        ∙ ap₂ (λ (m j : ℕ). take (shared_in f part) before ++ take m (drop j part)) r_is h_is
+
     pub after_it : drop (width_by f part) part ≡ take (walk.end - (walk.at + (h + r + v))) (drop (walk.at + (h + r + v)) bytes)
     after_it =
         let w = h + r + v in
@@ -123,12 +133,7 @@ module _ (walk : EntryWalk) (buffer bytes : Bytes) (some : 0 < walk.left) (stand
       next = record { format = walk.format; at = walk.at + (h + r + v); end = walk.end; left = walk.left - 1; key_length = s + r }
 
       key_is : take (s + r) built ≡ key_by f before part
-      unfolding key_by
-      key_is =
-          built_is
-          ∙ ap (λ (l : Bytes). l ++ take r (drop h part)) (sym (take-take s walk.key_length buffer few))
-          ∙ ap (λ (m : ℕ). take m before ++ take r (drop h part)) s_is
-          ∙ ap₂ (λ (m j : ℕ). take (shared_in f part) before ++ take m (drop j part)) r_is h_is
+      key_is = built_is ∙ key_parts
 
       pub stands_next : StandsAfter next built bytes
       stands_next = record {

@@ -7,7 +7,7 @@ use Rattle.map_model.specs.SortedMap.{Bytes}
 use Rattle.block_model.specs.BlockReading.{count_in, used_in}
 use Rattle.block_model.specs.FormatFaults.{any_block_fault, entries_place}
 use Rattle.block_model.specs.FormatLaws.{listed_key}
-use Rattle.block_model.specs.Formats.{Format, Prefixed, format_in, key_by, shared_in, width_by}
+use Rattle.block_model.specs.Formats.{Prefixed, format_in, key_by, shared_in, width_by}
 use Rattle.block_format.specs.Walking.{format_of}
 use Rattle.block_format.specs.declared.any_header.BlockHead.{BlockHead}
 

@@ -5,6 +5,8 @@ use Rattle.key_base.specs.ByteOrder.{is_before}
 use Rattle.key_base.specs.Limits.{max_key_bytes}
 use Rattle.map_model.specs.SortedMap.{Bytes}
 use Rattle.entry_model.specs.Entries.{Entry, entry_of}
+use Rattle.entry_model.specs.Newest.{entries_from}
+use Rattle.block_model.specs.FormatFaults.{any_block_in}
 use Rattle.block_model.specs.Formats.{Format, Old, Prefixed, entries_by, key_by, rest_length_in, shared_in, width_by}
 use Rattle.block_format.specs.declared.format.BlockFormat.{BlockFormat}
 use Rattle.block_format.specs.declared.format.BlockFormat.TheVariants as code
@@ -47,6 +49,12 @@ pub record StandsAfter (walk : EntryWalk) (buffer bytes : Bytes) : Type 0 where
   pub inside : walk.end ≤ length bytes
   pub held : walk.key_length ≤ length buffer
   pub entries : StandBy (format_of walk.format) walk.left (key_held walk buffer) (part_walked walk bytes)
+
+-- A walk over entries of a block, with no key before the first of them: whatever is in a buffer, they stand there, and are all
+-- that are not below a bound, or more.
+pub record BeginsFor (low : Bytes) (walk : EntryWalk) (bytes : Bytes) : Type 0 where
+  pub stands : (buffer : Bytes) → StandsAfter walk buffer bytes
+  pub entries : (buffer : Bytes) → entries_from (walked walk buffer bytes) low ≡ entries_from (any_block_in bytes) low
 
 -- the value that lies at a place of the bytes, none for a tombstone
 abbrev pub value_at : Option ValuePlace → Bytes → Option Bytes

@@ -32,8 +32,8 @@ pub(crate) fn find_prefixed<'a>(
     find_in_group(listed(bytes, head, group), entries, key)
 }
 
-// The group of entries in which a key is, where the block has it.
-fn group_of(bytes: &[u8], head: BlockHead, key: &[u8]) -> usize
+/// The group of entries in which a key is, where the block has it.
+pub(crate) fn group_of(bytes: &[u8], head: BlockHead, key: &[u8]) -> usize
     requires head { IsHeadOf head bytes.now }
     requires format { format_in bytes.now ≡ Prefixed }
     ensures { IsGroupOf bytes.now key.now result }
@@ -93,7 +93,8 @@ fn between(bytes: &[u8], from: usize, to: usize) -> &[u8]
     &bytes[from..to]
 }
 
-fn from_place(bytes: &[u8], at: usize) -> &[u8]
+/// The bytes from a place on.
+pub(crate) fn from_place(bytes: &[u8], at: usize) -> &[u8]
     requires { at ≤ length bytes.now }
     ensures is { result.now ≡ drop at bytes.now }
     ensures left { length result.now ≡ length bytes.now - at }
@@ -101,8 +102,8 @@ fn from_place(bytes: &[u8], at: usize) -> &[u8]
     &bytes[at..]
 }
 
-// The rest of an entry's key.
-fn own_part(head: EntryHead, here: &[u8]) -> &[u8]
+/// The rest of an entry's key.
+pub(crate) fn own_part(head: EntryHead, here: &[u8]) -> &[u8]
     requires { head.bytes + head.rest ≤ length here.now }
     ensures { result.now ≡ take head.rest (drop head.bytes here.now) }
 {

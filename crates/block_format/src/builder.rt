@@ -114,8 +114,8 @@ fn fits(count: u8, bytes: usize, width: usize) -> bool
         || (HEADER_BYTES + bytes + width <= PAGE_BYTES && usize::from(count) < MAX_BLOCK_ENTRIES)
 }
 
-// The bytes of a value, none of a tombstone.
-fn value_bytes<'a>(value: Option<&'a [u8]>) -> &'a [u8]
+/// The bytes of a value, none of a tombstone.
+pub(crate) fn value_bytes<'a>(value: Option<&'a [u8]>) -> &'a [u8]
     ensures { result.now ≡ bytes_of (option_map (λ v. v.now) value.entry) }
 {
     match value {
@@ -124,7 +124,8 @@ fn value_bytes<'a>(value: Option<&'a [u8]>) -> &'a [u8]
     }
 }
 
-fn kind(value: Option<&[u8]>) -> u8
+/// The byte that says whether an entry has a value.
+pub(crate) fn kind(value: Option<&[u8]>) -> u8
     ensures { result ≡ kind_of (option_map (λ v. v.now) value.entry) }
 {
     match value {
@@ -133,9 +134,9 @@ fn kind(value: Option<&[u8]>) -> u8
     }
 }
 
-// Appends where there is room. Many keys and values are numbers of eight bytes: these are moved at once, with no call.
+/// Appends where there is room. Many keys and values are numbers of eight bytes: these are moved at once, with no call.
 #[inline(always)]
-fn append(more: &[u8], out: &mut Vec<u8>)
+pub(crate) fn append(more: &[u8], out: &mut Vec<u8>)
     requires { vec_len out.old + length more.now ≤ vec_capacity out.old }
     ensures items { out.new.items ≡ out.old.items ++ more.now }
     ensures len { vec_len out.new ≡ vec_len out.old + length more.now }
@@ -186,8 +187,8 @@ fn push_block(entries: &[u8], count: u8, out: &mut Vec<u8>) -> Result<(), AllocE
     Ok(())
 }
 
-// Appends zero bytes where there is room.
-fn append_zeros(count: usize, out: &mut Vec<u8>)
+/// Appends zero bytes where there is room.
+pub(crate) fn append_zeros(count: usize, out: &mut Vec<u8>)
     requires { vec_len out.old + count ≤ vec_capacity out.old }
     ensures { out.new.items ≡ out.old.items ++ replicate count 0 }
 {

@@ -11,6 +11,10 @@
 //!
 //! Finding goes from entry to entry, since entries have no index: half a page at the mean. Not for tables as a whole.
 //!
+//! A block of the second format, whose entries share prefixes, is written by a [`PrefixedBuilder`]. [`AnyBlock`] reads blocks
+//! of both, and finds a key in such a one by halves; [`read_sum_and_walk`] and [`EntryWalk::advance`] go over its entries, while
+//! each key is built in the caller's buffer. No store writes it yet.
+//!
 //! ```text
 //! let block = Block::read(bytes)?;
 //! block.find(b"a") == Some(Some(b"1"))          // Some(None) for a tombstone
@@ -23,6 +27,7 @@ mod any_block;
 mod any_find;
 mod any_format;
 mod any_header;
+mod any_walk;
 mod block;
 mod builder;
 mod cursor;
@@ -31,14 +36,17 @@ mod fault;
 mod format;
 mod head;
 mod judging;
+mod prefixed_builder;
 mod span;
 mod walk;
 
 pub use any_format::AnyBlock;
+pub use any_walk::read_sum_and_walk;
 pub use block::{Block, read_sum_and_span};
 pub use builder::BlockBuilder;
 pub use cursor::BlockCursor;
 pub use fault::BlockFault;
 pub use format::BlockFormat;
+pub use prefixed_builder::PrefixedBuilder;
 pub use span::EntrySpan;
 pub use walk::{EntryWalk, ValuePlace, value_of};

@@ -1,5 +1,4 @@
-use Rattle.std.proofs.Common.{◌≡◌, ◌≤◌, ◌<◌, ◌+◌, ◌-◌, ◌++◌, ℕ, [], length, take, drop, sym, ap, ap₂, ◌∙◌, arith, length-take-le, length-drop}
-use Rattle.std.specs.Prelude.{None}
+use Rattle.std.proofs.Common.{◌≡◌, ◌≤◌, ◌<◌, ◌+◌, ◌-◌, ℕ, [], length, take, drop, sym, ap, ap₂, ◌∙◌, arith, length-take-le, length-drop}
 use Rattle.map_model.specs.SortedMap.{Bytes}
 use Rattle.block_model.specs.FormatFaults.{entries_fault_by}
 use Rattle.block_model.proofs.EntriesJudged.{none_is_left, some_are_left}

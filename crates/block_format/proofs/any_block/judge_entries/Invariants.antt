@@ -1,4 +1,4 @@
-use Rattle.std.proofs.Common.{◌≡◌, ◌≤◌, ◌-◌, [], length, take}
+use Rattle.std.proofs.Common.{◌≡◌, ◌≤◌, ◌-◌, [], take}
 use Rattle.key_base.specs.Limits.{max_key_bytes}
 use Rattle.block_model.specs.FormatFaults.{entries_fault_by}
 use Rattle.block_format.specs.Judging.{left_from}

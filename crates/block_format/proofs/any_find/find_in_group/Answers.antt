@@ -1,7 +1,7 @@
-use Rattle.std.proofs.Common.{◌≡◌, ◌≤◌, ◌<◌, ◌+◌, ◌-◌, ℕ, Bool, length, take, drop, sym, ap, ap₂, ◌∙◌, subst, arith}
+use Rattle.std.proofs.Common.{◌≡◌, Bool, take, drop, sym, ap, ap₂, ◌∙◌, arith}
 use Rattle.std.specs.Prelude.{Option, Some, None, bytes_eq, if◌then◌else◌}
 use Rattle.map_model.specs.SortedMap.{Bytes}
-use Rattle.block_model.specs.Formats.{Prefixed, rest_length_in, value_by}
+use Rattle.block_model.specs.Formats.{Prefixed, rest_length_in}
 use Rattle.block_format.specs.Finding.{alike_after}
 use Rattle.block_format.proofs.Close.{all_reached, common_fits, here_decides, here_ends, here_fits, none_reached, own_of, reached_next, value_of_it, width_is}
 use Rattle.block_format.proofs.any_find.find_in_group.Goals as goal

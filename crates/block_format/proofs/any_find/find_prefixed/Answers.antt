@@ -1,7 +1,6 @@
-use Rattle.std.proofs.Common.{◌≡◌, ◌<◌, ◌*◌, ℕ, [], sym, ap, ◌∙◌, subst, arith}
+use Rattle.std.proofs.Common.{ℕ, [], sym, ap, ◌∙◌, subst, arith}
 use Rattle.map_model.specs.SortedMap.{Bytes}
 use Rattle.entry_model.specs.Newest.{lookup}
-use Rattle.block_model.specs.BlockReading.{count_in}
 use Rattle.block_model.specs.Formats.{Prefixed, entries_by}
 use Rattle.block_format.specs.Finding.{IsGroupSize, StandClose}
 use Rattle.block_format.proofs.Groups.{group_stands, said_in_group}

@@ -1,4 +1,4 @@
-use Rattle.std.proofs.Common.{◌≡◌, ◌<◌, ◌≤◌, ◌+◌, ◌-◌, ◌*◌, ◌/◌, ℕ, true, false, sym, ◌∙◌, ap, arith}
+use Rattle.std.proofs.Common.{◌≡◌, ◌+◌, ℕ, sym, ◌∙◌, ap, arith}
 use Rattle.key_base.specs.ByteOrder.{is_before}
 use Rattle.block_model.specs.FormatLaws.{listed_key}
 use Rattle.block_format.proofs.any_find.group_of.Goals as goal

@@ -1,4 +1,4 @@
-use Rattle.std.proofs.Common.{◌≡◌, ◌≤◌, ◌+◌, ℕ, length, take, drop, ap, ◌∙◌, arith}
+use Rattle.std.proofs.Common.{length, take, drop, ap, ◌∙◌, arith}
 use Rattle.map_model.specs.SortedMap.{Bytes}
 use Rattle.block_model.specs.Formats.{Prefixed, rest_length_in}
 use Rattle.block_format.proofs.Close.{own_of}

@@ -1,4 +1,4 @@
-use Rattle.std.proofs.Common.{◌≤◌, ◌+◌, length, arith, ◌∙◌}
+use Rattle.std.proofs.Common.{arith, ◌∙◌}
 use Rattle.block_format.proofs.Groups.{number_fits, group_part, place_fits}
 use Rattle.block_format.proofs.any_find.listed.Goals as goal
 

@@ -1,7 +1,7 @@
 use Rattle.std.proofs.Common.{◌≡◌, sym, ap, ◌∙◌, List}
 use Rattle.entry_model.specs.Entries.{Entry}
 use Rattle.entry_model.specs.Newest.{lookup}
-use Rattle.block_model.specs.Formats.{Old, Prefixed, format_in}
+use Rattle.block_model.specs.Formats.{Old, format_in}
 use Rattle.block_model.proofs.OldBlocks.{old_as_before}
 use Rattle.block_format.specs.Walking.{format_of}
 use Rattle.block_format.proofs.any_format.find_any.Goals as goal
