@@ -20,6 +20,8 @@ mod made;
 #[cfg(test)]
 mod merges;
 #[cfg(test)]
+mod prefixed;
+#[cfg(test)]
 mod sizes;
 #[cfg(test)]
 mod spellings;
