@@ -39,6 +39,43 @@ fn a_block_of_one_entry(rt: HostRuntime) -> Result<(), Fail> {
     Ok(())
 }
 
+// Puts a byte at a place, if there is one.
+fn put(bytes: &mut [u8], place: usize, value: u8) {
+    if let Some(byte) = bytes.get_mut(place) {
+        *byte = value;
+    }
+}
+
+#[test]
+fn one_changed_byte(rt: HostRuntime) -> Result<(), Fail> {
+    let rows = [
+        (0, 0x13, 0, 1),
+        (4, 0x00, 4, 2),
+        (5, 0x01, 5, 2),
+        (6, 0x01, 6, 2),
+        (8, 0x0B, 8, 9),
+        (9, 0x01, 8, 9),
+        (4, 0xFF, 8, 9),
+        (4, 0x02, 21, 3),
+        (10, 0x03, 10, 4),
+        (10, 0x02, 10, 4),
+        (11, 0x01, 10, 10),
+        (13, 0x00, 10, 5),
+        (12, 0x04, 10, 5),
+        (12, 0x05, 10, 5),
+        (17, 0x10, 10, 5),
+        (13, 0x03, 10, 3),
+        (0, 0x16, 21, 7),
+        (30, 0x01, 30, 8),
+    ];
+    for (place, byte, at, rule) in rows {
+        let mut page = a_b();
+        put(&mut page, place, byte);
+        assert_eq!(rt; fault_of(&page), Some((at, rule)));
+    }
+    Ok(())
+}
+
 #[test]
 fn two_changed_bytes(rt: HostRuntime) -> Result<(), Fail> {
     let rows = [
@@ -133,6 +170,86 @@ fn prefixed_blocks_that_are_full_to_the_byte(rt: HostRuntime) -> Result<(), Fail
             }
         }
         assert_eq!(rt; (count, builder.pages()), (taken, pages));
+    }
+    Ok(())
+}
+
+#[test]
+fn the_largest_block(rt: HostRuntime) -> Result<(), Fail> {
+    let alloc = rt.alloc();
+    let mut builder = PrefixedBuilder::new(alloc);
+    let mut out = Vec::new(alloc);
+    let key = vec![in alloc; b'k'; 1_024]?;
+    let value = vec![in alloc; b'v'; 1_048_576]?;
+    assert!(rt; add(&mut builder, &key, &value)?);
+    if !builder.is_empty() {
+        builder.close(&mut out)?;
+    }
+    assert!(rt; out.len() == 1_052_672);
+    let head = [
+        0x13, 4, 0x10, 0, 1, 2, 0, 0, 0x0A, 0, 1, 0, 0, 0, 4, 0, 0, 0x10, 0,
+    ];
+    assert!(rt; alike(out.as_slice(), &head) == 19);
+    assert_eq!(rt; fault_of(out.as_slice()), None);
+    Ok(())
+}
+
+#[test]
+fn a_prefixed_block_takes_255_entries(rt: HostRuntime) -> Result<(), Fail> {
+    let mut builder = PrefixedBuilder::new(rt.alloc());
+    let mut first = 0_u32;
+    let mut second = 0_u32;
+    for i in 0..300_u32 {
+        let key = [(i / 256) as u8, (i % 256) as u8];
+        if builder.add(&key, None)? {
+            second = second.saturating_add(1);
+        } else {
+            builder.clear();
+            first = second;
+            second = 1;
+            assert!(rt; builder.add(&key, None)?);
+        }
+    }
+    assert_eq!(rt; (first, second), (255, 45));
+    Ok(())
+}
+
+// k000 without a value, and after it an entry without one, which shares so many bytes and has such a rest.
+fn after_k000(shared: u8, rest: &[u8]) -> [u8; 4096] {
+    let mut page = [0; 4096];
+    let used = [
+        0, 0, 0, 0, 2, 2, 0, 0, 0x0A, 0, 2, 0, 0, 4, 0, 0, 0, 0, 0, 0x6B, 0x30, 0x30, 0x30, 2,
+        shared, 0, 0, 0, 0, 0, 0, 0,
+    ];
+    page[..32].copy_from_slice(&used);
+    for (byte, other) in page.iter_mut().skip(32).zip(rest) {
+        *byte = *other;
+    }
+    let own = rest.len().min(255) as u8;
+    page[26] = own;
+    page[0] = 32_u8.wrapping_add(own);
+    page
+}
+
+#[test]
+fn an_entry_after_k000(rt: HostRuntime) -> Result<(), Fail> {
+    let read: [(u8, &[u8]); 3] = [(3, b"1"), (4, b"1"), (0, b"l")];
+    for (shared, rest) in read {
+        assert_eq!(rt; fault_of(&after_k000(shared, rest)), None);
+    }
+    let refused: [(u8, &[u8], u8); 9] = [
+        (2, b"01", 10),
+        (5, b"1", 10),
+        (3, b"0", 10),
+        (2, b"//", 6),
+        (3, b"", 6),
+        (4, b"", 6),
+        (5, b"", 10),
+        (0, b"k001", 10),
+        (0, b"", 5),
+    ];
+    for (shared, rest, rule) in refused {
+        assert_eq!(rt; fault_of(&after_k000(shared, rest)), Some((23, rule)));
     }
     Ok(())
 }
