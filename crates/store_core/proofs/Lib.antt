@@ -50,6 +50,7 @@ pub mod ScanReads
 pub mod ScanStates
 pub mod ScanSteps
 pub mod ShownBlocks
+pub mod Stays
 pub mod Taken
 pub mod Tellings
 pub mod TendAnswers

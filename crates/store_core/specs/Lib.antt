@@ -27,6 +27,7 @@ pub mod Running
 pub mod StoreValue
 pub mod Represents
 pub mod Answers
+pub mod Staying
 pub mod Caching
 pub mod Getting
 pub mod Lends

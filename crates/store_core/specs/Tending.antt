@@ -19,7 +19,8 @@ use Rattle.state_model.specs.State.{Job, State, without_job}
 use Rattle.state_model.specs.Tends as model
 use Rattle.state_model.specs.Tends.{Progresses, Runs, Tend, with_job}
 use Rattle.state_model.specs.View.{state_map}
-use Rattle.store_core.specs.Answers.{HasCause, told, told_limit}
+use Rattle.store_core.specs.Answers.{HasCause, stops, told, told_limit}
+use Rattle.store_core.specs.Staying.{IsAsItWas}
 use Rattle.store_core.specs.StoreValue.{StoreValue}
 use Rattle.store_core.specs.Opening.{FaultRose}
 use Rattle.store_core.specs.Represents.{Represents, RepresentsOn}
@@ -72,6 +73,13 @@ IsTendRefusal stopped epoch old new (error.Damaged damage) = stopped ≡ false
 IsTendRefusal stopped epoch old new error.NotAStore = ⊥
 IsTendRefusal stopped epoch old new error.AlreadyAStore = ⊥
 IsTendRefusal stopped epoch old new (error.BadSettings field) = ⊥
+
+-- where nothing is to be merged, an output has no room, or a merge slice is refused and does not stop the store, it is as it was
+abbrev pub SliceStays : Result Tended StoreError → StoreValue → StoreValue → Type 0
+SliceStays (Ok tended.Worked) before after = Unit {0}
+SliceStays (Ok tended.Idle) before after = IsAsItWas before after
+SliceStays (Ok (tended.Full need gap)) before after = IsAsItWas before after
+SliceStays (Err why) before after = stops why ≡ false → IsAsItWas before after
 
 -- reads, and writes on so many bytes of the device
 abbrev pub SomeMoves : ℕ → World → World → Type 0

@@ -8,6 +8,7 @@ ghost use Rattle.store_core.specs.Answers.{stopped_by};
 ghost use Rattle.store_core.specs.Installing.{Installs, IsInstallRefusal};
 ghost use Rattle.store_core.specs.Running.{IsRun};
 ghost use Rattle.store_core.specs.Represents.{Represents};
+ghost use Rattle.store_core.specs.Staying.{Stays};
 ghost use Rattle.table_model.specs.Tables.{filter_bytes_of};
 
 use crate::compacting::stops_store;
@@ -35,6 +36,7 @@ impl<F: RangeFilter> Store<F> {
             → Represents F.spelling (filter_bytes_of F.spelling F.built_cutoff) (record self.old { job = Some job.entry }) s (D.world disk.old)
             → Installs F.spelling (filter_bytes_of F.spelling F.built_cutoff) s done result self.new (D.world disk.old) (D.world disk.new) }
         ensures refused { IfErr result (IsInstallRefusal self.old.manifest.version (D.world disk.old) (D.world disk.new)) }
+        ensures stays { Stays result self.old self.new }
         ensures stopped { self.new.stopped ≡ stopped_by result }
         ensures no_job { self.new.job ≡ None }
         ensures pages { self.new.manifest.version.pages ≡ self.old.manifest.version.pages }

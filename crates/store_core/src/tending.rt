@@ -14,7 +14,7 @@ ghost use Rattle.store_core.specs.Answers.{stopped_by};
 ghost use Rattle.store_core.specs.StoreValue.{IsConsistent};
 ghost use Rattle.store_core.specs.Running.{HasMoreToMake, IsRun, MayRunIn};
 ghost use Rattle.store_core.specs.Scans.{IsScanShown};
-ghost use Rattle.store_core.specs.Tending.{IsBegunAmong, IsNext, IsTended, IsTendRefusal, NoneIsChosen, SlicesJob, SomeMoves, Tends, answer_to, told_slice};
+ghost use Rattle.store_core.specs.Tending.{IsBegunAmong, IsNext, IsTended, IsTendRefusal, NoneIsChosen, SliceStays, SlicesJob, SomeMoves, Tends, answer_to, told_slice};
 ghost use Rattle.store_core.specs.Represents.{Represents, RepresentsOn};
 ghost use Rattle.table_model.specs.Tables.{filter_bytes_of};
 
@@ -73,6 +73,7 @@ impl<F: RangeFilter> Store<F> {
         ensures refused { MatchResult result (IsTended self.old self.new (D.world disk.old) (D.world disk.new)) (IsTendRefusal self.old.stopped self.old.manifest.version.epoch (D.world disk.old) (D.world disk.new)) }
         ensures shown { IsTrue D.tells → IfErr result (IsScanShown self.new.tables (D.world disk.new).seen.held) }
         ensures dropped { self.old.stopped ≡ false → OnErr result (self.new.job ≡ None) }
+        ensures stays { SliceStays result (record self.old { job = self.new.job }) self.new }
         ensures stopped { self.new.stopped ≡ (self.old.stopped || stopped_by result) }
         ensures no_call { self.old.stopped ≡ true → ReadMoves 0 (D.world disk.old) (D.world disk.new) }
         ensures moves { SomeMoves (page_bytes * self.old.manifest.version.pages) (D.world disk.old) (D.world disk.new) }
@@ -134,6 +135,7 @@ impl<F: RangeFilter> Store<F> {
         ensures refused { MatchResult result (IsTended (record self.old { job = Some job.entry }) self.new (D.world disk.old) (D.world disk.new)) (IsTendRefusal false self.old.manifest.version.epoch (D.world disk.old) (D.world disk.new)) }
         ensures shown { IsTrue D.tells → IfErr result (IsScanShown self.new.tables (D.world disk.new).seen.held) }
         ensures dropped { OnErr result (self.new.job ≡ None) }
+        ensures stays { SliceStays result (record self.old { job = self.new.job }) self.new }
         ensures stopped { self.new.stopped ≡ stopped_by result }
         ensures moves { SomeMoves (page_bytes * self.old.manifest.version.pages) (D.world disk.old) (D.world disk.new) }
     {

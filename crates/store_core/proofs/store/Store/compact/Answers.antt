@@ -3,6 +3,7 @@ use Rattle.table_model.specs.Tables.{filter_bytes_of}
 use Rattle.store_core.specs.StoreValue.{IsConsistent, StoreValue}
 use Rattle.store_core.specs.declared.store.Store.TheInside.{Inside}
 use Rattle.store_core.proofs.CompactBegins.{answered_empty, answered_last, is_at_last, is_below_last, tied_without}
+use Rattle.store_core.proofs.Stays.{dropped_stays, without_merge}
 use Rattle.store_core.proofs.store.Store.compact.Goals as goal
 
 pub returns-then-holds_nothing-clause-answered : goal.returns-then-holds_nothing-clause-answered
@@ -32,3 +33,11 @@ pub returns-clause-answered : goal.returns-clause-answered
 returns-clause-answered g c s tells running tied = c.compact_all.ensures.answered s tells
     (tied_without c.args.self.now c.drop_job.new.self c.drop_job.ensures g.F.RangeFilter.spelling (filter_bytes_of g.F.RangeFilter.spelling g.F.RangeFilter.built_cutoff) s (g.D.Disk.world c.args.disk.now)
     (subst IsConsistent c.self.view_is c.self.invariant.0) tied)
+
+-- ---- what a refusal leaves
+
+pub returns-then-self-2-clause-stays : goal.returns-then-self-2-clause-stays
+returns-then-self-2-clause-stays g c runs = without_merge c.args.self.now c.drop_job.new.self c.drop_job.ensures
+
+pub returns-clause-stays : goal.returns-clause-stays
+returns-clause-stays g c = dropped_stays c.compact_all.result c.args.self.now c.drop_job.new.self c.compact_all.new.self c.drop_job.ensures c.compact_all.ensures.stays

@@ -1,4 +1,4 @@
-use Rattle.std.proofs.Common.{◌≢◌, ◌⊎◌, ◌∙◌, [], length, sym, ap, subst}
+use Rattle.std.proofs.Common.{◌≢◌, ◌⊎◌, ◌∙◌, [], length, refl, sym, ap, subst}
 use Rattle.state_model.specs.State.{without_job}
 use Rattle.table_model.specs.Tables.{filter_bytes_of}
 use Rattle.store_core.specs.Caching.{AreNumbered, CacheAgrees, Cached, renumbered}
@@ -6,6 +6,7 @@ use Rattle.store_core.specs.Compacting.{FailsSo, IsHeldBy}
 use Rattle.store_core.specs.StoreValue.{StoreValue}
 use Rattle.store_core.proofs.Caches.{numbered_anew, true_anew}
 use Rattle.store_core.proofs.CompactAnswers.{answered_done, answered_failed, compacted_whole, entries_sound, held_by}
+use Rattle.store_core.proofs.Stays.{stopped_or_stays}
 use Rattle.store_core.proofs.store.Store.compact_all.Goals as goal
 
 pub replace_all-requires-clause-entries : goal.replace_all-requires-clause-entries
@@ -44,3 +45,7 @@ returns-in-Err-clause-answered g c s tells tied =
     answered_failed spelling bytes c.args.self.now _ s a b c.requires.none_runs tied (g.met.D.Disk.current c.args.disk.now tells) c.requires.some c.requires.epoch (c.in-Err.ensures.meanwhile (without_job s) tells held some)
     c.in-Err.why fails c.stops_store-self-inside.ensures (ap (λ (k : StoreValue). k.manifest) c.self.view_is) (ap (λ (k : StoreValue). k.tables) c.self.view_is) (ap (λ (k : StoreValue). k.job) c.self.view_is ∙ c.requires.none_runs)
     (ap (λ (k : StoreValue). k.log) c.self.view_is) (ap (λ (k : StoreValue). k.memory) c.self.view_is) (ap (λ (k : StoreValue). k.blocks) c.self.view_is)
+
+pub returns-in-Err-clause-stays : goal.returns-in-Err-clause-stays
+returns-in-Err-clause-stays g c runs =
+    stopped_or_stays c.in-Err.why _ c.args.self.now _ c.self.inside.tables.tables c.self.view_is c.requires.running refl c.stops_store-self-inside.ensures runs

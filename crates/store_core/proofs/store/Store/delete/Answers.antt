@@ -10,6 +10,7 @@ use Rattle.store_core.specs.declared.error.StoreError.{StoreError}
 use Rattle.store_core.proofs.Answering.{is_left, is_made, wrote_answers}
 use Rattle.store_core.proofs.FlushAnswers.{passed_on, stands_now}
 use Rattle.store_core.proofs.Limiting.{limit_answers}
+use Rattle.store_core.proofs.Stays.{stays_at}
 use Rattle.store_core.proofs.store.Store.delete.Goals as goal
 
 pub returns-in_err-check_key-clause-answered : goal.returns-in_err-check_key-clause-answered
@@ -31,3 +32,6 @@ returns-clause-answered g c s tells runs tied =
     let change = written bytes s (del_entry c.args.key.now) in
     wrote_answers spelling bytes s (Del c.args.key.now) old (g.D.Disk.world c.write.new.disk) change c.write.result c.write.new.self c.in_ok-check_key.ensures refl refl (λ _. tt)
     (λ _ to made. is_made change to made) (is_left spelling bytes c.args.self.now s old tied) c.write.ensures.stopped c.write.ensures.refused (c.write.ensures.wrote s tells tied)
+
+pub returns-in_err-check_key-clause-stays : goal.returns-in_err-check_key-clause-stays
+returns-in_err-check_key-clause-stays g c = stays_at c.from_residual.result c.args.self.now c.args.self.now refl

@@ -14,6 +14,7 @@ use Rattle.store_core.specs.Represents.{Represents}
 use Rattle.store_core.specs.declared.error.StoreError.{StoreError}
 use Rattle.store_core.proofs.FlushAnswers.{flush_done, flush_failed, nothing_to_flush, passed_on, plan_of_memory, plan_refused, row_again, row_within, wanted_with}
 use Rattle.store_core.proofs.Plans.{row_free}
+use Rattle.store_core.proofs.Stays.{stays_at, stopped_or_stays, tables_stay}
 use Rattle.store_core.proofs.Wholes.{begun_where_none, flushed_whole, laid_with, memory_table, whole_stopped}
 use Rattle.store_core.proofs.Writing.{never}
 use Rattle.store_core.proofs.store.Store.flush_memory.Goals as goal
@@ -124,3 +125,16 @@ returns-in-Err-clause-wrote g c s tells tied =
     flush_failed spelling cutoff store s old new current tied some parts row next plan _ (ap (λ (k : StoreValue). k.manifest) c.self.view_is) (c.reserve.ensures.tables ∙ ap (λ (k : StoreValue). k.tables) c.self.view_is)
     (ap (λ (k : StoreValue). k.job) c.self.view_is) (ap (λ (k : StoreValue). k.log) c.self.view_is) (ap (λ (k : StoreValue). k.memory) c.self.view_is) (ap (λ (k : StoreValue). k.blocks) c.self.view_is)
     c.in-Err.fault c.from-why.result c.from-why.ensures replaces c.in-Err.ensures.cause c.stops_store-self-inside.ensures
+
+-- ---- what a refusal leaves
+
+pub returns-in_err-plan-clause-stays : goal.returns-in_err-plan-clause-stays
+returns-in_err-plan-clause-stays g c = stays_at c.from_residual.result c.args.self.now c.args.self.now refl
+
+pub returns-in_err-reserve-clause-stays : goal.returns-in_err-reserve-clause-stays
+returns-in_err-reserve-clause-stays g c =
+    tables_stay c.from_residual-in_err-reserve.result _ c.args.self.now c.reserve.new.self.tables c.self.view_is c.reserve.ensures.tables
+
+pub returns-in-Err-clause-stays : goal.returns-in-Err-clause-stays
+returns-in-Err-clause-stays g c runs =
+    stopped_or_stays c.from-why.result _ c.args.self.now _ c.reserve.new.self.tables c.self.view_is c.requires.running c.reserve.ensures.tables c.stops_store-self-inside.ensures runs

@@ -27,6 +27,7 @@ use Rattle.store_core.proofs.InstallLists.{others_few}
 use Rattle.store_core.proofs.InstallMerges.{install_done, install_refused, wanted}
 use Rattle.store_core.proofs.InstallRefusals.{below_last, install_is_refused, moves_within, no_fault, one_fault, room_for}
 use Rattle.store_core.proofs.MergedVersions.{made_few, merged_is_version}
+use Rattle.store_core.proofs.Stays.{stays_at, stopped_or_stays, tables_stay}
 use Rattle.store_core.proofs.Wholes.{whole_stopped}
 use Rattle.store_core.proofs.store.Store.install_merge.Goals as goal
 
@@ -191,3 +192,16 @@ returns-in-Err-clause-installs g c s done tells runs is_done tied =
     (c.in-Err.ensures.crash v tells (sym (ap (λ (m : Manifest). m.version.epoch) next_is))))
     (ap (λ (k : StoreValue). k.manifest) c.self.view_is) (c.reserve.ensures.tables ∙ ap (λ (k : StoreValue). k.tables) c.self.view_is) (ap (λ (k : StoreValue). k.job) c.self.view_is ∙ c.requires.taken_out)
     (ap (λ (k : StoreValue). k.log) c.self.view_is) (ap (λ (k : StoreValue). k.memory) c.self.view_is) (ap (λ (k : StoreValue). k.blocks) c.self.view_is) c.stops_store-self-inside.ensures
+
+-- ---- what a refusal leaves
+
+pub returns-in_err-next-clause-stays : goal.returns-in_err-next-clause-stays
+returns-in_err-next-clause-stays g c = stays_at c.from_residual.result c.args.self.now c.args.self.now refl
+
+pub returns-in_err-reserve-clause-stays : goal.returns-in_err-reserve-clause-stays
+returns-in_err-reserve-clause-stays g c =
+    tables_stay c.from_residual-in_err-reserve.result _ c.args.self.now c.reserve.new.self.tables c.self.view_is c.reserve.ensures.tables
+
+pub returns-in-Err-clause-stays : goal.returns-in-Err-clause-stays
+returns-in-Err-clause-stays g c runs =
+    stopped_or_stays c.from-why.result _ c.args.self.now _ c.reserve.new.self.tables c.self.view_is c.requires.running c.reserve.ensures.tables c.stops_store-self-inside.ensures runs

@@ -11,6 +11,7 @@ use Rattle.store_core.specs.declared.error.StoreError.{StoreError}
 use Rattle.store_core.proofs.Answering.{is_left, is_made, wrote_answers}
 use Rattle.store_core.proofs.FlushAnswers.{passed_on, stands_now}
 use Rattle.store_core.proofs.Limiting.{first_broken, limit_answers, none_broken, second_broken}
+use Rattle.store_core.proofs.Stays.{stays_at}
 use Rattle.store_core.proofs.store.Store.put.Goals as goal
 
 pub returns-in_err-check_key-clause-answered : goal.returns-in_err-check_key-clause-answered
@@ -46,3 +47,9 @@ returns-clause-answered g c s tells runs tied =
     wrote_answers spelling bytes s (Put c.args.key.now c.args.value.now) old (g.D.Disk.world c.write.new.disk) change c.write.result c.write.new.self
     (none_broken (key_limit c.args.key.now) (value_limit c.args.value.now) c.in_ok-check_key.ensures c.in_ok-check_value.ensures) refl refl (λ _. tt) (λ _ to made. is_made change to made)
     (is_left spelling bytes c.args.self.now s old tied) c.write.ensures.stopped c.write.ensures.refused (c.write.ensures.wrote s tells tied)
+
+pub returns-in_err-check_key-clause-stays : goal.returns-in_err-check_key-clause-stays
+returns-in_err-check_key-clause-stays g c = stays_at c.from_residual.result c.args.self.now c.args.self.now refl
+
+pub returns-in_err-check_value-clause-stays : goal.returns-in_err-check_value-clause-stays
+returns-in_err-check_value-clause-stays g c = stays_at c.from_residual-in_err-check_value.result c.args.self.now c.args.self.now refl

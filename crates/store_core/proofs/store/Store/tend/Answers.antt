@@ -4,13 +4,14 @@ use Rattle.level_merge.specs.JobValue.{JobValue}
 use Rattle.state_model.specs.Tends.{with_job}
 use Rattle.table_model.specs.Tables.{filter_bytes_of}
 use Rattle.store_core.specs.StoreValue.{IsConsistent, StoreValue}
-use Rattle.store_core.specs.Tending.{IsNext, Tends, told_slice}
+use Rattle.store_core.specs.Tending.{IsNext, SliceStays, Tends, told_slice}
 use Rattle.store_core.specs.Represents.{Represents}
 use Rattle.store_core.specs.declared.error.StoreError.{StoreError}
 use Rattle.store_core.specs.declared.error.StoreError.TheVariants as error
 use Rattle.store_core.specs.declared.tending.Tended.{Tended}
 use Rattle.store_core.specs.declared.tending.Tended.TheVariants as tended
 use Rattle.store_core.proofs.FlushAnswers.{passed_on}
+use Rattle.store_core.proofs.Stays.{slice_left, without_merge}
 use Rattle.store_core.proofs.TendAnswers.{idles, none_begun, taken_up}
 use Rattle.store_core.proofs.store.Store.tend.Goals as goal
 
@@ -56,3 +57,18 @@ returns-in-Some-clause-reads g c s tells tied =
     (c.in_ok-job.ensures.next s w.seen.held (tied.images w.seen.held (g.met.D.Disk.current c.args.disk.now tells))) in
     c.work.ensures.reads (with_job s next.0) next.0 tells refl
     (subst (λ (k : StoreValue). Represents spelling bytes (record k { job = Some m }) (with_job s next.0) w) (sym c.take_job.ensures.rest) (taken_up spelling bytes s c.args.self.now w tied m next))
+
+-- ---- what a refusal leaves
+
+pub returns-in_err-job-clause-stays : goal.returns-in_err-job-clause-stays
+returns-in_err-job-clause-stays g c =
+    let after = c.take_job.new.self in
+    slice_left c.from_residual.result (record c.args.self.now { job = after.job }) after (without_merge c.args.self.now after c.take_job.ensures.rest)
+
+pub returns-in-None-clause-stays : goal.returns-in-None-clause-stays
+returns-in-None-clause-stays g c = without_merge c.args.self.now c.take_job.new.self c.take_job.ensures.rest
+
+pub returns-in-Some-clause-stays : goal.returns-in-Some-clause-stays
+returns-in-Some-clause-stays g c =
+    let after = c.work.new.self in
+    subst (λ (k : StoreValue). SliceStays c.work.result (record k { job = after.job }) after) c.take_job.ensures.rest c.work.ensures.stays

@@ -15,6 +15,7 @@ use Rattle.store_core.specs.declared.tending.Tended.{Tended}
 use Rattle.store_core.specs.declared.tending.Tended.TheVariants as tended
 use Rattle.store_core.proofs.Agreed.{tied_agree}
 use Rattle.store_core.proofs.FlushAnswers.{passed_on}
+use Rattle.store_core.proofs.Stays.{install_stays, refused_slice}
 use Rattle.store_core.proofs.TendAnswers.{installs_it, not_installed, slice_refused, tied_none, works_on}
 use Rattle.store_core.proofs.TendRefusals.{both_moved, slice_shown}
 use Rattle.store_core.proofs.store.Store.work.Goals as goal
@@ -110,3 +111,13 @@ returns-in-Err-clause-shown g c tells =
     subst (λ (tables : List Opened). IfErr c.refuse.result (IsScanShown tables b.seen.held)) (sym (ap (λ (k : StoreValue). k.tables) c.refuse.ensures.rest))
     (subst (λ (r : Result Tended StoreError). IfErr r (IsScanShown c.args.self.now.tables b.seen.held)) (sym c.refuse.ensures.answer)
     (slice_shown g.D.Disk.tells c.args.self.now.tables _ (g.D.Disk.world c.args.disk.now) b c.in-Err.why tells c.in-Err.ensures.fault c.in-Err.ensures.unwritten))
+
+-- ---- what a refusal leaves
+
+pub returns-in_err-install_merge-in-Ok-Ready-clause-stays : goal.returns-in_err-install_merge-in-Ok-Ready-clause-stays
+returns-in_err-install_merge-in-Ok-Ready-clause-stays g c =
+    let why = c.in_err-install_merge-in-Ok-Ready.field-0.0 in
+    install_stays c.from_residual.result why c.args.self.now c.install_merge.new.self (passed_on c.from_residual.result why c.from_residual.ensures.1) c.in_err-install_merge-in-Ok-Ready.ensures.stays
+
+pub returns-in-Err-clause-stays : goal.returns-in-Err-clause-stays
+returns-in-Err-clause-stays g c = refused_slice c.refuse.result c.args.self.now c.refuse.new.self c.requires.running c.refuse.ensures.rest

@@ -12,6 +12,7 @@ use Rattle.store_core.specs.StoreValue.{IsConsistent, StoreValue}
 use Rattle.store_core.specs.Represents.{Represents}
 use Rattle.store_core.specs.declared.error.StoreError.{StoreError}
 use Rattle.store_core.proofs.FlushAnswers.{passed_on, wanted_room}
+use Rattle.store_core.proofs.Stays.{flush_stays, room_taken, stopped_stays}
 use Rattle.store_core.proofs.Writing.{flush_failed, flush_then, need_fits, need_over, never, tied_with, whole_with, wrote_as, wrote_logged}
 use Rattle.store_core.proofs.store.Store.write.Goals as goal
 
@@ -84,3 +85,24 @@ returns-clause-moves g c =
     subst (λ (k : StoreValue). WriteMoves 0 (4096 * k.manifest.version.pages) old new) c.self.view_is
     (moves_then 0 (4096 * c.self.inside.version.version.pages) old flushed_at new c.flush_memory.ensures.moves
     (subst (λ (n : ℕ). WriteMoves 0 (4096 * n) flushed_at new) c.flush_memory.ensures.pages c.append-2.ensures.moves))
+
+-- ---- what a refusal leaves
+
+pub returns-in_err-entry-clause-stays : goal.returns-in_err-entry-clause-stays
+returns-in_err-entry-clause-stays g c =
+    room_taken c.from_residual.result _ c.args.self.now c.reserve_for.new.self c.self.view_is c.reserve_for.ensures.kept
+
+pub returns-then-fits-clause-stays : goal.returns-then-fits-clause-stays
+returns-then-fits-clause-stays g c =
+    stopped_stays c.append.result (g.D.Disk.world c.args.disk.now) (g.D.Disk.world c.append.new.disk) c.args.self.now c.append.new.self c.append.ensures.failure
+
+pub returns-in_err-flush_memory-clause-stays : goal.returns-in_err-flush_memory-clause-stays
+returns-in_err-flush_memory-clause-stays g c =
+    let result = c.from_residual-in_err-flush_memory.result in
+    let why = c.in_err-flush_memory.field-0.0 in
+    flush_stays result why _ c.args.self.now c.flush_memory.new.self c.reserve_for.new.self (passed_on result why c.from_residual-in_err-flush_memory.ensures.1) c.self.view_is c.reserve_for.ensures.kept
+    c.in_err-flush_memory.ensures.stays
+
+pub returns-clause-stays : goal.returns-clause-stays
+returns-clause-stays g c =
+    stopped_stays c.append-2.result (g.D.Disk.world c.flush_memory.new.disk) (g.D.Disk.world c.append-2.new.disk) c.args.self.now c.append-2.new.self c.append-2.ensures.failure
