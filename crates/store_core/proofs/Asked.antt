@@ -59,6 +59,11 @@ pub no_memory : {X : Type 0} (f : X → Option Bytes) (found : Option X) (some :
     → some ≡ false → entries ≡ memory s → lookup (memory s) key ≡ None
 no_memory f found some entries s key said is none same = ap (λ (es : List Entry). lookup es key) (sym same) ∙ sym said ∙ ap (option_map f) (none_of found (sym is ∙ none))
 
+-- the memory of a store says nothing of it
+pub unsaid : {X : Type 0} (f : X → Option Bytes) (found : Option X) (some : Bool) (entries : List Entry) (store : StoreValue) (key : Bytes) → option_map f found ≡ lookup entries key → some ≡ is_some found
+    → some ≡ false → entries ≡ store.memory.entries → lookup store.memory.entries key ≡ None
+unsaid f found some entries store key said is none same = ap (λ (es : List Entry). lookup es key) (sym same) ∙ sym said ∙ ap (option_map f) (none_of found (sym is ∙ none))
+
 -- what was written over all of a buffer
 pub written_whole : (n : ℕ) (bytes rest : Bytes) → length bytes ≡ n → take n (bytes ++ rest) ≡ bytes
 written_whole n bytes rest is = ap (λ (k : ℕ). take k (bytes ++ rest)) (sym is) ∙ take-append_seam bytes rest

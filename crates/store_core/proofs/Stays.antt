@@ -1,5 +1,5 @@
 -- What is refused leaves the store as it was.
-use Rattle.std.proofs.Common.{◌≡◌, ◌∙◌, Bool, false, List, refl, sym, ap, subst}
+use Rattle.std.proofs.Common.{◌≡◌, ◌≢◌, ◌⊎◌, inl, inr, ◌∙◌, Bool, false, List, [], refl, sym, ap, subst}
 use Rattle.std.specs.Prelude.{IfErr, Option, None, Result, Ok, Err}
 use Rattle.disk_trait.specs.World.{World}
 use Rattle.entry_model.specs.Entries.{Entry}
@@ -72,6 +72,11 @@ with_merge before after is =
 pub dropped_stays : {T : Type 0} (r : Result T StoreError) (before between after : StoreValue) → between ≡ record before { job = None } → Stays r between after → Stays r (record before { job = after.job }) after
 dropped_stays (Ok done) before between after is stays = tt
 dropped_stays (Err why) before between after is stays = λ runs. with_merge (record before { job = None }) after (subst (λ (k : StoreValue). IsAsItWas k after) is (stays runs))
+
+-- it held something before that, too
+pub holds_some : (before between : StoreValue) → between ≡ record before { job = None } → (between.memory.entries ≢ []) ⊎ (between.tables ≢ []) → before.memory.entries ≡ [] → before.tables ≡ [] → ⊥
+holds_some before between is (inl some) none no_tables = some (ap (λ (k : StoreValue). k.memory.entries) is ∙ none)
+holds_some before between is (inr some) none no_tables = some (ap (λ (k : StoreValue). k.tables) is ∙ no_tables)
 
 -- ---- a merge slice
 

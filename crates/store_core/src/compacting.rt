@@ -16,7 +16,7 @@ ghost use Rattle.store_core.specs.Compacting.{AreAllMade, AreCompact, FailsSo, I
 ghost use Rattle.store_core.specs.Faults.{of_job_fault};
 ghost use Rattle.store_core.specs.StoreValue.{rows_of};
 ghost use Rattle.store_core.specs.Scans.{IsScanShown};
-ghost use Rattle.store_core.specs.Staying.{Stays};
+ghost use Rattle.store_core.specs.Staying.{DoesNothing, Stays};
 ghost use Rattle.store_core.specs.Tending.{SomeMoves};
 ghost use Rattle.store_core.specs.Represents.{Represents, RepresentsOn};
 ghost use Rattle.table_model.specs.Tables.{filter_bytes_of};
@@ -188,6 +188,7 @@ impl<F: RangeFilter> Store<F> {
         ensures shown { IsTrue D.tells → IfErr result (IsScanShown self.old.tables (D.world disk.new).seen.held) }
         ensures dropped { self.old.stopped ≡ false → self.new.job ≡ None }
         ensures stays { Stays result (record self.old { job = self.new.job }) self.new }
+        ensures nothing { self.old.stopped ≡ false → self.old.memory.entries ≡ [] → self.old.tables ≡ [] → DoesNothing result (record self.old { job = None }) self.new (D.world disk.old) (D.world disk.new) }
         ensures stopped { self.new.stopped ≡ (self.old.stopped || stopped_by result) }
         ensures no_call { self.old.stopped ≡ true → ReadMoves 0 (D.world disk.old) (D.world disk.new) }
         ensures moves { SomeMoves (page_bytes * self.old.manifest.version.pages) (D.world disk.old) (D.world disk.new) }

@@ -21,7 +21,7 @@ ghost use Rattle.store_core.specs.Flushing.{FlushedTo, IsFlushFault, IsNoPlace, 
 ghost use Rattle.store_core.specs.StoreValue.{IsConsistent, StoreValue};
 ghost use Rattle.store_core.specs.Running.{extents_with, outputs_in};
 ghost use Rattle.store_core.specs.Represents.{Represents};
-ghost use Rattle.store_core.specs.Staying.{Stays};
+ghost use Rattle.store_core.specs.Staying.{DoesNothing, Stays};
 ghost use Rattle.table_model.specs.Tables.{filter_bytes_of, table_pages};
 
 use crate::compacting::stops_store;
@@ -224,6 +224,7 @@ impl<F: RangeFilter> Store<F> {
             → AnswersRequest F.spelling (filter_bytes_of F.spelling F.built_cutoff) s flush_line (told_change result) self.new (D.world disk.old) (D.world disk.new) }
         ensures refused { MatchResult result (λ _. IsTried self.old.stopped None) (IsWriteRefusal self.old.stopped None (D.world disk.old) (D.world disk.new)) }
         ensures stays { Stays result self.old self.new }
+        ensures nothing { self.old.stopped ≡ false → self.old.memory.entries ≡ [] → DoesNothing result self.old self.new (D.world disk.old) (D.world disk.new) }
         ensures stopped { self.new.stopped ≡ (self.old.stopped || stopped_by result) }
         ensures no_call { self.old.stopped ≡ true → ReadMoves 0 (D.world disk.old) (D.world disk.new) }
         ensures moves { WriteMoves 0 (page_bytes * self.old.manifest.version.pages) (D.world disk.old) (D.world disk.new) }
@@ -241,6 +242,7 @@ impl<F: RangeFilter> Store<F> {
             → WroteEntry F.spelling (filter_bytes_of F.spelling F.built_cutoff) s (flushed (filter_bytes_of F.spelling F.built_cutoff) s) result self.new (D.world disk.old) (D.world disk.new) }
         ensures refused { IfErr result (IsWriteRefusal false None (D.world disk.old) (D.world disk.new)) }
         ensures stays { Stays result self.old self.new }
+        ensures nothing { self.old.memory.entries ≡ [] → DoesNothing result self.old self.new (D.world disk.old) (D.world disk.new) }
         ensures stopped { self.new.stopped ≡ stopped_by result }
         ensures some { OnErr result (self.old.memory.entries ≡ [] → ⊥) }
         ensures empty { OnOk result (self.new.memory.entries ≡ []) }

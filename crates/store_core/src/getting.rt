@@ -1,5 +1,5 @@
 //! What the store says of a key.
-ghost use Rattle.std.specs.Prelude.{◌≡◌, ◌≤◌, ◌<◌, ◌+◌, ℕ, List, length, take, is_some, Some, None, IsTrue, IfOk, IfErr, IfSome, OnErr};
+ghost use Rattle.std.specs.Prelude.{◌≡◌, ◌≢◌, ◌≤◌, ◌<◌, ◌+◌, ℕ, List, length, take, is_some, Some, None, IsTrue, IfOk, IfErr, IfSome, OnErr};
 ghost use Rattle.std.specs.Option.{option_map};
 ghost use Rattle.std.specs.Borrow.{sem};
 ghost use Rattle.block_cache.specs.Kept.{kept_of};
@@ -8,6 +8,7 @@ ghost use Rattle.block_model.specs.Laws.{joined};
 ghost use Rattle.disk_trait.specs.World.{ReadMoves};
 ghost use Rattle.entry_model.specs.Entries.{Entry, live};
 ghost use Rattle.entry_model.specs.Newest.{lookup};
+ghost use Rattle.line_model.specs.Limits.{key_limit};
 ghost use Rattle.map_model.specs.SortedMap.{Bytes, get};
 ghost use Rattle.state_model.specs.Bounds.{searched};
 ghost use Rattle.state_model.specs.State.{State};
@@ -266,6 +267,8 @@ impl<F: RangeFilter> Store<F> {
         ensures answer { (s : State) → IsTrue D.tells → Represents F.spelling (filter_bytes_of F.spelling F.built_cutoff) self.old s (D.world disk.old)
             → IfOk result (λ found. option_map (λ v. v.now) found ≡ get (state_map s) key.now) }
         ensures gets { GetsKey F.spelling (filter_bytes_of F.spelling F.built_cutoff) D.tells self.old key.now result (D.world disk.old) (D.world disk.new) }
+        ensures limited { key_limit key.now ≢ None → ReadMoves 0 (D.world disk.old) (D.world disk.new) }
+        ensures in_memory { lookup self.old.memory.entries key.now ≢ None → ReadMoves 0 (D.world disk.old) (D.world disk.new) }
     {
         let place = self.look_for(disk, key)?;
         Ok(self.value_at(place, key))
@@ -278,6 +281,8 @@ impl<F: RangeFilter> Store<F> {
         ensures answer { (s : State) → IsTrue D.tells → Represents F.spelling (filter_bytes_of F.spelling F.built_cutoff) self.old s (D.world disk.old)
             → IfOk result (λ place. said_at place self.new key.now ≡ view s key.now) }
         ensures gets { GetsKey F.spelling (filter_bytes_of F.spelling F.built_cutoff) D.tells self.old key.now result (D.world disk.old) (D.world disk.new) }
+        ensures limited { key_limit key.now ≢ None → ReadMoves 0 (D.world disk.old) (D.world disk.new) }
+        ensures in_memory { lookup self.old.memory.entries key.now ≢ None → ReadMoves 0 (D.world disk.old) (D.world disk.new) }
     {
         if self.stopped {
             return Err(StoreError::Stopped);

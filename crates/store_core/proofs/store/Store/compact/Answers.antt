@@ -1,9 +1,11 @@
 use Rattle.std.proofs.Common.{◌∙◌, refl, sym, ap, subst}
+use Rattle.disk_trait.proofs.Calls.{reads_none}
 use Rattle.table_model.specs.Tables.{filter_bytes_of}
 use Rattle.store_core.specs.StoreValue.{IsConsistent, StoreValue}
 use Rattle.store_core.specs.declared.store.Store.TheInside.{Inside}
 use Rattle.store_core.proofs.CompactBegins.{answered_empty, answered_last, is_at_last, is_below_last, tied_without}
-use Rattle.store_core.proofs.Stays.{dropped_stays, without_merge}
+use Rattle.store_core.proofs.Stays.{dropped_stays, holds_some, without_merge}
+use Rattle.store_core.proofs.Writing.{never}
 use Rattle.store_core.proofs.store.Store.compact.Goals as goal
 
 pub returns-then-holds_nothing-clause-answered : goal.returns-then-holds_nothing-clause-answered
@@ -41,3 +43,19 @@ returns-then-self-2-clause-stays g c runs = without_merge c.args.self.now c.drop
 
 pub returns-clause-stays : goal.returns-clause-stays
 returns-clause-stays g c = dropped_stays c.compact_all.result c.args.self.now c.drop_job.new.self c.compact_all.new.self c.drop_job.ensures c.compact_all.ensures.stays
+
+-- ---- where the store holds nothing
+
+pub returns-then-self-clause-nothing : goal.returns-then-self-clause-nothing
+returns-then-self-clause-nothing g c runs none no_tables = absurd (never c.args.self.now.stopped (sym (ap (λ (k : StoreValue). k.stopped) c.self.view_is) ∙ c.if-self.true) runs)
+
+pub returns-then-holds_nothing-clause-nothing : goal.returns-then-holds_nothing-clause-nothing
+returns-then-holds_nothing-clause-nothing g c runs none no_tables = record { done = refl; same = c.drop_job.ensures; no_call = reads_none 0 (g.D.Disk.world c.args.disk.now) }
+
+pub returns-then-self-2-clause-nothing : goal.returns-then-self-2-clause-nothing
+returns-then-self-2-clause-nothing g c runs none no_tables =
+    absurd (holds_some c.args.self.now c.drop_job.new.self c.drop_job.ensures (c.holds_nothing.ensures.some c.if-holds_nothing.false) none no_tables)
+
+pub returns-clause-nothing : goal.returns-clause-nothing
+returns-clause-nothing g c runs none no_tables =
+    absurd (holds_some c.args.self.now c.drop_job.new.self c.drop_job.ensures (c.holds_nothing.ensures.some c.if-holds_nothing.false) none no_tables)

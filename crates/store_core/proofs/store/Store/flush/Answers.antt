@@ -1,8 +1,10 @@
-use Rattle.std.proofs.Common.{◌∙◌, refl}
+use Rattle.std.proofs.Common.{◌∙◌, refl, sym, ap}
 use Rattle.line_model.specs.Requests as request
 use Rattle.state_model.specs.Changes.{flushed}
 use Rattle.table_model.specs.Tables.{filter_bytes_of}
+use Rattle.store_core.specs.StoreValue.{StoreValue}
 use Rattle.store_core.proofs.Answering.{is_left, is_made, on_err, wrote_answers}
+use Rattle.store_core.proofs.Writing.{never}
 use Rattle.store_core.proofs.store.Store.flush.Goals as goal
 
 pub returns-clause-answered : goal.returns-clause-answered
@@ -14,3 +16,9 @@ returns-clause-answered g c s tells runs tied =
     (λ failed none. on_err _ c.flush_memory.result c.flush_memory.ensures.some failed (tied.memory ∙ none))
     (λ failed to made. ((λ none. on_err _ c.flush_memory.result c.flush_memory.ensures.some failed (tied.memory ∙ none)), is_made (flushed bytes s) to made))
     (is_left spelling bytes c.args.self.now s old tied) c.flush_memory.ensures.stopped c.flush_memory.ensures.refused (c.flush_memory.ensures.wrote s tells tied)
+
+pub returns-then-self-clause-nothing : goal.returns-then-self-clause-nothing
+returns-then-self-clause-nothing g c runs none = absurd (never c.args.self.now.stopped (sym (ap (λ (k : StoreValue). k.stopped) c.self.view_is) ∙ c.if-self.true) runs)
+
+pub returns-clause-nothing : goal.returns-clause-nothing
+returns-clause-nothing g c runs none = c.flush_memory.ensures.nothing none

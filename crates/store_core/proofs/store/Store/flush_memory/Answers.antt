@@ -1,5 +1,6 @@
 use Rattle.std.proofs.Common.{◌≡◌, ◌≢◌, List, [], ◌∷◌, ◌∙◌, refl, sym, ap, subst, arith}
 use Rattle.std.specs.Prelude.{Result}
+use Rattle.disk_trait.proofs.Calls.{reads_none}
 use Rattle.byte_fields.specs.declared.parts.Row.{Row}
 use Rattle.extent_model.specs.Extents.{AreLaid}
 use Rattle.state_model.specs.Changes.{flushed}
@@ -138,3 +139,24 @@ returns-in_err-reserve-clause-stays g c =
 pub returns-in-Err-clause-stays : goal.returns-in-Err-clause-stays
 returns-in-Err-clause-stays g c runs =
     stopped_or_stays c.from-why.result _ c.args.self.now _ c.reserve.new.self.tables c.self.view_is c.requires.running c.reserve.ensures.tables c.stops_store-self-inside.ensures runs
+
+-- ---- where nothing is in memory
+
+pub returns-then-is_empty-clause-nothing : goal.returns-then-is_empty-clause-nothing
+returns-then-is_empty-clause-nothing g c none = record { done = refl; same = refl; no_call = reads_none 0 (g.D.Disk.world c.args.disk.now) }
+
+pub returns-in_err-plan-clause-nothing : goal.returns-in_err-plan-clause-nothing
+returns-in_err-plan-clause-nothing g c none =
+    absurd (never c.is_empty.result (c.is_empty.ensures.1 (subst (λ (k : StoreValue). k.memory.entries ≡ []) (sym c.self.view_is) none)) c.if-is_empty.false)
+
+pub returns-in_err-reserve-clause-nothing : goal.returns-in_err-reserve-clause-nothing
+returns-in_err-reserve-clause-nothing g c none =
+    absurd (never c.is_empty.result (c.is_empty.ensures.1 (subst (λ (k : StoreValue). k.memory.entries ≡ []) (sym c.self.view_is) none)) c.if-is_empty.false)
+
+pub returns-in-Ok-clause-nothing : goal.returns-in-Ok-clause-nothing
+returns-in-Ok-clause-nothing g c none =
+    absurd (never c.is_empty.result (c.is_empty.ensures.1 (subst (λ (k : StoreValue). k.memory.entries ≡ []) (sym c.self.view_is) none)) c.if-is_empty.false)
+
+pub returns-in-Err-clause-nothing : goal.returns-in-Err-clause-nothing
+returns-in-Err-clause-nothing g c none =
+    absurd (never c.is_empty.result (c.is_empty.ensures.1 (subst (λ (k : StoreValue). k.memory.entries ≡ []) (sym c.self.view_is) none)) c.if-is_empty.false)

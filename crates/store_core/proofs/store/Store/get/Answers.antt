@@ -20,6 +20,8 @@ returns-in_err-place g c = (
       no_call = c.look_for.ensures.gets.no_call;
       moves = c.look_for.ensures.gets.moves;
     };
+    limited = c.look_for.ensures.limited;
+    in_memory = c.look_for.ensures.in_memory;
   },
 )
 
@@ -39,5 +41,7 @@ returns g c = (
       no_call = c.look_for.ensures.gets.no_call;
       moves = c.look_for.ensures.gets.moves;
     };
+    limited = c.look_for.ensures.limited;
+    in_memory = c.look_for.ensures.in_memory;
   },
 )

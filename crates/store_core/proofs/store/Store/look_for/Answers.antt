@@ -4,7 +4,7 @@ use Rattle.store_core.specs.StoreValue.{StoreValue}
 use Rattle.store_core.specs.Represents.{Represents}
 use Rattle.table_file.specs.Opened.{Opened}
 use Rattle.table_model.specs.Tables.{filter_bytes_of}
-use Rattle.store_core.proofs.Asked.{found_view, gets_found, gets_refused, held_of, no_memory, tied_asked, true_of, whole_asked, written_whole}
+use Rattle.store_core.proofs.Asked.{found_view, gets_found, gets_refused, held_of, no_memory, tied_asked, true_of, unsaid, whole_asked, written_whole}
 use Rattle.store_core.proofs.store.Store.look_for.Goals as goal
 
 pub invariant_of-self-2 : goal.invariant_of-self-2
@@ -105,3 +105,19 @@ returns-clause-answer g c s tells tied =
     found_view c.place_of.result _ s key c.in_ok-found.found c.look_and_keep.new.buffer c.look_and_keep.new.blocks.kept c.place_of.ensures.said
     (written_whole c.self.inside.buffer.len c.look_and_keep.new.buffer _ (search rules)) refl none
     (c.in_ok-found.ensures.answer s.tables tells held are)
+
+-- ---- no block is read
+
+pub returns-in_err-found-clause-limited : goal.returns-in_err-found-clause-limited
+returns-in_err-found-clause-limited g c broken = absurd (broken c.in_ok-check_key.ensures)
+
+pub returns-in_err-found-clause-in_memory : goal.returns-in_err-found-clause-in_memory
+returns-in_err-found-clause-in_memory g c there = absurd (there
+    (unsaid _ c.get.result c.is_some.result c.self.inside.memory.entries c.args.self.now c.args.key.now c.get.ensures c.is_some.ensures c.if-is_some.false (ap (λ (k : StoreValue). k.memory.entries) c.self.view_is)))
+
+pub returns-clause-limited : goal.returns-clause-limited
+returns-clause-limited g c broken = absurd (broken c.in_ok-check_key.ensures)
+
+pub returns-clause-in_memory : goal.returns-clause-in_memory
+returns-clause-in_memory g c there = absurd (there
+    (unsaid _ c.get.result c.is_some.result c.self.inside.memory.entries c.args.self.now c.args.key.now c.get.ensures c.is_some.ensures c.if-is_some.false (ap (λ (k : StoreValue). k.memory.entries) c.self.view_is)))
