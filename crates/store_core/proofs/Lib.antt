@@ -39,6 +39,7 @@ pub mod PlannedRows
 pub mod Plans
 pub mod PlansMade
 pub mod ReadBounds
+pub mod Refusals
 pub mod Resets
 pub mod Runs
 pub mod ScanBounds

@@ -34,6 +34,7 @@ pub mod Lends
 pub mod Opening
 pub mod Formatting
 pub mod Flushing
+pub mod Refusing
 pub mod Installing
 pub mod Tending
 pub mod Telling

@@ -14,6 +14,7 @@ ghost use Rattle.state_model.specs.View.{state_map};
 ghost use Rattle.store_core.specs.Answers.{AnswersRequest, IsTried, stopped_by, stops, told_change};
 ghost use Rattle.store_core.specs.Compacting.{AreAllMade, AreCompact, FailsSo, IsCompactFault, IsCompactRefusal, IsHeldBy, IsInstalledWhole, IsWritingCause, IsWritingFault, StandAlone, compacted_manifest};
 ghost use Rattle.store_core.specs.Faults.{of_job_fault};
+ghost use Rattle.store_core.specs.Refusing.{IsCompactDue};
 ghost use Rattle.store_core.specs.StoreValue.{rows_of};
 ghost use Rattle.store_core.specs.Scans.{IsScanShown};
 ghost use Rattle.store_core.specs.Staying.{DoesNothing, Stays};
@@ -187,6 +188,7 @@ impl<F: RangeFilter> Store<F> {
         ensures refused { MatchResult result (λ _. IsTried self.old.stopped None) (IsCompactRefusal self.old.stopped self.old.manifest.version.epoch (D.world disk.old) (D.world disk.new)) }
         ensures shown { IsTrue D.tells → IfErr result (IsScanShown self.old.tables (D.world disk.new).seen.held) }
         ensures dropped { self.old.stopped ≡ false → self.new.job ≡ None }
+        ensures due { IfErr result (IsCompactDue self.old (D.world disk.old) (D.world disk.new)) }
         ensures stays { Stays result (record self.old { job = self.new.job }) self.new }
         ensures nothing { self.old.stopped ≡ false → self.old.memory.entries ≡ [] → self.old.tables ≡ [] → DoesNothing result (record self.old { job = None }) self.new (D.world disk.old) (D.world disk.new) }
         ensures stopped { self.new.stopped ≡ (self.old.stopped || stopped_by result) }

@@ -2,7 +2,7 @@
 ghost use Rattle.std.specs.Prelude.{◌≡◌, ◌≤◌, ◌+◌, ◌*◌, ◌||◌, Bool, true, false, Some, None, IsTrue, IfErr, OnOk, MatchResult};
 ghost use Rattle.block_model.specs.Pages.{page_bytes};
 ghost use Rattle.disk_trait.specs.World.{ReadMoves, WriteMoves};
-ghost use Rattle.entry_model.specs.Entries.{IsEntry, entry_of, need};
+ghost use Rattle.entry_model.specs.Entries.{IsEntry, del_entry, entry_of, need, put_entry};
 ghost use Rattle.gate_log.specs.Values.{value_of};
 ghost use Rattle.key_base.specs.Limits.{log_bytes};
 ghost use Rattle.line_model.specs.Limits.{limit_of};
@@ -10,6 +10,7 @@ ghost use Rattle.line_model.specs.Requests.{Del, Put};
 ghost use Rattle.state_model.specs.Changes.{logged, written};
 ghost use Rattle.state_model.specs.State.{State};
 ghost use Rattle.store_core.specs.Answers.{AnswersRequest, IsTried, IsWriteFailure, IsWriteRefusal, MovesTo, WroteEntry, stopped_by, told_change};
+ghost use Rattle.store_core.specs.Refusing.{IsWriteDue};
 ghost use Rattle.store_core.specs.Represents.{Represents};
 ghost use Rattle.store_core.specs.Staying.{Stays};
 ghost use Rattle.table_model.specs.Tables.{filter_bytes_of};
@@ -32,6 +33,7 @@ impl<F: RangeFilter> Store<F> {
         ensures answered { (s : State) → IsTrue D.tells → self.old.stopped ≡ false → Represents F.spelling (filter_bytes_of F.spelling F.built_cutoff) self.old s (D.world disk.old)
             → AnswersRequest F.spelling (filter_bytes_of F.spelling F.built_cutoff) s (Put key.now value.now) (told_change result) self.new (D.world disk.old) (D.world disk.new) }
         ensures refused { MatchResult result (λ _. IsTried self.old.stopped (limit_of (Put key.now value.now))) (IsWriteRefusal self.old.stopped (limit_of (Put key.now value.now)) (D.world disk.old) (D.world disk.new)) }
+        ensures due { IfErr result (IsWriteDue (filter_bytes_of F.spelling F.built_cutoff) self.old (put_entry key.now value.now) (D.world disk.old) (D.world disk.new)) }
         ensures stays { Stays result self.old self.new }
         ensures stopped { self.new.stopped ≡ (self.old.stopped || stopped_by result) }
         ensures no_call { self.old.stopped ≡ true → ReadMoves 0 (D.world disk.old) (D.world disk.new) }
@@ -50,6 +52,7 @@ impl<F: RangeFilter> Store<F> {
         ensures answered { (s : State) → IsTrue D.tells → self.old.stopped ≡ false → Represents F.spelling (filter_bytes_of F.spelling F.built_cutoff) self.old s (D.world disk.old)
             → AnswersRequest F.spelling (filter_bytes_of F.spelling F.built_cutoff) s (Del key.now) (told_change result) self.new (D.world disk.old) (D.world disk.new) }
         ensures refused { MatchResult result (λ _. IsTried self.old.stopped (limit_of (Del key.now))) (IsWriteRefusal self.old.stopped (limit_of (Del key.now)) (D.world disk.old) (D.world disk.new)) }
+        ensures due { IfErr result (IsWriteDue (filter_bytes_of F.spelling F.built_cutoff) self.old (del_entry key.now) (D.world disk.old) (D.world disk.new)) }
         ensures stays { Stays result self.old self.new }
         ensures stopped { self.new.stopped ≡ (self.old.stopped || stopped_by result) }
         ensures no_call { self.old.stopped ≡ true → ReadMoves 0 (D.world disk.old) (D.world disk.new) }
@@ -74,6 +77,7 @@ impl<F: RangeFilter> Store<F> {
         ensures wrote { (s : State) → IsTrue D.tells → Represents F.spelling (filter_bytes_of F.spelling F.built_cutoff) self.old s (D.world disk.old)
             → WroteEntry F.spelling (filter_bytes_of F.spelling F.built_cutoff) s (written (filter_bytes_of F.spelling F.built_cutoff) s (entry_of key.now (value_of value.entry))) result self.new (D.world disk.old) (D.world disk.new) }
         ensures refused { IfErr result (IsWriteRefusal false None (D.world disk.old) (D.world disk.new)) }
+        ensures due { IfErr result (IsWriteDue (filter_bytes_of F.spelling F.built_cutoff) self.old (entry_of key.now (value_of value.entry)) (D.world disk.old) (D.world disk.new)) }
         ensures stays { Stays result self.old self.new }
         ensures stopped { self.new.stopped ≡ stopped_by result }
         ensures moves { WriteMoves 0 (page_bytes * self.old.manifest.version.pages) (D.world disk.old) (D.world disk.new) }

@@ -1,9 +1,10 @@
-use Rattle.std.proofs.Common.{◌∙◌, refl, sym, ap, subst}
+use Rattle.std.proofs.Common.{◌≢◌, ◌⊎◌, ◌∙◌, [], refl, sym, ap, subst}
 use Rattle.disk_trait.proofs.Calls.{reads_none}
 use Rattle.table_model.specs.Tables.{filter_bytes_of}
 use Rattle.store_core.specs.StoreValue.{IsConsistent, StoreValue}
 use Rattle.store_core.specs.declared.store.Store.TheInside.{Inside}
 use Rattle.store_core.proofs.CompactBegins.{answered_empty, answered_last, is_at_last, is_below_last, tied_without}
+use Rattle.store_core.proofs.Refusals.{fault_compacts}
 use Rattle.store_core.proofs.Stays.{dropped_stays, holds_some, without_merge}
 use Rattle.store_core.proofs.Writing.{never}
 use Rattle.store_core.proofs.store.Store.compact.Goals as goal
@@ -59,3 +60,14 @@ returns-then-self-2-clause-nothing g c runs none no_tables =
 pub returns-clause-nothing : goal.returns-clause-nothing
 returns-clause-nothing g c runs none no_tables =
     absurd (holds_some c.args.self.now c.drop_job.new.self c.drop_job.ensures (c.holds_nothing.ensures.some c.if-holds_nothing.false) none no_tables)
+
+-- ---- when a limit refuses it
+
+pub returns-then-self-2-clause-due : goal.returns-then-self-2-clause-due
+returns-then-self-2-clause-due g c = (
+  subst (λ (k : StoreValue). (k.memory.entries ≢ []) ⊎ (k.tables ≢ [])) c.drop_job.ensures (c.holds_nothing.ensures.some c.if-holds_nothing.false),
+  reads_none 0 (g.D.Disk.world c.args.disk.now),
+)
+
+pub returns-clause-due : goal.returns-clause-due
+returns-clause-due g c = fault_compacts c.compact_all.result c.args.self.now (g.D.Disk.world c.args.disk.now) (g.D.Disk.world c.compact_all.new.disk) c.compact_all.ensures.fault

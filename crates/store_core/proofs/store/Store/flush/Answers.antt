@@ -22,3 +22,6 @@ returns-then-self-clause-nothing g c runs none = absurd (never c.args.self.now.s
 
 pub returns-clause-nothing : goal.returns-clause-nothing
 returns-clause-nothing g c runs none = c.flush_memory.ensures.nothing none
+
+pub returns-clause-due : goal.returns-clause-due
+returns-clause-due g c = c.flush_memory.ensures.due

@@ -1,5 +1,5 @@
 use Rattle.std.proofs.Common.{◌≡◌, ◌≢◌, List, [], ◌∷◌, ◌∙◌, refl, sym, ap, subst, arith}
-use Rattle.std.specs.Prelude.{Result}
+use Rattle.std.specs.Prelude.{IfErr, Result}
 use Rattle.disk_trait.proofs.Calls.{reads_none}
 use Rattle.byte_fields.specs.declared.parts.Row.{Row}
 use Rattle.extent_model.specs.Extents.{AreLaid}
@@ -10,11 +10,14 @@ use Rattle.table_model.specs.Tables.{filter_bytes_of}
 use Rattle.store_core.specs.Answers.{WroteEntry}
 use Rattle.store_core.specs.Flushing.{IsPlan, IsPlanRefusal}
 use Rattle.store_core.specs.StoreValue.{IsConsistent, StoreValue}
+use Rattle.store_core.specs.Refusing.{IsFlushDue}
 use Rattle.store_core.specs.Running.{extents_with, outputs_in}
 use Rattle.store_core.specs.Represents.{Represents}
 use Rattle.store_core.specs.declared.error.StoreError.{StoreError}
+use Rattle.store_core.specs.declared.error.StoreError.TheVariants as error
 use Rattle.store_core.proofs.FlushAnswers.{flush_done, flush_failed, nothing_to_flush, passed_on, plan_of_memory, plan_refused, row_again, row_within, wanted_with}
 use Rattle.store_core.proofs.Plans.{row_free}
+use Rattle.store_core.proofs.Refusals.{fault_due, plan_due}
 use Rattle.store_core.proofs.Stays.{stays_at, stopped_or_stays, tables_stay}
 use Rattle.store_core.proofs.Wholes.{begun_where_none, flushed_whole, laid_with, memory_table, whole_stopped}
 use Rattle.store_core.proofs.Writing.{never}
@@ -160,3 +163,28 @@ returns-in-Ok-clause-nothing g c none =
 pub returns-in-Err-clause-nothing : goal.returns-in-Err-clause-nothing
 returns-in-Err-clause-nothing g c none =
     absurd (never c.is_empty.result (c.is_empty.ensures.1 (subst (λ (k : StoreValue). k.memory.entries ≡ []) (sym c.self.view_is) none)) c.if-is_empty.false)
+
+-- ---- when a limit or want of room refuses it
+
+pub returns-in_err-plan-clause-due : goal.returns-in_err-plan-clause-due
+returns-in_err-plan-clause-due g c =
+    let bytes = filter_bytes_of g.F.RangeFilter.spelling g.F.RangeFilter.built_cutoff in
+    let store = c.args.self.now in
+    let w = g.D.Disk.world c.args.disk.now in
+    let x = c.in_err-plan.field-0.0 in
+    let v = c.self.inside.version.version in
+    let here = subst (λ (rs : List Row). IsPlanRefusal bytes v rs c.self.inside.memory.entries x) c.outputs_of.ensures c.in_err-plan.ensures.refused in
+    let why = subst (λ (k : StoreValue). IsPlanRefusal bytes k.manifest.version (outputs_in k.job) k.memory.entries x) c.self.view_is here in
+    let some = subst (λ (k : StoreValue). k.memory.entries ≢ []) c.self.view_is (λ none. never c.is_empty.result (c.is_empty.ensures.1 none) c.if-is_empty.false) in
+    subst (λ (r : Result (Unit {0}) StoreError). IfErr r (IsFlushDue bytes store w w)) (passed_on c.from_residual.result x c.from_residual.ensures.1) (plan_due bytes store x w some why)
+
+pub returns-in_err-reserve-clause-due : goal.returns-in_err-reserve-clause-due
+returns-in_err-reserve-clause-due g c =
+    let bytes = filter_bytes_of g.F.RangeFilter.spelling g.F.RangeFilter.built_cutoff in
+    let w = g.D.Disk.world c.args.disk.now in
+    subst (λ (r : Result (Unit {0}) StoreError). IfErr r (IsFlushDue bytes c.args.self.now w w)) (passed_on c.from_residual-in_err-reserve.result error.Memory c.from_residual-in_err-reserve.ensures.1) tt
+
+pub returns-in-Err-clause-due : goal.returns-in-Err-clause-due
+returns-in-Err-clause-due g c =
+    fault_due (filter_bytes_of g.F.RangeFilter.spelling g.F.RangeFilter.built_cutoff) c.args.self.now c.in-Err.fault c.from-why.result (g.D.Disk.world c.args.disk.now) (g.D.Disk.world c.write_plan.new.disk)
+    c.from-why.ensures c.in-Err.ensures.cause

@@ -1,16 +1,19 @@
 use Rattle.std.proofs.Common.{refl, subst}
-use Rattle.std.specs.Prelude.{Result, Some}
+use Rattle.std.specs.Option.{option_or}
+use Rattle.std.specs.Prelude.{IfErr, Result, Some}
 use Rattle.entry_model.specs.Entries.{put_entry}
 use Rattle.line_model.specs.Limits.{key_limit, value_limit}
 use Rattle.line_model.specs.Requests.{Put}
 use Rattle.state_model.specs.Changes.{written}
 use Rattle.table_model.specs.Tables.{filter_bytes_of}
 use Rattle.store_core.specs.Answers.{AnswersRequest, told_change}
+use Rattle.store_core.specs.Refusing.{IsWriteDue}
 use Rattle.store_core.specs.StoreValue.{IsConsistent}
 use Rattle.store_core.specs.declared.error.StoreError.{StoreError}
 use Rattle.store_core.proofs.Answering.{is_left, is_made, wrote_answers}
 use Rattle.store_core.proofs.FlushAnswers.{passed_on, stands_now}
-use Rattle.store_core.proofs.Limiting.{first_broken, limit_answers, none_broken, second_broken}
+use Rattle.store_core.proofs.Limiting.{first_broken, limit_answers, none_broken, of_both, of_key, second_broken}
+use Rattle.store_core.proofs.Refusals.{limit_due}
 use Rattle.store_core.proofs.Stays.{stays_at}
 use Rattle.store_core.proofs.store.Store.put.Goals as goal
 
@@ -53,3 +56,25 @@ returns-in_err-check_key-clause-stays g c = stays_at c.from_residual.result c.ar
 
 pub returns-in_err-check_value-clause-stays : goal.returns-in_err-check_value-clause-stays
 returns-in_err-check_value-clause-stays g c = stays_at c.from_residual-in_err-check_value.result c.args.self.now c.args.self.now refl
+
+pub returns-in_err-check_key-clause-due : goal.returns-in_err-check_key-clause-due
+returns-in_err-check_key-clause-due g c =
+    let bytes = filter_bytes_of g.F.RangeFilter.spelling g.F.RangeFilter.built_cutoff in
+    let w = g.D.Disk.world c.args.disk.now in
+    let e = put_entry c.args.key.now c.args.value.now in
+    let x = c.in_err-check_key.field-0.0 in
+    subst (λ (r : Result (Unit {0}) StoreError). IfErr r (IsWriteDue bytes c.args.self.now e w w)) (passed_on c.from_residual.result x c.from_residual.ensures.1)
+    (limit_due bytes c.args.self.now e (key_limit c.args.key.now) x w (of_key c.args.key.now) c.in_err-check_key.ensures)
+
+pub returns-in_err-check_value-clause-due : goal.returns-in_err-check_value-clause-due
+returns-in_err-check_value-clause-due g c =
+    let bytes = filter_bytes_of g.F.RangeFilter.spelling g.F.RangeFilter.built_cutoff in
+    let w = g.D.Disk.world c.args.disk.now in
+    let key = c.args.key.now in
+    let value = c.args.value.now in
+    let x = c.in_err-check_value.field-0.0 in
+    subst (λ (r : Result (Unit {0}) StoreError). IfErr r (IsWriteDue bytes c.args.self.now (put_entry key value) w w)) (passed_on c.from_residual-in_err-check_value.result x c.from_residual-in_err-check_value.ensures.1)
+    (limit_due bytes c.args.self.now (put_entry key value) (option_or (key_limit key) (value_limit value)) x w (of_both key value) (second_broken (key_limit key) (value_limit value) x c.in_ok-check_key.ensures c.in_err-check_value.ensures))
+
+pub returns-clause-due : goal.returns-clause-due
+returns-clause-due g c = c.write.ensures.due

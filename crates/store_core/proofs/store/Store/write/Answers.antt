@@ -1,5 +1,5 @@
 use Rattle.std.proofs.Common.{◌≡◌, ◌+◌, ◌*◌, ◌≤◌, ◌<◌, ℕ, Bool, false, ◌∙◌, refl, sym, ap, subst, arith, inl, inr}
-use Rattle.std.specs.Prelude.{Result, Err, IsTrue}
+use Rattle.std.specs.Prelude.{IfErr, Result, Err, IsTrue}
 use Rattle.disk_trait.proofs.Calls.{moves_then}
 use Rattle.disk_trait.specs.World.{WriteMoves}
 use Rattle.std.proofs.lemmas.Bool.{cases_lt}
@@ -8,10 +8,13 @@ use Rattle.gate_log.specs.Values.{value_of}
 use Rattle.state_model.specs.Changes.{written}
 use Rattle.table_model.specs.Tables.{filter_bytes_of}
 use Rattle.store_core.specs.Answers.{WroteEntry}
+use Rattle.store_core.specs.Refusing.{IsWriteDue}
 use Rattle.store_core.specs.StoreValue.{IsConsistent, StoreValue}
 use Rattle.store_core.specs.Represents.{Represents}
 use Rattle.store_core.specs.declared.error.StoreError.{StoreError}
+use Rattle.store_core.specs.declared.error.StoreError.TheVariants as error
 use Rattle.store_core.proofs.FlushAnswers.{passed_on, wanted_room}
+use Rattle.store_core.proofs.Refusals.{failure_due, flush_due}
 use Rattle.store_core.proofs.Stays.{flush_stays, room_taken, stopped_stays}
 use Rattle.store_core.proofs.Writing.{flush_failed, flush_then, need_fits, need_over, never, tied_with, whole_with, wrote_as, wrote_logged}
 use Rattle.store_core.proofs.store.Store.write.Goals as goal
@@ -106,3 +109,36 @@ returns-in_err-flush_memory-clause-stays g c =
 pub returns-clause-stays : goal.returns-clause-stays
 returns-clause-stays g c =
     stopped_stays c.append-2.result (g.D.Disk.world c.flush_memory.new.disk) (g.D.Disk.world c.append-2.new.disk) c.args.self.now c.append-2.new.self c.append-2.ensures.failure
+
+-- ---- when a limit or want of room refuses it
+
+pub returns-in_err-entry-clause-due : goal.returns-in_err-entry-clause-due
+returns-in_err-entry-clause-due g c =
+    let bytes = filter_bytes_of g.F.RangeFilter.spelling g.F.RangeFilter.built_cutoff in
+    let w = g.D.Disk.world c.args.disk.now in
+    let x = entry_of c.args.key.now (value_of c.args.value) in
+    subst (λ (r : Result (Unit {0}) StoreError). IfErr r (IsWriteDue bytes c.args.self.now x w w)) (passed_on c.from_residual.result error.Memory c.from_residual.ensures.1) tt
+
+pub returns-then-fits-clause-due : goal.returns-then-fits-clause-due
+returns-then-fits-clause-due g c =
+    let old = g.D.Disk.world c.args.disk.now in
+    let new = g.D.Disk.world c.append.new.disk in
+    failure_due (filter_bytes_of g.F.RangeFilter.spelling g.F.RangeFilter.built_cutoff) c.append.result c.args.self.now (entry_of c.args.key.now (value_of c.args.value)) old new old new c.append.ensures.failure
+
+pub returns-in_err-flush_memory-clause-due : goal.returns-in_err-flush_memory-clause-due
+returns-in_err-flush_memory-clause-due g c =
+    let bytes = filter_bytes_of g.F.RangeFilter.spelling g.F.RangeFilter.built_cutoff in
+    let old = g.D.Disk.world c.args.disk.now in
+    let new = g.D.Disk.world c.flush_memory.new.disk in
+    let x = entry_of c.args.key.now (value_of c.args.value) in
+    let why = c.in_err-flush_memory.field-0.0 in
+    let wide = subst (λ (n : ℕ). 262144 < c.self.inside.log.filled + n) c.record_need.ensures (not_within (c.self.inside.log.filled + c.record_need.result) c.fits.result c.fits.ensures.1 c.if-fits.false) in
+    subst (λ (r : Result (Unit {0}) StoreError). IfErr r (IsWriteDue bytes c.args.self.now x old new)) (passed_on c.from_residual-in_err-flush_memory.result why c.from_residual-in_err-flush_memory.ensures.1)
+    (flush_due bytes _ c.args.self.now c.reserve_for.new.self x old new why c.self.view_is c.reserve_for.ensures.kept wide c.in_err-flush_memory.ensures.due)
+
+pub returns-clause-due : goal.returns-clause-due
+returns-clause-due g c =
+    let old = g.D.Disk.world c.args.disk.now in
+    let flushed_at = g.D.Disk.world c.flush_memory.new.disk in
+    let new = g.D.Disk.world c.append-2.new.disk in
+    failure_due (filter_bytes_of g.F.RangeFilter.spelling g.F.RangeFilter.built_cutoff) c.append-2.result c.args.self.now (entry_of c.args.key.now (value_of c.args.value)) flushed_at new old new c.append-2.ensures.failure

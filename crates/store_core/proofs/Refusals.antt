@@ -1,0 +1,126 @@
+-- When a limit or want of room refuses a call.
+use Rattle.std.proofs.Common.{◌≡◌, ◌≢◌, ◌<◌, ◌+◌, List, [], sym, subst}
+use Rattle.std.specs.Prelude.{IfErr, Option, Result, Ok, Err}
+use Rattle.disk_trait.proofs.Calls.{reads_none}
+use Rattle.disk_trait.specs.World.{World}
+use Rattle.entry_model.specs.Entries.{Entry, need}
+use Rattle.key_base.specs.Limits.{log_bytes}
+use Rattle.line_model.specs.Replies.{Reply}
+use Rattle.manifest.specs.declared.fault.ManifestFault.{ManifestFault}
+use Rattle.manifest.specs.declared.fault.ManifestFault.TheVariants as fault
+use Rattle.mem_table.specs.Table.{MemoryTable}
+use Rattle.store_core.specs.Answers.{IsLimitOf, IsWriteFailure}
+use Rattle.store_core.specs.Compacting.{IsCompactFault}
+use Rattle.store_core.specs.Faults.{of_manifest_fault}
+use Rattle.store_core.specs.Flushing.{IsFlushFault, IsPlanRefusal}
+use Rattle.store_core.specs.Refusing.{IsCompactDue, IsFlushDue, IsRefusedBefore, IsRefusedFlush, IsWriteDue}
+use Rattle.store_core.specs.Running.{outputs_in}
+use Rattle.store_core.specs.StoreValue.{StoreValue}
+use Rattle.store_core.specs.declared.error.Limit.TheVariants as limit
+use Rattle.store_core.specs.declared.error.StoreError.{StoreError}
+use Rattle.store_core.specs.declared.error.StoreError.TheVariants as error
+use Rattle.store_core.proofs.Limiting.{IsOfEntry}
+use Rattle.table_model.specs.Tables.{FilterBytes}
+
+module _ (bytes : FilterBytes) where
+  -- ---- of a flush
+
+  -- nothing is planned, and nothing was called
+  pub plan_due : (store : StoreValue) (x : StoreError) (w : World) → store.memory.entries ≢ [] → IsPlanRefusal bytes store.manifest.version (outputs_in store.job) store.memory.entries x
+      → IsFlushDue bytes store w w x
+  plan_due store error.Memory w some why = tt
+  plan_due store (error.Device cause) w some why = tt
+  plan_due store error.Stopped w some why = tt
+  plan_due store (error.Limit limit) w some why = record { some = some; planned = why; no_call = reads_none 0 w }
+  plan_due store (error.Full need gap) w some why = record { some = some; planned = why; no_call = reads_none 0 w }
+  plan_due store (error.Damaged damage) w some why = tt
+  plan_due store error.NotAStore w some why = tt
+  plan_due store error.AlreadyAStore w some why = tt
+  plan_due store (error.BadSettings field) w some why = tt
+
+  -- what was planned is not written: that is neither
+  by_fault : (store : StoreValue) (f : ManifestFault) (a b : World) → IsFlushFault a b f → IsFlushDue bytes store a b (of_manifest_fault f)
+  by_fault store fault.Memory a b why = tt
+  by_fault store (fault.Device cause) a b why = tt
+  by_fault store fault.NotAStore a b why = absurd why
+  by_fault store fault.AlreadyAStore a b why = absurd why
+  by_fault store fault.Epoch a b why = absurd why
+  by_fault store (fault.Damaged damage) a b why = absurd why
+
+  pub fault_due : (store : StoreValue) (f : ManifestFault) (x : StoreError) (a b : World) → x ≡ of_manifest_fault f → IsFlushFault a b f → IsFlushDue bytes store a b x
+  fault_due store f x a b is why = subst (IsFlushDue bytes store a b) (sym is) (by_fault store f a b why)
+
+  -- ---- of an entry
+
+  pub limit_due : (store : StoreValue) (e : Entry) (broken : Option Reply) (x : StoreError) (w : World) → IsOfEntry broken → IsLimitOf broken x → IsWriteDue bytes store e w w x
+  limit_due store e broken (error.Limit (limit.Key size)) w of is = reads_none 0 w
+  limit_due store e broken (error.Limit (limit.Value size)) w of is = reads_none 0 w
+  limit_due store e broken (error.Limit limit.Tables) w of is = absurd (of.0 is)
+  limit_due store e broken (error.Limit limit.Epoch) w of is = absurd (of.1 is)
+  limit_due store e broken error.Memory w of is = absurd is
+  limit_due store e broken (error.Device cause) w of is = absurd is
+  limit_due store e broken error.Stopped w of is = absurd is
+  limit_due store e broken (error.Full need gap) w of is = absurd is
+  limit_due store e broken (error.Damaged damage) w of is = absurd is
+  limit_due store e broken error.NotAStore w of is = absurd is
+  limit_due store e broken error.AlreadyAStore w of is = absurd is
+  limit_due store e broken (error.BadSettings field) w of is = absurd is
+
+  -- a write that failed is neither
+  pub failure_due : {T : Type 0} (r : Result T StoreError) (store : StoreValue) (e : Entry) (a b c d : World) → IfErr r (IsWriteFailure a b) → IfErr r (IsWriteDue bytes store e c d)
+  failure_due (Ok x) store e a b c d why = tt
+  failure_due (Err error.Memory) store e a b c d why = absurd why
+  failure_due (Err (error.Device cause)) store e a b c d why = tt
+  failure_due (Err error.Stopped) store e a b c d why = absurd why
+  failure_due (Err (error.Limit limit)) store e a b c d why = absurd why
+  failure_due (Err (error.Full need gap)) store e a b c d why = absurd why
+  failure_due (Err (error.Damaged damage)) store e a b c d why = absurd why
+  failure_due (Err error.NotAStore) store e a b c d why = absurd why
+  failure_due (Err error.AlreadyAStore) store e a b c d why = absurd why
+  failure_due (Err (error.BadSettings field)) store e a b c d why = absurd why
+
+  -- the flush before it is refused, when room was taken for it
+  module _ (store : StoreValue) (m : MemoryTable) (e : Entry) (a b : World) (kept : m.entries ≡ store.memory.entries) (wide : log_bytes < store.log.filled + need e) where
+    before : (x : StoreError) → IsRefusedFlush bytes (record store { memory = m }) x a b → IsRefusedBefore bytes store e x a b
+    before x is = record {
+      wide = wide;
+      flush = record {
+        some = subst (λ (es : List Entry). es ≢ []) kept is.some;
+        planned = subst (λ (es : List Entry). IsPlanRefusal bytes store.manifest.version (outputs_in store.job) es x) kept is.planned;
+        no_call = is.no_call;
+      };
+    }
+
+    flush_before : (x : StoreError) → IsFlushDue bytes (record store { memory = m }) a b x → IsWriteDue bytes store e a b x
+    flush_before error.Memory is = tt
+    flush_before (error.Device cause) is = tt
+    flush_before error.Stopped is = tt
+    flush_before (error.Limit (limit.Key size)) is = is.no_call
+    flush_before (error.Limit (limit.Value size)) is = is.no_call
+    flush_before (error.Limit limit.Tables) is = before (error.Limit limit.Tables) is
+    flush_before (error.Limit limit.Epoch) is = before (error.Limit limit.Epoch) is
+    flush_before (error.Full need gap) is = before (error.Full need gap) is
+    flush_before (error.Damaged damage) is = tt
+    flush_before error.NotAStore is = tt
+    flush_before error.AlreadyAStore is = tt
+    flush_before (error.BadSettings field) is = tt
+
+  -- of the store as it was seen before
+  pub flush_due : (store seen : StoreValue) (m : MemoryTable) (e : Entry) (a b : World) (x : StoreError) → store ≡ seen → m.entries ≡ store.memory.entries → log_bytes < store.log.filled + need e
+      → IsFlushDue bytes (record store { memory = m }) a b x → IsWriteDue bytes seen e a b x
+  flush_due store seen m e a b x same kept wide is = subst (λ (k : StoreValue). IsWriteDue bytes k e a b x) same (flush_before store m e a b kept wide x is)
+
+-- ---- of a compaction
+
+-- once it is begun it meets no limit
+pub fault_compacts : {T : Type 0} (r : Result T StoreError) (store : StoreValue) (a b : World) → IfErr r (IsCompactFault a b) → IfErr r (IsCompactDue store a b)
+fault_compacts (Ok x) store a b why = tt
+fault_compacts (Err error.Memory) store a b why = tt
+fault_compacts (Err (error.Device cause)) store a b why = tt
+fault_compacts (Err error.Stopped) store a b why = absurd why
+fault_compacts (Err (error.Limit limit)) store a b why = absurd why
+fault_compacts (Err (error.Full need gap)) store a b why = tt
+fault_compacts (Err (error.Damaged damage)) store a b why = tt
+fault_compacts (Err error.NotAStore) store a b why = absurd why
+fault_compacts (Err error.AlreadyAStore) store a b why = absurd why
+fault_compacts (Err (error.BadSettings field)) store a b why = absurd why

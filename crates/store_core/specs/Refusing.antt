@@ -1,0 +1,63 @@
+-- When a limit of tables or of the epoch, or want of room, refuses a call, by what the store is.
+use Rattle.std.specs.Prelude.{◌≢◌, ◌⊎◌, ◌<◌, ◌+◌, []}
+use Rattle.disk_trait.specs.World.{ReadMoves, World}
+use Rattle.entry_model.specs.Entries.{Entry, need}
+use Rattle.key_base.specs.Limits.{log_bytes}
+use Rattle.store_core.specs.Flushing.{IsPlanRefusal}
+use Rattle.store_core.specs.Running.{outputs_in}
+use Rattle.store_core.specs.StoreValue.{StoreValue}
+use Rattle.store_core.specs.declared.error.Limit.TheVariants as limit
+use Rattle.store_core.specs.declared.error.StoreError.{StoreError}
+use Rattle.store_core.specs.declared.error.StoreError.TheVariants as error
+use Rattle.table_model.specs.Tables.{FilterBytes}
+
+-- Something is in memory; its table is one too many, or has no gap, or there is a gap and no epoch is left; and no call of the
+-- device was made.
+pub record IsRefusedFlush (filter_bytes : FilterBytes) (store : StoreValue) (why : StoreError) (old new : World) : Type 0 where
+  pub some : store.memory.entries ≢ []
+  pub planned : IsPlanRefusal filter_bytes store.manifest.version (outputs_in store.job) store.memory.entries why
+  pub no_call : ReadMoves 0 old new
+
+-- a limit, or want of room, refuses a flush of the store only so
+abbrev pub IsFlushDue : FilterBytes → StoreValue → World → World → StoreError → Type 0
+IsFlushDue filter_bytes store old new error.Memory = Unit {0}
+IsFlushDue filter_bytes store old new (error.Device cause) = Unit {0}
+IsFlushDue filter_bytes store old new error.Stopped = Unit {0}
+IsFlushDue filter_bytes store old new (error.Limit limit) = IsRefusedFlush filter_bytes store (error.Limit limit) old new
+IsFlushDue filter_bytes store old new (error.Full need gap) = IsRefusedFlush filter_bytes store (error.Full need gap) old new
+IsFlushDue filter_bytes store old new (error.Damaged damage) = Unit {0}
+IsFlushDue filter_bytes store old new error.NotAStore = Unit {0}
+IsFlushDue filter_bytes store old new error.AlreadyAStore = Unit {0}
+IsFlushDue filter_bytes store old new (error.BadSettings field) = Unit {0}
+
+-- the flush before an entry, whose record does not fit the log area
+pub record IsRefusedBefore (filter_bytes : FilterBytes) (store : StoreValue) (entry : Entry) (why : StoreError) (old new : World) : Type 0 where
+  pub wide : log_bytes < store.log.filled + need entry
+  pub flush : IsRefusedFlush filter_bytes store why old new
+
+-- a limit, or want of room, refuses an entry only so; the limits of a key and of a value are looked at before any call, too
+abbrev pub IsWriteDue : FilterBytes → StoreValue → Entry → World → World → StoreError → Type 0
+IsWriteDue filter_bytes store entry old new error.Memory = Unit {0}
+IsWriteDue filter_bytes store entry old new (error.Device cause) = Unit {0}
+IsWriteDue filter_bytes store entry old new error.Stopped = Unit {0}
+IsWriteDue filter_bytes store entry old new (error.Limit (limit.Key size)) = ReadMoves 0 old new
+IsWriteDue filter_bytes store entry old new (error.Limit (limit.Value size)) = ReadMoves 0 old new
+IsWriteDue filter_bytes store entry old new (error.Limit limit.Tables) = IsRefusedBefore filter_bytes store entry (error.Limit limit.Tables) old new
+IsWriteDue filter_bytes store entry old new (error.Limit limit.Epoch) = IsRefusedBefore filter_bytes store entry (error.Limit limit.Epoch) old new
+IsWriteDue filter_bytes store entry old new (error.Full need gap) = IsRefusedBefore filter_bytes store entry (error.Full need gap) old new
+IsWriteDue filter_bytes store entry old new (error.Damaged damage) = Unit {0}
+IsWriteDue filter_bytes store entry old new error.NotAStore = Unit {0}
+IsWriteDue filter_bytes store entry old new error.AlreadyAStore = Unit {0}
+IsWriteDue filter_bytes store entry old new (error.BadSettings field) = Unit {0}
+
+-- a limit refuses a compaction only of a store that holds something, and before any call of the device
+abbrev pub IsCompactDue : StoreValue → World → World → StoreError → Type 0
+IsCompactDue store old new error.Memory = Unit {0}
+IsCompactDue store old new (error.Device cause) = Unit {0}
+IsCompactDue store old new error.Stopped = Unit {0}
+IsCompactDue store old new (error.Limit limit) = ((store.memory.entries ≢ []) ⊎ (store.tables ≢ [])) × ReadMoves 0 old new
+IsCompactDue store old new (error.Full need gap) = Unit {0}
+IsCompactDue store old new (error.Damaged damage) = Unit {0}
+IsCompactDue store old new error.NotAStore = Unit {0}
+IsCompactDue store old new error.AlreadyAStore = Unit {0}
+IsCompactDue store old new (error.BadSettings field) = Unit {0}
