@@ -1,9 +1,10 @@
 -- When a limit or want of room refuses a call.
-use Rattle.std.proofs.Common.{◌≡◌, ◌≢◌, ◌<◌, ◌+◌, List, [], sym, subst}
-use Rattle.std.specs.Prelude.{IfErr, Option, Result, Ok, Err}
+use Rattle.std.proofs.Common.{◌≡◌, ◌≢◌, ◌<◌, ◌+◌, ◌∙◌, List, [], sym, subst}
+use Rattle.std.specs.Prelude.{IfErr, OnOk, Option, Some, Result, Ok, Err}
 use Rattle.disk_trait.proofs.Calls.{reads_none}
 use Rattle.disk_trait.specs.World.{World}
 use Rattle.entry_model.specs.Entries.{Entry, need}
+use Rattle.extent_model.specs.Gaps.{first_gap}
 use Rattle.key_base.specs.Limits.{log_bytes}
 use Rattle.line_model.specs.Replies.{Reply}
 use Rattle.manifest.specs.declared.fault.ManifestFault.{ManifestFault}
@@ -12,9 +13,9 @@ use Rattle.mem_table.specs.Table.{MemoryTable}
 use Rattle.store_core.specs.Answers.{IsLimitOf, IsWriteFailure}
 use Rattle.store_core.specs.Compacting.{IsCompactFault}
 use Rattle.store_core.specs.Faults.{of_manifest_fault}
-use Rattle.store_core.specs.Flushing.{IsFlushFault, IsPlanRefusal}
-use Rattle.store_core.specs.Refusing.{IsCompactDue, IsFlushDue, IsRefusedBefore, IsRefusedFlush, IsWriteDue}
-use Rattle.store_core.specs.Running.{outputs_in}
+use Rattle.store_core.specs.Flushing.{IsFlushFault, IsPlanRefusal, need_under}
+use Rattle.store_core.specs.Refusing.{IsCompactDue, IsEntryAllowed, IsFlushAllowed, IsFlushDue, IsRefusedBefore, IsRefusedFlush, IsWriteDue}
+use Rattle.store_core.specs.Running.{extents_with, outputs_in}
 use Rattle.store_core.specs.StoreValue.{StoreValue}
 use Rattle.store_core.specs.declared.error.Limit.TheVariants as limit
 use Rattle.store_core.specs.declared.error.StoreError.{StoreError}
@@ -109,6 +110,29 @@ module _ (bytes : FilterBytes) where
   pub flush_due : (store seen : StoreValue) (m : MemoryTable) (e : Entry) (a b : World) (x : StoreError) → store ≡ seen → m.entries ≡ store.memory.entries → log_bytes < store.log.filled + need e
       → IsFlushDue bytes (record store { memory = m }) a b x → IsWriteDue bytes seen e a b x
   flush_due store seen m e a b x same kept wide is = subst (λ (k : StoreValue). IsWriteDue bytes k e a b x) same (flush_before store m e a b kept wide x is)
+
+  -- ---- where none of them is met
+
+  -- the record fits, or fits behind a flush of the store as it was seen before
+  pub fits_allowed : {T : Type 0} (r : Result T StoreError) (seen : StoreValue) (e : Entry) → (log_bytes < seen.log.filled + need e → ⊥) → OnOk r (IsEntryAllowed bytes seen e)
+  fits_allowed (Ok x) seen e fits = λ wide some. absurd (fits wide)
+  fits_allowed (Err x) seen e fits = tt
+
+  behind_flush : (store : StoreValue) (m : MemoryTable) → m.entries ≡ store.memory.entries → IsFlushAllowed bytes (record store { memory = m }) → IsFlushAllowed bytes store
+  behind_flush store m kept allowed some =
+      let v = store.manifest.version in
+      let here = allowed (λ none. some (sym kept ∙ none)) in
+      record {
+        few = here.few;
+        page = here.page;
+        gap = subst (λ (es : List Entry). first_gap v.pages (extents_with v (outputs_in store.job)) (need_under bytes v es) ≡ Some here.page) kept here.gap;
+        epoch = here.epoch;
+      }
+
+  pub flush_allowed : {T : Type 0} (r : Result T StoreError) (store seen : StoreValue) (m : MemoryTable) (e : Entry) → store ≡ seen → m.entries ≡ store.memory.entries
+      → IsFlushAllowed bytes (record store { memory = m }) → OnOk r (IsEntryAllowed bytes seen e)
+  flush_allowed (Ok x) store seen m e same kept allowed = λ wide. subst (IsFlushAllowed bytes) same (behind_flush store m kept allowed)
+  flush_allowed (Err x) store seen m e same kept allowed = tt
 
 -- ---- of a compaction
 

@@ -1,10 +1,11 @@
 -- When a limit of tables or of the epoch, or want of room, refuses a call, by what the store is.
-use Rattle.std.specs.Prelude.{◌≢◌, ◌⊎◌, ◌<◌, ◌+◌, []}
+use Rattle.std.specs.Prelude.{◌≡◌, ◌≢◌, ◌⊎◌, ◌<◌, ◌+◌, ℕ, [], length, Some}
 use Rattle.disk_trait.specs.World.{ReadMoves, World}
 use Rattle.entry_model.specs.Entries.{Entry, need}
-use Rattle.key_base.specs.Limits.{log_bytes}
-use Rattle.store_core.specs.Flushing.{IsPlanRefusal}
-use Rattle.store_core.specs.Running.{outputs_in}
+use Rattle.extent_model.specs.Gaps.{first_gap}
+use Rattle.key_base.specs.Limits.{last_epoch, log_bytes, max_tables}
+use Rattle.store_core.specs.Flushing.{IsPlanRefusal, need_under}
+use Rattle.store_core.specs.Running.{extents_with, outputs_in}
 use Rattle.store_core.specs.StoreValue.{StoreValue}
 use Rattle.store_core.specs.declared.error.Limit.TheVariants as limit
 use Rattle.store_core.specs.declared.error.StoreError.{StoreError}
@@ -29,6 +30,21 @@ IsFlushDue filter_bytes store old new (error.Damaged damage) = Unit {0}
 IsFlushDue filter_bytes store old new error.NotAStore = Unit {0}
 IsFlushDue filter_bytes store old new error.AlreadyAStore = Unit {0}
 IsFlushDue filter_bytes store old new (error.BadSettings field) = Unit {0}
+
+-- None of the three is met: fewer tables stand than the most, a gap holds the table of what is in memory, and an epoch is left.
+pub record MayBeFlushed (filter_bytes : FilterBytes) (store : StoreValue) : Type 0 where
+  pub few : length store.manifest.version.rows < max_tables
+  pub page : ℕ
+  pub gap : first_gap store.manifest.version.pages (extents_with store.manifest.version (outputs_in store.job)) (need_under filter_bytes store.manifest.version store.memory.entries) ≡ Some page
+  pub epoch : store.manifest.version.epoch < last_epoch
+
+-- so it is, where something is in memory
+abbrev pub IsFlushAllowed : FilterBytes → StoreValue → Type 0
+IsFlushAllowed filter_bytes store = store.memory.entries ≢ [] → MayBeFlushed filter_bytes store
+
+-- and before an entry whose record does not fit the log area
+abbrev pub IsEntryAllowed : FilterBytes → StoreValue → Entry → Type 0
+IsEntryAllowed filter_bytes store entry = log_bytes < store.log.filled + need entry → IsFlushAllowed filter_bytes store
 
 -- the flush before an entry, whose record does not fit the log area
 pub record IsRefusedBefore (filter_bytes : FilterBytes) (store : StoreValue) (entry : Entry) (why : StoreError) (old new : World) : Type 0 where

@@ -18,7 +18,7 @@ ghost use Rattle.state_model.specs.State.{State};
 ghost use Rattle.state_model.specs.View.{memory};
 ghost use Rattle.store_core.specs.Answers.{AnswersRequest, IsTried, IsWriteRefusal, WroteEntry, stopped_by, told_change};
 ghost use Rattle.store_core.specs.Flushing.{FlushedTo, IsFlushFault, IsNoPlace, IsPlan, IsPlanRefusal, next_manifest};
-ghost use Rattle.store_core.specs.Refusing.{IsFlushDue};
+ghost use Rattle.store_core.specs.Refusing.{IsFlushAllowed, IsFlushDue};
 ghost use Rattle.store_core.specs.StoreValue.{IsConsistent, StoreValue};
 ghost use Rattle.store_core.specs.Running.{extents_with, outputs_in};
 ghost use Rattle.store_core.specs.Represents.{Represents};
@@ -225,6 +225,7 @@ impl<F: RangeFilter> Store<F> {
             → AnswersRequest F.spelling (filter_bytes_of F.spelling F.built_cutoff) s flush_line (told_change result) self.new (D.world disk.old) (D.world disk.new) }
         ensures refused { MatchResult result (λ _. IsTried self.old.stopped None) (IsWriteRefusal self.old.stopped None (D.world disk.old) (D.world disk.new)) }
         ensures due { IfErr result (IsFlushDue (filter_bytes_of F.spelling F.built_cutoff) self.old (D.world disk.old) (D.world disk.new)) }
+        ensures allowed { OnOk result (IsFlushAllowed (filter_bytes_of F.spelling F.built_cutoff) self.old) }
         ensures stays { Stays result self.old self.new }
         ensures nothing { self.old.stopped ≡ false → self.old.memory.entries ≡ [] → DoesNothing result self.old self.new (D.world disk.old) (D.world disk.new) }
         ensures stopped { self.new.stopped ≡ (self.old.stopped || stopped_by result) }
@@ -244,6 +245,7 @@ impl<F: RangeFilter> Store<F> {
             → WroteEntry F.spelling (filter_bytes_of F.spelling F.built_cutoff) s (flushed (filter_bytes_of F.spelling F.built_cutoff) s) result self.new (D.world disk.old) (D.world disk.new) }
         ensures refused { IfErr result (IsWriteRefusal false None (D.world disk.old) (D.world disk.new)) }
         ensures due { IfErr result (IsFlushDue (filter_bytes_of F.spelling F.built_cutoff) self.old (D.world disk.old) (D.world disk.new)) }
+        ensures allowed { OnOk result (IsFlushAllowed (filter_bytes_of F.spelling F.built_cutoff) self.old) }
         ensures stays { Stays result self.old self.new }
         ensures nothing { self.old.memory.entries ≡ [] → DoesNothing result self.old self.new (D.world disk.old) (D.world disk.new) }
         ensures stopped { self.new.stopped ≡ stopped_by result }

@@ -50,3 +50,6 @@ returns-in_err-check_key-clause-due g c =
 
 pub returns-clause-due : goal.returns-clause-due
 returns-clause-due g c = c.write.ensures.due
+
+pub returns-clause-allowed : goal.returns-clause-allowed
+returns-clause-allowed g c = c.write.ensures.allowed

@@ -25,3 +25,6 @@ returns-clause-nothing g c runs none = c.flush_memory.ensures.nothing none
 
 pub returns-clause-due : goal.returns-clause-due
 returns-clause-due g c = c.flush_memory.ensures.due
+
+pub returns-clause-allowed : goal.returns-clause-allowed
+returns-clause-allowed g c = c.flush_memory.ensures.allowed

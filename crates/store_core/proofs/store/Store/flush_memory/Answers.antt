@@ -188,3 +188,19 @@ pub returns-in-Err-clause-due : goal.returns-in-Err-clause-due
 returns-in-Err-clause-due g c =
     fault_due (filter_bytes_of g.F.RangeFilter.spelling g.F.RangeFilter.built_cutoff) c.args.self.now c.in-Err.fault c.from-why.result (g.D.Disk.world c.args.disk.now) (g.D.Disk.world c.write_plan.new.disk)
     c.from-why.ensures c.in-Err.ensures.cause
+
+-- ---- where none of them is met
+
+pub returns-then-is_empty-clause-allowed : goal.returns-then-is_empty-clause-allowed
+returns-then-is_empty-clause-allowed g c some = absurd (some (subst (λ (k : StoreValue). k.memory.entries ≡ []) c.self.view_is (c.is_empty.ensures.0 c.if-is_empty.true)))
+
+pub returns-in-Ok-clause-allowed : goal.returns-in-Ok-clause-allowed
+returns-in-Ok-clause-allowed g c some =
+    let spelling = g.F.RangeFilter.spelling in
+    let cutoff = g.F.RangeFilter.built_cutoff in
+    let parts = c.in_ok-plan.plan.parts in
+    let row = c.in_ok-plan.plan.row in
+    let next = c.in_ok-plan.plan.next in
+    let here = subst (λ (rs : List Row). IsPlan spelling cutoff c.self.inside.version rs c.self.inside.memory.entries parts row next) c.outputs_of.ensures c.in_ok-plan.ensures.plan in
+    let plan = subst (λ (k : StoreValue). IsPlan spelling cutoff k.manifest (outputs_in k.job) k.memory.entries parts row next) c.self.view_is here in
+    record { few = plan.few; page = row.first_page; gap = plan.place; epoch = plan.epoch }

@@ -14,7 +14,7 @@ use Rattle.store_core.specs.Represents.{Represents}
 use Rattle.store_core.specs.declared.error.StoreError.{StoreError}
 use Rattle.store_core.specs.declared.error.StoreError.TheVariants as error
 use Rattle.store_core.proofs.FlushAnswers.{passed_on, wanted_room}
-use Rattle.store_core.proofs.Refusals.{failure_due, flush_due}
+use Rattle.store_core.proofs.Refusals.{failure_due, fits_allowed, flush_allowed, flush_due}
 use Rattle.store_core.proofs.Stays.{flush_stays, room_taken, stopped_stays}
 use Rattle.store_core.proofs.Writing.{flush_failed, flush_then, need_fits, need_over, never, tied_with, whole_with, wrote_as, wrote_logged}
 use Rattle.store_core.proofs.store.Store.write.Goals as goal
@@ -142,3 +142,17 @@ returns-clause-due g c =
     let flushed_at = g.D.Disk.world c.flush_memory.new.disk in
     let new = g.D.Disk.world c.append-2.new.disk in
     failure_due (filter_bytes_of g.F.RangeFilter.spelling g.F.RangeFilter.built_cutoff) c.append-2.result c.args.self.now (entry_of c.args.key.now (value_of c.args.value)) flushed_at new old new c.append-2.ensures.failure
+
+-- ---- where none of them is met
+
+pub returns-then-fits-clause-allowed : goal.returns-then-fits-clause-allowed
+returns-then-fits-clause-allowed g c =
+    let x = entry_of c.args.key.now (value_of c.args.value) in
+    let within = subst (λ (n : ℕ). c.self.inside.log.filled + n ≤ 262144) c.record_need.ensures (c.fits.ensures.0 c.if-fits.true) in
+    let seen = subst (λ (k : StoreValue). k.log.filled + need x ≤ 262144) c.self.view_is within in
+    fits_allowed (filter_bytes_of g.F.RangeFilter.spelling g.F.RangeFilter.built_cutoff) c.append.result c.args.self.now x (λ wide. omega (arith, wide, seen))
+
+pub returns-clause-allowed : goal.returns-clause-allowed
+returns-clause-allowed g c =
+    flush_allowed (filter_bytes_of g.F.RangeFilter.spelling g.F.RangeFilter.built_cutoff) c.append-2.result _ c.args.self.now c.reserve_for.new.self (entry_of c.args.key.now (value_of c.args.value)) c.self.view_is c.reserve_for.ensures.kept
+    c.in_ok-flush_memory.ensures.allowed
