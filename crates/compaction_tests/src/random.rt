@@ -1,13 +1,14 @@
 //! Random scripts over a store, with a merge slice behind each put and delete, beside the same scripts as they are
 //! played.
 use disk_mem::MemDisk;
+use filter_api::Settings;
 use plain_filter::PlainFilter;
-use plain_store::{Answer, Reply, Request, State, ask, choose, sliced};
+use plain_store::{Answer, Reply, Request, State, ask, choose, sliced, with_pages, with_settings};
 use std::alloc::{AllocError, Global};
 use std::test::Fail;
 use store_core::{Explained, Limit, Scan, StoreError, Tended};
 use test_kit::Numbers;
-use test_stores::{BASE, PlainStore, disk_of, new_state, opened};
+use test_stores::{BASE, Left, PlainStore, disk_of, left_by, new_state, opened};
 
 const KEYS: [&[u8]; 16] = [
     b"\x00",
@@ -347,11 +348,92 @@ fn is_refused(reply: &Reply) -> bool {
     )
 }
 
+// Settings of each variant.
+const VARIANTS: [Settings; 4] = [
+    BASE,
+    Settings {
+        hash_bits: 8,
+        real_bits: 0,
+        ratio: 64,
+    },
+    Settings {
+        hash_bits: 0,
+        real_bits: 8,
+        ratio: 16,
+    },
+    Settings {
+        hash_bits: 4,
+        real_bits: 3,
+        ratio: 0,
+    },
+];
+
+// What comes between two lines: nothing, other settings, more pages, or a crash behind which the store is opened anew.
+#[derive(Clone, Copy)]
+enum Between {
+    Nothing,
+    Settings(Settings),
+    Pages(u64),
+    Crash,
+}
+
+fn drawn_between(numbers: &mut Numbers, pages: u64) -> Between {
+    match numbers.draw_below(30) {
+        0 | 1 => Between::Settings(VARIANTS[numbers.draw_below(4).min(3)]),
+        2 => Between::Pages(pages.saturating_add(numbers.draw_below(40) as u64)),
+        3 => Between::Crash,
+        _ => Between::Nothing,
+    }
+}
+
+// The played state behind it.
+fn state_behind(
+    alloc: Global,
+    state: Box<State>,
+    between: Between,
+) -> Result<Box<State>, AllocError> {
+    let changed = match between {
+        Between::Nothing => return Ok(state),
+        Between::Settings(settings) => with_settings(alloc, &state, settings)?,
+        Between::Pages(pages) => with_pages(alloc, &state, pages)?,
+        Between::Crash => {
+            let mut same = state.copy(alloc)?;
+            same.job = None;
+            Ok(same)
+        }
+    };
+    match changed {
+        Ok(next) => Ok(Box::new(alloc, next)?),
+        Err(_) => Ok(state),
+    }
+}
+
+// The store behind it, and its disk.
+fn store_behind(
+    alloc: Global,
+    mut store: Box<PlainStore>,
+    mut disk: Box<MemDisk>,
+    between: Between,
+) -> Result<(Box<PlainStore>, Box<MemDisk>), Fail> {
+    match between {
+        Between::Nothing => {}
+        Between::Settings(settings) => store.set_settings(&mut *disk, settings)?,
+        Between::Pages(pages) => store.grow(&mut *disk, pages)?,
+        Between::Crash => {
+            let mut left = left_by(alloc, &disk, Left::Lost)?;
+            let again = opened(alloc, &mut left)?;
+            return Ok((again, left));
+        }
+    }
+    Ok((store, disk))
+}
+
 // A script over a store of so many pages, with merge slices of so many blocks, and as it is played in merge slices of
-// others.
+// others. With numbers to draw from, settings and pages change between its lines.
 fn side_by_side(
     alloc: Global,
     script: &[Request<'_>],
+    mut changes: Option<Numbers>,
     pages: u64,
     blocks: u32,
     played: u64,
@@ -362,6 +444,11 @@ fn side_by_side(
     let mut state = new_state(alloc, pages)?;
     let mut refused = 0usize;
     for (line, request) in script.iter().enumerate() {
+        if let Some(numbers) = &mut changes {
+            let between = drawn_between(numbers, state.pages);
+            (store, disk) = store_behind(alloc, store, disk, between)?;
+            state = state_behind(alloc, state, between)?;
+        }
         let answer = answered(alloc, &state, *request)?;
         if !replies_so(alloc, &mut store, &mut disk, *request, &answer.reply)? {
             return Ok(Compared {
@@ -391,9 +478,23 @@ fn a_store_in_slices_replies_as_it_is_played_in_them(rt: HostRuntime) -> Result<
     ];
     for (seed, pages, blocks, longest) in rows {
         let script = drawn(alloc, seed, Lines::All, 400, &text, longest)?;
-        let end = side_by_side(alloc, &script, pages, blocks, u64::from(blocks))?;
+        let end = side_by_side(alloc, &script, None, pages, blocks, u64::from(blocks))?;
         assert_eq!(rt; end.other, None, "seed {seed}");
         assert!(rt; end.refused > 0, "seed {seed}");
+    }
+    Ok(())
+}
+
+// With settings and pages that change between lines, and crashes: filters of all variants stand in one version.
+#[test]
+fn a_store_whose_numbers_change_replies_as_it_is_played(rt: HostRuntime) -> Result<(), Fail> {
+    let alloc = rt.alloc();
+    let text = long_text(alloc)?;
+    for (seed, blocks, longest) in [(8, 1, 20_000), (9, 8, 60_000), (10, 1_000, 20_000)] {
+        let script = drawn(alloc, seed, Lines::All, 150, &text, longest)?;
+        let changes = Some(Numbers::new(seed));
+        let end = side_by_side(alloc, &script, changes, 512, blocks, u64::from(blocks))?;
+        assert_eq!(rt; end.other, None, "seed {seed}");
     }
     Ok(())
 }
@@ -407,7 +508,7 @@ fn replies_are_the_same_in_all_slices(rt: HostRuntime) -> Result<(), Fail> {
     for seed in 5..7 {
         let script = drawn(alloc, seed, Lines::OfTheMap, 300, &text, 20_000)?;
         for blocks in [1, 2, 8, 1_000] {
-            let end = side_by_side(alloc, &script, 2_048, blocks, 1_000)?;
+            let end = side_by_side(alloc, &script, None, 2_048, blocks, 1_000)?;
             let same = Compared {
                 other: None,
                 refused: 0,

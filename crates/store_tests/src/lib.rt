@@ -11,9 +11,13 @@ mod caching;
 #[cfg(test)]
 mod changes;
 #[cfg(test)]
+mod formats;
+#[cfg(test)]
 mod limits;
 #[cfg(test)]
 mod refused;
+#[cfg(test)]
+mod resetting;
 #[cfg(test)]
 mod scans;
 #[cfg(test)]
