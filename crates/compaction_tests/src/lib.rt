@@ -23,3 +23,5 @@ mod stops;
 mod tended;
 #[cfg(test)]
 mod tending;
+#[cfg(test)]
+mod variants;

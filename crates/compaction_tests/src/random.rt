@@ -221,8 +221,8 @@ fn tells_so(
     }
 }
 
-// Whether a request is answered so.
-fn replies_so(
+/// Whether a request is answered so.
+pub fn replies_so(
     alloc: Global,
     store: &mut PlainStore,
     disk: &mut MemDisk,
@@ -263,8 +263,12 @@ fn slice_is_refused(
     }
 }
 
-// What a request is answered by the played store.
-fn answered(alloc: Global, state: &State, request: Request<'_>) -> Result<Box<Answer>, AllocError> {
+/// What a request is answered by the played store.
+pub fn answered(
+    alloc: Global,
+    state: &State,
+    request: Request<'_>,
+) -> Result<Box<Answer>, AllocError> {
     Ok(Box::new(alloc, ask::<PlainFilter>(alloc, state, request)?)?)
 }
 
@@ -348,8 +352,8 @@ fn is_refused(reply: &Reply) -> bool {
     )
 }
 
-// Settings of each variant.
-const VARIANTS: [Settings; 4] = [
+/// Settings of each variant.
+pub const VARIANTS: [Settings; 4] = [
     BASE,
     Settings {
         hash_bits: 8,
@@ -368,9 +372,9 @@ const VARIANTS: [Settings; 4] = [
     },
 ];
 
-// What comes between two lines: nothing, other settings, more pages, or a crash behind which the store is opened anew.
+/// What comes between two lines: nothing, other settings, more pages, or a crash behind which the store is opened anew.
 #[derive(Clone, Copy)]
-enum Between {
+pub enum Between {
     Nothing,
     Settings(Settings),
     Pages(u64),
@@ -386,8 +390,8 @@ fn drawn_between(numbers: &mut Numbers, pages: u64) -> Between {
     }
 }
 
-// The played state behind it.
-fn state_behind(
+/// The played state behind it.
+pub fn state_behind(
     alloc: Global,
     state: Box<State>,
     between: Between,
@@ -408,8 +412,8 @@ fn state_behind(
     }
 }
 
-// The store behind it, and its disk.
-fn store_behind(
+/// The store behind it, and its disk.
+pub fn store_behind(
     alloc: Global,
     mut store: Box<PlainStore>,
     mut disk: Box<MemDisk>,

@@ -167,16 +167,60 @@ fn a_full_store_that_grows_has_room(rt: HostRuntime) -> Result<(), Fail> {
     Ok(())
 }
 
-// Whether a store grows to these pages, as the manifest then has them; the present number is in range.
+// A full store, opened anew from its bytes, that is to have so many pages: whether that is answered so, also the put of one
+// entry more, and whether a refusal makes no call of the device.
+fn full_grows_so(
+    alloc: Global,
+    first: &[u8],
+    pages: u64,
+    grown: Result<(), StoreError>,
+    put: Result<(), StoreError>,
+) -> Result<bool, Fail> {
+    let value = vec![in alloc; 0; 65_536]?;
+    let mut disk = disk_of(alloc, first)?;
+    let mut store = opened(alloc, &mut disk)?;
+    let calls = disk.calls();
+    let answer = store.grow(&mut *disk, pages);
+    let silent = disk.calls() == calls;
+    Ok(answer == grown && silent == grown.is_err() && store.put(&mut *disk, &[22], &value) == put)
+}
+
+// The last is 512 in its low 32 bits.
+#[test]
+fn a_full_store_grows_by_more_pages_alone(rt: HostRuntime) -> Result<(), Fail> {
+    let alloc = rt.alloc();
+    let value = vec![in alloc; 0; 65_536]?;
+    let mut first = disk_of(alloc, &[])?;
+    full(alloc, &mut first, &value)?;
+    let bad = Err(StoreError::BadSettings(Field::Pages));
+    let no_room = Err(StoreError::Full { need: 53, gap: 2 });
+    let rows = [
+        (512, Ok(()), no_room),
+        (16_777_216, Ok(()), Ok(())),
+        (511, bad, no_room),
+        (16_777_217, bad, no_room),
+        (4_294_967_808, bad, no_room),
+    ];
+    for (pages, grown, put) in rows {
+        let so = full_grows_so(alloc, first.bytes(), pages, grown, put)?;
+        assert!(rt; so, "{pages} pages");
+    }
+    Ok(())
+}
+
+// Whether a store grows to these pages, as the manifest then has them; the present number is in range. The device is as long
+// as before.
 fn grows_to(alloc: Global, pages: u64) -> Result<bool, Fail> {
     let mut disk = disk_of(alloc, &[])?;
     let mut store = changed(alloc, &mut disk, &TWO_KEYS)?;
+    let length = disk.bytes().len();
     store.grow(&mut *disk, pages)?;
     let told = (pages as u32).to_le_bytes();
     let again = opened(alloc, &mut disk)?;
     Ok(
         is_body(&disk, BODY_A, 3, &BASE_BYTES)
             && stands(&disk, BODY_A + PAGES_AT, &told)
+            && disk.bytes().len() == length
             && again.explain(b"aa9") == explained(1, 1, 1),
     )
 }
@@ -233,7 +277,40 @@ fn the_first_setting_out_of_range_is_told_without_a_call(rt: HostRuntime) -> Res
 
 // ---- the last epoch
 
-// A store behind some changes, at the last epoch: the body in use is given it, and a sum that is right.
+// Gives a body of so many rows eight bytes at a place, and a sum that is right.
+fn respell(
+    disk: &mut MemDisk,
+    body: u32,
+    rows: u8,
+    place: u8,
+    bytes: [u8; 8],
+) -> Result<(), StoreError> {
+    let start = u64::from(body);
+    disk.write(start + u64::from(place), &bytes)?;
+    let length = usize::from(rows) * ROW_BYTES + ROWS_AT;
+    let rest = disk.bytes().get(start as usize..).unwrap_or(b"");
+    let sum = fnv1a(rest.get(..length).unwrap_or(b""));
+    disk.write(start + length as u64, &sum.to_le_bytes())?;
+    disk.sync()?;
+    Ok(())
+}
+
+// A filter shows no ratio, so any is read, and stays in the row.
+#[test]
+fn a_row_of_any_ratio_is_opened(rt: HostRuntime) -> Result<(), Fail> {
+    let alloc = rt.alloc();
+    let ratio = [0, 0, 0xff, 0, 0, 0, 0, 0];
+    let mut disk = disk_of(alloc, &[])?;
+    changed(alloc, &mut disk, &TWO_KEYS)?;
+    respell(&mut disk, BODY_B as u32, 1, 120, ratio)?;
+    let mut store = opened(alloc, &mut disk)?;
+    apply(&mut store, &mut disk, Change::Put(b"b", b"\x01"))?;
+    apply(&mut store, &mut disk, Change::Flush)?;
+    assert!(rt; is_row(&disk, BODY_A, 0, &BASE_BYTES) && is_row(&disk, BODY_A, 1, &ratio));
+    Ok(())
+}
+
+// A store after some changes, with the last epoch in the body in use.
 fn at_last_epoch(
     alloc: Global,
     disk: &mut MemDisk,
@@ -242,13 +319,7 @@ fn at_last_epoch(
     rows: u8,
 ) -> Result<Box<PlainStore>, Fail> {
     changed(alloc, disk, changes)?;
-    let start = u64::from(body);
-    disk.write(start + 8, &[0xff; 8])?;
-    let length = usize::from(rows) * ROW_BYTES + ROWS_AT;
-    let rest = disk.bytes().get(start as usize..).unwrap_or(b"");
-    let sum = fnv1a(rest.get(..length).unwrap_or(b""));
-    disk.write(start + length as u64, &sum.to_le_bytes())?;
-    disk.sync()?;
+    respell(disk, body, rows, 8, [0xff; 8])?;
     Ok(opened(alloc, disk)?)
 }
 
@@ -290,7 +361,7 @@ fn slices_of_all(alloc: Global) -> Result<usize, Fail> {
 }
 
 // The store with the merge of the four tables begun.
-fn merging(alloc: Global, disk: &mut MemDisk) -> Result<Box<PlainStore>, Fail> {
+fn merging(alloc: Global, disk: &mut MemDisk) -> Result<Box<PlainStore>, StoreError> {
     let mut store = changed(alloc, disk, &FOUR)?;
     store.tend(disk, 1)?;
     Ok(store)
@@ -323,6 +394,14 @@ fn a_merge_begins_anew_in_a_store_that_grew(rt: HostRuntime) -> Result<(), Fail>
     Ok(())
 }
 
+// The device of the store whose merge nothing comes between.
+fn merged(alloc: Global) -> Result<Box<MemDisk>, Fail> {
+    let mut disk = disk_of(alloc, &[])?;
+    let mut store = merging(alloc, &mut disk)?;
+    slices(&mut store, &mut disk)?;
+    Ok(disk)
+}
+
 // One merge slice is done already.
 #[test]
 fn a_merge_goes_on_where_numbers_are_out_of_range(rt: HostRuntime) -> Result<(), Fail> {
@@ -343,6 +422,7 @@ fn a_merge_goes_on_where_numbers_are_out_of_range(rt: HostRuntime) -> Result<(),
         slices_of_all(alloc)?
     );
     assert!(rt; is_body(&disk, BODY_B, 6, &BASE_BYTES) && is_row(&disk, BODY_B, 0, &BASE_BYTES));
+    assert!(rt; disk.bytes() == merged(alloc)?.bytes());
     Ok(())
 }
 
@@ -387,6 +467,41 @@ fn has_changed(disk: &MemDisk, body: usize, change: Reset) -> bool {
         Reset::Settings => body_has(disk, body, SETTINGS_AT, &HASHED_BYTES[..4]),
         Reset::Pages => body_has(disk, body, PAGES_AT, &[0x58, 2, 0, 0]),
     }
+}
+
+// The store with the merge of the four tables begun, and room for all calls of its device that follow.
+fn merging_with_room(alloc: Global) -> Result<(Box<PlainStore>, Box<MemDisk>), StoreError> {
+    let mut disk = disk_of(alloc, &[])?;
+    let store = merging(alloc, &mut disk)?;
+    disk.reserve(100, 1_000_000)?;
+    Ok((store, disk))
+}
+
+// Whether a reset is done; or, for want of memory, makes no call of the device, and the merge ends as if it had not been asked.
+fn is_done_or_leaves_the_merge(alloc: Global, change: Reset) -> Result<bool, Fail> {
+    let (mut store, mut disk) = match merging_with_room(alloc) {
+        Ok(both) => both,
+        Err(_) => merging_with_room(alloc)?,
+    };
+    let calls = disk.calls();
+    match make_reset(&mut store, &mut disk, change) {
+        Ok(()) => Ok(has_changed(&disk, BODY_B, change)),
+        Err(why) => {
+            let silent = disk.calls() == calls && disk.starved() == 0;
+            slices(&mut store, &mut disk)?;
+            let same = disk.bytes() == merged(alloc)?.bytes();
+            Ok(why == StoreError::Memory && silent && same)
+        }
+    }
+}
+
+// `rt try --test --seconds 300 --fail-alloc N -- each_allocation_may_fail` in the crate's folder makes allocation N fail.
+#[test]
+fn each_allocation_may_fail(rt: HostRuntime) -> Result<(), Fail> {
+    for change in [Reset::Settings, Reset::Pages] {
+        assert!(rt; is_done_or_leaves_the_merge(rt.alloc(), change)?);
+    }
+    Ok(())
 }
 
 // A reset of which a call fails stops the store. What a crash leaves is the store before it or behind it: a flush goes into
