@@ -80,11 +80,19 @@ fn slot_b_stays(alloc: Global, disk: &MemDisk) -> Result<bool, Fail> {
     )
 }
 
+// Whether a get finds this value of a key, or none.
+fn finds(store: &mut PlainStore, disk: &mut MemDisk, key: &[u8], value: Option<&[u8]>) -> bool {
+    match store.get(disk, key) {
+        Ok(found) => found == value,
+        Err(_) => false,
+    }
+}
+
 // Whether the pairs of its table are there, and no other.
 fn has_pairs(store: &mut PlainStore, disk: &mut MemDisk) -> bool {
-    store.get(disk, b"aa1") == Ok(Some(b"\x01".as_slice()))
-        && store.get(disk, b"ab1") == Ok(Some(b"\x02".as_slice()))
-        && store.get(disk, b"ac1") == Ok(None)
+    finds(store, disk, b"aa1", Some(b"\x01".as_slice()))
+        && finds(store, disk, b"ab1", Some(b"\x02".as_slice()))
+        && finds(store, disk, b"ac1", None)
 }
 
 // Its head has the settings of its filter, which format 1 keeps nowhere else: with others the filter would be damage.
@@ -156,7 +164,7 @@ fn is_kept(alloc: Global, first: &MemDisk, call: usize, left: Left) -> Result<bo
     let flushed = put && apply(&mut store, &mut disk, Change::Flush).is_ok();
     let mut after = left_by(alloc, &disk, left)?;
     let mut again = opened(alloc, &mut after)?;
-    let found = again.get(&mut *after, b"b") == Ok(Some(b"\x03".as_slice()));
+    let found = finds(&mut again, &mut after, b"b", Some(b"\x03".as_slice()));
     Ok(!flushed && has_pairs(&mut again, &mut after) && (found || !put))
 }
 
