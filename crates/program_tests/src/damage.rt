@@ -82,3 +82,14 @@ fn a_table_with_a_plain_filter_is_refused(rt: HostRuntime) -> Result<(), Fail> {
     check(&rt, &told, 5, b"damaged filter 794646 rule 1\n", 0);
     Ok(())
 }
+
+// What a filter was built with says nothing of its ratio, so the row's is judged by nothing.
+#[test]
+fn a_row_of_any_ratio_is_read(rt: HostRuntime) -> Result<(), Fail> {
+    let alloc = rt.alloc();
+    let mut end = served(alloc, base_disk(alloc)?, b"put 61 62\nflush\n")?;
+    change(&mut end.disk, 131_080, &[(122, 0xFF)], 128)?;
+    let again = served(alloc, end.disk, b"get 61\n")?;
+    check(&rt, &again, 0, b"val 62\n", 0);
+    Ok(())
+}

@@ -1,29 +1,32 @@
 //! Calls that fail, and what the next run finds.
 use crate::runs::{
-    Ended, Succinct, base_disk, boxed, calls_of, check, commanded, disk_of, failing, left_behind,
-    lost, opened, ran, served, served_by, written,
+    Ended, Succinct, base_disk, calls_of, check, commanded, disk_of, failing, left_behind, lost,
+    opened, paced, served, served_by, written,
 };
 use disk_mem::MemDisk;
 use disk_trait::Disk;
 use filter_api::RangeFilter;
-use outside::MemOutside;
 use plain_filter::PlainFilter;
 use std::alloc::{AllocError, Global};
 use std::test::Fail;
 use store_core::StoreError;
 
-const SCRIPT: &[u8] = b"put 61 62\nput 62 63\nflush\ndel 61\nflush\nput 63 64\nget 62\nquit\n";
+/// Lines that put, delete, flush and compact, of which each changes the disk but the last two.
+pub const SCRIPT: &[u8] =
+    b"put 61 62\nput 62 63\nflush\ndel 61\nflush\nput 63 64\ncompact\nget 62\nquit\n";
 
-const GETS: &[u8] = b"get 61\nget 62\nget 63\n";
+/// Gets of the keys that they put.
+pub const GETS: &[u8] = b"get 61\nget 62\nget 63\n";
 
-// What the gets are answered behind none to six lines of the script, and behind all of it.
-const BEHIND: [&[u8]; 8] = [
+// What the gets are answered behind none to seven lines of the script, and behind all of it.
+const BEHIND: [&[u8]; 9] = [
     b"none\nnone\nnone\n",
     b"val 62\nnone\nnone\n",
     b"val 62\nval 63\nnone\n",
     b"val 62\nval 63\nnone\n",
     b"none\nval 63\nnone\n",
     b"none\nval 63\nnone\n",
+    b"none\nval 63\nval 64\n",
     b"none\nval 63\nval 64\n",
     b"none\nval 63\nval 64\n",
 ];
@@ -33,11 +36,15 @@ fn oks(said: &[u8]) -> usize {
     said.iter().filter(|byte| **byte == b'k').count()
 }
 
-// Whether the next run finds what was answered, or one line more.
-fn has_all<F: RangeFilter>(alloc: Global, disk: Box<MemDisk>, said: &[u8]) -> Result<bool, Fail> {
+/// Whether the next run finds what the script's lines were answered, or one line more.
+pub fn has_all<F: RangeFilter>(
+    alloc: Global,
+    disk: Box<MemDisk>,
+    said: &[u8],
+) -> Result<bool, Fail> {
     let again = served_by::<F>(alloc, disk, GETS)?;
     let found = again.said.as_slice();
-    let done = oks(said).min(6);
+    let done = oks(said).min(7);
     Ok(found == BEHIND[done] || found == BEHIND[done + 1])
 }
 
@@ -101,18 +108,34 @@ fn outlasts<F: RangeFilter>(alloc: Global, end: &Ended, left: Left) -> Result<bo
     has_all::<F>(alloc, disk, end.said.as_slice())
 }
 
-// Whether it is so of a run of the script with each call of the disk failing in turn.
+/// A run of the script in which the call of this number fails. The disk has room for all calls, so none asks for memory.
+pub fn interrupted<F: RangeFilter>(
+    alloc: Global,
+    first: &MemDisk,
+    call: u64,
+) -> Result<Ended, Fail> {
+    let mut disk = failing(alloc, first, call)?;
+    disk.reserve(400, 1 << 21)?;
+    served_by::<F>(alloc, disk, SCRIPT)
+}
+
+/// Whether a failed call is told, and no call found no memory.
+pub fn is_told(end: &Ended) -> bool {
+    end.status == 4 && end.said.ends_with(b"device\n") && end.disk.starved() == 0
+}
+
+// Whether all of it is there after a run of the script with each call of the disk failing in turn.
 fn each_call_fails_well<F: RangeFilter>(alloc: Global, left: Left) -> Result<bool, Fail> {
     let first = base_disk(alloc)?;
-    for call in 0..100 {
-        let end = served_by::<F>(alloc, failing(alloc, &first, call)?, SCRIPT)?;
+    for call in 0..200 {
+        let end = interrupted::<F>(alloc, &first, call)?;
         if !outlasts::<F>(alloc, &end, left)? {
             return Ok(false);
         }
         if end.status == 0 {
-            return Ok(true);
+            return Ok(end.disk.starved() == 0);
         }
-        if end.status != 4 || !end.said.ends_with(b"device\n") {
+        if !is_told(&end) {
             return Ok(false);
         }
     }
@@ -134,12 +157,6 @@ fn calls_fail_and_their_writes_are_lost(rt: HostRuntime) -> Result<(), Fail> {
 #[test]
 fn calls_fail_and_their_writes_are_half(rt: HostRuntime) -> Result<(), Fail> {
     assert!(rt; each_call_fails_well::<Succinct>(rt.alloc(), Left::Half)?);
-    Ok(())
-}
-
-#[test]
-fn calls_fail_and_their_writes_are_sevens(rt: HostRuntime) -> Result<(), Fail> {
-    assert!(rt; each_call_fails_well::<Succinct>(rt.alloc(), Left::Sevens)?);
     Ok(())
 }
 
@@ -254,39 +271,11 @@ fn a_put_behind_a_failed_sync_is_stopped(rt: HostRuntime) -> Result<(), Fail> {
     Ok(())
 }
 
-// An outside over the bytes of a disk, with these lines to take, in which the take and the say of these numbers fail.
-fn with_streams(
-    alloc: Global,
-    first: &MemDisk,
-    lines: &[u8],
-    takes: &[u64],
-    says: &[u64],
-) -> Result<MemOutside, AllocError> {
-    let input = Vec::from_slice(alloc, lines)?;
-    let takes = Vec::from_slice(alloc, takes)?;
-    let says = Vec::from_slice(alloc, says)?;
-    let disk = MemDisk::new(alloc, first.bytes())?;
-    Ok(MemOutside::new(disk, input, takes, says))
-}
-
-// A run of these lines by so many bytes at a time, in which the take and the say of these numbers fail.
-fn paced(
-    alloc: Global,
-    first: &MemDisk,
-    lines: &[u8],
-    takes: &[u64],
-    says: &[u64],
-    pace: usize,
-) -> Result<Ended, Fail> {
-    let out = with_streams(alloc, first, lines, takes, says)?.with_pace(pace.max(1));
-    ran(alloc, "serve", boxed(alloc, out)?)
-}
-
 #[test]
 fn each_say_of_a_byte_failing_in_turn(rt: HostRuntime) -> Result<(), Fail> {
     let alloc = rt.alloc();
     let first = base_disk(alloc)?;
-    for say in 0..29 {
+    for say in 0..32 {
         let end = paced(alloc, &first, SCRIPT, &[], &[say], 1)?;
         assert_eq!(rt; end.status, 6);
         assert_eq!(rt; end.said.len() as u64, say);
@@ -299,7 +288,7 @@ fn each_say_of_a_byte_failing_in_turn(rt: HostRuntime) -> Result<(), Fail> {
 fn each_say_of_a_reply_failing_in_turn(rt: HostRuntime) -> Result<(), Fail> {
     let alloc = rt.alloc();
     let first = base_disk(alloc)?;
-    for say in 0..8 {
+    for say in 0..9 {
         let end = paced(alloc, &first, SCRIPT, &[], &[say], SCRIPT.len())?;
         assert_eq!(rt; end.status, 6);
         let replies = end.said.iter().filter(|byte| **byte == b'\n').count();
@@ -313,7 +302,7 @@ fn each_say_of_a_reply_failing_in_turn(rt: HostRuntime) -> Result<(), Fail> {
 fn each_take_failing_in_turn(rt: HostRuntime) -> Result<(), Fail> {
     let alloc = rt.alloc();
     let first = base_disk(alloc)?;
-    for take in 0..61 {
+    for take in 0..69 {
         let end = paced(alloc, &first, SCRIPT, &[take], &[], 1)?;
         assert_eq!(rt; end.status, 3);
         assert!(rt;
@@ -323,27 +312,6 @@ fn each_take_failing_in_turn(rt: HostRuntime) -> Result<(), Fail> {
     }
     let whole = paced(alloc, &first, SCRIPT, &[0], &[], SCRIPT.len())?;
     check(&rt, &whole, 3, b"", 0);
-    Ok(())
-}
-
-// With three to five bytes said a put lasts; with nine and more the delete behind it does.
-#[test]
-fn what_was_said_outlasts_a_crash(rt: HostRuntime) -> Result<(), Fail> {
-    let alloc = rt.alloc();
-    let first = base_disk(alloc)?;
-    let lines = b"put 61 62\nput 62 63\ndel 61\nquit\n";
-    let rows: [(u64, &[u8]); 5] = [
-        (3, b"val 62\n"),
-        (4, b"val 62\n"),
-        (5, b"val 62\n"),
-        (9, b"none\n"),
-        (10, b"none\n"),
-    ];
-    for (say, reply) in rows {
-        let end = paced(alloc, &first, lines, &[], &[say], 1)?;
-        let again = served(alloc, lost(alloc, &end.disk)?, b"get 61\n")?;
-        check(&rt, &again, 0, reply, say);
-    }
     Ok(())
 }
 

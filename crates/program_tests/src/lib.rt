@@ -6,18 +6,34 @@
 #[cfg(test)]
 mod damage;
 #[cfg(test)]
+mod eight_blocks;
+#[cfg(test)]
 mod faults;
+#[cfg(test)]
+mod formats;
 #[cfg(test)]
 mod loads;
 #[cfg(test)]
 mod many_tables;
 #[cfg(test)]
+mod memory;
+#[cfg(test)]
+mod moments;
+#[cfg(test)]
+mod new_stores;
+#[cfg(test)]
 mod played;
 #[cfg(test)]
+mod refused;
+#[cfg(test)]
 mod replies;
+#[cfg(test)]
+mod resets;
 #[cfg(test)]
 mod runs;
 #[cfg(test)]
 mod slices;
+#[cfg(test)]
+mod torn;
 #[cfg(test)]
 mod words;

@@ -110,6 +110,34 @@ pub fn served(alloc: Global, disk: Box<MemDisk>, lines: &[u8]) -> Result<Ended, 
     served_by::<Succinct>(alloc, disk, lines)
 }
 
+// An outside over the bytes of a disk, with these lines to take, in which the take and the say of these numbers fail.
+fn with_streams(
+    alloc: Global,
+    first: &MemDisk,
+    lines: &[u8],
+    takes: &[u64],
+    says: &[u64],
+) -> Result<MemOutside, AllocError> {
+    let input = Vec::from_slice(alloc, lines)?;
+    let takes = Vec::from_slice(alloc, takes)?;
+    let says = Vec::from_slice(alloc, says)?;
+    let disk = MemDisk::new(alloc, first.bytes())?;
+    Ok(MemOutside::new(disk, input, takes, says))
+}
+
+/// A run that answers these lines by so many bytes at a time, in which the take and the say of these numbers fail.
+pub fn paced(
+    alloc: Global,
+    first: &MemDisk,
+    lines: &[u8],
+    takes: &[u64],
+    says: &[u64],
+    pace: usize,
+) -> Result<Ended, Fail> {
+    let out = with_streams(alloc, first, lines, takes, says)?.with_pace(pace.max(1));
+    ran(alloc, "serve", boxed(alloc, out)?)
+}
+
 /// A disk of which `format`, called with these words, made a store.
 pub fn formatted(alloc: Global, words: &str) -> Result<Box<MemDisk>, Fail> {
     let end = commanded(alloc, words, disk_of(alloc, b"")?)?;

@@ -1,0 +1,186 @@
+//! Runs of which one allocation may be refused, judged by the rule of the replies and not by a list.
+//!
+//! The gate plays them with all the memory that they ask for. `tools/refuse-allocations` plays them once for each allocation,
+//! with that one refused. Where it is the test's own, the test ends with an error and no failed assertion.
+use crate::faults::{GETS, SCRIPT};
+use crate::runs::{Ended, commanded, disk_of, served};
+use disk_mem::MemDisk;
+use std::alloc::{AllocError, Global};
+use std::test::Fail;
+
+const MEMORY: &[u8] = b"memory\n";
+
+const NO_STORE: &[u8] = b"not a store\n";
+
+const OKS: &[u8] = b"ok\nok\nok\nok\nok\nok\nok\nok\n";
+
+// What the load's steps and the four tables come to on an ordered map of another program.
+const LOADED: &[u8] = b"load steps 40 refused 0 live 42 sum 0db3ad17082d55bb\n";
+
+const FOUR: &[u8] = b"val 01\nval 02\nval 03\nval 04\n";
+
+// Whether 61, 62 and 63 are there.
+type There = [bool; 3];
+
+// What is there behind a line of the script that was done.
+fn behind(there: There, line: usize) -> There {
+    let [first, second, third] = there;
+    match line {
+        0 => [true, second, third],
+        1 => [first, true, third],
+        3 => [false, second, third],
+        5 => [first, second, true],
+        _ => there,
+    }
+}
+
+// What is there behind a line with this reply, if the line may have it: `memory` says that nothing changed.
+fn behind_reply(there: There, line: usize, reply: &[u8]) -> Option<There> {
+    let done: &[u8] = match line {
+        7 if there[1] => b"val 63\n",
+        7 => b"none\n",
+        8 => b"bye\n",
+        _ => b"ok\n",
+    };
+    if reply == done {
+        Some(behind(there, line))
+    } else if reply == MEMORY && line < 8 {
+        Some(there)
+    } else {
+        None
+    }
+}
+
+// What is there behind these replies, and how many there are.
+fn behind_replies(said: &[u8]) -> Option<(There, usize)> {
+    let mut there = [false; 3];
+    let mut lines = 0usize;
+    for reply in said.split_inclusive(|byte| *byte == b'\n') {
+        there = behind_reply(there, lines, reply)?;
+        lines = lines.saturating_add(1);
+    }
+    Some((there, lines))
+}
+
+// Whether gets of the three keys are answered by what is there.
+fn is_found(there: There, found: &[u8]) -> bool {
+    let values: [&[u8]; 3] = [b"val 62\n", b"val 63\n", b"val 64\n"];
+    let mut replies = found.split_inclusive(|byte| *byte == b'\n');
+    for (value, is_there) in values.into_iter().zip(there) {
+        let reply = if is_there { value } else { b"none\n" };
+        if replies.next() != Some(reply) {
+            return false;
+        }
+    }
+    replies.next().is_none()
+}
+
+// Whether a run of the script ended so by the rule, where the next run finds this. With 7 nothing was taken; with 6 the output
+// found no memory, and the line whose reply it is may be done.
+fn is_by_rule(status: u8, said: &[u8], found: &[u8]) -> bool {
+    if status == 7 {
+        return said == MEMORY && is_found([false; 3], found);
+    }
+    match behind_replies(said) {
+        Some((there, lines)) if status == 0 => lines == 9 && is_found(there, found),
+        Some((there, lines)) if status == 6 => {
+            is_found(there, found) || is_found(behind(there, lines), found)
+        }
+        _ => false,
+    }
+}
+
+// A disk with room for all calls of a run, so that none of them asks for memory of its own.
+fn roomy(alloc: Global, bytes: &[u8]) -> Result<Box<MemDisk>, AllocError> {
+    let mut disk = disk_of(alloc, bytes)?;
+    disk.reserve(400, 1 << 21)?;
+    Ok(disk)
+}
+
+// A run with these words over the bytes of a disk.
+fn run_over(alloc: Global, words: &str, bytes: &[u8]) -> Result<Ended, Fail> {
+    commanded(alloc, words, roomy(alloc, bytes)?)
+}
+
+// A run that answers these lines over the bytes of a disk.
+fn serve_over(alloc: Global, bytes: &[u8], lines: &[u8]) -> Result<Ended, Fail> {
+    served(alloc, roomy(alloc, bytes)?, lines)
+}
+
+// What gets of the three keys find. Where one of them found no memory, or all did, they are asked once more.
+fn found(alloc: Global, bytes: &[u8]) -> Result<Ended, Fail> {
+    let end = serve_over(alloc, bytes, GETS)?;
+    if end.status == 0 && !end.said.contains(&b'y') {
+        return Ok(end);
+    }
+    serve_over(alloc, end.disk.bytes(), GETS)
+}
+
+// Whether a format that found no memory says so and leaves no store.
+fn leaves_no_store(alloc: Global, end: &Ended) -> Result<bool, Fail> {
+    let again = run_over(alloc, "serve", end.disk.bytes())?;
+    let told = end.status == 7 && end.said.as_slice() == MEMORY;
+    Ok(told && again.said.as_slice() == NO_STORE)
+}
+
+// Whether the script's run and the next one are by the rule.
+fn is_played_by_rule(alloc: Global, first: &Ended) -> Result<bool, Fail> {
+    let end = serve_over(alloc, first.disk.bytes(), SCRIPT)?;
+    let again = found(alloc, end.disk.bytes())?;
+    let kept = end.disk.starved() == 0;
+    Ok(kept && is_by_rule(end.status, &end.said, &again.said))
+}
+
+// One allocation more, the last of a test: where it is refused, each of those before it was.
+fn is_not_the_last(alloc: Global) -> bool {
+    Vec::from_slice(alloc, b"last").is_ok()
+}
+
+#[test]
+fn each_allocation_may_be_refused(rt: HostRuntime) -> Result<(), Fail> {
+    let alloc = rt.alloc();
+    let first = run_over(alloc, "format --pages 512 --variant base", b"")?;
+    if first.status == 0 {
+        assert!(rt; is_played_by_rule(alloc, &first)?);
+    } else {
+        assert!(rt; leaves_no_store(alloc, &first)?);
+    }
+    assert!(rt; is_not_the_last(alloc), "the last allocation");
+    Ok(())
+}
+
+// Four tables of a pair each, of level 0.
+const FOUR_TABLES: &[u8] =
+    b"put 61 01\nflush\nput 62 02\nflush\nput 63 03\nflush\nput 64 04\nflush\n";
+
+// The store with the four tables, or none where something found no memory.
+fn four_tables(alloc: Global) -> Result<Option<Ended>, Fail> {
+    let first = run_over(alloc, "format --pages 512 --variant base", b"")?;
+    let end = serve_over(alloc, first.disk.bytes(), FOUR_TABLES)?;
+    let whole = end.said.as_slice() == OKS;
+    Ok(if whole { Some(end) } else { None })
+}
+
+// Whether a load of 40 steps over the four tables is done, or ended with 7, and their pairs are there.
+fn is_loaded(alloc: Global, first: &Ended) -> Result<bool, Fail> {
+    let end = run_over(alloc, "load --seed 1 --count 40", first.disk.bytes())?;
+    let told = match end.status {
+        0 => end.said.as_slice() == LOADED,
+        7 => end.said.as_slice() == MEMORY,
+        status => status == 6,
+    };
+    let again = serve_over(alloc, end.disk.bytes(), b"get 61\nget 62\nget 63\nget 64\n")?;
+    let refused = again.status > 0 || again.said.contains(&b'y');
+    let kept = end.disk.starved() == 0;
+    Ok(told && kept && (refused || again.said.as_slice() == FOUR))
+}
+
+#[test]
+fn each_allocation_of_a_load_may_be_refused(rt: HostRuntime) -> Result<(), Fail> {
+    let alloc = rt.alloc();
+    if let Some(first) = four_tables(alloc)? {
+        assert!(rt; is_loaded(alloc, &first)?);
+    }
+    assert!(rt; is_not_the_last(alloc), "the last allocation");
+    Ok(())
+}

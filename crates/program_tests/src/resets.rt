@@ -1,0 +1,318 @@
+//! Other settings for new tables, and more pages.
+use crate::formats::{format_1, stands};
+use crate::replies::LAST_EPOCH_SUM;
+use crate::runs::{
+    base_disk, boxed, check, commanded, disk_of, failing, lost, opened, ran, served, written,
+};
+use disk_mem::MemDisk;
+use disk_trait::Disk;
+use outside::MemOutside;
+use std::alloc::{AllocError, Global};
+use std::process::Abort;
+use std::test::Fail;
+
+const USAGE: &[u8] = b"usage: surfstore PATH format|serve|load|settings|grow\n";
+
+const TWO_PUTS: &[u8] = b"put 616131 01\nput 616231 02\nflush\n";
+
+// Words, the status, and the line that is said, over an empty file and over a store of 512 pages.
+const WORDS: [(&str, u8, &[u8], u8, &[u8]); 15] = [
+    ("settings", 2, USAGE, 2, USAGE),
+    ("grow", 2, USAGE, 2, USAGE),
+    ("settings --variant base --pages 600", 2, USAGE, 2, USAGE),
+    ("grow --pages 600 --variant base", 2, USAGE, 2, USAGE),
+    ("grow --pages 18446744073709551616", 2, USAGE, 2, USAGE),
+    (
+        "settings --variant odd --hash-bits 99",
+        8,
+        b"bad settings variant\n",
+        8,
+        b"bad settings variant\n",
+    ),
+    (
+        "settings --variant hash --hash-bits 33",
+        8,
+        b"bad settings hash-bits\n",
+        8,
+        b"bad settings hash-bits\n",
+    ),
+    (
+        "settings --variant base --ratio 65536",
+        8,
+        b"bad settings ratio\n",
+        8,
+        b"bad settings ratio\n",
+    ),
+    (
+        "settings --variant base --hash-bits 99",
+        8,
+        b"not a store\n",
+        0,
+        b"settings 0 0 64\n",
+    ),
+    (
+        "settings --variant=mixed --hash-bits=32 --ratio=65535",
+        8,
+        b"not a store\n",
+        0,
+        b"settings 32 8 65535\n",
+    ),
+    (
+        "grow --pages 1",
+        8,
+        b"not a store\n",
+        8,
+        b"bad settings pages\n",
+    ),
+    ("grow --pages 512", 8, b"not a store\n", 0, b"grown 512\n"),
+    (
+        "grow --pages 16777216",
+        8,
+        b"not a store\n",
+        0,
+        b"grown 16777216\n",
+    ),
+    (
+        "grow --pages 16777217",
+        8,
+        b"not a store\n",
+        8,
+        b"bad settings pages\n",
+    ),
+    (
+        "grow --pages 4294967808",
+        8,
+        b"not a store\n",
+        8,
+        b"bad settings pages\n",
+    ),
+];
+
+// What is refused has written nothing.
+#[test]
+fn words_of_new_numbers(rt: HostRuntime) -> Result<(), Fail> {
+    let alloc = rt.alloc();
+    let first = base_disk(alloc)?;
+    for (number, (words, empty, line, status, said)) in WORDS.iter().copied().enumerate() {
+        let none = commanded(alloc, words, disk_of(alloc, b"")?)?;
+        check(&rt, &none, empty, line, number as u64);
+        assert!(rt; none.disk.bytes().is_empty(), "{words}");
+        let there = commanded(alloc, words, disk_of(alloc, first.bytes())?)?;
+        check(&rt, &there, status, said, number as u64);
+        assert_eq!(rt; there.disk.bytes() == first.bytes(), status != 0, "{words}");
+    }
+    Ok(())
+}
+
+// The next version is in slot A, with the new settings in its head and the old ones in its row; slot B stays. A table gets the
+// new ones when it is made.
+#[test]
+fn new_tables_get_other_settings(rt: HostRuntime) -> Result<(), Fail> {
+    let alloc = rt.alloc();
+    let first = served(alloc, base_disk(alloc)?, TWO_PUTS)?;
+    let set = commanded(alloc, "settings --variant hash", first.disk)?;
+    check(&rt, &set, 0, b"settings 8 0 64\n", 0);
+    assert!(rt; stands(&set.disk, 0, b"\x01"));
+    assert!(rt;
+        stands(
+            &set.disk,
+            8,
+            b"SRFM\x02\x00\x01\x00\x03\x00\x00\x00\x00\x00\x00\x00\x00\x02\x00\x00\x08\x00@\x00\x80\x00\x00\x00@"
+        )
+    );
+    assert!(rt;
+        stands(
+            &set.disk,
+            128,
+            b"\x00\x00@\x00\x00\x00\x00\x00\xbe\x5d\x3b\xf7\x2b\x15\x82\xfa"
+        )
+    );
+    assert!(rt; stands(&set.disk, 131_072, b"\x01"));
+    assert!(rt; stands(&set.disk, 131_088, b"\x02\x00\x00\x00\x00\x00\x00\x00"));
+    assert!(rt; stands(&set.disk, 131_208, b"\x7f\xef\x6a\x63\x37\xca\xd6\x6b"));
+    let lines =
+        b"explain 616139\nput 62 01\nflush\nexplain 6239\ncompact\nexplain 616139\nget 616131\nget 62\n";
+    let after = served(alloc, set.disk, lines)?;
+    let told =
+        b"tables 1 admitted 1 blocks 1\nok\nok\ntables 2 admitted 0 blocks 0\nok\ntables 1 admitted 0 blocks 0\nval 01\nval 01\n";
+    check(&rt, &after, 0, told, 1);
+    Ok(())
+}
+
+// The row of the old table keeps the settings that its head gave it; the version before stays as it was.
+#[test]
+fn a_device_of_format_1_gets_other_settings(rt: HostRuntime) -> Result<(), Fail> {
+    let alloc = rt.alloc();
+    let first = format_1(alloc)?;
+    let set = commanded(
+        alloc,
+        "settings --variant base",
+        disk_of(alloc, first.bytes())?,
+    )?;
+    check(&rt, &set, 0, b"settings 0 0 64\n", 0);
+    assert!(rt; stands(&set.disk, 8, b"SRFM\x02\x00\x01\x00\x03"));
+    assert!(rt; stands(&set.disk, 28, b"\x00\x00@\x00\x80\x00\x00\x00@"));
+    assert!(rt;
+        stands(
+            &set.disk,
+            128,
+            b"\x04\x03\x10\x00\x00\x00\x00\x00\x67\x54\x1f\x28\x88\xc3\xd1\x2c"
+        )
+    );
+    let slot = first.bytes().get(131_072..262_144).unwrap_or(b"");
+    assert!(rt; stands(&set.disk, 131_072, slot));
+    let after = served(
+        alloc,
+        set.disk,
+        b"explain 616139\nput 62 01\nflush\nexplain 616139\n",
+    )?;
+    let told = b"tables 1 admitted 0 blocks 0\nok\nok\ntables 2 admitted 0 blocks 0\n";
+    check(&rt, &after, 0, told, 1);
+    for (place, bytes) in [
+        (131_200, b"\x00\x00@\x00\x00\x00\x00\x00"),
+        (131_264, b"\x04\x03\x10\x00\x00\x00\x00\x00"),
+        (131_272, b"\xa2\xf9\x31\xb5\x23\x82\x03\x78"),
+    ] {
+        assert!(rt; stands(&after.disk, place, bytes));
+    }
+    Ok(())
+}
+
+// Fills a store: six tables of 53 pages take 318 of 320, three records fill the log, and the next flush finds no room.
+fn fill(alloc: Global, disk: &mut MemDisk) -> Result<(), Fail> {
+    let mut store = opened(alloc, disk)?;
+    let zeros = vec![in alloc; 0; 65_536]?;
+    for key in 1..=21u8 {
+        store.put(disk, &[key], &zeros)?;
+    }
+    Ok(())
+}
+
+// A put of a key with a value for which the log of a full store has no room.
+fn large_put(alloc: Global) -> Result<Vec<u8>, Fail> {
+    let mut line = Vec::from_slice(alloc, b"put 16 ")?;
+    for _ in 0..65_536 {
+        line.extend_from_slice(b"00")?;
+    }
+    line.push(b'\n')?;
+    Ok(line)
+}
+
+#[test]
+fn a_full_store_grows(rt: HostRuntime) -> Result<(), Fail> {
+    let alloc = rt.alloc();
+    let mut disk = base_disk(alloc)?;
+    fill(alloc, &mut disk)?;
+    let line = large_put(alloc)?;
+    let full = served(alloc, disk, &line)?;
+    check(&rt, &full, 0, b"full need 53 gap 2\n", 0);
+    let length = full.disk.bytes().len();
+    let grown = commanded(alloc, "grow --pages 600", full.disk)?;
+    check(&rt, &grown, 0, b"grown 600\n", 1);
+    assert_eq!(rt; grown.disk.bytes().len(), length);
+    let fewer = commanded(alloc, "grow --pages 599", grown.disk)?;
+    check(&rt, &fewer, 8, b"bad settings pages\n", 2);
+    let put = served(alloc, fewer.disk, &line)?;
+    check(&rt, &put, 0, b"ok\n", 3);
+    Ok(())
+}
+
+#[test]
+fn the_last_epoch_takes_no_numbers(rt: HostRuntime) -> Result<(), Fail> {
+    let alloc = rt.alloc();
+    let mut disk = base_disk(alloc)?;
+    disk.write(16, &[0xff; 8])?;
+    disk.write(72, &LAST_EPOCH_SUM)?;
+    let rows: [(&str, u8, &[u8]); 5] = [
+        ("settings --variant base", 10, b"limit epoch\n"),
+        ("grow --pages 600", 10, b"limit epoch\n"),
+        ("grow --pages 512", 10, b"limit epoch\n"),
+        ("grow --pages 5", 8, b"bad settings pages\n"),
+        (
+            "settings --variant hash --hash-bits 33",
+            8,
+            b"bad settings hash-bits\n",
+        ),
+    ];
+    for (number, (words, status, line)) in rows.iter().copied().enumerate() {
+        let end = commanded(alloc, words, disk_of(alloc, disk.bytes())?)?;
+        check(&rt, &end, status, line, number as u64);
+        assert!(rt; end.disk.bytes() == disk.bytes(), "{words}");
+    }
+    Ok(())
+}
+
+// What the next run is told that finds both pairs, and makes a table whose filter has no hash bits, or those that were to be set.
+const WITHOUT_BITS: &[u8] = b"val 01\nval 02\nok\nok\ntables 2 admitted 1 blocks 0\n";
+
+const WITH_BITS: &[u8] = b"val 01\nval 02\nok\nok\ntables 2 admitted 0 blocks 0\n";
+
+fn has_old_or_new(alloc: Global, disk: Box<MemDisk>) -> Result<bool, Fail> {
+    let lines = b"get 616131\nget 616231\nput 62 01\nflush\nexplain 6239\n";
+    let end = served(alloc, disk, lines)?;
+    let said = end.said.as_slice();
+    Ok(said == WITHOUT_BITS || said == WITH_BITS)
+}
+
+// Each call of the disk fails in turn, and whatever a crash leaves of its writes, the store has the old numbers or the new ones.
+fn each_call_fails_well(
+    rt: &impl Abort,
+    alloc: Global,
+    words: &str,
+    line: &[u8],
+) -> Result<(), Fail> {
+    let first = served(alloc, base_disk(alloc)?, TWO_PUTS)?;
+    for call in 0..40 {
+        let end = commanded(alloc, words, failing(alloc, &first.disk, call)?)?;
+        if end.status == 0 {
+            check(rt, &end, 0, line, call);
+            return Ok(());
+        }
+        check(rt, &end, 4, b"device\n", call);
+        assert!(rt;
+            has_old_or_new(alloc, lost(alloc, &end.disk)?)?,
+            "call {call}"
+        );
+        assert!(rt;
+            has_old_or_new(alloc, written(alloc, &end.disk)?)?,
+            "call {call}"
+        );
+    }
+    assert!(rt; false, "a call failed each time");
+    Ok(())
+}
+
+#[test]
+fn calls_fail_as_numbers_are_set(rt: HostRuntime) -> Result<(), Fail> {
+    let alloc = rt.alloc();
+    each_call_fails_well(&rt, alloc, "settings --variant hash", b"settings 8 0 64\n")?;
+    each_call_fails_well(&rt, alloc, "grow --pages 600", b"grown 600\n")
+}
+
+// An outside of which the first call of the output fails.
+fn unsaid(alloc: Global, disk: Box<MemDisk>) -> Result<Box<MemOutside>, AllocError> {
+    let mut says = Vec::new(alloc);
+    says.push(0)?;
+    let disk = Box::into_inner(disk);
+    boxed(
+        alloc,
+        MemOutside::new(disk, Vec::new(alloc), Vec::new(alloc), says),
+    )
+}
+
+// A line that cannot be said is status 6, behind an install that is done: slot B has the new numbers.
+#[test]
+fn a_line_of_new_numbers_is_not_said(rt: HostRuntime) -> Result<(), Fail> {
+    let alloc = rt.alloc();
+    let rows: [(&str, usize, &[u8]); 2] = [
+        ("settings --variant hash", 131_100, b"\x08\x00@\x00"),
+        ("grow --pages 600", 131_096, b"\x58\x02\x00\x00"),
+    ];
+    for (words, place, numbers) in rows {
+        let end = ran(alloc, words, unsaid(alloc, base_disk(alloc)?)?)?;
+        check(&rt, &end, 6, b"", 0);
+        assert!(rt; stands(&end.disk, 131_072, b"\x01"), "{words}");
+        assert!(rt; stands(&end.disk, place, numbers), "{words}");
+    }
+    Ok(())
+}
