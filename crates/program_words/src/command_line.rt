@@ -28,8 +28,9 @@ format: --pages N    pages of 4,096 bytes, 512 to 16,777,216
                      neither, hash no real bits, real no hash bits
         --ratio N    0 to 65,535, 64 where none is named
 load:   --seed S     below 2^64    --count N  steps, 1 to 1,000,000
-settings: as format, without --pages; for the tables that are made from then on
-grow:   --pages N    not fewer than there are, for good
+settings: as format, without --pages; for the tables that are made from then on.
+             What is not named takes its default, whatever the store has
+grow:   --pages N    how many the store has then: not fewer than now, for good
 Example:
   $ surfstore db format --pages 1048576 --variant base
   formatted 1048576
@@ -88,14 +89,16 @@ pairs.";
 
 // Which tables get them, behind the help of `settings`.
 const NEW_TABLES: &str = "\
-It says the three numbers: settings HASH-BITS REAL-BITS RATIO. Tables that are
-there keep the filters that they have until they are merged; a compact in serve
-merges them all. Example:
+An option that is not named takes its default, as in format, whatever the store
+has. It says the three numbers: settings HASH-BITS REAL-BITS RATIO. Tables that
+are there keep the filters that they have until they are merged; a compact in
+serve merges them all. Example:
   $ surfstore db settings --variant hash
   settings 8 0 64";
 
 // What more pages are, behind the help of `grow`.
 const MORE_PAGES: &str = "\
+N is the number of pages that the store has then, not of those that are added.
 The file is not made longer, and the pages are not reserved: on a block device,
 or where the file system is full, a later write may fail, which ends that run.
 No call takes pages back. Example:
@@ -247,7 +250,7 @@ fn grow_command<'a>(alloc: Global) -> Result<Command<'a>, AllocError>
     with_pages(
         alloc,
         command,
-        "Pages of 4,096 bytes, not fewer than the store has, at most 16,777,216",
+        "Pages of 4,096 bytes that the store has then, not fewer than now, at most 16,777,216",
     )
 }
 
