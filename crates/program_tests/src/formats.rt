@@ -1,5 +1,6 @@
-//! A device of the manifest's first format, as the program of before left it.
-use crate::runs::{check, disk_of, served};
+//! A device of the manifest's first format, as the earlier program left it.
+use crate::runs::{check, disk_of, failing, lost, served, written};
+use crate::torn::torn_disks;
 use disk_mem::MemDisk;
 use std::alloc::Global;
 use std::test::Fail;
@@ -77,5 +78,45 @@ fn a_device_of_format_1_is_served(rt: HostRuntime) -> Result<(), Fail> {
     }
     assert!(rt; stands(&written.disk, 200, b"\x58\x29\xbc\xc9\x91\x4b\xb5\x8c"));
     assert!(rt; stands(&written.disk, 131_080, b"SRFM\x01\x00\x01\x00\x02"));
+    Ok(())
+}
+
+// Whether the pairs are there, and the put's if it was answered, by the old version or the next one.
+fn keeps(alloc: Global, disk: Box<MemDisk>, said: &[u8]) -> Result<bool, Fail> {
+    let lines = b"get 616131\nget 616231\nexplain 616139\nget 62\n";
+    let end = served(alloc, disk, lines)?;
+    let versions: [&[u8]; 2] = [
+        b"val 01\nval 02\ntables 1 admitted 0 blocks 0\n",
+        b"val 01\nval 02\ntables 2 admitted 0 blocks 0\n",
+    ];
+    for version in versions {
+        if let Some(found) = end.said.strip_prefix(version) {
+            let is_put = found.starts_with(b"val 01\n");
+            return Ok(is_put || found.starts_with(b"none\n") && !said.starts_with(b"ok\n"));
+        }
+    }
+    Ok(false)
+}
+
+// Each call of that put and flush fails in turn, whatever a crash leaves of its writes.
+#[test]
+fn a_flush_over_format_1_is_stopped(rt: HostRuntime) -> Result<(), Fail> {
+    let alloc = rt.alloc();
+    let first = format_1(alloc)?;
+    for call in 0..60 {
+        let end = served(alloc, failing(alloc, &first, call)?, b"put 62 01\nflush\n")?;
+        if end.status == 0 {
+            return Ok(());
+        }
+        assert_eq!(rt; end.status, 4, "call {call}");
+        let whole = written(alloc, &end.disk)?;
+        assert!(rt; keeps(alloc, whole, &end.said)?, "call {call}");
+        let none = lost(alloc, &end.disk)?;
+        assert!(rt; keeps(alloc, none, &end.said)?, "call {call}");
+        for torn in torn_disks(alloc, &end.disk)? {
+            assert!(rt; keeps(alloc, torn, &end.said)?, "call {call}");
+        }
+    }
+    assert!(rt; false, "a call failed each time");
     Ok(())
 }

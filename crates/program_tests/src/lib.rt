@@ -28,6 +28,8 @@ mod refused;
 #[cfg(test)]
 mod replies;
 #[cfg(test)]
+mod reset_faults;
+#[cfg(test)]
 mod resets;
 #[cfg(test)]
 mod runs;

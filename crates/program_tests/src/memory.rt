@@ -3,7 +3,8 @@
 //! The gate plays them with all the memory that they ask for. `tools/refuse-allocations` plays them once for each allocation,
 //! with that one refused. Where it is the test's own, the test ends with an error and no failed assertion.
 use crate::faults::{GETS, SCRIPT};
-use crate::runs::{Ended, commanded, disk_of, served};
+use crate::formats::stands;
+use crate::runs::{Ended, commanded, disk_of, served, stopped};
 use disk_mem::MemDisk;
 use std::alloc::{AllocError, Global};
 use std::test::Fail;
@@ -180,6 +181,64 @@ fn each_allocation_of_a_load_may_be_refused(rt: HostRuntime) -> Result<(), Fail>
     let alloc = rt.alloc();
     if let Some(first) = four_tables(alloc)? {
         assert!(rt; is_loaded(alloc, &first)?);
+    }
+    assert!(rt; is_not_the_last(alloc), "the last allocation");
+    Ok(())
+}
+
+// New numbers of a new store: the words, the line, and the pages and settings in slot B, which the next version takes.
+const NUMBERS: [(&str, &[u8], &[u8]); 2] = [
+    (
+        "settings --variant hash",
+        b"settings 8 0 64\n",
+        b"\x00\x02\x00\x00\x08\x00@\x00",
+    ),
+    (
+        "grow --pages 600",
+        b"grown 600\n",
+        b"\x58\x02\x00\x00\x00\x00@\x00",
+    ),
+];
+
+// Whether a store has these numbers, and whether nothing of it has changed.
+fn numbers_of(first: &MemDisk, after: &MemDisk, numbers: &[u8]) -> (bool, bool) {
+    let new = stands(after, 131_072, b"\x01") && stands(after, 131_096, numbers);
+    (new, after.bytes() == first.bytes())
+}
+
+// Whether a run that sets numbers is by the rule: with 7 nothing was written, and with 6 the output found no memory.
+fn is_set(
+    alloc: Global,
+    first: &Ended,
+    words: &str,
+    line: &[u8],
+    numbers: &[u8],
+) -> Result<bool, Fail> {
+    let end = run_over(alloc, words, first.disk.bytes())?;
+    let (new, same) = numbers_of(&first.disk, &end.disk, numbers);
+    let told = match end.status {
+        0 => end.said.as_slice() == line && new,
+        7 => end.said.as_slice() == MEMORY && same,
+        status => status == 6 && (new || same),
+    };
+    Ok(told && end.disk.starved() == 0)
+}
+
+// Whether a run whose line cannot be said, whichever line that is, ends with 6 behind nothing.
+fn is_unsaid(alloc: Global, first: &Ended, words: &str) -> Result<bool, Fail> {
+    let end = stopped(alloc, words, &first.disk, &[], &[0])?;
+    Ok(end.status == 6 && end.said.is_empty())
+}
+
+#[test]
+fn each_allocation_of_new_numbers_may_be_refused(rt: HostRuntime) -> Result<(), Fail> {
+    let alloc = rt.alloc();
+    let first = run_over(alloc, "format --pages 512 --variant base", b"")?;
+    if first.status == 0 {
+        for (words, line, numbers) in NUMBERS {
+            assert!(rt; is_set(alloc, &first, words, line, numbers)?, "{words}");
+            assert!(rt; is_unsaid(alloc, &first, words)?, "{words}");
+        }
     }
     assert!(rt; is_not_the_last(alloc), "the last allocation");
     Ok(())

@@ -26,6 +26,14 @@ const EXAMPLES: [(Writes, &[u8]); 4] = [
     ),
 ];
 
+// Words of each run that opens a store.
+const OPENINGS: [&str; 4] = [
+    "serve",
+    "load --seed 1 --count 1",
+    "settings --variant base",
+    "grow --pages 600",
+];
+
 fn write_all(disk: &mut MemDisk, writes: Writes) -> Result<(), DiskFault> {
     for (at, bytes) in writes {
         disk.write((*at).min(1 << 20), &bytes[..bytes.len().min(16)])?;
@@ -34,10 +42,10 @@ fn write_all(disk: &mut MemDisk, writes: Writes) -> Result<(), DiskFault> {
 }
 
 #[test]
-fn serve_and_load_tell_what_is_damaged(rt: HostRuntime) -> Result<(), Fail> {
+fn each_opening_tells_what_is_damaged(rt: HostRuntime) -> Result<(), Fail> {
     let alloc = rt.alloc();
     for (number, (writes, told)) in EXAMPLES.iter().copied().enumerate() {
-        for words in ["serve", "load --seed 1 --count 1"] {
+        for words in OPENINGS {
             let mut disk = base_disk(alloc)?;
             write_all(&mut disk, writes)?;
             let end = commanded(alloc, words, disk)?;

@@ -1,22 +1,20 @@
 //! Other settings for new tables, and more pages.
 use crate::formats::{format_1, stands};
 use crate::replies::LAST_EPOCH_SUM;
-use crate::runs::{
-    base_disk, boxed, check, commanded, disk_of, failing, lost, opened, ran, served, written,
-};
+use crate::runs::{base_disk, check, commanded, disk_of, opened, served};
 use disk_mem::MemDisk;
 use disk_trait::Disk;
-use outside::MemOutside;
-use std::alloc::{AllocError, Global};
+use std::alloc::Global;
 use std::process::Abort;
 use std::test::Fail;
 
 const USAGE: &[u8] = b"usage: surfstore PATH format|serve|load|settings|grow\n";
 
-const TWO_PUTS: &[u8] = b"put 616131 01\nput 616231 02\nflush\n";
+/// Lines that make a table of two keys.
+pub const TWO_PUTS: &[u8] = b"put 616131 01\nput 616231 02\nflush\n";
 
 // Words, the status, and the line that is said, over an empty file and over a store of 512 pages.
-const WORDS: [(&str, u8, &[u8], u8, &[u8]); 15] = [
+const WORDS: [(&str, u8, &[u8], u8, &[u8]); 11] = [
     ("settings", 2, USAGE, 2, USAGE),
     ("grow", 2, USAGE, 2, USAGE),
     ("settings --variant base --pages 600", 2, USAGE, 2, USAGE),
@@ -64,31 +62,9 @@ const WORDS: [(&str, u8, &[u8], u8, &[u8]); 15] = [
         8,
         b"bad settings pages\n",
     ),
-    ("grow --pages 512", 8, b"not a store\n", 0, b"grown 512\n"),
-    (
-        "grow --pages 16777216",
-        8,
-        b"not a store\n",
-        0,
-        b"grown 16777216\n",
-    ),
-    (
-        "grow --pages 16777217",
-        8,
-        b"not a store\n",
-        8,
-        b"bad settings pages\n",
-    ),
-    (
-        "grow --pages 4294967808",
-        8,
-        b"not a store\n",
-        8,
-        b"bad settings pages\n",
-    ),
 ];
 
-// What is refused has written nothing.
+// What is refused has written nothing; settings out of range are told before any call.
 #[test]
 fn words_of_new_numbers(rt: HostRuntime) -> Result<(), Fail> {
     let alloc = rt.alloc();
@@ -100,6 +76,9 @@ fn words_of_new_numbers(rt: HostRuntime) -> Result<(), Fail> {
         let there = commanded(alloc, words, disk_of(alloc, first.bytes())?)?;
         check(&rt, &there, status, said, number as u64);
         assert_eq!(rt; there.disk.bytes() == first.bytes(), status != 0, "{words}");
+        let untried = status == 2
+            || said.starts_with(b"bad settings") && words.starts_with("settings");
+        assert_eq!(rt; there.disk.calls() == 0, untried, "{words}");
     }
     Ok(())
 }
@@ -198,6 +177,24 @@ fn large_put(alloc: Global) -> Result<Vec<u8>, Fail> {
     Ok(line)
 }
 
+// Words over the full store, each from the start: the status and the line. The last but one is 512 in its low 32 bits.
+const PAGES: [(&str, u8, &[u8]); 5] = [
+    ("grow --pages 512", 0, b"grown 512\n"),
+    ("grow --pages 511", 8, b"bad settings pages\n"),
+    ("grow --pages 16777217", 8, b"bad settings pages\n"),
+    ("grow --pages 4294967808", 8, b"bad settings pages\n"),
+    ("grow --pages 16777216", 0, b"grown 16777216\n"),
+];
+
+fn pages_are_in_range(rt: &impl Abort, alloc: Global, full: &MemDisk) -> Result<(), Fail> {
+    for (number, (words, status, line)) in PAGES.iter().copied().enumerate() {
+        let end = commanded(alloc, words, disk_of(alloc, full.bytes())?)?;
+        check(rt, &end, status, line, number as u64);
+        assert_eq!(rt; end.disk.bytes() == full.bytes(), status != 0, "{words}");
+    }
+    Ok(())
+}
+
 #[test]
 fn a_full_store_grows(rt: HostRuntime) -> Result<(), Fail> {
     let alloc = rt.alloc();
@@ -206,6 +203,7 @@ fn a_full_store_grows(rt: HostRuntime) -> Result<(), Fail> {
     let line = large_put(alloc)?;
     let full = served(alloc, disk, &line)?;
     check(&rt, &full, 0, b"full need 53 gap 2\n", 0);
+    pages_are_in_range(&rt, alloc, &full.disk)?;
     let length = full.disk.bytes().len();
     let grown = commanded(alloc, "grow --pages 600", full.disk)?;
     check(&rt, &grown, 0, b"grown 600\n", 1);
@@ -217,12 +215,18 @@ fn a_full_store_grows(rt: HostRuntime) -> Result<(), Fail> {
     Ok(())
 }
 
-#[test]
-fn the_last_epoch_takes_no_numbers(rt: HostRuntime) -> Result<(), Fail> {
-    let alloc = rt.alloc();
+/// A disk of a new store in its last epoch.
+pub fn last_epoch(alloc: Global) -> Result<Box<MemDisk>, Fail> {
     let mut disk = base_disk(alloc)?;
     disk.write(16, &[0xff; 8])?;
     disk.write(72, &LAST_EPOCH_SUM)?;
+    Ok(disk)
+}
+
+#[test]
+fn the_last_epoch_takes_no_numbers(rt: HostRuntime) -> Result<(), Fail> {
+    let alloc = rt.alloc();
+    let disk = last_epoch(alloc)?;
     let rows: [(&str, u8, &[u8]); 5] = [
         ("settings --variant base", 10, b"limit epoch\n"),
         ("grow --pages 600", 10, b"limit epoch\n"),
@@ -238,81 +242,6 @@ fn the_last_epoch_takes_no_numbers(rt: HostRuntime) -> Result<(), Fail> {
         let end = commanded(alloc, words, disk_of(alloc, disk.bytes())?)?;
         check(&rt, &end, status, line, number as u64);
         assert!(rt; end.disk.bytes() == disk.bytes(), "{words}");
-    }
-    Ok(())
-}
-
-// What the next run is told that finds both pairs, and makes a table whose filter has no hash bits, or those that were to be set.
-const WITHOUT_BITS: &[u8] = b"val 01\nval 02\nok\nok\ntables 2 admitted 1 blocks 0\n";
-
-const WITH_BITS: &[u8] = b"val 01\nval 02\nok\nok\ntables 2 admitted 0 blocks 0\n";
-
-fn has_old_or_new(alloc: Global, disk: Box<MemDisk>) -> Result<bool, Fail> {
-    let lines = b"get 616131\nget 616231\nput 62 01\nflush\nexplain 6239\n";
-    let end = served(alloc, disk, lines)?;
-    let said = end.said.as_slice();
-    Ok(said == WITHOUT_BITS || said == WITH_BITS)
-}
-
-// Each call of the disk fails in turn, and whatever a crash leaves of its writes, the store has the old numbers or the new ones.
-fn each_call_fails_well(
-    rt: &impl Abort,
-    alloc: Global,
-    words: &str,
-    line: &[u8],
-) -> Result<(), Fail> {
-    let first = served(alloc, base_disk(alloc)?, TWO_PUTS)?;
-    for call in 0..40 {
-        let end = commanded(alloc, words, failing(alloc, &first.disk, call)?)?;
-        if end.status == 0 {
-            check(rt, &end, 0, line, call);
-            return Ok(());
-        }
-        check(rt, &end, 4, b"device\n", call);
-        assert!(rt;
-            has_old_or_new(alloc, lost(alloc, &end.disk)?)?,
-            "call {call}"
-        );
-        assert!(rt;
-            has_old_or_new(alloc, written(alloc, &end.disk)?)?,
-            "call {call}"
-        );
-    }
-    assert!(rt; false, "a call failed each time");
-    Ok(())
-}
-
-#[test]
-fn calls_fail_as_numbers_are_set(rt: HostRuntime) -> Result<(), Fail> {
-    let alloc = rt.alloc();
-    each_call_fails_well(&rt, alloc, "settings --variant hash", b"settings 8 0 64\n")?;
-    each_call_fails_well(&rt, alloc, "grow --pages 600", b"grown 600\n")
-}
-
-// An outside of which the first call of the output fails.
-fn unsaid(alloc: Global, disk: Box<MemDisk>) -> Result<Box<MemOutside>, AllocError> {
-    let mut says = Vec::new(alloc);
-    says.push(0)?;
-    let disk = Box::into_inner(disk);
-    boxed(
-        alloc,
-        MemOutside::new(disk, Vec::new(alloc), Vec::new(alloc), says),
-    )
-}
-
-// A line that cannot be said is status 6, behind an install that is done: slot B has the new numbers.
-#[test]
-fn a_line_of_new_numbers_is_not_said(rt: HostRuntime) -> Result<(), Fail> {
-    let alloc = rt.alloc();
-    let rows: [(&str, usize, &[u8]); 2] = [
-        ("settings --variant hash", 131_100, b"\x08\x00@\x00"),
-        ("grow --pages 600", 131_096, b"\x58\x02\x00\x00"),
-    ];
-    for (words, place, numbers) in rows {
-        let end = ran(alloc, words, unsaid(alloc, base_disk(alloc)?)?)?;
-        check(&rt, &end, 6, b"", 0);
-        assert!(rt; stands(&end.disk, 131_072, b"\x01"), "{words}");
-        assert!(rt; stands(&end.disk, place, numbers), "{words}");
     }
     Ok(())
 }

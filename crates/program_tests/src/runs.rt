@@ -138,6 +138,18 @@ pub fn paced(
     ran(alloc, "serve", boxed(alloc, out)?)
 }
 
+/// A run with these words and nothing to take, by a byte at a time, in which the take and the say of these numbers fail.
+pub fn stopped(
+    alloc: Global,
+    words: &str,
+    first: &MemDisk,
+    takes: &[u64],
+    says: &[u64],
+) -> Result<Ended, Fail> {
+    let out = with_streams(alloc, first, b"", takes, says)?.with_pace(1);
+    ran(alloc, words, boxed(alloc, out)?)
+}
+
 /// A disk of which `format`, called with these words, made a store.
 pub fn formatted(alloc: Global, words: &str) -> Result<Box<MemDisk>, Fail> {
     let end = commanded(alloc, words, disk_of(alloc, b"")?)?;

@@ -64,11 +64,12 @@ fn sevens(alloc: Global, disk: &MemDisk, number: usize) -> Result<Left, Fail> {
     Ok(Left::Lost)
 }
 
-// Whether what was said lasts where each write that waits for a sync is 07: all of them, and each with the others lost and whole.
-fn outlasts(alloc: Global, end: &Ended) -> Result<bool, Fail> {
-    let first = sevens(alloc, &end.disk, 0)?;
-    let second = sevens(alloc, &end.disk, 1)?;
-    let third = sevens(alloc, &end.disk, 2)?;
+/// The disks that a crash leaves where each write that waits for a sync is 07: all of them, and each with the others lost and
+/// whole. Where none waits, it is the disk as it is.
+pub fn torn_disks(alloc: Global, disk: &MemDisk) -> Result<Vec<Box<MemDisk>>, Fail> {
+    let first = sevens(alloc, disk, 0)?;
+    let second = sevens(alloc, disk, 1)?;
+    let third = sevens(alloc, disk, 2)?;
     let rows = [
         [first, second, third],
         [first, Left::Lost, Left::Lost],
@@ -79,8 +80,16 @@ fn outlasts(alloc: Global, end: &Ended) -> Result<bool, Fail> {
         [Left::Whole, Left::Whole, third],
     ];
     let count = if matches!(second, Left::Lost) { 1 } else { 7 };
+    let mut disks = Vec::new(alloc);
     for left in rows.into_iter().take(count) {
-        let disk = crashed(alloc, &end.disk, left)?;
+        disks.push(crashed(alloc, disk, left)?)?;
+    }
+    Ok(disks)
+}
+
+// Whether what was said lasts on each of them.
+fn outlasts(alloc: Global, end: &Ended) -> Result<bool, Fail> {
+    for disk in torn_disks(alloc, &end.disk)? {
         if !has_all::<Succinct>(alloc, disk, &end.said)? {
             return Ok(false);
         }
@@ -97,6 +106,7 @@ fn calls_fail_and_each_write_is_left_as_sevens(rt: HostRuntime) -> Result<(), Fa
         let end = interrupted::<Succinct>(alloc, &first, call)?;
         assert!(rt; outlasts(alloc, &end)?, "call {call}");
         if end.status == 0 {
+            assert_eq!(rt; end.disk.starved(), 0);
             return Ok(());
         }
         assert!(rt; is_told(&end), "call {call}");
