@@ -20,25 +20,37 @@ const LOADED: &[u8] = b"load steps 40 refused 0 live 42 sum 0db3ad17082d55bb\n";
 
 const FOUR: &[u8] = b"val 01\nval 02\nval 03\nval 04\n";
 
-// Whether 61, 62 and 63 are there.
-type There = [bool; 3];
+// Which of 61, 62 and 63 are there.
+#[derive(Clone, Copy)]
+struct There {
+    first: bool,
+    second: bool,
+    third: bool,
+}
+
+const NOTHING: There = There {
+    first: false,
+    second: false,
+    third: false,
+};
 
 // What is there behind a line of the script that was done.
 fn behind(there: There, line: usize) -> There {
-    let [first, second, third] = there;
+    let mut there = there;
     match line {
-        0 => [true, second, third],
-        1 => [first, true, third],
-        3 => [false, second, third],
-        5 => [first, second, true],
-        _ => there,
+        0 => there.first = true,
+        1 => there.second = true,
+        3 => there.first = false,
+        5 => there.third = true,
+        _ => {}
     }
+    there
 }
 
 // What is there behind a line with this reply, if the line may have it: `memory` says that nothing changed.
 fn behind_reply(there: There, line: usize, reply: &[u8]) -> Option<There> {
     let done: &[u8] = match line {
-        7 if there[1] => b"val 63\n",
+        7 if there.second => b"val 63\n",
         7 => b"none\n",
         8 => b"bye\n",
         _ => b"ok\n",
@@ -54,7 +66,7 @@ fn behind_reply(there: There, line: usize, reply: &[u8]) -> Option<There> {
 
 // What is there behind these replies, and how many there are.
 fn behind_replies(said: &[u8]) -> Option<(There, usize)> {
-    let mut there = [false; 3];
+    let mut there = NOTHING;
     let mut lines = 0usize;
     for reply in said.split_inclusive(|byte| *byte == b'\n') {
         there = behind_reply(there, lines, reply)?;
@@ -66,8 +78,9 @@ fn behind_replies(said: &[u8]) -> Option<(There, usize)> {
 // Whether gets of the three keys are answered by what is there.
 fn is_found(there: There, found: &[u8]) -> bool {
     let values: [&[u8]; 3] = [b"val 62\n", b"val 63\n", b"val 64\n"];
+    let all = [there.first, there.second, there.third];
     let mut replies = found.split_inclusive(|byte| *byte == b'\n');
-    for (value, is_there) in values.into_iter().zip(there) {
+    for (value, is_there) in values.into_iter().zip(all) {
         let reply = if is_there { value } else { b"none\n" };
         if replies.next() != Some(reply) {
             return false;
@@ -80,7 +93,7 @@ fn is_found(there: There, found: &[u8]) -> bool {
 // found no memory, and the line whose reply it is may be done.
 fn is_by_rule(status: u8, said: &[u8], found: &[u8]) -> bool {
     if status == 7 {
-        return said == MEMORY && is_found([false; 3], found);
+        return said == MEMORY && is_found(NOTHING, found);
     }
     match behind_replies(said) {
         Some((there, lines)) if status == 0 => lines == 9 && is_found(there, found),

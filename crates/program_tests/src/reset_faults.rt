@@ -1,6 +1,8 @@
 //! Calls, says and takes that fail as a store gets other settings or more pages.
 use crate::resets::{TWO_PUTS, last_epoch};
-use crate::runs::{base_disk, check, commanded, disk_of, failing, lost, served, stopped, written};
+use crate::runs::{
+    Ended, base_disk, check, commanded, disk_of, failing, lost, served, stopped, written,
+};
 use crate::torn::torn_disks;
 use disk_mem::MemDisk;
 use std::alloc::Global;
@@ -13,8 +15,15 @@ struct Change {
     words: &'static str,
     line: &'static [u8],
     growth: &'static str,
-    old: [&'static [u8]; 2],
-    new: [&'static [u8]; 2],
+    old: Told,
+    new: Told,
+}
+
+// What the lines and the growth are answered.
+#[derive(Clone, Copy)]
+struct Told {
+    lines: &'static [u8],
+    growth: &'static [u8],
 }
 
 const LINES: &[u8] = b"get 616131\nget 616231\nput 62 01\nflush\nexplain 6239\n";
@@ -28,28 +37,43 @@ const SETTINGS: Change = Change {
     words: "settings --variant hash",
     line: b"settings 8 0 64\n",
     growth: "grow --pages 512",
-    old: [WITHOUT_BITS, b"grown 512\n"],
-    new: [WITH_BITS, b"grown 512\n"],
+    old: Told {
+        lines: WITHOUT_BITS,
+        growth: b"grown 512\n",
+    },
+    new: Told {
+        lines: WITH_BITS,
+        growth: b"grown 512\n",
+    },
 };
 
 const GROWTH: Change = Change {
     words: "grow --pages 600",
     line: b"grown 600\n",
     growth: "grow --pages 599",
-    old: [WITHOUT_BITS, b"grown 599\n"],
-    new: [WITHOUT_BITS, b"bad settings pages\n"],
+    old: Told {
+        lines: WITHOUT_BITS,
+        growth: b"grown 599\n",
+    },
+    new: Told {
+        lines: WITHOUT_BITS,
+        growth: b"bad settings pages\n",
+    },
 };
+
+fn are_told(lines: &Ended, growth: &Ended, told: Told) -> bool {
+    lines.said.as_slice() == told.lines && growth.said.as_slice() == told.growth
+}
 
 // Whether a store has the new numbers, or `None` where it has neither those nor the old ones.
 fn has_new(alloc: Global, disk: Box<MemDisk>, change: &Change) -> Result<Option<bool>, Fail> {
-    let served = served(alloc, disk, LINES)?;
-    let grown = commanded(alloc, change.growth, served.disk)?;
-    let [lines, pages] = change.old;
-    if served.said.as_slice() == lines && grown.said.as_slice() == pages {
+    let lines = served(alloc, disk, LINES)?;
+    let left = disk_of(alloc, lines.disk.bytes())?;
+    let growth = commanded(alloc, change.growth, left)?;
+    if are_told(&lines, &growth, change.old) {
         return Ok(Some(false));
     }
-    let [lines, pages] = change.new;
-    let new = served.said.as_slice() == lines && grown.said.as_slice() == pages;
+    let new = are_told(&lines, &growth, change.new);
     Ok(if new { Some(true) } else { None })
 }
 
