@@ -9,7 +9,7 @@ use std::test::Fail;
 type Writes = &'static [(u64, &'static [u8])];
 
 // Slot A's body begins at byte 8, and its sum at byte 72. Of another version, of 511 pages with the sum of these bytes, of 511
-// pages with the sum of before; and an open gate of the log before a record of kind 3.
+// pages with the sum that stood there; and an open gate of the log before a record of kind 3.
 const EXAMPLES: [(Writes, &[u8]); 4] = [
     (&[(12, b"\x03")], b"damaged manifest 12 rule 2\n"),
     (

@@ -1,7 +1,7 @@
 //! Calls, says and takes that fail as a store gets other settings or more pages.
 use crate::resets::{TWO_PUTS, last_epoch};
 use crate::runs::{
-    Ended, base_disk, check, commanded, disk_of, failing, lost, served, stopped, written,
+    base_disk, calls_of, check, commanded, disk_of, failing, lost, served, stopped, written,
 };
 use crate::torn::torn_disks;
 use disk_mem::MemDisk;
@@ -61,19 +61,18 @@ const GROWTH: Change = Change {
     },
 };
 
-fn are_told(lines: &Ended, growth: &Ended, told: Told) -> bool {
-    lines.said.as_slice() == told.lines && growth.said.as_slice() == told.growth
+fn are_told(lines: &[u8], growth: &[u8], told: Told) -> bool {
+    lines == told.lines && growth == told.growth
 }
 
 // Whether a store has the new numbers, or `None` where it has neither those nor the old ones.
 fn has_new(alloc: Global, disk: Box<MemDisk>, change: &Change) -> Result<Option<bool>, Fail> {
     let lines = served(alloc, disk, LINES)?;
-    let left = disk_of(alloc, lines.disk.bytes())?;
-    let growth = commanded(alloc, change.growth, left)?;
-    if are_told(&lines, &growth, change.old) {
+    let growth = commanded(alloc, change.growth, lines.disk)?;
+    if are_told(&lines.said, &growth.said, change.old) {
         return Ok(Some(false));
     }
-    let new = are_told(&lines, &growth, change.new);
+    let new = are_told(&lines.said, &growth.said, change.new);
     Ok(if new { Some(true) } else { None })
 }
 
@@ -89,8 +88,10 @@ fn has_either(alloc: Global, disk: &MemDisk, change: &Change) -> Result<bool, Fa
     Ok(whole.is_some() && none.is_some())
 }
 
+// Until the store is opened nothing is written.
 fn each_call_fails_well(rt: &impl Abort, alloc: Global, change: &Change) -> Result<(), Fail> {
     let first = served(alloc, base_disk(alloc)?, TWO_PUTS)?;
+    let opened = calls_of(alloc, &first.disk, b"")? as u64;
     for call in 0..40 {
         let end = commanded(alloc, change.words, failing(alloc, &first.disk, call)?)?;
         if end.status == 0 {
@@ -99,7 +100,11 @@ fn each_call_fails_well(rt: &impl Abort, alloc: Global, change: &Change) -> Resu
             return Ok(());
         }
         check(rt, &end, 4, b"device\n", call);
-        assert!(rt; has_either(alloc, &end.disk, change)?, "call {call}");
+        if call < opened {
+            assert!(rt; end.disk.bytes() == first.disk.bytes(), "call {call}");
+        } else {
+            assert!(rt; has_either(alloc, &end.disk, change)?, "call {call}");
+        }
     }
     assert!(rt; false, "a call failed each time");
     Ok(())
