@@ -77,31 +77,37 @@ fn keeps_sums(trie: &Trie<Global>) -> bool {
     false
 }
 
-// The memory is within 1.10 of the image.
-fn check_memory(rt: &impl Abort, alloc: Global, trie: &Trie<Global>) -> Result<(), AllocError> {
+// The memory is so many bits, and these are within 1.10 of the image.
+fn check_memory(
+    rt: &impl Abort,
+    alloc: Global,
+    trie: &Trie<Global>,
+    bits: u64,
+) -> Result<(), AllocError> {
     let image = image_of(alloc, trie)?;
     assert!(rt; trie.image_bytes() == image.len() as u64);
-    let bits = (image.len() as u64).saturating_mul(8);
-    assert!(rt; trie.memory_bits().saturating_mul(10) <= bits.saturating_mul(11));
+    assert!(rt; trie.memory_bits() == bits);
+    let image_bits = (image.len() as u64).saturating_mul(8);
+    assert!(rt; bits.saturating_mul(10) <= image_bits.saturating_mul(11));
     Ok(())
 }
 
-fn check_pairs(rt: &impl Abort, alloc: Global, shared: usize) -> Result<(), Fail> {
+fn check_pairs(rt: &impl Abort, alloc: Global, shared: usize, bits: u64) -> Result<(), Fail> {
     let keys = pairs(alloc, shared)?;
     let trie = base_trie(alloc, &keys, CUTOFF)?;
     assert!(rt; keeps_sums(&trie) == (shared > 12));
-    check_memory(rt, alloc, &trie)?;
+    check_memory(rt, alloc, &trie, bits)?;
     Ok(())
 }
 
-// On each level a pair has a node and two leaves, which take three bits and a half, and in all of the sparse half two places
-// more than letters that it shares.
+// On each level a pair has a node and two leaves, which take three bits and a half, and in all of the sparse half two
+// places more than letters that it shares. Nine nodes are dense. With 12 letters 28,672 labels and 26,624 nodes are not:
+// 291,392 bits of words, and 21,760 of counts and places. With 13 letters 30,720 and 28,672: 311,872 and 23,296, and of
+// the sums 6,145 bits in 97 words and 33 places of 32 bits, 7,264 in all.
 #[test]
 fn sums_are_kept_within_the_memory_that_a_trie_may_take(rt: HostRuntime) -> Result<(), Fail> {
-    for shared in 12..14 {
-        check_pairs(&rt, rt.alloc(), shared)?;
-    }
-    Ok(())
+    check_pairs(&rt, rt.alloc(), 12, 313_152)?;
+    check_pairs(&rt, rt.alloc(), 13, 342_432)
 }
 
 // The sums of a level from a node on to the next one, below which so many leaves stand.
