@@ -5,10 +5,11 @@ use Rattle.std.proofs.lemmas.Bool.{false≢true, true≢false}
 use Rattle.std.proofs.lemmas.List.{append-nil, length-take-le, take-append-drop, take_all, take_more}
 use Rattle.filter_image_model.proofs.Link.{node-rests}
 use Rattle.filter_image_model.proofs.Sizes.{some_height}
+use Rattle.filter_iter.proofs.ByNumber.{none_ahead}
 use Rattle.filter_iter.proofs.Groups.{start_ends}
 use Rattle.filter_iter.proofs.Starts.{no_level}
 use Rattle.filter_iter.proofs.Steps.{at_one_node, first_leaf_within, sum_small}
-use Rattle.filter_iter.specs.Borders.{HasLeft, HaveMet, IsBorder, IsDescent, IsReached, LeadsOn, leaves_at}
+use Rattle.filter_iter.specs.Borders.{HasLeft, HaveMet, IsBorder, IsDescent, IsReached, IsStepBy, LeadsOn, leaves_at}
 use Rattle.filter_iter.specs.Counts.{below_first}
 use Rattle.filter_iter.specs.declared.parts.Border.{Border}
 use Rattle.filter_iter.specs.declared.parts.Descent.{Descent}
@@ -19,13 +20,14 @@ use Rattle.filter_model.specs.Trie.{END, height, is_node, is_reached, nodes, pat
 use Rattle.filter_model.specs.Valid.{IsValid}
 use Rattle.filter_trie.proofs.Down.{node_passes, root_first}
 use Rattle.filter_trie.proofs.Finding.{searches_find}
+use Rattle.filter_trie.proofs.Starts.{start-push}
 use Rattle.filter_trie.proofs.Ways.{ended, ended_nowhere, last_met, last_stuck, met, stuck}
 use Rattle.filter_trie.specs.Walks.{IsNodeAt, IsSlotAt}
 use Rattle.trie_laws.proofs.NodeLists.{height_above}
 use Rattle.trie_levels.proofs.Totals.{valid_lists_have_tries}
 use Rattle.trie_levels.specs.Tries.{HasTrie}
 use Rattle.trie_model.specs.Halves.{end_slot, whole}
-use Rattle.trie_model.specs.Rests.{first_leaf}
+use Rattle.trie_model.specs.Rests.{first_leaf, rests}
 use Rattle.trie_model.specs.Walks.{slot_of_key}
 
 -- what a test by `!` says
@@ -88,6 +90,9 @@ module _ (hash_bits real_bits : ℕ) (ls : List Leaf) (valid : IsValid hash_bits
         let root = root_is d.border n a in
         record { border = root.1; on = λ _. record { read = omega arith; node = root.0; before = root.2 }; left = λ f. absurd (true≢false (sym t ∙ f)) }
 
+    pub step_to_root : (d : Descent) → d.border.node ≡ 0 → d.border.sum ≡ 0 → d.leads ≡ true → IsStepBy ls [] 0 d
+    step_to_root d n a t = record { before = (root_is d.border n a).2; left = λ f. absurd (true≢false (sym t ∙ f)) }
+
     -- ---- one level down, by a byte
 
     pub has_left : (d : ℕ) (b : Border) (leaf : Option Reached) → IsBorder ls d b → leaves_at ls d b ≡ first_leaf ls x → IsReached ls x leaf → IsDescent ls x d (record { border = b; leads = false; leaf = leaf })
@@ -133,6 +138,16 @@ module _ (hash_bits real_bits : ℕ) (ls : List Leaf) (valid : IsValid hash_bits
           has_left (d + 1) b' (Some (record { slot = s; stub = d + 1; ends = false })) next (next_before ∙ sym (leaf_count b.node d c on.node l e s n))
           (record { slot = leaf_slot b.node d c on.node l e s n; path = subst (IsSlotAt ls s) (sym read_next ∙ sym (append-nil (take (d + 1) x))) n })
 
+      -- and the letters of that step
+      pub step_on_is : IsStepBy ls (take (d + 1) x) (d + 1) (record { border = b'; leads = true; leaf = None })
+      step_on_is = record { before = next_before ∙ ap (first_leaf ls) (sym read_next); left = λ t. absurd (true≢false t) }
+
+      pub step_off_is : is_reached ls (get_or (nodes ls) b.node [] ++ c ∷ []) ≡ false → IsStepBy ls (take (d + 1) x) (d + 1) (record { border = b'; leads = false; leaf = None })
+      step_off_is off = record { before = next_before ∙ ap (first_leaf ls) (sym read_next); left = λ _. ap (is_reached ls) read_next ∙ off }
+
+      pub step_to_is : (s : ℕ) → IsSlotAt ls s (get_or (nodes ls) b.node [] ++ c ∷ []) → IsStepBy ls (take (d + 1) x) (d + 1) (record { border = b'; leads = false; leaf = Some (record { slot = s; stub = d + 1; ends = false }) })
+      step_to_is s n = record { before = next_before ∙ ap (first_leaf ls) (sym read_next); left = λ _. subst (IsSlotAt ls s) (sym read_next) n }
+
     -- or by END
     module _ (d : ℕ) (b b' : Border) (on : LeadsOn ls x d b) (l : d ≡ length x) (next : IsBorder ls (d + 1) b') (before : leaves_at ls (d + 1) b' ≡ leaves_at ls d b) where
       all_read : take d x ≡ x
@@ -149,13 +164,29 @@ module _ (hash_bits real_bits : ℕ) (ls : List Leaf) (valid : IsValid hash_bits
           has_left (d + 1) b' (Some (record { slot = s; stub = d; ends = true })) next all_before
           (record { slot = end_leaf b.node d on.node (omega (arith, l)) on.read s e; path = subst (λ (n : ℕ). IsSlotAt ls s (take n x ++ END ∷ [])) (sym l) (end_path b.node d on.node (omega (arith, l)) on.read s e) })
 
+      -- no letter comes before END
+      end_before : leaves_at ls (d + 1) b' ≡ first_leaf ls (x ++ END ∷ [])
+      end_before = omega (arith, all_before, start-push x END (map path ls), none_ahead (rests x (map path ls)))
+
+      node_read : get_or (nodes ls) b.node [] ++ END ∷ [] ≡ x ++ END ∷ []
+      node_read = ap (λ (p : List ℕ). p ++ END ∷ []) (on.node.is ∙ all_read)
+
+      pub end_off_is : None ≡ end_slot (whole (trie_of ls)) b.node → IsStepBy ls (x ++ END ∷ []) (d + 1) (record { border = b'; leads = false; leaf = None })
+      end_off_is e = record { before = end_before; left = λ _. ap (is_reached ls) (sym node_read) ∙ (searches_find ls b.node has on.node.within).no_end e }
+
+      pub end_at_is : (s : ℕ) → Some s ≡ end_slot (whole (trie_of ls)) b.node → IsStepBy ls (x ++ END ∷ []) (d + 1) (record { border = b'; leads = false; leaf = Some (record { slot = s; stub = d; ends = true }) })
+      end_at_is s e = record { before = end_before; left = λ _. subst (IsSlotAt ls s) node_read ((searches_find ls b.node has on.node.within).end s e) }
+
     -- behind the last level every bound has left
-    pub at_last : (d : Descent) → IsDescent ls x (height ls) d → HasLeft ls x (height ls) d
-    at_last d is = go d.leads refl
+    pub leads_nowhere : (d : Descent) → IsDescent ls x (height ls) d → d.leads ≡ false
+    leads_nowhere d is = go d.leads refl
       where
-        go : (t : Bool) → d.leads ≡ t → HasLeft ls x (height ls) d
+        go : (t : Bool) → d.leads ≡ t → d.leads ≡ false
         go true e = let deep = some_level (height ls) d.border (is.on e) in absurd (omega (arith, deep))
-        go false e = is.left e
+        go false e = e
+
+    pub at_last : (d : Descent) → IsDescent ls x (height ls) d → HasLeft ls x (height ls) d
+    at_last d is = is.left (leads_nowhere d is)
 
     pub few_before : (n : ℕ) (d : Descent) → HasLeft ls x n d → leaves_at ls n d.border ≤ length ls
     few_before n d left = omega (arith, left.before, first_leaf_within ls x)

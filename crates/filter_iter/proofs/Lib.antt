@@ -17,5 +17,6 @@ mod WayBytes
 mod LeastStrings
 mod Cutting
 mod Standing
+mod Following
 mod Sides
 mod Parting

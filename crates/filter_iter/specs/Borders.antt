@@ -1,5 +1,5 @@
 -- A border on a level of a trie, and where a bound leads.
-use Rattle.std.specs.Prelude.{◌≡◌, ℕ, ◌+◌, ◌-◌, ◌*◌, ◌^◌, ◌<◌, ◌≤◌, Bool, true, false, cond, not, ◌&&◌, ◌||◌, nat_lt, nat_le, IfSome, Option, List, [], ◌∷◌, ◌++◌, length, get_or, map, take, drop, Some, None}
+use Rattle.std.specs.Prelude.{◌≡◌, ℕ, ◌+◌, ◌-◌, ◌*◌, ◌^◌, ◌<◌, ◌≤◌, Bool, true, false, cond, not, ◌&&◌, ◌||◌, nat_lt, nat_le, IfSome, MatchOption, Option, List, [], ◌∷◌, ◌++◌, length, get_or, map, take, drop, Some, None}
 use Rattle.std.specs.Option.{option_map}
 use Rattle.filter_model.specs.Image.{in_slots}
 use Rattle.filter_model.specs.Leaves.{Leaf}
@@ -44,6 +44,10 @@ pub record IsReached (ls : List Leaf) (bound : List ℕ) (leaf : Option Reached)
   pub slot : option_map (λ r. r.slot) leaf ≡ slot_of_key ls bound
   pub path : IfSome leaf (λ r. IsSlotAt ls r.slot (reached_path bound r))
 
+-- the letters q lead to the leaf that is reached, or nowhere
+abbrev pub LeadsToReached : List Leaf → List ℕ → Option Reached → Type 0
+LeadsToReached ls q leaf = MatchOption leaf (is_reached ls q ≡ false) (λ r. IsSlotAt ls r.slot q)
+
 -- a bound leads to the border's node, by its first letters
 pub record LeadsOn (ls : List Leaf) (bound : List ℕ) (level : ℕ) (b : Border) : Type 0 where
   pub read : level ≤ length bound
@@ -54,6 +58,12 @@ pub record LeadsOn (ls : List Leaf) (bound : List ℕ) (level : ℕ) (b : Border
 pub record HasLeft (ls : List Leaf) (bound : List ℕ) (level : ℕ) (d : Descent) : Type 0 where
   pub before : leaves_at ls level d.border ≡ first_leaf ls bound
   pub reached : IsReached ls bound d.leaf
+
+-- a step by the last of the letters q: as many leaves come before the border as before q, and where it leaves the trie, q leads
+-- to the leaf that is reached, or nowhere
+pub record IsStepBy (ls : List Leaf) (q : List ℕ) (level : ℕ) (d : Descent) : Type 0 where
+  pub before : leaves_at ls level d.border ≡ first_leaf ls q
+  pub left : d.leads ≡ false → LeadsToReached ls q d.leaf
 
 -- the bound was followed down to a level
 pub record IsDescent (ls : List Leaf) (bound : List ℕ) (level : ℕ) (d : Descent) : Type 0 where

@@ -1,5 +1,5 @@
 //! What a trie answers of bounds and ranges.
-ghost use Rattle.std.specs.Prelude.{◌≡◌, ◌+◌, ◌<◌, ◌≤◌, drop, length};
+ghost use Rattle.std.specs.Prelude.{◌≡◌, ◌+◌, ◌<◌, ◌≤◌, IfNone, drop, length};
 ghost use Rattle.filter_api.specs.Spellings.{MayStand};
 ghost use Rattle.filter_iter.specs.Borders.{IsReached, reached_begun, reached_past};
 ghost use Rattle.filter_iter.specs.Cuts.{FirstPass, has_begun};
@@ -37,12 +37,13 @@ pub(crate) fn is_reached_begun<A: Allocator>(trie: &Trie<A>, hi: &[u8], leaf: Re
     leaf.ends || trie.suffix(leaf.slot).1 <= real_after(trie, hi, leaf)
 }
 
-// How many leaves are past `lo` beside those that come before it: the one that it reaches, or none.
-fn past_at<A: Allocator>(trie: &Trie<A>, lo: &[u8], leaf: Option<Reached>) -> u64
+/// How many leaves are past `lo` beside those that come before it: the one that it reaches, or none.
+pub(crate) fn past_at<A: Allocator>(trie: &Trie<A>, lo: &[u8], leaf: Option<Reached>) -> u64
     requires stands { MayStand trie.now.hash_bits trie.now.real_bits trie.now.cutoff trie.now.leaves }
     requires reached { IsReached trie.now.leaves lo.now leaf }
     ensures past { FirstPass (is_past trie.now.real_bits lo.now) trie.now.leaves (first_leaf trie.now.leaves lo.now + result) }
     ensures most { result ≤ 1 }
+    ensures none { IfNone leaf (result ≡ 0) }
 {
     match leaf {
         None => 0,

@@ -1,32 +1,32 @@
 //! A cursor over the leaves of a trie in key order.
-ghost use Rattle.std.specs.Prelude.{◌≡◌, ◌+◌, ◌-◌, ◌++◌, ◌<◌, ◌≤◌, ◌↔◌, IsTrue, IfOk, IfSome, cond, drop, length, slice_get};
+ghost use Rattle.std.specs.Prelude.{◌≡◌, ◌+◌, ◌-◌, ◌++◌, ◌<◌, ◌≤◌, ◌↔◌, IsTrue, IfOk, IfSome, OnErr, OnOk, cond, drop, length, slice_get};
 ghost use Rattle.std.specs.Option.{option_map};
-ghost use Rattle.filter_model.specs.Answers.{first};
+ghost use Rattle.filter_model.specs.Answers.{begins, first};
 ghost use Rattle.key_base.specs.Limits.{max_key_bytes};
 
-use super::answers::seek;
-use super::numbers::find;
+use super::following::go_to;
+use super::least::push_least;
 use super::parts::{Marks, Way};
 use super::stubs::{new_way, write_stub};
 use super::ways::{go_first, go_last, turn_before, turn_behind};
 use filter_trie::Trie;
 use smallvec::SmallVec;
-use std::alloc::{AllocError, Allocator, Global};
+use std::alloc::{AllocError, Allocator};
 use std::marker::Model;
 
 /// A leaf of a trie, from which one may go on to the next one and to the one before, in key order.
 ///
-/// Keeps the way from the root to its leaf, in memory taken when it starts, and takes none after that.
+/// Keeps the way from the root to its leaf, in memory taken when it starts, of any allocator, and takes none after that.
 #[derive(Drop)]
-pub struct FilterCursor<'a, A: Allocator> {
+pub struct FilterCursor<'a, A: Allocator, B: Allocator + Copy> {
     trie: &'a Trie<A>,
-    way: Way,
-    marks: Marks,
+    way: Way<B>,
+    marks: Marks<B>,
     leaf: u32,
     slot: u64,
 }
 
-impl<'a, A: Allocator> Model for FilterCursor<'a, A> {
+impl<'a, A: Allocator, B: Allocator + Copy> Model for FilterCursor<'a, A, B> {
     ghost use Rattle.std.specs.Prelude.{◌≤◌};
     ghost use Rattle.filter_iter.specs.Cursors.{IsStanding, Standing};
 
@@ -37,27 +37,30 @@ impl<'a, A: Allocator> Model for FilterCursor<'a, A> {
     ghost invariant = { λ c. IsStanding c.trie.now c.leaf c.slot c.way c.marks };
 }
 
-impl<'a, A: Allocator> FilterCursor<'a, A> {
+impl<'a, A: Allocator, B: Allocator + Copy> FilterCursor<'a, A, B> {
     ghost use Rattle.filter_iter.specs.Cursors.{IsSlotOf, moved};
 
     /// At the first leaf that is not past `lo`, `None` where all are. Takes memory once, and none where the trie is low.
+    ///
+    /// Goes down by `lo` once and counts as [`seek`](super::seek) does. Where `lo` leads to no leaf, or to one that is past it,
+    /// it then goes on to the next leaf, as `next` does.
     pub fn start(
-        alloc: Global,
+        alloc: B,
         trie: &'a Trie<A>,
         lo: &[u8],
-    ) -> Result<Option<FilterCursor<'a, A>>, AllocError>
+    ) -> Result<Option<FilterCursor<'a, A, B>>, AllocError>
         ensures leaf { IfOk result (λ found. option_map (λ c. c.leaf) found ≡ first trie.now.real_bits trie.now.leaves lo.now) }
         ensures trie { IfOk result (λ found. IfSome found (λ c. c.image ≡ trie.now)) }
     {
-        let Some(leaf) = seek(trie, lo) else {
+        let mut way = new_way(alloc, usize::from(trie.height()))?;
+        let mut marks = SmallVec::new(alloc);
+        let Some((leaf, slot)) = go_to(trie, lo, &mut way, &mut marks) else {
             return Ok(None);
         };
-        let mut way = new_way(alloc, usize::from(trie.height()))?;
-        let slot = find(trie, leaf, &mut way);
         Ok(Some(FilterCursor {
             trie,
             way,
-            marks: SmallVec::new(alloc),
+            marks,
             leaf,
             slot,
         }))
@@ -116,5 +119,14 @@ impl<'a, A: Allocator> FilterCursor<'a, A> {
         ensures count { IfSome (slice_get self.now.image.leaves self.now.leaf) (λ l. result ≡ length l.stub) }
     {
         write_stub(self.way.as_slice(), out)
+    }
+
+    /// Appends the least string that fits the leaf: what [`least_of`](super::least_of) says of its number, with no count, since
+    /// the way is there. Without memory `out` stays as it was.
+    pub fn least<C: Allocator>(&self, out: &mut Vec<u8, C>) -> Result<(), AllocError>
+        ensures added { OnOk result (IfSome (slice_get self.now.image.leaves self.now.leaf) (λ l. out.new.items ≡ out.old.items ++ begins self.now.image.real_bits l)) }
+        ensures unchanged { OnErr result (out.new.items ≡ out.old.items) }
+    {
+        push_least(self.trie, self.leaf, self.slot, self.way.as_slice(), out)
     }
 }

@@ -1,42 +1,67 @@
 //! The least string that fits a leaf.
-ghost use Rattle.std.specs.Prelude.{◌≡◌, ◌++◌, ◌<◌, length, slice_get, IfOk, IfSome, OnErr, OnOk};
+ghost use Rattle.std.specs.Prelude.{◌≡◌, ◌+◌, ◌++◌, ◌<◌, ◌≤◌, length, slice_get, IfSome, OnErr, OnOk};
+ghost use Rattle.std.specs.List.{splice};
+ghost use Rattle.filter_api.specs.Spellings.{MayStand};
+ghost use Rattle.filter_iter.specs.Ways.{IsWayTo};
 ghost use Rattle.filter_model.specs.Answers.{begins};
 
 use super::numbers::find;
+use super::parts::Pass;
 use super::stubs::{new_way, write_stub};
 use filter_trie::Trie;
 use key_base::MAX_KEY_BYTES;
-use std::alloc::{AllocError, Allocator, Global};
+use std::alloc::{AllocError, Allocator};
 use suffix_bits::{filled, shortest_bytes};
 
-// The least string that fits leaf `n`, as a vector of its own.
-fn least_string<A: Allocator>(alloc: Global, trie: &Trie<A>, n: u32) -> Result<Vec<u8>, AllocError>
-    requires { n < length trie.now.leaves }
-    ensures { IfOk result (λ least. IfSome (slice_get trie.now.leaves n) (λ l. least.items ≡ begins trie.now.real_bits l)) }
+// The most bytes: those of a key, and four of real bits.
+const MOST_BYTES: usize = MAX_KEY_BYTES + 4;
+
+// Puts bytes behind the first `count` ones.
+fn put_behind(bytes: &mut [u8], count: usize, tail: &[u8])
+    requires { count + length tail.now ≤ length bytes.old }
+    ensures { bytes.new ≡ splice bytes.old count (count + length tail.now) tail.now }
 {
-    let mut way = new_way(alloc, usize::from(trie.height()))?;
-    let slot = find(trie, n, &mut way);
-    let mut stub = [0; MAX_KEY_BYTES];
-    let count = write_stub(way.as_slice(), &mut stub);
+    bytes[count..count + tail.len()].copy_from_slice(tail);
+}
+
+/// Appends the least string that fits leaf `_n`, whose slot and way these are. Without memory `out` stays as it was.
+pub(crate) fn push_least<A: Allocator, B: Allocator>(
+    trie: &Trie<A>,
+    _n: u32,
+    slot: u64,
+    way: &[Pass],
+    out: &mut Vec<u8, B>,
+) -> Result<(), AllocError>
+    requires stands { MayStand trie.now.hash_bits trie.now.real_bits trie.now.cutoff trie.now.leaves }
+    requires way { IsWayTo trie.now.leaves _n slot way.now }
+    ensures added { OnOk result (IfSome (slice_get trie.now.leaves _n) (λ l. out.new.items ≡ out.old.items ++ begins trie.now.real_bits l)) }
+    ensures unchanged { OnErr result (out.new.items ≡ out.old.items) }
+{
+    let mut least = [0; MOST_BYTES];
+    let count = write_stub(way, &mut least);
     // Where the leaf ends, it has no real bits, and nothing follows its stub.
     let real = trie.suffix(slot).1;
     let (tail, len) = shortest_bytes(filled(real, trie.suffixes().widths().1));
-    let mut least = Vec::with_capacity(alloc, count + len)?;
-    least.extend_from_slice(&stub[..count])?;
-    least.extend_from_slice(&tail[..len])?;
-    Ok(least)
+    put_behind(&mut least, count, &tail[..len]);
+    out.extend_from_slice(&least[..count + len])
 }
 
 /// Appends the least string that fits leaf `n`, in key order from 0: its stub, and its real bits in bytes without the
 /// zero bytes at the end.
 ///
 /// Goes down from the root by counts, nine at most at a node of several branches, each of which goes down to the last level
-/// or to the one whose sums the trie keeps. Without memory `out` stays as it was.
-pub fn least_of<A: Allocator>(trie: &Trie<A>, n: u32, out: &mut Vec<u8>) -> Result<(), AllocError>
+/// or to the one whose sums the trie keeps. Takes memory of the allocator of `out`, for the way where the trie is high.
+/// Without memory `out` stays as it was.
+pub fn least_of<A: Allocator, B: Allocator + Copy>(
+    trie: &Trie<A>,
+    n: u32,
+    out: &mut Vec<u8, B>,
+) -> Result<(), AllocError>
     requires { n < length trie.now.leaves }
     ensures added { OnOk result (IfSome (slice_get trie.now.leaves n) (λ l. out.new.items ≡ out.old.items ++ begins trie.now.real_bits l)) }
     ensures unchanged { OnErr result (out.new.items ≡ out.old.items) }
 {
-    let least = least_string(*out.allocator(), trie, n)?;
-    out.extend_from_slice(&least)
+    let mut way = new_way(*out.allocator(), usize::from(trie.height()))?;
+    let slot = find(trie, n, &mut way);
+    push_least(trie, n, slot, way.as_slice(), out)
 }

@@ -14,14 +14,17 @@
 //!
 //! A [`FilterCursor`] alone keeps a path, that to its leaf: the next leaf is mostly a branch of the same node. In the sparse
 //! half it knows where that branch stands, and where the next node of a level begins, so that `next` searches for neither.
-//! `start` takes memory for the path, and no later call takes any. It finds its leaf by number, as [`least_of`] does, by
-//! counts at each node of several branches, each of which goes down to the last level or to the one whose sums are kept.
+//! `start` takes memory for the path, of any allocator, and no later call takes any for it. It goes down by its bound once and
+//! counts as `seek` does, which is the leaf's number; the leaf is the one that the bound reaches, or the next one behind its
+//! path. `least` appends the least string of the leaf where the cursor stands, by its path alone; [`least_of`] finds its leaf
+//! by number, by counts at each node of several branches, each of which goes down to the last level or to the one whose sums
+//! are kept.
 //!
 //! The answers are those of the leaf list (`filter_model`): leaves are numbered in key order, and that number is not the
 //! slot, which goes by levels.
 //!
 //! Do not use `seek` or `tally` where the question is whether a range may hold a key: they count on each level, and `range`
-//! counts nothing. Nor `least_of` for leaf after leaf: a cursor goes on from where it stands.
+//! counts nothing. Nor `least_of` for leaf after leaf: a cursor goes on from where it stands, and says `least`.
 //!
 //! ```text
 //! keys               far   fast   s   top   toy
@@ -39,6 +42,7 @@ mod between;
 mod borders;
 mod branches;
 mod cursor;
+mod following;
 mod laws;
 mod least;
 mod marks;

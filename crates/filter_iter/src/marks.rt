@@ -13,7 +13,11 @@ use filter_trie::Trie;
 use std::alloc::Allocator;
 
 /// Keeps where the node behind a pass's begins, if the pass is by its node's last branch, whose spot is known, and there is room.
-pub(crate) fn leave<A: Allocator>(trie: &Trie<A>, pass: Pass, marks: &mut Marks)
+pub(crate) fn leave<A: Allocator, B: Allocator + Copy>(
+    trie: &Trie<A>,
+    pass: Pass,
+    marks: &mut Marks<B>,
+)
     requires stands { MayStand trie.now.hash_bits trie.now.real_bits trie.now.cutoff trie.now.leaves }
     requires spot { HasSpot trie.now pass }
     requires node { pass.node < length (nodes trie.now.leaves) }
@@ -33,7 +37,11 @@ pub(crate) fn leave<A: Allocator>(trie: &Trie<A>, pass: Pass, marks: &mut Marks)
 }
 
 // Takes the last mark, if it is a node's.
-fn take_mark<A: Allocator>(_trie: &Trie<A>, node: u64, marks: &mut Marks) -> Option<Mark>
+fn take_mark<A: Allocator, B: Allocator + Copy>(
+    _trie: &Trie<A>,
+    node: u64,
+    marks: &mut Marks<B>,
+) -> Option<Mark>
     requires { All (IsMark _trie.now) marks.old.items }
     ensures mark { IfSome result (λ mark. IsMark _trie.now mark × (mark.node ≡ node)) }
     ensures marks { All (IsMark _trie.now) marks.new.items }
@@ -77,10 +85,10 @@ fn marked_spot<A: Allocator>(trie: &Trie<A>, mark: Mark) -> Spot
 
 /// The first branch of a node, and its spot where the node is in the sparse half. The node's mark is used up, if it is the
 /// last one.
-pub(crate) fn first_marked<A: Allocator>(
+pub(crate) fn first_marked<A: Allocator, B: Allocator + Copy>(
     trie: &Trie<A>,
     node: u64,
-    marks: &mut Marks,
+    marks: &mut Marks<B>,
 ) -> (Branch, Option<Spot>)
     requires stands { MayStand trie.now.hash_bits trie.now.real_bits trie.now.cutoff trie.now.leaves }
     requires node { node < length (nodes trie.now.leaves) }

@@ -1,10 +1,10 @@
 //! Where a bound leads in a trie, and how many leaves come before it.
 
-ghost use Rattle.std.specs.Prelude.{◌≡◌, ◌<◌, ◌+◌, ◌++◌, ◌∷◌, [], cond, false, true, length, get_or};
+ghost use Rattle.std.specs.Prelude.{◌≡◌, ◌<◌, ◌≤◌, ◌+◌, ◌++◌, ◌∷◌, [], cond, false, true, length, get_or, take};
 ghost use Rattle.filter_api.specs.Spellings.{MayStand};
-ghost use Rattle.filter_iter.specs.Borders.{HasLeft, HaveMet, IsBorder, IsDescent, IsTurn, IsTurnAt, LeadsOn, leaves_at};
+ghost use Rattle.filter_iter.specs.Borders.{HasLeft, HaveMet, IsBorder, IsDescent, IsStepBy, IsTurn, IsTurnAt, LeadsOn, leaves_at};
 ghost use Rattle.filter_iter.specs.declared.parts.Turn.TheVariants as turn;
-ghost use Rattle.filter_model.specs.Trie.{height as height_of, nodes};
+ghost use Rattle.filter_model.specs.Trie.{END, height as height_of, nodes};
 ghost use Rattle.filter_trie.specs.Places.{IsTaken, branch_number, trie as trie_in};
 ghost use Rattle.trie_model.specs.Halves.{slot_at};
 ghost use Rattle.trie_model.specs.Rests.{first_leaf};
@@ -93,8 +93,8 @@ pub(crate) fn turn_beside<A: Allocator>(trie: &Trie<A>, border: Border, byte: u8
     }
 }
 
-// A bound at the root.
-fn root_descent() -> Descent
+/// A bound at the root.
+pub(crate) fn root_descent() -> Descent
     ensures node { result.border.node ≡ 0 }
     ensures sum { result.border.sum ≡ 0 }
     ensures leads { result.leads ≡ true }
@@ -123,7 +123,8 @@ fn step_by<A: Allocator>(trie: &Trie<A>, bound: &[u8], level: usize, border: Bor
     requires border { IsBorder trie.now.leaves level border }
     requires leads { LeadsOn trie.now.leaves bound.now level border }
     requires more { level < length bound.now }
-    ensures { IsDescent trie.now.leaves bound.now (level + 1) result }
+    ensures descent { IsDescent trie.now.leaves bound.now (level + 1) result }
+    ensures step { IsStepBy trie.now.leaves (take (level + 1) bound.now) (level + 1) result }
 {
     let (border, turn) = turn(trie, border, bound[level]);
     match turn {
@@ -150,7 +151,8 @@ fn step_behind<A: Allocator>(trie: &Trie<A>, bound: &[u8], level: usize, border:
     requires border { IsBorder trie.now.leaves level border }
     requires leads { LeadsOn trie.now.leaves bound.now level border }
     requires end { level ≡ length bound.now }
-    ensures { IsDescent trie.now.leaves bound.now (level + 1) result }
+    ensures descent { IsDescent trie.now.leaves bound.now (level + 1) result }
+    ensures step { IsStepBy trie.now.leaves (bound.now ++ END ∷ []) (level + 1) result }
 {
     let next = below(trie, border);
     match trie.prefix_slot(border.node) {
@@ -166,6 +168,26 @@ fn step_behind<A: Allocator>(trie: &Trie<A>, bound: &[u8], level: usize, border:
     }
 }
 
+/// One level down from the node to which a bound leads: by the bound's byte, or by END where it has none.
+pub(crate) fn step_on<A: Allocator>(
+    trie: &Trie<A>,
+    bound: &[u8],
+    level: usize,
+    border: Border,
+) -> Descent
+    requires stands { MayStand trie.now.hash_bits trie.now.real_bits trie.now.cutoff trie.now.leaves }
+    requires border { IsBorder trie.now.leaves level border }
+    requires leads { LeadsOn trie.now.leaves bound.now level border }
+    ensures descent { IsDescent trie.now.leaves bound.now (level + 1) result }
+    ensures step { IsStepBy trie.now.leaves (take (level + 1) (bound.now ++ END ∷ [])) (level + 1) result }
+{
+    if level < bound.len() {
+        step_by(trie, bound, level, border)
+    } else {
+        step_behind(trie, bound, level, border)
+    }
+}
+
 // One level down.
 fn step<A: Allocator>(trie: &Trie<A>, bound: &[u8], level: usize, descent: Descent) -> Descent
     requires stands { MayStand trie.now.hash_bits trie.now.real_bits trie.now.cutoff trie.now.leaves }
@@ -176,11 +198,7 @@ fn step<A: Allocator>(trie: &Trie<A>, bound: &[u8], level: usize, descent: Desce
     if !descent.leads {
         return left(below(trie, descent.border), descent.leaf);
     }
-    if level < bound.len() {
-        step_by(trie, bound, level, descent.border)
-    } else {
-        step_behind(trie, bound, level, descent.border)
-    }
+    step_on(trie, bound, level, descent.border)
 }
 
 /// Goes down by a bound to where it has left the trie, and gives the level there.

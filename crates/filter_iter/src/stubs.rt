@@ -4,10 +4,10 @@ ghost use Rattle.filter_iter.specs.Ways.{bytes_of_way};
 
 use super::parts::{END_LETTER, Pass, Way};
 use smallvec::SmallVec;
-use std::alloc::{AllocError, Global};
+use std::alloc::{AllocError, Allocator};
 
 /// An empty way with room for this many passes.
-pub(crate) fn new_way(alloc: Global, height: usize) -> Result<Way, AllocError>
+pub(crate) fn new_way<B: Allocator + Copy>(alloc: B, height: usize) -> Result<Way<B>, AllocError>
     ensures empty { IfOk result (λ way. way.items ≡ []) }
     ensures room { IfOk result (λ way. height ≤ way.capacity) }
 {

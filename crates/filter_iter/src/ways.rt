@@ -16,7 +16,11 @@ use std::alloc::Allocator;
 
 /// Goes up to the last node on a way that has a branch behind it, and turns to that branch. Of the nodes that it leaves it
 /// marks where the next ones begin.
-pub(crate) fn turn_behind<A: Allocator>(trie: &Trie<A>, way: &mut Way, marks: &mut Marks) -> Lead
+pub(crate) fn turn_behind<A: Allocator, B: Allocator + Copy>(
+    trie: &Trie<A>,
+    way: &mut Way<B>,
+    marks: &mut Marks<B>,
+) -> Lead
     requires stands { MayStand trie.now.hash_bits trie.now.real_bits trie.now.cutoff trie.now.leaves }
     requires way { IsWay trie.now.leaves way.old.items }
     requires spots { All (HasSpot trie.now) way.old.items }
@@ -45,7 +49,10 @@ pub(crate) fn turn_behind<A: Allocator>(trie: &Trie<A>, way: &mut Way, marks: &m
 }
 
 /// Goes up to the last node on a way that has a branch before it, and turns to that branch.
-pub(crate) fn turn_before<A: Allocator>(trie: &Trie<A>, way: &mut Way) -> Lead
+pub(crate) fn turn_before<A: Allocator, B: Allocator + Copy>(
+    trie: &Trie<A>,
+    way: &mut Way<B>,
+) -> Lead
     requires stands { MayStand trie.now.hash_bits trie.now.real_bits trie.now.cutoff trie.now.leaves }
     requires way { IsWay trie.now.leaves way.old.items }
     requires spots { All (HasSpot trie.now) way.old.items }
@@ -71,11 +78,11 @@ pub(crate) fn turn_before<A: Allocator>(trie: &Trie<A>, way: &mut Way) -> Lead
 }
 
 /// Goes on down to the first leaf below, and gives its slot.
-pub(crate) fn go_first<A: Allocator>(
+pub(crate) fn go_first<A: Allocator, B: Allocator + Copy>(
     trie: &Trie<A>,
     lead: Lead,
-    way: &mut Way,
-    marks: &mut Marks,
+    way: &mut Way<B>,
+    marks: &mut Marks<B>,
 ) -> u64
     requires stands { MayStand trie.now.hash_bits trie.now.real_bits trie.now.cutoff trie.now.leaves }
     requires way { IsWay trie.now.leaves way.old.items }
@@ -108,7 +115,11 @@ pub(crate) fn go_first<A: Allocator>(
 }
 
 /// Goes on down to the last leaf below, and gives its slot.
-pub(crate) fn go_last<A: Allocator>(trie: &Trie<A>, lead: Lead, way: &mut Way) -> u64
+pub(crate) fn go_last<A: Allocator, B: Allocator + Copy>(
+    trie: &Trie<A>,
+    lead: Lead,
+    way: &mut Way<B>,
+) -> u64
     requires stands { MayStand trie.now.hash_bits trie.now.real_bits trie.now.cutoff trie.now.leaves }
     requires way { IsWay trie.now.leaves way.old.items }
     requires spots { All (HasSpot trie.now) way.old.items }

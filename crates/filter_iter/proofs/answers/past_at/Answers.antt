@@ -1,5 +1,5 @@
-use Rattle.std.proofs.Common.{ℕ, Bool, true, false, cond, ◌≡◌, ◌≤◌, Option, ◌+◌, ap, arith, subst, sym, ◌∙◌}
-use Rattle.std.specs.Prelude.{IfSome}
+use Rattle.std.proofs.Common.{ℕ, Bool, true, false, cond, ◌≡◌, ◌≤◌, Option, ◌+◌, ap, arith, refl, subst, sym, ◌∙◌}
+use Rattle.std.specs.Prelude.{IfNone, IfSome}
 use Rattle.std.specs.Option.{option_map}
 use Rattle.filter_iter.proofs.MetLeaves.{byte_of, none_past, slot_fits, some_past}
 use Rattle.filter_iter.specs.Borders.{reached_path}
@@ -32,3 +32,9 @@ returns-in-Some-clause-most g c = omega (arith, c.from.ensures ∙ byte_of c.is_
     one_bit : (b : Bool) → cond {A = ℕ} b 1 0 ≤ 1
     one_bit true = omega arith
     one_bit false = omega arith
+
+pub returns-in-None-clause-none : goal.returns-in-None-clause-none
+returns-in-None-clause-none g c = subst (λ (o : Option Reached). IfNone o (0 ≡ 0)) (sym c.in-None.is) refl
+
+pub returns-in-Some-clause-none : goal.returns-in-Some-clause-none
+returns-in-Some-clause-none g c = subst (λ (o : Option Reached). IfNone o (c.from.result ≡ 0)) (sym c.in-Some.is) tt

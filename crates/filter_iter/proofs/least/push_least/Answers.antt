@@ -1,0 +1,57 @@
+use Rattle.std.proofs.Common.{ℕ, List, Option, None, Some, ◌≡◌, ◌+◌, ◌-◌, ◌*◌, ◌^◌, ◌++◌, ap, append_assoc, arith, drop, length, length-append, sym, ◌∙◌, take}
+use Rattle.std.specs.Prelude.{IfSome}
+use Rattle.std.specs.List.{splice}
+use Rattle.std.proofs.lemmas.List.{length-take, take_at}
+use Rattle.std.proofs.lemmas.Result.{on_ok_weaker}
+use Rattle.filter_iter.proofs.LeastStrings.{least_is, real_small, way_short}
+use Rattle.filter_iter.proofs.MetLeaves.{slot_fits}
+use Rattle.filter_iter.specs.Borders.{real_at}
+use Rattle.filter_iter.specs.Ways.{bytes_of_way, letters_of}
+use Rattle.filter_model.specs.Answers.{begins}
+use Rattle.filter_model.specs.Leaves.{Leaf}
+use Rattle.filter_model.specs.Strings.{shortest}
+use Rattle.suffix_bits.specs.Slots.{Suffix}
+use Rattle.filter_iter.proofs.least.push_least.Goals as goal
+
+pub write_stub-count-requires : goal.write_stub-count-requires
+write_stub-count-requires g c = omega (arith, way_short c.args.trie.now.hash_bits c.args.trie.now.real_bits c.args.trie.now.leaves c.requires.stands.valid c.args._n c.args.slot c.args.way.now c.requires.way)
+
+pub suffix-real-requires : goal.suffix-real-requires
+suffix-real-requires g c = slot_fits c.args.trie.now.hash_bits c.args.trie.now.real_bits c.args.trie.now.leaves c.args.slot (letters_of c.args.way.now) c.requires.stands.valid c.requires.way.slot_is
+
+pub filled-requires-clause-real : goal.filled-requires-clause-real
+filled-requires-clause-real g c =
+    let width : c.widths.result.1 ≡ c.args.trie.now.real_bits = ap (λ (s : Suffix). s.1) c.widths.ensures.widths ∙ c.suffixes.ensures.real_bits in
+    omega (arith, real_small c.args.trie.now.hash_bits c.args.trie.now.real_bits c.args.trie.now.leaves c.requires.stands.valid c.args._n c.args.slot c.args.way.now c.requires.way, ap (λ (s : Suffix). s.1) c.suffix-real.ensures, ap (λ (w : ℕ). 2 ^ w) width)
+
+-- bytes put behind the front of others
+put_front : (a rest t xs : List ℕ) (n : ℕ) → xs ≡ a ++ rest → n ≡ length a → take (n + length t) (splice xs n (n + length t) t) ≡ a ++ t
+put_front a rest t xs n e k =
+    let j = n + length t in
+    let front : take n xs ≡ a = ap (take n) e ∙ take_at a rest n (sym k) in
+    let size : length (a ++ t) ≡ j = omega (arith, length-append a t, k) in
+    ap (take j) ((λ i. front i ++ (t ++ drop j xs)) ∙ sym (append_assoc a t (drop j xs))) ∙ take_at (a ++ t) (drop j xs) j size
+
+-- what is appended is what the leaf, if there is one, begins with
+appended : (n : ℕ) (o : Option Leaf) (old x items : List ℕ) → IfSome o (λ l. x ≡ begins n l) → items ≡ old ++ x → IfSome o (λ l. items ≡ old ++ begins n l)
+appended n None old x items e f = tt
+appended n (Some l) old x items e f = f ∙ ap (λ (y : List ℕ). old ++ y) e
+
+pub returns-clause-added : goal.returns-clause-added
+returns-clause-added g c =
+    let trie = c.args.trie.now in
+    let tail = take c.shortest_bytes-len.result.1 c.shortest_bytes-len.result.0 in
+    let count = c.write_stub-count.result in
+    let width : c.widths.result.1 ≡ trie.real_bits = ap (λ (s : Suffix). s.1) c.widths.ensures.widths ∙ c.suffixes.ensures.real_bits in
+    let number : c.filled.result ≡ real_at trie.leaves c.args.slot * 2 ^ (32 - trie.real_bits) = c.filled.ensures ∙ (λ j. ap (λ (s : Suffix). s.1) c.suffix-real.ensures j * 2 ^ (32 - width j)) in
+    let tail_is : tail ≡ shortest 4 (real_at trie.leaves c.args.slot * 2 ^ (32 - trie.real_bits)) = c.shortest_bytes-len.ensures.bytes ∙ ap (shortest 4) number in
+    let many : length tail ≡ c.shortest_bytes-len.result.1 = omega (arith, length-take c.shortest_bytes-len.result.1 c.shortest_bytes-len.result.0, c.shortest_bytes-len.ensures.len) in
+    let whole : take (count + c.shortest_bytes-len.result.1) c.put_behind.new.bytes ≡ bytes_of_way c.args.way.now ++ shortest 4 (real_at trie.leaves c.args.slot * 2 ^ (32 - trie.real_bits)) =
+    ap (take (count + c.shortest_bytes-len.result.1)) c.put_behind.ensures
+    ∙ (λ j. take (count + sym many j) (splice c.write_stub-count.new.out count (count + length tail) tail))
+    ∙ put_front (bytes_of_way c.args.way.now) _ tail c.write_stub-count.new.out count c.write_stub-count.ensures.stub c.write_stub-count.ensures.count
+    ∙ ap (λ (t : List ℕ). bytes_of_way c.args.way.now ++ t) tail_is in
+    on_ok_weaker c.extend_from_slice.result
+    (λ items. appended trie.real_bits _ c.args.out.now.items _ c.extend_from_slice.new.self.items
+    (least_is trie.hash_bits trie.real_bits trie.leaves c.requires.stands.valid c.args._n c.args.slot c.args.way.now c.requires.way _ whole) items)
+    c.extend_from_slice.ensures.items
