@@ -9,9 +9,9 @@
 //!
 //! All three are asked the same keys in the same order, five rounds in turn: each key that was drawn, and as many that the
 //! trie does not have. Times are the thread's own on the processor. The trie has no suffixes, which a walk does not read.
-//! Beside that the trie's image is written and read, a cursor goes over its leaves, and seeks, ranges and tallies from the
-//! same keys are asked beside walks. At last succinct filters of the keys with and without hash bits and real bits are
-//! built and asked beside their walks, and a plain filter is asked for a few keys.
+//! Beside that the trie's image is written and read, a cursor goes over its leaves and others start at keys, and seeks,
+//! ranges and tallies from the same keys are asked beside walks. At last succinct filters of the keys with and without hash
+//! bits and real bits are built and asked beside their walks, and a plain filter is asked for a few keys.
 #![tactic(auto)]
 
 ghost use Rattle.filter_model.specs.Keys.{IsKeyList};
@@ -34,7 +34,7 @@ mod variants;
 use anyhow::{Result, bail};
 use bench_kit::{Numbers, Options, read_options};
 use codes::code_rounds;
-use cursors::cursor_rounds;
+use cursors::{cursor_rounds, start_rounds};
 use filter_model::are_keys;
 use filter_trie::Trie;
 use key_base::KeyList;
@@ -111,6 +111,7 @@ fn measure_keys(
     let finders = Finders::new(rt, alloc, keys, asked.ratio)?;
     code_rounds(rt, alloc, &finders.trie)?;
     cursor_rounds(rt, alloc, &finders.trie)?;
+    start_rounds(rt, alloc, &finders.trie, present)?;
     let absent = draw_absent(alloc, asked.kind, present, keys, &finders.search, numbers)?;
     ask_finders(
         rt,

@@ -13,8 +13,11 @@ use std::alloc::{AllocError, Allocator};
 /// How many bytes stand before the sections.
 pub(crate) const HEADER_BYTES: usize = 40;
 
-/// Appends the image of a trie. Without memory `out` stays as it was.
-pub fn encode<A: Allocator>(trie: &Trie<A>, out: &mut Vec<u8>) -> Result<(), AllocError>
+/// Appends the image of a trie, in memory of any allocator. Without memory `out` stays as it was.
+pub fn encode<A: Allocator, B: Allocator>(
+    trie: &Trie<A>,
+    out: &mut Vec<u8, B>,
+) -> Result<(), AllocError>
     ensures added { OnOk result (out.new.items ≡ out.old.items ++ image trie.now.hash_bits trie.now.real_bits trie.now.cutoff trie.now.leaves) }
     ensures unchanged { OnErr result (out.new.items ≡ out.old.items) }
 {
@@ -27,7 +30,10 @@ pub fn encode<A: Allocator>(trie: &Trie<A>, out: &mut Vec<u8>) -> Result<(), All
 }
 
 // The same, but without memory a part of the image may stand behind what `out` was.
-fn push_image<A: Allocator>(trie: &Trie<A>, out: &mut Vec<u8>) -> Result<(), AllocError>
+fn push_image<A: Allocator, B: Allocator>(
+    trie: &Trie<A>,
+    out: &mut Vec<u8, B>,
+) -> Result<(), AllocError>
     ensures added { OnOk result (out.new.items ≡ out.old.items ++ image trie.now.hash_bits trie.now.real_bits trie.now.cutoff trie.now.leaves) }
     ensures unchanged { OnErr result (take (length out.old.items) out.new.items ≡ out.old.items) }
 {
@@ -60,7 +66,10 @@ fn header<A: Allocator>(trie: &Trie<A>) -> [u8; 40]
 }
 
 // The sections of the upper levels.
-fn push_dense<A: Allocator>(dense: &Dense<A>, out: &mut Vec<u8>) -> Result<(), AllocError>
+fn push_dense<A: Allocator, B: Allocator>(
+    dense: &Dense<A>,
+    out: &mut Vec<u8, B>,
+) -> Result<(), AllocError>
     ensures added { OnOk result (out.new.items ≡ out.old.items ++ dense_part dense.now) }
     ensures unchanged { OnErr result (take (length out.old.items) out.new.items ≡ out.old.items) }
 {
@@ -70,7 +79,10 @@ fn push_dense<A: Allocator>(dense: &Dense<A>, out: &mut Vec<u8>) -> Result<(), A
 }
 
 // The sections of the other levels.
-fn push_sparse<A: Allocator>(sparse: &Sparse<A>, out: &mut Vec<u8>) -> Result<(), AllocError>
+fn push_sparse<A: Allocator, B: Allocator>(
+    sparse: &Sparse<A>,
+    out: &mut Vec<u8, B>,
+) -> Result<(), AllocError>
     ensures added { OnOk result (out.new.items ≡ out.old.items ++ sparse_part sparse.now.nodes) }
     ensures unchanged { OnErr result (take (length out.old.items) out.new.items ≡ out.old.items) }
 {

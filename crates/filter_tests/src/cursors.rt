@@ -13,11 +13,22 @@ pub(crate) fn start_at<'a>(
     alloc: Global,
     trie: &'a Trie<Global>,
     lo: &[u8],
-) -> Result<FilterCursor<'a, Global>, Fail> {
+) -> Result<FilterCursor<'a, Global, Global>, Fail> {
     match FilterCursor::start(alloc, trie, lo)? {
         Some(cursor) => Ok(cursor),
         None => Err(Fail::from("no leaf")),
     }
+}
+
+/// Whether the cursor says the least string that its trie says of the leaf where it stands.
+pub(crate) fn says_least(
+    alloc: Global,
+    cursor: &FilterCursor<'_, Global, Global>,
+    trie: &Trie<Global>,
+) -> Result<bool, Fail> {
+    let mut least = Vec::new(alloc);
+    cursor.least(&mut least)?;
+    is_least(alloc, trie, cursor.leaf(), least.as_slice())
 }
 
 /// Whether this is the least string of leaf `n`.
@@ -36,7 +47,7 @@ pub(crate) fn is_least(
 
 // Whether the cursor stands at leaf `n`, that of the key with this number.
 fn is_at(
-    cursor: &FilterCursor<'_, Global>,
+    cursor: &FilterCursor<'_, Global, Global>,
     trie: &Trie<Global>,
     n: usize,
     key: &[u8],
@@ -52,7 +63,7 @@ fn is_at(
 // It stands at the leaf of the key with this number.
 fn check_at(
     rt: &impl Abort,
-    cursor: &FilterCursor<'_, Global>,
+    cursor: &FilterCursor<'_, Global, Global>,
     trie: &Trie<Global>,
     keys: &KeyList,
     stubs: &[Stub],
@@ -65,7 +76,7 @@ fn check_at(
 /// Goes on to the last leaf, from the one of the key with this number.
 pub(crate) fn go_on(
     rt: &impl Abort,
-    cursor: &mut FilterCursor<'_, Global>,
+    cursor: &mut FilterCursor<'_, Global, Global>,
     trie: &Trie<Global>,
     keys: &KeyList,
     stubs: &[Stub],
@@ -80,7 +91,7 @@ pub(crate) fn go_on(
 /// Goes back to the first leaf.
 pub(crate) fn go_back(
     rt: &impl Abort,
-    cursor: &mut FilterCursor<'_, Global>,
+    cursor: &mut FilterCursor<'_, Global, Global>,
     trie: &Trie<Global>,
     keys: &KeyList,
     stubs: &[Stub],
@@ -94,7 +105,7 @@ pub(crate) fn go_back(
 /// Goes on: whether there is a further leaf, and which one the cursor is at then.
 pub(crate) fn check_next(
     rt: &impl Abort,
-    cursor: &mut FilterCursor<'_, Global>,
+    cursor: &mut FilterCursor<'_, Global, Global>,
     moved: bool,
     leaf: u32,
 ) {
@@ -105,7 +116,7 @@ pub(crate) fn check_next(
 /// Goes back: whether there is a leaf before, and which one the cursor is at then.
 pub(crate) fn check_prev(
     rt: &impl Abort,
-    cursor: &mut FilterCursor<'_, Global>,
+    cursor: &mut FilterCursor<'_, Global, Global>,
     moved: bool,
     leaf: u32,
 ) {

@@ -4,6 +4,8 @@ use super::filters::{filter_of, spelled};
 use super::levels::pair_keys;
 use super::tries::boxed;
 use filter_api::Settings;
+use filter_iter::FilterCursor;
+use filter_trie::Trie;
 use linked_list_allocator::LocalHeap;
 use std::alloc::{AllocError, Allocator, Global};
 use std::process::Abort;
@@ -45,10 +47,55 @@ fn check_filter<A: Allocator>(rt: &impl Abort, filter: &SurfFilter<A>) {
     check_counts(rt, filter);
 }
 
+// A cursor whose way, and a least string, are in the filter's heap.
+fn check_cursor<A: Allocator>(
+    rt: &impl Abort,
+    heap: &LocalHeap,
+    trie: &Trie<A>,
+) -> Result<(), Fail> {
+    let Some(cursor) = FilterCursor::start(heap, trie, b"\x61")? else {
+        return Err(Fail::from("no leaf"));
+    };
+    let mut least = Vec::new(heap);
+    cursor.least(&mut least)?;
+    assert!(rt; cursor.leaf() == 0x6100 && least.as_slice() == b"\x61\x00".as_slice());
+    Ok(())
+}
+
+// The least string of a leaf, behind that of another one.
+fn check_least<A: Allocator>(
+    rt: &impl Abort,
+    heap: &LocalHeap,
+    filter: &SurfFilter<A>,
+) -> Result<(), Fail> {
+    let mut least = Vec::new(heap);
+    for n in [0x6100, 0xFFFF] {
+        if n < filter.leaves() {
+            filter.least_of(n, &mut least)?;
+        }
+    }
+    assert!(rt; least.as_slice() == b"\x61\x00\xFF\xFF".as_slice());
+    Ok(())
+}
+
+// What a heap may add: it rounds each block up to 16 bytes, and a trie has 14 at most, words and counts of three dense
+// sections, labels, words beside counts or places of two sparse ones, suffixes, and words and places of sums.
+const ROUNDED_BITS: u64 = 14 * 16 * 8;
+
+// The memory that the filter's trie says it takes is what it has of its heap.
+fn check_memory<A: Allocator>(rt: &impl Abort, heap: &LocalHeap, filter: &SurfFilter<A>) {
+    let said = filter.trie().memory_bits();
+    let held = (heap.used() as u64).saturating_mul(8);
+    assert!(rt; said <= held && held <= said.saturating_add(ROUNDED_BITS));
+}
+
 fn check_read(rt: &impl Abort, heap: &LocalHeap, image: &[u8]) -> Result<(), Fail> {
     let filter = SurfFilter::decode_in(heap, image)?;
     check_filter(rt, &filter);
-    Ok(())
+    assert!(rt; filter.image_bytes() == image.len() as u64);
+    check_memory(rt, heap, &filter);
+    check_cursor(rt, heap, filter.trie())?;
+    check_least(rt, heap, &filter)
 }
 
 #[test]

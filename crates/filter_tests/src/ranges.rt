@@ -69,7 +69,7 @@ fn ranges_of_far_to_toy(rt: HostRuntime) -> Result<(), Fail> {
     Ok(())
 }
 
-fn go_to_the_first(rt: &impl Abort, cursor: &mut FilterCursor<'_, Global>) {
+fn go_to_the_first(rt: &impl Abort, cursor: &mut FilterCursor<'_, Global, Global>) {
     assert!(rt; cursor.leaf() == 2);
     assert!(rt; cursor.slot() == 0);
     check_prev(rt, cursor, true, 1);

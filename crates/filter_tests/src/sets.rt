@@ -1,7 +1,7 @@
 //! Tries of random sets of keys at each cutoff, against plain filters.
 
 use super::bounds::bounds_near;
-use super::cursors::{go_back, go_on, is_least};
+use super::cursors::{go_back, go_on, is_least, says_least};
 use super::keys::{drawn_list, step};
 use super::tries::{plain_of, stubs_of, trie_with};
 use filter_api::RangeFilter;
@@ -65,7 +65,7 @@ fn check_bounds(rt: &impl Abort, trie: &Trie<Global>, plain: &PlainFilter, bound
 
 fn check_found(
     rt: &impl Abort,
-    cursor: &mut FilterCursor<'_, Global>,
+    cursor: &mut FilterCursor<'_, Global, Global>,
     trie: &Trie<Global>,
     keys: &KeyList,
     stubs: &[Stub],
@@ -88,7 +88,10 @@ fn check_cursor(
 ) -> Result<(), Fail> {
     match FilterCursor::start(alloc, trie, lo)? {
         None => assert!(rt; first.is_none()),
-        Some(mut cursor) => check_found(rt, &mut cursor, trie, keys, stubs, first),
+        Some(mut cursor) => {
+            assert!(rt; says_least(alloc, &cursor, trie)?);
+            check_found(rt, &mut cursor, trie, keys, stubs, first);
+        }
     }
     Ok(())
 }

@@ -5,6 +5,7 @@ ghost use Rattle.filter_api.specs.Spellings.{IsNoSpelling, IsSpelling};
 ghost use Rattle.filter_api.specs.declared.errors.FilterFault.{FilterFault};
 ghost use Rattle.filter_model.specs.Answers.{begins, first, point, ranged, tally as tally_of};
 ghost use Rattle.filter_model.specs.Image.{image};
+ghost use Rattle.filter_trie.specs.Sections.{bits_of_sections};
 ghost use Rattle.surf_filter.specs.Faults.{first_image_fault};
 
 use crate::point::holds;
@@ -89,8 +90,27 @@ impl<A: Allocator> SurfFilter<A> {
         self.trie.suffixes().widths()
     }
 
+    /// How many bytes the filter's image has: what [`encode`](SurfFilter::encode) appends. Takes no memory.
+    pub fn image_bytes(&self) -> u64
+        ensures { result ≡ length (image self.now.hash_bits self.now.real_bits self.now.cutoff self.now.leaves) }
+    {
+        self.trie.image_bytes()
+    }
+
+    /// The bits of memory that the filter takes: those of its sections in whole words, and what stands beside them
+    /// ([`Trie::memory_bits`]).
+    pub fn memory_bits(&self) -> u64
+        ensures { bits_of_sections self.now ≤ result }
+    {
+        self.trie.memory_bits()
+    }
+
     /// Appends the least string that fits leaf `n`. Without memory `out` stays as it was.
-    pub fn least_of(&self, n: u32, out: &mut Vec<u8>) -> Result<(), AllocError>
+    pub fn least_of<B: Allocator + Copy>(
+        &self,
+        n: u32,
+        out: &mut Vec<u8, B>,
+    ) -> Result<(), AllocError>
         requires { n < length self.now.leaves }
         ensures added { OnOk result (IfSome (slice_get self.now.leaves n)
             (λ l. out.new.items ≡ out.old.items ++ begins self.now.real_bits l)) }
@@ -100,7 +120,7 @@ impl<A: Allocator> SurfFilter<A> {
     }
 
     /// Appends the filter's image. Without memory `out` stays as it was.
-    pub fn encode(&self, out: &mut Vec<u8>) -> Result<(), AllocError>
+    pub fn encode<B: Allocator>(&self, out: &mut Vec<u8, B>) -> Result<(), AllocError>
         ensures added { OnOk result (out.new.items
             ≡ out.old.items ++ image self.now.hash_bits self.now.real_bits self.now.cutoff self.now.leaves) }
         ensures unchanged { OnErr result (out.new.items ≡ out.old.items) }

@@ -3,8 +3,8 @@
 //! A [`SurfFilter`] answers as every filter of the same leaves does, by ways down its trie: `may_hold` looks at one node for
 //! each byte of the key that leads on and then at one suffix, and no call but `build` and `decode` goes over all leaves. It
 //! takes the bits of its image, some 10 for each label of a sparse level and those of the suffixes, and some hundredths of
-//! that more for counts and sums (`docs/PERFORMANCE.md`). Its spelling is the image (`docs/FORMATS.md`), and as many of its
-//! upper levels are dense as the settings' ratio allows.
+//! that more for counts and sums (`docs/PERFORMANCE.md`): `image_bytes` and `memory_bits` say how many. Its spelling is the
+//! image (`docs/FORMATS.md`), and as many of its upper levels are dense as the settings' ratio allows.
 //!
 //! It may be built of a trie that is there ([`SurfFilter::of`]) and decoded into memory of any allocator
 //! ([`SurfFilter::decode_in`]); [`RangeFilter`](filter_api::RangeFilter), by which a store knows filters, is for the
