@@ -17,6 +17,6 @@ mod WayBytes
 mod LeastStrings
 mod Cutting
 mod Standing
-mod Following
+mod KeptWays
 mod Sides
 mod Parting

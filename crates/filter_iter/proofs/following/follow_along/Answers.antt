@@ -3,7 +3,7 @@ use Rattle.std.proofs.lemmas.List.{length-append, take_more}
 use Rattle.std.specs.List.{All}
 use Rattle.std.proofs.lemmas.List.Elements.{All-nil, All-push}
 use Rattle.filter_iter.proofs.Bounds.{at_last, at_root, leads_nowhere, not_so, step_to_root}
-use Rattle.filter_iter.proofs.Following.{is_so, node_at}
+use Rattle.filter_iter.proofs.KeptWays.{is_so, node_at}
 use Rattle.filter_iter.proofs.WayLists.{no_way, way_low, way_on}
 use Rattle.filter_iter.specs.Borders.{HasLeft, IsBorder, IsDescent, IsStepBy}
 use Rattle.filter_iter.specs.Spots.{HasSpot}

@@ -1,6 +1,6 @@
 use Rattle.std.proofs.Common.{◌≡◌, Option, arith, subst}
 use Rattle.std.specs.Prelude.{IfNone}
-use Rattle.filter_iter.proofs.Following.{behind_none, behind_one}
+use Rattle.filter_iter.proofs.KeptWays.{behind_none, behind_one}
 use Rattle.filter_iter.specs.Borders.{LeadsToReached}
 use Rattle.filter_iter.specs.Ways.{letters_of}
 use Rattle.filter_iter.specs.declared.parts.Reached.{Reached}
