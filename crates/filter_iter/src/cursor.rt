@@ -1,9 +1,10 @@
 //! A cursor over the leaves of a trie in key order.
-ghost use Rattle.std.specs.Prelude.{◌≡◌, ◌+◌, ◌-◌, ◌++◌, ◌<◌, ◌≤◌, ◌↔◌, IsTrue, IfOk, IfSome, OnErr, OnOk, cond, drop, length, slice_get};
+ghost use Rattle.std.specs.Prelude.{◌≡◌, ◌+◌, ◌-◌, ◌++◌, ◌<◌, ◌≤◌, ◌↔◌, IsTrue, IfOk, IfSome, IsSome, OnErr, OnOk, cond, drop, length, slice_get};
 ghost use Rattle.std.specs.Option.{option_map};
 ghost use Rattle.filter_model.specs.Answers.{begins, first};
 ghost use Rattle.key_base.specs.Limits.{max_key_bytes};
 
+use super::answers::seek;
 use super::following::go_to;
 use super::least::push_least;
 use super::parts::{Marks, Way};
@@ -43,7 +44,7 @@ impl<'a, A: Allocator, B: Allocator + Copy> FilterCursor<'a, A, B> {
     /// At the first leaf that is not past `lo`, `None` where all are. Takes memory once, and none where the trie is low.
     ///
     /// Goes down by `lo` once and counts as [`seek`](super::seek) does. Where `lo` leads to no leaf, or to one that is past it,
-    /// it then goes on to the next leaf, as `next` does.
+    /// it then goes on to the next leaf, as `next` does. It fails only where there is a leaf: without memory it asks `seek`.
     pub fn start(
         alloc: B,
         trie: &'a Trie<A>,
@@ -51,8 +52,14 @@ impl<'a, A: Allocator, B: Allocator + Copy> FilterCursor<'a, A, B> {
     ) -> Result<Option<FilterCursor<'a, A, B>>, AllocError>
         ensures leaf { IfOk result (λ found. option_map (λ c. c.leaf) found ≡ first trie.now.real_bits trie.now.leaves lo.now) }
         ensures trie { IfOk result (λ found. IfSome found (λ c. c.image ≡ trie.now)) }
+        ensures failed { OnErr result (IsSome (first trie.now.real_bits trie.now.leaves lo.now)) }
     {
-        let mut way = new_way(alloc, usize::from(trie.height()))?;
+        let Ok(mut way) = new_way(alloc, usize::from(trie.height())) else {
+            return match seek(trie, lo) {
+                None => Ok(None),
+                Some(_) => Err(AllocError),
+            };
+        };
         let mut marks = SmallVec::new(alloc);
         let Some((leaf, slot)) = go_to(trie, lo, &mut way, &mut marks) else {
             return Ok(None);

@@ -30,11 +30,11 @@ letter_at-requires g c = (c.loop-level.invariant.0.on (is_so c.loop-level.descen
 pub push_reserved-requires : goal.push_reserved-requires
 push_reserved-requires g c = omega (arith, way_low c.args.trie.now.hash_bits c.args.trie.now.real_bits c.args.trie.now.leaves c.loop-level.descent.border.node c.loop-level.way.items c.height.ensures.stands.valid (node_at c.args.trie.now.leaves c.args.bound.now c.loop-level.level c.loop-level.descent.border c.loop-level.way.items (c.loop-level.invariant.0.on (is_so c.loop-level.descent.leads c.if-not-descent.false)) c.loop-level.invariant.2), c.loop-level.invariant.4, c.requires.room)
 
-pub step_on-requires-clause-border : goal.step_on-requires-clause-border
-step_on-requires-clause-border g c = c.loop-level.invariant.0.border
+pub step_on-descent-requires-clause-border : goal.step_on-descent-requires-clause-border
+step_on-descent-requires-clause-border g c = c.loop-level.invariant.0.border
 
-pub step_on-requires-clause-leads : goal.step_on-requires-clause-leads
-step_on-requires-clause-leads g c = c.loop-level.invariant.0.on (is_so c.loop-level.descent.leads c.if-not-descent.false)
+pub step_on-descent-requires-clause-leads : goal.step_on-descent-requires-clause-leads
+step_on-descent-requires-clause-leads g c = c.loop-level.invariant.0.on (is_so c.loop-level.descent.leads c.if-not-descent.false)
 
 pub loop-level-preserved : goal.loop-level-preserved
 loop-level-preserved g c =
@@ -44,8 +44,8 @@ loop-level-preserved g c =
     let on = way_on c.args.trie.now.leaves c.loop-level.way.items c.push_reserved.new.self.items c.loop-level.descent.border.node c.letter_at.result None c.loop-level.invariant.3 node c.letter_at.ensures.within c.push_reserved.ensures.items in
     let letters : letters_of c.push_reserved.new.self.items ≡ take (c.loop-level.level + 1) x =
     on.1 ∙ (λ j. (node.is ∙ c.loop-level.invariant.2) j ++ c.letter_at.ensures.letter j ∷ []) ∙ sym (take_more x c.loop-level.level 0 (omega (arith, read, length-append c.args.bound.now (END ∷ [])))) in (
-      c.step_on.ensures.descent,
-      subst (λ (q : List ℕ). IsStepBy c.args.trie.now.leaves q (c.loop-level.level + 1) c.step_on.result) (sym letters) c.step_on.ensures.step,
+      c.step_on-descent.ensures.descent,
+      subst (λ (q : List ℕ). IsStepBy c.args.trie.now.leaves q (c.loop-level.level + 1) c.step_on-descent.result) (sym letters) c.step_on-descent.ensures.step,
       letters,
       on.0,
       c.push_reserved.ensures.capacity ∙ c.loop-level.invariant.4,

@@ -1,4 +1,4 @@
-use Rattle.std.proofs.Common.{◌≡◌, ℕ, Bool, Some, None, cond, length, ◌+◌, ap, arith, le-ltb, lt-ltb, sym, ◌∙◌}
+use Rattle.std.proofs.Common.{◌≡◌, ℕ, Bool, Some, None, cond, length, ◌+◌, ap, arith, le-ltb, lt-ltb, rules, sym, ◌∙◌}
 use Rattle.filter_iter.proofs.Cuts.{first_is}
 use Rattle.filter_iter.proofs.Standing.{way_to}
 use Rattle.filter_iter.proofs.Steps.{first_leaf_within}
@@ -11,8 +11,8 @@ past_at-past-requires-clause-reached g c = c.follow_along-level.ensures.left.rea
 pub leaves_before-requires-clause-few : goal.leaves_before-requires-clause-few
 leaves_before-requires-clause-few g c = omega (arith, c.follow_along-level.ensures.left.before, first_leaf_within c.args.trie.now.leaves c.args.lo.now)
 
-pub overflow_add-result : goal.overflow_add-result
-overflow_add-result g c =
+pub overflow_add-number : goal.overflow_add-number
+overflow_add-number g c =
     let few = c.follow_along-level.ensures.stands.valid.few in
     omega (arith, few, c.leaves_before.ensures, c.follow_along-level.ensures.left.before, c.past_at-past.ensures.past.within)
 
@@ -22,9 +22,12 @@ returns-then-number-leaves-clause-number g c =
     sym (first_is c.args.trie.now.real_bits c.args.trie.now.leaves c.args.lo.now n c.past_at-past.ensures.past
     ∙ ap (λ (t : Bool). cond t (Some n) None) (le-ltb n (length c.args.trie.now.leaves) (omega (arith, c.if-number-leaves.true, c.leaves.ensures, c.leaves_before.ensures, c.follow_along-level.ensures.left.before))))
 
-pub turn_from-lead-requires-clause-more : goal.turn_from-lead-requires-clause-more
-turn_from-lead-requires-clause-more g c =
-    omega (arith, c.follow_along-level.ensures.before, c.leaves_before.ensures, c.follow_along-level.ensures.left.before, c.if-number-leaves.false, c.leaves.ensures)
+pub turn_from-lead-requires : goal.turn_from-lead-requires
+turn_from-lead-requires g c =
+    let f = c.follow_along-level.ensures in
+    (search rules, (search rules, (f.stands, (f.leaf, (c.past_at-past.ensures.most, (c.past_at-past.ensures.none, (
+      omega (arith, f.before, c.leaves_before.ensures, f.left.before, c.if-number-leaves.false, c.leaves.ensures),
+      (f.way, (f.spots, (c.requires.marks, omega (arith, c.requires.room, f.capacity)))))))))))
 
 pub returns-clause-number : goal.returns-clause-number
 returns-clause-number g c =

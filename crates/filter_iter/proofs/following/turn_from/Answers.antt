@@ -1,4 +1,4 @@
-use Rattle.std.proofs.Common.{◌≡◌, Option, arith, subst}
+use Rattle.std.proofs.Common.{◌≡◌, Option, arith, rules, subst}
 use Rattle.std.specs.Prelude.{IfNone}
 use Rattle.filter_iter.proofs.KeptWays.{behind_none, behind_one}
 use Rattle.filter_iter.specs.Borders.{LeadsToReached}
@@ -6,9 +6,11 @@ use Rattle.filter_iter.specs.Ways.{letters_of}
 use Rattle.filter_iter.specs.declared.parts.Reached.{Reached}
 use Rattle.filter_iter.proofs.following.turn_from.Goals as goal
 
-pub turn_behind-requires-clause-more : goal.turn_behind-requires-clause-more
-turn_behind-requires-clause-more g c =
-    omega (arith, behind_none c.args.trie.now.hash_bits c.args.trie.now.real_bits c.args.trie.now.leaves c.requires.stands.valid (letters_of c.args.way.now.items) (subst (LeadsToReached c.args.trie.now.leaves (letters_of c.args.way.now.items)) c.in-None.is c.requires.leaf), c.requires.more)
+pub turn_behind-requires : goal.turn_behind-requires
+turn_behind-requires g c =
+    (search rules, (search rules, (c.requires.stands, (c.requires.way, (c.requires.spots, (c.requires.marks, (
+      omega (arith, behind_none c.args.trie.now.hash_bits c.args.trie.now.real_bits c.args.trie.now.leaves c.requires.stands.valid (letters_of c.args.way.now.items) (subst (LeadsToReached c.args.trie.now.leaves (letters_of c.args.way.now.items)) c.in-None.is c.requires.leaf), c.requires.more),
+      c.requires.room)))))))
 
 pub returns-in-None-clause-first : goal.returns-in-None-clause-first
 returns-in-None-clause-first g c =
@@ -18,9 +20,11 @@ returns-in-None-clause-first g c =
 pub returns-then-past-eq0-clause-leads : goal.returns-then-past-eq0-clause-leads
 returns-then-past-eq0-clause-leads g c = subst (LeadsToReached c.args.trie.now.leaves (letters_of c.args.way.now.items)) c.in-Some.is c.requires.leaf
 
-pub turn_behind-requires-else-past-eq0-clause-more : goal.turn_behind-requires-else-past-eq0-clause-more
-turn_behind-requires-else-past-eq0-clause-more g c =
-    omega (arith, behind_one c.args.trie.now.hash_bits c.args.trie.now.real_bits c.args.trie.now.leaves c.requires.stands.valid (letters_of c.args.way.now.items) c.in-Some.reached.slot (subst (LeadsToReached c.args.trie.now.leaves (letters_of c.args.way.now.items)) c.in-Some.is c.requires.leaf), c.requires.more, c.requires.one, c.if-past-eq0.false)
+pub turn_behind-requires-else-past-eq0 : goal.turn_behind-requires-else-past-eq0
+turn_behind-requires-else-past-eq0 g c =
+    (search rules, (search rules, (c.requires.stands, (c.requires.way, (c.requires.spots, (c.requires.marks, (
+      omega (arith, behind_one c.args.trie.now.hash_bits c.args.trie.now.real_bits c.args.trie.now.leaves c.requires.stands.valid (letters_of c.args.way.now.items) c.in-Some.reached.slot (subst (LeadsToReached c.args.trie.now.leaves (letters_of c.args.way.now.items)) c.in-Some.is c.requires.leaf), c.requires.more, c.requires.one, c.if-past-eq0.false),
+      c.requires.room)))))))
 
 pub returns-else-past-eq0-clause-first : goal.returns-else-past-eq0-clause-first
 returns-else-past-eq0-clause-first g c =

@@ -1,4 +1,4 @@
-use Rattle.std.proofs.Common.{Some, ap, arith, subst, sym, ◌∙◌}
+use Rattle.std.proofs.Common.{Some, ap, arith, rules, subst, sym, ◌∙◌}
 use Rattle.std.specs.List.{All}
 use Rattle.std.proofs.lemmas.List.Elements.{All-pop, All-push}
 use Rattle.filter_iter.proofs.WayLists.{popped, pushed, way_low}
@@ -36,3 +36,8 @@ returns-in-Some-branch_after-clause-spots g c =
 
 pub branch_after-requires-clause-spot : goal.branch_after-requires-clause-spot
 branch_after-requires-clause-spot g c = (All-pop (HasSpot c.args.trie.now) c.loop-pass.way.items c.pop.new.self.items (Some c.in-Some.pass) c.in-Some.ensures.items c.loop-pass.invariant.3).1
+
+pub leave-requires : goal.leave-requires
+leave-requires g c =
+    let p = popped c.args.trie.now.leaves c.loop-pass.way.items c.pop.new.self.items c.in-Some.pass c.in-Some.ensures.items c.loop-pass.invariant.0 in
+    (search rules, (c.requires.stands, ((All-pop (HasSpot c.args.trie.now) c.loop-pass.way.items c.pop.new.self.items (Some c.in-Some.pass) c.in-Some.ensures.items c.loop-pass.invariant.3).1, (p.pass.node.within, c.loop-pass.invariant.4))))
