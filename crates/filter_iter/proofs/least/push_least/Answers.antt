@@ -1,10 +1,11 @@
-use Rattle.std.proofs.Common.{ℕ, List, Option, None, Some, ◌≡◌, ◌+◌, ◌-◌, ◌*◌, ◌^◌, ◌++◌, ap, append_assoc, arith, drop, length, length-append, sym, ◌∙◌, take}
-use Rattle.std.specs.Prelude.{IfSome}
+use Rattle.std.proofs.Common.{ℕ, Bool, true, false, cond, nat_lt, List, [], ◌∷◌, Option, None, Some, ◌≡◌, ◌≤◌, ◌+◌, ◌-◌, ◌*◌, ◌^◌, ◌++◌, ap, append_assoc, arith, drop, length, length-append, sym, ◌∙◌, take}
+use Rattle.std.specs.Prelude.{Err, IfSome, Ok, OnOk, Result, filter, if◌then◌else◌, is_ok}
 use Rattle.std.specs.List.{splice}
 use Rattle.std.proofs.lemmas.List.{length-take, take_at}
 use Rattle.std.proofs.lemmas.Result.{on_ok_weaker}
 use Rattle.filter_iter.proofs.LeastStrings.{least_is, real_small, way_short}
 use Rattle.filter_iter.proofs.MetLeaves.{slot_fits}
+use Rattle.filter_iter.proofs.WayLists.{length-letters}
 use Rattle.filter_iter.specs.Borders.{real_at}
 use Rattle.filter_iter.specs.Ways.{bytes_of_way, letters_of}
 use Rattle.filter_model.specs.Answers.{begins}
@@ -24,6 +25,20 @@ filled-requires-clause-real g c =
     let width : c.widths.result.1 ≡ c.args.trie.now.real_bits = ap (λ (s : Suffix). s.1) c.widths.ensures.widths ∙ c.suffixes.ensures.real_bits in
     omega (arith, real_small c.args.trie.now.hash_bits c.args.trie.now.real_bits c.args.trie.now.leaves c.requires.stands.valid c.args._n c.args.slot c.args.way.now c.requires.way, ap (λ (s : Suffix). s.1) c.suffix-real.ensures, ap (λ (w : ℕ). 2 ^ w) width)
 
+-- no more bytes than letters
+few_bytes : (x : List ℕ) → length (filter (λ c. nat_lt c 256) x) ≤ length x
+few_bytes [] = omega arith
+few_bytes (a ∷ x) = go (nat_lt a 256)
+  where
+    go : (t : Bool) → length (cond t (a ∷ filter (λ c. nat_lt c 256) x) (filter (λ c. nat_lt c 256) x)) ≤ length (a ∷ x)
+    go true = omega (arith, few_bytes x)
+    go false = omega (arith, few_bytes x)
+
+pub put_behind-requires : goal.put_behind-requires
+put_behind-requires g c =
+    let short = way_short c.args.trie.now.hash_bits c.args.trie.now.real_bits c.args.trie.now.leaves c.requires.stands.valid c.args._n c.args.slot c.args.way.now c.requires.way in
+    omega (arith, short, few_bytes (letters_of c.args.way.now), length-letters c.args.way.now, c.write_stub-count.ensures.count, c.write_stub-count.auto.out, c.shortest_bytes-len.ensures.len, length-take c.shortest_bytes-len.result.1 c.shortest_bytes-len.result.0)
+
 -- bytes put behind the front of others
 put_front : (a rest t xs : List ℕ) (n : ℕ) → xs ≡ a ++ rest → n ≡ length a → take (n + length t) (splice xs n (n + length t) t) ≡ a ++ t
 put_front a rest t xs n e k =
@@ -36,6 +51,11 @@ put_front a rest t xs n e k =
 appended : (n : ℕ) (o : Option Leaf) (old x items : List ℕ) → IfSome o (λ l. x ≡ begins n l) → items ≡ old ++ x → IfSome o (λ l. items ≡ old ++ begins n l)
 appended n None old x items e f = tt
 appended n (Some l) old x items e f = f ∙ ap (λ (y : List ℕ). old ++ y) e
+
+-- what is so of both ways is so of Ok
+if_ok : {T E : Type 0} (r : Result T E) (items a b : List ℕ) → items ≡ (if is_ok r then a else b) → OnOk r (items ≡ a)
+if_ok (Ok x) items a b e = e
+if_ok (Err x) items a b e = tt
 
 pub returns-clause-added : goal.returns-clause-added
 returns-clause-added g c =
@@ -54,4 +74,4 @@ returns-clause-added g c =
     on_ok_weaker c.extend_from_slice.result
     (λ items. appended trie.real_bits _ c.args.out.now.items _ c.extend_from_slice.new.self.items
     (least_is trie.hash_bits trie.real_bits trie.leaves c.requires.stands.valid c.args._n c.args.slot c.args.way.now c.requires.way _ whole) items)
-    c.extend_from_slice.ensures.items
+    (if_ok c.extend_from_slice.result c.extend_from_slice.new.self.items _ _ c.extend_from_slice.ensures.items)
