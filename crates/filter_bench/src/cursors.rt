@@ -25,7 +25,7 @@ pub fn cursor_rounds(
 // Goes over all leaves once: nanoseconds a leaf.
 fn leaves_timed(rt: &impl CpuClock, alloc: Global, trie: &Trie<Global>) -> Result<f64> {
     let leaves = u64::from(trie.leaves());
-    let Some(mut cursor) = FilterCursor::start(alloc, trie, b"")? else {
+    let Some(mut cursor) = FilterCursor::start(&alloc, trie, b"")? else {
         bail!("a trie has no first leaf");
     };
     next_timed(rt, &mut cursor, leaves)
@@ -98,7 +98,7 @@ fn starts_timed(
     let mut sum = 0u64;
     let watch = Watch::start(rt)?;
     for i in 0..count {
-        if let Some(cursor) = FilterCursor::start(alloc, trie, keys.get(i))? {
+        if let Some(cursor) = FilterCursor::start(&alloc, trie, keys.get(i))? {
             sum = sum.wrapping_add(cursor.slot());
             if said {
                 least.clear();

@@ -19,15 +19,15 @@ use std::marker::Model;
 ///
 /// Keeps the way from the root to its leaf, in memory taken when it starts, of any allocator, and takes none after that.
 #[derive(Drop)]
-pub struct FilterCursor<'a, A: Allocator, B: Allocator + Copy> {
+pub struct FilterCursor<'a, A: Allocator, B: Allocator> {
     trie: &'a Trie<A>,
-    way: Way<B>,
-    marks: Marks<B>,
+    way: Way<'a, B>,
+    marks: Marks<'a, B>,
     leaf: u32,
     slot: u64,
 }
 
-impl<'a, A: Allocator, B: Allocator + Copy> Model for FilterCursor<'a, A, B> {
+impl<'a, A: Allocator, B: Allocator> Model for FilterCursor<'a, A, B> {
     ghost use Rattle.std.specs.Prelude.{◌≤◌};
     ghost use Rattle.filter_iter.specs.Cursors.{IsStanding, Standing};
 
@@ -38,15 +38,15 @@ impl<'a, A: Allocator, B: Allocator + Copy> Model for FilterCursor<'a, A, B> {
     ghost invariant = { λ c. IsStanding c.trie.now c.leaf c.slot c.way c.marks };
 }
 
-impl<'a, A: Allocator, B: Allocator + Copy> FilterCursor<'a, A, B> {
+impl<'a, A: Allocator, B: Allocator> FilterCursor<'a, A, B> {
     ghost use Rattle.filter_iter.specs.Cursors.{IsSlotOf, moved};
 
-    /// At the first leaf that is not past `lo`, `None` where all are. Takes memory once, and none where the trie is low.
+    /// At the first leaf that is not past `lo`, `None` where all are. Takes memory of `alloc` once, and none where the trie is low.
     ///
     /// Goes down by `lo` once and counts as [`seek`](super::seek) does. Where `lo` leads to no leaf, or to one that is past it,
     /// it then goes on to the next leaf, as `next` does. It fails only where there is a leaf: without memory it asks `seek`.
     pub fn start(
-        alloc: B,
+        alloc: &'a B,
         trie: &'a Trie<A>,
         lo: &[u8],
     ) -> Result<Option<FilterCursor<'a, A, B>>, AllocError>

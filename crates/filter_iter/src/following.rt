@@ -33,10 +33,10 @@ fn letter_at(bound: &[u8], level: usize) -> u16
 
 // Goes down by a bound to where it has left the trie, and gives the level there. `way`, which is empty, becomes the bound's:
 // a pass for each node to which it leads, by the letter that follows, be there a branch by it or none.
-fn follow_along<A: Allocator, B: Allocator + Copy>(
+fn follow_along<A: Allocator, B: Allocator>(
     trie: &Trie<A>,
     bound: &[u8],
-    way: &mut Way<B>,
+    way: &mut Way<'_, B>,
 ) -> (Descent, usize)
     requires empty { way.old.items ≡ [] }
     requires room { height_of trie.now.leaves ≤ way.old.capacity }
@@ -67,12 +67,12 @@ fn follow_along<A: Allocator, B: Allocator + Copy>(
 
 // Where the first leaf stands that is not past a bound, whose way this is: it is the leaf that the bound reaches, if that is
 // not past it, or the way turns to the next one behind the bound's letters.
-fn turn_from<A: Allocator, B: Allocator + Copy>(
+fn turn_from<A: Allocator, B: Allocator>(
     trie: &Trie<A>,
     leaf: Option<Reached>,
     past: u64,
-    way: &mut Way<B>,
-    marks: &mut Marks<B>,
+    way: &mut Way<'_, B>,
+    marks: &mut Marks<'_, B>,
 ) -> Lead
     requires stands { MayStand trie.now.hash_bits trie.now.real_bits trie.now.cutoff trie.now.leaves }
     requires leaf { LeadsToReached trie.now.leaves (letters_of way.old.items) leaf }
@@ -107,11 +107,11 @@ fn turn_from<A: Allocator, B: Allocator + Copy>(
 ///
 /// The bound is followed once, and counted as `seek` counts. Where it reaches no leaf, or one that is past it, the leaf is the
 /// next one behind its letters.
-pub(crate) fn go_to<A: Allocator, B: Allocator + Copy>(
+pub(crate) fn go_to<A: Allocator, B: Allocator>(
     trie: &Trie<A>,
     lo: &[u8],
-    way: &mut Way<B>,
-    marks: &mut Marks<B>,
+    way: &mut Way<'_, B>,
+    marks: &mut Marks<'_, B>,
 ) -> Option<(u32, u64)>
     requires empty { way.old.items ≡ [] }
     requires room { height_of trie.now.leaves ≤ way.old.capacity }

@@ -61,7 +61,8 @@ pub fn least_of<A: Allocator, B: Allocator + Copy>(
     ensures added { OnOk result (IfSome (slice_get trie.now.leaves n) (λ l. out.new.items ≡ out.old.items ++ begins trie.now.real_bits l)) }
     ensures unchanged { OnErr result (out.new.items ≡ out.old.items) }
 {
-    let mut way = new_way(*out.allocator(), usize::from(trie.height()))?;
+    let alloc = *out.allocator();
+    let mut way = new_way(&alloc, usize::from(trie.height()))?;
     let slot = find(trie, n, &mut way);
     push_least(trie, n, slot, way.as_slice(), out)
 }

@@ -13,10 +13,10 @@ use filter_trie::Trie;
 use std::alloc::Allocator;
 
 /// Keeps where the node behind a pass's begins, if the pass is by its node's last branch, whose spot is known, and there is room.
-pub(crate) fn leave<A: Allocator, B: Allocator + Copy>(
+pub(crate) fn leave<A: Allocator, B: Allocator>(
     trie: &Trie<A>,
     pass: Pass,
-    marks: &mut Marks<B>,
+    marks: &mut Marks<'_, B>,
 )
     requires stands { MayStand trie.now.hash_bits trie.now.real_bits trie.now.cutoff trie.now.leaves }
     requires spot { HasSpot trie.now pass }
@@ -37,10 +37,10 @@ pub(crate) fn leave<A: Allocator, B: Allocator + Copy>(
 }
 
 // Takes the last mark, if it is a node's.
-fn take_mark<A: Allocator, B: Allocator + Copy>(
+fn take_mark<A: Allocator, B: Allocator>(
     _trie: &Trie<A>,
     node: u64,
-    marks: &mut Marks<B>,
+    marks: &mut Marks<'_, B>,
 ) -> Option<Mark>
     requires { All (IsMark _trie.now) marks.old.items }
     ensures mark { IfSome result (λ mark. IsMark _trie.now mark × (mark.node ≡ node)) }
@@ -85,10 +85,10 @@ fn marked_spot<A: Allocator>(trie: &Trie<A>, mark: Mark) -> Spot
 
 /// The first branch of a node, and its spot where the node is in the sparse half. The node's mark is used up, if it is the
 /// last one.
-pub(crate) fn first_marked<A: Allocator, B: Allocator + Copy>(
+pub(crate) fn first_marked<A: Allocator, B: Allocator>(
     trie: &Trie<A>,
     node: u64,
-    marks: &mut Marks<B>,
+    marks: &mut Marks<'_, B>,
 ) -> (Branch, Option<Spot>)
     requires stands { MayStand trie.now.hash_bits trie.now.real_bits trie.now.cutoff trie.now.leaves }
     requires node { node < length (nodes trie.now.leaves) }

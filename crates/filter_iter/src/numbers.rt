@@ -96,11 +96,7 @@ fn step_to<A: Allocator>(
 /// at which the way's node has branches beside the way.
 ///
 /// `way` is empty, and has room for as many passes as the trie is high.
-pub(crate) fn find<A: Allocator, B: Allocator + Copy>(
-    trie: &Trie<A>,
-    n: u32,
-    way: &mut Way<B>,
-) -> u64
+pub(crate) fn find<A: Allocator, B: Allocator>(trie: &Trie<A>, n: u32, way: &mut Way<'_, B>) -> u64
     requires number { n < length trie.now.leaves }
     requires empty { way.old.items ≡ [] }
     requires room { height_of trie.now.leaves ≤ way.old.capacity }

@@ -71,7 +71,7 @@ pub(crate) struct Mark {
 }
 
 /// Marks of the nodes that come next on the levels below a way, the one of the highest level last. They take no memory.
-pub(crate) type Marks<B> = SmallVec<Mark, 16, B>;
+pub(crate) type Marks<'b, B> = SmallVec<Mark, 16, &'b B>;
 
 /// A node on the way to a leaf, and the letter by which the way goes on from there.
 #[derive(Clone, Copy, Default)]
@@ -84,7 +84,7 @@ pub(crate) struct Pass {
 }
 
 /// The way from the root to a leaf, a pass for each letter. Short ones take no memory.
-pub(crate) type Way<B> = SmallVec<Pass, 16, B>;
+pub(crate) type Way<'b, B> = SmallVec<Pass, 16, &'b B>;
 
 /// Where a branch leads: to a node, or to the leaf of a slot.
 #[derive(Clone, Copy)]

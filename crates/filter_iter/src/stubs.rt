@@ -7,7 +7,10 @@ use smallvec::SmallVec;
 use std::alloc::{AllocError, Allocator};
 
 /// An empty way with room for this many passes.
-pub(crate) fn new_way<B: Allocator + Copy>(alloc: B, height: usize) -> Result<Way<B>, AllocError>
+pub(crate) fn new_way<'b, B: Allocator>(
+    alloc: &'b B,
+    height: usize,
+) -> Result<Way<'b, B>, AllocError>
     ensures empty { IfOk result (λ way. way.items ≡ []) }
     ensures room { IfOk result (λ way. height ≤ way.capacity) }
 {

@@ -16,10 +16,10 @@ use std::alloc::Allocator;
 
 /// Goes up to the last node on a way that has a branch behind it, and turns to that branch. Of the nodes that it leaves it
 /// marks where the next ones begin.
-pub(crate) fn turn_behind<A: Allocator, B: Allocator + Copy>(
+pub(crate) fn turn_behind<A: Allocator, B: Allocator>(
     trie: &Trie<A>,
-    way: &mut Way<B>,
-    marks: &mut Marks<B>,
+    way: &mut Way<'_, B>,
+    marks: &mut Marks<'_, B>,
 ) -> Lead
     requires stands { MayStand trie.now.hash_bits trie.now.real_bits trie.now.cutoff trie.now.leaves }
     requires way { IsWay trie.now.leaves way.old.items }
@@ -49,10 +49,7 @@ pub(crate) fn turn_behind<A: Allocator, B: Allocator + Copy>(
 }
 
 /// Goes up to the last node on a way that has a branch before it, and turns to that branch.
-pub(crate) fn turn_before<A: Allocator, B: Allocator + Copy>(
-    trie: &Trie<A>,
-    way: &mut Way<B>,
-) -> Lead
+pub(crate) fn turn_before<A: Allocator, B: Allocator>(trie: &Trie<A>, way: &mut Way<'_, B>) -> Lead
     requires stands { MayStand trie.now.hash_bits trie.now.real_bits trie.now.cutoff trie.now.leaves }
     requires way { IsWay trie.now.leaves way.old.items }
     requires spots { All (HasSpot trie.now) way.old.items }
@@ -78,11 +75,11 @@ pub(crate) fn turn_before<A: Allocator, B: Allocator + Copy>(
 }
 
 /// Goes on down to the first leaf below, and gives its slot.
-pub(crate) fn go_first<A: Allocator, B: Allocator + Copy>(
+pub(crate) fn go_first<A: Allocator, B: Allocator>(
     trie: &Trie<A>,
     lead: Lead,
-    way: &mut Way<B>,
-    marks: &mut Marks<B>,
+    way: &mut Way<'_, B>,
+    marks: &mut Marks<'_, B>,
 ) -> u64
     requires stands { MayStand trie.now.hash_bits trie.now.real_bits trie.now.cutoff trie.now.leaves }
     requires way { IsWay trie.now.leaves way.old.items }
@@ -115,10 +112,10 @@ pub(crate) fn go_first<A: Allocator, B: Allocator + Copy>(
 }
 
 /// Goes on down to the last leaf below, and gives its slot.
-pub(crate) fn go_last<A: Allocator, B: Allocator + Copy>(
+pub(crate) fn go_last<A: Allocator, B: Allocator>(
     trie: &Trie<A>,
     lead: Lead,
-    way: &mut Way<B>,
+    way: &mut Way<'_, B>,
 ) -> u64
     requires stands { MayStand trie.now.hash_bits trie.now.real_bits trie.now.cutoff trie.now.leaves }
     requires way { IsWay trie.now.leaves way.old.items }

@@ -10,7 +10,7 @@ use std::test::Fail;
 
 /// A cursor at the first leaf that is not past a bound, where there is one.
 pub(crate) fn start_at<'a>(
-    alloc: Global,
+    alloc: &'a Global,
     trie: &'a Trie<Global>,
     lo: &[u8],
 ) -> Result<FilterCursor<'a, Global, Global>, Fail> {

@@ -80,15 +80,15 @@ fn go_to_the_first(rt: &impl Abort, cursor: &mut FilterCursor<'_, Global, Global
 }
 
 fn check_back(rt: &impl Abort, alloc: Global, trie: &Trie<Global>) -> Result<(), Fail> {
-    let mut cursor = start_at(alloc, trie, b"fat")?;
+    let mut cursor = start_at(&alloc, trie, b"fat")?;
     go_to_the_first(rt, &mut cursor);
     Ok(())
 }
 
 fn check_last(rt: &impl Abort, alloc: Global, trie: &Trie<Global>) -> Result<(), Fail> {
-    let mut cursor = start_at(alloc, trie, b"toy")?;
+    let mut cursor = start_at(&alloc, trie, b"toy")?;
     check_next(rt, &mut cursor, false, 4);
-    assert!(rt; FilterCursor::start(alloc, trie, b"u")?.is_none());
+    assert!(rt; FilterCursor::start(&alloc, trie, b"u")?.is_none());
     Ok(())
 }
 

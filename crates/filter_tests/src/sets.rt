@@ -86,7 +86,7 @@ fn check_cursor(
     lo: &[u8],
     first: Option<u32>,
 ) -> Result<(), Fail> {
-    match FilterCursor::start(alloc, trie, lo)? {
+    match FilterCursor::start(&alloc, trie, lo)? {
         None => assert!(rt; first.is_none()),
         Some(mut cursor) => {
             assert!(rt; says_least(alloc, &cursor, trie)?);

@@ -24,10 +24,28 @@ returns-then-number-leaves-clause-number g c =
 
 pub turn_from-lead-requires : goal.turn_from-lead-requires
 turn_from-lead-requires g c =
-    let f = c.follow_along-level.ensures in
-    (search rules, (search rules, (f.stands, (f.leaf, (c.past_at-past.ensures.most, (c.past_at-past.ensures.none, (
-      omega (arith, f.before, c.leaves_before.ensures, f.left.before, c.if-number-leaves.false, c.leaves.ensures),
-      (f.way, (f.spots, (c.requires.marks, omega (arith, c.requires.room, f.capacity)))))))))))
+    let f = c.follow_along-level.ensures in (
+      search rules,
+      (
+        search rules,
+        (
+          f.stands,
+          (
+            f.leaf,
+            (
+              c.past_at-past.ensures.most,
+              (
+                c.past_at-past.ensures.none,
+                (
+                  omega (arith, f.before, c.leaves_before.ensures, f.left.before, c.if-number-leaves.false, c.leaves.ensures),
+                  (f.way, (f.spots, (c.requires.marks, omega (arith, c.requires.room, f.capacity)))),
+                ),
+              ),
+            ),
+          ),
+        ),
+      ),
+    )
 
 pub returns-clause-number : goal.returns-clause-number
 returns-clause-number g c =

@@ -25,14 +25,15 @@ filled-requires-clause-real g c =
     let width : c.widths.result.1 ≡ c.args.trie.now.real_bits = ap (λ (s : Suffix). s.1) c.widths.ensures.widths ∙ c.suffixes.ensures.real_bits in
     omega (arith, real_small c.args.trie.now.hash_bits c.args.trie.now.real_bits c.args.trie.now.leaves c.requires.stands.valid c.args._n c.args.slot c.args.way.now c.requires.way, ap (λ (s : Suffix). s.1) c.suffix-real.ensures, ap (λ (w : ℕ). 2 ^ w) width)
 
+-- a letter that may be kept
+few_more : (t : Bool) (a : ℕ) (y x : List ℕ) → length y ≤ length x → length (cond t (a ∷ y) y) ≤ length (a ∷ x)
+few_more true a y x h = omega (arith, h)
+few_more false a y x h = omega (arith, h)
+
 -- no more bytes than letters
 few_bytes : (x : List ℕ) → length (filter (λ c. nat_lt c 256) x) ≤ length x
 few_bytes [] = omega arith
-few_bytes (a ∷ x) = go (nat_lt a 256)
-  where
-    go : (t : Bool) → length (cond t (a ∷ filter (λ c. nat_lt c 256) x) (filter (λ c. nat_lt c 256) x)) ≤ length (a ∷ x)
-    go true = omega (arith, few_bytes x)
-    go false = omega (arith, few_bytes x)
+few_bytes (a ∷ x) = few_more (nat_lt a 256) a (filter (λ c. nat_lt c 256) x) x (few_bytes x)
 
 pub put_behind-requires : goal.put_behind-requires
 put_behind-requires g c =

@@ -1,12 +1,15 @@
-use Rattle.std.proofs.Common.{◌-◌, arith, subst, sym}
+use Rattle.std.proofs.Common.{◌-◌, arith, rules, subst, sym}
 use Rattle.std.specs.List.{All}
 use Rattle.std.proofs.lemmas.List.Elements.{All-nil}
 use Rattle.filter_iter.specs.Spots.{IsMark}
 use Rattle.filter_iter.proofs.Standing.{number_is, way_to_last}
 use Rattle.filter_iter.proofs.cursor.FilterCursor.prev.Goals as goal
 
-pub turn_before-lead-requires-clause-more : goal.turn_before-lead-requires-clause-more
-turn_before-lead-requires-clause-more g c = omega (arith, number_is c.self.inside.trie.now.hash_bits c.self.inside.trie.now.real_bits c.self.inside.trie.now.leaves c.self.invariant.stands.valid c.self.inside.leaf c.self.inside.slot c.self.inside.way.items c.self.invariant.to, c.if-self-eq0.false)
+pub turn_before-lead-requires : goal.turn_before-lead-requires
+turn_before-lead-requires g c =
+    (search rules, (c.self.invariant.stands, (c.self.invariant.to.nodes, (c.self.invariant.spots, (
+      omega (arith, number_is c.self.inside.trie.now.hash_bits c.self.inside.trie.now.real_bits c.self.inside.trie.now.leaves c.self.invariant.stands.valid c.self.inside.leaf c.self.inside.slot c.self.inside.way.items c.self.invariant.to, c.if-self-eq0.false),
+      c.self.invariant.room)))))
 
 pub invariant_of-self : goal.invariant_of-self
 invariant_of-self g c = record {
