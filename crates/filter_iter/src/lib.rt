@@ -33,7 +33,7 @@
 //! range(&trie, b"fat", b"r")     // false
 //! range(&trie, b"fat", b"s")     // true
 //! tally(&trie, b"fas", b"tor")   // 3: fas, s and top
-//! FilterCursor::start(alloc, &trie, b"fat")?    // at leaf 2, the leaf s
+//! FilterCursor::start(&alloc, &trie, b"fat")?   // at leaf 2, the leaf s
 //! ```
 #![tactic(auto)]
 

@@ -1,4 +1,4 @@
-use Rattle.std.proofs.Common.{◌≡◌, ℕ, None, List, ◌+◌, ◌++◌, ◌∷◌, [], ap, arith, get_or, length, refl, subst, sym, ◌∙◌, take}
+use Rattle.std.proofs.Common.{◌≡◌, ℕ, None, List, ◌+◌, ◌++◌, ◌∷◌, [], ap, arith, refl, subst, sym, ◌∙◌, take}
 use Rattle.std.proofs.lemmas.List.{length-append, take_more}
 use Rattle.std.specs.List.{All}
 use Rattle.std.proofs.lemmas.List.Elements.{All-nil, All-push}
@@ -10,7 +10,6 @@ use Rattle.filter_iter.specs.Spots.{HasSpot}
 use Rattle.filter_iter.specs.Ways.{IsWay, letters_of}
 use Rattle.filter_iter.specs.declared.parts.Pass.{Pass}
 use Rattle.filter_model.specs.Trie.{END, height}
-use Rattle.trie_model.specs.Rests.{first_leaf}
 use Rattle.filter_iter.proofs.following.follow_along.Goals as goal
 
 pub loop-level-init : goal.loop-level-init

@@ -6,10 +6,22 @@ use Rattle.filter_iter.proofs.Standing.{number_is, way_to_last}
 use Rattle.filter_iter.proofs.cursor.FilterCursor.prev.Goals as goal
 
 pub turn_before-lead-requires : goal.turn_before-lead-requires
-turn_before-lead-requires g c =
-    (search rules, (c.self.invariant.stands, (c.self.invariant.to.nodes, (c.self.invariant.spots, (
-      omega (arith, number_is c.self.inside.trie.now.hash_bits c.self.inside.trie.now.real_bits c.self.inside.trie.now.leaves c.self.invariant.stands.valid c.self.inside.leaf c.self.inside.slot c.self.inside.way.items c.self.invariant.to, c.if-self-eq0.false),
-      c.self.invariant.room)))))
+turn_before-lead-requires g c = (
+  search rules,
+  (
+    c.self.invariant.stands,
+    (
+      c.self.invariant.to.nodes,
+      (
+        c.self.invariant.spots,
+        (
+          omega (arith, number_is c.self.inside.trie.now.hash_bits c.self.inside.trie.now.real_bits c.self.inside.trie.now.leaves c.self.invariant.stands.valid c.self.inside.leaf c.self.inside.slot c.self.inside.way.items c.self.invariant.to, c.if-self-eq0.false),
+          c.self.invariant.room,
+        ),
+      ),
+    ),
+  ),
+)
 
 pub invariant_of-self : goal.invariant_of-self
 invariant_of-self g c = record {
