@@ -52,4 +52,4 @@ stepped_few s lo hi t = count_le passed deleted t.entries few
     few e _ both =
         let parts = and_parts (is_between lo (Some hi) e.key) (is_passed (seek (state_map s) lo (Some hi)) e.key) both in
         ap (λ (b : Bool). b && is_none (get (state_map s) e.key)) parts.0
-            ∙ ap (λ (value : Option Bytes). is_none value) (stepped_deleted s lo hi e.key parts.0 parts.1)
+        ∙ ap (λ (value : Option Bytes). is_none value) (stepped_deleted s lo hi e.key parts.0 parts.1)

@@ -9,7 +9,7 @@
 //! [`Store::compact`] merges all that the store holds, in one call. [`Store::set_settings`] changes the settings of new tables,
 //! [`Store::grow`] gives the store more pages.
 //!
-//! `specs/Tied` has what a caller may rest on: a store value, the device under it and a state of `state_model` are one,
+//! `specs/Represents` has what a caller may rest on: a store value, the device under it and a state of `state_model` are one,
 //! where each image that a crash may leave stands for that state, the tables in memory are those of its pages, and the
 //! merge that runs is the state's job. Then a get answers what the map of the state has.
 //!

@@ -1,4 +1,4 @@
-//! A store of the manifest's first format, as programs of before left it: it opens, and its next install stands in the second.
+//! A store of the manifest's first format, as an earlier program left it: it opens, and its next install stands in the second.
 use disk_mem::MemDisk;
 use std::alloc::Global;
 use std::test::Fail;

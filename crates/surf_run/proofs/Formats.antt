@@ -135,10 +135,10 @@ format_ends spelling store status old new (inr starved) causes none = elim starv
 format_ends spelling store status old new (inl made) causes none = elim made.0.line.3 [
   | inr six ↦ absurd (none (inr (inr (causes.saying six.0))))
   | inl whole ↦ elim made.0.line.2 [
-      | inl zero ↦ inl (whole.0 ∙ zero.2)
-      | inr (inl eight) ↦ inr (inr (whole.0 ∙ eight.2))
-      | inr (inr (inl seven)) ↦ inr (inl (whole.0 ∙ seven.2))
-      | inr (inr (inr (inl four))) ↦ absurd (none (inr (inl (causes.device (whole.0 ∙ four.1)))))
-      | inr (inr (inr (inr bad))) ↦ inr (inr (whole.0 ∙ bad.2))
-    ]
+    | inl zero ↦ inl (whole.0 ∙ zero.2)
+    | inr (inl eight) ↦ inr (inr (whole.0 ∙ eight.2))
+    | inr (inr (inl seven)) ↦ inr (inl (whole.0 ∙ seven.2))
+    | inr (inr (inr (inl four))) ↦ absurd (none (inr (inl (causes.device (whole.0 ∙ four.1)))))
+    | inr (inr (inr (inr bad))) ↦ inr (inr (whole.0 ∙ bad.2))
+  ]
 ]
