@@ -489,7 +489,7 @@ fn a_store_in_slices_replies_as_it_is_played_in_them(rt: HostRuntime) -> Result<
     Ok(())
 }
 
-// With settings and pages that change between lines, and crashes: filters of all variants stand in one version.
+// With settings and pages that change between lines, and crashes.
 #[test]
 fn a_store_whose_numbers_change_replies_as_it_is_played(rt: HostRuntime) -> Result<(), Fail> {
     let alloc = rt.alloc();

@@ -106,6 +106,7 @@ fn a_flush_over_format_1_is_stopped(rt: HostRuntime) -> Result<(), Fail> {
     for call in 0..60 {
         let end = served(alloc, failing(alloc, &first, call)?, b"put 62 01\nflush\n")?;
         if end.status == 0 {
+            assert!(rt; call > 20);
             return Ok(());
         }
         assert_eq!(rt; end.status, 4, "call {call}");

@@ -76,6 +76,25 @@ fn each_line_that_reads_tells_of_a_damaged_block(rt: HostRuntime) -> Result<(), 
     Ok(())
 }
 
+// New numbers are set beside a damaged block, in slot A alone, and the next line that reads it tells of it as before.
+#[test]
+fn new_numbers_are_set_beside_a_damaged_block(rt: HostRuntime) -> Result<(), Fail> {
+    let alloc = rt.alloc();
+    let mut first = one_block(alloc)?;
+    first.write(786_440, &[3])?;
+    let few = commanded(alloc, "grow --pages 511", disk_of(alloc, first.bytes())?)?;
+    check(&rt, &few, 8, b"bad settings pages\n", 0);
+    assert!(rt; few.disk.bytes() == first.bytes());
+    let words = "settings --variant hash";
+    let end = commanded(alloc, words, disk_of(alloc, first.bytes())?)?;
+    check(&rt, &end, 0, b"settings 8 0 64\n", 1);
+    assert!(rt; end.disk.bytes().get(131_072..) == first.bytes().get(131_072..));
+    let read = served(alloc, end.disk, b"seek 61 62\n")?;
+    let told = b"damaged block 786432 sum eba7fa7c4d3d0fad 48e5c0a5221a7b73\n";
+    check(&rt, &read, 5, told, 2);
+    Ok(())
+}
+
 #[test]
 fn a_read_that_fails_is_not_tried_again(rt: HostRuntime) -> Result<(), Fail> {
     let alloc = rt.alloc();

@@ -88,7 +88,7 @@ fn has_either(alloc: Global, disk: &MemDisk, change: &Change) -> Result<bool, Fa
     Ok(whole.is_some() && none.is_some())
 }
 
-// Until the store is opened nothing is written.
+// Until the store is opened nothing is written; then come three writes, each with a sync.
 fn each_call_fails_well(rt: &impl Abort, alloc: Global, change: &Change) -> Result<(), Fail> {
     let first = served(alloc, base_disk(alloc)?, TWO_PUTS)?;
     let opened = calls_of(alloc, &first.disk, b"")? as u64;
@@ -97,6 +97,7 @@ fn each_call_fails_well(rt: &impl Abort, alloc: Global, change: &Change) -> Resu
         if end.status == 0 {
             check(rt, &end, 0, change.line, call);
             assert!(rt; has_new(alloc, lost(alloc, &end.disk)?, change)? == Some(true));
+            assert_eq!(rt; call, opened.saturating_add(6));
             return Ok(());
         }
         check(rt, &end, 4, b"device\n", call);

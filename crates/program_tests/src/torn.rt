@@ -107,6 +107,7 @@ fn calls_fail_and_each_write_is_left_as_sevens(rt: HostRuntime) -> Result<(), Fa
         assert!(rt; outlasts(alloc, &end)?, "call {call}");
         if end.status == 0 {
             assert_eq!(rt; end.disk.starved(), 0);
+            assert!(rt; call > 40);
             return Ok(());
         }
         assert!(rt; is_told(&end), "call {call}");

@@ -177,5 +177,9 @@ fn an_install_over_format_1_is_stopped_at_each_call(rt: HostRuntime) -> Result<(
             assert!(rt; is_kept(alloc, &first, call, left)?, "call {call}");
         }
     }
+    let mut disk = failing_behind(alloc, first.bytes(), 16)?;
+    let mut store = opened(alloc, &mut disk)?;
+    apply(&mut store, &mut disk, Change::Put(b"b", b"\x03"))?;
+    apply(&mut store, &mut disk, Change::Flush)?;
     Ok(())
 }

@@ -495,12 +495,18 @@ fn is_done_or_leaves_the_merge(alloc: Global, change: Reset) -> Result<bool, Fai
     }
 }
 
-// `rt try --test --seconds 300 --fail-alloc N -- each_allocation_may_fail` in the crate's folder makes allocation N fail.
+// One allocation more, the last of a test: where it is refused, each of those before it was.
+fn is_not_the_last(alloc: Global) -> bool {
+    Vec::from_slice(alloc, b"last").is_ok()
+}
+
+// `tools/refuse-allocations` plays it once for each allocation, with that one refused.
 #[test]
-fn each_allocation_may_fail(rt: HostRuntime) -> Result<(), Fail> {
+fn each_allocation_of_a_reset_may_be_refused(rt: HostRuntime) -> Result<(), Fail> {
     for change in [Reset::Settings, Reset::Pages] {
         assert!(rt; is_done_or_leaves_the_merge(rt.alloc(), change)?);
     }
+    assert!(rt; is_not_the_last(rt.alloc()), "the last allocation");
     Ok(())
 }
 
