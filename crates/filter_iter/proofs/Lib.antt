@@ -20,3 +20,4 @@ mod Standing
 mod KeptWays
 mod Sides
 mod Parting
+mod Appended

@@ -1,11 +1,14 @@
-//! The filter of all keys of two bytes, decoded into a heap of 131,072 bytes, which a list of its stubs does not fit.
+//! The filter of all keys of two bytes, decoded into a heap of 131,072 bytes, which a list of its stubs does not fit; and a
+//! way that is too long to be in its cursor, in a heap with room for it and in one with none.
 
 use super::filters::{filter_of, spelled};
 use super::levels::pair_keys;
-use super::tries::boxed;
+use super::sums::push_pair;
+use super::tries::{base_trie, boxed};
 use filter_api::Settings;
-use filter_iter::FilterCursor;
+use filter_iter::{FilterCursor, least_of};
 use filter_trie::Trie;
+use key_base::KeyList;
 use linked_list_allocator::LocalHeap;
 use std::alloc::{AllocError, Allocator, Global};
 use std::process::Abort;
@@ -14,16 +17,15 @@ use surf_filter::SurfFilter;
 
 const HEAP_BYTES: usize = 131_072;
 
-const SETTINGS: Settings = Settings {
-    hash_bits: 0,
-    real_bits: 0,
-    ratio: 64,
-};
-
-// The image of the filter.
-fn image(alloc: Global) -> Result<Vec<u8>, Fail> {
+// The image of the filter with leaves of such widths.
+fn image(alloc: Global, hash_bits: u8, real_bits: u8) -> Result<Vec<u8>, Fail> {
     let keys = pair_keys(alloc, 256)?;
-    let filter: SurfFilter<Global> = filter_of(alloc, &keys, SETTINGS)?;
+    let settings = Settings {
+        hash_bits,
+        real_bits,
+        ratio: 64,
+    };
+    let filter: SurfFilter<Global> = filter_of(alloc, &keys, settings)?;
     let filter = boxed(alloc, filter)?;
     let bytes = spelled(alloc, &*filter)?;
     Ok(bytes)
@@ -47,7 +49,7 @@ fn check_filter<A: Allocator>(rt: &impl Abort, filter: &SurfFilter<A>) {
     check_counts(rt, filter);
 }
 
-// A cursor whose way, and a least string, are in the filter's heap.
+// A cursor whose way is so short that it takes no memory, and a least string in the filter's heap.
 fn check_cursor<A: Allocator>(
     rt: &impl Abort,
     heap: &LocalHeap,
@@ -82,9 +84,9 @@ fn check_least<A: Allocator>(
 // sections, labels, words beside counts or places of two sparse ones, suffixes, and words and places of sums.
 const ROUNDED_BITS: u64 = 14 * 16 * 8;
 
-// The memory that the filter's trie says it takes is what it has of its heap.
+// The memory that the filter says it takes is what it has of its heap.
 fn check_memory<A: Allocator>(rt: &impl Abort, heap: &LocalHeap, filter: &SurfFilter<A>) {
-    let said = filter.trie().memory_bits();
+    let said = filter.memory_bits();
     let held = (heap.used() as u64).saturating_mul(8);
     assert!(rt; said <= held && held <= said.saturating_add(ROUNDED_BITS));
 }
@@ -100,9 +102,92 @@ fn check_read(rt: &impl Abort, heap: &LocalHeap, image: &[u8]) -> Result<(), Fai
 
 #[test]
 fn all_keys_of_two_bytes_fit_a_small_heap(rt: HostRuntime) -> Result<(), Fail> {
-    let bytes = image(rt.alloc())?;
+    let bytes = image(rt.alloc(), 0, 0)?;
     let heap = LocalHeap::new(rt.alloc(), HEAP_BYTES)?;
     check_read(&rt, &heap, bytes.as_slice())
+}
+
+fn check_suffixes(rt: &impl Abort, heap: &LocalHeap, image: &[u8]) -> Result<(), Fail> {
+    let filter = SurfFilter::decode_in(heap, image)?;
+    assert!(rt; filter.widths() == (2, 1));
+    check_memory(rt, heap, &filter);
+    Ok(())
+}
+
+#[test]
+fn a_filter_with_suffixes_takes_what_it_says(rt: HostRuntime) -> Result<(), Fail> {
+    let bytes = image(rt.alloc(), 2, 1)?;
+    let heap = LocalHeap::new(rt.alloc(), HEAP_BYTES)?;
+    check_suffixes(&rt, &heap, bytes.as_slice())
+}
+
+// How many letters two keys share, each of which is a node on the way to their leaves. A cursor has room for 16.
+const SHARED: usize = 200;
+
+// A heap with no room for that way.
+const SMALL_HEAP_BYTES: usize = 1_024;
+
+// The trie of two keys with a k first, that part at the last letter, an a or a b.
+fn high_trie(alloc: Global) -> Result<Box<Trie<Global>>, Fail> {
+    let mut keys = KeyList::new(alloc);
+    push_pair(alloc, &mut keys, b"k", SHARED)?;
+    base_trie(alloc, &keys, 0)
+}
+
+// A cursor that starts at the first leaf has its way in the heap, and goes on to the second one.
+fn check_long_way(rt: &impl Abort, heap: &LocalHeap, trie: &Trie<Global>) -> Result<(), Fail> {
+    let before = heap.used();
+    let Some(mut cursor) = FilterCursor::start(heap, trie, b"k")? else {
+        return Err(Fail::from("no leaf"));
+    };
+    assert!(rt; heap.used().saturating_sub(before) >= SHARED.saturating_mul(8));
+    assert!(rt; cursor.leaf() == 0 && cursor.next() && cursor.leaf() == 1);
+    Ok(())
+}
+
+#[test]
+fn a_long_way_takes_memory_and_gives_it_back(rt: HostRuntime) -> Result<(), Fail> {
+    let trie = high_trie(rt.alloc())?;
+    let heap = LocalHeap::new(rt.alloc(), HEAP_BYTES)?;
+    check_long_way(&rt, &heap, &trie)?;
+    assert!(rt; heap.used() == 0);
+    Ok(())
+}
+
+// Bytes in a heap: the least string of the first leaf, behind an x.
+fn least_behind(heap: LocalHeap, trie: &Trie<Global>) -> Result<(bool, Vec<u8, LocalHeap>), Fail> {
+    let mut least = Vec::new(heap);
+    least.push(b'x')?;
+    let mut done = false;
+    if trie.leaves() > 0 {
+        done = least_of(trie, 0, &mut least).is_ok();
+    }
+    Ok((done, least))
+}
+
+// A start fails where a leaf is sought, and says that there is none past the last one all the same.
+fn check_no_room(rt: &impl Abort, heap: &LocalHeap, trie: &Trie<Global>) -> Result<(), Fail> {
+    assert!(rt; FilterCursor::start(heap, trie, b"k").is_err());
+    assert!(rt; FilterCursor::start(heap, trie, b"l")?.is_none());
+    assert!(rt; heap.used() == 0);
+    Ok(())
+}
+
+#[test]
+fn a_long_way_may_find_no_memory(rt: HostRuntime) -> Result<(), Fail> {
+    let trie = high_trie(rt.alloc())?;
+    let heap = LocalHeap::new(rt.alloc(), SMALL_HEAP_BYTES)?;
+    check_no_room(&rt, &heap, &trie)
+}
+
+#[test]
+fn a_least_string_takes_its_way_of_the_heap_of_its_bytes(rt: HostRuntime) -> Result<(), Fail> {
+    let trie = high_trie(rt.alloc())?;
+    let (done, least) = least_behind(LocalHeap::new(rt.alloc(), HEAP_BYTES)?, &trie)?;
+    assert!(rt; done && least.len() == SHARED + 3 && least.starts_with(b"xkm"));
+    let (done, least) = least_behind(LocalHeap::new(rt.alloc(), SMALL_HEAP_BYTES)?, &trie)?;
+    assert!(rt; !done && least.as_slice() == b"x".as_slice());
+    Ok(())
 }
 
 // The stubs of the keys as a list in a heap.

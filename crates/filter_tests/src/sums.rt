@@ -1,11 +1,15 @@
-//! What a trie takes with the sums that it keeps, and of which level they are.
-use super::codec::image_of;
-use super::tries::base_trie;
+//! What a trie takes, with its suffixes and with the sums that it keeps, and of which level these are.
+use super::codec::{image_of, read};
+use super::filters::filter_of;
+use super::keys::list_of_words;
+use super::tries::{base_trie, boxed, some_trie, trie_of, trie_with};
+use filter_api::Settings;
 use filter_trie::Trie;
 use key_base::KeyList;
 use std::alloc::{AllocError, Global};
 use std::process::Abort;
 use std::test::Fail;
+use surf_filter::SurfFilter;
 
 // How many pairs of keys there are.
 const PAIRS: u16 = 2_048;
@@ -13,8 +17,8 @@ const PAIRS: u16 = 2_048;
 // How many levels of their trie are dense.
 const CUTOFF: u16 = 2;
 
-// A pair of keys: their first letters, so many m, and last an a or a b.
-fn push_pair(
+/// A pair of keys: their first letters, so many m, and last an a or a b.
+pub(crate) fn push_pair(
     alloc: Global,
     keys: &mut KeyList,
     head: &[u8],
@@ -108,6 +112,102 @@ fn check_pairs(rt: &impl Abort, alloc: Global, shared: usize, bits: u64) -> Resu
 fn sums_are_kept_within_the_memory_that_a_trie_may_take(rt: HostRuntime) -> Result<(), Fail> {
     check_pairs(&rt, rt.alloc(), 12, 313_152)?;
     check_pairs(&rt, rt.alloc(), 13, 342_432)
+}
+
+// Suffixes of 40 bits take 163,840 bits more for 4,096 leaves, which are 2,560 whole words.
+#[test]
+fn suffixes_take_their_bits(rt: HostRuntime) -> Result<(), Fail> {
+    let alloc = rt.alloc();
+    let few = trie_of(alloc, &pairs(alloc, 12)?, CUTOFF)?;
+    check_memory(&rt, alloc, &few, 476_992)?;
+    let more = trie_of(alloc, &pairs(alloc, 13)?, CUTOFF)?;
+    check_memory(&rt, alloc, &more, 506_272)?;
+    Ok(())
+}
+
+// Keeps the sums of a trie once more: it takes so many bits before and after that.
+fn keep_again(
+    rt: &impl Abort,
+    alloc: Global,
+    trie: &mut Trie<Global>,
+    bits: u64,
+) -> Result<(), AllocError> {
+    assert!(rt; trie.memory_bits() == bits);
+    trie.keep_sums(alloc)?;
+    check_memory(rt, alloc, trie, bits)
+}
+
+// Builds, reads again, and keeps the sums once more: all three take as much.
+fn check_kept_again(rt: &impl Abort, alloc: Global, shared: usize, bits: u64) -> Result<(), Fail> {
+    let mut trie = base_trie(alloc, &pairs(alloc, shared)?, CUTOFF)?;
+    keep_again(rt, alloc, &mut trie, bits)?;
+    let image = image_of(alloc, &trie)?;
+    let Ok(again) = read(alloc, &image) else {
+        return Err(Fail::from("no image"));
+    };
+    assert!(rt; again.memory_bits() == bits);
+    Ok(())
+}
+
+#[test]
+fn what_is_read_keeps_the_same_sums(rt: HostRuntime) -> Result<(), Fail> {
+    check_kept_again(&rt, rt.alloc(), 12, 313_152)?;
+    check_kept_again(&rt, rt.alloc(), 13, 342_432)
+}
+
+const WORDS: [&[u8]; 5] = [b"far", b"fast", b"s", b"top", b"toy"];
+
+// The words' trie takes so many bits with suffixes of such widths.
+fn check_words(
+    rt: &impl Abort,
+    alloc: Global,
+    hash_bits: u8,
+    real_bits: u8,
+    cutoff: u16,
+    bits: u64,
+) -> Result<(), Fail> {
+    let keys = list_of_words(alloc, &WORDS)?;
+    let trie = some_trie(trie_with(alloc, &keys, hash_bits, real_bits, cutoff)?)?;
+    assert!(rt; trie.memory_bits() == bits);
+    Ok(())
+}
+
+// Five suffixes of 7 bits are in one word of 64. Beside them are, with no dense level, nine labels of 8 bits, two words,
+// a count of 32 bits for each of four lists of bits, and one place: 72, 128, 128 and 32. With one dense level it has 512 bits
+// and a word for its node, seven counts more than one, of which one is of the sparse half, and six labels: 576, 224, 48, 128,
+// 32 and 32.
+#[test]
+fn suffixes_are_in_whole_words(rt: HostRuntime) -> Result<(), Fail> {
+    check_words(&rt, rt.alloc(), 0, 0, 0, 360)?;
+    check_words(&rt, rt.alloc(), 4, 3, 0, 424)?;
+    check_words(&rt, rt.alloc(), 0, 0, 1, 1_040)?;
+    check_words(&rt, rt.alloc(), 4, 3, 1, 1_104)
+}
+
+// A filter of the words, which has no dense level, takes what its trie does.
+fn check_filter(
+    rt: &impl Abort,
+    alloc: Global,
+    hash_bits: u8,
+    real_bits: u8,
+    bits: u64,
+) -> Result<(), Fail> {
+    let keys = list_of_words(alloc, &WORDS)?;
+    let settings = Settings {
+        hash_bits,
+        real_bits,
+        ratio: 64,
+    };
+    let filter: SurfFilter<Global> = filter_of(alloc, &keys, settings)?;
+    let filter = boxed(alloc, filter)?;
+    assert!(rt; filter.memory_bits() == bits);
+    Ok(())
+}
+
+#[test]
+fn a_filter_takes_what_its_trie_does(rt: HostRuntime) -> Result<(), Fail> {
+    check_filter(&rt, rt.alloc(), 0, 0, 360)?;
+    check_filter(&rt, rt.alloc(), 4, 3, 424)
 }
 
 // The sums of a level from a node on to the next one, below which so many leaves stand.

@@ -18,5 +18,4 @@ pub mod Pending
 pub mod Gathered
 pub mod Places
 pub mod LevelStarts
-pub mod Sections
 pub mod Laws

@@ -47,9 +47,10 @@ struct SummedLevel {
 impl<A: Allocator> Trie<A> {
     /// Keeps the sums of one level: of the first sparse one at which they take a bit for four places of the sparse half or
     /// less. Where a node of it has more than 256 leaves below, a level more than twice as deep is tried, and so on; there may
-    /// be none. Of eleven levels at most each node, and each node behind them, is looked at twice at most; one block of memory
-    /// is taken for each level that is tried, and one in the end. The trie stands for the same list, and what is counted is the
-    /// same; without the sums it is counted level by level. That any are kept is said here and shown by tests, by no clause.
+    /// be none. At most eleven levels are tried, and for each of them a node is looked at twice at most: 22 times in all, and
+    /// the first node of a level once more. One block of memory is taken for each level that is tried, and one in the end. The
+    /// trie stands for the same list, and what is counted is the same; without the sums it is counted level by level. That any
+    /// are kept is said here and shown by tests, by no clause.
     pub fn keep_sums(&mut self, alloc: A) -> Result<(), AllocError>
     where
         A: Clone,
@@ -145,8 +146,8 @@ impl<A: Allocator> Trie<A> {
     }
 
     // How many leaves stand below a node of this level up to a later one, on the level and those behind it. Goes down from both
-    // at once, and only to where they meet: so it looks twice at most at each node that stands between them on some level.
-    // `None` where one would be before the other, which is never so.
+    // at once, and only to where they meet (`keep_sums` says what all these calls cost together). `None` where one would be
+    // before the other, which is never so.
     fn leaves_between(&self, level: u16, node: u64, later: u64) -> Option<u64>
         requires level { level ≤ height_of self.now.leaves }
         requires node { node ≤ length (nodes self.now.leaves) }

@@ -1,10 +1,10 @@
 //! How many bytes the image of a trie has, and how many bits of memory the trie takes.
 ghost use Rattle.std.specs.Prelude.{◌≡◌, ◌≤◌, ◌<◌, ◌+◌, ◌*◌, ◌^◌, length};
+ghost use Rattle.std.specs.Int.{div_ceil};
 ghost use Rattle.filter_api.specs.Spellings.{MayStand};
 ghost use Rattle.filter_model.specs.Image.{image};
 ghost use Rattle.filter_model.specs.Nodes.{all};
 ghost use Rattle.filter_trie.specs.Parts.{lower, upper};
-ghost use Rattle.filter_trie.specs.Sections.{bits_of_sections};
 
 use super::trie::Trie;
 use bit_words::Bits;
@@ -51,10 +51,10 @@ impl<A: Allocator> Trie<A> {
     /// those that are counted and after the last, a place of four bytes for each 64 nodes of the sparse half, and the sums
     /// that it keeps (`keep_sums`) with such places. What an allocator adds to a block, or takes for room, is left out.
     ///
-    /// The clause says that the sections are part of it, which any greater number meets; the rest is said here and shown by
-    /// tests. Looks at each word of the sums.
+    /// The clause says that the image is part of it, but for the 40 bytes of its head, which any greater number meets; the
+    /// rest is said here and shown by tests. Looks at each word of the sums.
     pub fn memory_bits(&self) -> u64
-        ensures { bits_of_sections self.now ≤ result }
+        ensures { 8 * length (image self.now.hash_bits self.now.real_bits self.now.cutoff self.now.leaves) ≤ result + 8 * 40 }
     {
         let sums = match &self.sums {
             None => 0,
@@ -85,7 +85,7 @@ impl<A: Allocator> Trie<A> {
 
     // The bits of the words that hold the sections, and of the labels. A row of a dense node is four words.
     fn section_words(&self) -> u64
-        ensures { bits_of_sections self.now ≤ result }
+        ensures { 8 * length (image self.now.hash_bits self.now.real_bits self.now.cutoff self.now.leaves) ≤ result + 8 * 40 }
     {
         let counts = self.section_counts();
         512 * counts.dense
@@ -110,7 +110,7 @@ impl<A: Allocator> Trie<A> {
 // The bits of the words that hold so many.
 fn word_bits(bits: u64) -> u64
     requires { bits < 2 ^ 60 }
-    ensures held { bits ≤ result }
+    ensures held { 8 * div_ceil bits 8 ≤ result }
     ensures few { result ≤ bits + 63 }
 {
     64 * bits.div_ceil(64)

@@ -1,11 +1,10 @@
 //! The filter and what it answers, in memory of any allocator.
-ghost use Rattle.std.specs.Prelude.{◌≡◌, ◌<◌, ◌≤◌, ◌++◌, length, slice_get, IfOk, IfSome, OnErr, OnOk};
+ghost use Rattle.std.specs.Prelude.{◌≡◌, ◌<◌, ◌≤◌, ◌+◌, ◌*◌, ◌++◌, length, slice_get, IfOk, IfSome, OnErr, OnOk};
 ghost use Rattle.byte_fields.specs.Faults.{fault as fault_at};
 ghost use Rattle.filter_api.specs.Spellings.{IsNoSpelling, IsSpelling};
 ghost use Rattle.filter_api.specs.declared.errors.FilterFault.{FilterFault};
 ghost use Rattle.filter_model.specs.Answers.{begins, first, point, ranged, tally as tally_of};
 ghost use Rattle.filter_model.specs.Image.{image};
-ghost use Rattle.filter_trie.specs.Sections.{bits_of_sections};
 ghost use Rattle.surf_filter.specs.Faults.{first_image_fault};
 
 use crate::point::holds;
@@ -100,17 +99,14 @@ impl<A: Allocator> SurfFilter<A> {
     /// The bits of memory that the filter takes: those of its sections in whole words, and what stands beside them
     /// ([`Trie::memory_bits`]).
     pub fn memory_bits(&self) -> u64
-        ensures { bits_of_sections self.now ≤ result }
+        ensures { 8 * length (image self.now.hash_bits self.now.real_bits self.now.cutoff self.now.leaves) ≤ result + 8 * 40 }
     {
         self.trie.memory_bits()
     }
 
-    /// Appends the least string that fits leaf `n`. Without memory `out` stays as it was.
-    pub fn least_of<B: Allocator + Copy>(
-        &self,
-        n: u32,
-        out: &mut Vec<u8, B>,
-    ) -> Result<(), AllocError>
+    /// Appends the least string that fits leaf `n`. Takes the memory of its way of the allocator of `out`, where the trie is
+    /// high, and gives it back. Without memory `out` stays as it was.
+    pub fn least_of<B: Allocator>(&self, n: u32, out: &mut Vec<u8, B>) -> Result<(), AllocError>
         requires { n < length self.now.leaves }
         ensures added { OnOk result (IfSome (slice_get self.now.leaves n)
             (λ l. out.new.items ≡ out.old.items ++ begins self.now.real_bits l)) }
