@@ -1,4 +1,3 @@
-use Rattle.std.proofs.Common.{◌≡◌}
 use Rattle.filter_iter.proofs.Appended.{least_appended}
 use Rattle.filter_iter.proofs.least.push_least.Goals as goal
 

@@ -1,4 +1,4 @@
-use Rattle.std.proofs.Common.{ℕ, Bool, true, false, cond, nat_lt, List, [], ◌∷◌, Option, None, Some, ◌≡◌, ◌≤◌, ◌+◌, ◌-◌, ◌*◌, ◌^◌, ◌++◌, ap, append_assoc, arith, drop, length, length-append, sym, ◌∙◌, take}
+use Rattle.std.proofs.Common.{ℕ, Bool, true, false, cond, nat_lt, List, [], ◌∷◌, ◌≡◌, ◌≤◌, ◌+◌, ◌-◌, ◌*◌, ◌^◌, ◌++◌, ap, append_assoc, arith, drop, length, length-append, sym, ◌∙◌, take}
 use Rattle.std.specs.Prelude.{filter}
 use Rattle.std.specs.List.{splice}
 use Rattle.std.proofs.lemmas.List.{length-take, take_at}
@@ -7,8 +7,6 @@ use Rattle.filter_iter.proofs.MetLeaves.{slot_fits}
 use Rattle.filter_iter.proofs.WayLists.{length-letters}
 use Rattle.filter_iter.specs.Borders.{real_at}
 use Rattle.filter_iter.specs.Ways.{bytes_of_way, letters_of}
-use Rattle.filter_model.specs.Answers.{begins}
-use Rattle.filter_model.specs.Leaves.{Leaf}
 use Rattle.filter_model.specs.Strings.{shortest}
 use Rattle.suffix_bits.specs.Slots.{Suffix}
 use Rattle.filter_iter.proofs.least.write_least.Goals as goal
