@@ -5,7 +5,6 @@ pub use Rattle.filter_image_model.specs.Reading
 pub use Rattle.filter_model.specs.Answers
 pub use Rattle.filter_model.specs.Image
 pub use Rattle.filter_model.specs.Leaves
-pub use Rattle.filter_trie.specs.Sections
 pub use Rattle.trie_model.specs.Walks
 pub mod Cutoffs
 pub mod Faults
