@@ -24,6 +24,7 @@
 #![tactic(auto)]
 
 mod any_block;
+mod any_cursor;
 mod any_find;
 mod any_format;
 mod any_header;
@@ -40,6 +41,7 @@ mod prefixed_builder;
 mod span;
 mod walk;
 
+pub use any_cursor::AnyCursor;
 pub use any_format::AnyBlock;
 pub use any_walk::read_sum_and_walk;
 pub use block::{Block, read_sum_and_span};
