@@ -1,4 +1,4 @@
-use Rattle.std.proofs.Common.{◌∙◌, ap, sym}
+use Rattle.std.proofs.Common.{◌∙◌}
 use Rattle.block_format.specs.Walking.{key_held}
 use Rattle.block_format.proofs.AtHand.{goes_on_at_hand, is_at_hand}
 use Rattle.block_format.proofs.any_cursor.AnyCursor.advance.Goals as goal
