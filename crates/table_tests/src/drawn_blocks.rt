@@ -20,14 +20,15 @@ fn key_of(alloc: Global, number: u64) -> Result<Vec<u8>, AllocError> {
     let mut left = number;
     let mut width = KEYS_OF_A_LETTER;
     for _ in 0..6 {
-        key.push(LETTERS[(left / width % 4) as usize])
+        let many = width.max(1);
+        key.push(LETTERS[(left / many % 4) as usize])
             .map_err(AllocError::from)?;
-        left %= width;
+        left %= many;
         if left == 0 {
             break;
         }
         left -= 1;
-        width = (width / 4).max(1);
+        width = many / 4;
     }
     Ok(key)
 }
@@ -77,15 +78,12 @@ pub fn entries_of(
 
 // Adds an entry whose key and value keep the limits.
 fn add(builder: &mut PrefixedBuilder, entry: &Entry) -> Result<bool, Fail> {
-    let value_bytes = match entry.value() {
-        Some(value) => value.len(),
-        None => 0,
-    };
     let key = entry.key();
-    if key.is_empty() || key.len() > 1_024 || value_bytes > 1_048_576 {
+    let value = entry.value();
+    if key.is_empty() || key.len() > 1_024 || value.is_some_and(|value| value.len() > 1_048_576) {
         return Err(Fail::from("out of the limits"));
     }
-    Ok(builder.add(key, entry.value())?)
+    Ok(builder.add(key, value)?)
 }
 
 // The block of some entries as the builder writes it.

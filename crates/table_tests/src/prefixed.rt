@@ -105,6 +105,16 @@ fn old_a_b() -> [u8; 4096] {
     page
 }
 
+// The same entry twice.
+fn old_a_b_twice() -> [u8; 4096] {
+    let mut page = [0; 4096];
+    let used = [
+        0x1A, 0, 0, 0, 2, 0, 0, 0, 1, 1, 0, 1, 0, 0, 0, 0x61, 0x62, 1, 1, 0, 1, 0, 0, 0, 0x61, 0x62,
+    ];
+    page[..26].copy_from_slice(&used);
+    page
+}
+
 #[test]
 fn changed_bytes_of_an_old_block(rt: HostRuntime) -> Result<(), Fail> {
     assert_eq!(rt; fault_of(&old_a_b()), None);
@@ -126,11 +136,7 @@ fn changed_bytes_of_an_old_block(rt: HostRuntime) -> Result<(), Fail> {
         put(&mut page, place, byte);
         assert_eq!(rt; fault_of(&page), Some((at, rule)));
     }
-    let mut page = old_a_b();
-    page[17..26].copy_from_slice(&[1, 1, 0, 1, 0, 0, 0, 0x61, 0x62]);
-    page[0] = 26;
-    page[4] = 2;
-    assert_eq!(rt; fault_of(&page), Some((17, 6)));
+    assert_eq!(rt; fault_of(&old_a_b_twice()), Some((17, 6)));
     Ok(())
 }
 
