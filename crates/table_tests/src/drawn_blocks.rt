@@ -243,7 +243,10 @@ fn drawn_blocks_of_every_size(rt: HostRuntime) -> Result<(), Fail> {
         let list = entries_of(alloc, &mut numbers, &keys)?;
         let list = list.as_slice();
         let bytes = built(alloc, list)?;
-        let key = key_of(alloc, keys[numbers.draw_below(count as u64) % count])?;
+        let Some(number) = keys.get(numbers.draw_below(count as u64)) else {
+            return Err(Fail::from("no key"));
+        };
+        let key = key_of(alloc, *number)?;
         assert!(rt; is_read(&bytes, list, &key));
         let Ok(block) = AnyBlock::read(&bytes) else {
             return Err(Fail::from("no block"));
