@@ -8,7 +8,7 @@ use Rattle.std.proofs.lemmas.Bool.{eq-eqb, eqb-true}
 use Rattle.std.proofs.lemmas.List.Sums.{common_prefix_len-le}
 use Rattle.key_base.specs.ByteOrder.{byte_order, is_before}
 use Rattle.key_base.specs.Prefixes.{alike}
-use Rattle.key_base.proofs.Prefixes.{rest_compares}
+use Rattle.key_base.proofs.Prefixes.{rest_compares, shared_and_rest}
 use Rattle.map_model.specs.SortedMap.{Bytes}
 use Rattle.block_model.specs.FormatFaults.{shares_otherwise}
 use Rattle.block_model.specs.Formats.{Format, Old, Prefixed, begins_anew, entry_head_by, key_by, rest_length_in, shared_in, wants_shared}
@@ -106,6 +106,27 @@ pub first_below : (low high : Bytes) → 0 < length low → 0 < length high → 
 first_below [] high some more apart = absurd (omega (arith, some))
 first_below (a ∷ xs) [] some more apart = absurd (omega (arith, more))
 first_below (a ∷ xs) (b ∷ ys) some more apart = first_decides a b (byte_order xs ys) (unlike (a == b) (alike xs ys) apart)
+
+-- ---- where two byte strings differ
+
+pub alike_fit : (low high : Bytes) (n : ℕ) → n ≡ alike low high → (n ≤ length low) × (n ≤ length high)
+alike_fit low high n is =
+    let fit = common_prefix_len-le (λ a b. a == b) low high in
+    (omega (arith, is, fit.0), omega (arith, is, fit.1))
+
+-- what they have alike and the rest of one is that one
+whole_again : (low high : Bytes) (n : ℕ) → n ≡ alike low high → take n low ++ drop n high ≡ high
+whole_again low high n is = shared_and_rest n low high (omega (arith, is))
+
+pub apart_there : (low high : Bytes) (n : ℕ) → n ≡ alike low high → alike (drop n low) (drop n high) ≡ 0
+apart_there low high n is =
+    let rests = (rest_compares n low (drop n high) (alike_fit low high n is).0).1 in
+    let same : alike low (take n low ++ drop n high) ≡ alike low high = ap (alike low) (whole_again low high n is) in
+    omega (arith, is, rests, same)
+
+pub below_there : (low high : Bytes) (n : ℕ) → n ≡ alike low high → is_before (drop n low) (drop n high) ≡ is_before low high
+below_there low high n is =
+    sym (ap is_lt (rest_compares n low (drop n high) (alike_fit low high n is).0).0) ∙ ap (is_before low) (whole_again low high n is)
 
 -- ---- an entry of either format
 

@@ -65,6 +65,11 @@ abbrev pub LiesIn : Option ValuePlace → Bytes → Type 0
 LiesIn None bytes = Unit {0}
 LiesIn (Some v) bytes = (v.at ≤ v.end) × (v.end ≤ length bytes)
 
+-- the entry of a block that a cursor has at hand, and those that are still to come
+pub record EntriesLeft : Type 0 where
+  pub now : Option Entry
+  pub later : List Entry
+
 -- the entry that a walk came by last, if it came by one, with its key and its value
 unfoldable pub at_hand : Option (Option ValuePlace) → Bytes → Bytes → Option Entry
 at_hand place key bytes = option_map (λ v. entry_of key (value_at v bytes)) place

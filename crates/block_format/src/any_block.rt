@@ -8,7 +8,7 @@ ghost use Rattle.block_format.specs.Reading.{seen, sum_where};
 ghost use Rattle.block_format.specs.Walking.{format_of};
 
 use crate::any_header::{BlockHead, LISTED_ELSEWHERE, any_header};
-use crate::block::{BYTES_LEFT, HEADER_BYTES, check_padding, feed, sum_of};
+use crate::block::{BYTES_LEFT, HEADER_BYTES, check_padding, feed, judge, sum_of};
 use crate::fault::BlockFault;
 use crate::format::BlockFormat;
 use crate::head::EntryHead;
@@ -20,7 +20,8 @@ use key_base::{MAX_KEY_BYTES, RESTART_ENTRIES};
 /// The sum of some bytes where it is wanted, and in the same pass what the header of the block says that they spell, or the first
 /// rule that they break, and where.
 ///
-/// The key before an entry is kept in 1,024 bytes of the stack, of which an entry that shares bytes with it looks at one.
+/// The key before an entry is kept in 1,024 bytes of the stack, of which an entry that shares bytes with it looks at one. Of an old
+/// block no key is copied.
 pub(crate) fn judge_any(bytes: &[u8], summed: bool) -> (u64, Result<BlockHead, BlockFault>)
     ensures sum { result.0 ≡ sum_where summed bytes.now }
     ensures broken { IfErr result.1 (λ found. any_block_fault bytes.now ≡ Some (seen found)) }
@@ -28,16 +29,25 @@ pub(crate) fn judge_any(bytes: &[u8], summed: bool) -> (u64, Result<BlockHead, B
     ensures sound { IfOk result.1 (λ h. IsHeadOf h bytes.now) }
 {
     match any_header(bytes) {
-        Ok(head) => {
-            let (sum, judged) = judge_entries(bytes, head, summed);
-            match judged {
-                Ok(()) => match check_padding(bytes, head.used) {
-                    Ok(()) => (sum, Ok(head)),
+        Ok(head) => match head.format {
+            BlockFormat::Old => {
+                let (sum, old) = judge(bytes, b"", summed);
+                match old {
+                    Ok(_) => (sum, Ok(head)),
                     Err(fault) => (sum, Err(fault)),
-                },
-                Err(fault) => (sum, Err(fault)),
+                }
             }
-        }
+            BlockFormat::Prefixed => {
+                let (sum, judged) = judge_entries(bytes, head, summed);
+                match judged {
+                    Ok(()) => match check_padding(bytes, head.used) {
+                        Ok(()) => (sum, Ok(head)),
+                        Err(fault) => (sum, Err(fault)),
+                    },
+                    Err(fault) => (sum, Err(fault)),
+                }
+            }
+        },
         Err(fault) => (sum_of(bytes, summed), Err(fault)),
     }
 }

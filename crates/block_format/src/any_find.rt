@@ -3,6 +3,8 @@
 ghost use Rattle.std.specs.Prelude.{◌≡◌, ◌≤◌, ◌<◌, ◌+◌, ◌-◌, ◌*◌, ◌==◌, [], length, take, drop, Some, None, if◌then◌else◌};
 ghost use Rattle.std.specs.Option.{option_map};
 ghost use Rattle.entry_model.specs.Newest.{lookup};
+ghost use Rattle.key_base.specs.ByteOrder.{is_before};
+ghost use Rattle.key_base.specs.Prefixes.{alike};
 ghost use Rattle.block_model.specs.BlockReading.{count_in, used_in};
 ghost use Rattle.block_model.specs.FormatFaults.{any_block_in};
 ghost use Rattle.block_model.specs.FormatLaws.{listed_key};
@@ -14,6 +16,7 @@ use crate::block::{HEADER_BYTES, is_same};
 use crate::entry::{VALUE, is_below};
 use crate::format::BlockFormat;
 use crate::head::{EntryHead, head_of};
+use crate::judging::first_is_below;
 use byte_fields::get_u16;
 use key_base::{RESTART_ENTRIES, shared};
 
@@ -158,10 +161,20 @@ fn alike_after(shared_bytes: usize, own: &[u8], key: &[u8], common: usize) -> Op
         return Some(common);
     }
     let sought = from_place(key, common);
-    if !is_below(own, sought) {
+    let alike = shared(own, sought);
+    if !differs_below(own, sought, alike) {
         return None;
     }
-    Some(common + shared(own, sought))
+    Some(common + alike)
+}
+
+// Whether a byte string is below another one with which it has so many bytes alike: the byte after them decides.
+#[tactic(auto, using(crate::proofs::Judged::alike_fit, crate::proofs::Judged::apart_there, crate::proofs::Judged::below_there))]
+fn differs_below(low: &[u8], high: &[u8], common: usize) -> bool
+    requires { common ≡ alike low.now high.now }
+    ensures { result ≡ is_before low.now high.now }
+{
+    first_is_below(from_place(low, common), from_place(high, common))
 }
 
 // The value of an entry where it has the key sought.

@@ -6,13 +6,17 @@ ghost use Rattle.entry_model.specs.Newest.{lookup};
 ghost use Rattle.block_model.specs.FormatFaults.{any_block_fault, any_block_in};
 ghost use Rattle.block_format.specs.Finding.{IsHeadOf};
 ghost use Rattle.block_format.specs.Reading.{seen};
+ghost use Rattle.block_format.specs.Spans.{kept_from};
 
 use crate::any_block::judge_any;
+use crate::any_cursor::AnyCursor;
 use crate::any_find::find_prefixed;
 use crate::any_header::{BlockHead, any_header};
+use crate::any_walk::walk_from;
 use crate::block::Block;
 use crate::fault::BlockFault;
 use crate::format::BlockFormat;
+use key_base::MAX_KEY_BYTES;
 use std::marker::Model;
 
 /// A block of either format whose bytes keep each rule of the one that they name, seen as its entries.
@@ -49,6 +53,24 @@ impl<'a> AnyBlock<'a> {
         Ok(AnyBlock { bytes, head })
     }
 
+    /// What the block that these bytes spell says of a key, as [`AnyBlock::find`] does, or the first rule that they break, and
+    /// where.
+    ///
+    /// One pass in which the bytes are judged, then the search. No memory. Where they were read just now,
+    /// [`AnyBlock::read_sum_and_find`] sums them in the same pass.
+    pub fn read_and_find(
+        bytes: &'a [u8],
+        key: &[u8],
+    ) -> Result<Option<Option<&'a [u8]>>, BlockFault>
+        ensures broken { IfErr result (λ found. any_block_fault bytes.now ≡ Some (seen found)) }
+        ensures place { IfErr result (λ found. found.place ≤ length bytes.now) }
+        ensures whole { IfOk result (λ _. any_block_fault bytes.now ≡ None) }
+        ensures said { IfOk result (λ found. option_map (λ f. option_map (λ v. v.now) f) found ≡ lookup (any_block_in bytes.now) key.now) }
+    {
+        let head = judge_any(bytes, false).1?;
+        Ok(find_any(bytes, head, key))
+    }
+
     /// The sum of all these bytes, and what the block that they spell says of a key, as [`AnyBlock::find`] does, or the first
     /// rule that they break, and where.
     ///
@@ -78,6 +100,18 @@ impl<'a> AnyBlock<'a> {
         ensures { option_map (λ found. option_map (λ v. v.now) found) result ≡ lookup self.now key.now }
     {
         find_any(self.bytes, self.head, key)
+    }
+
+    /// The entries from a key on where there is a bound, none of them at hand.
+    ///
+    /// With a bound it goes by halves over the listed entries, then from entry to entry. The key of an entry is built in the
+    /// cursor, which has 1,024 bytes for it. No memory.
+    pub fn from(&self, low: Option<&[u8]>) -> AnyCursor<'a>
+        ensures { result ≡ record { now = None; later = kept_from (option_map (λ k. k.now) low.entry) self.now } }
+    {
+        let mut buffer = [0; MAX_KEY_BYTES];
+        let walk = walk_from(self.bytes, self.head, low, &mut buffer);
+        AnyCursor::new(self.bytes, walk, buffer)
     }
 
     /// What the block that these bytes spell says of a key, as [`AnyBlock::find`] does, where they are known to break no rule:

@@ -56,8 +56,13 @@ pub fn read_sum_and_walk(
     }
 }
 
-// A walk over the entries of a block that breaks no rule, from a key on where there is a bound.
-fn walk_from(bytes: &[u8], head: BlockHead, low: Option<&[u8]>, buffer: &mut [u8]) -> EntryWalk
+/// A walk over the entries of a block that breaks no rule, from a key on where there is a bound.
+pub(crate) fn walk_from(
+    bytes: &[u8],
+    head: BlockHead,
+    low: Option<&[u8]>,
+    buffer: &mut [u8],
+) -> EntryWalk
     requires head { IsHeadOf head bytes.now }
     requires large { max_key_bytes ≤ length buffer.old }
     ensures room { length buffer.new ≡ length buffer.old }

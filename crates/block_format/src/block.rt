@@ -164,12 +164,12 @@ pub fn read_sum_and_span(bytes: &[u8], low: Option<&[u8]>) -> (u64, Result<Entry
     }
 }
 
-// A block that breaks no rule: the length that is used, the count of entries, and what they say of a key.
+/// A block that breaks no rule: the length that is used, the count of entries, and what they say of a key.
 #[derive(Clone, Copy)]
-struct Judged<'a> {
-    used: usize,
-    count: u8,
-    found: Option<Option<&'a [u8]>>,
+pub(crate) struct Judged<'a> {
+    pub used: usize,
+    pub count: u8,
+    pub found: Option<Option<&'a [u8]>>,
 }
 
 // Where the entries of a block that breaks no rule stand, from a key on where there is a bound.
@@ -189,10 +189,14 @@ fn from_judged(bytes: &[u8], judged: Judged<'_>, low: Option<&[u8]>) -> EntrySpa
     behind_header(span)
 }
 
-// The sum of the bytes where it is wanted, and in the same pass the block that they spell, with what it says of a key, or the
-// first rule that they break.
+/// The sum of the bytes where it is wanted, and in the same pass the block that they spell, with what it says of a key, or the
+/// first rule that they break.
 #[tactic(auto, unfolding(block_model::specs::BlockReading::block_fault, block_model::specs::BlockReading::block_in, block_model::specs::BlockReading::entries_part))]
-fn judge<'a>(bytes: &'a [u8], key: &[u8], summed: bool) -> (u64, Result<Judged<'a>, BlockFault>)
+pub(crate) fn judge<'a>(
+    bytes: &'a [u8],
+    key: &[u8],
+    summed: bool,
+) -> (u64, Result<Judged<'a>, BlockFault>)
     ensures sum { result.0 ≡ sum_where summed bytes.now }
     ensures broken { IfErr result.1 (λ found. block_fault bytes.now ≡ Some (seen found)) }
     ensures place { IfErr result.1 (λ found. found.place ≤ length bytes.now) }

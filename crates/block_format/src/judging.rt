@@ -155,9 +155,9 @@ fn is_above(shared: usize, before: &[u8], rest: &[u8]) -> bool
     }
 }
 
-// Whether a byte string is below another one that begins with another byte.
+/// Whether a byte string is below another one that begins with another byte.
 #[tactic(auto, using(crate::proofs::Judged::none_below, crate::proofs::Judged::shorter_below, crate::proofs::Judged::first_below))]
-fn first_is_below(low: &[u8], high: &[u8]) -> bool
+pub(crate) fn first_is_below(low: &[u8], high: &[u8]) -> bool
     requires { alike low.now high.now ≡ 0 }
     ensures { result ≡ is_before low.now high.now }
 {

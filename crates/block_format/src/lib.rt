@@ -12,8 +12,9 @@
 //! Finding goes from entry to entry, since entries have no index: half a page at the mean. Not for tables as a whole.
 //!
 //! A block of the second format, whose entries share prefixes, is written by a [`PrefixedBuilder`]. [`AnyBlock`] reads blocks
-//! of both, and finds a key in such a one by halves; [`read_sum_and_walk`] and [`EntryWalk::advance`] go over its entries, while
-//! each key is built in the caller's buffer. No store writes it yet.
+//! of both, and finds a key in such a one by halves; its cursor, an [`AnyCursor`], has a buffer of its own in which it builds each
+//! key. [`read_sum_and_walk`] and [`EntryWalk::advance`] go over the entries of bytes that the caller keeps, with a buffer of the
+//! caller's. No store writes it yet.
 //!
 //! ```text
 //! let block = Block::read(bytes)?;
@@ -24,6 +25,7 @@
 #![tactic(auto)]
 
 mod any_block;
+mod any_cursor;
 mod any_find;
 mod any_format;
 mod any_header;
@@ -40,6 +42,7 @@ mod prefixed_builder;
 mod span;
 mod walk;
 
+pub use any_cursor::AnyCursor;
 pub use any_format::AnyBlock;
 pub use any_walk::read_sum_and_walk;
 pub use block::{Block, read_sum_and_span};

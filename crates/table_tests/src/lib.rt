@@ -14,6 +14,8 @@ mod caches;
 #[cfg(test)]
 mod damage;
 #[cfg(test)]
+mod drawn_blocks;
+#[cfg(test)]
 mod faults;
 #[cfg(test)]
 mod made;

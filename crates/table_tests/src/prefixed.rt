@@ -1,5 +1,6 @@
 //! Blocks with shared prefixes: what is read of changed bytes, and what is found in them.
-use block_format::{AnyBlock, PrefixedBuilder, read_sum_and_walk, value_of};
+use crate::drawn_blocks::{drawn_keys, entries_of};
+use block_format::{AnyBlock, PrefixedBuilder};
 use byte_fields::fnv1a;
 use entry_list::{Entry, push_copy};
 use plain_blocks::{
@@ -96,15 +97,58 @@ fn two_changed_bytes(rt: HostRuntime) -> Result<(), Fail> {
     Ok(())
 }
 
-#[test]
-fn an_old_block_that_names_the_new_format(rt: HostRuntime) -> Result<(), Fail> {
+// The old block of a with the value b.
+fn old_a_b() -> [u8; 4096] {
     let mut page = [0; 4096];
-    let used = [0x11, 0, 0, 0, 1, 2, 0, 0, 1, 1, 0, 1, 0, 0, 0, 0x61, 0x62];
+    let used = [0x11, 0, 0, 0, 1, 0, 0, 0, 1, 1, 0, 1, 0, 0, 0, 0x61, 0x62];
     page[..17].copy_from_slice(&used);
-    assert_eq!(rt; fault_of(&page), Some((0, 1)));
-    page[5] = 0;
-    assert_eq!(rt; fault_of(&page), None);
+    page
+}
+
+// The same entry twice.
+fn old_a_b_twice() -> [u8; 4096] {
+    let mut page = [0; 4096];
+    let used = [
+        0x1A, 0, 0, 0, 2, 0, 0, 0, 1, 1, 0, 1, 0, 0, 0, 0x61, 0x62, 1, 1, 0, 1, 0, 0, 0, 0x61, 0x62,
+    ];
+    page[..26].copy_from_slice(&used);
+    page
+}
+
+#[test]
+fn changed_bytes_of_an_old_block(rt: HostRuntime) -> Result<(), Fail> {
+    assert_eq!(rt; fault_of(&old_a_b()), None);
+    let rows = [
+        (0, 0x0F, 0, 1),
+        (4, 0x00, 4, 2),
+        (5, 0x01, 5, 2),
+        (5, 0x02, 0, 1),
+        (4, 0x02, 17, 3),
+        (8, 0x03, 8, 4),
+        (8, 0x02, 8, 4),
+        (9, 0x00, 8, 5),
+        (0, 0x12, 17, 7),
+        (20, 0x01, 20, 8),
+        (4_095, 0x01, 4_095, 8),
+    ];
+    for (place, byte, at, rule) in rows {
+        let mut page = old_a_b();
+        put(&mut page, place, byte);
+        assert_eq!(rt; fault_of(&page), Some((at, rule)));
+    }
+    assert_eq!(rt; fault_of(&old_a_b_twice()), Some((17, 6)));
     Ok(())
+}
+
+// The block of a with the value b and of a tombstone of ab.
+fn a_b_and_ab() -> [u8; 4096] {
+    let mut page = [0; 4096];
+    let used = [
+        0x1F, 0, 0, 0, 2, 2, 0, 0, 0x0A, 0, 1, 0, 0, 1, 0, 1, 0, 0, 0, 0x61, 0x62, 2, 1, 0, 1, 0,
+        0, 0, 0, 0, 0x62,
+    ];
+    page[..31].copy_from_slice(&used);
+    page
 }
 
 #[test]
@@ -118,19 +162,51 @@ fn what_a_builder_of_prefixes_wrote_is_read(rt: HostRuntime) -> Result<(), Fail>
     assert!(rt; builder.add(b"ab", None)?);
     out.clear();
     builder.close(&mut out)?;
-    let mut page = [0; 4096];
-    let used = [
-        0x1F, 0, 0, 0, 2, 2, 0, 0, 0x0A, 0, 1, 0, 0, 1, 0, 1, 0, 0, 0, 0x61, 0x62, 2, 1, 0, 1, 0,
-        0, 0, 0, 0, 0x62,
-    ];
-    page[..31].copy_from_slice(&used);
-    assert_eq!(rt; out.as_slice(), page.as_slice());
+    assert_eq!(rt; out.as_slice(), a_b_and_ab().as_slice());
     let Ok(block) = AnyBlock::read(out.as_slice()) else {
         return Err(Fail::from("no block"));
     };
     assert_eq!(rt; block.find(b"a"), Some(Some(b"b".as_slice())));
     assert_eq!(rt; block.find(b"ab"), Some(None));
     assert_eq!(rt; block.find(b"aa"), None);
+    Ok(())
+}
+
+// Adds an entry of one byte, once more where there was no memory, and then nothing may have changed.
+fn add_again(
+    builder: &mut PrefixedBuilder,
+    key: &[u8],
+    value: Option<&[u8]>,
+) -> Result<bool, Fail> {
+    if key.is_empty() || key.len() > 2 || value.is_some_and(|value| value.len() > 1) {
+        return Err(Fail::from("out of the limits"));
+    }
+    let (pages, is_empty) = (builder.pages(), builder.is_empty());
+    if let Ok(added) = builder.add(key, value) {
+        return Ok(added);
+    }
+    if (builder.pages(), builder.is_empty()) != (pages, is_empty) {
+        return Err(Fail::from("an entry is there"));
+    }
+    Ok(builder.add(key, value)?)
+}
+
+// One is made to fail from outside, by its number.
+#[test]
+fn each_allocation_of_a_builder_may_fail(rt: HostRuntime) -> Result<(), Fail> {
+    let mut builder = PrefixedBuilder::new(rt.alloc());
+    let mut out = Vec::new(rt.alloc());
+    assert!(rt; add_again(&mut builder, b"a", Some(b"b"))?);
+    assert!(rt; add_again(&mut builder, b"ab", None)?);
+    if builder.is_empty() {
+        return Err(Fail::from("no entry"));
+    }
+    if builder.close(&mut out).is_err() {
+        assert!(rt; out.is_empty() && !builder.is_empty());
+        builder.close(&mut out)?;
+    }
+    assert!(rt; builder.is_empty());
+    assert_eq!(rt; out.as_slice(), a_b_and_ab().as_slice());
     Ok(())
 }
 
@@ -276,134 +352,6 @@ fn seventeen_entries(rt: HostRuntime) -> Result<(), Fail> {
     bytes[177] = 3;
     bytes[179] = 1;
     assert_eq!(rt; fault_of(bytes.as_slice()), Some((176, 10)));
-    Ok(())
-}
-
-// Entries by rising keys of bytes from a to d, the value of each its key.
-fn drawn(alloc: Global, numbers: &mut Numbers, count: usize) -> Result<Vec<Entry>, AllocError> {
-    let mut list = Vec::new(alloc);
-    let mut number = 0_u64;
-    for _ in 0..count {
-        number = number.wrapping_add(1 + numbers.draw_to(9));
-        let key = spelled(number);
-        push_copy(&Entry::new(alloc, &key, Some(&key[3..]))?, &mut list)?;
-    }
-    Ok(list)
-}
-
-// Seven letters from a to d for a number.
-fn spelled(number: u64) -> [u8; 7] {
-    let mut key = [0x61; 7];
-    let mut left = number;
-    for at in 0..7 {
-        key[6 - at] = 0x61 + (left % 4) as u8;
-        left /= 4;
-    }
-    key
-}
-
-// What a list says of a key, from its first entry on.
-fn said<'a>(list: &'a [Entry], key: &[u8]) -> Option<Option<&'a [u8]>> {
-    for entry in list {
-        if entry.key() == key {
-            return Some(entry.value());
-        }
-    }
-    None
-}
-
-// The block of some entries as the builder writes it.
-fn built(alloc: Global, list: &[Entry]) -> Result<Vec<u8>, Fail> {
-    let mut builder = PrefixedBuilder::new(alloc);
-    let mut out = Vec::new(alloc);
-    for entry in list {
-        let Some(value) = entry.value() else {
-            return Err(Fail::from("a tombstone"));
-        };
-        if !add(&mut builder, entry.key(), value)? {
-            return Err(Fail::from("no room"));
-        }
-    }
-    if !builder.is_empty() {
-        builder.close(&mut out)?;
-    }
-    Ok(out)
-}
-
-// Whether a key is below a bound, if there is one.
-fn is_below(key: &[u8], low: Option<&[u8]>) -> bool {
-    match low {
-        Some(low) => key < low,
-        None => false,
-    }
-}
-
-// Whether a walk comes by the entries of a list whose keys are not below a bound, and by no other ones.
-fn is_walked(bytes: &[u8], list: &[Entry], low: Option<&[u8]>) -> bool {
-    let mut buffer = [0; 1_024];
-    let (sum, walk) = read_sum_and_walk(bytes, low, &mut buffer);
-    let Ok(mut walk) = walk else {
-        return false;
-    };
-    if sum != fnv1a(bytes) {
-        return false;
-    }
-    for entry in list {
-        if is_below(entry.key(), low) {
-            continue;
-        }
-        let Some(value) = walk.advance(bytes, &mut buffer) else {
-            return false;
-        };
-        if walk.key(&buffer) != entry.key() || value_of(value, bytes) != entry.value() {
-            return false;
-        }
-    }
-    walk.advance(bytes, &mut buffer).is_none()
-}
-
-#[test]
-fn keys_of_drawn_blocks(rt: HostRuntime) -> Result<(), Fail> {
-    let mut numbers = Numbers::new(43);
-    for count in [1, 2, 15, 16, 17, 31, 32, 33, 100, 180] {
-        let list = drawn(rt.alloc(), &mut numbers, count)?;
-        let list = list.as_slice();
-        assert!(rt; are_prefixed_entries(list));
-        let bytes = prefixed_block_bytes(rt.alloc(), list)?;
-        let bytes = bytes.as_slice();
-        assert_eq!(rt; built(rt.alloc(), list)?.as_slice(), bytes);
-        let Ok(block) = AnyBlock::read(bytes) else {
-            return Err(Fail::from("no block"));
-        };
-        for number in 0..2000 {
-            let key = spelled(number);
-            assert_eq!(rt; block.find(&key), said(list, &key));
-            assert_eq!(rt; block.find(&key[..6]), None);
-        }
-        assert_eq!(rt; block.find(b""), None);
-        let key = spelled(numbers.draw_to(2000));
-        let (sum, found) = AnyBlock::read_sum_and_find(bytes, &key);
-        assert_eq!(rt; sum, fnv1a(bytes));
-        assert_eq!(rt; found, Ok(said(list, &key)));
-    }
-    Ok(())
-}
-
-#[test]
-fn walks_over_drawn_blocks(rt: HostRuntime) -> Result<(), Fail> {
-    let mut numbers = Numbers::new(44);
-    for count in [1, 15, 16, 17, 33, 100] {
-        let list = drawn(rt.alloc(), &mut numbers, count)?;
-        let list = list.as_slice();
-        let bytes = built(rt.alloc(), list)?;
-        let bytes = bytes.as_slice();
-        assert!(rt; is_walked(bytes, list, None));
-        for _ in 0..8 {
-            let key = spelled(numbers.draw_to(1_000));
-            assert!(rt; is_walked(bytes, list, Some(&key)));
-            assert!(rt; is_walked(bytes, list, Some(&key[..6])));
-        }
-    }
     Ok(())
 }
 
@@ -578,8 +526,9 @@ fn damage(numbers: &mut Numbers, bytes: &mut [u8]) {
 fn changed_bytes_of_drawn_blocks(rt: HostRuntime) -> Result<(), Fail> {
     let mut numbers = Numbers::new(45);
     for round in 0..120_u32 {
-        let count = [1, 3, 17, 40][numbers.draw_below(4) % 4];
-        let list = drawn(rt.alloc(), &mut numbers, count)?;
+        let count = [1, 3, 17, 40, 255][numbers.draw_below(5) % 5];
+        let keys = drawn_keys(rt.alloc(), &mut numbers, count)?;
+        let list = entries_of(rt.alloc(), &mut numbers, keys.as_slice())?;
         let list = list.as_slice();
         assert!(rt; are_prefixed_entries(list) && are_entries(list));
         let mut bytes = if round % 3 == 0 {

@@ -1,7 +1,8 @@
-use Rattle.std.proofs.Common.{refl}
+use Rattle.std.proofs.Common.{◌≡◌, refl, sym, ap, ◌∙◌}
 use Rattle.std.specs.Prelude.{Some, None}
-use Rattle.block_model.specs.Formats.{format_in}
+use Rattle.block_model.specs.Formats.{Old, format_in}
 use Rattle.block_model.proofs.EntriesJudged.{header_broken}
+use Rattle.block_model.proofs.OldBlocks.{old_as_before}
 use Rattle.block_format.specs.Reading.{seen}
 use Rattle.block_format.specs.Walking.{format_of}
 use Rattle.block_format.proofs.JudgedBlocks.{block_broken, block_ends}
@@ -10,6 +11,26 @@ use Rattle.block_format.proofs.any_block.judge_any.Goals as goal
 pub returns-in-Err-clause-broken : goal.returns-in-Err-clause-broken
 returns-in-Err-clause-broken c =
     header_broken c.args.bytes.now (format_in c.args.bytes.now) refl (seen c.in-Err.fault) c.in-Err.ensures.broken
+
+pub returns-in-Err-old-clause-broken : goal.returns-in-Err-old-clause-broken
+returns-in-Err-old-clause-broken c =
+    let old : format_in c.args.bytes.now ≡ Old = sym c.in-Ok.ensures.format ∙ ap format_of c.in-Old.is in
+    (old_as_before c.args.bytes.now old).0 ∙ (rw c.in-Err-old.is at c.judge-sum.ensures.broken)
+
+pub returns-in-Ok-old-clause-sound : goal.returns-in-Ok-old-clause-sound
+returns-in-Ok-old-clause-sound c =
+    let old : format_in c.args.bytes.now ≡ Old = sym c.in-Ok.ensures.format ∙ ap format_of c.in-Old.is in
+    let h = c.in-Ok.ensures in
+    record {
+      whole = (old_as_before c.args.bytes.now old).0 ∙ (rw c.in-Ok-old.is at c.judge-sum.ensures.whole);
+      format = h.format;
+      used = h.used;
+      count = h.count;
+      from = h.from;
+      many = h.many;
+      within = h.within.0;
+      inside = h.within.1;
+    }
 
 pub returns-in-Err-judged-clause-broken : goal.returns-in-Err-judged-clause-broken
 returns-in-Err-judged-clause-broken c =

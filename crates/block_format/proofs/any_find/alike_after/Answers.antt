@@ -6,4 +6,4 @@ use Rattle.block_format.proofs.any_find.alike_after.Goals as goal
 pub overflow_add-result : goal.overflow_add-result
 overflow_add-result c =
     let le = (common_prefix_len-le (λ x y. x == y) c.args.own.now c.from_place-sought.result.now).0 in
-    omega (arith, le, c.shared.ensures, c.requires)
+    omega (arith, le, c.shared-alike.ensures, c.requires)
