@@ -51,6 +51,7 @@ pub mod ScanReads
 pub mod ScanStates
 pub mod ScanSteps
 pub mod ShownBlocks
+pub mod SliceWork
 pub mod Stays
 pub mod Taken
 pub mod Tellings

@@ -1,5 +1,5 @@
 //! The tables of a merge take the place of those that it read.
-ghost use Rattle.std.specs.Prelude.{◌≡◌, ◌*◌, false, Some, None, IsTrue, IfErr};
+ghost use Rattle.std.specs.Prelude.{◌≡◌, ◌+◌, ◌*◌, false, Some, None, IsTrue, IfErr, OnOk};
 ghost use Rattle.block_model.specs.Pages.{page_bytes};
 ghost use Rattle.disk_trait.specs.World.{WriteMoves};
 ghost use Rattle.state_model.specs.State as model;
@@ -39,6 +39,7 @@ impl<F: RangeFilter> Store<F> {
         ensures stays { Stays result self.old self.new }
         ensures stopped { self.new.stopped ≡ stopped_by result }
         ensures no_job { self.new.job ≡ None }
+        ensures epoch { OnOk result (self.new.manifest.version.epoch ≡ self.old.manifest.version.epoch + 1) }
         ensures pages { self.new.manifest.version.pages ≡ self.old.manifest.version.pages }
         ensures moves { WriteMoves 0 (page_bytes * self.old.manifest.version.pages) (D.world disk.old) (D.world disk.new) }
     {

@@ -1,4 +1,4 @@
-use Rattle.std.proofs.Common.{◌∙◌, ◌<◌, ◌≤◌, List, length, refl, sym, ap, subst, arith}
+use Rattle.std.proofs.Common.{◌∙◌, ◌<◌, ◌≤◌, ◌+◌, List, length, refl, sym, ap, subst, arith}
 use Rattle.std.specs.Prelude.{Option, Some, Ok, Err}
 use Rattle.std.specs.List.{AllByRecursion}
 use Rattle.disk_trait.specs.World.{Leads, WriteMoves}
@@ -192,6 +192,11 @@ returns-in-Err-clause-installs g c s done tells runs is_done tied =
     (c.in-Err.ensures.crash v tells (sym (ap (λ (m : Manifest). m.version.epoch) next_is))))
     (ap (λ (k : StoreValue). k.manifest) c.self.view_is) (c.reserve.ensures.tables ∙ ap (λ (k : StoreValue). k.tables) c.self.view_is) (ap (λ (k : StoreValue). k.job) c.self.view_is ∙ c.requires.taken_out)
     (ap (λ (k : StoreValue). k.log) c.self.view_is) (ap (λ (k : StoreValue). k.memory) c.self.view_is) (ap (λ (k : StoreValue). k.blocks) c.self.view_is) c.stops_store-self-inside.ensures
+
+-- the epoch is raised
+pub returns-in-Ok-clause-epoch : goal.returns-in-Ok-clause-epoch
+returns-in-Ok-clause-epoch g c =
+    ap (λ (m : Manifest). m.version.epoch) c.installed.ensures ∙ ap (λ (m : Manifest). m.version.epoch + 1) c.in_ok-next.ensures.next ∙ ap (λ (k : StoreValue). k.manifest.version.epoch + 1) c.self.view_is
 
 -- ---- what a refusal leaves
 

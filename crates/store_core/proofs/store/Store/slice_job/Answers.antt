@@ -1,7 +1,11 @@
-use Rattle.std.proofs.Common.{◌≡◌, ◌∙◌, ◌≤◌, List, sym, ap, subst, arith}
+use Rattle.std.proofs.Common.{◌≡◌, ◌∙◌, ◌<◌, ◌≤◌, List, sym, ap, subst, arith}
+use Rattle.std.specs.Prelude.{IfOk}
 use Rattle.std.specs.List.Sorted.{IsPermutation}
 use Rattle.byte_fields.specs.declared.parts.Row.{Row}
 use Rattle.level_merge.specs.Follows.{FollowsAnyJob}
+use Rattle.level_merge.specs.JobValue.{work_left}
+use Rattle.level_merge.specs.declared.fault.Sliced.{Sliced}
+use Rattle.level_merge.specs.declared.fault.Sliced.TheVariants as sliced
 use Rattle.merge_rows.specs.Steps.{IsSoundMerge}
 use Rattle.table_file.specs.Opened.{Opened}
 use Rattle.table_model.specs.Tables.{filter_bytes_of}
@@ -77,3 +81,7 @@ returns-clause-moves g c =
     (subst (λ (rows : List Row). IsPermutation (extents_with c.self.inside.version.version rows) free.extents) c.outputs.ensures c.in_ok-extents.ensures.extents) in
     slice_moved g.F.RangeFilter.spelling g.F.RangeFilter.built_cutoff v c.args.self.now.tables old c.slice.new.self free c.slice.new.extents c.requires.run pages extents
     (g.D.Disk.world c.args.disk.now) (g.D.Disk.world c.slice.new.disk) c.slice.ensures.slices.moves
+
+pub returns-clause-ends : goal.returns-clause-ends
+returns-clause-ends g c =
+    subst (λ (k : StoreValue). IfOk c.slice.result (λ (said : Sliced). said ≡ sliced.Working → work_left k.tables c.slice.new.self < work_left k.tables c.args.job.now)) c.self.view_is c.slice.ensures.slices.ends

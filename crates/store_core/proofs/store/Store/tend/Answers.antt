@@ -4,13 +4,14 @@ use Rattle.level_merge.specs.JobValue.{JobValue}
 use Rattle.state_model.specs.Tends.{with_job}
 use Rattle.table_model.specs.Tables.{filter_bytes_of}
 use Rattle.store_core.specs.StoreValue.{IsConsistent, StoreValue}
-use Rattle.store_core.specs.Tending.{IsNext, SliceStays, Tends, told_slice}
+use Rattle.store_core.specs.Tending.{IsNext, IsTakenOut, SliceStays, Tends, told_slice}
 use Rattle.store_core.specs.Represents.{Represents}
 use Rattle.store_core.specs.declared.error.StoreError.{StoreError}
 use Rattle.store_core.specs.declared.error.StoreError.TheVariants as error
 use Rattle.store_core.specs.declared.tending.Tended.{Tended}
 use Rattle.store_core.specs.declared.tending.Tended.TheVariants as tended
 use Rattle.store_core.proofs.FlushAnswers.{passed_on}
+use Rattle.store_core.proofs.SliceWork.{of_taken}
 use Rattle.store_core.proofs.Stays.{slice_left, without_merge}
 use Rattle.store_core.proofs.TendAnswers.{idles, none_begun, taken_up}
 use Rattle.store_core.proofs.store.Store.tend.Goals as goal
@@ -72,3 +73,9 @@ pub returns-in-Some-clause-stays : goal.returns-in-Some-clause-stays
 returns-in-Some-clause-stays g c =
     let after = c.work.new.self in
     subst (λ (k : StoreValue). SliceStays c.work.result (record k { job = after.job }) after) c.take_job.ensures.rest c.work.ensures.stays
+
+-- ---- by the merge that is taken up
+
+pub returns-in-Some-clause-worked : goal.returns-in-Some-clause-worked
+returns-in-Some-clause-worked g c =
+    of_taken c.args.self.now c.take_job.new.self c.work.new.self c.in-Some.job c.work.result c.take_job.ensures.rest (subst (IsTakenOut c.args.self.now) c.in-Some.is c.in_ok-job.ensures.taken_up) c.work.ensures.worked
