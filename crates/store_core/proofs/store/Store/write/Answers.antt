@@ -14,7 +14,7 @@ use Rattle.store_core.specs.Represents.{Represents}
 use Rattle.store_core.specs.declared.error.StoreError.{StoreError}
 use Rattle.store_core.specs.declared.error.StoreError.TheVariants as error
 use Rattle.store_core.proofs.FlushAnswers.{passed_on, wanted_room}
-use Rattle.store_core.proofs.Refusals.{failure_due, fits_allowed, flush_allowed, flush_due}
+use Rattle.store_core.proofs.Refusals.{failure_due, fits_allowed, flush_allowed, flush_due, wanted_entry}
 use Rattle.store_core.proofs.Stays.{flush_stays, room_taken, stopped_stays}
 use Rattle.store_core.proofs.Writing.{flush_failed, flush_then, need_fits, need_over, never, tied_with, whole_with, wrote_as, wrote_logged}
 use Rattle.store_core.proofs.store.Store.write.Goals as goal
@@ -114,10 +114,8 @@ returns-clause-stays g c =
 
 pub returns-in_err-entry-clause-due : goal.returns-in_err-entry-clause-due
 returns-in_err-entry-clause-due g c =
-    let bytes = filter_bytes_of g.F.RangeFilter.spelling g.F.RangeFilter.built_cutoff in
-    let w = g.D.Disk.world c.args.disk.now in
-    let x = entry_of c.args.key.now (value_of c.args.value) in
-    subst (λ (r : Result (Unit {0}) StoreError). IfErr r (IsWriteDue bytes c.args.self.now x w w)) (passed_on c.from_residual.result error.Memory c.from_residual.ensures.1) tt
+    wanted_entry (filter_bytes_of g.F.RangeFilter.spelling g.F.RangeFilter.built_cutoff) c.from_residual.result c.args.self.now (entry_of c.args.key.now (value_of c.args.value)) (g.D.Disk.world c.args.disk.now)
+    (passed_on c.from_residual.result error.Memory c.from_residual.ensures.1)
 
 pub returns-then-fits-clause-due : goal.returns-then-fits-clause-due
 returns-then-fits-clause-due g c =
