@@ -1,5 +1,6 @@
 pub mod Agreed
 pub mod Answering
+pub mod AsBefore
 pub mod Asked
 pub mod Caches
 pub mod Causes

@@ -35,6 +35,7 @@ pub mod Opening
 pub mod Formatting
 pub mod Flushing
 pub mod Refusing
+pub mod AsBefore
 pub mod Installing
 pub mod Tending
 pub mod Telling
