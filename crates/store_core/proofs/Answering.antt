@@ -1,18 +1,16 @@
 -- What a change is answered: a step of its request.
-use Rattle.std.proofs.Common.{◌≡◌, ◌≢◌, ◌⊎◌, inl, inr, Bool, true, false, refl, sym, ap, subst, ◌∙◌}
+use Rattle.std.proofs.Common.{◌≡◌, ◌≢◌, ◌⊎◌, inl, inr, false, refl, sym, ap, subst, ◌∙◌}
 use Rattle.std.specs.Prelude.{Option, Some, None, Result, Ok, Err, IfErr, IsErr, IsOk, OnErr}
 use Rattle.std.proofs.lemmas.Bool.{true≢false}
 use Rattle.disk_trait.specs.Image.{Image}
 use Rattle.disk_trait.specs.World.{Meanwhile, Rose, World}
 use Rattle.disk_trait.proofs.Moments.{meanwhile_weaker}
-use Rattle.disk_trait.specs.declared.fault.DiskFault.{DiskFault}
 use Rattle.filter_api.specs.Spellings.{Spelling}
 use Rattle.image_model.specs.Stands.{StandsForMap}
 use Rattle.line_model.specs.Limits.{limit_of}
 use Rattle.line_model.specs.Replies.{Reply}
 use Rattle.line_model.specs.Replies as reply
 use Rattle.line_model.specs.Requests.{Request}
-use Rattle.map_model.specs.SortedMap.{Map}
 use Rattle.state_model.proofs.SoundJobs.{drop_sound}
 use Rattle.state_model.specs.Causes.{Why}
 use Rattle.state_model.specs.Sound.{IsLeft}
@@ -20,7 +18,7 @@ use Rattle.state_model.specs.State.{State, without_job}
 use Rattle.state_model.specs.Steps.{Answer, Step, TakesMemory, Writes, answer, answer_within, answers, done_or_refused, left_by, no_memory, unless_limit, write_failed}
 use Rattle.state_model.specs.View.{state_map}
 use Rattle.table_model.specs.Tables.{FilterBytes}
-use Rattle.store_core.specs.Answers.{AnswersRequest, HasCause, IsFailure, IsWriteRefusal, MovesTo, WroteEntry, refused, stopped_by, told, told_change, turns}
+use Rattle.store_core.specs.Answers.{AnswersRequest, HasCause, IsFailure, IsWriteRefusal, MovesTo, WroteEntry, refused, stopped_by, told_change, turns}
 use Rattle.store_core.specs.StoreValue.{StoreValue}
 use Rattle.store_core.specs.Represents.{Represents}
 use Rattle.store_core.specs.declared.error.StoreError.{StoreError}

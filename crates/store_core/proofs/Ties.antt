@@ -30,7 +30,6 @@ use Rattle.store_core.specs.Answers.{MovesTo}
 use Rattle.store_core.specs.Caching.{CacheAgrees, Cached}
 use Rattle.store_core.specs.StoreValue.{IsConsistent, StoreValue}
 use Rattle.store_core.specs.Represents.{Represents, RepresentsOn}
-use Rattle.store_core.specs.declared.error.StoreError.{StoreError}
 use Rattle.store_core.specs.declared.error.StoreError.TheVariants as error
 use Rattle.store_core.proofs.Frames.{under_log, under_logged, under_stands}
 

@@ -1,8 +1,8 @@
-use Rattle.std.proofs.Common.{◌≡◌, inl, inr, ◌∙◌, ◌≤◌, ◌+◌, ◌*◌, List, refl, sym, ap, subst, arith}
-use Rattle.std.specs.Prelude.{IfErr, IfOk, Option, Some, None, Result, Ok, Err}
+use Rattle.std.proofs.Common.{inl, inr, ◌*◌, List, refl, sym, ap, subst, arith}
+use Rattle.std.specs.Prelude.{IfErr, IfOk, Some, Result, Ok}
 use Rattle.level_merge.specs.declared.fault.Sliced.{Sliced}
 use Rattle.state_model.proofs.SoundJobs.{drop_sound}
-use Rattle.state_model.specs.State.{State, without_job}
+use Rattle.state_model.specs.State.{without_job}
 use Rattle.state_model.specs.Tends.{with_job}
 use Rattle.table_file.specs.Opened.{Opened}
 use Rattle.table_model.specs.Tables.{filter_bytes_of}
@@ -14,7 +14,9 @@ use Rattle.store_core.specs.declared.error.StoreError.{StoreError}
 use Rattle.store_core.specs.declared.tending.Tended.{Tended}
 use Rattle.store_core.specs.declared.tending.Tended.TheVariants as tended
 use Rattle.store_core.proofs.Agreed.{tied_agree}
+use Rattle.store_core.specs.Framing.{IsInUse}
 use Rattle.store_core.proofs.FlushAnswers.{passed_on}
+use Rattle.store_core.proofs.Framing.{leaves_then}
 use Rattle.store_core.proofs.SliceWork.{no_work}
 use Rattle.store_core.proofs.Stays.{install_stays, refused_slice}
 use Rattle.store_core.proofs.TendAnswers.{installs_it, not_installed, slice_refused, tied_none, works_on}
@@ -140,3 +142,17 @@ returns-in_err-install_merge-in-Ok-Ready-clause-worked g c =
 pub returns-in-Err-clause-worked : goal.returns-in-Err-clause-worked
 returns-in-Err-clause-worked g c =
     subst (λ (r : Result Tended StoreError). IfOk r (IsWorkOf c.args.self.now c.args.job c.refuse.new.self)) (sym c.refuse.ensures.answer) (no_work c.args.self.now c.refuse.new.self c.args.job c.in-Err.why)
+
+-- ---- what is left as it was
+
+pub returns-in-Ok-Working-clause-frame : goal.returns-in-Ok-Working-clause-frame
+returns-in-Ok-Working-clause-frame g c = c.slice_job.ensures.frame
+
+pub returns-in_ok-install_merge-in-Ok-Ready-clause-frame : goal.returns-in_ok-install_merge-in-Ok-Ready-clause-frame
+returns-in_ok-install_merge-in-Ok-Ready-clause-frame g c = leaves_then (IsInUse c.args.self.now.manifest 262144) (g.D.Disk.world c.args.disk.now) (g.D.Disk.world c.slice_job.new.disk) (g.D.Disk.world c.install_merge.new.disk) c.slice_job.ensures.frame c.install_merge.ensures.frame
+
+pub returns-in_err-install_merge-in-Ok-Ready-clause-frame : goal.returns-in_err-install_merge-in-Ok-Ready-clause-frame
+returns-in_err-install_merge-in-Ok-Ready-clause-frame g c = leaves_then (IsInUse c.args.self.now.manifest 262144) (g.D.Disk.world c.args.disk.now) (g.D.Disk.world c.slice_job.new.disk) (g.D.Disk.world c.install_merge.new.disk) c.slice_job.ensures.frame c.install_merge.ensures.frame
+
+pub returns-in-Err-clause-frame : goal.returns-in-Err-clause-frame
+returns-in-Err-clause-frame g c = c.slice_job.ensures.frame
