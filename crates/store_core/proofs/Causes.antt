@@ -1,5 +1,5 @@
 -- Why a call of opening or formatting failed, told as the store's error.
-use Rattle.std.proofs.Common.{◌≡◌, ◌⊎◌, inl, inr, ◌≤◌, ◌+◌, ℕ, refl, sym, ap, ◌∙◌, arith, true}
+use Rattle.std.proofs.Common.{◌≡◌, inl, inr, ◌≤◌, ℕ, ap, arith}
 use Rattle.byte_fields.specs.declared.parts.Row.{Row}
 use Rattle.disk_trait.specs.Fault.{IsFaultOf, IsWriteThroughFault}
 use Rattle.disk_trait.specs.World.{Rose, World}

@@ -72,6 +72,7 @@ module _ (spelling : Spelling) (bytes : FilterBytes) (store after : StoreValue) 
       after = compacted_into alone.tables (without_job s);
       step = subst (λ (w : Answer). Step (HasCause a b) bytes s Compact w.0 w.1) done_is answers;
       crash = crash meanwhile;
+      kept = λ _ _. meanwhile;
       tied = λ _. record {
         sound = sound;
         none_kept = none_kept;
@@ -114,6 +115,7 @@ module _ (spelling : Spelling) (bytes : FilterBytes) (store after : StoreValue) 
       after = without_job s;
       step = read_failed reply.Device refl ((some, left), read.1) read.0.1 refl;
       crash = crash meanwhile;
+      kept = λ _ _. meanwhile;
       tied = ties_so;
     }
     call_failed cause (inr write) ties_so = record {
@@ -122,6 +124,7 @@ module _ (spelling : Spelling) (bytes : FilterBytes) (store after : StoreValue) 
       after = without_job s;
       step = write_failed (without_job s) refl ((some, left), write.2) write.1 (record { settings = refl; pages = refl; no_job = refl; sound = tied.sound }) (inl refl);
       crash = crash meanwhile;
+      kept = λ _ _. meanwhile;
       tied = ties_so;
     }
 
@@ -136,6 +139,7 @@ module _ (spelling : Spelling) (bytes : FilterBytes) (store after : StoreValue) 
       after = without_job s;
       step = no_memory refl (some, left) tt;
       crash = crash meanwhile;
+      kept = λ _ _. meanwhile;
       tied = ties error.Memory fails.stays stopped;
     }
     compact_failed (error.Device cause) fails stopped = call_failed cause fails.cause (ties (error.Device cause) fails.stays stopped)
@@ -145,6 +149,7 @@ module _ (spelling : Spelling) (bytes : FilterBytes) (store after : StoreValue) 
       after = without_job s;
       step = subst (λ (w : Answer). Step (HasCause a b) bytes s Compact w.0 w.1) (full_is need gap fails.cause) answers;
       crash = crash meanwhile;
+      kept = λ _ _. meanwhile;
       tied = ties (error.Full need gap) fails.stays stopped;
     }
     compact_failed error.Stopped fails stopped = absurd fails.cause
@@ -193,6 +198,7 @@ module _ (spelling : Spelling) (bytes : FilterBytes) (store : StoreValue) (s : S
       after = s;
       step = subst (λ (x : Answer). Step (HasCause w w) bytes s Compact x.0 x.1) empty_is answers;
       crash = still;
+      kept = λ other _. absurd (other refl);
       tied = λ _. record {
         sound = tied.sound;
         none_kept = tied.none_kept;
@@ -220,6 +226,7 @@ module _ (spelling : Spelling) (bytes : FilterBytes) (store : StoreValue) (s : S
         after = without_job s;
         step = subst (λ (x : Answer). Step (HasCause w w) bytes s Compact x.0 x.1) answer_is answers;
         crash = still;
+        kept = λ _ _. started _ w (λ image here. under_map image (tied.images image here));
         tied = λ _. tied_dropped spelling bytes store s w tied;
       })
 

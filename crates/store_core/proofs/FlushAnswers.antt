@@ -73,7 +73,7 @@ module _ (spelling : Spelling) (bytes : FilterBytes) (store : StoreValue) (s : S
   -- memory was wanted, whatever the change
   wanted_in : {T : Type 0} (after : StoreValue) (change : Result State Reply) (a b : World) → Represents spelling bytes after s b → Meanwhile Map a b → WroteEntry {T = T} spelling bytes s change (Err error.Memory) after a b
   wanted_in {T = T} after change a b tied meanwhile = elim change as (λ r. change ≡ r → WroteEntry {T = T} spelling bytes s change (Err error.Memory) after a b) [
-    | Ok to ↦ λ is. turns to is tt (record { meanwhile = meanwhile_weaker Map _ a b meanwhile (λ image map. inl map); done = tt; refused = λ _. tied })
+    | Ok to ↦ λ is. turns to is tt (record { meanwhile = meanwhile_weaker Map _ a b meanwhile (λ image map. inl map); wanted = λ _. meanwhile; done = tt; refused = λ _. tied })
     | Err why ↦ λ is. refused why is refl (inr refl) tied meanwhile
   ] refl
 
@@ -98,7 +98,7 @@ module _ (spelling : Spelling) (bytes : FilterBytes) (store : StoreValue) (s : S
   pub nothing_to_flush : {T : Type 0} (x : T) (w : World) → IsConsistent store → Represents spelling bytes store s w → store.memory.entries ≡ [] → WroteEntry spelling bytes s (flushed bytes s) (Ok x) store w w
   nothing_to_flush x w whole tied none =
       turns s (flushed_none bytes s (sym tied.memory ∙ none)) tt
-      (record { meanwhile = meanwhile_weaker Map _ w w (stands_now whole w tied) (λ image map. inl map); done = tied; refused = tt })
+      (record { meanwhile = meanwhile_weaker Map _ w w (stands_now whole w tied) (λ image map. inl map); wanted = tt; done = tied; refused = tt })
 
   module _ (a : World) (current : a.leaves a.moment a.seen.held) (tied : Represents spelling bytes store s a) (some : store.memory.entries ≢ []) where
     abbrev v : Version
@@ -196,6 +196,7 @@ module _ (spelling : Spelling) (built_cutoff : ℕ → List Leaf → ℕ) (store
       → after.tables ≡ opened_of built_cutoff parts row ∷ store.tables → after.job ≡ store.job → after.blocks ≡ store.blocks → IsConsistent store → after.log.filled ≡ 0 → after.memory.entries ≡ [] → WroteEntry spelling bytes s (flushed bytes s) (Ok y) after a b
   flush_done x y after replaces manifest_is tables_are same_job blocks_are whole begun cleared = turns to planned tt (record {
     meanwhile = meanwhile_weaker Before _ a b replaces.meanwhile (λ image map. inl map);
+    wanted = tt;
     done = record {
       sound = flushed_sound bytes s to tied.sound planned;
       none_kept = tied.none_kept;
@@ -231,6 +232,7 @@ module _ (spelling : Spelling) (built_cutoff : ℕ → List Leaf → ℕ) (store
       → WroteEntry {T = U} spelling bytes s (flushed bytes s) (Err x) after a b
   flush_stops f x after replaces fails stopped = turns to planned fails (record {
     meanwhile = meanwhile_weaker Before _ a b replaces.meanwhile (λ image map. inl map);
+    wanted = λ _. replaces.meanwhile;
     done = tt;
     refused = λ runs. absurd (never after.stopped stopped runs);
   })

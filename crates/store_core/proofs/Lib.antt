@@ -1,5 +1,6 @@
 pub mod Agreed
 pub mod Answering
+pub mod AsBefore
 pub mod Asked
 pub mod Caches
 pub mod Causes
@@ -18,6 +19,7 @@ pub mod FlushAnswers
 pub mod Flushed
 pub mod Flushes
 pub mod Founds
+pub mod Framing
 pub mod Frames
 pub mod InstallHeld
 pub mod InstallLeads
@@ -39,6 +41,7 @@ pub mod PlannedRows
 pub mod Plans
 pub mod PlansMade
 pub mod ReadBounds
+pub mod RecordsLeft
 pub mod Refusals
 pub mod Resets
 pub mod Runs
@@ -51,6 +54,8 @@ pub mod ScanReads
 pub mod ScanStates
 pub mod ScanSteps
 pub mod ShownBlocks
+pub mod SliceWork
+pub mod SlicesLeft
 pub mod Stays
 pub mod Taken
 pub mod Tellings

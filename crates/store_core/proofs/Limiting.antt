@@ -1,5 +1,5 @@
 -- A limit of the key or the value that is broken, or that is kept.
-use Rattle.std.proofs.Common.{◌≡◌, ◌≤◌, ◌<◌, ℕ, Bool, true, false, cond, refl, sym, ap, ◌∙◌, length, arith}
+use Rattle.std.proofs.Common.{◌≡◌, ◌≤◌, ℕ, Bool, true, false, cond, refl, ap, ◌∙◌, length, arith}
 use Rattle.std.specs.Option.{option_or}
 use Rattle.std.specs.Prelude.{Option, Some, None, nat_lt, ◌==◌, ◌||◌}
 use Rattle.byte_fields.specs.Spelling.{IsBytes}

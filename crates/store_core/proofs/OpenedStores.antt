@@ -1,12 +1,10 @@
 -- What a store that was opened is, and what its opening answers.
-use Rattle.std.proofs.Common.{◌≡◌, ◌⊎◌, inl, inr, ◌≤◌, ◌+◌, ◌*◌, ℕ, false, List, [], ◌∷◌, length, refl, sym, ap, subst, ◌∙◌, arith}
+use Rattle.std.proofs.Common.{◌≡◌, ℕ, false, List, [], length, refl, sym, ap, subst, ◌∙◌, arith}
 use Rattle.std.specs.Prelude.{map, None, Result, Ok, Err, IfOk, IfErr, MatchResult}
 use Rattle.std.specs.List.{AllByRecursion}
 use Rattle.std.proofs.lemmas.List.{length-map}
 use Rattle.byte_fields.specs.Faults.{Fault}
 use Rattle.byte_fields.specs.declared.parts.Damage.{Damage}
-use Rattle.byte_fields.specs.declared.parts.Damage.TheVariants as damage
-use Rattle.byte_fields.specs.declared.parts.Part.TheVariants as part
 use Rattle.byte_fields.specs.declared.parts.Row.{Row}
 use Rattle.disk_trait.specs.Image.{Image}
 use Rattle.disk_trait.specs.World.{IsDurable, ReadMoves, SyncMoves, World}
@@ -19,14 +17,14 @@ use Rattle.gate_log.specs.declared.fault.LogFault.{LogFault}
 use Rattle.gate_log.specs.declared.fault.LogFault.TheVariants as log
 use Rattle.image_model.proofs.Opening.{no_store_has_no_state, state_has_none}
 use Rattle.image_model.proofs.Sound.{state_sound}
-use Rattle.image_model.specs.Opening.{FirstDamage, IsOpened, OpensWith, at_a_table, at_the_log, at_the_ranges, at_the_slots, at_the_version, key_range_of}
-use Rattle.image_model.specs.Stands.{IsNamedBy, IsReady, IsStateOf, UnnamedStand, as_shown, unnamed}
+use Rattle.image_model.specs.Opening.{IsOpened, OpensWith, at_a_table, at_the_log, at_the_ranges, at_the_slots, at_the_version, key_range_of}
+use Rattle.image_model.specs.Stands.{IsNamedBy, IsStateOf, UnnamedStand, as_shown}
 use Rattle.image_model.specs.Tables.{AreTablesOf}
 use Rattle.log_model.proofs.Ends.{one_list}
 use Rattle.log_model.specs.Area.{LogIs, Position, area_in}
 use Rattle.manifest.proofs.Steps.{are_slots}
 use Rattle.manifest.specs.Loading.{IsLoadAnswer, IsLoaded}
-use Rattle.manifest.specs.Manifest.{Manifest, StandsInSlot, other_place, place_of}
+use Rattle.manifest.specs.Manifest.{Manifest, other_place, place_of}
 use Rattle.manifest.specs.declared.fault.ManifestFault.{ManifestFault}
 use Rattle.manifest.specs.declared.fault.ManifestFault.TheVariants as manifest
 use Rattle.manifest_model.proofs.Versions.{in_use, one_version}
@@ -34,15 +32,14 @@ use Rattle.manifest_model.specs.Slots.{IsVersionOf}
 use Rattle.manifest_model.specs.Tables.{ranges_fault}
 use Rattle.manifest_model.specs.Version.{Version, log_page_of}
 use Rattle.map_model.specs.SortedMap.{Bytes}
-use Rattle.state_model.specs.State.{Job, State, written_by}
+use Rattle.state_model.specs.State.{State}
 use Rattle.table_file.specs.Faults.{filter_fault_of}
 use Rattle.table_file.specs.Opened.{Opened}
-use Rattle.table_model.specs.Tables.{FilterBytes, Table}
+use Rattle.table_model.specs.Tables.{FilterBytes}
 use Rattle.store_core.specs.Faults.{of_log_fault, of_manifest_fault}
 use Rattle.store_core.specs.StoreValue.{StoreValue, rows_of}
 use Rattle.store_core.specs.Answers.{IsFailure}
 use Rattle.store_core.specs.Opening.{AreOpened, IsOpenAnswer, IsOpenRefusal, IsOpenedAs, IsRangesDamage, IsTablesAnswer, IsVersionOpened, opened_range}
-use Rattle.level_merge.specs.TablesAgree.{TablesAgree}
 use Rattle.store_core.specs.Represents.{Represents, RepresentsOn}
 use Rattle.store_core.specs.Caching.{CacheAgrees, Cached, none_cached}
 use Rattle.store_core.specs.declared.error.StoreError.{StoreError}

@@ -1,5 +1,5 @@
 -- Tables that are opened, row by row, and the first damage of some rows.
-use Rattle.std.proofs.Common.{◌≡◌, ◌⊎◌, inl, inr, ◌+◌, ◌-◌, ℕ, suc, List, [], ◌∷◌, ◌++◌, length, refl, sym, ap, subst, ◌∙◌, arith}
+use Rattle.std.proofs.Common.{◌≡◌, inl, inr, ◌+◌, ◌-◌, ℕ, suc, List, [], ◌∷◌, ◌++◌, length, refl, sym, ap, subst, ◌∙◌, arith}
 use Rattle.std.specs.Prelude.{◌==◌, map, None, Some}
 use Rattle.std.specs.Option.{option_map}
 use Rattle.std.proofs.lemmas.Bool.{cond-true, eq-eqb}
@@ -12,10 +12,9 @@ use Rattle.byte_fields.specs.declared.parts.Part.TheVariants as part
 use Rattle.byte_fields.specs.declared.parts.Row.{Row}
 use Rattle.disk_trait.specs.Image.{Image}
 use Rattle.filter_api.specs.Spellings.{IsSpelling, Spelling, SpellsOne}
-use Rattle.filter_api.specs.declared.errors.FilterFault.{FilterFault}
 use Rattle.map_model.specs.SortedMap.{Bytes}
 use Rattle.block_model.specs.Index.{Index, IndexRow}
-use Rattle.block_model.specs.IndexReading.{index_fault, index_in}
+use Rattle.block_model.specs.IndexReading.{index_fault}
 use Rattle.block_model.specs.Places.{byte_of_page, index_page}
 use Rattle.table_model.specs.Damage.{filter_part, index_damage, index_part}
 use Rattle.table_model.specs.Tables.{Table}

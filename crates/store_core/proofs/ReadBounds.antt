@@ -1,6 +1,6 @@
 -- How many blocks a get reads, against what the state says.
 use Rattle.std.proofs.Common.{◌≡◌, ◌≤◌, ◌+◌, ◌∙◌, ℕ, suc, Bool, true, false, cond, List, [], ◌∷◌, refl, sym, ap, subst, arith}
-use Rattle.std.specs.Prelude.{◌&&◌, is_some, Option, Some, None}
+use Rattle.std.specs.Prelude.{is_some, Option, Some, None}
 use Rattle.block_model.specs.Laws.{joined}
 use Rattle.disk_trait.specs.Image.{Image}
 use Rattle.entry_model.specs.Entries.{Entry}

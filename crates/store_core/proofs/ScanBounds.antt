@@ -1,19 +1,18 @@
 -- What the first step of a scan may read, against what the state says.
-use Rattle.std.proofs.Common.{◌≡◌, ◌≢◌, ◌∙◌, ◌≤◌, ◌<◌, ◌+◌, ℕ, suc, Bool, true, false, cond, not, ◌&&◌, List, [], ◌∷◌, ◌++◌, length, map, refl, sym, ap, subst, arith}
+use Rattle.std.proofs.Common.{◌≡◌, ◌∙◌, ◌≤◌, ◌<◌, ◌+◌, ℕ, suc, Bool, true, false, cond, not, ◌&&◌, List, [], ◌∷◌, ◌++◌, length, map, refl, sym, ap, subst, arith}
 use Rattle.std.specs.Prelude.{Option, Some, None, count_by, filter, sum_by}
-use Rattle.std.proofs.lemmas.List.{append_assoc, length-map}
+use Rattle.std.proofs.lemmas.List.{append_assoc}
 use Rattle.std.proofs.lemmas.List.Sums.{sum_by-cons}
-use Rattle.block_model.specs.Laws.{joined}
 use Rattle.disk_trait.specs.Image.{Image}
 use Rattle.entry_model.specs.Entries.{Entry}
 use Rattle.entry_model.specs.Newest.{entries_from}
 use Rattle.filter_api.specs.Spellings.{Spelling}
 use Rattle.filter_model.specs.Answers.{ranged}
 use Rattle.map_model.specs.Slices.{is_before, is_between, is_up_to, seek}
-use Rattle.map_model.specs.SortedMap.{Bytes, Map}
+use Rattle.map_model.specs.SortedMap.{Bytes}
 use Rattle.merge_rows.specs.Merges.{TableWalk, blocks_in, numbered, walk_at, walk_left, with_hand}
 use Rattle.merge_rows.specs.Reads.{ones, wants}
-use Rattle.merge_rows.specs.Rows.{KeyFloor, clears}
+use Rattle.merge_rows.specs.Rows.{KeyFloor}
 use Rattle.state_model.specs.Bounds.{admits_range, is_passed, seek_bound, stepped}
 use Rattle.state_model.specs.State.{State}
 use Rattle.state_model.specs.View.{state_map}
@@ -24,7 +23,7 @@ use Rattle.store_core.specs.Scans.{MayRead, admits_keys, numbers_admitting, owed
 use Rattle.level_merge.specs.TablesAgree.{TableAgrees, TablesAgree}
 use Rattle.table_file.specs.Laws.{StandingBlocks, StandingWalks}
 use Rattle.table_file.specs.Opened.{Opened}
-use Rattle.table_file.specs.Walks.{blocks_on, to_come, walk_from}
+use Rattle.table_file.specs.Walks.{to_come, walk_from}
 use Rattle.table_model.specs.Tables.{Table}
 
 abbrev one_if : Bool → ℕ

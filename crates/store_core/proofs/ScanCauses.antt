@@ -1,14 +1,14 @@
 -- Why a scan does not go on.
-use Rattle.std.proofs.Common.{◌≡◌, ◌∙◌, ◌≤◌, ◌<◌, ◌+◌, ◌-◌, ℕ, zero, suc, Bool, true, false, List, [], ◌∷◌, length, map, refl, sym, ap, subst, arith}
+use Rattle.std.proofs.Common.{◌≡◌, ◌∙◌, ◌≤◌, ◌+◌, ◌-◌, ℕ, zero, suc, Bool, true, false, List, [], ◌∷◌, length, refl, sym, ap, subst, arith}
 use Rattle.std.specs.Prelude.{Contains, Err, IfErr, Ok, Option, Result, Some, None, is_some, slice_get}
 use Rattle.std.specs.Option.{option_map}
 use Rattle.std.proofs.lemmas.Bool.{false≢true}
 use Rattle.disk_trait.proofs.Calls.{reads_then}
 use Rattle.disk_trait.specs.Image.{Image}
-use Rattle.disk_trait.specs.World.{ReadMoves, World}
+use Rattle.disk_trait.specs.World.{World}
 use Rattle.merge_rows.specs.Merges.{Merge, TableWalk}
-use Rattle.merge_rows.specs.Reads.{OnlyReads, SomeBlock, wanted}
-use Rattle.merge_rows.specs.Steps.{IsFaultStep, IsPaced, IsRowStep, IsSoundMerge, SourcesStay, number_of_walk, numbers}
+use Rattle.merge_rows.specs.Reads.{OnlyReads, SomeBlock}
+use Rattle.merge_rows.specs.Steps.{IsFaultStep, IsPaced, IsRowStep, SourcesStay, number_of_walk, numbers}
 use Rattle.block_model.specs.Places.{byte_of_page}
 use Rattle.disk_trait.specs.declared.fault.DiskFault.{DiskFault}
 use Rattle.entry_model.specs.Entries.{Entry}

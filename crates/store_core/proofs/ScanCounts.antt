@@ -1,11 +1,11 @@
 -- How many pairs a state has, and what is so of a count of them.
-use Rattle.std.proofs.Common.{◌≡◌, ◌≢◌, ◌∙◌, ◌≤◌, ◌<◌, ◌+◌, ◌-◌, ◌*◌, ◌^◌, ℕ, zero, suc, Bool, true, false, cond, List, [], ◌∷◌, ◌++◌, length, drop, take, refl, sym, ap, subst, arith}
-use Rattle.std.specs.Prelude.{Option, Some, None, bytes_eq, filter, fold, is_some, nat_lt}
+use Rattle.std.proofs.Common.{◌≡◌, ◌∙◌, ◌≤◌, ◌<◌, ◌+◌, ◌-◌, ◌*◌, ℕ, zero, suc, Bool, true, false, cond, List, [], ◌∷◌, length, drop, refl, sym, ap, arith}
+use Rattle.std.specs.Prelude.{Option, Some, None, bytes_eq, fold, is_some, nat_lt}
 use Rattle.std.specs.List.{AllByRecursion}
 use Rattle.std.proofs.lemmas.Bool.{false≢true, ltb-false, ltb-true}
 use Rattle.std.proofs.lemmas.List.{length-append}
 use Rattle.disk_trait.specs.World.{World}
-use Rattle.entry_model.specs.Entries.{Entry, change_by, changed, map_of}
+use Rattle.entry_model.specs.Entries.{Entry, change_by, changed}
 use Rattle.line_model.specs.Replies.{Reply}
 use Rattle.map_model.proofs.Between.{whole}
 use Rattle.map_model.proofs.Maps.{by_order}

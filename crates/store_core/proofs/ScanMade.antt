@@ -1,5 +1,5 @@
 -- A scan that is made of a store.
-use Rattle.std.proofs.Common.{◌≡◌, ◌∙◌, ◌≤◌, ◌<◌, ◌+◌, ℕ, zero, suc, Bool, true, false, cond, ◌&&◌, List, [], ◌∷◌, length, map, refl, sym, ap, subst, arith}
+use Rattle.std.proofs.Common.{◌≡◌, ◌∙◌, ◌≤◌, ℕ, zero, suc, false, ◌&&◌, List, [], ◌∷◌, map, refl, sym, ap, subst, arith}
 use Rattle.std.specs.Prelude.{Option, Some, None, sum_by}
 use Rattle.std.specs.List.{AllByRecursion}
 use Rattle.std.proofs.lemmas.List.{length-map}
@@ -12,7 +12,7 @@ use Rattle.filter_api.specs.Spellings.{Spelling}
 use Rattle.map_model.specs.Slices.{between, first_pair, is_up_to}
 use Rattle.map_model.specs.SortedMap.{Bytes, Map}
 use Rattle.merge_rows.specs.Laws.{MergesAreWhole, StandingMerges}
-use Rattle.merge_rows.specs.Merges.{Merge, TableWalk, merge_from, numbered, rows_left, walk_at}
+use Rattle.merge_rows.specs.Merges.{Merge, merge_from, numbered, rows_left, walk_at}
 use Rattle.merge_rows.specs.RowLaws.{MergedLaws}
 use Rattle.merge_rows.specs.Rows.{merged_rows}
 use Rattle.merge_rows.specs.Steps.{AreNumbersIn, numbers}

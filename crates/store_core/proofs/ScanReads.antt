@@ -14,7 +14,7 @@ use Rattle.merge_rows.proofs.Keys.{at_or_after, is_before_of, not_before_itself}
 use Rattle.merge_rows.proofs.Steps.{all_blocks, rises_passed}
 use Rattle.merge_rows.specs.Choosing.{IsHeadFrom}
 use Rattle.merge_rows.specs.Merges.{Merge, TableWalk, blocks_in, left_above, numbered, row_count, walk_left, with_hand}
-use Rattle.merge_rows.specs.Reads.{is_used_up, ones, wanted, wanted_by, wanted_block_of, wants}
+use Rattle.merge_rows.specs.Reads.{is_used_up, ones, wanted, wanted_by, wanted_block_of}
 use Rattle.merge_rows.specs.Rows.{KeyFloor, above_floor, clears}
 use Rattle.merge_rows.specs.Steps.{AreCaughtUp, AreSoundWalks, FloorRises, IsCaughtUp, IsPaced, IsSoundMerge, IsSoundWalk, passed_at}
 use Rattle.store_core.specs.Scans.{all_owed, owed}

@@ -1,6 +1,6 @@
 -- The rows of memory and of the tables that are opened for a scan have between its bounds what the state has.
-use Rattle.std.proofs.Common.{◌≡◌, ◌≢◌, ◌∙◌, ◌≤◌, ◌<◌, ◌+◌, ◌-◌, ℕ, zero, suc, Bool, true, false, cond, not, ◌&&◌, List, [], ◌∷◌, ◌++◌, length, map, refl, sym, ap, subst, arith}
-use Rattle.std.specs.Prelude.{Option, Some, None, filter, slice_get, sum_by}
+use Rattle.std.proofs.Common.{◌≡◌, ◌∙◌, ◌≤◌, ◌<◌, ◌-◌, ℕ, Bool, true, false, cond, not, ◌&&◌, List, [], ◌∷◌, ◌++◌, length, map, refl, sym, ap, subst, arith}
+use Rattle.std.specs.Prelude.{Option, Some, None, slice_get}
 use Rattle.std.specs.List.{AllByRecursion}
 use Rattle.std.specs.Option.{option_or}
 use Rattle.std.proofs.lemmas.Bool.{false≢true}
@@ -10,11 +10,11 @@ use Rattle.byte_fields.specs.Spelling.{IsBytes}
 use Rattle.disk_trait.specs.Image.{Image}
 use Rattle.entry_model.proofs.Maps.{entries_rise}
 use Rattle.entry_model.specs.Entries.{Entry, live}
-use Rattle.entry_model.specs.Newest.{KeysRise, entries_from, lookup}
+use Rattle.entry_model.specs.Newest.{entries_from, lookup}
 use Rattle.filter_api.specs.Spellings.{Spelling}
 use Rattle.filter_model.specs.Answers.{ranged}
-use Rattle.map_model.specs.Slices.{between, is_before, is_between, is_up_to}
-use Rattle.map_model.specs.SortedMap.{Bytes, Map, get}
+use Rattle.map_model.specs.Slices.{between, is_before, is_between}
+use Rattle.map_model.specs.SortedMap.{Bytes, get}
 use Rattle.merge_rows.specs.Laws.{NumberedStand}
 use Rattle.merge_rows.specs.Merges.{numbered}
 use Rattle.merge_rows.specs.RowLaws.{MergedLaws}
@@ -22,10 +22,9 @@ use Rattle.merge_rows.specs.Rows.{merged_rows}
 use Rattle.state_model.proofs.Sayings.{AllRise, lists_of, newest_entries_rise, newest_of_rising}
 use Rattle.state_model.proofs.Searches.{range_admitted}
 use Rattle.state_model.proofs.Views.{tables_rise, view_says}
-use Rattle.state_model.specs.Bounds.{admits_range}
 use Rattle.state_model.specs.Sound.{IsSound, IsSoundTable}
 use Rattle.state_model.specs.State.{State}
-use Rattle.state_model.specs.View.{entries_of, first_found, memory, state_map, view}
+use Rattle.state_model.specs.View.{entries_of, first_found, memory, state_map}
 use Rattle.store_core.proofs.Founds.{held_entries}
 use Rattle.store_core.proofs.ScanPairs.{from_then_after, pairs_between}
 use Rattle.store_core.proofs.Tellings.{ranges_same}
@@ -33,7 +32,6 @@ use Rattle.store_core.specs.Scans.{admits_keys, numbers_admitting, pairs_up_to}
 use Rattle.store_core.specs.Telling.{IsHighOfBytes}
 use Rattle.level_merge.specs.TablesAgree.{TableAgrees, TablesAgree}
 use Rattle.table_file.specs.Opened.{Opened}
-use Rattle.table_file.specs.Search.{StandsThere}
 use Rattle.table_model.specs.Tables.{FilterBytes, Table}
 
 -- the entries of the tables that are opened

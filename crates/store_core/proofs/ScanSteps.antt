@@ -1,24 +1,22 @@
 -- A step of a scan: tombstones are passed over on the way to the next pair.
-use Rattle.std.proofs.Common.{◌≡◌, ◌≢◌, ◌∙◌, ◌≤◌, ◌+◌, ◌-◌, ℕ, zero, suc, Bool, true, false, cond, not, ◌&&◌, List, [], ◌∷◌, length, drop, take, refl, sym, ap, subst, arith}
-use Rattle.std.specs.Prelude.{IfSome, IsTrue, Option, Some, None, is_some}
+use Rattle.std.proofs.Common.{◌≡◌, ◌∙◌, ◌≤◌, ◌+◌, ◌-◌, ℕ, zero, suc, Bool, true, false, cond, ◌&&◌, List, [], ◌∷◌, drop, take, refl, sym, ap, subst, arith}
+use Rattle.std.specs.Prelude.{IsTrue, Option, Some, None, is_some}
 use Rattle.std.specs.Ordering.{is_lt}
 use Rattle.std.proofs.lemmas.Bool.{eqb-true, false≢true}
 use Rattle.disk_trait.specs.Image.{Image}
 use Rattle.entry_model.specs.Entries.{Entry}
 use Rattle.entry_model.specs.Newest.{KeysRise}
 use Rattle.filter_api.specs.Spellings.{Spelling}
-use Rattle.key_base.specs.ByteOrder.{is_before}
 use Rattle.map_model.specs.Slices.{first_pair, is_up_to}
 use Rattle.map_model.specs.SortedMap.{Bytes, Map}
 use Rattle.merge_rows.specs.Merges.{Merge, merged_left, rows_left, sources_above}
 use Rattle.merge_rows.specs.Reads.{wanted}
 use Rattle.merge_rows.specs.RowLaws.{MergedLaws}
 use Rattle.merge_rows.specs.Rows.{rows_shown}
-use Rattle.merge_rows.specs.Steps.{HandsOutRow, IsFaultStep, IsPaced, IsRowStep, IsSoundMerge, RowPasses, SourcesStay, numbers}
+use Rattle.merge_rows.specs.Steps.{HandsOutRow, IsFaultStep, IsPaced, IsRowStep, IsSoundMerge, RowPasses, SourcesStay}
 use Rattle.state_model.specs.Bounds.{is_passed}
 use Rattle.store_core.proofs.ScanPairs.{ArePairsAbove, pairs_above}
 use Rattle.store_core.proofs.ScanReads.{paid, wanted_owed}
-use Rattle.level_merge.specs.TablesAgree.{TablesAgree}
 use Rattle.store_core.specs.Scans.{ScanWalk, StillComes, all_owed, at_most, blocks_of_step, blocks_on_way, given, is_ended, is_on_the_way, left_behind, pair_at, pair_in, pair_of, pairs_up_to, step_bound, with_first, before_pairs}
 use Rattle.table_file.specs.Opened.{Opened}
 

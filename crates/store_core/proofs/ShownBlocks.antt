@@ -1,5 +1,5 @@
 -- A block that was read for a key shows its fault.
-use Rattle.std.proofs.Common.{◌≡◌, sym, subst, List, [], ◌∷◌, ℕ, arith, refl}
+use Rattle.std.proofs.Common.{◌≡◌, sym, subst, List, [], ◌∷◌, arith, refl}
 use Rattle.std.specs.Prelude.{Contains}
 use Rattle.std.proofs.lemmas.List.Elements.{Contains-append_right}
 use Rattle.disk_trait.specs.Image.{Image}

@@ -1,6 +1,6 @@
 -- What a slice is answered is a merge slice of the state.
-use Rattle.std.proofs.Common.{◌≡◌, ◌≢◌, ◌⊎◌, inl, inr, ◌∙◌, ◌<◌, ◌≤◌, ◌+◌, ℕ, zero, suc, Bool, true, false, List, [], ◌∷◌, ◌++◌, drop, length, refl, sym, ap, ap₂, subst, arith}
-use Rattle.std.specs.Prelude.{Option, Some, None, Result, Ok, Err, IsErr, IsOk, MatchResult, OnErr, OnOk, min, take}
+use Rattle.std.proofs.Common.{◌≡◌, ◌≢◌, ◌⊎◌, inl, inr, ◌∙◌, ◌<◌, ◌≤◌, ℕ, zero, suc, Bool, false, List, [], ◌∷◌, ◌++◌, drop, length, refl, sym, ap, ap₂, subst, arith}
+use Rattle.std.specs.Prelude.{Option, Some, None, Result, Ok, Err, IsOk, take}
 use Rattle.std.proofs.lemmas.List.{append-nil}
 use Rattle.disk_trait.specs.Image.{Image}
 use Rattle.disk_trait.specs.World.{Meanwhile, Rose, World}
@@ -20,23 +20,21 @@ use Rattle.level_merge.specs.declared.fault.JobFault.TheVariants as fault
 use Rattle.level_merge.specs.declared.fault.Sliced.TheVariants as sliced
 use Rattle.line_model.specs.Replies as reply
 use Rattle.state_model.proofs.SoundJobs.{runs_sound}
-use Rattle.state_model.specs.Causes.{Why, NoMemory, ReadFailed, WriteFailed, DamageMet}
-use Rattle.state_model.specs.Merges.{NoRoom, at_page, before, choose, placed, planned}
-use Rattle.state_model.specs.Sound.{IsLeft, IsSound}
+use Rattle.state_model.specs.Merges.{NoRoom, at_page, before, placed, planned}
+use Rattle.state_model.specs.Sound.{IsSound}
 use Rattle.state_model.specs.State.{Job, State, without_job}
 use Rattle.state_model.specs.Taken.{taken}
 use Rattle.state_model.specs.Tends as model
 use Rattle.state_model.specs.Tends.{IsDone, MayWrite, Progresses, Runs, Tend, installed, next_placed, outstanding, with_job}
 use Rattle.state_model.specs.View.{state_map}
 use Rattle.table_model.specs.Tables.{FilterBytes, Table, table_of, table_pages}
-use Rattle.store_core.specs.Answers.{HasCause, is_write, stopped_by, told, told_limit}
+use Rattle.store_core.specs.Answers.{told}
 use Rattle.store_core.specs.Installing.{Installs, IsInstallRefusal}
 use Rattle.store_core.specs.StoreValue.{IsConsistent, StoreValue, rows_of}
-use Rattle.store_core.specs.Tending.{GoesOn, IsNext, SlicesJob, Tends, answer_to, told_slice}
-use Rattle.store_core.specs.Represents.{Represents, RepresentsOn}
+use Rattle.store_core.specs.Tending.{IsNext, SlicesJob, Tends, answer_to, told_slice}
+use Rattle.store_core.specs.Represents.{Represents}
 use Rattle.store_core.specs.declared.error.StoreError.{StoreError}
 use Rattle.store_core.specs.declared.error.StoreError.TheVariants as error
-use Rattle.store_core.specs.declared.tending.Tended.{Tended}
 use Rattle.store_core.specs.declared.tending.Tended.TheVariants as tended
 use Rattle.store_core.proofs.Dropped.{tied_dropped}
 use Rattle.store_core.proofs.Frames.{under_stands}

@@ -1,5 +1,5 @@
 -- The merge that is taken up is that of a job of the state: the one that runs, or one that begins.
-use Rattle.std.proofs.Common.{◌≡◌, ◌≢◌, ◌⊎◌, inl, inr, ◌∙◌, ◌<◌, ◌≤◌, ◌+◌, ◌-◌, ℕ, Bool, true, List, [], ◌∷◌, ◌++◌, length, map, refl, sym, ap, subst, arith, append-nil}
+use Rattle.std.proofs.Common.{◌≡◌, ◌≢◌, inl, inr, ◌∙◌, ◌<◌, ℕ, Bool, true, List, [], ◌∷◌, ◌++◌, length, map, refl, sym, ap, subst, arith, append-nil}
 use Rattle.std.specs.Prelude.{Option, Some, None, is_some}
 use Rattle.std.proofs.lemmas.Bool.{false≢true}
 use Rattle.std.specs.List.{AllByRecursion, AllPairs}
@@ -25,12 +25,12 @@ use Rattle.merge_rows.specs.Merges.{walk_at}
 use Rattle.merge_rows.specs.Steps.{number_of_walk, numbers}
 use Rattle.state_model.specs.Merges.{Plan, choose}
 use Rattle.state_model.specs.State.{Job, State, written_by}
-use Rattle.state_model.specs.Tends.{Runs, started, with_job}
+use Rattle.state_model.specs.Tends.{started, with_job}
 use Rattle.table_file.specs.Opened.{Opened}
 use Rattle.table_model.specs.Images.{StandsInExtent}
 use Rattle.table_model.specs.Tables.{Table}
 use Rattle.store_core.specs.StoreValue.{StoreValue}
-use Rattle.store_core.specs.Running.{HasMoreToMake, IsRun, MayRunIn, RunsAs, extents_with}
+use Rattle.store_core.specs.Running.{HasMoreToMake, IsRun, MayRunIn, RunsAs}
 use Rattle.store_core.specs.Tending.{IsBegunAmong, IsNext}
 use Rattle.store_core.specs.Represents.{RepresentsOn}
 use Rattle.store_core.proofs.Runs.{follows_as, none_runs}

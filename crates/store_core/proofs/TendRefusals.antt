@@ -1,9 +1,8 @@
 -- Why a slice is refused, and what an image shows of it, whatever the device is.
-use Rattle.std.proofs.Common.{◌≡◌, ◌≢◌, ◌⊎◌, inl, inr, ◌∙◌, ◌<◌, ◌≤◌, ◌+◌, ℕ, Bool, true, false, List, refl, sym, ap, subst, arith}
-use Rattle.std.specs.Prelude.{Option, None, Result, Ok, Err, IfErr, MatchResult, IsTrue}
+use Rattle.std.proofs.Common.{◌≡◌, ◌≢◌, inl, inr, ◌≤◌, ◌+◌, ℕ, Bool, true, false, List, refl, sym, subst, arith}
+use Rattle.std.specs.Prelude.{None, IfErr, MatchResult, IsTrue}
 use Rattle.disk_trait.specs.Image.{Image}
-use Rattle.disk_trait.specs.World.{Moves, World, WriteMoves}
-use Rattle.disk_trait.specs.declared.fault.DiskFault.{DiskFault}
+use Rattle.disk_trait.specs.World.{World, WriteMoves}
 use Rattle.disk_trait.specs.declared.fault.Op.{Op}
 use Rattle.disk_trait.specs.declared.fault.Op.TheVariants as op
 use Rattle.disk_trait.proofs.Calls.{moves_joined, moves_of_write}
@@ -16,12 +15,10 @@ use Rattle.table_file.specs.declared.fault.TableFault.TheVariants as table
 use Rattle.store_core.specs.Answers.{is_write}
 use Rattle.store_core.specs.Installing.{IsInstallRefusal}
 use Rattle.store_core.specs.StoreValue.{StoreValue}
-use Rattle.store_core.specs.Opening.{FaultRose}
 use Rattle.store_core.specs.Scans.{IsScanShown}
 use Rattle.store_core.specs.Tending.{IsTended, IsTendRefusal, SomeMoves, answer_to}
 use Rattle.store_core.specs.declared.error.StoreError.{StoreError}
 use Rattle.store_core.specs.declared.error.StoreError.TheVariants as error
-use Rattle.store_core.specs.declared.tending.Tended.{Tended}
 use Rattle.store_core.proofs.ScanCauses.{told_block}
 
 not_read_writes : (o : Op) → o ≢ op.Read → is_write o ≡ true

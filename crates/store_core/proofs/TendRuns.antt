@@ -1,15 +1,15 @@
 -- What a slice leaves of a merge, and where it writes, whatever the device holds.
-use Rattle.std.proofs.Common.{◌≡◌, ◌≢◌, ◌⊎◌, inl, inr, ◌∙◌, ◌<◌, ◌≤◌, ◌+◌, ◌*◌, ℕ, List, [], ◌∷◌, ◌++◌, length, map, refl, sym, ap, subst, arith, append_assoc}
-use Rattle.std.specs.Prelude.{Ok, Err, IfOk, OnOk, Result, IfErr}
+use Rattle.std.proofs.Common.{◌≡◌, ◌≢◌, inl, inr, ◌∙◌, ◌<◌, ◌≤◌, ◌*◌, ℕ, List, [], ◌∷◌, ◌++◌, length, map, refl, sym, ap, subst, arith, append_assoc}
+use Rattle.std.specs.Prelude.{Ok, Err, IfOk, OnOk, Result}
 use Rattle.std.specs.List.{AllByRecursion, AllPairs}
 use Rattle.std.specs.List.Sorted.{IsPermutation}
-use Rattle.std.proofs.lemmas.List.{length-map, length_push, map-append}
+use Rattle.std.proofs.lemmas.List.{length-map, map-append}
 use Rattle.std.proofs.lemmas.List.Sorted.{IsPermutation-sym}
 use Rattle.block_model.specs.Block.{IsTable}
 use Rattle.block_model.specs.Pages.{page_bytes}
 use Rattle.block_model.specs.Places.{byte_of_page, pages_of}
 use Rattle.byte_fields.specs.declared.parts.Row.{Row}
-use Rattle.disk_trait.specs.World.{Moves, World}
+use Rattle.disk_trait.specs.World.{World}
 use Rattle.disk_trait.proofs.Calls.{moves_of_read}
 use Rattle.entry_model.specs.Entries.{Entry}
 use Rattle.extent_map.specs.Taken.{Taken}
@@ -31,7 +31,7 @@ use Rattle.map_model.specs.SortedMap.{Bytes}
 use Rattle.merge_rows.specs.Steps.{number_of_walk, numbers}
 use Rattle.state_model.proofs.Places.{entries_in_pages}
 use Rattle.table_file.specs.Opened.{Opened}
-use Rattle.table_file.specs.Writing.{made_filter, made_row}
+use Rattle.table_file.specs.Writing.{made_filter}
 use Rattle.table_model.specs.Written.{row_for}
 use Rattle.store_core.specs.Running.{HasMoreToMake, IsRun, extents_with}
 use Rattle.store_core.specs.Tending.{SomeMoves}

@@ -1,6 +1,6 @@
 -- What a slice of the merge that runs makes of a store, its device and its state.
-use Rattle.std.proofs.Common.{◌≡◌, ◌⊎◌, inl, inr, ◌∙◌, ◌≤◌, ◌+◌, ◌*◌, ℕ, List, [], ◌∷◌, ◌++◌, refl, sym, ap, subst, arith}
-use Rattle.std.specs.Prelude.{Option, Some, None, Result, Ok, Err, IsErr, IsErrAnd, MatchResult}
+use Rattle.std.proofs.Common.{◌≡◌, inl, inr, ◌∙◌, ◌≤◌, ◌*◌, ℕ, List, [], ◌∷◌, ◌++◌, refl, sym, ap, subst}
+use Rattle.std.specs.Prelude.{Option, Some, None, Result, Ok, Err, IsErrAnd, MatchResult}
 use Rattle.std.specs.List.{AllByRecursion}
 use Rattle.std.specs.List.Sorted.{IsPermutation}
 use Rattle.std.proofs.lemmas.List.Elements.{recursion_from_All, All-from_recursion}
@@ -30,7 +30,7 @@ use Rattle.manifest.specs.Manifest.{other_place, place_of}
 use Rattle.state_model.proofs.SoundJobs.{works_sound}
 use Rattle.state_model.specs.State.{Job, State, without_job}
 use Rattle.state_model.specs.Taken.{taken}
-use Rattle.state_model.specs.Tends.{Runs, with_job}
+use Rattle.state_model.specs.Tends.{with_job}
 use Rattle.state_model.specs.View.{state_map}
 use Rattle.table_file.specs.Opened.{Opened}
 use Rattle.table_model.specs.Images.{StandsInExtent}

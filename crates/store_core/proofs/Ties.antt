@@ -4,6 +4,7 @@ use Rattle.std.specs.Prelude.{Option, Result, Ok, Err, nat_le}
 use Rattle.disk_trait.proofs.Calls.{moves_wider}
 use Rattle.std.proofs.lemmas.Bool.{le-leb}
 use Rattle.disk_trait.specs.Image.{Image, Torn}
+use Rattle.disk_trait.specs.declared.fault.DiskFault.{DiskFault}
 use Rattle.disk_trait.specs.World.{Leads, Meanwhile, Now, ReadMoves, World, WriteMoves}
 use Rattle.disk_trait.proofs.Calls.{reads_keep}
 use Rattle.disk_trait.proofs.Moments.{framed, framed_now}
@@ -29,7 +30,7 @@ use Rattle.store_core.specs.Answers.{MovesTo}
 use Rattle.store_core.specs.Caching.{CacheAgrees, Cached}
 use Rattle.store_core.specs.StoreValue.{IsConsistent, StoreValue}
 use Rattle.store_core.specs.Represents.{Represents, RepresentsOn}
-use Rattle.store_core.specs.declared.error.StoreError.{StoreError}
+use Rattle.store_core.specs.declared.error.StoreError.TheVariants as error
 use Rattle.store_core.proofs.Frames.{under_log, under_logged, under_stands}
 
 module _ (spelling : Spelling) (filter_bytes : FilterBytes) (store : StoreValue) (s : State) (a b : World) where
@@ -128,15 +129,18 @@ module _ (law : OtherImageIsFollowed) (spelling : Spelling) (filter_bytes : Filt
       let own = own_leads (Ok u) leads in
       record {
         meanwhile = logged_meanwhile law spelling filter_bytes store s e a b tied whole fits own_moves (Ok u) own;
+        wanted = tt;
         done = logged_tied law spelling filter_bytes store s e a b tied whole fits own_moves u after same_manifest same_tables same_job same_blocks (subst (λ (z : Entry). after.log.filled + 1 ≡ store.log.filled + need z) same filled_now) memory_now is own;
         refused = tt;
       }
 
-  pub append_fails : {T E U : Type 0} (f : E) (why : StoreError) (after : StoreValue) → Appends {T = T} {E = E} x (Err f) → after.stopped ≡ true → MovesTo {T = U} spelling filter_bytes s (logged s e) (Err why) after a b
-  append_fails f why after leads stopped =
+  pub append_fails : {T E U : Type 0} (f : E) (cause : DiskFault) (after : StoreValue) → Appends {T = T} {E = E} x (Err f) → after.stopped ≡ true
+      → MovesTo {T = U} spelling filter_bytes s (logged s e) (Err (error.Device cause)) after a b
+  append_fails f cause after leads stopped =
       let own = own_leads (Err f) leads in
       record {
         meanwhile = logged_meanwhile law spelling filter_bytes store s e a b tied whole fits own_moves (Err f) own;
+        wanted = λ is. absurd (let none = is in cc);
         done = tt;
         refused = λ runs. absurd (let never = sym stopped ∙ runs in cc);
       }

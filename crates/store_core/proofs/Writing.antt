@@ -36,6 +36,11 @@ is_failure (Err error.NotAStore) a b why = absurd why
 is_failure (Err error.AlreadyAStore) a b why = absurd why
 is_failure (Err (error.BadSettings field)) a b why = absurd why
 
+-- it is no want of memory
+no_want : {T : Type 0} (r : Result T StoreError) (a b : World) (P : Type 0) → IfErr r (IsWriteFailure a b) → IfErr r (λ (why : StoreError). why ≡ error.Memory → P)
+no_want (Ok x) a b P why = tt
+no_want (Err e) a b P why = λ is. absurd (subst (IsWriteFailure a b) is why)
+
 -- it stops the store
 pub stops_it : {T : Type 0} (r : Result T StoreError) (a b : World) → IfErr r (IsWriteFailure a b) → OnErr r (stopped_by r ≡ true)
 stops_it (Ok x) a b why = tt
@@ -125,6 +130,7 @@ module _ (spelling : Spelling) (bytes : FilterBytes) (s : State) (e : Entry) whe
         → WroteEntry {T = U} spelling bytes s (written bytes s e) (Err x) store a b
     flush_failed x store a b (turns to made fails t) = turns (logged to e) (flushed_first ∙ ap (logged_then e) made) fails (record {
       meanwhile = meanwhile_weaker (Maps s to) (Maps s (logged to e)) a b t.meanwhile (λ image map. inl (same_map to made image map));
+      wanted = t.wanted;
       done = tt;
       refused = t.refused;
     })
@@ -138,6 +144,7 @@ module _ (spelling : Spelling) (bytes : FilterBytes) (s : State) (e : Entry) whe
         meanwhile = meanwhile_then (Maps s (logged to e)) a b c
             (meanwhile_weaker (Maps s to) (Maps s (logged to e)) a b first.meanwhile (λ image map. inl (same_map to made image map)))
             (meanwhile_weaker (Maps to (logged to e)) (Maps s (logged to e)) b c second.meanwhile (λ image map. elim map [ inl old ↦ inl (same_map to made image (inr old)) | inr new ↦ inr new ]));
+        wanted = no_want result b c _ why;
         done = second.done;
         refused = not_stopped result store.stopped _ (stops_it result b c why) stopped;
       }

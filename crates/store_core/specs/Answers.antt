@@ -1,11 +1,11 @@
 -- What a call of the store answers: the step of its state.
-use Rattle.std.specs.Prelude.{◌≡◌, ◌⊎◌, Bool, true, false, Option, Some, None, Result, Ok, Err, IfErr, IsErr, OnOk, OnErr}
+use Rattle.std.specs.Prelude.{◌≡◌, ◌≢◌, ◌⊎◌, Bool, true, false, Option, Some, None, Result, Ok, Err, IfErr, IsErr, OnOk, OnErr}
 use Rattle.disk_trait.specs.World.{Meanwhile, Rose, World}
 use Rattle.disk_trait.specs.declared.fault.Op.{Op}
 use Rattle.disk_trait.specs.declared.fault.Op.TheVariants as op
 use Rattle.filter_api.specs.Spellings.{Spelling}
 use Rattle.image_model.specs.Stands.{StandsForMap}
-use Rattle.line_model.specs.Replies.{Reply}
+use Rattle.line_model.specs.Replies.{Reply, Done, Device}
 use Rattle.line_model.specs.Replies as reply
 use Rattle.line_model.specs.Requests.{Request}
 use Rattle.state_model.specs.Causes.{Why, NoMemory, ReadFailed, WriteFailed, DamageMet}
@@ -128,19 +128,22 @@ IsWriteFailure old new (error.BadSettings field) = ⊥
 -- ---- a change
 
 -- From a state a request is answered so, by one step of it. At each moment meanwhile a crash leaves the map before it or the
--- one behind it. The store is then that of the state behind the step, unless it is stopped.
+-- one behind it; where the reply is neither that it is done nor that the device failed, the one before it alone. The store is then
+-- that of the state behind the step, unless it is stopped.
 pub record AnswersRequest (spelling : Spelling) (filter_bytes : FilterBytes) (s : State) (request : Request) (told_as : Option Reply) (store : StoreValue) (old new : World) : Type 0 where
   pub reply : Reply
   pub told_is : told_as ≡ Some reply
   pub after : State
   pub step : Step (HasCause old new) filter_bytes s request reply after
   pub crash : Meanwhile (λ image. StandsForMap spelling (state_map s) image ⊎ StandsForMap spelling (state_map (answer filter_bytes s request).1) image) old new
+  pub kept : reply ≢ Done → reply ≢ Device → Meanwhile (StandsForMap spelling (state_map s)) old new
   pub tied : store.stopped ≡ false → Represents spelling filter_bytes store after new
 
--- What a call makes of the state: at each moment a crash leaves the map of the one or of the other, at Ok the store is that of
--- the second, and where it does not stop the store, that of the first.
+-- What a call makes of the state: at each moment a crash leaves the map of the one or of the other, and where memory was wanted
+-- that of the first alone; at Ok the store is that of the second, and where it does not stop the store, that of the first.
 pub record MovesTo {T : Type 0} (spelling : Spelling) (filter_bytes : FilterBytes) (from to : State) (result : Result T StoreError) (store : StoreValue) (old new : World) : Type 0 where
   pub meanwhile : Meanwhile (λ image. StandsForMap spelling (state_map from) image ⊎ StandsForMap spelling (state_map to) image) old new
+  pub wanted : IfErr result (λ (why : StoreError). why ≡ error.Memory → Meanwhile (StandsForMap spelling (state_map from)) old new)
   pub done : OnOk result (Represents spelling filter_bytes store to new)
   pub refused : OnErr result (store.stopped ≡ false → Represents spelling filter_bytes store from new)
 

@@ -35,6 +35,8 @@ pub mod Opening
 pub mod Formatting
 pub mod Flushing
 pub mod Refusing
+pub mod AsBefore
+pub mod Framing
 pub mod Installing
 pub mod Tending
 pub mod Telling

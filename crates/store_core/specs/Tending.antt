@@ -1,14 +1,14 @@
 -- What a store answers to a merge slice: it is a merge slice of its state.
-use Rattle.std.specs.Prelude.{◌≡◌, ◌<◌, ℕ, Bool, true, false, List, Option, Some, None, Result, Ok, Err, IsErr, MatchResult}
+use Rattle.std.specs.Prelude.{◌≡◌, ◌⊎◌, ◌<◌, ◌+◌, ℕ, Bool, true, false, List, Option, Some, None, Result, Ok, Err, IsErr, MatchResult}
 use Rattle.std.specs.Option.{option_map}
 use Rattle.disk_trait.specs.Image.{Image}
 use Rattle.disk_trait.specs.World.{Meanwhile, Moves, ReadMoves, World}
 use Rattle.filter_api.specs.Spellings.{Spelling}
 use Rattle.filter_api.specs.declared.settings.Settings.{Settings}
-use Rattle.image_model.specs.Stands.{StandsForMap}
+use Rattle.image_model.specs.Stands.{StandsForMap, settings_of}
 use Rattle.key_base.specs.Limits.{last_epoch}
 use Rattle.level_merge.specs.Follows.{IsJobRefusal, IsSliced}
-use Rattle.level_merge.specs.JobValue.{JobValue, begun}
+use Rattle.level_merge.specs.JobValue.{JobValue, begun, work_left}
 use Rattle.level_merge.specs.Plans.{Agree, IsPlanOf, MayStart, PlanByNumbers}
 use Rattle.level_merge.specs.declared.fault.JobFault.{JobFault}
 use Rattle.level_merge.specs.declared.fault.JobFault.TheVariants as job
@@ -81,6 +81,29 @@ SliceStays (Ok tended.Idle) before after = IsAsItWas before after
 SliceStays (Ok (tended.Full need gap)) before after = IsAsItWas before after
 SliceStays (Err why) before after = stops why ≡ false → IsAsItWas before after
 
+-- the merge that runs in a store, or one that begins among its tables where none does
+abbrev pub IsTakenUp : StoreValue → JobValue → Type 0
+IsTakenUp store m =
+    (store.job ≡ Some m) ⊎ ((store.job ≡ None) × ((p : PlanByNumbers) × MayStart store.tables p × (m ≡ begun p (settings_of store.manifest.version) store.tables)))
+
+-- Less is left of this merge, and nothing else has changed; or its outputs are installed: no merge runs, and the epoch is one higher.
+abbrev pub HasWorked : StoreValue → JobValue → StoreValue → Type 0
+HasWorked before m after =
+    ((later : JobValue) × (after ≡ record before { job = Some later }) × (work_left before.tables later < work_left before.tables m))
+    ⊎ ((after.job ≡ None) × (after.manifest.version.epoch ≡ before.manifest.version.epoch + 1))
+
+-- where that is the answer
+abbrev pub IsWorkOf : StoreValue → JobValue → StoreValue → Tended → Type 0
+IsWorkOf before m after tended.Worked = HasWorked before m after
+IsWorkOf before m after tended.Idle = ⊥
+IsWorkOf before m after (tended.Full need gap) = Unit {0}
+
+-- so of the merge that runs, or of the one that begins
+abbrev pub IsWork : StoreValue → StoreValue → Tended → Type 0
+IsWork before after tended.Worked = (m : JobValue) × IsTakenUp before m × HasWorked before m after
+IsWork before after tended.Idle = Unit {0}
+IsWork before after (tended.Full need gap) = Unit {0}
+
 -- reads, and writes on so many bytes of the device
 abbrev pub SomeMoves : ℕ → World → World → Type 0
 SomeMoves bytes old new = (most : ℕ) × Moves 0 bytes most old new
@@ -93,6 +116,11 @@ abbrev pub IsBegunAmong : List Opened → Settings → Option JobValue → Type 
 IsBegunAmong tables settings None = NoneIsChosen tables
 IsBegunAmong tables settings (Some m) =
     (p : PlanByNumbers) × MayStart tables p × (m ≡ begun p settings tables) × ((of_state : List Table) → Agree tables of_state → IsPlanOf of_state (Some p) (choose of_state))
+
+-- where a merge is taken up, it is the one that runs or one that begins
+abbrev pub IsTakenOut : StoreValue → Option JobValue → Type 0
+IsTakenOut store None = Unit {0}
+IsTakenOut store (Some m) = IsTakenUp store m
 
 -- The merge that runs, or one that begins where none does, is that of a job of the state, as each image on which the store stands
 -- shows it. Where there is none nothing is to be merged.

@@ -5,7 +5,7 @@ ghost use Rattle.block_model.specs.Pages.{page_bytes};
 ghost use Rattle.disk_trait.specs.World.{Meanwhile, ReadMoves};
 ghost use Rattle.entry_model.specs.Entries.{IsEntry};
 ghost use Rattle.image_model.specs.Stands.{StandsForMap};
-ghost use Rattle.key_base.specs.Limits.{last_epoch, max_tables};
+ghost use Rattle.key_base.specs.Limits.{last_epoch, log_bytes, max_tables};
 ghost use Rattle.line_model.specs.Requests.{Compact as compact_line};
 ghost use Rattle.filter_api.specs.Ranges.{IsRowInRange};
 ghost use Rattle.manifest_model.specs.Laws.{IsVersion, RowFits};
@@ -14,6 +14,7 @@ ghost use Rattle.state_model.specs.View.{state_map};
 ghost use Rattle.store_core.specs.Answers.{AnswersRequest, IsTried, stopped_by, stops, told_change};
 ghost use Rattle.store_core.specs.Compacting.{AreAllMade, AreCompact, FailsSo, IsCompactFault, IsCompactRefusal, IsHeldBy, IsInstalledWhole, IsWritingCause, IsWritingFault, StandAlone, compacted_manifest};
 ghost use Rattle.store_core.specs.Faults.{of_job_fault};
+ghost use Rattle.store_core.specs.Framing.{IsInUse, LeavesPlaces};
 ghost use Rattle.store_core.specs.Refusing.{IsCompactDue};
 ghost use Rattle.store_core.specs.StoreValue.{rows_of};
 ghost use Rattle.store_core.specs.Scans.{IsScanShown};
@@ -68,6 +69,7 @@ fn write_all<F: RangeFilter, D: Disk>(
     ensures compact { IfOk result (λ made. AreCompact version.now.version (rows_of made.items)) }
     ensures fault { IfErr result (IsWritingFault (D.world disk.old) (D.world disk.new)) }
     ensures shown { IsTrue D.tells → IfErr result (λ why. IsScanShown tables.now.tables (D.world disk.new).seen.held (of_job_fault why)) }
+    ensures frame { LeavesPlaces (IsInUse version.now log_bytes) (D.world disk.old) (D.world disk.new) }
     ensures moves { SomeMoves (page_bytes * version.now.version.pages) (D.world disk.old) (D.world disk.new) }
 {
     // the law of merges: this one makes the tables of a compaction
@@ -151,6 +153,7 @@ fn replace_all<F: RangeFilter, D: Disk>(
     ensures whole { IfOk result (λ done. IsInstalledWhole version.now done.version done.tables.tables done.log) }
     ensures fault { IfErr result (IsCompactFault (D.world disk.old) (D.world disk.new)) }
     ensures shown { IsTrue D.tells → IfErr result (IsScanShown tables.now.tables (D.world disk.new).seen.held) }
+    ensures frame { LeavesPlaces (IsInUse version.now log_bytes) (D.world disk.old) (D.world disk.new) }
     ensures moves { SomeMoves (page_bytes * version.now.version.pages) (D.world disk.old) (D.world disk.new) }
 {
     let made = write_all(alloc, disk, version, memory, tables)?;
@@ -193,6 +196,7 @@ impl<F: RangeFilter> Store<F> {
         ensures nothing { self.old.stopped ≡ false → self.old.memory.entries ≡ [] → self.old.tables ≡ [] → DoesNothing result (record self.old { job = None }) self.new (D.world disk.old) (D.world disk.new) }
         ensures stopped { self.new.stopped ≡ (self.old.stopped || stopped_by result) }
         ensures no_call { self.old.stopped ≡ true → ReadMoves 0 (D.world disk.old) (D.world disk.new) }
+        ensures frame { LeavesPlaces (IsInUse self.old.manifest log_bytes) (D.world disk.old) (D.world disk.new) }
         ensures moves { SomeMoves (page_bytes * self.old.manifest.version.pages) (D.world disk.old) (D.world disk.new) }
     {
         if self.stopped {
@@ -236,6 +240,7 @@ impl<F: RangeFilter> Store<F> {
         ensures none_left { self.new.job ≡ None }
         ensures stays { Stays result self.old self.new }
         ensures stopped { self.new.stopped ≡ stopped_by result }
+        ensures frame { LeavesPlaces (IsInUse self.old.manifest log_bytes) (D.world disk.old) (D.world disk.new) }
         ensures moves { SomeMoves (page_bytes * self.old.manifest.version.pages) (D.world disk.old) (D.world disk.new) }
     {
         let alloc = *self.buffer.allocator();

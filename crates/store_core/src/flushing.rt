@@ -1,15 +1,18 @@
 //! The memory table becomes a table of level 0.
-ghost use Rattle.std.specs.Prelude.{◌≡◌, ◌≤◌, ◌<◌, ◌+◌, ◌-◌, ◌*◌, ◌∷◌, ◌++◌, ◌||◌, List, [], true, false, Some, None, IsTrue, IfOk, IfErr, OnOk, OnErr, MatchResult, length, map};
+ghost use Rattle.std.specs.Prelude.{◌≡◌, ◌≢◌, ◌≤◌, ◌<◌, ◌+◌, ◌-◌, ◌*◌, ◌∷◌, ◌++◌, ◌||◌, List, [], true, false, Some, None, IsTrue, IfOk, IfErr, OnOk, OnErr, MatchResult, length, map};
 ghost use Rattle.std.specs.List.{AllByRecursion};
 ghost use Rattle.std.specs.List.Sorted.{IsPermutation};
 ghost use Rattle.block_model.specs.Block.{IsTable};
 ghost use Rattle.block_model.specs.Pages.{page_bytes};
 ghost use Rattle.disk_trait.specs.World.{ReadMoves, WriteMoves};
+ghost use Rattle.byte_fields.specs.declared.parts.Row.{Row as model_row};
+ghost use Rattle.entry_model.specs.Entries.{Entry};
 ghost use Rattle.extent_model.specs.Extents.{AreApart, AreLaid};
 ghost use Rattle.extent_model.specs.Gaps.{first_gap, largest_gap};
 ghost use Rattle.filter_api.specs.Ranges.{InRange};
-ghost use Rattle.key_base.specs.Limits.{last_epoch, max_device_pages, min_device_pages};
+ghost use Rattle.key_base.specs.Limits.{last_epoch, log_bytes, max_device_pages, min_device_pages};
 ghost use Rattle.line_model.specs.Requests.{Flush as flush_line};
+ghost use Rattle.manifest.specs.Manifest.{Manifest};
 ghost use Rattle.manifest_model.specs.Laws.{IsVersion, RowFits};
 ghost use Rattle.manifest_model.specs.Rows.{extent_of};
 ghost use Rattle.manifest_model.specs.Version.{log_page_of};
@@ -17,7 +20,8 @@ ghost use Rattle.state_model.specs.Changes.{flushed};
 ghost use Rattle.state_model.specs.State.{State};
 ghost use Rattle.state_model.specs.View.{memory};
 ghost use Rattle.store_core.specs.Answers.{AnswersRequest, IsTried, IsWriteRefusal, WroteEntry, stopped_by, told_change};
-ghost use Rattle.store_core.specs.Flushing.{FlushedTo, IsFlushFault, IsNoPlace, IsPlan, IsPlanRefusal, next_manifest};
+ghost use Rattle.store_core.specs.Flushing.{FlushedTo, IsFlushFault, IsNoPlace, IsPlan, IsPlanRefusal, next_manifest, other_log_page};
+ghost use Rattle.store_core.specs.Framing.{IsInUse, LeavesPlaces};
 ghost use Rattle.store_core.specs.Refusing.{IsFlushAllowed, IsFlushDue};
 ghost use Rattle.store_core.specs.StoreValue.{IsConsistent, StoreValue};
 ghost use Rattle.store_core.specs.Running.{extents_with, outputs_in};
@@ -202,6 +206,8 @@ fn write_plan<F: RangeFilter, D: Disk>(
     ensures replaces { (store : StoreValue) (s : State) → IsTrue D.tells → IsConsistent store → Represents F.spelling (filter_bytes_of F.spelling F.built_cutoff) store s (D.world disk.old)
         → IsPlan F.spelling F.built_cutoff store.manifest (outputs_in store.job) (memory s) plan.now.parts plan.now.row plan.now.next
         → FlushedTo F.spelling F.built_cutoff store s plan.now.parts plan.now.row plan.now.next result (D.world disk.old) (D.world disk.new) }
+    ensures frame { (m : Manifest) (held : List model_row) (entries : List Entry) → IsVersion m.version → m.slot ≤ 1 → AreLaid m.version.pages (extents_with m.version held)
+        → IsPlan F.spelling F.built_cutoff m held entries plan.now.parts plan.now.row plan.now.next → LeavesPlaces (IsInUse m log_bytes) (D.world disk.old) (D.world disk.new) }
     ensures log { IfOk result (λ log. (log.filled ≡ 0) × (plan.now.next.version.log_page ≡ log_page_of log.area)) }
     ensures cause { IfErr result (IsFlushFault (D.world disk.old) (D.world disk.new)) }
     ensures moves { WriteMoves 0 (page_bytes * plan.now.next.version.pages) (D.world disk.old) (D.world disk.new) }
@@ -227,6 +233,7 @@ impl<F: RangeFilter> Store<F> {
         ensures due { IfErr result (IsFlushDue (filter_bytes_of F.spelling F.built_cutoff) self.old (D.world disk.old) (D.world disk.new)) }
         ensures allowed { OnOk result (IsFlushAllowed (filter_bytes_of F.spelling F.built_cutoff) self.old) }
         ensures stays { Stays result self.old self.new }
+        ensures frame { LeavesPlaces (IsInUse self.old.manifest log_bytes) (D.world disk.old) (D.world disk.new) }
         ensures nothing { self.old.stopped ≡ false → self.old.memory.entries ≡ [] → DoesNothing result self.old self.new (D.world disk.old) (D.world disk.new) }
         ensures stopped { self.new.stopped ≡ (self.old.stopped || stopped_by result) }
         ensures no_call { self.old.stopped ≡ true → ReadMoves 0 (D.world disk.old) (D.world disk.new) }
@@ -252,6 +259,8 @@ impl<F: RangeFilter> Store<F> {
         ensures some { OnErr result (self.old.memory.entries ≡ [] → ⊥) }
         ensures empty { OnOk result (self.new.memory.entries ≡ []) }
         ensures begun { OnOk result (self.new.log.filled ≡ 0) }
+        ensures other { OnOk result (self.old.memory.entries ≢ [] → other_log_page self.old.manifest.version ≡ log_page_of self.new.log.area) }
+        ensures frame { LeavesPlaces (IsInUse self.old.manifest log_bytes) (D.world disk.old) (D.world disk.new) }
         ensures pages { self.new.manifest.version.pages ≡ self.old.manifest.version.pages }
         ensures spare { self.old.memory.spare ≤ self.new.memory.spare }
         ensures moves { WriteMoves 0 (page_bytes * self.old.manifest.version.pages) (D.world disk.old) (D.world disk.new) }

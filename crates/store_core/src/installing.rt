@@ -1,11 +1,13 @@
 //! The tables of a merge take the place of those that it read.
-ghost use Rattle.std.specs.Prelude.{◌≡◌, ◌*◌, false, Some, None, IsTrue, IfErr};
+ghost use Rattle.std.specs.Prelude.{◌≡◌, ◌+◌, ◌*◌, false, Some, None, IsTrue, IfErr, OnOk};
 ghost use Rattle.block_model.specs.Pages.{page_bytes};
 ghost use Rattle.disk_trait.specs.World.{WriteMoves};
 ghost use Rattle.state_model.specs.State as model;
 ghost use Rattle.state_model.specs.Tends.{IsDone};
 ghost use Rattle.store_core.specs.Answers.{stopped_by};
 ghost use Rattle.store_core.specs.Installing.{Installs, IsInstallRefusal};
+ghost use Rattle.key_base.specs.Limits.{log_bytes};
+ghost use Rattle.store_core.specs.Framing.{IsInUse, LeavesPlaces};
 ghost use Rattle.store_core.specs.Running.{IsRun};
 ghost use Rattle.store_core.specs.Represents.{Represents};
 ghost use Rattle.store_core.specs.Staying.{Stays};
@@ -39,6 +41,8 @@ impl<F: RangeFilter> Store<F> {
         ensures stays { Stays result self.old self.new }
         ensures stopped { self.new.stopped ≡ stopped_by result }
         ensures no_job { self.new.job ≡ None }
+        ensures frame { LeavesPlaces (IsInUse self.old.manifest log_bytes) (D.world disk.old) (D.world disk.new) }
+        ensures epoch { OnOk result (self.new.manifest.version.epoch ≡ self.old.manifest.version.epoch + 1) }
         ensures pages { self.new.manifest.version.pages ≡ self.old.manifest.version.pages }
         ensures moves { WriteMoves 0 (page_bytes * self.old.manifest.version.pages) (D.world disk.old) (D.world disk.new) }
     {

@@ -6,10 +6,12 @@ ghost use Rattle.entry_model.specs.Entries.{IsEntry, del_entry, entry_of, need, 
 ghost use Rattle.gate_log.specs.Values.{value_of};
 ghost use Rattle.key_base.specs.Limits.{log_bytes};
 ghost use Rattle.line_model.specs.Limits.{limit_of};
+ghost use Rattle.log_model.specs.Area.{start_of};
 ghost use Rattle.line_model.specs.Requests.{Del, Put};
 ghost use Rattle.state_model.specs.Changes.{logged, written};
 ghost use Rattle.state_model.specs.State.{State};
 ghost use Rattle.store_core.specs.Answers.{AnswersRequest, IsTried, IsWriteFailure, IsWriteRefusal, MovesTo, WroteEntry, stopped_by, told_change};
+ghost use Rattle.store_core.specs.Framing.{IsInUse, LeavesPlaces};
 ghost use Rattle.store_core.specs.Refusing.{IsEntryAllowed, IsWriteDue};
 ghost use Rattle.store_core.specs.Represents.{Represents};
 ghost use Rattle.store_core.specs.Staying.{Stays};
@@ -36,6 +38,7 @@ impl<F: RangeFilter> Store<F> {
         ensures due { IfErr result (IsWriteDue (filter_bytes_of F.spelling F.built_cutoff) self.old (put_entry key.now value.now) (D.world disk.old) (D.world disk.new)) }
         ensures allowed { OnOk result (IsEntryAllowed (filter_bytes_of F.spelling F.built_cutoff) self.old (put_entry key.now value.now)) }
         ensures stays { Stays result self.old self.new }
+        ensures frame { LeavesPlaces (IsInUse self.old.manifest self.old.log.filled) (D.world disk.old) (D.world disk.new) }
         ensures stopped { self.new.stopped ≡ (self.old.stopped || stopped_by result) }
         ensures no_call { self.old.stopped ≡ true → ReadMoves 0 (D.world disk.old) (D.world disk.new) }
         ensures moves { WriteMoves 0 (page_bytes * self.old.manifest.version.pages) (D.world disk.old) (D.world disk.new) }
@@ -56,6 +59,7 @@ impl<F: RangeFilter> Store<F> {
         ensures due { IfErr result (IsWriteDue (filter_bytes_of F.spelling F.built_cutoff) self.old (del_entry key.now) (D.world disk.old) (D.world disk.new)) }
         ensures allowed { OnOk result (IsEntryAllowed (filter_bytes_of F.spelling F.built_cutoff) self.old (del_entry key.now)) }
         ensures stays { Stays result self.old self.new }
+        ensures frame { LeavesPlaces (IsInUse self.old.manifest self.old.log.filled) (D.world disk.old) (D.world disk.new) }
         ensures stopped { self.new.stopped ≡ (self.old.stopped || stopped_by result) }
         ensures no_call { self.old.stopped ≡ true → ReadMoves 0 (D.world disk.old) (D.world disk.new) }
         ensures moves { WriteMoves 0 (page_bytes * self.old.manifest.version.pages) (D.world disk.old) (D.world disk.new) }
@@ -82,6 +86,7 @@ impl<F: RangeFilter> Store<F> {
         ensures due { IfErr result (IsWriteDue (filter_bytes_of F.spelling F.built_cutoff) self.old (entry_of key.now (value_of value.entry)) (D.world disk.old) (D.world disk.new)) }
         ensures allowed { OnOk result (IsEntryAllowed (filter_bytes_of F.spelling F.built_cutoff) self.old (entry_of key.now (value_of value.entry))) }
         ensures stays { Stays result self.old self.new }
+        ensures frame { LeavesPlaces (IsInUse self.old.manifest self.old.log.filled) (D.world disk.old) (D.world disk.new) }
         ensures stopped { self.new.stopped ≡ stopped_by result }
         ensures moves { WriteMoves 0 (page_bytes * self.old.manifest.version.pages) (D.world disk.old) (D.world disk.new) }
     {
@@ -103,6 +108,7 @@ impl<F: RangeFilter> Store<F> {
             → MovesTo F.spelling (filter_bytes_of F.spelling F.built_cutoff) s (logged s entry) result self.new (D.world disk.old) (D.world disk.new) }
         ensures stopped { self.new.stopped ≡ stopped_by result }
         ensures failure { IfErr result (IsWriteFailure (D.world disk.old) (D.world disk.new)) }
+        ensures own { WriteMoves (start_of self.old.log.area + self.old.log.filled) (need entry) (D.world disk.old) (D.world disk.new) }
         ensures moves { WriteMoves 0 (page_bytes * self.old.manifest.version.pages) (D.world disk.old) (D.world disk.new) }
     {
         // the law of merges: what is written elsewhere leaves the one that runs as it is

@@ -2,6 +2,7 @@
 ghost use Rattle.std.specs.Prelude.{◌≡◌};
 
 use crate::caching::CachedBlocks;
+use disk_trait::Disk;
 use filter_api::RangeFilter;
 use gate_log::Log;
 use level_merge::Job;
@@ -41,7 +42,10 @@ impl<F: RangeFilter> Model for Store<F> {
 }
 
 impl<F: RangeFilter> Store<F> {
-    ghost use Rattle.store_core.specs.StoreValue.{IsConsistent};
+    ghost use Rattle.store_core.specs.AsBefore.{StandsAsBefore};
+    ghost use Rattle.store_core.specs.Staying.{IsAsItWas};
+    ghost use Rattle.store_core.specs.StoreValue.{IsConsistent, StoreValue};
+    ghost use Rattle.table_model.specs.Tables.{filter_bytes_of};
 
     /// Law: what is so of each store, whatever its device holds. It does nothing.
     pub fn consistency_law(&self)
@@ -49,6 +53,14 @@ impl<F: RangeFilter> Store<F> {
     {
         // so that the struct's invariant is known
         let _ = &self.stopped;
+    }
+
+    /// Law: a store that is as it was is worth what it was, whatever its device holds. It does nothing.
+    pub fn refusals_law<D: Disk>(&self, disk: &D)
+        ensures { (before : StoreValue) → IsAsItWas before self.now → StandsAsBefore F.spelling (filter_bytes_of F.spelling F.built_cutoff) before self.now (D.world disk.now) }
+    {
+        let _ = &self.stopped;
+        let _ = disk;
     }
 
     /// Whether a write or a sync has failed. Then every other call answers `Stopped`, until the store is opened again.

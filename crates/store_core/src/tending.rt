@@ -1,10 +1,11 @@
 //! The merge of tables, in merge slices.
-ghost use Rattle.std.specs.Prelude.{◌≡◌, ◌≤◌, ◌+◌, ◌*◌, ◌||◌, true, false, Some, None, IsTrue, IfOk, IfErr, OnErr, OnOk, MatchResult, length};
+ghost use Rattle.std.specs.Prelude.{◌≡◌, ◌<◌, ◌≤◌, ◌+◌, ◌*◌, ◌||◌, true, false, Some, None, IsTrue, IfOk, IfErr, OnErr, OnOk, MatchResult, length};
 ghost use Rattle.block_model.specs.Pages.{page_bytes};
 ghost use Rattle.disk_trait.specs.Image.{Image};
 ghost use Rattle.disk_trait.specs.World.{ReadMoves};
 ghost use Rattle.image_model.specs.Stands.{settings_of};
-ghost use Rattle.key_base.specs.Limits.{max_tables};
+ghost use Rattle.key_base.specs.Limits.{log_bytes, max_tables};
+ghost use Rattle.level_merge.specs.JobValue.{work_left};
 ghost use Rattle.level_merge.specs.SliceSteps.{FailsBeforeWrite, IsSliceFault};
 ghost use Rattle.manifest_model.specs.Laws.{IsVersion};
 ghost use Rattle.merge_rows.specs.Steps.{numbers};
@@ -12,9 +13,10 @@ ghost use Rattle.state_model.specs.State as model;
 ghost use Rattle.state_model.specs.Tends.{Runs, with_job};
 ghost use Rattle.store_core.specs.Answers.{stopped_by};
 ghost use Rattle.store_core.specs.StoreValue.{IsConsistent};
+ghost use Rattle.store_core.specs.Framing.{IsInUse, LeavesPlaces};
 ghost use Rattle.store_core.specs.Running.{HasMoreToMake, IsRun, MayRunIn};
 ghost use Rattle.store_core.specs.Scans.{IsScanShown};
-ghost use Rattle.store_core.specs.Tending.{IsBegunAmong, IsNext, IsTended, IsTendRefusal, NoneIsChosen, SliceStays, SlicesJob, SomeMoves, Tends, answer_to, told_slice};
+ghost use Rattle.store_core.specs.Tending.{IsBegunAmong, IsNext, IsTakenOut, IsTended, IsTendRefusal, IsWork, IsWorkOf, NoneIsChosen, SliceStays, SlicesJob, SomeMoves, Tends, answer_to, told_slice};
 ghost use Rattle.store_core.specs.Represents.{Represents, RepresentsOn};
 ghost use Rattle.table_model.specs.Tables.{filter_bytes_of};
 
@@ -73,7 +75,9 @@ impl<F: RangeFilter> Store<F> {
         ensures refused { MatchResult result (IsTended self.old self.new (D.world disk.old) (D.world disk.new)) (IsTendRefusal self.old.stopped self.old.manifest.version.epoch (D.world disk.old) (D.world disk.new)) }
         ensures shown { IsTrue D.tells → IfErr result (IsScanShown self.new.tables (D.world disk.new).seen.held) }
         ensures dropped { self.old.stopped ≡ false → OnErr result (self.new.job ≡ None) }
+        ensures worked { IfOk result (IsWork self.old self.new) }
         ensures stays { SliceStays result (record self.old { job = self.new.job }) self.new }
+        ensures frame { LeavesPlaces (IsInUse self.old.manifest log_bytes) (D.world disk.old) (D.world disk.new) }
         ensures stopped { self.new.stopped ≡ (self.old.stopped || stopped_by result) }
         ensures no_call { self.old.stopped ≡ true → ReadMoves 0 (D.world disk.old) (D.world disk.new) }
         ensures moves { SomeMoves (page_bytes * self.old.manifest.version.pages) (D.world disk.old) (D.world disk.new) }
@@ -92,6 +96,7 @@ impl<F: RangeFilter> Store<F> {
         ensures rest { self.new ≡ record self.old { job = None } }
         ensures whole { IfOk result (MayRunIn self.old.manifest.version self.old.tables) }
         ensures next { (s : model.State) (image : Image) → RepresentsOn F.spelling self.old.manifest self.old.tables self.old.job s image → IfOk result (IsNext F.spelling self.old s) }
+        ensures taken_up { IfOk result (IsTakenOut self.old) }
         ensures none { IfOk result (λ found. found ≡ None → (self.old.job ≡ None) × NoneIsChosen self.old.tables) }
         ensures memory { IfErr result (λ why. why ≡ StoreError.Memory) }
     {
@@ -135,7 +140,9 @@ impl<F: RangeFilter> Store<F> {
         ensures refused { MatchResult result (IsTended (record self.old { job = Some job.entry }) self.new (D.world disk.old) (D.world disk.new)) (IsTendRefusal false self.old.manifest.version.epoch (D.world disk.old) (D.world disk.new)) }
         ensures shown { IsTrue D.tells → IfErr result (IsScanShown self.new.tables (D.world disk.new).seen.held) }
         ensures dropped { OnErr result (self.new.job ≡ None) }
+        ensures worked { IfOk result (IsWorkOf self.old job.entry self.new) }
         ensures stays { SliceStays result (record self.old { job = self.new.job }) self.new }
+        ensures frame { LeavesPlaces (IsInUse self.old.manifest log_bytes) (D.world disk.old) (D.world disk.new) }
         ensures stopped { self.new.stopped ≡ stopped_by result }
         ensures moves { SomeMoves (page_bytes * self.old.manifest.version.pages) (D.world disk.old) (D.world disk.new) }
     {
@@ -172,6 +179,8 @@ impl<F: RangeFilter> Store<F> {
             → (D.world disk.new).seen.reads ≤ (D.world disk.old).seen.reads + blocks }
         ensures fault { IfErr result (IsSliceFault D.tells self.now.tables (numbers job.old.merge.walks) (D.world disk.old) (D.world disk.new)) }
         ensures unwritten { IfErr result (FailsBeforeWrite (D.world disk.old) (D.world disk.new)) }
+        ensures frame { LeavesPlaces (IsInUse self.now.manifest log_bytes) (D.world disk.old) (D.world disk.new) }
+        ensures ends { IfOk result (λ sliced. sliced ≡ Sliced.Working → work_left self.now.tables job.new < work_left self.now.tables job.old) }
         ensures moves { SomeMoves (page_bytes * self.now.manifest.version.pages) (D.world disk.old) (D.world disk.new) }
     {
         // the law of merges: what stands of the one that runs stands on each image

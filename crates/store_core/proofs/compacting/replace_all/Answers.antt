@@ -1,7 +1,7 @@
 use Rattle.std.proofs.Common.{◌≡◌, ◌∙◌, List, sym, ap, subst, arith}
 use Rattle.std.specs.Prelude.{Ok, Err}
 use Rattle.disk_trait.specs.World.{Leads, WriteMoves}
-use Rattle.log_model.specs.Area.{Position}
+use Rattle.log_model.specs.Area.{Position, start_of}
 use Rattle.manifest.specs.Causes.{HasInstallCause}
 use Rattle.manifest.specs.Manifest.{Manifest, StandsInSlot, install_of, other_place}
 use Rattle.manifest.specs.declared.fault.ManifestFault.{ManifestFault}
@@ -12,7 +12,9 @@ use Rattle.table_file.specs.Opened.{Opened}
 use Rattle.table_model.specs.Tables.{filter_bytes_of}
 use Rattle.store_core.specs.Compacting.{AreAllMade, AreCompact, StandAlone}
 use Rattle.store_core.specs.Flushing.{installed_manifest, other_log_page}
+use Rattle.store_core.specs.Framing.{IsInUse}
 use Rattle.store_core.specs.StoreValue.{rows_of}
+use Rattle.store_core.proofs.Framing.{gate_outside, leaves_then, leaves_write, slot_outside}
 use Rattle.store_core.proofs.CompactDone.{fails_by, fails_wanting, install_done, install_fails_so, install_meanwhile, installed_whole, log_failed, log_fails_so, moved_write, other_area_of, passed_so, stays_map}
 use Rattle.store_core.proofs.CompactSlices.{later_rose}
 use Rattle.store_core.proofs.CompactVersions.{compacted_is_version}
@@ -211,3 +213,51 @@ returns-clause-moves g c =
     let small = (other_area_of m.version c.next.inside.log_area c.requires.sound area_is).3 in
     let pages = c.requires.sound.some_pages in
     moved_write _ _ 131072 _ _ _ (omega (arith, pages)) (moved_write _ _ 1 _ _ _ (omega (arith, small, pages)) c.write_all.ensures.moves c.start.ensures.moves) c.install.ensures.moves
+
+-- ---- what is left as it was
+
+pub returns-in_err-made-clause-frame : goal.returns-in_err-made-clause-frame
+returns-in_err-made-clause-frame g c = c.write_all.ensures.frame
+
+pub returns-in_err-all-clause-frame : goal.returns-in_err-all-clause-frame
+returns-in_err-all-clause-frame g c = c.write_all.ensures.frame
+
+pub returns-in_err-next-clause-frame : goal.returns-in_err-next-clause-frame
+returns-in_err-next-clause-frame g c = c.write_all.ensures.frame
+
+pub returns-in_err-log-clause-frame : goal.returns-in_err-log-clause-frame
+returns-in_err-log-clause-frame g c =
+    let m = c.args.version.now in
+    let a = g.D.Disk.world c.args.disk.now in
+    let b = g.D.Disk.world c.write_all.new.disk in
+    let d = g.D.Disk.world c.start.new.disk in
+    let area_is : other_log_page m.version ≡ log_page_of c.next.inside.log_area = sym (ap (λ (n : Manifest). n.version.log_page) (c.next.view_is ∙ c.in_ok-next.ensures.next)) in
+    let begun = leaves_then (IsInUse m 262144) a b d c.write_all.ensures.frame
+    (leaves_write (IsInUse m 262144) (start_of c.next.inside.log_area) 1 b d (gate_outside m c.requires.sound c.requires.slot c.next.inside.log_area area_is) c.start.ensures.moves) in
+    begun
+
+pub returns-in_err-install-clause-frame : goal.returns-in_err-install-clause-frame
+returns-in_err-install-clause-frame g c =
+    let m = c.args.version.now in
+    let a = g.D.Disk.world c.args.disk.now in
+    let b = g.D.Disk.world c.write_all.new.disk in
+    let d = g.D.Disk.world c.start.new.disk in
+    let area_is : other_log_page m.version ≡ log_page_of c.next.inside.log_area = sym (ap (λ (n : Manifest). n.version.log_page) (c.next.view_is ∙ c.in_ok-next.ensures.next)) in
+    let begun = leaves_then (IsInUse m 262144) a b d c.write_all.ensures.frame
+    (leaves_write (IsInUse m 262144) (start_of c.next.inside.log_area) 1 b d (gate_outside m c.requires.sound c.requires.slot c.next.inside.log_area area_is) c.start.ensures.moves) in
+    let e = g.D.Disk.world c.install.new.disk in
+    let moves = subst (λ (n : Manifest). WriteMoves (other_place n.slot) 131072 d e) c.in_ok-next.ensures.next c.install.ensures.moves in
+    leaves_then (IsInUse m 262144) a d e begun (leaves_write (IsInUse m 262144) (other_place m.slot) 131072 d e (slot_outside m c.requires.sound c.requires.slot 262144) moves)
+
+pub returns-clause-frame : goal.returns-clause-frame
+returns-clause-frame g c =
+    let m = c.args.version.now in
+    let a = g.D.Disk.world c.args.disk.now in
+    let b = g.D.Disk.world c.write_all.new.disk in
+    let d = g.D.Disk.world c.start.new.disk in
+    let area_is : other_log_page m.version ≡ log_page_of c.next.inside.log_area = sym (ap (λ (n : Manifest). n.version.log_page) (c.next.view_is ∙ c.in_ok-next.ensures.next)) in
+    let begun = leaves_then (IsInUse m 262144) a b d c.write_all.ensures.frame
+    (leaves_write (IsInUse m 262144) (start_of c.next.inside.log_area) 1 b d (gate_outside m c.requires.sound c.requires.slot c.next.inside.log_area area_is) c.start.ensures.moves) in
+    let e = g.D.Disk.world c.install.new.disk in
+    let moves = subst (λ (n : Manifest). WriteMoves (other_place n.slot) 131072 d e) c.in_ok-next.ensures.next c.install.ensures.moves in
+    leaves_then (IsInUse m 262144) a d e begun (leaves_write (IsInUse m 262144) (other_place m.slot) 131072 d e (slot_outside m c.requires.sound c.requires.slot 262144) moves)

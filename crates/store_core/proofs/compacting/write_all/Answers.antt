@@ -20,6 +20,11 @@ use Rattle.store_core.specs.Compacting.{AreAllMade, AreCompact, IsWritingCause, 
 use Rattle.store_core.specs.Faults.{of_job_fault}
 use Rattle.store_core.specs.StoreValue.{rows_of}
 use Rattle.store_core.specs.Scans.{IsScanShown}
+use Rattle.std.proofs.lemmas.List.Sorted.{IsPermutation-sym}
+use Rattle.store_core.specs.Framing.{IsInUse}
+use Rattle.store_core.specs.Running.{extents_with}
+use Rattle.store_core.proofs.Framing.{leaves_none, leaves_then}
+use Rattle.store_core.proofs.SlicesLeft.{slice_left}
 use Rattle.store_core.proofs.CompactFaults.{fails_so, none_moved, refused_so, slice_moved, writing_fault, writing_shown}
 use Rattle.store_core.proofs.CompactRuns.{IsCompacting, compacted_rows, compacting_begun, compacting_more}
 use Rattle.store_core.proofs.CompactSlices.{IsGoing, all_are_made, free_begun, going_begun, makes_not, makes_on, slice_goes_on, slice_refused, slice_stays, taken_is}
@@ -55,6 +60,7 @@ loop-job-init g c =
           subst (λ (x : JobValue). IsGoing spelling bytes m opened s a a x free) (sym c.in_ok-job.ensures.begun)
           (subst (λ (set : Settings). IsGoing spelling bytes m opened s a a (compaction entries set opened) free) (under.ready.named.settings ∙ sym settings) begun);
       moves = none_moved _ a;
+      frame = leaves_none (IsInUse m 262144) a;
     }
 
 pub slice-requires-clause-there : goal.slice-requires-clause-there
@@ -135,6 +141,8 @@ loop-job-preserved g c =
           let made = makes_on spelling bytes m opened c.requires.slot c.requires.rows s held.no_job held.none_kept cutoff a w x old new free now going under.tables c.in_ok-slice.field-0 (c.in_ok-slice.ensures.slices.makes tells) in
           slice_goes_on spelling bytes m opened c.requires.slot c.requires.rows s held.no_job held.none_kept cutoff a w x old new free now going under.tables c.in_ok-slice.field-0 made c.slice.ensures.slices.moves;
       moves = slice_moved spelling cutoff m.version.pages old new free now a w x on.pages c.loop-job.invariant.moves c.slice.ensures.slices.moves;
+      frame = leaves_then (IsInUse m 262144) a w x c.loop-job.invariant.frame
+          (slice_left spelling cutoff m c.requires.sound c.requires.slot old new free now (IsPermutation-sym free.extents (extents_with m.version old.outputs) on.extents) w x c.slice.ensures.slices.moves);
     }
 
 pub returns-in-Ready-clause-stays : goal.returns-in-Ready-clause-stays
@@ -177,3 +185,23 @@ pub returns-in-Ready-clause-moves : goal.returns-in-Ready-clause-moves
 returns-in-Ready-clause-moves g c =
     slice_moved g.F.RangeFilter.spelling g.F.RangeFilter.built_cutoff c.args.version.now.version.pages c.loop-job.job c.slice.new.self c.loop-job.extents c.slice.new.extents (g.D.Disk.world c.args.disk.now)
     (g.D.Disk.world c.loop-job.disk) (g.D.Disk.world c.slice.new.disk) c.loop-job.invariant.on.pages c.loop-job.invariant.moves c.slice.ensures.slices.moves
+
+-- ---- what is left as it was
+
+pub returns-in_err-extents-clause-frame : goal.returns-in_err-extents-clause-frame
+returns-in_err-extents-clause-frame g c = leaves_none (IsInUse c.args.version.now 262144) (g.D.Disk.world c.args.disk.now)
+
+pub returns-in_err-job-clause-frame : goal.returns-in_err-job-clause-frame
+returns-in_err-job-clause-frame g c = leaves_none (IsInUse c.args.version.now 262144) (g.D.Disk.world c.args.disk.now)
+
+pub returns-in_err-slice-clause-frame : goal.returns-in_err-slice-clause-frame
+returns-in_err-slice-clause-frame g c =
+    (leaves_then (IsInUse c.args.version.now 262144) (g.D.Disk.world c.args.disk.now) (g.D.Disk.world c.loop-job.disk) (g.D.Disk.world c.slice.new.disk) c.loop-job.invariant.frame
+    (slice_left g.F.RangeFilter.spelling g.F.RangeFilter.built_cutoff c.args.version.now c.requires.sound c.requires.slot c.loop-job.job c.slice.new.self c.loop-job.extents c.slice.new.extents
+    (IsPermutation-sym c.loop-job.extents.extents (extents_with c.args.version.now.version c.loop-job.job.outputs) c.loop-job.invariant.on.extents) (g.D.Disk.world c.loop-job.disk) (g.D.Disk.world c.slice.new.disk) c.slice.ensures.slices.moves))
+
+pub returns-in-Ready-clause-frame : goal.returns-in-Ready-clause-frame
+returns-in-Ready-clause-frame g c =
+    (leaves_then (IsInUse c.args.version.now 262144) (g.D.Disk.world c.args.disk.now) (g.D.Disk.world c.loop-job.disk) (g.D.Disk.world c.slice.new.disk) c.loop-job.invariant.frame
+    (slice_left g.F.RangeFilter.spelling g.F.RangeFilter.built_cutoff c.args.version.now c.requires.sound c.requires.slot c.loop-job.job c.slice.new.self c.loop-job.extents c.slice.new.extents
+    (IsPermutation-sym c.loop-job.extents.extents (extents_with c.args.version.now.version c.loop-job.job.outputs) c.loop-job.invariant.on.extents) (g.D.Disk.world c.loop-job.disk) (g.D.Disk.world c.slice.new.disk) c.slice.ensures.slices.moves))

@@ -4,6 +4,7 @@ use Rattle.block_model.specs.Pages.{page_bytes}
 use Rattle.level_merge.specs.JobValue.{work_left}
 use Rattle.state_model.specs.State.{State}
 use Rattle.store_core.specs.Compacting.{IsHeldBy}
+use Rattle.store_core.specs.Framing.{IsInUse, LeavesPlaces}
 use Rattle.store_core.specs.Tending.{SomeMoves}
 use Rattle.store_core.proofs.CompactRuns.{IsCompacting}
 use Rattle.store_core.proofs.CompactSlices.{IsGoing}
@@ -21,6 +22,7 @@ invariant-loop-job g l =
       on : IsCompacting l.version.version l.tables.tables l.job l.extents;
       going : (s : State) → IsTrue g.D.Disk.tells → IsHeldBy spelling bytes l.version l.tables.tables l.memory.entries s before → IsGoing spelling bytes l.version l.tables.tables s before after l.job l.extents;
       moves : SomeMoves (page_bytes * l.version.version.pages) before after;
+      frame : LeavesPlaces (IsInUse l.version 262144) before after;
     }
 
 abbrev pub decreases-loop-job : goal.decreases-loop-job

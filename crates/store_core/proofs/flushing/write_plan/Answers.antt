@@ -7,6 +7,7 @@ use Rattle.manifest_model.specs.Installs.{IsInstalled, IsOldOrNew}
 use Rattle.std.specs.Prelude.{Ok}
 use Rattle.state_model.specs.View.{memory}
 use Rattle.store_core.proofs.Flushes.{device_cause, installed, no_install, no_log, no_table, no_want, still_wanted, write_op}
+use Rattle.store_core.proofs.Framing.{log_left, slot_left, table_left}
 use Rattle.store_core.specs.Flushing.{FlushedTo, IsPlan}
 use Rattle.store_core.specs.Running.{outputs_in}
 use Rattle.store_core.specs.declared.flushing.Plan.{Plan}
@@ -88,3 +89,39 @@ returns-clause-replaces g c store s tells whole tied plan =
     (installed c.jobs_are_followed.ensures.image c.jobs_are_followed.ensures.flush spelling cutoff store s _ _ _ whole seen a tied (g.met.D.Disk.current c.args.disk.now tells)
     _ refl (small_area _ sound.log_page) b d c.write_parts.ensures.moves (c.in_ok-write_parts.ensures.table 0 tells) (c.in_ok-write_parts.ensures.stands 0 tells)
     c.start.ensures.moves e (c.in_ok-log.ensures.stands tells) sound moves c.in_ok-install.field-0 c.in_ok-log.log leads)
+
+-- ---- what is left as it was
+
+pub returns-in_err-write_parts-clause-frame : goal.returns-in_err-write_parts-clause-frame
+returns-in_err-write_parts-clause-frame g c m held entries is few laid plan =
+    let seen = subst (λ (p : Plan g.row.F.Denot). IsPlan g.F.RangeFilter.spelling g.F.RangeFilter.built_cutoff m held entries p.parts p.row p.next) (sym c.plan.view_is) plan in
+    table_left g.F.RangeFilter.spelling g.F.RangeFilter.built_cutoff m held entries _ _ _ is few laid seen _ _ c.write_parts.ensures.moves
+
+pub returns-in_err-log-clause-frame : goal.returns-in_err-log-clause-frame
+returns-in_err-log-clause-frame g c m held entries is few laid plan =
+    let spelling = g.F.RangeFilter.spelling in
+    let cutoff = g.F.RangeFilter.built_cutoff in
+    let seen = subst (λ (p : Plan g.row.F.Denot). IsPlan g.F.RangeFilter.spelling g.F.RangeFilter.built_cutoff m held entries p.parts p.row p.next) (sym c.plan.view_is) plan in
+    log_left spelling cutoff m held entries _ _ _ is few laid seen _ _ _ _ refl (table_left spelling cutoff m held entries _ _ _ is few laid seen _ _ c.write_parts.ensures.moves) c.start.ensures.moves
+
+pub returns-in_err-install-clause-frame : goal.returns-in_err-install-clause-frame
+returns-in_err-install-clause-frame g c m held entries is few laid plan =
+    let spelling = g.F.RangeFilter.spelling in
+    let cutoff = g.F.RangeFilter.built_cutoff in
+    let d = g.D.Disk.world c.start.new.disk in
+    let e = g.D.Disk.world c.install.new.disk in
+    let seen = subst (λ (p : Plan g.row.F.Denot). IsPlan g.F.RangeFilter.spelling g.F.RangeFilter.built_cutoff m held entries p.parts p.row p.next) (sym c.plan.view_is) plan in
+    let moves = subst (λ (p : Plan g.row.F.Denot). WriteMoves (other_place p.next.slot) 131072 d e) (sym c.plan.view_is) c.install.ensures.moves in
+    slot_left spelling cutoff m held entries _ _ _ is few laid seen _ d e
+    (log_left spelling cutoff m held entries _ _ _ is few laid seen _ _ d _ refl (table_left spelling cutoff m held entries _ _ _ is few laid seen _ _ c.write_parts.ensures.moves) c.start.ensures.moves) moves
+
+pub returns-clause-frame : goal.returns-clause-frame
+returns-clause-frame g c m held entries is few laid plan =
+    let spelling = g.F.RangeFilter.spelling in
+    let cutoff = g.F.RangeFilter.built_cutoff in
+    let d = g.D.Disk.world c.start.new.disk in
+    let e = g.D.Disk.world c.install.new.disk in
+    let seen = subst (λ (p : Plan g.row.F.Denot). IsPlan g.F.RangeFilter.spelling g.F.RangeFilter.built_cutoff m held entries p.parts p.row p.next) (sym c.plan.view_is) plan in
+    let moves = subst (λ (p : Plan g.row.F.Denot). WriteMoves (other_place p.next.slot) 131072 d e) (sym c.plan.view_is) c.install.ensures.moves in
+    slot_left spelling cutoff m held entries _ _ _ is few laid seen _ d e
+    (log_left spelling cutoff m held entries _ _ _ is few laid seen _ _ d _ refl (table_left spelling cutoff m held entries _ _ _ is few laid seen _ _ c.write_parts.ensures.moves) c.start.ensures.moves) moves

@@ -1,13 +1,6 @@
-use Rattle.std.proofs.Common.{rules, ◌≡◌, ◌≤◌, ◌<◌, ◌+◌, ◌-◌, ◌∙◌, ℕ, List, ◌∷◌, suc, take, length, refl, sym, ap, subst, arith, false, true}
-use Rattle.std.proofs.lemmas.Result.{IfErr-weaker}
+use Rattle.std.proofs.Common.{rules, ◌≡◌, ◌≤◌, ◌<◌, ◌+◌, ◌∙◌, ℕ, List, suc, take, length, sym, ap, subst, arith}
 use Rattle.std.specs.Option.{option_or}
-use Rattle.std.specs.Prelude.{IfSome, Option, None, Some, OnErr, Result, Ok, Err, is_some}
-use Rattle.block_cache.specs.Kept.{kept_of}
-use Rattle.block_model.specs.Laws.{joined}
-use Rattle.disk_trait.proofs.Calls.{reads_more, reads_then}
-use Rattle.disk_trait.specs.World.{ReadMoves}
-use Rattle.entry_model.specs.Newest.{lookup}
-use Rattle.map_model.specs.SortedMap.{Bytes}
+use Rattle.std.specs.Prelude.{IfSome, Option}
 use Rattle.state_model.specs.Bounds.{searched}
 use Rattle.state_model.specs.View.{first_found}
 use Rattle.store_core.specs.Caching.{BlockAgrees, CacheAgrees, cache_number, past_cache, reads_for, unkept}
@@ -16,11 +9,10 @@ use Rattle.level_merge.specs.TablesAgree.{TablesAgree}
 use Rattle.store_core.specs.declared.getting.BlockRead.{BlockRead}
 use Rattle.store_core.proofs.Caches.{same_then, true_same}
 use Rattle.store_core.proofs.Founds.{said_first}
-use Rattle.store_core.proofs.Lookings.{at_most_one, by_first, found_said, no_entry, nothing_said, older_true, read_first, read_later, read_true, said_next, says_of_number, true_later, unkept_first, unkept_next, unkept_same, unread_both}
-use Rattle.store_core.proofs.ReadBounds.{first_bound, next_bound, searched_first}
+use Rattle.store_core.proofs.Lookings.{by_first, found_said, no_entry, nothing_said, older_true, read_first, read_later, read_true, said_next, says_of_number, true_later, unkept_first, unkept_next, unkept_same, unread_both}
+use Rattle.store_core.proofs.ReadBounds.{next_bound, searched_first}
 use Rattle.store_core.proofs.ShownBlocks.{first_fault, older_fault}
 use Rattle.table_file.specs.Search.{block_for}
-use Rattle.table_model.specs.Tables.{Table}
 use Rattle.table_file.specs.Opened.{Opened}
 use Rattle.store_core.proofs.getting.+look_in_all.Goals as goal
 

@@ -1,4 +1,4 @@
-use Rattle.std.proofs.Common.{rules, ◌≤◌, ◌∙◌, length, sym, ap, arith}
+use Rattle.std.proofs.Common.{◌∙◌, length, arith}
 use Rattle.std.proofs.lemmas.Option.{IfSome_then}
 use Rattle.store_core.proofs.Caches.{numbered_same, true_same}
 use Rattle.store_core.proofs.Lookings.{kept_numbered, kept_true, place_found, said_stays, unkept_within}

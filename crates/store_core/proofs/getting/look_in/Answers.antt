@@ -1,7 +1,7 @@
-use Rattle.std.proofs.Common.{rules, ◌≡◌, ◌∙◌, ℕ, Bool, true, false, List, refl, sym, ap, subst, cond}
+use Rattle.std.proofs.Common.{rules, ◌∙◌, ℕ, Bool, refl, sym, ap, subst, cond}
 use Rattle.std.proofs.lemmas.Option.{IfSome_then}
-use Rattle.std.specs.Prelude.{Option, Some, None, IfSome, is_some}
-use Rattle.block_cache.specs.Kept.{BlockPlace, KeptBlock, kept_of, brought_first}
+use Rattle.std.specs.Prelude.{Option, IfSome}
+use Rattle.block_cache.specs.Kept.{BlockPlace, kept_of}
 use Rattle.block_cache.proofs.Gives.{get_same}
 use Rattle.disk_trait.proofs.Calls.{reads_none}
 use Rattle.disk_trait.specs.World.{ReadMoves}

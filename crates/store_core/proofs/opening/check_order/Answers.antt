@@ -1,4 +1,4 @@
-use Rattle.std.proofs.Common.{◌≡◌, ◌+◌, ◌*◌, ◌-◌, ◌∙◌, sym, arith}
+use Rattle.std.proofs.Common.{◌+◌, ◌*◌, ◌∙◌, sym, arith}
 use Rattle.store_core.proofs.OpeningOrder.{stood_broken, stood_end, stood_first, stood_next}
 use Rattle.store_core.proofs.opening.check_order.Goals as goal
 

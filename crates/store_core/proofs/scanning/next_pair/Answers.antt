@@ -1,22 +1,17 @@
-use Rattle.std.proofs.Common.{rules, ◌≡◌, ◌∙◌, ◌≤◌, ◌<◌, ◌+◌, ◌-◌, ℕ, List, Bool, true, false, not, length, refl, sym, ap, subst, arith}
+use Rattle.std.proofs.Common.{rules, ◌≡◌, ◌∙◌, ◌≤◌, ℕ, List, not, length, sym, ap, subst, arith}
 use Rattle.std.specs.Option.{option_map}
-use Rattle.std.specs.Prelude.{IsTrue, Option, Some, None, is_some}
+use Rattle.std.specs.Prelude.{Option, Some, is_some}
 use Rattle.disk_trait.proofs.Calls.{reads_none}
 use Rattle.disk_trait.specs.Image.{Image}
-use Rattle.disk_trait.specs.World.{ReadMoves}
 use Rattle.entry_model.specs.Entries.{Entry, entry_of}
 use Rattle.key_base.specs.Limits.{max_key_bytes}
-use Rattle.map_model.specs.Slices.{is_up_to}
-use Rattle.map_model.specs.SortedMap.{Bytes}
-use Rattle.merge_rows.proofs.Rank.{height, height_ends, height_rises, strings}
+use Rattle.merge_rows.proofs.Rank.{height_ends, height_rises}
 use Rattle.merge_rows.proofs.Steps.{none_of}
-use Rattle.merge_rows.specs.Merges.{rows_left}
-use Rattle.merge_rows.specs.Reads.{OnlyReads, SomeBlock, wanted}
-use Rattle.merge_rows.specs.Steps.{AreNumbersIn, IsFaultStep, IsPaced, IsRowStep, IsSoundMerge, RowPasses, SourcesStay, numbers}
+use Rattle.merge_rows.specs.Reads.{SomeBlock}
+use Rattle.merge_rows.specs.Steps.{AreNumbersIn, IsSoundMerge, RowPasses, numbers}
 use Rattle.store_core.proofs.ScanCauses.{as_many_walks, block_cause, fault_at, kept_at, none_value, paced_at, reads_on, pair_some, some_mapped, step_at}
-use Rattle.store_core.proofs.ScanSteps.{IsUnderWay, all_bounded, none_below, none_left, one_on, pair_given, set_out, stay_then, still_pairs}
-use Rattle.store_core.specs.Getting.{IsLookFault}
-use Rattle.store_core.specs.Scans.{blocks_on_way, given, pair_in, pairs_up_to}
+use Rattle.store_core.proofs.ScanSteps.{all_bounded, none_below, none_left, one_on, pair_given, set_out, stay_then, still_pairs}
+use Rattle.store_core.specs.Scans.{pair_in}
 use Rattle.table_file.specs.Search.{IsGetFault}
 use Rattle.store_core.proofs.scanning.next_pair.Goals as goal
 

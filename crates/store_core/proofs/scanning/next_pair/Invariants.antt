@@ -1,4 +1,4 @@
-use Rattle.std.proofs.Common.{◌≡◌, ◌+◌, ◌-◌, map}
+use Rattle.std.proofs.Common.{◌+◌, ◌-◌}
 use Rattle.std.specs.Option.{option_map}
 use Rattle.key_base.specs.Limits.{max_key_bytes}
 use Rattle.merge_rows.proofs.Rank.{height, strings}

@@ -1,5 +1,5 @@
-use Rattle.std.proofs.Common.{◌≡◌, ◌∙◌, ap, subst}
-use Rattle.std.specs.Prelude.{IfSome, Option, Some, None}
+use Rattle.std.proofs.Common.{◌∙◌, ap, subst}
+use Rattle.std.specs.Prelude.{IfSome, Option}
 use Rattle.image_model.specs.Stands.{settings_of}
 use Rattle.level_merge.specs.JobValue.{begun}
 use Rattle.level_merge.specs.Plans.{IsPlanOf, MayStart, PlanByNumbers}

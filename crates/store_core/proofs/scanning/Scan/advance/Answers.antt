@@ -1,13 +1,10 @@
 use Rattle.std.proofs.Common.{rules, ◌≡◌, ◌∙◌, ◌≤◌, ◌+◌, refl, sym, ap, subst, arith}
 use Rattle.std.specs.Prelude.{Some}
-use Rattle.disk_trait.specs.Image.{Image}
-use Rattle.merge_rows.specs.Reads.{SomeBlock}
 use Rattle.merge_rows.specs.Steps.{AreNumbersIn, numbers}
 use Rattle.store_core.proofs.ScanCauses.{no_damage, not_ended, said_of, told_as, told_block, told_scan, told_step, told_walk}
 use Rattle.store_core.proofs.ScanSteps.{shows_bounded, shows_ended, shows_on, shows_still}
 use Rattle.store_core.specs.Faults.{of_table_fault}
 use Rattle.store_core.specs.Scans.{IsScanShown, IsWalkShown, ScanWalk, StillComes, left_behind, opened_tables, step_bound}
-use Rattle.table_file.specs.Search.{IsGetFault}
 use Rattle.store_core.proofs.scanning.Scan.advance.Goals as goal
 
 pub returns-then-has_ended-clause-pairs : goal.returns-then-has_ended-clause-pairs

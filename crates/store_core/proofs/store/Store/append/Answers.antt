@@ -3,6 +3,7 @@ use Rattle.std.specs.Prelude.{Option}
 use Rattle.disk_trait.specs.World.{WriteMoves}
 use Rattle.entry_model.specs.Entries.{Entry, IsEntry, entry_of, need}
 use Rattle.log_model.proofs.Logs.{all_push}
+use Rattle.log_model.specs.Area.{start_of}
 use Rattle.map_model.specs.SortedMap.{Bytes}
 use Rattle.table_model.specs.Tables.{filter_bytes_of}
 use Rattle.store_core.specs.StoreValue.{StoreValue}
@@ -78,3 +79,21 @@ returns-in-Err-clause-moves g c =
     subst (λ (k : StoreValue). WriteMoves 0 (4096 * k.manifest.version.pages) (g.D.Disk.world c.args.disk.now) (g.D.Disk.world c.append.new.disk)) c.self.view_is
     (append_moves _ c.self.inside.log.area c.self.inside.log.filled e _ _ _ whole.version whole.area (same_entry e _ _ c.key.ensures c.value.ensures)
     (subst (λ (k : StoreValue). k.log.filled + need e ≤ 262144) (sym c.self.view_is) c.requires.fits) c.append.ensures.moves)
+
+-- ---- where it writes
+
+pub returns-in-Ok-clause-own : goal.returns-in-Ok-clause-own
+returns-in-Ok-clause-own g c =
+    let e = c.args.entry in
+    let a = g.D.Disk.world c.args.disk.now in
+    let b = g.D.Disk.world c.append.new.disk in
+    subst (λ (k : StoreValue). WriteMoves (start_of k.log.area + k.log.filled) (need e) a b) c.self.view_is
+    (subst (λ (x : Entry). WriteMoves (start_of c.self.inside.log.area + c.self.inside.log.filled) (need x) a b) (same_entry e _ _ c.key.ensures c.value.ensures) c.append.ensures.moves)
+
+pub returns-in-Err-clause-own : goal.returns-in-Err-clause-own
+returns-in-Err-clause-own g c =
+    let e = c.args.entry in
+    let a = g.D.Disk.world c.args.disk.now in
+    let b = g.D.Disk.world c.append.new.disk in
+    subst (λ (k : StoreValue). WriteMoves (start_of k.log.area + k.log.filled) (need e) a b) c.self.view_is
+    (subst (λ (x : Entry). WriteMoves (start_of c.self.inside.log.area + c.self.inside.log.filled) (need x) a b) (same_entry e _ _ c.key.ensures c.value.ensures) c.append.ensures.moves)

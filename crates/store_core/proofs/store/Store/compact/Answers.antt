@@ -1,6 +1,9 @@
 use Rattle.std.proofs.Common.{◌≢◌, ◌⊎◌, ◌∙◌, [], refl, sym, ap, subst}
 use Rattle.disk_trait.proofs.Calls.{reads_none}
 use Rattle.table_model.specs.Tables.{filter_bytes_of}
+use Rattle.store_core.specs.Framing.{IsInUse, LeavesPlaces}
+use Rattle.store_core.specs.Refusing.{MayBeCompacted}
+use Rattle.store_core.proofs.Framing.{leaves_none}
 use Rattle.store_core.specs.StoreValue.{IsConsistent, StoreValue}
 use Rattle.store_core.specs.declared.store.Store.TheInside.{Inside}
 use Rattle.store_core.proofs.CompactBegins.{answered_empty, answered_last, is_at_last, is_below_last, tied_without}
@@ -70,4 +73,23 @@ returns-then-self-2-clause-due g c = (
 )
 
 pub returns-clause-due : goal.returns-clause-due
-returns-clause-due g c = fault_compacts c.compact_all.result c.args.self.now (g.D.Disk.world c.args.disk.now) (g.D.Disk.world c.compact_all.new.disk) c.compact_all.ensures.fault
+returns-clause-due g c =
+    let left = is_below_last c.args.self.now c.drop_job.new.self c.drop_job.ensures (subst IsConsistent c.self.view_is c.self.invariant.0)
+    (λ last. c.if-self-2.false (ap (λ (i : Inside _). i.version.version.epoch) c.self-inside.view_is ∙ (ap (λ (k : StoreValue). k.manifest.version.epoch) c.self-2.view_is ∙ last))) in
+    fault_compacts c.compact_all.result c.args.self.now (g.D.Disk.world c.args.disk.now) (g.D.Disk.world c.compact_all.new.disk)
+    (subst MayBeCompacted c.drop_job.ensures (c.holds_nothing.ensures.some c.if-holds_nothing.false, left)) c.compact_all.ensures.fault
+
+-- ---- what is left as it was
+
+pub returns-then-self-clause-frame : goal.returns-then-self-clause-frame
+returns-then-self-clause-frame g c = leaves_none (IsInUse c.args.self.now.manifest 262144) (g.D.Disk.world c.args.disk.now)
+
+pub returns-then-holds_nothing-clause-frame : goal.returns-then-holds_nothing-clause-frame
+returns-then-holds_nothing-clause-frame g c = leaves_none (IsInUse c.args.self.now.manifest 262144) (g.D.Disk.world c.args.disk.now)
+
+pub returns-then-self-2-clause-frame : goal.returns-then-self-2-clause-frame
+returns-then-self-2-clause-frame g c = leaves_none (IsInUse c.args.self.now.manifest 262144) (g.D.Disk.world c.args.disk.now)
+
+pub returns-clause-frame : goal.returns-clause-frame
+returns-clause-frame g c =
+    subst (λ (k : StoreValue). LeavesPlaces (IsInUse k.manifest 262144) (g.D.Disk.world c.args.disk.now) (g.D.Disk.world c.compact_all.new.disk)) c.drop_job.ensures c.compact_all.ensures.frame

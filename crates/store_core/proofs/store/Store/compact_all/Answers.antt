@@ -3,6 +3,7 @@ use Rattle.state_model.specs.State.{without_job}
 use Rattle.table_model.specs.Tables.{filter_bytes_of}
 use Rattle.store_core.specs.Caching.{AreNumbered, CacheAgrees, Cached, renumbered}
 use Rattle.store_core.specs.Compacting.{FailsSo, IsHeldBy}
+use Rattle.store_core.specs.Framing.{IsInUse, LeavesPlaces}
 use Rattle.store_core.specs.StoreValue.{StoreValue}
 use Rattle.store_core.proofs.Caches.{numbered_anew, true_anew}
 use Rattle.store_core.proofs.CompactAnswers.{answered_done, answered_failed, compacted_whole, entries_sound, held_by}
@@ -49,3 +50,11 @@ returns-in-Err-clause-answered g c s tells tied =
 pub returns-in-Err-clause-stays : goal.returns-in-Err-clause-stays
 returns-in-Err-clause-stays g c runs =
     stopped_or_stays c.in-Err.why _ c.args.self.now _ c.self.inside.tables.tables c.self.view_is c.requires.running refl c.stops_store-self-inside.ensures runs
+
+-- ---- what is left as it was
+
+pub returns-in-Ok-clause-frame : goal.returns-in-Ok-clause-frame
+returns-in-Ok-clause-frame g c = subst (λ (k : StoreValue). LeavesPlaces (IsInUse k.manifest 262144) (g.D.Disk.world c.args.disk.now) (g.D.Disk.world c.replace_all.new.disk)) c.self.view_is c.replace_all.ensures.frame
+
+pub returns-in-Err-clause-frame : goal.returns-in-Err-clause-frame
+returns-in-Err-clause-frame g c = subst (λ (k : StoreValue). LeavesPlaces (IsInUse k.manifest 262144) (g.D.Disk.world c.args.disk.now) (g.D.Disk.world c.replace_all.new.disk)) c.self.view_is c.replace_all.ensures.frame

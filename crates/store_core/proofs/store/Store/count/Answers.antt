@@ -1,13 +1,12 @@
-use Rattle.std.proofs.Common.{rules, List, ◌≡◌, ◌∙◌, ◌≤◌, ◌<◌, ◌+◌, ◌-◌, ℕ, Bool, true, false, length, drop, refl, sym, ap, subst, arith}
+use Rattle.std.proofs.Common.{rules, List, ◌≡◌, ◌∙◌, ◌≤◌, ◌+◌, ◌-◌, ℕ, Bool, true, drop, refl, sym, ap, subst, arith}
 use Rattle.std.proofs.lemmas.Bool.{false≢true}
-use Rattle.std.specs.Prelude.{IsTrue, Option, Some, None, is_some}
+use Rattle.std.specs.Prelude.{Some, is_some}
 use Rattle.disk_trait.proofs.Calls.{reads_none}
 use Rattle.disk_trait.specs.Image.{Image}
 use Rattle.line_model.specs.Limits.{limit_of}
 use Rattle.line_model.specs.Requests.{Count}
-use Rattle.map_model.specs.Slices.{count, first_pair, slice}
+use Rattle.map_model.specs.Slices.{slice}
 use Rattle.map_model.specs.SortedMap.{Map}
-use Rattle.merge_rows.specs.Reads.{OnlyReads}
 use Rattle.state_model.specs.Bounds.{seek_bound}
 use Rattle.state_model.specs.View.{state_map}
 use Rattle.store_core.proofs.ScanCauses.{reads_on}

@@ -1,5 +1,5 @@
-use Rattle.std.proofs.Common.{◌≡◌, ◌≤◌, ◌+◌, ◌-◌, length, drop}
-use Rattle.std.specs.Prelude.{IsTrue, Option, Some}
+use Rattle.std.proofs.Common.{◌≡◌, ◌≤◌, ◌-◌, length, drop}
+use Rattle.std.specs.Prelude.{IsTrue, Some}
 use Rattle.map_model.specs.SortedMap.{Map}
 use Rattle.merge_rows.specs.Reads.{OnlyReads}
 use Rattle.store_core.specs.Scans.{StillComes, opened_tables}

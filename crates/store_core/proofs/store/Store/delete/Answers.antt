@@ -6,7 +6,9 @@ use Rattle.line_model.specs.Requests.{Del}
 use Rattle.state_model.specs.Changes.{written}
 use Rattle.table_model.specs.Tables.{filter_bytes_of}
 use Rattle.store_core.specs.Answers.{AnswersRequest, told_change}
+use Rattle.store_core.specs.Framing.{IsInUse}
 use Rattle.store_core.specs.Refusing.{IsWriteDue}
+use Rattle.store_core.proofs.Framing.{leaves_none}
 use Rattle.store_core.specs.StoreValue.{IsConsistent}
 use Rattle.store_core.specs.declared.error.StoreError.{StoreError}
 use Rattle.store_core.proofs.Answering.{is_left, is_made, wrote_answers}
@@ -53,3 +55,14 @@ returns-clause-due g c = c.write.ensures.due
 
 pub returns-clause-allowed : goal.returns-clause-allowed
 returns-clause-allowed g c = c.write.ensures.allowed
+
+-- ---- what is left as it was
+
+pub returns-then-self-clause-frame : goal.returns-then-self-clause-frame
+returns-then-self-clause-frame g c = leaves_none (IsInUse c.args.self.now.manifest c.args.self.now.log.filled) (g.D.Disk.world c.args.disk.now)
+
+pub returns-in_err-check_key-clause-frame : goal.returns-in_err-check_key-clause-frame
+returns-in_err-check_key-clause-frame g c = leaves_none (IsInUse c.args.self.now.manifest c.args.self.now.log.filled) (g.D.Disk.world c.args.disk.now)
+
+pub returns-clause-frame : goal.returns-clause-frame
+returns-clause-frame g c = c.write.ensures.frame

@@ -2,7 +2,9 @@ use Rattle.std.proofs.Common.{◌∙◌, refl, sym, ap}
 use Rattle.line_model.specs.Requests as request
 use Rattle.state_model.specs.Changes.{flushed}
 use Rattle.table_model.specs.Tables.{filter_bytes_of}
+use Rattle.store_core.specs.Framing.{IsInUse}
 use Rattle.store_core.specs.StoreValue.{StoreValue}
+use Rattle.store_core.proofs.Framing.{leaves_none}
 use Rattle.store_core.proofs.Answering.{is_left, is_made, on_err, wrote_answers}
 use Rattle.store_core.proofs.Writing.{never}
 use Rattle.store_core.proofs.store.Store.flush.Goals as goal
@@ -28,3 +30,9 @@ returns-clause-due g c = c.flush_memory.ensures.due
 
 pub returns-clause-allowed : goal.returns-clause-allowed
 returns-clause-allowed g c = c.flush_memory.ensures.allowed
+
+pub returns-then-self-clause-frame : goal.returns-then-self-clause-frame
+returns-then-self-clause-frame g c = leaves_none (IsInUse c.args.self.now.manifest 262144) (g.D.Disk.world c.args.disk.now)
+
+pub returns-clause-frame : goal.returns-clause-frame
+returns-clause-frame g c = c.flush_memory.ensures.frame

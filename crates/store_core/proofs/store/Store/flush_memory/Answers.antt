@@ -8,6 +8,9 @@ use Rattle.table_file.specs.Opened.{Opened}
 use Rattle.table_file.specs.Writing.{opened_of}
 use Rattle.table_model.specs.Tables.{filter_bytes_of}
 use Rattle.store_core.specs.Answers.{WroteEntry}
+use Rattle.manifest.specs.Manifest.{Manifest}
+use Rattle.store_core.proofs.Framing.{leaves_none}
+use Rattle.store_core.specs.Framing.{IsInUse}
 use Rattle.store_core.specs.Flushing.{IsPlan, IsPlanRefusal}
 use Rattle.store_core.specs.StoreValue.{IsConsistent, StoreValue}
 use Rattle.store_core.specs.Refusing.{IsFlushDue}
@@ -17,7 +20,7 @@ use Rattle.store_core.specs.declared.error.StoreError.{StoreError}
 use Rattle.store_core.specs.declared.error.StoreError.TheVariants as error
 use Rattle.store_core.proofs.FlushAnswers.{flush_done, flush_failed, nothing_to_flush, passed_on, plan_of_memory, plan_refused, row_again, row_within, wanted_with}
 use Rattle.store_core.proofs.Plans.{row_free}
-use Rattle.store_core.proofs.Refusals.{fault_due, plan_due}
+use Rattle.store_core.proofs.Refusals.{fault_due, plan_due, wanted_due}
 use Rattle.store_core.proofs.Stays.{stays_at, stopped_or_stays, tables_stay}
 use Rattle.store_core.proofs.Wholes.{begun_where_none, flushed_whole, laid_with, memory_table, whole_stopped}
 use Rattle.store_core.proofs.Writing.{never}
@@ -180,14 +183,22 @@ returns-in_err-plan-clause-due g c =
 
 pub returns-in_err-reserve-clause-due : goal.returns-in_err-reserve-clause-due
 returns-in_err-reserve-clause-due g c =
-    let bytes = filter_bytes_of g.F.RangeFilter.spelling g.F.RangeFilter.built_cutoff in
-    let w = g.D.Disk.world c.args.disk.now in
-    subst (λ (r : Result (Unit {0}) StoreError). IfErr r (IsFlushDue bytes c.args.self.now w w)) (passed_on c.from_residual-in_err-reserve.result error.Memory c.from_residual-in_err-reserve.ensures.1) tt
+    let some = subst (λ (k : StoreValue). k.memory.entries ≢ []) c.self.view_is (λ none. never c.is_empty.result (c.is_empty.ensures.1 none) c.if-is_empty.false) in
+    wanted_due (filter_bytes_of g.F.RangeFilter.spelling g.F.RangeFilter.built_cutoff) c.from_residual-in_err-reserve.result c.args.self.now (g.D.Disk.world c.args.disk.now)
+    (passed_on c.from_residual-in_err-reserve.result error.Memory c.from_residual-in_err-reserve.ensures.1) some
 
 pub returns-in-Err-clause-due : goal.returns-in-Err-clause-due
 returns-in-Err-clause-due g c =
-    fault_due (filter_bytes_of g.F.RangeFilter.spelling g.F.RangeFilter.built_cutoff) c.args.self.now c.in-Err.fault c.from-why.result (g.D.Disk.world c.args.disk.now) (g.D.Disk.world c.write_plan.new.disk)
-    c.from-why.ensures c.in-Err.ensures.cause
+    let spelling = g.F.RangeFilter.spelling in
+    let cutoff = g.F.RangeFilter.built_cutoff in
+    let parts = c.in_ok-plan.plan.parts in
+    let row = c.in_ok-plan.plan.row in
+    let next = c.in_ok-plan.plan.next in
+    let some = subst (λ (k : StoreValue). k.memory.entries ≢ []) c.self.view_is (λ none. never c.is_empty.result (c.is_empty.ensures.1 none) c.if-is_empty.false) in
+    let here = subst (λ (rs : List Row). IsPlan spelling cutoff c.self.inside.version rs c.self.inside.memory.entries parts row next) c.outputs_of.ensures c.in_ok-plan.ensures.plan in
+    let plan = subst (λ (k : StoreValue). IsPlan spelling cutoff k.manifest (outputs_in k.job) k.memory.entries parts row next) c.self.view_is here in
+    fault_due (filter_bytes_of spelling cutoff) c.args.self.now c.in-Err.fault c.from-why.result (g.D.Disk.world c.args.disk.now) (g.D.Disk.world c.write_plan.new.disk)
+    c.from-why.ensures some (record { few = plan.few; page = row.first_page; gap = plan.place; epoch = plan.epoch }) c.in-Err.ensures.cause
 
 -- ---- where none of them is met
 
@@ -204,3 +215,55 @@ returns-in-Ok-clause-allowed g c some =
     let here = subst (λ (rs : List Row). IsPlan spelling cutoff c.self.inside.version rs c.self.inside.memory.entries parts row next) c.outputs_of.ensures c.in_ok-plan.ensures.plan in
     let plan = subst (λ (k : StoreValue). IsPlan spelling cutoff k.manifest (outputs_in k.job) k.memory.entries parts row next) c.self.view_is here in
     record { few = plan.few; page = row.first_page; gap = plan.place; epoch = plan.epoch }
+
+-- ---- what is left as it was
+
+pub returns-then-is_empty-clause-frame : goal.returns-then-is_empty-clause-frame
+returns-then-is_empty-clause-frame g c = leaves_none (IsInUse c.args.self.now.manifest 262144) (g.D.Disk.world c.args.disk.now)
+
+pub returns-in_err-plan-clause-frame : goal.returns-in_err-plan-clause-frame
+returns-in_err-plan-clause-frame g c = leaves_none (IsInUse c.args.self.now.manifest 262144) (g.D.Disk.world c.args.disk.now)
+
+pub returns-in_err-reserve-clause-frame : goal.returns-in_err-reserve-clause-frame
+returns-in_err-reserve-clause-frame g c = leaves_none (IsInUse c.args.self.now.manifest 262144) (g.D.Disk.world c.args.disk.now)
+
+pub returns-in-Ok-clause-frame : goal.returns-in-Ok-clause-frame
+returns-in-Ok-clause-frame g c =
+    let spelling = g.F.RangeFilter.spelling in
+    let cutoff = g.F.RangeFilter.built_cutoff in
+    let parts = c.in_ok-plan.plan.parts in
+    let row = c.in_ok-plan.plan.row in
+    let next = c.in_ok-plan.plan.next in
+    let here = subst (λ (rs : List Row). IsPlan spelling cutoff c.self.inside.version rs c.self.inside.memory.entries parts row next) c.outputs_of.ensures c.in_ok-plan.ensures.plan in
+    let plan = subst (λ (k : StoreValue). IsPlan spelling cutoff k.manifest (outputs_in k.job) k.memory.entries parts row next) c.self.view_is here in
+    let store = c.args.self.now in
+    let whole = subst IsConsistent c.self.view_is c.self.invariant.0 in
+    c.write_plan.ensures.frame store.manifest (outputs_in store.job) store.memory.entries whole.version whole.slot (laid_with store whole) plan
+
+pub returns-in-Err-clause-frame : goal.returns-in-Err-clause-frame
+returns-in-Err-clause-frame g c =
+    let spelling = g.F.RangeFilter.spelling in
+    let cutoff = g.F.RangeFilter.built_cutoff in
+    let parts = c.in_ok-plan.plan.parts in
+    let row = c.in_ok-plan.plan.row in
+    let next = c.in_ok-plan.plan.next in
+    let here = subst (λ (rs : List Row). IsPlan spelling cutoff c.self.inside.version rs c.self.inside.memory.entries parts row next) c.outputs_of.ensures c.in_ok-plan.ensures.plan in
+    let plan = subst (λ (k : StoreValue). IsPlan spelling cutoff k.manifest (outputs_in k.job) k.memory.entries parts row next) c.self.view_is here in
+    let store = c.args.self.now in
+    let whole = subst IsConsistent c.self.view_is c.self.invariant.0 in
+    c.write_plan.ensures.frame store.manifest (outputs_in store.job) store.memory.entries whole.version whole.slot (laid_with store whole) plan
+
+-- the other log is in use then
+pub returns-then-is_empty-clause-other : goal.returns-then-is_empty-clause-other
+returns-then-is_empty-clause-other g c some = absurd (some (subst (λ (k : StoreValue). k.memory.entries ≡ []) c.self.view_is (c.is_empty.ensures.0 c.if-is_empty.true)))
+
+pub returns-in-Ok-clause-other : goal.returns-in-Ok-clause-other
+returns-in-Ok-clause-other g c some =
+    let spelling = g.F.RangeFilter.spelling in
+    let cutoff = g.F.RangeFilter.built_cutoff in
+    let parts = c.in_ok-plan.plan.parts in
+    let row = c.in_ok-plan.plan.row in
+    let next = c.in_ok-plan.plan.next in
+    let here = subst (λ (rs : List Row). IsPlan spelling cutoff c.self.inside.version rs c.self.inside.memory.entries parts row next) c.outputs_of.ensures c.in_ok-plan.ensures.plan in
+    let plan = subst (λ (k : StoreValue). IsPlan spelling cutoff k.manifest (outputs_in k.job) k.memory.entries parts row next) c.self.view_is here in
+    sym (ap (λ (m : Manifest). m.version.log_page) plan.next_is) ∙ c.in-Ok.ensures.log.1

@@ -1,4 +1,4 @@
-use Rattle.std.proofs.Common.{◌∙◌, ◌<◌, ◌≤◌, List, length, refl, sym, ap, subst, arith}
+use Rattle.std.proofs.Common.{◌∙◌, ◌<◌, ◌≤◌, ◌+◌, List, length, refl, sym, ap, subst, arith}
 use Rattle.std.specs.Prelude.{Option, Some, Ok, Err}
 use Rattle.std.specs.List.{AllByRecursion}
 use Rattle.disk_trait.specs.World.{Leads, WriteMoves}
@@ -18,6 +18,8 @@ use Rattle.table_file.specs.Opened.{Opened}
 use Rattle.table_model.specs.Tables.{filter_bytes_of}
 use Rattle.store_core.specs.Caching.{AreNumbered, Cached, renumbered}
 use Rattle.store_core.specs.Flushing.{installed_manifest}
+use Rattle.store_core.specs.Framing.{IsInUse}
+use Rattle.store_core.proofs.Framing.{leaves_none, leaves_write, slot_outside}
 use Rattle.store_core.specs.StoreValue.{IsConsistent, StoreValue, rows_of}
 use Rattle.store_core.specs.Replacing.{merged_manifest, tables_behind}
 use Rattle.store_core.specs.Running.{IsRun, MayRunIn}
@@ -193,6 +195,11 @@ returns-in-Err-clause-installs g c s done tells runs is_done tied =
     (ap (λ (k : StoreValue). k.manifest) c.self.view_is) (c.reserve.ensures.tables ∙ ap (λ (k : StoreValue). k.tables) c.self.view_is) (ap (λ (k : StoreValue). k.job) c.self.view_is ∙ c.requires.taken_out)
     (ap (λ (k : StoreValue). k.log) c.self.view_is) (ap (λ (k : StoreValue). k.memory) c.self.view_is) (ap (λ (k : StoreValue). k.blocks) c.self.view_is) c.stops_store-self-inside.ensures
 
+-- the epoch is raised
+pub returns-in-Ok-clause-epoch : goal.returns-in-Ok-clause-epoch
+returns-in-Ok-clause-epoch g c =
+    ap (λ (m : Manifest). m.version.epoch) c.installed.ensures ∙ ap (λ (m : Manifest). m.version.epoch + 1) c.in_ok-next.ensures.next ∙ ap (λ (k : StoreValue). k.manifest.version.epoch + 1) c.self.view_is
+
 -- ---- what a refusal leaves
 
 pub returns-in_err-next-clause-stays : goal.returns-in_err-next-clause-stays
@@ -205,3 +212,29 @@ returns-in_err-reserve-clause-stays g c =
 pub returns-in-Err-clause-stays : goal.returns-in-Err-clause-stays
 returns-in-Err-clause-stays g c runs =
     stopped_or_stays c.from-why.result _ c.args.self.now _ c.reserve.new.self.tables c.self.view_is c.requires.running c.reserve.ensures.tables c.stops_store-self-inside.ensures runs
+
+-- ---- what is left as it was
+
+pub returns-in_err-next-clause-frame : goal.returns-in_err-next-clause-frame
+returns-in_err-next-clause-frame g c = leaves_none (IsInUse c.args.self.now.manifest 262144) (g.D.Disk.world c.args.disk.now)
+
+pub returns-in_err-reserve-clause-frame : goal.returns-in_err-reserve-clause-frame
+returns-in_err-reserve-clause-frame g c = leaves_none (IsInUse c.args.self.now.manifest 262144) (g.D.Disk.world c.args.disk.now)
+
+pub returns-in-Ok-clause-frame : goal.returns-in-Ok-clause-frame
+returns-in-Ok-clause-frame g c =
+    let whole = subst IsConsistent c.self.view_is c.self.invariant.0 in
+    let next_is = c.in_ok-next.ensures.next ∙ ap (λ (k : StoreValue). merged_manifest k.manifest (rows_of (tables_behind k.tables c.args.job))) c.self.view_is in
+    let m = c.args.self.now.manifest in
+    let a = g.D.Disk.world c.args.disk.now in
+    let b = g.D.Disk.world c.install.new.disk in
+    leaves_write (IsInUse m 262144) (other_place m.slot) 131072 a b (slot_outside m whole.version whole.slot 262144) (subst (λ (n : Manifest). WriteMoves (other_place n.slot) 131072 a b) next_is c.install.ensures.moves)
+
+pub returns-in-Err-clause-frame : goal.returns-in-Err-clause-frame
+returns-in-Err-clause-frame g c =
+    let whole = subst IsConsistent c.self.view_is c.self.invariant.0 in
+    let next_is = c.in_ok-next.ensures.next ∙ ap (λ (k : StoreValue). merged_manifest k.manifest (rows_of (tables_behind k.tables c.args.job))) c.self.view_is in
+    let m = c.args.self.now.manifest in
+    let a = g.D.Disk.world c.args.disk.now in
+    let b = g.D.Disk.world c.install.new.disk in
+    leaves_write (IsInUse m 262144) (other_place m.slot) 131072 a b (slot_outside m whole.version whole.slot 262144) (subst (λ (n : Manifest). WriteMoves (other_place n.slot) 131072 a b) next_is c.install.ensures.moves)

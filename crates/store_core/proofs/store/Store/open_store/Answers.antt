@@ -1,4 +1,4 @@
-use Rattle.std.proofs.Common.{rules, ◌≡◌, ◌+◌, ◌∙◌, sym, ap, subst, arith}
+use Rattle.std.proofs.Common.{rules, sym, subst, arith}
 use Rattle.std.specs.Prelude.{MatchResult}
 use Rattle.disk_trait.specs.Image.{Image}
 use Rattle.image_model.specs.Stands.{IsStateOf}

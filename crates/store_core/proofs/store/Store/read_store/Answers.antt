@@ -1,4 +1,4 @@
-use Rattle.std.proofs.Common.{rules, ◌≡◌, ◌≤◌, ◌+◌, ◌*◌, ◌∙◌, ℕ, sym, ap, subst, arith, inl, inr}
+use Rattle.std.proofs.Common.{rules, sym, ap, subst, arith, inl, inr}
 use Rattle.disk_trait.proofs.Calls.{reads_then}
 use Rattle.disk_trait.specs.Image.{Image}
 use Rattle.gate_log.specs.Faults.{IsShapeIn}

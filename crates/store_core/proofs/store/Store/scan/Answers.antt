@@ -1,4 +1,4 @@
-use Rattle.std.proofs.Common.{◌≡◌, ◌∙◌, ◌≤◌, ◌<◌, ◌+◌, false, length, refl, sym, ap, subst, arith}
+use Rattle.std.proofs.Common.{◌∙◌, length, ap, subst, arith}
 use Rattle.std.specs.Option.{option_map}
 use Rattle.std.specs.Prelude.{Option, Some}
 use Rattle.map_model.specs.SortedMap.{Bytes}

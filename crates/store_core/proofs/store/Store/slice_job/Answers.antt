@@ -1,12 +1,19 @@
-use Rattle.std.proofs.Common.{◌≡◌, ◌∙◌, ◌≤◌, List, sym, ap, subst, arith}
+use Rattle.std.proofs.Common.{◌≡◌, ◌∙◌, ◌<◌, List, sym, ap, subst, arith}
+use Rattle.std.specs.Prelude.{IfOk}
 use Rattle.std.specs.List.Sorted.{IsPermutation}
 use Rattle.byte_fields.specs.declared.parts.Row.{Row}
 use Rattle.level_merge.specs.Follows.{FollowsAnyJob}
+use Rattle.level_merge.specs.JobValue.{work_left}
+use Rattle.level_merge.specs.declared.fault.Sliced.{Sliced}
+use Rattle.level_merge.specs.declared.fault.Sliced.TheVariants as sliced
 use Rattle.merge_rows.specs.Steps.{IsSoundMerge}
 use Rattle.table_file.specs.Opened.{Opened}
 use Rattle.table_model.specs.Tables.{filter_bytes_of}
 use Rattle.store_core.specs.StoreValue.{IsConsistent, StoreValue}
 use Rattle.store_core.specs.Running.{extents_with}
+use Rattle.store_core.specs.Framing.{IsInUse}
+use Rattle.store_core.proofs.Framing.{leaves_none}
+use Rattle.store_core.proofs.SlicesLeft.{slice_left}
 use Rattle.store_core.proofs.TendRuns.{slice_moved, slices_more, slices_run}
 use Rattle.store_core.proofs.TendSlices.{now_follows, slices_job, wants_memory}
 use Rattle.store_core.proofs.store.Store.slice_job.Goals as goal
@@ -76,4 +83,24 @@ returns-clause-moves g c =
     let extents = subst (λ (k : StoreValue). IsPermutation (extents_with k.manifest.version old.outputs) free.extents) c.self.view_is
     (subst (λ (rows : List Row). IsPermutation (extents_with c.self.inside.version.version rows) free.extents) c.outputs.ensures c.in_ok-extents.ensures.extents) in
     slice_moved g.F.RangeFilter.spelling g.F.RangeFilter.built_cutoff v c.args.self.now.tables old c.slice.new.self free c.slice.new.extents c.requires.run pages extents
+    (g.D.Disk.world c.args.disk.now) (g.D.Disk.world c.slice.new.disk) c.slice.ensures.slices.moves
+
+pub returns-clause-ends : goal.returns-clause-ends
+returns-clause-ends g c =
+    subst (λ (k : StoreValue). IfOk c.slice.result (λ (said : Sliced). said ≡ sliced.Working → work_left k.tables c.slice.new.self < work_left k.tables c.args.job.now)) c.self.view_is c.slice.ensures.slices.ends
+
+-- ---- what is left as it was
+
+pub returns-in_err-extents-clause-frame : goal.returns-in_err-extents-clause-frame
+returns-in_err-extents-clause-frame g c = leaves_none (IsInUse c.args.self.now.manifest 262144) (g.D.Disk.world c.args.disk.now)
+
+pub returns-clause-frame : goal.returns-clause-frame
+returns-clause-frame g c =
+    let old = c.args.job.now in
+    let free = c.in_ok-extents.extents in
+    let v = c.args.self.now.manifest.version in
+    let whole = subst IsConsistent c.self.view_is c.self.invariant.0 in
+    let extents = subst (λ (k : StoreValue). IsPermutation (extents_with k.manifest.version old.outputs) free.extents) c.self.view_is
+    (subst (λ (rows : List Row). IsPermutation (extents_with c.self.inside.version.version rows) free.extents) c.outputs.ensures c.in_ok-extents.ensures.extents) in
+    slice_left g.F.RangeFilter.spelling g.F.RangeFilter.built_cutoff c.args.self.now.manifest whole.version whole.slot old c.slice.new.self free c.slice.new.extents extents
     (g.D.Disk.world c.args.disk.now) (g.D.Disk.world c.slice.new.disk) c.slice.ensures.slices.moves

@@ -5,7 +5,8 @@ use Rattle.image_model.specs.Stands.{settings_of}
 use Rattle.level_merge.specs.JobValue.{JobValue}
 use Rattle.store_core.specs.StoreValue.{StoreValue}
 use Rattle.store_core.specs.Running.{MayRunIn}
-use Rattle.store_core.specs.Tending.{IsBegunAmong, IsNext, NoneIsChosen}
+use Rattle.store_core.specs.Tending.{IsBegunAmong, IsNext, IsTakenOut, NoneIsChosen}
+use Rattle.store_core.proofs.SliceWork.{begun_taken, running_taken}
 use Rattle.store_core.proofs.TendNext.{begun_may_run, next_of_begun, next_taken}
 use Rattle.store_core.proofs.store.Store.take_job.Goals as goal
 
@@ -48,3 +49,14 @@ returns-clause-none g c =
     let no_job = sym c.take_running-running.ensures.taken ∙ none_of c.take_running-running.result (sym c.is_some.ensures ∙ c.if-is_some.false) in
     if_ok (IsBegunAmong store.tables set) (λ (found : Option JobValue). found ≡ None → (store.job ≡ None) × NoneIsChosen store.tables) c.next_job.result
     (λ found is none. (no_job, subst (IsBegunAmong store.tables set) none is)) begun
+
+pub returns-then-is_some-clause-taken_up : goal.returns-then-is_some-clause-taken_up
+returns-then-is_some-clause-taken_up g c = running_taken c.args.self.now c.take_running-running.result c.take_running-running.ensures.taken
+
+pub returns-clause-taken_up : goal.returns-clause-taken_up
+returns-clause-taken_up g c =
+    let store = c.args.self.now in
+    let set = settings_of store.manifest.version in
+    let begun = subst (λ (k : StoreValue). IfOk c.next_job.result (IsBegunAmong k.tables (settings_of k.manifest.version))) (c.self.view_is ∙ c.take_running-running.ensures.rest) c.next_job.ensures.begun in
+    let no_job = sym c.take_running-running.ensures.taken ∙ none_of c.take_running-running.result (sym c.is_some.ensures ∙ c.if-is_some.false) in
+    if_ok (IsBegunAmong store.tables set) (IsTakenOut store) c.next_job.result (λ found is. begun_taken store found no_job is) begun

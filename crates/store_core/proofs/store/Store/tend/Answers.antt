@@ -1,16 +1,17 @@
-use Rattle.std.proofs.Common.{◌≡◌, ◌∙◌, refl, sym, ap, subst}
-use Rattle.std.specs.Prelude.{Option, Some, None, Result, Ok, Err}
-use Rattle.level_merge.specs.JobValue.{JobValue}
+use Rattle.std.proofs.Common.{◌≡◌, refl, sym, subst}
+use Rattle.std.specs.Prelude.{Some, None, Result, Ok, Err}
 use Rattle.state_model.specs.Tends.{with_job}
 use Rattle.table_model.specs.Tables.{filter_bytes_of}
 use Rattle.store_core.specs.StoreValue.{IsConsistent, StoreValue}
-use Rattle.store_core.specs.Tending.{IsNext, SliceStays, Tends, told_slice}
+use Rattle.store_core.specs.Tending.{IsNext, IsTakenOut, SliceStays, Tends, told_slice}
 use Rattle.store_core.specs.Represents.{Represents}
 use Rattle.store_core.specs.declared.error.StoreError.{StoreError}
-use Rattle.store_core.specs.declared.error.StoreError.TheVariants as error
 use Rattle.store_core.specs.declared.tending.Tended.{Tended}
 use Rattle.store_core.specs.declared.tending.Tended.TheVariants as tended
+use Rattle.store_core.specs.Framing.{IsInUse, LeavesPlaces}
 use Rattle.store_core.proofs.FlushAnswers.{passed_on}
+use Rattle.store_core.proofs.Framing.{leaves_none}
+use Rattle.store_core.proofs.SliceWork.{of_taken}
 use Rattle.store_core.proofs.Stays.{slice_left, without_merge}
 use Rattle.store_core.proofs.TendAnswers.{idles, none_begun, taken_up}
 use Rattle.store_core.proofs.store.Store.tend.Goals as goal
@@ -72,3 +73,26 @@ pub returns-in-Some-clause-stays : goal.returns-in-Some-clause-stays
 returns-in-Some-clause-stays g c =
     let after = c.work.new.self in
     subst (λ (k : StoreValue). SliceStays c.work.result (record k { job = after.job }) after) c.take_job.ensures.rest c.work.ensures.stays
+
+-- ---- by the merge that is taken up
+
+pub returns-in-Some-clause-worked : goal.returns-in-Some-clause-worked
+returns-in-Some-clause-worked g c =
+    of_taken c.args.self.now c.take_job.new.self c.work.new.self c.in-Some.job c.work.result c.take_job.ensures.rest (subst (IsTakenOut c.args.self.now) c.in-Some.is c.in_ok-job.ensures.taken_up) c.work.ensures.worked
+
+-- ---- what is left as it was
+
+pub returns-then-self-clause-frame : goal.returns-then-self-clause-frame
+returns-then-self-clause-frame g c = leaves_none (IsInUse c.args.self.now.manifest 262144) (g.D.Disk.world c.args.disk.now)
+
+pub returns-in_err-job-clause-frame : goal.returns-in_err-job-clause-frame
+returns-in_err-job-clause-frame g c = leaves_none (IsInUse c.args.self.now.manifest 262144) (g.D.Disk.world c.args.disk.now)
+
+pub returns-in-None-clause-frame : goal.returns-in-None-clause-frame
+returns-in-None-clause-frame g c = leaves_none (IsInUse c.args.self.now.manifest 262144) (g.D.Disk.world c.args.disk.now)
+
+pub returns-in-Some-clause-frame : goal.returns-in-Some-clause-frame
+returns-in-Some-clause-frame g c =
+    let a = g.D.Disk.world c.args.disk.now in
+    let b = g.D.Disk.world c.work.new.disk in
+    subst (λ (k : StoreValue). LeavesPlaces (IsInUse k.manifest 262144) a b) c.take_job.ensures.rest c.work.ensures.frame

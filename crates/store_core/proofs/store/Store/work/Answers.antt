@@ -1,20 +1,23 @@
-use Rattle.std.proofs.Common.{◌≡◌, ◌∙◌, ◌≤◌, ◌+◌, ◌*◌, List, refl, sym, ap, subst, arith}
-use Rattle.std.specs.Prelude.{IfErr, Option, Some, None, Result, Ok, Err}
+use Rattle.std.proofs.Common.{inl, inr, ◌*◌, List, refl, sym, ap, subst, arith}
+use Rattle.std.specs.Prelude.{IfErr, IfOk, Some, Result, Ok}
 use Rattle.level_merge.specs.declared.fault.Sliced.{Sliced}
 use Rattle.state_model.proofs.SoundJobs.{drop_sound}
-use Rattle.state_model.specs.State.{State, without_job}
+use Rattle.state_model.specs.State.{without_job}
 use Rattle.state_model.specs.Tends.{with_job}
 use Rattle.table_file.specs.Opened.{Opened}
 use Rattle.table_model.specs.Tables.{filter_bytes_of}
 use Rattle.store_core.specs.Answers.{stopped_by}
 use Rattle.store_core.specs.StoreValue.{StoreValue}
 use Rattle.store_core.specs.Scans.{IsScanShown}
-use Rattle.store_core.specs.Tending.{SlicesJob, Tends, told_slice}
+use Rattle.store_core.specs.Tending.{IsWorkOf, SlicesJob, Tends, told_slice}
 use Rattle.store_core.specs.declared.error.StoreError.{StoreError}
 use Rattle.store_core.specs.declared.tending.Tended.{Tended}
 use Rattle.store_core.specs.declared.tending.Tended.TheVariants as tended
 use Rattle.store_core.proofs.Agreed.{tied_agree}
+use Rattle.store_core.specs.Framing.{IsInUse}
 use Rattle.store_core.proofs.FlushAnswers.{passed_on}
+use Rattle.store_core.proofs.Framing.{leaves_then}
+use Rattle.store_core.proofs.SliceWork.{no_work}
 use Rattle.store_core.proofs.Stays.{install_stays, refused_slice}
 use Rattle.store_core.proofs.TendAnswers.{installs_it, not_installed, slice_refused, tied_none, works_on}
 use Rattle.store_core.proofs.TendRefusals.{both_moved, slice_shown}
@@ -121,3 +124,35 @@ returns-in_err-install_merge-in-Ok-Ready-clause-stays g c =
 
 pub returns-in-Err-clause-stays : goal.returns-in-Err-clause-stays
 returns-in-Err-clause-stays g c = refused_slice c.refuse.result c.args.self.now c.refuse.new.self c.requires.running c.refuse.ensures.rest
+
+-- ---- by its merge
+
+pub returns-in-Ok-Working-clause-worked : goal.returns-in-Ok-Working-clause-worked
+returns-in-Ok-Working-clause-worked g c =
+    let m = c.slice_job.new.job in
+    inl (m, ap (λ (k : StoreValue). record k { job = Some m }) c.self.view_is, c.in-Ok-Working.ensures.ends c.in-Ok-Working.field-0-is)
+
+pub returns-in_ok-install_merge-in-Ok-Ready-clause-worked : goal.returns-in_ok-install_merge-in-Ok-Ready-clause-worked
+returns-in_ok-install_merge-in-Ok-Ready-clause-worked g c = inr (c.install_merge.ensures.no_job, c.in_ok-install_merge-in-Ok-Ready.ensures.epoch)
+
+pub returns-in_err-install_merge-in-Ok-Ready-clause-worked : goal.returns-in_err-install_merge-in-Ok-Ready-clause-worked
+returns-in_err-install_merge-in-Ok-Ready-clause-worked g c =
+    subst (λ (r : Result Tended StoreError). IfOk r (IsWorkOf c.args.self.now c.args.job c.install_merge.new.self)) (passed_on c.from_residual.result c.in_err-install_merge-in-Ok-Ready.field-0.0 c.from_residual.ensures.1) tt
+
+pub returns-in-Err-clause-worked : goal.returns-in-Err-clause-worked
+returns-in-Err-clause-worked g c =
+    subst (λ (r : Result Tended StoreError). IfOk r (IsWorkOf c.args.self.now c.args.job c.refuse.new.self)) (sym c.refuse.ensures.answer) (no_work c.args.self.now c.refuse.new.self c.args.job c.in-Err.why)
+
+-- ---- what is left as it was
+
+pub returns-in-Ok-Working-clause-frame : goal.returns-in-Ok-Working-clause-frame
+returns-in-Ok-Working-clause-frame g c = c.slice_job.ensures.frame
+
+pub returns-in_ok-install_merge-in-Ok-Ready-clause-frame : goal.returns-in_ok-install_merge-in-Ok-Ready-clause-frame
+returns-in_ok-install_merge-in-Ok-Ready-clause-frame g c = leaves_then (IsInUse c.args.self.now.manifest 262144) (g.D.Disk.world c.args.disk.now) (g.D.Disk.world c.slice_job.new.disk) (g.D.Disk.world c.install_merge.new.disk) c.slice_job.ensures.frame c.install_merge.ensures.frame
+
+pub returns-in_err-install_merge-in-Ok-Ready-clause-frame : goal.returns-in_err-install_merge-in-Ok-Ready-clause-frame
+returns-in_err-install_merge-in-Ok-Ready-clause-frame g c = leaves_then (IsInUse c.args.self.now.manifest 262144) (g.D.Disk.world c.args.disk.now) (g.D.Disk.world c.slice_job.new.disk) (g.D.Disk.world c.install_merge.new.disk) c.slice_job.ensures.frame c.install_merge.ensures.frame
+
+pub returns-in-Err-clause-frame : goal.returns-in-Err-clause-frame
+returns-in-Err-clause-frame g c = c.slice_job.ensures.frame

@@ -1,5 +1,5 @@
-use Rattle.std.proofs.Common.{◌≡◌, ◌+◌, ◌*◌, ◌≤◌, ◌<◌, ℕ, Bool, false, ◌∙◌, refl, sym, ap, subst, arith, inl, inr}
-use Rattle.std.specs.Prelude.{IfErr, Result, Err, IsTrue}
+use Rattle.std.proofs.Common.{◌≡◌, ◌+◌, ◌*◌, ◌≤◌, ◌<◌, ℕ, Bool, false, ◌∙◌, sym, ap, subst, arith, inl, inr}
+use Rattle.std.specs.Prelude.{IfErr, Result, IsTrue}
 use Rattle.disk_trait.proofs.Calls.{moves_then}
 use Rattle.disk_trait.specs.World.{WriteMoves}
 use Rattle.std.proofs.lemmas.Bool.{cases_lt}
@@ -8,15 +8,18 @@ use Rattle.gate_log.specs.Values.{value_of}
 use Rattle.state_model.specs.Changes.{written}
 use Rattle.table_model.specs.Tables.{filter_bytes_of}
 use Rattle.store_core.specs.Answers.{WroteEntry}
+use Rattle.store_core.specs.Framing.{IsInUse, LeavesPlaces}
 use Rattle.store_core.specs.Refusing.{IsWriteDue}
-use Rattle.store_core.specs.StoreValue.{IsConsistent, StoreValue}
+use Rattle.store_core.proofs.RecordsLeft.{flush_left, flush_then_record_left, record_left, small_need}
+use Rattle.store_core.proofs.Framing.{leaves_none}
+use Rattle.store_core.specs.StoreValue.{StoreValue}
 use Rattle.store_core.specs.Represents.{Represents}
 use Rattle.store_core.specs.declared.error.StoreError.{StoreError}
 use Rattle.store_core.specs.declared.error.StoreError.TheVariants as error
 use Rattle.store_core.proofs.FlushAnswers.{passed_on, wanted_room}
-use Rattle.store_core.proofs.Refusals.{failure_due, fits_allowed, flush_allowed, flush_due}
+use Rattle.store_core.proofs.Refusals.{failure_due, fits_allowed, flush_allowed, flush_due, wanted_entry}
 use Rattle.store_core.proofs.Stays.{flush_stays, room_taken, stopped_stays}
-use Rattle.store_core.proofs.Writing.{flush_failed, flush_then, need_fits, need_over, never, tied_with, whole_with, wrote_as, wrote_logged}
+use Rattle.store_core.proofs.Writing.{flush_failed, flush_then, need_fits, need_over, never, tied_with, wrote_as, wrote_logged}
 use Rattle.store_core.proofs.store.Store.write.Goals as goal
 
 pub returns-in_err-entry-clause-wrote : goal.returns-in_err-entry-clause-wrote
@@ -114,10 +117,8 @@ returns-clause-stays g c =
 
 pub returns-in_err-entry-clause-due : goal.returns-in_err-entry-clause-due
 returns-in_err-entry-clause-due g c =
-    let bytes = filter_bytes_of g.F.RangeFilter.spelling g.F.RangeFilter.built_cutoff in
-    let w = g.D.Disk.world c.args.disk.now in
-    let x = entry_of c.args.key.now (value_of c.args.value) in
-    subst (λ (r : Result (Unit {0}) StoreError). IfErr r (IsWriteDue bytes c.args.self.now x w w)) (passed_on c.from_residual.result error.Memory c.from_residual.ensures.1) tt
+    wanted_entry (filter_bytes_of g.F.RangeFilter.spelling g.F.RangeFilter.built_cutoff) c.from_residual.result c.args.self.now (entry_of c.args.key.now (value_of c.args.value)) (g.D.Disk.world c.args.disk.now)
+    (passed_on c.from_residual.result error.Memory c.from_residual.ensures.1)
 
 pub returns-then-fits-clause-due : goal.returns-then-fits-clause-due
 returns-then-fits-clause-due g c =
@@ -156,3 +157,35 @@ pub returns-clause-allowed : goal.returns-clause-allowed
 returns-clause-allowed g c =
     flush_allowed (filter_bytes_of g.F.RangeFilter.spelling g.F.RangeFilter.built_cutoff) c.append-2.result _ c.args.self.now c.reserve_for.new.self (entry_of c.args.key.now (value_of c.args.value)) c.self.view_is c.reserve_for.ensures.kept
     c.in_ok-flush_memory.ensures.allowed
+
+-- ---- what is left as it was
+
+pub returns-in_err-entry-clause-frame : goal.returns-in_err-entry-clause-frame
+returns-in_err-entry-clause-frame g c = leaves_none (IsInUse c.args.self.now.manifest c.args.self.now.log.filled) (g.D.Disk.world c.args.disk.now)
+
+pub returns-then-fits-clause-frame : goal.returns-then-fits-clause-frame
+returns-then-fits-clause-frame g c =
+    let e : Entry = c.in_ok-entry.entry in
+    let within = subst (λ (n : ℕ). c.self.inside.log.filled + n ≤ 262144) (c.record_need.ensures ∙ sym (ap need c.in_ok-entry.ensures.prepared)) (c.fits.ensures.0 c.if-fits.true) in
+    let a = g.D.Disk.world c.args.disk.now in
+    let b = g.D.Disk.world c.append.new.disk in
+    subst (λ (k : StoreValue). LeavesPlaces (IsInUse k.manifest k.log.filled) a b) c.self.view_is (record_left _ c.self.invariant.0 (need e) within a b c.append.ensures.own)
+
+pub returns-in_err-flush_memory-clause-frame : goal.returns-in_err-flush_memory-clause-frame
+returns-in_err-flush_memory-clause-frame g c =
+    let a = g.D.Disk.world c.args.disk.now in
+    let b = g.D.Disk.world c.flush_memory.new.disk in
+    subst (λ (k : StoreValue). LeavesPlaces (IsInUse k.manifest k.log.filled) a b) c.self.view_is (flush_left _ c.self.invariant.0 a b c.flush_memory.ensures.frame)
+
+pub returns-clause-frame : goal.returns-clause-frame
+returns-clause-frame g c =
+    let e : Entry = c.in_ok-entry.entry in
+    let a = g.D.Disk.world c.args.disk.now in
+    let b = g.D.Disk.world c.flush_memory.new.disk in
+    let d = g.D.Disk.world c.append-2.new.disk in
+    let wide = subst (λ (n : ℕ). 262144 < c.self.inside.log.filled + n) (c.record_need.ensures ∙ sym (ap need c.in_ok-entry.ensures.prepared))
+    (not_within (c.self.inside.log.filled + c.record_need.result) c.fits.result c.fits.ensures.1 c.if-fits.false) in
+    subst (λ (k : StoreValue). LeavesPlaces (IsInUse k.manifest k.log.filled) a d) c.self.view_is
+    (flush_then_record_left _ c.self.invariant.0 c.reserve_for.new.self c.reserve_for.ensures.kept c.flush_memory.new.self.log.area c.flush_memory.new.self.log.filled (need e) wide
+    (subst (λ (x : Entry). need x ≤ 262144) (sym c.in_ok-entry.ensures.prepared) (small_need (entry_of c.args.key.now (value_of c.args.value)) c.requires.sound))
+    c.in_ok-flush_memory.ensures.begun c.in_ok-flush_memory.ensures.other a b d c.flush_memory.ensures.frame c.append-2.ensures.own)

@@ -1,0 +1,42 @@
+-- What an entry that is written leaves as it was: all but its own record, and what a flush before it writes.
+use Rattle.std.proofs.Common.{◌≡◌, ◌≢◌, ◌∙◌, ◌<◌, ◌≤◌, ◌+◌, ◌*◌, ℕ, [], sym, subst, arith}
+use Rattle.disk_trait.specs.World.{World, WriteMoves}
+use Rattle.entry_model.proofs.Bodies.{body_size}
+use Rattle.entry_model.specs.Entries.{Entry, IsEntry, need}
+use Rattle.log_model.specs.Area.{start_of}
+use Rattle.manifest_model.specs.Version.{log_page_of}
+use Rattle.mem_table.specs.Table.{MemoryTable}
+use Rattle.store_core.specs.Flushing.{other_log_page}
+use Rattle.store_core.specs.Framing.{IsInUse, LeavesPlaces}
+use Rattle.store_core.specs.StoreValue.{IsConsistent, StoreValue}
+use Rattle.store_core.proofs.Framing.{leaves_fewer, leaves_then, leaves_write, less_in_use, log_outside, other_page, record_outside}
+use Rattle.store_core.proofs.Wholes.{begun_where_none}
+
+-- the record of an entry fits an empty area
+pub small_need : (e : Entry) → IsEntry e → need e ≤ 262144
+small_need e is = omega (arith, body_size e, is.short_key, is.short_value)
+
+module _ (store : StoreValue) (whole : IsConsistent store) where
+  within : store.log.filled ≤ 262144
+  within = omega (arith, whole.entries.filled_is, whole.entries.fits)
+
+  -- behind those of the log
+  pub record_left : (n : ℕ) → store.log.filled + n ≤ 262144 → (a b : World) → WriteMoves (start_of store.log.area + store.log.filled) n a b → LeavesPlaces (IsInUse store.manifest store.log.filled) a b
+  record_left n fits a b moves =
+      let place : start_of store.log.area + store.log.filled ≡ 4096 * store.manifest.version.log_page + store.log.filled = omega (arith, whole.area) in
+      leaves_write (IsInUse store.manifest store.log.filled) (4096 * store.manifest.version.log_page + store.log.filled) n a b (record_outside store.manifest whole.version whole.slot store.log.filled n fits)
+      (subst (λ (at : ℕ). WriteMoves at n a b) place moves)
+
+  pub flush_left : (a b : World) → LeavesPlaces (IsInUse store.manifest 262144) a b → LeavesPlaces (IsInUse store.manifest store.log.filled) a b
+  flush_left a b left = leaves_fewer (IsInUse store.manifest 262144) (IsInUse store.manifest store.log.filled) a b (less_in_use store.manifest store.log.filled 262144 within) left
+
+  -- behind a flush, in the other area
+  pub flush_then_record_left : (m : MemoryTable) → m.entries ≡ store.memory.entries → (area filled n : ℕ) → 262144 < store.log.filled + n → n ≤ 262144 → filled ≡ 0
+      → (m.entries ≢ [] → other_log_page store.manifest.version ≡ log_page_of area) → (a b d : World) → LeavesPlaces (IsInUse store.manifest 262144) a b → WriteMoves (start_of area + filled) n b d
+      → LeavesPlaces (IsInUse store.manifest store.log.filled) a d
+  flush_then_record_left m kept area filled n wide small begun other a b d first own =
+      let some : m.entries ≢ [] = λ none. let empty = begun_where_none store whole (sym kept ∙ none) in absurd (omega (arith, wide, small, empty)) in
+      let at = other_page store.manifest.version whole.version area (other some) in
+      let P = IsInUse store.manifest store.log.filled in
+      leaves_then P a b d (flush_left a b first)
+      (leaves_write P (start_of area + filled) n b d (log_outside store.manifest whole.version whole.slot store.log.filled area (start_of area + filled) n within at.0 at.1 (omega arith) (omega (arith, begun, small))) own)
