@@ -246,7 +246,9 @@ module _ (kind : Kind) (numbers : NewNumbers) (s : State) (store later : StoreVa
 
   reset_text : (e : StoreError) → IsResetRefusal false (bad_number numbers store.manifest.version.pages) store.manifest.version.epoch a m e → IsResetText kind numbers s first b (reset_status e) (refusal_text e)
   reset_text error.Memory cause = inr (inr (inr (inl (refl, still cause.2, refl))))
-  reset_text (error.Device fault) cause = inr (inr (inr (inr (refl, refl))))
+  reset_text (error.Device fault) cause =
+      let since = rose_since first.seen.write_faults a.seen.write_faults m.seen.write_faults opened.counts.write cause.2 in
+      inr (inr (inr (inr (refl, disk_then first m b (inr since) (no_fall_say m b says), refl))))
   reset_text error.Stopped cause = absurd (let e : false ≡ true = cause.0 in cc)
   reset_text (error.Limit limit) cause = inr (inl (refl, subst (λ (n : ℕ). bad_number numbers n ≡ None) (sym pages_are) cause.1, at_last numbers s (epoch_is ∙ cause.3), still cause.4, ap text_of cause.2))
   reset_text (error.Full need gap) cause = absurd cause

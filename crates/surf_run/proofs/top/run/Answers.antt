@@ -23,7 +23,7 @@ returns g c =
       formatted = λ wanted store tells output is good of. if_format words asked wanted store _ _ is good of asks (by.formatted tells output) (λ none. inr none);
       early = λ is. if_serve words asked _ is asks by.early;
       format_complete = λ wanted store tells output is good of none.
-          format_ends _ _ _ _ _ (if_format words asked wanted store _ _ is good of asks (by.formatted tells output) (λ starved. inr starved)) by.causes none;
+          format_ends _ wanted store _ _ _ good of (if_format words asked wanted store _ _ is good of asks (by.formatted tells output) (λ starved. inr starved)) by.causes none;
       bad_settings = λ field output bad. if_bad words asked field _ _ bad asks (by.bad_settings output) (λ none. unserved_wider IsMemoryText (IsBadSettingsText field) (λ status text memory. inr memory) _ _ _ none);
       loaded = λ s load tells output now is. if_load words asked load _ _ is asks (by.loaded s tells output now) (λ none. inr none);
       loads = λ s load tells output here is. if_load words asked load _ _ is asks (by.loads s tells output here) (λ none. inr none);
