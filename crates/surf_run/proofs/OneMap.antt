@@ -134,7 +134,7 @@ within filter_bytes s Compact = done_or (without_job s) _ (compacted_refuses fil
 within filter_bytes s Quit = inl refl
 within filter_bytes s (Bad code) = inl refl
 
-answered : (filter_bytes : FilterBytes) (s : State) (request : Request) → IsOf (state_map s) request (answer filter_bytes s request).0
+pub answered : (filter_bytes : FilterBytes) (s : State) (request : Request) → IsOf (state_map s) request (answer filter_bytes s request).0
 answered filter_bytes s request = unless (limit_of request) s (answer_within filter_bytes s request) (state_map s) request (limits_refuse request) (within filter_bytes s request)
 
 -- ---- a step that goes on
@@ -159,7 +159,7 @@ never_over : (ending : _) → Over ending ≡ Onward → ⊥
 never_over ending e = cc
 
 -- what is left has the map of before
-left_map : (s : State) (request : Request) → state_map (left_by request s) ≡ map_behind request Memory (state_map s)
+pub left_map : (s : State) (request : Request) → state_map (left_by request s) ≡ map_behind request Memory (state_map s)
 left_map s (Put key value) = refl
 left_map s (Del key) = refl
 left_map s (Get key) = refl

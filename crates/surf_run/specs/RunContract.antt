@@ -17,10 +17,12 @@ use Rattle.program_words.specs.declared.load.Load.{Load}
 use Rattle.program_words.specs.declared.new_store.NewStore.{NewStore}
 use Rattle.program_words.specs.declared.new_store.Wanted.{Wanted}
 use Rattle.state_model.specs.State.{State}
+use Rattle.state_model.specs.View.{state_map}
 use Rattle.surf_run.specs.Causes.{EndsAt, IsServing, NoFall, RunMeetsDamage, StatusCause}
 use Rattle.surf_run.specs.ServedOrNot.{Completed, HasNoState, NoLineAnswered, OpenedThenServed, OpensNothing, ServedOrNot, SomeFailed, TellsDamage}
 use Rattle.surf_run.specs.Kind.{Kind}
 use Rattle.surf_run.specs.Loads.{IsLoading, LoadEnds, Loads}
+use Rattle.surf_run.specs.MapCrash.{OneMapLasts}
 use Rattle.surf_run.specs.Open.{IsOpeningText}
 use Rattle.surf_run.specs.Resetting.{AskFor, IsInLastEpoch, IsResetEnd, IsResetting, OpenedThenReset, ResetEnds, TellsWhich}
 use Rattle.surf_run.specs.Run.{AskNothing, FormatEnds, IsBadSettingsText, IsHelpText, IsUsageText}
@@ -39,6 +41,11 @@ pub record RunContract {X : Type 0} (world : X → World) (tells tells_input tel
   pub outcome :
       (s : State) → IsTrue tells → IsTrue tells_input → IsTrue tells_output → Now (IsStateOf kind.spelling s) (world old) → IsServe words
       → ServedOrNot kind status s (world old) (world new)
+  -- Told of the map alone: at each moment each image that a crash may leave has a map that these replies reach after some first
+  -- lines with all that was acknowledged by then, or after one more.
+  pub one_map_crash :
+      (s : State) → IsTrue tells → IsTrue tells_input → IsTrue tells_output → Now (IsStateOf kind.spelling s) (world old) → IsServe words
+      → OneMapLasts kind.spelling (state_map s) (world old) (world new) ⊎ NoLineAnswered status s (world old) (world new)
   -- Where what the device reads as stands for this state: the same from the opening on.
   pub answers :
       (s : State) → IsTrue tells → IsTrue tells_input → IsTrue tells_output → IsStateOf kind.spelling s (world old).seen.held → IsServe words

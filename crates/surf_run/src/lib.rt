@@ -38,7 +38,7 @@ mod resetting;
 mod saying;
 mod top;
 
-pub use laws::replies_are_of_the_map;
+pub use laws::{replies_are_of_the_map, runs_chain};
 pub use line_end::LineEnd;
 pub use new_numbers::NewNumbers;
 pub use one_line::serve_line;

@@ -1,8 +1,11 @@
 use Rattle.std.proofs.Common.{inl, inr, map}
 use Rattle.std.specs.Prelude.{string_bytes}
+use Rattle.image_model.proofs.Sound.{state_sound}
+use Rattle.surf_run.specs.Kind.{filter_kind}
 use Rattle.surf_run.specs.Run.{IsBadSettingsText, IsMemoryText}
 use Rattle.surf_run.specs.declared.new_numbers.NewNumbers.TheVariants as new
 use Rattle.surf_run.proofs.Asking.{has_settings_in_range, if_bad, if_format, if_help, if_load, if_nothing, if_opens, if_opens_without_growing, if_refused, if_reset, if_serve, is_load, is_refused, is_reset}
+use Rattle.surf_run.proofs.Chaining.{one_map_lasts}
 use Rattle.surf_run.proofs.Formats.{format_ends}
 use Rattle.surf_run.proofs.LastLines.{unserved_wider}
 use Rattle.surf_run.proofs.top.run.Goals as goal
@@ -18,6 +21,11 @@ returns g c =
     let by = c.run_asked.ensures in
     record {
       outcome = λ s tells input output now is. if_serve words asked _ is asks (by.outcome s tells input output now);
+      one_map_crash = λ s tells input output now is.
+          let spelling = g.F.RangeFilter.spelling in
+          let kind = filter_kind spelling g.F.RangeFilter.built_cutoff in
+          let here = now _ (g.met.W.Disk.current c.args.out.now tells) in
+          one_map_lasts kind _ s _ _ (state_sound spelling kind.filter_bytes s _ here) (if_serve words asked _ is asks (by.outcome s tells input output now));
       answers = λ s tells input output here is. if_serve words asked _ is asks (by.answers s tells input output here);
       complete = λ s tells input output here none is. if_serve words asked _ is asks (by.complete s tells input output here none);
       formatted = λ wanted store tells output is good of. if_format words asked wanted store _ _ is good of asks (by.formatted tells output) (λ none. inr none);
