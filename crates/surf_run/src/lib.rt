@@ -22,6 +22,7 @@
 
 mod answers;
 mod bounds;
+mod crash_examples;
 mod format_lines;
 mod formatting;
 mod laws;
