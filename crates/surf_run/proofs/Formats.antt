@@ -1,5 +1,5 @@
 -- A format, and then its last line.
-use Rattle.std.proofs.Common.{◌≡◌, ◌≢◌, ◌⊎◌, ◌++◌, ◌∙◌, inl, inr, refl, sym, ap, subst, arith, ℕ, Bool, true, false, Option, Some, None}
+use Rattle.std.proofs.Common.{◌≡◌, ◌≢◌, ◌⊎◌, ◌++◌, ◌∙◌, inl, inr, refl, sym, ap, subst, ℕ, Bool, true, false, Option, Some, None}
 use Rattle.std.specs.Prelude.{nat_lt, ◌||◌, if◌then◌else◌, Ok, Err}
 use Rattle.disk_trait.proofs.Moments.{goes_on, now_at, passes_other}
 use Rattle.disk_trait.specs.World.{Image, Leads, Meanwhile, Moves, ReadMoves, Same, Torn, World}

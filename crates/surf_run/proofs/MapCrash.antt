@@ -5,7 +5,7 @@ use Rattle.std.proofs.lemmas.List.{append-nil}
 use Rattle.byte_fields.specs.declared.parts.Damage.{Damage}
 use Rattle.disk_trait.specs.World.{Image}
 use Rattle.image_model.specs.Stands.{StandsForMap}
-use Rattle.line_model.specs.Replies.{Device, Done, Reply, text_of}
+use Rattle.line_model.specs.Replies.{Device, Reply}
 use Rattle.line_model.specs.Requests.{Bad, Compact, Count, Del, Estimate, Explain, Flush, Get, Put, Quit, Range, Request, Seek, request_of}
 use Rattle.map_model.specs.Slices.{slice}
 use Rattle.map_model.specs.SortedMap.{Bytes, Map, del, put}
@@ -19,7 +19,7 @@ use Rattle.state_model.specs.Steps.{Reads, Step, answer, answers, damage_met, le
 use Rattle.state_model.specs.View.{state_map}
 use Rattle.surf_run.specs.Crash.{IsAfterPrefix, KeepsAcknowledged}
 use Rattle.surf_run.specs.Kind.{Kind}
-use Rattle.surf_run.specs.MapCrash.{HasOneMap, IsDevice, IsMapAfter, IsOldOrNewMap, KeepsOneMap}
+use Rattle.surf_run.specs.MapCrash.{HasOneMap, IsDevice, IsMapAfter, IsOldOrNewMap}
 use Rattle.surf_run.specs.OneMap.{IsMapReply, IsRefusal}
 use Rattle.surf_run.proofs.OneMap.{answered, left_map, one_map}
 use Rattle.table_model.specs.Tables.{FilterBytes}

@@ -8,12 +8,10 @@ use Rattle.disk_trait.specs.World.{Image, Meanwhile, Now, ReadMoves, Same, Strea
 use Rattle.filter_api.specs.Ranges.{InRange}
 use Rattle.filter_api.specs.Spellings.{Spelling}
 use Rattle.filter_api.specs.declared.settings.Field.{Field}
-use Rattle.filter_api.specs.declared.settings.Field.TheVariants as field
 use Rattle.filter_api.specs.declared.settings.Settings.{Settings}
-use Rattle.image_model.specs.Stands.{IsStateOf, StandsFor}
+use Rattle.image_model.specs.Stands.{StandsFor}
 use Rattle.key_base.specs.Limits.{last_epoch, max_hash_bits, max_real_bits}
 use Rattle.line_model.specs.Replies.{LastEpoch, Reply, text_of}
-use Rattle.manifest_model.specs.Slots.{IsNoStore}
 use Rattle.map_model.specs.SortedMap.{Bytes}
 use Rattle.outside.proofs.Crossing.{during_disk, during_say, during_then, during_weaker}
 use Rattle.outside.specs.During.{During}
@@ -26,7 +24,7 @@ use Rattle.store_core.specs.Resetting.{IsMade, IsResetRefusal, MayReset, Resets}
 use Rattle.store_core.specs.StoreValue.{StoreValue}
 use Rattle.store_core.specs.declared.error.StoreError.{StoreError}
 use Rattle.store_core.specs.declared.error.StoreError.TheVariants as error
-use Rattle.surf_run.specs.Causes.{DiskFailed, IsServing, LineMoves, NoFall, SayFailed, StatusCause, WritesWithin}
+use Rattle.surf_run.specs.Causes.{DiskFailed, IsServing, NoFall, SayFailed, StatusCause, WritesWithin}
 use Rattle.surf_run.specs.Formats.{bad_settings_text}
 use Rattle.surf_run.specs.Kind.{Kind}
 use Rattle.surf_run.specs.Loads.{IsLoading}
