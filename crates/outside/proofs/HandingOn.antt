@@ -1,12 +1,12 @@
 -- What may be left of an outside, and of the next one.
-use Rattle.std.proofs.Common.{◌≡◌, ◌∙◌, ◌-◌, ℕ, List, [], length, drop, refl, sym, ap, subst, arith}
+use Rattle.std.proofs.Common.{◌≡◌, ◌∙◌, ℕ, List, length, drop, sym, ap, subst, arith}
 use Rattle.std.proofs.Math.Nat.{sub_self}
 use Rattle.disk_trait.specs.World.{Image}
 use Rattle.disk_mem.proofs.Crashes.{crash_is_left}
 use Rattle.disk_mem.specs.Bytes.{image_of}
-use Rattle.disk_mem.specs.Calls.{Call, Left, bytes_after, calls_by}
+use Rattle.disk_mem.specs.Calls.{Call, bytes_after, calls_by}
 use Rattle.disk_mem.specs.Choices.{crash_bytes}
-use Rattle.disk_mem.specs.History.{History, LeftImage}
+use Rattle.disk_mem.specs.History.{LeftImage}
 use Rattle.outside.specs.HandingOn.{CrashIsHandedOn, DiskIsHandedOn}
 use Rattle.outside.specs.PresentLaws.{disk_moment-now}
 use Rattle.outside.specs.Session.{Session, disk_moment, fresh, now_of, session_world}
