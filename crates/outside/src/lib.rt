@@ -15,12 +15,14 @@
 //! ```
 #![tactic(auto)]
 
+mod laws;
 mod mark;
 mod mem_calls;
 mod mem_outside;
 mod saying;
 mod stream;
 
+pub use laws::outsides_follow;
 pub use mem_outside::MemOutside;
 pub use saying::say_all;
 pub use stream::{Outside, SayFault, TakeFault};

@@ -81,7 +81,7 @@ fn settings_out_of_range_are_told_before_any_call(rt: HostRuntime) -> Result<(),
     Ok(())
 }
 
-const HELP_PARTS: [&str; 15] = [
+const HELP_PARTS: [&str; 16] = [
     "format",
     "serve",
     "--pages",
@@ -97,6 +97,7 @@ const HELP_PARTS: [&str; 15] = [
     "settings",
     "grow",
     "limit epoch, of settings and grow",
+    "With 0 a large filter",
 ];
 
 // The first of these parts that a text lacks.

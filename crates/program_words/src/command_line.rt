@@ -26,7 +26,8 @@ format: --pages N    pages of 4,096 bytes, 512 to 16,777,216
         --variant W  suffix bits of a filter's leaves: base, hash, real or mixed
         --hash-bits N, --real-bits N  0 to 32, 8 where none is named; base uses
                      neither, hash no real bits, real no hash bits
-        --ratio N    0 to 65,535, 64 where none is named
+        --ratio N    0 to 65,535, 64 where none is named. With 0 a large filter
+                     may not be built: compact then answers memory each time
 load:   --seed S     below 2^64    --count N  steps, 1 to 1,000,000
 settings: as format, without --pages; for the tables that are made from then on.
              What is not named takes its default, whatever the store has
@@ -185,7 +186,7 @@ fn with_numbers<'a>(alloc: Global, command: Command<'a>) -> Result<Command<'a>, 
         with_real_bits,
         "ratio",
         "64",
-        "How many times smaller a filter's dense levels are than the others, 0 to 65,535",
+        "How many times smaller a filter's dense levels are than the others, 0 to 65,535; with 0 a large filter may not be built",
     )
 }
 

@@ -1,6 +1,6 @@
 -- A format, and then its last line.
-use Rattle.std.proofs.Common.{◌≡◌, ◌≢◌, ◌⊎◌, ◌++◌, ◌∙◌, inl, inr, refl, sym, ap, subst, arith, ℕ, Bool, true, false, Option, Some, None}
-use Rattle.std.specs.Prelude.{Ok, Err}
+use Rattle.std.proofs.Common.{◌≡◌, ◌≢◌, ◌⊎◌, ◌++◌, ◌∙◌, inl, inr, refl, sym, ap, subst, ℕ, Bool, true, false, Option, Some, None}
+use Rattle.std.specs.Prelude.{nat_lt, ◌||◌, if◌then◌else◌, Ok, Err}
 use Rattle.disk_trait.proofs.Moments.{goes_on, now_at, passes_other}
 use Rattle.disk_trait.specs.World.{Image, Leads, Meanwhile, Moves, ReadMoves, Same, Torn, World}
 use Rattle.filter_api.specs.Spellings.{Spelling}
@@ -11,10 +11,16 @@ use Rattle.manifest.specs.NewManifest.{has_open}
 use Rattle.manifest_model.specs.Slots.{IsNoStore}
 use Rattle.outside.specs.Streams.{SaidByNow, SayMoves, SaysPrefix}
 use Rattle.state_model.specs.State.{new_state}
-use Rattle.store_core.specs.Formatting.{IsFormatRefusal, IsNoneOrNew, IsThereAnswer, first_bad}
+use Rattle.store_core.specs.Formatting.{IsFormatRefusal, IsNoneOrNew, IsThereAnswer, first_bad, first_bad_setting}
 use Rattle.store_core.specs.declared.error.StoreError.{StoreError}
 use Rattle.store_core.specs.declared.error.StoreError.TheVariants as error
+use Rattle.filter_api.specs.declared.settings.Field.TheVariants as field
+use Rattle.key_base.specs.Limits.{max_device_pages, min_device_pages}
+use Rattle.program_words.proofs.Alone.{settings_in_range}
+use Rattle.program_words.specs.NewStores.{IsStoreOf, first_bad_word}
+use Rattle.program_words.specs.WantedSettings.{first_bad_setting as first_bad_named}
 use Rattle.program_words.specs.declared.new_store.NewStore.{NewStore}
+use Rattle.program_words.specs.declared.new_store.Wanted.{Wanted}
 use Rattle.surf_run.specs.Causes.{SayFailed, StatusCause}
 use Rattle.surf_run.specs.FormatRefusals.{IsOfFormat, refused_status, refused_text}
 use Rattle.surf_run.specs.Formats.{Formatted, IsFormatText, formatted_text}
@@ -23,6 +29,7 @@ use Rattle.surf_run.specs.ServedOrNot.{SomeFailed}
 use Rattle.surf_run.specs.Unserved.{Untouched}
 use Rattle.surf_run.proofs.LastLines.{last_line, untouched}
 use Rattle.surf_run.proofs.Moments.{now_still, torn_none}
+use Rattle.surf_run.proofs.NewNumbersSet.{none_bad}
 
 -- what is so meanwhile of a call is so behind its last line too
 meanwhile_said : (P : Image → Type 0) (a m b : World) → SayMoves m b → Meanwhile P a m → Meanwhile P a b
@@ -126,19 +133,35 @@ module _ (spelling : Spelling) (settings : Settings) (pages : ℕ) (a m b : Worl
 
 -- ---- where no call failed
 
-pub format_ends : (spelling : Spelling) (store : NewStore) (status : ℕ) (old new : World) → FormatEnds spelling store status old new → StatusCause status old new → (SomeFailed old new → ⊥)
-    → (status ≡ 0) ⊎ (status ≡ 7) ⊎ (status ≡ 8)
-format_ends spelling store status old new (inr starved) causes none = elim starved.line.3 [
+-- the store that the words want has no number out of range
+pub none_out_of_range : (wanted : Wanted) (store : NewStore) → first_bad_word wanted ≡ None → IsStoreOf wanted store → first_bad store.settings store.pages ≡ None
+none_out_of_range wanted store good of = by_pages (is_out wanted.pages) refl
+  where
+    is_out : ℕ → Bool
+    is_out pages = nat_lt pages min_device_pages || nat_lt max_device_pages pages
+
+    by_pages : (out : Bool) → is_out wanted.pages ≡ out → first_bad store.settings store.pages ≡ None
+    by_pages true e = absurd (let never : Some field.Pages ≡ None = sym (ap (λ (b : Bool). if b then Some field.Pages else first_bad_named wanted.settings) e) ∙ good in cc)
+    by_pages false e =
+        let named : first_bad_named wanted.settings ≡ None = sym (ap (λ (b : Bool). if b then Some field.Pages else first_bad_named wanted.settings) e) ∙ good in
+        ap (λ (n : ℕ). if is_out n then Some field.Pages else first_bad_setting store.settings) of.pages
+        ∙ ap (λ (b : Bool). if b then Some field.Pages else first_bad_setting store.settings) e
+        ∙ none_bad store.settings (settings_in_range wanted.settings store.settings named of.settings)
+
+pub format_ends : (spelling : Spelling) (wanted : Wanted) (store : NewStore) (status : ℕ) (old new : World) → first_bad_word wanted ≡ None → IsStoreOf wanted store
+    → FormatEnds spelling store status old new → StatusCause status old new → (SomeFailed old new → ⊥)
+    → (status ≡ 0) ⊎ (status ≡ 7) ⊎ ((status ≡ 8) × (has_open old.seen.held ≡ true))
+format_ends spelling wanted store status old new good of (inr starved) causes none = elim starved.line.3 [
   | inl whole ↦ inr (inl (whole.0 ∙ starved.line.2.0))
   | inr six ↦ absurd (none (inr (inr (causes.saying six.0))))
 ]
-format_ends spelling store status old new (inl made) causes none = elim made.0.line.3 [
+format_ends spelling wanted store status old new good of (inl made) causes none = elim made.0.line.3 [
   | inr six ↦ absurd (none (inr (inr (causes.saying six.0))))
   | inl whole ↦ elim made.0.line.2 [
     | inl zero ↦ inl (whole.0 ∙ zero.2)
-    | inr (inl eight) ↦ inr (inr (whole.0 ∙ eight.2))
+    | inr (inl eight) ↦ inr (inr (whole.0 ∙ eight.2, eight.1))
     | inr (inr (inl seven)) ↦ inr (inl (whole.0 ∙ seven.2))
     | inr (inr (inr (inl four))) ↦ absurd (none (inr (inl (causes.device (whole.0 ∙ four.1)))))
-    | inr (inr (inr (inr bad))) ↦ inr (inr (whole.0 ∙ bad.2))
+    | inr (inr (inr (inr bad))) ↦ absurd (let never : None ≡ Some bad.0 = sym (none_out_of_range wanted store good of) ∙ bad.1 in cc)
   ]
 ]

@@ -3,7 +3,7 @@ use Rattle.std.proofs.Common.{◌≡◌, ap, refl}
 use Rattle.std.specs.Prelude.{Option, Some, None}
 use Rattle.line_model.specs.Limits.{limit_of}
 use Rattle.line_model.specs.Replies.{BadLine, Bye, Counted, Reply, found, got}
-use Rattle.line_model.specs.Requests.{Bad, Compact, Count, Del, Estimate, Explain, Flush, Get, Put, Quit, Range, Request, Seek}
+use Rattle.line_model.specs.Requests.{Bad, Compact, Count, Del, Estimate, Explain, Flush, Get, Put, Quit, Range, Seek}
 use Rattle.map_model.specs.Slices.{count, seek, slice}
 use Rattle.map_model.specs.SortedMap.{Map, get}
 use Rattle.state_model.specs.State.{State}

@@ -1,5 +1,6 @@
 pub mod Asking
 pub mod Calms
+pub mod Chaining
 pub mod Changes
 pub mod Compacts
 pub mod Dialogues
@@ -13,6 +14,7 @@ pub mod LoadChanges
 pub mod LoadEnds
 pub mod LoadSteps
 pub mod LoadSums
+pub mod MapCrash
 pub mod Moments
 pub mod OneMap
 pub mod Openings

@@ -40,7 +40,7 @@ use Rattle.surf_run.proofs.Dialogues.{between_made, step_as, tend_as}
 use Rattle.surf_run.proofs.EndCauses.{cause_as, cause_since, causes_later, causes_since, disk_then, line_say, line_write, lines_on, no_fall_say, rose_since}
 use Rattle.surf_run.proofs.Footprint.{within_on, within_say, within_write}
 use Rattle.surf_run.proofs.LastLines.{last_line}
-use Rattle.surf_run.proofs.LoadSteps.{answer_makes, has_step, refused_stays, step_slices}
+use Rattle.surf_run.proofs.LoadSteps.{answer_makes, answer_stepped, refused_stays, step_slices}
 use Rattle.surf_run.proofs.Moments.{stands_still, tied_pages, tied_stands}
 use Rattle.surf_run.proofs.Openings.{not_six}
 
@@ -90,7 +90,7 @@ module _ (kind : Kind) (tells tells_output : Bool) (step : Entry) {T : Type 0} (
 
   crashed : (s : State) → IsTrue tells → Represents kind.spelling kind.filter_bytes before s a → During (λ said image. HasStep kind s step image) a mid
   crashed s tell tied =
-      during_weaker _ (λ said image. HasStep kind s step image) a mid (during_disk (Both s) a mid (answered s tell tied).crash moves.beside now_a) (λ k image at. has_step kind s step image at.1)
+      during_weaker _ (λ said image. HasStep kind s step image) a mid (during_disk (Both s) a mid (answered s tell tied).crash moves.beside now_a) (λ k image at. at.1)
 
   within : (s : State) → IsTrue tells → Represents kind.spelling kind.filter_bytes before s a → WritesWithin (page_bytes * s.pages) a mid
   within s tell tied =
@@ -159,7 +159,7 @@ module _ (kind : Kind) (tells tells_output : Bool) (step : Entry) {T : Type 0} (
             ends = last_line (IsStepText kind step s a b) a mid b moves.beside status (opening_status why) (opening_text why) (step_text s tell tied)
                 (λ same. said output (λ six. not_six why (other_opens a mid why other) (sym same ∙ six))) (prefix output) ends;
             crash = during_then (λ k image. HasStep kind s step image) a mid b (crashed s tell tied)
-                (during_weaker _ (λ k image. HasStep kind s step image) mid b (during_say mid b say now_mid) (λ k image left. has_step kind s step image (now_at (Both s) a mid at image left.2)));
+                (during_weaker _ (λ k image. HasStep kind s step image) mid b (during_say mid b say now_mid) (λ k image left. now_at (Both s) a mid at image left.2));
             writes = within_on (page_bytes * s.pages) a mid b (within s tell tied) (within_say (page_bytes * s.pages) mid b say);
           };
       running = tt;
@@ -198,10 +198,9 @@ module _ (kind : Kind) (tells tells_output : Bool) (step : Entry) (done : Bool) 
     map_at : state_map at ≡ stepped_map done (state_map s) step
     map_at = answer_makes (HasCause a mid) kind.filter_bytes s step by.ends.0 at by.ends.2 done by.ends.3
 
-    -- the map behind a step is one that a crash may leave in it
-    behind_step : (is : Bool) (image : Image) → StandsForMap kind.spelling (stepped_map is (state_map s) step) image → HasStep kind s step image
-    behind_step true image has = inr has
-    behind_step false image has = inl has
+    -- the map behind a step is that of its answer
+    behind_step : (image : Image) → HasMap kind at image → HasStep kind s step image
+    behind_step image has = inr (subst (λ (m : Map). StandsForMap kind.spelling m image) (map_at ∙ sym (answer_stepped (HasCause a mid) kind.filter_bytes s step done by.ends.0 at by.ends.2 by.ends.3)) has)
 
     pages : at.pages ≡ s.pages
     pages = (step_keeps_device kind.filter_bytes s at (change_of step) by.ends.0 (ever_steps (HasCause a mid) kind.filter_bytes s at (change_of step) by.ends.0 by.ends.2)).1
@@ -209,7 +208,7 @@ module _ (kind : Kind) (tells tells_output : Bool) (step : Entry) (done : Bool) 
     pub step_crash : During (λ said image. HasStep kind s step image) a b
     step_crash = during_then (λ said image. HasStep kind s step image) a mid b by.crash
         (during_weaker _ (λ said image. HasStep kind s step image) mid b (during_disk (HasMap kind at) mid b sliced.crash slice.silent now_mid)
-        (λ k image here. behind_step done image (subst (λ (m : Map). StandsForMap kind.spelling m image) map_at here.1)))
+        (λ k image here. behind_step image here.1))
 
     pub step_writes : WritesWithin (page_bytes * s.pages) a b
     step_writes = within_on (page_bytes * s.pages) a mid b by.writes (subst (λ (n : ℕ). WritesWithin (page_bytes * n) mid b) pages sliced.writes)

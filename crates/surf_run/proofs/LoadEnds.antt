@@ -3,7 +3,7 @@ use Rattle.std.proofs.Common.{◌≡◌, ◌≢◌, ◌⊎◌, inl, inr, ◌≤�
 use Rattle.std.specs.Prelude.{None, Ok, Err, fold}
 use Rattle.std.proofs.lemmas.List.{length-append}
 use Rattle.block_model.specs.Pages.{page_bytes}
-use Rattle.disk_trait.specs.World.{Image, Now, Same, Seen, Streams, World}
+use Rattle.disk_trait.specs.World.{Image, Now, Rose, Same, Seen, Streams, World}
 use Rattle.disk_trait.proofs.Moments.{in_call}
 use Rattle.entry_model.specs.Entries.{Entry, changed}
 use Rattle.image_model.specs.Stands.{IsStateOf}
@@ -18,7 +18,9 @@ use Rattle.outside.proofs.Crossing.{during_disk, during_none, during_say, during
 use Rattle.state_model.proofs.AnyCause.{ever_steps}
 use Rattle.state_model.proofs.FaultsMet.{step_keeps_device}
 use Rattle.state_model.specs.Script.{Onward}
+use Rattle.state_model.specs.Causes.{ReadFailed}
 use Rattle.state_model.specs.State.{State}
+use Rattle.state_model.specs.Steps.{Reads, answer}
 use Rattle.state_model.specs.View.{state_map}
 use Rattle.store_core.specs.Answers.{HasCause}
 use Rattle.store_core.specs.Counts.{IsCountRefusal}
@@ -28,41 +30,39 @@ use Rattle.store_core.specs.Scans.{IsScanShown}
 use Rattle.store_core.specs.Represents.{Represents}
 use Rattle.store_core.specs.declared.error.StoreError.{StoreError}
 use Rattle.store_core.specs.declared.error.StoreError.TheVariants as error
-use Rattle.surf_run.specs.Causes.{DiskFailed, IsServing, MeetsUnsaid, NoFall, RunMeetsDamage, SayFailed, ShowsSomeDamage, StatusCause, WritesWithin}
+use Rattle.surf_run.specs.Causes.{DiskFailed, IfDevice, IsServing, MeetsUnsaid, NoFall, RunMeetsDamage, SayFailed, ShowsSomeDamage, StatusCause, WritesWithin}
 use Rattle.surf_run.specs.Crash.{EachImageStandsFor, HasMap}
 use Rattle.surf_run.specs.ServedOrNot.{SomeFailed}
 use Rattle.surf_run.specs.Kind.{Kind}
-use Rattle.surf_run.specs.Loading.{HasStep, IsStepped, LoadInvariant, StepCause, StepEnds}
-use Rattle.surf_run.specs.Loads.{FailsAt, IsLoadText, EndOfSteps, LoadEnds, Loaded, CrashOfLoad, StepMade, change_of, step_behind, IsLoading}
+use Rattle.surf_run.specs.Loading.{HasStep, IsStepped, LoadInvariant, StepCause, StepEnds, stepped_map}
+use Rattle.surf_run.specs.Loads.{CrashOfLoad, FailsAt, HasFirstSteps, IsLoadText, IsLoading, LoadEnds, StepMade, StepsMade, change_of, step_behind}
 use Rattle.surf_run.specs.Loads as loads
 use Rattle.surf_run.specs.Open.{IsFreeText, IsOpening, OpenMoves, opening_status, opening_text}
 use Rattle.surf_run.specs.Unserved.{Unserved}
 use Rattle.surf_run.proofs.EndCauses.{causes_later, causes_since, disk_then, end_causes, line_read, no_fall_none, no_fall_on, no_fall_say, rose_since}
 use Rattle.surf_run.proofs.Footprint.{within_none, within_on, within_say, within_still}
 use Rattle.surf_run.proofs.LastLines.{last_line}
-use Rattle.surf_run.proofs.LoadSteps.{fails_as, kept_more, loaded_as, part_as, part_here, part_step, step_made_as}
+use Rattle.surf_run.proofs.LoadSteps.{answer_stepped, fails_as, first_all, first_more, kept_more, loaded_as, step_made_as}
 use Rattle.surf_run.proofs.Moments.{map_of_image, map_of_state, stands_still, tied_still}
 use Rattle.surf_run.proofs.Openings.{not_six, not_three}
 use Rattle.surf_run.proofs.Slices.{between_pages}
 use Rattle.table_file.specs.Opened.{Opened}
 
-abbrev Part : Kind → State → ℕ → ℕ → World → World → ℕ → Image → Type 0
-Part kind start seed count first b said image = CrashOfLoad (HasCause first b) kind start seed count image
+abbrev First : Kind → State → List Entry → ℕ → Image → Type 0
+First kind start kept said image = HasFirstSteps kind start kept image
 
 -- ---- before the first step
 
 module _ (kind : Kind) (start : State) (seed : ℕ) (store : StoreValue) (mid : World) (tied : Represents kind.spelling kind.filter_bytes store start mid) (stand : EachImageStandsFor kind start mid) where
-  none_made : (first : World) → (image : Image) → HasMap kind start image → CrashOfLoad (HasCause first mid) kind start seed 0 image
-  none_made first image has = part_here (HasCause first mid) kind start seed 0 0 0 [] start loads.none refl (omega arith) image has
+  none_made : (image : Image) → HasMap kind start image → HasFirstSteps kind start [] image
+  none_made image has = first_all kind start [] start refl image has
 
-  none_so_far : (first : World) → mid.beside ≡ first.beside → During (Part kind start seed 0 first mid) first mid → NoFall first mid → WritesWithin (page_bytes * start.pages) first mid
+  none_so_far : (first : World) → mid.beside ≡ first.beside → During (First kind start []) first mid → NoFall first mid → WritesWithin (page_bytes * start.pages) first mid
       → LoadInvariant kind start seed 0 0 store first mid
   none_so_far first silent history counts writes = record {
     kept = [];
     now = start;
-    loaded = loads.none;
-    map = refl;
-    number = refl;
+    steps = record { loaded = loads.none; map = refl; number = refl };
     silent = silent;
     history = history;
     tied = tied;
@@ -76,42 +76,37 @@ module _ (kind : Kind) (start : State) (seed : ℕ) (store : StoreValue) (mid : 
   pub loaded_open : (old : World) → OpenMoves old mid → SaidByNow old → Now (IsStateOf kind.spelling start) old → LoadInvariant kind start seed 0 0 store old mid
   loaded_open old opened now_old here =
       none_so_far old opened.beside
-      (during_weaker (λ k image. (k ≡ length old.beside.said) × HasMap kind start image) (Part kind start seed 0 old mid) old mid
+      (during_weaker (λ k image. (k ≡ length old.beside.said) × HasMap kind start image) (First kind start []) old mid
       (during_disk (HasMap kind start) old mid
       (in_call (HasMap kind start) Same old mid (λ image left. map_of_image kind start image (here image left)) opened.time (λ was image left same. subst (HasMap kind start) (sym same) (map_of_image kind start was (here was left))))
       opened.beside now_old)
-      (λ k image at. none_made old image at.1))
+      (λ k image at. none_made image at.1))
       opened.counts (within_still (page_bytes * start.pages) old mid opened.held opened.time)
 
   -- from the opening on
   pub loaded_now : SaidByNow mid → LoadInvariant kind start seed 0 0 store mid mid
   loaded_now now_mid =
       none_so_far mid refl
-      (during_weaker (λ k image. (k ≡ length mid.beside.said) × HasMap kind start image) (Part kind start seed 0 mid mid) mid mid
+      (during_weaker (λ k image. (k ≡ length mid.beside.said) × HasMap kind start image) (First kind start []) mid mid
       (during_none (HasMap kind start) mid (λ image left. map_of_state kind start image (stand image left)) now_mid)
-      (λ k image at. none_made mid image at.1))
+      (λ k image at. none_made image at.1))
       (no_fall_none mid) (within_none (page_bytes * start.pages) mid)
 
 -- ---- so far
 
 module _ (kind : Kind) (start : State) (seed n refused : ℕ) (store : StoreValue) (first w : World) (far : LoadInvariant kind start seed n refused store first w) where
-  module _ (b : World) (falls : NoFall w b) where
-    loaded_to : Loaded (HasCause first b) kind.filter_bytes start seed n far.kept refused far.now
-    loaded_to = loaded_as (HasCause first w) (HasCause first b) kind.filter_bytes (causes_later first w b falls) start seed n far.kept refused far.now far.loaded
+  abbrev Crash : ℕ → ℕ → Image → Type 0
+  Crash count said image = CrashOfLoad kind start seed count n far.kept far.now image
 
-    leaves : EachImageStandsFor kind far.now b → EndOfSteps kind start seed n refused far.now first b
-    leaves stand = record { kept = far.kept; loaded = loaded_to; map = far.map; number = far.number; stands = stand }
+  steps_to : (b : World) → NoFall w b → StepsMade (HasCause first b) kind start seed n refused far.kept far.now
+  steps_to b falls = record {
+    loaded = loaded_as (HasCause first w) (HasCause first b) kind.filter_bytes (causes_later first w b falls) start seed n far.kept refused far.now far.steps.loaded;
+    map = far.steps.map;
+    number = far.steps.number;
+  }
 
-    history_to : (count : ℕ) → n ≤ count → During (Part kind start seed count first b) first w
-    history_to count fewer =
-        during_weaker (Part kind start seed n first w) (Part kind start seed count first b) first w far.history
-        (λ k image part. part_as (HasCause first w) (HasCause first b) kind (causes_later first w b falls) start seed n count fewer image part)
-
-    here_to : (count : ℕ) → n ≤ count → (image : Image) → HasMap kind far.now image → CrashOfLoad (HasCause first b) kind start seed count image
-    here_to count fewer image has = part_here (HasCause first b) kind start seed n refused count far.kept far.now loaded_to far.map fewer image has
-
-    step_to : (count : ℕ) → n < count → (image : Image) → HasStep kind far.now (step_behind seed n) image → CrashOfLoad (HasCause first b) kind start seed count image
-    step_to count fewer image has = part_step (HasCause first b) kind start seed n refused count far.kept far.now loaded_to far.map fewer image has
+  here_to : (image : Image) → HasMap kind far.now image → HasFirstSteps kind start far.kept image
+  here_to image has = first_all kind start far.kept far.now far.steps.map image has
 
   said_same : w.beside.said ≡ first.beside.said
   said_same = ap (λ (s : Streams). s.said) far.silent
@@ -123,17 +118,15 @@ module _ (kind : Kind) (start : State) (seed n refused : ℕ) (store : StoreValu
       record {
         kept = far.kept;
         now = far.now;
-        loaded = loaded_to mid falls;
-        map = far.map;
-        number = far.number;
+        steps = steps_to mid falls;
         silent = moves.1.beside ∙ far.silent;
-        history = during_then (Part kind start seed n first mid) first w mid (history_to mid falls n (omega arith))
-            (during_weaker (λ k image. (k ≡ length w.beside.said) × HasMap kind far.now image) (Part kind start seed n first mid) w mid
+        history = during_then (First kind start far.kept) first w mid far.history
+            (during_weaker (λ k image. (k ≡ length w.beside.said) × HasMap kind far.now image) (First kind start far.kept) w mid
             (during_disk (HasMap kind far.now) w mid
             (in_call (HasMap kind far.now) Same w mid (λ image left. map_of_state kind far.now image (far.stand image left)) moves.1.time
             (λ was image left same. subst (HasMap kind far.now) (sym same) (map_of_state kind far.now was (far.stand was left))))
             moves.1.beside now_w)
-            (λ k image at. here_to mid falls n (omega arith) image at.1));
+            (λ k image at. here_to image at.1));
         tied = tied_still kind.spelling kind.filter_bytes store far.now w mid moves.1.time far.tied;
         stand = stands_still kind far.now w mid moves.1.time far.stand;
         counts = no_fall_on first w mid far.counts falls;
@@ -143,27 +136,32 @@ module _ (kind : Kind) (start : State) (seed n refused : ℕ) (store : StoreValu
 
   -- a last line was said, or not
   module _ (count : ℕ) (fewer : n ≤ count) (b : World) (say : SayMoves w b) (now_w : SaidByNow w) where
-    pub leaves_said : EndOfSteps kind start seed n refused far.now first b
-    leaves_said = leaves b (no_fall_say w b say) (stands_still kind far.now w b say.time far.stand)
+    pub leaves_said : EachImageStandsFor kind far.now b
+    leaves_said = stands_still kind far.now w b say.time far.stand
 
-    pub load_says : (status meant : ℕ) (text : Bytes) → IsLoadText kind start seed count first b meant text → (status ≡ meant → b.beside.said ≡ w.beside.said ++ text)
+    pub load_says : (status meant : ℕ) (text : Bytes) → IsLoadText kind seed count n refused far.now first b meant text → (status ≡ meant → b.beside.said ≡ w.beside.said ++ text)
         → SaysPrefix text w.beside.said b.beside.said → (status ≡ meant) ⊎ ((status ≡ 6) × SayFailed w b) → LoadEnds kind status start seed count first b
     load_says status meant text is whole prefix ends = record {
-      line = last_line (IsLoadText kind start seed count first b) first w b far.silent status meant text is whole prefix ends;
+      made = n;
+      kept = far.kept;
+      refused = refused;
+      now = far.now;
+      steps = steps_to b (no_fall_say w b say);
+      within = fewer;
+      line = last_line (IsLoadText kind seed count n refused far.now first b) first w b far.silent status meant text is whole prefix ends;
       input = say.to_take ∙ ap (λ (s : Streams). s.to_take) far.silent;
-      crash = during_then (Part kind start seed count first b) first w b (history_to b (no_fall_say w b say) count fewer)
-          (during_weaker _ (Part kind start seed count first b) w b (during_say w b say now_w)
-          (λ k image at. here_to b (no_fall_say w b say) count fewer image (map_of_state kind far.now image (far.stand image at.2))));
+      crash = during_then (Crash count) first w b (during_weaker (First kind start far.kept) (Crash count) first w far.history (λ k image has. inl has))
+          (during_weaker _ (Crash count) w b (during_say w b say now_w) (λ k image at. inl (here_to image (map_of_state kind far.now image (far.stand image at.2)))));
       writes = within_on (page_bytes * start.pages) first w b far.writes (within_say (page_bytes * start.pages) w b say);
     }
 
   -- one step more
   module _ (step : Entry) (is : step ≡ step_behind seed n) (b : World) (falls : NoFall w b) where
-    crash_to : (count : ℕ) → n < count → During (λ said image. HasStep kind far.now step image) w b → During (Part kind start seed count first b) first b
-    crash_to count less crash =
-        during_then (Part kind start seed count first b) first w b (history_to b falls count (omega (arith, less)))
-        (during_weaker (λ said image. HasStep kind far.now step image) (Part kind start seed count first b) w b crash
-        (λ k image has. step_to b falls count less image (subst (λ (e : Entry). HasStep kind far.now e image) is has)))
+    crash_cut : (count : ℕ) → n < count → During (λ said image. HasStep kind far.now step image) w b → During (Crash count) first b
+    crash_cut count less crash =
+        during_then (Crash count) first w b (during_weaker (First kind start far.kept) (Crash count) first w far.history (λ k image has. inl has))
+        (during_weaker (λ said image. HasStep kind far.now step image) (Crash count) w b crash
+        (λ k image has. elim (subst (λ (e : Entry). HasStep kind far.now e image) is has) [ inl before ↦ inl (here_to image before) | inr behind ↦ inr (less, behind) ]))
 
     writes_to : WritesWithin (page_bytes * far.now.pages) w b → WritesWithin (page_bytes * start.pages) first b
     writes_to writes = within_on (page_bytes * start.pages) first w b far.writes (subst (λ (p : ℕ). WritesWithin (page_bytes * p) w b) far.pages writes)
@@ -171,25 +169,24 @@ module _ (kind : Kind) (start : State) (seed n refused : ℕ) (store : StoreValu
     -- in which the run ends
     pub load_cut : (IsMade : Bool → Type 0) (count : ℕ) (status : ℕ) → n < count → StepEnds IsMade kind step (Err status) far.now w b → b.beside.to_take ≡ w.beside.to_take → LoadEnds kind status start seed count first b
     load_cut IsMade count status less ends input = record {
+      made = n;
+      kept = far.kept;
+      refused = refused;
+      now = far.now;
+      steps = steps_to b falls;
+      within = (let few : n ≤ count = omega (arith, less) in few);
       line = (
         ends.ends.0,
         ends.ends.1,
         elim ends.ends.2 [
-          | inl memory ↦ inr (inl (memory.0, n, refused, far.now, (let few : n ≤ count = omega (arith, less) in few), leaves b falls memory.2, memory.1))
+          | inl memory ↦ inr (inl (memory.0, memory.2, memory.1))
           | inr device ↦ inr (inr (
             device.0,
-            record {
-              made = n;
-              kept = far.kept;
-              refused = refused;
-              now = far.now;
-              loaded = loaded_to b falls;
-              fails = inl (
-                less,
-                subst (λ (e : Entry). FailsAt (HasCause first b) kind.filter_bytes e far.now ends.ends.1) is
-                    (fails_as (HasCause w b) (HasCause first b) kind.filter_bytes (causes_since first w b far.counts) step far.now ends.ends.1 device.1),
-              );
-            },
+            inl (
+              less,
+              subst (λ (e : Entry). FailsAt (HasCause first b) kind.filter_bytes e far.now ends.ends.1) is
+                  (fails_as (HasCause w b) (HasCause first b) kind.filter_bytes (causes_since first w b far.counts) step far.now ends.ends.1 device.1),
+            ),
           ))
         ],
         elim ends.ends.3 [
@@ -198,7 +195,7 @@ module _ (kind : Kind) (start : State) (seed n refused : ℕ) (store : StoreValu
         ],
       );
       input = input ∙ ap (λ (s : Streams). s.to_take) far.silent;
-      crash = crash_to count less ends.crash;
+      crash = crash_cut count less ends.crash;
       writes = writes_to ends.writes;
     }
 
@@ -219,16 +216,21 @@ module _ (kind : Kind) (start : State) (seed n refused : ℕ) (store : StoreValu
           ∙ (step_keeps_device kind.filter_bytes far.now ends.ends.2.mid (change_of step) ends.ends.0 (ever_steps (HasCause w b) kind.filter_bytes far.now ends.ends.2.mid (change_of step) ends.ends.0 ends.ends.2.answered)).1
           ∙ far.pages
 
-      more_so_far : (kept : List Entry) (others : ℕ) → Loaded (HasCause first b) kind.filter_bytes start seed (n + 1) kept others after → state_map after ≡ fold changed (state_map start) kept
-          → length kept + others ≡ n + 1 → LoadInvariant kind start seed (n + 1) others new first b
-      more_so_far kept others loaded map number = record {
+      -- the answer's map
+      answer_is : state_map (answer kind.filter_bytes far.now (change_of step)).1 ≡ stepped_map done (state_map far.now) step
+      answer_is = answer_stepped (HasCause w b) kind.filter_bytes far.now step done ends.ends.0 ends.ends.2.mid ends.ends.2.answered ends.ends.3
+
+      more_so_far : (kept : List Entry) (others : ℕ) → StepsMade (HasCause first b) kind start seed (n + 1) others kept after
+          → ((image : Image) → HasFirstSteps kind start far.kept image → HasFirstSteps kind start kept image)
+          → ((image : Image) → HasMap kind (answer kind.filter_bytes far.now (change_of step)).1 image → HasFirstSteps kind start kept image) → LoadInvariant kind start seed (n + 1) others new first b
+      more_so_far kept others steps grows behind = record {
         kept = kept;
         now = after;
-        loaded = loaded;
-        map = map;
-        number = number;
+        steps = steps;
         silent = silent ∙ far.silent;
-        history = crash_to (n + 1) (omega arith) ends.crash;
+        history = during_then (First kind start kept) first w b (during_weaker (First kind start far.kept) (First kind start kept) first w far.history (λ k image has. grows image has))
+            (during_weaker (λ said image. HasStep kind far.now step image) (First kind start kept) w b ends.crash
+            (λ k image has. elim has [ inl before ↦ grows image (here_to image before) | inr later ↦ behind image later ]));
         tied = ends.ends.4;
         stand = ends.ends.5;
         counts = no_fall_on first w b far.counts falls;
@@ -239,17 +241,28 @@ module _ (kind : Kind) (start : State) (seed n refused : ℕ) (store : StoreValu
   module _ (step : Entry) (is : step ≡ step_behind seed n) (b : World) (falls : NoFall w b) (new : StoreValue) (silent : b.beside ≡ w.beside) where
     one_more_done : StepEnds (λ is. IsStepped kind step far.now new w b is) kind step (Ok true) far.now w b → LoadInvariant kind start seed (n + 1) refused new first b
     one_more_done ends =
-        more_so_far step is b falls new silent true ends (far.kept ++ (step_behind seed n ∷ [])) refused
-        (loads.done n far.kept refused far.now ends.ends.1 (loaded_to b falls) (made_to step is b falls new silent true ends Done ends.ends.3))
-        (ends.ends.6 ∙ ap (λ (m : Map). changed m step) far.map ∙ ap (λ (e : Entry). changed (fold changed (state_map start) far.kept) e) is ∙ sym (kept_more (state_map start) far.kept (step_behind seed n)))
-        (omega (arith, length-append far.kept (step_behind seed n ∷ []), far.number))
+        let more = far.kept ++ (step_behind seed n ∷ []) in
+        let onward : changed (state_map far.now) step ≡ fold changed (state_map start) more =
+        ap (λ (m : Map). changed m step) far.steps.map ∙ ap (λ (e : Entry). changed (fold changed (state_map start) far.kept) e) is ∙ sym (kept_more (state_map start) far.kept (step_behind seed n)) in
+        more_so_far step is b falls new silent true ends more refused
+        (record {
+          loaded = loads.done n far.kept refused far.now ends.ends.1 (steps_to b falls).loaded (made_to step is b falls new silent true ends Done ends.ends.3);
+          map = ends.ends.6 ∙ onward;
+          number = omega (arith, length-append far.kept (step_behind seed n ∷ []), far.steps.number);
+        })
+        (λ image has. first_more kind start far.kept (step_behind seed n ∷ []) image has)
+        (λ image has. first_all kind start more (answer kind.filter_bytes far.now (change_of step)).1 (answer_is step is b falls new silent true ends ∙ onward) image has)
 
     one_more_refused : StepEnds (λ is. IsStepped kind step far.now new w b is) kind step (Ok false) far.now w b → LoadInvariant kind start seed (n + 1) (refused + 1) new first b
     one_more_refused ends =
         more_so_far step is b falls new silent false ends far.kept (refused + 1)
-        (loads.passed_over n far.kept refused far.now ends.ends.1 ends.ends.0 (loaded_to b falls) (made_to step is b falls new silent false ends ends.ends.0 refl) ends.ends.3)
-        (ends.ends.6 ∙ far.map)
-        (omega (arith, far.number))
+        (record {
+          loaded = loads.passed_over n far.kept refused far.now ends.ends.1 ends.ends.0 (steps_to b falls).loaded (made_to step is b falls new silent false ends ends.ends.0 refl) ends.ends.3;
+          map = ends.ends.6 ∙ far.steps.map;
+          number = omega (arith, far.steps.number);
+        })
+        (λ image has. has)
+        (λ image has. first_all kind start far.kept (answer kind.filter_bytes far.now (change_of step)).1 (answer_is step is b falls new silent false ends ∙ far.steps.map) image has)
 
     -- counted as refused where it was passed over
     pub one_more : (done : Bool) (others : ℕ) → StepEnds (λ is. IsStepped kind step far.now new w b is) kind step (Ok done) far.now w b
@@ -270,8 +283,14 @@ module _ (kind : Kind) (start : State) (seed count refused : ℕ) (store : Store
   read_so_far : LoadInvariant kind start seed count refused store first mid
   read_so_far = so_far_read kind start seed count refused store first w far mid reads now_w
 
-  all_left : EndOfSteps kind start seed count refused far.now first b
+  abbrev behind : State
+  behind = read_so_far.now
+
+  same_state : behind ≡ far.now
   unfolding read_so_far so_far_read
+  same_state = refl
+
+  all_left : EachImageStandsFor kind behind b
   all_left = leaves_said kind start seed count refused store first mid read_so_far count (omega arith) b say now_mid
 
   -- it is told
@@ -279,34 +298,31 @@ module _ (kind : Kind) (start : State) (seed count refused : ℕ) (store : Store
       → SaysPrefix (summary_text count refused summary) mid.beside.said b.beside.said → (status ≡ 0) ⊎ ((status ≡ 6) × SayFailed mid b) → LoadEnds kind status start seed count first b
   load_summed summary is said prefix ends =
       load_says kind start seed count refused store first mid read_so_far count (omega arith) b say now_mid status 0 (summary_text count refused summary)
-      (inl (refl, refused, far.now, all_left, ap (λ (s : Summary). summary_text count refused s) is)) said prefix ends
+      (inl (refl, refl, all_left, ap (λ (s : Summary). summary_text count refused s) (is ∙ ap (λ (s : State). summary_of (state_map s)) (sym same_state)))) said prefix ends
 
-  no_summary : (why : StoreError) → IsCountRefusal false None w mid why → IsUndamaged why → IsLoadText kind start seed count first b (opening_status why) (opening_text why)
-  no_summary error.Memory refusal undamaged = inr (inl (refl, count, refused, far.now, (let few : count ≤ count = omega arith in few), all_left, refl))
-  no_summary (error.Device cause) refusal undamaged = inr (inr (
-    refl,
-    record {
-      made = count;
-      kept = all_left.kept;
-      refused = refused;
-      now = far.now;
-      loaded = all_left.loaded;
-      fails = inr (refl, refl);
-    },
-  ))
-  no_summary error.Stopped refusal undamaged = absurd (let e : false ≡ true = refusal in cc)
-  no_summary (error.Limit limit) refusal undamaged = absurd (let e = refusal.1 in cc)
-  no_summary (error.Full need gap) refusal undamaged = absurd refusal
-  no_summary (error.Damaged damage) refusal undamaged = absurd undamaged
-  no_summary error.NotAStore refusal undamaged = absurd refusal
-  no_summary error.AlreadyAStore refusal undamaged = absurd refusal
-  no_summary (error.BadSettings field) refusal undamaged = absurd refusal
+  -- a read failed since the first world
+  read_failed : Rose w.seen.read_faults mid.seen.read_faults → HasCause first b ReadFailed
+  read_failed rose =
+      subst (λ (s : Seen). Rose first.seen.read_faults s.read_faults) (sym say.seen) (rose_since first.seen.read_faults w.seen.read_faults mid.seen.read_faults far.counts.read rose)
+
+  no_summary : (why : StoreError) → IsCountRefusal false None w mid why → IsUndamaged why → IfDevice (Reads far.now (Seek [] None)) why
+      → IsLoadText kind seed count count refused behind first b (opening_status why) (opening_text why)
+  no_summary error.Memory refusal undamaged met = inr (inl (refl, all_left, refl))
+  no_summary (error.Device cause) refusal undamaged met =
+      inr (inr (refl, inr (refl, read_failed refusal.1.1, subst (λ (s : State). Reads s (Seek [] None)) (sym same_state) met, refl)))
+  no_summary error.Stopped refusal undamaged met = absurd (let e : false ≡ true = refusal in cc)
+  no_summary (error.Limit limit) refusal undamaged met = absurd (let e = refusal.1 in cc)
+  no_summary (error.Full need gap) refusal undamaged met = absurd refusal
+  no_summary (error.Damaged damage) refusal undamaged met = absurd undamaged
+  no_summary error.NotAStore refusal undamaged met = absurd refusal
+  no_summary error.AlreadyAStore refusal undamaged met = absurd refusal
+  no_summary (error.BadSettings field) refusal undamaged met = absurd refusal
 
   -- or there is none
-  pub load_unsummed : (why : StoreError) → IsOpening why → IsCountRefusal false None w mid why → IsUndamaged why → (status ≢ 6 → b.beside.said ≡ mid.beside.said ++ opening_text why)
+  pub load_unsummed : (why : StoreError) → IsOpening why → IsCountRefusal false None w mid why → IsUndamaged why → IfDevice (Reads far.now (Seek [] None)) why → (status ≢ 6 → b.beside.said ≡ mid.beside.said ++ opening_text why)
       → SaysPrefix (opening_text why) mid.beside.said b.beside.said → (status ≡ opening_status why) ⊎ ((status ≡ 6) × SayFailed mid b) → LoadEnds kind status start seed count first b
-  load_unsummed why opening refusal undamaged said prefix ends =
-      load_says kind start seed count refused store first mid read_so_far count (omega arith) b say now_mid status (opening_status why) (opening_text why) (no_summary why refusal undamaged)
+  load_unsummed why opening refusal undamaged met said prefix ends =
+      load_says kind start seed count refused store first mid read_so_far count (omega arith) b say now_mid status (opening_status why) (opening_text why) (no_summary why refusal undamaged met)
       (λ same. said (λ six. not_six why opening (sym same ∙ six))) prefix ends
 
 pub sum_opening : (why : StoreError) (a b : World) → IsCountRefusal false None a b why → IsOpening why

@@ -1,6 +1,7 @@
 -- Steps of a load, and what they make of the map.
-use Rattle.std.proofs.Common.{◌≡◌, ◌⊎◌, inl, inr, ◌≤◌, ◌<◌, ◌++◌, ℕ, Bool, true, false, cond, List, [], ◌∷◌, refl, sym, ap, ◌∙◌, subst, arith}
+use Rattle.std.proofs.Common.{◌≡◌, ◌++◌, ℕ, Bool, true, false, List, [], ◌∷◌, refl, sym, ap, ◌∙◌, subst, append_assoc}
 use Rattle.std.specs.Prelude.{Option, Some, None, Result, Ok, Err, fold}
+use Rattle.std.proofs.lemmas.List.{append-nil}
 use Rattle.std.proofs.lemmas.List.Sums.{fold-append}
 use Rattle.disk_trait.specs.World.{Image}
 use Rattle.entry_model.specs.Entries.{Entry, change_by, changed, del_entry, put_entry}
@@ -12,15 +13,16 @@ use Rattle.map_model.specs.SortedMap.{Bytes, Map, del, put}
 use Rattle.state_model.proofs.Lines.{lines_change}
 use Rattle.state_model.specs.Causes.{Why}
 use Rattle.state_model.specs.Changes.{written}
-use Rattle.state_model.specs.Laws.{is_done, map_behind}
+use Rattle.state_model.specs.Laws.{map_behind}
 use Rattle.state_model.specs.PlayLaws.{has_slice}
 use Rattle.state_model.specs.Script.{AtDevice, Onward, Over}
 use Rattle.state_model.specs.State.{State}
 use Rattle.state_model.specs.Steps.{Step, answer, answers, damage_met, done_or_refused, no_memory, read_failed, unless_limit, write_failed}
 use Rattle.state_model.specs.View.{state_map}
 use Rattle.surf_run.specs.Kind.{Kind}
-use Rattle.surf_run.specs.Loading.{HasStep, IsAnswer, stepped_map}
-use Rattle.surf_run.specs.Loads.{CrashOfLoad, FailsAt, IsPassedOver, Loaded, StepMade, change_of, change_to, step_behind}
+use Rattle.surf_run.specs.Loading.{IsAnswer, stepped_map}
+use Rattle.surf_run.specs.Crash.{HasMap}
+use Rattle.surf_run.specs.Loads.{FailsAt, HasFirstSteps, IsPassedOver, Loaded, StepMade, change_of, change_to, step_behind}
 use Rattle.surf_run.specs.Loads as loads
 use Rattle.surf_run.proofs.Dialogues.{between_as, step_as}
 use Rattle.table_model.specs.Tables.{FilterBytes}
@@ -34,28 +36,6 @@ value_slices key None = refl
 -- a merge slice comes behind it
 pub step_slices : (step : Entry) → has_slice (change_of step) ≡ true
 step_slices step = value_slices step.key step.value
-
--- the map behind its line is the one before it, or the changed one
-either_map : (key : Bytes) (value : Option Bytes) (reply : Reply) (map : Map) → (map_behind (change_to key value) reply map ≡ map) ⊎ (map_behind (change_to key value) reply map ≡ change_by map key value)
-either_map key (Some v) reply map = elim (is_done reply) as (λ b. (cond b (put map key v) map ≡ map) ⊎ (cond b (put map key v) map ≡ put map key v)) [ true ↦ inr refl | false ↦ inl refl ]
-either_map key None reply map = elim (is_done reply) as (λ b. (cond b (del map key) map ≡ map) ⊎ (cond b (del map key) map ≡ del map key)) [ true ↦ inr refl | false ↦ inl refl ]
-
-answer_map : (filter_bytes : FilterBytes) (s : State) (step : Entry)
-    → (state_map (answer filter_bytes s (change_of step)).1 ≡ state_map s) ⊎ (state_map (answer filter_bytes s (change_of step)).1 ≡ changed (state_map s) step)
-answer_map filter_bytes s step =
-    let is = lines_change filter_bytes s (change_of step) in
-    elim (either_map step.key step.value (answer filter_bytes s (change_of step)).0 (state_map s)) [ inl same ↦ inl (is ∙ same) | inr other ↦ inr (is ∙ other) ]
-
--- what a crash leaves in its call
-pub has_step : (kind : Kind) (s : State) (step : Entry) (image : Image)
-    → StandsForMap kind.spelling (state_map s) image ⊎ StandsForMap kind.spelling (state_map (answer kind.filter_bytes s (change_of step)).1) image → HasStep kind s step image
-has_step kind s step image has = elim has [
-  | inl before ↦ inl before
-  | inr behind ↦ elim (answer_map kind.filter_bytes s step) [
-    | inl same ↦ inl (subst (λ (m : Map). StandsForMap kind.spelling m image) same behind)
-    | inr other ↦ inr (subst (λ (m : Map). StandsForMap kind.spelling m image) other behind)
-  ]
-]
 
 -- ---- a step that is done
 
@@ -112,6 +92,40 @@ module _ (C : Why → Type 0) (filter_bytes : FilterBytes) (s : State) (step : E
   answer_makes true is = done_map is
   answer_makes false over = ap state_map (refused_stays (λ is. subst IsPassedOver is over) (λ is. subst IsPassedOver is over))
 
+-- ---- the answer to such a step
+
+never_memory : (done : Bool) → IsAnswer done Memory → ⊥
+never_memory true is = let e : Memory ≡ Done = is in cc
+never_memory false over = over
+
+never_device : (done : Bool) → IsAnswer done Device → ⊥
+never_device true is = let e : Device ≡ Done = is in cc
+never_device false over = over
+
+-- it is what the step got
+answer_by : (C : Why → Type 0) (filter_bytes : FilterBytes) (s : State) (key : Bytes) (value : Option Bytes) (done : Bool) (reply : Reply) (after : State) → Step C filter_bytes s (change_to key value) reply after
+    → IsAnswer done reply → IsAnswer done (answer filter_bytes s (change_to key value)).0
+answer_by C filter_bytes s key (Some v) done reply after d = elim d as (λ r new _. IsAnswer done r → IsAnswer done (answer filter_bytes s (Put key v)).0) [
+  | answers ↦ λ is. is
+  | no_memory within takes cause ↦ λ is. absurd (never_memory done is)
+  | read_failed r within reads cause so ↦ λ is. absurd reads
+  | damage_met damage r within reads cause so ↦ λ is. absurd reads
+  | write_failed new within writes cause left same ↦ λ is. absurd (never_device done is)
+]
+answer_by C filter_bytes s key None done reply after d = elim d as (λ r new _. IsAnswer done r → IsAnswer done (answer filter_bytes s (Del key)).0) [
+  | answers ↦ λ is. is
+  | no_memory within takes cause ↦ λ is. absurd (never_memory done is)
+  | read_failed r within reads cause so ↦ λ is. absurd reads
+  | damage_met damage r within reads cause so ↦ λ is. absurd reads
+  | write_failed new within writes cause left same ↦ λ is. absurd (never_device done is)
+]
+
+-- so a crash leaves the map behind the step, and not another one
+pub answer_stepped : (C : Why → Type 0) (filter_bytes : FilterBytes) (s : State) (step : Entry) (done : Bool) (reply : Reply) (after : State) → Step C filter_bytes s (change_of step) reply after → IsAnswer done reply
+    → state_map (answer filter_bytes s (change_of step)).1 ≡ stepped_map done (state_map s) step
+answer_stepped C filter_bytes s step done reply after answered is =
+    answer_makes C filter_bytes s step (answer filter_bytes s (change_of step)).0 (answer filter_bytes s (change_of step)).1 answers done (answer_by C filter_bytes s step.key step.value done reply after answered is)
+
 -- ---- steps under other causes
 
 module _ (C D : Why → Type 0) (filter_bytes : FilterBytes) (weaker : (why : Why) → C why → D why) where
@@ -137,51 +151,16 @@ module _ (C D : Why → Type 0) (filter_bytes : FilterBytes) (weaker : (why : Wh
     loaded_as n kept refused now (loads.passed_over m few less before after reply earlier made over) =
         loads.passed_over m few less before after reply (loaded_as m few less before earlier) (step_made_as (step_behind seed m) reply before after made) over
 
-module _ (C D : Why → Type 0) (kind : Kind) (weaker : (why : Why) → C why → D why) (start : State) (seed n m : ℕ) (fewer : n ≤ m) (image : Image) where
-  -- some first steps of n are some of more
-  pub part_as : CrashOfLoad C kind start seed n image → CrashOfLoad D kind start seed m image
-  part_as part = record {
-    made = part.made;
-    kept = part.kept;
-    refused = part.refused;
-    now = part.now;
-    loaded = loaded_as C D kind.filter_bytes weaker start seed part.made part.kept part.refused part.now part.loaded;
-    within = omega (arith, part.within, fewer);
-    stands = elim part.stands [ inl here ↦ inl here | inr next ↦ inr (omega (arith, next.0, fewer), next.1) ];
-  }
-
 -- ---- the map of steps that were kept
 
 pub kept_more : (map : Map) (kept : List Entry) (step : Entry) → fold changed map (kept ++ (step ∷ [])) ≡ changed (fold changed map kept) step
 kept_more map kept step = fold-append changed map kept (step ∷ [])
 
--- before the next step, or behind it
-module _ (C : Why → Type 0) (kind : Kind) (start : State) (seed n refused count : ℕ) (kept : List Entry) (now : State) (loaded : Loaded C kind.filter_bytes start seed n kept refused now)
-    (map : state_map now ≡ fold changed (state_map start) kept) where
-  pub part_here : n ≤ count → (image : Image) → StandsForMap kind.spelling (state_map now) image → CrashOfLoad C kind start seed count image
-  part_here within image has = record {
-    made = n;
-    kept = kept;
-    refused = refused;
-    now = now;
-    loaded = loaded;
-    within = within;
-    stands = inl (subst (λ (m : Map). StandsForMap kind.spelling m image) map has);
-  }
+module _ (kind : Kind) (start : State) (kept : List Entry) where
+  -- all of them
+  pub first_all : (now : State) → state_map now ≡ fold changed (state_map start) kept → (image : Image) → HasMap kind now image → HasFirstSteps kind start kept image
+  first_all now map image has = (kept, [], sym (append-nil kept), subst (λ (m : Map). StandsForMap kind.spelling m image) map has)
 
-  pub part_step : n < count → (image : Image) → HasStep kind now (step_behind seed n) image → CrashOfLoad C kind start seed count image
-  part_step less image has = elim has [
-    | inl before ↦ part_here (omega (arith, less)) image before
-    | inr behind ↦ record {
-      made = n;
-      kept = kept;
-      refused = refused;
-      now = now;
-      loaded = loaded;
-      within = omega (arith, less);
-      stands = inr (
-        less,
-        subst (λ (m : Map). StandsForMap kind.spelling m image) (ap (λ (m : Map). changed m (step_behind seed n)) map ∙ sym (kept_more (state_map start) kept (step_behind seed n))) behind,
-      );
-    }
-  ]
+  -- some of them are some of more
+  pub first_more : (more : List Entry) (image : Image) → HasFirstSteps kind start kept image → HasFirstSteps kind start (kept ++ more) image
+  first_more more image has = (has.0, has.1 ++ more, ap (λ (l : List Entry). l ++ more) has.2 ∙ append_assoc has.0 has.1 more, has.3)

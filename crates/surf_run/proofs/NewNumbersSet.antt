@@ -8,12 +8,10 @@ use Rattle.disk_trait.specs.World.{Image, Meanwhile, Now, ReadMoves, Same, Strea
 use Rattle.filter_api.specs.Ranges.{InRange}
 use Rattle.filter_api.specs.Spellings.{Spelling}
 use Rattle.filter_api.specs.declared.settings.Field.{Field}
-use Rattle.filter_api.specs.declared.settings.Field.TheVariants as field
 use Rattle.filter_api.specs.declared.settings.Settings.{Settings}
-use Rattle.image_model.specs.Stands.{IsStateOf, StandsFor}
+use Rattle.image_model.specs.Stands.{StandsFor}
 use Rattle.key_base.specs.Limits.{last_epoch, max_hash_bits, max_real_bits}
 use Rattle.line_model.specs.Replies.{LastEpoch, Reply, text_of}
-use Rattle.manifest_model.specs.Slots.{IsNoStore}
 use Rattle.map_model.specs.SortedMap.{Bytes}
 use Rattle.outside.proofs.Crossing.{during_disk, during_say, during_then, during_weaker}
 use Rattle.outside.specs.During.{During}
@@ -26,7 +24,7 @@ use Rattle.store_core.specs.Resetting.{IsMade, IsResetRefusal, MayReset, Resets}
 use Rattle.store_core.specs.StoreValue.{StoreValue}
 use Rattle.store_core.specs.declared.error.StoreError.{StoreError}
 use Rattle.store_core.specs.declared.error.StoreError.TheVariants as error
-use Rattle.surf_run.specs.Causes.{DiskFailed, IsServing, LineMoves, NoFall, SayFailed, StatusCause, WritesWithin}
+use Rattle.surf_run.specs.Causes.{DiskFailed, IsServing, NoFall, SayFailed, StatusCause, WritesWithin}
 use Rattle.surf_run.specs.Formats.{bad_settings_text}
 use Rattle.surf_run.specs.Kind.{Kind}
 use Rattle.surf_run.specs.Loads.{IsLoading}
@@ -246,7 +244,9 @@ module _ (kind : Kind) (numbers : NewNumbers) (s : State) (store later : StoreVa
 
   reset_text : (e : StoreError) → IsResetRefusal false (bad_number numbers store.manifest.version.pages) store.manifest.version.epoch a m e → IsResetText kind numbers s first b (reset_status e) (refusal_text e)
   reset_text error.Memory cause = inr (inr (inr (inl (refl, still cause.2, refl))))
-  reset_text (error.Device fault) cause = inr (inr (inr (inr (refl, refl))))
+  reset_text (error.Device fault) cause =
+      let since = rose_since first.seen.write_faults a.seen.write_faults m.seen.write_faults opened.counts.write cause.2 in
+      inr (inr (inr (inr (refl, disk_then first m b (inr since) (no_fall_say m b says), refl))))
   reset_text error.Stopped cause = absurd (let e : false ≡ true = cause.0 in cc)
   reset_text (error.Limit limit) cause = inr (inl (refl, subst (λ (n : ℕ). bad_number numbers n ≡ None) (sym pages_are) cause.1, at_last numbers s (epoch_is ∙ cause.3), still cause.4, ap text_of cause.2))
   reset_text (error.Full need gap) cause = absurd cause

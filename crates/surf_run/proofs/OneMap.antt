@@ -1,14 +1,14 @@
 -- Lines that get the replies of one sorted map.
-use Rattle.std.proofs.Common.{◌≡◌, ◌≢◌, ◌⊎◌, inl, inr, ◌+◌, ℕ, ◌<◌, List, [], ◌∷◌, ◌++◌, refl, sym, ap, ◌∙◌, subst, Bool, true, false, cond}
+use Rattle.std.proofs.Common.{◌≡◌, ◌≢◌, ◌⊎◌, inl, inr, ◌+◌, ℕ, List, [], ◌∷◌, ◌++◌, refl, sym, ap, ◌∙◌, subst, Bool, true, false, cond}
 use Rattle.std.specs.Option.{option_or}
 use Rattle.std.specs.Prelude.{Err, None, Ok, Option, Result, Some, ◌==◌, length, nat_le, nat_lt, take}
 use Rattle.entry_model.specs.Entries.{Entry, del_entry, gap, need, put_entry}
 use Rattle.key_base.specs.Limits.{is_no_key_length, last_epoch, max_bound_bytes, max_tables, max_logged_value_bytes}
 use Rattle.line_model.specs.Limits.{bound_limit, key_limit, limit_of, value_limit}
-use Rattle.line_model.specs.Replies.{About, BadLine, Bye, Counted, Damaged, Device, Done, Explained, Full, LastEpoch, LongKey, LongValue, ManyTables, Memory, Pairs, Reply, found, got, text_of}
+use Rattle.line_model.specs.Replies.{Damaged, Device, Done, LongKey, LongValue, Memory, Pairs, Reply, text_of}
 use Rattle.line_model.specs.Requests.{Bad, Compact, Count, Del, Estimate, Explain, Flush, Get, Put, Quit, Range, Request, Seek, request_of}
-use Rattle.map_model.specs.Slices.{count, seek, slice}
-use Rattle.map_model.specs.SortedMap.{Bytes, Map, get}
+use Rattle.map_model.specs.Slices.{slice}
+use Rattle.map_model.specs.SortedMap.{Bytes, Map}
 use Rattle.state_model.proofs.AnyCause.{ever_steps, ever_tends}
 use Rattle.state_model.proofs.Lines.{lines_change}
 use Rattle.state_model.proofs.OfBytes.{lines_ask}
@@ -16,16 +16,14 @@ use Rattle.state_model.proofs.SoundInstalls.{slice_keeps, slice_sound}
 use Rattle.state_model.proofs.SoundLines.{step_sound}
 use Rattle.state_model.specs.Bounds.{admitted, blocks_read, estimate}
 use Rattle.state_model.specs.Causes.{Why}
-use Rattle.state_model.specs.Changes.{compact_placed, compacted, compacted_with, flush_placed, flushed, flushed_with, live_entries, logged, logged_then, with_tables, written}
+use Rattle.state_model.specs.Changes.{compact_placed, compacted_with, flush_placed, flushed, flushed_with, logged_then, with_tables, written}
 use Rattle.state_model.specs.Laws.{map_behind}
-use Rattle.state_model.specs.Merges.{NoRoom, outputs_for, placed}
+use Rattle.state_model.specs.Merges.{NoRoom}
 use Rattle.state_model.specs.Script.{Between, Onward, Over, turn_of}
 use Rattle.state_model.specs.Sound.{IsSound}
 use Rattle.state_model.specs.SoundLaws.{Ever}
 use Rattle.state_model.specs.State.{State, without_job}
-use Rattle.state_model.specs.Steps.{Answer, Step, answer, answer_within, answers, damage_met, done_or_refused, left_by, no_memory, pairs, read_failed, said_before, unless_limit, write_failed}
-use Rattle.state_model.specs.Taken.{taken}
-use Rattle.state_model.specs.Tends.{Tend, Tended}
+use Rattle.state_model.specs.Steps.{Answer, Step, answer, answer_within, answers, damage_met, done_or_refused, left_by, no_memory, read_failed, said_before, unless_limit, write_failed}
 use Rattle.state_model.specs.View.{entries_of, memory, state_map}
 use Rattle.surf_run.specs.Dialogue.{AnsweredLines}
 use Rattle.surf_run.specs.OneMap.{IsMapReply, IsRefusal, MapDialogue}
@@ -134,7 +132,7 @@ within filter_bytes s Compact = done_or (without_job s) _ (compacted_refuses fil
 within filter_bytes s Quit = inl refl
 within filter_bytes s (Bad code) = inl refl
 
-answered : (filter_bytes : FilterBytes) (s : State) (request : Request) → IsOf (state_map s) request (answer filter_bytes s request).0
+pub answered : (filter_bytes : FilterBytes) (s : State) (request : Request) → IsOf (state_map s) request (answer filter_bytes s request).0
 answered filter_bytes s request = unless (limit_of request) s (answer_within filter_bytes s request) (state_map s) request (limits_refuse request) (within filter_bytes s request)
 
 -- ---- a step that goes on
@@ -159,7 +157,7 @@ never_over : (ending : _) → Over ending ≡ Onward → ⊥
 never_over ending e = cc
 
 -- what is left has the map of before
-left_map : (s : State) (request : Request) → state_map (left_by request s) ≡ map_behind request Memory (state_map s)
+pub left_map : (s : State) (request : Request) → state_map (left_by request s) ≡ map_behind request Memory (state_map s)
 left_map s (Put key value) = refl
 left_map s (Del key) = refl
 left_map s (Get key) = refl

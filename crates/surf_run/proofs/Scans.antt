@@ -1,5 +1,5 @@
 -- Lines that read pairs: a seek and a count.
-use Rattle.std.proofs.Common.{◌≡◌, ◌⊎◌, ◌≢◌, inl, inr, ◌≤◌, ◌+◌, ◌*◌, ℕ, Bool, true, false, List, refl, sym, ap, ◌∙◌, subst, arith}
+use Rattle.std.proofs.Common.{◌≡◌, ◌⊎◌, ◌≢◌, inl, inr, ◌≤◌, ◌+◌, ◌*◌, ℕ, Bool, true, false, refl, sym, ap, ◌∙◌, subst, arith}
 use Rattle.std.specs.Prelude.{Option, Some, None, IsTrue}
 use Rattle.block_model.specs.Pages.{page_bytes}
 use Rattle.disk_trait.proofs.Calls.{reads_none}
@@ -34,15 +34,11 @@ use Rattle.surf_run.specs.declared.line_end.LineEnd.{LineEnd}
 use Rattle.surf_run.specs.declared.line_end.LineEnd.TheVariants.{End, Next}
 use Rattle.surf_run.proofs.Calms.{limited_step, runs_any, status_of, still_device, still_next}
 use Rattle.surf_run.proofs.EndCauses.{line_read, line_say, lines_on, rose_since, rose_then}
+use Rattle.surf_run.specs.Causes.{IfDevice}
 use Rattle.surf_run.proofs.Footprint.{within_still}
 use Rattle.surf_run.proofs.Moments.{tied_stands, tied_still}
 
 -- ---- why it is refused
-
--- what is so of a failed read
-abbrev pub IfDevice : Type 0 → StoreError → Type 0
-IfDevice Holds (error.Device cause) = Holds
-IfDevice Holds other = Unit {0}
 
 pub if_device : (Holds : Type 0) (why : StoreError) → Holds → IfDevice Holds why
 if_device Holds (error.Device cause) holds = holds

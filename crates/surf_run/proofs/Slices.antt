@@ -1,9 +1,9 @@
 -- A merge slice behind a reply.
-use Rattle.std.proofs.Common.{◌≡◌, ◌≢◌, ◌⊎◌, inl, inr, ◌≤◌, ◌+◌, ◌*◌, ◌++◌, ℕ, Bool, true, false, List, length, length-append, refl, sym, ap, ◌∙◌, subst, arith}
+use Rattle.std.proofs.Common.{◌≡◌, inl, inr, ◌≤◌, ◌+◌, ◌*◌, ℕ, Bool, true, false, List, length, length-append, refl, sym, ap, ◌∙◌, subst, arith}
 use Rattle.std.specs.Prelude.{IsTrue}
 use Rattle.block_model.specs.Pages.{page_bytes}
-use Rattle.disk_trait.specs.World.{Image, Meanwhile, Seen, Streams, World}
-use Rattle.line_model.specs.Replies.{Bye, Device, Reply, text_of}
+use Rattle.disk_trait.specs.World.{Image, Meanwhile, Streams, World}
+use Rattle.line_model.specs.Replies.{Bye, Reply, text_of}
 use Rattle.line_model.specs.Requests.{Bad, Compact, Count, Del, Estimate, Explain, Flush, Get, Put, Quit as AskQuit, Range, Request, Seek}
 use Rattle.outside.specs.During.{During}
 use Rattle.outside.specs.Streams.{SaidByNow, SaysPrefix}
@@ -12,14 +12,14 @@ use Rattle.state_model.proofs.AnyCause.{ever_steps, ever_tends}
 use Rattle.state_model.proofs.FaultsMet.{slice_keeps_device, step_keeps_device}
 use Rattle.state_model.specs.Causes.{Why}
 use Rattle.state_model.specs.PlayLaws.{has_slice}
-use Rattle.state_model.specs.Script.{AtDevice, Between, Onward, Over, Turn, turn_of}
+use Rattle.state_model.specs.Script.{AtDevice, Between, Onward, Over, Turn}
 use Rattle.state_model.specs.State.{State}
 use Rattle.store_core.specs.Answers.{HasCause}
 use Rattle.store_core.specs.StoreValue.{StoreValue}
-use Rattle.surf_run.specs.Answering.{AnswersLine, EndsLine, InLine, LineAnswer, RunsOn, SaysOnward, Whole}
-use Rattle.surf_run.specs.Causes.{EndCause, EndsOnward, LineMoves, LineShows, NoFall, ServedShows, SliceShows, WritesWithin}
+use Rattle.surf_run.specs.Answering.{AnswersLine, EndsLine, InLine, LineAnswer, SaysOnward, Whole}
+use Rattle.surf_run.specs.Causes.{EndsOnward, LineMoves, LineShows, NoFall, ServedShows, SliceShows, WritesWithin}
 use Rattle.surf_run.specs.Crash.{HasMap, WasStateAt}
-use Rattle.surf_run.specs.Dialogue.{IsBounded, line_bound, reply_bound, slice_blocks, slice_bound}
+use Rattle.surf_run.specs.Dialogue.{line_bound, reply_bound, slice_blocks, slice_bound}
 use Rattle.surf_run.specs.Kind.{Kind}
 use Rattle.surf_run.specs.Slices.{EndsServed, EndsSlice, MakesSlice, ServesLine, SliceMade}
 use Rattle.surf_run.specs.declared.line_end.LineEnd.{LineEnd}

@@ -1,11 +1,11 @@
 -- What a merge slice of the store leads to.
 use Rattle.std.proofs.Common.{◌≡◌, ◌⊎◌, inl, inr, ◌≤◌, ◌+◌, ◌*◌, ℕ, Bool, true, false, refl, sym, ap, ◌∙◌, subst, arith}
-use Rattle.std.specs.Prelude.{◌||◌, Option, Some, None, Result, Ok, Err, MatchResult, IfErr, IsTrue}
+use Rattle.std.specs.Prelude.{Option, Some, Result, Ok, Err, MatchResult, IfErr, IsTrue}
 use Rattle.block_model.specs.Pages.{page_bytes}
 use Rattle.byte_fields.specs.declared.parts.Damage.{Damage}
-use Rattle.disk_trait.specs.World.{Moves, Streams, World}
-use Rattle.line_model.specs.Replies.{Damaged, Device, Full, LastEpoch, LongKey, LongValue, ManyTables, Memory, Reply}
-use Rattle.state_model.specs.Script.{AtDevice, Onward, Over, turn_of, turn_of_slice}
+use Rattle.disk_trait.specs.World.{Streams, World}
+use Rattle.line_model.specs.Replies.{Damaged, Device, Full, LastEpoch, LongKey, LongValue, ManyTables, Memory}
+use Rattle.state_model.specs.Script.{AtDevice, Onward, Over, turn_of_slice}
 use Rattle.state_model.specs.State.{State}
 use Rattle.state_model.specs.Tends.{Idle, Refused, Tend, Tended, Worked}
 use Rattle.state_model.specs.Tends as model
@@ -20,13 +20,12 @@ use Rattle.surf_run.specs.Answering.{RunsOn}
 use Rattle.surf_run.specs.Causes.{DiskFailed, EndCause, NoFall, SliceShows, WritesWithin}
 use Rattle.surf_run.specs.Kind.{Kind}
 use Rattle.surf_run.specs.Refusals.{end_of_change}
-use Rattle.surf_run.specs.Slices.{EndsSlice, MakesSlice, SliceMade}
+use Rattle.surf_run.specs.Slices.{EndsSlice, MakesSlice}
 use Rattle.store_core.specs.Tending.{IsTended, IsTendRefusal, SomeMoves, Tends, told_slice}
 use Rattle.store_core.specs.declared.tending.Tended.{Tended as Told}
 use Rattle.store_core.specs.declared.tending.Tended.TheVariants as told_as
 use Rattle.surf_run.specs.declared.line_end.LineEnd.{LineEnd}
 use Rattle.surf_run.specs.declared.line_end.LineEnd.TheVariants.{End, Next}
-use Rattle.surf_run.proofs.Changes.{stopped_is}
 use Rattle.surf_run.proofs.Moments.{tied_pages, tied_stands}
 use Rattle.table_model.specs.Tables.{FilterBytes}
 

@@ -1,6 +1,6 @@
 -- The lines of a text, and what is kept of one.
 use Rattle.std.proofs.Common.{◌≡◌, ◌<◌, ◌≤◌, ◌++◌, inl, inr, ℕ, zero, List, [], ◌∷◌, length, refl, sym, ap, ◌∙◌, arith, append_assoc, Bool, cond, take}
-use Rattle.std.specs.Prelude.{flat_map, All, ◌==◌, ◌&&◌, not, Option, Some, None, IfNone}
+use Rattle.std.specs.Prelude.{flat_map, All, ◌==◌, Option, Some, None, IfNone}
 use Rattle.std.specs.List.{slice_split}
 use Rattle.std.proofs.lemmas.Bool.{cases_lt, lt-leb}
 use Rattle.std.proofs.lemmas.List.{append-nil, take-append-le}

@@ -10,6 +10,7 @@ use Rattle.state_model.specs.PlayLaws.{has_slice}
 use Rattle.state_model.specs.Script.{Onward, turn_of}
 use Rattle.store_core.specs.Getting.{IsFaultIn}
 use Rattle.store_core.specs.Scans.{IsScanShown}
+use Rattle.store_core.specs.declared.error.StoreError.{StoreError}
 use Rattle.store_core.specs.declared.error.StoreError.TheVariants as error
 use Rattle.surf_run.specs.declared.line_end.LineEnd.{LineEnd}
 use Rattle.surf_run.specs.declared.line_end.LineEnd.TheVariants.{Next, Quit, End}
@@ -54,6 +55,11 @@ pub record WritesWithin (n : ℕ) (old new : World) : Type 0 where
 pub record LineMoves (old new : World) : Type 0 where
   pub input : new.beside.to_take ≡ old.beside.to_take
   pub counts : NoFall old new
+
+-- what is so where a call of the device failed
+abbrev pub IfDevice : Type 0 → StoreError → Type 0
+IfDevice Holds (error.Device cause) = Holds
+IfDevice Holds other = Unit {0}
 
 -- damage that a request meets on an image: of a get that of the block which is read for its key in one of these tables, of a seek,
 -- a range, a count and a compaction that of some block of one of them

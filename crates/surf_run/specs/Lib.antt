@@ -5,6 +5,7 @@ pub use Rattle.outside.specs.Streams
 pub use Rattle.state_model.specs.State
 pub mod Answering
 pub mod Causes
+pub mod Chaining
 pub mod Crash
 pub mod Dialogue
 pub mod ServedOrNot
@@ -15,6 +16,7 @@ pub mod Independence
 pub mod Kind
 pub mod Loading
 pub mod Loads
+pub mod MapCrash
 pub mod OneMap
 pub mod Open
 pub mod Outcome

@@ -1,9 +1,8 @@
 -- What each part of a load promises.
-use Rattle.std.specs.Prelude.{◌≡◌, ◌⊎◌, ◌*◌, ◌+◌, ℕ, Bool, true, false, List, length, fold, Result, IfOk, IfErr, MatchResult, IsTrue}
+use Rattle.std.specs.Prelude.{◌≡◌, ◌⊎◌, ◌*◌, ℕ, Bool, true, false, List, Result, IfOk, IfErr, MatchResult, IsTrue}
 use Rattle.block_model.specs.Pages.{page_bytes}
 use Rattle.disk_trait.specs.World.{Image, World}
 use Rattle.entry_model.specs.Entries.{Entry, changed}
-use Rattle.image_model.specs.Stands.{StandsForMap}
 use Rattle.line_model.specs.Replies.{Done, Memory, Reply, text_of}
 use Rattle.map_model.specs.SortedMap.{Bytes, Map}
 use Rattle.outside.specs.During.{During}
@@ -16,9 +15,9 @@ use Rattle.store_core.specs.Represents.{Represents}
 use Rattle.store_core.specs.declared.error.StoreError.{StoreError}
 use Rattle.store_core.specs.declared.error.StoreError.TheVariants as error
 use Rattle.surf_run.specs.Causes.{EndCause, LineMoves, MeetsUnsaid, NoFall, WritesWithin}
-use Rattle.surf_run.specs.Crash.{EachImageStandsFor, HasMap}
+use Rattle.surf_run.specs.Crash.{EachImageStandsFor, HasOldOrNewMap}
 use Rattle.surf_run.specs.Kind.{Kind}
-use Rattle.surf_run.specs.Loads.{CrashOfLoad, FailsAt, IsPassedOver, Loaded, StepMade, change_of}
+use Rattle.surf_run.specs.Loads.{FailsAt, HasFirstSteps, IsPassedOver, StepMade, StepsMade, change_of}
 use Rattle.surf_run.specs.Unserved.{LastLine}
 use Rattle.surf_run.specs.declared.line_end.LineEnd.TheVariants.{End}
 
@@ -41,9 +40,9 @@ abbrev pub IsAnswer : Bool → Reply → Type 0
 IsAnswer true reply = reply ≡ Done
 IsAnswer false reply = IsPassedOver reply
 
--- the map before a step, or behind it
+-- the map before a step, or that of its answer
 abbrev pub HasStep : Kind → State → Entry → Image → Type 0
-HasStep kind s step image = HasMap kind s image ⊎ StandsForMap kind.spelling (changed (state_map s) step) image
+HasStep kind s step image = HasOldOrNewMap kind s (change_of step) image
 
 -- the map behind a step
 abbrev pub stepped_map : Bool → Map → Entry → Map
@@ -65,7 +64,7 @@ IsStepped kind step s store a b done =
     (reply : Reply) × (after : State) × StepMade (HasCause a b) kind.filter_bytes step reply s after × IsAnswer done reply × Represents kind.spelling kind.filter_bytes store after b
     × EachImageStandsFor kind after b × (state_map after ≡ stepped_map done (state_map s) step)
 
--- It was made so, or the run ends and says its last line; at each moment a crash leaves the map before the step or behind it.
+-- It was made so, or the run ends and says its last line; at each moment a crash leaves the map before the step or that of its answer.
 pub record StepEnds (IsMade : Bool → Type 0) (kind : Kind) (step : Entry) (result : Result Bool ℕ) (s : State) (a b : World) : Type 0 where
   pub ends : MatchResult result IsMade (λ status. LastLine (IsStepText kind step s a b) status a b)
   pub crash : During (λ said image. HasStep kind s step image) a b
@@ -89,11 +88,9 @@ pub record MakesStep (IsMade : State → Bool → Type 0) (kind : Kind) (tells t
 pub record LoadInvariant (kind : Kind) (start : State) (seed n refused : ℕ) (store : StoreValue) (first w : World) : Type 0 where
   pub kept : List Entry
   pub now : State
-  pub loaded : Loaded (HasCause first w) kind.filter_bytes start seed n kept refused now
-  pub map : state_map now ≡ fold changed (state_map start) kept
-  pub number : length kept + refused ≡ n
+  pub steps : StepsMade (HasCause first w) kind start seed n refused kept now
   pub silent : w.beside ≡ first.beside
-  pub history : During (λ said image. CrashOfLoad (HasCause first w) kind start seed n image) first w
+  pub history : During (λ said image. HasFirstSteps kind start kept image) first w
   pub tied : Represents kind.spelling kind.filter_bytes store now w
   pub stand : EachImageStandsFor kind now w
   pub counts : NoFall first w

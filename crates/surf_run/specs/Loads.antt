@@ -5,19 +5,19 @@ use Rattle.disk_trait.specs.World.{Image, World}
 use Rattle.entry_model.specs.Entries.{Entry, changed}
 use Rattle.image_model.specs.Stands.{StandsForMap}
 use Rattle.line_model.specs.Replies.{Device, Done, Full, LastEpoch, LongKey, LongValue, ManyTables, Memory, Reply, text_of}
-use Rattle.line_model.specs.Requests.{Del, Put, Request}
+use Rattle.line_model.specs.Requests.{Del, Put, Request, Seek}
 use Rattle.load_gen.specs.Generator.{next_number, number_after, step_of}
 use Rattle.load_gen.specs.Summary.{summary_of, summary_text}
 use Rattle.map_model.specs.SortedMap.{Bytes}
 use Rattle.outside.specs.During.{During}
-use Rattle.state_model.specs.Causes.{Why}
+use Rattle.state_model.specs.Causes.{ReadFailed, Why}
 use Rattle.state_model.specs.Script.{AtDevice, Between, Onward, Over}
 use Rattle.state_model.specs.State.{State}
-use Rattle.state_model.specs.Steps.{Step}
+use Rattle.state_model.specs.Steps.{Reads, Step, answer}
 use Rattle.state_model.specs.View.{state_map}
 use Rattle.store_core.specs.Answers.{HasCause}
 use Rattle.surf_run.specs.Causes.{WritesWithin}
-use Rattle.surf_run.specs.Crash.{EachImageStandsFor}
+use Rattle.surf_run.specs.Crash.{EachImageStandsFor, HasMap}
 use Rattle.surf_run.specs.Kind.{Kind}
 use Rattle.surf_run.specs.Open.{OpenMoves}
 use Rattle.surf_run.specs.Unserved.{LastLine}
@@ -69,25 +69,22 @@ pub data Loaded (Cause : Why → Type 0) (filter_bytes : FilterBytes) (start : S
 abbrev pub MapAfterSteps : Kind → State → List Entry → Image → Type 0
 MapAfterSteps kind start kept image = StandsForMap kind.spelling (fold changed (state_map start) kept) image
 
--- Of so many steps some first ones were made, and the image stands for the map that they make, those that were refused left out;
--- or for the map with the next step too.
-pub record CrashOfLoad (Cause : Why → Type 0) (kind : Kind) (start : State) (seed count : ℕ) (image : Image) : Type 0 where
-  pub made : ℕ
-  pub kept : List Entry
-  pub refused : ℕ
-  pub now : State
-  pub loaded : Loaded Cause kind.filter_bytes start seed made kept refused now
-  pub within : made ≤ count
-  pub stands : MapAfterSteps kind start kept image ⊎ ((made < count) × MapAfterSteps kind start (kept ++ (step_behind seed made ∷ [])) image)
+-- the image stands for the map that some first of these steps make of that of a state
+abbrev pub HasFirstSteps : Kind → State → List Entry → Image → Type 0
+HasFirstSteps kind start kept image = (first : List Entry) × (later : List Entry) × (kept ≡ first ++ later) × MapAfterSteps kind start first image
 
--- The first n steps were made, so many of them refused. The map of the state behind them is the one that the others make, and each
--- image that a crash may leave now stands for that state: so the next run begins with it.
-pub record EndOfSteps (kind : Kind) (start : State) (seed n refused : ℕ) (now : State) (old new : World) : Type 0 where
-  pub kept : List Entry
-  pub loaded : Loaded (HasCause old new) kind.filter_bytes start seed n kept refused now
+-- Of the steps that were made these were kept: the image has the map of some first of them, or, where a next step was at hand, the
+-- one of its answer.
+abbrev pub CrashOfLoad : Kind → State → ℕ → ℕ → ℕ → List Entry → State → Image → Type 0
+CrashOfLoad kind start seed count made kept now image =
+    HasFirstSteps kind start kept image ⊎ ((made < count) × HasMap kind (answer kind.filter_bytes now (change_of (step_behind seed made))).1 image)
+
+-- The first n steps were made of a state: these were kept, so many others refused, and this state stands behind them, whose map is the
+-- one that the kept ones make.
+pub record StepsMade (Cause : Why → Type 0) (kind : Kind) (start : State) (seed n refused : ℕ) (kept : List Entry) (now : State) : Type 0 where
+  pub loaded : Loaded Cause kind.filter_bytes start seed n kept refused now
   pub map : state_map now ≡ fold changed (state_map start) kept
   pub number : length kept + refused ≡ n
-  pub stands : EachImageStandsFor kind now new
 
 -- ---- where the device fails
 
@@ -97,31 +94,35 @@ pub data FailsAt (Cause : Why → Type 0) (filter_bytes : FilterBytes) (step : E
   in_slice : (reply : Reply) (mid after : State) → Step Cause filter_bytes before (change_of step) reply mid → (reply ≡ Done) ⊎ IsPassedOver reply
       → Between Cause filter_bytes (change_of step) mid (Over AtDevice) after → FailsAt Cause filter_bytes step before []
 
--- Some first steps were made, and the device failed the next one; or, behind all of them, the walk over the map, and `device` is said.
-pub record FailsBehind (kind : Kind) (start : State) (seed count : ℕ) (old new : World) (text : Bytes) : Type 0 where
+-- It failed the next step; or, behind all of them, a read of the walk over the map, which reads where there are tables: `device` is said.
+abbrev pub FailsBehind : Kind → ℕ → ℕ → ℕ → State → World → World → Bytes → Type 0
+FailsBehind kind seed count made now old new text =
+    ((made < count) × FailsAt (HasCause old new) kind.filter_bytes (step_behind seed made) now text)
+    ⊎ ((made ≡ count) × HasCause old new ReadFailed × Reads now (Seek [] None) × (text ≡ text_of Device))
+
+-- ---- the run
+
+-- Its last line, behind the steps that were made, so many of them refused: the summary of the map, where all were made; `memory`; or
+-- `device`, but none where the device failed in a merge slice. In the first two cases each image that a crash may leave now stands for
+-- the state behind them: so the next run begins with it.
+abbrev pub IsLoadText : Kind → ℕ → ℕ → ℕ → ℕ → State → World → World → ℕ → Bytes → Type 0
+IsLoadText kind seed count made refused now old new status text =
+    ((status ≡ 0) × (made ≡ count) × EachImageStandsFor kind now new × (text ≡ summary_text count refused (summary_of (state_map now))))
+    ⊎ ((status ≡ 7) × EachImageStandsFor kind now new × (text ≡ text_of Memory))
+    ⊎ ((status ≡ 4) × FailsBehind kind seed count made now old new text)
+
+-- A load of so many steps from a state: the steps that were made, one history; its last line, and that nothing is taken; at each
+-- moment a crash leaves the map after some first of them; and nothing is written behind the pages of the store.
+pub record LoadEnds (kind : Kind) (status : ℕ) (start : State) (seed count : ℕ) (old new : World) : Type 0 where
   pub made : ℕ
   pub kept : List Entry
   pub refused : ℕ
   pub now : State
-  pub loaded : Loaded (HasCause old new) kind.filter_bytes start seed made kept refused now
-  pub fails : ((made < count) × FailsAt (HasCause old new) kind.filter_bytes (step_behind seed made) now text) ⊎ ((made ≡ count) × (text ≡ text_of Device))
-
--- ---- the run
-
--- Its last line: the summary of the map, where all steps were made; `memory`, behind some first steps; or `device`, but none where
--- the device failed in a merge slice.
-abbrev pub IsLoadText : Kind → State → ℕ → ℕ → World → World → ℕ → Bytes → Type 0
-IsLoadText kind start seed count old new status text =
-    ((status ≡ 0) × (refused : ℕ) × (now : State) × EndOfSteps kind start seed count refused now old new × (text ≡ summary_text count refused (summary_of (state_map now))))
-    ⊎ ((status ≡ 7) × (n : ℕ) × (refused : ℕ) × (now : State) × (n ≤ count) × EndOfSteps kind start seed n refused now old new × (text ≡ text_of Memory))
-    ⊎ ((status ≡ 4) × FailsBehind kind start seed count old new text)
-
--- A load of so many steps from a state: its last line, and that nothing is taken; at each moment a crash leaves the map after some
--- first steps; and nothing is written behind the pages of the store.
-pub record LoadEnds (kind : Kind) (status : ℕ) (start : State) (seed count : ℕ) (old new : World) : Type 0 where
-  pub line : LastLine (IsLoadText kind start seed count old new) status old new
+  pub steps : StepsMade (HasCause old new) kind start seed made refused kept now
+  pub within : made ≤ count
+  pub line : LastLine (IsLoadText kind seed count made refused now old new) status old new
   pub input : new.beside.to_take ≡ old.beside.to_take
-  pub crash : During (λ said image. CrashOfLoad (HasCause old new) kind start seed count image) old new
+  pub crash : During (λ said image. CrashOfLoad kind start seed count made kept now image) old new
   pub writes : WritesWithin (page_bytes * start.pages) old new
 
 -- the statuses of a run of it that was begun

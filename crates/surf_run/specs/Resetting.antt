@@ -20,7 +20,7 @@ use Rattle.store_core.specs.Answers.{told_limit}
 use Rattle.store_core.specs.Resetting.{IsMade, bad_pages}
 use Rattle.store_core.specs.declared.error.StoreError.{StoreError}
 use Rattle.store_core.specs.declared.error.StoreError.TheVariants as error
-use Rattle.surf_run.specs.Causes.{WritesWithin}
+use Rattle.surf_run.specs.Causes.{DiskFailed, WritesWithin}
 use Rattle.surf_run.specs.Crash.{EachImageStandsFor}
 use Rattle.surf_run.specs.Formats.{bad_settings_text}
 use Rattle.surf_run.specs.Kind.{Kind}
@@ -66,14 +66,14 @@ done_text (new.Pages pages) = grown_text pages
 -- ---- what the run leaves
 
 -- The last line, by its status: over a store of a state, which has the new numbers then; at the last epoch; with a number that is
--- out of range for it; for want of memory; where the device fails. In the second, third and fourth case nothing was written.
+-- out of range for it; for want of memory; where a call of the device failed. In the second, third and fourth case nothing was written.
 abbrev pub IsResetText : Kind → NewNumbers → State → World → World → ℕ → Bytes → Type 0
 IsResetText kind numbers s old new status text =
     ((status ≡ 0) × (bad_number numbers s.pages ≡ None) × (to : State) × (renumbered numbers s ≡ Ok to) × EachImageStandsFor kind to new × (text ≡ done_text numbers))
     ⊎ ((status ≡ 10) × (bad_number numbers s.pages ≡ None) × (renumbered numbers s ≡ Err LastEpoch) × Untouched old new × (text ≡ text_of LastEpoch))
     ⊎ ((status ≡ 8) × (field : Field) × (bad_number numbers s.pages ≡ Some field) × Untouched old new × (text ≡ bad_settings_text field))
     ⊎ ((status ≡ 7) × Untouched old new × (text ≡ text_of Memory))
-    ⊎ ((status ≡ 4) × (text ≡ text_of Device))
+    ⊎ ((status ≡ 4) × DiskFailed old new × (text ≡ text_of Device))
 
 -- the image stands for the state before or for the one with the new numbers, and not for its map alone
 abbrev pub HasOldOrNewNumbers : Kind → NewNumbers → State → Image → Type 0

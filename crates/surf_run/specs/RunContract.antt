@@ -1,5 +1,5 @@
 -- What a run promises, clause by clause.
-use Rattle.std.specs.Prelude.{◌≡◌, ◌⊎◌, ℕ, Bool, List, IsTrue, None}
+use Rattle.std.specs.Prelude.{◌≡◌, ◌⊎◌, ℕ, Bool, true, List, IsTrue, None}
 use Rattle.byte_fields.specs.Faults.{Fault}
 use Rattle.byte_fields.specs.declared.parts.Damage.{Damage}
 use Rattle.clap.specs.Walk.{Text}
@@ -7,6 +7,7 @@ use Rattle.disk_trait.specs.World.{Now, World}
 use Rattle.filter_api.specs.declared.settings.Field.{Field}
 use Rattle.image_model.specs.Opening.{FirstDamage}
 use Rattle.image_model.specs.Stands.{IsStateOf}
+use Rattle.manifest.specs.NewManifest.{has_open}
 use Rattle.manifest_model.specs.Slots.{IsNoStore}
 use Rattle.map_model.specs.SortedMap.{Bytes}
 use Rattle.outside.specs.Streams.{SayMoves}
@@ -16,10 +17,12 @@ use Rattle.program_words.specs.declared.load.Load.{Load}
 use Rattle.program_words.specs.declared.new_store.NewStore.{NewStore}
 use Rattle.program_words.specs.declared.new_store.Wanted.{Wanted}
 use Rattle.state_model.specs.State.{State}
+use Rattle.state_model.specs.View.{state_map}
 use Rattle.surf_run.specs.Causes.{EndsAt, IsServing, NoFall, RunMeetsDamage, StatusCause}
 use Rattle.surf_run.specs.ServedOrNot.{Completed, HasNoState, NoLineAnswered, OpenedThenServed, OpensNothing, ServedOrNot, SomeFailed, TellsDamage}
 use Rattle.surf_run.specs.Kind.{Kind}
 use Rattle.surf_run.specs.Loads.{IsLoading, LoadEnds, Loads}
+use Rattle.surf_run.specs.MapCrash.{OneMapLasts}
 use Rattle.surf_run.specs.Open.{IsOpeningText}
 use Rattle.surf_run.specs.Resetting.{AskFor, IsInLastEpoch, IsResetEnd, IsResetting, OpenedThenReset, ResetEnds, TellsWhich}
 use Rattle.surf_run.specs.Run.{AskNothing, FormatEnds, IsBadSettingsText, IsHelpText, IsUsageText}
@@ -38,6 +41,11 @@ pub record RunContract {X : Type 0} (world : X → World) (tells tells_input tel
   pub outcome :
       (s : State) → IsTrue tells → IsTrue tells_input → IsTrue tells_output → Now (IsStateOf kind.spelling s) (world old) → IsServe words
       → ServedOrNot kind status s (world old) (world new)
+  -- Told of the map alone: at each moment each image that a crash may leave has a map that these replies reach after some first
+  -- lines with all that was acknowledged by then, or after one more.
+  pub one_map_crash :
+      (s : State) → IsTrue tells → IsTrue tells_input → IsTrue tells_output → Now (IsStateOf kind.spelling s) (world old) → IsServe words
+      → OneMapLasts kind.spelling (state_map s) (world old) (world new) ⊎ NoLineAnswered status s (world old) (world new)
   -- Where what the device reads as stands for this state: the same from the opening on.
   pub answers :
       (s : State) → IsTrue tells → IsTrue tells_input → IsTrue tells_output → IsStateOf kind.spelling s (world old).seen.held → IsServe words
@@ -55,7 +63,7 @@ pub record RunContract {X : Type 0} (world : X → World) (tells tells_input tel
   -- Where no call fails it is made, or a store is there, or there was no memory.
   pub format_complete :
       (wanted : Wanted) (store : NewStore) → IsTrue tells → IsTrue tells_output → IsFormat words wanted → first_bad_word wanted ≡ None → IsStoreOf wanted store
-      → (SomeFailed (world old) (world new) → ⊥) → (status ≡ 0) ⊎ (status ≡ 7) ⊎ (status ≡ 8)
+      → (SomeFailed (world old) (world new) → ⊥) → (status ≡ 0) ⊎ (status ≡ 7) ⊎ ((status ≡ 8) × (has_open (world old).seen.held ≡ true))
   pub bad_settings : (field : Field) → IsTrue tells_output → HasBadNumber words field → Unserved (IsBadSettingsText field) status (world old) (world new)
   -- Of `load`, where each image that a crash might have left at the start stands for this state: at status 0 all steps were made, and
   -- the line tells the map of those that were not refused; what a crash may leave at each moment is the map after some first steps.

@@ -1,7 +1,6 @@
 -- What the merge slice behind a line does, and a line with it.
-use Rattle.std.specs.Prelude.{◌≡◌, ◌≢◌, ◌⊎◌, ◌≤◌, ◌+◌, ◌*◌, ℕ, Bool, List, false, length, IsTrue}
+use Rattle.std.specs.Prelude.{◌≡◌, ◌≢◌, ◌⊎◌, ◌≤◌, ◌+◌, ◌*◌, ℕ, Bool, false, length, IsTrue}
 use Rattle.block_model.specs.Pages.{page_bytes}
-use Rattle.byte_fields.specs.declared.parts.Damage.{Damage}
 use Rattle.disk_trait.specs.World.{Meanwhile, World}
 use Rattle.line_model.specs.Replies.{Bye, Device, Reply}
 use Rattle.line_model.specs.Requests.{Request}

@@ -22,6 +22,7 @@
 
 mod answers;
 mod bounds;
+mod crash_examples;
 mod format_lines;
 mod formatting;
 mod laws;
@@ -38,7 +39,7 @@ mod resetting;
 mod saying;
 mod top;
 
-pub use laws::replies_are_of_the_map;
+pub use laws::{replies_are_of_the_map, runs_chain};
 pub use line_end::LineEnd;
 pub use new_numbers::NewNumbers;
 pub use one_line::serve_line;

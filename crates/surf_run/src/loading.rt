@@ -1,5 +1,5 @@
 //! A load: steps that follow from a seed, made over an opened store, and the summary of its map.
-ghost use Rattle.std.specs.Prelude.{◌≡◌, ◌⊎◌, ◌*◌, ◌++◌, ℕ, false, None, IfErr, IfOk, IsTrue, MatchResult};
+ghost use Rattle.std.specs.Prelude.{◌≡◌, ◌⊎◌, ◌*◌, ◌++◌, ℕ, [], false, None, IfErr, IfOk, IsTrue, MatchResult};
 ghost use Rattle.block_model.specs.Pages.{page_bytes};
 ghost use Rattle.byte_fields.specs.declared.parts.Damage.{Damage};
 ghost use Rattle.disk_trait.specs.World.{Now, WriteMoves};
@@ -7,18 +7,20 @@ ghost use Rattle.entry_model.specs.Entries.{entry_of};
 ghost use Rattle.image_model.specs.Opening.{FirstDamage};
 ghost use Rattle.image_model.specs.Stands.{IsStateOf};
 ghost use Rattle.line_model.specs.Limits.{limit_of};
+ghost use Rattle.line_model.specs.Requests.{Seek};
 ghost use Rattle.load_gen.specs.Summary.{summary_of, summary_text};
 ghost use Rattle.manifest_model.specs.Slots.{IsNoStore};
 ghost use Rattle.merge_rows.specs.Reads.{OnlyReads};
 ghost use Rattle.outside.specs.Streams.{SayMoves, SaysPrefix};
 ghost use Rattle.state_model.specs.State.{State};
+ghost use Rattle.state_model.specs.Steps.{Reads};
 ghost use Rattle.state_model.specs.View.{state_map};
 ghost use Rattle.store_core.specs.Answers.{AnswersRequest, IsTried, IsWriteRefusal, stopped_by, told_change};
 ghost use Rattle.store_core.specs.Counts.{IsCountRefusal};
 ghost use Rattle.store_core.specs.Getting.{IsUndamaged};
 ghost use Rattle.store_core.specs.Scans.{IsScanShown};
 ghost use Rattle.store_core.specs.Represents.{Represents};
-ghost use Rattle.surf_run.specs.Causes.{LineMoves, RunMeetsDamage, SayFailed, ShowsSomeDamage, StatusCause};
+ghost use Rattle.surf_run.specs.Causes.{IfDevice, LineMoves, RunMeetsDamage, SayFailed, ShowsSomeDamage, StatusCause};
 ghost use Rattle.surf_run.specs.ServedOrNot.{HasNoState, NoLineAnswered, OpensNothing, SomeFailed, TellsDamage};
 ghost use Rattle.surf_run.specs.Kind.{filter_kind};
 ghost use Rattle.surf_run.specs.Loading.{IsChanged, IsStepped, LoadInvariant, MakesStep, StepCause, is_passed_over};
@@ -138,6 +140,7 @@ fn summarise<F: RangeFilter, W: Outside>(
     ensures answer { (s : State) → IsTrue W.tells → Represents F.spelling (filter_bytes_of F.spelling F.built_cutoff) store.now s (W.world out.old)
         → IfOk result (λ summary. summary ≡ summary_of (state_map s)) }
     ensures undamaged { (s : State) → IsTrue W.tells → Represents F.spelling (filter_bytes_of F.spelling F.built_cutoff) store.now s (W.world out.old) → IfErr result IsUndamaged }
+    ensures only_if_read { (s : State) → IsTrue W.tells → Represents F.spelling (filter_bytes_of F.spelling F.built_cutoff) store.now s (W.world out.old) → IfErr result (IfDevice (Reads s (Seek [] None))) }
     ensures shown { IsTrue W.tells → IfErr result (IsScanShown store.now.tables (W.world out.old).seen.held) }
     ensures refused { IfErr result (IsCountRefusal false None (W.world out.old) (W.world out.new)) }
     ensures moves { OnlyReads (W.world out.old) (W.world out.new) }

@@ -1,5 +1,5 @@
-use Rattle.std.proofs.Common.{◌≡◌, ◌≤◌, ◌<◌, ◌+◌, ◌-◌, ◌++◌, length, take, drop}
-use Rattle.std.specs.Prelude.{IsTrue, Option, Some}
+use Rattle.std.proofs.Common.{◌≡◌, ◌≤◌, ◌<◌, ◌-◌, ◌++◌, length, take, drop}
+use Rattle.std.specs.Prelude.{IsTrue, Some}
 use Rattle.map_model.specs.SortedMap.{Map}
 use Rattle.store_core.specs.Scans.{StillComes, opened_tables}
 use Rattle.surf_run.proofs.Ranges.{Walked, pairs_text}

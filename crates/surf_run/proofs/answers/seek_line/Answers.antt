@@ -1,6 +1,5 @@
-use Rattle.std.proofs.Common.{◌≡◌, ◌∙◌, List, ℕ, Bor, ap, arith, refl, subst, sym}
+use Rattle.std.proofs.Common.{◌∙◌, List, ℕ, Bor, ap, arith, refl, subst, sym}
 use Rattle.std.specs.Option.{option_map}
-use Rattle.std.specs.Prelude.{Option, Some, None}
 use Rattle.line_model.specs.Limits.{limit_of}
 use Rattle.line_model.specs.Replies.{found}
 use Rattle.line_model.specs.Requests.{Seek}

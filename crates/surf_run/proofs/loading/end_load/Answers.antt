@@ -36,7 +36,7 @@ returns-in-Err-clause-ends g c start seed first tells output far =
     let mid = g.W.Disk.world c.summarise.new.out in
     load_unsummed (filter_kind g.F.RangeFilter.spelling g.F.RangeFilter.built_cutoff) start seed c.args.count c.args.refused c.args.store.now (g.W.Disk.world first) (g.W.Disk.world c.args.out.now)
     mid (g.W.Disk.world c.say_why.new.out) far c.summarise.ensures.moves (g.met.W.Outside.said_now c.args.out.now) (g.met.W.Outside.said_now c.summarise.new.out) c.say_why.ensures.moves
-    c.say_why.result c.in-Err.why (sum_opening c.in-Err.why (g.W.Disk.world c.args.out.now) mid c.in-Err.ensures.refused) c.in-Err.ensures.refused (c.in-Err.ensures.undamaged far.now tells far.tied)
+    c.say_why.result c.in-Err.why (sum_opening c.in-Err.why (g.W.Disk.world c.args.out.now) mid c.in-Err.ensures.refused) c.in-Err.ensures.refused (c.in-Err.ensures.undamaged far.now tells far.tied) (c.in-Err.ensures.only_if_read far.now tells far.tied)
     (c.say_why.ensures.said output) (c.say_why.ensures.prefix output) c.say_why.ensures.ends
 
 pub returns-in-Err-clause-shown : goal.returns-in-Err-clause-shown

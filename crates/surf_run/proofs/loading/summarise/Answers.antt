@@ -1,17 +1,20 @@
-use Rattle.std.proofs.Common.{rules, List, ◌∙◌, ◌+◌, ℕ, Bool, false, drop, refl, sym, ap, subst, arith, []}
+use Rattle.std.proofs.Common.{rules, List, ◌∙◌, ◌≤◌, ◌+◌, ℕ, Bool, false, drop, refl, sym, ap, subst, arith, []}
 use Rattle.std.specs.Prelude.{None, is_some}
 use Rattle.std.proofs.lemmas.List.{take_all}
 use Rattle.disk_trait.proofs.Calls.{reads_none}
 use Rattle.disk_trait.specs.Image.{Image}
 use Rattle.load_gen.specs.Summary.{Summary, summary_of, with_pair}
+use Rattle.line_model.specs.Requests.{Seek}
 use Rattle.map_model.specs.Slices.{between}
 use Rattle.map_model.specs.SortedMap.{Map}
+use Rattle.state_model.specs.Steps.{Reads}
 use Rattle.state_model.specs.View.{state_map}
 use Rattle.store_core.proofs.ScanCauses.{reads_on}
 use Rattle.store_core.proofs.ScanCounts.{count_few, drop_next, none_behind, none_pair, scan_count, scan_shown, scan_undamaged, some_behind, step_count}
 use Rattle.store_core.proofs.Tellings.{seen_as}
 use Rattle.store_core.specs.Scans.{IsScanRefusal, IsScanShown, StillComes}
 use Rattle.surf_run.proofs.LoadSums.{all_between, summed_next}
+use Rattle.surf_run.proofs.Scans.{if_device, may_seek, no_device}
 use Rattle.table_file.specs.Opened.{Opened}
 use Rattle.table_model.specs.Tables.{filter_bytes_of}
 use Rattle.surf_run.proofs.loading.summarise.Goals as goal
@@ -21,6 +24,11 @@ use Rattle.surf_run.proofs.loading.summarise.Goals as goal
 pub returns-in_err-scan-clause-undamaged : goal.returns-in_err-scan-clause-undamaged
 returns-in_err-scan-clause-undamaged g c s so tied =
     let here = scan_undamaged c.args.store.now.stopped None c.in_err-scan.field-0.0 c.in_err-scan.ensures.refused in
+    search rules
+
+pub returns-in_err-scan-clause-only_if_read : goal.returns-in_err-scan-clause-only_if_read
+returns-in_err-scan-clause-only_if_read g c s so tied =
+    let here = no_device (Reads s (Seek [] None)) c.args.store.now.stopped None c.in_err-scan.field-0.0 c.in_err-scan.ensures.refused in
     search rules
 
 pub returns-in_err-scan-clause-shown : goal.returns-in_err-scan-clause-shown
@@ -45,6 +53,7 @@ loop-init g c = record {
   summed = λ m so shows. c.new-summary.ensures;
   live = ap (λ (s : Summary). s.live) c.new-summary.ensures;
   tables = refl;
+  opened = refl;
   moves = (0, reads_none 0 (g.W.Disk.world c.args.out.now));
 }
 
@@ -58,6 +67,14 @@ returns-in_err-advance-clause-undamaged g c s so tied =
     let shows = c.loop.invariant.shows m so (c.in_ok-scan.ensures.shows s before.seen.held seen) in
     let here = c.in_err-advance.ensures.undamaged (drop c.loop.counter m) so
     (subst (λ (f : Image). StillComes g.F.RangeFilter.spelling c.loop.scan (drop c.loop.counter m) f) (sym c.loop.invariant.moves.1.held) shows) in
+    search rules
+
+pub returns-in_err-advance-clause-only_if_read : goal.returns-in_err-advance-clause-only_if_read
+returns-in_err-advance-clause-only_if_read g c s so tied =
+    let before = g.W.Disk.world c.args.out.now in
+    let seen = seen_as g.F.RangeFilter.spelling (filter_bytes_of g.F.RangeFilter.spelling g.F.RangeFilter.built_cutoff) c.args.store.now s before (g.met.W.Disk.current c.args.out.now so) tied in
+    let some = subst (λ (n : ℕ). 1 ≤ n) c.loop.invariant.opened c.in_err-advance.ensures.only_if_read.0 in
+    let here = if_device (Reads s (Seek [] None)) c.in_err-advance.field-0.0 (may_seek s [] None (c.in_ok-scan.ensures.only_if_read s before.seen.held seen some)) in
     search rules
 
 pub returns-in_err-advance-clause-shown : goal.returns-in_err-advance-clause-shown
@@ -101,6 +118,7 @@ loop-preserved g c =
           c.add.ensures ∙ ap (λ (t : Summary). with_pair t ([], c.in-Some.value.now)) (c.loop.invariant.summed m so shows) ∙ sym (summed_next c.loop.counter m _ (sym on.0 ∙ sym c.in-Some.ensures.now));
       live = ap (λ (t : Summary). t.live) c.add.ensures ∙ ap (λ (k : ℕ). k + 1) c.loop.invariant.live;
       tables = c.advance.ensures.same.0 ∙ c.loop.invariant.tables;
+      opened = c.advance.ensures.same.1 ∙ c.loop.invariant.opened;
       moves = reads_on (g.W.Disk.world c.args.out.now) (g.W.Disk.world c.loop.out) (g.W.Disk.world c.advance.new.disk) c.loop.invariant.moves c.advance.ensures.moves;
     }
 

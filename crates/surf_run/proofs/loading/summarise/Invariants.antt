@@ -3,7 +3,7 @@ use Rattle.std.specs.Prelude.{IsTrue}
 use Rattle.load_gen.specs.Summary.{summary_of}
 use Rattle.map_model.specs.SortedMap.{Map}
 use Rattle.merge_rows.specs.Reads.{OnlyReads}
-use Rattle.store_core.specs.Scans.{StillComes}
+use Rattle.store_core.specs.Scans.{StillComes, opened_tables}
 use Rattle.surf_run.proofs.loading.summarise.Given as goal
 
 -- so many pairs are summed, and the others are still to come
@@ -17,5 +17,6 @@ invariant-loop g l =
       summed : (m : Map) → IsTrue g.W.Disk.tells → StillComes g.F.RangeFilter.spelling l.initial.scan m before.seen.held → l.summary ≡ summary_of (take l.counter m);
       live : l.summary.live ≡ l.counter;
       tables : l.scan.tables ≡ l.initial.scan.tables;
+      opened : opened_tables l.scan ≡ opened_tables l.initial.scan;
       moves : OnlyReads before after;
     }

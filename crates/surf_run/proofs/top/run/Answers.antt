@@ -1,8 +1,11 @@
 use Rattle.std.proofs.Common.{inl, inr, map}
 use Rattle.std.specs.Prelude.{string_bytes}
+use Rattle.image_model.proofs.Sound.{state_sound}
+use Rattle.surf_run.specs.Kind.{filter_kind}
 use Rattle.surf_run.specs.Run.{IsBadSettingsText, IsMemoryText}
 use Rattle.surf_run.specs.declared.new_numbers.NewNumbers.TheVariants as new
 use Rattle.surf_run.proofs.Asking.{has_settings_in_range, if_bad, if_format, if_help, if_load, if_nothing, if_opens, if_opens_without_growing, if_refused, if_reset, if_serve, is_load, is_refused, is_reset}
+use Rattle.surf_run.proofs.Chaining.{one_map_lasts}
 use Rattle.surf_run.proofs.Formats.{format_ends}
 use Rattle.surf_run.proofs.LastLines.{unserved_wider}
 use Rattle.surf_run.proofs.top.run.Goals as goal
@@ -18,12 +21,17 @@ returns g c =
     let by = c.run_asked.ensures in
     record {
       outcome = λ s tells input output now is. if_serve words asked _ is asks (by.outcome s tells input output now);
+      one_map_crash = λ s tells input output now is.
+          let spelling = g.F.RangeFilter.spelling in
+          let kind = filter_kind spelling g.F.RangeFilter.built_cutoff in
+          let here = now _ (g.met.W.Disk.current c.args.out.now tells) in
+          one_map_lasts kind _ s _ _ (state_sound spelling kind.filter_bytes s _ here) (if_serve words asked _ is asks (by.outcome s tells input output now));
       answers = λ s tells input output here is. if_serve words asked _ is asks (by.answers s tells input output here);
       complete = λ s tells input output here none is. if_serve words asked _ is asks (by.complete s tells input output here none);
       formatted = λ wanted store tells output is good of. if_format words asked wanted store _ _ is good of asks (by.formatted tells output) (λ none. inr none);
       early = λ is. if_serve words asked _ is asks by.early;
       format_complete = λ wanted store tells output is good of none.
-          format_ends _ _ _ _ _ (if_format words asked wanted store _ _ is good of asks (by.formatted tells output) (λ starved. inr starved)) by.causes none;
+          format_ends _ wanted store _ _ _ good of (if_format words asked wanted store _ _ is good of asks (by.formatted tells output) (λ starved. inr starved)) by.causes none;
       bad_settings = λ field output bad. if_bad words asked field _ _ bad asks (by.bad_settings output) (λ none. unserved_wider IsMemoryText (IsBadSettingsText field) (λ status text memory. inr memory) _ _ _ none);
       loaded = λ s load tells output now is. if_load words asked load _ _ is asks (by.loaded s tells output now) (λ none. inr none);
       loads = λ s load tells output here is. if_load words asked load _ _ is asks (by.loads s tells output here) (λ none. inr none);

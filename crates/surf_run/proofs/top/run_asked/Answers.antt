@@ -14,7 +14,6 @@ use Rattle.surf_run.specs.Resetting.{IsResetEnd, IsResetting, OpenedThenReset, R
 use Rattle.surf_run.specs.Run.{FormatEnds, IsBadSettingsText, IsHelpText, IsUsageText, usage_text}
 use Rattle.surf_run.specs.Unserved.{Unserved}
 use Rattle.surf_run.specs.declared.new_numbers.NewNumbers.{NewNumbers}
-use Rattle.surf_run.specs.declared.new_numbers.NewNumbers.TheVariants as new
 use Rattle.surf_run.proofs.Asking.{at_bad, at_format, at_help, at_load, at_refused, at_serve, grow_opens, grow_opens_so, grow_is_reset, grow_reset, load_is_asked, load_opens, load_opens_so, memory_bad, memory_help, memory_load, memory_opens, memory_refused, memory_reset, memory_serve, serve_opens, settings_in_its_range, settings_is_reset, settings_opens, settings_opens_so, settings_reset}
 use Rattle.surf_run.proofs.LastLines.{read_since, said_reads, unserved}
 use Rattle.surf_run.proofs.LoadEnds.{as_statuses, never_two}
