@@ -154,7 +154,7 @@ fn a_long_way_takes_memory_and_gives_it_back(rt: HostRuntime) -> Result<(), Fail
     Ok(())
 }
 
-// Bytes in a heap: the least string of the first leaf, behind an x.
+// Bytes in a heap: the least string of the first leaf, after an x.
 fn least_behind(heap: LocalHeap, trie: &Trie<Global>) -> Result<(bool, Vec<u8, LocalHeap>), Fail> {
     let mut least = Vec::new(heap);
     least.push(b'x')?;

@@ -173,9 +173,8 @@ fn check_words(
 }
 
 // Five suffixes of 7 bits are in one word of 64. Beside them are, with no dense level, nine labels of 8 bits, two words,
-// a count of 32 bits for each of four lists of bits, and one place: 72, 128, 128 and 32. With one dense level it has 512 bits
-// and a word for its node, seven counts more than one, of which one is of the sparse half, and six labels: 576, 224, 48, 128,
-// 32 and 32.
+// a count of 32 bits for each of four lists of bits, and one place: 72, 128, 128 and 32. With one dense level: its node 576,
+// seven counts 224, six labels 48, two words 128, and a count and a place of the sparse half, 32 each.
 #[test]
 fn suffixes_are_in_whole_words(rt: HostRuntime) -> Result<(), Fail> {
     check_words(&rt, rt.alloc(), 0, 0, 0, 360)?;

@@ -48,9 +48,9 @@ impl<A: Allocator> Trie<A> {
     /// Keeps the sums of one level: of the first sparse one at which they take a bit for four places of the sparse half or
     /// less. Where a node of it has more than 256 leaves below, a level more than twice as deep is tried, and so on; there may
     /// be none. At most eleven levels are tried, and for each of them a node is looked at twice at most: 22 times in all, and
-    /// the first node of a level once more. One block of memory is taken for each level that is tried, and one in the end. The
-    /// trie stands for the same list, and what is counted is the same; without the sums it is counted level by level. That any
-    /// are kept is said here and shown by tests, by no clause.
+    /// the first node of each level once more a try, and once at the end. One block of memory is taken for each level that is
+    /// tried, and one in the end. The trie stands for the same list, and what is counted is the same; without the sums it is
+    /// counted level by level. That any are kept is said here and shown by tests, by no clause.
     pub fn keep_sums(&mut self, alloc: A) -> Result<(), AllocError>
     where
         A: Clone,
