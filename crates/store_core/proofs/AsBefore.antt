@@ -1,27 +1,18 @@
--- What a store that is as it was is worth.
+-- A store that is as it was represents what it did.
 use Rattle.std.proofs.Common.{ℕ, refl, sym, subst}
 use Rattle.disk_trait.specs.World.{World}
 use Rattle.filter_api.specs.Spellings.{Spelling}
 use Rattle.map_model.specs.SortedMap.{Bytes}
 use Rattle.table_model.specs.Tables.{FilterBytes}
-use Rattle.store_core.specs.AsBefore.{StandsAsBefore}
+use Rattle.store_core.specs.AsBefore.{RepresentsAsBefore}
 use Rattle.store_core.specs.Staying.{IsAsItWas}
 use Rattle.store_core.specs.StoreValue.{StoreValue}
 
 module _ (spelling : Spelling) (bytes : FilterBytes) (before : StoreValue) (w : World) where
   -- whatever spare places it has, and whatever was read or built last
-  with_others : (spare : ℕ) (buffer : Bytes) → StandsAsBefore spelling bytes before (record before { memory = record before.memory { spare = spare }; buffer = buffer }) w
+  with_others : (spare : ℕ) (buffer : Bytes) → RepresentsAsBefore spelling bytes before (record before { memory = record before.memory { spare = spare }; buffer = buffer }) w
   with_others spare buffer = record {
     back = refl;
-    consistent = λ whole. record {
-      version = whole.version;
-      slot = whole.slot;
-      rows = whole.rows;
-      area = whole.area;
-      entries = whole.entries;
-      job = whole.job;
-      numbered = whole.numbered;
-    };
     represents = λ s tied. record {
       sound = tied.sound;
       none_kept = tied.none_kept;
@@ -35,5 +26,5 @@ module _ (spelling : Spelling) (bytes : FilterBytes) (before : StoreValue) (w : 
     entry = λ e allowed wide some. let here = allowed wide some in record { few = here.few; page = here.page; gap = here.gap; epoch = here.epoch };
   }
 
-  pub stands_as_before : (after : StoreValue) → IsAsItWas before after → StandsAsBefore spelling bytes before after w
-  stands_as_before after is = subst (λ (k : StoreValue). StandsAsBefore spelling bytes before k w) (sym is) (with_others after.memory.spare after.buffer)
+  pub represents_as_before : (after : StoreValue) → IsAsItWas before after → RepresentsAsBefore spelling bytes before after w
+  represents_as_before after is = subst (λ (k : StoreValue). RepresentsAsBefore spelling bytes before k w) (sym is) (with_others after.memory.spare after.buffer)

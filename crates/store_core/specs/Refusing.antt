@@ -85,8 +85,8 @@ HoldsSome store = (store.memory.entries ≢ []) ⊎ (store.tables ≢ [])
 abbrev pub MayBeCompacted : StoreValue → Type 0
 MayBeCompacted store = HoldsSome store × (store.manifest.version.epoch < last_epoch)
 
--- A compaction is refused only of a store that holds something: by a limit before any call of the device, and else where an epoch
--- is left.
+-- A compaction of a store that is not stopped is refused only of one that holds something: by a limit before any call of the device,
+-- and else where an epoch is left.
 abbrev pub IsCompactDue : StoreValue → World → World → StoreError → Type 0
 IsCompactDue store old new error.Memory = MayBeCompacted store
 IsCompactDue store old new (error.Device cause) = MayBeCompacted store

@@ -42,7 +42,7 @@ impl<F: RangeFilter> Model for Store<F> {
 }
 
 impl<F: RangeFilter> Store<F> {
-    ghost use Rattle.store_core.specs.AsBefore.{StandsAsBefore};
+    ghost use Rattle.store_core.specs.AsBefore.{RepresentsAsBefore};
     ghost use Rattle.store_core.specs.Staying.{IsAsItWas};
     ghost use Rattle.store_core.specs.StoreValue.{IsConsistent, StoreValue};
     ghost use Rattle.table_model.specs.Tables.{filter_bytes_of};
@@ -55,9 +55,10 @@ impl<F: RangeFilter> Store<F> {
         let _ = &self.stopped;
     }
 
-    /// Law: a store that is as it was is worth what it was, whatever its device holds. It does nothing.
+    /// Law: a store that is as it was represents on a device as it is, whichever that is, and on each image, what it
+    /// represented there. It does nothing.
     pub fn refusals_law<D: Disk>(&self, disk: &D)
-        ensures { (before : StoreValue) → IsAsItWas before self.now → StandsAsBefore F.spelling (filter_bytes_of F.spelling F.built_cutoff) before self.now (D.world disk.now) }
+        ensures { (before : StoreValue) → IsAsItWas before self.now → RepresentsAsBefore F.spelling (filter_bytes_of F.spelling F.built_cutoff) before self.now (D.world disk.now) }
     {
         let _ = &self.stopped;
         let _ = disk;
