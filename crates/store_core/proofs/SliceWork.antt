@@ -6,7 +6,7 @@ use Rattle.level_merge.specs.JobValue.{JobValue}
 use Rattle.level_merge.specs.declared.fault.JobFault.{JobFault}
 use Rattle.level_merge.specs.declared.fault.JobFault.TheVariants as fault
 use Rattle.store_core.specs.StoreValue.{StoreValue}
-use Rattle.store_core.specs.Tending.{HasWorked, IsBegunAmong, IsTakenOut, IsTakenUp, IsWork, IsWorkOf, answer_to}
+use Rattle.store_core.specs.Tending.{HasWorked, IsBegunAmong, IsMergeTakenOut, IsMergeAtHand, IsWork, IsWorkOf, answer_to}
 use Rattle.store_core.specs.declared.error.StoreError.{StoreError}
 use Rattle.store_core.specs.declared.tending.Tended.{Tended}
 use Rattle.store_core.specs.declared.tending.Tended.TheVariants as tended
@@ -18,20 +18,25 @@ no_work before after m (fault.Device cause) = tt
 no_work before after m (fault.Damaged damage) = tt
 no_work before after m (fault.Full need gap) = tt
 
+-- whichever merge the store had
+with_no_job : (before after : StoreValue) (m : JobValue) → HasWorked (record before { job = None }) m after → HasWorked before m after
+with_no_job before after m (later, same, inl is) = (later, same, inl is)
+with_no_job before after m (later, same, inr is) = (later, same, inr (record { written = is.written; tables = is.tables; rows = is.rows; no_job = is.no_job; epoch = is.epoch }))
+
 -- a merge was taken up
-pub of_taken : (before between after : StoreValue) (m : JobValue) (r : Result Tended StoreError) → between ≡ record before { job = None } → IsTakenUp before m → IfOk r (IsWorkOf between m after)
+pub of_taken : (before between after : StoreValue) (m : JobValue) (r : Result Tended StoreError) → between ≡ record before { job = None } → IsMergeAtHand before m → IfOk r (IsWorkOf between m after)
     → IfOk r (IsWork before after)
-of_taken before between after m (Ok tended.Worked) same up is = (m, up, subst (λ (k : StoreValue). HasWorked k m after) same is)
+of_taken before between after m (Ok tended.Worked) same up is = (m, up, with_no_job before after m (subst (λ (k : StoreValue). HasWorked k m after) same is))
 of_taken before between after m (Ok tended.Idle) same up is = tt
 of_taken before between after m (Ok (tended.Full need gap)) same up is = tt
 of_taken before between after m (Err why) same up is = tt
 
 -- ---- what is taken up
 
-pub running_taken : (store : StoreValue) (found : Option JobValue) → found ≡ store.job → IsTakenOut store found
+pub running_taken : (store : StoreValue) (found : Option JobValue) → found ≡ store.job → IsMergeTakenOut store found
 running_taken store None is = tt
 running_taken store (Some m) is = inl (sym is)
 
-pub begun_taken : (store : StoreValue) (found : Option JobValue) → store.job ≡ None → IsBegunAmong store.tables (settings_of store.manifest.version) found → IsTakenOut store found
+pub begun_taken : (store : StoreValue) (found : Option JobValue) → store.job ≡ None → IsBegunAmong store.tables (settings_of store.manifest.version) found → IsMergeTakenOut store found
 begun_taken store None none is = tt
 begun_taken store (Some m) none is = inr (none, (is.0, is.1, is.2))

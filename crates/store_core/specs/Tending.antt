@@ -8,20 +8,22 @@ use Rattle.filter_api.specs.declared.settings.Settings.{Settings}
 use Rattle.image_model.specs.Stands.{StandsForMap, settings_of}
 use Rattle.key_base.specs.Limits.{last_epoch}
 use Rattle.level_merge.specs.Follows.{IsJobRefusal, IsSliced}
-use Rattle.level_merge.specs.JobValue.{JobValue, begun, work_left}
+use Rattle.level_merge.specs.JobValue.{AreAllWritten, JobValue, begun, work_left}
 use Rattle.level_merge.specs.Plans.{Agree, IsPlanOf, MayStart, PlanByNumbers}
 use Rattle.level_merge.specs.declared.fault.JobFault.{JobFault}
 use Rattle.level_merge.specs.declared.fault.JobFault.TheVariants as job
 use Rattle.level_merge.specs.declared.fault.Sliced.{Sliced}
 use Rattle.line_model.specs.Replies as reply
+use Rattle.merge_rows.specs.Steps.{numbers}
 use Rattle.state_model.specs.Merges.{choose}
 use Rattle.state_model.specs.State.{Job, State, without_job}
 use Rattle.state_model.specs.Tends as model
 use Rattle.state_model.specs.Tends.{Progresses, Runs, Tend, with_job}
 use Rattle.state_model.specs.View.{state_map}
 use Rattle.store_core.specs.Answers.{HasCause, stops, told, told_limit}
+use Rattle.store_core.specs.Replacing.{tables_behind}
 use Rattle.store_core.specs.Staying.{IsAsItWas}
-use Rattle.store_core.specs.StoreValue.{StoreValue}
+use Rattle.store_core.specs.StoreValue.{StoreValue, rows_of}
 use Rattle.store_core.specs.Opening.{FaultRose}
 use Rattle.store_core.specs.Represents.{Represents, RepresentsOn}
 use Rattle.store_core.specs.declared.error.StoreError.{StoreError}
@@ -82,15 +84,28 @@ SliceStays (Ok (tended.Full need gap)) before after = IsAsItWas before after
 SliceStays (Err why) before after = stops why ≡ false → IsAsItWas before after
 
 -- the merge that runs in a store, or one that begins among its tables where none does
-abbrev pub IsTakenUp : StoreValue → JobValue → Type 0
-IsTakenUp store m =
+abbrev pub IsMergeAtHand : StoreValue → JobValue → Type 0
+IsMergeAtHand store m =
     (store.job ≡ Some m) ⊎ ((store.job ≡ None) × ((p : PlanByNumbers) × MayStart store.tables p × (m ≡ begun p (settings_of store.manifest.version) store.tables)))
 
--- Less is left of this merge, and nothing else has changed; or its outputs are installed: no merge runs, and the epoch is one higher.
+-- a merge as it is later: it reads the same tables, with the same settings, into the same level
+abbrev pub IsSameMerge : JobValue → JobValue → Type 0
+IsSameMerge m later = (numbers later.merge.walks ≡ numbers m.merge.walks) × (later.output ≡ m.output) × (later.settings ≡ m.settings)
+
+-- The tables of a merge that is done, all written, take the place of those that it read, and are those of the version: no merge runs,
+-- and the epoch is one higher.
+pub record IsInstalledOf (before : StoreValue) (done : JobValue) (after : StoreValue) : Type 0 where
+  pub written : AreAllWritten done
+  pub tables : after.tables ≡ tables_behind before.tables done
+  pub rows : after.manifest.version.rows ≡ rows_of after.tables
+  pub no_job : after.job ≡ None
+  pub epoch : after.manifest.version.epoch ≡ before.manifest.version.epoch + 1
+
+-- less is left of this merge, and nothing else has changed; or it is installed as it is then
 abbrev pub HasWorked : StoreValue → JobValue → StoreValue → Type 0
 HasWorked before m after =
-    ((later : JobValue) × (after ≡ record before { job = Some later }) × (work_left before.tables later < work_left before.tables m))
-    ⊎ ((after.job ≡ None) × (after.manifest.version.epoch ≡ before.manifest.version.epoch + 1))
+    (later : JobValue) × IsSameMerge m later
+    × (((after ≡ record before { job = Some later }) × (work_left before.tables later < work_left before.tables m)) ⊎ IsInstalledOf before later after)
 
 -- where that is the answer
 abbrev pub IsWorkOf : StoreValue → JobValue → StoreValue → Tended → Type 0
@@ -100,7 +115,7 @@ IsWorkOf before m after (tended.Full need gap) = Unit {0}
 
 -- so of the merge that runs, or of the one that begins
 abbrev pub IsWork : StoreValue → StoreValue → Tended → Type 0
-IsWork before after tended.Worked = (m : JobValue) × IsTakenUp before m × HasWorked before m after
+IsWork before after tended.Worked = (m : JobValue) × IsMergeAtHand before m × HasWorked before m after
 IsWork before after tended.Idle = Unit {0}
 IsWork before after (tended.Full need gap) = Unit {0}
 
@@ -118,9 +133,9 @@ IsBegunAmong tables settings (Some m) =
     (p : PlanByNumbers) × MayStart tables p × (m ≡ begun p settings tables) × ((of_state : List Table) → Agree tables of_state → IsPlanOf of_state (Some p) (choose of_state))
 
 -- where a merge is taken up, it is the one that runs or one that begins
-abbrev pub IsTakenOut : StoreValue → Option JobValue → Type 0
-IsTakenOut store None = Unit {0}
-IsTakenOut store (Some m) = IsTakenUp store m
+abbrev pub IsMergeTakenOut : StoreValue → Option JobValue → Type 0
+IsMergeTakenOut store None = Unit {0}
+IsMergeTakenOut store (Some m) = IsMergeAtHand store m
 
 -- The merge that runs, or one that begins where none does, is that of a job of the state, as each image on which the store stands
 -- shows it. Where there is none nothing is to be merged.

@@ -11,6 +11,7 @@ ghost use Rattle.store_core.specs.Framing.{IsInUse, LeavesPlaces};
 ghost use Rattle.store_core.specs.Running.{IsRun};
 ghost use Rattle.store_core.specs.Represents.{Represents};
 ghost use Rattle.store_core.specs.Staying.{Stays};
+ghost use Rattle.store_core.specs.Tending.{IsInstalledOf};
 ghost use Rattle.table_model.specs.Tables.{filter_bytes_of};
 
 use crate::compacting::stops_store;
@@ -42,7 +43,7 @@ impl<F: RangeFilter> Store<F> {
         ensures stopped { self.new.stopped ≡ stopped_by result }
         ensures no_job { self.new.job ≡ None }
         ensures frame { LeavesPlaces (IsInUse self.old.manifest log_bytes) (D.world disk.old) (D.world disk.new) }
-        ensures epoch { OnOk result (self.new.manifest.version.epoch ≡ self.old.manifest.version.epoch + 1) }
+        ensures installed { OnOk result (IsInstalledOf self.old job.entry self.new) }
         ensures pages { self.new.manifest.version.pages ≡ self.old.manifest.version.pages }
         ensures moves { WriteMoves 0 (page_bytes * self.old.manifest.version.pages) (D.world disk.old) (D.world disk.new) }
     {

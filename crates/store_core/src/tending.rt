@@ -16,7 +16,7 @@ ghost use Rattle.store_core.specs.StoreValue.{IsConsistent};
 ghost use Rattle.store_core.specs.Framing.{IsInUse, LeavesPlaces};
 ghost use Rattle.store_core.specs.Running.{HasMoreToMake, IsRun, MayRunIn};
 ghost use Rattle.store_core.specs.Scans.{IsScanShown};
-ghost use Rattle.store_core.specs.Tending.{IsBegunAmong, IsNext, IsTakenOut, IsTended, IsTendRefusal, IsWork, IsWorkOf, NoneIsChosen, SliceStays, SlicesJob, SomeMoves, Tends, answer_to, told_slice};
+ghost use Rattle.store_core.specs.Tending.{IsBegunAmong, IsNext, IsMergeTakenOut, IsSameMerge, IsTended, IsTendRefusal, IsWork, IsWorkOf, NoneIsChosen, SliceStays, SlicesJob, SomeMoves, Tends, answer_to, told_slice};
 ghost use Rattle.store_core.specs.Represents.{Represents, RepresentsOn};
 ghost use Rattle.table_model.specs.Tables.{filter_bytes_of};
 
@@ -96,7 +96,7 @@ impl<F: RangeFilter> Store<F> {
         ensures rest { self.new ≡ record self.old { job = None } }
         ensures whole { IfOk result (MayRunIn self.old.manifest.version self.old.tables) }
         ensures next { (s : model.State) (image : Image) → RepresentsOn F.spelling self.old.manifest self.old.tables self.old.job s image → IfOk result (IsNext F.spelling self.old s) }
-        ensures taken_up { IfOk result (IsTakenOut self.old) }
+        ensures taken_up { IfOk result (IsMergeTakenOut self.old) }
         ensures none { IfOk result (λ found. found ≡ None → (self.old.job ≡ None) × NoneIsChosen self.old.tables) }
         ensures memory { IfErr result (λ why. why ≡ StoreError.Memory) }
     {
@@ -181,6 +181,7 @@ impl<F: RangeFilter> Store<F> {
         ensures unwritten { IfErr result (FailsBeforeWrite (D.world disk.old) (D.world disk.new)) }
         ensures frame { LeavesPlaces (IsInUse self.now.manifest log_bytes) (D.world disk.old) (D.world disk.new) }
         ensures ends { IfOk result (λ sliced. sliced ≡ Sliced.Working → work_left self.now.tables job.new < work_left self.now.tables job.old) }
+        ensures same { IsSameMerge job.old job.new }
         ensures moves { SomeMoves (page_bytes * self.now.manifest.version.pages) (D.world disk.old) (D.world disk.new) }
     {
         // the law of merges: what stands of the one that runs stands on each image

@@ -1,4 +1,4 @@
-use Rattle.std.proofs.Common.{◌∙◌, ◌<◌, ◌≤◌, ◌+◌, List, length, refl, sym, ap, subst, arith}
+use Rattle.std.proofs.Common.{◌∙◌, ◌<◌, ◌≤◌, List, length, refl, sym, ap, subst, arith}
 use Rattle.std.specs.Prelude.{Option, Some, Ok, Err}
 use Rattle.std.specs.List.{AllByRecursion}
 use Rattle.disk_trait.specs.World.{Leads, WriteMoves}
@@ -195,10 +195,20 @@ returns-in-Err-clause-installs g c s done tells runs is_done tied =
     (ap (λ (k : StoreValue). k.manifest) c.self.view_is) (c.reserve.ensures.tables ∙ ap (λ (k : StoreValue). k.tables) c.self.view_is) (ap (λ (k : StoreValue). k.job) c.self.view_is ∙ c.requires.taken_out)
     (ap (λ (k : StoreValue). k.log) c.self.view_is) (ap (λ (k : StoreValue). k.memory) c.self.view_is) (ap (λ (k : StoreValue). k.blocks) c.self.view_is) c.stops_store-self-inside.ensures
 
--- the epoch is raised
-pub returns-in-Ok-clause-epoch : goal.returns-in-Ok-clause-epoch
-returns-in-Ok-clause-epoch g c =
-    ap (λ (m : Manifest). m.version.epoch) c.installed.ensures ∙ ap (λ (m : Manifest). m.version.epoch + 1) c.in_ok-next.ensures.next ∙ ap (λ (k : StoreValue). k.manifest.version.epoch + 1) c.self.view_is
+-- what is installed
+pub returns-in-Ok-clause-installed : goal.returns-in-Ok-clause-installed
+returns-in-Ok-clause-installed g c =
+    let job = c.args.job in
+    let next_is = c.in_ok-next.ensures.next ∙ ap (λ (k : StoreValue). merged_manifest k.manifest (rows_of (tables_behind k.tables job))) c.self.view_is in
+    let tables_are = c.replace_tables.ensures.tables ∙ ap (λ (ts : List Opened). tables_behind ts job) c.reserve.ensures.tables ∙ ap (λ (k : StoreValue). tables_behind k.tables job) c.self.view_is in
+    let version_is = c.installed.ensures ∙ ap installed_manifest next_is in
+    record {
+      written = c.requires.run.written;
+      tables = tables_are;
+      rows = ap (λ (m : Manifest). m.version.rows) version_is ∙ ap rows_of (sym tables_are);
+      no_job = ap (λ (k : StoreValue). k.job) c.self.view_is ∙ c.requires.taken_out;
+      epoch = ap (λ (m : Manifest). m.version.epoch) version_is;
+    }
 
 -- ---- what a refusal leaves
 

@@ -1,4 +1,4 @@
-use Rattle.std.proofs.Common.{◌≡◌, ◌∙◌, ◌<◌, List, sym, ap, subst, arith}
+use Rattle.std.proofs.Common.{◌≡◌, ◌∙◌, ◌<◌, List, refl, sym, ap, subst, arith}
 use Rattle.std.specs.Prelude.{IfOk}
 use Rattle.std.specs.List.Sorted.{IsPermutation}
 use Rattle.byte_fields.specs.declared.parts.Row.{Row}
@@ -88,6 +88,12 @@ returns-clause-moves g c =
 pub returns-clause-ends : goal.returns-clause-ends
 returns-clause-ends g c =
     subst (λ (k : StoreValue). IfOk c.slice.result (λ (said : Sliced). said ≡ sliced.Working → work_left k.tables c.slice.new.self < work_left k.tables c.args.job.now)) c.self.view_is c.slice.ensures.slices.ends
+
+pub returns-in_err-extents-clause-same : goal.returns-in_err-extents-clause-same
+returns-in_err-extents-clause-same g c = (refl, refl, refl)
+
+pub returns-clause-same : goal.returns-clause-same
+returns-clause-same g c = (c.slice.ensures.slices.numbers_are, c.slice.ensures.slices.same.0, c.slice.ensures.slices.same.1)
 
 -- ---- what is left as it was
 

@@ -5,7 +5,7 @@ use Rattle.image_model.specs.Stands.{settings_of}
 use Rattle.level_merge.specs.JobValue.{JobValue}
 use Rattle.store_core.specs.StoreValue.{StoreValue}
 use Rattle.store_core.specs.Running.{MayRunIn}
-use Rattle.store_core.specs.Tending.{IsBegunAmong, IsNext, IsTakenOut, NoneIsChosen}
+use Rattle.store_core.specs.Tending.{IsBegunAmong, IsNext, IsMergeTakenOut, NoneIsChosen}
 use Rattle.store_core.proofs.SliceWork.{begun_taken, running_taken}
 use Rattle.store_core.proofs.TendNext.{begun_may_run, next_of_begun, next_taken}
 use Rattle.store_core.proofs.store.Store.take_job.Goals as goal
@@ -59,4 +59,4 @@ returns-clause-taken_up g c =
     let set = settings_of store.manifest.version in
     let begun = subst (λ (k : StoreValue). IfOk c.next_job.result (IsBegunAmong k.tables (settings_of k.manifest.version))) (c.self.view_is ∙ c.take_running-running.ensures.rest) c.next_job.ensures.begun in
     let no_job = sym c.take_running-running.ensures.taken ∙ none_of c.take_running-running.result (sym c.is_some.ensures ∙ c.if-is_some.false) in
-    if_ok (IsBegunAmong store.tables set) (IsTakenOut store) c.next_job.result (λ found is. begun_taken store found no_job is) begun
+    if_ok (IsBegunAmong store.tables set) (IsMergeTakenOut store) c.next_job.result (λ found is. begun_taken store found no_job is) begun

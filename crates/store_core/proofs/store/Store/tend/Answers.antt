@@ -3,7 +3,7 @@ use Rattle.std.specs.Prelude.{Some, None, Result, Ok, Err}
 use Rattle.state_model.specs.Tends.{with_job}
 use Rattle.table_model.specs.Tables.{filter_bytes_of}
 use Rattle.store_core.specs.StoreValue.{IsConsistent, StoreValue}
-use Rattle.store_core.specs.Tending.{IsNext, IsTakenOut, SliceStays, Tends, told_slice}
+use Rattle.store_core.specs.Tending.{IsNext, IsMergeTakenOut, SliceStays, Tends, told_slice}
 use Rattle.store_core.specs.Represents.{Represents}
 use Rattle.store_core.specs.declared.error.StoreError.{StoreError}
 use Rattle.store_core.specs.declared.tending.Tended.{Tended}
@@ -78,7 +78,7 @@ returns-in-Some-clause-stays g c =
 
 pub returns-in-Some-clause-worked : goal.returns-in-Some-clause-worked
 returns-in-Some-clause-worked g c =
-    of_taken c.args.self.now c.take_job.new.self c.work.new.self c.in-Some.job c.work.result c.take_job.ensures.rest (subst (IsTakenOut c.args.self.now) c.in-Some.is c.in_ok-job.ensures.taken_up) c.work.ensures.worked
+    of_taken c.args.self.now c.take_job.new.self c.work.new.self c.in-Some.job c.work.result c.take_job.ensures.rest (subst (IsMergeTakenOut c.args.self.now) c.in-Some.is c.in_ok-job.ensures.taken_up) c.work.ensures.worked
 
 -- ---- what is left as it was
 

@@ -130,10 +130,11 @@ returns-in-Err-clause-stays g c = refused_slice c.refuse.result c.args.self.now 
 pub returns-in-Ok-Working-clause-worked : goal.returns-in-Ok-Working-clause-worked
 returns-in-Ok-Working-clause-worked g c =
     let m = c.slice_job.new.job in
-    inl (m, ap (λ (k : StoreValue). record k { job = Some m }) c.self.view_is, c.in-Ok-Working.ensures.ends c.in-Ok-Working.field-0-is)
+    (m, c.slice_job.ensures.same, inl (ap (λ (k : StoreValue). record k { job = Some m }) c.self.view_is, c.in-Ok-Working.ensures.ends c.in-Ok-Working.field-0-is))
 
 pub returns-in_ok-install_merge-in-Ok-Ready-clause-worked : goal.returns-in_ok-install_merge-in-Ok-Ready-clause-worked
-returns-in_ok-install_merge-in-Ok-Ready-clause-worked g c = inr (c.install_merge.ensures.no_job, c.in_ok-install_merge-in-Ok-Ready.ensures.epoch)
+returns-in_ok-install_merge-in-Ok-Ready-clause-worked g c =
+    (c.slice_job.new.job, c.slice_job.ensures.same, inr c.in_ok-install_merge-in-Ok-Ready.ensures.installed)
 
 pub returns-in_err-install_merge-in-Ok-Ready-clause-worked : goal.returns-in_err-install_merge-in-Ok-Ready-clause-worked
 returns-in_err-install_merge-in-Ok-Ready-clause-worked g c =
