@@ -1,13 +1,12 @@
 -- What a crash leaves of lines that one sorted map answers.
 use Rattle.std.proofs.Common.{◌≡◌, ◌⊎◌, inl, inr, ◌++◌, ℕ, List, [], ◌∷◌, refl, sym, ◌∙◌, subst, Bool, true, false, cond, append_assoc}
-use Rattle.std.specs.Prelude.{Some, take}
+use Rattle.std.specs.Prelude.{take}
 use Rattle.std.proofs.lemmas.List.{append-nil}
 use Rattle.byte_fields.specs.declared.parts.Damage.{Damage}
 use Rattle.disk_trait.specs.World.{Image}
 use Rattle.image_model.specs.Stands.{StandsForMap}
 use Rattle.line_model.specs.Replies.{Device, Reply}
 use Rattle.line_model.specs.Requests.{Bad, Compact, Count, Del, Estimate, Explain, Flush, Get, Put, Quit, Range, Request, Seek, request_of}
-use Rattle.map_model.specs.Slices.{slice}
 use Rattle.map_model.specs.SortedMap.{Bytes, Map, del, put}
 use Rattle.state_model.proofs.Lines.{lines_change}
 use Rattle.state_model.specs.Causes.{DamageMet, Why}
@@ -52,26 +51,40 @@ answer_is filter_bytes s request =
 -- ---- a step, whatever it is answered
 
 abbrev IsOf : Map → Request → Reply → Type 0
-IsOf map request reply = IsMapReply map request reply ⊎ IsRefusal reply ⊎ IsDevice reply
+IsOf map request reply = IsMapReply map request reply ⊎ IsRefusal reply ⊎ IsDevice map request reply
 
 abbrev Shows : State → Request → Reply → State → Type 0
 Shows s request reply after =
     IsOf (state_map s) request reply × ((state_map after ≡ map_behind request reply (state_map s)) ⊎ ((reply ≡ Device) × IsOldOrNewMap (state_map s) request (state_map after)))
 
+-- a failed write
+device_is : (map : Map) (request : Request) → IsDevice map request Device
+device_is map (Put key value) = refl
+device_is map (Del key) = refl
+device_is map (Get key) = refl
+device_is map (Seek lo hi) = refl
+device_is map (Range lo hi n) = inl refl
+device_is map (Count lo hi) = refl
+device_is map (Estimate lo hi) = refl
+device_is map (Explain key) = refl
+device_is map Flush = refl
+device_is map Compact = refl
+device_is map Quit = refl
+device_is map (Bad code) = refl
+
 -- a failed read
 faulted : (s : State) (request : Request) (reply : Reply) → Reads s request → said_before s request Device reply
-    → IsDevice reply × (state_map (left_by request s) ≡ map_behind request reply (state_map s))
+    → IsDevice (state_map s) request reply × (state_map (left_by request s) ≡ map_behind request reply (state_map s))
 faulted s (Put key value) reply reads so = absurd reads
 faulted s (Del key) reply reads so = absurd reads
-faulted s (Get key) reply reads so = (inl so, refl)
-faulted s (Seek lo hi) reply reads so = (inl so, refl)
-faulted s (Range lo hi n) reply reads (inl so) = (inl so, refl)
-faulted s (Range lo hi n) reply reads (inr (k, few, so)) = (inr (take k (slice (state_map s) lo (Some hi) n), so), refl)
-faulted s (Count lo hi) reply reads so = (inl so, refl)
+faulted s (Get key) reply reads so = (so, refl)
+faulted s (Seek lo hi) reply reads so = (so, refl)
+faulted s (Range lo hi n) reply reads so = (so, refl)
+faulted s (Count lo hi) reply reads so = (so, refl)
 faulted s (Estimate lo hi) reply reads so = absurd reads
 faulted s (Explain key) reply reads so = absurd reads
 faulted s Flush reply reads so = absurd reads
-faulted s Compact reply reads so = (inl so, refl)
+faulted s Compact reply reads so = (so, refl)
 faulted s Quit reply reads so = absurd reads
 faulted s (Bad code) reply reads so = absurd reads
 
@@ -83,7 +96,7 @@ module _ (C : Why → Type 0) (undamaged : (damage : Damage) → C (DamageMet da
     | read_failed said fits reads cause so ↦ let is = faulted s request said reads so in (inr (inr is.0), inl is.1)
     | damage_met damage said fits reads cause so ↦ absurd (undamaged damage cause)
     | write_failed new fits writes cause left same ↦ (
-      inr (inr (inl refl)),
+      inr (inr (device_is (state_map s) request)),
       inr (refl, elim same [ inl old ↦ inl old | inr made ↦ subst (IsOldOrNewMap (state_map s) request) (sym made) (answer_is filter_bytes s request) ]),
     )
   ]

@@ -1,19 +1,21 @@
 -- What a crash leaves of lines that one sorted map answers, whatever tables and merges there are.
-use Rattle.std.specs.Prelude.{◌≡◌, ◌⊎◌, ◌≤◌, ℕ, List, [], ◌∷◌, ◌++◌, length, take}
+use Rattle.std.specs.Prelude.{◌≡◌, ◌⊎◌, ◌≤◌, ◌<◌, ℕ, List, [], ◌∷◌, ◌++◌, length, take, Some}
 use Rattle.disk_trait.specs.World.{Image, World}
 use Rattle.filter_api.specs.Spellings.{Spelling}
 use Rattle.image_model.specs.Stands.{StandsForMap}
 use Rattle.line_model.specs.Lines.{lines_of}
 use Rattle.line_model.specs.Replies.{Device, Done, Pairs, Reply, text_of}
-use Rattle.line_model.specs.Requests.{Request, request_of}
+use Rattle.line_model.specs.Requests.{Range, Request, request_of}
+use Rattle.map_model.specs.Slices.{slice}
 use Rattle.map_model.specs.SortedMap.{Bytes, Map}
 use Rattle.outside.specs.During.{During}
 use Rattle.state_model.specs.Laws.{map_behind}
 use Rattle.surf_run.specs.OneMap.{IsMapReply, IsRefusal, MapDialogue}
 
--- `device`, be it after some pairs
-abbrev pub IsDevice : Reply → Type 0
-IsDevice reply = (reply ≡ Device) ⊎ ((found : Map) × (reply ≡ Pairs found Device))
+-- `device` alone; of a range also after some first pairs of its answer, fewer than it asks for
+abbrev pub IsDevice : Map → Request → Reply → Type 0
+IsDevice map (Range lo hi n) reply = (reply ≡ Device) ⊎ ((k : ℕ) × (k < n) × (reply ≡ Pairs (take k (slice map lo (Some hi) n)) Device))
+IsDevice map request reply = reply ≡ Device
 
 -- the map before a request, or the one with its change
 abbrev pub IsOldOrNewMap : Map → Request → Map → Type 0
@@ -25,7 +27,7 @@ abbrev pub IsMapAfter : Map → List Bytes → Bytes → Map → Type 0
 IsMapAfter map [] part now = (part ≡ []) × (now ≡ map)
 IsMapAfter map (line ∷ more) part now =
     ((part ≡ []) × IsOldOrNewMap map (request_of line) now)
-    ⊎ ((reply : Reply) × (rest : Bytes) × (text_of reply ≡ part ++ rest) × (IsMapReply map (request_of line) reply ⊎ IsRefusal reply ⊎ IsDevice reply)
+    ⊎ ((reply : Reply) × (rest : Bytes) × (text_of reply ≡ part ++ rest) × (IsMapReply map (request_of line) reply ⊎ IsRefusal reply ⊎ IsDevice map (request_of line) reply)
     × ((now ≡ map_behind (request_of line) reply map) ⊎ ((reply ≡ Device) × IsOldOrNewMap map (request_of line) now)))
 
 -- Of all that was said at the end, `told`, n bytes had been said; `before` was said before the run. They are one map's replies to

@@ -1,11 +1,25 @@
-//! What a crash leaves of one put, shown by examples. Each computes.
-ghost use Rattle.std.specs.Prelude.{[], ◌∷◌};
-ghost use Rattle.line_model.specs.Requests.{Put};
-ghost use Rattle.surf_run.specs.MapCrash.{IsMapAfter, IsOldOrNewMap};
+//! What a crash leaves of one line, shown by examples.
+ghost use Rattle.std.specs.Prelude.{[], ◌∷◌, ◌++◌, codes};
+ghost use Rattle.line_model.specs.Replies.{Device, Pairs};
+ghost use Rattle.line_model.specs.Requests.{Get, Put, Range};
+ghost use Rattle.map_model.specs.SortedMap.{Map};
+ghost use Rattle.surf_run.specs.MapCrash.{IsDevice, IsMapAfter, IsOldOrNewMap, KeepsOneMap};
 
-/// With no line to follow the map is the one that is there. Before its `ok` a put may be there or not.
+/// With no line to follow the map is the one that is there. Before its `ok` a put may be there or not; from the first byte of
+/// `ok` on it is there; where `device` is said it may be there or not.
 pub fn one_put()
     ensures no_line { IsMapAfter [] [] [] [] }
     ensures not_there { IsOldOrNewMap [] (Put (97 ∷ []) (98 ∷ [])) [] }
     ensures there { IsOldOrNewMap [] (Put (97 ∷ []) (98 ∷ [])) ((97 ∷ [], 98 ∷ []) ∷ []) }
+    ensures nothing_said { IsMapAfter [] (codes "put 61 62" ∷ []) [] ((97 ∷ [], 98 ∷ []) ∷ []) }
+    ensures part_of_ok { IsMapAfter [] (codes "put 61 62" ∷ []) (codes "o") ((97 ∷ [], 98 ∷ []) ∷ []) }
+    ensures part_of_device { IsMapAfter [] (codes "put 61 62" ∷ []) (codes "d") [] }
+    ensures device_after_the_write { IsMapAfter [] (codes "put 61 62" ∷ []) (codes "d") ((97 ∷ [], 98 ∷ []) ∷ []) }
+    ensures ok_said { KeepsOneMap [] (codes "put 61 62" ∷ []) [] (codes "ok" ++ 10 ∷ []) 3 ((97 ∷ [], 98 ∷ []) ∷ []) }
+{}
+
+/// Before `device` come pairs of a range alone, and those of the map.
+pub fn failed_reads()
+    ensures of_a_range { IsDevice ((97 ∷ [], 98 ∷ []) ∷ []) (Range [] (97 ∷ []) 2) (Pairs ((97 ∷ [], 98 ∷ []) ∷ []) Device) }
+    ensures of_a_get { (found : Map) → IsDevice [] (Get (97 ∷ [])) (Pairs found Device) → ⊥ }
 {}
