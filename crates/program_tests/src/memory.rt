@@ -154,7 +154,8 @@ fn is_not_the_last(alloc: Global) -> bool {
 fn each_allocation_may_be_refused(rt: HostRuntime) -> Result<(), Fail> {
     let alloc = rt.alloc();
     let first = run_over(alloc, "format --pages 512 --variant base", b"")?;
-    if first.status == 0 {
+    // at 6 the output in memory had no room for the last line, and the store is there
+    if first.status == 0 || first.status == 6 {
         assert!(rt; is_played_by_rule(alloc, &first)?);
     } else {
         assert!(rt; leaves_no_store(alloc, &first)?);
