@@ -1,5 +1,6 @@
 pub mod Order
 pub mod Fronts
+pub mod Differences
 pub mod Fits
 pub mod Ranges
 pub mod Shared

@@ -1,6 +1,7 @@
 -- What a list of leaves answers of a string and of a range.
-use Rattle.std.specs.Prelude.{ℕ, ◌-◌, ◌*◌, ◌^◌, ◌==◌, nat_lt, Bool, cond, not, ◌&&◌, ◌||◌, List, [], ◌++◌, length, drop, count_by, Option}
-use Rattle.std.specs.List.{list_any, position_from}
+use Rattle.std.specs.Prelude.{ℕ, ◌-◌, ◌*◌, ◌^◌, ◌==◌, nat_lt, Bool, cond, not, ◌&&◌, ◌||◌, List, [], ◌++◌, length, drop, count_by, Option, Some, None}
+use Rattle.std.specs.Bool.{beq}
+use Rattle.std.specs.List.{common_prefix_len, list_any, position_from}
 use Rattle.filter_model.specs.Strings.{is_before, bytes_eq, is_prefix, prefix_number, shortest, bits}
 use Rattle.filter_model.specs.Leaves.{Leaf, hash_bits_of}
 
@@ -54,3 +55,15 @@ true_count keys lo hi = count_by (is_within lo hi) keys
 -- how many come before lo
 abbrev pub keys_below : List (List ℕ) → List ℕ → ℕ
 keys_below keys lo = count_by (λ k. is_before k lo) keys
+
+-- ---- two lists of leaves
+
+-- the two are one leaf, hash bits and real bits too
+abbrev pub is_same : Leaf → Leaf → Bool
+is_same l other = bytes_eq l.stub other.stub && (beq l.ends other.ends && ((l.hash == other.hash) && (l.real == other.real)))
+
+-- the least number at which two lists differ: how many leaves they begin with alike, where these are not all of both
+abbrev pub first_difference : List Leaf → List Leaf → Option ℕ
+first_difference leaves others =
+    let alike = common_prefix_len is_same leaves others in
+    cond ((alike == length leaves) && (alike == length others)) None (Some alike)

@@ -1,12 +1,12 @@
 -- What the definitions keep, whatever the leaves and the keys.
-use Rattle.std.specs.Prelude.{◌≡◌, ◌==◌, ◌↔◌, ◌<◌, ℕ, ◌+◌, ◌≤◌, nat_lt, Bool, true, false, ◌&&◌, ◌||◌, List, length, map, get_or, Option, Some, None}
+use Rattle.std.specs.Prelude.{◌≡◌, ◌≢◌, ◌==◌, ◌↔◌, ◌<◌, ℕ, ◌+◌, ◌≤◌, nat_lt, Bool, true, false, ◌&&◌, ◌||◌, List, length, map, take, get_or, slice_get, Option, Some, None}
 use Rattle.std.specs.List.{All, AllPairs, Contains, list_any}
 use Rattle.key_base.specs.Limits.{max_real_bits, max_key_bytes}
 use Rattle.byte_fields.specs.Spelling.{IsBytes}
 use Rattle.filter_model.specs.Strings.{extends, is_before, bytes_eq}
 use Rattle.filter_model.specs.Keys.{IsKeyList}
 use Rattle.filter_model.specs.Leaves.{Leaf, leaf_of, leaves_of}
-use Rattle.filter_model.specs.Answers.{begins, first, fits, is_past, point, ranged, tally, is_within, keys_below, true_count}
+use Rattle.filter_model.specs.Answers.{begins, first, first_difference, fits, is_past, point, ranged, tally, is_within, keys_below, true_count}
 use Rattle.filter_model.specs.Trie.{branches, nodes, parent}
 use Rattle.filter_model.specs.Valid.{IsLeaf, IsValid}
 
@@ -132,3 +132,19 @@ abbrev pub NodesBranch : Type 0
 NodesBranch =
     (hash_bits real_bits : ℕ) (keys : List (List ℕ)) → IsKeyList keys → 1 < length keys
     → All (λ l. 2 ≤ length (branches (leaves_of hash_bits real_bits keys) (parent l))) (leaves_of hash_bits real_bits keys)
+
+-- ---- two lists of leaves
+
+-- They differ at the number n and at none before it. Both may have no more leaf there but not both at once.
+pub record DifferFirstAt (leaves others : List Leaf) (n : ℕ) : Type 0 where
+  pub within : n ≤ length leaves
+  pub within_others : n ≤ length others
+  pub alike : take n leaves ≡ take n others
+  pub differ : slice_get leaves n ≢ slice_get others n
+
+-- no number exactly where they are one list, and a number exactly where it is that of their first difference
+abbrev pub FirstDifferenceIsExact : Type 0
+FirstDifferenceIsExact =
+    (leaves others : List Leaf)
+    → ((first_difference leaves others ≡ None) ↔ (leaves ≡ others))
+    × ((n : ℕ) → (first_difference leaves others ≡ Some n) ↔ DifferFirstAt leaves others n)

@@ -1,6 +1,6 @@
 //! The definitions, shown by examples. Each computes.
-ghost use Rattle.std.specs.Prelude.{◌≡◌, ◌==◌, [], ◌∷◌, ◌++◌, true, false, map, length, codes, Some, None};
-ghost use Rattle.filter_model.specs.Answers.{begins, first, keys_below, point, ranged, tally, true_count};
+ghost use Rattle.std.specs.Prelude.{◌≡◌, ◌==◌, [], ◌∷◌, ◌++◌, true, false, map, length, take, codes, Some, None};
+ghost use Rattle.filter_model.specs.Answers.{begins, first, first_difference, keys_below, point, ranged, tally, true_count};
 ghost use Rattle.filter_model.specs.Image.{image};
 ghost use Rattle.filter_model.specs.Leaves.{base_leaves, leaves_of, hash_bits_of};
 ghost use Rattle.filter_model.specs.Examples.{a_ab, a_ab_dense, a_ab_root_dense, a_ab_sparse, a_and_a_ff, aa1_ab1, far_to_toy, far_to_toy_sparse, real_leaves};
@@ -75,4 +75,17 @@ pub fn images_of_a_and_ab()
 pub fn image_of_far_to_toy()
     ensures sparse { image 0 8 0 (real_leaves far_to_toy) ≡ far_to_toy_sparse }
     ensures length_is { length far_to_toy_sparse ≡ 58 }
+{}
+
+/// Two lists differ first where they go apart, where one has no leaf more, or not at all. Of one leaf's stub, end, hash
+/// bits and real bits each counts.
+pub fn first_differences()
+    ensures none_of_one_list { first_difference (base_leaves far_to_toy) (base_leaves far_to_toy) ≡ None }
+    ensures of_empty_lists { first_difference [] [] ≡ None }
+    ensures where_one_ends { first_difference (base_leaves aa1_ab1) [] ≡ Some 0 }
+    ensures by_the_stub { first_difference (base_leaves (codes "a" ∷ [])) (base_leaves (codes "b" ∷ [])) ≡ Some 0 }
+    ensures by_the_end { first_difference (base_leaves a_ab) (base_leaves (codes "a" ∷ [])) ≡ Some 0 }
+    ensures by_the_hash { first_difference (leaves_of 8 0 (codes "a" ∷ [])) (leaves_of 8 0 (codes "aa" ∷ [])) ≡ Some 0 }
+    ensures by_the_real_bits { first_difference (real_leaves far_to_toy) (base_leaves far_to_toy) ≡ Some 1 }
+    ensures a_longer_list { first_difference (base_leaves far_to_toy) (take 3 (base_leaves far_to_toy)) ≡ Some 3 }
 {}

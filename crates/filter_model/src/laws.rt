@@ -1,5 +1,5 @@
 //! Laws of the definitions. They are proved and never called.
-ghost use Rattle.filter_model.specs.Laws.{LeastStringsFit, LeavesAreValid, NodesAreThePrefixes, NodesBranch, NodesStandInOrder, NoHeldRangeIsDenied, NoKeyBeforeLeast, NoKeyIsDenied, NothingBeforeFirst, PastIsBelow, RangedByFirst, RangeIsExact, SeeksAreNear, TallyIsNear, ValidListsComeOfKeys};
+ghost use Rattle.filter_model.specs.Laws.{FirstDifferenceIsExact, LeastStringsFit, LeavesAreValid, NodesAreThePrefixes, NodesBranch, NodesStandInOrder, NoHeldRangeIsDenied, NoKeyBeforeLeast, NoKeyIsDenied, NothingBeforeFirst, PastIsBelow, RangedByFirst, RangeIsExact, SeeksAreNear, TallyIsNear, ValidListsComeOfKeys};
 
 /// A range answers yes exactly where some byte string in it fits a leaf, hash bits apart.
 pub fn range_is_exact()
@@ -53,4 +53,10 @@ pub fn nodes_are_the_prefixes()
 /// of these least strings.
 pub fn valid_lists_come_of_keys()
     ensures { ValidListsComeOfKeys }
+{}
+
+/// Two lists of leaves are one where they have no first difference. Else its number is at most both lengths, the lists
+/// agree before it, and there they differ, or one of them ends.
+pub fn first_difference_is_exact()
+    ensures { FirstDifferenceIsExact }
 {}

@@ -10,3 +10,7 @@ pub mod InOrder
 pub mod Opened
 pub mod Opening
 pub mod Sound
+pub mod CheckedBlocks
+pub mod CheckedTables
+pub mod NoFindings
+pub mod Told

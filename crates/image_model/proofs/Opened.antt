@@ -31,7 +31,7 @@ use Rattle.image_model.proofs.Placed.{version_levelled}
 use Rattle.image_model.proofs.Ranges.{ranges_are, ranges_keep}
 use Rattle.image_model.proofs.Sound.{tables_sound, version_sound}
 
-damage_or_none : (o : Option Damage) → (o ≡ None) ⊎ ((d : Damage) × (o ≡ Some d))
+pub damage_or_none : (o : Option Damage) → (o ≡ None) ⊎ ((d : Damage) × (o ≡ Some d))
 damage_or_none None = inl refl
 damage_or_none (Some d) = inr (d, refl)
 
@@ -57,10 +57,10 @@ module _ (spelling : Spelling) (first_fault : Bytes → FilterFault) (image : Im
 
   -- ---- the log
 
-  area_of : (v : Version) → IsVersion v → (area : ℕ) × (v.log_page ≡ 64 * (area + 1))
+  pub area_of : (v : Version) → IsVersion v → (area : ℕ) × (v.log_page ≡ 64 * (area + 1))
   area_of v is = elim is.log_page [ inl first ↦ (0, first) | inr second ↦ (1, second) ]
 
-  log_ends : (area : ℕ) → ((log : List Entry) × LogIs area log image) ⊎ ((at : ℕ) × (rule : ℕ) × LogBreaks area at rule image)
+  pub log_ends : (area : ℕ) → ((log : List Entry) × LogIs area log image) ⊎ ((at : ℕ) × (rule : ℕ) × LogBreaks area at rule image)
   log_ends area = elim (spells_or_breaks (area_in area image) (window_bytes image (start_of area) area_size bytes) (omega (arith, window_size image (start_of area) area_size, size_is))) [
     | inl spelled ↦ inl spelled
     | inr broken ↦ inr (start_of area + broken.0, broken.1, (broken.0, refl, broken.2))

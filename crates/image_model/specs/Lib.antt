@@ -11,3 +11,4 @@ pub mod Frames
 pub mod Installs
 pub mod Opening
 pub mod Sound
+pub mod Findings

@@ -1,0 +1,12 @@
+use Rattle.std.proofs.Common.{refl}
+use Rattle.block_model.specs.BlockReading.{block_fault, header_fault}
+use Rattle.block_model.specs.IndexReading.{index_in, rows_in}
+use Rattle.image_model.proofs.examples.findings_on_zeros.Goals as goal
+
+pub returns-clause-a_rule : goal.returns-clause-a_rule
+unfolding block_fault header_fault
+returns-clause-a_rule c = refl
+
+pub returns-clause-a_count : goal.returns-clause-a_count
+unfolding index_in rows_in
+returns-clause-a_count c = refl
